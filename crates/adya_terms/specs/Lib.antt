@@ -1,0 +1,15 @@
+pub mod Keys
+pub mod Padded
+pub mod Histories
+pub mod Shapes
+pub mod Values
+pub mod Events
+pub mod Orders
+pub mod Selections
+pub mod Edges
+pub mod EdgeList
+pub mod Serial
+pub mod Rules
+pub mod Phenomena
+pub mod Acceptance
+pub mod Faults

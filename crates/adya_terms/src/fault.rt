@@ -1,0 +1,55 @@
+//! Why a history is not checked.
+
+use crate::Version;
+use std::fmt;
+
+/// The rules of well-formed histories.
+#[derive(Clone, Copy, Debug, PartialEq, Eq, Drop)]
+pub enum Rule {
+    /// Nothing of a transaction comes after its commit or abort.
+    M1,
+    /// A transaction's writes of a key are numbered 1, 2 and on.
+    M2,
+    /// A version is read after it was written, with the value that was written.
+    M3,
+    /// A transaction reads its own last write of a key that it has written.
+    M4,
+    /// The keys that a scan lists rise and lie in its range.
+    M5,
+    /// Every transaction commits or aborts.
+    M6,
+    /// The order of a key lists its committed writers, once each.
+    M7,
+    /// The finals are the visible last versions of the keys.
+    M8,
+}
+
+/// Why a history is not well-formed without aborted and intermediate reads, or was not checked. Lines are those of
+/// the history's text, from 1.
+#[derive(Clone, Copy, Drop)]
+pub enum CheckFault {
+    /// The rule is broken at the line.
+    Malformed { line: usize, rule: Rule },
+    /// At the line a committed transaction reads this version of an aborted one (Adya 1999, G1a).
+    AbortedRead { line: usize, version: Version },
+    /// At the line a committed transaction reads this version of another, which isn't that one's last write of the
+    /// key (Adya 1999, G1b).
+    IntermediateRead { line: usize, version: Version },
+    /// Memory ran out; nothing is said of the history.
+    Memory,
+}
+
+impl fmt::Display for Rule {
+    fn fmt<W: fmt::Write>(&self, f: &mut fmt::Formatter<W>) -> fmt::Result {
+        f.write_str(match self {
+            Rule::M1 => "M1",
+            Rule::M2 => "M2",
+            Rule::M3 => "M3",
+            Rule::M4 => "M4",
+            Rule::M5 => "M5",
+            Rule::M6 => "M6",
+            Rule::M7 => "M7",
+            Rule::M8 => "M8",
+        })
+    }
+}

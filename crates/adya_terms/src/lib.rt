@@ -1,0 +1,21 @@
+//! The values of transaction histories: keys, values, versions, events, histories and certificates.
+#![tactic(auto)]
+
+mod event;
+mod fault;
+mod history;
+mod key;
+mod number;
+mod order;
+mod padded;
+mod serial;
+mod value;
+
+pub use event::{Event, Version};
+pub use fault::{CheckFault, Rule};
+pub use history::{BadShape, History};
+pub use key::{BadKey, Key, MAX_KEY_LEN, is_key_byte};
+pub use number::{BadNumber, Mod, Txn};
+pub use order::{FinalPair, Order};
+pub use serial::Serial;
+pub use value::{BadValue, MAX_VALUE_LEN, Value, is_value_byte};

@@ -1,0 +1,17 @@
+//! Version orders and final contents.
+
+use crate::{Key, Txn, Value};
+
+/// The version order of a key: its committed writers, the first one first (Adya 1999, section 3.1.2).
+#[derive(Drop)]
+pub struct Order {
+    pub key: Key,
+    pub writers: Vec<Txn>,
+}
+
+/// What a key holds after all.
+#[derive(Clone, Copy)]
+pub struct FinalPair {
+    pub key: Key,
+    pub value: Value,
+}
