@@ -13,3 +13,4 @@ pub mod Rules
 pub mod Phenomena
 pub mod Acceptance
 pub mod Faults
+pub mod Certificates
