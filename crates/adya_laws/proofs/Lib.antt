@@ -1,0 +1,5 @@
+pub mod Keys
+pub mod Members
+pub mod Places
+pub mod Listing
+pub mod Distinct

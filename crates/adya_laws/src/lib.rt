@@ -1,0 +1,20 @@
+//! What it implies that a history and a certificate are accepted: laws of the definitions, each proved
+//! as the contract of a function that does nothing.
+#![tactic(auto)]
+
+ghost use Rattle.adya_laws.specs.Laws.{EdgeListIsExact, EdgeListIsDistinct, EdgeListKeepsFirst};
+
+/// The list of edges holds exactly the edges of the direct serialization graph (Adya 1999, section 3.3).
+pub fn edge_list_is_exact()
+    ensures { EdgeListIsExact }
+{}
+
+/// The list of edges has no edge twice.
+pub fn edge_list_is_distinct()
+    ensures { EdgeListIsDistinct }
+{}
+
+/// The first edge of the list that passes a test is the first dependency that passes it.
+pub fn edge_list_keeps_first()
+    ensures { EdgeListKeepsFirst }
+{}
