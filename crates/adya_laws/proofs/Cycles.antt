@@ -1,5 +1,5 @@
 -- Along a path of forward edges the place in the certificate rises, so there is no cycle.
-use Rattle.std.proofs.Common.{◌≡◌, ℕ, ◌<◌, ◌≤◌, ◌⊎◌, List, [], ◌∷◌, ap, arith, inl, inr}
+use Rattle.std.proofs.Common.{◌≡◌, ℕ, ◌≤◌, List, [], ◌∷◌, ap, arith, inl, inr}
 use Rattle.std.specs.List.{AllByRecursion}
 use Rattle.adya_terms.specs.Histories.{History}
 use Rattle.adya_terms.specs.Orders.{place}

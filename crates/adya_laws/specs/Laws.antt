@@ -2,9 +2,11 @@
 use Rattle.std.specs.Prelude.{◌≡◌, ◌≢◌, ◌↔◌, ℕ, Bool, true, List, None, Contains}
 use Rattle.std.specs.List.{find, AllPairs}
 use Rattle.adya_terms.specs.Histories.{History}
+use Rattle.adya_terms.specs.Shapes.{is_shape}
 use Rattle.adya_terms.specs.Edges.{Edge, IsEdge}
 use Rattle.adya_terms.specs.EdgeList.{dependencies, edge_list}
 use Rattle.adya_terms.specs.Phenomena.{HasG1, HasG2}
+use Rattle.adya_terms.specs.Serial.{Agrees}
 use Rattle.adya_terms.specs.Acceptance.{IsChecked, IsAccepted}
 use Rattle.adya_terms.specs.Certificates.{lists_the_committed, first_backward}
 
@@ -29,3 +31,8 @@ AcceptedHasNoPhenomenon = (h : History) (ts : List ℕ) → IsAccepted h ts → 
 abbrev pub AcceptedWhereForward : Type 0
 AcceptedWhereForward = (h : History) (ts : List ℕ) → IsChecked h
     → ((lists_the_committed h ts ≡ true) × (first_backward h ts ≡ None)) ↔ IsAccepted h ts
+
+-- the transactions of an accepted history, run one at a time in the certificate's order over one map that is empty
+-- at first, give every read, every scan and the final contents
+abbrev pub AcceptedAgrees : Type 0
+AcceptedAgrees = (h : History) (ts : List ℕ) → is_shape h.orders h.finals ≡ true → IsAccepted h ts → Agrees h ts

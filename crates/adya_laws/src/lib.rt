@@ -2,7 +2,7 @@
 //! as the contract of a function that does nothing.
 #![tactic(auto)]
 
-ghost use Rattle.adya_laws.specs.Laws.{EdgeListIsExact, EdgeListIsDistinct, EdgeListKeepsFirst, AcceptedHasNoPhenomenon, AcceptedWhereForward};
+ghost use Rattle.adya_laws.specs.Laws.{EdgeListIsExact, EdgeListIsDistinct, EdgeListKeepsFirst, AcceptedHasNoPhenomenon, AcceptedWhereForward, AcceptedAgrees};
 
 /// The list of edges holds exactly the edges of the direct serialization graph (Adya 1999, section 3.3).
 pub fn edge_list_is_exact()
@@ -29,4 +29,11 @@ pub fn accepted_has_no_phenomenon()
 /// other, and no edge goes backward in it.
 pub fn accepted_where_forward()
     ensures { AcceptedWhereForward }
+{}
+
+/// The transactions of an accepted history, run one at a time in the certificate's order over one map that is empty
+/// at first, give every recorded read, every scan and the final contents. That the keys of the orders and of the
+/// finals rise is a fact of every history from its constructor on.
+pub fn accepted_agrees()
+    ensures { AcceptedAgrees }
 {}
