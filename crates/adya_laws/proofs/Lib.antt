@@ -16,3 +16,4 @@ pub mod Pairs
 pub mod Clean
 pub mod Seen
 pub mod Whole
+pub mod Rows
