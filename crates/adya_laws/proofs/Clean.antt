@@ -11,7 +11,8 @@ use Rattle.adya_terms.specs.Acceptance.{IsChecked}
 use Rattle.adya_laws.proofs.Entries.{is_entry-same, is_entry-from}
 
 -- who has ended, or is unfinished, and isn't aborted is committed
-pub committed_from_ended : (committed aborted unfinished : Bool) → ((committed || aborted) || unfinished) ≡ true → (aborted || unfinished) ≡ false → committed ≡ true
+pub committed_from_ended : (committed aborted unfinished : Bool) → ((committed || aborted) || unfinished) ≡ true
+    → (aborted || unfinished) ≡ false → committed ≡ true
 committed_from_ended true aborted unfinished ended clean = refl
 committed_from_ended false aborted unfinished ended clean = absurd (both_ways (aborted || unfinished) clean ended)
 
@@ -19,7 +20,8 @@ module _ (h : History) (checked : IsChecked h) where
   pub read_not_aborted : (e : Event) (o : Entry) → ReadsCommitted h e o → is_aborted h o.version.txn ≡ false
   read_not_aborted e o r = false_from_ne_true _ (λ c. checked.no_aborted_read (e, o, r, c))
 
-  pub read_last_write : (e : Event) (o : Entry) → ReadsCommitted h e o → o.version.txn ≢ txn_of e → last_write o.version.txn o.version.key h.events ≡ Some o
+  pub read_last_write : (e : Event) (o : Entry) → ReadsCommitted h e o → o.version.txn ≢ txn_of e
+      → last_write o.version.txn o.version.key h.events ≡ Some o
   read_last_write e o r ne =
       let found = last_write o.version.txn o.version.key h.events in
       elim (cases_Bool (is_entry found o)) [
@@ -28,7 +30,8 @@ module _ (h : History) (checked : IsChecked h) where
       ]
 
   -- the writer of what is read is committed, where it has an event at all
-  pub read_committed : (e : Event) (o : Entry) → ReadsCommitted h e o → (w : Event) → Contains h.events w → txn_of w ≡ o.version.txn → is_committed h.events o.version.txn ≡ true
+  pub read_committed : (e : Event) (o : Entry) → ReadsCommitted h e o → (w : Event) → Contains h.events w
+      → txn_of w ≡ o.version.txn → is_committed h.events o.version.txn ≡ true
   read_committed e o r w there same =
       let ended = subst (λ x. (has_ended h.events x || is_unfinished h x) ≡ true) same
       (All-contains (λ x. (has_ended h.events (txn_of x) || is_unfinished h (txn_of x)) ≡ true) h.events w checked.well_formed.ends.ended there) in

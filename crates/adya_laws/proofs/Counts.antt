@@ -87,7 +87,8 @@ place_at (x ∷ front) t back h =
     ]
 
 -- another number that stands no later stands in the front
-pub place_before : (front : List ℕ) (t : ℕ) (back : List ℕ) (u : ℕ) → u ≢ t → place (front ++ t ∷ back) u < suc (length front) → place (front ++ t ∷ back) u < length front
+pub place_before : (front : List ℕ) (t : ℕ) (back : List ℕ) (u : ℕ) → u ≢ t
+    → place (front ++ t ∷ back) u < suc (length front) → place (front ++ t ∷ back) u < length front
 place_before [] t back u ne h = absurd (let other = place_other t back u (λ e. ne (sym e)) in omega (arith, other, h))
 place_before (x ∷ front) t back u ne h =
     elim (cases_eq x u) [

@@ -7,11 +7,12 @@ use Rattle.std.proofs.lemmas.Bool.{cases_Bool, and_parts, and_from, both_ways, e
 use Rattle.std.proofs.lemmas.List.Elements.{Contains-append_left, Contains-push_cases, Contains-push}
 use Rattle.std.proofs.lemmas.List.Folds.{find-append, list_any_at}
 use Rattle.std.proofs.lemmas.List.Quantifiers.{all_pairs_push}
+use Rattle.std.proofs.lemmas.Map.Views.{Contains-from_any}
 use Rattle.adya_terms.specs.Histories.{History}
 use Rattle.adya_terms.specs.Edges.{Kind, Ww, Wr, Rw, Edge, IsEdge}
 use Rattle.adya_terms.specs.EdgeList.{dependencies, kind_eq, edge_eq, with_edge, edge_list}
 use Rattle.adya_laws.proofs.Keys.{key_eq-same, key_eq-from}
-use Rattle.adya_laws.proofs.Members.{none_contained, Contains-cons, Contains-cases, list_any-source}
+use Rattle.adya_laws.proofs.Members.{none_contained, Contains-cons, Contains-cases}
 use Rattle.adya_laws.proofs.Listing.{listed_when_edge, edge_when_listed}
 
 pub kind_eq-same : (a b : Kind) → kind_eq a b ≡ true → a ≡ b
@@ -56,14 +57,13 @@ edge_eq-from a b e = subst (λ x. edge_eq a x ≡ true) e (edge_eq-itself a)
 
 -- an edge that is not added stands there already
 pub seen_already : (seen : List Edge) (e : Edge) → list_any (edge_eq e) seen ≡ true → Contains seen e
-seen_already seen e t =
-    let r = list_any-source (edge_eq e) seen t in
-    subst (Contains seen) (sym (edge_eq-same e r.0 r.2)) r.1
+seen_already seen e t = Contains-from_any edge_eq-same e seen t
 
 pub with_edge-there : (seen : List Edge) (e : Edge) → list_any (edge_eq e) seen ≡ true → with_edge seen e ≡ seen
 with_edge-there seen e t = ap (λ b. cond b seen (seen ++ e ∷ [])) t
 
-pub with_edge-new : (seen : List Edge) (e : Edge) → list_any (edge_eq e) seen ≡ false → with_edge seen e ≡ seen ++ e ∷ []
+pub with_edge-new : (seen : List Edge) (e : Edge) → list_any (edge_eq e) seen ≡ false
+    → with_edge seen e ≡ seen ++ e ∷ []
 with_edge-new seen e t = ap (λ b. cond b seen (seen ++ e ∷ [])) t
 
 pub Contains-with_edge : (seen : List Edge) (e x : Edge) → Contains seen x ⊎ (e ≡ x) → Contains (with_edge seen e) x
@@ -85,7 +85,8 @@ with_edge-source seen e x c =
       | inr f ↦ Contains-push_cases seen e x (subst (λ xs. Contains xs x) (with_edge-new seen e f) c)
     ]
 
-pub Contains-fold : (seen es : List Edge) (x : Edge) → Contains seen x ⊎ Contains es x → Contains (fold with_edge seen es) x
+pub Contains-fold : (seen es : List Edge) (x : Edge) → Contains seen x ⊎ Contains es x
+    → Contains (fold with_edge seen es) x
 Contains-fold seen [] x (inl c) = c
 Contains-fold seen [] x (inr c) = absurd (none_contained x c)
 Contains-fold seen (e ∷ es) x (inl c) = Contains-fold (with_edge seen e) es x (inl (Contains-with_edge seen e x (inl c)))
@@ -95,7 +96,8 @@ Contains-fold seen (e ∷ es) x (inr c) =
       | inr r ↦ Contains-fold (with_edge seen e) es x (inr r)
     ]
 
-pub fold-source : (seen es : List Edge) (x : Edge) → Contains (fold with_edge seen es) x → Contains seen x ⊎ Contains es x
+pub fold-source : (seen es : List Edge) (x : Edge) → Contains (fold with_edge seen es) x
+    → Contains seen x ⊎ Contains es x
 fold-source seen [] x c = inl c
 fold-source seen (e ∷ es) x c =
     elim (fold-source (with_edge seen e) es x c) [
@@ -107,7 +109,8 @@ fold-source seen (e ∷ es) x c =
       | inr d ↦ inr (Contains-cons e es x d)
     ]
 
-pub with_edge-distinct : (seen : List Edge) (e : Edge) → AllPairs (λ a b. a ≢ b) seen → AllPairs (λ a b. a ≢ b) (with_edge seen e)
+pub with_edge-distinct : (seen : List Edge) (e : Edge) → AllPairs (λ a b. a ≢ b) seen
+    → AllPairs (λ a b. a ≢ b) (with_edge seen e)
 with_edge-distinct seen e apart =
     elim (cases_Bool (list_any (edge_eq e) seen)) [
       | inl t ↦ subst (AllPairs (λ a b. a ≢ b)) (sym (with_edge-there seen e t)) apart
@@ -117,12 +120,14 @@ with_edge-distinct seen e apart =
           (λ k d l s. both_ways _ f (list_any_at (edge_eq e) seen k d l (edge_eq-from e (get_or seen k d) (sym s)))))
     ]
 
-pub fold-distinct : (seen es : List Edge) → AllPairs (λ a b. a ≢ b) seen → AllPairs (λ a b. a ≢ b) (fold with_edge seen es)
+pub fold-distinct : (seen es : List Edge) → AllPairs (λ a b. a ≢ b) seen
+    → AllPairs (λ a b. a ≢ b) (fold with_edge seen es)
 fold-distinct seen [] apart = apart
 fold-distinct seen (e ∷ es) apart = fold-distinct (with_edge seen e) es (with_edge-distinct seen e apart)
 
 -- what is found first
-pub find_there : {X : Type 0} (p : X → Bool) (xs : List X) (x : X) → Contains xs x → p x ≡ true → (o : Option X) → option_or (find p xs) o ≡ find p xs
+pub find_there : {X : Type 0} (p : X → Bool) (xs : List X) (x : X) → Contains xs x → p x ≡ true → (o : Option X)
+    → option_or (find p xs) o ≡ find p xs
 find_there p [] x c t o = absurd (none_contained x c)
 find_there p (y ∷ xs) x c t o =
     elim (cases_Bool (p y)) [
@@ -138,11 +143,13 @@ pub option_or-assoc : {X : Type 0} (a b c : Option X) → option_or (option_or a
 option_or-assoc None b c = refl
 option_or-assoc (Some x) b c = refl
 
-pub option_or-cond : {X : Type 0} (b : Bool) (x : X) (o : Option X) → option_or (cond b (Some x) None) o ≡ cond b (Some x) o
+pub option_or-cond : {X : Type 0} (b : Bool) (x : X) (o : Option X)
+    → option_or (cond b (Some x) None) o ≡ cond b (Some x) o
 option_or-cond true x o = refl
 option_or-cond false x o = refl
 
-pub find_with_edge : (p : Edge → Bool) (seen : List Edge) (e : Edge) (o : Option Edge) → option_or (find p (with_edge seen e)) o ≡ option_or (find p seen) (cond (p e) (Some e) o)
+pub find_with_edge : (p : Edge → Bool) (seen : List Edge) (e : Edge) (o : Option Edge)
+    → option_or (find p (with_edge seen e)) o ≡ option_or (find p seen) (cond (p e) (Some e) o)
 find_with_edge p seen e o =
     elim (cases_Bool (list_any (edge_eq e) seen)) [
       | inl t ↦
@@ -164,7 +171,8 @@ pub option_or-none : {X : Type 0} (a : Option X) → option_or a None ≡ a
 option_or-none None = refl
 option_or-none (Some x) = refl
 
-pub find_fold : (p : Edge → Bool) (seen es : List Edge) → find p (fold with_edge seen es) ≡ option_or (find p seen) (find p es)
+pub find_fold : (p : Edge → Bool) (seen es : List Edge)
+    → find p (fold with_edge seen es) ≡ option_or (find p seen) (find p es)
 find_fold p seen [] = sym (option_or-none (find p seen))
 find_fold p seen (e ∷ es) = find_fold p (with_edge seen e) es ∙ find_with_edge p seen e (find p es)
 

@@ -16,7 +16,8 @@ last_cons x [] e = none-some x (sym e)
 last_cons x (y ∷ ys) e = last_cons y ys e
 
 -- what passes a test is kept, so something is last
-pub last_filter : {X : Type 0} (test : X → Bool) (xs : List X) (i : ℕ) (x : X) → i < length xs → get_or xs i x ≡ x → test x ≡ true → last (filter test xs) ≡ None → ⊥
+pub last_filter : {X : Type 0} (test : X → Bool) (xs : List X) (i : ℕ) (x : X) → i < length xs → get_or xs i x ≡ x
+    → test x ≡ true → last (filter test xs) ≡ None → ⊥
 last_filter test [] i x l e p n = omega (arith, l)
 last_filter test (y ∷ xs) zero x l e p n =
     let q : test y ≡ true = ap test e ∙ p in
@@ -27,7 +28,8 @@ last_filter test (y ∷ xs) (suc i) x l e p n =
       | inr fails ↦ last_filter test xs i x (omega (arith, l)) e p (subst (λ b. last (cond b (y ∷ filter test xs) (filter test xs)) ≡ None) fails n)
     ]
 
-pub last_write_there : (t : ℕ) (k : List ℕ) (es : List Event) (o : Entry) → Contains (filter_map written es) o → o.version.txn ≡ t → o.version.key ≡ k → last_write t k es ≡ None → ⊥
+pub last_write_there : (t : ℕ) (k : List ℕ) (es : List Event) (o : Entry) → Contains (filter_map written es) o
+    → o.version.txn ≡ t → o.version.key ≡ k → last_write t k es ≡ None → ⊥
 last_write_there t k es o c e f n =
     last_filter (λ w. w.version.txn == t && key_eq w.version.key k) (filter_map written es) c.0 o c.1 c.2
     (and_from _ _ (eq-eqb _ _ e) (key_eq-from _ _ f)) n
@@ -41,17 +43,22 @@ written_txn (Scan t lo hi l) o e = absurd (none-some o e)
 written_txn (Commit t) o e = absurd (none-some o e)
 written_txn (Abort t) o e = absurd (none-some o e)
 
-pub writer_from : (e : Event) (es : List Event) (o : Entry) (r : Option Entry) → written e ≡ r → ((c : Contains (filter_map written es) o) → (w : Event) × Contains es w × (txn_of w ≡ o.version.txn)) → Contains (cons_option r (filter_map written es)) o → (w : Event) × Contains (e ∷ es) w × (txn_of w ≡ o.version.txn)
+pub writer_from : (e : Event) (es : List Event) (o : Entry) (r : Option Entry) → written e ≡ r
+    → ((c : Contains (filter_map written es) o) → (w : Event) × Contains es w × (txn_of w ≡ o.version.txn))
+    → Contains (cons_option r (filter_map written es)) o
+    → (w : Event) × Contains (e ∷ es) w × (txn_of w ≡ o.version.txn)
 writer_from e es o None made rest c = let r = rest c in (r.0, Contains-cons e es r.0 r.1, r.2)
 writer_from e es o (Some x) made rest (zero, l, f) = (e, Contains-head e es, written_txn e o (made ∙ ap Some f))
 writer_from e es o (Some x) made rest (suc i, l, f) = let r = rest (i, omega (arith, l), f) in (r.0, Contains-cons e es r.0 r.1, r.2)
 
-pub writer_of : (es : List Event) (o : Entry) → Contains (filter_map written es) o → (w : Event) × Contains es w × (txn_of w ≡ o.version.txn)
+pub writer_of : (es : List Event) (o : Entry) → Contains (filter_map written es) o
+    → (w : Event) × Contains es w × (txn_of w ≡ o.version.txn)
 writer_of [] o c = absurd (omega (arith, c.1))
 writer_of (e ∷ es) o c = writer_from e es o (written e) refl (writer_of es o) c
 
 -- what a scan lists of a key is of that key and in its list
-pub listed_from : (k : List ℕ) (ws : List Entry) (o : Entry) → listed k ws ≡ Some o → Contains ws o × (o.version.key ≡ k)
+pub listed_from : (k : List ℕ) (ws : List Entry) (o : Entry) → listed k ws ≡ Some o
+    → Contains ws o × (o.version.key ≡ k)
 listed_from k [] o e = absurd (none-some o e)
 listed_from k (w ∷ ws) o e =
     elim (cases_Bool (key_eq w.version.key k)) [

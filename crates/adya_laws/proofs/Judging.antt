@@ -49,7 +49,8 @@ module _ (h : History) (ts : List ℕ) where
   pub committed_source : (t : ℕ) → is_committed h.events t ≡ true → (e : Event) × Contains h.events e × (txn_of e ≡ t)
   committed_source t c = let r = list_any-source (commits t) h.events c in (r.0, r.1, commits_txn t r.0 r.2)
 
-  pub accepted_from_test : IsChecked h → (lists_the_committed h ts ≡ true) × (first_backward h ts ≡ None) → IsAccepted h ts
+  pub accepted_from_test : IsChecked h → (lists_the_committed h ts ≡ true) × (first_backward h ts ≡ None)
+      → IsAccepted h ts
   accepted_from_test checked test = record {
     checked = checked;
     committed_once = exactly_from_test (is_committed h.events) ts h.events committed_source test.0;

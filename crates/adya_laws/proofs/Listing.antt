@@ -13,7 +13,8 @@ use Rattle.adya_terms.specs.EdgeList.{places, joined, write_edges, place_edges, 
 use Rattle.adya_laws.proofs.Members.{none_contained, Contains-flat_map, flat_map-source, Contains-filter, filter-source}
 use Rattle.adya_laws.proofs.Places.{Contains-places, order_there}
 
-pub Contains-joined : (kind : Kind) (k : List ℕ) (x y : Option ℕ) (a b : ℕ) → x ≡ Some a → y ≡ Some b → a ≢ b → Contains (joined kind k x y) (record { from = a; kind = kind; key = k; to = b })
+pub Contains-joined : (kind : Kind) (k : List ℕ) (x y : Option ℕ) (a b : ℕ) → x ≡ Some a → y ≡ Some b → a ≢ b
+    → Contains (joined kind k x y) (record { from = a; kind = kind; key = k; to = b })
 Contains-joined kind k None y a b e f ne = absurd (none-some a e)
 Contains-joined kind k (Some x) None a b e f ne = absurd (none-some b f)
 Contains-joined kind k (Some x) (Some y) a b e f ne =
@@ -32,7 +33,8 @@ pub record Joins (kind : Kind) (k : List ℕ) (x y : Option ℕ) (e : Edge) : Ty
   pub to_is : y ≡ Some e.to
   pub apart : e.from ≢ e.to
 
-pub joined_one : (a b : ℕ) (kind : Kind) (k : List ℕ) (e : Edge) → a ≢ b → Contains (record { from = a; kind = kind; key = k; to = b } ∷ []) e → Joins kind k (Some a) (Some b) e
+pub joined_one : (a b : ℕ) (kind : Kind) (k : List ℕ) (e : Edge) → a ≢ b
+    → Contains (record { from = a; kind = kind; key = k; to = b } ∷ []) e → Joins kind k (Some a) (Some b) e
 joined_one a b kind k e ne (zero, l, f) = record {
   kind_is = ap (λ x. x.kind) (sym f);
   key_is = ap (λ x. x.key) (sym f);
@@ -42,7 +44,8 @@ joined_one a b kind k e ne (zero, l, f) = record {
 }
 joined_one a b kind k e ne (suc i, l, f) = absurd (omega (arith, l))
 
-pub joined_ends : (kind : Kind) (k : List ℕ) (x y : Option ℕ) (e : Edge) → Contains (joined kind k x y) e → Joins kind k x y e
+pub joined_ends : (kind : Kind) (k : List ℕ) (x y : Option ℕ) (e : Edge) → Contains (joined kind k x y) e
+    → Joins kind k x y e
 joined_ends kind k None y e c = absurd (none_contained e c)
 joined_ends kind k (Some a) None e c = absurd (none_contained e c)
 joined_ends kind k (Some a) (Some b) e c =
@@ -54,7 +57,10 @@ joined_ends kind k (Some a) (Some b) e c =
 
 module _ (h : History) where
   -- an edge between places of a key's order, of an event, is listed
-  pub Contains-event_edges : (event : Event) (k : List ℕ) (p : ℕ) (e : Edge) → (o : Order) × Contains h.orders o × (o.key ≡ k) → Contains h.events event → is_committed h.events (txn_of event) ≡ true → selected h event k ≡ Some p → Contains (place_edges h event k (Some p)) e → Contains (dependencies h) e
+  pub Contains-event_edges : (event : Event) (k : List ℕ) (p : ℕ) (e : Edge)
+      → (o : Order) × Contains h.orders o × (o.key ≡ k) → Contains h.events event
+      → is_committed h.events (txn_of event) ≡ true → selected h event k ≡ Some p
+      → Contains (place_edges h event k (Some p)) e → Contains (dependencies h) e
   Contains-event_edges event k p e o occurs committed selects c =
       Contains-append_right (flat_map (λ x. write_edges h x.key) h.orders) _ e
       (Contains-flat_map (event_edges h) (filter (λ x. is_committed h.events (txn_of x)) h.events) event e
@@ -63,7 +69,8 @@ module _ (h : History) where
       (subst (λ j. Contains (place_edges h event j (selected h event j)) e) (sym o.2)
       (subst (λ s. Contains (place_edges h event k s) e) (sym selects) c))))
 
-  pub listed_when_edge : (kind : Kind) (k : List ℕ) (a b : ℕ) → a ≢ b → Depends h kind k a b → Contains (dependencies h) (record { from = a; kind = kind; key = k; to = b })
+  pub listed_when_edge : (kind : Kind) (k : List ℕ) (a b : ℕ) → a ≢ b → Depends h kind k a b
+      → Contains (dependencies h) (record { from = a; kind = kind; key = k; to = b })
   listed_when_edge Ww k a b ne d =
       let e : Edge = record { from = a; kind = Ww; key = k; to = b } in
       let o = order_there h k d.0 a d.1 in
@@ -90,11 +97,14 @@ module _ (h : History) where
       (Contains-filter (overwritten_by h d.event k d.place) (places h k) d.next (Contains-places h k d.next b d.installs) d.overwritten)
       (Contains-joined Rw k _ _ a b (ap Some d.reader) d.installs ne)))
 
-  pub edge_from_joins : (kind : Kind) (k : List ℕ) (x y : Option ℕ) (e : Edge) → Joins kind k x y e → Depends h kind k e.from e.to → IsEdge h e
+  pub edge_from_joins : (kind : Kind) (k : List ℕ) (x y : Option ℕ) (e : Edge) → Joins kind k x y e
+      → Depends h kind k e.from e.to → IsEdge h e
   edge_from_joins kind k x y e j d =
       (j.apart, subst (λ n. Depends h n e.key e.from e.to) (sym j.kind_is) (subst (λ n. Depends h kind n e.from e.to) (sym j.key_is) d))
 
-  pub edge_from_place : (event : Event) (k : List ℕ) (s : Option ℕ) (e : Edge) → Contains h.events event → is_committed h.events (txn_of event) ≡ true → selected h event k ≡ s → Contains (place_edges h event k s) e → IsEdge h e
+  pub edge_from_place : (event : Event) (k : List ℕ) (s : Option ℕ) (e : Edge) → Contains h.events event
+      → is_committed h.events (txn_of event) ≡ true → selected h event k ≡ s → Contains (place_edges h event k s) e
+      → IsEdge h e
   edge_from_place event k None e occurs committed selects c = absurd (none_contained e c)
   edge_from_place event k (Some p) e occurs committed selects c =
       elim (Contains-append_cases (flat_map (λ q. joined Wr k (installer h k q) (Some (txn_of event))) (filter (reads_from h event k p) (places h k))) _ e c) [

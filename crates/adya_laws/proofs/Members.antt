@@ -22,7 +22,8 @@ Contains-cases x xs y (suc i, l, e) = inr (i, omega (arith, l), e)
 pub Contains-slice_get : {X : Type 0} (xs : List X) (i : ℕ) (x : X) → slice_get xs i ≡ Some x → Contains xs x
 Contains-slice_get xs i x e = (i, slice_get_within xs i x e, get_or_from_slice_get xs i x x e)
 
-pub Contains-flat_map : {X Y : Type 0} (f : X → List Y) (xs : List X) (x : X) (y : Y) → Contains xs x → Contains (f x) y → Contains (flat_map f xs) y
+pub Contains-flat_map : {X Y : Type 0} (f : X → List Y) (xs : List X) (x : X) (y : Y) → Contains xs x → Contains (f x) y
+    → Contains (flat_map f xs) y
 Contains-flat_map f [] x y c d = absurd (none_contained x c)
 Contains-flat_map f (z ∷ xs) x y c d =
     elim (Contains-cases z xs x c) [
@@ -30,7 +31,8 @@ Contains-flat_map f (z ∷ xs) x y c d =
       | inr r ↦ Contains-append_right (f z) (flat_map f xs) y (Contains-flat_map f xs x y r d)
     ]
 
-pub flat_map-source : {X Y : Type 0} (f : X → List Y) (xs : List X) (y : Y) → Contains (flat_map f xs) y → (x : X) × Contains xs x × Contains (f x) y
+pub flat_map-source : {X Y : Type 0} (f : X → List Y) (xs : List X) (y : Y) → Contains (flat_map f xs) y
+    → (x : X) × Contains xs x × Contains (f x) y
 flat_map-source f [] y c = absurd (none_contained y c)
 flat_map-source f (x ∷ xs) y c =
     elim (Contains-append_cases (f x) (flat_map f xs) y c) [
@@ -38,7 +40,8 @@ flat_map-source f (x ∷ xs) y c =
       | inr d ↦ let r = flat_map-source f xs y d in (r.0, Contains-cons x xs r.0 r.1, r.2)
     ]
 
-pub Contains-filter : {X : Type 0} (p : X → Bool) (xs : List X) (x : X) → Contains xs x → p x ≡ true → Contains (filter p xs) x
+pub Contains-filter : {X : Type 0} (p : X → Bool) (xs : List X) (x : X) → Contains xs x → p x ≡ true
+    → Contains (filter p xs) x
 Contains-filter p [] x c t = c
 Contains-filter p (z ∷ xs) x c t =
     elim (Contains-cases z xs x c) [
@@ -48,7 +51,8 @@ Contains-filter p (z ∷ xs) x c t =
           elim (p z) as (λ b. Contains (cond b (z ∷ filter p xs) (filter p xs)) x) [ true ↦ Contains-cons z (filter p xs) x rest | false ↦ rest ]
     ]
 
-pub filter-source : {X : Type 0} (p : X → Bool) (xs : List X) (x : X) → Contains (filter p xs) x → Contains xs x × (p x ≡ true)
+pub filter-source : {X : Type 0} (p : X → Bool) (xs : List X) (x : X) → Contains (filter p xs) x
+    → Contains xs x × (p x ≡ true)
 filter-source p [] x c = absurd (none_contained x c)
 filter-source p (z ∷ xs) x c =
     elim (cases_Bool (p z)) [
@@ -70,11 +74,13 @@ list_all_at f (y ∷ xs) x t c =
       | inr r ↦ list_all_at f xs x (and_parts _ _ t).1 r
     ]
 
-pub list_all_when : {X : Type 0} (f : X → Bool) (xs : List X) → ((x : X) → Contains xs x → f x ≡ true) → list_all f xs ≡ true
+pub list_all_when : {X : Type 0} (f : X → Bool) (xs : List X) → ((x : X) → Contains xs x → f x ≡ true)
+    → list_all f xs ≡ true
 list_all_when f [] h = refl
 list_all_when f (x ∷ xs) h = and_from _ _ (h x (Contains-head x xs)) (list_all_when f xs (λ y c. h y (Contains-cons x xs y c)))
 
-pub list_any-source : {X : Type 0} (f : X → Bool) (xs : List X) → list_any f xs ≡ true → (x : X) × Contains xs x × (f x ≡ true)
+pub list_any-source : {X : Type 0} (f : X → Bool) (xs : List X) → list_any f xs ≡ true
+    → (x : X) × Contains xs x × (f x ≡ true)
 list_any-source f [] t = absurd (cc (t))
 list_any-source f (x ∷ xs) t =
     elim (or_cases _ _ t) [
@@ -82,7 +88,8 @@ list_any-source f (x ∷ xs) t =
       | inr a ↦ let r = list_any-source f xs a in (r.0, Contains-cons x xs r.0 r.1, r.2)
     ]
 
-pub list_any_when : {X : Type 0} (f : X → Bool) (xs : List X) (x : X) → Contains xs x → f x ≡ true → list_any f xs ≡ true
+pub list_any_when : {X : Type 0} (f : X → Bool) (xs : List X) (x : X) → Contains xs x → f x ≡ true
+    → list_any f xs ≡ true
 list_any_when f [] x c t = absurd (none_contained x c)
 list_any_when f (y ∷ xs) x c t =
     elim (Contains-cases y xs x c) [

@@ -23,14 +23,16 @@ module _ (h : History) (ts : List ℕ) (a : IsAccepted h ts) where
       cond_positive (installs h.events k u) _ (a.checked.well_formed.orders k u) (count_at (writers h k) q u e)
 
   -- who is committed and wrote the key stands in its order
-  pub installs_installer : (k : List ℕ) (u : ℕ) → installs h.events k u ≡ true → installer h k (suc (place (writers h k) u)) ≡ Some u
+  pub installs_installer : (k : List ℕ) (u : ℕ) → installs h.events k u ≡ true
+      → installer h k (suc (place (writers h k) u)) ≡ Some u
   installs_installer k u e =
       place_get (writers h k) u
       (let counted = a.checked.well_formed.orders k u in
       let one = cond-true {A = ℕ} (installs h.events k u) 1 0 e in
       omega (arith, counted, one))
 
-  pub write_edge : (k : List ℕ) (q u v : ℕ) → installer h k q ≡ Some u → installer h k (suc q) ≡ Some v → u ≢ v → place ts u < place ts v
+  pub write_edge : (k : List ℕ) (q u v : ℕ) → installer h k q ≡ Some u → installer h k (suc q) ≡ Some v → u ≢ v
+      → place ts u < place ts v
   write_edge k q u v e f ne =
       let edge : Edge = record { from = u; kind = Ww; key = k; to = v } in
       a.forward edge (ne, (q, e, f))
@@ -39,7 +41,8 @@ module _ (h : History) (ts : List ℕ) (a : IsAccepted h ts) where
   cond_at_most_one true = omega arith
   cond_at_most_one false = omega arith
 
-  pub differs : (k : List ℕ) (i j u : ℕ) → slice_get (writers h k) i ≡ Some u → slice_get (writers h k) j ≡ Some u → i < j → ⊥
+  pub differs : (k : List ℕ) (i j u : ℕ) → slice_get (writers h k) i ≡ Some u → slice_get (writers h k) j ≡ Some u
+      → i < j → ⊥
   differs k i j u e f l =
       let twice = count_twice (writers h k) i j u e f l in
       let counted = a.checked.well_formed.orders k u in
@@ -47,7 +50,8 @@ module _ (h : History) (ts : List ℕ) (a : IsAccepted h ts) where
       omega (arith, twice, counted, one)
 
   -- a later writer of the order comes later in the certificate
-  pub rises_by : (k : List ℕ) (d i j u v : ℕ) → j ≡ suc (i + d) → slice_get (writers h k) i ≡ Some u → slice_get (writers h k) j ≡ Some v → place ts u < place ts v
+  pub rises_by : (k : List ℕ) (d i j u v : ℕ) → j ≡ suc (i + d) → slice_get (writers h k) i ≡ Some u
+      → slice_get (writers h k) j ≡ Some v → place ts u < place ts v
   rises_by k zero i j u v s e f =
       let next : j ≡ suc i = omega (arith, s) in
       let after : slice_get (writers h k) (suc i) ≡ Some v = subst (λ n. slice_get (writers h k) n ≡ Some v) next f in
@@ -61,7 +65,8 @@ module _ (h : History) (ts : List ℕ) (a : IsAccepted h ts) where
       let far = rises_by k d (suc i) j middle.0 v (omega (arith, s)) middle.1 f in
       omega (arith, near, far)
 
-  pub rises : (k : List ℕ) (p q u v : ℕ) → installer h k p ≡ Some u → installer h k q ≡ Some v → p < q → place ts u < place ts v
+  pub rises : (k : List ℕ) (p q u v : ℕ) → installer h k p ≡ Some u → installer h k q ≡ Some v → p < q
+      → place ts u < place ts v
   rises k zero q u v e f l = absurd (none-some u e)
   rises k (suc p) zero u v e f l = absurd (omega arith)
   rises k (suc p) (suc q) u v e f l =

@@ -15,11 +15,13 @@ use Rattle.adya_laws.proofs.Rising.{rises_tail, rises_other}
 use Rattle.adya_laws.proofs.Found.{listed_from}
 
 -- what is made of an element stands in the list of what is made
-pub Contains-cons_option : {Y : Type 0} (o : Option Y) (ys : List Y) (y : Y) → Contains ys y → Contains (cons_option o ys) y
+pub Contains-cons_option : {Y : Type 0} (o : Option Y) (ys : List Y) (y : Y) → Contains ys y
+    → Contains (cons_option o ys) y
 Contains-cons_option None ys y c = c
 Contains-cons_option (Some x) ys y c = Contains-cons x ys y c
 
-pub Contains-filter_map : {X Y : Type 0} (f : X → Option Y) (xs : List X) (x : X) (y : Y) → Contains xs x → f x ≡ Some y → Contains (filter_map f xs) y
+pub Contains-filter_map : {X Y : Type 0} (f : X → Option Y) (xs : List X) (x : X) (y : Y) → Contains xs x → f x ≡ Some y
+    → Contains (filter_map f xs) y
 Contains-filter_map f [] x y c e = absurd (none_contained x c)
 Contains-filter_map f (z ∷ xs) x y c e =
     elim (Contains-cases z xs x c) [
@@ -37,12 +39,14 @@ cons_option-source f z xs y (Some w) made rest c =
       | inr d ↦ let r = rest d in (r.0, Contains-cons z xs r.0 r.1, r.2)
     ]
 
-pub filter_map-source : {X Y : Type 0} (f : X → Option Y) (xs : List X) (y : Y) → Contains (filter_map f xs) y → (x : X) × Contains xs x × (f x ≡ Some y)
+pub filter_map-source : {X Y : Type 0} (f : X → Option Y) (xs : List X) (y : Y) → Contains (filter_map f xs) y
+    → (x : X) × Contains xs x × (f x ≡ Some y)
 filter_map-source f [] y c = absurd (none_contained y c)
 filter_map-source f (z ∷ xs) y c = cons_option-source f z xs y (f z) refl (filter_map-source f xs y) c
 
 -- an entry of a list whose keys rise is what it lists of its key
-pub listed_when : (es : List Entry) (w : Entry) → keys_rise (map (λ x. x.version.key) es) ≡ true → Contains es w → listed w.version.key es ≡ Some w
+pub listed_when : (es : List Entry) (w : Entry) → keys_rise (map (λ x. x.version.key) es) ≡ true → Contains es w
+    → listed w.version.key es ≡ Some w
 listed_when [] w r c = absurd (none_contained w c)
 listed_when (x ∷ es) w r c =
     elim (Contains-cases x es w c) [
@@ -53,7 +57,8 @@ listed_when (x ∷ es) w r c =
     ]
 
 -- a pair of a list whose keys rise is the final value of its key
-pub final_found : (fs : List FinalPair) (f : FinalPair) → keys_rise (map (λ x. x.key) fs) ≡ true → Contains fs f → final_value fs f.key ≡ Some f.value
+pub final_found : (fs : List FinalPair) (f : FinalPair) → keys_rise (map (λ x. x.key) fs) ≡ true → Contains fs f
+    → final_value fs f.key ≡ Some f.value
 final_found [] f r c = absurd (none_contained f c)
 final_found (x ∷ fs) f r c =
     elim (Contains-cases x fs f c) [
@@ -74,19 +79,22 @@ final_pair (f ∷ fs) k v e =
       | inr t ↦ Contains-cons f fs (pair k v) (final_pair fs k v (subst (λ b. cond b (Some f.value) (final_value fs k) ≡ Some v) t e))
     ]
 
-pub finals_are : (fs : List FinalPair) → keys_rise (map (λ x. x.key) fs) ≡ true → (k v : List ℕ) → (final_value fs k ≡ Some v) ↔ Contains fs (pair k v)
+pub finals_are : (fs : List FinalPair) → keys_rise (map (λ x. x.key) fs) ≡ true → (k v : List ℕ)
+    → (final_value fs k ≡ Some v) ↔ Contains fs (pair k v)
 finals_are fs r k v = (final_pair fs k v, final_found fs (pair k v) r)
 
 pub visible_pair : (k v : List ℕ) (c : Content) → visible c ≡ Some v → visible_pair_of k (visible c) ≡ Some (pair k v)
 visible_pair k v c e = ap (visible_pair_of k) e
 
-pub visible_pair-parts : (j k v : List ℕ) (o : Option (List ℕ)) → visible_pair_of j o ≡ Some (pair k v) → (j ≡ k) × (o ≡ Some v)
+pub visible_pair-parts : (j k v : List ℕ) (o : Option (List ℕ)) → visible_pair_of j o ≡ Some (pair k v)
+    → (j ≡ k) × (o ≡ Some v)
 visible_pair-parts j k v None e = absurd (none-some (pair k v) e)
 visible_pair-parts j k v (Some u) e =
     let same = same_Some (pair j u) (pair k v) e in
     (ap (λ x. x.key) same, ap (λ x. Some x.value) same)
 
-pub shown_pair : (es : List Entry) (k v : List ℕ) (o : Option Entry) → listed k es ≡ o → shown o ≡ Some v → Contains (visible_pairs es) (pair k v)
+pub shown_pair : (es : List Entry) (k v : List ℕ) (o : Option Entry) → listed k es ≡ o → shown o ≡ Some v
+    → Contains (visible_pairs es) (pair k v)
 shown_pair es k v None e s = absurd (none-some v s)
 shown_pair es k v (Some w) e s =
     let at = listed_from k es w e in
@@ -94,7 +102,8 @@ shown_pair es k v (Some w) e s =
     (ap (λ j. visible_pair_of j (visible w.content)) at.1 ∙ visible_pair k v w.content s)
 
 -- key by key, or by pairs, it is the same to see a scan's list
-pub pairs_from_keys : (low high : List ℕ) (es : List Entry) (m : List ℕ → Option (List ℕ)) → keys_rise (map (λ w. w.version.key) es) ≡ true
+pub pairs_from_keys : (low high : List ℕ) (es : List Entry) (m : List ℕ → Option (List ℕ))
+    → keys_rise (map (λ w. w.version.key) es) ≡ true
     → All (λ w. lies_in low high w.version.key ≡ true) es → ((k : List ℕ) → lies_in low high k ≡ true → m k ≡ shown (listed k es))
     → (k v : List ℕ) → ((lies_in low high k ≡ true) × (m k ≡ Some v)) ↔ Contains (visible_pairs es) (pair k v)
 pairs_from_keys low high es m rise inside holds k v = (there, back)

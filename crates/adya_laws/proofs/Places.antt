@@ -14,7 +14,8 @@ pub installer_within : (h : History) (k : List ℕ) (q u : ℕ) → installer h 
 installer_within h k zero u e = absurd (none-some u e)
 installer_within h k (suc q) u e = let within = slice_get_within (writers h k) q u e in omega (arith, within)
 
-pub installer_there : (h : History) (k : List ℕ) (q : ℕ) → q < length (writers h k) → (u : ℕ) × (installer h k (suc q) ≡ Some u)
+pub installer_there : (h : History) (k : List ℕ) (q : ℕ) → q < length (writers h k)
+    → (u : ℕ) × (installer h k (suc q) ≡ Some u)
 installer_there h k q l = (get_or (writers h k) q 0, slice_get-get_or (writers h k) q 0 l)
 
 pub Contains-numbers : (from n q : ℕ) → from ≤ q → q < from + n → Contains (numbers from n) q
@@ -32,7 +33,8 @@ Contains-places h k (suc q) u e =
     Contains-numbers 1 (length (writers h k)) (suc q) (omega arith) (omega (arith, within))
 
 -- a key with a writer has an order line
-pub line_there : (os : List Order) (k : List ℕ) (i u : ℕ) → slice_get (line_of os k) i ≡ Some u → (o : Order) × Contains os o × (o.key ≡ k)
+pub line_there : (os : List Order) (k : List ℕ) (i u : ℕ) → slice_get (line_of os k) i ≡ Some u
+    → (o : Order) × Contains os o × (o.key ≡ k)
 line_there [] k i u e = absurd (none-some u e)
 line_there (o ∷ os) k i u e =
     elim (cases_Bool (key_eq o.key k)) [
@@ -42,6 +44,7 @@ line_there (o ∷ os) k i u e =
           (r.0, Contains-cons o os r.0 r.1, r.2)
     ]
 
-pub order_there : (h : History) (k : List ℕ) (q u : ℕ) → installer h k q ≡ Some u → (o : Order) × Contains h.orders o × (o.key ≡ k)
+pub order_there : (h : History) (k : List ℕ) (q u : ℕ) → installer h k q ≡ Some u
+    → (o : Order) × Contains h.orders o × (o.key ≡ k)
 order_there h k zero u e = absurd (none-some u e)
 order_there h k (suc q) u e = line_there h.orders k q u e

@@ -29,7 +29,8 @@ module _ {X : Type 0} (key : X → List ℕ) where
   rises_tail x [] r = refl
   rises_tail x (y ∷ ys) r = (and_parts _ _ r).1
 
-  pub rises_below : (x : X) (xs : List X) (y : X) → keys_rise (map key (x ∷ xs)) ≡ true → Contains xs y → key_lt (key x) (key y) ≡ true
+  pub rises_below : (x : X) (xs : List X) (y : X) → keys_rise (map key (x ∷ xs)) ≡ true → Contains xs y
+      → key_lt (key x) (key y) ≡ true
   rises_below x [] y r c = absurd (none_contained y c)
   rises_below x (z ∷ xs) y r c =
       let parts = and_parts _ _ r in
@@ -39,5 +40,6 @@ module _ {X : Type 0} (key : X → List ℕ) where
       ]
 
   -- the test of a first element fails at the key of a later one
-  pub rises_other : (x : X) (xs : List X) (y : X) → keys_rise (map key (x ∷ xs)) ≡ true → Contains xs y → key_eq (key x) (key y) ≡ false
+  pub rises_other : (x : X) (xs : List X) (y : X) → keys_rise (map key (x ∷ xs)) ≡ true → Contains xs y
+      → key_eq (key x) (key y) ≡ false
   rises_other x xs y r c = key_eq-other (key x) (key y) (key_lt-apart (key x) (key y) (rises_below x xs y r c))

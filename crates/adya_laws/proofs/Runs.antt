@@ -17,7 +17,8 @@ pub over_any : (w : Entry) (ws : List Entry) (x y : Option (List ℕ)) → over 
 over_any w [] x y = refl
 over_any w (v ∷ ws) x y = over_any v ws x y
 
-pub over_cons : (w : Entry) (ws : List Entry) (x : Option (List ℕ)) → over (last ws) (shown (Some w)) ≡ over (last (w ∷ ws)) x
+pub over_cons : (w : Entry) (ws : List Entry) (x : Option (List ℕ))
+    → over (last ws) (shown (Some w)) ≡ over (last (w ∷ ws)) x
 over_cons w [] x = refl
 over_cons w (v ∷ ws) x = over_any v ws (shown (Some w)) x
 
@@ -30,7 +31,8 @@ AllSee-append [] ys m p q = q
 AllSee-append (x ∷ xs) ys m p q = (p.0, AllSee-append xs ys (after m x) p.1 q)
 
 -- after a transaction's events a key holds its last write, or what it held before
-pub run_own : (t : ℕ) (k : List ℕ) (es : List Event) (m : Contents) → run m (events_of es t) k ≡ over (last_write t k es) (m k)
+pub run_own : (t : ℕ) (k : List ℕ) (es : List Event) (m : Contents)
+    → run m (events_of es t) k ≡ over (last_write t k es) (m k)
 run_own t k [] m = refl
 run_own t k (Write u j n v ∷ es) m =
     let w : Entry = entry (version j u n) (Live v) in

@@ -33,12 +33,14 @@ same_from_not_differ false false h = refl
 pub reads_from_itself : (h : History) (e : Event) (k : List ℕ) (p : ℕ) → reads_from h e k p p ≡ true
 reads_from_itself h e k p = or_left _ _ (eq-eqb p p refl)
 
-pub read_selects : (h : History) (t : ℕ) (r : Version) (v : List ℕ) → r.txn ≢ t → selected h (Read t r v) r.key ≡ Some (suc (place (writers h r.key) r.txn))
+pub read_selects : (h : History) (t : ℕ) (r : Version) (v : List ℕ) → r.txn ≢ t
+    → selected h (Read t r v) r.key ≡ Some (suc (place (writers h r.key) r.txn))
 read_selects h t r v ne =
     cond-true {A = Option ℕ} (key_eq r.key r.key && not (r.txn == t)) (Some (suc (place (writers h r.key) r.txn))) None
     (and_from _ _ (key_eq-itself r.key) (not_from_false _ (ne_eqb _ _ ne)))
 
-pub scan_selects : (h : History) (t : ℕ) (low high : List ℕ) (l : List Entry) (k : List ℕ) (p : ℕ) → lies_in low high k ≡ true → place_of h t k (listed k l) ≡ Some p → selected h (Scan t low high l) k ≡ Some p
+pub scan_selects : (h : History) (t : ℕ) (low high : List ℕ) (l : List Entry) (k : List ℕ) (p : ℕ)
+    → lies_in low high k ≡ true → place_of h t k (listed k l) ≡ Some p → selected h (Scan t low high l) k ≡ Some p
 scan_selects h t low high l k p inside e =
     cond-true {A = Option ℕ} (lies_in low high k) (place_of h t k (listed k l)) None inside ∙ e
 
@@ -53,7 +55,9 @@ module _ (h : History) (ts : List ℕ) (a : IsAccepted h ts) (front : List ℕ) 
     pub installs : installer h o.version.key (suc (place (writers h o.version.key) o.version.txn)) ≡ Some o.version.txn
     pub last : last_write o.version.txn o.version.key h.events ≡ Some o
 
-  pub others : (before : List Event) (e : Event) (o : Entry) → Contains h.events e → txn_of e ≡ t → WasWritten before e → ((w : Event) → Contains before w → Contains h.events w) → Contains (observed e) o → last_write t o.version.key before ≡ None → IsOthers o
+  pub others : (before : List Event) (e : Event) (o : Entry) → Contains h.events e → txn_of e ≡ t → WasWritten before e
+      → ((w : Event) → Contains before w → Contains h.events w) → Contains (observed e) o
+      → last_write t o.version.key before ≡ None → IsOthers o
   others before e o occurs mine was within seen none =
       let there = All-contains (Contains (filter_map written before)) (observed e) o was seen in
       let ne = λ (s : o.version.txn ≡ t). last_write_there t o.version.key before o there s refl none in
@@ -68,7 +72,8 @@ module _ (h : History) (ts : List ℕ) (a : IsAccepted h ts) (front : List ℕ) 
       let found = installs_installer h ts a o.version.key o.version.txn (and_from _ _ done (ap is_some newest)) in
       record { not_own = ne; installs = found; last = newest }
 
-  pub read_edge : (e : Event) (k : List ℕ) (p q u : ℕ) → Contains h.events e → txn_of e ≡ t → selected h e k ≡ Some p → reads_from h e k p q ≡ true → installer h k q ≡ Some u → u ≢ t → place ts u < length front
+  pub read_edge : (e : Event) (k : List ℕ) (p q u : ℕ) → Contains h.events e → txn_of e ≡ t → selected h e k ≡ Some p
+      → reads_from h e k p q ≡ true → installer h k q ≡ Some u → u ≢ t → place ts u < length front
   read_edge e k p q u occurs mine selects reads inst ne =
       let edge : Edge = record { from = u; kind = Wr; key = k; to = t } in
       let forward = a.forward edge (
@@ -88,7 +93,9 @@ module _ (h : History) (ts : List ℕ) (a : IsAccepted h ts) (front : List ℕ) 
       let here = place_here h ts a front t back split in
       omega (arith, forward, here)
 
-  pub overwrite_edge : (e : Event) (k : List ℕ) (p q u : ℕ) → Contains h.events e → txn_of e ≡ t → selected h e k ≡ Some p → overwritten_by h e k p q ≡ true → installer h k q ≡ Some u → place ts u < length front → ⊥
+  pub overwrite_edge : (e : Event) (k : List ℕ) (p q u : ℕ) → Contains h.events e → txn_of e ≡ t
+      → selected h e k ≡ Some p → overwritten_by h e k p q ≡ true → installer h k q ≡ Some u → place ts u < length front
+      → ⊥
   overwrite_edge e k p q u occurs mine selects overwrites inst early =
       let edge : Edge = record { from = t; kind = Rw; key = k; to = u } in
       let here = place_here h ts a front t back split in
@@ -109,7 +116,9 @@ module _ (h : History) (ts : List ℕ) (a : IsAccepted h ts) (front : List ℕ) 
       ) in
       omega (arith, forward, here, early)
 
-  pub read_others : (u : ℕ) (o : Entry) (v : List ℕ) (m : Option (List ℕ)) → o ≡ entry o.version (Live v) → Contains h.events (Read u o.version v) → u ≡ t → IsOthers o → Stands h ts o.version.key (length front) m → m ≡ Some v
+  pub read_others : (u : ℕ) (o : Entry) (v : List ℕ) (m : Option (List ℕ)) → o ≡ entry o.version (Live v)
+      → Contains h.events (Read u o.version v) → u ≡ t → IsOthers o → Stands h ts o.version.key (length front) m
+      → m ≡ Some v
   read_others u o v m live occurs mine other s =
       let e : Event = Read u o.version v in
       let k : List ℕ = o.version.key in
@@ -166,13 +175,17 @@ module _ (h : History) (ts : List ℕ) (a : IsAccepted h ts) (front : List ℕ) 
 
   -- the event sees what was recorded, after the earlier events of its transaction
   module _ (m : Contents) (stands : (k : List ℕ) → Stands h ts k (length front) (m k)) (before : List Event) (within : (w : Event) → Contains before w → Contains h.events w) where
-    pub read_sees : (u : ℕ) (r : Version) (v : List ℕ) → Contains h.events (Read u r v) → u ≡ t → WasWritten before (Read u r v) → (o : Option Entry) → last_write t r.key before ≡ o → IfSome o (λ w. entry r (Live v) ≡ w) → over o (m r.key) ≡ Some v
+    pub read_sees : (u : ℕ) (r : Version) (v : List ℕ) → Contains h.events (Read u r v) → u ≡ t
+        → WasWritten before (Read u r v) → (o : Option Entry) → last_write t r.key before ≡ o
+        → IfSome o (λ w. entry r (Live v) ≡ w) → over o (m r.key) ≡ Some v
     read_sees u r v occurs mine was None none own =
         let other = others before (Read u r v) (entry r (Live v)) occurs mine was within (Contains-head (entry r (Live v)) []) none in
         read_others u (entry r (Live v)) v (m r.key) refl occurs mine other (stands r.key)
     read_sees u r v occurs mine was (Some w) there own = ap (λ x. shown (Some x)) (sym own)
 
-    pub scan_others : (u : ℕ) (low high : List ℕ) (l : List Entry) → Contains h.events (Scan u low high l) → u ≡ t → WasWritten before (Scan u low high l) → (k : List ℕ) → lies_in low high k ≡ true → last_write t k before ≡ None → (o : Option Entry) → listed k l ≡ o → m k ≡ shown o
+    pub scan_others : (u : ℕ) (low high : List ℕ) (l : List Entry) → Contains h.events (Scan u low high l) → u ≡ t
+        → WasWritten before (Scan u low high l) → (k : List ℕ) → lies_in low high k ≡ true
+        → last_write t k before ≡ None → (o : Option Entry) → listed k l ≡ o → m k ≡ shown o
     scan_others u low high l occurs mine was k inside none None e =
         scan_holds u low high l k 0 (m k) occurs mine (scan_selects h u low high l k 0 inside (ap (place_of h u k) e)) (stands k) (omega arith)
     scan_others u low high l occurs mine was k inside none (Some o) e =
@@ -186,7 +199,8 @@ module _ (h : History) (ts : List ℕ) (a : IsAccepted h ts) (front : List ℕ) 
         scan_holds u low high l k (suc p) (m k) occurs mine selects (stands k) ((stands k).only (suc p) o.version.txn inst early) ∙
         (ap (value_by h k) inst ∙ (ap (λ j. shown (last_write o.version.txn j h.events)) (sym at.1) ∙ ap shown other.last))
 
-    pub scan_sees : (u : ℕ) (low high : List ℕ) (l : List Entry) → Contains h.events (Scan u low high l) → u ≡ t → WasWritten before (Scan u low high l)
+    pub scan_sees : (u : ℕ) (low high : List ℕ) (l : List Entry) → Contains h.events (Scan u low high l) → u ≡ t
+        → WasWritten before (Scan u low high l)
         → keys_rise (map (λ w. w.version.key) l) ≡ true → (k : List ℕ) → lies_in low high k ≡ true → (o : Option Entry) → last_write t k before ≡ o
         → IfSome o (ListsOnly l) → over o (m k) ≡ shown (listed k l)
     scan_sees u low high l occurs mine was rise k inside None none own =
@@ -194,7 +208,8 @@ module _ (h : History) (ts : List ℕ) (a : IsAccepted h ts) (front : List ℕ) 
     scan_sees u low high l occurs mine was rise k inside (Some w) there own =
         sym (ap shown (subst (λ j. listed j l ≡ Some w) (last_write_key t k before w there) (listed_when l w rise own.0)))
 
-    pub sees : (e : Event) → Contains h.events e → txn_of e ≡ t → WasWritten before e → SeesOwnWrites before e → IsRising e
+    pub sees : (e : Event) → Contains h.events e → txn_of e ≡ t → WasWritten before e → SeesOwnWrites before e
+        → IsRising e
         → Sees (run m (events_of before t)) e
     sees (Read u r v) occurs mine was own rising =
         run_own t r.key before m ∙

@@ -61,7 +61,8 @@ module _ (h : History) (ts : List ℕ) (a : IsAccepted h ts) (front : List ℕ) 
       subst (λ xs. place xs u < length front) (sym split)
       (place_before front t back u ne (subst (λ xs. place xs u < suc (length front)) split l))
 
-  pub Stands-writes : (k : List ℕ) (v : Option (List ℕ)) → installs h.events k t ≡ true → Stands h ts k (suc (length front)) (over (last_write t k h.events) v)
+  pub Stands-writes : (k : List ℕ) (v : Option (List ℕ)) → installs h.events k t ≡ true
+      → Stands h ts k (suc (length front)) (over (last_write t k h.events) v)
   Stands-writes k v e =
       let i : ℕ = place (writers h k) t in
       let own = installs_installer h ts a k t e in
@@ -85,7 +86,8 @@ module _ (h : History) (ts : List ℕ) (a : IsAccepted h ts) (front : List ℕ) 
             ];
       }
 
-  pub Stands-rests : (k : List ℕ) (v : Option (List ℕ)) → installs h.events k t ≡ false → Stands h ts k (length front) v → Stands h ts k (suc (length front)) (over (last_write t k h.events) v)
+  pub Stands-rests : (k : List ℕ) (v : Option (List ℕ)) → installs h.events k t ≡ false → Stands h ts k (length front) v
+      → Stands h ts k (suc (length front)) (over (last_write t k h.events) v)
   Stands-rests k v e s = record {
     upto = s.upto;
     within = s.within;
@@ -100,7 +102,8 @@ module _ (h : History) (ts : List ℕ) (a : IsAccepted h ts) (front : List ℕ) 
         (place_earlier u (λ same. both_ways _ e (subst (λ x. installs h.events k x ≡ true) same (installer_installs h ts a k q u f))) l);
   }
 
-  pub Stands-step : (k : List ℕ) (v : Option (List ℕ)) → Stands h ts k (length front) v → Stands h ts k (suc (length front)) (over (last_write t k h.events) v)
+  pub Stands-step : (k : List ℕ) (v : Option (List ℕ)) → Stands h ts k (length front) v
+      → Stands h ts k (suc (length front)) (over (last_write t k h.events) v)
   Stands-step k v s =
       elim (cases_Bool (installs h.events k t)) [
         | inl holds ↦ Stands-writes k v holds

@@ -22,7 +22,9 @@ use Rattle.adya_laws.proofs.Seen.{sees}
 
 -- one transaction's events
 module _ (h : History) (ts : List ℕ) (a : IsAccepted h ts) (front : List ℕ) (t : ℕ) (back : List ℕ) (split : ts ≡ front ++ t ∷ back) (m : Contents) (stands : (k : List ℕ) → Stands h ts k (length front) (m k)) where
-  pub own_see : (before es : List Event) → h.events ≡ before ++ es → EachAfter WasWritten before es → EachAfter SeesOwnWrites before es → EachAfter (λ b e. IsRising e) before es → AllSee (run m (events_of before t)) (events_of es t)
+  pub own_see : (before es : List Event) → h.events ≡ before ++ es → EachAfter WasWritten before es
+      → EachAfter SeesOwnWrites before es → EachAfter (λ b e. IsRising e) before es
+      → AllSee (run m (events_of before t)) (events_of es t)
   own_see before [] cut was own rising = tt
   own_see before (e ∷ es) cut was own rising =
       let further : h.events ≡ (before ++ e ∷ []) ++ es = cut ∙ sym (append_assoc before (e ∷ []) es) in
@@ -58,7 +60,8 @@ module _ (h : History) (ts : List ℕ) (a : IsAccepted h ts) where
     pub see : AllSee m (flat_map (events_of h.events) back)
     pub stand : (k : List ℕ) → Stands h ts k (length ts) (run m (flat_map (events_of h.events) back) k)
 
-  pub runs : (front back : List ℕ) → ts ≡ front ++ back → (m : Contents) → ((k : List ℕ) → Stands h ts k (length front) (m k)) → Runs back m
+  pub runs : (front back : List ℕ) → ts ≡ front ++ back → (m : Contents)
+      → ((k : List ℕ) → Stands h ts k (length front) (m k)) → Runs back m
   runs front [] cut m stands =
       let same : length front ≡ length ts = ap length (sym (append-nil front) ∙ sym cut) in
       record { see = tt; stand = λ k. subst (λ n. Stands h ts k n (m k)) same (stands k) }
@@ -76,7 +79,8 @@ module _ (h : History) (ts : List ℕ) (a : IsAccepted h ts) where
         stand = λ k. subst (λ s. Stands h ts k (length ts) (s k)) (sym (run_append own rest m)) (later.stand k);
       }
 
-  pub last_stands : (k : List ℕ) (v : Option (List ℕ)) → Stands h ts k (length ts) v → v ≡ value_at h k (length (writers h k))
+  pub last_stands : (k : List ℕ) (v : Option (List ℕ)) → Stands h ts k (length ts) v
+      → v ≡ value_at h k (length (writers h k))
   last_stands k v s =
       elim (cases_lt s.upto (length (writers h k))) [
         | inl less ↦
