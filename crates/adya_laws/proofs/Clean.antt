@@ -34,5 +34,7 @@ module _ (h : History) (checked : IsChecked h) where
       → txn_of w ≡ o.version.txn → is_committed h.events o.version.txn ≡ true
   read_committed e o r w there same =
       let ended = subst (λ x. (has_ended h.events x || is_unfinished h x) ≡ true) same
-      (All-contains (λ x. (has_ended h.events (txn_of x) || is_unfinished h (txn_of x)) ≡ true) h.events w checked.well_formed.ends.ended there) in
-      committed_from_ended (is_committed h.events o.version.txn) _ (is_unfinished h o.version.txn) ended (read_not_aborted e o r)
+      (All-contains (λ x. (has_ended h.events (txn_of x) || is_unfinished h (txn_of x)) ≡ true)
+      h.events w checked.well_formed.ends.ended there) in
+      committed_from_ended (is_committed h.events o.version.txn) _ (is_unfinished h o.version.txn) ended
+      (read_not_aborted e o r)

@@ -42,7 +42,10 @@ count_place (x ∷ xs) t h =
 pub count_at : (xs : List ℕ) (i t : ℕ) → slice_get xs i ≡ Some t → 0 < count xs t
 count_at [] i t h = absurd (none-some t h)
 count_at (x ∷ xs) zero t h = let same = count_same x xs t (same_Some x t h) in omega (arith, same)
-count_at (x ∷ xs) (suc i) t h = let rest = count_at xs i t h in let more = count_rest x xs t in omega (arith, rest, more)
+count_at (x ∷ xs) (suc i) t h =
+    let rest = count_at xs i t h in
+    let more = count_rest x xs t in
+    omega (arith, rest, more)
 
 -- what stands at two places is counted twice
 pub count_twice : (xs : List ℕ) (i j t : ℕ) → slice_get xs i ≡ Some t → slice_get xs j ≡ Some t → i < j → 1 < count xs t

@@ -50,7 +50,8 @@ edge_eq-same a b e =
 
 pub edge_eq-itself : (a : Edge) → edge_eq a a ≡ true
 edge_eq-itself a =
-    and_from _ _ (and_from _ _ (and_from _ _ (eq-eqb a.from a.from refl) (kind_eq-itself a.kind)) (key_eq-from a.key a.key refl)) (eq-eqb a.to a.to refl)
+    and_from _ _ (and_from _ _ (and_from _ _ (eq-eqb a.from a.from refl) (kind_eq-itself a.kind))
+    (key_eq-from a.key a.key refl)) (eq-eqb a.to a.to refl)
 
 pub edge_eq-from : (a b : Edge) → a ≡ b → edge_eq a b ≡ true
 edge_eq-from a b e = subst (λ x. edge_eq a x ≡ true) e (edge_eq-itself a)
@@ -74,8 +75,10 @@ Contains-with_edge seen e x (inl c) =
     ]
 Contains-with_edge seen e x (inr s) =
     elim (cases_Bool (list_any (edge_eq e) seen)) [
-      | inl t ↦ subst (λ xs. Contains xs x) (sym (with_edge-there seen e t)) (subst (Contains seen) s (seen_already seen e t))
-      | inr f ↦ subst (λ xs. Contains xs x) (sym (with_edge-new seen e f)) (subst (Contains (seen ++ e ∷ [])) s (Contains-push seen e))
+      | inl t ↦ subst (λ xs. Contains xs x) (sym (with_edge-there seen e t))
+          (subst (Contains seen) s (seen_already seen e t))
+      | inr f ↦ subst (λ xs. Contains xs x) (sym (with_edge-new seen e f))
+          (subst (Contains (seen ++ e ∷ [])) s (Contains-push seen e))
     ]
 
 pub with_edge-source : (seen : List Edge) (e x : Edge) → Contains (with_edge seen e) x → Contains seen x ⊎ (e ≡ x)
@@ -89,7 +92,8 @@ pub Contains-fold : (seen es : List Edge) (x : Edge) → Contains seen x ⊎ Con
     → Contains (fold with_edge seen es) x
 Contains-fold seen [] x (inl c) = c
 Contains-fold seen [] x (inr c) = absurd (none_contained x c)
-Contains-fold seen (e ∷ es) x (inl c) = Contains-fold (with_edge seen e) es x (inl (Contains-with_edge seen e x (inl c)))
+Contains-fold seen (e ∷ es) x (inl c) = Contains-fold (with_edge seen e) es x
+    (inl (Contains-with_edge seen e x (inl c)))
 Contains-fold seen (e ∷ es) x (inr c) =
     elim (Contains-cases e es x c) [
       | inl s ↦ Contains-fold (with_edge seen e) es x (inl (Contains-with_edge seen e x (inr s)))
@@ -135,7 +139,8 @@ find_there p (y ∷ xs) x c t o =
       | inr later ↦
           (elim (Contains-cases y xs x c) [
             | inl s ↦ absurd (both_ways _ later (ap p s ∙ t))
-            | inr r ↦ subst (λ b. option_or (cond b (Some y) (find p xs)) o ≡ cond b (Some y) (find p xs)) (sym later) (find_there p xs x r t o)
+            | inr r ↦ subst (λ b. option_or (cond b (Some y) (find p xs)) o ≡ cond b (Some y) (find p xs)) (sym later)
+                (find_there p xs x r t o)
           ])
     ]
 

@@ -32,7 +32,8 @@ entry_eq-same a b e =
 pub entry_eq-itself : (a : Entry) → entry_eq a a ≡ true
 entry_eq-itself a =
     and_from _ _
-    (and_from _ _ (and_from _ _ (key_eq-itself a.version.key) (eq-eqb a.version.txn a.version.txn refl)) (eq-eqb a.version.m a.version.m refl))
+    (and_from _ _ (and_from _ _ (key_eq-itself a.version.key) (eq-eqb a.version.txn a.version.txn refl))
+    (eq-eqb a.version.m a.version.m refl))
     (content_eq-itself a.content)
 
 pub is_entry-same : (o : Option Entry) (b : Entry) → is_entry o b ≡ true → o ≡ Some b

@@ -24,8 +24,10 @@ last_filter test (y ∷ xs) zero x l e p n =
     last_cons y (filter test xs) (subst (λ b. last (cond b (y ∷ filter test xs) (filter test xs)) ≡ None) q n)
 last_filter test (y ∷ xs) (suc i) x l e p n =
     elim (cases_Bool (test y)) [
-      | inl holds ↦ last_cons y (filter test xs) (subst (λ b. last (cond b (y ∷ filter test xs) (filter test xs)) ≡ None) holds n)
-      | inr fails ↦ last_filter test xs i x (omega (arith, l)) e p (subst (λ b. last (cond b (y ∷ filter test xs) (filter test xs)) ≡ None) fails n)
+      | inl holds ↦ last_cons y (filter test xs)
+          (subst (λ b. last (cond b (y ∷ filter test xs) (filter test xs)) ≡ None) holds n)
+      | inr fails ↦ last_filter test xs i x (omega (arith, l)) e p
+          (subst (λ b. last (cond b (y ∷ filter test xs) (filter test xs)) ≡ None) fails n)
     ]
 
 pub last_write_there : (t : ℕ) (k : List ℕ) (es : List Event) (o : Entry) → Contains (filter_map written es) o
@@ -49,7 +51,8 @@ pub writer_from : (e : Event) (es : List Event) (o : Entry) (r : Option Entry) �
     → (w : Event) × Contains (e ∷ es) w × (txn_of w ≡ o.version.txn)
 writer_from e es o None made rest c = let r = rest c in (r.0, Contains-cons e es r.0 r.1, r.2)
 writer_from e es o (Some x) made rest (zero, l, f) = (e, Contains-head e es, written_txn e o (made ∙ ap Some f))
-writer_from e es o (Some x) made rest (suc i, l, f) = let r = rest (i, omega (arith, l), f) in (r.0, Contains-cons e es r.0 r.1, r.2)
+writer_from e es o (Some x) made rest (suc i, l, f) = let r = rest (i, omega (arith, l), f) in
+    (r.0, Contains-cons e es r.0 r.1, r.2)
 
 pub writer_of : (es : List Event) (o : Entry) → Contains (filter_map written es) o
     → (w : Event) × Contains es w × (txn_of w ≡ o.version.txn)
@@ -63,8 +66,11 @@ listed_from k [] o e = absurd (none-some o e)
 listed_from k (w ∷ ws) o e =
     elim (cases_Bool (key_eq w.version.key k)) [
       | inl holds ↦
-          let same : w ≡ o = same_Some w o (subst (λ b. cond b (Some w) (listed k ws) ≡ Some o) holds e) in
-          (subst (Contains (w ∷ ws)) same (Contains-head w ws), ap (λ x. x.version.key) (sym same) ∙ key_eq-same _ _ holds)
+          let same : w ≡ o = same_Some w o (subst (λ b. cond b (Some w) (listed k ws) ≡ Some o) holds e) in (
+            subst (Contains (w ∷ ws)) same (Contains-head w ws),
+            ap (λ x. x.version.key) (sym same) ∙
+                key_eq-same _ _ holds,
+          )
       | inr fails ↦
           let rest = listed_from k ws o (subst (λ b. cond b (Some w) (listed k ws) ≡ Some o) fails e) in
           (Contains-cons w ws o rest.0, rest.1)
@@ -78,5 +84,6 @@ last_contained (y ∷ z ∷ zs) x e = Contains-cons y (z ∷ zs) x (last_contain
 -- a last write of a key is of that key
 pub last_write_key : (t : ℕ) (k : List ℕ) (es : List Event) (w : Entry) → last_write t k es ≡ Some w → w.version.key ≡ k
 last_write_key t k es w e =
-    let at = filter-source (λ x. x.version.txn == t && key_eq x.version.key k) (filter_map written es) w (last_contained (writes_of t k es) w e) in
+    let at = filter-source (λ x. x.version.txn == t && key_eq x.version.key k) (filter_map written es) w
+    (last_contained (writes_of t k es) w e) in
     key_eq-same _ _ (and_parts _ _ at.1).1

@@ -29,7 +29,8 @@ exactly_from_test test xs events source all t =
     elim (cases_lt 0 (count xs t)) [
       | inl more ↦
           let at = count_place xs t more in
-          eqb-true _ _ (list_all_at (λ u. count xs u == cond (test u) 1 0) xs t parts.0 (Contains-slice_get xs at.0 t at.1))
+          eqb-true _ _ (list_all_at (λ u. count xs u == cond (test u) 1 0) xs t parts.0
+          (Contains-slice_get xs at.0 t at.1))
       | inr none ↦
           elim (cases_Bool (test t)) [
             | inl c ↦
@@ -43,7 +44,8 @@ exactly_from_test test xs events source all t =
 pub test_from_exactly : (test : ℕ → Bool) (xs : List ℕ) (events : List Event)
     → ((t : ℕ) → count xs t ≡ cond (test t) 1 0) → lists_exactly test xs events ≡ true
 test_from_exactly test xs events all =
-    and_from _ _ (list_all_when _ xs (λ t c. eq-eqb _ _ (all t))) (list_all_when _ events (λ e c. eq-eqb _ _ (all (txn_of e))))
+    and_from _ _ (list_all_when _ xs (λ t c. eq-eqb _ _ (all t)))
+    (list_all_when _ events (λ e c. eq-eqb _ _ (all (txn_of e))))
 
 module _ (h : History) (ts : List ℕ) where
   pub committed_source : (t : ℕ) → is_committed h.events t ≡ true → (e : Event) × Contains h.events e × (txn_of e ≡ t)

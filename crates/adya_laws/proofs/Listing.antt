@@ -85,31 +85,41 @@ module _ (h : History) where
       Contains-event_edges d.event k d.place e (order_there h k d.source a d.installs) d.occurs
       (subst (λ t. is_committed h.events t ≡ true) (sym d.reader) d.committed) d.selects
       (Contains-append_left _ _ e
-      (Contains-flat_map (λ q. joined Wr k (installer h k q) (Some (txn_of d.event))) (filter (reads_from h d.event k d.place) (places h k)) d.source e
-      (Contains-filter (reads_from h d.event k d.place) (places h k) d.source (Contains-places h k d.source a d.installs) d.from_source)
+      (Contains-flat_map (λ q. joined Wr k (installer h k q) (Some (txn_of d.event)))
+      (filter (reads_from h d.event k d.place) (places h k)) d.source e
+      (Contains-filter (reads_from h d.event k d.place) (places h k) d.source
+      (Contains-places h k d.source a d.installs) d.from_source)
       (Contains-joined Wr k _ _ a b d.installs (ap Some d.reader) ne)))
   listed_when_edge Rw k a b ne d =
       let e : Edge = record { from = a; kind = Rw; key = k; to = b } in
       Contains-event_edges d.event k d.place e (order_there h k d.next b d.installs) d.occurs
       (subst (λ t. is_committed h.events t ≡ true) (sym d.reader) d.committed) d.selects
-      (Contains-append_right (flat_map (λ q. joined Wr k (installer h k q) (Some (txn_of d.event))) (filter (reads_from h d.event k d.place) (places h k))) _ e
-      (Contains-flat_map (λ q. joined Rw k (Some (txn_of d.event)) (installer h k q)) (filter (overwritten_by h d.event k d.place) (places h k)) d.next e
-      (Contains-filter (overwritten_by h d.event k d.place) (places h k) d.next (Contains-places h k d.next b d.installs) d.overwritten)
+      (Contains-append_right (flat_map (λ q. joined Wr k (installer h k q) (Some (txn_of d.event)))
+      (filter (reads_from h d.event k d.place) (places h k))) _ e
+      (Contains-flat_map (λ q. joined Rw k (Some (txn_of d.event)) (installer h k q))
+      (filter (overwritten_by h d.event k d.place) (places h k)) d.next e
+      (Contains-filter (overwritten_by h d.event k d.place) (places h k) d.next
+      (Contains-places h k d.next b d.installs) d.overwritten)
       (Contains-joined Rw k _ _ a b (ap Some d.reader) d.installs ne)))
 
   pub edge_from_joins : (kind : Kind) (k : List ℕ) (x y : Option ℕ) (e : Edge) → Joins kind k x y e
       → Depends h kind k e.from e.to → IsEdge h e
-  edge_from_joins kind k x y e j d =
-      (j.apart, subst (λ n. Depends h n e.key e.from e.to) (sym j.kind_is) (subst (λ n. Depends h kind n e.from e.to) (sym j.key_is) d))
+  edge_from_joins kind k x y e j d = (
+    j.apart,
+    subst (λ n. Depends h n e.key e.from e.to) (sym j.kind_is)
+        (subst (λ n. Depends h kind n e.from e.to) (sym j.key_is) d),
+  )
 
   pub edge_from_place : (event : Event) (k : List ℕ) (s : Option ℕ) (e : Edge) → Contains h.events event
       → is_committed h.events (txn_of event) ≡ true → selected h event k ≡ s → Contains (place_edges h event k s) e
       → IsEdge h e
   edge_from_place event k None e occurs committed selects c = absurd (none_contained e c)
   edge_from_place event k (Some p) e occurs committed selects c =
-      elim (Contains-append_cases (flat_map (λ q. joined Wr k (installer h k q) (Some (txn_of event))) (filter (reads_from h event k p) (places h k))) _ e c) [
+      elim (Contains-append_cases (flat_map (λ q. joined Wr k (installer h k q) (Some (txn_of event)))
+      (filter (reads_from h event k p) (places h k))) _ e c) [
         | inl d ↦
-            let at = flat_map-source (λ q. joined Wr k (installer h k q) (Some (txn_of event))) (filter (reads_from h event k p) (places h k)) e d in
+            let at = flat_map-source (λ q. joined Wr k (installer h k q) (Some (txn_of event)))
+            (filter (reads_from h event k p) (places h k)) e d in
             let test = filter-source (reads_from h event k p) (places h k) at.0 at.1 in
             let j = joined_ends Wr k _ _ e at.2 in
             let reader = same_Some _ _ j.to_is in
@@ -125,7 +135,8 @@ module _ (h : History) where
               installs = j.from_is;
             })
         | inr d ↦
-            let at = flat_map-source (λ q. joined Rw k (Some (txn_of event)) (installer h k q)) (filter (overwritten_by h event k p) (places h k)) e d in
+            let at = flat_map-source (λ q. joined Rw k (Some (txn_of event)) (installer h k q))
+            (filter (overwritten_by h event k p) (places h k)) e d in
             let test = filter-source (overwritten_by h event k p) (places h k) at.0 at.1 in
             let j = joined_ends Rw k _ _ e at.2 in
             let reader = same_Some _ _ j.from_is in
@@ -147,7 +158,8 @@ module _ (h : History) where
       elim (Contains-append_cases (flat_map (λ x. write_edges h x.key) h.orders) _ e c) [
         | inl d ↦
             let o = flat_map-source (λ x. write_edges h x.key) h.orders e d in
-            let at = flat_map-source (λ q. joined Ww o.0.key (installer h o.0.key q) (installer h o.0.key (suc q))) (places h o.0.key) e o.2 in
+            let at = flat_map-source (λ q. joined Ww o.0.key (installer h o.0.key q) (installer h o.0.key (suc q)))
+            (places h o.0.key) e o.2 in
             let j = joined_ends Ww o.0.key _ _ e at.2 in
             edge_from_joins Ww o.0.key _ _ e j (at.0, j.from_is, j.to_is)
         | inr d ↦

@@ -48,7 +48,10 @@ Contains-filter p (z ∷ xs) x c t =
       | inl e ↦ subst (λ b. Contains (cond b (z ∷ filter p xs) (filter p xs)) x) (sym (ap p e ∙ t)) (0, omega arith, e)
       | inr r ↦
           let rest = Contains-filter p xs x r t in
-          elim (p z) as (λ b. Contains (cond b (z ∷ filter p xs) (filter p xs)) x) [ true ↦ Contains-cons z (filter p xs) x rest | false ↦ rest ]
+          elim (p z) as (λ b. Contains (cond b (z ∷ filter p xs) (filter p xs)) x) [
+            | true ↦ Contains-cons z (filter p xs) x rest
+            | false ↦ rest
+          ]
     ]
 
 pub filter-source : {X : Type 0} (p : X → Bool) (xs : List X) (x : X) → Contains (filter p xs) x
@@ -57,7 +60,8 @@ filter-source p [] x c = absurd (none_contained x c)
 filter-source p (z ∷ xs) x c =
     elim (cases_Bool (p z)) [
       | inl t ↦
-          (elim (Contains-cases z (filter p xs) x (subst (λ b. Contains (cond b (z ∷ filter p xs) (filter p xs)) x) t c)) [
+          (elim (Contains-cases z (filter p xs) x
+          (subst (λ b. Contains (cond b (z ∷ filter p xs) (filter p xs)) x) t c)) [
             | inl e ↦ ((0, omega arith, e), ap p (sym e) ∙ t)
             | inr r ↦ let rest = filter-source p xs x r in (Contains-cons z xs x rest.0, rest.1)
           ])
@@ -77,7 +81,8 @@ list_all_at f (y ∷ xs) x t c =
 pub list_all_when : {X : Type 0} (f : X → Bool) (xs : List X) → ((x : X) → Contains xs x → f x ≡ true)
     → list_all f xs ≡ true
 list_all_when f [] h = refl
-list_all_when f (x ∷ xs) h = and_from _ _ (h x (Contains-head x xs)) (list_all_when f xs (λ y c. h y (Contains-cons x xs y c)))
+list_all_when f (x ∷ xs) h = and_from _ _ (h x (Contains-head x xs))
+    (list_all_when f xs (λ y c. h y (Contains-cons x xs y c)))
 
 pub list_any-source : {X : Type 0} (f : X → Bool) (xs : List X) → list_any f xs ≡ true
     → (x : X) × Contains xs x × (f x ≡ true)
@@ -113,4 +118,5 @@ find_none p (y ∷ xs) x f c =
 pub none_found : {X : Type 0} (p : X → Bool) (xs : List X) → ((x : X) → Contains xs x → p x ≡ false) → find p xs ≡ None
 none_found p [] h = refl
 none_found p (x ∷ xs) h =
-    ap (λ b. cond b (Some x) (find p xs)) (h x (Contains-head x xs)) ∙ none_found p xs (λ y c. h y (Contains-cons x xs y c))
+    ap (λ b. cond b (Some x) (find p xs)) (h x (Contains-head x xs)) ∙ none_found p xs
+    (λ y c. h y (Contains-cons x xs y c))

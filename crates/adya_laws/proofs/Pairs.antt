@@ -25,7 +25,8 @@ pub Contains-filter_map : {X Y : Type 0} (f : X → Option Y) (xs : List X) (x :
 Contains-filter_map f [] x y c e = absurd (none_contained x c)
 Contains-filter_map f (z ∷ xs) x y c e =
     elim (Contains-cases z xs x c) [
-      | inl s ↦ subst (λ o. Contains (cons_option o (filter_map f xs)) y) (sym (ap f s ∙ e)) (Contains-head y (filter_map f xs))
+      | inl s ↦ subst (λ o. Contains (cons_option o (filter_map f xs)) y) (sym (ap f s ∙ e))
+          (Contains-head y (filter_map f xs))
       | inr r ↦ Contains-cons_option (f z) (filter_map f xs) y (Contains-filter_map f xs x y r e)
     ]
 
@@ -50,7 +51,8 @@ pub listed_when : (es : List Entry) (w : Entry) → keys_rise (map (λ x. x.vers
 listed_when [] w r c = absurd (none_contained w c)
 listed_when (x ∷ es) w r c =
     elim (Contains-cases x es w c) [
-      | inl s ↦ ap (λ b. cond b (Some x) (listed w.version.key es)) (key_eq-from _ _ (ap (λ y. y.version.key) s)) ∙ ap Some s
+      | inl s ↦ ap (λ b. cond b (Some x) (listed w.version.key es)) (key_eq-from _ _ (ap (λ y. y.version.key) s)) ∙
+          ap Some s
       | inr d ↦
           ap (λ b. cond b (Some x) (listed w.version.key es)) (rises_other (λ (y : Entry). y.version.key) x es w r d) ∙
           listed_when es w (rises_tail (λ (y : Entry). y.version.key) x es r) d
@@ -62,7 +64,8 @@ pub final_found : (fs : List FinalPair) (f : FinalPair) → keys_rise (map (λ x
 final_found [] f r c = absurd (none_contained f c)
 final_found (x ∷ fs) f r c =
     elim (Contains-cases x fs f c) [
-      | inl s ↦ ap (λ b. cond b (Some x.value) (final_value fs f.key)) (key_eq-from _ _ (ap (λ y. y.key) s)) ∙ ap (λ y. Some y.value) s
+      | inl s ↦ ap (λ b. cond b (Some x.value) (final_value fs f.key)) (key_eq-from _ _ (ap (λ y. y.key) s)) ∙
+          ap (λ y. Some y.value) s
       | inr d ↦
           ap (λ b. cond b (Some x.value) (final_value fs f.key)) (rises_other (λ (y : FinalPair). y.key) x fs f r d) ∙
           final_found fs f (rises_tail (λ (y : FinalPair). y.key) x fs r) d
@@ -76,7 +79,8 @@ final_pair (f ∷ fs) k v e =
       | inl t ↦
           let value = same_Some f.value v (subst (λ b. cond b (Some f.value) (final_value fs k) ≡ Some v) t e) in
           (0, omega arith, ap (λ j. pair j f.value) (key_eq-same _ _ t) ∙ ap (pair k) value)
-      | inr t ↦ Contains-cons f fs (pair k v) (final_pair fs k v (subst (λ b. cond b (Some f.value) (final_value fs k) ≡ Some v) t e))
+      | inr t ↦ Contains-cons f fs (pair k v)
+          (final_pair fs k v (subst (λ b. cond b (Some f.value) (final_value fs k) ≡ Some v) t e))
     ]
 
 pub finals_are : (fs : List FinalPair) → keys_rise (map (λ x. x.key) fs) ≡ true → (k v : List ℕ)
@@ -104,7 +108,8 @@ shown_pair es k v (Some w) e s =
 -- key by key, or by pairs, it is the same to see a scan's list
 pub pairs_from_keys : (low high : List ℕ) (es : List Entry) (m : List ℕ → Option (List ℕ))
     → keys_rise (map (λ w. w.version.key) es) ≡ true
-    → All (λ w. lies_in low high w.version.key ≡ true) es → ((k : List ℕ) → lies_in low high k ≡ true → m k ≡ shown (listed k es))
+    → All (λ w. lies_in low high w.version.key ≡ true) es
+    → ((k : List ℕ) → lies_in low high k ≡ true → m k ≡ shown (listed k es))
     → (k v : List ℕ) → ((lies_in low high k ≡ true) × (m k ≡ Some v)) ↔ Contains (visible_pairs es) (pair k v)
 pairs_from_keys low high es m rise inside holds k v = (there, back)
   where
@@ -116,6 +121,7 @@ pairs_from_keys low high es m rise inside holds k v = (there, back)
         let at = filter_map-source (λ x. visible_pair_of x.version.key (visible x.content)) es (pair k v) c in
         let w : Entry = at.0 in
         let parts = visible_pair-parts w.version.key k v (visible w.content) at.2 in
-        let in_range = subst (λ j. lies_in low high j ≡ true) parts.0 (All-contains (λ x. lies_in low high x.version.key ≡ true) es w inside at.1) in
+        let in_range = subst (λ j. lies_in low high j ≡ true) parts.0
+        (All-contains (λ x. lies_in low high x.version.key ≡ true) es w inside at.1) in
         let one = subst (λ j. listed j es ≡ Some w) parts.0 (listed_when es w rise at.1) in
         (in_range, holds k in_range ∙ (ap shown one ∙ parts.1))

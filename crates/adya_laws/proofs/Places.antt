@@ -23,7 +23,8 @@ Contains-numbers from zero q l m = absurd (omega (arith, l, m))
 Contains-numbers from (suc n) q l m =
     elim (cases_eq from q) [
       | inl e ↦ (0, omega arith, e)
-      | inr e ↦ Contains-cons from (numbers (suc from) n) q (Contains-numbers (suc from) n q (omega (arith, l, e)) (omega (arith, m)))
+      | inr e ↦ Contains-cons from (numbers (suc from) n) q
+          (Contains-numbers (suc from) n q (omega (arith, l, e)) (omega (arith, m)))
     ]
 
 pub Contains-places : (h : History) (k : List ℕ) (q u : ℕ) → installer h k q ≡ Some u → Contains (places h k) q

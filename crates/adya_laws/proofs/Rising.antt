@@ -18,7 +18,8 @@ Less-from_test Greater e = absurd (cc (e))
 
 pub key_lt-trans : (a b c : List ℕ) → key_lt a b ≡ true → key_lt b c ≡ true → key_lt a c ≡ true
 key_lt-trans a b c e f =
-    ap is_lt (nat_list_cmp_total.trans a b c (Less-from_test (slice_cmp nat_cmp a b) e) (Less-from_test (slice_cmp nat_cmp b c) f))
+    ap is_lt (nat_list_cmp_total.trans a b c (Less-from_test (slice_cmp nat_cmp a b) e)
+    (Less-from_test (slice_cmp nat_cmp b c) f))
 
 pub key_lt-apart : (a b : List ℕ) → key_lt a b ≡ true → a ≢ b
 key_lt-apart a b e s =

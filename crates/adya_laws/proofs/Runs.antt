@@ -36,9 +36,11 @@ pub run_own : (t : ℕ) (k : List ℕ) (es : List Event) (m : Contents)
 run_own t k [] m = refl
 run_own t k (Write u j n v ∷ es) m =
     let w : Entry = entry (version j u n) (Live v) in
-    elim (u == t) as (λ b. run m (cond b (Write u j n v ∷ events_of es t) (events_of es t)) k ≡ over (last (cond (b && key_eq j k) (w ∷ writes_of t k es) (writes_of t k es))) (m k)) [
+    elim (u == t) as (λ b. run m (cond b (Write u j n v ∷ events_of es t) (events_of es t)) k ≡
+    over (last (cond (b && key_eq j k) (w ∷ writes_of t k es) (writes_of t k es))) (m k)) [
       | true ↦ run_own t k es (after m (Write u j n v)) ∙
-          (elim (key_eq j k) as (λ b. over (last_write t k es) (cond b (Some v) (m k)) ≡ over (last (cond b (w ∷ writes_of t k es) (writes_of t k es))) (m k)) [
+          (elim (key_eq j k) as (λ b. over (last_write t k es) (cond b (Some v) (m k)) ≡
+          over (last (cond b (w ∷ writes_of t k es) (writes_of t k es))) (m k)) [
             | true ↦ over_cons w (writes_of t k es) (m k)
             | false ↦ refl
           ])
@@ -46,31 +48,37 @@ run_own t k (Write u j n v ∷ es) m =
     ]
 run_own t k (Delete u j n ∷ es) m =
     let w : Entry = entry (version j u n) Dead in
-    elim (u == t) as (λ b. run m (cond b (Delete u j n ∷ events_of es t) (events_of es t)) k ≡ over (last (cond (b && key_eq j k) (w ∷ writes_of t k es) (writes_of t k es))) (m k)) [
+    elim (u == t) as (λ b. run m (cond b (Delete u j n ∷ events_of es t) (events_of es t)) k ≡
+    over (last (cond (b && key_eq j k) (w ∷ writes_of t k es) (writes_of t k es))) (m k)) [
       | true ↦ run_own t k es (after m (Delete u j n)) ∙
-          (elim (key_eq j k) as (λ b. over (last_write t k es) (cond b None (m k)) ≡ over (last (cond b (w ∷ writes_of t k es) (writes_of t k es))) (m k)) [
+          (elim (key_eq j k) as (λ b. over (last_write t k es) (cond b None (m k)) ≡
+          over (last (cond b (w ∷ writes_of t k es) (writes_of t k es))) (m k)) [
             | true ↦ over_cons w (writes_of t k es) (m k)
             | false ↦ refl
           ])
       | false ↦ run_own t k es m
     ]
 run_own t k (Read u r v ∷ es) m =
-    elim (u == t) as (λ b. run m (cond b (Read u r v ∷ events_of es t) (events_of es t)) k ≡ over (last_write t k es) (m k)) [
+    elim (u == t) as (λ b. run m (cond b (Read u r v ∷ events_of es t) (events_of es t)) k ≡
+    over (last_write t k es) (m k)) [
       | true ↦ run_own t k es m
       | false ↦ run_own t k es m
     ]
 run_own t k (Scan u lo hi l ∷ es) m =
-    elim (u == t) as (λ b. run m (cond b (Scan u lo hi l ∷ events_of es t) (events_of es t)) k ≡ over (last_write t k es) (m k)) [
+    elim (u == t) as (λ b. run m (cond b (Scan u lo hi l ∷ events_of es t) (events_of es t)) k ≡
+    over (last_write t k es) (m k)) [
       | true ↦ run_own t k es m
       | false ↦ run_own t k es m
     ]
 run_own t k (Commit u ∷ es) m =
-    elim (u == t) as (λ b. run m (cond b (Commit u ∷ events_of es t) (events_of es t)) k ≡ over (last_write t k es) (m k)) [
+    elim (u == t) as (λ b. run m (cond b (Commit u ∷ events_of es t) (events_of es t)) k ≡
+    over (last_write t k es) (m k)) [
       | true ↦ run_own t k es m
       | false ↦ run_own t k es m
     ]
 run_own t k (Abort u ∷ es) m =
-    elim (u == t) as (λ b. run m (cond b (Abort u ∷ events_of es t) (events_of es t)) k ≡ over (last_write t k es) (m k)) [
+    elim (u == t) as (λ b. run m (cond b (Abort u ∷ events_of es t) (events_of es t)) k ≡
+    over (last_write t k es) (m k)) [
       | true ↦ run_own t k es m
       | false ↦ run_own t k es m
     ]

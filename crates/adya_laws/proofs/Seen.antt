@@ -48,7 +48,8 @@ pub none_from_not_some : (o : Option (List ℕ)) → is_some o ≡ false → o �
 none_from_not_some None e = refl
 none_from_not_some (Some x) e = absurd (cc (e))
 
-module _ (h : History) (ts : List ℕ) (a : IsAccepted h ts) (front : List ℕ) (t : ℕ) (back : List ℕ) (split : ts ≡ front ++ t ∷ back) where
+module _ (h : History) (ts : List ℕ) (a : IsAccepted h ts) (front : List ℕ) (t : ℕ) (back : List ℕ)
+    (split : ts ≡ front ++ t ∷ back) where
   -- a version that t reads or lists of a key that it has not written is another's, and stands in the order
   pub record IsOthers (o : Entry) : Type 0 where
     pub not_own : o.version.txn ≢ t
@@ -99,7 +100,8 @@ module _ (h : History) (ts : List ℕ) (a : IsAccepted h ts) (front : List ℕ) 
   overwrite_edge e k p q u occurs mine selects overwrites inst early =
       let edge : Edge = record { from = t; kind = Rw; key = k; to = u } in
       let here = place_here h ts a front t back split in
-      let ne = λ (s : t ≡ u). let same = ap (place ts) s in let no_place : ⊥ = omega (arith, same, here, early) in no_place in
+      let ne = λ (s : t ≡ u). let same = ap (place ts) s in let no_place : ⊥ = omega (arith, same, here, early) in
+      no_place in
       let forward = a.forward edge (
         ne,
         record {
@@ -124,27 +126,34 @@ module _ (h : History) (ts : List ℕ) (a : IsAccepted h ts) (front : List ℕ) 
       let k : List ℕ = o.version.key in
       let p : ℕ = place (writers h k) o.version.txn in
       let selects = read_selects h u o.version v (λ x. other.not_own (x ∙ mine)) in
-      let before = read_edge e k (suc p) (suc p) o.version.txn occurs mine selects (reads_from_itself h e k (suc p)) other.installs other.not_own in
+      let before = read_edge e k (suc p) (suc p) o.version.txn occurs mine selects
+      (reads_from_itself h e k (suc p)) other.installs other.not_own in
       let low = s.only (suc p) o.version.txn other.installs before in
       let high : s.upto ≤ suc p =
       elim (cases_lt (suc p) s.upto) [
         | inl less ↦
             let within = s.within in
             let next = installer_there h k (suc p) (omega (arith, less, within)) in
-            absurd (overwrite_edge e k (suc p) (suc (suc p)) next.0 occurs mine selects (eq-eqb (suc (suc p)) (suc (suc p)) refl) next.1 (s.done (suc (suc p)) next.0 next.1 (omega (arith, less))))
+            absurd (overwrite_edge e k (suc p) (suc (suc p)) next.0 occurs mine selects
+            (eq-eqb (suc (suc p)) (suc (suc p)) refl) next.1
+            (s.done (suc (suc p)) next.0 next.1 (omega (arith, less))))
         | inr more ↦ more
       ] in
       let same : s.upto ≡ suc p = omega (arith, low, high) in
-      s.value ∙ (ap (value_at h k) same ∙ (ap (value_by h k) other.installs ∙ (ap shown other.last ∙ ap (λ w. shown (Some w)) live)))
+      s.value ∙ (ap (value_at h k) same ∙
+      (ap (value_by h k) other.installs ∙ (ap shown other.last ∙ ap (λ w. shown (Some w)) live)))
 
   -- a scan's selected version is what the key holds before the transaction
-  module _ (u : ℕ) (low high : List ℕ) (l : List Entry) (k : List ℕ) (p : ℕ) (m : Option (List ℕ)) (occurs : Contains h.events (Scan u low high l)) (mine : u ≡ t) (selects : selected h (Scan u low high l) k ≡ Some p) (s : Stands h ts k (length front) m) where
+  module _ (u : ℕ) (low high : List ℕ) (l : List Entry) (k : List ℕ) (p : ℕ) (m : Option (List ℕ))
+      (occurs : Contains h.events (Scan u low high l)) (mine : u ≡ t)
+      (selects : selected h (Scan u low high l) k ≡ Some p) (s : Stands h ts k (length front) m) where
     pub not_overwritten : (q : ℕ) → p < q → q ≤ s.upto → overwritten_by h (Scan u low high l) k p q ≡ true → ⊥
     not_overwritten zero less more overwrites = omega (arith, less)
     not_overwritten (suc j) less more overwrites =
         let within = s.within in
         let next = installer_there h k j (omega (arith, more, within)) in
-        overwrite_edge (Scan u low high l) k p (suc j) next.0 occurs mine selects overwrites next.1 (s.done (suc j) next.0 next.1 more)
+        overwrite_edge (Scan u low high l) k p (suc j) next.0 occurs mine selects overwrites next.1
+        (s.done (suc j) next.0 next.1 more)
 
     pub same_visible : (d q : ℕ) → q ≡ p + d → q ≤ s.upto → is_visible_at h k q ≡ is_visible_at h k p
     same_visible zero q e more = let same : q ≡ p = omega (arith, e) in ap (is_visible_at h k) same
@@ -165,21 +174,25 @@ module _ (h : History) (ts : List ℕ) (a : IsAccepted h ts) (front : List ℕ) 
               let hidden : is_visible_at h k p ≡ false =
               elim (cases_Bool (is_visible_at h k p)) [
                 | inl c ↦ absurd (not_overwritten (suc p) (omega arith) (omega (arith, less))
-                    (and_from _ _ (lt-ltb p (suc p) (omega arith)) (or_right _ _ (and_from _ _ (eq-eqb (suc p) (suc p) refl) c))))
+                    (and_from _ _ (lt-ltb p (suc p) (omega arith))
+                    (or_right _ _ (and_from _ _ (eq-eqb (suc p) (suc p) refl) c))))
                 | inr c ↦ c
               ] in
               let later = same_visible (s.upto - p) s.upto (omega (arith, least)) (omega arith) in
-              s.value ∙ (none_from_not_some (value_at h k s.upto) (later ∙ hidden) ∙ sym (none_from_not_some (value_at h k p) hidden))
+              s.value ∙ (none_from_not_some (value_at h k s.upto) (later ∙ hidden) ∙ sym
+              (none_from_not_some (value_at h k p) hidden))
           | inr more ↦ let same : s.upto ≡ p = omega (arith, least, more) in s.value ∙ ap (value_at h k) same
         ]
 
   -- the event sees what was recorded, after the earlier events of its transaction
-  module _ (m : Contents) (stands : (k : List ℕ) → Stands h ts k (length front) (m k)) (before : List Event) (within : (w : Event) → Contains before w → Contains h.events w) where
+  module _ (m : Contents) (stands : (k : List ℕ) → Stands h ts k (length front) (m k)) (before : List Event)
+      (within : (w : Event) → Contains before w → Contains h.events w) where
     pub read_sees : (u : ℕ) (r : Version) (v : List ℕ) → Contains h.events (Read u r v) → u ≡ t
         → WasWritten before (Read u r v) → (o : Option Entry) → last_write t r.key before ≡ o
         → IfSome o (λ w. entry r (Live v) ≡ w) → over o (m r.key) ≡ Some v
     read_sees u r v occurs mine was None none own =
-        let other = others before (Read u r v) (entry r (Live v)) occurs mine was within (Contains-head (entry r (Live v)) []) none in
+        let other = others before (Read u r v) (entry r (Live v)) occurs mine was within
+        (Contains-head (entry r (Live v)) []) none in
         read_others u (entry r (Live v)) v (m r.key) refl occurs mine other (stands r.key)
     read_sees u r v occurs mine was (Some w) there own = ap (λ x. shown (Some x)) (sym own)
 
@@ -187,26 +200,35 @@ module _ (h : History) (ts : List ℕ) (a : IsAccepted h ts) (front : List ℕ) 
         → WasWritten before (Scan u low high l) → (k : List ℕ) → lies_in low high k ≡ true
         → last_write t k before ≡ None → (o : Option Entry) → listed k l ≡ o → m k ≡ shown o
     scan_others u low high l occurs mine was k inside none None e =
-        scan_holds u low high l k 0 (m k) occurs mine (scan_selects h u low high l k 0 inside (ap (place_of h u k) e)) (stands k) (omega arith)
+        scan_holds u low high l k 0 (m k) occurs mine (scan_selects h u low high l k 0 inside (ap (place_of h u k) e))
+        (stands k) (omega arith)
     scan_others u low high l occurs mine was k inside none (Some o) e =
         let at = listed_from k l o e in
-        let other = others before (Scan u low high l) o occurs mine was within at.0 (ap (λ j. last_write t j before) at.1 ∙ none) in
+        let other = others before (Scan u low high l) o occurs mine was within at.0
+        (ap (λ j. last_write t j before) at.1 ∙ none) in
         let p : ℕ = place (writers h k) o.version.txn in
-        let inst : installer h k (suc p) ≡ Some o.version.txn = ap (λ j. installer h j (suc (place (writers h j) o.version.txn))) (sym at.1) ∙ other.installs in
+        let inst : installer h k (suc p) ≡ Some o.version.txn = ap
+        (λ j. installer h j (suc (place (writers h j) o.version.txn))) (sym at.1) ∙ other.installs in
         let selects = scan_selects h u low high l k (suc p) inside
-        (ap (place_of h u k) e ∙ cond-false {A = Option ℕ} (o.version.txn == u) None (Some (suc p)) (ne_eqb _ _ (λ x. other.not_own (x ∙ mine)))) in
-        let early = read_edge (Scan u low high l) k (suc p) (suc p) o.version.txn occurs mine selects (reads_from_itself h (Scan u low high l) k (suc p)) inst other.not_own in
-        scan_holds u low high l k (suc p) (m k) occurs mine selects (stands k) ((stands k).only (suc p) o.version.txn inst early) ∙
-        (ap (value_by h k) inst ∙ (ap (λ j. shown (last_write o.version.txn j h.events)) (sym at.1) ∙ ap shown other.last))
+        (ap (place_of h u k) e ∙ cond-false {A = Option ℕ} (o.version.txn == u) None (Some (suc p))
+        (ne_eqb _ _ (λ x. other.not_own (x ∙ mine)))) in
+        let early = read_edge (Scan u low high l) k (suc p) (suc p) o.version.txn occurs mine selects
+        (reads_from_itself h (Scan u low high l) k (suc p)) inst other.not_own in
+        scan_holds u low high l k (suc p) (m k) occurs mine selects (stands k)
+        ((stands k).only (suc p) o.version.txn inst early) ∙
+        (ap (value_by h k) inst ∙ (ap (λ j. shown (last_write o.version.txn j h.events)) (sym at.1) ∙
+        ap shown other.last))
 
     pub scan_sees : (u : ℕ) (low high : List ℕ) (l : List Entry) → Contains h.events (Scan u low high l) → u ≡ t
         → WasWritten before (Scan u low high l)
-        → keys_rise (map (λ w. w.version.key) l) ≡ true → (k : List ℕ) → lies_in low high k ≡ true → (o : Option Entry) → last_write t k before ≡ o
+        → keys_rise (map (λ w. w.version.key) l) ≡ true → (k : List ℕ) → lies_in low high k ≡ true → (o : Option Entry)
+        → last_write t k before ≡ o
         → IfSome o (ListsOnly l) → over o (m k) ≡ shown (listed k l)
     scan_sees u low high l occurs mine was rise k inside None none own =
         scan_others u low high l occurs mine was k inside none (listed k l) refl
     scan_sees u low high l occurs mine was rise k inside (Some w) there own =
-        sym (ap shown (subst (λ j. listed j l ≡ Some w) (last_write_key t k before w there) (listed_when l w rise own.0)))
+        sym (ap shown (subst (λ j. listed j l ≡ Some w) (last_write_key t k before w there)
+        (listed_when l w rise own.0)))
 
     pub sees : (e : Event) → Contains h.events e → txn_of e ≡ t → WasWritten before e → SeesOwnWrites before e
         → IsRising e

@@ -27,7 +27,8 @@ Stands-start h ts k = record {
   upto = 0;
   within = omega arith;
   value = refl;
-  done = λ q u e l. let none : q ≡ 0 = omega (arith, l) in absurd (none-some u (subst (λ p. installer h k p ≡ Some u) none e));
+  done = λ q u e l. let none : q ≡ 0 = omega (arith, l) in absurd
+      (none-some u (subst (λ p. installer h k p ≡ Some u) none e));
   only = λ q u e l. absurd (omega (arith, l));
 }
 
@@ -39,12 +40,15 @@ pub over_none : (o : Option Entry) (v : Option (List ℕ)) → is_some o ≡ fal
 over_none None v e = refl
 over_none (Some w) v e = absurd (cc (e))
 
-module _ (h : History) (ts : List ℕ) (a : IsAccepted h ts) (front : List ℕ) (t : ℕ) (back : List ℕ) (split : ts ≡ front ++ t ∷ back) where
+module _ (h : History) (ts : List ℕ) (a : IsAccepted h ts) (front : List ℕ) (t : ℕ) (back : List ℕ)
+    (split : ts ≡ front ++ t ∷ back) where
   pub counted : count ts t ≡ count front t + suc (count back t)
-  counted = ap (λ xs. count xs t) split ∙ (count-append front (t ∷ back) t ∙ ap (λ n. count front t + n) (count_same t back t refl))
+  counted = ap (λ xs. count xs t) split ∙
+      (count-append front (t ∷ back) t ∙ ap (λ n. count front t + n) (count_same t back t refl))
 
   pub t_committed : is_committed h.events t ≡ true
-  t_committed = cond_positive (is_committed h.events t) (count ts t) (a.committed_once t) (let c = counted in omega (arith, c))
+  t_committed = cond_positive (is_committed h.events t) (count ts t) (a.committed_once t)
+      (let c = counted in omega (arith, c))
 
   pub not_in_front : count front t ≡ 0
   not_in_front =
@@ -81,7 +85,8 @@ module _ (h : History) (ts : List ℕ) (a : IsAccepted h ts) (front : List ℕ) 
             ];
         only = λ q u f l.
             elim (cases_lt (suc i) q) [
-              | inl less ↦ absurd (let before = rises h ts a k (suc i) q t u own f less in omega (arith, before, here, l))
+              | inl less ↦ absurd (let before = rises h ts a k (suc i) q t u own f less in omega
+                  (arith, before, here, l))
               | inr more ↦ more
             ];
       }
@@ -99,7 +104,8 @@ module _ (h : History) (ts : List ℕ) (a : IsAccepted h ts) (front : List ℕ) 
     done = λ q u f l. let before = s.done q u f l in omega (arith, before);
     only = λ q u f l.
         s.only q u f
-        (place_earlier u (λ same. both_ways _ e (subst (λ x. installs h.events k x ≡ true) same (installer_installs h ts a k q u f))) l);
+        (place_earlier u (λ same. both_ways _ e
+        (subst (λ x. installs h.events k x ≡ true) same (installer_installs h ts a k q u f))) l);
   }
 
   pub Stands-step : (k : List ℕ) (v : Option (List ℕ)) → Stands h ts k (length front) v

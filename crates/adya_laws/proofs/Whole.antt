@@ -21,7 +21,8 @@ use Rattle.adya_laws.proofs.Pairs.{finals_are}
 use Rattle.adya_laws.proofs.Seen.{sees}
 
 -- one transaction's events
-module _ (h : History) (ts : List ℕ) (a : IsAccepted h ts) (front : List ℕ) (t : ℕ) (back : List ℕ) (split : ts ≡ front ++ t ∷ back) (m : Contents) (stands : (k : List ℕ) → Stands h ts k (length front) (m k)) where
+module _ (h : History) (ts : List ℕ) (a : IsAccepted h ts) (front : List ℕ) (t : ℕ) (back : List ℕ)
+    (split : ts ≡ front ++ t ∷ back) (m : Contents) (stands : (k : List ℕ) → Stands h ts k (length front) (m k)) where
   pub own_see : (before es : List Event) → h.events ≡ before ++ es → EachAfter WasWritten before es
       → EachAfter SeesOwnWrites before es → EachAfter (λ b e. IsRising e) before es
       → AllSee (run m (events_of before t)) (events_of es t)
@@ -29,9 +30,12 @@ module _ (h : History) (ts : List ℕ) (a : IsAccepted h ts) (front : List ℕ) 
   own_see before (e ∷ es) cut was own rising =
       let further : h.events ≡ (before ++ e ∷ []) ++ es = cut ∙ sym (append_assoc before (e ∷ []) es) in
       let rest = own_see (before ++ e ∷ []) es further was.1 own.1 rising.1 in
-      let occurs : Contains h.events e = subst (λ xs. Contains xs e) (sym cut) (Contains-append_right before (e ∷ es) e (Contains-head e es)) in
-      let within = λ (w : Event) (c : Contains before w). subst (λ xs. Contains xs w) (sym cut) (Contains-append_left before (e ∷ es) w c) in
-      let step : events_of (before ++ e ∷ []) t ≡ events_of before t ++ cond (txn_of e == t) (e ∷ []) [] = filter-append (λ x. txn_of x == t) before (e ∷ []) in
+      let occurs : Contains h.events e = subst (λ xs. Contains xs e) (sym cut)
+      (Contains-append_right before (e ∷ es) e (Contains-head e es)) in
+      let within = λ (w : Event) (c : Contains before w). subst (λ xs. Contains xs w) (sym cut)
+      (Contains-append_left before (e ∷ es) w c) in
+      let step : events_of (before ++ e ∷ []) t ≡ events_of before t ++ cond (txn_of e == t) (e ∷ []) [] =
+      filter-append (λ x. txn_of x == t) before (e ∷ []) in
       elim (cases_Bool (txn_of e == t)) [
         | inl c ↦
             let mine = eqb-true _ _ c in
@@ -40,12 +44,14 @@ module _ (h : History) (ts : List ℕ) (a : IsAccepted h ts) (front : List ℕ) 
             step ∙ ap (λ b. events_of before t ++ cond b (e ∷ []) []) c in
             let state : run m (events_of (before ++ e ∷ []) t) ≡ after (run m (events_of before t)) e =
             ap (run m) there ∙ run_append (events_of before t) (e ∷ []) m in
-            let both : AllSee (run m (events_of before t)) (e ∷ events_of es t) = (now, subst (λ s. AllSee s (events_of es t)) state rest) in
+            let both : AllSee (run m (events_of before t)) (e ∷ events_of es t) =
+            (now, subst (λ s. AllSee s (events_of es t)) state rest) in
             subst (λ b. AllSee (run m (events_of before t)) (cond b (e ∷ events_of es t) (events_of es t))) (sym c) both
         | inr c ↦
             let there : events_of (before ++ e ∷ []) t ≡ events_of before t =
             step ∙ (ap (λ b. events_of before t ++ cond b (e ∷ []) []) c ∙ append-nil (events_of before t)) in
-            let both : AllSee (run m (events_of before t)) (events_of es t) = subst (λ xs. AllSee (run m xs) (events_of es t)) there rest in
+            let both : AllSee (run m (events_of before t)) (events_of es t) = subst
+            (λ xs. AllSee (run m xs) (events_of es t)) there rest in
             subst (λ b. AllSee (run m (events_of before t)) (cond b (e ∷ events_of es t) (events_of es t))) (sym c) both
       ]
 
@@ -102,6 +108,7 @@ module _ (h : History) (ts : List ℕ) (a : IsAccepted h ts) where
       record {
         sees = whole.see;
         finals = λ k v.
-            subst (λ o. (o ≡ Some v) ↔ Contains h.finals (pair k v)) (sym (last_stands k _ (whole.stand k) ∙ sym (a.checked.well_formed.finals k)))
+            subst (λ o. (o ≡ Some v) ↔ Contains h.finals (pair k v))
+            (sym (last_stands k _ (whole.stand k) ∙ sym (a.checked.well_formed.finals k)))
             (finals_are h.finals rise k v);
       }
