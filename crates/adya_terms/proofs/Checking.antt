@@ -1,5 +1,5 @@
 -- A history without a fault is checked.
-use Rattle.std.proofs.Common.{◌≡◌, ◌≢◌, ℕ, zero, suc, ◌==◌, ◌⊎◌, Bool, true, false, cond, not, ◌&&◌, ◌||◌, List, [], ◌∷◌, ◌++◌, map, length, get_or, Option, Some, None, is_some, is_none, IfSome, refl, sym, ◌∙◌, ap, subst, arith, inl, inr}
+use Rattle.std.proofs.Common.{◌≡◌, ℕ, zero, suc, Bool, true, false, cond, not, ◌&&◌, ◌||◌, List, [], ◌∷◌, ◌++◌, map, length, get_or, Option, Some, None, is_some, is_none, IfSome, refl, sym, ◌∙◌, ap, subst, arith, inl, inr}
 use Rattle.std.specs.List.{filter, filter_map, list_all, list_any, Contains, All}
 use Rattle.std.proofs.lemmas.Bool.{cases_Bool, eqb-true, and_parts, and_from, or_cases, both_ways, not-true}
 use Rattle.std.proofs.lemmas.Option.{none-some}
@@ -8,13 +8,13 @@ use Rattle.adya_terms.specs.declared.event.Version.{Version}
 use Rattle.adya_terms.specs.declared.fault.Rule.{Rule}
 use Rattle.adya_terms.specs.declared.fault.Rule.TheVariants.{M1, M2, M3, M4, M5, M6, M7, M8}
 use Rattle.adya_terms.specs.declared.fault.CheckFault.{CheckFault}
-use Rattle.adya_terms.specs.declared.fault.CheckFault.TheVariants.{Malformed, AbortedRead, IntermediateRead}
-use Rattle.adya_terms.specs.Keys.{key_eq, key_le, lies_in, keys_rise}
+use Rattle.adya_terms.specs.declared.fault.CheckFault.TheVariants.{AbortedRead, IntermediateRead}
+use Rattle.adya_terms.specs.Keys.{key_eq, lies_in}
 use Rattle.adya_terms.specs.Histories.{Live, Entry, Event, Write, Delete, Read, Scan, Commit, Abort, Order, FinalPair, History}
 use Rattle.adya_terms.specs.Events.{txn_of, entry, written, observed, writes_of, last_write, is_committed, has_ended, is_unfinished, is_aborted}
-use Rattle.adya_terms.specs.Orders.{line_of, writers, value_at}
+use Rattle.adya_terms.specs.Orders.{value_at}
 use Rattle.adya_terms.specs.Rules.{EachAfter, IsOpen, IsNumbered, WasWritten, ListsOnly, SeesOwnWrites, IsRising, AllEnd, installs, OrdersList, final_value, FinalsShow, IsWellFormed}
-use Rattle.adya_terms.specs.Phenomena.{ReadsCommitted, HasG1a, HasG1b}
+use Rattle.adya_terms.specs.Phenomena.{HasG1a, HasG1b}
 use Rattle.adya_terms.specs.Acceptance.{IsChecked}
 use Rattle.adya_terms.specs.Faults.{entry_eq, is_none_or, lists_only, none_or_lists_only, is_open, is_next, was_written, sees_own, is_rising, fault_unless, faults_at, event_faults, unfinished_faults, all_end, lists_exactly, order_faults, has_lines, last_value, is_value, final_faults, has_finals, unfinished_line, orders_line, finals_line, tail_line, malformed, bad_reads, aborted_reads, is_last_of_another, intermediate_reads, first, check_faults, first_fault}
 use Rattle.adya_terms.proofs.Lists.{none_contained, Contains-filter, all_pass, list_any_source}
@@ -93,8 +93,8 @@ pub written_from : (before : List Event) (e : Event) → was_written before e �
 written_from before e t =
     All-from_test (Contains (filter_map written before)) (λ o. list_any (entry_eq o) (filter_map written before)) (observed e)
     (λ o s.
-      let r = list_any_source (entry_eq o) (filter_map written before) s in
-      subst (Contains (filter_map written before)) (sym (entry_same o r.0 r.2)) r.1)
+    let r = list_any_source (entry_eq o) (filter_map written before) s in
+    subst (Contains (filter_map written before)) (sym (entry_same o r.0 r.2)) r.1)
     t
 
 pub none_or_same : (o : Option Entry) (x : Entry) → is_none_or o x ≡ true → IfSome o (λ w. x ≡ w)
@@ -104,10 +104,11 @@ none_or_same (Some w) x e = sym (entry_same w x e)
 pub lists_only_from : (es : List Entry) (w : Entry) → lists_only es w ≡ true → ListsOnly es w
 lists_only_from es w t =
     let both = and_parts _ _ t in
-    let r = list_any_source (entry_eq w) es both.0 in
-    (subst (Contains es) (sym (entry_same w r.0 r.2)) r.1,
+    let r = list_any_source (entry_eq w) es both.0 in (
+      subst (Contains es) (sym (entry_same w r.0 r.2)) r.1,
       All-from_test (λ x. key_eq x.version.key w.version.key ≡ true → x ≡ w) (λ x. not (key_eq x.version.key w.version.key) || entry_eq x w) es
-      (λ x s same. elim (or_cases _ _ s) [ inl other ↦ absurd (both_ways _ (not-true _ other) same) | inr y ↦ entry_same x w y ]) both.1)
+          (λ x s same. elim (or_cases _ _ s) [ inl other ↦ absurd (both_ways _ (not-true _ other) same) | inr y ↦ entry_same x w y ]) both.1,
+    )
 
 pub scan_own : (t : ℕ) (low high : List ℕ) (es : List Entry) (before : List Event) → sees_own before (Scan t low high es) ≡ true
     → (k : List ℕ) → lies_in low high k ≡ true → (o : Option Entry) → last_write t k before ≡ o → IfSome o (ListsOnly es)
@@ -117,8 +118,9 @@ scan_own t low high es before e k inside (Some w) f =
     let here = all_pass (λ x. not (lies_in low high x.version.key) || none_or_lists_only es (last_write t x.version.key before)) (filter_map written before) w e at.there in
     let now = subst (λ j. (not (lies_in low high j) || none_or_lists_only es (last_write t j before)) ≡ true) at.key_is here in
     elim (or_cases _ _ now) [
-      inl out ↦ absurd (both_ways _ (not-true _ out) inside)
-    | inr own ↦ lists_only_from es w (subst (λ x. none_or_lists_only es x ≡ true) f own) ]
+      | inl out ↦ absurd (both_ways _ (not-true _ out) inside)
+      | inr own ↦ lists_only_from es w (subst (λ x. none_or_lists_only es x ≡ true) f own)
+    ]
 
 pub own_from : (before : List Event) (e : Event) → sees_own before e ≡ true → SeesOwnWrites before e
 own_from before (Read t r v) s = none_or_same (last_write t r.key before) (entry r (Live v)) s
@@ -163,20 +165,21 @@ no_bad_read good fault events line (x ∷ es) e n (suc i, l, f) committed o seen
 no_bad_read good fault events line (x ∷ es) e n (zero, l, f) committed o seen =
     let at_line : Entry → CheckFault = λ y. fault line y.version in
     let here : map at_line (filter (λ y. is_committed events (txn_of e) && not (good e y)) (observed e)) ≡ [] =
-      subst (λ w. map at_line (filter (λ y. is_committed events (txn_of w) && not (good w y)) (observed w)) ≡ []) f
-      (nil_left _ (bad_reads good fault events (suc line) es) n) in
+    subst (λ w. map at_line (filter (λ y. is_committed events (txn_of w) && not (good w y)) (observed w)) ≡ []) f
+    (nil_left _ (bad_reads good fault events (suc line) es) n) in
     elim (cases_Bool (good e o)) [
-      inl t ↦ t
-    | inr t ↦
-        absurd (nothing_kept at_line (filter (λ y. is_committed events (txn_of e) && not (good e y)) (observed e)) o here
-          (Contains-filter (λ y. is_committed events (txn_of e) && not (good e y)) (observed e) o seen (and_from _ _ committed (ap not t)))) ]
+      | inl t ↦ t
+      | inr t ↦
+          absurd (nothing_kept at_line (filter (λ y. is_committed events (txn_of e) && not (good e y)) (observed e)) o here
+          (Contains-filter (λ y. is_committed events (txn_of e) && not (good e y)) (observed e) o seen (and_from _ _ committed (ap not t))))
+    ]
 
 module _ (h : History) where
   pub ends_from : (line : ℕ) → unfinished_faults h.events line h.unfinished ≡ [] → all_end h ≡ true → AllEnd h
   ends_from line e all = record {
     ended = All-from_test (λ x. (has_ended h.events (txn_of x) || is_unfinished h (txn_of x)) ≡ true) (λ x. has_ended h.events (txn_of x) || is_unfinished h (txn_of x)) h.events (λ x t. t) all;
     unended = All-from_contained (λ t. has_ended h.events t ≡ false) h.unfinished
-      (λ t c. not-true _ (each_passes (λ u. not (has_ended h.events u)) M6 (unfinished_faults h.events) (λ _ _ _. refl) line h.unfinished t e c));
+        (λ t c. not-true _ (each_passes (λ u. not (has_ended h.events u)) M6 (unfinished_faults h.events) (λ _ _ _. refl) line h.unfinished t e c));
   }
 
   pub installer_source : (k : List ℕ) (t : ℕ) → installs h.events k t ≡ true → (e : Event) × Contains h.events e × (txn_of e ≡ t)
@@ -190,41 +193,47 @@ module _ (h : History) where
   pub line_needed : (k : List ℕ) (t : ℕ) → has_lines h ≡ true → list_any (λ o. key_eq o.key k) h.orders ≡ false → installs h.events k t ≡ false
   line_needed k t lines none =
       elim (cases_Bool (installs h.events k t)) [
-        inl i ↦
-          let w = some_of (last_write t k h.events) (and_parts _ _ i).1 in
-          let at = last_write_from t k h.events w.0 w.1 in
-          let here = all_pass (λ x. not (is_committed h.events x.version.txn) || list_any (λ o. key_eq o.key x.version.key) h.orders) (filter_map written h.events) w.0 lines at.there in
-          let now = subst (λ j. (not (is_committed h.events j) || list_any (λ o. key_eq o.key k) h.orders) ≡ true) at.txn_is
+        | inl i ↦
+            let w = some_of (last_write t k h.events) (and_parts _ _ i).1 in
+            let at = last_write_from t k h.events w.0 w.1 in
+            let here = all_pass (λ x. not (is_committed h.events x.version.txn) || list_any (λ o. key_eq o.key x.version.key) h.orders) (filter_map written h.events) w.0 lines at.there in
+            let now = subst (λ j. (not (is_committed h.events j) || list_any (λ o. key_eq o.key k) h.orders) ≡ true) at.txn_is
             (subst (λ j. (not (is_committed h.events w.0.version.txn) || list_any (λ o. key_eq o.key j) h.orders) ≡ true) at.key_is here) in
-          elim (or_cases _ _ now) [
-            inl c ↦ absurd (both_ways _ (not-true _ c) (and_parts _ _ i).0)
-          | inr c ↦ absurd (both_ways _ none c) ]
-      | inr i ↦ i ]
+            elim (or_cases _ _ now) [
+              | inl c ↦ absurd (both_ways _ (not-true _ c) (and_parts _ _ i).0)
+              | inr c ↦ absurd (both_ways _ none c)
+            ]
+        | inr i ↦ i
+      ]
 
   pub orders_from : (line : ℕ) → order_faults h.events line h.orders ≡ [] → has_lines h ≡ true → OrdersList h
   orders_from line e lines k t =
       elim (line_cases h.orders k) [
-        inl o ↦
-          let passes = each_passes (λ (x : Order). lists_exactly (installs h.events x.key) x.writers h.events) M7 (order_faults h.events) (λ _ _ _. refl) line h.orders o.0 e o.1 in
-          let exact = exactly_from_test (installs h.events o.0.key) o.0.writers h.events (installer_source o.0.key) passes t in
-          ap (λ xs. count xs t) o.3 ∙ (exact ∙ ap (λ j. cond (installs h.events j t) 1 0) o.2)
-      | inr none ↦ ap (λ xs. count xs t) none.0 ∙ ap (λ b. cond b 1 0) (sym (line_needed k t lines none.1)) ]
+        | inl o ↦
+            let passes = each_passes (λ (x : Order). lists_exactly (installs h.events x.key) x.writers h.events) M7 (order_faults h.events) (λ _ _ _. refl) line h.orders o.0 e o.1 in
+            let exact = exactly_from_test (installs h.events o.0.key) o.0.writers h.events (installer_source o.0.key) passes t in
+            ap (λ xs. count xs t) o.3 ∙ (exact ∙ ap (λ j. cond (installs h.events j t) 1 0) o.2)
+        | inr none ↦ ap (λ xs. count xs t) none.0 ∙ ap (λ b. cond b 1 0) (sym (line_needed k t lines none.1))
+      ]
 
   pub finals_from : (line : ℕ) → final_faults h line h.finals ≡ [] → has_finals h ≡ true → FinalsShow h
   finals_from line e all k =
       elim (final_cases h.finals k) [
-        inl f ↦
-          let passes = each_passes (λ (x : FinalPair). is_value (last_value h x.key) x.value) M8 (final_faults h) (λ _ _ _. refl) line h.finals f.0 e f.1 in
-          f.3 ∙ (value_from _ _ passes ∙ ap (last_value h) f.2)
-      | inr none ↦
-          elim (line_cases h.orders k) [
-            inl o ↦
-              let here = all_pass (λ x. is_none (last_value h x.key) || is_some (final_value h.finals x.key)) h.orders o.0 all o.1 in
-              let now = subst (λ j. (is_none (last_value h j) || is_some (final_value h.finals j)) ≡ true) o.2 here in
-              elim (or_cases _ _ now) [
-                inl n ↦ none ∙ sym (none_of _ n)
-              | inr s ↦ absurd (both_ways _ (ap is_some none) s) ]
-          | inr o ↦ none ∙ ap (λ xs. value_at h k (length xs)) (sym o.0) ] ]
+        | inl f ↦
+            let passes = each_passes (λ (x : FinalPair). is_value (last_value h x.key) x.value) M8 (final_faults h) (λ _ _ _. refl) line h.finals f.0 e f.1 in
+            f.3 ∙ (value_from _ _ passes ∙ ap (last_value h) f.2)
+        | inr none ↦
+            elim (line_cases h.orders k) [
+              | inl o ↦
+                  let here = all_pass (λ x. is_none (last_value h x.key) || is_some (final_value h.finals x.key)) h.orders o.0 all o.1 in
+                  let now = subst (λ j. (is_none (last_value h j) || is_some (final_value h.finals j)) ≡ true) o.2 here in
+                  elim (or_cases _ _ now) [
+                    | inl n ↦ none ∙ sym (none_of _ n)
+                    | inr s ↦ absurd (both_ways _ (ap is_some none) s)
+                  ]
+              | inr o ↦ none ∙ ap (λ xs. value_at h k (length xs)) (sym o.0)
+            ]
+      ]
 
   pub well_formed_from : malformed h ≡ [] → IsWellFormed h
   well_formed_from none =
@@ -248,7 +257,7 @@ module _ (h : History) where
         own_writes = each_from SeesOwnWrites (λ b e p. own_from b e p.own) [] 2 h.events events;
         rising = each_from (λ b e. IsRising e) (λ b e p. rising_from e p.rising) [] 2 h.events events;
         ends = ends_from (unfinished_line h) (nil_left f2 (f3 ++ (f4 ++ (f5 ++ (f6 ++ f7)))) from2)
-          (no_fault _ (orders_line h) M6 (nil_left f3 (f4 ++ (f5 ++ (f6 ++ f7))) from3));
+            (no_fault _ (orders_line h) M6 (nil_left f3 (f4 ++ (f5 ++ (f6 ++ f7))) from3));
         orders = orders_from (orders_line h) (nil_left f4 (f5 ++ (f6 ++ f7)) from4) (no_fault _ (finals_line h) M7 (nil_left f5 (f6 ++ f7) from5));
         finals = finals_from (finals_line h) (nil_left f6 f7 from6) (no_fault _ (tail_line h) M8 (nil_right f6 f7 from6));
       }
@@ -260,8 +269,9 @@ module _ (h : History) where
   pub no_intermediate_read_from : intermediate_reads h ≡ [] → HasG1b h → ⊥
   no_intermediate_read_from none g =
       elim (or_cases _ _ (no_bad_read (is_last_of_another h) IntermediateRead h.events 2 h.events g.0 none g.2.occurs g.2.committed g.1 g.2.sees)) [
-        inl own ↦ g.3 (eqb-true _ _ own)
-      | inr t ↦ g.4 (is_entry_same _ _ t) ]
+        | inl own ↦ g.3 (eqb-true _ _ own)
+        | inr t ↦ g.4 (is_entry_same _ _ t)
+      ]
 
   pub checked_from : check_faults h ≡ [] → IsChecked h
   checked_from none =

@@ -1,6 +1,6 @@
 -- A checked history has no fault.
-use Rattle.std.proofs.Common.{◌≡◌, ◌≢◌, ℕ, zero, suc, ◌+◌, ◌==◌, ◌<◌, ◌⊎◌, Bool, true, false, cond, not, ◌&&◌, ◌||◌, List, [], ◌∷◌, ◌++◌, map, length, Option, Some, None, is_some, is_none, IfSome, refl, sym, ◌∙◌, ap, subst, arith, inl, inr}
-use Rattle.std.specs.List.{filter, filter_map, list_all, list_any, Contains, All}
+use Rattle.std.proofs.Common.{◌≡◌, ℕ, suc, Bool, true, false, not, ◌&&◌, ◌||◌, List, [], ◌∷◌, ◌++◌, map, length, Option, Some, None, is_some, is_none, IfSome, refl, sym, ◌∙◌, ap, arith, inl, inr}
+use Rattle.std.specs.List.{filter_map, list_any, Contains}
 use Rattle.std.proofs.lemmas.Bool.{cases_Bool, cases_eq, eq-eqb, and_parts, and_from, or_left, or_right, both_ways, cond-true, not_from_false, not_from_true}
 use Rattle.std.proofs.lemmas.Option.{same_Some, none-some}
 use Rattle.std.proofs.lemmas.List.Elements.{All-contains}
@@ -13,10 +13,9 @@ use Rattle.adya_terms.specs.Keys.{key_eq, lies_in, keys_rise}
 use Rattle.adya_terms.specs.Histories.{Live, Entry, Event, Write, Delete, Read, Scan, Commit, Abort, Order, FinalPair, History}
 use Rattle.adya_terms.specs.Shapes.{is_shape}
 use Rattle.adya_terms.specs.Events.{txn_of, entry, written, observed, writes_of, last_write, is_committed, has_ended, is_unfinished, is_aborted}
-use Rattle.adya_terms.specs.Orders.{writers}
-use Rattle.adya_terms.specs.Rules.{EachAfter, IsOpen, IsNumbered, WasWritten, ListsOnly, SeesOwnWrites, IsRising, installs, final_value, IsWellFormed}
+use Rattle.adya_terms.specs.Rules.{EachAfter, IsOpen, IsNumbered, WasWritten, ListsOnly, SeesOwnWrites, IsRising, installs, final_value}
 use Rattle.adya_terms.specs.Acceptance.{IsChecked}
-use Rattle.adya_terms.specs.Faults.{entry_eq, is_entry, is_none_or, lists_only, none_or_lists_only, is_next, was_written, sees_own, is_rising, fault_unless, event_faults, unfinished_faults, all_end, lists_exactly, order_faults, has_lines, last_value, is_value, final_faults, has_finals, unfinished_line, orders_line, finals_line, tail_line, malformed, bad_reads, aborted_reads, is_last_of_another, intermediate_reads, first, check_faults, first_fault}
+use Rattle.adya_terms.specs.Faults.{entry_eq, is_entry, is_none_or, lists_only, none_or_lists_only, is_next, was_written, sees_own, is_rising, fault_unless, event_faults, unfinished_faults, lists_exactly, order_faults, has_lines, last_value, is_value, final_faults, unfinished_line, orders_line, finals_line, tail_line, malformed, bad_reads, aborted_reads, is_last_of_another, intermediate_reads, first, check_faults, first_fault}
 use Rattle.adya_terms.proofs.Lists.{Contains-head, Contains-cons, filter_nothing, list_all_when, list_any_when}
 use Rattle.adya_terms.proofs.Counts.{count, test_from_exactly}
 use Rattle.adya_terms.proofs.Entries.{same_key, entry_itself, same_entry, same_is_entry, last_write_there}
@@ -59,7 +58,7 @@ lists_only_when es w only =
     and_from _ _
     (list_any_when (entry_eq w) es w only.0 (entry_itself w))
     (list_all_when (λ x. not (key_eq x.version.key w.version.key) || entry_eq x w) es
-     (λ x c. or_unless _ _ (λ same. same_entry x w (All-contains (λ y. key_eq y.version.key w.version.key ≡ true → y ≡ w) es x only.1 c same))))
+    (λ x c. or_unless _ _ (λ same. same_entry x w (All-contains (λ y. key_eq y.version.key w.version.key ≡ true → y ≡ w) es x only.1 c same))))
 
 pub none_or_lists_only_when : (es : List Entry) (o : Option Entry) → IfSome o (ListsOnly es) → none_or_lists_only es o ≡ true
 none_or_lists_only_when es None only = refl
@@ -91,9 +90,9 @@ no_event_faults before line [] one two three four five = refl
 no_event_faults before line (e ∷ es) one two three four five =
     both_nil _ _
     (both_nil _ _ (fault_none _ line M1 (not_from_false _ one.0))
-     (both_nil _ _ (fault_none _ line M2 (next_from before (written e) two.0))
-      (both_nil _ _ (fault_none _ line M3 (was_written_from before e three.0))
-       (both_nil _ _ (fault_none _ line M4 (sees_own_from before e four.0)) (fault_none _ line M5 (is_rising_from e five.0))))))
+    (both_nil _ _ (fault_none _ line M2 (next_from before (written e) two.0))
+    (both_nil _ _ (fault_none _ line M3 (was_written_from before e three.0))
+    (both_nil _ _ (fault_none _ line M4 (sees_own_from before e four.0)) (fault_none _ line M5 (is_rising_from e five.0))))))
     (no_event_faults (before ++ e ∷ []) (suc line) es one.1 two.1 three.1 four.1 five.1)
 
 pub false_and : (b c : Bool) → (b ≡ true → c ≡ true) → (b && not c) ≡ false
@@ -107,7 +106,7 @@ no_bad_reads good fault events line (e ∷ es) h =
     let at_line : Entry → CheckFault = λ y. fault line y.version in
     both_nil _ _
     (ap (map at_line) (filter_nothing (λ o. is_committed events (txn_of e) && not (good e o)) (observed e)
-      (λ o c. false_and _ _ (λ done. h e (Contains-head e es) done o c))))
+    (λ o c. false_and _ _ (λ done. h e (Contains-head e es) done o c))))
     (no_bad_reads good fault events (suc line) es (λ x c. h x (Contains-cons e es x c)))
 
 pub value_ok : (o : Option (List ℕ)) (v : List ℕ) → o ≡ Some v → is_value o v ≡ true
@@ -126,60 +125,64 @@ module _ (h : History) (checked : IsChecked h) (orders_rise : keys_rise (map (λ
   pub line_when_installed : (k : List ℕ) (t : ℕ) → installs h.events k t ≡ true → list_any (λ o. key_eq o.key k) h.orders ≡ true
   line_when_installed k t i =
       elim (line_cases h.orders k) [
-        inl o ↦ list_any_when (λ x. key_eq x.key k) h.orders o.0 o.1 (same_key _ _ o.2)
-      | inr none ↦
-          let counted = checked.well_formed.orders k t in
-          let one = cond-true {A = ℕ} (installs h.events k t) 1 0 i in
-          let nowhere = ap (λ xs. count xs t) none.0 in
-          absurd (omega (arith, counted, one, nowhere)) ]
+        | inl o ↦ list_any_when (λ x. key_eq x.key k) h.orders o.0 o.1 (same_key _ _ o.2)
+        | inr none ↦
+            let counted = checked.well_formed.orders k t in
+            let one = cond-true {A = ℕ} (installs h.events k t) 1 0 i in
+            let nowhere = ap (λ xs. count xs t) none.0 in
+            absurd (omega (arith, counted, one, nowhere))
+      ]
 
   pub lines_there : has_lines h ≡ true
   lines_there =
       list_all_when (λ w. not (is_committed h.events w.version.txn) || list_any (λ o. key_eq o.key w.version.key) h.orders) (filter_map written h.events)
       (λ w c. or_unless _ _ (λ done. line_when_installed w.version.key w.version.txn
-        (and_from _ _ done (some_from_not_none (last_write w.version.txn w.version.key h.events) (last_write_there h.events w c)))))
+      (and_from _ _ done (some_from_not_none (last_write w.version.txn w.version.key h.events) (last_write_there h.events w c)))))
 
   pub not_malformed : malformed h ≡ []
   not_malformed =
       let rules = checked.well_formed in
       both_nil _ _ (no_event_faults [] 2 h.events rules.open_until_end rules.numbered rules.was_written rules.own_writes rules.rising)
       (both_nil _ _
-       (none_fails (λ t. not (has_ended h.events t)) M6 (unfinished_faults h.events) (λ _. refl) (λ _ _ _. refl) (unfinished_line h) h.unfinished
-        (λ t c. not_from_false _ (All-contains (λ u. has_ended h.events u ≡ false) h.unfinished t rules.ends.unended c)))
-       (both_nil _ _
-        (fault_none _ (orders_line h) M6
-         (list_all_when (λ e. has_ended h.events (txn_of e) || is_unfinished h (txn_of e)) h.events
-          (λ e c. All-contains (λ x. (has_ended h.events (txn_of x) || is_unfinished h (txn_of x)) ≡ true) h.events e rules.ends.ended c)))
-        (both_nil _ _
-         (none_fails (λ (o : Order). lists_exactly (installs h.events o.key) o.writers h.events) M7 (order_faults h.events) (λ _. refl) (λ _ _ _. refl) (orders_line h) h.orders
-          (λ o c. test_from_exactly (installs h.events o.key) o.writers h.events
-            (λ t. ap (λ xs. count xs t) (sym (line_found h.orders o orders_rise c)) ∙ rules.orders o.key t)))
-         (both_nil _ _ (fault_none _ (finals_line h) M7 lines_there)
-          (both_nil _ _
-           (none_fails (λ (f : FinalPair). is_value (last_value h f.key) f.value) M8 (final_faults h) (λ _. refl) (λ _ _ _. refl) (finals_line h) h.finals
-            (λ f c. value_ok (last_value h f.key) f.value (sym (rules.finals f.key) ∙ final_found h.finals f finals_rise c)))
-           (fault_none _ (tail_line h) M8
-            (list_all_when (λ o. is_none (last_value h o.key) || is_some (final_value h.finals o.key)) h.orders
-             (λ o c. none_or_some (last_value h o.key) (final_value h.finals o.key) (rules.finals o.key)))))))))
+      (none_fails (λ t. not (has_ended h.events t)) M6 (unfinished_faults h.events) (λ _. refl) (λ _ _ _. refl) (unfinished_line h) h.unfinished
+      (λ t c. not_from_false _ (All-contains (λ u. has_ended h.events u ≡ false) h.unfinished t rules.ends.unended c)))
+      (both_nil _ _
+      (fault_none _ (orders_line h) M6
+      (list_all_when (λ e. has_ended h.events (txn_of e) || is_unfinished h (txn_of e)) h.events
+      (λ e c. All-contains (λ x. (has_ended h.events (txn_of x) || is_unfinished h (txn_of x)) ≡ true) h.events e rules.ends.ended c)))
+      (both_nil _ _
+      (none_fails (λ (o : Order). lists_exactly (installs h.events o.key) o.writers h.events) M7 (order_faults h.events) (λ _. refl) (λ _ _ _. refl) (orders_line h) h.orders
+      (λ o c. test_from_exactly (installs h.events o.key) o.writers h.events
+      (λ t. ap (λ xs. count xs t) (sym (line_found h.orders o orders_rise c)) ∙ rules.orders o.key t)))
+      (both_nil _ _ (fault_none _ (finals_line h) M7 lines_there)
+      (both_nil _ _
+      (none_fails (λ (f : FinalPair). is_value (last_value h f.key) f.value) M8 (final_faults h) (λ _. refl) (λ _ _ _. refl) (finals_line h) h.finals
+      (λ f c. value_ok (last_value h f.key) f.value (sym (rules.finals f.key) ∙ final_found h.finals f finals_rise c)))
+      (fault_none _ (tail_line h) M8
+      (list_all_when (λ o. is_none (last_value h o.key) || is_some (final_value h.finals o.key)) h.orders
+      (λ o c. none_or_some (last_value h o.key) (final_value h.finals o.key) (rules.finals o.key)))))))))
 
   pub no_aborted_reads : aborted_reads h ≡ []
   no_aborted_reads =
       no_bad_reads (λ e o. not (is_aborted h o.version.txn)) AbortedRead h.events 2 h.events
       (λ e c done o seen.
-        elim (cases_Bool (is_aborted h o.version.txn)) [
-          inl t ↦ absurd (checked.no_aborted_read (e, o, record { occurs = c; committed = done; sees = seen }, t))
-        | inr f ↦ not_from_false _ f ])
+      elim (cases_Bool (is_aborted h o.version.txn)) [
+        | inl t ↦ absurd (checked.no_aborted_read (e, o, record { occurs = c; committed = done; sees = seen }, t))
+        | inr f ↦ not_from_false _ f
+      ])
 
   pub no_intermediate_reads : intermediate_reads h ≡ []
   no_intermediate_reads =
       no_bad_reads (is_last_of_another h) IntermediateRead h.events 2 h.events
       (λ e c done o seen.
-        elim (cases_eq o.version.txn (txn_of e)) [
-          inl s ↦ or_left _ _ (eq-eqb _ _ s)
+      elim (cases_eq o.version.txn (txn_of e)) [
+        | inl s ↦ or_left _ _ (eq-eqb _ _ s)
         | inr ne ↦
             elim (cases_Bool (is_entry (last_write o.version.txn o.version.key h.events) o)) [
-              inl t ↦ or_right _ _ t
-            | inr f ↦ absurd (checked.no_intermediate_read (e, o, record { occurs = c; committed = done; sees = seen }, ne, (λ s. both_ways _ f (same_is_entry _ _ s)))) ] ])
+              | inl t ↦ or_right _ _ t
+              | inr f ↦ absurd (checked.no_intermediate_read (e, o, record { occurs = c; committed = done; sees = seen }, ne, (λ s. both_ways _ f (same_is_entry _ _ s))))
+            ]
+      ])
 
   pub no_check_faults : check_faults h ≡ []
   no_check_faults = both_nil _ _ not_malformed (both_nil _ _ no_aborted_reads no_intermediate_reads)

@@ -1,6 +1,6 @@
 -- How often a number stands in a list, and the test that a list has exactly the numbers that pass.
-use Rattle.std.proofs.Common.{◌≡◌, ◌≢◌, ℕ, suc, ◌==◌, ◌<◌, ◌≤◌, Bool, true, false, cond, ◌&&◌, List, [], ◌∷◌, Some, slice_get, sym, ◌∙◌, ap, subst, arith, inl, inr}
-use Rattle.std.specs.List.{count_by, list_all, Contains}
+use Rattle.std.proofs.Common.{◌≡◌, ◌≢◌, ℕ, suc, ◌==◌, ◌<◌, Bool, true, cond, List, [], ◌∷◌, Some, slice_get, sym, ◌∙◌, ap, subst, arith, inl, inr}
+use Rattle.std.specs.List.{count_by, Contains}
 use Rattle.std.proofs.lemmas.Bool.{cases_Bool, cases_eq, cases_lt, eqb-true, eq-eqb, ne_eqb, cond-true, cond-false, and_parts, and_from}
 use Rattle.std.proofs.lemmas.List.Sums.{sum_by-cons}
 use Rattle.adya_terms.specs.Histories.{Event}

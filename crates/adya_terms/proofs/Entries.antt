@@ -1,5 +1,5 @@
 -- When keys, values and entries are the same, and which writes a transaction has made.
-use Rattle.std.proofs.Common.{◌≡◌, ℕ, zero, suc, ◌==◌, Bool, true, false, ◌&&◌, List, [], ◌∷◌, Option, Some, None, refl, sym, ◌∙◌, ap, subst, arith}
+use Rattle.std.proofs.Common.{◌≡◌, ℕ, zero, suc, ◌==◌, true, false, ◌&&◌, List, [], ◌∷◌, Option, Some, None, refl, sym, ◌∙◌, ap, subst, arith}
 use Rattle.std.specs.List.{filter_map, cons_option, Contains}
 use Rattle.std.specs.Cmp.Lexicographic.{bytes_decides}
 use Rattle.std.proofs.lemmas.Bool.{eqb-true, eq-eqb, and_parts, and_from, false_from_ne_true}
@@ -88,7 +88,7 @@ pub last_write_there : (es : List Event) (w : Entry) → Contains (filter_map wr
 last_write_there es w c e =
     last_there (writes_of w.version.txn w.version.key es) w
     (Contains-filter (λ x. x.version.txn == w.version.txn && key_eq x.version.key w.version.key) (filter_map written es) w c
-     (and_from _ _ (eq-eqb w.version.txn w.version.txn refl) (same_key w.version.key w.version.key refl)))
+    (and_from _ _ (eq-eqb w.version.txn w.version.txn refl) (same_key w.version.key w.version.key refl)))
     e
 
 -- a version is written by an event of its transaction

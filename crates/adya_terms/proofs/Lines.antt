@@ -1,5 +1,5 @@
 -- The lines of orders and finals by key: each key's line is found where the keys rise.
-use Rattle.std.proofs.Common.{◌≡◌, ℕ, zero, suc, ◌⊎◌, Bool, true, false, cond, ◌&&◌, ◌||◌, List, [], ◌∷◌, map, Option, Some, None, refl, sym, ◌∙◌, ap, subst, arith, inl, inr}
+use Rattle.std.proofs.Common.{◌≡◌, ℕ, zero, suc, ◌⊎◌, true, false, cond, ◌||◌, List, [], ◌∷◌, map, Some, None, refl, sym, ◌∙◌, ap, subst, arith, inl, inr}
 use Rattle.std.specs.List.{list_any, Contains}
 use Rattle.std.proofs.Common.{Ordering, Less, Equal, Greater}
 use Rattle.std.specs.Ordering.{is_lt}
@@ -17,21 +17,25 @@ pub line_cases : (os : List Order) (k : List ℕ) → ((o : Order) × Contains o
 line_cases [] k = inr (refl, refl)
 line_cases (o ∷ os) k =
     elim (cases_Bool (key_eq o.key k)) [
-      inl t ↦ inl (o, Contains-head o os, key_same _ _ t, ap (λ b. cond b o.writers (line_of os k)) t)
-    | inr f ↦
-        elim (line_cases os k) [
-          inl r ↦ inl (r.0, Contains-cons o os r.0 r.1, r.2, ap (λ b. cond b o.writers (line_of os k)) f ∙ r.3)
-        | inr r ↦ inr (ap (λ b. cond b o.writers (line_of os k)) f ∙ r.0, ap (λ b. b || list_any (λ x. key_eq x.key k) os) f ∙ r.1) ] ]
+      | inl t ↦ inl (o, Contains-head o os, key_same _ _ t, ap (λ b. cond b o.writers (line_of os k)) t)
+      | inr f ↦
+          elim (line_cases os k) [
+            | inl r ↦ inl (r.0, Contains-cons o os r.0 r.1, r.2, ap (λ b. cond b o.writers (line_of os k)) f ∙ r.3)
+            | inr r ↦ inr (ap (λ b. cond b o.writers (line_of os k)) f ∙ r.0, ap (λ b. b || list_any (λ x. key_eq x.key k) os) f ∙ r.1)
+          ]
+    ]
 
 pub final_cases : (fs : List FinalPair) (k : List ℕ) → ((f : FinalPair) × Contains fs f × (f.key ≡ k) × (final_value fs k ≡ Some f.value)) ⊎ (final_value fs k ≡ None)
 final_cases [] k = inr refl
 final_cases (f ∷ fs) k =
     elim (cases_Bool (key_eq f.key k)) [
-      inl t ↦ inl (f, Contains-head f fs, key_same _ _ t, ap (λ b. cond b (Some f.value) (final_value fs k)) t)
-    | inr t ↦
-        elim (final_cases fs k) [
-          inl r ↦ inl (r.0, Contains-cons f fs r.0 r.1, r.2, ap (λ b. cond b (Some f.value) (final_value fs k)) t ∙ r.3)
-        | inr r ↦ inr (ap (λ b. cond b (Some f.value) (final_value fs k)) t ∙ r) ] ]
+      | inl t ↦ inl (f, Contains-head f fs, key_same _ _ t, ap (λ b. cond b (Some f.value) (final_value fs k)) t)
+      | inr t ↦
+          elim (final_cases fs k) [
+            | inl r ↦ inl (r.0, Contains-cons f fs r.0 r.1, r.2, ap (λ b. cond b (Some f.value) (final_value fs k)) t ∙ r.3)
+            | inr r ↦ inr (ap (λ b. cond b (Some f.value) (final_value fs k)) t ∙ r)
+          ]
+    ]
 
 pub is_lt-Less : (o : Ordering) → is_lt o ≡ true → o ≡ Less
 is_lt-Less Less e = refl

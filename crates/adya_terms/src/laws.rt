@@ -8,5 +8,4 @@ ghost use Rattle.adya_terms.specs.Laws.{CheckedIfNoFault, CheckedWhereNoFault};
 pub fn checked_where_no_fault()
     ensures sound { CheckedIfNoFault }
     ensures exact { CheckedWhereNoFault }
-{
-}
+{}
