@@ -34,7 +34,8 @@ pub no_fault : (b : Bool) (line : ℕ) (rule : Rule) → fault_unless b line rul
 no_fault true line rule e = refl
 no_fault false line rule e = absurd (cc (e))
 
-pub All-from_test : {X : Type 0} (P : X → Type 0) (f : X → Bool) (xs : List X) → ((x : X) → f x ≡ true → P x) → list_all f xs ≡ true → All P xs
+pub All-from_test : {X : Type 0} (P : X → Type 0) (f : X → Bool) (xs : List X) → ((x : X) → f x ≡ true → P x)
+    → list_all f xs ≡ true → All P xs
 All-from_test P f xs h t = λ k d l. h (get_or xs k d) (all_pass f xs (get_or xs k d) t (Contains-get_or xs k d l))
 
 pub All-from_contained : {X : Type 0} (P : X → Type 0) (xs : List X) → ((x : X) → Contains xs x → P x) → All P xs
@@ -77,7 +78,8 @@ passes_all before line e none =
       rising = no_fault _ line M5 (nil_right f4 f5 from4);
     }
 
-pub each_from : (P : List Event → Event → Type 0) → ((before : List Event) (e : Event) → PassesAll before e → P before e)
+pub each_from : (P : List Event → Event → Type 0)
+    → ((before : List Event) (e : Event) → PassesAll before e → P before e)
     → (before : List Event) (line : ℕ) (es : List Event) → event_faults before line es ≡ [] → EachAfter P before es
 each_from P h before line [] none = tt
 each_from P h before line (e ∷ es) none =
@@ -85,7 +87,8 @@ each_from P h before line (e ∷ es) none =
     let later = event_faults (before ++ e ∷ []) (suc line) es in
     (h before e (passes_all before line e (nil_left now later none)), each_from P h (before ++ e ∷ []) (suc line) es (nil_right now later none))
 
-pub numbered_from : (before : List Event) (o : Option Entry) → is_next before o ≡ true → IfSome o (λ w. w.version.m ≡ suc (length (writes_of w.version.txn w.version.key before)))
+pub numbered_from : (before : List Event) (o : Option Entry) → is_next before o ≡ true
+    → IfSome o (λ w. w.version.m ≡ suc (length (writes_of w.version.txn w.version.key before)))
 numbered_from before None e = tt
 numbered_from before (Some w) e = eqb-true _ _ e
 
@@ -110,7 +113,8 @@ lists_only_from es w t =
           (λ x s same. elim (or_cases _ _ s) [ inl other ↦ absurd (both_ways _ (not-true _ other) same) | inr y ↦ entry_same x w y ]) both.1,
     )
 
-pub scan_own : (t : ℕ) (low high : List ℕ) (es : List Entry) (before : List Event) → sees_own before (Scan t low high es) ≡ true
+pub scan_own : (t : ℕ) (low high : List ℕ) (es : List Entry) (before : List Event)
+    → sees_own before (Scan t low high es) ≡ true
     → (k : List ℕ) → lies_in low high k ≡ true → (o : Option Entry) → last_write t k before ≡ o → IfSome o (ListsOnly es)
 scan_own t low high es before e k inside None f = tt
 scan_own t low high es before e k inside (Some w) f =
@@ -182,7 +186,8 @@ module _ (h : History) where
         (λ t c. not-true _ (each_passes (λ u. not (has_ended h.events u)) M6 (unfinished_faults h.events) (λ _ _ _. refl) line h.unfinished t e c));
   }
 
-  pub installer_source : (k : List ℕ) (t : ℕ) → installs h.events k t ≡ true → (e : Event) × Contains h.events e × (txn_of e ≡ t)
+  pub installer_source : (k : List ℕ) (t : ℕ) → installs h.events k t ≡ true
+      → (e : Event) × Contains h.events e × (txn_of e ≡ t)
   installer_source k t e =
       let w = some_of (last_write t k h.events) (and_parts _ _ e).1 in
       let at = last_write_from t k h.events w.0 w.1 in
@@ -190,7 +195,8 @@ module _ (h : History) where
       (r.0, r.1, r.2 ∙ at.txn_is)
 
   -- a key with a committed writer has an order line
-  pub line_needed : (k : List ℕ) (t : ℕ) → has_lines h ≡ true → list_any (λ o. key_eq o.key k) h.orders ≡ false → installs h.events k t ≡ false
+  pub line_needed : (k : List ℕ) (t : ℕ) → has_lines h ≡ true → list_any (λ o. key_eq o.key k) h.orders ≡ false
+      → installs h.events k t ≡ false
   line_needed k t lines none =
       elim (cases_Bool (installs h.events k t)) [
         | inl i ↦

@@ -28,7 +28,8 @@ pub fault_none : (b : Bool) (line : ℕ) (rule : Rule) → b ≡ true → fault_
 fault_none b line rule e = ap (λ x. fault_unless x line rule) e
 
 -- where each test passes, the list of faults, one for each line whose test fails, is empty
-pub none_fails : {X : Type 0} (test : X → Bool) (rule : Rule) (faults : ℕ → List X → List CheckFault) → ((line : ℕ) → faults line [] ≡ [])
+pub none_fails : {X : Type 0} (test : X → Bool) (rule : Rule) (faults : ℕ → List X → List CheckFault)
+    → ((line : ℕ) → faults line [] ≡ [])
     → ((line : ℕ) (x : X) (xs : List X) → faults line (x ∷ xs) ≡ fault_unless (test x) line rule ++ faults (suc line) xs)
     → (line : ℕ) (xs : List X) → ((x : X) → Contains xs x → test x ≡ true) → faults line xs ≡ []
 none_fails test rule faults none step line [] h = none line
@@ -40,7 +41,9 @@ pub or_unless : (b c : Bool) → (b ≡ true → c ≡ true) → (not b || c) �
 or_unless true c h = h refl
 or_unless false c h = refl
 
-pub next_from : (before : List Event) (o : Option Entry) → IfSome o (λ w. w.version.m ≡ suc (length (writes_of w.version.txn w.version.key before))) → is_next before o ≡ true
+pub next_from : (before : List Event) (o : Option Entry)
+    → IfSome o (λ w. w.version.m ≡ suc (length (writes_of w.version.txn w.version.key before)))
+    → is_next before o ≡ true
 next_from before None e = refl
 next_from before (Some w) e = eq-eqb _ _ e
 
@@ -60,7 +63,8 @@ lists_only_when es w only =
     (list_all_when (λ x. not (key_eq x.version.key w.version.key) || entry_eq x w) es
     (λ x c. or_unless _ _ (λ same. same_entry x w (All-contains (λ y. key_eq y.version.key w.version.key ≡ true → y ≡ w) es x only.1 c same))))
 
-pub none_or_lists_only_when : (es : List Entry) (o : Option Entry) → IfSome o (ListsOnly es) → none_or_lists_only es o ≡ true
+pub none_or_lists_only_when : (es : List Entry) (o : Option Entry) → IfSome o (ListsOnly es)
+    → none_or_lists_only es o ≡ true
 none_or_lists_only_when es None only = refl
 none_or_lists_only_when es (Some w) only = lists_only_when es w only
 
@@ -84,7 +88,8 @@ is_rising_from (Delete t k m) e = refl
 is_rising_from (Commit t) e = refl
 is_rising_from (Abort t) e = refl
 
-pub no_event_faults : (before : List Event) (line : ℕ) (es : List Event) → EachAfter IsOpen before es → EachAfter IsNumbered before es → EachAfter WasWritten before es
+pub no_event_faults : (before : List Event) (line : ℕ) (es : List Event) → EachAfter IsOpen before es
+    → EachAfter IsNumbered before es → EachAfter WasWritten before es
     → EachAfter SeesOwnWrites before es → EachAfter (λ b e. IsRising e) before es → event_faults before line es ≡ []
 no_event_faults before line [] one two three four five = refl
 no_event_faults before line (e ∷ es) one two three four five =
@@ -122,7 +127,8 @@ some_from_not_none None h = absurd (h refl)
 some_from_not_none (Some w) h = refl
 
 module _ (h : History) (checked : IsChecked h) (orders_rise : keys_rise (map (λ o. o.key) h.orders) ≡ true) (finals_rise : keys_rise (map (λ f. f.key) h.finals) ≡ true) where
-  pub line_when_installed : (k : List ℕ) (t : ℕ) → installs h.events k t ≡ true → list_any (λ o. key_eq o.key k) h.orders ≡ true
+  pub line_when_installed : (k : List ℕ) (t : ℕ) → installs h.events k t ≡ true
+      → list_any (λ o. key_eq o.key k) h.orders ≡ true
   line_when_installed k t i =
       elim (line_cases h.orders k) [
         | inl o ↦ list_any_when (λ x. key_eq x.key k) h.orders o.0 o.1 (same_key _ _ o.2)

@@ -35,7 +35,8 @@ count_place (x ∷ xs) t h =
     ]
 
 -- only numbers that the list has, or that an event has, need to be tested
-pub exactly_from_test : (test : ℕ → Bool) (xs : List ℕ) (events : List Event) → ((t : ℕ) → test t ≡ true → (e : Event) × Contains events e × (txn_of e ≡ t))
+pub exactly_from_test : (test : ℕ → Bool) (xs : List ℕ) (events : List Event)
+    → ((t : ℕ) → test t ≡ true → (e : Event) × Contains events e × (txn_of e ≡ t))
     → lists_exactly test xs events ≡ true → (t : ℕ) → count xs t ≡ cond (test t) 1 0
 exactly_from_test test xs events source all t =
     let parts = and_parts _ _ all in
@@ -53,7 +54,8 @@ exactly_from_test test xs events source all t =
           ]
     ]
 
-pub test_from_exactly : (test : ℕ → Bool) (xs : List ℕ) (events : List Event) → ((t : ℕ) → count xs t ≡ cond (test t) 1 0) → lists_exactly test xs events ≡ true
+pub test_from_exactly : (test : ℕ → Bool) (xs : List ℕ) (events : List Event)
+    → ((t : ℕ) → count xs t ≡ cond (test t) 1 0) → lists_exactly test xs events ≡ true
 test_from_exactly test xs events all =
     and_from _ _
     (list_all_when (λ t. count xs t == cond (test t) 1 0) xs (λ t c. eq-eqb _ _ (all t)))

@@ -77,14 +77,16 @@ pub record IsWriteOf (t : ℕ) (k : List ℕ) (es : List Event) (w : Entry) : Ty
   pub txn_is : w.version.txn ≡ t
   pub key_is : w.version.key ≡ k
 
-pub last_write_from : (t : ℕ) (k : List ℕ) (es : List Event) (w : Entry) → last_write t k es ≡ Some w → IsWriteOf t k es w
+pub last_write_from : (t : ℕ) (k : List ℕ) (es : List Event) (w : Entry) → last_write t k es ≡ Some w
+    → IsWriteOf t k es w
 last_write_from t k es w e =
     let at = filter-source (λ x. x.version.txn == t && key_eq x.version.key k) (filter_map written es) w (last_contained (writes_of t k es) w e) in
     let both = and_parts _ _ at.1 in
     record { there = at.0; txn_is = eqb-true _ _ both.0; key_is = key_same _ _ both.1 }
 
 -- who has written a key has a last write of it
-pub last_write_there : (es : List Event) (w : Entry) → Contains (filter_map written es) w → last_write w.version.txn w.version.key es ≡ None → ⊥
+pub last_write_there : (es : List Event) (w : Entry) → Contains (filter_map written es) w
+    → last_write w.version.txn w.version.key es ≡ None → ⊥
 last_write_there es w c e =
     last_there (writes_of w.version.txn w.version.key es) w
     (Contains-filter (λ x. x.version.txn == w.version.txn && key_eq x.version.key w.version.key) (filter_map written es) w c
@@ -107,7 +109,8 @@ writer_from e es o None made rest c = let r = rest c in (r.0, Contains-cons e es
 writer_from e es o (Some x) made rest (zero, l, f) = (e, Contains-head e es, written_txn e o (made ∙ ap Some f))
 writer_from e es o (Some x) made rest (suc i, l, f) = let r = rest (i, omega (arith, l), f) in (r.0, Contains-cons e es r.0 r.1, r.2)
 
-pub writer_of : (es : List Event) (o : Entry) → Contains (filter_map written es) o → (w : Event) × Contains es w × (txn_of w ≡ o.version.txn)
+pub writer_of : (es : List Event) (o : Entry) → Contains (filter_map written es) o
+    → (w : Event) × Contains es w × (txn_of w ≡ o.version.txn)
 writer_of [] o c = absurd (none_contained o c)
 writer_of (e ∷ es) o c = writer_from e es o (written e) refl (writer_of es o) c
 
@@ -120,5 +123,6 @@ commits_txn t (Commit u) c = eqb-true _ _ c
 commits_txn t (Abort u) c = absurd (cc (c))
 
 -- a committed transaction has an event
-pub committed_source : (events : List Event) (t : ℕ) → is_committed events t ≡ true → (e : Event) × Contains events e × (txn_of e ≡ t)
+pub committed_source : (events : List Event) (t : ℕ) → is_committed events t ≡ true
+    → (e : Event) × Contains events e × (txn_of e ≡ t)
 committed_source events t c = let r = list_any_source (commits t) events c in (r.0, r.1, commits_txn t r.0 r.2)

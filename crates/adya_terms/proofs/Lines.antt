@@ -13,7 +13,8 @@ use Rattle.adya_terms.proofs.Lists.{none_contained, Contains-head, Contains-cons
 use Rattle.adya_terms.proofs.Entries.{key_same, same_key, other_key}
 
 -- a key has an order line, or none
-pub line_cases : (os : List Order) (k : List ℕ) → ((o : Order) × Contains os o × (o.key ≡ k) × (line_of os k ≡ o.writers)) ⊎ ((line_of os k ≡ []) × (list_any (λ o. key_eq o.key k) os ≡ false))
+pub line_cases : (os : List Order) (k : List ℕ)
+    → ((o : Order) × Contains os o × (o.key ≡ k) × (line_of os k ≡ o.writers)) ⊎ ((line_of os k ≡ []) × (list_any (λ o. key_eq o.key k) os ≡ false))
 line_cases [] k = inr (refl, refl)
 line_cases (o ∷ os) k =
     elim (cases_Bool (key_eq o.key k)) [
@@ -25,7 +26,8 @@ line_cases (o ∷ os) k =
           ]
     ]
 
-pub final_cases : (fs : List FinalPair) (k : List ℕ) → ((f : FinalPair) × Contains fs f × (f.key ≡ k) × (final_value fs k ≡ Some f.value)) ⊎ (final_value fs k ≡ None)
+pub final_cases : (fs : List FinalPair) (k : List ℕ)
+    → ((f : FinalPair) × Contains fs f × (f.key ≡ k) × (final_value fs k ≡ Some f.value)) ⊎ (final_value fs k ≡ None)
 final_cases [] k = inr refl
 final_cases (f ∷ fs) k =
     elim (cases_Bool (key_eq f.key k)) [
@@ -48,7 +50,8 @@ key_lt-trans a b c e f = ap is_lt (nat_list_cmp_total.trans a b c (is_lt-Less _ 
 pub key_lt-apart : (a b : List ℕ) → key_lt a b ≡ true → a ≡ b → ⊥
 key_lt-apart a b e s = both_ways (key_lt a a) (ap is_lt (tied_itself nat_list_cmp_total a)) (subst (λ k. key_lt a k ≡ true) (sym s) e)
 
-pub rises_below : {X : Type 0} (key : X → List ℕ) (x : X) (xs : List X) (y : X) → keys_rise (key x ∷ map key xs) ≡ true → Contains xs y → key_lt (key x) (key y) ≡ true
+pub rises_below : {X : Type 0} (key : X → List ℕ) (x : X) (xs : List X) (y : X) → keys_rise (key x ∷ map key xs) ≡ true
+    → Contains xs y → key_lt (key x) (key y) ≡ true
 rises_below key x [] y r c = absurd (none_contained y c)
 rises_below key x (z ∷ xs) y r (zero, l, e) = subst (λ w. key_lt (key x) (key w) ≡ true) e (and_parts _ _ r).0
 rises_below key x (z ∷ xs) y r (suc i, l, e) =
@@ -59,7 +62,8 @@ pub keys_rise-tail : (x : List ℕ) (xs : List (List ℕ)) → keys_rise (x ∷ 
 keys_rise-tail x [] r = refl
 keys_rise-tail x (y ∷ ys) r = (and_parts _ _ r).1
 
-pub line_found : (os : List Order) (o : Order) → keys_rise (map (λ x. x.key) os) ≡ true → Contains os o → line_of os o.key ≡ o.writers
+pub line_found : (os : List Order) (o : Order) → keys_rise (map (λ x. x.key) os) ≡ true → Contains os o
+    → line_of os o.key ≡ o.writers
 line_found [] o r c = absurd (none_contained o c)
 line_found (x ∷ os) o r (zero, l, e) =
     ap (λ b. cond b x.writers (line_of os o.key)) (same_key x.key o.key (ap (λ y. y.key) e)) ∙ ap (λ y. y.writers) e
@@ -68,7 +72,8 @@ line_found (x ∷ os) o r (suc i, l, e) =
     ap (λ b. cond b x.writers (line_of os o.key)) (other_key x.key o.key (key_lt-apart _ _ (rises_below (λ (y : Order). y.key) x os o r c))) ∙
     line_found os o (keys_rise-tail x.key (map (λ y. y.key) os) r) c
 
-pub final_found : (fs : List FinalPair) (f : FinalPair) → keys_rise (map (λ x. x.key) fs) ≡ true → Contains fs f → final_value fs f.key ≡ Some f.value
+pub final_found : (fs : List FinalPair) (f : FinalPair) → keys_rise (map (λ x. x.key) fs) ≡ true → Contains fs f
+    → final_value fs f.key ≡ Some f.value
 final_found [] f r c = absurd (none_contained f c)
 final_found (x ∷ fs) f r (zero, l, e) =
     ap (λ b. cond b (Some x.value) (final_value fs f.key)) (same_key x.key f.key (ap (λ y. y.key) e)) ∙ ap (λ y. Some y.value) e

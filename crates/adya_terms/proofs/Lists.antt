@@ -16,7 +16,8 @@ Contains-cons x xs y c = (suc c.0, omega (arith, c.1), c.2)
 pub Contains-slice_get : {X : Type 0} (xs : List X) (i : ℕ) (x : X) → slice_get xs i ≡ Some x → Contains xs x
 Contains-slice_get xs i x e = (i, slice_get_within xs i x e, get_or_from_slice_get xs i x x e)
 
-pub Contains-filter : {X : Type 0} (p : X → Bool) (xs : List X) (x : X) → Contains xs x → p x ≡ true → Contains (filter p xs) x
+pub Contains-filter : {X : Type 0} (p : X → Bool) (xs : List X) (x : X) → Contains xs x → p x ≡ true
+    → Contains (filter p xs) x
 Contains-filter p [] x c d = c
 Contains-filter p (z ∷ xs) x (zero, l, e) d =
     subst (λ b. Contains (cond b (z ∷ filter p xs) (filter p xs)) x) (sym (ap p e ∙ d)) (0, omega arith, e)
@@ -24,12 +25,14 @@ Contains-filter p (z ∷ xs) x (suc i, l, e) d =
     let rest = Contains-filter p xs x (i, omega (arith, l), e) d in
     elim (p z) as (λ b. Contains (cond b (z ∷ filter p xs) (filter p xs)) x) [ true ↦ Contains-cons z (filter p xs) x rest | false ↦ rest ]
 
-pub filter-source_kept : {X : Type 0} (p : X → Bool) (z : X) (xs ys : List X) (x : X) → p z ≡ true → Contains (z ∷ ys) x → (Contains ys x → Contains xs x × (p x ≡ true)) → Contains (z ∷ xs) x × (p x ≡ true)
+pub filter-source_kept : {X : Type 0} (p : X → Bool) (z : X) (xs ys : List X) (x : X) → p z ≡ true → Contains (z ∷ ys) x
+    → (Contains ys x → Contains xs x × (p x ≡ true)) → Contains (z ∷ xs) x × (p x ≡ true)
 filter-source_kept p z xs ys x t (zero, l, e) rest = ((0, omega arith, e), ap p (sym e) ∙ t)
 filter-source_kept p z xs ys x t (suc i, l, e) rest = let r = rest (i, omega (arith, l), e) in (Contains-cons z xs x r.0, r.1)
 
 -- what a filter keeps is in the list and passes
-pub filter-source : {X : Type 0} (p : X → Bool) (xs : List X) (x : X) → Contains (filter p xs) x → Contains xs x × (p x ≡ true)
+pub filter-source : {X : Type 0} (p : X → Bool) (xs : List X) (x : X) → Contains (filter p xs) x
+    → Contains xs x × (p x ≡ true)
 filter-source p [] x c = absurd (none_contained x c)
 filter-source p (z ∷ xs) x c =
     elim (cases_Bool (p z)) [
@@ -39,7 +42,8 @@ filter-source p (z ∷ xs) x c =
           (Contains-cons z xs x rest.0, rest.1)
     ]
 
-pub filter_nothing : {X : Type 0} (p : X → Bool) (xs : List X) → ((x : X) → Contains xs x → p x ≡ false) → filter p xs ≡ []
+pub filter_nothing : {X : Type 0} (p : X → Bool) (xs : List X) → ((x : X) → Contains xs x → p x ≡ false)
+    → filter p xs ≡ []
 filter_nothing p [] h = refl
 filter_nothing p (x ∷ xs) h =
     ap (λ b. cond b (x ∷ filter p xs) (filter p xs)) (h x (Contains-head x xs)) ∙ filter_nothing p xs (λ y c. h y (Contains-cons x xs y c))
@@ -49,12 +53,14 @@ all_pass f [] x t c = absurd (none_contained x c)
 all_pass f (y ∷ xs) x t (zero, l, e) = ap f (sym e) ∙ (and_parts _ _ t).0
 all_pass f (y ∷ xs) x t (suc i, l, e) = all_pass f xs x (and_parts _ _ t).1 (i, omega (arith, l), e)
 
-pub list_all_when : {X : Type 0} (f : X → Bool) (xs : List X) → ((x : X) → Contains xs x → f x ≡ true) → list_all f xs ≡ true
+pub list_all_when : {X : Type 0} (f : X → Bool) (xs : List X) → ((x : X) → Contains xs x → f x ≡ true)
+    → list_all f xs ≡ true
 list_all_when f [] h = refl
 list_all_when f (x ∷ xs) h = and_from _ _ (h x (Contains-head x xs)) (list_all_when f xs (λ y c. h y (Contains-cons x xs y c)))
 
 -- the one that passes
-pub list_any_source : {X : Type 0} (f : X → Bool) (xs : List X) → list_any f xs ≡ true → (x : X) × Contains xs x × (f x ≡ true)
+pub list_any_source : {X : Type 0} (f : X → Bool) (xs : List X) → list_any f xs ≡ true
+    → (x : X) × Contains xs x × (f x ≡ true)
 list_any_source f [] t = absurd (cc (t))
 list_any_source f (x ∷ xs) t =
     elim (or_cases _ _ t) [
@@ -62,7 +68,8 @@ list_any_source f (x ∷ xs) t =
       | inr a ↦ let r = list_any_source f xs a in (r.0, Contains-cons x xs r.0 r.1, r.2)
     ]
 
-pub list_any_when : {X : Type 0} (f : X → Bool) (xs : List X) (x : X) → Contains xs x → f x ≡ true → list_any f xs ≡ true
+pub list_any_when : {X : Type 0} (f : X → Bool) (xs : List X) (x : X) → Contains xs x → f x ≡ true
+    → list_any f xs ≡ true
 list_any_when f [] x c t = absurd (none_contained x c)
 list_any_when f (y ∷ xs) x (zero, l, e) t = or_left _ _ (ap f e ∙ t)
 list_any_when f (y ∷ xs) x (suc i, l, e) t = or_right _ _ (list_any_when f xs x (i, omega (arith, l), e) t)
