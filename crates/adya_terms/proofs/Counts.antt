@@ -43,7 +43,8 @@ exactly_from_test test xs events source all t =
     elim (cases_lt 0 (count xs t)) [
       | inl more ↦
           let at = count_place xs t more in
-          eqb-true _ _ (all_pass (λ u. count xs u == cond (test u) 1 0) xs t parts.0 (Contains-slice_get xs at.0 t at.1))
+          eqb-true _ _ (all_pass (λ u. count xs u == cond (test u) 1 0) xs t parts.0
+          (Contains-slice_get xs at.0 t at.1))
       | inr none ↦
           elim (cases_Bool (test t)) [
             | inl c ↦

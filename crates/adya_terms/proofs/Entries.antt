@@ -45,7 +45,8 @@ content_itself Dead = refl
 pub entry_itself : (a : Entry) → entry_eq a a ≡ true
 entry_itself a =
     and_from _ _
-    (and_from _ _ (and_from _ _ (same_key a.version.key a.version.key refl) (eq-eqb a.version.txn a.version.txn refl)) (eq-eqb a.version.m a.version.m refl))
+    (and_from _ _ (and_from _ _ (same_key a.version.key a.version.key refl) (eq-eqb a.version.txn a.version.txn refl))
+    (eq-eqb a.version.m a.version.m refl))
     (content_itself a.content)
 
 pub same_entry : (a b : Entry) → a ≡ b → entry_eq a b ≡ true
@@ -80,7 +81,8 @@ pub record IsWriteOf (t : ℕ) (k : List ℕ) (es : List Event) (w : Entry) : Ty
 pub last_write_from : (t : ℕ) (k : List ℕ) (es : List Event) (w : Entry) → last_write t k es ≡ Some w
     → IsWriteOf t k es w
 last_write_from t k es w e =
-    let at = filter-source (λ x. x.version.txn == t && key_eq x.version.key k) (filter_map written es) w (last_contained (writes_of t k es) w e) in
+    let at = filter-source (λ x. x.version.txn == t && key_eq x.version.key k) (filter_map written es) w
+    (last_contained (writes_of t k es) w e) in
     let both = and_parts _ _ at.1 in
     record { there = at.0; txn_is = eqb-true _ _ both.0; key_is = key_same _ _ both.1 }
 
@@ -89,7 +91,8 @@ pub last_write_there : (es : List Event) (w : Entry) → Contains (filter_map wr
     → last_write w.version.txn w.version.key es ≡ None → ⊥
 last_write_there es w c e =
     last_there (writes_of w.version.txn w.version.key es) w
-    (Contains-filter (λ x. x.version.txn == w.version.txn && key_eq x.version.key w.version.key) (filter_map written es) w c
+    (Contains-filter (λ x. x.version.txn == w.version.txn && key_eq x.version.key w.version.key)
+    (filter_map written es) w c
     (and_from _ _ (eq-eqb w.version.txn w.version.txn refl) (same_key w.version.key w.version.key refl)))
     e
 
@@ -104,10 +107,12 @@ written_txn (Abort t) o e = absurd (none-some o e)
 
 pub writer_from : (e : Event) (es : List Event) (o : Entry) (r : Option Entry) → written e ≡ r
     → ((c : Contains (filter_map written es) o) → (w : Event) × Contains es w × (txn_of w ≡ o.version.txn))
-    → Contains (cons_option r (filter_map written es)) o → (w : Event) × Contains (e ∷ es) w × (txn_of w ≡ o.version.txn)
+    → Contains (cons_option r (filter_map written es)) o
+    → (w : Event) × Contains (e ∷ es) w × (txn_of w ≡ o.version.txn)
 writer_from e es o None made rest c = let r = rest c in (r.0, Contains-cons e es r.0 r.1, r.2)
 writer_from e es o (Some x) made rest (zero, l, f) = (e, Contains-head e es, written_txn e o (made ∙ ap Some f))
-writer_from e es o (Some x) made rest (suc i, l, f) = let r = rest (i, omega (arith, l), f) in (r.0, Contains-cons e es r.0 r.1, r.2)
+writer_from e es o (Some x) made rest (suc i, l, f) =
+    let r = rest (i, omega (arith, l), f) in (r.0, Contains-cons e es r.0 r.1, r.2)
 
 pub writer_of : (es : List Event) (o : Entry) → Contains (filter_map written es) o
     → (w : Event) × Contains es w × (txn_of w ≡ o.version.txn)

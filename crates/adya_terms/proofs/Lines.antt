@@ -14,7 +14,8 @@ use Rattle.adya_terms.proofs.Entries.{key_same, same_key, other_key}
 
 -- a key has an order line, or none
 pub line_cases : (os : List Order) (k : List ℕ)
-    → ((o : Order) × Contains os o × (o.key ≡ k) × (line_of os k ≡ o.writers)) ⊎ ((line_of os k ≡ []) × (list_any (λ o. key_eq o.key k) os ≡ false))
+    → ((o : Order) × Contains os o × (o.key ≡ k) × (line_of os k ≡ o.writers)) ⊎
+    ((line_of os k ≡ []) × (list_any (λ o. key_eq o.key k) os ≡ false))
 line_cases [] k = inr (refl, refl)
 line_cases (o ∷ os) k =
     elim (cases_Bool (key_eq o.key k)) [
@@ -22,7 +23,11 @@ line_cases (o ∷ os) k =
       | inr f ↦
           elim (line_cases os k) [
             | inl r ↦ inl (r.0, Contains-cons o os r.0 r.1, r.2, ap (λ b. cond b o.writers (line_of os k)) f ∙ r.3)
-            | inr r ↦ inr (ap (λ b. cond b o.writers (line_of os k)) f ∙ r.0, ap (λ b. b || list_any (λ x. key_eq x.key k) os) f ∙ r.1)
+            | inr r ↦
+                inr (
+                  ap (λ b. cond b o.writers (line_of os k)) f ∙ r.0,
+                  ap (λ b. b || list_any (λ x. key_eq x.key k) os) f ∙ r.1,
+                )
           ]
     ]
 
@@ -34,7 +39,8 @@ final_cases (f ∷ fs) k =
       | inl t ↦ inl (f, Contains-head f fs, key_same _ _ t, ap (λ b. cond b (Some f.value) (final_value fs k)) t)
       | inr t ↦
           elim (final_cases fs k) [
-            | inl r ↦ inl (r.0, Contains-cons f fs r.0 r.1, r.2, ap (λ b. cond b (Some f.value) (final_value fs k)) t ∙ r.3)
+            | inl r ↦
+                inl (r.0, Contains-cons f fs r.0 r.1, r.2, ap (λ b. cond b (Some f.value) (final_value fs k)) t ∙ r.3)
             | inr r ↦ inr (ap (λ b. cond b (Some f.value) (final_value fs k)) t ∙ r)
           ]
     ]
@@ -48,7 +54,8 @@ pub key_lt-trans : (a b c : List ℕ) → key_lt a b ≡ true → key_lt b c ≡
 key_lt-trans a b c e f = ap is_lt (nat_list_cmp_total.trans a b c (is_lt-Less _ e) (is_lt-Less _ f))
 
 pub key_lt-apart : (a b : List ℕ) → key_lt a b ≡ true → a ≡ b → ⊥
-key_lt-apart a b e s = both_ways (key_lt a a) (ap is_lt (tied_itself nat_list_cmp_total a)) (subst (λ k. key_lt a k ≡ true) (sym s) e)
+key_lt-apart a b e s =
+    both_ways (key_lt a a) (ap is_lt (tied_itself nat_list_cmp_total a)) (subst (λ k. key_lt a k ≡ true) (sym s) e)
 
 pub rises_below : {X : Type 0} (key : X → List ℕ) (x : X) (xs : List X) (y : X) → keys_rise (key x ∷ map key xs) ≡ true
     → Contains xs y → key_lt (key x) (key y) ≡ true
@@ -69,15 +76,18 @@ line_found (x ∷ os) o r (zero, l, e) =
     ap (λ b. cond b x.writers (line_of os o.key)) (same_key x.key o.key (ap (λ y. y.key) e)) ∙ ap (λ y. y.writers) e
 line_found (x ∷ os) o r (suc i, l, e) =
     let c : Contains os o = (i, omega (arith, l), e) in
-    ap (λ b. cond b x.writers (line_of os o.key)) (other_key x.key o.key (key_lt-apart _ _ (rises_below (λ (y : Order). y.key) x os o r c))) ∙
+    ap (λ b. cond b x.writers (line_of os o.key))
+    (other_key x.key o.key (key_lt-apart _ _ (rises_below (λ (y : Order). y.key) x os o r c))) ∙
     line_found os o (keys_rise-tail x.key (map (λ y. y.key) os) r) c
 
 pub final_found : (fs : List FinalPair) (f : FinalPair) → keys_rise (map (λ x. x.key) fs) ≡ true → Contains fs f
     → final_value fs f.key ≡ Some f.value
 final_found [] f r c = absurd (none_contained f c)
 final_found (x ∷ fs) f r (zero, l, e) =
-    ap (λ b. cond b (Some x.value) (final_value fs f.key)) (same_key x.key f.key (ap (λ y. y.key) e)) ∙ ap (λ y. Some y.value) e
+    ap (λ b. cond b (Some x.value) (final_value fs f.key)) (same_key x.key f.key (ap (λ y. y.key) e)) ∙
+    ap (λ y. Some y.value) e
 final_found (x ∷ fs) f r (suc i, l, e) =
     let c : Contains fs f = (i, omega (arith, l), e) in
-    ap (λ b. cond b (Some x.value) (final_value fs f.key)) (other_key x.key f.key (key_lt-apart _ _ (rises_below (λ (y : FinalPair). y.key) x fs f r c))) ∙
+    ap (λ b. cond b (Some x.value) (final_value fs f.key))
+    (other_key x.key f.key (key_lt-apart _ _ (rises_below (λ (y : FinalPair). y.key) x fs f r c))) ∙
     final_found fs f (keys_rise-tail x.key (map (λ y. y.key) fs) r) c

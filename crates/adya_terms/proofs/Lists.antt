@@ -23,12 +23,16 @@ Contains-filter p (z ∷ xs) x (zero, l, e) d =
     subst (λ b. Contains (cond b (z ∷ filter p xs) (filter p xs)) x) (sym (ap p e ∙ d)) (0, omega arith, e)
 Contains-filter p (z ∷ xs) x (suc i, l, e) d =
     let rest = Contains-filter p xs x (i, omega (arith, l), e) d in
-    elim (p z) as (λ b. Contains (cond b (z ∷ filter p xs) (filter p xs)) x) [ true ↦ Contains-cons z (filter p xs) x rest | false ↦ rest ]
+    elim (p z) as (λ b. Contains (cond b (z ∷ filter p xs) (filter p xs)) x) [
+      | true ↦ Contains-cons z (filter p xs) x rest
+      | false ↦ rest
+    ]
 
 pub filter-source_kept : {X : Type 0} (p : X → Bool) (z : X) (xs ys : List X) (x : X) → p z ≡ true → Contains (z ∷ ys) x
     → (Contains ys x → Contains xs x × (p x ≡ true)) → Contains (z ∷ xs) x × (p x ≡ true)
 filter-source_kept p z xs ys x t (zero, l, e) rest = ((0, omega arith, e), ap p (sym e) ∙ t)
-filter-source_kept p z xs ys x t (suc i, l, e) rest = let r = rest (i, omega (arith, l), e) in (Contains-cons z xs x r.0, r.1)
+filter-source_kept p z xs ys x t (suc i, l, e) rest =
+    let r = rest (i, omega (arith, l), e) in (Contains-cons z xs x r.0, r.1)
 
 -- what a filter keeps is in the list and passes
 pub filter-source : {X : Type 0} (p : X → Bool) (xs : List X) (x : X) → Contains (filter p xs) x
@@ -36,7 +40,9 @@ pub filter-source : {X : Type 0} (p : X → Bool) (xs : List X) (x : X) → Cont
 filter-source p [] x c = absurd (none_contained x c)
 filter-source p (z ∷ xs) x c =
     elim (cases_Bool (p z)) [
-      | inl t ↦ filter-source_kept p z xs (filter p xs) x t (subst (λ b. Contains (cond b (z ∷ filter p xs) (filter p xs)) x) t c) (filter-source p xs x)
+      | inl t ↦
+          filter-source_kept p z xs (filter p xs) x t
+          (subst (λ b. Contains (cond b (z ∷ filter p xs) (filter p xs)) x) t c) (filter-source p xs x)
       | inr f ↦
           let rest = filter-source p xs x (subst (λ b. Contains (cond b (z ∷ filter p xs) (filter p xs)) x) f c) in
           (Contains-cons z xs x rest.0, rest.1)
@@ -46,7 +52,8 @@ pub filter_nothing : {X : Type 0} (p : X → Bool) (xs : List X) → ((x : X) �
     → filter p xs ≡ []
 filter_nothing p [] h = refl
 filter_nothing p (x ∷ xs) h =
-    ap (λ b. cond b (x ∷ filter p xs) (filter p xs)) (h x (Contains-head x xs)) ∙ filter_nothing p xs (λ y c. h y (Contains-cons x xs y c))
+    ap (λ b. cond b (x ∷ filter p xs) (filter p xs)) (h x (Contains-head x xs)) ∙
+    filter_nothing p xs (λ y c. h y (Contains-cons x xs y c))
 
 pub all_pass : {X : Type 0} (f : X → Bool) (xs : List X) (x : X) → list_all f xs ≡ true → Contains xs x → f x ≡ true
 all_pass f [] x t c = absurd (none_contained x c)
@@ -56,7 +63,8 @@ all_pass f (y ∷ xs) x t (suc i, l, e) = all_pass f xs x (and_parts _ _ t).1 (i
 pub list_all_when : {X : Type 0} (f : X → Bool) (xs : List X) → ((x : X) → Contains xs x → f x ≡ true)
     → list_all f xs ≡ true
 list_all_when f [] h = refl
-list_all_when f (x ∷ xs) h = and_from _ _ (h x (Contains-head x xs)) (list_all_when f xs (λ y c. h y (Contains-cons x xs y c)))
+list_all_when f (x ∷ xs) h =
+    and_from _ _ (h x (Contains-head x xs)) (list_all_when f xs (λ y c. h y (Contains-cons x xs y c)))
 
 -- the one that passes
 pub list_any_source : {X : Type 0} (f : X → Bool) (xs : List X) → list_any f xs ≡ true
