@@ -17,3 +17,6 @@ pub mod Clean
 pub mod Seen
 pub mod Whole
 pub mod Rows
+pub mod Firsts
+pub mod Rules
+pub mod Ranks
