@@ -20,3 +20,4 @@ pub mod Rows
 pub mod Firsts
 pub mod Rules
 pub mod Ranks
+pub mod Broken
