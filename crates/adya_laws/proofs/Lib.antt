@@ -21,3 +21,4 @@ pub mod Firsts
 pub mod Rules
 pub mod Ranks
 pub mod Broken
+pub mod Malformed
