@@ -157,3 +157,11 @@ front_found p [] x back t fail = ap (λ b. cond b (Some x) (find p back)) t
 front_found p (y ∷ front) x back t fail =
     ap (λ b. cond b (Some y) (find p (front ++ x ∷ back))) (fail y (Contains-head y front)) ∙
     front_found p front x back t (λ z c. fail z (Contains-cons y front z c))
+
+pub first_there : {X : Type 0} (xs : List X) (x : X) → Contains xs x → (y : X) × (first xs ≡ Some y)
+first_there [] x c = absurd (none_contained x c)
+first_there (y ∷ xs) x c = (y, refl)
+
+pub first_left : {X : Type 0} (xs ys : List X) (x : X) → first xs ≡ Some x → first (xs ++ ys) ≡ Some x
+first_left [] ys x e = absurd (none-some x e)
+first_left (y ∷ xs) ys x e = e

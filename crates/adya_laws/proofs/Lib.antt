@@ -22,3 +22,4 @@ pub mod Rules
 pub mod Ranks
 pub mod Broken
 pub mod Malformed
+pub mod FirstReads

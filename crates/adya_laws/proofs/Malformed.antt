@@ -13,9 +13,9 @@ use Rattle.adya_terms.specs.Events.{written, has_ended}
 use Rattle.adya_terms.specs.Rules.{installs}
 use Rattle.adya_terms.specs.Faults.{is_open, is_next, was_written, sees_own, is_rising, fault_unless, event_faults, unfinished_faults, all_end, lists_exactly, order_faults, has_lines, last_value, is_value, final_faults, has_finals, unfinished_line, orders_line, finals_line, tail_line, malformed, first}
 use Rattle.adya_laws.specs.FirstFaults.{Stands, BreaksRule, number, IsNoLater, IsFirstMalformed}
-use Rattle.adya_laws.proofs.Firsts.{first_contained}
+use Rattle.adya_laws.proofs.Firsts.{first_contained, first_there}
 use Rattle.adya_laws.proofs.Rules.{numbered_from, next_from, written_from, was_written_from, own_from, sees_own_from, rising_from, is_rising_from, value_from, is_value_from}
-use Rattle.adya_laws.proofs.Ranks.{rank, number_low, number_high, no_later_from_rank, rank_from_no_later, malformed_in_order}
+use Rattle.adya_laws.proofs.Ranks.{rank, number_low, number_high, no_later_from_rank, rank_from_no_later, malformed_in_order, same_from_ranks, malformed_from_rank}
 use Rattle.adya_laws.proofs.Broken.{unless_there, unless_from, line_there, line_from, Fails, event_there, event_from, leaves_open_from, all_end_fails, lists_writers_from, lists_writers_when, lacks_order_from, has_lines_fails, lacks_final_from, has_finals_fails}
 
 module _ (h : History) where
@@ -184,3 +184,18 @@ module _ (h : History) where
     least = λ l r b. no_later_from_rank line rule l r
         ((malformed_in_order h).least (Malformed line rule) (Malformed l r) e (broken_there l r b));
   }
+
+  pub malformed_first : (line : ℕ) (rule : Rule) → IsFirstMalformed h line rule
+      → first (malformed h) ≡ Some (Malformed line rule)
+  malformed_first line rule f =
+      let order = malformed_in_order h in
+      let there = broken_there line rule f.breaks in
+      let x = first_there (malformed h) (Malformed line rule) there in
+      let c = first_contained (malformed h) x.0 x.1 in
+      let low = order.from_low x.0 c in
+      let m = malformed_from_rank x.0 (omega (arith, low)) in
+      let breaks = broken_from m.0 m.1 (subst (Contains (malformed h)) m.2 c) in
+      let above = subst (λ y. rank y ≤ rank (Malformed line rule)) m.2
+      (order.least x.0 (Malformed line rule) x.1 there) in
+      x.1 ∙ ap Some (m.2 ∙ same_from_ranks m.0 m.1 line rule above
+      (rank_from_no_later line rule m.0 m.1 (f.least m.0 m.1 breaks)))

@@ -1,5 +1,5 @@
 -- The faults of the rules stand by line and rule, so the first of them is the least.
-use Rattle.std.proofs.Common.{◌≡◌, ℕ, suc, ◌+◌, ◌*◌, ◌<◌, ◌≤◌, Bool, true, false, not, append_assoc, List, [], ◌∷◌, ◌++◌, length, Some, refl, sym, ◌∙◌, ap, subst, arith, inl, inr}
+use Rattle.std.proofs.Common.{◌≡◌, ℕ, suc, ◌+◌, ◌*◌, ◌<◌, ◌≤◌, ◌==◌, Bool, true, false, if◌then◌else◌, not, append_assoc, List, [], ◌∷◌, ◌++◌, length, Some, refl, sym, ◌∙◌, ap, subst, arith, inl, inr}
 use Rattle.std.specs.List.{Contains}
 use Rattle.std.proofs.lemmas.Bool.{cases_lt}
 use Rattle.std.proofs.lemmas.Option.{same_Some, none-some}
@@ -219,3 +219,41 @@ module _ (h : History) where
       subst (InOrder 18 (9 * tail_line h + 9))
       (ap (λ xs. f1 ++ xs) (append_assoc f2 f3 ((f4 ++ f5) ++ (f6 ++ f7)) ∙
       ap (λ xs. f2 ++ (f3 ++ xs)) (append_assoc f4 f5 (f6 ++ f7)))) all
+
+-- the rule of the number
+abbrev pub rule_of : ℕ → Rule
+rule_of n =
+    if n == 1 then M1 else if n == 2 then M2 else if n == 3 then M3 else if n == 4 then M4 else if n == 5 then M5 else if n == 6 then M6 else if n == 7 then M7 else M8
+
+pub rule_of-number : (r : Rule) → rule_of (number r) ≡ r
+rule_of-number M1 = refl
+rule_of-number M2 = refl
+rule_of-number M3 = refl
+rule_of-number M4 = refl
+rule_of-number M5 = refl
+rule_of-number M6 = refl
+rule_of-number M7 = refl
+rule_of-number M8 = refl
+
+pub same_number : (r s : Rule) → number r ≡ number s → r ≡ s
+same_number r s e = sym (rule_of-number r) ∙ (ap rule_of e ∙ rule_of-number s)
+
+-- of equal ranks the line and the rule are the same
+pub same_from_ranks : (line : ℕ) (rule : Rule) (l : ℕ) (r : Rule)
+    → rank (Malformed line rule) ≤ rank (Malformed l r) → rank (Malformed l r) ≤ rank (Malformed line rule)
+    → Malformed line rule ≡ Malformed l r
+same_from_ranks line rule l r a b =
+    let one = number_low rule in
+    let two = number_high rule in
+    let three = number_low r in
+    let four = number_high r in
+    let lines : line ≡ l = omega (arith, one, two, three, four, a, b) in
+    let numbers : number rule ≡ number r = omega (arith, lines, a, b) in
+    ap (λ n. Malformed n rule) lines ∙ ap (Malformed l) (same_number rule r numbers)
+
+-- a fault with a rank is one of the rules
+pub malformed_from_rank : (f : CheckFault) → 1 ≤ rank f → (line : ℕ) × (rule : Rule) × (f ≡ Malformed line rule)
+malformed_from_rank (Malformed line rule) l = (line, rule, refl)
+malformed_from_rank (AbortedRead line v) l = absurd (omega (arith, l))
+malformed_from_rank (IntermediateRead line v) l = absurd (omega (arith, l))
+malformed_from_rank Memory l = absurd (omega (arith, l))
