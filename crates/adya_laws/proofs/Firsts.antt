@@ -165,3 +165,11 @@ first_there (y ∷ xs) x c = (y, refl)
 pub first_left : {X : Type 0} (xs ys : List X) (x : X) → first xs ≡ Some x → first (xs ++ ys) ≡ Some x
 first_left [] ys x e = absurd (none-some x e)
 first_left (y ∷ xs) ys x e = e
+
+pub nil_left : {X : Type 0} (xs ys : List X) → xs ++ ys ≡ [] → xs ≡ []
+nil_left [] ys e = refl
+nil_left (x ∷ xs) ys e = absurd (cc (e))
+
+pub nil_right : {X : Type 0} (xs ys : List X) → xs ++ ys ≡ [] → ys ≡ []
+nil_right [] ys e = e
+nil_right (x ∷ xs) ys e = absurd (cc (e))
