@@ -14,12 +14,14 @@ use Rattle.adya_terms.specs.Histories.{Event, Order, FinalPair, History}
 use Rattle.adya_terms.specs.Events.{txn_of, written, last_write, is_committed, has_ended, is_unfinished}
 use Rattle.adya_terms.specs.Orders.{value_by, writers, installer}
 use Rattle.adya_terms.specs.Rules.{installs, final_value}
+use Rattle.adya_terms.specs.Serial.{pair}
 use Rattle.adya_terms.specs.Faults.{is_open, is_next, was_written, sees_own, is_rising, fault_unless, faults_at, event_faults, unfinished_faults, all_end, lists_exactly, order_faults, has_lines, last_value, is_value, final_faults, has_finals, unfinished_line, orders_line, finals_line, tail_line, malformed}
 use Rattle.adya_laws.specs.FirstFaults.{Stands, LeavesOpen, ListsWriters, LacksOrder, LacksFinal, BreaksRule}
 use Rattle.adya_laws.proofs.Keys.{key_eq-same, key_eq-from}
 use Rattle.adya_laws.proofs.Members.{none_contained, Contains-head, Contains-cons, Contains-cases, list_any-source, list_any_when}
 use Rattle.adya_laws.proofs.Places.{order_there}
 use Rattle.adya_laws.proofs.Found.{last_write_there, writer_of}
+use Rattle.adya_laws.proofs.Pairs.{final_pair}
 use Rattle.adya_laws.proofs.Judging.{exactly_from_test, test_from_exactly}
 use Rattle.adya_laws.proofs.Firsts.{stands_head, stands_cons, stands_nowhere, stands_cases}
 use Rattle.adya_laws.proofs.Rules.{last_write_from, numbered_from, next_from, written_from, was_written_from, own_from, sees_own_from, rising_from, is_rising_from, value_from, is_value_from, some_of, some_from, list_all_fails, list_all_fails_at}
@@ -199,17 +201,6 @@ final_there (g ∷ fs) k f c e =
           ])
     ]
 
-pub final_source : (fs : List FinalPair) (k v : List ℕ) → final_value fs k ≡ Some v
-    → (f : FinalPair) × Contains fs f × (f.key ≡ k)
-final_source [] k v e = absurd (none-some v e)
-final_source (f ∷ fs) k v e =
-    elim (cases_Bool (key_eq f.key k)) [
-      | inl t ↦ (f, Contains-head f fs, key_eq-same _ _ t)
-      | inr n ↦
-          let r = final_source fs k v (subst (λ b. cond b (Some f.value) (final_value fs k) ≡ Some v) n e) in
-          (r.0, Contains-cons f fs r.0 r.1, r.2)
-    ]
-
 pub value_installer : (h : History) (k : List ℕ) (i : Option ℕ) (v : List ℕ) → value_by h k i ≡ Some v
     → (u : ℕ) × (i ≡ Some u)
 value_installer h k None v e = absurd (none-some v e)
@@ -287,5 +278,4 @@ module _ (h : History) where
       (or_from _ _ (ap is_none (ap (last_value h) o.2 ∙ l.2))
       (false_from_ne_true _ (λ t.
       let v = some_of (final_value h.finals o.0.key) t in
-      let r = final_source h.finals o.0.key v.0 v.1 in
-      l.3 r.0 r.1 (r.2 ∙ o.2))))
+      l.3 (pair o.0.key v.0) (final_pair h.finals o.0.key v.0 v.1) o.2)))

@@ -23,3 +23,5 @@ pub mod Ranks
 pub mod Broken
 pub mod Malformed
 pub mod FirstReads
+pub mod Unbroken
+pub mod Naming
