@@ -8,7 +8,7 @@ use Rattle.adya_terms.specs.declared.fault.CheckFault.{CheckFault}
 use Rattle.adya_terms.specs.Histories.{Entry, Event}
 use Rattle.adya_terms.specs.Events.{txn_of, observed, is_committed}
 use Rattle.adya_terms.specs.Faults.{bad_reads, first}
-use Rattle.adya_laws.specs.FirstFaults.{Stands, IsNoLater}
+use Rattle.adya_laws.specs.FirstFaults.{Stands, IsNoLater, IsFirstRead}
 use Rattle.adya_laws.proofs.Members.{none_contained, Contains-slice_get, Contains-filter}
 use Rattle.adya_laws.proofs.Firsts.{stands_head, stands_cons, stands_nowhere, stands_cases, first_append, first_map, map_none, FirstPass, first_filter, nil_left, nil_right}
 
@@ -105,3 +105,21 @@ module _ (good : Event → Entry → Bool) (events : List Event) where
         let later = bad_reads good fault events (suc start) es in
         none_bad (suc start) es (nil_right here later none) l p x w
         (bad_later e es start l p x w (map_none at_line (filter (is_bad e) (observed e)) (nil_left here later none)) b)
+
+-- of two places that are each no later than the other, both are the same
+pub no_later_same : (a b c d : ℕ) → IsNoLater a b c d → IsNoLater c d a b → (a ≡ c) × (b ≡ d)
+no_later_same a b c d (inl l) (inl m) = absurd (omega (arith, l, m))
+no_later_same a b c d (inl l) (inr m) = let e = m.0 in absurd (omega (arith, l, e))
+no_later_same a b c d (inr l) (inl m) = let e = l.0 in absurd (omega (arith, m, e))
+no_later_same a b c d (inr l) (inr m) = let x = l.1 in let y = m.1 in (l.0, omega (arith, x, y))
+
+-- there is one first read, where at one place one version is read
+pub first_read_same : (Reads : ℕ → ℕ → Version → Type 0) (l m : ℕ) (v w : Version)
+    → ((line place : ℕ) (a b : Version) → Reads line place a → Reads line place b → a ≡ b)
+    → IsFirstRead Reads l v → IsFirstRead Reads m w → (l ≡ m) × (v ≡ w)
+first_read_same Reads l m v w one f g =
+    let same = no_later_same l f.place m g.place (f.least m g.place w g.reads) (g.least l f.place v f.reads) in (
+      same.0,
+      one m g.place v w
+          (subst (λ n. Reads n g.place v) same.0 (subst (λ p. Reads l p v) same.1 f.reads)) g.reads,
+    )

@@ -173,3 +173,25 @@ nil_left (x ∷ xs) ys e = absurd (cc (e))
 pub nil_right : {X : Type 0} (xs ys : List X) → xs ++ ys ≡ [] → ys ≡ []
 nil_right [] ys e = e
 nil_right (x ∷ xs) ys e = absurd (cc (e))
+
+pub nil_or_first : {X : Type 0} (xs : List X) → (xs ≡ []) ⊎ ((x : X) × (first xs ≡ Some x))
+nil_or_first [] = inl refl
+nil_or_first (x ∷ xs) = inr (x, refl)
+
+-- on one line stands one element
+pub stands_same : {X : Type 0} (xs : List X) (start line : ℕ) (before other : List X) (x y : X)
+    → Stands xs start line before x → Stands xs start line other y → x ≡ y
+stands_same [] start line before other x y s t = absurd (stands_nowhere start line before x s)
+stands_same (z ∷ xs) start line before other x y s t =
+    elim (stands_cases z xs start line before x s) [
+      | inl a ↦
+          (elim (stands_cases z xs start line other y t) [
+            | inl b ↦ sym a.1 ∙ b.1
+            | inr b ↦ let c = b.2.counts in let d = a.2 in absurd (omega (arith, c, d))
+          ])
+      | inr a ↦
+          (elim (stands_cases z xs start line other y t) [
+            | inl b ↦ let c = a.2.counts in let d = b.2 in absurd (omega (arith, c, d))
+            | inr b ↦ stands_same xs (suc start) line a.0 b.0 x y a.2 b.2
+          ])
+    ]

@@ -25,3 +25,4 @@ pub mod Malformed
 pub mod FirstReads
 pub mod Unbroken
 pub mod Naming
+pub mod Backward
