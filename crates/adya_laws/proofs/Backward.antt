@@ -1,6 +1,6 @@
 -- The edge that is named is the first that doesn't go forward.
-use Rattle.std.proofs.Common.{◌≡◌, ℕ, not, List, ◌∷◌, ◌++◌, Some, ◌∙◌, ap}
-use Rattle.std.specs.List.{find, Contains}
+use Rattle.std.proofs.Common.{◌≡◌, ℕ, not, List, Some, ◌∙◌, ap}
+use Rattle.std.specs.List.{find}
 use Rattle.std.proofs.lemmas.Bool.{both_ways, ltb-true, lt-ltb, not-true, not-false, not_from_true, not_from_false, false_from_ne_true}
 use Rattle.adya_terms.specs.Histories.{History}
 use Rattle.adya_terms.specs.Edges.{Edge}

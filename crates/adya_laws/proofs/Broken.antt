@@ -1,8 +1,8 @@
 -- The list of faults of the rules holds exactly the rules that are broken, each at its line.
-use Rattle.std.proofs.Common.{◌≡◌, ℕ, zero, suc, ◌+◌, ◌==◌, ◌⊎◌, Bool, true, false, cond, not, ◌&&◌, ◌||◌, append_assoc, List, [], ◌∷◌, ◌++◌, length, Option, Some, None, is_some, is_none, refl, sym, ◌∙◌, ap, subst, arith, inl, inr}
-use Rattle.std.specs.List.{filter_map, list_all, list_any, Contains}
-use Rattle.std.proofs.lemmas.Bool.{cases_Bool, and_from, and_parts, both_ways, not-true, not-false, not_from_true, not_from_false, or_parts, or_from, or_left, or_right, false_from_ne_true}
-use Rattle.std.proofs.lemmas.Option.{same_Some, none-some}
+use Rattle.std.proofs.Common.{◌≡◌, ℕ, zero, suc, Bool, true, false, cond, not, ◌||◌, append_assoc, List, [], ◌∷◌, ◌++◌, length, Option, Some, None, is_some, is_none, refl, sym, ◌∙◌, ap, subst, arith, inl, inr}
+use Rattle.std.specs.List.{filter_map, list_any, Contains}
+use Rattle.std.proofs.lemmas.Bool.{cases_Bool, and_from, and_parts, both_ways, not-false, not_from_true, or_parts, or_from, false_from_ne_true}
+use Rattle.std.proofs.lemmas.Option.{none-some}
 use Rattle.std.proofs.lemmas.List.{append-nil}
 use Rattle.std.proofs.lemmas.List.Elements.{Contains-append_left, Contains-append_right, Contains-append_cases}
 use Rattle.adya_terms.specs.declared.fault.Rule.{Rule}
@@ -15,16 +15,16 @@ use Rattle.adya_terms.specs.Events.{txn_of, written, last_write, is_committed, h
 use Rattle.adya_terms.specs.Orders.{value_by, writers, installer}
 use Rattle.adya_terms.specs.Rules.{installs, final_value}
 use Rattle.adya_terms.specs.Serial.{pair}
-use Rattle.adya_terms.specs.Faults.{is_open, is_next, was_written, sees_own, is_rising, fault_unless, faults_at, event_faults, unfinished_faults, all_end, lists_exactly, order_faults, has_lines, last_value, is_value, final_faults, has_finals, unfinished_line, orders_line, finals_line, tail_line, malformed}
-use Rattle.adya_laws.specs.FirstFaults.{Stands, LeavesOpen, ListsWriters, LacksOrder, LacksFinal, BreaksRule}
+use Rattle.adya_terms.specs.Faults.{is_open, is_next, was_written, sees_own, is_rising, fault_unless, faults_at, event_faults, all_end, lists_exactly, has_lines, last_value, has_finals}
+use Rattle.adya_laws.specs.FirstFaults.{Stands, LeavesOpen, ListsWriters, LacksOrder, LacksFinal}
 use Rattle.adya_laws.proofs.Keys.{key_eq-same, key_eq-from}
-use Rattle.adya_laws.proofs.Members.{none_contained, Contains-head, Contains-cons, Contains-cases, list_any-source, list_any_when}
+use Rattle.adya_laws.proofs.Members.{none_contained, Contains-head, Contains-cases, list_any-source, list_any_when}
 use Rattle.adya_laws.proofs.Places.{order_there}
 use Rattle.adya_laws.proofs.Found.{last_write_there, writer_of}
 use Rattle.adya_laws.proofs.Pairs.{final_pair}
 use Rattle.adya_laws.proofs.Judging.{exactly_from_test, test_from_exactly}
 use Rattle.adya_laws.proofs.Firsts.{stands_head, stands_cons, stands_nowhere, stands_cases}
-use Rattle.adya_laws.proofs.Rules.{last_write_from, numbered_from, next_from, written_from, was_written_from, own_from, sees_own_from, rising_from, is_rising_from, value_from, is_value_from, some_of, some_from, list_all_fails, list_all_fails_at}
+use Rattle.adya_laws.proofs.Rules.{last_write_from, some_of, some_from, list_all_fails, list_all_fails_at}
 
 pub same_line : (a : ℕ) (r : Rule) (b : ℕ) (s : Rule) → Malformed a r ≡ Malformed b s → a ≡ b
 same_line a r b s e = cc (e)
@@ -179,13 +179,19 @@ event_from front start [] line r c = absurd (none_contained (Malformed line r) c
 event_from front start (x ∷ es) line r c =
     elim (Contains-append_cases (faults_at front start x) (event_faults (front ++ x ∷ []) (suc start) es) (Malformed line r) c) [
       | inl d ↦
-          let u = fault_from front start x line r d in
-          ([], x, subst (λ l. Stands (x ∷ es) start l [] x) u.0 (stands_head x es start),
-              subst (λ b. Fails b x r) (sym (append-nil front)) u.1)
+          let u = fault_from front start x line r d in (
+            [],
+            x,
+            subst (λ l. Stands (x ∷ es) start l [] x) u.0 (stands_head x es start),
+            subst (λ b. Fails b x r) (sym (append-nil front)) u.1,
+          )
       | inr d ↦
-          let u = event_from (front ++ x ∷ []) (suc start) es line r d in
-          (x ∷ u.0, u.1, stands_cons x es start line u.0 u.1 u.2,
-              subst (λ b. Fails b u.1 r) (append_assoc front (x ∷ []) u.0) u.3)
+          let u = event_from (front ++ x ∷ []) (suc start) es line r d in (
+            x ∷ u.0,
+            u.1,
+            stands_cons x es start line u.0 u.1 u.2,
+            subst (λ b. Fails b u.1 r) (append_assoc front (x ∷ []) u.0) u.3,
+          )
     ]
 
 pub final_there : (fs : List FinalPair) (k : List ℕ) (f : FinalPair) → Contains fs f → f.key ≡ k

@@ -1,7 +1,6 @@
 -- The first of the reads that fail a test is on the first line with one, and the first of its list.
-use Rattle.std.proofs.Common.{◌≡◌, ℕ, suc, ◌≤◌, ◌<◌, Bool, true, false, not, ◌&&◌, List, [], ◌∷◌, ◌++◌, map, length, slice_get, Some, None, refl, sym, ◌∙◌, ap, subst, arith, inl, inr}
+use Rattle.std.proofs.Common.{◌≡◌, ℕ, suc, Bool, true, not, ◌&&◌, List, [], ◌∷◌, map, slice_get, Some, sym, subst, arith, inl, inr}
 use Rattle.std.specs.List.{filter, Contains}
-use Rattle.std.proofs.lemmas.Bool.{both_ways}
 use Rattle.std.proofs.lemmas.Option.{none-some}
 use Rattle.adya_terms.specs.declared.event.Version.{Version}
 use Rattle.adya_terms.specs.declared.fault.CheckFault.{CheckFault}
@@ -36,8 +35,11 @@ module _ (good : Event → Entry → Bool) (events : List Event) where
   bad_here es start e x o l p before pass s w sees bad =
       elim (stands_cases e es start l before x s) [
         | inl at ↦
-            inr (sym at.2, pass.least p w (subst (λ y. slice_get (observed y) p ≡ Some w) (sym at.1) sees)
-            (subst (λ y. is_bad y w ≡ true) (sym at.1) bad))
+            inr (
+              sym at.2,
+              pass.least p w (subst (λ y. slice_get (observed y) p ≡ Some w) (sym at.1) sees)
+                  (subst (λ y. is_bad y w ≡ true) (sym at.1) bad),
+            )
         | inr at ↦ let c = at.2.counts in inl (omega (arith, c))
       ]
 
@@ -90,9 +92,14 @@ module _ (good : Event → Entry → Bool) (events : List Event) where
               let m = first_map at_line (filter (is_bad e) (observed e)) c here in
               (start, e, m.0, m.2, first_bad_here e es start m.0 (first_filter (is_bad e) (observed e) m.0 m.1))
           | inr later ↦
-              let r = first_bad (suc start) es c later.1 in
-              (r.0, r.1, r.2, r.3, first_bad_later e es start r.0 r.1 r.2
-                  (map_none at_line (filter (is_bad e) (observed e)) later.0) r.4)
+              let r = first_bad (suc start) es c later.1 in (
+                r.0,
+                r.1,
+                r.2,
+                r.3,
+                first_bad_later e es start r.0 r.1 r.2
+                    (map_none at_line (filter (is_bad e) (observed e)) later.0) r.4,
+              )
         ]
 
     -- where no bad read is listed there is none

@@ -1,5 +1,5 @@
 -- Where an element stands in a list, and what the first of a list is.
-use Rattle.std.proofs.Common.{◌≡◌, ℕ, zero, suc, ◌+◌, ◌≤◌, ◌⊎◌, Bool, true, false, cond, not, List, [], ◌∷◌, ◌++◌, map, length, slice_get, Some, None, refl, sym, ◌∙◌, ap, subst, arith, inl, inr}
+use Rattle.std.proofs.Common.{◌≡◌, ℕ, zero, suc, ◌≤◌, ◌⊎◌, Bool, true, false, cond, List, [], ◌∷◌, ◌++◌, map, slice_get, Some, refl, sym, ◌∙◌, ap, subst, arith, inl, inr}
 use Rattle.std.specs.List.{filter, find, Contains}
 use Rattle.std.proofs.lemmas.Bool.{cases_Bool, both_ways}
 use Rattle.std.proofs.lemmas.Option.{same_Some, none-some, slice_get-get_or}
@@ -37,11 +37,15 @@ stands_cases y xs start line [] x s =
     let c = s.counts in inl (refl, same_head y x xs s.after s.splits, omega (arith, c))
 stands_cases y xs start line (z ∷ before) x s =
     let c = s.counts in
-    inr (before, ap (λ w. w ∷ before) (sym (same_head y z xs (before ++ x ∷ s.after) s.splits)), record {
-      after = s.after;
-      splits = same_tail y z xs (before ++ x ∷ s.after) s.splits;
-      counts = omega (arith, c);
-    })
+    inr (
+      before,
+      ap (λ w. w ∷ before) (sym (same_head y z xs (before ++ x ∷ s.after) s.splits)),
+      record {
+        after = s.after;
+        splits = same_tail y z xs (before ++ x ∷ s.after) s.splits;
+        counts = omega (arith, c);
+      },
+    )
 
 pub stands_contained : {X : Type 0} (xs : List X) (start line : ℕ) (before : List X) (x : X)
     → Stands xs start line before x → Contains xs x

@@ -1,8 +1,7 @@
 -- A history's list of faults of the rules holds the rules that it breaks, and its first fault is the least of them.
-use Rattle.std.proofs.Common.{◌≡◌, ℕ, ◌≤◌, Bool, true, false, not, List, [], ◌∷◌, ◌++◌, Option, Some, None, refl, sym, ◌∙◌, ap, subst, arith, inl, inr}
+use Rattle.std.proofs.Common.{◌≡◌, ℕ, ◌≤◌, not, List, [], ◌++◌, Some, refl, sym, ◌∙◌, ap, subst, arith, inl, inr}
 use Rattle.std.specs.List.{Contains}
 use Rattle.std.proofs.lemmas.Bool.{both_ways, not-true, not-false, not_from_true, not_from_false, false_from_ne_true}
-use Rattle.std.proofs.lemmas.Option.{same_Some, none-some}
 use Rattle.std.proofs.lemmas.List.Elements.{Contains-append_left, Contains-append_right, Contains-append_cases}
 use Rattle.adya_terms.specs.declared.fault.Rule.{Rule}
 use Rattle.adya_terms.specs.declared.fault.Rule.TheVariants.{M1, M2, M3, M4, M5, M6, M7, M8}
@@ -11,11 +10,11 @@ use Rattle.adya_terms.specs.declared.fault.CheckFault.TheVariants.{Malformed}
 use Rattle.adya_terms.specs.Histories.{Event, Order, FinalPair, History}
 use Rattle.adya_terms.specs.Events.{written, has_ended}
 use Rattle.adya_terms.specs.Rules.{installs}
-use Rattle.adya_terms.specs.Faults.{is_open, is_next, was_written, sees_own, is_rising, fault_unless, event_faults, unfinished_faults, all_end, lists_exactly, order_faults, has_lines, last_value, is_value, final_faults, has_finals, unfinished_line, orders_line, finals_line, tail_line, malformed, first}
-use Rattle.adya_laws.specs.FirstFaults.{Stands, BreaksRule, number, IsNoLater, IsFirstMalformed}
+use Rattle.adya_terms.specs.Faults.{fault_unless, event_faults, unfinished_faults, all_end, lists_exactly, order_faults, has_lines, last_value, is_value, final_faults, has_finals, unfinished_line, orders_line, finals_line, tail_line, malformed, first}
+use Rattle.adya_laws.specs.FirstFaults.{Stands, BreaksRule, IsFirstMalformed}
 use Rattle.adya_laws.proofs.Firsts.{first_contained, first_there}
 use Rattle.adya_laws.proofs.Rules.{numbered_from, next_from, written_from, was_written_from, own_from, sees_own_from, rising_from, is_rising_from, value_from, is_value_from}
-use Rattle.adya_laws.proofs.Ranks.{rank, number_low, number_high, no_later_from_rank, rank_from_no_later, malformed_in_order, same_from_ranks, malformed_from_rank}
+use Rattle.adya_laws.proofs.Ranks.{rank, no_later_from_rank, rank_from_no_later, malformed_in_order, same_from_ranks, malformed_from_rank}
 use Rattle.adya_laws.proofs.Broken.{unless_there, unless_from, line_there, line_from, Fails, event_there, event_from, leaves_open_from, all_end_fails, lists_writers_from, lists_writers_when, lacks_order_from, has_lines_fails, lacks_final_from, has_finals_fails}
 
 module _ (h : History) where

@@ -1,25 +1,24 @@
 -- The fault that is named is the first of the first kind that is there.
-use Rattle.std.proofs.Common.{◌≡◌, ◌≢◌, ℕ, ◌≤◌, ◌==◌, ◌||◌, slice_get, Bool, true, false, not, List, [], ◌∷◌, ◌++◌, Option, Some, None, refl, sym, ◌∙◌, ap, subst, arith, inl, inr}
+use Rattle.std.proofs.Common.{◌≡◌, ◌≢◌, ℕ, slice_get, Bool, true, not, [], ◌++◌, Some, refl, sym, ◌∙◌, ap, subst, arith, inl, inr}
 use Rattle.std.specs.List.{Contains}
 use Rattle.std.proofs.lemmas.Bool.{and_parts, both_ways, not-true, not-false, or_parts, eqb-false, ne_eqb, false_from_ne_true, not_from_true, not_from_false, or_from, and_from}
-use Rattle.std.proofs.lemmas.Option.{same_Some, none-some}
+use Rattle.std.proofs.lemmas.Option.{same_Some}
 use Rattle.adya_terms.specs.declared.event.Version.{Version}
 use Rattle.adya_terms.specs.declared.fault.Rule.{Rule}
-use Rattle.adya_terms.specs.declared.fault.CheckFault.{CheckFault}
 use Rattle.adya_terms.specs.declared.fault.CheckFault.TheVariants.{Malformed, AbortedRead, IntermediateRead}
 use Rattle.adya_terms.specs.Histories.{Entry, Event, History}
 use Rattle.adya_terms.specs.Shapes.{is_shape}
-use Rattle.adya_terms.specs.Events.{txn_of, observed, last_write, is_committed, is_aborted}
+use Rattle.adya_terms.specs.Events.{txn_of, observed, last_write, is_aborted}
 use Rattle.adya_terms.specs.Rules.{IsWellFormed}
 use Rattle.adya_terms.specs.Phenomena.{ReadsCommitted, HasG1a}
-use Rattle.adya_terms.specs.Faults.{is_entry, malformed, bad_reads, aborted_reads, is_last_of_another, intermediate_reads, first, first_fault}
-use Rattle.adya_laws.specs.FirstFaults.{Stands, BreaksRule, IsNoLater, IsFirstMalformed, ReadsAt, ReadsAborted, ReadsIntermediate, IsFirstRead, IsFirstAbortedRead, IsFirstIntermediateRead}
+use Rattle.adya_terms.specs.Faults.{malformed, aborted_reads, is_last_of_another, intermediate_reads, first, first_fault}
+use Rattle.adya_laws.specs.FirstFaults.{BreaksRule, IsFirstMalformed, ReadsAt, ReadsAborted, ReadsIntermediate, IsFirstAbortedRead, IsFirstIntermediateRead}
 use Rattle.adya_laws.proofs.Members.{none_contained, Contains-slice_get}
 use Rattle.adya_laws.proofs.Entries.{is_entry-same, is_entry-from}
 use Rattle.adya_laws.proofs.Firsts.{stands_same, nil_or_first, contained_stands, contained_place, stands_contained, first_append, first_contained, first_left}
-use Rattle.adya_laws.proofs.Ranks.{rank, malformed_in_order, malformed_from_rank}
+use Rattle.adya_laws.proofs.Ranks.{malformed_in_order, malformed_from_rank}
 use Rattle.adya_laws.proofs.Malformed.{broken_from, broken_there, first_malformed_from, malformed_first}
-use Rattle.adya_laws.proofs.FirstReads.{is_bad, BadAt, FirstBad, first_bad, none_bad, first_read_same}
+use Rattle.adya_laws.proofs.FirstReads.{BadAt, first_bad, none_bad, first_read_same}
 use Rattle.adya_laws.proofs.Unbroken.{well_formed_when_unbroken, unbroken_when_well_formed}
 
 pub aborted_line : (l : ℕ) (v : Version) (m : ℕ) (w : Version) → AbortedRead l v ≡ AbortedRead m w → l ≡ m
@@ -290,8 +289,7 @@ module _ (h : History) where
   pub intermediate_is_first : (line : ℕ) (v : Version) → first_fault h ≡ Some (IntermediateRead line v)
       → IsWellFormed h × (HasG1a h → ⊥) × IsFirstIntermediateRead h line v
   intermediate_is_first line v e =
-      let n = named_intermediate line v e in
-      (
+      let n = named_intermediate line v e in (
         well_formed_when_unbroken h (unbroken_when_none n.0),
         no_g1a_from_none n.1,
         first_intermediate_from line v n.2,

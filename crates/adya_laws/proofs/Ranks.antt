@@ -2,15 +2,14 @@
 use Rattle.std.proofs.Common.{◌≡◌, ℕ, suc, ◌+◌, ◌*◌, ◌<◌, ◌≤◌, ◌==◌, Bool, true, false, if◌then◌else◌, not, append_assoc, List, [], ◌∷◌, ◌++◌, length, Some, refl, sym, ◌∙◌, ap, subst, arith, inl, inr}
 use Rattle.std.specs.List.{Contains}
 use Rattle.std.proofs.lemmas.Bool.{cases_lt}
-use Rattle.std.proofs.lemmas.Option.{same_Some, none-some}
+use Rattle.std.proofs.lemmas.Option.{same_Some}
 use Rattle.std.proofs.lemmas.List.Elements.{Contains-append_cases}
-use Rattle.adya_terms.specs.declared.event.Version.{Version}
 use Rattle.adya_terms.specs.declared.fault.Rule.{Rule}
 use Rattle.adya_terms.specs.declared.fault.Rule.TheVariants.{M1, M2, M3, M4, M5, M6, M7, M8}
 use Rattle.adya_terms.specs.declared.fault.CheckFault.{CheckFault}
 use Rattle.adya_terms.specs.declared.fault.CheckFault.TheVariants.{Malformed, AbortedRead, IntermediateRead, Memory}
 use Rattle.adya_terms.specs.Histories.{Event, Order, FinalPair, History}
-use Rattle.adya_terms.specs.Events.{txn_of, written, has_ended}
+use Rattle.adya_terms.specs.Events.{written, has_ended}
 use Rattle.adya_terms.specs.Rules.{installs}
 use Rattle.adya_terms.specs.Faults.{is_open, is_next, was_written, sees_own, is_rising, fault_unless, faults_at, event_faults, unfinished_faults, all_end, lists_exactly, order_faults, has_lines, last_value, is_value, final_faults, has_finals, unfinished_line, orders_line, finals_line, tail_line, malformed, first}
 use Rattle.adya_laws.specs.FirstFaults.{number, IsNoLater}

@@ -1,12 +1,12 @@
 -- The tests of the rules and the rules: each test passes exactly where its rule holds.
-use Rattle.std.proofs.Common.{◌≡◌, ℕ, suc, ◌==◌, Bool, true, false, cond, not, ◌&&◌, ◌||◌, List, [], ◌∷◌, map, length, get_or, Option, Some, None, is_some, is_none, IfSome, refl, sym, ◌∙◌, ap, subst, inl, inr}
+use Rattle.std.proofs.Common.{◌≡◌, ℕ, suc, ◌==◌, Bool, true, false, not, ◌&&◌, ◌||◌, List, [], ◌∷◌, length, get_or, Option, Some, None, is_some, IfSome, refl, sym, ap, subst, inl, inr}
 use Rattle.std.specs.List.{filter_map, list_all, list_any, Contains, All}
-use Rattle.std.proofs.lemmas.Bool.{cases_Bool, eqb-true, eq-eqb, and_parts, and_from, and_cases, or_cases, both_ways, not-true, false_from_ne_true}
+use Rattle.std.proofs.lemmas.Bool.{eqb-true, eq-eqb, and_parts, and_from, and_cases, or_cases, both_ways, not-true, false_from_ne_true}
 use Rattle.std.proofs.lemmas.Option.{same_Some, none-some}
 use Rattle.std.proofs.lemmas.List.Elements.{All-contains, Contains-get_or}
 use Rattle.adya_terms.specs.Keys.{key_eq, lies_in}
 use Rattle.adya_terms.specs.Histories.{Live, Entry, Event, Write, Delete, Read, Scan, Commit, Abort}
-use Rattle.adya_terms.specs.Events.{txn_of, entry, written, observed, writes_of, last_write}
+use Rattle.adya_terms.specs.Events.{entry, written, observed, writes_of, last_write}
 use Rattle.adya_terms.specs.Rules.{WasWritten, ListsOnly, SeesOwnWrites, IsRising}
 use Rattle.adya_terms.specs.Faults.{entry_eq, is_none_or, lists_only, none_or_lists_only, is_next, was_written, sees_own, is_rising, is_value}
 use Rattle.adya_laws.proofs.Keys.{key_eq-same, key_eq-from}

@@ -1,22 +1,21 @@
 -- A history that breaks no rule is well-formed, and one of a history's shape that is well-formed breaks none.
-use Rattle.std.proofs.Common.{◌≡◌, ℕ, suc, ◌==◌, ◌⊎◌, Bool, true, false, cond, not, ◌&&◌, ◌||◌, append_assoc, List, [], ◌∷◌, ◌++◌, map, length, Option, Some, None, is_some, is_none, refl, sym, ◌∙◌, ap, subst, arith, inl, inr}
-use Rattle.std.specs.List.{list_any, Contains}
-use Rattle.std.proofs.lemmas.Bool.{cases_Bool, or_parts, or_from, both_ways, not-true, not_from_false, cond-true, or_cases, false_from_ne_true}
-use Rattle.std.proofs.lemmas.Option.{same_Some, none-some}
+use Rattle.std.proofs.Common.{◌≡◌, ℕ, suc, ◌⊎◌, Bool, true, false, cond, ◌||◌, append_assoc, List, [], ◌∷◌, ◌++◌, map, Option, Some, None, refl, sym, ◌∙◌, ap, subst, arith, inl, inr}
+use Rattle.std.specs.List.{Contains}
+use Rattle.std.proofs.lemmas.Bool.{cases_Bool, or_parts, or_from, both_ways, not-true, not_from_false, cond-true, false_from_ne_true}
+use Rattle.std.proofs.lemmas.Option.{none-some}
 use Rattle.std.proofs.lemmas.List.{append-nil}
 use Rattle.std.proofs.lemmas.List.Elements.{All-contains}
 use Rattle.adya_terms.specs.declared.fault.Rule.{Rule}
 use Rattle.adya_terms.specs.declared.fault.Rule.TheVariants.{M1, M2, M3, M4, M5, M6, M7, M8}
 use Rattle.adya_terms.specs.Keys.{key_eq, keys_rise}
 use Rattle.adya_terms.specs.Histories.{Event, Order, FinalPair, History}
-use Rattle.adya_terms.specs.Shapes.{is_shape}
 use Rattle.adya_terms.specs.Events.{txn_of, written, has_ended, is_unfinished}
-use Rattle.adya_terms.specs.Orders.{line_of, writers, value_at}
+use Rattle.adya_terms.specs.Orders.{line_of}
 use Rattle.adya_terms.specs.Rules.{EachAfter, IsOpen, IsNumbered, WasWritten, SeesOwnWrites, IsRising, AllEnd, installs, OrdersList, final_value, FinalsShow, IsWellFormed}
 use Rattle.adya_terms.specs.Faults.{is_open, is_next, was_written, sees_own, is_rising, lists_exactly, last_value, is_value, unfinished_line, orders_line, finals_line, tail_line}
 use Rattle.adya_laws.specs.FirstFaults.{Stands, BreaksAtEvent, ListsWriters, LacksOrder, LacksFinal, BreaksRule}
-use Rattle.adya_laws.proofs.Keys.{key_eq-same, key_eq-from, cases_key}
-use Rattle.adya_laws.proofs.Members.{none_contained, Contains-head, Contains-cons, Contains-cases, list_any-source, list_any_when}
+use Rattle.adya_laws.proofs.Keys.{key_eq-same, key_eq-from}
+use Rattle.adya_laws.proofs.Members.{none_contained, Contains-head, Contains-cons, Contains-cases}
 use Rattle.adya_laws.proofs.Rising.{rises_tail, rises_other}
 use Rattle.adya_laws.proofs.Counts.{count}
 use Rattle.adya_laws.proofs.Pairs.{final_found}
@@ -59,11 +58,13 @@ order_cases (o ∷ os) k =
           (elim (order_cases os k) [
             | inl r ↦ inl (r.0, Contains-cons o os r.0 r.1, r.2, ap (λ b. cond b o.writers (line_of os k)) f ∙ r.3)
             | inr r ↦
-                inr (ap (λ b. cond b o.writers (line_of os k)) f ∙ r.0,
-                λ x c e. elim (Contains-cases o os x c) [
-                  | inl s ↦ both_ways _ f (key_eq-from _ _ (ap (λ y. y.key) s ∙ e))
-                  | inr d ↦ r.1 x d e
-                ])
+                inr (
+                  ap (λ b. cond b o.writers (line_of os k)) f ∙ r.0,
+                  λ x c e. elim (Contains-cases o os x c) [
+                    | inl s ↦ both_ways _ f (key_eq-from _ _ (ap (λ y. y.key) s ∙ e))
+                    | inr d ↦ r.1 x d e
+                  ],
+                )
           ])
     ]
 
@@ -78,11 +79,13 @@ final_cases (f ∷ fs) k =
             | inl r ↦
                 inl (r.0, Contains-cons f fs r.0 r.1, r.2, ap (λ b. cond b (Some f.value) (final_value fs k)) n ∙ r.3)
             | inr r ↦
-                inr (ap (λ b. cond b (Some f.value) (final_value fs k)) n ∙ r.0,
-                λ x c e. elim (Contains-cases f fs x c) [
-                  | inl s ↦ both_ways _ n (key_eq-from _ _ (ap (λ y. y.key) s ∙ e))
-                  | inr d ↦ r.1 x d e
-                ])
+                inr (
+                  ap (λ b. cond b (Some f.value) (final_value fs k)) n ∙ r.0,
+                  λ x c e. elim (Contains-cases f fs x c) [
+                    | inl s ↦ both_ways _ n (key_eq-from _ _ (ap (λ y. y.key) s ∙ e))
+                    | inr d ↦ r.1 x d e
+                  ],
+                )
           ])
     ]
 
