@@ -1,7 +1,7 @@
 -- A history's list of faults of the rules holds the rules that it breaks, and its first fault is the least of them.
 use Rattle.std.proofs.Common.{◌≡◌, ℕ, ◌≤◌, not, List, [], ◌++◌, Some, refl, sym, ◌∙◌, ap, subst, arith, inl, inr}
 use Rattle.std.specs.List.{Contains}
-use Rattle.std.proofs.lemmas.Bool.{both_ways, not-true, not-false, not_from_true, not_from_false, false_from_ne_true}
+use Rattle.std.proofs.lemmas.Bool.{both_ways, not-true, not-false, not_from_true, not_from_false, false_from_ne_true, true_from_ne_false}
 use Rattle.std.proofs.lemmas.List.Elements.{Contains-append_left, Contains-append_right, Contains-append_cases}
 use Rattle.adya_terms.specs.declared.fault.Rule.{Rule}
 use Rattle.adya_terms.specs.declared.fault.Rule.TheVariants.{M1, M2, M3, M4, M5, M6, M7, M8}
@@ -34,7 +34,7 @@ module _ (h : History) where
   unfinished_breaks line r c =
       let u = line_from (λ t. not (has_ended h.events t)) M6 (unfinished_faults h.events) (λ _. refl) (λ _ _ _. refl)
       (unfinished_line h) h.unfinished line r c in
-      subst (BreaksRule h line) u.0 (inl (u.1, u.2, u.3, not-false _ u.4))
+      subst (BreaksRule h line) u.0 (inl (u.1, u.2, u.3, λ f. both_ways _ f (not-false _ u.4)))
 
   pub order_breaks : (line : ℕ) (r : Rule)
       → Contains (order_faults h.events (orders_line h) h.orders) (Malformed line r) → BreaksRule h line r
@@ -152,7 +152,7 @@ module _ (h : History) where
   broken_there line M6 (inl b) =
       in_unfinished (Malformed line M6)
       (line_there (λ t. not (has_ended h.events t)) M6 (unfinished_faults h.events) (λ _. refl) (λ _ _ _. refl)
-      (unfinished_line h) h.unfinished line b.0 b.1 b.2 (not_from_true _ b.3))
+      (unfinished_line h) h.unfinished line b.0 b.1 b.2 (not_from_true _ (true_from_ne_false _ b.3)))
   broken_there line M6 (inr b) =
       in_ends (Malformed line M6)
       (subst (λ l. Contains (fault_unless (all_end h) (orders_line h) M6) (Malformed l M6)) (sym b.0)

@@ -13,7 +13,7 @@ use Rattle.adya_terms.specs.Events.{txn_of, written, has_ended, is_unfinished}
 use Rattle.adya_terms.specs.Orders.{line_of}
 use Rattle.adya_terms.specs.Rules.{EachAfter, IsOpen, IsNumbered, WasWritten, SeesOwnWrites, IsRising, AllEnd, installs, OrdersList, final_value, FinalsShow, IsWellFormed}
 use Rattle.adya_terms.specs.Faults.{is_open, is_next, was_written, sees_own, is_rising, lists_exactly, last_value, is_value, unfinished_line, orders_line, finals_line, tail_line}
-use Rattle.adya_laws.specs.FirstFaults.{Stands, BreaksAtEvent, ListsWriters, LacksOrder, LacksFinal, BreaksRule}
+use Rattle.adya_laws.specs.FirstFaults.{Stands, BreaksAtEvent, StaysOpen, ListsWriters, LacksOrder, LacksFinal, BreaksRule}
 use Rattle.adya_laws.proofs.Keys.{key_eq-same, key_eq-from}
 use Rattle.adya_laws.proofs.Members.{none_contained, Contains-head, Contains-cons, Contains-cases}
 use Rattle.adya_laws.proofs.Rising.{rises_tail, rises_other}
@@ -101,6 +101,14 @@ module _ (h : History) (unbroken : (line : ℕ) (rule : Rule) → BreaksRule h l
         | inr f ↦ absurd (none line (before, e, s, λ p. both_ways _ f (passes before e p)))
       ])
 
+  pub stays_open : (t : ℕ) → Contains h.unfinished t → StaysOpen h t
+  stays_open t c =
+      let s = contained_stands h.unfinished (unfinished_line h) t c in
+      elim (cases_Bool (has_ended h.events t)) [
+        | inl x ↦ absurd (unbroken s.0 M6 (inl (s.1, t, s.2, λ f. both_ways _ f x)))
+        | inr f ↦ f
+      ]
+
   pub ends_hold : AllEnd h
   ends_hold = record {
     ended = All-from_contained (λ e. (has_ended h.events (txn_of e) || is_unfinished h (txn_of e)) ≡ true) h.events
@@ -110,10 +118,7 @@ module _ (h : History) (unbroken : (line : ℕ) (rule : Rule) → BreaksRule h l
               let p = or_parts _ _ f in
               absurd (unbroken (orders_line h) M6 (inr (refl, (e, c, p.0, p.1))))
         ]);
-    unended = All-from_contained (λ t. has_ended h.events t ≡ false) h.unfinished
-        (λ t c. false_from_ne_true _ (λ x.
-        let s = contained_stands h.unfinished (unfinished_line h) t c in
-        unbroken s.0 M6 (inl (s.1, t, s.2, x))));
+    unended = All-from_contained (StaysOpen h) h.unfinished stays_open;
   }
 
   pub order_holds : (o : Order) → Contains h.orders o → ListsWriters h o
@@ -211,8 +216,8 @@ module _ (h : History) (w : IsWellFormed h) (orders_rise : keys_rise (map (λ o.
   unbroken_when_well_formed line M4 b = b.3 (each_at SeesOwnWrites [] 2 h.events w.own_writes line b.0 b.1 b.2)
   unbroken_when_well_formed line M5 b = b.3 (each_at (λ x e. IsRising e) [] 2 h.events w.rising line b.0 b.1 b.2)
   unbroken_when_well_formed line M6 (inl b) =
-      both_ways _ (All-contains (λ t. has_ended h.events t ≡ false) h.unfinished b.1 w.ends.unended
-      (stands_contained h.unfinished (unfinished_line h) line b.0 b.1 b.2)) b.3
+      b.3 (All-contains (StaysOpen h) h.unfinished b.1 w.ends.unended
+      (stands_contained h.unfinished (unfinished_line h) line b.0 b.1 b.2))
   unbroken_when_well_formed line M6 (inr b) =
       both_ways _ (or_from _ _ b.1.2 b.1.3)
       (All-contains (λ e. (has_ended h.events (txn_of e) || is_unfinished h (txn_of e)) ≡ true) h.events b.1.0

@@ -12,60 +12,62 @@ use Rattle.adya_terms.specs.Rules.{IsOpen, IsNumbered, WasWritten, SeesOwnWrites
 use Rattle.adya_terms.specs.Faults.{last_value, unfinished_line, orders_line, finals_line, tail_line}
 use Rattle.adya_terms.specs.Acceptance.{IsBefore}
 
--- x stands in the list behind those before it, and on this line where the list has a line for each element and
--- begins on the line start
+-- x stands in the list behind those before it, and on this line, where each element has a line and the first one
+-- stands on the line start
 pub record Stands {X : Type 0} (xs : List X) (start line : ℕ) (before : List X) (x : X) : Type 0 where
   pub after : List X
   pub splits : xs ≡ before ++ x ∷ after
   pub counts : line ≡ start + length before
 
--- the event on the line breaks the rule, given those before it
+-- of the element on the line the rule doesn't hold, given those before it
+abbrev pub BreaksAt : {X : Type 0} → (List X → X → Type 0) → List X → ℕ → ℕ → Type 0
+BreaksAt {X} Holds xs start line =
+    (before : List X) × (x : X) × Stands xs start line before x × (Holds before x → ⊥)
+
+-- of the event on the line; the events begin behind the head, on line 2
 abbrev pub BreaksAtEvent : (List Event → Event → Type 0) → History → ℕ → Type 0
-BreaksAtEvent Rules h line = (before : List Event) × (e : Event) × Stands h.events 2 line before e × (Rules before e → ⊥)
+BreaksAtEvent Holds h line = BreaksAt Holds h.events 2 line
 
--- the transaction of an unfinished line has ended
-abbrev pub EndsUnfinished : History → ℕ → Type 0
-EndsUnfinished h line =
-    (before : List ℕ) × (t : ℕ) × Stands h.unfinished (unfinished_line h) line before t × (has_ended h.events t ≡ true)
+-- an unfinished transaction doesn't end
+abbrev pub StaysOpen : History → ℕ → Type 0
+StaysOpen h t = has_ended h.events t ≡ false
 
--- a transaction has neither ended nor an unfinished line
+-- a transaction neither ends nor is unfinished
 abbrev pub LeavesOpen : History → Type 0
 LeavesOpen h =
     (e : Event) × Contains h.events e × (has_ended h.events (txn_of e) ≡ false) × (is_unfinished h (txn_of e) ≡ false)
 
--- the order line has each committed writer of its key once, and no other
+-- the order line has each committed writer of its key once, and no other number
 abbrev pub ListsWriters : History → Order → Type 0
 ListsWriters h o = (t : ℕ) → count_by (λ u. u == t) o.writers ≡ cond (installs h.events o.key t) 1 0
-
-abbrev pub BreaksAtOrder : History → ℕ → Type 0
-BreaksAtOrder h line =
-    (before : List Order) × (o : Order) × Stands h.orders (orders_line h) line before o × (ListsWriters h o → ⊥)
 
 -- a key with a committed writer has no order line
 abbrev pub LacksOrder : History → Type 0
 LacksOrder h =
     (k : List ℕ) × (t : ℕ) × (installs h.events k t ≡ true) × ((o : Order) → Contains h.orders o → o.key ≢ k)
 
--- the last version of the final line's key isn't visible with its value
-abbrev pub BreaksAtFinal : History → ℕ → Type 0
-BreaksAtFinal h line =
-    (before : List FinalPair) × (f : FinalPair) × Stands h.finals (finals_line h) line before f × (last_value h f.key ≢ Some f.value)
+-- the last version of the final line's key is visible, with its value
+abbrev pub ShowsLast : History → FinalPair → Type 0
+ShowsLast h f = last_value h f.key ≡ Some f.value
 
 -- a key whose last version is visible has no final line
 abbrev pub LacksFinal : History → Type 0
 LacksFinal h =
     (k v : List ℕ) × (last_value h k ≡ Some v) × ((f : FinalPair) → Contains h.finals f → f.key ≢ k)
 
--- the history breaks the rule at the line; what is missing is missed at the first line after its part
+-- the history breaks the rule at the line; a line that is missing is missed at the first line behind its part
 abbrev pub BreaksRule : History → ℕ → Rule → Type 0
 BreaksRule h line M1 = BreaksAtEvent IsOpen h line
 BreaksRule h line M2 = BreaksAtEvent IsNumbered h line
 BreaksRule h line M3 = BreaksAtEvent WasWritten h line
 BreaksRule h line M4 = BreaksAtEvent SeesOwnWrites h line
 BreaksRule h line M5 = BreaksAtEvent (λ before e. IsRising e) h line
-BreaksRule h line M6 = EndsUnfinished h line ⊎ ((line ≡ orders_line h) × LeavesOpen h)
-BreaksRule h line M7 = BreaksAtOrder h line ⊎ ((line ≡ finals_line h) × LacksOrder h)
-BreaksRule h line M8 = BreaksAtFinal h line ⊎ ((line ≡ tail_line h) × LacksFinal h)
+BreaksRule h line M6 =
+    BreaksAt (λ before t. StaysOpen h t) h.unfinished (unfinished_line h) line ⊎ ((line ≡ orders_line h) × LeavesOpen h)
+BreaksRule h line M7 =
+    BreaksAt (λ before o. ListsWriters h o) h.orders (orders_line h) line ⊎ ((line ≡ finals_line h) × LacksOrder h)
+BreaksRule h line M8 =
+    BreaksAt (λ before f. ShowsLast h f) h.finals (finals_line h) line ⊎ ((line ≡ tail_line h) × LacksFinal h)
 
 -- the number of the rule
 abbrev pub number : Rule → ℕ
@@ -78,7 +80,7 @@ number M6 = 6
 number M7 = 7
 number M8 = 8
 
--- the place on the line comes before the other place on its line, or is the same
+-- the place of the line comes before the other place of the other line, or is the same
 abbrev pub IsNoLater : ℕ → ℕ → ℕ → ℕ → Type 0
 IsNoLater line place other_line other_place = (line < other_line) ⊎ ((line ≡ other_line) × (place ≤ other_place))
 
@@ -102,7 +104,8 @@ ReadsAborted h line place v =
 -- at the place a version of another transaction is read or listed that isn't that one's last write of the key
 abbrev pub ReadsIntermediate : History → ℕ → ℕ → Version → Type 0
 ReadsIntermediate h line place v =
-    (e : Event) × (o : Entry) × ReadsAt h line place e o × (o.version ≡ v) × (v.txn ≢ txn_of e) × (last_write v.txn v.key h.events ≢ Some o)
+    (e : Event) × (o : Entry) × ReadsAt h line place e o × (o.version ≡ v) × (v.txn ≢ txn_of e) ×
+    (last_write v.txn v.key h.events ≢ Some o)
 
 -- there is such a read of the version on the line, none on an earlier line, and none earlier in its list
 pub record IsFirstRead (Reads : ℕ → ℕ → Version → Type 0) (line : ℕ) (v : Version) : Type 0 where
