@@ -50,41 +50,63 @@ module _ (h : History) where
       (λ _ _ _. refl) (finals_line h) h.finals line r c in
       subst (BreaksRule h line) u.0 (inl (u.1, u.2, u.3, λ e. both_ways _ u.4 (is_value_from _ _ e)))
 
+  -- the faults from each part of the list on
+  abbrev pub from_finals : List CheckFault
+  from_finals = final_faults h (finals_line h) h.finals ++ fault_unless (has_finals h) (tail_line h) M8
+
+  abbrev pub from_missing_order : List CheckFault
+  from_missing_order = fault_unless (has_lines h) (finals_line h) M7 ++ from_finals
+
+  abbrev pub from_orders : List CheckFault
+  from_orders = order_faults h.events (orders_line h) h.orders ++ from_missing_order
+
+  abbrev pub from_ends : List CheckFault
+  from_ends = fault_unless (all_end h) (orders_line h) M6 ++ from_orders
+
+  abbrev pub from_unfinished : List CheckFault
+  from_unfinished = unfinished_faults h.events (unfinished_line h) h.unfinished ++ from_ends
+
+  pub finals_break : (line : ℕ) (r : Rule) → Contains from_finals (Malformed line r) → BreaksRule h line r
+  finals_break line r c =
+      elim (Contains-append_cases (final_faults h (finals_line h) h.finals) _ (Malformed line r) c) [
+        | inl d ↦ final_breaks line r d
+        | inr d ↦
+            let u = unless_from (has_finals h) (tail_line h) M8 line r d in
+            subst (BreaksRule h line) u.2 (inr (sym u.1, lacks_final_from h u.0))
+      ]
+
+  pub orders_break : (line : ℕ) (r : Rule) → Contains from_orders (Malformed line r) → BreaksRule h line r
+  orders_break line r c =
+      elim (Contains-append_cases (order_faults h.events (orders_line h) h.orders) _ (Malformed line r) c) [
+        | inl d ↦ order_breaks line r d
+        | inr d ↦
+            (elim (Contains-append_cases (fault_unless (has_lines h) (finals_line h) M7) _ (Malformed line r) d) [
+              | inl e ↦
+                  let u = unless_from (has_lines h) (finals_line h) M7 line r e in
+                  subst (BreaksRule h line) u.2 (inr (sym u.1, lacks_order_from h u.0))
+              | inr e ↦ finals_break line r e
+            ])
+      ]
+
+  pub ends_break : (line : ℕ) (r : Rule) → Contains from_unfinished (Malformed line r) → BreaksRule h line r
+  ends_break line r c =
+      elim (Contains-append_cases (unfinished_faults h.events (unfinished_line h) h.unfinished) _ (Malformed line r) c) [
+        | inl d ↦ unfinished_breaks line r d
+        | inr d ↦
+            (elim (Contains-append_cases (fault_unless (all_end h) (orders_line h) M6) _ (Malformed line r) d) [
+              | inl e ↦
+                  let u = unless_from (all_end h) (orders_line h) M6 line r e in
+                  subst (BreaksRule h line) u.2 (inr (sym u.1, leaves_open_from h u.0))
+              | inr e ↦ orders_break line r e
+            ])
+      ]
+
   -- each fault of the list is a rule that is broken
   pub broken_from : (line : ℕ) (r : Rule) → Contains (malformed h) (Malformed line r) → BreaksRule h line r
   broken_from line r c =
-      let f1 = event_faults [] 2 h.events in
-      let f2 = unfinished_faults h.events (unfinished_line h) h.unfinished in
-      let f3 = fault_unless (all_end h) (orders_line h) M6 in
-      let f4 = order_faults h.events (orders_line h) h.orders in
-      let f5 = fault_unless (has_lines h) (finals_line h) M7 in
-      let f6 = final_faults h (finals_line h) h.finals in
-      let f7 = fault_unless (has_finals h) (tail_line h) M8 in
-      let x = Malformed line r in
-      elim (Contains-append_cases f1 (f2 ++ (f3 ++ (f4 ++ (f5 ++ (f6 ++ f7))))) x c) [
+      elim (Contains-append_cases (event_faults [] 2 h.events) from_unfinished (Malformed line r) c) [
         | inl d ↦ let u = event_from [] 2 h.events line r d in breaks_event line u.0 u.1 r u.2 u.3
-        | inr c2 ↦ elim (Contains-append_cases f2 (f3 ++ (f4 ++ (f5 ++ (f6 ++ f7)))) x c2) [
-          | inl d ↦ unfinished_breaks line r d
-          | inr c3 ↦ elim (Contains-append_cases f3 (f4 ++ (f5 ++ (f6 ++ f7))) x c3) [
-            | inl d ↦
-                let u = unless_from (all_end h) (orders_line h) M6 line r d in
-                subst (BreaksRule h line) u.2 (inr (sym u.1, leaves_open_from h u.0))
-            | inr c4 ↦ elim (Contains-append_cases f4 (f5 ++ (f6 ++ f7)) x c4) [
-              | inl d ↦ order_breaks line r d
-              | inr c5 ↦ elim (Contains-append_cases f5 (f6 ++ f7) x c5) [
-                | inl d ↦
-                    let u = unless_from (has_lines h) (finals_line h) M7 line r d in
-                    subst (BreaksRule h line) u.2 (inr (sym u.1, lacks_order_from h u.0))
-                | inr c6 ↦ elim (Contains-append_cases f6 f7 x c6) [
-                  | inl d ↦ final_breaks line r d
-                  | inr d ↦
-                      let u = unless_from (has_finals h) (tail_line h) M8 line r d in
-                      subst (BreaksRule h line) u.2 (inr (sym u.1, lacks_final_from h u.0))
-                ]
-              ]
-            ]
-          ]
-        ]
+        | inr d ↦ ends_break line r d
       ]
 
   -- which part of the list a fault stands in
@@ -97,9 +119,7 @@ module _ (h : History) where
       Contains-append_right (event_faults [] 2 h.events) _ x
       (Contains-append_left (unfinished_faults h.events (unfinished_line h) h.unfinished) _ x c)
 
-  pub behind_unfinished : (x : CheckFault)
-      → Contains (fault_unless (all_end h) (orders_line h) M6 ++ (order_faults h.events (orders_line h) h.orders ++ (fault_unless (has_lines h) (finals_line h) M7 ++ (final_faults h (finals_line h) h.finals ++ fault_unless (has_finals h) (tail_line h) M8)))) x
-      → Contains (malformed h) x
+  pub behind_unfinished : (x : CheckFault) → Contains from_ends x → Contains (malformed h) x
   behind_unfinished x c =
       Contains-append_right (event_faults [] 2 h.events) _ x
       (Contains-append_right (unfinished_faults h.events (unfinished_line h) h.unfinished) _ x c)
@@ -113,14 +133,13 @@ module _ (h : History) where
       behind_unfinished x (Contains-append_right (fault_unless (all_end h) (orders_line h) M6) _ x
       (Contains-append_left (order_faults h.events (orders_line h) h.orders) _ x c))
 
-  pub behind_orders : (x : CheckFault)
-      → Contains (fault_unless (has_lines h) (finals_line h) M7 ++ (final_faults h (finals_line h) h.finals ++ fault_unless (has_finals h) (tail_line h) M8)) x
-      → Contains (malformed h) x
+  pub behind_orders : (x : CheckFault) → Contains from_missing_order x → Contains (malformed h) x
   behind_orders x c =
       behind_unfinished x (Contains-append_right (fault_unless (all_end h) (orders_line h) M6) _ x
       (Contains-append_right (order_faults h.events (orders_line h) h.orders) _ x c))
 
-  pub in_lines : (x : CheckFault) → Contains (fault_unless (has_lines h) (finals_line h) M7) x → Contains (malformed h) x
+  pub in_lines : (x : CheckFault) → Contains (fault_unless (has_lines h) (finals_line h) M7) x
+      → Contains (malformed h) x
   in_lines x c = behind_orders x (Contains-append_left (fault_unless (has_lines h) (finals_line h) M7) _ x c)
 
   pub in_finals : (x : CheckFault) → Contains (final_faults h (finals_line h) h.finals) x → Contains (malformed h) x
