@@ -24,6 +24,7 @@ use Rattle.adya_laws.proofs.Found.{last_write_there, writer_of}
 use Rattle.adya_laws.proofs.Pairs.{final_pair}
 use Rattle.adya_laws.proofs.Judging.{exactly_from_test, test_from_exactly}
 use Rattle.adya_laws.proofs.Firsts.{stands_head, stands_cons, stands_nowhere, stands_cases}
+use Rattle.adya_laws.proofs.Ranks.{StepsBy}
 use Rattle.adya_laws.proofs.Rules.{last_write_from, some_of, some_from, list_all_fails, list_all_fails_at}
 
 pub same_line : (a : ℕ) (r : Rule) (b : ℕ) (s : Rule) → Malformed a r ≡ Malformed b s → a ≡ b
@@ -47,7 +48,7 @@ unless_from false line rule l r (suc i, lt, e) = absurd (omega (arith, lt))
 -- of a list with a fault for each line whose test fails: which faults it holds
 module _ {X : Type 0} (test : X → Bool) (rule : Rule) (faults : ℕ → List X → List CheckFault)
     (none : (line : ℕ) → faults line [] ≡ [])
-    (step : (line : ℕ) (x : X) (xs : List X) → faults line (x ∷ xs) ≡ fault_unless (test x) line rule ++ faults (suc line) xs) where
+    (step : StepsBy test rule faults) where
   pub line_there : (start : ℕ) (xs : List X) (line : ℕ) (before : List X) (x : X) → Stands xs start line before x
       → test x ≡ false → Contains (faults start xs) (Malformed line rule)
   line_there start [] line before x s fails = absurd (stands_nowhere start line before x s)
@@ -152,8 +153,8 @@ module _ (before : List Event) (line : ℕ) (e : Event) where
         ]
       ]
 
-pub event_there : (front : List Event) (start : ℕ) (es : List Event) (line : ℕ) (before : List Event) (e : Event) (r : Rule)
-    → Stands es start line before e → Fails (front ++ before) e r
+pub event_there : (front : List Event) (start : ℕ) (es : List Event) (line : ℕ) (before : List Event) (e : Event)
+    → (r : Rule) → Stands es start line before e → Fails (front ++ before) e r
     → Contains (event_faults front start es) (Malformed line r)
 event_there front start [] line before e r s f = absurd (stands_nowhere start line before e s)
 event_there front start (x ∷ es) line before e r s f =
@@ -177,7 +178,7 @@ pub event_from : (front : List Event) (start : ℕ) (es : List Event) (line : �
     → (before : List Event) × (e : Event) × Stands es start line before e × Fails (front ++ before) e r
 event_from front start [] line r c = absurd (none_contained (Malformed line r) c)
 event_from front start (x ∷ es) line r c =
-    elim (Contains-append_cases (faults_at front start x) (event_faults (front ++ x ∷ []) (suc start) es) (Malformed line r) c) [
+    elim (Contains-append_cases (faults_at front start x) _ (Malformed line r) c) [
       | inl d ↦
           let u = fault_from front start x line r d in (
             [],

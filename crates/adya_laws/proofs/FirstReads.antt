@@ -82,12 +82,13 @@ module _ (good : Event → Entry → Bool) (events : List Event) where
   }
 
   module _ (fault : ℕ → Version → CheckFault) where
-    pub first_bad : (start : ℕ) (es : List Event) (c : CheckFault) → first (bad_reads good fault events start es) ≡ Some c
+    pub first_bad : (start : ℕ) (es : List Event) (c : CheckFault)
+        → first (bad_reads good fault events start es) ≡ Some c
         → (line : ℕ) × (e : Event) × (o : Entry) × (fault line o.version ≡ c) × FirstBad es start line e o
     first_bad start [] c f = absurd (none-some c f)
     first_bad start (e ∷ es) c f =
         let at_line : Entry → CheckFault = λ o. fault start o.version in
-        elim (first_append (map at_line (filter (is_bad e) (observed e))) (bad_reads good fault events (suc start) es) c f) [
+        elim (first_append (map at_line (filter (is_bad e) (observed e))) _ c f) [
           | inl here ↦
               let m = first_map at_line (filter (is_bad e) (observed e)) c here in
               (start, e, m.0, m.2, first_bad_here e es start m.0 (first_filter (is_bad e) (observed e) m.0 m.1))
@@ -103,8 +104,8 @@ module _ (good : Event → Entry → Bool) (events : List Event) where
         ]
 
     -- where no bad read is listed there is none
-    pub none_bad : (start : ℕ) (es : List Event) → bad_reads good fault events start es ≡ [] → (l p : ℕ) (x : Event) (w : Entry)
-        → BadAt es start l p x w → ⊥
+    pub none_bad : (start : ℕ) (es : List Event) → bad_reads good fault events start es ≡ []
+        → (l p : ℕ) (x : Event) (w : Entry) → BadAt es start l p x w → ⊥
     none_bad start [] none l p x w b = stands_nowhere start l b.before x b.stands
     none_bad start (e ∷ es) none l p x w b =
         let at_line : Entry → CheckFault = λ o. fault start o.version in

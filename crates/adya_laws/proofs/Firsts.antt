@@ -32,7 +32,8 @@ stands_nowhere start line (y ∷ before) x s = let e = s.splits in cc (e)
 -- what stands in a list is its first element, or stands in the rest
 pub stands_cases : {X : Type 0} (y : X) (xs : List X) (start line : ℕ) (before : List X) (x : X)
     → Stands (y ∷ xs) start line before x
-    → ((before ≡ []) × (y ≡ x) × (line ≡ start)) ⊎ ((rest : List X) × (before ≡ y ∷ rest) × Stands xs (suc start) line rest x)
+    → ((before ≡ []) × (y ≡ x) × (line ≡ start)) ⊎
+    ((rest : List X) × (before ≡ y ∷ rest) × Stands xs (suc start) line rest x)
 stands_cases y xs start line [] x s =
     let c = s.counts in inl (refl, same_head y x xs s.after s.splits, omega (arith, c))
 stands_cases y xs start line (z ∷ before) x s =

@@ -90,7 +90,8 @@ module _ (h : History) where
 
   pub ends_break : (line : ℕ) (r : Rule) → Contains from_unfinished (Malformed line r) → BreaksRule h line r
   ends_break line r c =
-      elim (Contains-append_cases (unfinished_faults h.events (unfinished_line h) h.unfinished) _ (Malformed line r) c) [
+      let faults = unfinished_faults h.events (unfinished_line h) h.unfinished in
+      elim (Contains-append_cases faults _ (Malformed line r) c) [
         | inl d ↦ unfinished_breaks line r d
         | inr d ↦
             (elim (Contains-append_cases (fault_unless (all_end h) (orders_line h) M6) _ (Malformed line r) d) [

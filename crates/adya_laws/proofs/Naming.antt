@@ -27,7 +27,8 @@ aborted_line l v m w e = cc (e)
 pub aborted_version : (l : ℕ) (v : Version) (m : ℕ) (w : Version) → AbortedRead l v ≡ AbortedRead m w → v ≡ w
 aborted_version l v m w e = cc (e)
 
-pub intermediate_line : (l : ℕ) (v : Version) (m : ℕ) (w : Version) → IntermediateRead l v ≡ IntermediateRead m w → l ≡ m
+pub intermediate_line : (l : ℕ) (v : Version) (m : ℕ) (w : Version) → IntermediateRead l v ≡ IntermediateRead m w
+    → l ≡ m
 intermediate_line l v m w e = cc (e)
 
 pub intermediate_version : (l : ℕ) (v : Version) (m : ℕ) (w : Version) → IntermediateRead l v ≡ IntermediateRead m w

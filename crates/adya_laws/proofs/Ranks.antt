@@ -1,5 +1,5 @@
 -- The faults of the rules stand by line and rule, so the first of them is the least.
-use Rattle.std.proofs.Common.{◌≡◌, ℕ, suc, ◌+◌, ◌*◌, ◌<◌, ◌≤◌, ◌==◌, Bool, true, false, if◌then◌else◌, not, append_assoc, List, [], ◌∷◌, ◌++◌, length, Some, refl, sym, ◌∙◌, ap, subst, arith, inl, inr}
+use Rattle.std.proofs.Common.{◌≡◌, ℕ, suc, ◌+◌, ◌*◌, ◌-◌, get_or, ◌<◌, ◌≤◌, Bool, true, false, not, append_assoc, List, [], ◌∷◌, ◌++◌, length, Some, refl, sym, ◌∙◌, ap, subst, arith, inl, inr}
 use Rattle.std.specs.List.{Contains}
 use Rattle.std.proofs.lemmas.Bool.{cases_lt}
 use Rattle.std.proofs.lemmas.Option.{same_Some}
@@ -131,9 +131,14 @@ pub unless_in_order : (b : Bool) (line : ℕ) (rule : Rule) (low high : ℕ) →
 unless_in_order true line rule low high l m = none_in_order low high
 unless_in_order false line rule low high l m = one_in_order (Malformed line rule) low high l m
 
+-- a list of faults that has one for each line whose test fails
+abbrev pub StepsBy : {X : Type 0} → (X → Bool) → Rule → (ℕ → List X → List CheckFault) → Type 0
+StepsBy {X} test rule faults =
+    (line : ℕ) (x : X) (xs : List X) → faults line (x ∷ xs) ≡ fault_unless (test x) line rule ++ faults (suc line) xs
+
 module _ {X : Type 0} (test : X → Bool) (rule : Rule) (faults : ℕ → List X → List CheckFault)
     (none : (line : ℕ) → faults line [] ≡ [])
-    (step : (line : ℕ) (x : X) (xs : List X) → faults line (x ∷ xs) ≡ fault_unless (test x) line rule ++ faults (suc line) xs) where
+    (step : StepsBy test rule faults) where
   pub lines_in_order : (start : ℕ) (xs : List X)
       → InOrder (9 * start + number rule) (9 * (start + length xs) + number rule) (faults start xs)
   lines_in_order start [] = subst (InOrder _ _) (sym (none start)) (none_in_order _ _)
@@ -210,19 +215,19 @@ module _ (h : History) where
       let f7 = fault_unless (has_finals h) (tail_line h) M8 in
       let late = append_in_order _ (9 * finals_line h + 8) _ (f4 ++ f5) (f6 ++ f7) (omega arith) (omega arith)
       orders_in_order finals_in_order in
-      let middle = append_in_order _ (9 * orders_line h + 7) _ (f2 ++ f3) ((f4 ++ f5) ++ (f6 ++ f7)) (omega arith) (omega arith)
-      unfinished_in_order late in
+      let middle = append_in_order _ (9 * orders_line h + 7) _ (f2 ++ f3) ((f4 ++ f5) ++ (f6 ++ f7)) (omega arith)
+      (omega arith) unfinished_in_order late in
+      let events = wider _ _ 18 (9 * unfinished_line h + 6) f1 (events_in_order [] 2 h.events) (omega arith)
+      (omega arith) in
       let all = append_in_order _ (9 * unfinished_line h + 6) _ f1 ((f2 ++ f3) ++ ((f4 ++ f5) ++ (f6 ++ f7)))
-      (omega arith) (omega arith)
-      (wider _ _ 18 (9 * unfinished_line h + 6) f1 (events_in_order [] 2 h.events) (omega arith) (omega arith)) middle in
+      (omega arith) (omega arith) events middle in
       subst (InOrder 18 (9 * tail_line h + 9))
       (ap (λ xs. f1 ++ xs) (append_assoc f2 f3 ((f4 ++ f5) ++ (f6 ++ f7)) ∙
       ap (λ xs. f2 ++ (f3 ++ xs)) (append_assoc f4 f5 (f6 ++ f7)))) all
 
 -- the rule of the number
 abbrev pub rule_of : ℕ → Rule
-rule_of n =
-    if n == 1 then M1 else if n == 2 then M2 else if n == 3 then M3 else if n == 4 then M4 else if n == 5 then M5 else if n == 6 then M6 else if n == 7 then M7 else M8
+rule_of n = get_or (M1 ∷ M2 ∷ M3 ∷ M4 ∷ M5 ∷ M6 ∷ M7 ∷ M8 ∷ []) (n - 1) M8
 
 pub rule_of-number : (r : Rule) → rule_of (number r) ≡ r
 rule_of-number M1 = refl

@@ -35,8 +35,9 @@ each_when P front start (e ∷ es) h = (
       (h line (e ∷ before) x (stands_cons e es start line before x s))),
 )
 
-pub each_at : (P : List Event → Event → Type 0) (front : List Event) (start : ℕ) (es : List Event) → EachAfter P front es
-    → (line : ℕ) (before : List Event) (e : Event) → Stands es start line before e → P (front ++ before) e
+pub each_at : (P : List Event → Event → Type 0) (front : List Event) (start : ℕ) (es : List Event)
+    → EachAfter P front es → (line : ℕ) (before : List Event) (e : Event) → Stands es start line before e
+    → P (front ++ before) e
 each_at P front start [] h line before e s = absurd (stands_nowhere start line before e s)
 each_at P front start (x ∷ es) h line before e s =
     elim (stands_cases x es start line before e s) [
@@ -49,7 +50,8 @@ each_at P front start (x ∷ es) h line before e s =
 
 -- a key has an order line, or none
 pub order_cases : (os : List Order) (k : List ℕ)
-    → ((o : Order) × Contains os o × (o.key ≡ k) × (line_of os k ≡ o.writers)) ⊎ ((line_of os k ≡ []) × ((o : Order) → Contains os o → o.key ≡ k → ⊥))
+    → ((o : Order) × Contains os o × (o.key ≡ k) × (line_of os k ≡ o.writers)) ⊎
+    ((line_of os k ≡ []) × ((o : Order) → Contains os o → o.key ≡ k → ⊥))
 order_cases [] k = inr (refl, λ o c e. none_contained o c)
 order_cases (o ∷ os) k =
     elim (cases_Bool (key_eq o.key k)) [
@@ -69,7 +71,8 @@ order_cases (o ∷ os) k =
     ]
 
 pub final_cases : (fs : List FinalPair) (k : List ℕ)
-    → ((f : FinalPair) × Contains fs f × (f.key ≡ k) × (final_value fs k ≡ Some f.value)) ⊎ ((final_value fs k ≡ None) × ((f : FinalPair) → Contains fs f → f.key ≡ k → ⊥))
+    → ((f : FinalPair) × Contains fs f × (f.key ≡ k) × (final_value fs k ≡ Some f.value)) ⊎
+    ((final_value fs k ≡ None) × ((f : FinalPair) → Contains fs f → f.key ≡ k → ⊥))
 final_cases [] k = inr (refl, λ f c e. none_contained f c)
 final_cases (f ∷ fs) k =
     elim (cases_Bool (key_eq f.key k)) [
