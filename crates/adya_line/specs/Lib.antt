@@ -1,0 +1,3 @@
+pub mod Spelling
+pub mod Limits
+pub mod Reading

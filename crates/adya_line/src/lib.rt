@@ -1,0 +1,2 @@
+//! The lines of a history text and of a certificate text.
+#![tactic(auto)]
