@@ -1,3 +1,4 @@
 pub mod Spelling
 pub mod Limits
 pub mod Reading
+pub mod Views
