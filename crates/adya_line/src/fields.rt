@@ -6,7 +6,7 @@ ghost use Rattle.std.specs.Char.{is_ascii_digit};
 ghost use Rattle.std.specs.Str.{all_ascii_digits};
 ghost use Rattle.std.specs.Str.Parse.{digits_value};
 ghost use Rattle.adya_terms.specs.Keys.{is_key, is_value, is_key_byte, is_value_byte, IsTxn, IsMod};
-ghost use Rattle.adya_line.specs.Reading.{Gives, after, text_at, txn_at, mod_at, version_at};
+ghost use Rattle.adya_line.specs.Reading.{Gives, after, text_at, txn_at, mod_at, version_at, key_between};
 ghost use Rattle.adya_line.specs.Views.{view_version};
 
 use crate::event_ref::VersionRef;
@@ -115,4 +115,15 @@ pub(crate) fn version_at(bytes: &[u8]) -> Option<(VersionRef<'_>, &[u8])>
     let rest = after(b':', rest)?;
     let (m, rest) = mod_at(rest)?;
     Some((VersionRef { key, txn, m }, rest))
+}
+
+/// The key between the two bytes, the first of which is at the front, and what follows.
+#[tactic(auto, unfolding(crate::specs::Reading::key_between))]
+pub(crate) fn key_between(opening: u8, closing: u8, bytes: &[u8]) -> Option<(&[u8], &[u8])>
+    ensures exact { Gives (λ x. (x.0.now, x.1.now)) result (key_between opening closing bytes.now) }
+    ensures good { IfSome result (λ x. is_key x.0.now ≡ true) }
+{
+    let rest = after(opening, bytes)?;
+    let (key, rest) = key_at(rest)?;
+    Some((key, after(closing, rest)?))
 }

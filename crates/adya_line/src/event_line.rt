@@ -1,15 +1,16 @@
-//! Events from lines.
+//! The lines of events.
 
 ghost use Rattle.std.specs.Prelude.{◌≡◌, IfSome, MatchOption};
-ghost use Rattle.adya_terms.specs.Keys.{IsTxn};
-ghost use Rattle.adya_terms.specs.Histories.{Event};
-ghost use Rattle.adya_line.specs.Reading.{Gives, write_at, read_at, txn_at_line, event_at};
+ghost use Rattle.adya_terms.specs.Histories.{Event as Plain, event_of};
+ghost use Rattle.adya_line.specs.Reading.{Gives, write_at, read_at, event_at};
 ghost use Rattle.adya_line.specs.Spelling.{event_text};
 ghost use Rattle.adya_line.specs.Limits.{IsEvent};
 ghost use Rattle.adya_line.specs.Views.{view};
 
 use crate::event_ref::{EndRef, EventRef, ReadRef, WriteRef};
 use crate::fields::{after, txn_at, value_at, version_at};
+use crate::txn_line::txn_at_line;
+use adya_terms::Event;
 
 /// A write behind its letter.
 #[tactic(auto, unfolding(crate::specs::Reading::write_at))]
@@ -49,16 +50,6 @@ fn read_at(bytes: &[u8]) -> Option<EventRef<'_>>
     }))
 }
 
-/// The number that is all of the line.
-#[tactic(auto, unfolding(crate::specs::Reading::txn_at_line))]
-pub(crate) fn txn_at_line(bytes: &[u8]) -> Option<u32>
-    ensures exact { Gives (λ x. x) result (txn_at_line bytes.now) }
-    ensures good { IfSome result (λ x. IsTxn x) }
-{
-    let (txn, rest) = txn_at(bytes)?;
-    rest.is_empty().then_some(txn)
-}
-
 #[tactic(auto, unfolding(crate::specs::Reading::event_at))]
 fn event_at(line: &[u8]) -> Option<EventRef<'_>>
     ensures { Gives view result (event_at line.now) }
@@ -81,7 +72,14 @@ fn event_at(line: &[u8]) -> Option<EventRef<'_>>
 pub fn read_event(line: &[u8]) -> Option<EventRef<'_>>
     ensures found { IfSome result (λ e. (line.now ≡ event_text (view e)) × IsEvent (view e)) }
     ensures exact { Gives view result (event_at line.now) }
-    ensures only { (e : Event) → IsEvent e → line.now ≡ event_text e → MatchOption result ⊥ (λ r. view r ≡ e) }
+    ensures only { (e : Plain) → IsEvent e → line.now ≡ event_text e → MatchOption result ⊥ (λ r. view r ≡ e) }
 {
     event_at(line)
+}
+
+/// The event whose line this is, by itself. None where [`read_event`] gives none.
+pub fn event(line: &[u8]) -> Option<Event>
+    ensures { Gives event_of result (event_at line.now) }
+{
+    Some(read_event(line)?.event())
 }
