@@ -2,3 +2,4 @@ pub mod Spelling
 pub mod Limits
 pub mod Reading
 pub mod Views
+pub mod Growing

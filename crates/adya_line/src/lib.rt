@@ -7,9 +7,11 @@ mod fields;
 mod final_line;
 mod order_line;
 mod txn_line;
+mod writing;
 
 pub use event_line::{event, read_event};
 pub use event_ref::{EndRef, EventRef, ReadRef, VersionRef, WriteRef};
 pub use final_line::final_pair;
 pub use order_line::order;
 pub use txn_line::txn;
+pub use writing::{write_final, write_txn};
