@@ -1,5 +1,6 @@
 -- What is written part by part.
-use Rattle.std.proofs.Common.{ℕ, List, [], ◌++◌, Option, Some, None, sym, ap, ◌∙◌, append_assoc}
+use Rattle.std.proofs.Common.{ℕ, List, [], ◌++◌, Option, Some, None, Result, Ok, Err, sym, ap, ◌∙◌, append_assoc}
+use Rattle.std.specs.Prelude.{OnOk}
 use Rattle.std.specs.Io.KnownBytes.{Appends}
 use Rattle.std.proofs.lemmas.List.{append-nil}
 use Rattle.adya_line.specs.Growing.{Grows}
@@ -21,3 +22,8 @@ none_at (Some xs) = sym (append-nil xs)
 -- nothing
 pub none : {a : Option (List ℕ)} → Grows a [] a
 none {a = a} = record { appends = none_at a }
+
+-- the last part, which may fail
+pub last_part : {E : Type 0} {a b : Option (List ℕ)} {x : List ℕ} (c : Option (List ℕ)) (y : List ℕ) (r : Result (Unit {0}) E) → Grows a x b → OnOk r (Grows b y c) → OnOk r (Grows a (x ++ y) c)
+last_part c y (Ok u) p q = and_then p q
+last_part c y (Err e) p q = tt

@@ -14,4 +14,4 @@ pub use event_ref::{EndRef, EventRef, ReadRef, VersionRef, WriteRef};
 pub use final_line::final_pair;
 pub use order_line::order;
 pub use txn_line::txn;
-pub use writing::{write_final, write_txn};
+pub use writing::{write_event, write_final, write_order, write_txn};

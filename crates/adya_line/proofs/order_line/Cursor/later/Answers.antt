@@ -1,4 +1,4 @@
-use Rattle.std.proofs.Common.{◌≡◌, ◌<◌, [], ◌∷◌, ◌++◌, length, arith, rules}
+use Rattle.std.proofs.Common.{◌<◌, [], ◌∷◌, length, arith}
 use Rattle.adya_line.specs.Reading.{behind, later_at}
 use Rattle.adya_line.proofs.Orders.{goes_on, fails, is_done, after_shorter, writer_shorter}
 use Rattle.adya_line.proofs.order_line.Cursor.later.Goals as goal
@@ -18,8 +18,7 @@ later-smaller c =
 pub later-preserved : goal.later-preserved
 later-preserved c =
     let bytes = c.args.self.now.rest.now in
-    let pushed : c.push.new.self.items ≡ c.later.writers.items ++ c.in-Some-writer.writer ∷ [] = Prim.search rules in
-    rw pushed (goes_on c.later.writers.items c.later.self.rest.now c.in-Some.rest.now c.writer.new.self.rest.now c.in-Some-writer.writer (behind (c.args.first ∷ []) (later_at (length bytes) bytes)) c.in-Some.ensures c.in-Some-writer.ensures c.later.invariant)
+    rw c.in_ok-push-2.ensures.items (goes_on c.later.writers.items c.later.self.rest.now c.in-Some.rest.now c.writer.new.self.rest.now c.in-Some-writer.writer (behind (c.args.first ∷ []) (later_at (length bytes) bytes)) c.in-Some.ensures c.in-Some-writer.ensures c.later.invariant)
 
 pub returns : goal.returns
 returns c =
