@@ -2,4 +2,5 @@ pub mod Digits
 pub mod Parts
 pub mod Events
 pub mod Orders
+pub mod Finals
 pub mod Growth
