@@ -5,6 +5,7 @@ mod event_line;
 mod event_ref;
 mod fields;
 mod final_line;
+pub mod laws;
 mod order_line;
 mod txn_line;
 mod writing;
