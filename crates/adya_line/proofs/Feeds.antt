@@ -1,15 +1,15 @@
 -- No line has a line feed in it.
-use Rattle.std.proofs.Common.{◌≡◌, ◌≢◌, ℕ, ◌<◌, ◌≤◌, ◌^◌, Bool, true, false, List, [], ◌∷◌, ◌++◌, length, refl, sym, ap, ◌∙◌, arith}
+use Rattle.std.proofs.Common.{◌≡◌, ◌≢◌, ℕ, ◌<◌, ◌^◌, Bool, true, false, List, [], ◌∷◌, ◌++◌, length, refl, ap, ◌∙◌, arith}
 use Rattle.std.specs.Prelude.{decimal, codes, nat_lt, nat_le, ◌&&◌, not, ◌==◌}
-use Rattle.std.specs.List.{All, list_all, flat_map, AllByRecursion}
+use Rattle.std.specs.List.{list_all, flat_map, AllByRecursion}
 use Rattle.std.specs.Char.{is_ascii_digit}
 use Rattle.std.proofs.lemmas.Bool.{both_ways}
-use Rattle.std.proofs.lemmas.List.Elements.{All-nil, All-append, All-from_recursion}
+use Rattle.std.proofs.lemmas.List.Elements.{All-append, All-from_recursion}
 use Rattle.std.proofs.lemmas.List.Concat.{flat_map-cons}
 use Rattle.std.proofs.lemmas.Fmt.{digits_decimal}
 use Rattle.adya_terms.specs.declared.event.Version.{Version}
-use Rattle.adya_terms.specs.Keys.{is_text, is_key, is_value, is_key_byte, is_value_byte, IsTxn}
-use Rattle.adya_terms.specs.Histories.{Event, Write, Delete, Read, Scan, Commit, Abort, Order, FinalPair}
+use Rattle.adya_terms.specs.Keys.{is_key, is_value, is_key_byte, is_value_byte, IsTxn}
+use Rattle.adya_terms.specs.Histories.{Write, Delete, Read, Scan, Commit, Abort}
 use Rattle.adya_line.specs.Spelling.{history_head, serial_head, tail, version_text, event_text, later_text, writers_text, order_text, final_text}
 use Rattle.adya_line.specs.Limits.{IsVersion, IsEvent, IsOrder, IsFinal}
 use Rattle.adya_line.specs.Laws.{IsPlain, HasPlainTexts}

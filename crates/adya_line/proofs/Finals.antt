@@ -1,5 +1,5 @@
 -- What is read is the line's final, and each final is read from its line.
-use Rattle.std.proofs.Common.{◌≡◌, ℕ, List, [], ◌∷◌, ◌++◌, Option, Some, None, refl, sym, ◌∙◌, append_assoc}
+use Rattle.std.proofs.Common.{◌≡◌, ℕ, List, [], ◌∷◌, ◌++◌, Some, refl, sym, ◌∙◌, append_assoc}
 use Rattle.std.specs.Prelude.{codes}
 use Rattle.adya_terms.specs.Keys.{is_key_byte, is_value_byte}
 use Rattle.adya_terms.specs.Histories.{FinalPair}

@@ -1,5 +1,5 @@
 -- What is read is the line's order, and each order is read from its line.
-use Rattle.std.proofs.Common.{◌≡◌, ℕ, zero, suc, ◌+◌, ◌<◌, ◌≤◌, Bool, true, false, get_or, List, [], ◌∷◌, ◌++◌, length, Option, Some, None, refl, sym, ap, ◌∙◌, append_assoc, arith}
+use Rattle.std.proofs.Common.{◌≡◌, ℕ, zero, suc, ◌<◌, ◌≤◌, false, get_or, List, [], ◌∷◌, ◌++◌, length, Option, Some, None, refl, sym, ap, ◌∙◌, append_assoc, arith}
 use Rattle.std.specs.Prelude.{decimal, codes}
 use Rattle.std.specs.Char.{is_ascii_digit}
 use Rattle.std.specs.List.{flat_map, AllByRecursion}
@@ -9,8 +9,8 @@ use Rattle.adya_terms.specs.Keys.{is_key_byte, IsTxn}
 use Rattle.adya_terms.specs.Histories.{Order}
 use Rattle.adya_line.specs.Spelling.{later_text, writers_text, order_text}
 use Rattle.adya_line.specs.Limits.{IsOrder}
-use Rattle.adya_line.specs.Reading.{◌>>=◌, after, txn_at, none_or, writer_at, later_at, writers_at, order_at, behind}
-use Rattle.adya_line.proofs.Parts.{Only, found, then, weaken, ended, if_then, if_after, after_takes, text_takes, text_again, txn_takes, txn_again, key_between_takes, key_between_again}
+use Rattle.adya_line.specs.Reading.{◌>>=◌, after, writer_at, later_at, writers_at, order_at, behind}
+use Rattle.adya_line.proofs.Parts.{Only, found, then, weaken, ended, if_then, if_after, after_takes, txn_takes, txn_again, key_between_takes, key_between_again}
 
 -- ---- what is read is shorter
 

@@ -1,6 +1,6 @@
 -- Each part of a line that is read is spelled so, and what is spelled so is read.
-use Rattle.std.proofs.Common.{◌≡◌, ℕ, ◌+◌, ◌<◌, ◌≤◌, ◌^◌, ◌≢◌, Bool, true, false, cond, eqb, ltb, List, [], ◌∷◌, ◌++◌, length, get_or, take, drop, Option, Some, None, refl, sym, ap, subst, ◌∙◌, append_assoc, arith, inl, inr}
-use Rattle.std.specs.Prelude.{decimal, IfSome, ◌&&◌, not, nat_lt, nat_le, codes}
+use Rattle.std.proofs.Common.{◌≡◌, ℕ, ◌<◌, ◌≤◌, ◌^◌, ◌≢◌, Bool, true, false, cond, eqb, List, [], ◌∷◌, ◌++◌, length, get_or, Option, Some, None, refl, sym, ap, ◌∙◌, append_assoc, arith, inl, inr}
+use Rattle.std.specs.Prelude.{decimal, IfSome, ◌&&◌, not, nat_lt, nat_le}
 use Rattle.std.specs.List.{prefix_len, list_all, take_while}
 use Rattle.std.specs.Char.{is_ascii_digit}
 use Rattle.std.specs.Str.{all_ascii_digits}
@@ -8,12 +8,11 @@ use Rattle.std.specs.Str.Parse.{digits_value}
 use Rattle.std.specs.Cmp.Derive.{both_true}
 use Rattle.std.proofs.lemmas.Bool.{eqb-true, eq-eqb, ltb-true, lt-ltb, le-leb}
 use Rattle.std.proofs.lemmas.Bool.Decides.{eqb_tells}
-use Rattle.std.proofs.lemmas.Option.{cond_some, none-some, same_Some, some_pair_parts}
-use Rattle.std.proofs.lemmas.List.{take_at, drop_at, take-append-drop, length-append, append-nil, nil_from_length, get_or_append_left, get_or-take}
+use Rattle.std.proofs.lemmas.List.{take_at, drop_at, take-append-drop, append-nil, nil_from_length, get_or_append_left, get_or-take}
 use Rattle.std.proofs.lemmas.List.Folds.{length-prefix_len}
 use Rattle.std.proofs.lemmas.Fmt.{decimal-digits_value, digits_decimal, digits_value-decimal, decimal_nonempty, first_decimal}
 use Rattle.adya_terms.specs.declared.event.Version.{Version}
-use Rattle.adya_terms.specs.Keys.{is_text, is_key, is_value, is_key_byte, is_value_byte, IsTxn, IsMod}
+use Rattle.adya_terms.specs.Keys.{is_text, is_key, is_key_byte, IsTxn, IsMod}
 use Rattle.adya_line.specs.Spelling.{version_text}
 use Rattle.adya_line.specs.Limits.{IsVersion}
 use Rattle.adya_line.specs.Reading.{◌>>=◌, after, text_at, txn_at, mod_at, version_at, txn_at_line, none_or, key_between}
