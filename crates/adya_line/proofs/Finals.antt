@@ -32,4 +32,8 @@ final_takes line =
 pub final_again : (f : FinalPair) → IsFinal f → final_at (final_text f) ≡ Some f
 unfolding final_at final_then after is_key_byte is_value_byte
 final_again f is =
-    rw (final_then-is f, key_between_again 123 44 f.key (f.value ++ (125 ∷ [])) is.key refl, text_again 64 is_value_byte f.value (125 ∷ []) is.value refl) refl
+    rw (
+      final_then-is f,
+      key_between_again 123 44 f.key (f.value ++ (125 ∷ [])) is.key refl,
+      text_again 64 is_value_byte f.value (125 ∷ []) is.value refl,
+    ) refl
