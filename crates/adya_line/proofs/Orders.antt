@@ -82,7 +82,8 @@ starts front bytes = record { fuel = length bytes; enough = omega arith; so_far 
 pub goes_on : (front : List ℕ) (bytes rest after_t : List ℕ) (t : ℕ) (total : Option (List ℕ × List ℕ))
     → after 60 bytes ≡ Some rest → writer_at rest ≡ Some (t, after_t)
     → IsOn front bytes total → IsOn (front ++ t ∷ []) after_t total
-goes_on front bytes rest after_t t total mark one on = goes_on_at front bytes rest after_t t total on.fuel mark one on.enough on.so_far
+goes_on front bytes rest after_t t total mark one on =
+    goes_on_at front bytes rest after_t t total on.fuel mark one on.enough on.so_far
 
 pub fails : (front : List ℕ) (bytes rest : List ℕ) (total : Option (List ℕ × List ℕ)) → after 60 bytes ≡ Some rest
     → writer_at rest ≡ None → IsOn front bytes total → total ≡ None
