@@ -14,3 +14,5 @@ pub mod Phenomena
 pub mod Acceptance
 pub mod Faults
 pub mod Certificates
+pub mod Tables
+pub mod Checks

@@ -8,7 +8,9 @@ mod key;
 mod number;
 mod order;
 mod padded;
+mod rules;
 mod serial;
+mod tables;
 mod value;
 
 pub use event::{Event, Version};
