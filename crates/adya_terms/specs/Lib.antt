@@ -16,3 +16,4 @@ pub mod Faults
 pub mod Certificates
 pub mod Tables
 pub mod Checks
+pub mod Laws
