@@ -21,7 +21,7 @@ abbrev pub own_cmp : Own → Own → Ordering
 own_cmp a b = ordering_then (nat_cmp a.txn b.txn) (slice_cmp nat_cmp a.key b.key)
 
 abbrev pub version_cmp : Version → Version → Ordering
-version_cmp a b = ordering_then (ordering_then (slice_cmp nat_cmp a.key b.key) (nat_cmp a.txn b.txn)) (nat_cmp a.m b.m)
+version_cmp a b = ordering_then (slice_cmp nat_cmp a.key b.key) (ordering_then (nat_cmp a.txn b.txn) (nat_cmp a.m b.m))
 
 abbrev pub entry_of : EntryValue → Entry
 entry_of w = entry w.version (Live (value_of w.value))

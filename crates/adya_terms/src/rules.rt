@@ -17,8 +17,7 @@ fn is_open(tables: &Tables, event: &Event) -> bool
         (all before : List EventValue) → Means tables.now all before → result ≡ faults.is_open before (event_of event.now)
     }
 {
-    let txn = event.txn();
-    !(tables.committed.contains(&txn) || tables.aborted.contains(&txn))
+    !tables.has_ended(event.txn())
 }
 
 /// M2: the transaction's writes of a key are numbered from 1.
@@ -117,9 +116,9 @@ pub(crate) fn tables_of(alloc: Global, events: &[Event]) -> Result<Tables, Check
         if let Some(rule) = broken_rule(&tables, events, event) {
             return Err(CheckFault::Malformed { line: i + 2, rule });
         }
-        if tables.record(i, event).is_err() {
+        let Ok(()) = tables.record(i, event) else {
             return Err(CheckFault::Memory);
-        }
+        };
     }
     Ok(tables)
 }

@@ -1,6 +1,6 @@
 //! What the events so far say of transactions, of their keys and of versions.
 
-ghost use Rattle.std.specs.Prelude.{◌≡◌, ◌++◌, [], ◌∷◌, List, true, Some, map, option_map, slice_get, IfOk};
+ghost use Rattle.std.specs.Prelude.{◌≡◌, ◌||◌, ◌++◌, [], ◌∷◌, List, true, Some, map, option_map, slice_get, IfOk};
 ghost use Rattle.std.specs.Ordering.{nat_cmp};
 ghost use Rattle.std.specs.BTreeMap.{get};
 ghost use Rattle.std.specs.BTreeSet.{contains};
@@ -90,6 +90,27 @@ impl Tables {
             last: BTreeMap::new(alloc),
             versions: BTreeMap::new(alloc),
         }
+    }
+
+    /// Whether the transaction has committed.
+    pub fn has_committed(&self, txn: Txn) -> bool
+        ensures { result ≡ contains nat_cmp self.now.committed txn }
+    {
+        self.committed.contains(&txn)
+    }
+
+    /// Whether the transaction has aborted.
+    pub fn has_aborted(&self, txn: Txn) -> bool
+        ensures { result ≡ contains nat_cmp self.now.aborted txn }
+    {
+        self.aborted.contains(&txn)
+    }
+
+    /// Whether the transaction has committed or aborted.
+    pub fn has_ended(&self, txn: Txn) -> bool
+        ensures { result ≡ (contains nat_cmp self.now.committed txn || contains nat_cmp self.now.aborted txn) }
+    {
+        self.has_committed(txn) || self.has_aborted(txn)
     }
 
     /// The transaction's last write of the key.

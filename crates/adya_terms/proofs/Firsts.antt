@@ -1,0 +1,35 @@
+-- The first fault of joined lists, and of the events from one on.
+use Rattle.std.proofs.Common.{◌≡◌, ℕ, suc, ◌+◌, List, [], ◌∷◌, ◌++◌, Some, take, drop, refl, sym, ◌∙◌, ap, subst, arith}
+use Rattle.adya_terms.specs.declared.fault.Rule.{Rule}
+use Rattle.adya_terms.specs.declared.fault.CheckFault.{CheckFault}
+use Rattle.adya_terms.specs.declared.fault.CheckFault.TheVariants.{Malformed, AbortedRead, IntermediateRead, Memory}
+use Rattle.adya_terms.specs.Histories.{Event}
+use Rattle.adya_terms.specs.Faults.{first, faults_at, event_faults}
+use Rattle.adya_terms.specs.Checks.{Names}
+use Rattle.adya_terms.proofs.Turns.{Turn}
+
+pub first_front : {X : Type 0} (xs ys : List X) (x : X) → first xs ≡ Some x → first (xs ++ ys) ≡ Some x
+first_front [] ys x e = absurd (cc (e))
+first_front (z ∷ xs) ys x e = e
+
+pub first_rest : {X : Type 0} (xs ys : List X) (x : X) → xs ≡ [] → first ys ≡ Some x → first (xs ++ ys) ≡ Some x
+first_rest xs ys x none e = subst (λ zs. first (zs ++ ys) ≡ Some x) (sym none) e
+
+-- the faults from an event on
+faults_from : (all : List Event) (i : ℕ) (e : Event) → Turn all i e
+    → event_faults (take i all) (2 + i) (drop i all) ≡ faults_at (take i all) (2 + i) e ++ event_faults (take (i + 1) all) (2 + (i + 1)) (drop (i + 1) all)
+faults_from all i e t =
+    let line : suc (2 + i) ≡ 2 + (i + 1) = omega arith in
+    ap (event_faults (take i all) (2 + i)) t.rest ∙
+    (ap (λ n. faults_at (take i all) (2 + i) e ++ event_faults (take i all ++ e ∷ []) n (drop (i + 1) all)) line ∙
+    ap (λ b. faults_at (take i all) (2 + i) e ++ event_faults b (2 + (i + 1)) (drop (i + 1) all)) (sym t.front))
+
+pub fault_here : (all : List Event) (i : ℕ) (e : Event) → Turn all i e → (fault : CheckFault) → first (faults_at (take i all) (2 + i) e) ≡ Some fault
+    → first (event_faults (take i all) (2 + i) (drop i all)) ≡ Some fault
+fault_here all i e t fault h =
+    ap first (faults_from all i e t) ∙ first_front (faults_at (take i all) (2 + i) e) (event_faults (take (i + 1) all) (2 + (i + 1)) (drop (i + 1) all)) fault h
+
+pub fault_later : (all : List Event) (i : ℕ) (e : Event) → Turn all i e → faults_at (take i all) (2 + i) e ≡ []
+    → event_faults (take i all) (2 + i) (drop i all) ≡ event_faults (take (i + 1) all) (2 + (i + 1)) (drop (i + 1) all)
+fault_later all i e t h =
+    faults_from all i e t ∙ ap (λ fs. fs ++ event_faults (take (i + 1) all) (2 + (i + 1)) (drop (i + 1) all)) h
