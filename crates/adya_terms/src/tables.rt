@@ -1,6 +1,6 @@
 //! What the events so far say of transactions, of their keys and of versions.
 
-ghost use Rattle.std.specs.Prelude.{◌≡◌, ◌||◌, ◌++◌, [], ◌∷◌, List, true, Some, map, option_map, slice_get, IfOk};
+ghost use Rattle.std.specs.Prelude.{◌≡◌, ◌||◌, ◌&&◌, is_some, ◌++◌, [], ◌∷◌, List, true, Some, map, option_map, slice_get, IfOk};
 ghost use Rattle.std.specs.Ordering.{nat_cmp};
 ghost use Rattle.std.specs.BTreeMap.{get};
 ghost use Rattle.std.specs.BTreeSet.{contains};
@@ -120,6 +120,17 @@ impl Tables {
         }
     {
         wrote_at(events, self.last.get(&Own { txn, key }).copied())
+    }
+
+    /// Whether the transaction is committed and wrote the key.
+    pub fn installs(&self, events: &[Event], txn: Txn, key: Key) -> bool
+        ensures {
+            result
+                ≡ (contains nat_cmp self.now.committed txn
+                    && is_some (written_at (map event_of events.now) (get own_cmp self.now.last (own txn key))))
+        }
+    {
+        self.has_committed(txn) && self.last_write(events, txn, key).is_some()
     }
 
     /// Whether the version was written with the value.

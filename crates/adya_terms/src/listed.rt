@@ -1,0 +1,167 @@
+//! M7: the order of a key lists its committed writers, once each.
+
+ghost use Rattle.std.specs.Prelude.{◌≡◌, ◌+◌, ◌==◌, ℕ, List, [], true, not, ◌&&◌, ◌||◌, map, cond, count_by, option_copied, IfOk, MatchOption, MatchResult, Contains};
+ghost use Rattle.std.specs.List.{list_all, list_any};
+ghost use Rattle.std.specs.BTreeMap.{get};
+ghost use Rattle.std.specs.BTreeSet.{contains};
+ghost use Rattle.std.specs.Ordering.{nat_cmp};
+ghost use Rattle.std.specs.Cmp.Lexicographic.{slice_cmp};
+ghost use Rattle.adya_terms.specs.Keys.{key_eq, keys_rise};
+ghost use Rattle.adya_terms.specs.Histories.{event_of, order_of};
+ghost use Rattle.adya_terms.specs.Events.{written, is_committed};
+ghost use Rattle.adya_terms.specs.Faults as faults;
+ghost use Rattle.adya_terms.specs.Rules.{installs};
+ghost use Rattle.adya_terms.specs.Tables.{own, own_cmp, Means};
+ghost use Rattle.adya_terms.specs.Checks as checks;
+ghost use Rattle.adya_terms.specs.Checks.{Names, Lists};
+
+use crate::tables::{Own, Tables, wrote};
+use crate::{CheckFault, Event, Key, Order, Rule, Txn};
+use std::alloc::{AllocError, Global};
+use std::collections::{BTreeMap, BTreeSet};
+
+/// How often the lines of a key list a transaction, where they do.
+#[derive(Clone, Copy)]
+pub(crate) enum Times {
+    Once,
+    More,
+}
+
+/// How often the lines of each key list each transaction.
+fn listed(alloc: Global, orders: &[Order]) -> Result<BTreeMap<Own, Times>, AllocError>
+    ensures { IfOk result (λ m. Lists m (map order_of orders.now)) }
+{
+    let mut listed = BTreeMap::new(alloc);
+    for order in orders {
+        list(&mut listed, order.key, &order.writers)?;
+    }
+    Ok(listed)
+}
+
+fn list(listed: &mut BTreeMap<Own, Times>, key: Key, writers: &[Txn]) -> Result<(), AllocError>
+    ensures {
+        IfOk result
+            (λ u. (n : ℕ → List ℕ → ℕ)
+                → ((t : ℕ) (k : List ℕ) → get own_cmp listed.old (own t k) ≡ checks.times (n t k))
+                → (t : ℕ) (k : List ℕ)
+                → get own_cmp listed.new (own t k)
+                    ≡ checks.times (n t k + cond (key_eq key k) (count_by (λ u. u == t) writers.now) 0))
+    }
+{
+    for txn in writers {
+        let own = Own { txn: *txn, key };
+        let times = match listed.get(&own) {
+            None => Times::Once,
+            Some(_) => Times::More,
+        };
+        listed.insert(own, times)?;
+    }
+    Ok(())
+}
+
+/// The keys of committed writes that no line of their key lists.
+fn unlisted(
+    alloc: Global,
+    tables: &Tables,
+    events: &[Event],
+    listed: &BTreeMap<Own, Times>,
+) -> Result<BTreeSet<Key>, AllocError> {
+    let mut keys = BTreeSet::new(alloc);
+    for event in events {
+        if let Some(new) = wrote(event) {
+            if is_unlisted(tables, listed, new.version.txn, new.version.key) {
+                keys.insert(new.version.key)?;
+            }
+        }
+    }
+    Ok(keys)
+}
+
+fn is_unlisted(tables: &Tables, listed: &BTreeMap<Own, Times>, txn: Txn, key: Key) -> bool {
+    tables.has_committed(txn) && listed.get(&Own { txn, key }).is_none()
+}
+
+/// Whether a transaction that is listed so often is listed right.
+fn fits(times: Option<Times>, wanted: bool) -> bool
+    ensures { result ≡ checks.fits times wanted }
+{
+    match times {
+        None => !wanted,
+        Some(Times::Once) => wanted,
+        Some(Times::More) => false,
+    }
+}
+
+/// Whether each transaction of the line belongs there, and is there once.
+fn all_belong(tables: &Tables, events: &[Event], listed: &BTreeMap<Own, Times>, order: &Order) -> bool {
+    for txn in &order.writers {
+        let own = Own {
+            txn: *txn,
+            key: order.key,
+        };
+        if !fits(listed.get(&own).copied(), tables.installs(events, *txn, order.key)) {
+            return false;
+        }
+    }
+    true
+}
+
+/// The first line that doesn't list the committed writers of its key, once each.
+pub(crate) fn check_orders(
+    alloc: Global,
+    tables: &Tables,
+    events: &[Event],
+    orders: &[Order],
+) -> Result<(), CheckFault> {
+    let Ok(listed) = listed(alloc, orders) else {
+        return Err(CheckFault::Memory);
+    };
+    let Ok(unlisted) = unlisted(alloc, tables, events, &listed) else {
+        return Err(CheckFault::Memory);
+    };
+    check_lines(tables, events, orders, &listed, &unlisted)
+}
+
+fn check_lines(
+    tables: &Tables,
+    events: &[Event],
+    orders: &[Order],
+    listed: &BTreeMap<Own, Times>,
+    unlisted: &BTreeSet<Key>,
+) -> Result<(), CheckFault> {
+    let first = events.len() + 2;
+    for (i, order) in orders.iter().enumerate() {
+        if unlisted.contains(&order.key) || !all_belong(tables, events, listed, order) {
+            return Err(broken(first, i, Rule::M7));
+        }
+    }
+    Ok(())
+}
+
+/// The rule is broken so many lines after the line; `Memory` where that line has no number.
+pub(crate) fn broken(line: usize, after: usize, rule: Rule) -> CheckFault {
+    match line.checked_add(after) {
+        None => CheckFault::Memory,
+        Some(line) => CheckFault::Malformed { line, rule },
+    }
+}
+
+/// The line of the key.
+pub(crate) fn line_of(orders: &[Order], key: Key) -> Option<&Order> {
+    match orders.binary_search_by(|o| o.key.cmp(&key)) {
+        Err(_) => None,
+        Ok(at) => orders.get(at),
+    }
+}
+
+/// Whether each committed write has a line of its key.
+pub(crate) fn has_lines(tables: &Tables, events: &[Event], orders: &[Order]) -> bool {
+    for event in events {
+        if let Some(new) = wrote(event) {
+            if tables.has_committed(new.version.txn) && line_of(orders, new.version.key).is_none() {
+                return false;
+            }
+        }
+    }
+    true
+}
