@@ -1,5 +1,6 @@
 -- The turn of a loop over a list, whose elements are seen as others.
-use Rattle.std.proofs.Common.{◌≡◌, ℕ, ◌+◌, ◌<◌, List, [], ◌∷◌, ◌++◌, Some, slice_get, map, take, drop, length, get_or, refl, sym, ◌∙◌, ap}
+use Rattle.std.proofs.Common.{◌≡◌, ℕ, ◌+◌, ◌<◌, Bool, true, ◌&&◌, List, [], ◌∷◌, ◌++◌, Some, slice_get, map, take, drop, length, get_or, refl, sym, ◌∙◌, ap}
+use Rattle.std.specs.List.{list_all}
 use Rattle.std.specs.Option.{option_map}
 use Rattle.std.proofs.lemmas.Option.{slice_get-map, slice_get_read, get_or_from_slice_get}
 use Rattle.std.proofs.lemmas.List.{length-map, take_more}
@@ -23,3 +24,8 @@ turn f ys i y l at =
       rest = drop_step (map f ys) i (f y) less (sym item);
       front = take_more (map f ys) i (f y) less ∙ ap (λ z. take i (map f ys) ++ z ∷ []) item;
     }
+
+pub list_all_goes : {X Y : Type 0} (f : X → Bool) (view : Y → X) (ys : List Y) (i : ℕ) (y : Y) → i < length ys → y ≡ get_or ys i y → f (view y) ≡ true
+    → list_all f (map view (drop i ys)) ≡ list_all f (map view (drop (i + 1) ys))
+list_all_goes f view ys i y l at e =
+    ap (λ x. list_all f (map view x)) (drop_step ys i y l at) ∙ ap (λ b. b && list_all f (map view (drop (i + 1) ys))) e

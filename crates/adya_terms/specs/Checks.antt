@@ -1,6 +1,8 @@
 -- What the parts of a check answer.
-use Rattle.std.specs.Prelude.{◌≡◌, ℕ, zero, suc, ◌==◌, Bool, true, false, cond, not, ◌&&◌, List, [], Option, Some, None, map, filter, count_by, sum_by}
+use Rattle.std.specs.Prelude.{◌≡◌, ℕ, zero, suc, ◌==◌, Bool, true, false, cond, not, ◌&&◌, ◌||◌, List, [], Option, Some, None, map, filter, count_by, sum_by}
+use Rattle.std.specs.List.{list_any}
 use Rattle.std.specs.BTreeMap.{BTreeMap, get}
+use Rattle.adya_terms.specs.declared.event.Version.{Version}
 use Rattle.adya_terms.specs.declared.event.Event.{Event as EventValue}
 use Rattle.adya_terms.specs.declared.order.Order.{Order as OrderValue}
 use Rattle.adya_terms.specs.declared.order.FinalPair.{FinalPair as FinalValue}
@@ -11,8 +13,8 @@ use Rattle.adya_terms.specs.declared.listed.Times.{Times}
 use Rattle.adya_terms.specs.declared.listed.Times.TheVariants.{Once, More}
 use Rattle.adya_terms.specs.Keys.{key_eq}
 use Rattle.adya_terms.specs.Histories.{Entry, Event, Order, History, One, event_of, order_of, final_of}
-use Rattle.adya_terms.specs.Events.{txn_of, observed, written, is_committed}
-use Rattle.adya_terms.specs.Faults.{first}
+use Rattle.adya_terms.specs.Events.{txn_of, observed, written, is_committed, aborts, last_write}
+use Rattle.adya_terms.specs.Faults.{first, is_entry}
 use Rattle.adya_terms.specs.Tables.{own, own_cmp}
 
 -- the fault is the first of the list, or memory ran out
@@ -32,9 +34,27 @@ parts events orders finals = record {
   finals = map final_of finals;
 }
 
+-- the entry is of no aborted transaction
+abbrev pub is_not_aborted : List Event → Event → Entry → Bool
+is_not_aborted all e o = not (list_any (aborts o.version.txn) all)
+
+-- the entry is of the event's transaction, or its writer's last of the key
+abbrev pub is_own_or_last : List Event → Event → Entry → Bool
+is_own_or_last all e o = (o.version.txn == txn_of e) || is_entry (last_write o.version.txn o.version.key all) o
+
 -- what the event reads or lists and the test refuses, where its transaction is committed
 abbrev pub refused : (Event → Entry → Bool) → List Event → Event → List Entry
 refused good events e = filter (λ o. is_committed events (txn_of e) && not (good e o)) (observed e)
+
+-- none, or the first of the list
+abbrev pub IsFirst : List Entry → Option Version → Type 0
+IsFirst es None = es ≡ []
+IsFirst es (Some v) = first (map (λ o. o.version) es) ≡ Some v
+
+-- there is no entry, or it passes
+abbrev pub passes : (Entry → Bool) → Option Entry → Bool
+passes test None = true
+passes test (Some w) = test w
 
 -- not at all, once, or more often
 abbrev pub times : ℕ → Option Times

@@ -15,7 +15,7 @@ ghost use Rattle.adya_terms.specs.Tables.{own, own_cmp, Means};
 ghost use Rattle.adya_terms.specs.Checks as checks;
 ghost use Rattle.adya_terms.specs.Checks.{Names, Lists};
 
-use crate::tables::{Own, Tables, wrote};
+use crate::tables::{Own, Tables};
 use crate::{CheckFault, Event, Key, Order, Rule, Txn};
 use std::alloc::{AllocError, Global};
 use std::collections::{BTreeMap, BTreeSet};
@@ -68,17 +68,27 @@ fn unlisted(
 ) -> Result<BTreeSet<Key>, AllocError> {
     let mut keys = BTreeSet::new(alloc);
     for event in events {
-        if let Some(new) = wrote(event) {
-            if is_unlisted(tables, listed, new.version.txn, new.version.key) {
-                keys.insert(new.version.key)?;
-            }
+        if let Some(key) = unlisted_key(tables, listed, event) {
+            keys.insert(key)?;
         }
     }
     Ok(keys)
 }
 
-fn is_unlisted(tables: &Tables, listed: &BTreeMap<Own, Times>, txn: Txn, key: Key) -> bool {
-    tables.has_committed(txn) && listed.get(&Own { txn, key }).is_none()
+/// The key of the event, where it is a committed write that no line of its key lists.
+fn unlisted_key(tables: &Tables, listed: &BTreeMap<Own, Times>, event: &Event) -> Option<Key> {
+    match *event {
+        Event::Write { txn, key, .. } => {
+            if tables.has_committed(txn) && listed.get(&Own { txn, key }).is_none() {
+                Some(key)
+            } else {
+                None
+            }
+        }
+        Event::Read { .. } => None,
+        Event::Commit { .. } => None,
+        Event::Abort { .. } => None,
+    }
 }
 
 /// Whether a transaction that is listed so often is listed right.
@@ -154,13 +164,21 @@ pub(crate) fn line_of(orders: &[Order], key: Key) -> Option<&Order> {
     }
 }
 
+/// Whether the event's key has a line, where it is a committed write.
+fn has_line(tables: &Tables, orders: &[Order], event: &Event) -> bool {
+    match *event {
+        Event::Write { txn, key, .. } => !tables.has_committed(txn) || line_of(orders, key).is_some(),
+        Event::Read { .. } => true,
+        Event::Commit { .. } => true,
+        Event::Abort { .. } => true,
+    }
+}
+
 /// Whether each committed write has a line of its key.
 pub(crate) fn has_lines(tables: &Tables, events: &[Event], orders: &[Order]) -> bool {
     for event in events {
-        if let Some(new) = wrote(event) {
-            if tables.has_committed(new.version.txn) && line_of(orders, new.version.key).is_none() {
-                return false;
-            }
+        if !has_line(tables, orders, event) {
+            return false;
         }
     }
     true

@@ -2,10 +2,11 @@
 
 ghost use Rattle.std.specs.Prelude.{◌≡◌, ◌||◌, ◌&&◌, is_some, ◌++◌, [], ◌∷◌, List, true, Some, map, option_map, slice_get, IfOk};
 ghost use Rattle.std.specs.Ordering.{nat_cmp};
+ghost use Rattle.std.specs.Option.{option_to_list};
 ghost use Rattle.std.specs.BTreeMap.{get};
 ghost use Rattle.std.specs.BTreeSet.{contains};
 ghost use Rattle.adya_terms.specs.Histories.{Event as EventValue, event_of};
-ghost use Rattle.adya_terms.specs.Events.{written};
+ghost use Rattle.adya_terms.specs.Events.{written, observed};
 ghost use Rattle.adya_terms.specs.Faults.{entry_eq, is_next};
 ghost use Rattle.adya_terms.specs.Tables.{own, own_cmp, version_cmp, entry_of, written_at, is_there, Means};
 
@@ -61,6 +62,18 @@ pub(crate) fn wrote(event: &Event) -> Option<Entry>
             value,
         }),
         Event::Read { .. } => None,
+        Event::Commit { .. } => None,
+        Event::Abort { .. } => None,
+    }
+}
+
+/// What the event reads.
+pub(crate) fn seen(event: &Event) -> Option<Entry>
+    ensures { option_to_list (option_map entry_of result) ≡ observed (event_of event.now) }
+{
+    match *event {
+        Event::Read { version, value, .. } => Some(Entry { version, value }),
+        Event::Write { .. } => None,
         Event::Commit { .. } => None,
         Event::Abort { .. } => None,
     }
