@@ -44,7 +44,7 @@ pub(crate) fn check_finals(
 }
 
 fn has_final(finals: &[FinalPair], key: Key) -> bool {
-    finals.binary_search_by(|f| f.key.cmp(&key)).is_ok()
+    finals.binary_search_by_key(&key, |f| f.key).is_ok()
 }
 
 /// Whether each key whose last version is visible has a final line.

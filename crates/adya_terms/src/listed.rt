@@ -1,6 +1,6 @@
 //! M7: the order of a key lists its committed writers, once each.
 
-ghost use Rattle.std.specs.Prelude.{◌≡◌, ◌+◌, ◌==◌, ℕ, List, [], true, not, ◌&&◌, ◌||◌, map, cond, count_by, option_copied, IfOk, MatchOption, MatchResult, Contains};
+ghost use Rattle.std.specs.Prelude.{◌≡◌, ◌+◌, ◌==◌, ℕ, List, [], true, not, ◌&&◌, ◌||◌, map, cond, count_by, option_copied, is_some, IfSome, IfOk, MatchOption, MatchResult, Contains};
 ghost use Rattle.std.specs.List.{list_all, list_any};
 ghost use Rattle.std.specs.BTreeMap.{get};
 ghost use Rattle.std.specs.BTreeSet.{contains};
@@ -10,6 +10,7 @@ ghost use Rattle.adya_terms.specs.Keys.{key_eq, keys_rise};
 ghost use Rattle.adya_terms.specs.Histories.{event_of, order_of};
 ghost use Rattle.adya_terms.specs.Events.{written, is_committed};
 ghost use Rattle.adya_terms.specs.Faults as faults;
+ghost use Rattle.adya_terms.specs.Orders.{line_of};
 ghost use Rattle.adya_terms.specs.Rules.{installs};
 ghost use Rattle.adya_terms.specs.Tables.{own, own_cmp, Means};
 ghost use Rattle.adya_terms.specs.Checks as checks;
@@ -157,10 +158,14 @@ pub(crate) fn broken(line: usize, after: usize, rule: Rule) -> CheckFault {
 }
 
 /// The line of the key.
-pub(crate) fn line_of(orders: &[Order], key: Key) -> Option<&Order> {
-    match orders.binary_search_by(|o| o.key.cmp(&key)) {
+pub(crate) fn line_of(orders: &[Order], key: Key) -> Option<&Order>
+    requires { keys_rise (map (λ o. o.key) (map order_of orders.now)) ≡ true }
+    ensures found { is_some result ≡ list_any (λ o. key_eq o.key key) (map order_of orders.now) }
+    ensures line { IfSome result (λ o. line_of (map order_of orders.now) key ≡ o.now.writers.items) }
+{
+    match orders.binary_search_by_key(&key, |o| o.key) {
         Err(_) => None,
-        Ok(at) => orders.get(at),
+        Ok(at) => Some(&orders[at]),
     }
 }
 
