@@ -1,13 +1,16 @@
 -- What a binary search by keys that rise finds, and that there is nothing where it finds nothing.
-use Rattle.std.proofs.Common.{◌≡◌, ℕ, zero, suc, ◌+◌, ◌<◌, ◌≤◌, Bool, true, false, ◌||◌, List, [], ◌∷◌, map, length, get_or, refl, sym, ◌∙◌, ap, subst, inl, inr, arith}
+use Rattle.std.proofs.Common.{◌≡◌, ℕ, zero, suc, ◌+◌, ◌<◌, ◌≤◌, Bool, true, false, ◌||◌, cond, Option, Some, is_some, List, [], ◌∷◌, map, length, get_or, refl, sym, ◌∙◌, ap, subst, inl, inr, arith}
 use Rattle.std.proofs.Common.{Ordering, Less, Equal, Greater}
 use Rattle.std.specs.List.{list_any}
 use Rattle.std.specs.List.Sorted.{IsNonDecreasingBy, IsPartitionPoint}
 use Rattle.std.specs.Ordering.{nat_cmp, is_eq, is_lt, ordering_index}
 use Rattle.std.specs.Cmp.Lexicographic.{slice_cmp, texts_ties}
-use Rattle.std.proofs.lemmas.Bool.{cases_Bool, cases_lt, both_ways}
+use Rattle.std.proofs.lemmas.Bool.{cases_Bool, cases_lt, both_ways, or_parts}
 use Rattle.std.proofs.lemmas.Cmp.{nat_list_cmp_total}
 use Rattle.adya_terms.specs.Keys.{key_eq, key_lt, keys_rise}
+use Rattle.adya_terms.specs.Histories.{Order, FinalPair}
+use Rattle.adya_terms.specs.Orders.{line_of}
+use Rattle.adya_terms.specs.Rules.{final_value}
 use Rattle.std.proofs.lemmas.List.Elements.{Contains-get_or}
 use Rattle.adya_terms.proofs.Lists.{list_any_source, list_any_when}
 use Rattle.adya_terms.proofs.Entries.{key_same}
@@ -67,10 +70,26 @@ search_misses key ys k n r found =
       | inr f ↦ f
     ]
 
-pub search_finds : {Y : Type 0} (key : Y → List ℕ) (ys : List Y) (k : List ℕ) (i : ℕ) (y : Y) → i < length ys → y ≡ get_or ys i y → key_cmp (key y) k ≡ Equal
+pub search_finds : {Y : Type 0} (key : Y → List ℕ) (ys : List Y) (k : List ℕ) (i : ℕ) → i < length ys → ((d : Y) → key_cmp (key (get_or ys i d)) k ≡ Equal)
     → list_any (λ z. key_eq (key z) k) ys ≡ true
-search_finds key ys k i y l at e = list_any_when (λ z. key_eq (key z) k) ys y (i, l, sym at) (texts_ties (key y) k ∙ ap is_eq e)
+search_finds key [] k i l h = absurd (omega (arith, l))
+search_finds key (y ∷ ys) k i l h =
+    list_any_when (λ z. key_eq (key z) k) (y ∷ ys) (get_or (y ∷ ys) i y) (Contains-get_or (y ∷ ys) i y l) (texts_ties _ k ∙ ap is_eq (h y))
 
 pub any_map : {X Y : Type 0} (f : X → Bool) (view : Y → X) (ys : List Y) → list_any f (map view ys) ≡ list_any (λ y. f (view y)) ys
 any_map f view [] = refl
 any_map f view (y ∷ ys) = ap (λ b. f (view y) || b) (any_map f view ys)
+
+pub no_line : (os : List Order) (k : List ℕ) → list_any (λ o. key_eq o.key k) os ≡ false → line_of os k ≡ []
+no_line [] k none = refl
+no_line (o ∷ os) k none =
+    let both = or_parts (key_eq o.key k) (list_any (λ (x : Order). key_eq x.key k) os) none in
+    ap (λ b. cond b o.writers (line_of os k)) both.0 ∙ no_line os k both.1
+
+some_cond : {X : Type 0} (b : Bool) (x : X) (o : Option X) → is_some (cond b (Some x) o) ≡ (b || is_some o)
+some_cond true x o = refl
+some_cond false x o = refl
+
+pub final_any : (fs : List FinalPair) (k : List ℕ) → is_some (final_value fs k) ≡ list_any (λ f. key_eq f.key k) fs
+final_any [] k = refl
+final_any (f ∷ fs) k = some_cond (key_eq f.key k) f.value (final_value fs k) ∙ ap (λ b. key_eq f.key k || b) (final_any fs k)

@@ -56,11 +56,19 @@ abbrev pub passes : (Entry → Bool) → Option Entry → Bool
 passes test None = true
 passes test (Some w) = test w
 
+-- the key of the entry has a line, if its transaction is committed
+abbrev pub has_line : List Event → List Order → Entry → Bool
+has_line events os w = not (is_committed events w.version.txn) || list_any (λ o. key_eq o.key w.version.key) os
+
 -- not at all, once, or more often
 abbrev pub times : ℕ → Option Times
 times zero = None
 times (suc zero) = Some Once
 times (suc (suc n)) = Some More
+
+abbrev pub once_more : Option Times → Times
+once_more None = Once
+once_more (Some n) = More
 
 -- once where it is wanted, and else not at all
 abbrev pub fits : Option Times → Bool → Bool

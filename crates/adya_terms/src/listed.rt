@@ -1,20 +1,20 @@
 //! M7: the order of a key lists its committed writers, once each.
 
-ghost use Rattle.std.specs.Prelude.{◌≡◌, ◌+◌, ◌==◌, ℕ, List, [], true, not, ◌&&◌, ◌||◌, map, cond, count_by, option_copied, is_some, IfSome, IfOk, MatchOption, MatchResult, Contains};
+ghost use Rattle.std.specs.Prelude.{◌≡◌, ◌+◌, ◌==◌, ℕ, List, [], true, not, ◌&&◌, ◌||◌, ◌⊎◌, map, cond, count_by, option_copied, is_some, IfSome, IfOk, MatchOption, MatchResult, Contains};
 ghost use Rattle.std.specs.List.{list_all, list_any};
 ghost use Rattle.std.specs.BTreeMap.{get};
 ghost use Rattle.std.specs.BTreeSet.{contains};
 ghost use Rattle.std.specs.Ordering.{nat_cmp};
 ghost use Rattle.std.specs.Cmp.Lexicographic.{slice_cmp};
 ghost use Rattle.adya_terms.specs.Keys.{key_eq, keys_rise};
-ghost use Rattle.adya_terms.specs.Histories.{event_of, order_of};
+ghost use Rattle.adya_terms.specs.Histories.{Event as EventValue, event_of, order_of};
 ghost use Rattle.adya_terms.specs.Events.{written, is_committed};
 ghost use Rattle.adya_terms.specs.Faults as faults;
 ghost use Rattle.adya_terms.specs.Orders.{line_of};
 ghost use Rattle.adya_terms.specs.Rules.{installs};
 ghost use Rattle.adya_terms.specs.Tables.{own, own_cmp, Means};
 ghost use Rattle.adya_terms.specs.Checks as checks;
-ghost use Rattle.adya_terms.specs.Checks.{Names, Lists};
+ghost use Rattle.adya_terms.specs.Checks.{Names, Lists, parts};
 
 use crate::tables::{Own, Tables};
 use crate::{CheckFault, Event, Key, Order, Rule, Txn};
@@ -39,6 +39,7 @@ fn listed(alloc: Global, orders: &[Order]) -> Result<BTreeMap<Own, Times>, Alloc
     Ok(listed)
 }
 
+/// Adds the writers of a line of the key.
 fn list(listed: &mut BTreeMap<Own, Times>, key: Key, writers: &[Txn]) -> Result<(), AllocError>
     ensures {
         IfOk result
@@ -51,13 +52,19 @@ fn list(listed: &mut BTreeMap<Own, Times>, key: Key, writers: &[Txn]) -> Result<
 {
     for txn in writers {
         let own = Own { txn: *txn, key };
-        let times = match listed.get(&own) {
-            None => Times::Once,
-            Some(_) => Times::More,
-        };
+        let times = once_more(listed.get(&own).copied());
         listed.insert(own, times)?;
     }
     Ok(())
+}
+
+fn once_more(times: Option<Times>) -> Times
+    ensures { result ≡ checks.once_more times }
+{
+    match times {
+        None => Times::Once,
+        Some(_) => Times::More,
+    }
 }
 
 /// The keys of committed writes that no line of their key lists.
@@ -150,7 +157,9 @@ fn check_lines(
 }
 
 /// The rule is broken so many lines after the line; `Memory` where that line has no number.
-pub(crate) fn broken(line: usize, after: usize, rule: Rule) -> CheckFault {
+pub(crate) fn broken(line: usize, after: usize, rule: Rule) -> CheckFault
+    ensures { (result ≡ CheckFault.Malformed (line + after) rule) ⊎ (result ≡ CheckFault.Memory) }
+{
     match line.checked_add(after) {
         None => CheckFault::Memory,
         Some(line) => CheckFault::Malformed { line, rule },
@@ -170,7 +179,14 @@ pub(crate) fn line_of(orders: &[Order], key: Key) -> Option<&Order>
 }
 
 /// Whether the event's key has a line, where it is a committed write.
-fn has_line(tables: &Tables, orders: &[Order], event: &Event) -> bool {
+fn has_line(tables: &Tables, orders: &[Order], event: &Event) -> bool
+    requires { keys_rise (map (λ o. o.key) (map order_of orders.now)) ≡ true }
+    ensures {
+        (all : List EventValue)
+            → Means tables.now all all
+            → result ≡ checks.passes (checks.has_line all (map order_of orders.now)) (written (event_of event.now))
+    }
+{
     match *event {
         Event::Write { txn, key, .. } => !tables.has_committed(txn) || line_of(orders, key).is_some(),
         Event::Read { .. } => true,
@@ -180,7 +196,11 @@ fn has_line(tables: &Tables, orders: &[Order], event: &Event) -> bool {
 }
 
 /// Whether each committed write has a line of its key.
-pub(crate) fn has_lines(tables: &Tables, events: &[Event], orders: &[Order]) -> bool {
+pub(crate) fn has_lines(tables: &Tables, events: &[Event], orders: &[Order]) -> bool
+    requires tell { Means tables.now (map event_of events.now) (map event_of events.now) }
+    requires rise { keys_rise (map (λ o. o.key) (map order_of orders.now)) ≡ true }
+    ensures { result ≡ faults.has_lines (parts events.now orders.now []) }
+{
     for event in events {
         if !has_line(tables, orders, event) {
             return false;

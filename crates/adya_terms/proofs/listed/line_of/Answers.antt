@@ -27,12 +27,8 @@ pub returns-in-Ok-clause-found : goal.returns-in-Ok-clause-found
 returns-in-Ok-clause-found c =
     let ys = c.args.orders.now in
     let k = c.args.key in
-    let y = c.index-orders-at.result in
-    let i = c.in-Ok.at in
     let by_key = c.in-Ok.ensures.position (λ o. o.key) (answers_always _ _ _ (λ f a r g called. search rules)) in
-    let at = c.index-orders-at.is in
-    let tied : slice_cmp nat_cmp y.key k ≡ Equal = ap (λ (o : OrderValue). slice_cmp nat_cmp o.key k) at ∙ by_key y in
-    sym (any_map (λ (o : Order). key_eq o.key k) order_of ys ∙ search_finds (λ (o : OrderValue). o.key) ys k i y c.in-Ok.ensures.bound at tied)
+    sym (any_map (λ (o : Order). key_eq o.key k) order_of ys ∙ search_finds (λ (o : OrderValue). o.key) ys k c.in-Ok.at c.in-Ok.ensures.bound by_key)
 
 pub returns-in-Ok-clause-line : goal.returns-in-Ok-clause-line
 returns-in-Ok-clause-line c =

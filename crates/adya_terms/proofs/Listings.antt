@@ -1,0 +1,59 @@
+-- How often lines list a transaction, writer by writer and line by line.
+use Rattle.std.proofs.Common.{◌≡◌, ℕ, zero, suc, ◌+◌, ◌==◌, Bool, true, false, cond, ◌&&◌, List, [], ◌∷◌, ◌++◌, Option, Some, None, take, refl, sym, ◌∙◌, ap, subst, inl, inr, arith}
+use Rattle.std.specs.List.{count_by}
+use Rattle.std.specs.Ordering.{is_eq}
+use Rattle.std.proofs.lemmas.Bool.{cases_Bool, and_parts, eqb-true}
+use Rattle.std.proofs.lemmas.List.Sums.{sum_by-append, sum_by-cons}
+use Rattle.adya_terms.specs.declared.tables.Own.{Own}
+use Rattle.adya_terms.specs.declared.listed.Times.{Times}
+use Rattle.adya_terms.specs.Keys.{key_eq}
+use Rattle.adya_terms.specs.Tables.{own, own_cmp}
+use Rattle.adya_terms.specs.Checks.{times, once_more}
+use Rattle.adya_terms.proofs.Counts.{count}
+use Rattle.adya_terms.proofs.Entries.{key_same}
+use Rattle.adya_terms.proofs.Tells.{own_tied}
+
+times_more : (n : ℕ) → Some (once_more (times n)) ≡ times (n + 1)
+times_more zero = refl
+times_more (suc zero) = refl
+times_more (suc (suc n)) = let more : suc (suc n) + 1 ≡ suc (suc (suc n)) = omega arith in ap times (sym more)
+
+count_more : (xs : List ℕ) (u t : ℕ) → count (xs ++ u ∷ []) t ≡ count xs t + cond (u == t) 1 0
+count_more xs u t =
+    let joined = sum_by-append (λ v. cond (v == t) 1 0) xs (u ∷ []) in
+    let one = sum_by-cons (λ v. cond (v == t) 1 0) u [] in
+    omega (arith, joined, one)
+
+tally : (b c : Bool) (n : ℕ) → cond c (n + cond b 1 0) 0 ≡ cond c n 0 + cond (b && c) 1 0
+tally true true n = refl
+tally true false n = refl
+tally false true n = refl
+tally false false n = refl
+
+-- one more writer of a line of the key
+pub list_next : (g g' : Own → Option Times) (u : ℕ) (key : List ℕ) (xs : List ℕ) (n : ℕ → List ℕ → ℕ)
+    → ((t : ℕ) (k : List ℕ) → g (own t k) ≡ times (n t k + cond (key_eq key k) (count xs t) 0))
+    → ((q : Own) → g' q ≡ cond (is_eq (own_cmp (own u key) q)) (Some (once_more (g (own u key)))) (g q))
+    → (t : ℕ) (k : List ℕ) → g' (own t k) ≡ times (n t k + cond (key_eq key k) (count (xs ++ u ∷ []) t) 0)
+list_next g g' u key xs n old new t k =
+    let hit = (u == t) && key_eq key k in
+    let before = n t k + cond (key_eq key k) (count xs t) 0 in
+    let counted : cond (key_eq key k) (count (xs ++ u ∷ []) t) 0 ≡ cond (key_eq key k) (count xs t) 0 + cond hit 1 0 =
+      ap (λ m. cond (key_eq key k) m 0) (count_more xs u t) ∙ tally (u == t) (key_eq key k) (count xs t) in
+    let now : n t k + cond (key_eq key k) (count (xs ++ u ∷ []) t) 0 ≡ before + cond hit 1 0 = omega (arith, counted) in
+    let at : g' (own t k) ≡ cond hit (Some (once_more (g (own u key)))) (g (own t k)) =
+      new (own t k) ∙ ap (λ b. cond b (Some (once_more (g (own u key)))) (g (own t k))) (sym (own_tied u key t k)) in
+    let same : cond hit (Some (once_more (g (own u key)))) (g (own t k)) ≡ times (before + cond hit 1 0) =
+      elim (cases_Bool hit) [
+        | inl h ↦
+            let both = and_parts _ _ h in
+            let it : own u key ≡ own t k = ap (λ v. own v key) (eqb-true _ _ both.0) ∙ ap (own t) (key_same _ _ both.1) in
+            ap (λ b. cond b (Some (once_more (g (own u key)))) (g (own t k))) h ∙
+            (ap (λ q. Some (once_more (g q))) it ∙
+            (ap (λ o. Some (once_more o)) (old t k) ∙
+            (times_more before ∙ ap (λ b. times (before + cond b 1 0)) (sym h))))
+        | inr h ↦
+            let none : before ≡ before + cond hit 1 0 = rw h (omega arith) in
+            ap (λ b. cond b (Some (once_more (g (own u key)))) (g (own t k))) h ∙ (old t k ∙ ap times none)
+      ] in
+    at ∙ (same ∙ ap times (sym now))
