@@ -8,7 +8,8 @@ use Rattle.adya_terms.specs.declared.tables.Own.{Own}
 use Rattle.adya_terms.specs.declared.listed.Times.{Times}
 use Rattle.adya_terms.specs.Keys.{key_eq}
 use Rattle.adya_terms.specs.Tables.{own, own_cmp}
-use Rattle.adya_terms.specs.Checks.{times, once_more}
+use Rattle.adya_terms.specs.Histories.{Order}
+use Rattle.adya_terms.specs.Checks.{times, once_more, listed, listed_by}
 use Rattle.adya_terms.proofs.Counts.{count}
 use Rattle.adya_terms.proofs.Entries.{key_same}
 use Rattle.adya_terms.proofs.Tells.{own_tied}
@@ -57,3 +58,9 @@ list_next g g' u key xs n old new t k =
             ap (λ b. cond b (Some (once_more (g (own u key)))) (g (own t k))) h ∙ (old t k ∙ ap times none)
       ] in
     at ∙ (same ∙ ap times (sym now))
+
+pub listed_more : (os : List Order) (o : Order) (t : ℕ) (k : List ℕ) → listed (os ++ o ∷ []) t k ≡ listed os t k + listed_by t k o
+listed_more os o t k =
+    let joined = sum_by-append (listed_by t k) os (o ∷ []) in
+    let one = sum_by-cons (listed_by t k) o [] in
+    omega (arith, joined, one)

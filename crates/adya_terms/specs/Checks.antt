@@ -14,6 +14,7 @@ use Rattle.adya_terms.specs.declared.listed.Times.TheVariants.{Once, More}
 use Rattle.adya_terms.specs.Keys.{key_eq}
 use Rattle.adya_terms.specs.Histories.{Entry, Event, Order, History, One, event_of, order_of, final_of}
 use Rattle.adya_terms.specs.Events.{txn_of, observed, written, is_committed, aborts, last_write}
+use Rattle.adya_terms.specs.Rules.{installs}
 use Rattle.adya_terms.specs.Faults.{first, is_entry}
 use Rattle.adya_terms.specs.Tables.{own, own_cmp}
 
@@ -88,7 +89,20 @@ abbrev pub Lists : BTreeMap Own Times → List Order → Type 0
 Lists m os = (t : ℕ) (k : List ℕ) → get own_cmp m (own t k) ≡ times (listed os t k)
 
 -- a committed write of the key, which no line of its key lists
-abbrev pub is_unlisted : List Event → List Order → List ℕ → Option Entry → Bool
-is_unlisted events os k None = false
-is_unlisted events os k (Some w) =
+abbrev pub is_unlisted : List Event → List Order → List ℕ → Entry → Bool
+is_unlisted events os k w =
     is_committed events w.version.txn && ((listed os w.version.txn w.version.key == 0) && key_eq w.version.key k)
+
+-- there is an entry, and it passes
+abbrev pub is_some_and : (Entry → Bool) → Option Entry → Bool
+is_some_and test None = false
+is_some_and test (Some w) = test w
+
+-- it is this key
+abbrev pub is_this : Option (List ℕ) → List ℕ → Bool
+is_this None k = false
+is_this (Some j) k = key_eq j k
+
+-- the key's lines list the transaction once where it is a committed writer of the key, and else not at all
+abbrev pub belongs : List Event → List Order → List ℕ → ℕ → Bool
+belongs events os k t = listed os t k == cond (installs events k t) 1 0

@@ -44,7 +44,7 @@ fn check_rules(alloc: Global, tables: &Tables, history: &History) -> Result<(), 
     if !all_end(tables, events) {
         return Err(CheckFault::Malformed { line: orders_line, rule: Rule::M6 });
     }
-    check_orders(alloc, tables, events, orders)?;
+    check_orders(alloc, tables, events, orders, orders_line)?;
     let Some(finals_line) = orders_line.checked_add(orders.len()) else {
         return Err(CheckFault::Memory);
     };

@@ -1,13 +1,13 @@
 //! M7: the order of a key lists its committed writers, once each.
 
 ghost use Rattle.std.specs.Prelude.{◌≡◌, ◌+◌, ◌==◌, ℕ, List, [], true, not, ◌&&◌, ◌||◌, ◌⊎◌, map, cond, count_by, option_copied, is_some, IfSome, IfOk, MatchOption, MatchResult, Contains};
-ghost use Rattle.std.specs.List.{list_all, list_any};
+ghost use Rattle.std.specs.List.{filter_map, list_all, list_any};
 ghost use Rattle.std.specs.BTreeMap.{get};
 ghost use Rattle.std.specs.BTreeSet.{contains};
 ghost use Rattle.std.specs.Ordering.{nat_cmp};
 ghost use Rattle.std.specs.Cmp.Lexicographic.{slice_cmp};
 ghost use Rattle.adya_terms.specs.Keys.{key_eq, keys_rise};
-ghost use Rattle.adya_terms.specs.Histories.{Event as EventValue, event_of, order_of};
+ghost use Rattle.adya_terms.specs.Histories.{Event as EventValue, Order as OrderValue, event_of, order_of};
 ghost use Rattle.adya_terms.specs.Events.{written, is_committed};
 ghost use Rattle.adya_terms.specs.Faults as faults;
 ghost use Rattle.adya_terms.specs.Orders.{line_of};
@@ -73,7 +73,17 @@ fn unlisted(
     tables: &Tables,
     events: &[Event],
     listed: &BTreeMap<Own, Times>,
-) -> Result<BTreeSet<Key>, AllocError> {
+) -> Result<BTreeSet<Key>, AllocError>
+    ensures {
+        IfOk result
+            (λ s. (all : List EventValue) (os : List OrderValue)
+                → Means tables.now all all
+                → Lists listed.now os
+                → (k : List ℕ)
+                → contains (slice_cmp nat_cmp) s k
+                    ≡ list_any (checks.is_unlisted all os k) (filter_map written (map event_of events.now)))
+    }
+{
     let mut keys = BTreeSet::new(alloc);
     for event in events {
         if let Some(key) = unlisted_key(tables, listed, event) {
@@ -84,14 +94,24 @@ fn unlisted(
 }
 
 /// The key of the event, where it is a committed write that no line of its key lists.
-fn unlisted_key(tables: &Tables, listed: &BTreeMap<Own, Times>, event: &Event) -> Option<Key> {
+fn unlisted_key(tables: &Tables, listed: &BTreeMap<Own, Times>, event: &Event) -> Option<Key>
+    ensures {
+        (all : List EventValue) (os : List OrderValue)
+            → Means tables.now all all
+            → Lists listed.now os
+            → (k : List ℕ)
+            → checks.is_this result k ≡ checks.is_some_and (checks.is_unlisted all os k) (written (event_of event.now))
+    }
+{
     match *event {
         Event::Write { txn, key, .. } => {
-            if tables.has_committed(txn) && listed.get(&Own { txn, key }).is_none() {
-                Some(key)
-            } else {
-                None
+            if !tables.has_committed(txn) {
+                return None;
             }
+            if listed.contains_key(&Own { txn, key }) {
+                return None;
+            }
+            Some(key)
         }
         Event::Read { .. } => None,
         Event::Commit { .. } => None,
@@ -110,46 +130,68 @@ fn fits(times: Option<Times>, wanted: bool) -> bool
     }
 }
 
-/// Whether each transaction of the line belongs there, and is there once.
-fn all_belong(tables: &Tables, events: &[Event], listed: &BTreeMap<Own, Times>, order: &Order) -> bool {
-    for txn in &order.writers {
-        let own = Own {
-            txn: *txn,
-            key: order.key,
-        };
-        if !fits(listed.get(&own).copied(), tables.installs(events, *txn, order.key)) {
+/// Whether the key's lines list the transaction once where it is a committed writer of the key, and else not at all.
+fn belongs(tables: &Tables, events: &[Event], listed: &BTreeMap<Own, Times>, key: Key, txn: Txn) -> bool
+    ensures {
+        let all = map event_of events.now in
+        (os : List OrderValue)
+            → Means tables.now all all
+            → Lists listed.now os
+            → result ≡ checks.belongs all os key txn
+    }
+{
+    fits(listed.get(&Own { txn, key }).copied(), tables.installs(events, txn, key))
+}
+
+/// Whether that holds of each transaction of the line.
+fn all_belong(
+    tables: &Tables,
+    events: &[Event],
+    listed: &BTreeMap<Own, Times>,
+    key: Key,
+    writers: &[Txn],
+) -> bool
+    ensures {
+        let all = map event_of events.now in
+        (os : List OrderValue)
+            → Means tables.now all all
+            → Lists listed.now os
+            → result ≡ list_all (checks.belongs all os key) writers.now
+    }
+{
+    for txn in writers {
+        if !belongs(tables, events, listed, key, *txn) {
             return false;
         }
     }
     true
 }
 
-/// The first line that doesn't list the committed writers of its key, once each.
+/// The first line that doesn't list the committed writers of its key, once each, where `first` is the line of the
+/// first order.
 pub(crate) fn check_orders(
     alloc: Global,
     tables: &Tables,
     events: &[Event],
     orders: &[Order],
-) -> Result<(), CheckFault> {
+    first: usize,
+) -> Result<(), CheckFault>
+    requires tell { Means tables.now (map event_of events.now) (map event_of events.now) }
+    requires rise { keys_rise (map (λ o. o.key) (map order_of orders.now)) ≡ true }
+    ensures {
+        let found = faults.order_faults (map event_of events.now) first (map order_of orders.now) in
+        MatchResult result (λ u. found ≡ []) (Names found)
+    }
+{
     let Ok(listed) = listed(alloc, orders) else {
         return Err(CheckFault::Memory);
     };
     let Ok(unlisted) = unlisted(alloc, tables, events, &listed) else {
         return Err(CheckFault::Memory);
     };
-    check_lines(tables, events, orders, &listed, &unlisted)
-}
-
-fn check_lines(
-    tables: &Tables,
-    events: &[Event],
-    orders: &[Order],
-    listed: &BTreeMap<Own, Times>,
-    unlisted: &BTreeSet<Key>,
-) -> Result<(), CheckFault> {
-    let first = events.len() + 2;
     for (i, order) in orders.iter().enumerate() {
-        if unlisted.contains(&order.key) || !all_belong(tables, events, listed, order) {
+        let lacks = unlisted.contains(&order.key);
+        if lacks || !all_belong(tables, events, &listed, order.key, &order.writers) {
             return Err(broken(first, i, Rule::M7));
         }
     }
