@@ -1,18 +1,21 @@
 -- How often lines list a transaction, writer by writer and line by line.
-use Rattle.std.proofs.Common.{◌≡◌, ℕ, zero, suc, ◌+◌, ◌==◌, Bool, true, false, cond, ◌&&◌, List, [], ◌∷◌, ◌++◌, Option, Some, None, take, refl, sym, ◌∙◌, ap, subst, inl, inr, arith}
-use Rattle.std.specs.List.{count_by}
+use Rattle.std.proofs.Common.{◌≡◌, ℕ, zero, suc, ◌+◌, ◌==◌, Bool, true, false, cond, not, is_some, ◌&&◌, ◌||◌, List, [], ◌∷◌, ◌++◌, Option, Some, None, take, refl, sym, ◌∙◌, ap, subst, inl, inr, arith}
+use Rattle.std.specs.List.{count_by, cons_option, filter_map, list_any}
 use Rattle.std.specs.Ordering.{is_eq}
-use Rattle.std.proofs.lemmas.Bool.{cases_Bool, and_parts, eqb-true}
+use Rattle.std.proofs.lemmas.Bool.{cases_Bool, and_parts, eqb-true, ne_eqb}
+use Rattle.std.proofs.Math.Bool.{not-not, or-false, or-true}
+use Rattle.std.proofs.lemmas.List.Folds.{list_any-append}
 use Rattle.std.proofs.lemmas.List.Sums.{sum_by-append, sum_by-cons}
 use Rattle.adya_terms.specs.declared.tables.Own.{Own}
 use Rattle.adya_terms.specs.declared.listed.Times.{Times}
 use Rattle.adya_terms.specs.Keys.{key_eq}
 use Rattle.adya_terms.specs.Tables.{own, own_cmp}
-use Rattle.adya_terms.specs.Histories.{Order}
-use Rattle.adya_terms.specs.Checks.{times, once_more, listed, listed_by}
+use Rattle.adya_terms.specs.Histories.{Entry, Event, Order}
+use Rattle.adya_terms.specs.Events.{written}
+use Rattle.adya_terms.specs.Checks.{times, once_more, listed, listed_by, is_some_and}
 use Rattle.adya_terms.proofs.Counts.{count}
 use Rattle.adya_terms.proofs.Entries.{key_same}
-use Rattle.adya_terms.proofs.Tells.{own_tied}
+use Rattle.adya_terms.proofs.Tells.{own_tied, written_more}
 
 times_more : (n : ℕ) → Some (once_more (times n)) ≡ times (n + 1)
 times_more zero = refl
@@ -64,3 +67,27 @@ listed_more os o t k =
     let joined = sum_by-append (listed_by t k) os (o ∷ []) in
     let one = sum_by-cons (listed_by t k) o [] in
     omega (arith, joined, one)
+
+some_times : (n : ℕ) → is_some (times n) ≡ not (n == 0)
+some_times zero = refl
+some_times (suc zero) = refl
+some_times (suc (suc n)) = ap not (sym (ne_eqb (suc (suc n)) 0 (λ e. omega (arith, e))))
+
+-- whether a map that tells how often has the transaction
+pub not_listed : (n : ℕ) (b r : Bool) → b ≡ is_some (times n) → b ≡ r → (n == 0) ≡ not r
+not_listed n b r e f = sym (not-not (n == 0)) ∙ ap not (sym (some_times n) ∙ (sym e ∙ f))
+
+pub cond_or : (b x : Bool) → cond b true x ≡ (x || b)
+cond_or true x = sym (or-true x)
+cond_or false x = sym (or-false x)
+
+any_one : (test : Entry → Bool) (o : Option Entry) → list_any test (cons_option o []) ≡ is_some_and test o
+any_one test None = refl
+any_one test (Some w) = or-false (test w)
+
+-- whether a write passes, with one more event
+pub any_written : (test : Entry → Bool) (before : List Event) (e : Event)
+    → list_any test (filter_map written (before ++ e ∷ [])) ≡ (list_any test (filter_map written before) || is_some_and test (written e))
+any_written test before e =
+    ap (list_any test) (written_more before e) ∙
+    (list_any-append test (filter_map written before) (cons_option (written e) []) ∙ ap (λ b. list_any test (filter_map written before) || b) (any_one test (written e)))

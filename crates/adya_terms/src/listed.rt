@@ -167,6 +167,33 @@ fn all_belong(
     true
 }
 
+/// Whether the line lists the committed writers of its key, once each.
+fn is_exact(
+    tables: &Tables,
+    events: &[Event],
+    listed: &BTreeMap<Own, Times>,
+    unlisted: &BTreeSet<Key>,
+    order: &Order,
+) -> bool
+    ensures {
+        let all = map event_of events.now in
+        (os : List OrderValue)
+            → Means tables.now all all
+            → Lists listed.now os
+            → ((k : List ℕ)
+                → contains (slice_cmp nat_cmp) unlisted.now k
+                    ≡ list_any (checks.is_unlisted all os k) (filter_map written all))
+            → keys_rise (map (λ o. o.key) os) ≡ true
+            → Contains os (order_of order.now)
+            → result ≡ faults.lists_exactly (installs all order.now.key) order.now.writers.items all
+    }
+{
+    if unlisted.contains(&order.key) {
+        return false;
+    }
+    all_belong(tables, events, listed, order.key, &order.writers)
+}
+
 /// The first line that doesn't list the committed writers of its key, once each, where `first` is the line of the
 /// first order.
 pub(crate) fn check_orders(
@@ -190,8 +217,7 @@ pub(crate) fn check_orders(
         return Err(CheckFault::Memory);
     };
     for (i, order) in orders.iter().enumerate() {
-        let lacks = unlisted.contains(&order.key);
-        if lacks || !all_belong(tables, events, &listed, order.key, &order.writers) {
+        if !is_exact(tables, events, &listed, &unlisted, order) {
             return Err(broken(first, i, Rule::M7));
         }
     }
