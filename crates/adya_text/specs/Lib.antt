@@ -1,0 +1,5 @@
+pub mod Texts
+pub mod Faults
+pub mod Runs
+pub mod HistoryRuns
+pub mod Readers
