@@ -1,2 +1,5 @@
 pub mod RunLemmas
+pub mod FaultLemmas
 pub mod LineLists
+pub mod LineLaws
+pub mod HistoryTexts

@@ -1,6 +1,6 @@
 -- Runs of lines, and how the texts of their lines tell them.
 use Rattle.std.proofs.Common.{◌≡◌, ℕ, Bool, true, List, [], ◌∷◌, ◌++◌, map, refl, sym, ap, ◌∙◌, append-nil}
-use Rattle.std.proofs.lemmas.List.{map_push}
+use Rattle.std.proofs.lemmas.List.{map_push, map-append}
 use Rattle.std.specs.List.{AllByRecursion}
 use Rattle.adya_text.specs.Runs.{IsRun, end_of}
 
@@ -94,3 +94,29 @@ taken allows after text good start here lines x front is ok = record {
   ends = end_push after start front.items x;
   same = cc (front.same, map_push text front.items x);
 }
+
+run_append : {S L : Type 0} (allows : S → L → Bool) (after : L → S) (s : S) (xs ys : List L) → IsRun allows after s xs → IsRun allows after (end_of after s xs) ys → IsRun allows after s (xs ++ ys)
+run_append allows after s [] ys front back = back
+run_append allows after s (x ∷ xs) ys front back = (front.0, run_append allows after (after x) xs ys front.1 back)
+
+end_append : {S L : Type 0} (after : L → S) (s : S) (xs ys : List L) → end_of after s (xs ++ ys) ≡ end_of after (end_of after s xs) ys
+end_append after s [] ys = refl
+end_append after s (x ∷ xs) ys = end_append after (after x) xs ys
+
+-- a run goes on with a run from where it ends
+pub run_join : {S L : Type 0} (allows : S → L → Bool) (after : L → S) (text : L → List ℕ) (good : L → Type 0) (start here end : S) (lines : List (List ℕ)) (ys : List L)
+    → HasRun allows after text good start here lines → AllByRecursion good ys → IsRun allows after here ys → end_of after here ys ≡ end → HasRun allows after text good start end (lines ++ map text ys)
+run_join allows after text good start here end lines ys front goods runs ends = record {
+  items = front.items ++ ys;
+  goods = all_append good front.items ys front.goods goods;
+  runs = run_append allows after start front.items ys front.runs (rw front.ends runs);
+  ends = end_append after start front.items ys ∙ (rw front.ends ends);
+  same = ap (λ (r : List (List ℕ)). r ++ map text ys) front.same ∙ sym (map-append text front.items ys);
+}
+
+-- one list of lines leads to one stage
+pub one_end : {S L : Type 0} (allows : S → L → Bool) (after : L → S) (text : L → List ℕ) (good : L → Type 0) → Tells text good → (start a b : S) (lines : List (List ℕ))
+    → HasRun allows after text good start a lines → HasRun allows after text good start b lines → a ≡ b
+one_end allows after text good tells start a b lines left right =
+    let same : left.items ≡ right.items = texts_tell text good tells left.items right.items left.goods right.goods (sym left.same ∙ right.same) in
+    sym left.ends ∙ ap (end_of after start) same ∙ right.ends
