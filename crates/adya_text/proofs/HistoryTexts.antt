@@ -6,11 +6,11 @@ use Rattle.adya_terms.specs.Histories.{Event, Order, FinalPair, History, One}
 use Rattle.adya_line.specs.Spelling.{history_head, tail, event_text, order_text, final_text}
 use Rattle.adya_line.specs.Limits.{IsEvent, IsOrder, IsFinal}
 use Rattle.adya_text.specs.Texts.{IsHistory, history_lines, AreHistoryLines}
-use Rattle.adya_text.specs.Runs.{IsRun, end_of}
+use Rattle.adya_text.specs.Runs.{IsRun, end_of, HasRun}
 use Rattle.adya_text.specs.HistoryRuns.{Line, HeadLine, EventLine, OrderLine, FinalLine, TailLine, IsLine, line_text, allows, stage_after, event_in, order_in, final_in}
 use Rattle.adya_text.specs.declared.history_reader.Stage.{Stage}
 use Rattle.adya_text.specs.declared.history_reader.Stage.TheVariants.{Head, Events, Orders, Finals, Done, Failed}
-use Rattle.adya_text.proofs.RunLemmas.{HasRun, all_append, all_map}
+use Rattle.adya_text.proofs.RunLemmas.{all_append, all_map}
 
 and_parts : (a b : Bool) → a && b ≡ true → (a ≡ true) × (b ≡ true)
 and_parts true b e = (refl, e)

@@ -3,3 +3,4 @@ pub mod FaultLemmas
 pub mod LineLists
 pub mod LineLaws
 pub mod HistoryTexts
+pub mod HistoryFed

@@ -2,7 +2,7 @@
 use Rattle.std.proofs.Common.{◌≡◌, ℕ, Bool, true, List, [], ◌∷◌, ◌++◌, map, refl, sym, ap, ◌∙◌, append-nil}
 use Rattle.std.proofs.lemmas.List.{map_push, map-append}
 use Rattle.std.specs.List.{AllByRecursion}
-use Rattle.adya_text.specs.Runs.{IsRun, end_of}
+use Rattle.adya_text.specs.Runs.{IsRun, end_of, HasRun}
 
 pub run_push : {S L : Type 0} (allows : S → L → Bool) (after : L → S) (s : S) (xs : List L) (x : L)
     → IsRun allows after s xs → allows (end_of after s xs) x ≡ true → IsRun allows after s (xs ++ x ∷ [])
@@ -66,14 +66,6 @@ texts_tell text good tells (a ∷ more_a) (b ∷ more_b) ga gb e =
     let later : map text more_a ≡ map text more_b = cc in
     cc (tells a b ga.0 gb.0 here, texts_tell text good tells more_a more_b ga.1 gb.1 later)
 
--- the lines of a run from the start that ends in the stage
-pub record HasRun {S L : Type 0} (allows : S → L → Bool) (after : L → S) (text : L → List ℕ) (good : L → Type 0) (start end : S) (lines : List (List ℕ)) : Type 0 where
-  pub items : List L
-  pub goods : AllByRecursion good items
-  pub runs : IsRun allows after start items
-  pub ends : end_of after start items ≡ end
-  pub same : lines ≡ map text items
-
 -- the text of no line that is allowed behind the run goes on with it
 pub refused : {S L : Type 0} (allows : S → L → Bool) (after : L → S) (text : L → List ℕ) (good : L → Type 0) → Tells text good → (start here done : S) (lines : List (List ℕ)) (l : List ℕ) (more : List (List ℕ))
     → HasRun allows after text good start here lines → HasRun allows after text good start done (lines ++ l ∷ more)
@@ -85,7 +77,7 @@ refused allows after text good tells start here done lines l more front whole no
     none s.line s.is s.same (rw front.ends at allowed)
 
 -- a run goes on with a line that is allowed behind it
-pub taken : {S L : Type 0} (allows : S → L → Bool) (after : L → S) (text : L → List ℕ) (good : L → Type 0) (start here : S) (lines : List (List ℕ)) (x : L)
+unfoldable pub taken : {S L : Type 0} (allows : S → L → Bool) (after : L → S) (text : L → List ℕ) (good : L → Type 0) (start here : S) (lines : List (List ℕ)) (x : L)
     → HasRun allows after text good start here lines → good x → allows here x ≡ true → HasRun allows after text good start (after x) (lines ++ text x ∷ [])
 taken allows after text good start here lines x front is ok = record {
   items = front.items ++ x ∷ [];

