@@ -1,3 +1,5 @@
 pub mod Spelling
 pub mod Limits
 pub mod Reading
+pub mod Views
+pub mod Growing

@@ -1,5 +1,5 @@
 -- Reading a line from left to right.
-use Rattle.std.specs.Prelude.{◌≡◌, ℕ, zero, suc, ◌^◌, Bool, not, ◌&&◌, ◌==◌, nat_lt, nat_le, List, [], ◌∷◌, length, take, drop, slice_index, Option, Some, None, option_and_then, if◌then◌else◌}
+use Rattle.std.specs.Prelude.{◌≡◌, ℕ, zero, suc, ◌^◌, Bool, not, ◌&&◌, ◌==◌, nat_lt, nat_le, List, [], ◌∷◌, ◌++◌, length, take, drop, slice_index, Option, Some, None, option_and_then, if◌then◌else◌}
 use Rattle.std.specs.List.{prefix_len}
 use Rattle.std.specs.Char.{is_ascii_digit}
 use Rattle.std.specs.Str.Parse.{digits_value}
@@ -11,6 +11,11 @@ use Rattle.adya_terms.specs.Histories.{Event, Write, Read, Commit, Abort, Order,
 abbrev pub Gives : {X Y : Type 0} → (X → Y) → Option X → Option Y → Type 0
 Gives view (Some x) read = read ≡ Some (view x)
 Gives view None read = read ≡ None
+
+-- What a method returned, and what it left of the line, is what reading gives.
+abbrev pub Steps : {X Y : Type 0} → (X → Y) → Option X → List ℕ → Option (Y × List ℕ) → Type 0
+Steps view (Some x) rest read = read ≡ Some (view x, rest)
+Steps view None rest read = read ≡ None
 
 infixl 10 ◌>>=◌
 abbrev pub ◌>>=◌ : {A B : Type 0} → Option A → (A → Option B) → Option B
@@ -96,28 +101,45 @@ abbrev pub none_or : {A : Type 0} → Option (List ℕ) → A → (List ℕ → 
 none_or None absent present = absent
 none_or (Some rest) absent present = present rest
 
+-- the second byte of the mark << and a number, and what follows
+unfoldable pub writer_at : List ℕ → Option (ℕ × List ℕ)
+writer_at bytes = after 60 bytes >>= txn_at
+
 -- the numbers, each behind <<, at most n of them, and what follows
 unfoldable pub later_at : ℕ → List ℕ → Option (List ℕ × List ℕ)
 later_at zero bytes = Some ([], bytes)
-later_at (suc n) bytes = none_or (after 60 bytes) (Some ([], bytes)) (λ mark. after 60 mark >>= λ rest. txn_at rest >>= λ t. later_at n t.1 >>= λ ts. Some (t.0 ∷ ts.0, ts.1))
+later_at (suc n) bytes = none_or (after 60 bytes) (Some ([], bytes)) (λ mark. writer_at mark >>= λ t. later_at n t.1 >>= λ ts. Some (t.0 ∷ ts.0, ts.1))
+
+-- what was read, behind other numbers
+abbrev pub behind : List ℕ → Option (List ℕ × List ℕ) → Option (List ℕ × List ℕ)
+behind front read = read >>= λ x. Some (front ++ x.0, x.1)
+
+-- T<<T<<.., and what follows
+unfoldable pub writers_at : List ℕ → Option (List ℕ × List ℕ)
+writers_at bytes = do
+  first ← txn_at bytes
+  behind (first.0 ∷ []) (later_at (length first.1) first.1)
+
+-- the key between the two bytes, the first of which is at the front, and what follows
+unfoldable pub key_between : ℕ → ℕ → List ℕ → Option (List ℕ × List ℕ)
+key_between opening closing bytes = do
+  inner ← after opening bytes
+  key ← text_at 32 is_key_byte inner
+  rest ← after closing key.1
+  Some (key.0, rest)
 
 -- the order of the line
 unfoldable pub order_at : List ℕ → Option Order
 order_at line = do
-  inner ← after 91 line
-  key ← text_at 32 is_key_byte inner
-  colon ← after 58 key.1
-  first ← txn_at colon
-  later ← later_at (length first.1) first.1
-  end ← after 93 later.1
-  whole (record { key = key.0; writers = first.0 ∷ later.0 }) end
+  key ← key_between 91 58 line
+  writers ← writers_at key.1
+  end ← after 93 writers.1
+  whole (record { key = key.0; writers = writers.0 }) end
 
 -- the final of the line
 unfoldable pub final_at : List ℕ → Option FinalPair
 final_at line = do
-  inner ← after 123 line
-  key ← text_at 32 is_key_byte inner
-  comma ← after 44 key.1
-  value ← text_at 64 is_value_byte comma
+  key ← key_between 123 44 line
+  value ← text_at 64 is_value_byte key.1
   end ← after 125 value.1
   whole (record { key = key.0; value = value.0 }) end

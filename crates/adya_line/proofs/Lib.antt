@@ -1,0 +1,5 @@
+pub mod Digits
+pub mod Parts
+pub mod Events
+pub mod Orders
+pub mod Growth
