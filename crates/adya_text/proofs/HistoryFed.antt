@@ -17,7 +17,7 @@ use Rattle.adya_text.specs.Texts.{IsHistory, history_lines, AreHistoryLines, wit
 use Rattle.adya_text.specs.Faults.{Begins, IsFirstFaulty, IsFaultLine, IsCut}
 use Rattle.adya_text.specs.Runs.{HasRun}
 use Rattle.adya_text.specs.HistoryRuns.{Line, HeadLine, EventLine, OrderLine, FinalLine, TailLine, IsLine, line_text, allows, stage_after, event_in, order_in, final_in}
-use Rattle.adya_text.specs.Readers.{IsTaken, IsFed, IsLineOf, IsRefused, IsAllowed, Takes, IsKept, ReadsHistory, is_failed, is_done}
+use Rattle.adya_text.specs.HistoryReaders.{IsTaken, IsFed, IsLineOf, IsRefused, IsAllowed, Takes, IsKept, ReadsHistory, is_failed, is_done}
 use Rattle.adya_text.specs.declared.history_reader.Stage.{Stage}
 use Rattle.adya_text.specs.declared.history_reader.Stage.TheVariants.{Head, Events, Orders, Finals, Done, Failed}
 use Rattle.adya_text.specs.declared.history_reader.HistoryReader.{HistoryReader}

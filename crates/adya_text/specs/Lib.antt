@@ -2,4 +2,6 @@ pub mod Texts
 pub mod Faults
 pub mod Runs
 pub mod HistoryRuns
-pub mod Readers
+pub mod HistoryReaders
+pub mod SerialRuns
+pub mod SerialReaders

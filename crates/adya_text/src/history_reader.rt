@@ -3,11 +3,13 @@
 ghost use Rattle.std.specs.Prelude.{◌≡◌, ◌↔◌, ◌++◌, ◌∷◌, [], List, ℕ, IsTrue, IfOk, OnOk, OnErr, MatchOption};
 ghost use Rattle.std.specs.Bool.{OnTrue, OnFalse};
 ghost use Rattle.adya_text.specs.HistoryRuns.{allows, line_of, stage_after};
+ghost use Rattle.adya_line.specs.Spelling.{history_head, tail};
 ghost use Rattle.adya_text.specs.Texts.{AreHistoryLines};
 ghost use Rattle.adya_text.specs.Faults.{Begins, IsCut};
-ghost use Rattle.adya_text.specs.Readers.{IsFed, IsLineOf, IsNoLine, IsRefused, IsAllowed, Takes, IsKept, ReadsHistory, is_done, is_failed};
+ghost use Rattle.adya_text.specs.HistoryReaders.{IsFed, IsLineOf, IsNoLine, IsRefused, IsAllowed, Takes, IsKept, ReadsHistory, is_done, is_failed};
 
 use crate::read_fault::{ReadFault, Text};
+use adya_line::{event, final_pair, order};
 use adya_terms::{Event, FinalPair, History, Key, Order};
 use std::alloc::{AllocError, Global};
 
@@ -211,11 +213,36 @@ fn fault_at(line: usize) -> ReadFault
     }
 }
 
+fn is_head(line: &[u8]) -> bool
+    ensures { IsTrue result ↔ (line.now ≡ history_head) }
+{
+    line == b"adya 1".as_slice()
+}
+
+fn is_tail(line: &[u8]) -> bool
+    ensures { IsTrue result ↔ (line.now ≡ tail) }
+{
+    line == b"end".as_slice()
+}
+
 /// The line by its kind, without its line feed. None where it has no kind.
 fn read_line(alloc: Global, line: &[u8]) -> Result<Option<Line>, AllocError>
     ensures { IfOk result (λ o. MatchOption o (IsNoLine line.now) (λ x. IsLineOf (line_of x) line.now)) }
 {
-    let _ = alloc;
-    let _ = line;
-    Err(AllocError)
+    if let Some(event) = event(line) {
+        return Ok(Some(Line::Event(event)));
+    }
+    if let Some(order) = order(alloc, line)? {
+        return Ok(Some(Line::Order(order)));
+    }
+    if let Some(pair) = final_pair(line) {
+        return Ok(Some(Line::Final(pair)));
+    }
+    if is_head(line) {
+        return Ok(Some(Line::Head));
+    }
+    if is_tail(line) {
+        return Ok(Some(Line::Tail));
+    }
+    Ok(None)
 }

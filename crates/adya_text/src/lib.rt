@@ -3,6 +3,8 @@
 
 mod history_reader;
 mod read_fault;
+mod serial_reader;
 
 pub use history_reader::HistoryReader;
 pub use read_fault::{ReadFault, Text};
+pub use serial_reader::SerialReader;

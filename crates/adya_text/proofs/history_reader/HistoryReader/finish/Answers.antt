@@ -1,7 +1,7 @@
 use Rattle.std.proofs.Common.{◌≡◌, ℕ, List, [], length, ap, sym, ◌∙◌, refl, rules, Bool, false, true}
 use Rattle.std.proofs.lemmas.Bool.{eqb-true, eq-eqb}
 use Rattle.std.proofs.lemmas.List.{nil_from_length}
-use Rattle.adya_text.specs.Readers.{is_failed, is_done}
+use Rattle.adya_text.specs.HistoryReaders.{is_failed, is_done}
 use Rattle.adya_text.proofs.HistoryFed.{failed_fault, missing_fault, fed_shape, fed_history, fault_is, unfailed}
 use Rattle.adya_text.proofs.history_reader.HistoryReader.finish.Goals as goal
 
