@@ -16,7 +16,7 @@ use Rattle.adya_terms.specs.declared.event.Version.{Version}
 use Rattle.adya_terms.specs.Keys.{is_text, is_key, is_value, is_key_byte, is_value_byte, IsTxn, IsMod}
 use Rattle.adya_line.specs.Spelling.{version_text}
 use Rattle.adya_line.specs.Limits.{IsVersion}
-use Rattle.adya_line.specs.Reading.{◌>>=◌, after, text_at, txn_at, mod_at, version_at, txn_at_line}
+use Rattle.adya_line.specs.Reading.{◌>>=◌, after, text_at, txn_at, mod_at, version_at, txn_at_line, none_or, key_between}
 use Rattle.adya_line.proofs.Digits.{model, front_passes, digits_front, list_all-is, positive_front}
 
 -- ---- steps
@@ -32,6 +32,11 @@ found x h = record { holds = h }
 pub then : {A B : Type 0} {o : Option A} {f : A → Option B} {P : A → Type 0} {Q : B → Type 0} → Only o P → ((x : A) → P x → Only (f x) Q) → Only (o >>= f) Q
 then {o = Some x} h more = more x h.holds
 then {o = None} h more = record { holds = tt }
+
+-- what was found, with more said of it
+pub weaken : {A : Type 0} {o : Option A} {P Q : A → Type 0} → Only o P → ((x : A) → P x → Q x) → Only o Q
+weaken {o = Some x} h more = record { holds = more x h.holds }
+weaken {o = None} h more = record { holds = tt }
 
 -- what a test leaves
 pub if_then : {A : Type 0} (b : Bool) (x : A) {Q : A → Type 0} → (b ≡ true → Q x) → Only (cond b (Some x) None) Q
@@ -183,3 +188,30 @@ unfolding txn_at_line
 line_again t is =
     let alone : txn_at (decimal t) ≡ Some (t, []) = ap txn_at (sym (append-nil (decimal t))) ∙ txn_again t [] is refl in
     rw alone refl
+
+-- ---- what follows a byte, if it is there
+
+if_after_at : {A : Type 0} (byte : ℕ) (bytes : List ℕ) (o : Option (List ℕ)) {absent : Option A} {present : List ℕ → Option A} {P : A → Type 0}
+    → Only o (λ rest. bytes ≡ byte ∷ rest) → Only absent P → ((rest : List ℕ) → bytes ≡ byte ∷ rest → Only (present rest) P) → Only (none_or o absent present) P
+if_after_at byte bytes None is here there = here
+if_after_at byte bytes (Some rest) is here there = there rest is.holds
+
+-- what holds whether a byte is there or not
+pub if_after : {A : Type 0} (byte : ℕ) (bytes : List ℕ) {absent : Option A} {present : List ℕ → Option A} {P : A → Type 0}
+    → Only absent P → ((rest : List ℕ) → bytes ≡ byte ∷ rest → Only (present rest) P) → Only (none_or (after byte bytes) absent present) P
+if_after byte bytes here there = if_after_at byte bytes (after byte bytes) (after_takes byte bytes) here there
+
+-- ---- a key between two bytes
+
+pub key_between_takes : (opening closing : ℕ) (bytes : List ℕ) → Only (key_between opening closing bytes) (λ x. (bytes ≡ opening ∷ (x.0 ++ (closing ∷ x.1))) × (is_key x.0 ≡ true))
+unfolding key_between
+key_between_takes opening closing bytes =
+    then (after_takes opening bytes) (λ (inner : List ℕ) a.
+    then (text_takes 32 is_key_byte inner) (λ (key : List ℕ × List ℕ) k.
+    then (after_takes closing key.1) (λ (rest : List ℕ) c.
+    found (key.0, rest) (rw (a, k.0, c) refl, k.1))))
+
+pub key_between_again : (opening closing : ℕ) (key rest : List ℕ) → is_key key ≡ true → is_key_byte closing ≡ false → key_between opening closing (opening ∷ (key ++ (closing ∷ rest))) ≡ Some (key, rest)
+unfolding key_between after
+key_between_again opening closing key rest good stop =
+    rw (eq-eqb opening opening refl, text_again 32 is_key_byte key (closing ∷ rest) good stop, eq-eqb closing closing refl) refl

@@ -3,3 +3,4 @@ pub mod Limits
 pub mod Reading
 pub mod Views
 pub mod Growing
+pub mod Laws

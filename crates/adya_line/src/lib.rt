@@ -5,6 +5,8 @@ mod event_line;
 mod event_ref;
 mod fields;
 mod final_line;
+mod fixed_line;
+pub mod laws;
 mod order_line;
 mod txn_line;
 mod writing;
@@ -12,6 +14,10 @@ mod writing;
 pub use event_line::{event, read_event};
 pub use event_ref::{EndRef, EventRef, ReadRef, VersionRef, WriteRef};
 pub use final_line::final_pair;
+pub use fixed_line::{history_head, serial_head, tail};
 pub use order_line::order;
 pub use txn_line::txn;
 pub use writing::{write_event, write_final, write_order, write_txn};
+
+#[cfg(test)]
+mod tests;
