@@ -4,3 +4,5 @@ pub mod LineLists
 pub mod LineLaws
 pub mod HistoryTexts
 pub mod HistoryFed
+pub mod SerialTexts
+pub mod SerialFed

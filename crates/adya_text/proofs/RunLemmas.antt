@@ -1,7 +1,9 @@
 -- Runs of lines, and how the texts of their lines tell them.
-use Rattle.std.proofs.Common.{◌≡◌, ℕ, Bool, true, List, [], ◌∷◌, ◌++◌, map, refl, sym, ap, ◌∙◌, append-nil}
+use Rattle.std.proofs.Common.{◌≡◌, ℕ, Bool, true, List, [], ◌∷◌, ◌++◌, map, Option, None, Some, refl, sym, ap, ◌∙◌, append-nil}
 use Rattle.std.proofs.lemmas.List.{map_push, map-append}
+use Rattle.std.proofs.lemmas.Option.{none-some}
 use Rattle.std.specs.List.{AllByRecursion}
+use Rattle.adya_line.specs.Laws.{IsReaderOf, Excludes}
 use Rattle.adya_text.specs.Runs.{IsRun, end_of, HasRun}
 
 pub run_push : {S L : Type 0} (allows : S → L → Bool) (after : L → S) (s : S) (xs : List L) (x : L)
@@ -34,6 +36,16 @@ all_map P Q f each (k ∷ ks) all = (each k all.0, all_map P Q f each ks all.1)
 -- no two lines have one text
 abbrev pub Tells : {L : Type 0} → (L → List ℕ) → (L → Type 0) → Type 0
 Tells {L} text good = (a b : L) → good a → good b → text a ≡ text b → a ≡ b
+
+-- what one reader reads and another refuses is no text of the other
+pub unlike_text : {X Y : Type 0} {read : List ℕ → Option X} {other : List ℕ → Option Y} {Is : X → Type 0} {Other : Y → Type 0} {text : X → List ℕ} {text' : Y → List ℕ}
+    → IsReaderOf read Is text → IsReaderOf other Other text' → Excludes read other → (x : X) (y : Y) → Is x → Other y → text x ≡ text' y → ⊥
+unlike_text {text = text} reads others apart x y is_x is_y same =
+    none-some y (sym (apart (text x) x ((reads (text x) x).1 (is_x, refl))) ∙ (others (text x) y).1 (is_y, same))
+
+-- a line that a reader refuses is no text of it
+pub unlike_line : {X : Type 0} {read : List ℕ → Option X} {Is : X → Type 0} {text : X → List ℕ} {fixed : List ℕ} → IsReaderOf read Is text → read fixed ≡ None → (x : X) → Is x → text x ≡ fixed → ⊥
+unlike_line {fixed = fixed} reads none x is same = none-some x (sym none ∙ (reads fixed x).1 (is, sym same))
 
 -- the line whose text stands behind the texts of a front
 pub record Split {L : Type 0} (text : L → List ℕ) (good : L → Type 0) (all front : List L) (l : List ℕ) (more : List (List ℕ)) : Type 0 where

@@ -9,7 +9,7 @@ ghost use Rattle.adya_text.specs.Faults.{Begins, IsCut};
 ghost use Rattle.adya_text.specs.HistoryReaders.{IsFed, IsLineOf, IsNoLine, IsRefused, IsAllowed, Takes, IsKept, ReadsHistory, is_done, is_failed};
 
 use crate::read_fault::{ReadFault, Text};
-use adya_line::{event, final_pair, order};
+use adya_line::{event, final_pair, history_head, order, tail};
 use adya_terms::{Event, FinalPair, History, Key, Order};
 use std::alloc::{AllocError, Global};
 
@@ -216,13 +216,13 @@ fn fault_at(line: usize) -> ReadFault
 fn is_head(line: &[u8]) -> bool
     ensures { IsTrue result ↔ (line.now ≡ history_head) }
 {
-    line == b"adya 1".as_slice()
+    line == history_head()
 }
 
 fn is_tail(line: &[u8]) -> bool
     ensures { IsTrue result ↔ (line.now ≡ tail) }
 {
-    line == b"end".as_slice()
+    line == tail()
 }
 
 /// The line by its kind, without its line feed. None where it has no kind.

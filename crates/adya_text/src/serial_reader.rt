@@ -9,7 +9,7 @@ ghost use Rattle.adya_text.specs.Faults.{Begins, IsCut};
 ghost use Rattle.adya_text.specs.SerialReaders.{IsFed, IsLineOf, IsNoLine, IsRefused, IsAllowed, Takes, IsKept, ReadsSerial, is_done, is_failed};
 
 use crate::read_fault::{ReadFault, Text};
-use adya_line::txn;
+use adya_line::{serial_head, tail, txn};
 use adya_terms::{Serial, Txn};
 use std::alloc::{AllocError, Global};
 
@@ -176,13 +176,13 @@ fn fault_at(line: usize) -> ReadFault
 fn is_head(line: &[u8]) -> bool
     ensures { IsTrue result ↔ (line.now ≡ serial_head) }
 {
-    line == b"serial 1".as_slice()
+    line == serial_head()
 }
 
 fn is_tail(line: &[u8]) -> bool
     ensures { IsTrue result ↔ (line.now ≡ tail) }
 {
-    line == b"end".as_slice()
+    line == tail()
 }
 
 /// The line by its kind, without its line feed. None where it has no kind.
