@@ -7,3 +7,4 @@ pub mod HistoryFed
 pub mod SerialTexts
 pub mod SerialFed
 pub mod TextLaws
+pub mod Written

@@ -1,5 +1,5 @@
 -- Different values have different texts, and no text begins another.
-use Rattle.std.proofs.Common.{◌≡◌, ℕ, Bool, true, false, List, [], ◌∷◌, ◌++◌, All, map, Result, Ok, Err, refl, sym, ap, subst, ◌∙◌, append-nil, arith}
+use Rattle.std.proofs.Common.{◌≡◌, ℕ, ◌<◌, Bool, true, false, List, [], ◌∷◌, ◌++◌, All, map, Result, Ok, Err, refl, sym, ap, subst, ◌∙◌, append-nil, arith}
 use Rattle.std.specs.Prelude.{MatchResult}
 use Rattle.std.specs.List.{AllByRecursion, filter_map}
 use Rattle.std.proofs.lemmas.List.Elements.{All-cons}
@@ -118,3 +118,19 @@ memory_history text result is = subst (ReadsHistory text) (sym is) tt
 
 pub memory_serial : (text : List ℕ) (result : Result Serial ReadFault) → result ≡ Err Memory → ReadsSerial text result
 memory_serial text result is = subst (ReadsSerial text) (sym is) tt
+
+-- ---- one fault line
+
+not_before : (grammar : List (List ℕ) → Type 0) (lines : List (List ℕ)) (j k : ℕ) → IsFirstFaulty grammar lines j → IsFirstFaulty grammar lines k → j < k → ⊥
+not_before grammar lines j k first second below = second.first j first.counted below first.faulty
+
+one_first : (grammar : List (List ℕ) → Type 0) (lines : List (List ℕ)) (j k : ℕ) → IsFirstFaulty grammar lines j → IsFirstFaulty grammar lines k → j ≡ k
+one_first grammar lines j k first second =
+    let below : j < k → ⊥ = not_before grammar lines j k first second in
+    let above : k < j → ⊥ = not_before grammar lines k j second first in
+    omega (arith, below, above)
+
+pub one_fault : (grammar : List (List ℕ) → Type 0) (text : List ℕ) (j k : ℕ) → IsFaultLine grammar text j → IsFaultLine grammar text k → j ≡ k
+one_fault grammar text j k first second =
+    let cut = one_cut first.lines second.lines first.rest second.rest first.cut.plain second.cut.plain first.cut.plain_rest second.cut.plain_rest (sym first.cut.whole ∙ second.cut.whole) in
+    one_first grammar second.lines j k (subst (λ (ls : List (List ℕ)). IsFirstFaulty grammar ls j) cut.0 first.first) second.first

@@ -5,3 +5,4 @@ pub mod HistoryRuns
 pub mod HistoryReaders
 pub mod SerialRuns
 pub mod SerialReaders
+pub mod Laws

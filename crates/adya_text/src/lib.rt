@@ -1,12 +1,15 @@
-//! The texts of histories and of certificates.
+//! The texts of histories and of certificates: reading, writing, and the line of a fault.
 #![tactic(auto)]
 
 mod history_reader;
+pub mod laws;
 mod read_fault;
 mod reading;
 mod serial_reader;
+mod writing;
 
 pub use history_reader::HistoryReader;
 pub use read_fault::{ReadFault, Text};
 pub use reading::{read_history, read_serial};
 pub use serial_reader::SerialReader;
+pub use writing::{WriteFault, write_history, write_serial};
