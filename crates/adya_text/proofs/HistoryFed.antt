@@ -200,9 +200,11 @@ in_events h = events_front h.events h.orders h.finals
     finals_none : (fs : List FinalPair) → filter_map event_in (final_items fs) ≡ []
     finals_none [] = refl
     finals_none (f ∷ fs) = finals_none fs
+
     orders_none : (os : List Order) (fs : List FinalPair) → filter_map event_in (order_items os fs) ≡ []
     orders_none [] fs = finals_none fs
     orders_none (o ∷ os) fs = orders_none os fs
+
     events_front : (es : List Event) (os : List Order) (fs : List FinalPair) → filter_map event_in (event_items es os fs) ≡ es
     events_front [] os fs = orders_none os fs
     events_front (e ∷ es) os fs = ap (λ (r : List Event). e ∷ r) (events_front es os fs)
@@ -213,9 +215,11 @@ in_orders h = events_none h.events h.orders h.finals
     finals_none : (fs : List FinalPair) → filter_map order_in (final_items fs) ≡ []
     finals_none [] = refl
     finals_none (f ∷ fs) = finals_none fs
+
     orders_front : (os : List Order) (fs : List FinalPair) → filter_map order_in (order_items os fs) ≡ os
     orders_front [] fs = finals_none fs
     orders_front (o ∷ os) fs = ap (λ (r : List Order). o ∷ r) (orders_front os fs)
+
     events_none : (es : List Event) (os : List Order) (fs : List FinalPair) → filter_map order_in (event_items es os fs) ≡ os
     events_none [] os fs = orders_front os fs
     events_none (e ∷ es) os fs = events_none es os fs
@@ -226,9 +230,11 @@ in_finals h = events_none h.events h.orders h.finals
     finals_front : (fs : List FinalPair) → filter_map final_in (final_items fs) ≡ fs
     finals_front [] = refl
     finals_front (f ∷ fs) = ap (λ (r : List FinalPair). f ∷ r) (finals_front fs)
+
     orders_none : (os : List Order) (fs : List FinalPair) → filter_map final_in (order_items os fs) ≡ fs
     orders_none [] fs = finals_front fs
     orders_none (o ∷ os) fs = orders_none os fs
+
     events_none : (es : List Event) (os : List Order) (fs : List FinalPair) → filter_map final_in (event_items es os fs) ≡ fs
     events_none [] os fs = orders_none os fs
     events_none (e ∷ es) os fs = events_none es os fs

@@ -100,7 +100,7 @@ items_goods h is = (
   tt,
   all_append IsLine (map EventLine h.events) (order_items h.orders h.finals) (all_map IsLine IsEvent EventLine (λ e good. good) h.events is.events)
       (all_append IsLine (map OrderLine h.orders) (final_items h.finals) (all_map IsLine IsOrder OrderLine (λ o good. good) h.orders is.orders)
-          (all_append IsLine (map FinalLine h.finals) (TailLine ∷ []) (all_map IsLine IsFinal FinalLine (λ f good. good) h.finals is.finals) (tt, tt))),
+      (all_append IsLine (map FinalLine h.finals) (TailLine ∷ []) (all_map IsLine IsFinal FinalLine (λ f good. good) h.finals is.finals) (tt, tt))),
 )
 
 -- the run of lines, up to the stage

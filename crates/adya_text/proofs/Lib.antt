@@ -8,3 +8,4 @@ pub mod SerialTexts
 pub mod SerialFed
 pub mod TextLaws
 pub mod Written
+pub mod BufferLemmas

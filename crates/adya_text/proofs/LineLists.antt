@@ -85,10 +85,10 @@ pub at_line : (text : List ℕ) (past : List (List ℕ)) (rest : List ℕ) (at :
 at_line text past rest at is within feed none =
     let next : suc at ≡ at + 1 = omega arith in
     let one : take (at + 1) rest ≡ take at rest ++ 10 ∷ [] =
-        sym (ap (λ n. take n rest) next) ∙ take-suc rest at 0 within ∙ ap (λ (x : ℕ). take at rest ++ x ∷ []) feed in
+    sym (ap (λ n. take n rest) next) ∙ take-suc rest at 0 within ∙ ap (λ (x : ℕ). take at rest ++ x ∷ []) feed in
     let back : List ℕ = drop (at + 1) rest in
     let front : rest ≡ (take at rest ++ 10 ∷ []) ++ back =
-        sym (take-append-drop (at + 1) rest) ∙ ap (λ (l : List ℕ). l ++ drop (at + 1) rest) one in
+    sym (take-append-drop (at + 1) rest) ∙ ap (λ (l : List ℕ). l ++ drop (at + 1) rest) one in
     record {
       plain = all_behind IsPlain past (take at rest) is.plain (plain_before rest at (omega arith) none);
       whole =

@@ -21,9 +21,9 @@ pub line_more : {X : Type 0} (text : X → List ℕ) (xs : List X) (i : ℕ) (x 
 line_more text xs i x {a = a} {b = b} {d = d} c within here so_far line feed =
     let next : suc i ≡ i + 1 = omega arith in
     let longer : take (i + 1) xs ≡ take i xs ++ x ∷ [] =
-        sym (ap (λ n. take n xs) next) ∙ take-suc xs i x within ∙ ap (λ y. take i xs ++ y ∷ []) (sym here) in
+    sym (ap (λ n. take n xs) next) ∙ take-suc xs i x within ∙ ap (λ y. take i xs ++ y ∷ []) (sym here) in
     let bytes : with_ends (map text (take (i + 1) xs)) ≡ with_ends (map text (take i xs)) ++ ended (text x) =
-        ap (λ ys. with_ends (map text ys)) longer ∙ ap with_ends (map_push text (take i xs) x) ∙ ends_append (map text (take i xs)) (text x ∷ []) in
+    ap (λ ys. with_ends (map text ys)) longer ∙ ap with_ends (map_push text (take i xs) x) ∙ ends_append (map text (take i xs)) (text x ∷ []) in
     let first : Grows b (text x) c = record { appends = line } in
     let second : Grows c (10 ∷ []) d = record { appends = feed } in
     subst (λ (l : List ℕ). Grows a l d) (sym bytes) (and_then so_far (and_then first second))
@@ -44,7 +44,7 @@ view_more text view xs i x {a = a} {b = b} {d = d} c within here so_far line fee
 history_parts : (es os fs : List (List ℕ)) → (((ended history_head ++ with_ends es) ++ with_ends os) ++ with_ends fs) ++ ended tail ≡ with_ends (history_head ∷ (es ++ (os ++ (fs ++ tail ∷ []))))
 history_parts es os fs =
     let rest : with_ends (es ++ (os ++ (fs ++ tail ∷ []))) ≡ with_ends es ++ (with_ends os ++ (with_ends fs ++ ended tail)) =
-        ends_append es (os ++ (fs ++ tail ∷ [])) ∙ ap (λ l. with_ends es ++ l) (ends_append os (fs ++ tail ∷ []) ∙ ap (λ l. with_ends os ++ l) (ends_append fs (tail ∷ []))) in
+    ends_append es (os ++ (fs ++ tail ∷ [])) ∙ ap (λ l. with_ends es ++ l) (ends_append os (fs ++ tail ∷ []) ∙ ap (λ l. with_ends os ++ l) (ends_append fs (tail ∷ []))) in
     append_assoc ((ended history_head ++ with_ends es) ++ with_ends os) (with_ends fs) (ended tail) ∙ append_assoc (ended history_head ++ with_ends es) (with_ends os) (with_ends fs ++ ended tail)
     ∙ append_assoc (ended history_head) (with_ends es) (with_ends os ++ (with_ends fs ++ ended tail)) ∙ ap (λ l. ended history_head ++ l) (sym rest)
 

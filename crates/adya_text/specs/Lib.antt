@@ -6,3 +6,4 @@ pub mod HistoryReaders
 pub mod SerialRuns
 pub mod SerialReaders
 pub mod Laws
+pub mod Buffers

@@ -21,19 +21,13 @@ enum Stage {
     /// An event, an order, a final or the tail.
     Events,
     /// An order of a key above this one, a final or the tail.
-    Orders {
-        last: Key,
-    },
+    Orders { last: Key },
     /// A final of a key above this one or the tail.
-    Finals {
-        last: Key,
-    },
+    Finals { last: Key },
     /// None.
     Done,
     /// None: this line could not stand where it stood.
-    Failed {
-        line: usize,
-    },
+    Failed { line: usize },
 }
 
 /// A line by its kind.

@@ -3,13 +3,18 @@
 
 mod history_reader;
 pub mod laws;
+mod lines;
 mod read_fault;
 mod reading;
 mod serial_reader;
 mod writing;
 
 pub use history_reader::HistoryReader;
+pub use lines::{LineBuffer, LineFault};
 pub use read_fault::{ReadFault, Text};
 pub use reading::{read_history, read_serial};
 pub use serial_reader::SerialReader;
 pub use writing::{WriteFault, write_history, write_serial};
+
+#[cfg(test)]
+mod tests;

@@ -23,9 +23,7 @@ enum Stage {
     /// None.
     Done,
     /// None: this line could not stand where it stood.
-    Failed {
-        line: usize,
-    },
+    Failed { line: usize },
 }
 
 /// A line by its kind.

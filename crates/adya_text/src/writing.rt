@@ -9,7 +9,9 @@ ghost use Rattle.adya_line.specs.Growing.{Grows};
 ghost use Rattle.adya_line.specs.Spelling.{event_text, order_text, final_text, txn_text};
 ghost use Rattle.adya_text.specs.Texts.{with_ends, history_text, serial_text};
 
-use adya_line::{history_head, serial_head, tail, write_event, write_final, write_order, write_txn};
+use adya_line::{
+    history_head, serial_head, tail, write_event, write_final, write_order, write_txn,
+};
 use adya_terms::{Event, FinalPair, History, Order, Serial, Txn, Watched};
 use std::io;
 use std::io::Write;
