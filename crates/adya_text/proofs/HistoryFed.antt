@@ -1,5 +1,5 @@
 -- What a reader of history lines knows of the lines that it was fed with.
-use Rattle.std.proofs.Common.{◌≡◌, ℕ, suc, ◌+◌, ◌<◌, ◌≤◌, ◌⊎◌, inl, inr, Bool, true, false, ◌&&◌, List, [], ◌∷◌, ◌++◌, length, map, Option, Some, None, Result, Ok, Err, refl, sym, ap, subst, ◌∙◌, arith, append_assoc, append-nil}
+use Rattle.std.proofs.Common.{◌≡◌, ℕ, suc, ◌<◌, Bool, true, false, List, [], ◌∷◌, ◌++◌, length, map, Option, Result, Ok, Err, refl, sym, ap, subst, ◌∙◌, arith, append_assoc, append-nil}
 use Rattle.std.specs.Prelude.{not, ◌==◌, ◌↔◌, IsTrue, OnErr}
 use Rattle.std.specs.Bool.{OnTrue, OnFalse}
 use Rattle.std.specs.List.{AllByRecursion, filter_map, list_all}
@@ -7,27 +7,25 @@ use Rattle.std.specs.Cmp.Derive.{both_true}
 use Rattle.std.proofs.lemmas.Bool.Decides.{nat_tests}
 use Rattle.std.proofs.lemmas.List.{length-append}
 use Rattle.std.proofs.lemmas.List.Elements.{filter_map-append}
-use Rattle.adya_terms.specs.Keys.{keys_rise}
 use Rattle.adya_terms.specs.Shapes.{is_shape}
 use Rattle.adya_terms.specs.Values.{history_of}
-use Rattle.adya_terms.specs.Histories.{Event, Order, FinalPair, History, One, event_of, order_of, final_of}
+use Rattle.adya_terms.specs.Histories.{Event, Order, FinalPair, History, event_of, order_of, final_of}
 use Rattle.adya_terms.specs.declared.history.History.{History as HistoryValue}
 use Rattle.adya_line.specs.Limits.{IsOrder}
 use Rattle.adya_text.specs.Texts.{IsHistory, history_lines, AreHistoryLines, with_ends, history_text}
-use Rattle.adya_text.specs.Faults.{Begins, IsFirstFaulty, IsFaultLine, IsCut}
-use Rattle.adya_text.specs.Runs.{HasRun}
+use Rattle.adya_text.specs.Faults.{Begins, IsFaultLine, IsCut}
 use Rattle.adya_text.specs.HistoryRuns.{Line, HeadLine, EventLine, OrderLine, FinalLine, TailLine, IsLine, line_text, allows, stage_after, event_in, order_in, final_in}
 use Rattle.adya_text.specs.HistoryReaders.{IsTaken, IsFed, IsLineOf, IsRefused, IsAllowed, Takes, IsKept, ReadsHistory, is_failed, is_done}
 use Rattle.adya_text.specs.declared.history_reader.Stage.{Stage}
 use Rattle.adya_text.specs.declared.history_reader.Stage.TheVariants.{Head, Events, Orders, Finals, Done, Failed}
 use Rattle.adya_text.specs.declared.history_reader.HistoryReader.{HistoryReader}
 use Rattle.adya_text.specs.declared.read_fault.ReadFault.{ReadFault}
-use Rattle.adya_text.specs.declared.read_fault.ReadFault.TheVariants.{Syntax, Memory}
+use Rattle.adya_text.specs.declared.read_fault.ReadFault.TheVariants.{Syntax}
 use Rattle.adya_text.specs.declared.read_fault.Text.TheVariants as Of
 use Rattle.adya_text.proofs.RunLemmas.{run_join, refused, taken, one_end}
 use Rattle.adya_text.proofs.FaultLemmas.{fault_at, fault_missing, fault_stays, fault_stops, whole_begins}
 use Rattle.adya_text.proofs.LineLaws.{lines_tell}
-use Rattle.adya_text.proofs.HistoryTexts.{HasLines, Run, end, run_of, are_lines, items_of, event_items, order_items, final_items, Holds, held_by, items_texts}
+use Rattle.adya_text.proofs.HistoryTexts.{HasLines, Run, end, run_of, are_lines, items_of, event_items, order_items, final_items, held_by, items_texts}
 
 -- ---- stages
 

@@ -1,15 +1,15 @@
 -- The lines of a history are those of a run from the head to the tail, and no others are.
-use Rattle.std.proofs.Common.{◌≡◌, ℕ, Bool, true, false, ◌&&◌, List, [], ◌∷◌, ◌++◌, map, Option, Some, None, refl, sym, ap, ◌∙◌}
-use Rattle.std.specs.List.{AllByRecursion, filter_map}
+use Rattle.std.proofs.Common.{◌≡◌, ℕ, Bool, true, false, ◌&&◌, List, [], ◌∷◌, ◌++◌, map, refl, sym, ap, ◌∙◌}
+use Rattle.std.specs.List.{AllByRecursion}
 use Rattle.adya_terms.specs.Keys.{keys_rise, key_lt}
 use Rattle.adya_terms.specs.Histories.{Event, Order, FinalPair, History, One}
 use Rattle.adya_line.specs.Spelling.{history_head, tail, event_text, order_text, final_text}
 use Rattle.adya_line.specs.Limits.{IsEvent, IsOrder, IsFinal}
 use Rattle.adya_text.specs.Texts.{IsHistory, history_lines, AreHistoryLines}
 use Rattle.adya_text.specs.Runs.{IsRun, end_of, HasRun}
-use Rattle.adya_text.specs.HistoryRuns.{Line, HeadLine, EventLine, OrderLine, FinalLine, TailLine, IsLine, line_text, allows, stage_after, event_in, order_in, final_in}
+use Rattle.adya_text.specs.HistoryRuns.{Line, HeadLine, EventLine, OrderLine, FinalLine, TailLine, IsLine, line_text, allows, stage_after}
 use Rattle.adya_text.specs.declared.history_reader.Stage.{Stage}
-use Rattle.adya_text.specs.declared.history_reader.Stage.TheVariants.{Head, Events, Orders, Finals, Done, Failed}
+use Rattle.adya_text.specs.declared.history_reader.Stage.TheVariants.{Head, Events, Orders, Finals, Done}
 use Rattle.adya_text.proofs.RunLemmas.{all_append, all_map}
 
 and_parts : (a b : Bool) → a && b ≡ true → (a ≡ true) × (b ≡ true)

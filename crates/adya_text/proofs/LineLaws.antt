@@ -1,11 +1,9 @@
 -- The lines of a history tell what they hold, and have no line feed.
-use Rattle.std.proofs.Common.{◌≡◌, ℕ, List, [], ◌∷◌, Option, Some, None, refl, sym, ap, ◌∙◌}
+use Rattle.std.proofs.Common.{◌≡◌, ℕ, List, Some, None, refl, sym, ap, ◌∙◌}
 use Rattle.std.proofs.lemmas.Option.{none-some}
 use Rattle.adya_terms.specs.Histories.{Event, Order, FinalPair}
-use Rattle.adya_line.specs.Spelling.{history_head, tail, event_text, order_text, final_text}
-use Rattle.adya_line.specs.Limits.{IsEvent, IsOrder, IsFinal}
+use Rattle.adya_line.specs.Spelling.{history_head, tail}
 use Rattle.adya_line.specs.Reading.{event_at, order_at, final_at}
-use Rattle.adya_line.specs.Laws.{IsReaderOf, Excludes}
 use Rattle.adya_line.proofs.Apart.{events_read, orders_read, finals_read, one_event, one_order, one_final, events_no_orders, events_no_finals, orders_no_events, orders_no_finals, finals_no_events, finals_no_orders, no_event_tail, no_event_head, no_order_tail, no_order_head, no_final_tail, no_final_head}
 use Rattle.adya_line.proofs.Feeds.{events_plain, orders_plain, finals_plain, history_head_plain, tail_plain}
 use Rattle.adya_text.specs.Faults.{IsPlain}

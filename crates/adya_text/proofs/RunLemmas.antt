@@ -1,5 +1,5 @@
 -- Runs of lines, and how the texts of their lines tell them.
-use Rattle.std.proofs.Common.{◌≡◌, ℕ, Bool, true, List, [], ◌∷◌, ◌++◌, map, Option, None, Some, refl, sym, ap, ◌∙◌, append-nil}
+use Rattle.std.proofs.Common.{◌≡◌, ℕ, Bool, true, List, [], ◌∷◌, ◌++◌, map, Option, None, refl, sym, ap, ◌∙◌}
 use Rattle.std.proofs.lemmas.List.{map_push, map-append}
 use Rattle.std.proofs.lemmas.Option.{none-some}
 use Rattle.std.specs.List.{AllByRecursion}

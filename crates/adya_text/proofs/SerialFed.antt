@@ -1,21 +1,20 @@
 -- What a reader of certificate lines knows of the lines that it was fed with.
-use Rattle.std.proofs.Common.{◌≡◌, ℕ, suc, ◌+◌, ◌<◌, ◌≤◌, ◌⊎◌, inl, inr, Bool, true, false, ◌&&◌, List, [], ◌∷◌, ◌++◌, length, map, Option, Some, None, Result, Ok, Err, refl, sym, ap, subst, ◌∙◌, arith, append_assoc, append-nil}
-use Rattle.std.specs.Prelude.{not, ◌==◌, ◌↔◌, IsTrue, OnErr}
+use Rattle.std.proofs.Common.{◌≡◌, ℕ, suc, Bool, true, false, List, [], ◌∷◌, ◌++◌, length, map, Result, Ok, Err, refl, sym, ap, subst, ◌∙◌, arith, append_assoc, append-nil}
+use Rattle.std.specs.Prelude.{◌↔◌, IsTrue, OnErr}
 use Rattle.std.specs.Bool.{OnTrue, OnFalse}
-use Rattle.std.specs.List.{AllByRecursion, filter_map, list_all}
+use Rattle.std.specs.List.{AllByRecursion, filter_map}
 use Rattle.std.proofs.lemmas.List.{length-append}
 use Rattle.std.proofs.lemmas.List.Elements.{filter_map-append}
 use Rattle.adya_terms.specs.declared.serial.Serial.{Serial}
 use Rattle.adya_text.specs.Texts.{IsSerial, serial_lines, AreSerialLines, with_ends, serial_text}
-use Rattle.adya_text.specs.Faults.{Begins, IsFirstFaulty, IsFaultLine, IsCut}
-use Rattle.adya_text.specs.Runs.{HasRun}
+use Rattle.adya_text.specs.Faults.{Begins, IsFaultLine, IsCut}
 use Rattle.adya_text.specs.SerialRuns.{Line, HeadLine, TxnLine, TailLine, IsLine, line_text, allows, stage_after, txn_in}
-use Rattle.adya_text.specs.SerialReaders.{IsTaken, IsFed, IsLineOf, IsRefused, IsAllowed, Takes, IsKept, ReadsSerial, is_failed, is_done}
+use Rattle.adya_text.specs.SerialReaders.{IsFed, IsLineOf, IsRefused, IsAllowed, Takes, IsKept, ReadsSerial, is_failed, is_done}
 use Rattle.adya_text.specs.declared.serial_reader.Stage.{Stage}
 use Rattle.adya_text.specs.declared.serial_reader.Stage.TheVariants.{Head, Txns, Done, Failed}
 use Rattle.adya_text.specs.declared.serial_reader.SerialReader.{SerialReader}
 use Rattle.adya_text.specs.declared.read_fault.ReadFault.{ReadFault}
-use Rattle.adya_text.specs.declared.read_fault.ReadFault.TheVariants.{Syntax, Memory}
+use Rattle.adya_text.specs.declared.read_fault.ReadFault.TheVariants.{Syntax}
 use Rattle.adya_text.specs.declared.read_fault.Text.TheVariants as Of
 use Rattle.adya_text.proofs.RunLemmas.{run_join, refused, taken, one_end}
 use Rattle.adya_text.proofs.FaultLemmas.{fault_at, fault_missing, fault_stays, fault_stops, whole_begins}

@@ -1,7 +1,7 @@
 -- The lines of a certificate are those of a run from the head to the tail, and no others are.
-use Rattle.std.proofs.Common.{◌≡◌, ℕ, Bool, true, List, [], ◌∷◌, ◌++◌, map, Option, Some, None, refl, sym, ap, ◌∙◌}
+use Rattle.std.proofs.Common.{◌≡◌, ℕ, List, [], ◌∷◌, ◌++◌, map, Some, None, refl, sym, ap, ◌∙◌}
 use Rattle.std.proofs.lemmas.Option.{none-some}
-use Rattle.std.specs.List.{AllByRecursion, filter_map}
+use Rattle.std.specs.List.{AllByRecursion}
 use Rattle.adya_terms.specs.Keys.{IsTxn}
 use Rattle.adya_line.specs.Spelling.{serial_head, tail, txn_text}
 use Rattle.adya_line.specs.Reading.{txn_at_line}
@@ -10,10 +10,10 @@ use Rattle.adya_line.proofs.Feeds.{txns_plain, serial_head_plain, tail_plain}
 use Rattle.adya_text.specs.Texts.{IsSerial, serial_lines, AreSerialLines}
 use Rattle.adya_text.specs.Faults.{IsPlain}
 use Rattle.adya_text.specs.Runs.{IsRun, end_of, HasRun}
-use Rattle.adya_text.specs.SerialRuns.{Line, HeadLine, TxnLine, TailLine, IsLine, line_text, allows, stage_after, txn_in}
+use Rattle.adya_text.specs.SerialRuns.{Line, HeadLine, TxnLine, TailLine, IsLine, line_text, allows, stage_after}
 use Rattle.adya_text.specs.SerialReaders.{IsLineOf, IsNoLine}
 use Rattle.adya_text.specs.declared.serial_reader.Stage.{Stage}
-use Rattle.adya_text.specs.declared.serial_reader.Stage.TheVariants.{Head, Txns, Done, Failed}
+use Rattle.adya_text.specs.declared.serial_reader.Stage.TheVariants.{Head, Txns, Done}
 use Rattle.adya_text.proofs.RunLemmas.{Tells, unlike_line, all_append, all_map}
 
 -- ---- lines

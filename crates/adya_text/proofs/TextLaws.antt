@@ -1,15 +1,14 @@
 -- Different values have different texts, and no text begins another.
-use Rattle.std.proofs.Common.{◌≡◌, ℕ, ◌<◌, Bool, true, false, List, [], ◌∷◌, ◌++◌, All, map, Result, Ok, Err, refl, sym, ap, subst, ◌∙◌, append-nil, arith}
+use Rattle.std.proofs.Common.{◌≡◌, ℕ, ◌<◌, List, [], ◌∷◌, ◌++◌, All, map, Result, Ok, Err, refl, sym, ap, subst, ◌∙◌, append-nil, arith}
 use Rattle.std.specs.Prelude.{MatchResult}
 use Rattle.std.specs.List.{AllByRecursion, filter_map}
 use Rattle.std.proofs.lemmas.List.Elements.{All-cons}
-use Rattle.adya_terms.specs.Histories.{History, One}
+use Rattle.adya_terms.specs.Histories.{History}
 use Rattle.adya_terms.specs.Values.{history_of}
 use Rattle.adya_terms.specs.declared.history.History.{History as HistoryValue}
 use Rattle.adya_terms.specs.declared.serial.Serial.{Serial}
 use Rattle.adya_text.specs.Texts.{IsHistory, IsSerial, history_lines, serial_lines, history_text, serial_text, with_ends, AreHistoryLines, AreSerialLines}
-use Rattle.adya_text.specs.Faults.{IsPlain, IsCut, IsFaultLine, IsFirstFaulty, IsFaulty}
-use Rattle.adya_text.specs.Runs.{HasRun}
+use Rattle.adya_text.specs.Faults.{IsPlain, IsFaultLine, IsFirstFaulty}
 use Rattle.adya_text.specs.HistoryRuns as H
 use Rattle.adya_text.specs.SerialRuns as S
 use Rattle.adya_text.specs.HistoryReaders.{ReadsHistory}

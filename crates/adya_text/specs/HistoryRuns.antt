@@ -1,5 +1,5 @@
 -- Which line of a history text may come next, by the stage that the lines before have led to.
-use Rattle.std.specs.Prelude.{◌≡◌, ℕ, Bool, true, false, List, Option, Some, None}
+use Rattle.std.specs.Prelude.{ℕ, Bool, true, false, List, Option, Some, None}
 use Rattle.adya_terms.specs.Keys.{key_lt}
 use Rattle.adya_terms.specs.Histories.{Event, Order, FinalPair, event_of, order_of, final_of}
 use Rattle.adya_line.specs.Spelling.{history_head, tail, event_text, order_text, final_text}

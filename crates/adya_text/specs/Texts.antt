@@ -1,5 +1,5 @@
 -- The texts of histories and of certificates.
-use Rattle.std.specs.Prelude.{◌≡◌, ◌≢◌, ℕ, true, List, [], ◌∷◌, ◌++◌, map}
+use Rattle.std.specs.Prelude.{◌≡◌, ℕ, true, List, [], ◌∷◌, ◌++◌, map}
 use Rattle.std.specs.List.{AllByRecursion}
 use Rattle.adya_terms.specs.Keys.{IsTxn, keys_rise}
 use Rattle.adya_terms.specs.Histories.{One, History}

@@ -1,4 +1,4 @@
-use Rattle.std.proofs.Common.{rules, sym, ◌∙◌}
+use Rattle.std.proofs.Common.{rules}
 use Rattle.adya_terms.specs.Histories.{event_of, order_of, final_of}
 use Rattle.adya_text.proofs.LineLaws.{event_line, order_line, final_line, no_line}
 use Rattle.adya_text.proofs.history_reader.read_line.Goals as goal

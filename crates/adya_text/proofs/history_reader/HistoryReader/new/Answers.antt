@@ -1,4 +1,4 @@
-use Rattle.std.proofs.Common.{◌≡◌, refl, rules}
+use Rattle.std.proofs.Common.{refl}
 use Rattle.adya_text.proofs.HistoryFed.{fed_none}
 use Rattle.adya_text.proofs.history_reader.HistoryReader.new.Goals as goal
 

@@ -1,5 +1,4 @@
-use Rattle.std.proofs.Common.{◌≡◌, ℕ, ◌+◌, ◌-◌, ◌<◌, ◌≤◌, ◌++◌, [], rules, arith, take, drop, slice_range, slice_index, length, sym, ap, ◌∙◌, append-nil, length-take-le, length-drop, le_refl}
-use Rattle.std.proofs.lemmas.Grind.{common_steps}
+use Rattle.std.proofs.Common.{◌+◌, ◌-◌, ◌<◌, ◌≤◌, ◌++◌, [], rules, arith, take, slice_range, length, sym, ap, ◌∙◌, append-nil}
 use Rattle.adya_text.proofs.BufferLemmas.{range_split, plain_before, plain_all, length_range, byte_is, empty_range}
 use Rattle.adya_text.proofs.lines.LineBuffer.take_line.Goals as goal
 

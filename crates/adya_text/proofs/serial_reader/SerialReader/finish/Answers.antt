@@ -1,4 +1,4 @@
-use Rattle.std.proofs.Common.{◌≡◌, ℕ, List, [], length, ap, sym, ◌∙◌, refl, rules, Bool, false, true}
+use Rattle.std.proofs.Common.{◌≡◌, [], length, ap, sym, ◌∙◌, rules, false, true}
 use Rattle.std.proofs.lemmas.Bool.{eqb-true, eq-eqb}
 use Rattle.std.proofs.lemmas.List.{nil_from_length}
 use Rattle.adya_text.specs.SerialReaders.{is_failed, is_done}

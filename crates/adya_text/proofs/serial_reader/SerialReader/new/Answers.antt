@@ -1,4 +1,4 @@
-use Rattle.std.proofs.Common.{◌≡◌, refl, rules}
+use Rattle.std.proofs.Common.{refl}
 use Rattle.adya_text.proofs.SerialFed.{fed_none}
 use Rattle.adya_text.proofs.serial_reader.SerialReader.new.Goals as goal
 
