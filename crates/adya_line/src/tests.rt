@@ -1,4 +1,5 @@
 use super::*;
+use adya_terms::Watched;
 use std::test::Fail;
 
 #[test]
@@ -12,13 +13,13 @@ fn event_lines_are_taken_and_written_again(rt: HostRuntime) -> Result<(), Fail> 
         b"c1",
         b"a4294967295",
     ] {
-        let mut out = Vec::new(rt.alloc());
+        let mut out = Watched::new(Vec::new(rt.alloc()));
         let Some(found) = read_event(line) else {
             return Err(Fail::new("the line is refused"));
         };
         let event = found.to_event(rt.alloc())?;
         write_event(&event, &mut out)?;
-        assert_eq!(rt; out.as_slice(), line);
+        assert_eq!(rt; out.into_inner().as_slice(), line);
     }
     Ok(())
 }
@@ -62,12 +63,12 @@ fn other_lines_are_no_events(rt: HostRuntime) -> Result<(), Fail> {
 #[test]
 fn order_lines_are_taken_and_written_again(rt: HostRuntime) -> Result<(), Fail> {
     for line in [b"[x:1]".as_slice(), b"[k_9:3<<1<<4294967295]", b"[x:1<<1]"] {
-        let mut out = Vec::new(rt.alloc());
+        let mut out = Watched::new(Vec::new(rt.alloc()));
         let Some(found) = order(rt.alloc(), line)? else {
             return Err(Fail::new("the line is refused"));
         };
         write_order(&found, &mut out)?;
-        assert_eq!(rt; out.as_slice(), line);
+        assert_eq!(rt; out.into_inner().as_slice(), line);
     }
     for line in [
         b"".as_slice(),
@@ -89,12 +90,12 @@ fn order_lines_are_taken_and_written_again(rt: HostRuntime) -> Result<(), Fail> 
 #[test]
 fn final_lines_are_taken_and_written_again(rt: HostRuntime) -> Result<(), Fail> {
     for line in [b"{x,1}".as_slice(), b"{k_9,V.1-0}"] {
-        let mut out = Vec::new(rt.alloc());
+        let mut out = Watched::new(Vec::new(rt.alloc()));
         let Some(found) = final_pair(line) else {
             return Err(Fail::new("the line is refused"));
         };
         write_final(&found, &mut out)?;
-        assert_eq!(rt; out.as_slice(), line);
+        assert_eq!(rt; out.into_inner().as_slice(), line);
     }
     for line in [
         b"".as_slice(),
@@ -114,12 +115,12 @@ fn final_lines_are_taken_and_written_again(rt: HostRuntime) -> Result<(), Fail> 
 #[test]
 fn certificate_lines_are_taken_and_written_again(rt: HostRuntime) -> Result<(), Fail> {
     for line in [b"1".as_slice(), b"4294967295"] {
-        let mut out = Vec::new(rt.alloc());
+        let mut out = Watched::new(Vec::new(rt.alloc()));
         let Some(found) = txn(line) else {
             return Err(Fail::new("the line is refused"));
         };
         write_txn(found, &mut out)?;
-        assert_eq!(rt; out.as_slice(), line);
+        assert_eq!(rt; out.into_inner().as_slice(), line);
     }
     for line in [
         b"".as_slice(),

@@ -1,62 +1,70 @@
 //! Writing lines.
 
-ghost use Rattle.std.specs.Prelude.{OnOk, codes, ◌++◌, ◌∷◌, [], decimal, flat_map};
+ghost use Rattle.std.specs.Prelude.{◌≡◌, true, IsErr, OnOk, codes, ◌++◌, ◌∷◌, [], decimal, flat_map};
 ghost use Rattle.std.specs.Io.KnownBytes.{Appends};
 ghost use Rattle.adya_terms.specs.Histories.{event_of, order_of, final_of, value_of};
+ghost use Rattle.adya_terms.specs.Watched.{has_failed, watched_contents};
 ghost use Rattle.adya_line.specs.Spelling.{history_head, serial_head, tail, version_text, event_text, later_text, writers_text, order_text, final_text, txn_text};
 ghost use Rattle.adya_line.specs.Growing.{Grows};
 
-use adya_terms::{Event, FinalPair, Order, Txn, Value, Version};
+use adya_terms::{Event, FinalPair, Order, Txn, Value, Version, Watched};
 use itoa::Buffer;
 use std::io;
 use std::io::Write;
 
 /// Writes the event's line, without its line feed. An error is the device's, and then nothing is said of how much
 /// went out.
-pub fn write_event<W: Write>(event: &Event, out: &mut W) -> io::Result<()>
-    ensures { OnOk result (Appends (W.contents out.old) (W.contents out.new) (event_text (event_of event.now))) }
+pub fn write_event<W: Write>(event: &Event, out: &mut Watched<W>) -> io::Result<()>
+    ensures ok { OnOk result (Appends (watched_contents W.contents out.old) (watched_contents W.contents out.new) (event_text (event_of event.now))) }
+    ensures fault { IsErr result → has_failed out.new ≡ true }
 {
     put_event(event, out)
 }
 
 /// Writes the order's line, without its line feed. An error is the device's, and then nothing is said of how much
 /// went out.
-pub fn write_order<W: Write>(order: &Order, out: &mut W) -> io::Result<()>
-    ensures { OnOk result (Appends (W.contents out.old) (W.contents out.new) (order_text (order_of order.now))) }
+pub fn write_order<W: Write>(order: &Order, out: &mut Watched<W>) -> io::Result<()>
+    ensures ok { OnOk result (Appends (watched_contents W.contents out.old) (watched_contents W.contents out.new) (order_text (order_of order.now))) }
+    ensures fault { IsErr result → has_failed out.new ≡ true }
 {
     put_order(order, out)
 }
 
 /// Writes the final's line, without its line feed. An error is the device's, and then nothing is said of how much
 /// went out.
-pub fn write_final<W: Write>(pair: &FinalPair, out: &mut W) -> io::Result<()>
-    ensures { OnOk result (Appends (W.contents out.old) (W.contents out.new) (final_text (final_of pair.now))) }
+pub fn write_final<W: Write>(pair: &FinalPair, out: &mut Watched<W>) -> io::Result<()>
+    ensures ok { OnOk result (Appends (watched_contents W.contents out.old) (watched_contents W.contents out.new) (final_text (final_of pair.now))) }
+    ensures fault { IsErr result → has_failed out.new ≡ true }
 {
     put_final(pair, out)
 }
 
 /// Writes the transaction's line of a certificate, without its line feed. An error is the device's, and then nothing
 /// is said of how much went out.
-pub fn write_txn<W: Write>(txn: Txn, out: &mut W) -> io::Result<()>
-    ensures { OnOk result (Appends (W.contents out.old) (W.contents out.new) (txn_text txn)) }
+pub fn write_txn<W: Write>(txn: Txn, out: &mut Watched<W>) -> io::Result<()>
+    ensures ok { OnOk result (Appends (watched_contents W.contents out.old) (watched_contents W.contents out.new) (txn_text txn)) }
+    ensures fault { IsErr result → has_failed out.new ≡ true }
 {
     put_number(txn.get(), out)
 }
 
-fn put<W: Write>(bytes: &[u8], out: &mut W) -> io::Result<()>
-    ensures { OnOk result (Grows (W.contents out.old) bytes.now (W.contents out.new)) }
+fn put<W: Write>(bytes: &[u8], out: &mut Watched<W>) -> io::Result<()>
+    ensures ok { OnOk result (Grows (watched_contents W.contents out.old) bytes.now (watched_contents W.contents out.new)) }
+    ensures fault { IsErr result → has_failed out.new ≡ true }
 {
     out.write_all(bytes)
 }
 
-fn put_number<W: Write>(number: u32, out: &mut W) -> io::Result<()>
-    ensures { OnOk result (Grows (W.contents out.old) (decimal number) (W.contents out.new)) }
+fn put_number<W: Write>(number: u32, out: &mut Watched<W>) -> io::Result<()>
+    ensures ok { OnOk result (Grows (watched_contents W.contents out.old) (decimal number) (watched_contents W.contents out.new)) }
+    ensures fault { IsErr result → has_failed out.new ≡ true }
 {
     put(Buffer::new().format(number).as_bytes(), out)
 }
 
-fn put_version<W: Write>(version: &Version, out: &mut W) -> io::Result<()>
-    ensures { OnOk result (Grows (W.contents out.old) (version_text version.now) (W.contents out.new)) }
+fn put_version<W: Write>(version: &Version, out: &mut Watched<W>) -> io::Result<()>
+    ensures ok { OnOk result (Grows (watched_contents W.contents out.old) (version_text version.now) (watched_contents W.contents out.new)) }
+    ensures fault { IsErr result → has_failed out.new ≡ true }
 {
     put(version.key.bytes(), out)?;
     put(b".", out)?;
@@ -66,8 +74,9 @@ fn put_version<W: Write>(version: &Version, out: &mut W) -> io::Result<()>
 }
 
 #[tactic(auto, unfolding(crate::specs::Spelling::final_text))]
-fn put_final<W: Write>(pair: &FinalPair, out: &mut W) -> io::Result<()>
-    ensures { OnOk result (Grows (W.contents out.old) (final_text (final_of pair.now)) (W.contents out.new)) }
+fn put_final<W: Write>(pair: &FinalPair, out: &mut Watched<W>) -> io::Result<()>
+    ensures ok { OnOk result (Grows (watched_contents W.contents out.old) (final_text (final_of pair.now)) (watched_contents W.contents out.new)) }
+    ensures fault { IsErr result → has_failed out.new ≡ true }
 {
     put(b"{", out)?;
     put(pair.key.bytes(), out)?;
@@ -77,8 +86,9 @@ fn put_final<W: Write>(pair: &FinalPair, out: &mut W) -> io::Result<()>
 }
 
 /// Writes the letter, the number and what opens the version.
-fn put_front<W: Write>(letter: &[u8], txn: Txn, out: &mut W) -> io::Result<()>
-    ensures { OnOk result (Grows (W.contents out.old) (letter.now ++ decimal txn ++ codes "(") (W.contents out.new)) }
+fn put_front<W: Write>(letter: &[u8], txn: Txn, out: &mut Watched<W>) -> io::Result<()>
+    ensures ok { OnOk result (Grows (watched_contents W.contents out.old) (letter.now ++ decimal txn ++ codes "(") (watched_contents W.contents out.new)) }
+    ensures fault { IsErr result → has_failed out.new ≡ true }
 {
     put(letter, out)?;
     put_number(txn.get(), out)?;
@@ -91,12 +101,13 @@ fn put_access<W: Write>(
     txn: Txn,
     version: &Version,
     value: &Value,
-    out: &mut W,
+    out: &mut Watched<W>,
 ) -> io::Result<()>
-    ensures { OnOk result (Grows (W.contents out.old)
+    ensures ok { OnOk result (Grows (watched_contents W.contents out.old)
         (letter.now ++ decimal txn ++ codes "(" ++ version_text version.now ++
         codes "," ++ value_of value.now ++ codes ")")
-        (W.contents out.new)) }
+        (watched_contents W.contents out.new)) }
+    ensures fault { IsErr result → has_failed out.new ≡ true }
 {
     put_front(letter, txn, out)?;
     put_version(version, out)?;
@@ -106,16 +117,18 @@ fn put_access<W: Write>(
 }
 
 /// Writes a commit or an abort, by its letter.
-fn put_end<W: Write>(letter: &[u8], txn: Txn, out: &mut W) -> io::Result<()>
-    ensures { OnOk result (Grows (W.contents out.old) (letter.now ++ decimal txn) (W.contents out.new)) }
+fn put_end<W: Write>(letter: &[u8], txn: Txn, out: &mut Watched<W>) -> io::Result<()>
+    ensures ok { OnOk result (Grows (watched_contents W.contents out.old) (letter.now ++ decimal txn) (watched_contents W.contents out.new)) }
+    ensures fault { IsErr result → has_failed out.new ≡ true }
 {
     put(letter, out)?;
     put_number(txn.get(), out)
 }
 
 #[tactic(auto, unfolding(crate::specs::Spelling::event_text))]
-fn put_event<W: Write>(event: &Event, out: &mut W) -> io::Result<()>
-    ensures { OnOk result (Grows (W.contents out.old) (event_text (event_of event.now)) (W.contents out.new)) }
+fn put_event<W: Write>(event: &Event, out: &mut Watched<W>) -> io::Result<()>
+    ensures ok { OnOk result (Grows (watched_contents W.contents out.old) (event_text (event_of event.now)) (watched_contents W.contents out.new)) }
+    ensures fault { IsErr result → has_failed out.new ≡ true }
 {
     match event {
         Event::Write { txn, key, m, value } => {
@@ -137,8 +150,9 @@ fn put_event<W: Write>(event: &Event, out: &mut W) -> io::Result<()>
 }
 
 /// Writes `<<T` for each number.
-fn put_later<W: Write>(writers: &[Txn], out: &mut W) -> io::Result<()>
-    ensures { OnOk result (Grows (W.contents out.old) (flat_map later_text writers.now) (W.contents out.new)) }
+fn put_later<W: Write>(writers: &[Txn], out: &mut Watched<W>) -> io::Result<()>
+    ensures ok { OnOk result (Grows (watched_contents W.contents out.old) (flat_map later_text writers.now) (watched_contents W.contents out.new)) }
+    ensures fault { IsErr result → has_failed out.new ≡ true }
 {
     for txn in writers {
         put(b"<<", out)?;
@@ -147,8 +161,9 @@ fn put_later<W: Write>(writers: &[Txn], out: &mut W) -> io::Result<()>
     Ok(())
 }
 
-fn put_writers<W: Write>(writers: &[Txn], out: &mut W) -> io::Result<()>
-    ensures { OnOk result (Grows (W.contents out.old) (writers_text writers.now) (W.contents out.new)) }
+fn put_writers<W: Write>(writers: &[Txn], out: &mut Watched<W>) -> io::Result<()>
+    ensures ok { OnOk result (Grows (watched_contents W.contents out.old) (writers_text writers.now) (watched_contents W.contents out.new)) }
+    ensures fault { IsErr result → has_failed out.new ≡ true }
 {
     let [first, later @ ..] = writers else {
         return Ok(());
@@ -158,8 +173,9 @@ fn put_writers<W: Write>(writers: &[Txn], out: &mut W) -> io::Result<()>
 }
 
 #[tactic(auto, unfolding(crate::specs::Spelling::order_text))]
-fn put_order<W: Write>(order: &Order, out: &mut W) -> io::Result<()>
-    ensures { OnOk result (Grows (W.contents out.old) (order_text (order_of order.now)) (W.contents out.new)) }
+fn put_order<W: Write>(order: &Order, out: &mut Watched<W>) -> io::Result<()>
+    ensures ok { OnOk result (Grows (watched_contents W.contents out.old) (order_text (order_of order.now)) (watched_contents W.contents out.new)) }
+    ensures fault { IsErr result → has_failed out.new ≡ true }
 {
     put(b"[", out)?;
     put(order.key.bytes(), out)?;

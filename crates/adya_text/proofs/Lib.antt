@@ -1,0 +1,11 @@
+pub mod RunLemmas
+pub mod FaultLemmas
+pub mod LineLists
+pub mod LineLaws
+pub mod HistoryTexts
+pub mod HistoryFed
+pub mod SerialTexts
+pub mod SerialFed
+pub mod TextLaws
+pub mod Written
+pub mod BufferLemmas

@@ -1,0 +1,11 @@
+-- The lines so far are written.
+use Rattle.std.proofs.Common.{take, map}
+use Rattle.adya_terms.specs.Watched.{watched_contents}
+use Rattle.adya_terms.specs.Histories.{event_of}
+use Rattle.adya_line.specs.Growing.{Grows}
+use Rattle.adya_line.specs.Spelling.{event_text}
+use Rattle.adya_text.specs.Texts.{with_ends}
+use Rattle.adya_text.proofs.writing.put_events.Given as goal
+
+abbrev pub invariant-loop-event : goal.invariant-loop-event
+invariant-loop-event g l = Grows (watched_contents g.W.Write.contents l.initial.out) (with_ends (map event_text (map event_of (take l.event-index l.events)))) (watched_contents g.W.Write.contents l.out)

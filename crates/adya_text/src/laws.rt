@@ -1,0 +1,22 @@
+//! What holds of texts: the calls do nothing, and their contracts are the laws.
+
+ghost use Rattle.adya_text.specs.Texts.{AreHistoryLines, AreSerialLines};
+ghost use Rattle.adya_text.specs.Laws.{HistoriesDiffer, SerialsDiffer, NoHistoryBegins, NoSerialBegins, HasOneFaultLine};
+
+/// Each history has a text of its own, and no history text is the front of another.
+pub fn history_texts()
+    ensures one_text { HistoriesDiffer }
+    ensures no_proper_prefix { NoHistoryBegins }
+{}
+
+/// Each certificate has a text of its own, and no certificate text is the front of another.
+pub fn serial_texts()
+    ensures one_text { SerialsDiffer }
+    ensures no_proper_prefix { NoSerialBegins }
+{}
+
+/// A text has one fault line at most.
+pub fn fault_lines()
+    ensures histories { HasOneFaultLine AreHistoryLines }
+    ensures serials { HasOneFaultLine AreSerialLines }
+{}

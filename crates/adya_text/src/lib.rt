@@ -1,0 +1,20 @@
+//! The texts of histories and of certificates: reading, writing, and the line of a fault.
+#![tactic(auto)]
+
+mod history_reader;
+pub mod laws;
+mod lines;
+mod read_fault;
+mod reading;
+mod serial_reader;
+mod writing;
+
+pub use history_reader::HistoryReader;
+pub use lines::{LineBuffer, LineFault};
+pub use read_fault::{ReadFault, Text};
+pub use reading::{read_history, read_serial};
+pub use serial_reader::SerialReader;
+pub use writing::{WriteFault, write_history, write_serial};
+
+#[cfg(test)]
+mod tests;

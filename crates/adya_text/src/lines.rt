@@ -1,0 +1,128 @@
+//! Lines of any length out of a source.
+
+ghost use Rattle.std.specs.Prelude.{◌≡◌, ◌≢◌, ◌↔◌, ℕ, ◌+◌, ◌*◌, ◌<◌, ◌≤◌, List, [], ◌∷◌, ◌++◌, length, All, true, false, if◌then◌else◌, IfOk, OnOk, IsErrOf, slice_range};
+ghost use Rattle.std.specs.Io.KnownBytes.{Consumes, IsAtEnd, prepend_known};
+ghost use Rattle.adya_text.specs.Buffers.{work_left, line_end};
+
+use adya_terms::Source;
+use memchr::memchr;
+use std::alloc::AllocError;
+use std::marker::Model;
+use thiserror::Error;
+
+/// The most bytes of one read.
+const ROOM: usize = 8192;
+
+/// Why no line came.
+#[derive(Clone, Copy, Debug, PartialEq, Eq, Error, Drop)]
+pub enum LineFault {
+    /// The source failed.
+    #[error("read fault")]
+    Device,
+    /// Memory ran out.
+    #[error("memory")]
+    Memory,
+}
+
+/// The bytes that were read from a source, and not yet taken as lines. One buffer belongs to one source.
+#[derive(Drop)]
+pub struct LineBuffer {
+    bytes: [u8; ROOM],
+    start: usize,
+    end: usize,
+}
+
+impl Model for LineBuffer {
+    ghost use Rattle.std.specs.Prelude.{List, ℕ, ◌≤◌, slice_range};
+
+    ghost Value = { List ℕ };
+
+    ghost view = { λ b. slice_range b.bytes b.start b.end };
+
+    ghost invariant = { λ b. (b.start ≤ b.end) × (b.end ≤ 8192) };
+}
+
+impl LineBuffer {
+    /// A buffer for a source of which nothing was read.
+    pub fn new() -> LineBuffer
+        ensures { result ≡ [] }
+    {
+        LineBuffer {
+            bytes: [0; ROOM],
+            start: 0,
+            end: 0,
+        }
+    }
+
+    /// Moves the bytes up to the next LF to the end of `line`, and drops the LF. Says whether there was one.
+    fn take_line(&mut self, line: &mut Vec<u8>) -> Result<bool, AllocError>
+        ensures moved { IfOk result (λ ended. (taken : List ℕ) × (line.new.items ≡ line.old.items ++ taken) × All (λ x. x ≢ 10) taken × (self.old ≡ taken ++ line_end ended ++ self.new)) }
+        ensures all { IfOk result (λ ended. ended ≡ false → self.new ≡ []) }
+        ensures less { IfOk result (λ ended. ended ≡ true → length self.new < length self.old) }
+    {
+        let pending = &self.bytes[self.start..self.end];
+        match memchr(b'\n', pending) {
+            Some(at) => {
+                line.extend_from_slice(&pending[..at])?;
+                self.start += at + 1;
+                Ok(true)
+            }
+            None => {
+                line.extend_from_slice(pending)?;
+                self.start = self.end;
+                Ok(false)
+            }
+        }
+    }
+
+    /// Reads where nothing is pending. Says whether a byte came.
+    fn fill<S: Source>(&mut self, source: &mut S) -> Result<bool, LineFault>
+        requires { self.old ≡ [] }
+        ensures bytes { OnOk result (Consumes (S.remaining source.old) (S.remaining source.new) self.new) }
+        ensures short { length self.new ≤ 8192 }
+        ensures end { IfOk result (λ some. some ≡ false → (self.new ≡ []) × IsAtEnd (S.remaining source.new)) }
+        ensures fault { IsErrOf result LineFault.Device ↔ (S.is_failed source.new ≡ true) }
+        ensures memory { IsErrOf result LineFault.Memory → ⊥ }
+        ensures kept { S.is_failed source.old ≡ true → S.is_failed source.new ≡ true }
+        ensures less { IfOk result (λ some. some ≡ true → S.left source.new < S.left source.old) }
+        ensures no_more { S.left source.new ≤ S.left source.old }
+        ensures stream { S.same source.old source.new }
+    {
+        self.start = 0;
+        self.end = 0;
+        match source.pull(&mut self.bytes) {
+            Ok(n) => {
+                self.end = n;
+                Ok(n != 0)
+            }
+            Err(_) => Err(LineFault::Device),
+        }
+    }
+
+    /// The next line, without its line feed, in place of what `line` held; a line may have any length. False where the
+    /// input ended before a line feed, and then `line` holds what stands behind the last one. `Device` where the source
+    /// failed, `Memory` where `line` could not grow. `work_left` falls with each line.
+    pub fn next_line<S: Source>(
+        &mut self,
+        source: &mut S,
+        line: &mut Vec<u8>,
+    ) -> Result<bool, LineFault>
+        ensures bytes { IfOk result (λ ended. Consumes (prepend_known self.old (S.remaining source.old)) (prepend_known self.new (S.remaining source.new)) (line.new.items ++ line_end ended)) }
+        ensures plain { OnOk result (All (λ x. x ≢ 10) line.new.items) }
+        ensures end { IfOk result (λ ended. ended ≡ false → (self.new ≡ []) × IsAtEnd (S.remaining source.new)) }
+        ensures less { IfOk result (λ ended. ended ≡ true → work_left (S.left source.new) self.new < work_left (S.left source.old) self.old) }
+        ensures fault { IsErrOf result LineFault.Device → S.is_failed source.new ≡ true }
+        ensures stream { S.same source.old source.new }
+        ensures unfailed { (IsErrOf result LineFault.Device → ⊥) → S.is_failed source.new ≡ S.is_failed source.old }
+    {
+        line.clear();
+        loop {
+            if self.take_line(line).map_err(|_| LineFault::Memory)? {
+                return Ok(true);
+            }
+            if !self.fill(source)? {
+                return Ok(false);
+            }
+        }
+    }
+}
