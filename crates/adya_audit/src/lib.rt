@@ -1,0 +1,13 @@
+//! Verdicts on a history and a certificate.
+#![tactic(auto)]
+
+mod committed;
+mod edge;
+mod next;
+mod places;
+mod text;
+mod verdict;
+
+pub use edge::{Edge, Kind};
+pub use text::Text;
+pub use verdict::Verdict;
