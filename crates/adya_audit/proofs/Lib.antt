@@ -3,3 +3,8 @@ pub mod Steps
 pub mod Placing
 pub mod Lines
 pub mod Committing
+pub mod Counts
+pub mod Finds
+pub mod Writes
+pub mod ItemEdges
+pub mod Whole

@@ -1,5 +1,5 @@
 -- The steps of the loop that notes where each transaction stands.
-use Rattle.std.proofs.Common.{◌≡◌, ℕ, suc, ◌+◌, ◌==◌, ◌<◌, ◌≤◌, Bool, true, false, cond, List, [], ◌∷◌, length, Option, Some, None, is_some, nat_cmp, is_eq, refl, sym, ◌∙◌, ap, subst, arith, add-one, inl, inr}
+use Rattle.std.proofs.Common.{◌≡◌, ℕ, suc, ◌+◌, ◌==◌, ◌<◌, ◌≤◌, Bool, true, false, cond, List, [], ◌∷◌, length, Option, Some, None, is_some, nat_cmp, is_eq, refl, sym, ◌∙◌, ap, subst, arith, add-one, zero-add, inl, inr}
 use Rattle.std.specs.List.{count_by}
 use Rattle.std.specs.Option.{option_or, unwrap_or}
 use Rattle.std.proofs.lemmas.Bool.{cases_eq, eq-eqb, ne_eqb}
@@ -81,3 +81,6 @@ placed_is_place i (x ∷ xs) t =
 pub none_from_is_some : {X : Type 0} (o : Option X) → is_some o ≡ false → o ≡ None
 none_from_is_some None h = refl
 none_from_is_some (Some x) h = absurd (cc (h))
+
+pub place_from_placed : (ts : List ℕ) (t : ℕ) → unwrap_or (placed 0 ts t) (length ts) ≡ place ts t
+place_from_placed ts t = ap (λ n. unwrap_or (placed 0 ts t) n) (sym (zero-add (length ts))) ∙ (placed_is_place 0 ts t ∙ zero-add (place ts t))

@@ -1,2 +1,5 @@
+pub mod Edges
+pub mod Verdicts
 pub mod Places
 pub mod Next
+pub mod Backward

@@ -1,8 +1,11 @@
 //! Verdicts on a history and a certificate.
 #![tactic(auto)]
 
+mod backward;
+mod certificate;
 mod committed;
 mod edge;
+mod judge;
 mod next;
 mod places;
 mod text;

@@ -17,22 +17,28 @@ pub(crate) struct Slot {
 }
 
 /// For each writer of each order the writer after it, if there is one.
-pub(crate) fn next_writers(alloc: Global, orders: &[Order]) -> Result<BTreeMap<Slot, Option<Txn>>, AllocError>
+pub(crate) fn next_writers(
+    alloc: Global,
+    orders: &[Order],
+) -> Result<BTreeMap<Slot, Option<Txn>>, AllocError>
     ensures { IfOk result (λ m. (k : List ℕ) (t : ℕ) → get slot_cmp m (slot k t) ≡ next_in (map order_of orders.now) k t) }
 {
     let mut next = BTreeMap::new(alloc);
     let mut i = orders.len();
     while i > 0 {
         i -= 1;
-        add_line(&mut next, orders[i].key, &orders[i].writers)?;
+        let order = &orders[i];
+        add_line(&mut next, order.key, &order.writers)?;
     }
     Ok(next)
 }
 
-fn add_line(next: &mut BTreeMap<Slot, Option<Txn>>, key: Key, writers: &[Txn]) -> Result<(), AllocError>
-    ensures {
-        OnOk result ((k : List ℕ) (t : ℕ) → get slot_cmp next.new (slot k t) ≡ with_line key (next_of writers.now t) k (get slot_cmp next.old (slot k t)))
-    }
+fn add_line(
+    next: &mut BTreeMap<Slot, Option<Txn>>,
+    key: Key,
+    writers: &[Txn],
+) -> Result<(), AllocError>
+    ensures { OnOk result ((k : List ℕ) (t : ℕ) → get slot_cmp next.new (slot k t) ≡ with_line key (next_of writers.now t) k (get slot_cmp next.old (slot k t))) }
 {
     let mut i = writers.len();
     while i > 0 {
