@@ -14,3 +14,4 @@ pub mod Phenomena
 pub mod Acceptance
 pub mod Faults
 pub mod Certificates
+pub mod Watched

@@ -9,7 +9,9 @@ mod number;
 mod order;
 mod padded;
 mod serial;
+mod source;
 mod value;
+mod watched;
 
 pub use event::{Event, Version};
 pub use fault::{CheckFault, Rule};
@@ -18,4 +20,6 @@ pub use key::{BadKey, Key, MAX_KEY_LEN, is_key_byte};
 pub use number::{BadNumber, Mod, Txn};
 pub use order::{FinalPair, Order};
 pub use serial::Serial;
+pub use source::Source;
 pub use value::{BadValue, MAX_VALUE_LEN, Value, is_value_byte};
+pub use watched::Watched;

@@ -1,0 +1,138 @@
+//! Readers and writers for tests: over memory, in pieces, and failing on demand.
+#![tactic(auto)]
+
+ghost use Rattle.std.specs.Prelude.{◌≡◌, ◌+◌, ◌-◌, ◌<◌, ◌≤◌, ℕ, Some, None, IsErr, IsErrAnd, IfOk, OnOk, length, take, drop, min};
+ghost use Rattle.std.specs.IoError.{error_kind};
+
+use std::io;
+use std::io::{Error, ErrorKind, Read, Write};
+
+/// Gives what it has in pieces of at most `most` bytes.
+#[derive(Drop)]
+pub struct Pieces<'a> {
+    pub bytes: &'a [u8],
+    pub most: usize,
+    pub ghost gives: { 0 < most },
+}
+
+impl<'a> Pieces<'a> {
+    /// A reader of these bytes that gives at most `most` of them a call.
+    pub fn new(bytes: &'a [u8], most: usize) -> Pieces<'a>
+        requires { 0 < most }
+        ensures bytes { result.bytes.now ≡ bytes.entry.now }
+        ensures most { result.most ≡ most }
+    {
+        Pieces { bytes, most }
+    }
+}
+
+impl Read for Pieces<'_> {
+    ghost remaining = { λ p. Some p.bytes.now };
+
+    fn read(&mut self, buf: &mut [u8]) -> io::Result<usize> {
+        let n = buf.len().min(self.most);
+        self.bytes.read(&mut buf[..n])
+    }
+}
+
+/// The k-th call fails, with the given kind, and no other.
+#[derive(Drop)]
+pub struct FailsAt<D> {
+    device: D,
+    calls_before: u64,
+    kind: ErrorKind,
+    calls: u64,
+}
+
+impl<D> FailsAt<D> {
+    /// The device, whose k-th call, counted from 1, fails with this kind; no call fails where k is 0.
+    pub fn new(device: D, k: u64, kind: ErrorKind) -> FailsAt<D>
+        ensures { result.device ≡ device }
+    {
+        FailsAt {
+            device,
+            calls_before: k,
+            kind,
+            calls: 0,
+        }
+    }
+
+    /// How many calls came, the failed one included.
+    pub fn calls(&self) -> u64
+        ensures { result ≡ self.now.calls }
+    {
+        self.calls
+    }
+
+    /// The device.
+    pub fn get_ref(&self) -> &D
+        ensures { result.now ≡ self.now.device }
+    {
+        &self.device
+    }
+
+    fn is_next_call_bad(&mut self) -> bool
+        ensures { self.new.device ≡ self.old.device }
+    {
+        self.calls = self.calls.saturating_add(1);
+        self.calls == self.calls_before
+    }
+}
+
+impl<D: Read> Read for FailsAt<D> {
+    ghost remaining = { λ f. D.remaining f.device };
+
+    fn read(&mut self, buf: &mut [u8]) -> io::Result<usize> {
+        if self.is_next_call_bad() {
+            return Err(Error::from(self.kind));
+        }
+        self.device.read(buf)
+    }
+}
+
+impl<D: Write> Write for FailsAt<D> {
+    ghost contents = { λ f. D.contents f.device };
+
+    fn write(&mut self, buf: &[u8]) -> io::Result<usize> {
+        if self.is_next_call_bad() {
+            return Err(Error::from(self.kind));
+        }
+        self.device.write(buf)
+    }
+
+    fn flush(&mut self) -> io::Result<()> {
+        self.device.flush()
+    }
+}
+
+/// Gives one byte for ever.
+#[derive(Drop)]
+pub struct Endless(pub u8);
+
+impl Read for Endless {
+    fn read(&mut self, buf: &mut [u8]) -> io::Result<usize> {
+        buf.fill(self.0);
+        Ok(buf.len())
+    }
+}
+
+/// Takes at most `most` bytes a write; none at all where `most` is 0.
+#[derive(Drop)]
+pub struct Narrow {
+    pub bytes: Vec<u8>,
+    pub most: usize,
+}
+
+impl Write for Narrow {
+    ghost contents = { λ n. Some n.bytes.items };
+
+    fn write(&mut self, buf: &[u8]) -> io::Result<usize> {
+        let n = buf.len().min(self.most);
+        self.bytes.extend_from_slice(&buf[..n])?;
+        Ok(n)
+    }
+
+    fn flush(&mut self) -> io::Result<()> {
+        Ok(())
+    }
+}

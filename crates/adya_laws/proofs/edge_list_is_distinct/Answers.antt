@@ -1,0 +1,5 @@
+use Rattle.adya_laws.proofs.Distinct.{edges_distinct}
+use Rattle.adya_laws.proofs.edge_list_is_distinct.Goals as goal
+
+pub returns : goal.returns
+returns c h = edges_distinct h
