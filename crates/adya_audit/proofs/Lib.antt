@@ -8,3 +8,4 @@ pub mod Finds
 pub mod Writes
 pub mod ItemEdges
 pub mod Whole
+pub mod Growth

@@ -3,3 +3,5 @@ pub mod Verdicts
 pub mod Places
 pub mod Next
 pub mod Backward
+pub mod Growing
+pub mod Output

@@ -10,7 +10,11 @@ mod next;
 mod places;
 mod text;
 mod verdict;
+mod write_fault;
+mod writing;
 
 pub use edge::{Edge, Kind};
 pub use text::Text;
 pub use verdict::Verdict;
+pub use write_fault::WriteFault;
+pub use writing::write_verdict;
