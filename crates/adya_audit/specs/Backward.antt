@@ -1,19 +1,15 @@
 -- The edges of item events, as they are looked for.
-use Rattle.std.specs.Prelude.{ℕ, ◌==◌, Bool, true, not, if◌then◌else◌, List, [], ◌∷◌, ◌++◌, Option, Some, None, slice_get, is_some, flat_map, filter}
-use Rattle.std.specs.BTreeMap.{BTreeMap, get}
-use Rattle.std.specs.BTreeSet.{BTreeSet, contains}
-use Rattle.std.specs.Ordering.{nat_cmp}
-use Rattle.adya_terms.specs.declared.number.Txn.{Txn}
+use Rattle.std.specs.Prelude.{ℕ, ◌==◌, Bool, true, not, if◌then◌else◌, List, [], ◌∷◌, ◌++◌, Option, Some, None, slice_get, find}
 use Rattle.adya_terms.specs.Histories.{Event, Write, Delete, Read, Scan, Commit, Abort}
-use Rattle.adya_terms.specs.Events.{txn_of}
 use Rattle.adya_terms.specs.Edges.{Ww, Wr, Rw, Edge}
 use Rattle.adya_terms.specs.EdgeList.{joined}
 use Rattle.adya_terms.specs.Certificates.{is_forward}
-use Rattle.adya_audit.specs.declared.next.Slot.{Slot}
-use Rattle.adya_audit.specs.Next.{slot, slot_cmp}
 
 abbrev pub is_backward : List ℕ → Edge → Bool
 is_backward ts e = not (is_forward ts e)
+
+abbrev pub backward_in : List ℕ → List Edge → Option Edge
+backward_in ts es = find (is_backward ts) es
 
 -- the write dependencies of a line: from each writer to the next
 abbrev pub line_edges : List ℕ → List ℕ → List Edge

@@ -2,6 +2,7 @@
 use Rattle.std.specs.Prelude.{ℕ, ◌==◌, if◌then◌else◌, List, [], ◌∷◌, Option, Some, None, nat_eq}
 use Rattle.std.specs.Option.{option_or}
 use Rattle.std.specs.List.{slice_get}
+use Rattle.std.specs.BTreeMap.{BTreeMap, get}
 use Rattle.std.specs.declared.cmp.Ordering.{Ordering}
 use Rattle.std.specs.Ordering.{nat_cmp, ordering_then}
 use Rattle.std.specs.Cmp.Lexicographic.{slice_cmp}
@@ -28,3 +29,7 @@ with_line key new k old = if key_eq key k then option_or new old else old
 abbrev pub next_in : List Order → List ℕ → ℕ → Option (Option ℕ)
 next_in [] k t = None
 next_in (o ∷ os) k t = with_line o.key (next_of o.writers t) k (next_in os k t)
+
+-- what the map says of a writer of the key
+abbrev pub next_by : BTreeMap Slot (Option ℕ) → List ℕ → ℕ → Option (Option ℕ)
+next_by m k t = get slot_cmp m (slot k t)

@@ -1,17 +1,16 @@
 //! The first edge that doesn't go forward along a certificate.
 
-ghost use Rattle.std.specs.Prelude.{◌≡◌, ◌<◌, ℕ, List, Some, not, nat_lt, option_map, flat_map, filter, find, map};
+ghost use Rattle.std.specs.Prelude.{◌≡◌, Some, option_map, flat_map, filter, map};
 ghost use Rattle.std.specs.Ordering.{nat_cmp};
-ghost use Rattle.std.specs.BTreeMap.{get};
 ghost use Rattle.std.specs.BTreeSet.{contains};
 ghost use Rattle.adya_terms.specs.Histories.{event_of, order_of};
 ghost use Rattle.adya_terms.specs.Events.{txn_of};
 ghost use Rattle.adya_terms.specs.Orders.{place};
 ghost use Rattle.adya_terms.specs.EdgeList.{joined};
 ghost use Rattle.adya_audit.specs.Edges.{kind_of, edge_of};
-ghost use Rattle.adya_audit.specs.Places.{placed};
-ghost use Rattle.adya_audit.specs.Next.{slot, slot_cmp};
-ghost use Rattle.adya_audit.specs.Backward.{is_backward, line_edges, read_dependencies, item_edges};
+ghost use Rattle.adya_audit.specs.Places.{HasPlaces};
+ghost use Rattle.adya_audit.specs.Next.{next_by};
+ghost use Rattle.adya_audit.specs.Backward.{backward_in, line_edges, read_dependencies, item_edges};
 
 use crate::next::Slot;
 use crate::{Edge, Kind};
@@ -19,7 +18,7 @@ use adya_terms::{Event, Key, Order, Txn, Version};
 use std::collections::{BTreeMap, BTreeSet};
 
 fn place(places: &BTreeMap<Txn, usize>, txns: &[Txn], t: Txn) -> usize
-    requires { (q : ℕ) → get nat_cmp places.now q ≡ placed 0 txns.now q }
+    requires { HasPlaces places.now txns.now }
     ensures { result ≡ place txns.now t }
 {
     places.get(&t).copied().unwrap_or(txns.len())
@@ -27,8 +26,9 @@ fn place(places: &BTreeMap<Txn, usize>, txns: &[Txn], t: Txn) -> usize
 
 /// The edge, if it joins two transactions and doesn't go forward.
 fn if_backward(places: &BTreeMap<Txn, usize>, txns: &[Txn], edge: Edge) -> Option<Edge>
-    requires { (q : ℕ) → get nat_cmp places.now q ≡ placed 0 txns.now q }
-    ensures { option_map edge_of result ≡ find (is_backward txns.now) (joined (kind_of edge.kind) edge.key (Some edge.from) (Some edge.to)) }
+    requires { HasPlaces places.now txns.now }
+    ensures { option_map edge_of result
+        ≡ backward_in txns.now (joined (kind_of edge.kind) edge.key (Some edge.from) (Some edge.to)) }
 {
     if edge.from == edge.to || place(places, txns, edge.from) < place(places, txns, edge.to) {
         return None;
@@ -42,8 +42,8 @@ fn first_in_line(
     key: Key,
     writers: &[Txn],
 ) -> Option<Edge>
-    requires { (q : ℕ) → get nat_cmp places.now q ≡ placed 0 txns.now q }
-    ensures { option_map edge_of result ≡ find (is_backward txns.now) (line_edges key writers.now) }
+    requires { HasPlaces places.now txns.now }
+    ensures { option_map edge_of result ≡ backward_in txns.now (line_edges key writers.now) }
 {
     let [first, rest @ ..] = writers else {
         return None;
@@ -70,8 +70,9 @@ pub(crate) fn first_write(
     txns: &[Txn],
     orders: &[Order],
 ) -> Option<Edge>
-    requires { (q : ℕ) → get nat_cmp places.now q ≡ placed 0 txns.now q }
-    ensures { option_map edge_of result ≡ find (is_backward txns.now) (flat_map (λ o. line_edges o.key o.writers) (map order_of orders.now)) }
+    requires { HasPlaces places.now txns.now }
+    ensures { option_map edge_of result
+        ≡ backward_in txns.now (flat_map (λ o. line_edges o.key o.writers) (map order_of orders.now)) }
 {
     for o in orders {
         if let Some(found) = first_in_line(places, txns, o.key, &o.writers) {
@@ -88,8 +89,9 @@ fn first_of_read(
     txn: Txn,
     version: Version,
 ) -> Option<Edge>
-    requires { (q : ℕ) → get nat_cmp places.now q ≡ placed 0 txns.now q }
-    ensures { option_map edge_of result ≡ find (is_backward txns.now) (read_dependencies version.key txn version.txn (get slot_cmp next.now (slot version.key version.txn))) }
+    requires { HasPlaces places.now txns.now }
+    ensures { option_map edge_of result
+        ≡ backward_in txns.now (read_dependencies version.key txn version.txn (next_by next.now version.key version.txn)) }
 {
     let key = version.key;
     let after = *next.get(&Slot {
@@ -120,8 +122,9 @@ fn first_of_event(
     next: &BTreeMap<Slot, Option<Txn>>,
     e: &Event,
 ) -> Option<Edge>
-    requires { (q : ℕ) → get nat_cmp places.now q ≡ placed 0 txns.now q }
-    ensures { option_map edge_of result ≡ find (is_backward txns.now) (item_edges (λ k x. get slot_cmp next.now (slot k x)) (event_of e.now)) }
+    requires { HasPlaces places.now txns.now }
+    ensures { option_map edge_of result
+        ≡ backward_in txns.now (item_edges (next_by next.now) (event_of e.now)) }
 {
     match e {
         Event::Read { txn, version, .. } => {
@@ -153,8 +156,10 @@ pub(crate) fn first_read(
     next: &BTreeMap<Slot, Option<Txn>>,
     events: &[Event],
 ) -> Option<Edge>
-    requires { (q : ℕ) → get nat_cmp places.now q ≡ placed 0 txns.now q }
-    ensures { option_map edge_of result ≡ find (is_backward txns.now) (flat_map (item_edges (λ k x. get slot_cmp next.now (slot k x))) (filter (λ e. contains nat_cmp committed.now (txn_of e)) (map event_of events.now))) }
+    requires { HasPlaces places.now txns.now }
+    ensures { option_map edge_of result
+        ≡ backward_in txns.now (flat_map (item_edges (next_by next.now))
+        (filter (λ e. contains nat_cmp committed.now (txn_of e)) (map event_of events.now))) }
 {
     for e in events {
         if committed.contains(&txn_of(e)) {

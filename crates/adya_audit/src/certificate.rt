@@ -1,6 +1,6 @@
 //! Whether a certificate lists the committed transactions.
 
-ghost use Rattle.std.specs.Prelude.{◌≡◌, ◌==◌, ℕ, IsTrue, ◌↔◌, count_by, cond, is_some, map};
+ghost use Rattle.std.specs.Prelude.{◌≡◌, is_some, map};
 ghost use Rattle.std.specs.List.{list_all};
 ghost use Rattle.std.specs.Ordering.{nat_cmp};
 ghost use Rattle.std.specs.BTreeMap.{get};
@@ -9,6 +9,8 @@ ghost use Rattle.adya_terms.specs.Histories.{event_of};
 ghost use Rattle.adya_terms.specs.Events.{is_committed};
 ghost use Rattle.adya_terms.specs.Faults.{lists_exactly};
 ghost use Rattle.adya_audit.specs.Backward.{commit_passes};
+ghost use Rattle.adya_audit.specs.Committed.{HasCommitted};
+ghost use Rattle.adya_audit.specs.Places.{StandOnce};
 
 use adya_terms::{Event, Txn};
 use std::collections::{BTreeMap, BTreeSet};
@@ -20,8 +22,8 @@ pub(crate) fn lists_the_committed(
     events: &[Event],
     txns: &[Txn],
 ) -> bool
-    requires places { (t : ℕ) → count_by (λ u. u == t) txns.now ≡ cond (is_some (get nat_cmp places.now t)) 1 0 }
-    requires committed { (t : ℕ) → contains nat_cmp committed.now t ≡ is_committed (map event_of events.now) t }
+    requires places { StandOnce places.now txns.now }
+    requires committed { HasCommitted committed.now (map event_of events.now) }
     ensures { result ≡ lists_exactly (is_committed (map event_of events.now)) txns.now (map event_of events.now) }
 {
     all_committed(committed, txns) && all_placed(places, events)

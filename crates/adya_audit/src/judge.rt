@@ -1,15 +1,12 @@
 //! The verdict on a certificate.
 
-ghost use Rattle.std.specs.Prelude.{◌≡◌, ℕ, IfOk, option_map, map};
-ghost use Rattle.std.specs.Ordering.{nat_cmp};
-ghost use Rattle.std.specs.BTreeMap.{get};
-ghost use Rattle.std.specs.BTreeSet.{contains};
+ghost use Rattle.std.specs.Prelude.{◌≡◌, IfOk, option_map, map};
 ghost use Rattle.adya_terms.specs.Histories.{event_of};
 ghost use Rattle.adya_terms.specs.Values.{history_of};
-ghost use Rattle.adya_terms.specs.Events.{is_committed};
 ghost use Rattle.adya_terms.specs.Certificates.{first_backward};
 ghost use Rattle.adya_audit.specs.Edges.{edge_of};
-ghost use Rattle.adya_audit.specs.Places.{placed};
+ghost use Rattle.adya_audit.specs.Places.{HasPlaces};
+ghost use Rattle.adya_audit.specs.Committed.{HasCommitted};
 ghost use Rattle.adya_audit.specs.Verdicts.{plain_verdict, certificate_verdict};
 
 use crate::backward::{first_read, first_write};
@@ -52,8 +49,8 @@ fn first_backward(
     committed: &BTreeSet<Txn>,
     history: &History,
 ) -> Result<Option<Edge>, AllocError>
-    requires places { (t : ℕ) → get nat_cmp places.now t ≡ placed 0 txns.now t }
-    requires committed { (t : ℕ) → contains nat_cmp committed.now t ≡ is_committed (map event_of history.now.events.items) t }
+    requires places { HasPlaces places.now txns.now }
+    requires committed { HasCommitted committed.now (map event_of history.now.events.items) }
     ensures { IfOk result (λ o. option_map edge_of o ≡ first_backward (history_of history.now) txns.now) }
 {
     let found = first_write(places, txns, history.orders());

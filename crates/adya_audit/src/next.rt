@@ -1,9 +1,8 @@
 //! Who wrote a key after whom.
 
 ghost use Rattle.std.specs.Prelude.{◌≡◌, ℕ, List, IfOk, OnOk, map};
-ghost use Rattle.std.specs.BTreeMap.{get};
 ghost use Rattle.adya_terms.specs.Histories.{order_of};
-ghost use Rattle.adya_audit.specs.Next.{slot, slot_cmp, next_of, with_line, next_in};
+ghost use Rattle.adya_audit.specs.Next.{next_of, with_line, next_in, next_by};
 
 use adya_terms::{Key, Order, Txn};
 use std::alloc::{AllocError, Global};
@@ -21,7 +20,7 @@ pub(crate) fn next_writers(
     alloc: Global,
     orders: &[Order],
 ) -> Result<BTreeMap<Slot, Option<Txn>>, AllocError>
-    ensures { IfOk result (λ m. (k : List ℕ) (t : ℕ) → get slot_cmp m (slot k t) ≡ next_in (map order_of orders.now) k t) }
+    ensures { IfOk result (λ m. (k : List ℕ) (t : ℕ) → next_by m k t ≡ next_in (map order_of orders.now) k t) }
 {
     let mut next = BTreeMap::new(alloc);
     let mut i = orders.len();
@@ -38,7 +37,8 @@ fn add_line(
     key: Key,
     writers: &[Txn],
 ) -> Result<(), AllocError>
-    ensures { OnOk result ((k : List ℕ) (t : ℕ) → get slot_cmp next.new (slot k t) ≡ with_line key (next_of writers.now t) k (get slot_cmp next.old (slot k t))) }
+    ensures { OnOk result ((k : List ℕ) (t : ℕ) →
+        next_by next.new k t ≡ with_line key (next_of writers.now t) k (next_by next.old k t)) }
 {
     let mut i = writers.len();
     while i > 0 {

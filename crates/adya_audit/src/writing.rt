@@ -16,7 +16,8 @@ use std::io::Write;
 
 /// Writes the one line of the verdict. `WriteFault` only where the writer failed, now or before.
 pub fn write_verdict<W: Write>(verdict: &Verdict, out: &mut Watched<W>) -> Result<(), WriteFault>
-    ensures written { OnOk result (Appends (watched_contents W.contents out.old) (watched_contents W.contents out.new) (verdict_line (plain_verdict verdict.now))) }
+    ensures written { OnOk result (Appends (watched_contents W.contents out.old) (watched_contents W.contents out.new)
+        (verdict_line (plain_verdict verdict.now))) }
     ensures fault { IsErr result → has_failed out.new ≡ true }
 {
     match put_line(verdict, out) {
@@ -26,7 +27,9 @@ pub fn write_verdict<W: Write>(verdict: &Verdict, out: &mut Watched<W>) -> Resul
 }
 
 fn put_line<W: Write>(verdict: &Verdict, out: &mut Watched<W>) -> io::Result<()>
-    ensures written { OnOk result (Grows (watched_contents W.contents out.old) (verdict_line (plain_verdict verdict.now)) (watched_contents W.contents out.new)) }
+    ensures written { OnOk result (Grows (watched_contents W.contents out.old)
+        (verdict_line (plain_verdict verdict.now))
+        (watched_contents W.contents out.new)) }
     ensures fault { IsErr result → has_failed out.new ≡ true }
 {
     put_verdict(verdict, out)?;
@@ -34,7 +37,9 @@ fn put_line<W: Write>(verdict: &Verdict, out: &mut Watched<W>) -> io::Result<()>
 }
 
 fn put_verdict<W: Write>(verdict: &Verdict, out: &mut Watched<W>) -> io::Result<()>
-    ensures written { OnOk result (Grows (watched_contents W.contents out.old) (verdict_text (plain_verdict verdict.now)) (watched_contents W.contents out.new)) }
+    ensures written { OnOk result (Grows (watched_contents W.contents out.old)
+        (verdict_text (plain_verdict verdict.now))
+        (watched_contents W.contents out.new)) }
     ensures fault { IsErr result → has_failed out.new ≡ true }
 {
     match verdict {
@@ -59,7 +64,9 @@ fn put_verdict<W: Write>(verdict: &Verdict, out: &mut Watched<W>) -> io::Result<
 }
 
 fn put_syntax<W: Write>(text: Text, line: usize, out: &mut Watched<W>) -> io::Result<()>
-    ensures written { OnOk result (Grows (watched_contents W.contents out.old) (codes "no 1 syntax " ++ text_name text ++ codes " " ++ decimal line) (watched_contents W.contents out.new)) }
+    ensures written { OnOk result (Grows (watched_contents W.contents out.old)
+        (codes "no 1 syntax " ++ text_name text ++ codes " " ++ decimal line)
+        (watched_contents W.contents out.new)) }
     ensures fault { IsErr result → has_failed out.new ≡ true }
 {
     put(b"no 1 syntax ", out)?;
@@ -69,7 +76,9 @@ fn put_syntax<W: Write>(text: Text, line: usize, out: &mut Watched<W>) -> io::Re
 }
 
 fn put_malformed<W: Write>(line: usize, rule: Rule, out: &mut Watched<W>) -> io::Result<()>
-    ensures written { OnOk result (Grows (watched_contents W.contents out.old) (codes "no 2 malformed " ++ decimal line ++ codes " " ++ rule_name rule) (watched_contents W.contents out.new)) }
+    ensures written { OnOk result (Grows (watched_contents W.contents out.old)
+        (codes "no 2 malformed " ++ decimal line ++ codes " " ++ rule_name rule)
+        (watched_contents W.contents out.new)) }
     ensures fault { IsErr result → has_failed out.new ≡ true }
 {
     put(b"no 2 malformed ", out)?;
@@ -84,7 +93,9 @@ fn put_read<W: Write>(
     version: &Version,
     out: &mut Watched<W>,
 ) -> io::Result<()>
-    ensures written { OnOk result (Grows (watched_contents W.contents out.old) (words.now ++ decimal line ++ codes " " ++ version_name version.now) (watched_contents W.contents out.new)) }
+    ensures written { OnOk result (Grows (watched_contents W.contents out.old)
+        (words.now ++ decimal line ++ codes " " ++ version_name version.now)
+        (watched_contents W.contents out.new)) }
     ensures fault { IsErr result → has_failed out.new ≡ true }
 {
     put(words, out)?;
@@ -94,7 +105,9 @@ fn put_read<W: Write>(
 }
 
 fn put_version<W: Write>(version: &Version, out: &mut Watched<W>) -> io::Result<()>
-    ensures written { OnOk result (Grows (watched_contents W.contents out.old) (version_name version.now) (watched_contents W.contents out.new)) }
+    ensures written { OnOk result (Grows (watched_contents W.contents out.old)
+        (version_name version.now)
+        (watched_contents W.contents out.new)) }
     ensures fault { IsErr result → has_failed out.new ≡ true }
 {
     put(version.key.bytes(), out)?;
@@ -105,7 +118,10 @@ fn put_version<W: Write>(version: &Version, out: &mut Watched<W>) -> io::Result<
 }
 
 fn put_backward<W: Write>(edge: &Edge, out: &mut Watched<W>) -> io::Result<()>
-    ensures written { OnOk result (Grows (watched_contents W.contents out.old) (codes "no 6 backward " ++ kind_name (kind_of edge.now.kind) ++ codes " " ++ edge.now.key ++ codes " " ++ decimal edge.now.from ++ codes " " ++ decimal edge.now.to) (watched_contents W.contents out.new)) }
+    ensures written { OnOk result (Grows (watched_contents W.contents out.old)
+        (codes "no 6 backward " ++ kind_name (kind_of edge.now.kind) ++ codes " "
+        ++ edge.now.key ++ codes " " ++ decimal edge.now.from ++ codes " " ++ decimal edge.now.to)
+        (watched_contents W.contents out.new)) }
     ensures fault { IsErr result → has_failed out.new ≡ true }
 {
     put(b"no 6 backward ", out)?;
@@ -119,14 +135,18 @@ fn put_backward<W: Write>(edge: &Edge, out: &mut Watched<W>) -> io::Result<()>
 }
 
 fn put_number<W: Write>(number: u64, out: &mut Watched<W>) -> io::Result<()>
-    ensures written { OnOk result (Grows (watched_contents W.contents out.old) (decimal number) (watched_contents W.contents out.new)) }
+    ensures written { OnOk result (Grows (watched_contents W.contents out.old)
+        (decimal number)
+        (watched_contents W.contents out.new)) }
     ensures fault { IsErr result → has_failed out.new ≡ true }
 {
     put(Buffer::new().format(number).as_bytes(), out)
 }
 
 fn put<W: Write>(bytes: &[u8], out: &mut Watched<W>) -> io::Result<()>
-    ensures written { OnOk result (Grows (watched_contents W.contents out.old) bytes.now (watched_contents W.contents out.new)) }
+    ensures written { OnOk result (Grows (watched_contents W.contents out.old)
+        bytes.now
+        (watched_contents W.contents out.new)) }
     ensures fault { IsErr result → has_failed out.new ≡ true }
 {
     out.write_all(bytes)
