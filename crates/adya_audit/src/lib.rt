@@ -8,6 +8,8 @@ mod edge;
 mod judge;
 mod next;
 mod places;
+#[cfg(test)]
+mod tests;
 mod text;
 mod verdict;
 mod write_fault;
