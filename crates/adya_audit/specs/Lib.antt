@@ -6,3 +6,4 @@ pub mod Next
 pub mod Backward
 pub mod Growing
 pub mod Output
+pub mod Streams

@@ -8,6 +8,8 @@ mod edge;
 mod judge;
 mod next;
 mod places;
+mod run_fault;
+mod stream;
 #[cfg(test)]
 mod tests;
 mod text;
@@ -16,6 +18,7 @@ mod write_fault;
 mod writing;
 
 pub use edge::{Edge, Kind};
+pub use run_fault::RunFault;
 pub use text::Text;
 pub use verdict::Verdict;
 pub use write_fault::WriteFault;
