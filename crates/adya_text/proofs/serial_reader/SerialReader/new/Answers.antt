@@ -1,0 +1,6 @@
+use Rattle.std.proofs.Common.{◌≡◌, refl, rules}
+use Rattle.adya_text.proofs.SerialFed.{fed_none}
+use Rattle.adya_text.proofs.serial_reader.SerialReader.new.Goals as goal
+
+pub returns : goal.returns
+returns c = fed_none _ refl refl c.new.ensures.items

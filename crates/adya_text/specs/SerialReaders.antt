@@ -1,0 +1,72 @@
+-- What a reader of certificate lines holds of the lines that it was fed with.
+use Rattle.std.specs.Prelude.{◌≡◌, ℕ, suc, ◌≤◌, Bool, true, false, List, [], ◌∷◌, ◌++◌, length, Result, Ok, Err}
+use Rattle.std.specs.List.{filter_map}
+use Rattle.adya_terms.specs.declared.serial.Serial.{Serial}
+use Rattle.adya_text.specs.Texts.{IsSerial, serial_text, AreSerialLines}
+use Rattle.adya_text.specs.Faults.{IsFirstFaulty, IsFaultLine}
+use Rattle.adya_text.specs.Runs.{HasRun}
+use Rattle.adya_text.specs.SerialRuns.{Line, IsLine, line_text, allows, stage_after, txn_in}
+use Rattle.adya_text.specs.declared.serial_reader.Stage.{Stage}
+use Rattle.adya_text.specs.declared.serial_reader.Stage.TheVariants.{Head, Txns, Done, Failed}
+use Rattle.adya_text.specs.declared.serial_reader.SerialReader.{SerialReader}
+use Rattle.adya_text.specs.declared.read_fault.ReadFault.{ReadFault}
+use Rattle.adya_text.specs.declared.read_fault.ReadFault.TheVariants.{Syntax, Memory}
+use Rattle.adya_text.specs.declared.read_fault.Text.TheVariants as Of
+
+abbrev pub is_failed : Stage → Bool
+is_failed (Failed k) = true
+is_failed Head = false
+is_failed Txns = false
+is_failed Done = false
+
+abbrev pub is_done : Stage → Bool
+is_done Done = true
+is_done Head = false
+is_done Txns = false
+is_done (Failed k) = false
+
+-- each line may stand where it stands, and the reader holds what the lines hold
+pub record IsTaken (r : SerialReader) (lines : List (List ℕ)) : Type 0 where
+  pub run : HasRun allows stage_after line_text IsLine Head r.stage lines
+  pub txns : r.txns.items ≡ filter_map txn_in run.items
+  pub next : r.next ≡ suc (length lines)
+
+-- the reader was fed with these lines: it has taken them, or one of them is faulty
+pub record IsFed (r : SerialReader) (lines : List (List ℕ)) : Type 0 where
+  pub taken : is_failed r.stage ≡ false → IsTaken r lines
+  pub faulty : (k : ℕ) → r.stage ≡ Failed k → (k ≤ length lines) × IsFirstFaulty AreSerialLines lines k
+
+-- the text is that of the line
+pub record IsLineOf (x : Line) (text : List ℕ) : Type 0 where
+  pub good : IsLine x
+  pub same : text ≡ line_text x
+
+abbrev pub IsNoLine : List ℕ → Type 0
+IsNoLine text = (x : Line) → IsLineOf x text → ⊥
+
+-- no line of this text may come in the stage
+abbrev pub IsRefused : Stage → List ℕ → Type 0
+IsRefused s text = (x : Line) → IsLineOf x text → allows s x ≡ true → ⊥
+
+-- the line of this text may come in the stage
+abbrev pub IsAllowed : Stage → List ℕ → Line → Type 0
+IsAllowed s text x = IsLineOf x text × (allows s x ≡ true)
+
+-- the new reader is the old one with what the line holds
+pub record Takes (old new : SerialReader) (x : Line) : Type 0 where
+  pub stage : new.stage ≡ stage_after x
+  pub next : new.next ≡ suc old.next
+  pub txns : new.txns.items ≡ old.txns.items ++ filter_map txn_in (x ∷ [])
+
+-- the two hold the same
+pub record IsKept (old new : SerialReader) : Type 0 where
+  pub stage : new.stage ≡ old.stage
+  pub next : new.next ≡ old.next
+  pub txns : new.txns.items ≡ old.txns.items
+
+-- what was read of the text: the certificate whose text it is, or the line of its fault
+abbrev pub ReadsSerial : List ℕ → Result Serial ReadFault → Type 0
+ReadsSerial text (Ok s) = IsSerial s.txns.items × (text ≡ serial_text s.txns.items)
+ReadsSerial text (Err (Syntax Of.Serial k)) = IsFaultLine AreSerialLines text k
+ReadsSerial text (Err (Syntax Of.History k)) = ⊥
+ReadsSerial text (Err Memory) = Unit {0}

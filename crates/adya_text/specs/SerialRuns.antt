@@ -1,0 +1,53 @@
+-- Which line of a certificate text may come next, by the stage that the lines before have led to.
+use Rattle.std.specs.Prelude.{ℕ, Bool, true, false, List, Option, Some, None}
+use Rattle.adya_terms.specs.Keys.{IsTxn}
+use Rattle.adya_line.specs.Spelling.{serial_head, tail, txn_text}
+use Rattle.adya_text.specs.declared.serial_reader.Stage.{Stage}
+use Rattle.adya_text.specs.declared.serial_reader.Stage.TheVariants.{Head, Txns, Done, Failed}
+use Rattle.adya_text.specs.declared.serial_reader.Line.{Line as LineValue}
+use Rattle.adya_text.specs.declared.serial_reader.Line.TheVariants as In
+
+-- a line by its kind
+pub data Line : Type 0 where
+  HeadLine : Line
+  TxnLine : (txn : ℕ) → Line
+  TailLine : Line
+
+abbrev pub line_of : LineValue → Line
+line_of In.Head = HeadLine
+line_of (In.Txn t) = TxnLine t
+line_of In.Tail = TailLine
+
+abbrev pub line_text : Line → List ℕ
+line_text HeadLine = serial_head
+line_text (TxnLine t) = txn_text t
+line_text TailLine = tail
+
+-- what it holds has a line
+abbrev pub IsLine : Line → Type 0
+IsLine HeadLine = Unit {0}
+IsLine (TxnLine t) = IsTxn t
+IsLine TailLine = Unit {0}
+
+-- the head comes first, and the tail last
+abbrev pub allows : Stage → Line → Bool
+allows Head HeadLine = true
+allows Head (TxnLine t) = false
+allows Head TailLine = false
+allows Txns HeadLine = false
+allows Txns (TxnLine t) = true
+allows Txns TailLine = true
+allows Done x = false
+allows (Failed k) x = false
+
+-- the stage behind a line
+abbrev pub stage_after : Line → Stage
+stage_after HeadLine = Txns
+stage_after (TxnLine t) = Txns
+stage_after TailLine = Done
+
+-- what a line holds
+abbrev pub txn_in : Line → Option ℕ
+txn_in (TxnLine t) = Some t
+txn_in HeadLine = None
+txn_in TailLine = None

@@ -1,0 +1,33 @@
+//! Why a text is not read.
+
+ghost use Rattle.std.specs.Prelude.{◌≡◌};
+
+use std::alloc::AllocError;
+use thiserror::Error;
+
+/// The two kinds of texts.
+#[derive(Clone, Copy, Debug, PartialEq, Eq, Drop)]
+pub enum Text {
+    History,
+    Serial,
+}
+
+/// Why no value was read from a text.
+#[derive(Clone, Copy, Debug, PartialEq, Eq, Error, Drop)]
+pub enum ReadFault {
+    /// The text is not of its grammar. The line, counted from 1, is the first that the text lacks, or with which
+    /// the lines so far begin no text of the grammar.
+    #[error("no text of the grammar at line {line}")]
+    Syntax { text: Text, line: usize },
+    /// Memory ran out; nothing is said of the text.
+    #[error("memory")]
+    Memory,
+}
+
+impl From<AllocError> for ReadFault {
+    fn from(_: AllocError) -> ReadFault
+        ensures { result ≡ ReadFault.Memory }
+    {
+        ReadFault::Memory
+    }
+}
