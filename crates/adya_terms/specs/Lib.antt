@@ -15,3 +15,4 @@ pub mod Acceptance
 pub mod Faults
 pub mod Certificates
 pub mod Watched
+pub mod Laws

@@ -5,6 +5,7 @@ mod event;
 mod fault;
 mod history;
 mod key;
+pub mod laws;
 mod number;
 mod order;
 mod padded;
