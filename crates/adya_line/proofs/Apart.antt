@@ -1,6 +1,5 @@
 -- What each kind of line reads, and what it refuses.
-use Rattle.std.proofs.Common.{◌≡◌, ◌≢◌, ℕ, Bool, true, false, List, [], ◌∷◌, ◌++◌, Option, Some, None, refl, sym, ap, ◌∙◌}
-use Rattle.std.specs.Prelude.{◌↔◌, IfSome}
+use Rattle.std.proofs.Common.{◌≡◌, ◌≢◌, ℕ, Bool, true, false, List, Option, Some, None, refl, sym, ap, ◌∙◌}
 use Rattle.std.specs.Str.{bytes_eq}
 use Rattle.std.proofs.lemmas.Slice.Eq.{bytes_eq-Decides}
 use Rattle.std.proofs.lemmas.Option.{none-some, same_Some}
@@ -18,11 +17,13 @@ use Rattle.adya_line.proofs.Finals.{final_takes, final_again}
 -- ---- readers of texts
 
 reader : {X : Type 0} (read : List ℕ → Option X) (Is : X → Type 0) (text : X → List ℕ)
-    → ((line : List ℕ) → Only (read line) (λ x. (line ≡ text x) × Is x)) → ((x : X) → Is x → read (text x) ≡ Some x) → IsReaderOf read Is text
+    → ((line : List ℕ) → Only (read line) (λ x. (line ≡ text x) × Is x)) →
+    ((x : X) → Is x → read (text x) ≡ Some x) → IsReaderOf read Is text
 reader read Is text takes again line x =
     (λ e. let h = (takes line).holds in let g = rw e at h in (g.1, g.0), λ p. ap read p.1 ∙ again x p.0)
 
-one : {X : Type 0} (read : List ℕ → Option X) (Is : X → Type 0) (text : X → List ℕ) → ((x : X) → Is x → read (text x) ≡ Some x) → IsOneText Is text
+one : {X : Type 0} (read : List ℕ → Option X) (Is : X → Type 0) (text : X → List ℕ)
+    → ((x : X) → Is x → read (text x) ≡ Some x) → IsOneText Is text
 one read Is text again x y is_x is_y same = same_Some x y (sym (again x is_x) ∙ ap read same ∙ again y is_y)
 
 pub events_read : IsReaderOf event_at IsEvent event_text
@@ -62,7 +63,8 @@ differs xs ys false is other = refl
 
 -- a line that is refused is none of those that are read
 pub never : {X : Type 0} (read : List ℕ → Option X) (fixed : List ℕ) → read fixed ≡ None → ExcludesLine read fixed
-never read fixed refused line x is = differs line fixed (bytes_eq line fixed) refl (λ same. absurd (none-some x (sym refused ∙ ap read (sym same) ∙ is)))
+never read fixed refused line x is = differs line fixed (bytes_eq line fixed) refl
+    (λ same. absurd (none-some x (sym refused ∙ ap read (sym same) ∙ is)))
 
 no_order : (e : Event) → IsEvent e → order_at (event_text e) ≡ None
 unfolding order_at key_between after event_text

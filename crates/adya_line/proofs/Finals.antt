@@ -1,5 +1,5 @@
 -- What is read is the line's final, and each final is read from its line.
-use Rattle.std.proofs.Common.{◌≡◌, ℕ, List, [], ◌∷◌, ◌++◌, Option, Some, None, refl, sym, ◌∙◌, append_assoc}
+use Rattle.std.proofs.Common.{◌≡◌, ℕ, List, [], ◌∷◌, ◌++◌, Some, refl, sym, ◌∙◌, append_assoc}
 use Rattle.std.specs.Prelude.{codes}
 use Rattle.adya_terms.specs.Keys.{is_key_byte, is_value_byte}
 use Rattle.adya_terms.specs.Histories.{FinalPair}
@@ -32,4 +32,8 @@ final_takes line =
 pub final_again : (f : FinalPair) → IsFinal f → final_at (final_text f) ≡ Some f
 unfolding final_at final_then after is_key_byte is_value_byte
 final_again f is =
-    rw (final_then-is f, key_between_again 123 44 f.key (f.value ++ (125 ∷ [])) is.key refl, text_again 64 is_value_byte f.value (125 ∷ []) is.value refl) refl
+    rw (
+      final_then-is f,
+      key_between_again 123 44 f.key (f.value ++ (125 ∷ [])) is.key refl,
+      text_again 64 is_value_byte f.value (125 ∷ []) is.value refl,
+    ) refl

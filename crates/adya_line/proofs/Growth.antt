@@ -24,6 +24,7 @@ pub none : {a : Option (List ℕ)} → Grows a [] a
 none {a = a} = record { appends = none_at a }
 
 -- the last part, which may fail
-pub last_part : {E : Type 0} {a b : Option (List ℕ)} {x : List ℕ} (c : Option (List ℕ)) (y : List ℕ) (r : Result (Unit {0}) E) → Grows a x b → OnOk r (Grows b y c) → OnOk r (Grows a (x ++ y) c)
+pub last_part : {E : Type 0} {a b : Option (List ℕ)} {x : List ℕ} (c : Option (List ℕ)) (y : List ℕ)
+    (r : Result (Unit {0}) E) → Grows a x b → OnOk r (Grows b y c) → OnOk r (Grows a (x ++ y) c)
 last_part c y (Ok u) p q = and_then p q
 last_part c y (Err e) p q = tt

@@ -1,5 +1,5 @@
 -- What has a line.
-use Rattle.std.specs.Prelude.{◌≡◌, ℕ, ◌<◌, true, List, length}
+use Rattle.std.specs.Prelude.{◌≡◌, ◌<◌, true, length}
 use Rattle.std.specs.List.{AllByRecursion}
 use Rattle.adya_terms.specs.declared.event.Version.{Version}
 use Rattle.adya_terms.specs.Keys.{is_key, is_value, IsTxn, IsMod}

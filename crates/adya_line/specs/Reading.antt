@@ -33,11 +33,16 @@ text_at limit may bytes =
     then Some (take (prefix_len may bytes) bytes, drop (prefix_len may bytes) bytes)
     else None
 
+-- how many digits stand at the front
+abbrev pub digits_len : List ℕ → ℕ
+digits_len bytes = prefix_len is_ascii_digit bytes
+
 -- the number at the front, from 1 and below 2 ^ 32, without leading zeros, and what follows
 unfoldable pub txn_at : List ℕ → Option (ℕ × List ℕ)
 txn_at bytes =
-    if nat_lt 0 (prefix_len is_ascii_digit bytes) && not (slice_index bytes 0 == 48) && nat_lt (digits_value 10 (take (prefix_len is_ascii_digit bytes) bytes)) (2 ^ 32)
-    then Some (digits_value 10 (take (prefix_len is_ascii_digit bytes) bytes), drop (prefix_len is_ascii_digit bytes) bytes)
+    if nat_lt 0 (digits_len bytes) && not (slice_index bytes 0 == 48) &&
+    nat_lt (digits_value 10 (take (digits_len bytes) bytes)) (2 ^ 32)
+    then Some (digits_value 10 (take (digits_len bytes) bytes), drop (digits_len bytes) bytes)
     else None
 
 -- the same, below 2 ^ 16
@@ -108,7 +113,9 @@ writer_at bytes = after 60 bytes >>= txn_at
 -- the numbers, each behind <<, at most n of them, and what follows
 unfoldable pub later_at : ℕ → List ℕ → Option (List ℕ × List ℕ)
 later_at zero bytes = Some ([], bytes)
-later_at (suc n) bytes = none_or (after 60 bytes) (Some ([], bytes)) (λ mark. writer_at mark >>= λ t. later_at n t.1 >>= λ ts. Some (t.0 ∷ ts.0, ts.1))
+later_at (suc n) bytes =
+    none_or (after 60 bytes) (Some ([], bytes)) (λ mark.
+    writer_at mark >>= λ t. later_at n t.1 >>= λ ts. Some (t.0 ∷ ts.0, ts.1))
 
 -- what was read, behind other numbers
 abbrev pub behind : List ℕ → Option (List ℕ × List ℕ) → Option (List ℕ × List ℕ)

@@ -28,10 +28,14 @@ entry_text e = codes ";" ++ version_text e.version ++ codes "," ++ content_text 
 
 -- wT(K.T:M,V), dT(K.T:M), rT(K.T:M,V), sT(K,K;K.T:M,V;..), cT and aT
 unfoldable pub event_text : Event → List ℕ
-event_text (Write t k m v) = codes "w" ++ decimal t ++ codes "(" ++ version_text (record { key = k; txn = t; m = m }) ++ codes "," ++ v ++ codes ")"
-event_text (Delete t k m) = codes "d" ++ decimal t ++ codes "(" ++ version_text (record { key = k; txn = t; m = m }) ++ codes ")"
+event_text (Write t k m v) =
+    codes "w" ++ decimal t ++ codes "(" ++ version_text (record { key = k; txn = t; m = m }) ++
+    codes "," ++ v ++ codes ")"
+event_text (Delete t k m) =
+    codes "d" ++ decimal t ++ codes "(" ++ version_text (record { key = k; txn = t; m = m }) ++ codes ")"
 event_text (Read t r v) = codes "r" ++ decimal t ++ codes "(" ++ version_text r ++ codes "," ++ v ++ codes ")"
-event_text (Scan t low high es) = codes "s" ++ decimal t ++ codes "(" ++ low ++ codes "," ++ high ++ flat_map entry_text es ++ codes ")"
+event_text (Scan t low high es) =
+    codes "s" ++ decimal t ++ codes "(" ++ low ++ codes "," ++ high ++ flat_map entry_text es ++ codes ")"
 event_text (Commit t) = codes "c" ++ decimal t
 event_text (Abort t) = codes "a" ++ decimal t
 

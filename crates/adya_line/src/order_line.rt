@@ -35,8 +35,8 @@ impl Cursor<'_> {
 
     /// Goes past `<<T<<..`, and gives the numbers behind the first writer.
     fn later(&mut self, alloc: Global, first: Txn) -> Result<Option<Vec<Txn>>, AllocError>
-        ensures { IfOk result (λ r.
-            Steps (λ w. w.items) r self.new.rest.now (behind (first ∷ []) (later_at (length self.old.rest.now) self.old.rest.now))) }
+        ensures { IfOk result (λ r. Steps (λ w. w.items) r self.new.rest.now
+            (behind (first ∷ []) (later_at (length self.old.rest.now) self.old.rest.now))) }
     {
         let mut writers = Vec::new(alloc);
         writers.push(first)?;

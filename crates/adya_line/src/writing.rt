@@ -94,7 +94,8 @@ fn put_access<W: Write>(
     out: &mut W,
 ) -> io::Result<()>
     ensures { OnOk result (Grows (W.contents out.old)
-        (letter.now ++ decimal txn ++ codes "(" ++ version_text version.now ++ codes "," ++ value_of value.now ++ codes ")")
+        (letter.now ++ decimal txn ++ codes "(" ++ version_text version.now ++
+        codes "," ++ value_of value.now ++ codes ")")
         (W.contents out.new)) }
 {
     put_front(letter, txn, out)?;

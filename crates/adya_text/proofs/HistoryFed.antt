@@ -194,7 +194,7 @@ missing_fault r past text rest fed going none cut = record {
     by_done true done are empty = none done empty
     by_done false undone are empty = fed_undone r past fed undone are
 
-in_events : (h : History) → filter_map event_in (items_of h) ≡ h.events
+pub in_events : (h : History) → filter_map event_in (items_of h) ≡ h.events
 in_events h = events_front h.events h.orders h.finals
   where
     finals_none : (fs : List FinalPair) → filter_map event_in (final_items fs) ≡ []
@@ -207,7 +207,7 @@ in_events h = events_front h.events h.orders h.finals
     events_front [] os fs = orders_none os fs
     events_front (e ∷ es) os fs = ap (λ (r : List Event). e ∷ r) (events_front es os fs)
 
-in_orders : (h : History) → filter_map order_in (items_of h) ≡ h.orders
+pub in_orders : (h : History) → filter_map order_in (items_of h) ≡ h.orders
 in_orders h = events_none h.events h.orders h.finals
   where
     finals_none : (fs : List FinalPair) → filter_map order_in (final_items fs) ≡ []
@@ -220,7 +220,7 @@ in_orders h = events_none h.events h.orders h.finals
     events_none [] os fs = orders_front os fs
     events_none (e ∷ es) os fs = events_none es os fs
 
-in_finals : (h : History) → filter_map final_in (items_of h) ≡ h.finals
+pub in_finals : (h : History) → filter_map final_in (items_of h) ≡ h.finals
 in_finals h = events_none h.events h.orders h.finals
   where
     finals_front : (fs : List FinalPair) → filter_map final_in (final_items fs) ≡ fs

@@ -95,7 +95,7 @@ events_end : (s : Stage) (es : List Event) (os : List Order) (fs : List FinalPai
 events_end s [] os fs = orders_end s os fs
 events_end s (e ∷ es) os fs = events_end Events es os fs
 
-items_goods : (h : History) → IsHistory h → AllByRecursion IsLine (items_of h)
+pub items_goods : (h : History) → IsHistory h → AllByRecursion IsLine (items_of h)
 items_goods h is = (
   tt,
   all_append IsLine (map EventLine h.events) (order_items h.orders h.finals) (all_map IsLine IsEvent EventLine (λ e good. good) h.events is.events)

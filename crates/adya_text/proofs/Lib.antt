@@ -6,3 +6,4 @@ pub mod HistoryTexts
 pub mod HistoryFed
 pub mod SerialTexts
 pub mod SerialFed
+pub mod TextLaws

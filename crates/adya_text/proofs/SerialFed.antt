@@ -170,7 +170,7 @@ missing_fault r past text rest fed going none cut = record {
     by_done true done are empty = none done empty
     by_done false undone are empty = fed_undone r past fed undone are
 
-in_txns : (ts : List ℕ) → filter_map txn_in (items_of ts) ≡ ts
+pub in_txns : (ts : List ℕ) → filter_map txn_in (items_of ts) ≡ ts
 in_txns ts = txns_front ts
   where
     txns_front : (ts : List ℕ) → filter_map txn_in (txn_items ts) ≡ ts

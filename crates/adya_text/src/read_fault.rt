@@ -25,9 +25,11 @@ pub enum ReadFault {
 }
 
 impl From<AllocError> for ReadFault {
-    fn from(_: AllocError) -> ReadFault
-        ensures { result ≡ ReadFault.Memory }
-    {
+    ghost use Rattle.adya_text.specs.declared.read_fault.ReadFault.TheVariants.{Memory};
+
+    ghost from_gives = { λ _ e. e ≡ Memory };
+
+    fn from(_: AllocError) -> ReadFault {
         ReadFault::Memory
     }
 }

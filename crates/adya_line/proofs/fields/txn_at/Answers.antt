@@ -10,4 +10,8 @@ returns-clause-good c =
     let bs = c.args.bytes.now in
     let front : c.split_at.result.0.now ≡ take_while is_ascii_digit bs = grind (arith, common_steps) in
     let value = c.in_ok-value_of.ensures in
-    rw value.1 (rw front (positive_front bs (omega (arith, c.digits_len-len.ensures.value)) c.if-bytes-eq48.false (rw front at value.0)), value.0)
+    rw value.1 (
+      rw front (positive_front bs (omega (arith, c.digits_len-len.ensures.value)) c.if-bytes-eq48.false
+          (rw front at value.0)),
+      value.0,
+    )

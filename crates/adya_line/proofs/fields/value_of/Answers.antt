@@ -15,6 +15,7 @@ returns-in_err-ok c =
 pub returns : goal.returns
 returns c =
     let ds = c.args.digits.now in
-    let same = (ok_matches _ c.in_ok-ok.field-0 (λ s. (s.now ≡ ds) × IsUtf8 ds) _ c.from_utf8.ensures.cases (sym c.ok.ensures.value ∙ c.in_ok-ok.was)).0 in
+    let same = (ok_matches _ c.in_ok-ok.field-0 (λ s. (s.now ≡ ds) × IsUtf8 ds) _ c.from_utf8.ensures.cases
+    (sym c.ok.ensures.value ∙ c.in_ok-ok.was)).0 in
     let parsed : ParsesUnsigned 32 10 ds c.parse.result = rw same at c.parse.ensures.value.0 in
     rw c.ok-2.ensures.value (parses ds c.parse.result parsed c.requires.digits c.requires.some)

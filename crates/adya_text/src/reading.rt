@@ -1,0 +1,61 @@
+//! Reading whole texts.
+
+ghost use Rattle.std.specs.Prelude.{◌≡◌, List, ℕ, MatchResult};
+ghost use Rattle.adya_terms.specs.Histories.{History as Plain};
+ghost use Rattle.adya_terms.specs.Values.{history_of};
+ghost use Rattle.adya_text.specs.Texts.{IsHistory, IsSerial, history_text, serial_text};
+ghost use Rattle.adya_text.specs.HistoryReaders.{ReadsHistory};
+ghost use Rattle.adya_text.specs.SerialReaders.{ReadsSerial};
+
+use crate::history_reader::HistoryReader;
+use crate::read_fault::ReadFault;
+use crate::serial_reader::SerialReader;
+use adya_terms::{History, Serial};
+use memchr::memchr;
+use std::alloc::Global;
+
+/// The history whose text this is. `Syntax` exactly where the text is that of no history, with the line of the fault:
+/// the first that the text lacks, or with which the lines so far begin no history text. `Memory` where memory ran
+/// out.
+pub fn read_history(alloc: Global, text: &[u8]) -> Result<History, ReadFault>
+    ensures answer { ReadsHistory text.now result }
+    ensures only { (h : Plain) → IsHistory h → text.now ≡ history_text h →
+        MatchResult result (λ v. history_of v ≡ h) (λ e. e ≡ ReadFault.Memory) }
+{
+    history_in(alloc, text)
+}
+
+fn history_in(alloc: Global, text: &[u8]) -> Result<History, ReadFault>
+    ensures { ReadsHistory text.now result }
+{
+    let mut reader = HistoryReader::new(alloc);
+    let mut rest = text;
+    'lines: while let Some(at) = memchr(b'\n', rest) {
+        reader.line(&rest[..at])?;
+        rest = &rest[at + 1..];
+    }
+    reader.finish(rest)
+}
+
+/// The certificate whose text this is. `Syntax` exactly where the text is that of no certificate, with the line of
+/// the fault: the first that the text lacks, or with which the lines so far begin no certificate text. `Memory` where
+/// memory ran out.
+pub fn read_serial(alloc: Global, text: &[u8]) -> Result<Serial, ReadFault>
+    ensures answer { ReadsSerial text.now result }
+    ensures only { (ts : List ℕ) → IsSerial ts → text.now ≡ serial_text ts →
+        MatchResult result (λ v. v.txns.items ≡ ts) (λ e. e ≡ ReadFault.Memory) }
+{
+    serial_in(alloc, text)
+}
+
+fn serial_in(alloc: Global, text: &[u8]) -> Result<Serial, ReadFault>
+    ensures { ReadsSerial text.now result }
+{
+    let mut reader = SerialReader::new(alloc);
+    let mut rest = text;
+    'lines: while let Some(at) = memchr(b'\n', rest) {
+        reader.line(&rest[..at])?;
+        rest = &rest[at + 1..];
+    }
+    reader.finish(rest)
+}
