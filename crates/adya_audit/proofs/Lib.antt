@@ -9,3 +9,4 @@ pub mod Writes
 pub mod ItemEdges
 pub mod Whole
 pub mod Growth
+pub mod Accepting

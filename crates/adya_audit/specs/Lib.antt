@@ -7,3 +7,5 @@ pub mod Backward
 pub mod Growing
 pub mod Output
 pub mod Streams
+pub mod Laws
+pub mod TextVerdicts

@@ -4,8 +4,8 @@ use Rattle.adya_terms.specs.declared.event.Version.{Version}
 use Rattle.adya_terms.specs.declared.fault.Rule.{Rule}
 use Rattle.adya_terms.specs.declared.fault.Rule.TheVariants.{M1, M2, M3, M4, M5, M6, M7, M8}
 use Rattle.adya_terms.specs.Edges.{Kind, Ww, Wr, Rw}
-use Rattle.adya_audit.specs.declared.text.Text.{Text}
-use Rattle.adya_audit.specs.declared.text.Text.TheVariants as In
+use Rattle.adya_text.specs.declared.read_fault.Text.{Text}
+use Rattle.adya_text.specs.declared.read_fault.Text.TheVariants as In
 use Rattle.adya_audit.specs.Verdicts.{Verdict, Yes, Syntax, Malformed, AbortedRead, IntermediateRead, NotTheCommitted, Backward}
 
 abbrev pub text_name : Text → List ℕ

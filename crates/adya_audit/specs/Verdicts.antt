@@ -9,8 +9,8 @@ use Rattle.adya_terms.specs.Histories.{History}
 use Rattle.adya_terms.specs.Edges.{Kind, Ww, Wr, Rw, Edge}
 use Rattle.adya_terms.specs.Faults.{first_fault}
 use Rattle.adya_terms.specs.Certificates.{lists_the_committed, first_backward}
-use Rattle.adya_audit.specs.declared.text.Text.{Text}
-use Rattle.adya_audit.specs.declared.text.Text.TheVariants as In
+use Rattle.adya_text.specs.declared.read_fault.Text.{Text}
+use Rattle.adya_text.specs.declared.read_fault.Text.TheVariants as In
 use Rattle.adya_audit.specs.declared.verdict.Verdict.{Verdict as VerdictValue}
 use Rattle.adya_audit.specs.declared.verdict.Verdict.TheVariants as Said
 use Rattle.adya_audit.specs.Edges.{edge_of}
@@ -42,13 +42,13 @@ edge_verdict (Some e) = Backward e
 abbrev pub certificate_verdict : History → List ℕ → Verdict
 certificate_verdict h ts = if lists_the_committed h ts then edge_verdict (first_backward h ts) else NotTheCommitted
 
--- the fault of a history, else what is said of the certificate; want of memory is no fault of a history
+-- the fault of a history, else what is said of the certificate; `Memory` is no fault of any history, and so never met
 abbrev pub fault_verdict : Option CheckFault → Verdict → Verdict
 fault_verdict None v = v
 fault_verdict (Some (Checked.Malformed line rule)) v = Malformed line rule
 fault_verdict (Some (Checked.AbortedRead line version)) v = AbortedRead line version
 fault_verdict (Some (Checked.IntermediateRead line version)) v = IntermediateRead line version
-fault_verdict (Some Checked.Memory) v = v
+fault_verdict (Some Checked.Memory) v = NotTheCommitted
 
 -- the verdict on a history and a certificate
 abbrev pub verdict_of : History → List ℕ → Verdict

@@ -15,6 +15,7 @@ use crate::committed::committed;
 use crate::next::next_writers;
 use crate::places::places;
 use crate::{Edge, Verdict};
+use adya_laws::edge_list_keeps_first;
 use adya_terms::{History, Serial, Txn};
 use std::alloc::{AllocError, Global};
 use std::collections::{BTreeMap, BTreeSet};
@@ -53,6 +54,7 @@ fn first_backward(
     requires committed { HasCommitted committed.now (map event_of history.now.events.items) }
     ensures { IfOk result (λ o. option_map edge_of o ≡ first_backward (history_of history.now) txns.now) }
 {
+    edge_list_keeps_first();
     let found = first_write(places, txns, history.orders());
     if found.is_some() {
         return Ok(found);

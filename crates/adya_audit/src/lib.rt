@@ -6,20 +6,20 @@ mod certificate;
 mod committed;
 mod edge;
 mod judge;
+pub mod laws;
 mod next;
 mod places;
 mod run_fault;
 mod stream;
 #[cfg(test)]
 mod tests;
-mod text;
 mod verdict;
 mod write_fault;
 mod writing;
 
+pub use adya_text::Text;
 pub use edge::{Edge, Kind};
 pub use run_fault::RunFault;
-pub use text::Text;
 pub use verdict::Verdict;
 pub use write_fault::WriteFault;
 pub use writing::write_verdict;

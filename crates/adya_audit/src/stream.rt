@@ -36,6 +36,8 @@ pub(crate) fn read_all<R: Read>(alloc: Global, input: &mut Watched<R>) -> Result
     ensures bytes { IfOk result (λ v. IfSome (watched_remaining R.remaining input.old) (λ xs. v.items ≡ xs)) }
     ensures ended { OnOk result (has_failed input.new ≡ false) }
     ensures fault { IsErrOf result RunFault.ReadHistory → has_failed input.new ≡ true }
+    ensures no_write { IsErrOf result RunFault.Write → ⊥ }
+    ensures no_serial { IsErrOf result RunFault.ReadSerial → ⊥ }
 {
     let mut bytes = Vec::new(alloc);
     let mut piece = [0; 8192];
