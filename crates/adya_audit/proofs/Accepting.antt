@@ -42,7 +42,8 @@ module _ (h : History) (ts : List ℕ) (forward : AcceptedWhereForward) where
       (ap (λ b. cond b (edge_verdict (first_backward h ts)) NotTheCommitted) q.0 ∙ ap edge_verdict q.1)
 
 pub yes_accepted : CheckedIfNoFault → CheckedWhereNoFault → AcceptedWhereForward → YesWhereAccepted
-yes_accepted sound exact forward h ts shape = (accepted_from_yes h ts forward sound, yes_from_accepted h ts forward exact shape)
+yes_accepted sound exact forward h ts shape =
+    (accepted_from_yes h ts forward sound, yes_from_accepted h ts forward exact shape)
 
 pub plain_yes : (v : VerdictValue) → plain_verdict v ≡ Yes → v ≡ Said.Yes
 plain_yes Said.Yes e = refl
@@ -55,14 +56,19 @@ plain_yes (Said.Backward edge) e = absurd (cc (e))
 
 module _ (h : History) (ts : List ℕ) (shape : is_shape h.orders h.finals ≡ true) (law : YesWhereAccepted) where
   pub yes_exactly : (v : VerdictValue) → plain_verdict v ≡ verdict_of h ts → (v ≡ Said.Yes) ↔ IsAccepted h ts
-  yes_exactly v e =
-      ((λ (y : v ≡ Said.Yes). (law h ts shape).0 (sym e ∙ ap plain_verdict y)), λ (a : IsAccepted h ts). plain_yes v (e ∙ (law h ts shape).1 a))
+  yes_exactly v e = (
+    (λ (y : v ≡ Said.Yes). (law h ts shape).0 (sym e ∙
+        ap plain_verdict y)),
+    λ (a : IsAccepted h ts). plain_yes v (e ∙ (law h ts shape).1 a),
+  )
 
-  pub result_yes : (r : Result VerdictValue AllocError) → IfOk r (λ v. plain_verdict v ≡ verdict_of h ts) → IfOk r (λ v. (v ≡ Said.Yes) ↔ IsAccepted h ts)
+  pub result_yes : (r : Result VerdictValue AllocError) → IfOk r (λ v. plain_verdict v ≡ verdict_of h ts)
+      → IfOk r (λ v. (v ≡ Said.Yes) ↔ IsAccepted h ts)
   result_yes (Ok v) e = yes_exactly v e
   result_yes (Err x) e = tt
 
-  pub result_promise : AcceptedIsSerializable → (r : Result VerdictValue AllocError) → IfOk r (λ v. plain_verdict v ≡ verdict_of h ts) → r ≡ Ok Said.Yes → IsSerializableBy h ts
+  pub result_promise : AcceptedIsSerializable → (r : Result VerdictValue AllocError)
+      → IfOk r (λ v. plain_verdict v ≡ verdict_of h ts) → r ≡ Ok Said.Yes → IsSerializableBy h ts
   result_promise serial (Ok v) e y =
       let is : v ≡ Said.Yes = cc (y) in
       serial h ts shape ((yes_exactly v e).0 is)

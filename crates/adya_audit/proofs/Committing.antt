@@ -22,7 +22,8 @@ no_commit t (In.Read u r v) h = refl
 no_commit t (In.Commit u) h = absurd (h u refl)
 no_commit t (In.Abort u) h = refl
 
-module _ (events : List EventValue) (i : ℕ) (e : EventValue) (l : i < length events) (at : e ≡ get_or events i e) (t : ℕ) (f g all : Bool) (s : (f || is_committed (map event_of (drop i events)) t) ≡ all) where
+module _ (events : List EventValue) (i : ℕ) (e : EventValue) (l : i < length events) (at : e ≡ get_or events i e)
+    (t : ℕ) (f g all : Bool) (s : (f || is_committed (map event_of (drop i events)) t) ≡ all) where
   noted : g ≡ (commits t (event_of e) || f) → (g || is_committed (map event_of (drop (i + 1) events)) t) ≡ all
   noted u =
       let rest = is_committed (map event_of (drop (i + 1) events)) t in
@@ -30,9 +31,12 @@ module _ (events : List EventValue) (i : ℕ) (e : EventValue) (l : i < length e
       (regroup (commits t (event_of e)) f rest ∙
       (sym (ap (λ xs. f || is_committed (map event_of xs) t) (drop_step events i e l at)) ∙ s))
 
-  pub noted_commit : (x : ℕ) → e ≡ In.Commit x → g ≡ cond (is_eq (nat_cmp x t)) true f → (g || is_committed (map event_of (drop (i + 1) events)) t) ≡ all
+  pub noted_commit : (x : ℕ) → e ≡ In.Commit x → g ≡ cond (is_eq (nat_cmp x t)) true f
+      → (g || is_committed (map event_of (drop (i + 1) events)) t) ≡ all
   noted_commit x is u =
-      noted (u ∙ (ap (λ b. cond b true f) (is_eq-nat_cmp x t) ∙ (or_cond (x == t) f ∙ ap (λ z. commits t (event_of z) || f) (sym is))))
+      noted (u ∙ (ap (λ b. cond b true f) (is_eq-nat_cmp x t) ∙
+      (or_cond (x == t) f ∙ ap (λ z. commits t (event_of z) || f) (sym is))))
 
-  pub noted_other : ((x : ℕ) → e ≡ In.Commit x → ⊥) → g ≡ f → (g || is_committed (map event_of (drop (i + 1) events)) t) ≡ all
+  pub noted_other : ((x : ℕ) → e ≡ In.Commit x → ⊥) → g ≡ f
+      → (g || is_committed (map event_of (drop (i + 1) events)) t) ≡ all
   noted_other h u = noted (u ∙ ap (λ b. b || f) (sym (no_commit t e h)))

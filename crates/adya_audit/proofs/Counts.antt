@@ -26,11 +26,14 @@ all_pass f [] x t c = absurd (none_contained x c)
 all_pass f (y ∷ xs) x t (zero, l, e) = ap f (sym e) ∙ (and_parts _ _ t).0
 all_pass f (y ∷ xs) x t (suc i, l, e) = all_pass f xs x (and_parts _ _ t).1 (i, omega (arith, l), e)
 
-list_all_when : {X : Type 0} (f : X → Bool) (xs : List X) → ((x : X) → Contains xs x → f x ≡ true) → list_all f xs ≡ true
+list_all_when : {X : Type 0} (f : X → Bool) (xs : List X) → ((x : X) → Contains xs x → f x ≡ true)
+    → list_all f xs ≡ true
 list_all_when f [] h = refl
-list_all_when f (x ∷ xs) h = and_from _ _ (h x (Contains-head x xs)) (list_all_when f xs (λ y c. h y (Contains-cons x xs y c)))
+list_all_when f (x ∷ xs) h =
+    and_from _ _ (h x (Contains-head x xs)) (list_all_when f xs (λ y c. h y (Contains-cons x xs y c)))
 
-list_any_source : {X : Type 0} (f : X → Bool) (xs : List X) → list_any f xs ≡ true → (x : X) × Contains xs x × (f x ≡ true)
+list_any_source : {X : Type 0} (f : X → Bool) (xs : List X) → list_any f xs ≡ true
+    → (x : X) × Contains xs x × (f x ≡ true)
 list_any_source f [] t = absurd (cc (t))
 list_any_source f (x ∷ xs) t =
     elim (or_cases _ _ t) [
@@ -110,7 +113,8 @@ both_true false false up down = refl
 
 module _ (events : List Event) (ts : List ℕ) where
   -- the test says that each committed number stands there once, and no other
-  pub counts_from_test : lists_exactly (is_committed events) ts events ≡ true → (t : ℕ) → count ts t ≡ cond (is_committed events t) 1 0
+  pub counts_from_test : lists_exactly (is_committed events) ts events ≡ true → (t : ℕ)
+      → count ts t ≡ cond (is_committed events t) 1 0
   counts_from_test all t =
       let parts = and_parts _ _ all in
       elim (cases_lt 0 (count ts t)) [
@@ -121,13 +125,15 @@ module _ (events : List Event) (ts : List ℕ) where
             elim (cases_Bool (is_committed events t)) [
               | inl c ↦
                   let e = list_any_source (commits t) events c in
-                  eqb-true _ _ (subst (λ u. (count ts u == cond (is_committed events u) 1 0) ≡ true) (commits_txn t e.0 e.2)
+                  eqb-true _ _ (subst (λ u. (count ts u == cond (is_committed events u) 1 0) ≡ true)
+                  (commits_txn t e.0 e.2)
                   (all_pass (λ x. count ts (txn_of x) == cond (is_committed events (txn_of x)) 1 0) events e.0 parts.1 e.1))
               | inr c ↦ let zero_is : count ts t ≡ 0 = omega (arith, none) in zero_is ∙ ap (λ b. cond b 1 0) (sym c)
             ]
       ]
 
-  pub test_from_counts : ((t : ℕ) → count ts t ≡ cond (is_committed events t) 1 0) → lists_exactly (is_committed events) ts events ≡ true
+  pub test_from_counts : ((t : ℕ) → count ts t ≡ cond (is_committed events t) 1 0)
+      → lists_exactly (is_committed events) ts events ≡ true
   test_from_counts all =
       and_from _ _
       (list_all_when (λ t. count ts t == cond (is_committed events t) 1 0) ts (λ t c. eq-eqb _ _ (all t)))
@@ -142,8 +148,10 @@ module _ (events : List Event) (ts : List ℕ) where
       absurd (omega (arith, c, b, h)))
 
   -- the test, where each number stands there at most once
-  module _ (found is_in : ℕ → Bool) (counted : (t : ℕ) → count ts t ≡ cond (is_in t) 1 0) (committed : (t : ℕ) → found t ≡ is_committed events t) where
-    counts_agree : list_all found ts ≡ true → list_all (commit_passes is_in) events ≡ true → (t : ℕ) → count ts t ≡ cond (is_committed events t) 1 0
+  module _ (found is_in : ℕ → Bool) (counted : (t : ℕ) → count ts t ≡ cond (is_in t) 1 0)
+      (committed : (t : ℕ) → found t ≡ is_committed events t) where
+    counts_agree : list_all found ts ≡ true → list_all (commit_passes is_in) events ≡ true → (t : ℕ)
+        → count ts t ≡ cond (is_committed events t) 1 0
     counts_agree a b t =
         let down : is_in t ≡ true → is_committed events t ≡ true =
         λ i.
@@ -158,19 +166,23 @@ module _ (events : List Event) (ts : List ℕ) where
     all_found : lists_exactly (is_committed events) ts events ≡ true → list_all found ts ≡ true
     all_found all =
         list_all_when found ts (λ t c.
-        committed t ∙ positive_passes (is_committed events t) (count ts t) (counts_from_test all t) (count_positive ts t c))
+        committed t ∙
+        positive_passes (is_committed events t) (count ts t) (counts_from_test all t) (count_positive ts t c))
 
-    passes : lists_exactly (is_committed events) ts events ≡ true → (e : Event) → Contains events e → commit_passes is_in e ≡ true
+    passes : lists_exactly (is_committed events) ts events ≡ true → (e : Event) → Contains events e
+        → commit_passes is_in e ≡ true
     passes all (Write u k n v) c = refl
     passes all (Delete u k n) c = refl
     passes all (Read u r v) c = refl
     passes all (Scan u low high es) c = refl
     passes all (Commit u) c =
         let done = list_any_when (commits u) events (Commit u) c (eq-eqb u u refl) in
-        positive_passes (is_in u) (count ts u) (counted u) (one_if (is_committed events u) (count ts u) (counts_from_test all u) done)
+        positive_passes (is_in u) (count ts u) (counted u)
+        (one_if (is_committed events u) (count ts u) (counts_from_test all u) done)
     passes all (Abort u) c = refl
 
-    pub lists_by_tables : (list_all found ts && list_all (commit_passes is_in) events) ≡ lists_exactly (is_committed events) ts events
+    pub lists_by_tables : (list_all found ts && list_all (commit_passes is_in) events)
+        ≡ lists_exactly (is_committed events) ts events
     lists_by_tables =
         both_true _ _
         (λ h. let p = and_parts _ _ h in test_from_counts (counts_agree p.0 p.1))

@@ -10,7 +10,8 @@ pub and_then : {a b c : Option (List ℕ)} {x y : List ℕ} → Grows a x b → 
 and_then {a = a} {b = b} {c = c} {x = x} {y = y} p q = record { appends = Appends-trans a b c x y p.appends q.appends }
 
 -- the last part, which may fail
-pub last_part : {E : Type 0} {a b : Option (List ℕ)} {x : List ℕ} (c : Option (List ℕ)) (y : List ℕ) (r : Result (Unit {0}) E) → Grows a x b → OnOk r (Grows b y c) → OnOk r (Grows a (x ++ y) c)
+pub last_part : {E : Type 0} {a b : Option (List ℕ)} {x : List ℕ} (c : Option (List ℕ)) (y : List ℕ)
+    (r : Result (Unit {0}) E) → Grows a x b → OnOk r (Grows b y c) → OnOk r (Grows a (x ++ y) c)
 last_part c y (Ok u) p q = and_then p q
 last_part c y (Err e) p q = tt
 
@@ -18,6 +19,7 @@ last_part c y (Err e) p q = tt
 pub told : {a b : Option (List ℕ)} {x y : List ℕ} → x ≡ y → Grows a x b → Grows a y b
 told {a = a} {b = b} {x = x} {y = y} e p = record { appends = subst (λ bs. Appends a b bs) e p.appends }
 
-pub last_told : {E : Type 0} (a b : Option (List ℕ)) (x y : List ℕ) (r : Result (Unit {0}) E) → x ≡ y → OnOk r (Grows a x b) → OnOk r (Grows a y b)
+pub last_told : {E : Type 0} (a b : Option (List ℕ)) (x y : List ℕ) (r : Result (Unit {0}) E) → x ≡ y
+    → OnOk r (Grows a x b) → OnOk r (Grows a y b)
 last_told a b x y (Ok u) e p = told e p
 last_told a b x y (Err f) e p = tt

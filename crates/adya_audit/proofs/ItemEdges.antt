@@ -21,14 +21,17 @@ use Rattle.adya_audit.proofs.Keys.{key_eq-true}
 use Rattle.adya_audit.proofs.Finds.{option_or-none}
 
 -- one place among the numbers
-no_place : {A : Type 0} (f : ℕ → List A) (test : ℕ → Bool) (p a n : ℕ) → ((q : ℕ) → test q ≡ (q == p)) → p < a → flat_map f (filter test (numbers a n)) ≡ []
+no_place : {A : Type 0} (f : ℕ → List A) (test : ℕ → Bool) (p a n : ℕ) → ((q : ℕ) → test q ≡ (q == p)) → p < a
+    → flat_map f (filter test (numbers a n)) ≡ []
 no_place f test p a zero same l = refl
 no_place f test p a (suc n) same l =
     let other : (a == p) ≡ false = ne_eqb a p (λ e. omega (arith, l, e)) in
-    ap (λ b. flat_map f (cond b (a ∷ filter test (numbers (suc a) n)) (filter test (numbers (suc a) n)))) (same a ∙ other) ∙
+    ap (λ b. flat_map f (cond b (a ∷ filter test (numbers (suc a) n)) (filter test (numbers (suc a) n))))
+    (same a ∙ other) ∙
     no_place f test p (suc a) n same (omega (arith, l))
 
-one_place : {A : Type 0} (f : ℕ → List A) (test : ℕ → Bool) (p a n : ℕ) → ((q : ℕ) → test q ≡ (q == p)) → a ≤ p → (a + n ≤ p → f p ≡ []) → flat_map f (filter test (numbers a n)) ≡ f p
+one_place : {A : Type 0} (f : ℕ → List A) (test : ℕ → Bool) (p a n : ℕ) → ((q : ℕ) → test q ≡ (q == p)) → a ≤ p
+    → (a + n ≤ p → f p ≡ []) → flat_map f (filter test (numbers a n)) ≡ f p
 one_place f test p a zero same l none = sym (none (omega (arith, l)))
 one_place f test p a (suc n) same l none =
     let rest = filter test (numbers (suc a) n) in
@@ -56,27 +59,34 @@ joined_to_none k t (Some x) e = absurd (cc (e))
 module _ (h : History) (t : ℕ) (r : Version) (v : List ℕ) (k : List ℕ) where
   read_edge : (p : ℕ) → read_edges h (Read t r v) k (suc p) ≡ joined Wr k (installer h k (suc p)) (Some t)
   read_edge p =
-      one_place (λ q. joined Wr k (installer h k q) (Some t)) _ (suc p) 1 (length (writers h k)) (λ q. or_false (q == suc p)) (omega arith)
+      one_place (λ q. joined Wr k (installer h k q) (Some t)) _ (suc p) 1 (length (writers h k))
+      (λ q. or_false (q == suc p)) (omega arith)
       (λ m. ap (λ o. joined Wr k o (Some t)) (no_installer h k (suc p) m))
 
-  overwrite_edge : (p : ℕ) → overwrite_edges h (Read t r v) k (suc p) ≡ joined Rw k (Some t) (installer h k (suc (suc p)))
+  overwrite_edge : (p : ℕ)
+      → overwrite_edges h (Read t r v) k (suc p) ≡ joined Rw k (Some t) (installer h k (suc (suc p)))
   overwrite_edge p =
-      one_place (λ q. joined Rw k (Some t) (installer h k q)) _ (suc (suc p)) 1 (length (writers h k)) (λ q. refl) (omega arith)
+      one_place (λ q. joined Rw k (Some t) (installer h k q)) _ (suc (suc p)) 1 (length (writers h k)) (λ q. refl)
+      (omega arith)
       (λ m. joined_to_none k t _ (no_installer h k (suc (suc p)) m))
 
 -- who stands at the first place of a number, and behind it
-by_next : (k : List ℕ) (t x : ℕ) (ws : List ℕ) → joined Wr k (slice_get ws (place ws x)) (Some t) ++ joined Rw k (Some t) (slice_get ws (suc (place ws x))) ≡ read_dependencies k t x (next_of ws x)
+by_next : (k : List ℕ) (t x : ℕ) (ws : List ℕ)
+    → joined Wr k (slice_get ws (place ws x)) (Some t) ++ joined Rw k (Some t)
+    (slice_get ws (suc (place ws x))) ≡ read_dependencies k t x (next_of ws x)
 by_next k t x [] = refl
 by_next k t x (w ∷ ws) =
     elim (cases_eq w x) [
       | inl e ↦
           let b = eq-eqb w x e in
-          ap (λ z. joined Wr k (slice_get (w ∷ ws) (cond z 0 (suc (place ws x)))) (Some t) ++ joined Rw k (Some t) (slice_get (w ∷ ws) (suc (cond z 0 (suc (place ws x)))))) b ∙
+          ap (λ z. joined Wr k (slice_get (w ∷ ws) (cond z 0 (suc (place ws x)))) (Some t) ++ joined Rw k (Some t)
+          (slice_get (w ∷ ws) (suc (cond z 0 (suc (place ws x)))))) b ∙
           (ap (λ u. joined Wr k (Some u) (Some t) ++ joined Rw k (Some t) (slice_get ws 0)) e ∙
           sym (ap (λ z. read_dependencies k t x (cond z (Some (slice_get ws 0)) (next_of ws x))) b))
       | inr e ↦
           let b = ne_eqb w x e in
-          ap (λ z. joined Wr k (slice_get (w ∷ ws) (cond z 0 (suc (place ws x)))) (Some t) ++ joined Rw k (Some t) (slice_get (w ∷ ws) (suc (cond z 0 (suc (place ws x)))))) b ∙
+          ap (λ z. joined Wr k (slice_get (w ∷ ws) (cond z 0 (suc (place ws x)))) (Some t) ++ joined Rw k (Some t)
+          (slice_get (w ∷ ws) (suc (cond z 0 (suc (place ws x)))))) b ∙
           (by_next k t x ws ∙ sym (ap (λ z. read_dependencies k t x (cond z (Some (slice_get ws 0)) (next_of ws x))) b))
     ]
 
@@ -111,7 +121,8 @@ module _ (h : History) (p : Edge → Bool) (t : ℕ) (r : Version) (v : List ℕ
       (by_next k t r.txn (writers h k) ∙
       ap (λ j. read_dependencies j t r.txn (next_of (writers h j) r.txn)) (sym (key_eq-true r.key k e)))))
 
-  over_orders : (r.txn == t) ≡ false → (os : List Order) → find p (flat_map (λ o. at_key o.key) os) ≡ cond (list_any (λ o. key_eq r.key o.key) os) (find p all) None
+  over_orders : (r.txn == t) ≡ false → (os : List Order)
+      → find p (flat_map (λ o. at_key o.key) os) ≡ cond (list_any (λ o. key_eq r.key o.key) os) (find p all) None
   over_orders other [] = refl
   over_orders other (o ∷ os) =
       let rest = over_orders other os in
@@ -131,14 +142,16 @@ module _ (h : History) (p : Edge → Bool) (t : ℕ) (r : Version) (v : List ℕ
   no_orders : (r.txn == t) ≡ true → (os : List Order) → flat_map (λ o. at_key o.key) os ≡ []
   no_orders own [] = refl
   no_orders own (o ∷ os) =
-      ap (λ es. es ++ flat_map (λ (x : Order). at_key x.key) os) (at_other o.key (and_right _ _ (ap not own))) ∙ no_orders own os
+      ap (λ es. es ++ flat_map (λ (x : Order). at_key x.key) os) (at_other o.key (and_right _ _ (ap not own))) ∙
+      no_orders own os
 
   everywhere : (b : Bool) → list_any (λ o. key_eq r.key o.key) h.orders ≡ b → cond b (find p all) None ≡ find p all
   everywhere true e = refl
   everywhere false e =
       sym (ap (λ ws. find p (read_dependencies r.key t r.txn (next_of ws r.txn))) (line_of-none r.key h.orders e))
 
-  read_is : (next : List ℕ → ℕ → Option (Option ℕ)) → next r.key r.txn ≡ next_of (writers h r.key) r.txn → find p (event_edges h (Read t r v)) ≡ find p (item_edges next (Read t r v))
+  read_is : (next : List ℕ → ℕ → Option (Option ℕ)) → next r.key r.txn ≡ next_of (writers h r.key) r.txn
+      → find p (event_edges h (Read t r v)) ≡ find p (item_edges next (Read t r v))
   read_is next e =
       elim (cases_Bool (r.txn == t)) [
         | inl own ↦
@@ -156,7 +169,8 @@ nothing [] = refl
 nothing (x ∷ xs) = nothing xs
 
 -- the first of an item event's edges
-pub find-event_edges : (h : History) (p : Edge → Bool) (next : List ℕ → ℕ → Option (Option ℕ)) → ((k : List ℕ) (x : ℕ) → next k x ≡ next_of (writers h k) x)
+pub find-event_edges : (h : History) (p : Edge → Bool) (next : List ℕ → ℕ → Option (Option ℕ))
+    → ((k : List ℕ) (x : ℕ) → next k x ≡ next_of (writers h k) x)
     → (e : EventValue) → find p (event_edges h (event_of e)) ≡ find p (item_edges next (event_of e))
 find-event_edges h p next same (In.Write t k m v) = ap (find p) (nothing h.orders)
 find-event_edges h p next same (In.Read t r v) = read_is h p t r (value_of v) next (same r.key r.txn)

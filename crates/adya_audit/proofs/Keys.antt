@@ -61,18 +61,25 @@ rise_skip k j (l ∷ ks) h =
 pub line_of-above : (k : List ℕ) (os : List Order) → keys_rise (k ∷ map (λ o. o.key) os) ≡ true → line_of os k ≡ []
 line_of-above k [] h = refl
 line_of-above k (o ∷ os) h =
-    ap (λ b. cond b o.writers (line_of os k)) (key_eq-gt o.key k (and_parts _ _ h).0) ∙ line_of-above k os (rise_skip k o.key (map (λ x. x.key) os) h)
+    ap (λ b. cond b o.writers (line_of os k)) (key_eq-gt o.key k (and_parts _ _ h).0) ∙
+    line_of-above k os (rise_skip k o.key (map (λ x. x.key) os) h)
 
-pub rise_at : {Y : Type 0} (view : Y → Order) (k : List ℕ) (ys : List Y) (i : ℕ) (y : Y) → keys_rise (k ∷ map (λ o. o.key) (map view ys)) ≡ true → i < length ys → y ≡ get_or ys i y → key_lt k (view y).key ≡ true
+pub rise_at : {Y : Type 0} (view : Y → Order) (k : List ℕ) (ys : List Y) (i : ℕ) (y : Y)
+    → keys_rise (k ∷ map (λ o. o.key) (map view ys)) ≡ true → i < length ys → y ≡ get_or ys i y
+    → key_lt k (view y).key ≡ true
 rise_at view k [] i y h l e = absurd (omega arith)
 rise_at view k (x ∷ ys) zero y h l e = ap (λ z. key_lt k (view z).key) e ∙ (and_parts _ _ h).0
-rise_at view k (x ∷ ys) (suc i) y h l e = rise_at view k ys i y (rise_skip k (view x).key (map (λ o. o.key) (map view ys)) h) (omega (arith, l)) e
+rise_at view k (x ∷ ys) (suc i) y h l e =
+    rise_at view k ys i y (rise_skip k (view x).key (map (λ o. o.key) (map view ys)) h) (omega (arith, l)) e
 
 -- each line is that of its key
-pub line_of-at : {Y : Type 0} (view : Y → Order) (ys : List Y) (i : ℕ) (y : Y) → keys_rise (map (λ o. o.key) (map view ys)) ≡ true → i < length ys → y ≡ get_or ys i y → line_of (map view ys) (view y).key ≡ (view y).writers
+pub line_of-at : {Y : Type 0} (view : Y → Order) (ys : List Y) (i : ℕ) (y : Y)
+    → keys_rise (map (λ o. o.key) (map view ys)) ≡ true → i < length ys → y ≡ get_or ys i y
+    → line_of (map view ys) (view y).key ≡ (view y).writers
 line_of-at view [] i y h l e = absurd (omega arith)
 line_of-at view (x ∷ ys) zero y h l e =
-    ap (λ b. cond b (view x).writers (line_of (map view ys) (view y).key)) (ap (λ z. key_eq (view x).key (view z).key) e ∙ key_eq-refl (view x).key) ∙ ap (λ z. (view z).writers) (sym e)
+    ap (λ b. cond b (view x).writers (line_of (map view ys) (view y).key))
+    (ap (λ z. key_eq (view x).key (view z).key) e ∙ key_eq-refl (view x).key) ∙ ap (λ z. (view z).writers) (sym e)
 line_of-at view (x ∷ ys) (suc i) y h l e =
     let below = rise_at view (view x).key ys i y h (omega (arith, l)) e in
     ap (λ b. cond b (view x).writers (line_of (map view ys) (view y).key)) (key_eq-lt (view x).key (view y).key below) ∙

@@ -23,7 +23,8 @@ of_lines ts orders = backward_in ts (flat_map (λ o. line_edges o.key o.writers)
 
 -- the first backward edge of the events
 abbrev pub of_events : List ℕ → (List ℕ → ℕ → Option (Option ℕ)) → (ℕ → Bool) → List EventValue → Option Edge
-of_events ts next found events = backward_in ts (flat_map (item_edges next) (filter (λ e. found (txn_of e)) (map event_of events)))
+of_events ts next found events =
+    backward_in ts (flat_map (item_edges next) (filter (λ e. found (txn_of e)) (map event_of events)))
 
 module _ (h : History) (ts : List ℕ) (orders : List OrderValue) (events : List EventValue)
     (lines : h.orders ≡ map order_of orders) (steps : h.events ≡ map event_of events)
@@ -44,4 +45,5 @@ module _ (h : History) (ts : List ℕ) (orders : List OrderValue) (events : List
       keeps_first ∙
       (find-append p (flat_map write_dependencies h.orders) (flat_map (event_edges h) (filter is_read h.events)) ∙
       (ap (λ o. option_or o reads) (ap (find p) by_lines) ∙
-      ap (λ o. option_or (of_lines ts orders) o) (ap (λ es. find p (flat_map (event_edges h) (filter is_read es))) steps ∙ by_events)))
+      ap (λ o. option_or (of_lines ts orders) o)
+      (ap (λ es. find p (flat_map (event_edges h) (filter is_read es))) steps ∙ by_events)))

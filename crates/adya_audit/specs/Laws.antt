@@ -16,8 +16,10 @@ pub record IsSerializableBy (h : History) (ts : List ℕ) : Type 0 where
 
 -- the verdict is yes exactly where the history and the certificate are accepted
 abbrev pub YesWhereAccepted : Type 0
-YesWhereAccepted = (h : History) (ts : List ℕ) → is_shape h.orders h.finals ≡ true → (verdict_of h ts ≡ Yes) ↔ IsAccepted h ts
+YesWhereAccepted = (h : History) (ts : List ℕ) → is_shape h.orders h.finals ≡ true
+    → (verdict_of h ts ≡ Yes) ↔ IsAccepted h ts
 
 -- an accepted history is serializable by its certificate
 abbrev pub AcceptedIsSerializable : Type 0
-AcceptedIsSerializable = (h : History) (ts : List ℕ) → is_shape h.orders h.finals ≡ true → IsAccepted h ts → IsSerializableBy h ts
+AcceptedIsSerializable = (h : History) (ts : List ℕ) → is_shape h.orders h.finals ≡ true → IsAccepted h ts
+    → IsSerializableBy h ts

@@ -35,10 +35,13 @@ abbrev pub verdict_text : Verdict → List ℕ
 verdict_text Yes = codes "yes"
 verdict_text (Syntax text line) = codes "no 1 syntax " ++ text_name text ++ codes " " ++ decimal line
 verdict_text (Malformed line rule) = codes "no 2 malformed " ++ decimal line ++ codes " " ++ rule_name rule
-verdict_text (AbortedRead line version) = codes "no 3 aborted-read " ++ decimal line ++ codes " " ++ version_name version
-verdict_text (IntermediateRead line version) = codes "no 4 intermediate-read " ++ decimal line ++ codes " " ++ version_name version
+verdict_text (AbortedRead line version) =
+    codes "no 3 aborted-read " ++ decimal line ++ codes " " ++ version_name version
+verdict_text (IntermediateRead line version) =
+    codes "no 4 intermediate-read " ++ decimal line ++ codes " " ++ version_name version
 verdict_text NotTheCommitted = codes "no 5 not-the-committed"
-verdict_text (Backward e) = codes "no 6 backward " ++ kind_name e.kind ++ codes " " ++ e.key ++ codes " " ++ decimal e.from ++ codes " " ++ decimal e.to
+verdict_text (Backward e) =
+    codes "no 6 backward " ++ kind_name e.kind ++ codes " " ++ e.key ++ codes " " ++ decimal e.from ++ codes " " ++ decimal e.to
 
 -- the text of the verdict, and a line feed
 abbrev pub verdict_line : Verdict → List ℕ

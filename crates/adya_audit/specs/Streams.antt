@@ -9,7 +9,8 @@ begins_with (x ∷ xs) (y ∷ ys) = (x == y) && begins_with xs ys
 -- how many bytes stand up to and with the first line `end`, all where there is none; whether a line starts here
 abbrev pub end_of_history : Bool → List ℕ → ℕ
 end_of_history starts [] = 0
-end_of_history starts (b ∷ bs) = if starts && begins_with (codes "end\n") (b ∷ bs) then 4 else suc (end_of_history (b == 10) bs)
+end_of_history starts (b ∷ bs) =
+    if starts && begins_with (codes "end\n") (b ∷ bs) then 4 else suc (end_of_history (b == 10) bs)
 
 -- the part of the stream that is the history, up to and with its first line `end`
 abbrev pub history_part : List ℕ → List ℕ

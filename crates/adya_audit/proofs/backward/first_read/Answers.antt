@@ -17,7 +17,8 @@ returns-in-Some c =
     let q = λ (e : Event). contains nat_cmp c.args.committed.now (txn_of e) in
     let e = c.e-item.result in
     let test : contains nat_cmp c.args.committed.now (txn_of (event_of e)) ≡ true =
-    ap (λ t. contains nat_cmp c.args.committed.now t) (sym c.txn_of.ensures) ∙ (sym c.contains.ensures ∙ c.if-contains.true) in
+    ap (λ t. contains nat_cmp c.args.committed.now t) (sym c.txn_of.ensures) ∙
+    (sym c.contains.ensures ∙ c.if-contains.true) in
     find_kept p f event_of c.args.events.now c.loop-e.e-index e c.loop-e-test.true c.e-item.is q (edge_of c.in-Some.found) test c.in-Some.ensures ∙
     sym c.loop-e.invariant
 
@@ -32,7 +33,9 @@ loop-e-preserved c =
     c.loop-e.invariant ∙
     elim c.if-contains.branch [
       | then-contains+in_default w ↦
-          find_after p f event_of c.args.events.now c.loop-e.e-index e c.loop-e-test.true c.e-item.is q (test ∙ w.if-contains.true) w.in_default.ensures
+          find_after p f event_of c.args.events.now c.loop-e.e-index e c.loop-e-test.true c.e-item.is q (test ∙
+          w.if-contains.true) w.in_default.ensures
       | else-contains w ↦
-          find_skipped p f event_of c.args.events.now c.loop-e.e-index e c.loop-e-test.true c.e-item.is q (test ∙ w.if-contains.false)
+          find_skipped p f event_of c.args.events.now c.loop-e.e-index e c.loop-e-test.true c.e-item.is q (test ∙
+          w.if-contains.false)
     ]

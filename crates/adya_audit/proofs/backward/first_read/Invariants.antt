@@ -9,5 +9,9 @@ use Rattle.adya_audit.proofs.backward.first_read.Given as goal
 
 abbrev pub invariant-loop-e : goal.invariant-loop-e
 invariant-loop-e l =
-    find (is_backward l.txns) (flat_map (item_edges (λ k x. get slot_cmp l.next (slot k x))) (filter (λ e. contains nat_cmp l.committed (txn_of e)) (map event_of l.events))) ≡
-    find (is_backward l.txns) (flat_map (item_edges (λ k x. get slot_cmp l.next (slot k x))) (filter (λ e. contains nat_cmp l.committed (txn_of e)) (map event_of (drop l.e-index l.events))))
+    find (is_backward l.txns)
+    (flat_map (item_edges (λ k x. get slot_cmp l.next (slot k x)))
+    (filter (λ e. contains nat_cmp l.committed (txn_of e)) (map event_of l.events))) ≡
+    find (is_backward l.txns)
+    (flat_map (item_edges (λ k x. get slot_cmp l.next (slot k x)))
+    (filter (λ e. contains nat_cmp l.committed (txn_of e)) (map event_of (drop l.e-index l.events))))

@@ -7,4 +7,5 @@ pub returns : goal.returns
 returns c =
     let ts = c.args.txns.now in
     c.unwrap_or.ensures ∙
-    (ap (λ o. unwrap_or o (length ts)) (c.copied.ensures ∙ (c.get.ensures.value ∙ c.requires c.args.t)) ∙ place_from_placed ts c.args.t)
+    (ap (λ o. unwrap_or o (length ts)) (c.copied.ensures ∙ (c.get.ensures.value ∙ c.requires c.args.t)) ∙
+    place_from_placed ts c.args.t)

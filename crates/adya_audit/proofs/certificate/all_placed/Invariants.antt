@@ -6,4 +6,7 @@ use Rattle.adya_audit.specs.Backward.{commit_passes}
 use Rattle.adya_audit.proofs.certificate.all_placed.Given as goal
 
 abbrev pub invariant-loop-e : goal.invariant-loop-e
-invariant-loop-e l = list_all (commit_passes (λ t. is_some (get nat_cmp l.places t))) (map event_of l.events) ≡ list_all (commit_passes (λ t. is_some (get nat_cmp l.places t))) (map event_of (drop l.e-index l.events))
+invariant-loop-e l =
+    list_all (commit_passes (λ t. is_some (get nat_cmp l.places t)))
+    (map event_of l.events) ≡ list_all (commit_passes (λ t. is_some (get nat_cmp l.places t)))
+    (map event_of (drop l.e-index l.events))

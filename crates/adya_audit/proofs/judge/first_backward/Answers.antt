@@ -44,7 +44,8 @@ returns c =
     let lines = c.first_write-found.ensures ∙ ap (of_lines ts) c.orders.ensures.value in
     let nexts : (k : List ℕ) (x : ℕ) → next k x ≡ next_of (writers h k) x =
     λ k x.
-    c.in_ok-next.ensures k x ∙ (ap (λ xs. next_in (map order_of xs) k x) c.orders-2.ensures.value ∙ next_in_is h.orders k x rise) in
+    c.in_ok-next.ensures k x ∙
+    (ap (λ xs. next_in (map order_of xs) k x) c.orders-2.ensures.value ∙ next_in_is h.orders k x rise) in
     c.first_read.ensures ∙
     (ap (of_events ts next found) c.events.ensures ∙
     sym

@@ -13,7 +13,8 @@ loop-i-preserved c =
     let step = drop_back os c.loop-i.i o (omega arith) c.loop-i.invariant.0 c.index-orders-i.is in (
       omega (arith, c.loop-i.invariant.0),
       λ k t.
-          subst (λ (xs : List OrderValue). get slot_cmp c.add_line.new.next (slot k t) ≡ next_in (map order_of xs) k t) (sym step)
+          subst (λ (xs : List OrderValue). get slot_cmp c.add_line.new.next (slot k t)
+          ≡ next_in (map order_of xs) k t) (sym step)
           (c.in_ok-add_line.ensures k t ∙
           (ap (λ ws. with_line o.key (next_of ws t) k (get slot_cmp c.loop-i.next (slot k t))) c.deref.ensures.value ∙
           ap (λ z. with_line o.key (next_of o.writers.items t) k z) (c.loop-i.invariant.1 k t))),
