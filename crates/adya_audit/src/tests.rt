@@ -1,6 +1,5 @@
 //! Verdicts on worked histories, with ample memory.
 
-use crate::judge::judge;
 use crate::*;
 use adya_terms::*;
 use std::alloc::Global;
@@ -98,7 +97,7 @@ fn write_skew(alloc: Global) -> Result<History, Fail> {
 /// The line of the verdict on the history and the certificate.
 fn line(alloc: Global, history: &History, certificate: &[u64]) -> Result<Vec<u8>, Fail> {
     let serial = Serial::new(txns(alloc, certificate)?);
-    let verdict = judge(alloc, history, &serial)?;
+    let verdict = audit(alloc, history, &serial)?;
     let mut out = Watched::new(Vec::new(alloc));
     write_verdict(&verdict, &mut out)?;
     Ok(out.into_inner())
