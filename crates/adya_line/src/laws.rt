@@ -1,10 +1,14 @@
-//! What holds of lines: the calls do nothing, and their contracts are the laws.
+//! What holds of lines: the calls change nothing, and their contracts are the laws.
 
+ghost use Rattle.std.specs.Prelude.{ℕ, ◌<◌, length};
 ghost use Rattle.adya_terms.specs.Keys.{IsTxn};
+ghost use Rattle.adya_terms.specs.Histories.{event_of, order_of, final_of};
 ghost use Rattle.adya_line.specs.Spelling.{history_head, serial_head, tail, event_text, order_text, final_text, txn_text};
 ghost use Rattle.adya_line.specs.Limits.{IsEvent, IsOrder, IsFinal};
 ghost use Rattle.adya_line.specs.Reading.{event_at, order_at, final_at, txn_at_line};
 ghost use Rattle.adya_line.specs.Laws.{IsReaderOf, IsOneText, Excludes, ExcludesLine, IsPlain, HasPlainTexts};
+
+use adya_terms::{Event, FinalPair, Order};
 
 /// The lines of events are the texts of the events within their limits.
 pub fn event_lines()
@@ -70,3 +74,49 @@ pub fn no_line_feeds()
     ensures serial_head { IsPlain serial_head }
     ensures tail { IsPlain tail }
 {}
+
+/// Each event is within its limits.
+pub fn event_within(event: &Event)
+    ensures { IsEvent (event_of event.now) }
+{
+    match event {
+        Event::Write { txn, key, m, value } => {
+            let _ = txn.get();
+            let _ = key.bytes();
+            let _ = m.get();
+            let _ = value.bytes();
+        }
+        Event::Read {
+            txn,
+            version,
+            value,
+        } => {
+            let _ = txn.get();
+            let _ = version.key.bytes();
+            let _ = version.txn.get();
+            let _ = version.m.get();
+            let _ = value.bytes();
+        }
+        Event::Commit { txn } | Event::Abort { txn } => {
+            let _ = txn.get();
+        }
+    }
+}
+
+/// Each order that has a writer is within its limits.
+pub fn order_within(order: &Order)
+    ensures { 0 < length order.now.writers.items → IsOrder (order_of order.now) }
+{
+    let _ = order.key.bytes();
+    for txn in &order.writers {
+        let _ = txn.get();
+    }
+}
+
+/// Each final is within its limits.
+pub fn final_within(pair: &FinalPair)
+    ensures { IsFinal (final_of pair.now) }
+{
+    let _ = pair.key.bytes();
+    let _ = pair.value.bytes();
+}

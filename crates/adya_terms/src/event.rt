@@ -1,5 +1,9 @@
 //! Events.
 
+ghost use Rattle.std.specs.Prelude.{◌≡◌};
+ghost use Rattle.adya_terms.specs.Histories.{event_of};
+ghost use Rattle.adya_terms.specs.Events.{txn_of};
+
 use crate::{Key, Mod, Txn, Value};
 
 /// What a transaction made of a key by one of its writes (Adya 1999, section 3.1: an object version).
@@ -37,4 +41,18 @@ pub enum Event {
     Abort {
         txn: Txn,
     },
+}
+
+impl Event {
+    /// Whose event it is.
+    pub fn txn(&self) -> Txn
+        ensures { result ≡ txn_of (event_of self.now) }
+    {
+        match *self {
+            Event::Write { txn, .. } => txn,
+            Event::Read { txn, .. } => txn,
+            Event::Commit { txn } => txn,
+            Event::Abort { txn } => txn,
+        }
+    }
 }

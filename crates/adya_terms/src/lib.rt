@@ -1,19 +1,28 @@
 //! The values of transaction histories: keys, values, versions, events, histories and certificates.
 #![tactic(auto)]
 
+mod checked;
 mod event;
 mod fault;
+mod finals;
 mod history;
 mod key;
 pub mod laws;
+mod listed;
 mod number;
 mod order;
 mod padded;
+mod reads;
+mod rules;
 mod serial;
 mod source;
+mod tables;
+#[cfg(test)]
+mod tests;
 mod value;
 mod watched;
 
+pub use checked::Checked;
 pub use event::{Event, Version};
 pub use fault::{CheckFault, Rule};
 pub use history::{BadShape, History};

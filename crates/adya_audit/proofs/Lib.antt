@@ -1,0 +1,12 @@
+pub mod Keys
+pub mod Steps
+pub mod Placing
+pub mod Lines
+pub mod Committing
+pub mod Counts
+pub mod Finds
+pub mod Writes
+pub mod ItemEdges
+pub mod Whole
+pub mod Growth
+pub mod Accepting

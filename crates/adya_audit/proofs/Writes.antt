@@ -1,0 +1,43 @@
+-- The write dependencies of a key are those of its line.
+use Rattle.std.proofs.Common.{◌≡◌, ℕ, zero, suc, ◌+◌, ◌<◌, Bool, true, List, [], ◌∷◌, ◌++◌, map, length, get_or, Option, Some, slice_get, flat_map, refl, sym, ◌∙◌, ap, arith}
+use Rattle.adya_terms.specs.declared.order.Order.{Order as OrderValue}
+use Rattle.adya_terms.specs.Keys.{keys_rise}
+use Rattle.adya_terms.specs.Histories.{Order, History, order_of}
+use Rattle.adya_terms.specs.Orders.{writers, line_of, installer}
+use Rattle.adya_terms.specs.Edges.{Ww, Edge}
+use Rattle.adya_terms.specs.EdgeList.{numbers, joined, write_edges}
+use Rattle.adya_audit.specs.Backward.{line_edges}
+use Rattle.adya_audit.proofs.Keys.{line_of-at}
+use Rattle.adya_audit.proofs.Finds.{flat_map_same}
+
+from_numbers : (k : List ℕ) (f : ℕ → Option ℕ) (ws : List ℕ) (a : ℕ)
+    → ((j q : ℕ) → q ≡ j + a → f q ≡ slice_get ws j)
+    → flat_map (λ q. joined Ww k (f q) (f (suc q))) (numbers a (length ws)) ≡ line_edges k ws
+from_numbers k f [] a h = refl
+from_numbers k f (x ∷ ws) a h =
+    let here : f a ≡ Some x = h 0 a (omega arith) in
+    let next : f (suc a) ≡ slice_get ws 0 = h 1 (suc a) (omega arith) in
+    ap (λ o. joined Ww k o (f (suc a)) ++ flat_map (λ q. joined Ww k (f q) (f (suc q)))
+    (numbers (suc a) (length ws))) here ∙
+    (ap (λ o. joined Ww k (Some x) o ++ flat_map (λ q. joined Ww k (f q) (f (suc q)))
+    (numbers (suc a) (length ws))) next ∙
+    ap (λ es. joined Ww k (Some x) (slice_get ws 0) ++ es)
+    (from_numbers k f ws (suc a) (λ j q e. h (suc j) q (omega (arith, e)))))
+
+installed : (h : History) (k : List ℕ) (j q : ℕ) → q ≡ j + 1 → installer h k q ≡ slice_get (writers h k) j
+installed h k j zero e = absurd (omega (arith, e))
+installed h k j (suc q) e = let same : q ≡ j = omega (arith, e) in ap (slice_get (writers h k)) same
+
+pub write_edges_is : (h : History) (k : List ℕ) → write_edges h k ≡ line_edges k (writers h k)
+write_edges_is h k = from_numbers k (installer h k) (writers h k) 1 (installed h k)
+
+-- where the keys rise, line by line
+pub all_write_edges : (h : History) (ys : List OrderValue) → h.orders ≡ map order_of ys
+    → keys_rise (map (λ o. o.key) (map order_of ys)) ≡ true
+    → flat_map (λ o. write_edges h o.key) (map order_of ys) ≡ flat_map (λ o. line_edges o.key o.writers)
+    (map order_of ys)
+all_write_edges h ys same rise =
+    flat_map_same (λ o. write_edges h o.key) (λ o. line_edges o.key o.writers) order_of ys (λ i y l e.
+    write_edges_is h (order_of y).key ∙
+    ap (line_edges (order_of y).key)
+    (ap (λ os. line_of os (order_of y).key) same ∙ line_of-at order_of ys i y rise l e))

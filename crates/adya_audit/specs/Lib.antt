@@ -1,0 +1,11 @@
+pub mod Edges
+pub mod Verdicts
+pub mod Places
+pub mod Committed
+pub mod Next
+pub mod Backward
+pub mod Growing
+pub mod Output
+pub mod Streams
+pub mod Laws
+pub mod TextVerdicts

@@ -1,0 +1,44 @@
+//! The verdict on a history and a certificate.
+
+ghost use Rattle.std.specs.Prelude.{◌≡◌, ◌↔◌, IfOk, Ok};
+ghost use Rattle.adya_terms.specs.Values.{history_of};
+ghost use Rattle.adya_terms.specs.Acceptance.{IsAccepted};
+ghost use Rattle.adya_audit.specs.Verdicts.{plain_verdict, verdict_of};
+ghost use Rattle.adya_audit.specs.Laws.{IsSerializableBy};
+
+use crate::Verdict;
+use crate::judge::judge;
+use crate::laws::{accepted_is_serializable, yes_where_accepted};
+use adya_terms::{CheckFault, Checked, History, Serial};
+use std::alloc::{AllocError, Global};
+
+/// The verdict on a history and a certificate: the first fault of the history, in the order of the kinds, else that
+/// the certificate doesn't list the committed transactions, else the first edge that goes backward, else yes.
+/// `AllocError` where memory ran out, and then nothing is said of either.
+pub fn audit(alloc: Global, history: &History, serial: &Serial) -> Result<Verdict, AllocError>
+    ensures verdict { IfOk result (λ v. plain_verdict v ≡ verdict_of (history_of history.now) serial.now.txns.items) }
+    ensures yes { IfOk result (λ v. (v ≡ Verdict.Yes) ↔ IsAccepted (history_of history.now) serial.now.txns.items) }
+    ensures promise { result ≡ Ok Verdict.Yes → IsSerializableBy (history_of history.now) serial.now.txns.items }
+{
+    yes_where_accepted();
+    accepted_is_serializable();
+    verdict(alloc, history, serial)
+}
+
+fn verdict(alloc: Global, history: &History, serial: &Serial) -> Result<Verdict, AllocError>
+    ensures { IfOk result (λ v. plain_verdict v ≡ verdict_of (history_of history.now) serial.now.txns.items) }
+{
+    match Checked::of(alloc, history) {
+        Ok(_) => judge(alloc, history, serial),
+        Err(CheckFault::Malformed { line, rule }) => Ok(Verdict::Malformed { line, rule }),
+        Err(CheckFault::AbortedRead { line, version }) => Ok(Verdict::AbortedRead {
+            line,
+            version,
+        }),
+        Err(CheckFault::IntermediateRead { line, version }) => Ok(Verdict::IntermediateRead {
+            line,
+            version,
+        }),
+        Err(CheckFault::Memory) => Err(AllocError),
+    }
+}

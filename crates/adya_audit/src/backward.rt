@@ -1,0 +1,172 @@
+//! The first edge that doesn't go forward along a certificate.
+
+ghost use Rattle.std.specs.Prelude.{◌≡◌, Some, option_map, flat_map, filter, map};
+ghost use Rattle.std.specs.Ordering.{nat_cmp};
+ghost use Rattle.std.specs.BTreeSet.{contains};
+ghost use Rattle.adya_terms.specs.Histories.{event_of, order_of};
+ghost use Rattle.adya_terms.specs.Events.{txn_of};
+ghost use Rattle.adya_terms.specs.Orders.{place};
+ghost use Rattle.adya_terms.specs.EdgeList.{joined};
+ghost use Rattle.adya_audit.specs.Edges.{kind_of, edge_of};
+ghost use Rattle.adya_audit.specs.Places.{HasPlaces};
+ghost use Rattle.adya_audit.specs.Next.{next_by};
+ghost use Rattle.adya_audit.specs.Backward.{backward_in, line_edges, read_dependencies, item_edges};
+
+use crate::next::Slot;
+use crate::{Edge, Kind};
+use adya_terms::{Event, Key, Order, Txn, Version};
+use std::collections::{BTreeMap, BTreeSet};
+
+fn place(places: &BTreeMap<Txn, usize>, txns: &[Txn], t: Txn) -> usize
+    requires { HasPlaces places.now txns.now }
+    ensures { result ≡ place txns.now t }
+{
+    places.get(&t).copied().unwrap_or(txns.len())
+}
+
+/// The edge, if it joins two transactions and doesn't go forward.
+fn if_backward(places: &BTreeMap<Txn, usize>, txns: &[Txn], edge: Edge) -> Option<Edge>
+    requires { HasPlaces places.now txns.now }
+    ensures { option_map edge_of result
+        ≡ backward_in txns.now (joined (kind_of edge.kind) edge.key (Some edge.from) (Some edge.to)) }
+{
+    if edge.from == edge.to || place(places, txns, edge.from) < place(places, txns, edge.to) {
+        return None;
+    }
+    Some(edge)
+}
+
+fn first_in_line(
+    places: &BTreeMap<Txn, usize>,
+    txns: &[Txn],
+    key: Key,
+    writers: &[Txn],
+) -> Option<Edge>
+    requires { HasPlaces places.now txns.now }
+    ensures { option_map edge_of result ≡ backward_in txns.now (line_edges key writers.now) }
+{
+    let [first, rest @ ..] = writers else {
+        return None;
+    };
+    let mut last = *first;
+    for to in rest {
+        let edge = Edge {
+            from: last,
+            kind: Kind::Ww,
+            key,
+            to: *to,
+        };
+        if let Some(found) = if_backward(places, txns, edge) {
+            return Some(found);
+        }
+        last = *to;
+    }
+    None
+}
+
+/// The first write dependency that doesn't go forward.
+pub(crate) fn first_write(
+    places: &BTreeMap<Txn, usize>,
+    txns: &[Txn],
+    orders: &[Order],
+) -> Option<Edge>
+    requires { HasPlaces places.now txns.now }
+    ensures { option_map edge_of result
+        ≡ backward_in txns.now (flat_map (λ o. line_edges o.key o.writers) (map order_of orders.now)) }
+{
+    for o in orders {
+        if let Some(found) = first_in_line(places, txns, o.key, &o.writers) {
+            return Some(found);
+        }
+    }
+    None
+}
+
+fn first_of_read(
+    places: &BTreeMap<Txn, usize>,
+    txns: &[Txn],
+    next: &BTreeMap<Slot, Option<Txn>>,
+    txn: Txn,
+    version: Version,
+) -> Option<Edge>
+    requires { HasPlaces places.now txns.now }
+    ensures { option_map edge_of result
+        ≡ backward_in txns.now (read_dependencies version.key txn version.txn (next_by next.now version.key version.txn)) }
+{
+    let key = version.key;
+    let after = *next.get(&Slot {
+        key,
+        txn: version.txn,
+    })?;
+    let read = Edge {
+        from: version.txn,
+        kind: Kind::Wr,
+        key,
+        to: txn,
+    };
+    if let Some(found) = if_backward(places, txns, read) {
+        return Some(found);
+    }
+    let overwrite = Edge {
+        from: txn,
+        kind: Kind::Rw,
+        key,
+        to: after?,
+    };
+    if_backward(places, txns, overwrite)
+}
+
+fn first_of_event(
+    places: &BTreeMap<Txn, usize>,
+    txns: &[Txn],
+    next: &BTreeMap<Slot, Option<Txn>>,
+    e: &Event,
+) -> Option<Edge>
+    requires { HasPlaces places.now txns.now }
+    ensures { option_map edge_of result
+        ≡ backward_in txns.now (item_edges (next_by next.now) (event_of e.now)) }
+{
+    match e {
+        Event::Read { txn, version, .. } => {
+            if version.txn == *txn {
+                return None;
+            }
+            first_of_read(places, txns, next, *txn, *version)
+        }
+        _ => None,
+    }
+}
+
+fn txn_of(e: &Event) -> Txn
+    ensures { result ≡ txn_of (event_of e.now) }
+{
+    match e {
+        Event::Write { txn, .. } => *txn,
+        Event::Read { txn, .. } => *txn,
+        Event::Commit { txn } => *txn,
+        Event::Abort { txn } => *txn,
+    }
+}
+
+/// The first read dependency or anti-dependency that doesn't go forward.
+pub(crate) fn first_read(
+    places: &BTreeMap<Txn, usize>,
+    txns: &[Txn],
+    committed: &BTreeSet<Txn>,
+    next: &BTreeMap<Slot, Option<Txn>>,
+    events: &[Event],
+) -> Option<Edge>
+    requires { HasPlaces places.now txns.now }
+    ensures { option_map edge_of result
+        ≡ backward_in txns.now (flat_map (item_edges (next_by next.now))
+        (filter (λ e. contains nat_cmp committed.now (txn_of e)) (map event_of events.now))) }
+{
+    for e in events {
+        if committed.contains(&txn_of(e)) {
+            if let Some(found) = first_of_event(places, txns, next, e) {
+                return Some(found);
+            }
+        }
+    }
+    None
+}
