@@ -54,60 +54,73 @@ after_unfailed TailLine = refl
 
 -- ---- what the lines begin
 
-joined : (s : Stage) (lines : List (List ℕ)) (ys : List Line) → HasLines s lines → AllByRecursion IsLine ys → Run s ys → end s ys ≡ Done → Begins AreHistoryLines lines
+joined : (s : Stage) (lines : List (List ℕ)) (ys : List Line) → HasLines s lines → AllByRecursion IsLine ys → Run s ys
+    → end s ys ≡ Done → Begins AreHistoryLines lines
 joined s lines ys front goods runs ends = record {
   more = map line_text ys;
   within = are_lines _ (run_join allows stage_after line_text IsLine Head s Done lines ys front goods runs ends);
 }
 
-run_begins : (s : Stage) (lines : List (List ℕ)) → is_failed s ≡ false → HasLines s lines → Begins AreHistoryLines lines
-run_begins Head lines is front = joined Head lines (HeadLine ∷ TailLine ∷ []) front (tt, (tt, tt)) (refl, (refl, tt)) refl
+run_begins : (s : Stage) (lines : List (List ℕ)) → is_failed s ≡ false → HasLines s lines
+    → Begins AreHistoryLines lines
+run_begins Head lines is front =
+    joined Head lines (HeadLine ∷ TailLine ∷ []) front (tt, (tt, tt)) (refl, (refl, tt)) refl
 run_begins Events lines is front = joined Events lines (TailLine ∷ []) front (tt, tt) (refl, tt) refl
 run_begins (Orders last) lines is front = joined (Orders last) lines (TailLine ∷ []) front (tt, tt) (refl, tt) refl
 run_begins (Finals last) lines is front = joined (Finals last) lines (TailLine ∷ []) front (tt, tt) (refl, tt) refl
 run_begins Done lines is front = joined Done lines [] front tt tt refl
 run_begins (Failed k) lines is front = absurd cc
 
-run_stops : (s : Stage) (lines : List (List ℕ)) (l : List ℕ) → HasLines s lines → IsRefused s l → Begins AreHistoryLines (lines ++ l ∷ []) → ⊥
+run_stops : (s : Stage) (lines : List (List ℕ)) (l : List ℕ) → HasLines s lines → IsRefused s l
+    → Begins AreHistoryLines (lines ++ l ∷ []) → ⊥
 run_stops s lines l front none b =
     let (h, is, whole) = b.within in
     let longer : lines ++ l ∷ b.more ≡ history_lines h = sym (append_assoc lines (l ∷ []) b.more) ∙ whole in
     let run : HasLines Done (lines ++ l ∷ b.more) = rw longer (run_of h is) in
-    refused allows stage_after line_text IsLine lines_tell Head s Done lines l b.more front run (λ x good same ok. none x (record { good = good; same = sym same }) ok)
+    refused allows stage_after line_text IsLine lines_tell Head s Done lines l b.more front run
+    (λ x good same ok. none x (record { good = good; same = sym same }) ok)
 
-pub fed_begins : (r : HistoryReader) (past : List (List ℕ)) → IsFed r past → is_failed r.stage ≡ false → Begins AreHistoryLines past
+pub fed_begins : (r : HistoryReader) (past : List (List ℕ)) → IsFed r past → is_failed r.stage ≡ false
+    → Begins AreHistoryLines past
 fed_begins r past fed going = run_begins r.stage past going (fed.taken going).run
 
-pub fed_stops : (r : HistoryReader) (past : List (List ℕ)) → IsFed r past → is_failed r.stage ≡ true → Begins AreHistoryLines past → ⊥
+pub fed_stops : (r : HistoryReader) (past : List (List ℕ)) → IsFed r past → is_failed r.stage ≡ true
+    → Begins AreHistoryLines past → ⊥
 fed_stops r past fed failed b =
     let (k, is) = failed_at r.stage failed in
     let (within, fault) = fed.faulty k is in
     fault_stops AreHistoryLines past k within fault b
 
-pub fed_done : (r : HistoryReader) (past : List (List ℕ)) → IsFed r past → is_done r.stage ≡ true → AreHistoryLines past
+pub fed_done : (r : HistoryReader) (past : List (List ℕ)) → IsFed r past → is_done r.stage ≡ true
+    → AreHistoryLines past
 fed_done r past fed done =
     let is = done_is r.stage done in
     let going : is_failed r.stage ≡ false = ap is_failed is in
     are_lines past (rw is at (fed.taken going).run)
 
-pub fed_undone : (r : HistoryReader) (past : List (List ℕ)) → IsFed r past → is_done r.stage ≡ false → AreHistoryLines past → ⊥
+pub fed_undone : (r : HistoryReader) (past : List (List ℕ)) → IsFed r past → is_done r.stage ≡ false
+    → AreHistoryLines past → ⊥
 fed_undone r past fed undone (h, is, whole) = by_failed (is_failed r.stage) refl
   where
     by_failed : (b : Bool) → is_failed r.stage ≡ b → ⊥
     by_failed true failed = fed_stops r past fed failed (whole_begins AreHistoryLines past (h, is, whole))
     by_failed false going =
         let run : HasLines Done past = rw whole (run_of h is) in
-        let same : r.stage ≡ Done = one_end allows stage_after line_text IsLine lines_tell Head r.stage Done past (fed.taken going).run run in
+        let same : r.stage ≡ Done =
+        one_end allows stage_after line_text IsLine lines_tell Head r.stage Done past (fed.taken going).run run in
         let done : is_done r.stage ≡ true = ap is_done same in
         absurd cc
 
 -- ---- one line more
 
 more_in : {X Y : Type 0} (v : X → Y) (h : Line → Option Y) (old new : List X) (items : List Line) (x : Line)
-    → map v old ≡ filter_map h items → map v new ≡ map v old ++ filter_map h (x ∷ []) → map v new ≡ filter_map h (items ++ x ∷ [])
-more_in v h old new items x before step = step ∙ ap (λ r. r ++ filter_map h (x ∷ [])) before ∙ sym (filter_map-append h items (x ∷ []))
+    → map v old ≡ filter_map h items → map v new ≡ map v old ++ filter_map h (x ∷ [])
+    → map v new ≡ filter_map h (items ++ x ∷ [])
+more_in v h old new items x before step = step ∙ ap (λ r. r ++ filter_map h (x ∷ [])) before
+    ∙ sym (filter_map-append h items (x ∷ []))
 
-pub fed_taken : (old new : HistoryReader) (past : List (List ℕ)) (text : List ℕ) (x : Line) → IsFed old past → is_failed old.stage ≡ false → IsAllowed old.stage text x → Takes old new x → IsFed new (past ++ text ∷ [])
+pub fed_taken : (old new : HistoryReader) (past : List (List ℕ)) (text : List ℕ) (x : Line) → IsFed old past
+    → is_failed old.stage ≡ false → IsAllowed old.stage text x → Takes old new x → IsFed new (past ++ text ∷ [])
 unfolding taken
 fed_taken old new past text x fed going allowed takes = record {
   taken = λ still.
@@ -132,7 +145,9 @@ fed_taken old new past text x fed going allowed takes = record {
       absurd cc;
 }
 
-pub fed_refused : (old new : HistoryReader) (past : List (List ℕ)) (text : List ℕ) → IsFed old past → is_failed old.stage ≡ false → IsRefused old.stage text → new.stage ≡ Failed old.next → IsFed new (past ++ text ∷ [])
+pub fed_refused : (old new : HistoryReader) (past : List (List ℕ)) (text : List ℕ) → IsFed old past
+    → is_failed old.stage ≡ false → IsRefused old.stage text → new.stage ≡ Failed old.next
+    → IsFed new (past ++ text ∷ [])
 fed_refused old new past text fed going none is = record {
   taken = λ still. let failed : is_failed new.stage ≡ true = ap is_failed is in absurd cc;
   faulty = λ k at.
@@ -140,11 +155,13 @@ fed_refused old new past text fed going none is = record {
       let run = t.run in
       let here : Failed k ≡ Failed old.next = sym at ∙ is in
       let line : k ≡ suc (length past) = cc in
-      let fault = fault_at AreHistoryLines past text (run_begins old.stage past going run) (run_stops old.stage past text run none) in
+      let fault = fault_at AreHistoryLines past text (run_begins old.stage past going run)
+      (run_stops old.stage past text run none) in
       (omega (arith, length-append past (text ∷ [])), rw line fault);
 }
 
-pub fed_failed : (r : HistoryReader) (past : List (List ℕ)) (text : List ℕ) → IsFed r past → is_failed r.stage ≡ true → IsFed r (past ++ text ∷ [])
+pub fed_failed : (r : HistoryReader) (past : List (List ℕ)) (text : List ℕ) → IsFed r past → is_failed r.stage ≡ true
+    → IsFed r (past ++ text ∷ [])
 fed_failed r past text fed failed = record {
   taken = λ still. absurd cc;
   faulty = λ k is.
@@ -157,7 +174,14 @@ fed_kept old new past fed kept = record {
   taken = λ still.
       let t = fed.taken (ap is_failed (sym kept.stage) ∙ still) in
       record {
-        run = record { items = t.run.items; goods = t.run.goods; runs = t.run.runs; ends = t.run.ends ∙ sym kept.stage; same = t.run.same };
+        run = record {
+          items = t.run.items;
+          goods = t.run.goods;
+          runs = t.run.runs;
+          ends = t.run.ends
+              ∙ sym kept.stage;
+          same = t.run.same;
+        };
         events = ap (map event_of) kept.events ∙ t.events;
         orders = ap (map order_of) kept.orders ∙ t.orders;
         finals = ap (map final_of) kept.finals ∙ t.finals;
@@ -168,7 +192,8 @@ fed_kept old new past fed kept = record {
 
 -- ---- at the end
 
-pub failed_fault : (r : HistoryReader) (past : List (List ℕ)) (text rest : List ℕ) (k : ℕ) → IsFed r past → r.stage ≡ Failed k → IsCut text past rest → IsFaultLine AreHistoryLines text k
+pub failed_fault : (r : HistoryReader) (past : List (List ℕ)) (text rest : List ℕ) (k : ℕ) → IsFed r past
+    → r.stage ≡ Failed k → IsCut text past rest → IsFaultLine AreHistoryLines text k
 failed_fault r past text rest k fed is cut =
     let (within, fault) = fed.faulty k is in
     record {
@@ -179,7 +204,9 @@ failed_fault r past text rest k fed is cut =
       first = fault;
     }
 
-pub missing_fault : (r : HistoryReader) (past : List (List ℕ)) (text rest : List ℕ) → IsFed r past → is_failed r.stage ≡ false → (is_done r.stage ≡ true → rest ≡ [] → ⊥) → IsCut text past rest → IsFaultLine AreHistoryLines text r.next
+pub missing_fault : (r : HistoryReader) (past : List (List ℕ)) (text rest : List ℕ) → IsFed r past
+    → is_failed r.stage ≡ false → (is_done r.stage ≡ true → rest ≡ [] → ⊥) → IsCut text past rest
+    → IsFaultLine AreHistoryLines text r.next
 missing_fault r past text rest fed going none cut = record {
   lines = past;
   rest = rest;
@@ -203,7 +230,8 @@ in_events h = events_front h.events h.orders h.finals
     orders_none [] fs = finals_none fs
     orders_none (o ∷ os) fs = orders_none os fs
 
-    events_front : (es : List Event) (os : List Order) (fs : List FinalPair) → filter_map event_in (event_items es os fs) ≡ es
+    events_front : (es : List Event) (os : List Order) (fs : List FinalPair)
+        → filter_map event_in (event_items es os fs) ≡ es
     events_front [] os fs = orders_none os fs
     events_front (e ∷ es) os fs = ap (λ (r : List Event). e ∷ r) (events_front es os fs)
 
@@ -218,7 +246,8 @@ in_orders h = events_none h.events h.orders h.finals
     orders_front [] fs = finals_none fs
     orders_front (o ∷ os) fs = ap (λ (r : List Order). o ∷ r) (orders_front os fs)
 
-    events_none : (es : List Event) (os : List Order) (fs : List FinalPair) → filter_map order_in (event_items es os fs) ≡ os
+    events_none : (es : List Event) (os : List Order) (fs : List FinalPair)
+        → filter_map order_in (event_items es os fs) ≡ os
     events_none [] os fs = orders_front os fs
     events_none (e ∷ es) os fs = events_none es os fs
 
@@ -233,7 +262,8 @@ in_finals h = events_none h.events h.orders h.finals
     orders_none [] fs = finals_front fs
     orders_none (o ∷ os) fs = orders_none os fs
 
-    events_none : (es : List Event) (os : List Order) (fs : List FinalPair) → filter_map final_in (event_items es os fs) ≡ fs
+    events_none : (es : List Event) (os : List Order) (fs : List FinalPair)
+        → filter_map final_in (event_items es os fs) ≡ fs
     events_none [] os fs = orders_none os fs
     events_none (e ∷ es) os fs = events_none es os fs
 
@@ -245,7 +275,8 @@ record IsHeld (r : HistoryReader) (past : List (List ℕ)) (h : History) : Type 
   orders : map order_of r.orders.items ≡ h.orders
   finals : map final_of r.finals.items ≡ h.finals
 
-held_in : (r : HistoryReader) (past : List (List ℕ)) → IsTaken r past → r.stage ≡ Done → (h : History) × IsHeld r past h
+held_in : (r : HistoryReader) (past : List (List ℕ)) → IsTaken r past → r.stage ≡ Done
+    → (h : History) × IsHeld r past h
 held_in r past t done =
     let held = held_by t.run.items t.run.goods t.run.runs (t.run.ends ∙ done) in
     let h = held.history in (
@@ -266,14 +297,17 @@ some_writers (o ∷ os) goods = both_true (some o goods.0.some) (some_writers os
     some : (o : Order) → 0 < length o.writers → not (length o.writers == 0) ≡ true
     some o more = grind (arith, nat_tests)
 
-pub fed_shape : (r : HistoryReader) (past : List (List ℕ)) → IsFed r past → is_done r.stage ≡ true → is_shape (map order_of r.orders.items) (map final_of r.finals.items) ≡ true
+pub fed_shape : (r : HistoryReader) (past : List (List ℕ)) → IsFed r past → is_done r.stage ≡ true
+    → is_shape (map order_of r.orders.items) (map final_of r.finals.items) ≡ true
 fed_shape r past fed done =
     let at = done_is r.stage done in
     let going : is_failed r.stage ≡ false = ap is_failed at in
     let (h, held) = held_in r past (fed.taken going) at in
-    rw (held.orders, held.finals) (both_true (both_true (some_writers h.orders held.is.orders) held.is.orders_rise) held.is.finals_rise)
+    rw (held.orders, held.finals)
+    (both_true (both_true (some_writers h.orders held.is.orders) held.is.orders_rise) held.is.finals_rise)
 
-pub fed_history : (r : HistoryReader) (past : List (List ℕ)) (text rest : List ℕ) (v : HistoryValue) → IsFed r past → is_done r.stage ≡ true → rest ≡ [] → IsCut text past rest
+pub fed_history : (r : HistoryReader) (past : List (List ℕ)) (text rest : List ℕ) (v : HistoryValue) → IsFed r past
+    → is_done r.stage ≡ true → rest ≡ [] → IsCut text past rest
     → v.events ≡ r.events → v.orders ≡ r.orders → v.finals ≡ r.finals → ReadsHistory text (Ok v)
 fed_history r past text rest v fed done empty cut es os fs =
     let at = done_is r.stage done in
@@ -282,21 +316,33 @@ fed_history r past text rest v fed done empty cut es os fs =
     let same_events : map event_of v.events.items ≡ h.events = ap (λ vs. map event_of vs.items) es ∙ held.events in
     let same_orders : map order_of v.orders.items ≡ h.orders = ap (λ vs. map order_of vs.items) os ∙ held.orders in
     let same_finals : map final_of v.finals.items ≡ h.finals = ap (λ vs. map final_of vs.items) fs ∙ held.finals in
-    let same : history_of v ≡ h = λ i. record { edition = sym held.is.edition i; events = same_events i; unfinished = sym held.is.unfinished i; orders = same_orders i; finals = same_finals i } in
-    let whole : text ≡ history_text h = cut.whole ∙ ap (λ (l : List ℕ). with_ends past ++ l) empty ∙ append-nil (with_ends past) ∙ ap with_ends held.lines in
+    let same : history_of v ≡ h =
+    λ i. record {
+      edition = sym held.is.edition i;
+      events = same_events i;
+      unfinished =
+          sym held.is.unfinished i;
+      orders = same_orders i;
+      finals = same_finals i;
+    } in
+    let whole : text ≡ history_text h = cut.whole ∙ ap (λ (l : List ℕ). with_ends past ++ l) empty
+    ∙ append-nil (with_ends past) ∙ ap with_ends held.lines in
     (subst IsHistory (sym same) held.is, whole ∙ ap history_text (sym same))
 
 -- ---- the answers of the reader
 
-pub begins_unless : (r : HistoryReader) (b : Bool) → b ≡ is_failed r.stage → OnFalse b ((past : List (List ℕ)) → IsFed r past → Begins AreHistoryLines past)
+pub begins_unless : (r : HistoryReader) (b : Bool) → b ≡ is_failed r.stage
+    → OnFalse b ((past : List (List ℕ)) → IsFed r past → Begins AreHistoryLines past)
 begins_unless r true is = tt
 begins_unless r false is = λ past fed. fed_begins r past fed (sym is)
 
-pub stops_if : (r : HistoryReader) (b : Bool) → b ≡ is_failed r.stage → OnTrue b ((past : List (List ℕ)) → IsFed r past → Begins AreHistoryLines past → ⊥)
+pub stops_if : (r : HistoryReader) (b : Bool) → b ≡ is_failed r.stage
+    → OnTrue b ((past : List (List ℕ)) → IsFed r past → Begins AreHistoryLines past → ⊥)
 stops_if r true is = λ past fed. fed_stops r past fed (sym is)
 stops_if r false is = tt
 
-pub done_iff : (r : HistoryReader) (b : Bool) → b ≡ is_done r.stage → (past : List (List ℕ)) → IsFed r past → IsTrue b ↔ AreHistoryLines past
+pub done_iff : (r : HistoryReader) (b : Bool) → b ≡ is_done r.stage → (past : List (List ℕ)) → IsFed r past
+    → IsTrue b ↔ AreHistoryLines past
 done_iff r true is past fed = (λ t. fed_done r past fed (sym is), λ are. refl)
 done_iff r false is past fed = (λ t. absurd cc, λ are. absurd (fed_undone r past fed (sym is) are))
 
@@ -306,7 +352,8 @@ refused_by s text y here never x there ok =
     let allowed : allows s y ≡ true = ap (allows s) (sym same) ∙ ok in
     absurd cc
 
-pub fault_is : (text : List ℕ) (k : ℕ) (fault : ReadFault) → fault ≡ Syntax Of.History k → IsFaultLine AreHistoryLines text k → ReadsHistory text (Err fault)
+pub fault_is : (text : List ℕ) (k : ℕ) (fault : ReadFault) → fault ≡ Syntax Of.History k
+    → IsFaultLine AreHistoryLines text k → ReadsHistory text (Err fault)
 fault_is text k fault is line = subst (λ (f : ReadFault). ReadsHistory text (Err f)) (sym is) line
 
 pub unfailed : (s : Stage) → ((k : ℕ) → s ≡ Failed k → ⊥) → is_failed s ≡ false
@@ -317,11 +364,13 @@ unfailed (Orders last) none = refl
 unfailed (Finals last) none = refl
 unfailed Done none = refl
 
-pub kept_on_err : {T E : Type 0} (result : Result T E) (old new : HistoryReader) → IsKept old new → OnErr result ((past : List (List ℕ)) → IsFed old past → IsFed new past)
+pub kept_on_err : {T E : Type 0} (result : Result T E) (old new : HistoryReader) → IsKept old new
+    → OnErr result ((past : List (List ℕ)) → IsFed old past → IsFed new past)
 kept_on_err (Ok x) old new kept = tt
 kept_on_err (Err e) old new kept = λ past fed. fed_kept old new past fed kept
 
-pub fed_none : (r : HistoryReader) → r.stage ≡ Head → r.next ≡ 1 → r.events.items ≡ [] → r.orders.items ≡ [] → r.finals.items ≡ [] → IsFed r []
+pub fed_none : (r : HistoryReader) → r.stage ≡ Head → r.next ≡ 1 → r.events.items ≡ [] → r.orders.items ≡ []
+    → r.finals.items ≡ [] → IsFed r []
 fed_none r stage next events orders finals = record {
   taken = λ going. record {
     run = record { items = []; goods = tt; runs = tt; ends = sym stage; same = refl };

@@ -44,24 +44,29 @@ final_texts : (fs : List FinalPair) → map line_text (final_items fs) ≡ map f
 final_texts [] = refl
 final_texts (f ∷ fs) = ap (λ (r : List (List ℕ)). final_text f ∷ r) (final_texts fs)
 
-order_texts : (os : List Order) (fs : List FinalPair) → map line_text (order_items os fs) ≡ map order_text os ++ (map final_text fs ++ tail ∷ [])
+order_texts : (os : List Order) (fs : List FinalPair)
+    → map line_text (order_items os fs) ≡ map order_text os ++ (map final_text fs ++ tail ∷ [])
 order_texts [] fs = final_texts fs
 order_texts (o ∷ os) fs = ap (λ (r : List (List ℕ)). order_text o ∷ r) (order_texts os fs)
 
-event_texts : (es : List Event) (os : List Order) (fs : List FinalPair) → map line_text (event_items es os fs) ≡ map event_text es ++ (map order_text os ++ (map final_text fs ++ tail ∷ []))
+event_texts : (es : List Event) (os : List Order) (fs : List FinalPair)
+    → map line_text (event_items es os fs) ≡ map event_text es
+    ++ (map order_text os ++ (map final_text fs ++ tail ∷ []))
 event_texts [] os fs = order_texts os fs
 event_texts (e ∷ es) os fs = ap (λ (r : List (List ℕ)). event_text e ∷ r) (event_texts es os fs)
 
 pub items_texts : (h : History) → map line_text (items_of h) ≡ history_lines h
 items_texts h = ap (λ (r : List (List ℕ)). history_head ∷ r) (event_texts h.events h.orders h.finals)
 
-finals_run : (last : List ℕ) (fs : List FinalPair) → keys_rise (last ∷ map (λ f. f.key) fs) ≡ true → Run (Finals last) (final_items fs)
+finals_run : (last : List ℕ) (fs : List FinalPair) → keys_rise (last ∷ map (λ f. f.key) fs) ≡ true
+    → Run (Finals last) (final_items fs)
 finals_run last [] rise = (refl, tt)
 finals_run last (f ∷ fs) rise =
     let parts = and_parts (key_lt last f.key) (keys_rise (map (λ f. f.key) (f ∷ fs))) rise in
     (parts.0, finals_run f.key fs parts.1)
 
-finals_behind_order : (last : List ℕ) (fs : List FinalPair) → keys_rise (map (λ f. f.key) fs) ≡ true → Run (Orders last) (final_items fs)
+finals_behind_order : (last : List ℕ) (fs : List FinalPair) → keys_rise (map (λ f. f.key) fs) ≡ true
+    → Run (Orders last) (final_items fs)
 finals_behind_order last [] rise = (refl, tt)
 finals_behind_order last (f ∷ fs) rise = (refl, finals_run f.key fs rise)
 
@@ -69,17 +74,20 @@ finals_behind_event : (fs : List FinalPair) → keys_rise (map (λ f. f.key) fs)
 finals_behind_event [] rise = (refl, tt)
 finals_behind_event (f ∷ fs) rise = (refl, finals_run f.key fs rise)
 
-orders_run : (last : List ℕ) (os : List Order) (fs : List FinalPair) → keys_rise (last ∷ map (λ o. o.key) os) ≡ true → keys_rise (map (λ f. f.key) fs) ≡ true → Run (Orders last) (order_items os fs)
+orders_run : (last : List ℕ) (os : List Order) (fs : List FinalPair) → keys_rise (last ∷ map (λ o. o.key) os) ≡ true
+    → keys_rise (map (λ f. f.key) fs) ≡ true → Run (Orders last) (order_items os fs)
 orders_run last [] fs rise finals = finals_behind_order last fs finals
 orders_run last (o ∷ os) fs rise finals =
     let parts = and_parts (key_lt last o.key) (keys_rise (map (λ o. o.key) (o ∷ os))) rise in
     (parts.0, orders_run o.key os fs parts.1 finals)
 
-orders_behind_event : (os : List Order) (fs : List FinalPair) → keys_rise (map (λ o. o.key) os) ≡ true → keys_rise (map (λ f. f.key) fs) ≡ true → Run Events (order_items os fs)
+orders_behind_event : (os : List Order) (fs : List FinalPair) → keys_rise (map (λ o. o.key) os) ≡ true
+    → keys_rise (map (λ f. f.key) fs) ≡ true → Run Events (order_items os fs)
 orders_behind_event [] fs rise finals = finals_behind_event fs finals
 orders_behind_event (o ∷ os) fs rise finals = (refl, orders_run o.key os fs rise finals)
 
-events_run : (es : List Event) (os : List Order) (fs : List FinalPair) → keys_rise (map (λ o. o.key) os) ≡ true → keys_rise (map (λ f. f.key) fs) ≡ true → Run Events (event_items es os fs)
+events_run : (es : List Event) (os : List Order) (fs : List FinalPair) → keys_rise (map (λ o. o.key) os) ≡ true
+    → keys_rise (map (λ f. f.key) fs) ≡ true → Run Events (event_items es os fs)
 events_run [] os fs orders finals = orders_behind_event os fs orders finals
 events_run (e ∷ es) os fs orders finals = (refl, events_run es os fs orders finals)
 
@@ -91,16 +99,20 @@ orders_end : (s : Stage) (os : List Order) (fs : List FinalPair) → end s (orde
 orders_end s [] fs = finals_end s fs
 orders_end s (o ∷ os) fs = orders_end (Orders o.key) os fs
 
-events_end : (s : Stage) (es : List Event) (os : List Order) (fs : List FinalPair) → end s (event_items es os fs) ≡ Done
+events_end : (s : Stage) (es : List Event) (os : List Order) (fs : List FinalPair)
+    → end s (event_items es os fs) ≡ Done
 events_end s [] os fs = orders_end s os fs
 events_end s (e ∷ es) os fs = events_end Events es os fs
 
 pub items_goods : (h : History) → IsHistory h → AllByRecursion IsLine (items_of h)
 items_goods h is = (
   tt,
-  all_append IsLine (map EventLine h.events) (order_items h.orders h.finals) (all_map IsLine IsEvent EventLine (λ e good. good) h.events is.events)
-      (all_append IsLine (map OrderLine h.orders) (final_items h.finals) (all_map IsLine IsOrder OrderLine (λ o good. good) h.orders is.orders)
-      (all_append IsLine (map FinalLine h.finals) (TailLine ∷ []) (all_map IsLine IsFinal FinalLine (λ f good. good) h.finals is.finals) (tt, tt))),
+  all_append IsLine (map EventLine h.events) (order_items h.orders h.finals)
+      (all_map IsLine IsEvent EventLine (λ e good. good) h.events is.events)
+      (all_append IsLine (map OrderLine h.orders) (final_items h.finals)
+      (all_map IsLine IsOrder OrderLine (λ o good. good) h.orders is.orders)
+      (all_append IsLine (map FinalLine h.finals) (TailLine ∷ [])
+      (all_map IsLine IsFinal FinalLine (λ f good. good) h.finals is.finals) (tt, tt))),
 )
 
 -- the run of lines, up to the stage
@@ -124,7 +136,8 @@ record FinalPart (front : List (List ℕ)) (xs : List Line) : Type 0 where
   rise : keys_rise (front ++ map (λ f. f.key) finals) ≡ true
   whole : xs ≡ final_items finals
 
-final_part : (last : List ℕ) (xs : List Line) → AllByRecursion IsLine xs → Run (Finals last) xs → end (Finals last) xs ≡ Done → FinalPart (last ∷ []) xs
+final_part : (last : List ℕ) (xs : List Line) → AllByRecursion IsLine xs → Run (Finals last) xs
+    → end (Finals last) xs ≡ Done → FinalPart (last ∷ []) xs
 final_part last [] goods runs ends = absurd cc
 final_part last (HeadLine ∷ xs) goods runs ends = absurd cc
 final_part last (EventLine e ∷ xs) goods runs ends = absurd cc
@@ -150,7 +163,8 @@ record OrderPart (front : List (List ℕ)) (xs : List Line) : Type 0 where
   whole : xs ≡ order_items orders finals
 
 -- the finals behind a stage in which any may come
-finals_first : (front : List (List ℕ)) → keys_rise (front ++ []) ≡ true → (f : FinalPair) (xs : List Line) → IsFinal f → FinalPart (f.key ∷ []) xs → OrderPart front (FinalLine f ∷ xs)
+finals_first : (front : List (List ℕ)) → keys_rise (front ++ []) ≡ true → (f : FinalPair) (xs : List Line) → IsFinal f
+    → FinalPart (f.key ∷ []) xs → OrderPart front (FinalLine f ∷ xs)
 finals_first front alone f xs is part = record {
   orders = [];
   finals = f ∷ part.finals;
@@ -162,13 +176,16 @@ finals_first front alone f xs is part = record {
 }
 
 tail_only : (front : List (List ℕ)) → keys_rise (front ++ []) ≡ true → OrderPart front (TailLine ∷ [])
-tail_only front alone = record { orders = []; finals = []; goods = tt; final_goods = tt; rise = alone; finals_rise = refl; whole = refl }
+tail_only front alone =
+    record { orders = []; finals = []; goods = tt; final_goods = tt; rise = alone; finals_rise = refl; whole = refl }
 
-order_part : (last : List ℕ) (xs : List Line) → AllByRecursion IsLine xs → Run (Orders last) xs → end (Orders last) xs ≡ Done → OrderPart (last ∷ []) xs
+order_part : (last : List ℕ) (xs : List Line) → AllByRecursion IsLine xs → Run (Orders last) xs
+    → end (Orders last) xs ≡ Done → OrderPart (last ∷ []) xs
 order_part last [] goods runs ends = absurd cc
 order_part last (HeadLine ∷ xs) goods runs ends = absurd cc
 order_part last (EventLine e ∷ xs) goods runs ends = absurd cc
-order_part last (FinalLine f ∷ xs) goods runs ends = finals_first (last ∷ []) refl f xs goods.0 (final_part f.key xs goods.1 runs.1 ends)
+order_part last (FinalLine f ∷ xs) goods runs ends =
+    finals_first (last ∷ []) refl f xs goods.0 (final_part f.key xs goods.1 runs.1 ends)
 order_part last (TailLine ∷ []) goods runs ends = tail_only (last ∷ []) refl
 order_part last (TailLine ∷ x ∷ xs) goods runs ends = let never = runs.1.0 in absurd cc
 order_part last (OrderLine o ∷ xs) goods runs ends =
@@ -196,7 +213,8 @@ order_only xs part = record { events = []; goods = tt; rest = xs; part = part; w
 event_part : (xs : List Line) → AllByRecursion IsLine xs → Run Events xs → end Events xs ≡ Done → EventPart xs
 event_part [] goods runs ends = absurd cc
 event_part (HeadLine ∷ xs) goods runs ends = absurd cc
-event_part (FinalLine f ∷ xs) goods runs ends = order_only _ (finals_first [] refl f xs goods.0 (final_part f.key xs goods.1 runs.1 ends))
+event_part (FinalLine f ∷ xs) goods runs ends =
+    order_only _ (finals_first [] refl f xs goods.0 (final_part f.key xs goods.1 runs.1 ends))
 event_part (TailLine ∷ []) goods runs ends = order_only _ (tail_only [] refl)
 event_part (TailLine ∷ x ∷ xs) goods runs ends = let never = runs.1.0 in absurd cc
 event_part (OrderLine o ∷ xs) goods runs ends =
@@ -228,7 +246,14 @@ pub record Holds (xs : List Line) : Type 0 where
 
 history_in : (xs : List Line) → EventPart xs → Holds (HeadLine ∷ xs)
 history_in xs p = record {
-  history = record { edition = One; events = p.events; unfinished = []; orders = p.part.orders; finals = p.part.finals };
+  history = record {
+    edition = One;
+    events = p.events;
+    unfinished = [];
+    orders = p.part.orders;
+    finals =
+        p.part.finals;
+  };
   is = record {
     edition = refl;
     unfinished = refl;
@@ -238,7 +263,8 @@ history_in xs p = record {
     finals = p.part.final_goods;
     finals_rise = p.part.finals_rise;
   };
-  whole = ap (λ (r : List Line). HeadLine ∷ r) (p.whole ∙ ap (λ (r : List Line). map EventLine p.events ++ r) p.part.whole);
+  whole = ap (λ (r : List Line). HeadLine ∷ r)
+      (p.whole ∙ ap (λ (r : List Line). map EventLine p.events ++ r) p.part.whole);
 }
 
 pub held_by : (xs : List Line) → AllByRecursion IsLine xs → Run Head xs → end Head xs ≡ Done → Holds xs

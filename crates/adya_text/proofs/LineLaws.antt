@@ -19,17 +19,23 @@ lines_tell HeadLine (FinalLine g) ga gb same = absurd (unlike_line finals_read n
 lines_tell HeadLine TailLine ga gb same = absurd cc
 lines_tell (EventLine e) HeadLine ga gb same = absurd (unlike_line events_read no_event_head e ga same)
 lines_tell (EventLine e) (EventLine d) ga gb same = ap EventLine (one_event e d ga gb same)
-lines_tell (EventLine e) (OrderLine p) ga gb same = absurd (unlike_text events_read orders_read events_no_orders e p ga gb same)
-lines_tell (EventLine e) (FinalLine g) ga gb same = absurd (unlike_text events_read finals_read events_no_finals e g ga gb same)
+lines_tell (EventLine e) (OrderLine p) ga gb same =
+    absurd (unlike_text events_read orders_read events_no_orders e p ga gb same)
+lines_tell (EventLine e) (FinalLine g) ga gb same =
+    absurd (unlike_text events_read finals_read events_no_finals e g ga gb same)
 lines_tell (EventLine e) TailLine ga gb same = absurd (unlike_line events_read no_event_tail e ga same)
 lines_tell (OrderLine o) HeadLine ga gb same = absurd (unlike_line orders_read no_order_head o ga same)
-lines_tell (OrderLine o) (EventLine d) ga gb same = absurd (unlike_text orders_read events_read orders_no_events o d ga gb same)
+lines_tell (OrderLine o) (EventLine d) ga gb same =
+    absurd (unlike_text orders_read events_read orders_no_events o d ga gb same)
 lines_tell (OrderLine o) (OrderLine p) ga gb same = ap OrderLine (one_order o p ga gb same)
-lines_tell (OrderLine o) (FinalLine g) ga gb same = absurd (unlike_text orders_read finals_read orders_no_finals o g ga gb same)
+lines_tell (OrderLine o) (FinalLine g) ga gb same =
+    absurd (unlike_text orders_read finals_read orders_no_finals o g ga gb same)
 lines_tell (OrderLine o) TailLine ga gb same = absurd (unlike_line orders_read no_order_tail o ga same)
 lines_tell (FinalLine f) HeadLine ga gb same = absurd (unlike_line finals_read no_final_head f ga same)
-lines_tell (FinalLine f) (EventLine d) ga gb same = absurd (unlike_text finals_read events_read finals_no_events f d ga gb same)
-lines_tell (FinalLine f) (OrderLine p) ga gb same = absurd (unlike_text finals_read orders_read finals_no_orders f p ga gb same)
+lines_tell (FinalLine f) (EventLine d) ga gb same =
+    absurd (unlike_text finals_read events_read finals_no_events f d ga gb same)
+lines_tell (FinalLine f) (OrderLine p) ga gb same =
+    absurd (unlike_text finals_read orders_read finals_no_orders f p ga gb same)
 lines_tell (FinalLine f) (FinalLine g) ga gb same = ap FinalLine (one_final f g ga gb same)
 lines_tell (FinalLine f) TailLine ga gb same = absurd (unlike_line finals_read no_final_tail f ga same)
 lines_tell TailLine HeadLine ga gb same = absurd cc
@@ -56,9 +62,13 @@ order_line line o read = let h = (orders_read line o).0 read in record { good = 
 pub final_line : (line : List ℕ) (f : FinalPair) → final_at line ≡ Some f → IsLineOf (FinalLine f) line
 final_line line f read = let h = (finals_read line f).0 read in record { good = h.0; same = h.1 }
 
-pub no_line : (line : List ℕ) → event_at line ≡ None → order_at line ≡ None → final_at line ≡ None → (line ≡ history_head → ⊥) → (line ≡ tail → ⊥) → IsNoLine line
+pub no_line : (line : List ℕ) → event_at line ≡ None → order_at line ≡ None → final_at line ≡ None
+    → (line ≡ history_head → ⊥) → (line ≡ tail → ⊥) → IsNoLine line
 no_line line event order final head end HeadLine is = head is.same
-no_line line event order final head end (EventLine e) is = none-some e (sym event ∙ (events_read line e).1 (is.good, is.same))
-no_line line event order final head end (OrderLine o) is = none-some o (sym order ∙ (orders_read line o).1 (is.good, is.same))
-no_line line event order final head end (FinalLine f) is = none-some f (sym final ∙ (finals_read line f).1 (is.good, is.same))
+no_line line event order final head end (EventLine e) is =
+    none-some e (sym event ∙ (events_read line e).1 (is.good, is.same))
+no_line line event order final head end (OrderLine o) is =
+    none-some o (sym order ∙ (orders_read line o).1 (is.good, is.same))
+no_line line event order final head end (FinalLine f) is =
+    none-some f (sym final ∙ (finals_read line f).1 (is.good, is.same))
 no_line line event order final head end TailLine is = end is.same

@@ -9,7 +9,8 @@ use Rattle.adya_text.specs.Faults.{IsPlain, IsCut}
 
 pub ends_append : (xs ys : List (List ℕ)) → with_ends (xs ++ ys) ≡ with_ends xs ++ with_ends ys
 ends_append [] ys = refl
-ends_append (x ∷ xs) ys = ap (λ (r : List ℕ). x ++ (10 ∷ r)) (ends_append xs ys) ∙ sym (append_assoc x (10 ∷ with_ends xs) (with_ends ys))
+ends_append (x ∷ xs) ys = ap (λ (r : List ℕ). x ++ (10 ∷ r)) (ends_append xs ys)
+    ∙ sym (append_assoc x (10 ∷ with_ends xs) (with_ends ys))
 
 all_tail : {X : Type 0} (P : X → Type 0) (x : X) (xs : List X) → All P (x ∷ xs) → All P xs
 all_tail P x xs all = λ k d below. all (suc k) d (omega arith)
@@ -19,7 +20,8 @@ all_head P x xs all = all 0 x (omega arith)
 
 pub all_behind : {X : Type 0} (P : X → Type 0) (xs : List X) (x : X) → All P xs → P x → All P (xs ++ x ∷ [])
 all_behind P [] x all is = All-cons P x [] is all
-all_behind P (y ∷ ys) x all is = All-cons P y (ys ++ x ∷ []) (all_head P y ys all) (all_behind P ys x (all_tail P y ys all) is)
+all_behind P (y ∷ ys) x all is =
+    All-cons P y (ys ++ x ∷ []) (all_head P y ys all) (all_behind P ys x (all_tail P y ys all) is)
 
 -- ---- one text has one cut
 
@@ -28,7 +30,8 @@ no_feed : (bytes front back : List ℕ) → IsPlain bytes → bytes ≡ front ++
 no_feed [] [] back plain e = cc
 no_feed [] (f ∷ front) back plain e = cc
 no_feed (b ∷ bytes) [] back plain e = let here : b ≡ 10 = cc in all_head (λ x. x ≢ 10) b bytes plain here
-no_feed (b ∷ bytes) (f ∷ front) back plain e = let later : bytes ≡ front ++ 10 ∷ back = cc in no_feed bytes front back (all_tail (λ x. x ≢ 10) b bytes plain) later
+no_feed (b ∷ bytes) (f ∷ front) back plain e = let later : bytes ≡ front ++ 10 ∷ back = cc in
+    no_feed bytes front back (all_tail (λ x. x ≢ 10) b bytes plain) later
 
 -- two lines with a line feed each at the front of one text are one line
 first_line : (x y a b : List ℕ) → IsPlain x → IsPlain y → x ++ 10 ∷ a ≡ y ++ 10 ∷ b → (x ≡ y) × (a ≡ b)
@@ -40,18 +43,24 @@ first_line (c ∷ x) (d ∷ y) a b px py e =
     let rest = first_line x y a b (all_tail (λ x. x ≢ 10) c x px) (all_tail (λ x. x ≢ 10) d y py) later in
     (cc (rest.0), rest.1)
 
-pub one_cut : (xs ys : List (List ℕ)) (r s : List ℕ) → All IsPlain xs → All IsPlain ys → IsPlain r → IsPlain s → with_ends xs ++ r ≡ with_ends ys ++ s → (xs ≡ ys) × (r ≡ s)
+pub one_cut : (xs ys : List (List ℕ)) (r s : List ℕ) → All IsPlain xs → All IsPlain ys → IsPlain r → IsPlain s
+    → with_ends xs ++ r ≡ with_ends ys ++ s → (xs ≡ ys) × (r ≡ s)
 one_cut [] [] r s ax ay pr ps e = (refl, e)
-one_cut [] (y ∷ ys) r s ax ay pr ps e = absurd (no_feed r y (with_ends ys ++ s) pr (e ∙ append_assoc y (10 ∷ with_ends ys) s))
-one_cut (x ∷ xs) [] r s ax ay pr ps e = absurd (no_feed s x (with_ends xs ++ r) ps (sym e ∙ append_assoc x (10 ∷ with_ends xs) r))
+one_cut [] (y ∷ ys) r s ax ay pr ps e =
+    absurd (no_feed r y (with_ends ys ++ s) pr (e ∙ append_assoc y (10 ∷ with_ends ys) s))
+one_cut (x ∷ xs) [] r s ax ay pr ps e =
+    absurd (no_feed s x (with_ends xs ++ r) ps (sym e ∙ append_assoc x (10 ∷ with_ends xs) r))
 one_cut (x ∷ xs) (y ∷ ys) r s ax ay pr ps e =
-    let whole : x ++ 10 ∷ (with_ends xs ++ r) ≡ y ++ 10 ∷ (with_ends ys ++ s) = sym (append_assoc x (10 ∷ with_ends xs) r) ∙ e ∙ append_assoc y (10 ∷ with_ends ys) s in
-    let first = first_line x y (with_ends xs ++ r) (with_ends ys ++ s) (all_head IsPlain x xs ax) (all_head IsPlain y ys ay) whole in
+    let whole : x ++ 10 ∷ (with_ends xs ++ r) ≡ y ++ 10 ∷ (with_ends ys ++ s) =
+    sym (append_assoc x (10 ∷ with_ends xs) r) ∙ e ∙ append_assoc y (10 ∷ with_ends ys) s in
+    let first = first_line x y (with_ends xs ++ r) (with_ends ys
+    ++ s) (all_head IsPlain x xs ax) (all_head IsPlain y ys ay) whole in
     let later = one_cut xs ys r s (all_tail IsPlain x xs ax) (all_tail IsPlain y ys ay) pr ps first.1 in
     (cc (first.0, later.0), later.1)
 
 -- where lines begin a text of lines, they are its first lines
-pub first_lines : (xs ys : List (List ℕ)) (more : List ℕ) → All IsPlain xs → All IsPlain ys → with_ends ys ≡ with_ends xs ++ more → (zs : List (List ℕ)) × (ys ≡ xs ++ zs) × (more ≡ with_ends zs)
+pub first_lines : (xs ys : List (List ℕ)) (more : List ℕ) → All IsPlain xs → All IsPlain ys
+    → with_ends ys ≡ with_ends xs ++ more → (zs : List (List ℕ)) × (ys ≡ xs ++ zs) × (more ≡ with_ends zs)
 first_lines [] ys more ax ay e = (ys, refl, sym e)
 first_lines (x ∷ xs) [] more ax ay e = absurd (no_lines x (with_ends xs) more e)
   where
@@ -59,8 +68,10 @@ first_lines (x ∷ xs) [] more ax ay e = absurd (no_lines x (with_ends xs) more 
     no_lines [] a more e = cc
     no_lines (b ∷ x) a more e = cc
 first_lines (x ∷ xs) (y ∷ ys) more ax ay e =
-    let whole : y ++ 10 ∷ with_ends ys ≡ x ++ 10 ∷ (with_ends xs ++ more) = e ∙ append_assoc x (10 ∷ with_ends xs) more in
-    let first = first_line y x (with_ends ys) (with_ends xs ++ more) (all_head IsPlain y ys ay) (all_head IsPlain x xs ax) whole in
+    let whole : y ++ 10 ∷ with_ends ys ≡ x ++ 10 ∷ (with_ends xs ++ more) = e
+    ∙ append_assoc x (10 ∷ with_ends xs) more in
+    let first = first_line y x (with_ends ys) (with_ends xs
+    ++ more) (all_head IsPlain y ys ay) (all_head IsPlain x xs ax) whole in
     let (zs, same, rest) = first_lines xs ys more (all_tail IsPlain x xs ax) (all_tail IsPlain y ys ay) first.1 in
     (zs, cc (first.0, same), rest)
 
@@ -74,13 +85,16 @@ pub record IsAt (text : List ℕ) (past : List (List ℕ)) (rest : List ℕ) : T
 pub at_start : (text : List ℕ) → IsAt text [] text
 at_start text = record { plain = λ k d below. absurd (omega arith); whole = refl }
 
-plain_before : (hay : List ℕ) (at : ℕ) → at ≤ length hay → Nowhere (Passes (is_byte 10) hay) 0 at → IsPlain (take at hay)
+plain_before : (hay : List ℕ) (at : ℕ) → at ≤ length hay → Nowhere (Passes (is_byte 10) hay) 0 at
+    → IsPlain (take at hay)
 plain_before hay at fits none = λ k d below e.
     let under : k < at = subst (λ n. k < n) (length-take-le at hay fits) below in
     let within : k < length hay = omega arith in
-    none k zero-le under (ap (λ x. x == 10) (get_or_default hay k 0 d within ∙ sym (get_or-take at hay k d under) ∙ e))
+    none k zero-le under (ap (λ x. x == 10)
+    (get_or_default hay k 0 d within ∙ sym (get_or-take at hay k d under) ∙ e))
 
-pub at_line : (text : List ℕ) (past : List (List ℕ)) (rest : List ℕ) (at : ℕ) → IsAt text past rest → at < length rest → slice_index rest at ≡ 10 → Nowhere (Passes (is_byte 10) rest) 0 at
+pub at_line : (text : List ℕ) (past : List (List ℕ)) (rest : List ℕ) (at : ℕ) → IsAt text past rest → at < length rest
+    → slice_index rest at ≡ 10 → Nowhere (Passes (is_byte 10) rest) 0 at
     → IsAt text (past ++ take at rest ∷ []) (drop (at + 1) rest)
 at_line text past rest at is within feed none =
     let next : suc at ≡ at + 1 = omega arith in
@@ -92,11 +106,13 @@ at_line text past rest at is within feed none =
     record {
       plain = all_behind IsPlain past (take at rest) is.plain (plain_before rest at (omega arith) none);
       whole =
-          is.whole ∙ ap (λ (l : List ℕ). with_ends past ++ l) front ∙ sym (append_assoc (with_ends past) (take at rest ++ 10 ∷ []) back)
+          is.whole ∙ ap (λ (l : List ℕ). with_ends past ++ l) front
+          ∙ sym (append_assoc (with_ends past) (take at rest ++ 10 ∷ []) back)
           ∙ ap (λ (l : List ℕ). l ++ back) (sym (ends_append past (take at rest ∷ [])));
     }
 
-pub at_end : (text : List ℕ) (past : List (List ℕ)) (rest : List ℕ) → IsAt text past rest → Nowhere (Passes (is_byte 10) rest) 0 (length rest) → IsCut text past rest
+pub at_end : (text : List ℕ) (past : List (List ℕ)) (rest : List ℕ) → IsAt text past rest
+    → Nowhere (Passes (is_byte 10) rest) 0 (length rest) → IsCut text past rest
 at_end text past rest is none = record {
   plain = is.plain;
   plain_rest = λ k d below e. none k zero-le below (ap (λ x. x == 10) (get_or_default rest k 0 d below ∙ e));

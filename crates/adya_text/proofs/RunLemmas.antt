@@ -21,15 +21,18 @@ pub run_next : {S L : Type 0} (allows : S → L → Bool) (after : L → S) (s :
 run_next allows after s [] x ys run = run.0
 run_next allows after s (z ∷ zs) x ys run = run_next allows after (after z) zs x ys run.1
 
-pub all_push : {L : Type 0} (P : L → Type 0) (xs : List L) (x : L) → AllByRecursion P xs → P x → AllByRecursion P (xs ++ x ∷ [])
+pub all_push : {L : Type 0} (P : L → Type 0) (xs : List L) (x : L) → AllByRecursion P xs → P x
+    → AllByRecursion P (xs ++ x ∷ [])
 all_push P [] x all is = (is, tt)
 all_push P (y ∷ ys) x all is = (all.0, all_push P ys x all.1 is)
 
-pub all_append : {L : Type 0} (P : L → Type 0) (xs ys : List L) → AllByRecursion P xs → AllByRecursion P ys → AllByRecursion P (xs ++ ys)
+pub all_append : {L : Type 0} (P : L → Type 0) (xs ys : List L) → AllByRecursion P xs → AllByRecursion P ys
+    → AllByRecursion P (xs ++ ys)
 all_append P [] ys left right = right
 all_append P (x ∷ xs) ys left right = (left.0, all_append P xs ys left.1 right)
 
-pub all_map : {K L : Type 0} (P : L → Type 0) (Q : K → Type 0) (f : K → L) → ((k : K) → Q k → P (f k)) → (ks : List K) → AllByRecursion Q ks → AllByRecursion P (map f ks)
+pub all_map : {K L : Type 0} (P : L → Type 0) (Q : K → Type 0) (f : K → L) → ((k : K) → Q k → P (f k)) → (ks : List K)
+    → AllByRecursion Q ks → AllByRecursion P (map f ks)
 all_map P Q f each [] all = tt
 all_map P Q f each (k ∷ ks) all = (each k all.0, all_map P Q f each ks all.1)
 
@@ -38,17 +41,21 @@ abbrev pub Tells : {L : Type 0} → (L → List ℕ) → (L → Type 0) → Type
 Tells {L} text good = (a b : L) → good a → good b → text a ≡ text b → a ≡ b
 
 -- what one reader reads and another refuses is no text of the other
-pub unlike_text : {X Y : Type 0} {read : List ℕ → Option X} {other : List ℕ → Option Y} {Is : X → Type 0} {Other : Y → Type 0} {text : X → List ℕ} {text' : Y → List ℕ}
-    → IsReaderOf read Is text → IsReaderOf other Other text' → Excludes read other → (x : X) (y : Y) → Is x → Other y → text x ≡ text' y → ⊥
+pub unlike_text : {X Y : Type 0} {read : List ℕ → Option X} {other : List ℕ → Option Y} {Is : X → Type 0}
+    {Other : Y → Type 0} {text : X → List ℕ} {text' : Y → List ℕ}
+    → IsReaderOf read Is text → IsReaderOf other Other text' → Excludes read other → (x : X) (y : Y) → Is x → Other y
+    → text x ≡ text' y → ⊥
 unlike_text {text = text} reads others apart x y is_x is_y same =
     none-some y (sym (apart (text x) x ((reads (text x) x).1 (is_x, refl))) ∙ (others (text x) y).1 (is_y, same))
 
 -- a line that a reader refuses is no text of it
-pub unlike_line : {X : Type 0} {read : List ℕ → Option X} {Is : X → Type 0} {text : X → List ℕ} {fixed : List ℕ} → IsReaderOf read Is text → read fixed ≡ None → (x : X) → Is x → text x ≡ fixed → ⊥
+pub unlike_line : {X : Type 0} {read : List ℕ → Option X} {Is : X → Type 0} {text : X → List ℕ} {fixed : List ℕ}
+    → IsReaderOf read Is text → read fixed ≡ None → (x : X) → Is x → text x ≡ fixed → ⊥
 unlike_line {fixed = fixed} reads none x is same = none-some x (sym none ∙ (reads fixed x).1 (is, sym same))
 
 -- the line whose text stands behind the texts of a front
-pub record Split {L : Type 0} (text : L → List ℕ) (good : L → Type 0) (all front : List L) (l : List ℕ) (more : List (List ℕ)) : Type 0 where
+pub record Split {L : Type 0} (text : L → List ℕ) (good : L → Type 0) (all front : List L) (l : List ℕ)
+    (more : List (List ℕ)) : Type 0 where
   pub line : L
   pub rest : List L
   pub whole : all ≡ front ++ line ∷ rest
@@ -56,16 +63,27 @@ pub record Split {L : Type 0} (text : L → List ℕ) (good : L → Type 0) (all
   pub is : good line
   pub rest_same : map text rest ≡ more
 
-pub split : {L : Type 0} (text : L → List ℕ) (good : L → Type 0) → Tells text good → (all front : List L) (l : List ℕ) (more : List (List ℕ))
-    → AllByRecursion good all → AllByRecursion good front → map text all ≡ map text front ++ l ∷ more → Split text good all front l more
+pub split : {L : Type 0} (text : L → List ℕ) (good : L → Type 0) → Tells text good
+    → (all front : List L) (l : List ℕ) (more : List (List ℕ))
+    → AllByRecursion good all → AllByRecursion good front → map text all ≡ map text front ++ l ∷ more
+    → Split text good all front l more
 split text good tells [] [] l more goods fronts e = absurd cc
-split text good tells (a ∷ more_a) [] l more goods fronts e = record { line = a; rest = more_a; whole = refl; same = cc; is = goods.0; rest_same = cc }
+split text good tells (a ∷ more_a) [] l more goods fronts e =
+    record { line = a; rest = more_a; whole = refl; same = cc; is = goods.0; rest_same = cc }
 split text good tells [] (x ∷ xs) l more goods fronts e = absurd cc
 split text good tells (a ∷ more_a) (x ∷ xs) l more goods fronts e =
     let here : text a ≡ text x = cc in
     let later : map text more_a ≡ map text xs ++ l ∷ more = cc in
     let s = split text good tells more_a xs l more goods.1 fronts.1 later in
-    record { line = s.line; rest = s.rest; whole = cc (tells a x goods.0 fronts.0 here, s.whole); same = s.same; is = s.is; rest_same = s.rest_same }
+    record {
+      line = s.line;
+      rest = s.rest;
+      whole = cc (tells a x goods.0 fronts.0 here, s.whole);
+      same = s.same;
+      is =
+          s.is;
+      rest_same = s.rest_same;
+    }
 
 -- the lines of one list of texts are one list
 pub texts_tell : {L : Type 0} (text : L → List ℕ) (good : L → Type 0) → Tells text good → (xs ys : List L)
@@ -79,7 +97,8 @@ texts_tell text good tells (a ∷ more_a) (b ∷ more_b) ga gb e =
     cc (tells a b ga.0 gb.0 here, texts_tell text good tells more_a more_b ga.1 gb.1 later)
 
 -- the text of no line that is allowed behind the run goes on with it
-pub refused : {S L : Type 0} (allows : S → L → Bool) (after : L → S) (text : L → List ℕ) (good : L → Type 0) → Tells text good → (start here done : S) (lines : List (List ℕ)) (l : List ℕ) (more : List (List ℕ))
+pub refused : {S L : Type 0} (allows : S → L → Bool) (after : L → S) (text : L → List ℕ) (good : L → Type 0)
+    → Tells text good → (start here done : S) (lines : List (List ℕ)) (l : List ℕ) (more : List (List ℕ))
     → HasRun allows after text good start here lines → HasRun allows after text good start done (lines ++ l ∷ more)
     → ((x : L) → good x → text x ≡ l → allows here x ≡ true → ⊥) → ⊥
 refused allows after text good tells start here done lines l more front whole none =
@@ -89,8 +108,10 @@ refused allows after text good tells start here done lines l more front whole no
     none s.line s.is s.same (rw front.ends at allowed)
 
 -- a run goes on with a line that is allowed behind it
-unfoldable pub taken : {S L : Type 0} (allows : S → L → Bool) (after : L → S) (text : L → List ℕ) (good : L → Type 0) (start here : S) (lines : List (List ℕ)) (x : L)
-    → HasRun allows after text good start here lines → good x → allows here x ≡ true → HasRun allows after text good start (after x) (lines ++ text x ∷ [])
+unfoldable pub taken : {S L : Type 0} (allows : S → L → Bool) (after : L → S) (text : L → List ℕ) (good : L → Type 0)
+    (start here : S) (lines : List (List ℕ)) (x : L)
+    → HasRun allows after text good start here lines → good x → allows here x ≡ true
+    → HasRun allows after text good start (after x) (lines ++ text x ∷ [])
 taken allows after text good start here lines x front is ok = record {
   items = front.items ++ x ∷ [];
   goods = all_push good front.items x front.goods is;
@@ -99,17 +120,21 @@ taken allows after text good start here lines x front is ok = record {
   same = cc (front.same, map_push text front.items x);
 }
 
-run_append : {S L : Type 0} (allows : S → L → Bool) (after : L → S) (s : S) (xs ys : List L) → IsRun allows after s xs → IsRun allows after (end_of after s xs) ys → IsRun allows after s (xs ++ ys)
+run_append : {S L : Type 0} (allows : S → L → Bool) (after : L → S) (s : S) (xs ys : List L) → IsRun allows after s xs
+    → IsRun allows after (end_of after s xs) ys → IsRun allows after s (xs ++ ys)
 run_append allows after s [] ys front back = back
 run_append allows after s (x ∷ xs) ys front back = (front.0, run_append allows after (after x) xs ys front.1 back)
 
-end_append : {S L : Type 0} (after : L → S) (s : S) (xs ys : List L) → end_of after s (xs ++ ys) ≡ end_of after (end_of after s xs) ys
+end_append : {S L : Type 0} (after : L → S) (s : S) (xs ys : List L)
+    → end_of after s (xs ++ ys) ≡ end_of after (end_of after s xs) ys
 end_append after s [] ys = refl
 end_append after s (x ∷ xs) ys = end_append after (after x) xs ys
 
 -- a run goes on with a run from where it ends
-pub run_join : {S L : Type 0} (allows : S → L → Bool) (after : L → S) (text : L → List ℕ) (good : L → Type 0) (start here end : S) (lines : List (List ℕ)) (ys : List L)
-    → HasRun allows after text good start here lines → AllByRecursion good ys → IsRun allows after here ys → end_of after here ys ≡ end → HasRun allows after text good start end (lines ++ map text ys)
+pub run_join : {S L : Type 0} (allows : S → L → Bool) (after : L → S) (text : L → List ℕ) (good : L → Type 0)
+    (start here end : S) (lines : List (List ℕ)) (ys : List L)
+    → HasRun allows after text good start here lines → AllByRecursion good ys → IsRun allows after here ys
+    → end_of after here ys ≡ end → HasRun allows after text good start end (lines ++ map text ys)
 run_join allows after text good start here end lines ys front goods runs ends = record {
   items = front.items ++ ys;
   goods = all_append good front.items ys front.goods goods;
@@ -119,8 +144,10 @@ run_join allows after text good start here end lines ys front goods runs ends = 
 }
 
 -- one list of lines leads to one stage
-pub one_end : {S L : Type 0} (allows : S → L → Bool) (after : L → S) (text : L → List ℕ) (good : L → Type 0) → Tells text good → (start a b : S) (lines : List (List ℕ))
+pub one_end : {S L : Type 0} (allows : S → L → Bool) (after : L → S) (text : L → List ℕ) (good : L → Type 0)
+    → Tells text good → (start a b : S) (lines : List (List ℕ))
     → HasRun allows after text good start a lines → HasRun allows after text good start b lines → a ≡ b
 one_end allows after text good tells start a b lines left right =
-    let same : left.items ≡ right.items = texts_tell text good tells left.items right.items left.goods right.goods (sym left.same ∙ right.same) in
+    let same : left.items ≡ right.items =
+    texts_tell text good tells left.items right.items left.goods right.goods (sym left.same ∙ right.same) in
     sym left.ends ∙ ap (end_of after start) same ∙ right.ends

@@ -41,29 +41,36 @@ after_unfailed TailLine = refl
 
 -- ---- what the lines begin
 
-joined : (s : Stage) (lines : List (List ℕ)) (ys : List Line) → HasLines s lines → AllByRecursion IsLine ys → Run s ys → end s ys ≡ Done → Begins AreSerialLines lines
+joined : (s : Stage) (lines : List (List ℕ)) (ys : List Line) → HasLines s lines → AllByRecursion IsLine ys → Run s ys
+    → end s ys ≡ Done → Begins AreSerialLines lines
 joined s lines ys front goods runs ends = record {
   more = map line_text ys;
   within = are_lines _ (run_join allows stage_after line_text IsLine Head s Done lines ys front goods runs ends);
 }
 
-run_begins : (s : Stage) (lines : List (List ℕ)) → is_failed s ≡ false → HasLines s lines → Begins AreSerialLines lines
-run_begins Head lines is front = joined Head lines (HeadLine ∷ TailLine ∷ []) front (tt, (tt, tt)) (refl, (refl, tt)) refl
+run_begins : (s : Stage) (lines : List (List ℕ)) → is_failed s ≡ false → HasLines s lines
+    → Begins AreSerialLines lines
+run_begins Head lines is front =
+    joined Head lines (HeadLine ∷ TailLine ∷ []) front (tt, (tt, tt)) (refl, (refl, tt)) refl
 run_begins Txns lines is front = joined Txns lines (TailLine ∷ []) front (tt, tt) (refl, tt) refl
 run_begins Done lines is front = joined Done lines [] front tt tt refl
 run_begins (Failed k) lines is front = absurd cc
 
-run_stops : (s : Stage) (lines : List (List ℕ)) (l : List ℕ) → HasLines s lines → IsRefused s l → Begins AreSerialLines (lines ++ l ∷ []) → ⊥
+run_stops : (s : Stage) (lines : List (List ℕ)) (l : List ℕ) → HasLines s lines → IsRefused s l
+    → Begins AreSerialLines (lines ++ l ∷ []) → ⊥
 run_stops s lines l front none b =
     let (h, is, whole) = b.within in
     let longer : lines ++ l ∷ b.more ≡ serial_lines h = sym (append_assoc lines (l ∷ []) b.more) ∙ whole in
     let run : HasLines Done (lines ++ l ∷ b.more) = rw longer (run_of h is) in
-    refused allows stage_after line_text IsLine lines_tell Head s Done lines l b.more front run (λ x good same ok. none x (record { good = good; same = sym same }) ok)
+    refused allows stage_after line_text IsLine lines_tell Head s Done lines l b.more front run
+    (λ x good same ok. none x (record { good = good; same = sym same }) ok)
 
-pub fed_begins : (r : SerialReader) (past : List (List ℕ)) → IsFed r past → is_failed r.stage ≡ false → Begins AreSerialLines past
+pub fed_begins : (r : SerialReader) (past : List (List ℕ)) → IsFed r past → is_failed r.stage ≡ false
+    → Begins AreSerialLines past
 fed_begins r past fed going = run_begins r.stage past going (fed.taken going).run
 
-pub fed_stops : (r : SerialReader) (past : List (List ℕ)) → IsFed r past → is_failed r.stage ≡ true → Begins AreSerialLines past → ⊥
+pub fed_stops : (r : SerialReader) (past : List (List ℕ)) → IsFed r past → is_failed r.stage ≡ true
+    → Begins AreSerialLines past → ⊥
 fed_stops r past fed failed b =
     let (k, is) = failed_at r.stage failed in
     let (within, fault) = fed.faulty k is in
@@ -75,20 +82,23 @@ fed_done r past fed done =
     let going : is_failed r.stage ≡ false = ap is_failed is in
     are_lines past (rw is at (fed.taken going).run)
 
-pub fed_undone : (r : SerialReader) (past : List (List ℕ)) → IsFed r past → is_done r.stage ≡ false → AreSerialLines past → ⊥
+pub fed_undone : (r : SerialReader) (past : List (List ℕ)) → IsFed r past → is_done r.stage ≡ false
+    → AreSerialLines past → ⊥
 fed_undone r past fed undone (h, is, whole) = by_failed (is_failed r.stage) refl
   where
     by_failed : (b : Bool) → is_failed r.stage ≡ b → ⊥
     by_failed true failed = fed_stops r past fed failed (whole_begins AreSerialLines past (h, is, whole))
     by_failed false going =
         let run : HasLines Done past = rw whole (run_of h is) in
-        let same : r.stage ≡ Done = one_end allows stage_after line_text IsLine lines_tell Head r.stage Done past (fed.taken going).run run in
+        let same : r.stage ≡ Done =
+        one_end allows stage_after line_text IsLine lines_tell Head r.stage Done past (fed.taken going).run run in
         let done : is_done r.stage ≡ true = ap is_done same in
         absurd cc
 
 -- ---- one line more
 
-pub fed_taken : (old new : SerialReader) (past : List (List ℕ)) (text : List ℕ) (x : Line) → IsFed old past → is_failed old.stage ≡ false → IsAllowed old.stage text x → Takes old new x → IsFed new (past ++ text ∷ [])
+pub fed_taken : (old new : SerialReader) (past : List (List ℕ)) (text : List ℕ) (x : Line) → IsFed old past
+    → is_failed old.stage ≡ false → IsAllowed old.stage text x → Takes old new x → IsFed new (past ++ text ∷ [])
 unfolding taken
 fed_taken old new past text x fed going allowed takes = record {
   taken = λ still.
@@ -102,7 +112,8 @@ fed_taken old new past text x fed going allowed takes = record {
           ends = run.ends ∙ sym takes.stage;
           same = ap (λ (l : List ℕ). past ++ l ∷ []) allowed.0.same ∙ run.same;
         };
-        txns = takes.txns ∙ ap (λ (r : List ℕ). r ++ filter_map txn_in (x ∷ [])) t.txns ∙ sym (filter_map-append txn_in t.run.items (x ∷ []));
+        txns = takes.txns ∙ ap (λ (r : List ℕ). r ++ filter_map txn_in (x ∷ [])) t.txns
+            ∙ sym (filter_map-append txn_in t.run.items (x ∷ []));
         next = takes.next ∙ ap (λ (n : ℕ). suc n) t.next ∙ omega (arith, length-append past (text ∷ []));
       };
   faulty = λ k is.
@@ -111,7 +122,9 @@ fed_taken old new past text x fed going allowed takes = record {
       absurd cc;
 }
 
-pub fed_refused : (old new : SerialReader) (past : List (List ℕ)) (text : List ℕ) → IsFed old past → is_failed old.stage ≡ false → IsRefused old.stage text → new.stage ≡ Failed old.next → IsFed new (past ++ text ∷ [])
+pub fed_refused : (old new : SerialReader) (past : List (List ℕ)) (text : List ℕ) → IsFed old past
+    → is_failed old.stage ≡ false → IsRefused old.stage text → new.stage ≡ Failed old.next
+    → IsFed new (past ++ text ∷ [])
 fed_refused old new past text fed going none is = record {
   taken = λ still. let failed : is_failed new.stage ≡ true = ap is_failed is in absurd cc;
   faulty = λ k at.
@@ -119,11 +132,13 @@ fed_refused old new past text fed going none is = record {
       let run = t.run in
       let here : Failed k ≡ Failed old.next = sym at ∙ is in
       let line : k ≡ suc (length past) = cc in
-      let fault = fault_at AreSerialLines past text (run_begins old.stage past going run) (run_stops old.stage past text run none) in
+      let fault = fault_at AreSerialLines past text (run_begins old.stage past going run)
+      (run_stops old.stage past text run none) in
       (omega (arith, length-append past (text ∷ [])), rw line fault);
 }
 
-pub fed_failed : (r : SerialReader) (past : List (List ℕ)) (text : List ℕ) → IsFed r past → is_failed r.stage ≡ true → IsFed r (past ++ text ∷ [])
+pub fed_failed : (r : SerialReader) (past : List (List ℕ)) (text : List ℕ) → IsFed r past → is_failed r.stage ≡ true
+    → IsFed r (past ++ text ∷ [])
 fed_failed r past text fed failed = record {
   taken = λ still. absurd cc;
   faulty = λ k is.
@@ -136,7 +151,14 @@ fed_kept old new past fed kept = record {
   taken = λ still.
       let t = fed.taken (ap is_failed (sym kept.stage) ∙ still) in
       record {
-        run = record { items = t.run.items; goods = t.run.goods; runs = t.run.runs; ends = t.run.ends ∙ sym kept.stage; same = t.run.same };
+        run = record {
+          items = t.run.items;
+          goods = t.run.goods;
+          runs = t.run.runs;
+          ends = t.run.ends
+              ∙ sym kept.stage;
+          same = t.run.same;
+        };
         txns = kept.txns ∙ t.txns;
         next = kept.next ∙ t.next;
       };
@@ -145,7 +167,8 @@ fed_kept old new past fed kept = record {
 
 -- ---- at the end
 
-pub failed_fault : (r : SerialReader) (past : List (List ℕ)) (text rest : List ℕ) (k : ℕ) → IsFed r past → r.stage ≡ Failed k → IsCut text past rest → IsFaultLine AreSerialLines text k
+pub failed_fault : (r : SerialReader) (past : List (List ℕ)) (text rest : List ℕ) (k : ℕ) → IsFed r past
+    → r.stage ≡ Failed k → IsCut text past rest → IsFaultLine AreSerialLines text k
 failed_fault r past text rest k fed is cut =
     let (within, fault) = fed.faulty k is in
     record {
@@ -156,7 +179,9 @@ failed_fault r past text rest k fed is cut =
       first = fault;
     }
 
-pub missing_fault : (r : SerialReader) (past : List (List ℕ)) (text rest : List ℕ) → IsFed r past → is_failed r.stage ≡ false → (is_done r.stage ≡ true → rest ≡ [] → ⊥) → IsCut text past rest → IsFaultLine AreSerialLines text r.next
+pub missing_fault : (r : SerialReader) (past : List (List ℕ)) (text rest : List ℕ) → IsFed r past
+    → is_failed r.stage ≡ false → (is_done r.stage ≡ true → rest ≡ [] → ⊥) → IsCut text past rest
+    → IsFaultLine AreSerialLines text r.next
 missing_fault r past text rest fed going none cut = record {
   lines = past;
   rest = rest;
@@ -176,28 +201,34 @@ in_txns ts = txns_front ts
     txns_front [] = refl
     txns_front (t ∷ ts) = ap (λ (r : List ℕ). t ∷ r) (txns_front ts)
 
-pub fed_serial : (r : SerialReader) (past : List (List ℕ)) (text rest : List ℕ) (v : Serial) → IsFed r past → is_done r.stage ≡ true → rest ≡ [] → IsCut text past rest → v.txns ≡ r.txns → ReadsSerial text (Ok v)
+pub fed_serial : (r : SerialReader) (past : List (List ℕ)) (text rest : List ℕ) (v : Serial) → IsFed r past
+    → is_done r.stage ≡ true → rest ≡ [] → IsCut text past rest → v.txns ≡ r.txns → ReadsSerial text (Ok v)
 fed_serial r past text rest v fed done empty cut same =
     let at = done_is r.stage done in
     let going : is_failed r.stage ≡ false = ap is_failed at in
     let t = fed.taken going in
     let held = held_by t.run.items t.run.goods t.run.runs (t.run.ends ∙ at) in
-    let txns : v.txns.items ≡ held.txns = ap (λ vs. vs.items) same ∙ t.txns ∙ ap (filter_map txn_in) held.whole ∙ in_txns held.txns in
+    let txns : v.txns.items ≡ held.txns = ap (λ vs. vs.items) same ∙ t.txns ∙ ap (filter_map txn_in) held.whole
+    ∙ in_txns held.txns in
     let lines : past ≡ serial_lines held.txns = t.run.same ∙ ap (map line_text) held.whole ∙ items_texts held.txns in
-    let whole : text ≡ serial_text held.txns = cut.whole ∙ ap (λ (l : List ℕ). with_ends past ++ l) empty ∙ append-nil (with_ends past) ∙ ap with_ends lines in
+    let whole : text ≡ serial_text held.txns = cut.whole ∙ ap (λ (l : List ℕ). with_ends past ++ l) empty
+    ∙ append-nil (with_ends past) ∙ ap with_ends lines in
     (subst IsSerial (sym txns) held.is, whole ∙ ap serial_text (sym txns))
 
 -- ---- the answers of the reader
 
-pub begins_unless : (r : SerialReader) (b : Bool) → b ≡ is_failed r.stage → OnFalse b ((past : List (List ℕ)) → IsFed r past → Begins AreSerialLines past)
+pub begins_unless : (r : SerialReader) (b : Bool) → b ≡ is_failed r.stage
+    → OnFalse b ((past : List (List ℕ)) → IsFed r past → Begins AreSerialLines past)
 begins_unless r true is = tt
 begins_unless r false is = λ past fed. fed_begins r past fed (sym is)
 
-pub stops_if : (r : SerialReader) (b : Bool) → b ≡ is_failed r.stage → OnTrue b ((past : List (List ℕ)) → IsFed r past → Begins AreSerialLines past → ⊥)
+pub stops_if : (r : SerialReader) (b : Bool) → b ≡ is_failed r.stage
+    → OnTrue b ((past : List (List ℕ)) → IsFed r past → Begins AreSerialLines past → ⊥)
 stops_if r true is = λ past fed. fed_stops r past fed (sym is)
 stops_if r false is = tt
 
-pub done_iff : (r : SerialReader) (b : Bool) → b ≡ is_done r.stage → (past : List (List ℕ)) → IsFed r past → IsTrue b ↔ AreSerialLines past
+pub done_iff : (r : SerialReader) (b : Bool) → b ≡ is_done r.stage → (past : List (List ℕ)) → IsFed r past
+    → IsTrue b ↔ AreSerialLines past
 done_iff r true is past fed = (λ t. fed_done r past fed (sym is), λ are. refl)
 done_iff r false is past fed = (λ t. absurd cc, λ are. absurd (fed_undone r past fed (sym is) are))
 
@@ -207,7 +238,8 @@ refused_by s text y here never x there ok =
     let allowed : allows s y ≡ true = ap (allows s) (sym same) ∙ ok in
     absurd cc
 
-pub fault_is : (text : List ℕ) (k : ℕ) (fault : ReadFault) → fault ≡ Syntax Of.Serial k → IsFaultLine AreSerialLines text k → ReadsSerial text (Err fault)
+pub fault_is : (text : List ℕ) (k : ℕ) (fault : ReadFault) → fault ≡ Syntax Of.Serial k
+    → IsFaultLine AreSerialLines text k → ReadsSerial text (Err fault)
 fault_is text k fault is line = subst (λ (f : ReadFault). ReadsSerial text (Err f)) (sym is) line
 
 pub unfailed : (s : Stage) → ((k : ℕ) → s ≡ Failed k → ⊥) → is_failed s ≡ false
@@ -216,7 +248,8 @@ unfailed Head none = refl
 unfailed Txns none = refl
 unfailed Done none = refl
 
-pub kept_on_err : {T E : Type 0} (result : Result T E) (old new : SerialReader) → IsKept old new → OnErr result ((past : List (List ℕ)) → IsFed old past → IsFed new past)
+pub kept_on_err : {T E : Type 0} (result : Result T E) (old new : SerialReader) → IsKept old new
+    → OnErr result ((past : List (List ℕ)) → IsFed old past → IsFed new past)
 kept_on_err (Ok x) old new kept = tt
 kept_on_err (Err e) old new kept = λ past fed. fed_kept old new past fed kept
 

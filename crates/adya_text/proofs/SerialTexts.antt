@@ -72,14 +72,25 @@ txns_end [] = refl
 txns_end (t ∷ ts) = txns_end ts
 
 pub items_goods : (ts : List ℕ) → IsSerial ts → AllByRecursion IsLine (items_of ts)
-items_goods ts is = (tt, all_append IsLine (map TxnLine ts) (TailLine ∷ []) (all_map IsLine IsTxn TxnLine (λ t good. good) ts is) (tt, tt))
+items_goods ts is = (
+  tt,
+  all_append IsLine (map TxnLine ts) (TailLine ∷ [])
+      (all_map IsLine IsTxn TxnLine (λ t good. good) ts is) (tt, tt),
+)
 
 -- the run of lines, up to the stage
 abbrev pub HasLines : Stage → List (List ℕ) → Type 0
 HasLines s lines = HasRun allows stage_after line_text IsLine Head s lines
 
 pub run_of : (ts : List ℕ) → IsSerial ts → HasLines Done (serial_lines ts)
-run_of ts is = record { items = items_of ts; goods = items_goods ts is; runs = (refl, txns_run ts); ends = txns_end ts; same = sym (items_texts ts) }
+run_of ts is = record {
+  items = items_of ts;
+  goods = items_goods ts is;
+  runs = (refl, txns_run ts);
+  ends =
+      txns_end ts;
+  same = sym (items_texts ts);
+}
 
 -- ---- from a run to its certificate
 

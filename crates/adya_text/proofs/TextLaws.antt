@@ -28,15 +28,19 @@ use Rattle.adya_text.proofs.SerialFed.{in_txns}
 
 -- ---- lines without line feeds
 
-plain_lines : {L : Type 0} (text : L → List ℕ) (good : L → Type 0) → ((x : L) → good x → IsPlain (text x)) → (xs : List L) → AllByRecursion good xs → All IsPlain (map text xs)
+plain_lines : {L : Type 0} (text : L → List ℕ) (good : L → Type 0) → ((x : L) → good x → IsPlain (text x))
+    → (xs : List L) → AllByRecursion good xs → All IsPlain (map text xs)
 plain_lines text good plain [] goods = λ k d below. absurd (omega arith)
-plain_lines text good plain (x ∷ xs) goods = All-cons IsPlain (text x) (map text xs) (plain x goods.0) (plain_lines text good plain xs goods.1)
+plain_lines text good plain (x ∷ xs) goods =
+    All-cons IsPlain (text x) (map text xs) (plain x goods.0) (plain_lines text good plain xs goods.1)
 
 pub history_plain : (h : History) → IsHistory h → All IsPlain (history_lines h)
-history_plain h is = subst (All IsPlain) (HT.items_texts h) (plain_lines H.line_text H.IsLine HL.line_plain (HT.items_of h) (HT.items_goods h is))
+history_plain h is = subst (All IsPlain) (HT.items_texts h)
+    (plain_lines H.line_text H.IsLine HL.line_plain (HT.items_of h) (HT.items_goods h is))
 
 pub serial_plain : (ts : List ℕ) → IsSerial ts → All IsPlain (serial_lines ts)
-serial_plain ts is = subst (All IsPlain) (ST.items_texts ts) (plain_lines S.line_text S.IsLine ST.line_plain (ST.items_of ts) (ST.items_goods ts is))
+serial_plain ts is = subst (All IsPlain) (ST.items_texts ts)
+    (plain_lines S.line_text S.IsLine ST.line_plain (ST.items_of ts) (ST.items_goods ts is))
 
 nothing_plain : IsPlain []
 nothing_plain = λ k d below. absurd (omega arith)
@@ -53,66 +57,96 @@ one_run g h same is_g is_h =
     let events : g.events ≡ h.events = sym (in_events g) ∙ ap (filter_map H.event_in) same ∙ in_events h in
     let orders : g.orders ≡ h.orders = sym (in_orders g) ∙ ap (filter_map H.order_in) same ∙ in_orders h in
     let finals : g.finals ≡ h.finals = sym (in_finals g) ∙ ap (filter_map H.final_in) same ∙ in_finals h in
-    λ i. record { edition = edition i; events = events i; unfinished = unfinished i; orders = orders i; finals = finals i }
+    λ i. record {
+      edition = edition i;
+      events = events i;
+      unfinished = unfinished i;
+      orders = orders i;
+      finals =
+          finals i;
+    }
 
 pub one_history : (g h : History) → IsHistory g → IsHistory h → history_lines g ≡ history_lines h → g ≡ h
 one_history g h is_g is_h same =
-    let items = texts_tell H.line_text H.IsLine HL.lines_tell (HT.items_of g) (HT.items_of h) (HT.items_goods g is_g) (HT.items_goods h is_h) (HT.items_texts g ∙ same ∙ sym (HT.items_texts h)) in
+    let items = texts_tell H.line_text H.IsLine HL.lines_tell (HT.items_of g) (HT.items_of h) (HT.items_goods g is_g)
+    (HT.items_goods h is_h) (HT.items_texts g ∙ same ∙ sym (HT.items_texts h)) in
     one_run g h items is_g is_h
 
 pub one_history_text : (g h : History) → IsHistory g → IsHistory h → history_text g ≡ history_text h → g ≡ h
-one_history_text g h is_g is_h same = one_history g h is_g is_h (same_ends (history_lines g) (history_lines h) (history_plain g is_g) (history_plain h is_h) same)
+one_history_text g h is_g is_h same =
+    one_history g h is_g is_h
+    (same_ends (history_lines g) (history_lines h) (history_plain g is_g) (history_plain h is_h) same)
 
 pub one_serial : (ts us : List ℕ) → IsSerial ts → IsSerial us → serial_lines ts ≡ serial_lines us → ts ≡ us
 one_serial ts us is_ts is_us same =
-    let items = texts_tell S.line_text S.IsLine ST.lines_tell (ST.items_of ts) (ST.items_of us) (ST.items_goods ts is_ts) (ST.items_goods us is_us) (ST.items_texts ts ∙ same ∙ sym (ST.items_texts us)) in
+    let items = texts_tell S.line_text S.IsLine ST.lines_tell (ST.items_of ts) (ST.items_of us)
+    (ST.items_goods ts is_ts) (ST.items_goods us is_us) (ST.items_texts ts ∙ same ∙ sym (ST.items_texts us)) in
     sym (in_txns ts) ∙ ap (filter_map S.txn_in) items ∙ in_txns us
 
 pub one_serial_text : (ts us : List ℕ) → IsSerial ts → IsSerial us → serial_text ts ≡ serial_text us → ts ≡ us
-one_serial_text ts us is_ts is_us same = one_serial ts us is_ts is_us (same_ends (serial_lines ts) (serial_lines us) (serial_plain ts is_ts) (serial_plain us is_us) same)
+one_serial_text ts us is_ts is_us same =
+    one_serial ts us is_ts is_us
+    (same_ends (serial_lines ts) (serial_lines us) (serial_plain ts is_ts) (serial_plain us is_us) same)
 
 -- ---- no text begins another
 
-history_ends : (g h : History) → IsHistory g → IsHistory h → (zs : List (List ℕ)) → history_lines h ≡ history_lines g ++ zs → zs ≡ []
+history_ends : (g h : History) → IsHistory g → IsHistory h → (zs : List (List ℕ))
+    → history_lines h ≡ history_lines g ++ zs → zs ≡ []
 history_ends g h is_g is_h [] e = refl
 history_ends g h is_g is_h (l ∷ zs) e =
-    absurd (refused H.allows H.stage_after H.line_text H.IsLine HL.lines_tell HistoryStage.Head HistoryStage.Done HistoryStage.Done (history_lines g) l zs (HT.run_of g is_g) (subst (HT.HasLines HistoryStage.Done) e (HT.run_of h is_h)) (λ x good same ok. cc))
+    absurd (refused H.allows H.stage_after H.line_text H.IsLine HL.lines_tell HistoryStage.Head HistoryStage.Done
+    HistoryStage.Done (history_lines g) l zs (HT.run_of g is_g)
+    (subst (HT.HasLines HistoryStage.Done) e (HT.run_of h is_h)) (λ x good same ok. cc))
 
-pub no_longer_history : (g h : History) → IsHistory g → IsHistory h → (more : List ℕ) → history_text h ≡ history_text g ++ more → more ≡ []
+pub no_longer_history : (g h : History) → IsHistory g → IsHistory h → (more : List ℕ)
+    → history_text h ≡ history_text g ++ more → more ≡ []
 no_longer_history g h is_g is_h more e =
-    let (zs, lines, rest) = first_lines (history_lines g) (history_lines h) more (history_plain g is_g) (history_plain h is_h) e in
+    let (zs, lines, rest) =
+    first_lines (history_lines g) (history_lines h) more (history_plain g is_g) (history_plain h is_h) e in
     rest ∙ ap with_ends (history_ends g h is_g is_h zs lines)
 
-serial_ends : (ts us : List ℕ) → IsSerial ts → IsSerial us → (zs : List (List ℕ)) → serial_lines us ≡ serial_lines ts ++ zs → zs ≡ []
+serial_ends : (ts us : List ℕ) → IsSerial ts → IsSerial us → (zs : List (List ℕ))
+    → serial_lines us ≡ serial_lines ts ++ zs → zs ≡ []
 serial_ends ts us is_ts is_us [] e = refl
 serial_ends ts us is_ts is_us (l ∷ zs) e =
-    absurd (refused S.allows S.stage_after S.line_text S.IsLine ST.lines_tell SerialStage.Head SerialStage.Done SerialStage.Done (serial_lines ts) l zs (ST.run_of ts is_ts) (subst (ST.HasLines SerialStage.Done) e (ST.run_of us is_us)) (λ x good same ok. cc))
+    absurd (refused S.allows S.stage_after S.line_text S.IsLine ST.lines_tell SerialStage.Head SerialStage.Done
+    SerialStage.Done (serial_lines ts) l zs (ST.run_of ts is_ts)
+    (subst (ST.HasLines SerialStage.Done) e (ST.run_of us is_us)) (λ x good same ok. cc))
 
-pub no_longer_serial : (ts us : List ℕ) → IsSerial ts → IsSerial us → (more : List ℕ) → serial_text us ≡ serial_text ts ++ more → more ≡ []
+pub no_longer_serial : (ts us : List ℕ) → IsSerial ts → IsSerial us → (more : List ℕ)
+    → serial_text us ≡ serial_text ts ++ more → more ≡ []
 no_longer_serial ts us is_ts is_us more e =
-    let (zs, lines, rest) = first_lines (serial_lines ts) (serial_lines us) more (serial_plain ts is_ts) (serial_plain us is_us) e in
+    let (zs, lines, rest) =
+    first_lines (serial_lines ts) (serial_lines us) more (serial_plain ts is_ts) (serial_plain us is_us) e in
     rest ∙ ap with_ends (serial_ends ts us is_ts is_us zs lines)
 
 -- ---- a text of the grammar has no fault
 
-no_fault : (grammar : List (List ℕ) → Type 0) (text : List ℕ) (lines : List (List ℕ)) (k : ℕ) → All IsPlain lines → grammar lines → text ≡ with_ends lines → IsFaultLine grammar text k → ⊥
+no_fault : (grammar : List (List ℕ) → Type 0) (text : List ℕ) (lines : List (List ℕ)) (k : ℕ) → All IsPlain lines
+    → grammar lines → text ≡ with_ends lines → IsFaultLine grammar text k → ⊥
 no_fault grammar text lines k plain is same fault =
-    let cut = one_cut fault.lines lines fault.rest [] fault.cut.plain plain fault.cut.plain_rest nothing_plain (sym fault.cut.whole ∙ same ∙ sym (append-nil (with_ends lines))) in
+    let cut = one_cut fault.lines lines fault.rest [] fault.cut.plain plain fault.cut.plain_rest nothing_plain
+    (sym fault.cut.whole ∙ same ∙ sym (append-nil (with_ends lines))) in
     fault.outside (subst grammar (sym cut.0) is) cut.1
 
-pub only_history : (text : List ℕ) (result : Result HistoryValue ReadFault) → ReadsHistory text result → (h : History) → IsHistory h → text ≡ history_text h → MatchResult result (λ v. history_of v ≡ h) (λ e. e ≡ Memory)
+pub only_history : (text : List ℕ) (result : Result HistoryValue ReadFault) → ReadsHistory text result → (h : History)
+    → IsHistory h → text ≡ history_text h → MatchResult result (λ v. history_of v ≡ h) (λ e. e ≡ Memory)
 only_history text (Ok v) reads h is same = one_history_text (history_of v) h reads.0 is (sym reads.1 ∙ same)
-only_history text (Err (Syntax Of.History k)) reads h is same = absurd (no_fault AreHistoryLines text (history_lines h) k (history_plain h is) (h, is, refl) same reads)
+only_history text (Err (Syntax Of.History k)) reads h is same =
+    absurd (no_fault AreHistoryLines text (history_lines h) k (history_plain h is) (h, is, refl) same reads)
 only_history text (Err (Syntax Of.Serial k)) reads h is same = absurd reads
 only_history text (Err Memory) reads h is same = refl
 
-pub only_serial : (text : List ℕ) (result : Result Serial ReadFault) → ReadsSerial text result → (ts : List ℕ) → IsSerial ts → text ≡ serial_text ts → MatchResult result (λ v. v.txns.items ≡ ts) (λ e. e ≡ Memory)
+pub only_serial : (text : List ℕ) (result : Result Serial ReadFault) → ReadsSerial text result → (ts : List ℕ)
+    → IsSerial ts → text ≡ serial_text ts → MatchResult result (λ v. v.txns.items ≡ ts) (λ e. e ≡ Memory)
 only_serial text (Ok v) reads ts is same = one_serial_text v.txns.items ts reads.0 is (sym reads.1 ∙ same)
-only_serial text (Err (Syntax Of.Serial k)) reads ts is same = absurd (no_fault AreSerialLines text (serial_lines ts) k (serial_plain ts is) (ts, is, refl) same reads)
+only_serial text (Err (Syntax Of.Serial k)) reads ts is same =
+    absurd (no_fault AreSerialLines text (serial_lines ts) k (serial_plain ts is) (ts, is, refl) same reads)
 only_serial text (Err (Syntax Of.History k)) reads ts is same = absurd reads
 only_serial text (Err Memory) reads ts is same = refl
 
-pub memory_history : (text : List ℕ) (result : Result HistoryValue ReadFault) → result ≡ Err Memory → ReadsHistory text result
+pub memory_history : (text : List ℕ) (result : Result HistoryValue ReadFault) → result ≡ Err Memory
+    → ReadsHistory text result
 memory_history text result is = subst (ReadsHistory text) (sym is) tt
 
 pub memory_serial : (text : List ℕ) (result : Result Serial ReadFault) → result ≡ Err Memory → ReadsSerial text result
@@ -120,16 +154,35 @@ memory_serial text result is = subst (ReadsSerial text) (sym is) tt
 
 -- ---- one fault line
 
-not_before : (grammar : List (List ℕ) → Type 0) (lines : List (List ℕ)) (j k : ℕ) → IsFirstFaulty grammar lines j → IsFirstFaulty grammar lines k → j < k → ⊥
+not_before : (grammar : List (List ℕ) → Type 0) (lines : List (List ℕ)) (j k : ℕ) → IsFirstFaulty grammar lines j
+    → IsFirstFaulty grammar lines k → j < k → ⊥
 not_before grammar lines j k first second below = second.first j first.counted below first.faulty
 
-one_first : (grammar : List (List ℕ) → Type 0) (lines : List (List ℕ)) (j k : ℕ) → IsFirstFaulty grammar lines j → IsFirstFaulty grammar lines k → j ≡ k
+one_first : (grammar : List (List ℕ) → Type 0) (lines : List (List ℕ)) (j k : ℕ) → IsFirstFaulty grammar lines j
+    → IsFirstFaulty grammar lines k → j ≡ k
 one_first grammar lines j k first second =
     let below : j < k → ⊥ = not_before grammar lines j k first second in
     let above : k < j → ⊥ = not_before grammar lines k j second first in
     omega (arith, below, above)
 
-pub one_fault : (grammar : List (List ℕ) → Type 0) (text : List ℕ) (j k : ℕ) → IsFaultLine grammar text j → IsFaultLine grammar text k → j ≡ k
+pub one_fault : (grammar : List (List ℕ) → Type 0) (text : List ℕ) (j k : ℕ) → IsFaultLine grammar text j
+    → IsFaultLine grammar text k → j ≡ k
 one_fault grammar text j k first second =
-    let cut = one_cut first.lines second.lines first.rest second.rest first.cut.plain second.cut.plain first.cut.plain_rest second.cut.plain_rest (sym first.cut.whole ∙ second.cut.whole) in
-    one_first grammar second.lines j k (subst (λ (ls : List (List ℕ)). IsFirstFaulty grammar ls j) cut.0 first.first) second.first
+    let cut = one_cut first.lines second.lines first.rest second.rest first.cut.plain second.cut.plain
+    first.cut.plain_rest second.cut.plain_rest (sym first.cut.whole ∙ second.cut.whole) in
+    one_first grammar second.lines j k (subst (λ (ls : List (List ℕ)). IsFirstFaulty grammar ls j) cut.0 first.first)
+    second.first
+
+pub no_history_fault : (lines : List (List ℕ)) (k : ℕ) → AreHistoryLines lines
+    → IsFaultLine AreHistoryLines (with_ends lines) k → ⊥
+no_history_fault lines k are fault =
+    let (h, is, same) = are in
+    let plain : All IsPlain lines = subst (All IsPlain) (sym same) (history_plain h is) in
+    no_fault AreHistoryLines (with_ends lines) lines k plain are refl fault
+
+pub no_serial_fault : (lines : List (List ℕ)) (k : ℕ) → AreSerialLines lines
+    → IsFaultLine AreSerialLines (with_ends lines) k → ⊥
+no_serial_fault lines k are fault =
+    let (ts, is, same) = are in
+    let plain : All IsPlain lines = subst (All IsPlain) (sym same) (serial_plain ts is) in
+    no_fault AreSerialLines (with_ends lines) lines k plain are refl fault

@@ -13,7 +13,8 @@ end_of after s [] = s
 end_of after s (x ∷ xs) = end_of after (after x) xs
 
 -- the texts are those of the lines of a run from the one stage to the other
-pub record HasRun {S L : Type 0} (allows : S → L → Bool) (after : L → S) (text : L → List ℕ) (good : L → Type 0) (start end : S) (texts : List (List ℕ)) : Type 0 where
+pub record HasRun {S L : Type 0} (allows : S → L → Bool) (after : L → S) (text : L → List ℕ) (good : L → Type 0)
+    (start end : S) (texts : List (List ℕ)) : Type 0 where
   pub items : List L
   pub goods : AllByRecursion good items
   pub runs : IsRun allows after start items

@@ -22,7 +22,8 @@ IsSerial ts = AllByRecursion IsTxn ts
 
 -- the head, the events, the orders, the finals and the tail
 abbrev pub history_lines : History → List (List ℕ)
-history_lines h = history_head ∷ (map event_text h.events ++ (map order_text h.orders ++ (map final_text h.finals ++ tail ∷ [])))
+history_lines h = history_head ∷ (map event_text h.events
+    ++ (map order_text h.orders ++ (map final_text h.finals ++ tail ∷ [])))
 
 -- the head, the transactions and the tail
 abbrev pub serial_lines : List ℕ → List (List ℕ)

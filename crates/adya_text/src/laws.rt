@@ -1,7 +1,8 @@
 //! What holds of texts: the calls do nothing, and their contracts are the laws.
 
 ghost use Rattle.adya_text.specs.Texts.{AreHistoryLines, AreSerialLines};
-ghost use Rattle.adya_text.specs.Laws.{HistoriesDiffer, SerialsDiffer, NoHistoryBegins, NoSerialBegins, HasOneFaultLine};
+ghost use Rattle.adya_text.specs.Laws.{HistoriesDiffer, SerialsDiffer, NoHistoryBegins, NoSerialBegins};
+ghost use Rattle.adya_text.specs.Laws.{HasOneFaultLine, HasNoFaultWithin};
 
 /// Each history has a text of its own, and no history text is the front of another.
 pub fn history_texts()
@@ -15,8 +16,10 @@ pub fn serial_texts()
     ensures no_proper_prefix { NoSerialBegins }
 {}
 
-/// A text has one fault line at most.
+/// A text has one fault line at most, and a text of its grammar has none.
 pub fn fault_lines()
-    ensures histories { HasOneFaultLine AreHistoryLines }
-    ensures serials { HasOneFaultLine AreSerialLines }
+    ensures one_of_history { HasOneFaultLine AreHistoryLines }
+    ensures none_of_history { HasNoFaultWithin AreHistoryLines }
+    ensures one_of_serial { HasOneFaultLine AreSerialLines }
+    ensures none_of_serial { HasNoFaultWithin AreSerialLines }
 {}

@@ -56,7 +56,8 @@ impl LineBuffer {
 
     /// Moves the bytes up to the next LF to the end of `line`, and drops the LF. Says whether there was one.
     fn take_line(&mut self, line: &mut Vec<u8>) -> Result<bool, AllocError>
-        ensures moved { IfOk result (λ ended. (taken : List ℕ) × (line.new.items ≡ line.old.items ++ taken) × All (λ x. x ≢ 10) taken × (self.old ≡ taken ++ line_end ended ++ self.new)) }
+        ensures moved { IfOk result (λ ended. (taken : List ℕ) × (line.new.items ≡ line.old.items ++ taken)
+            × All (λ x. x ≢ 10) taken × (self.old ≡ taken ++ line_end ended ++ self.new)) }
         ensures all { IfOk result (λ ended. ended ≡ false → self.new ≡ []) }
         ensures less { IfOk result (λ ended. ended ≡ true → length self.new < length self.old) }
     {
@@ -107,10 +108,13 @@ impl LineBuffer {
         source: &mut S,
         line: &mut Vec<u8>,
     ) -> Result<bool, LineFault>
-        ensures bytes { IfOk result (λ ended. Consumes (prepend_known self.old (S.remaining source.old)) (prepend_known self.new (S.remaining source.new)) (line.new.items ++ line_end ended)) }
+        ensures bytes { IfOk result
+            (λ ended. Consumes (prepend_known self.old (S.remaining source.old))
+            (prepend_known self.new (S.remaining source.new)) (line.new.items ++ line_end ended)) }
         ensures plain { OnOk result (All (λ x. x ≢ 10) line.new.items) }
         ensures end { IfOk result (λ ended. ended ≡ false → (self.new ≡ []) × IsAtEnd (S.remaining source.new)) }
-        ensures less { IfOk result (λ ended. ended ≡ true → work_left (S.left source.new) self.new < work_left (S.left source.old) self.old) }
+        ensures less { IfOk result (λ ended. ended ≡ true
+            → work_left (S.left source.new) self.new < work_left (S.left source.old) self.old) }
         ensures fault { IsErrOf result LineFault.Device → S.is_failed source.new ≡ true }
         ensures stream { S.same source.old source.new }
         ensures unfailed { (IsErrOf result LineFault.Device → ⊥) → S.is_failed source.new ≡ S.is_failed source.old }

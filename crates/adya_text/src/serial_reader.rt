@@ -97,14 +97,16 @@ impl SerialReader {
     /// Whether the lines so far begin no certificate text.
     pub fn has_failed(&self) -> bool
         ensures begins { OnFalse result ((past : List (List ℕ)) → IsFed self.now past → Begins AreSerialLines past) }
-        ensures stops { OnTrue result ((past : List (List ℕ)) → IsFed self.now past → Begins AreSerialLines past → ⊥) }
+        ensures stops { OnTrue result ((past : List (List ℕ)) → IsFed self.now past → Begins AreSerialLines past
+            → ⊥) }
     {
         self.stage.has_failed()
     }
 
     /// Feeds the reader with the next line, without its line feed. Where memory runs out, the reader stays as it was.
     pub fn line(&mut self, line: &[u8]) -> Result<(), AllocError>
-        ensures ok { OnOk result ((past : List (List ℕ)) → IsFed self.old past → IsFed self.new (past ++ line.now ∷ [])) }
+        ensures ok { OnOk result ((past : List (List ℕ)) → IsFed self.old past
+            → IsFed self.new (past ++ line.now ∷ [])) }
         ensures err { OnErr result ((past : List (List ℕ)) → IsFed self.old past → IsFed self.new past) }
     {
         if self.stage.has_failed() {
@@ -119,7 +121,8 @@ impl SerialReader {
 
     /// The line by its kind, if it may come next.
     fn allowed(&self, line: &[u8]) -> Option<Line>
-        ensures { MatchOption result (IsRefused self.now.stage line.now) (λ x. IsAllowed self.now.stage line.now (line_of x)) }
+        ensures { MatchOption result (IsRefused self.now.stage line.now)
+            (λ x. IsAllowed self.now.stage line.now (line_of x)) }
     {
         let Some(read) = read_line(line) else {
             return None;
@@ -147,7 +150,8 @@ impl SerialReader {
     /// The certificate whose lines were fed, where nothing stands behind its tail. `rest` is what stands behind the
     /// last line feed of the text. `Syntax` with the line of the fault where the text is that of no certificate.
     pub fn finish(self, rest: &[u8]) -> Result<Serial, ReadFault>
-        ensures { (past : List (List ℕ)) → IsFed self past → (text : List ℕ) → IsCut text past rest.now → ReadsSerial text result }
+        ensures { (past : List (List ℕ)) → IsFed self past → (text : List ℕ) → IsCut text past rest.now
+            → ReadsSerial text result }
     {
         if let Stage::Failed { line } = self.stage {
             return Err(fault_at(line));

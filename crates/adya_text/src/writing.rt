@@ -24,7 +24,9 @@ pub struct WriteFault;
 
 /// Writes the history's text. `WriteFault` where the device failed, and then nothing is said of how much was written.
 pub fn write_history<W: Write>(history: &History, out: &mut Watched<W>) -> Result<(), WriteFault>
-    ensures ok { OnOk result (Appends (watched_contents W.contents out.old) (watched_contents W.contents out.new) (history_text (history_of history.now))) }
+    ensures ok { OnOk result
+        (Appends (watched_contents W.contents out.old) (watched_contents W.contents out.new)
+        (history_text (history_of history.now))) }
     ensures fault { IsErr result → has_failed out.new ≡ true }
 {
     put_history(history, out).map_err(|_| WriteFault)
@@ -33,14 +35,18 @@ pub fn write_history<W: Write>(history: &History, out: &mut Watched<W>) -> Resul
 /// Writes the certificate's text. `WriteFault` where the device failed, and then nothing is said of how much was
 /// written.
 pub fn write_serial<W: Write>(serial: &Serial, out: &mut Watched<W>) -> Result<(), WriteFault>
-    ensures ok { OnOk result (Appends (watched_contents W.contents out.old) (watched_contents W.contents out.new) (serial_text serial.now.txns.items)) }
+    ensures ok { OnOk result
+        (Appends (watched_contents W.contents out.old) (watched_contents W.contents out.new)
+        (serial_text serial.now.txns.items)) }
     ensures fault { IsErr result → has_failed out.new ≡ true }
 {
     put_serial(serial, out).map_err(|_| WriteFault)
 }
 
 fn put_history<W: Write>(history: &History, out: &mut Watched<W>) -> io::Result<()>
-    ensures ok { OnOk result (Grows (watched_contents W.contents out.old) (history_text (history_of history.now)) (watched_contents W.contents out.new)) }
+    ensures ok { OnOk result
+        (Grows (watched_contents W.contents out.old) (history_text (history_of history.now))
+        (watched_contents W.contents out.new)) }
     ensures fault { IsErr result → has_failed out.new ≡ true }
 {
     put_line(history_head(), out)?;
@@ -51,7 +57,9 @@ fn put_history<W: Write>(history: &History, out: &mut Watched<W>) -> io::Result<
 }
 
 fn put_serial<W: Write>(serial: &Serial, out: &mut Watched<W>) -> io::Result<()>
-    ensures ok { OnOk result (Grows (watched_contents W.contents out.old) (serial_text serial.now.txns.items) (watched_contents W.contents out.new)) }
+    ensures ok { OnOk result
+        (Grows (watched_contents W.contents out.old) (serial_text serial.now.txns.items)
+        (watched_contents W.contents out.new)) }
     ensures fault { IsErr result → has_failed out.new ≡ true }
 {
     put_line(serial_head(), out)?;
@@ -61,7 +69,8 @@ fn put_serial<W: Write>(serial: &Serial, out: &mut Watched<W>) -> io::Result<()>
 
 /// Writes the line with its line feed.
 fn put_line<W: Write>(line: &[u8], out: &mut Watched<W>) -> io::Result<()>
-    ensures ok { OnOk result (Grows (watched_contents W.contents out.old) (line.now ++ 10 ∷ []) (watched_contents W.contents out.new)) }
+    ensures ok { OnOk result
+        (Grows (watched_contents W.contents out.old) (line.now ++ 10 ∷ []) (watched_contents W.contents out.new)) }
     ensures fault { IsErr result → has_failed out.new ≡ true }
 {
     out.write_all(line)?;
@@ -69,7 +78,9 @@ fn put_line<W: Write>(line: &[u8], out: &mut Watched<W>) -> io::Result<()>
 }
 
 fn put_events<W: Write>(events: &[Event], out: &mut Watched<W>) -> io::Result<()>
-    ensures ok { OnOk result (Grows (watched_contents W.contents out.old) (with_ends (map event_text (map event_of events.now))) (watched_contents W.contents out.new)) }
+    ensures ok { OnOk result
+        (Grows (watched_contents W.contents out.old) (with_ends (map event_text (map event_of events.now)))
+        (watched_contents W.contents out.new)) }
     ensures fault { IsErr result → has_failed out.new ≡ true }
 {
     for event in events {
@@ -80,7 +91,9 @@ fn put_events<W: Write>(events: &[Event], out: &mut Watched<W>) -> io::Result<()
 }
 
 fn put_orders<W: Write>(orders: &[Order], out: &mut Watched<W>) -> io::Result<()>
-    ensures ok { OnOk result (Grows (watched_contents W.contents out.old) (with_ends (map order_text (map order_of orders.now))) (watched_contents W.contents out.new)) }
+    ensures ok { OnOk result
+        (Grows (watched_contents W.contents out.old) (with_ends (map order_text (map order_of orders.now)))
+        (watched_contents W.contents out.new)) }
     ensures fault { IsErr result → has_failed out.new ≡ true }
 {
     for order in orders {
@@ -91,7 +104,9 @@ fn put_orders<W: Write>(orders: &[Order], out: &mut Watched<W>) -> io::Result<()
 }
 
 fn put_finals<W: Write>(finals: &[FinalPair], out: &mut Watched<W>) -> io::Result<()>
-    ensures ok { OnOk result (Grows (watched_contents W.contents out.old) (with_ends (map final_text (map final_of finals.now))) (watched_contents W.contents out.new)) }
+    ensures ok { OnOk result
+        (Grows (watched_contents W.contents out.old) (with_ends (map final_text (map final_of finals.now)))
+        (watched_contents W.contents out.new)) }
     ensures fault { IsErr result → has_failed out.new ≡ true }
 {
     for pair in finals {
@@ -102,7 +117,9 @@ fn put_finals<W: Write>(finals: &[FinalPair], out: &mut Watched<W>) -> io::Resul
 }
 
 fn put_txns<W: Write>(txns: &[Txn], out: &mut Watched<W>) -> io::Result<()>
-    ensures ok { OnOk result (Grows (watched_contents W.contents out.old) (with_ends (map txn_text txns.now)) (watched_contents W.contents out.new)) }
+    ensures ok { OnOk result
+        (Grows (watched_contents W.contents out.old) (with_ends (map txn_text txns.now))
+        (watched_contents W.contents out.new)) }
     ensures fault { IsErr result → has_failed out.new ≡ true }
 {
     for txn in txns {

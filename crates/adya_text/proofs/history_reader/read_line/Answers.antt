@@ -10,7 +10,9 @@ pub returns-in-Some-2 : goal.returns-in-Some-2
 returns-in-Some-2 c = order_line c.args.line.now (order_of c.in-Some-2.order) (search rules)
 
 pub returns-in-Some-final_pair : goal.returns-in-Some-final_pair
-returns-in-Some-final_pair c = final_line c.args.line.now (final_of c.in-Some-final_pair.pair) c.in-Some-final_pair.ensures
+returns-in-Some-final_pair c =
+    final_line c.args.line.now (final_of c.in-Some-final_pair.pair) c.in-Some-final_pair.ensures
 
 pub returns : goal.returns
-returns c = no_line c.args.line.now c.in_default.ensures (search rules) c.in_default-final_pair.ensures (search rules) (search rules)
+returns c = no_line c.args.line.now c.in_default.ensures (search rules) c.in_default-final_pair.ensures (search rules)
+    (search rules)

@@ -1,9 +1,15 @@
 use Rattle.adya_text.specs.Texts.{AreHistoryLines, AreSerialLines}
-use Rattle.adya_text.proofs.TextLaws.{one_fault}
+use Rattle.adya_text.proofs.TextLaws.{one_fault, no_history_fault, no_serial_fault}
 use Rattle.adya_text.proofs.laws.fault_lines.Goals as goal
 
-pub returns-clause-histories : goal.returns-clause-histories
-returns-clause-histories c = one_fault AreHistoryLines
+pub returns-clause-one_of_history : goal.returns-clause-one_of_history
+returns-clause-one_of_history c = one_fault AreHistoryLines
 
-pub returns-clause-serials : goal.returns-clause-serials
-returns-clause-serials c = one_fault AreSerialLines
+pub returns-clause-none_of_history : goal.returns-clause-none_of_history
+returns-clause-none_of_history c = no_history_fault
+
+pub returns-clause-one_of_serial : goal.returns-clause-one_of_serial
+returns-clause-one_of_serial c = one_fault AreSerialLines
+
+pub returns-clause-none_of_serial : goal.returns-clause-none_of_serial
+returns-clause-none_of_serial c = no_serial_fault

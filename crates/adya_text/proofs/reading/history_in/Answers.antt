@@ -17,8 +17,13 @@ lines-preserved c =
     let rest = c.lines.rest.now in
     let i = c.in-Some.at in
     let first = c.in-Some.ensures in
-    let next : IsAt c.args.text.now (past ++ take i rest ∷ []) (drop (i + 1) rest) = at_line c.args.text.now past rest i at first.0.high (eqb-true _ 10 first.1) first.0.before in
-    (past ++ take i rest ∷ [], subst (IsAt c.args.text.now (past ++ take i rest ∷ [])) (sym (take_rest rest (i + 1))) next, c.in_ok-line.ensures.ok past fed)
+    let next : IsAt c.args.text.now (past ++ take i rest ∷ []) (drop (i + 1) rest) =
+    at_line c.args.text.now past rest i at first.0.high (eqb-true _ 10 first.1) first.0.before in (
+      past ++ take i rest ∷ [],
+      subst (IsAt c.args.text.now (past ++ take i rest ∷ [])) (sym (take_rest rest (i + 1)))
+          next,
+      c.in_ok-line.ensures.ok past fed,
+    )
 
 pub returns : goal.returns
 returns c =

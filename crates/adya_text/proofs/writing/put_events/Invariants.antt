@@ -8,4 +8,7 @@ use Rattle.adya_text.specs.Texts.{with_ends}
 use Rattle.adya_text.proofs.writing.put_events.Given as goal
 
 abbrev pub invariant-loop-event : goal.invariant-loop-event
-invariant-loop-event g l = Grows (watched_contents g.W.Write.contents l.initial.out) (with_ends (map event_text (map event_of (take l.event-index l.events)))) (watched_contents g.W.Write.contents l.out)
+invariant-loop-event g l =
+    Grows (watched_contents g.W.Write.contents l.initial.out)
+    (with_ends (map event_text (map event_of (take l.event-index l.events))))
+    (watched_contents g.W.Write.contents l.out)

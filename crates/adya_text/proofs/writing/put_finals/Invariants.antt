@@ -8,4 +8,7 @@ use Rattle.adya_text.specs.Texts.{with_ends}
 use Rattle.adya_text.proofs.writing.put_finals.Given as goal
 
 abbrev pub invariant-loop-pair : goal.invariant-loop-pair
-invariant-loop-pair g l = Grows (watched_contents g.W.Write.contents l.initial.out) (with_ends (map final_text (map final_of (take l.pair-index l.finals)))) (watched_contents g.W.Write.contents l.out)
+invariant-loop-pair g l =
+    Grows (watched_contents g.W.Write.contents l.initial.out)
+    (with_ends (map final_text (map final_of (take l.pair-index l.finals))))
+    (watched_contents g.W.Write.contents l.out)

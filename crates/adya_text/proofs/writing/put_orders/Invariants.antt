@@ -8,4 +8,7 @@ use Rattle.adya_text.specs.Texts.{with_ends}
 use Rattle.adya_text.proofs.writing.put_orders.Given as goal
 
 abbrev pub invariant-loop-order : goal.invariant-loop-order
-invariant-loop-order g l = Grows (watched_contents g.W.Write.contents l.initial.out) (with_ends (map order_text (map order_of (take l.order-index l.orders)))) (watched_contents g.W.Write.contents l.out)
+invariant-loop-order g l =
+    Grows (watched_contents g.W.Write.contents l.initial.out)
+    (with_ends (map order_text (map order_of (take l.order-index l.orders))))
+    (watched_contents g.W.Write.contents l.out)

@@ -7,4 +7,6 @@ use Rattle.adya_text.specs.Texts.{with_ends}
 use Rattle.adya_text.proofs.writing.put_txns.Given as goal
 
 abbrev pub invariant-loop-txn : goal.invariant-loop-txn
-invariant-loop-txn g l = Grows (watched_contents g.W.Write.contents l.initial.out) (with_ends (map txn_text (take l.txn-index l.txns))) (watched_contents g.W.Write.contents l.out)
+invariant-loop-txn g l =
+    Grows (watched_contents g.W.Write.contents l.initial.out) (with_ends (map txn_text (take l.txn-index l.txns)))
+    (watched_contents g.W.Write.contents l.out)

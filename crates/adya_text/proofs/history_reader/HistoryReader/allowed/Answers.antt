@@ -4,4 +4,6 @@ use Rattle.adya_text.proofs.HistoryFed.{refused_by}
 use Rattle.adya_text.proofs.history_reader.HistoryReader.allowed.Goals as goal
 
 pub returns-then-not-allows : goal.returns-then-not-allows
-returns-then-not-allows c = refused_by c.args.self.now.stage c.args.line.now (line_of c.in-Some.read) (search rules) (sym c.allows.ensures ∙ c.if-not-allows.true)
+returns-then-not-allows c =
+    refused_by c.args.self.now.stage c.args.line.now (line_of c.in-Some.read) (search rules)
+    (sym c.allows.ensures ∙ c.if-not-allows.true)

@@ -9,7 +9,8 @@ invariant-loop-self g l =
     × (g.S.Source.same l.initial.source l.source)
     × (work_left (g.S.Source.left l.source) l.self ≤ work_left (g.S.Source.left l.initial.source) l.initial.self)
     × (g.S.Source.is_failed l.source ≡ g.S.Source.is_failed l.initial.source)
-    × Consumes (prepend_known l.initial.self (g.S.Read.remaining l.initial.source)) (prepend_known l.self (g.S.Read.remaining l.source)) l.line.items
+    × Consumes (prepend_known l.initial.self (g.S.Read.remaining l.initial.source))
+    (prepend_known l.self (g.S.Read.remaining l.source)) l.line.items
 
 abbrev pub decreases-loop-self : goal.decreases-loop-self
 decreases-loop-self g l = work_left (g.S.Source.left l.source) l.self

@@ -10,11 +10,21 @@ returns-in_ok-extend_from_slice-in-Some-clause-moved c =
     let within : at < length pending = c.in-Some.ensures.0.high in
     let size : length pending ≤ b.end - b.start = length_range b.bytes b.start b.end in
     let fits : b.start + (at + 1) ≤ b.end = omega arith in
-    let low : at ≤ length pending = omega arith in
-    (take at pending, search rules, plain_before pending at low c.in-Some.ensures.0.before, sym c.self.view_is ∙ range_split b.bytes b.start b.end at within fits (byte_is _ c.in-Some.ensures.1))
+    let low : at ≤ length pending = omega arith in (
+      take at pending,
+      search rules,
+      plain_before pending at low c.in-Some.ensures.0.before,
+      sym c.self.view_is
+          ∙ range_split b.bytes b.start b.end at within fits (byte_is _ c.in-Some.ensures.1),
+    )
 
 pub returns-in_ok-extend_from_slice-in-None-clause-moved : goal.returns-in_ok-extend_from_slice-in-None-clause-moved
 returns-in_ok-extend_from_slice-in-None-clause-moved c =
     let b = c.self.inside in
-    let pending = slice_range b.bytes b.start b.end in
-    (pending, search rules, plain_all pending c.in-None.ensures, sym c.self.view_is ∙ sym (ap (λ l. (pending ++ []) ++ l) (empty_range b.bytes b.end) ∙ append-nil (pending ++ []) ∙ append-nil pending))
+    let pending = slice_range b.bytes b.start b.end in (
+      pending,
+      search rules,
+      plain_all pending c.in-None.ensures,
+      sym c.self.view_is
+          ∙ sym (ap (λ l. (pending ++ []) ++ l) (empty_range b.bytes b.end) ∙ append-nil (pending ++ []) ∙ append-nil pending),
+    )

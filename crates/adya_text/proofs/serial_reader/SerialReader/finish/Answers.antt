@@ -7,22 +7,28 @@ use Rattle.adya_text.proofs.serial_reader.SerialReader.finish.Goals as goal
 
 pub returns-in-Failed : goal.returns-in-Failed
 returns-in-Failed c = λ past fed text cut.
-    fault_is text c.in-Failed.line _ c.fault_at.ensures (failed_fault c.args.self past text c.args.rest.now c.in-Failed.line fed (search rules) cut)
+    fault_is text c.in-Failed.line _ c.fault_at.ensures
+    (failed_fault c.args.self past text c.args.rest.now c.in-Failed.line fed (search rules) cut)
 
 pub returns-then-not-is_done : goal.returns-then-not-is_done
 returns-then-not-is_done c = λ past fed text cut.
     let going : is_failed c.args.self.stage ≡ false = unfailed _ c.in_default.not-Failed in
     let undone : is_done c.args.self.stage ≡ false = sym c.is_done.ensures ∙ c.if-not-is_done.true in
-    fault_is text c.args.self.next _ c.fault_at-then-not-is_done.ensures (missing_fault c.args.self past text c.args.rest.now fed going (λ done empty. absurd cc) cut)
+    fault_is text c.args.self.next _ c.fault_at-then-not-is_done.ensures
+    (missing_fault c.args.self past text c.args.rest.now fed going (λ done empty. absurd cc) cut)
 
 pub returns-then-not-is_empty : goal.returns-then-not-is_empty
 returns-then-not-is_empty c = λ past fed text cut.
     let going : is_failed c.args.self.stage ≡ false = unfailed _ c.in_default.not-Failed in
     let some : c.is_empty.result ≡ false = c.if-not-is_empty.true in
     let none : (length c.args.rest.now ≡ 0) → c.is_empty.result ≡ true = λ e. c.is_empty.ensures ∙ eq-eqb _ 0 e in
-    fault_is text c.args.self.next _ c.fault_at-then-not-is_empty.ensures (missing_fault c.args.self past text c.args.rest.now fed going (λ done empty. let all = none (ap length empty) in absurd cc) cut)
+    fault_is text c.args.self.next _ c.fault_at-then-not-is_empty.ensures
+    (missing_fault c.args.self past text c.args.rest.now fed going (λ done empty. let all =
+    none (ap length empty) in absurd cc) cut)
 
 pub returns : goal.returns
 returns c = λ past fed text cut.
-    let empty : c.args.rest.now ≡ [] = nil_from_length _ (eqb-true _ 0 (sym c.is_empty.ensures ∙ c.if-not-is_empty.false)) in
-    fed_serial c.args.self past text c.args.rest.now c.new.result fed (sym c.is_done.ensures ∙ c.if-not-is_done.false) empty cut c.new.ensures
+    let empty : c.args.rest.now ≡ [] =
+    nil_from_length _ (eqb-true _ 0 (sym c.is_empty.ensures ∙ c.if-not-is_empty.false)) in
+    fed_serial c.args.self past text c.args.rest.now c.new.result fed (sym c.is_done.ensures ∙ c.if-not-is_done.false)
+    empty cut c.new.ensures
