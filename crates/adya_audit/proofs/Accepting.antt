@@ -1,5 +1,5 @@
 -- When a verdict is yes.
-use Rattle.std.proofs.Common.{◌≡◌, ◌↔◌, ℕ, Bool, true, false, cond, List, Option, Some, None, Result, Ok, Err, IfOk, refl, sym, ◌∙◌, ap, subst}
+use Rattle.std.proofs.Common.{◌≡◌, ◌↔◌, ℕ, Bool, true, false, cond, List, Option, Some, None, Result, Ok, Err, IfOk, refl, sym, ◌∙◌, ap}
 use Rattle.std.specs.declared.alloc.AllocError.{AllocError}
 use Rattle.adya_terms.specs.declared.fault.CheckFault.{CheckFault}
 use Rattle.adya_terms.specs.declared.fault.CheckFault.TheVariants as Checked
@@ -67,9 +67,7 @@ module _ (h : History) (ts : List ℕ) (shape : is_shape h.orders h.finals ≡ t
   result_yes (Ok v) e = yes_exactly v e
   result_yes (Err x) e = tt
 
-  pub result_promise : AcceptedIsSerializable → (r : Result VerdictValue AllocError)
-      → IfOk r (λ v. plain_verdict v ≡ verdict_of h ts) → r ≡ Ok Said.Yes → IsSerializableBy h ts
-  result_promise serial (Ok v) e y =
-      let is : v ≡ Said.Yes = cc (y) in
-      serial h ts shape ((yes_exactly v e).0 is)
-  result_promise serial (Err x) e y = absurd (cc (y))
+  pub result_promise : AcceptedIsSerializable → (r : Result VerdictValue AllocError) → IfOk r (λ v. plain_verdict v ≡ verdict_of h ts)
+      → IfOk r (λ v. v ≡ Said.Yes → IsSerializableBy h ts)
+  result_promise serial (Ok v) e = λ (y : v ≡ Said.Yes). serial h ts shape ((yes_exactly v e).0 y)
+  result_promise serial (Err x) e = tt

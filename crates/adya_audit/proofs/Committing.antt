@@ -1,5 +1,5 @@
 -- The steps of the loop that notes who commits.
-use Rattle.std.proofs.Common.{◌≡◌, ℕ, ◌+◌, ◌==◌, ◌<◌, Bool, true, false, cond, ◌||◌, List, ◌∷◌, map, drop, get_or, length, nat_cmp, is_eq, refl, sym, ◌∙◌, ap}
+use Rattle.std.proofs.Common.{◌≡◌, ℕ, ◌+◌, ◌==◌, ◌<◌, Bool, true, false, cond, ◌||◌, List, map, drop, get_or, length, nat_cmp, is_eq, refl, sym, ◌∙◌, ap}
 use Rattle.adya_terms.specs.declared.event.Event.{Event as EventValue}
 use Rattle.adya_terms.specs.declared.event.Event.TheVariants as In
 use Rattle.adya_terms.specs.Histories.{event_of}

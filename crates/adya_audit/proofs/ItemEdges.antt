@@ -1,8 +1,8 @@
 -- The dependencies of an item event, by who comes next in the line of its key.
-use Rattle.std.proofs.Common.{◌≡◌, ℕ, zero, suc, ◌+◌, ◌==◌, ◌<◌, ◌≤◌, Bool, true, false, cond, not, ◌&&◌, ◌||◌, List, [], ◌∷◌, ◌++◌, map, length, Option, Some, None, slice_get, find, filter, flat_map, refl, sym, ◌∙◌, ap, subst, arith, inl, inr, append-nil}
+use Rattle.std.proofs.Common.{◌≡◌, ℕ, zero, suc, ◌+◌, ◌==◌, ◌<◌, ◌≤◌, Bool, true, false, cond, not, ◌&&◌, ◌||◌, List, [], ◌∷◌, ◌++◌, length, Option, Some, None, slice_get, find, filter, flat_map, refl, sym, ◌∙◌, ap, arith, inl, inr, append-nil}
 use Rattle.std.specs.Option.{option_or}
 use Rattle.std.specs.List.{list_any}
-use Rattle.std.proofs.lemmas.Bool.{cases_Bool, cases_eq, eqb-true, eq-eqb, ne_eqb, or_parts, and_from, and_left, and_right}
+use Rattle.std.proofs.lemmas.Bool.{cases_Bool, cases_eq, eq-eqb, ne_eqb, or_parts, and_from, and_left, and_right}
 use Rattle.std.proofs.lemmas.Option.{slice_get_past}
 use Rattle.std.proofs.lemmas.Cmp.{nat_list_eq_equiv}
 use Rattle.std.proofs.lemmas.List.Folds.{find-append}
@@ -10,10 +10,10 @@ use Rattle.adya_terms.specs.declared.event.Event.{Event as EventValue}
 use Rattle.adya_terms.specs.declared.event.Event.TheVariants as In
 use Rattle.adya_terms.specs.declared.event.Version.{Version}
 use Rattle.adya_terms.specs.Keys.{key_eq}
-use Rattle.adya_terms.specs.Histories.{Event, Read, Order, History, event_of, value_of}
+use Rattle.adya_terms.specs.Histories.{Read, Order, History, event_of, value_of}
 use Rattle.adya_terms.specs.Orders.{writers, line_of, installer, place}
 use Rattle.adya_terms.specs.Selections.{selected}
-use Rattle.adya_terms.specs.Edges.{Ww, Wr, Rw, Edge}
+use Rattle.adya_terms.specs.Edges.{Wr, Rw, Edge}
 use Rattle.adya_terms.specs.EdgeList.{numbers, joined, place_edges, read_edges, overwrite_edges, event_edges}
 use Rattle.adya_audit.specs.Next.{next_of}
 use Rattle.adya_audit.specs.Backward.{read_dependencies, item_edges}

@@ -1,5 +1,5 @@
 -- The steps of the loop that notes where each transaction stands.
-use Rattle.std.proofs.Common.{◌≡◌, ℕ, suc, ◌+◌, ◌==◌, ◌<◌, ◌≤◌, Bool, true, false, cond, List, [], ◌∷◌, length, Option, Some, None, is_some, nat_cmp, is_eq, refl, sym, ◌∙◌, ap, subst, arith, add-one, zero-add, inl, inr}
+use Rattle.std.proofs.Common.{◌≡◌, ℕ, suc, ◌+◌, ◌==◌, ◌<◌, true, false, cond, List, [], ◌∷◌, length, Option, Some, None, is_some, nat_cmp, is_eq, refl, sym, ◌∙◌, ap, arith, add-one, zero-add, inl, inr}
 use Rattle.std.specs.List.{count_by}
 use Rattle.std.specs.Option.{option_or, unwrap_or}
 use Rattle.std.proofs.lemmas.Bool.{cases_eq, eq-eqb, ne_eqb}

@@ -1,10 +1,10 @@
 -- The write dependencies of a key are those of its line.
-use Rattle.std.proofs.Common.{◌≡◌, ℕ, zero, suc, ◌+◌, ◌<◌, Bool, true, List, [], ◌∷◌, ◌++◌, map, length, get_or, Option, Some, slice_get, flat_map, refl, sym, ◌∙◌, ap, arith}
+use Rattle.std.proofs.Common.{◌≡◌, ℕ, zero, suc, ◌+◌, true, List, [], ◌∷◌, ◌++◌, map, length, Option, Some, slice_get, flat_map, refl, ◌∙◌, ap, arith}
 use Rattle.adya_terms.specs.declared.order.Order.{Order as OrderValue}
 use Rattle.adya_terms.specs.Keys.{keys_rise}
-use Rattle.adya_terms.specs.Histories.{Order, History, order_of}
+use Rattle.adya_terms.specs.Histories.{History, order_of}
 use Rattle.adya_terms.specs.Orders.{writers, line_of, installer}
-use Rattle.adya_terms.specs.Edges.{Ww, Edge}
+use Rattle.adya_terms.specs.Edges.{Ww}
 use Rattle.adya_terms.specs.EdgeList.{numbers, joined, write_edges}
 use Rattle.adya_audit.specs.Backward.{line_edges}
 use Rattle.adya_audit.proofs.Keys.{line_of-at}

@@ -45,6 +45,13 @@ pub record AreAccepted (history_bytes serial_bytes : List ℕ) : Type 0 where
   pub history_read : IsTextOf history_bytes history
   pub certificate_read : IsSerialTextOf serial_bytes certificate
   pub accepted : IsAccepted history certificate
+
+-- the texts are those of a history and a certificate by which it is serializable
+pub record AreSerializable (history_bytes serial_bytes : List ℕ) : Type 0 where
+  pub history : History
+  pub certificate : List ℕ
+  pub history_read : IsTextOf history_bytes history
+  pub certificate_read : IsSerialTextOf serial_bytes certificate
   pub serializable : IsSerializableBy history certificate
 
 -- the same of one stream, cut behind its first line `end`
@@ -53,3 +60,6 @@ IsVerdictOnStream stream v = IsVerdictOn (history_part stream) (serial_part stre
 
 abbrev pub IsAcceptedStream : List ℕ → Type 0
 IsAcceptedStream stream = AreAccepted (history_part stream) (serial_part stream)
+
+abbrev pub IsSerializableStream : List ℕ → Type 0
+IsSerializableStream stream = AreSerializable (history_part stream) (serial_part stream)

@@ -1,16 +1,14 @@
 -- Verdicts as plain values, and what the verdict on a history and a certificate is.
-use Rattle.std.specs.Prelude.{ℕ, if◌then◌else◌, List, ◌++◌, Option, Some, None, decimal, codes}
+use Rattle.std.specs.Prelude.{ℕ, if◌then◌else◌, List, Option, Some, None}
 use Rattle.adya_terms.specs.declared.event.Version.{Version}
 use Rattle.adya_terms.specs.declared.fault.Rule.{Rule}
-use Rattle.adya_terms.specs.declared.fault.Rule.TheVariants.{M1, M2, M3, M4, M5, M6, M7, M8}
 use Rattle.adya_terms.specs.declared.fault.CheckFault.{CheckFault}
 use Rattle.adya_terms.specs.declared.fault.CheckFault.TheVariants as Checked
 use Rattle.adya_terms.specs.Histories.{History}
-use Rattle.adya_terms.specs.Edges.{Kind, Ww, Wr, Rw, Edge}
+use Rattle.adya_terms.specs.Edges.{Edge}
 use Rattle.adya_terms.specs.Faults.{first_fault}
 use Rattle.adya_terms.specs.Certificates.{lists_the_committed, first_backward}
 use Rattle.adya_text.specs.declared.read_fault.Text.{Text}
-use Rattle.adya_text.specs.declared.read_fault.Text.TheVariants as In
 use Rattle.adya_audit.specs.declared.verdict.Verdict.{Verdict as VerdictValue}
 use Rattle.adya_audit.specs.declared.verdict.Verdict.TheVariants as Said
 use Rattle.adya_audit.specs.Edges.{edge_of}

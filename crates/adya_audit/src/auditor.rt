@@ -1,6 +1,6 @@
 //! The verdict on a history and a certificate.
 
-ghost use Rattle.std.specs.Prelude.{◌≡◌, ◌↔◌, IfOk, Ok};
+ghost use Rattle.std.specs.Prelude.{◌≡◌, ◌↔◌, IfOk};
 ghost use Rattle.adya_terms.specs.Values.{history_of};
 ghost use Rattle.adya_terms.specs.Acceptance.{IsAccepted};
 ghost use Rattle.adya_audit.specs.Verdicts.{plain_verdict, verdict_of};
@@ -18,7 +18,7 @@ use std::alloc::{AllocError, Global};
 pub fn audit(alloc: Global, history: &History, serial: &Serial) -> Result<Verdict, AllocError>
     ensures verdict { IfOk result (λ v. plain_verdict v ≡ verdict_of (history_of history.now) serial.now.txns.items) }
     ensures yes { IfOk result (λ v. (v ≡ Verdict.Yes) ↔ IsAccepted (history_of history.now) serial.now.txns.items) }
-    ensures promise { result ≡ Ok Verdict.Yes → IsSerializableBy (history_of history.now) serial.now.txns.items }
+    ensures promise { IfOk result (λ v. v ≡ Verdict.Yes → IsSerializableBy (history_of history.now) serial.now.txns.items) }
 {
     yes_where_accepted();
     accepted_is_serializable();

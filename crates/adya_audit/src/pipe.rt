@@ -5,7 +5,7 @@ ghost use Rattle.std.specs.Io.KnownBytes.{Appends};
 ghost use Rattle.adya_terms.specs.Watched.{has_failed, watched_remaining, watched_contents};
 ghost use Rattle.adya_audit.specs.Verdicts.{plain_verdict};
 ghost use Rattle.adya_audit.specs.Output.{verdict_line};
-ghost use Rattle.adya_audit.specs.TextVerdicts.{IsVerdictOn, AreAccepted, IsVerdictOnStream, IsAcceptedStream};
+ghost use Rattle.adya_audit.specs.TextVerdicts.{IsVerdictOn, AreAccepted, AreSerializable, IsVerdictOnStream, IsAcceptedStream, IsSerializableStream};
 
 use crate::stream::{end_of_history, read_all};
 use crate::{RunFault, Verdict, audit, write_verdict};
@@ -27,6 +27,8 @@ pub fn run_pipe<R: Read, W: Write>(
         (λ stream. IsVerdictOnStream stream (plain_verdict v))) }
     ensures yes { IfOk result (λ v. IfSome (watched_remaining R.remaining input.old)
         (λ stream. (v ≡ Verdict.Yes) ↔ IsAcceptedStream stream)) }
+    ensures promise { IfOk result (λ v. IfSome (watched_remaining R.remaining input.old)
+        (λ stream. v ≡ Verdict.Yes → IsSerializableStream stream)) }
     ensures written { IfOk result (λ v. Appends (watched_contents W.contents out.old) (watched_contents W.contents out.new)
         (verdict_line (plain_verdict v))) }
     ensures ended { OnOk result (has_failed input.new ≡ false) }
@@ -43,6 +45,7 @@ pub fn run_pipe<R: Read, W: Write>(
 fn verdict_on_stream(alloc: Global, stream: &[u8]) -> Result<Verdict, AllocError>
     ensures verdict { IfOk result (λ v. IsVerdictOnStream stream.now (plain_verdict v)) }
     ensures yes { IfOk result (λ v. (v ≡ Verdict.Yes) ↔ IsAcceptedStream stream.now) }
+    ensures promise { IfOk result (λ v. v ≡ Verdict.Yes → IsSerializableStream stream.now) }
 {
     let end = end_of_history(stream);
     verdict_on_texts(alloc, &stream[..end], &stream[end..])
@@ -51,6 +54,7 @@ fn verdict_on_stream(alloc: Global, stream: &[u8]) -> Result<Verdict, AllocError
 fn verdict_on_texts(alloc: Global, history: &[u8], serial: &[u8]) -> Result<Verdict, AllocError>
     ensures verdict { IfOk result (λ v. IsVerdictOn history.now serial.now (plain_verdict v)) }
     ensures yes { IfOk result (λ v. (v ≡ Verdict.Yes) ↔ AreAccepted history.now serial.now) }
+    ensures promise { IfOk result (λ v. v ≡ Verdict.Yes → AreSerializable history.now serial.now) }
 {
     let history = match read_history(alloc, history) {
         Ok(history) => history,

@@ -1,4 +1,4 @@
-use Rattle.std.proofs.Common.{◌≡◌, ◌∙◌, sym, ap, true, false, nat_cmp}
+use Rattle.std.proofs.Common.{◌≡◌, ◌∙◌, sym, ap, true, nat_cmp}
 use Rattle.std.specs.BTreeMap.{get}
 use Rattle.std.specs.BTreeSet.{contains}
 use Rattle.adya_terms.specs.Histories.{Event, event_of}

@@ -1,4 +1,4 @@
-use Rattle.std.proofs.Common.{◌≡◌, ◌∙◌, sym, ap, None, find, option_map}
+use Rattle.std.proofs.Common.{◌∙◌, sym, ap, find}
 use Rattle.adya_terms.specs.Histories.{Order, order_of}
 use Rattle.adya_audit.specs.Edges.{edge_of}
 use Rattle.adya_audit.specs.Backward.{is_backward, line_edges}

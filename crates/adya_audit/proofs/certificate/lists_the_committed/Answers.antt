@@ -1,4 +1,4 @@
-use Rattle.std.proofs.Common.{◌≡◌, ◌&&◌, is_some, map, ◌∙◌, sym, ap, nat_cmp}
+use Rattle.std.proofs.Common.{◌&&◌, is_some, map, ◌∙◌, sym, ap, nat_cmp}
 use Rattle.std.specs.List.{list_all}
 use Rattle.std.specs.BTreeMap.{get}
 use Rattle.std.specs.BTreeSet.{contains}

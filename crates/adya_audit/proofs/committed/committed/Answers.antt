@@ -1,4 +1,4 @@
-use Rattle.std.proofs.Common.{◌≡◌, sym, ◌∙◌, ap, BTreeSet, nat_cmp, Global}
+use Rattle.std.proofs.Common.{◌∙◌, ap, nat_cmp}
 use Rattle.std.specs.BTreeSet.{contains}
 use Rattle.adya_audit.proofs.Committing.{noted_commit, noted_other}
 use Rattle.adya_audit.proofs.committed.committed.Goals as goal

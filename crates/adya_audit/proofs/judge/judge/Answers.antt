@@ -1,6 +1,6 @@
-use Rattle.std.proofs.Common.{◌≡◌, ◌<◌, ℕ, List, ◌∙◌, sym, ap, subst, cond, false}
+use Rattle.std.proofs.Common.{◌<◌, ℕ, List, sym, ap, subst, cond}
 use Rattle.adya_terms.specs.Values.{history_of}
-use Rattle.adya_terms.specs.Certificates.{lists_the_committed, first_backward}
+use Rattle.adya_terms.specs.Certificates.{first_backward}
 use Rattle.adya_audit.specs.Verdicts.{NotTheCommitted, edge_verdict}
 use Rattle.adya_audit.proofs.Placing.{count}
 use Rattle.adya_audit.proofs.Counts.{twice_fails}

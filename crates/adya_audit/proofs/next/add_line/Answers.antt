@@ -1,4 +1,4 @@
-use Rattle.std.proofs.Common.{◌≡◌, ℕ, ◌-◌, ◌≤◌, length, drop, slice_get, List, Some, Option, cond, is_eq, ◌∙◌, sym, ap, subst, arith}
+use Rattle.std.proofs.Common.{◌≡◌, ℕ, drop, slice_get, List, Some, Option, cond, is_eq, ◌∙◌, sym, ap, subst, arith}
 use Rattle.std.specs.BTreeMap.{get}
 use Rattle.adya_audit.specs.Next.{slot, slot_cmp, next_of, with_line}
 use Rattle.adya_audit.proofs.Steps.{drop_back, slice_get-drop, got}

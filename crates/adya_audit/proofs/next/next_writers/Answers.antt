@@ -1,4 +1,4 @@
-use Rattle.std.proofs.Common.{◌≡◌, ℕ, ◌-◌, ◌≤◌, length, drop, slice_get, List, Some, Option, map, ◌∙◌, sym, ap, subst, arith}
+use Rattle.std.proofs.Common.{◌≡◌, List, map, ◌∙◌, sym, ap, subst, arith}
 use Rattle.std.specs.BTreeMap.{get}
 use Rattle.adya_terms.specs.declared.order.Order.{Order as OrderValue}
 use Rattle.adya_terms.specs.Histories.{order_of}

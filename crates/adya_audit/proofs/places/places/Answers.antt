@@ -1,4 +1,4 @@
-use Rattle.std.proofs.Common.{◌≡◌, ℕ, ◌+◌, cond, true, false, Option, Some, None, is_some, List, ◌∷◌, drop, ◌∙◌, sym, ap, subst, nat_cmp}
+use Rattle.std.proofs.Common.{◌≡◌, ◌+◌, cond, None, is_some, drop, ◌∙◌, sym, ap, subst, nat_cmp}
 use Rattle.std.specs.Option.{option_or}
 use Rattle.std.specs.BTreeMap.{get}
 use Rattle.adya_audit.specs.Places.{placed}

@@ -1,4 +1,3 @@
-use Rattle.std.proofs.Common.{◌≡◌}
 use Rattle.std.specs.Io.KnownBytes.{Consumes}
 use Rattle.adya_terms.specs.Watched.{reads_left, watched_remaining}
 use Rattle.adya_audit.proofs.stream.read_all.Given as goal
