@@ -18,7 +18,7 @@ enum Words {
     NoMemory,
 }
 
-fn words(rt: &HostRuntime) -> Words {
+fn given(rt: &HostRuntime) -> Words {
     match std::env::args(rt) {
         Ok(args) => {
             if args.count() > 1 {
@@ -48,7 +48,7 @@ fn audit_standard_input(rt: &HostRuntime) -> u8 {
 }
 
 fn run(rt: &HostRuntime) -> u8 {
-    let told = match words(rt) {
+    let told = match given(rt) {
         Words::None => return audit_standard_input(rt),
         Words::NoMemory => {
             let _ = eprintln!(rt; "ssi: memory");
