@@ -1,5 +1,5 @@
 -- What the parts of a check say, in the words of the whole.
-use Rattle.std.proofs.Common.{◌≡◌, ◌+◌, ◌||◌, not, List, [], ◌++◌, map, length, sym, ◌∙◌, ap, subst, arith}
+use Rattle.std.proofs.Common.{◌≡◌, ◌+◌, not, List, [], map, length, ap, subst, arith}
 use Rattle.std.specs.List.{list_all, list_any}
 use Rattle.std.proofs.Math.Bool.{or-false}
 use Rattle.std.proofs.lemmas.List.{length-map}

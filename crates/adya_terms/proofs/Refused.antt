@@ -1,5 +1,5 @@
 -- The reads that a test refuses, event by event.
-use Rattle.std.proofs.Common.{◌≡◌, ℕ, suc, ◌+◌, Bool, true, false, cond, not, ◌&&◌, List, [], ◌∷◌, ◌++◌, Some, map, filter, drop, take, refl, sym, ◌∙◌, ap, arith}
+use Rattle.std.proofs.Common.{◌≡◌, ℕ, suc, ◌+◌, Bool, true, false, cond, not, ◌&&◌, List, [], ◌∷◌, ◌++◌, Some, map, filter, drop, sym, ◌∙◌, ap, arith}
 use Rattle.adya_terms.specs.declared.event.Version.{Version}
 use Rattle.adya_terms.specs.declared.fault.CheckFault.{CheckFault}
 use Rattle.adya_terms.specs.Histories.{Entry, Event}

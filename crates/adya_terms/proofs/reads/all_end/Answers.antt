@@ -1,7 +1,6 @@
-use Rattle.std.proofs.Common.{◌≡◌, ◌∙◌, sym, ap, map, true, ◌||◌}
-use Rattle.std.specs.List.{list_any}
+use Rattle.std.proofs.Common.{◌≡◌, ◌∙◌, sym, ap, map}
 use Rattle.adya_terms.specs.Histories.{event_of}
-use Rattle.adya_terms.specs.Events.{txn_of, is_committed, aborts, has_ended}
+use Rattle.adya_terms.specs.Events.{txn_of, has_ended}
 use Rattle.adya_terms.proofs.Turns.{list_all_goes}
 use Rattle.adya_terms.proofs.reads.all_end.Goals as goal
 
