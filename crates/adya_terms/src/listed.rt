@@ -219,7 +219,8 @@ pub(crate) fn check_orders(
     Ok(())
 }
 
-/// The rule is broken so many lines after the line; `Memory` where that line has no number.
+/// The rule is broken so many lines after the line; `Memory` where that line's number is above `usize::MAX`, which
+/// no memory holds.
 pub(crate) fn broken(line: usize, after: usize, rule: Rule) -> CheckFault
     ensures { (result ≡ CheckFault.Malformed (line + after) rule) ⊎ (result ≡ CheckFault.Memory) }
 {

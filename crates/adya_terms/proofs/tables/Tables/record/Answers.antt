@@ -13,7 +13,13 @@ returns-in_ok-insert-in-Write-2 c all before m found next =
     let number = ap (λ x. is_next before (written (event_of x))) (sym c.in-Write.is) ∙ next in
     rw c.in-Write.is
     (tell_write _ _ _ _ all before m c.args.at _ w
-    (record { found = found ∙ ap (λ x. Some (event_of x)) c.in-Write.is; wrote = refl; commits_none = λ t. refl; aborts_none = λ t. refl })
+    (record {
+      found = found ∙ ap (λ x. Some (event_of x)) c.in-Write.is;
+      wrote = refl;
+      commits_none =
+          λ t. refl;
+      aborts_none = λ t. refl;
+    })
     (eqb-true _ _ number) _ _ c.in_ok-insert-in-Write-2.ensures.updates.0 c.in_ok-insert-in-Write.ensures.updates.0)
 
 pub returns-in-Read : goal.returns-in-Read
