@@ -14,7 +14,7 @@ use Rattle.adya_terms.specs.declared.listed.Times.{Times}
 use Rattle.adya_terms.specs.declared.listed.Times.TheVariants.{Once, More}
 use Rattle.adya_terms.specs.Keys.{key_eq}
 use Rattle.adya_terms.specs.Histories.{Entry, Event, Order, History, One, event_of, order_of, final_of}
-use Rattle.adya_terms.specs.Events.{txn_of, observed, written, is_committed, aborts, last_write}
+use Rattle.adya_terms.specs.Events.{txn_of, observed, is_committed, aborts, last_write}
 use Rattle.adya_terms.specs.Rules.{installs}
 use Rattle.adya_terms.specs.Faults.{first, is_entry, fault_unless, all_end, order_faults, has_lines, final_faults, has_finals}
 use Rattle.adya_terms.specs.Tables.{own, own_cmp}

@@ -27,10 +27,8 @@ impl<'a> Checked<'a> {
     /// Checks the history: its first fault, in the order of kinds, lines and rules, or `CheckFault::Memory` where
     /// memory runs out, which says nothing of the history.
     pub fn of(alloc: Global, history: &'a History) -> Result<Checked<'a>, CheckFault>
-        ensures found {
-            MatchResult result (λ c. first_fault (history_of history.now) ≡ None)
-                (IsFault (first_fault (history_of history.now)))
-        }
+        ensures found { MatchResult result (λ c. first_fault (history_of history.now) ≡ None)
+            (IsFault (first_fault (history_of history.now))) }
         ensures same { IfOk result (λ c. c.history.now ≡ history.now) }
     {
         if let Err(fault) = check(alloc, history.events(), history.orders(), history.finals()) {
@@ -48,13 +46,16 @@ impl<'a> Checked<'a> {
     }
 }
 
-fn check(alloc: Global, events: &[Event], orders: &[Order], finals: &[FinalPair]) -> Result<(), CheckFault>
+fn check(
+    alloc: Global,
+    events: &[Event],
+    orders: &[Order],
+    finals: &[FinalPair],
+) -> Result<(), CheckFault>
     requires orders_rise { keys_rise (map (λ o. o.key) (map order_of orders.now)) ≡ true }
     requires finals_rise { keys_rise (map (λ f. f.key) (map final_of finals.now)) ≡ true }
-    ensures {
-        let faults = check_faults (parts events.now orders.now finals.now) in
-        MatchResult result (λ u. faults ≡ []) (Names faults)
-    }
+    ensures { let faults = check_faults (parts events.now orders.now finals.now) in
+        MatchResult result (λ u. faults ≡ []) (Names faults) }
 {
     let tables = match tables_of(alloc, events) {
         Ok(tables) => tables,
@@ -81,10 +82,8 @@ fn check_rules(
     requires tell { Means tables.now (map event_of events.now) (map event_of events.now) }
     requires orders_rise { keys_rise (map (λ o. o.key) (map order_of orders.now)) ≡ true }
     requires finals_rise { keys_rise (map (λ f. f.key) (map final_of finals.now)) ≡ true }
-    ensures {
-        let faults = rule_faults (parts events.now orders.now finals.now) line in
-        MatchResult result (λ u. faults ≡ []) (Names faults)
-    }
+    ensures { let faults = rule_faults (parts events.now orders.now finals.now) line in
+        MatchResult result (λ u. faults ≡ []) (Names faults) }
 {
     if !all_end(tables, events) {
         return Err(CheckFault::Malformed {
@@ -112,10 +111,8 @@ fn check_later(
     requires tell { Means tables.now (map event_of events.now) (map event_of events.now) }
     requires orders_rise { keys_rise (map (λ o. o.key) (map order_of orders.now)) ≡ true }
     requires finals_rise { keys_rise (map (λ f. f.key) (map final_of finals.now)) ≡ true }
-    ensures {
-        let faults = later_faults (parts events.now orders.now finals.now) line in
-        MatchResult result (λ u. faults ≡ []) (Names faults)
-    }
+    ensures { let faults = later_faults (parts events.now orders.now finals.now) line in
+        MatchResult result (λ u. faults ≡ []) (Names faults) }
 {
     if !has_lines(tables, events, orders) {
         return Err(CheckFault::Malformed {

@@ -26,9 +26,7 @@ pub(crate) fn all_end(tables: &Tables, events: &[Event]) -> bool
 
 /// The version of an aborted transaction that the event reads, where its transaction is committed.
 fn aborted_read(tables: &Tables, event: &Event) -> Option<Version>
-    ensures {
-        (all : List EventValue) → Means tables.now all all → IsFirst (refused (is_not_aborted all) all (event_of event.now)) result
-    }
+    ensures { (all : List EventValue) → Means tables.now all all → IsFirst (refused (is_not_aborted all) all (event_of event.now)) result }
 {
     let Some(Entry { version, .. }) = seen(event) else {
         return None;
@@ -46,11 +44,9 @@ fn aborted_read(tables: &Tables, event: &Event) -> Option<Version>
 /// G1a: the first read of a version of an aborted transaction by a committed one.
 pub(crate) fn check_aborted(tables: &Tables, events: &[Event]) -> Result<(), CheckFault>
     requires { Means tables.now (map event_of events.now) (map event_of events.now) }
-    ensures {
-        let all = map event_of events.now in
+    ensures { let all = map event_of events.now in
         let faults = bad_reads (is_not_aborted all) CheckFault.AbortedRead all 2 all in
-        MatchResult result (λ u. faults ≡ []) (Names faults)
-    }
+        MatchResult result (λ u. faults ≡ []) (Names faults) }
 {
     for (i, event) in events.iter().enumerate() {
         if let Some(version) = aborted_read(tables, event) {
@@ -65,13 +61,11 @@ pub(crate) fn check_aborted(tables: &Tables, events: &[Event]) -> Result<(), Che
 
 /// Whether the transaction itself wrote the entry, or it is its writer's last write of the key.
 fn is_own_or_last(tables: &Tables, events: &[Event], txn: Txn, seen: &Entry) -> bool
-    ensures {
-        let all = map event_of events.now in
+    ensures { let all = map event_of events.now in
         Means tables.now all all
-            → result
-                ≡ ((seen.now.version.txn == txn)
-                    || is_entry (last_write seen.now.version.txn seen.now.version.key all) (entry_of seen.now))
-    }
+        → result
+        ≡ ((seen.now.version.txn == txn)
+        || is_entry (last_write seen.now.version.txn seen.now.version.key all) (entry_of seen.now)) }
 {
     if seen.version.txn == txn {
         return true;
@@ -85,10 +79,8 @@ fn is_own_or_last(tables: &Tables, events: &[Event], txn: Txn, seen: &Entry) -> 
 /// The version that the event reads and that is not its writer's last of the key, where the event's transaction is
 /// committed and didn't write it.
 fn intermediate_read(tables: &Tables, events: &[Event], event: &Event) -> Option<Version>
-    ensures {
-        let all = map event_of events.now in
-        Means tables.now all all → IsFirst (refused (is_own_or_last all) all (event_of event.now)) result
-    }
+    ensures { let all = map event_of events.now in
+        Means tables.now all all → IsFirst (refused (is_own_or_last all) all (event_of event.now)) result }
 {
     let Some(seen) = seen(event) else {
         return None;
@@ -106,11 +98,9 @@ fn intermediate_read(tables: &Tables, events: &[Event], event: &Event) -> Option
 /// G1b: the first read of a version of another that isn't that one's last write of the key by a committed one.
 pub(crate) fn check_intermediate(tables: &Tables, events: &[Event]) -> Result<(), CheckFault>
     requires { Means tables.now (map event_of events.now) (map event_of events.now) }
-    ensures {
-        let all = map event_of events.now in
+    ensures { let all = map event_of events.now in
         let faults = bad_reads (is_own_or_last all) CheckFault.IntermediateRead all 2 all in
-        MatchResult result (λ u. faults ≡ []) (Names faults)
-    }
+        MatchResult result (λ u. faults ≡ []) (Names faults) }
 {
     for (i, event) in events.iter().enumerate() {
         if let Some(version) = intermediate_read(tables, events, event) {

@@ -7,26 +7,22 @@ ghost use Rattle.adya_terms.specs.Faults as faults;
 ghost use Rattle.adya_terms.specs.Tables.{Means};
 ghost use Rattle.adya_terms.specs.Checks.{Names};
 
-use crate::tables::{Tables, Entry, wrote};
+use crate::tables::{Entry, Tables, wrote};
 use crate::{CheckFault, Event, Rule};
 use std::alloc::Global;
 
 /// M1: the event's transaction has not ended before.
 fn is_open(tables: &Tables, event: &Event) -> bool
-    ensures {
-        (all before : List EventValue) → Means tables.now all before → result ≡ faults.is_open before (event_of event.now)
-    }
+    ensures { (all before : List EventValue) → Means tables.now all before → result ≡ faults.is_open before (event_of event.now) }
 {
     !tables.has_ended(event.txn())
 }
 
 /// M2: the transaction's writes of a key are numbered from 1.
 fn is_next(tables: &Tables, events: &[Event], event: &Event) -> bool
-    ensures {
-        (before : List EventValue)
-            → Means tables.now (map event_of events.now) before
-            → result ≡ faults.is_next before (written (event_of event.now))
-    }
+    ensures { (before : List EventValue)
+        → Means tables.now (map event_of events.now) before
+        → result ≡ faults.is_next before (written (event_of event.now)) }
 {
     let Some(new) = wrote(event) else {
         return true;
@@ -40,11 +36,9 @@ fn is_next(tables: &Tables, events: &[Event], event: &Event) -> bool
 
 /// M3: what is read was written before.
 fn was_written(tables: &Tables, events: &[Event], event: &Event) -> bool
-    ensures {
-        (before : List EventValue)
-            → Means tables.now (map event_of events.now) before
-            → result ≡ faults.was_written before (event_of event.now)
-    }
+    ensures { (before : List EventValue)
+        → Means tables.now (map event_of events.now) before
+        → result ≡ faults.was_written before (event_of event.now) }
 {
     match *event {
         Event::Read { version, value, .. } => {
@@ -58,11 +52,9 @@ fn was_written(tables: &Tables, events: &[Event], event: &Event) -> bool
 
 /// M4: of a key that it has written a transaction reads its own last write.
 fn sees_own(tables: &Tables, events: &[Event], event: &Event) -> bool
-    ensures {
-        (before : List EventValue)
-            → Means tables.now (map event_of events.now) before
-            → result ≡ faults.sees_own before (event_of event.now)
-    }
+    ensures { (before : List EventValue)
+        → Means tables.now (map event_of events.now) before
+        → result ≡ faults.sees_own before (event_of event.now) }
 {
     match *event {
         Event::Read {
@@ -81,13 +73,11 @@ fn sees_own(tables: &Tables, events: &[Event], event: &Event) -> bool
 
 /// The first rule that the event breaks.
 fn broken_rule(tables: &Tables, events: &[Event], event: &Event) -> Option<Rule>
-    ensures {
-        (before : List EventValue)
-            → Means tables.now (map event_of events.now) before
-            → (line : ℕ)
-            → MatchOption result (faults.faults_at before line (event_of event.now) ≡ [])
-                (λ r. faults.first (faults.faults_at before line (event_of event.now)) ≡ Some (CheckFault.Malformed line r))
-    }
+    ensures { (before : List EventValue)
+        → Means tables.now (map event_of events.now) before
+        → (line : ℕ)
+        → MatchOption result (faults.faults_at before line (event_of event.now) ≡ [])
+        (λ r. faults.first (faults.faults_at before line (event_of event.now)) ≡ Some (CheckFault.Malformed line r)) }
 {
     if !is_open(tables, event) {
         return Some(Rule::M1);
@@ -106,10 +96,8 @@ fn broken_rule(tables: &Tables, events: &[Event], event: &Event) -> Option<Rule>
 
 /// The tables of the events, where none breaks a rule.
 pub(crate) fn tables_of(alloc: Global, events: &[Event]) -> Result<Tables, CheckFault>
-    ensures {
-        let all = map event_of events.now in
-        MatchResult result (λ t. Means t all all × (faults.event_faults [] 2 all ≡ [])) (Names (faults.event_faults [] 2 all))
-    }
+    ensures { let all = map event_of events.now in
+        MatchResult result (λ t. Means t all all × (faults.event_faults [] 2 all ≡ [])) (Names (faults.event_faults [] 2 all)) }
 {
     let mut tables = Tables::new(alloc);
     for (i, event) in events.iter().enumerate() {

@@ -1,7 +1,6 @@
-use Rattle.std.proofs.Common.{◌≡◌, ◌∙◌, sym, ap, map, true, ◌||◌}
-use Rattle.std.specs.List.{list_any}
+use Rattle.std.proofs.Common.{◌≡◌, ◌∙◌, sym, ap, map}
 use Rattle.adya_terms.specs.Histories.{event_of}
-use Rattle.adya_terms.specs.Events.{txn_of, is_committed, aborts, has_ended}
+use Rattle.adya_terms.specs.Events.{txn_of, has_ended}
 use Rattle.adya_terms.proofs.Turns.{list_all_goes}
 use Rattle.adya_terms.proofs.reads.all_end.Goals as goal
 
@@ -13,5 +12,6 @@ loop-event-preserved c =
     let aborted = c.requires.aborted_is t in
     let ended : c.has_ended.result ≡ has_ended all t = cc in
     c.loop-event.invariant ∙
-    list_all_goes (λ e. has_ended all (txn_of e)) event_of c.args.events.now c.loop-event.event-index c.event-item.result c.loop-event-test.true c.event-item.is
+    list_all_goes (λ e. has_ended all (txn_of e)) event_of c.args.events.now c.loop-event.event-index
+    c.event-item.result c.loop-event-test.true c.event-item.is
     (ap (has_ended all) (sym c.txn.ensures) ∙ (sym ended ∙ c.if-not-has_ended.false))

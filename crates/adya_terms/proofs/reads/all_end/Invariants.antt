@@ -7,4 +7,5 @@ use Rattle.adya_terms.proofs.reads.all_end.Given as goal
 abbrev pub invariant-loop-event : goal.invariant-loop-event
 invariant-loop-event l =
     let all = map event_of l.events in
-    list_all (λ e. has_ended all (txn_of e)) all ≡ list_all (λ e. has_ended all (txn_of e)) (map event_of (drop l.event-index l.events))
+    list_all (λ e. has_ended all (txn_of e)) all ≡ list_all (λ e. has_ended all (txn_of e))
+    (map event_of (drop l.event-index l.events))
