@@ -8,7 +8,9 @@ use thiserror::Error;
 /// The two kinds of texts.
 #[derive(Clone, Copy, Debug, PartialEq, Eq, Drop)]
 pub enum Text {
+    /// The text of a history.
     History,
+    /// The text of a certificate.
     Serial,
 }
 
