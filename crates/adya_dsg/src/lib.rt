@@ -9,6 +9,8 @@ mod found;
 mod incoming;
 mod laws;
 mod ready;
+#[cfg(test)]
+mod tests;
 
 pub use choice::choose;
 pub use edge::{Edge, Kind};

@@ -1,15 +1,15 @@
-use Rattle.std.proofs.Common.{rules, ◌≡◌, ◌==◌, false, map, ◌||◌, true≢false, take, Contains, subst, ap, ◌∙◌, sym}
+use Rattle.std.proofs.Common.{rules, ◌≡◌, ℕ, List, ◌==◌, false, map, ◌||◌, true≢false, take, Contains, subst, ap, ◌∙◌, sym}
 use Rattle.std.specs.List.{list_any}
 use Rattle.std.specs.List.Sorted.{IsNonDecreasingBy}
 use Rattle.std.specs.Ordering.{nat_cmp}
 use Rattle.std.specs.BTreeSet.{contains}
 use Rattle.std.proofs.lemmas.List.Folds.{list_any_more}
-use Rattle.std.proofs.lemmas.List.Sorted.{IsNonDecreasingBy-from_sort_by_key, Contains-permutation, IsPermutation-sym}
+use Rattle.std.proofs.lemmas.List.Sorted.{IsNonDecreasingBy-from_sort_by_key}
 use Rattle.std.proofs.lemmas.List.{take_all}
 use Rattle.adya_dsg.specs.Values.{edge_of}
 use Rattle.adya_dsg.specs.Graphs.{IsOrder}
 use Rattle.adya_dsg.specs.Walks.{IsWalk}
-use Rattle.adya_dsg.proofs.Edges.{plain_known, each_plain}
+use Rattle.adya_dsg.proofs.Edges.{plain_known, each_plain, kept_through, known_before}
 use Rattle.adya_dsg.proofs.Counts.{Places, nothing_placed, one_placed, all_placed}
 use Rattle.adya_dsg.proofs.Paths.{cycle_known}
 use Rattle.adya_dsg.proofs.Sets.{added, none_in_empty, empty_if}
@@ -35,19 +35,25 @@ go_back-requires-clause-rises c = subst (IsNonDecreasingBy (λ e. e.to)) (sym c.
 
 pub returns-in-Round : goal.returns-in-Round
 returns-in-Round c =
-    let walk = subst (IsWalk c.deref.result.now c.place.left) c.in-Round.is c.in_ok-way.ensures in
-    cycle_known (map edge_of c.deref.result.now) (map edge_of c.args.edges.now) (map edge_of c.in-Round.way.items)
-    (each_plain (Contains (map edge_of c.args.edges.now)) c.deref.result.now
-    (λ e k. plain_known c.args.edges.now e (subst (λ xs. Contains xs e) c.in_ok-into.ensures.items (Contains-permutation _ _ e (IsPermutation-sym _ _ c.sort_by_key.ensures.permutation) (Contains-permutation _ _ e (IsPermutation-sym _ _ c.sort_by_key-2.ensures.permutation) (subst (λ xs. Contains xs e) c.deref.ensures.value k)))))) walk
+    let edges = c.args.edges.now in
+    let lent = c.deref.result.now in
+    let walk = subst (IsWalk lent c.place.left) c.in-Round.is c.in_ok-way.ensures in
+    cycle_known (map edge_of lent) (map edge_of edges) (map edge_of c.in-Round.way.items)
+    (each_plain (Contains (map edge_of edges)) lent (λ e k. plain_known edges e
+    (known_before edges _ _ _ lent c.in_ok-into.ensures.items c.sort_by_key.ensures.permutation c.sort_by_key-2.ensures.permutation c.deref.ensures.value e k))) walk
 
 pub place-preserved : goal.place-preserved
 place-preserved c =
-    let graph = map edge_of c.args.edges.now in
-    let walk = subst (IsWalk c.deref.result.now c.place.left) c.in-Start.is c.in_ok-way.ensures in
-    subst (λ xs. Places c.args.nodes.now xs graph (contains nat_cmp c.remove.new.self)) (sym c.in_ok-push-in-Start.ensures.items)
-    (one_placed c.args.nodes.now graph c.requires (contains nat_cmp c.place.left) (contains nat_cmp c.remove.new.self) c.place.placed.items c.in-Start.t c.place.invariant walk.0
-    (each_plain (λ e. e.to ≡ c.in-Start.t → contains nat_cmp c.place.left e.from ≡ false) c.args.edges.now (λ e in'. walk.1 e
-    (subst (λ xs. Contains xs e) (sym c.deref.ensures.value) (Contains-permutation _ _ e c.sort_by_key-2.ensures.permutation (Contains-permutation _ _ e c.sort_by_key.ensures.permutation (subst (λ xs. Contains xs e) (sym c.in_ok-into.ensures.items) in'))))))
+    let edges = c.args.edges.now in
+    let lent = c.deref.result.now in
+    let left = contains nat_cmp c.place.left in
+    let less = contains nat_cmp c.remove.new.self in
+    let t = c.in-Start.t in
+    let walk = subst (IsWalk lent c.place.left) c.in-Start.is c.in_ok-way.ensures in
+    subst (λ xs. Places c.args.nodes.now xs (map edge_of edges) less) (sym {A = List ℕ} c.in_ok-push-in-Start.ensures.items)
+    (one_placed c.args.nodes.now (map edge_of edges) c.requires left less c.place.placed.items t c.place.invariant walk.0
+    (each_plain (λ e. e.to ≡ t → left e.from ≡ false) edges (λ e k. walk.1 e
+    (kept_through edges _ _ _ lent c.in_ok-into.ensures.items c.sort_by_key.ensures.permutation c.sort_by_key-2.ensures.permutation c.deref.ensures.value e k)))
     c.remove.ensures.updates.0)
 
 pub returns : goal.returns

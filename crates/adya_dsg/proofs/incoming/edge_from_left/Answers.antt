@@ -2,7 +2,7 @@ use Rattle.std.proofs.Common.{◌≢◌, arith, sym, subst, ◌∙◌}
 use Rattle.std.specs.Ordering.{nat_cmp}
 use Rattle.std.specs.BTreeSet.{contains}
 use Rattle.adya_dsg.specs.declared.edge.Edge.{Edge}
-use Rattle.adya_dsg.proofs.Sorted.{one_more, none_at_all, none_from_here, differs}
+use Rattle.adya_dsg.proofs.Sorted.{one_more, none_from_here, differs}
 use Rattle.adya_dsg.proofs.incoming.edge_from_left.Goals as goal
 
 pub loop-i-init : goal.loop-i-init
