@@ -77,21 +77,27 @@ pub record Places (nodes placed : List ℕ) (graph : List Edge) (left : ℕ → 
   pub forward : (e : Edge) → Contains graph e → left e.to ≡ false → IsBefore placed e.from e.to
 
 module _ (nodes : List ℕ) (graph : List Edge) (ends : HasEnds nodes graph) where
-  pub nothing_placed : (left : ℕ → Bool) → ((q : ℕ) → left q ≡ list_any (λ u. u == q) nodes) → Places nodes [] graph left
+  pub nothing_placed : (left : ℕ → Bool) → ((q : ℕ) → left q ≡ list_any (λ u. u == q) nodes)
+      → Places nodes [] graph left
   nothing_placed left all = record {
     once = λ q. let same = ap (λ b. cond {A = ℕ} b 1 0) (all q) in omega (arith, same);
     forward = λ e in' n. absurd (true≢false (sym (ends e in').1 ∙ (sym (all e.to) ∙ n)));
   }
 
-  pub all_placed : (left : ℕ → Bool) (placed : List ℕ) → Places nodes placed graph left → ((q : ℕ) → left q ≡ false) → IsOrder nodes graph placed
+  pub all_placed : (left : ℕ → Bool) (placed : List ℕ) → Places nodes placed graph left
+      → ((q : ℕ) → left q ≡ false) → IsOrder nodes graph placed
   all_placed left placed p none = record {
-    nodes_once = λ q. let one = p.once q in let zero' = cond-false {A = ℕ} (left q) 1 0 (none q) in omega (arith, one, zero');
+    nodes_once = λ q. let one = p.once q in let zero' = cond-false {A = ℕ} (left q) 1 0 (none q) in
+        omega (arith, one, zero');
     forward = λ e in'. p.forward e in' (none e.to);
   }
 
-  pub one_placed : (was now : ℕ → Bool) (placed : List ℕ) (t : ℕ) → Places nodes placed graph was → was t ≡ true → ((e : Edge) → Contains graph e → e.to ≡ t → was e.from ≡ false) → ((q : ℕ) → now q ≡ cond (is_eq (nat_cmp t q)) false (was q)) → Places nodes (placed ++ t ∷ []) graph now
+  pub one_placed : (was now : ℕ → Bool) (placed : List ℕ) (t : ℕ) → Places nodes placed graph was → was t ≡ true
+      → ((e : Edge) → Contains graph e → e.to ≡ t → was e.from ≡ false)
+      → ((q : ℕ) → now q ≡ cond (is_eq (nat_cmp t q)) false (was q)) → Places nodes (placed ++ t ∷ []) graph now
   one_placed was now placed t p was_left ready up =
-      let taken : (q : ℕ) → t ≡ q → (now q ≡ false) × (was q ≡ true) = λ q e. (updated_here t q (now q) (was q) false (up q) e, subst (λ x. was x ≡ true) e was_left) in
+      let taken : (q : ℕ) → t ≡ q → (now q ≡ false) × (was q ≡ true) =
+      λ q e. (updated_here t q (now q) (was q) false (up q) e, subst (λ x. was x ≡ true) e was_left) in
       let unmoved : (q : ℕ) → t ≢ q → now q ≡ was q = λ q ne. updated_apart t q (now q) (was q) false (up q) ne in
       let fresh : (q : ℕ) → list_any (λ u. u == q) nodes ≡ true → was q ≡ true → count placed q ≡ 0 = λ q node l.
       let one = p.once q in
@@ -120,7 +126,9 @@ module _ (nodes : List ℕ) (graph : List Edge) (ends : HasEnds nodes graph) whe
             ];
         forward = λ e in' n.
             elim (cases_eq t e.to) [
-              | inl s ↦ subst (λ x. IsBefore (placed ++ t ∷ []) e.from x) s (before_new placed e.from t (old e.from (ends e in').0 (ready e in' (sym s))) (fresh t (subst (λ x. list_any (λ u. u == x) nodes ≡ true) (sym s) (ends e in').1) was_left))
+              | inl s ↦ subst (λ x. IsBefore (placed ++ t ∷ []) e.from x) s
+                  (before_new placed e.from t (old e.from (ends e in').0 (ready e in' (sym s)))
+                  (fresh t (subst (λ x. list_any (λ u. u == x) nodes ≡ true) (sym s) (ends e in').1) was_left))
               | inr ne ↦ before_more placed (t ∷ []) e.from e.to (p.forward e in' (sym (unmoved e.to ne) ∙ n))
             ];
       }

@@ -9,20 +9,26 @@ use Rattle.adya_dsg.specs.Values.{edge_of}
 use Rattle.adya_dsg.specs.declared.edge.Edge.{Edge as EdgeValue}
 
 pub plain_known : (graph : List EdgeValue) (e : EdgeValue) → Contains graph e → Contains (map edge_of graph) (edge_of e)
-plain_known graph e (k, l, at) = (k, subst (λ n. k < n) (sym (length-map graph edge_of)) l, get_or-map edge_of graph k e (edge_of e) l ∙ ap edge_of at)
+plain_known graph e (k, l, at) =
+    let there = subst (λ n. k < n) (sym (length-map graph edge_of)) l in
+    (k, there, get_or-map edge_of graph k e (edge_of e) l ∙ ap edge_of at)
 
 -- what is true of the plain edge of each edge is true of each plain edge
-pub each_plain : (P : Edge → Type 0) (graph : List EdgeValue) → ((e : EdgeValue) → Contains graph e → P (edge_of e)) → (e : Edge) → Contains (map edge_of graph) e → P e
+pub each_plain : (P : Edge → Type 0) (graph : List EdgeValue)
+    → ((e : EdgeValue) → Contains graph e → P (edge_of e)) → (e : Edge) → Contains (map edge_of graph) e → P e
 each_plain P graph all e in' =
     All-contains P (map edge_of graph) e
-    (All-map P edge_of graph (All-weaker (Contains graph) (λ d. P (edge_of d)) all graph (All-contains_itself graph))) in'
+    (All-map P edge_of graph (All-weaker (Contains graph) (λ d. P (edge_of d)) all graph
+    (All-contains_itself graph))) in'
 
 -- a list that was copied, ordered twice and lent has the same edges
-module _ (edges copy once twice lent : List EdgeValue) (copied : copy ≡ edges) (first : IsPermutation copy once) (second : IsPermutation once twice) (same : lent ≡ twice) (e : EdgeValue) where
+module _ (edges copy once twice lent : List EdgeValue) (copied : copy ≡ edges) (first : IsPermutation copy once)
+    (second : IsPermutation once twice) (same : lent ≡ twice) (e : EdgeValue) where
   pub kept_through : Contains edges e → Contains lent e
   kept_through in' =
       subst (λ xs. Contains xs e) (sym same)
-      (Contains-permutation once twice e second (Contains-permutation copy once e first (subst (λ xs. Contains xs e) (sym copied) in')))
+      (Contains-permutation once twice e second
+      (Contains-permutation copy once e first (subst (λ xs. Contains xs e) (sym copied) in')))
 
   pub known_before : Contains lent e → Contains edges e
   known_before in' =

@@ -20,13 +20,15 @@ pub added : (k q : ℕ) (now was : Bool) → now ≡ cond (is_eq (nat_cmp k q)) 
 added k q now was h =
     elim (cases_eq k q) [
       | inl e ↦ updated_here k q now was true h e ∙ sym (or_right was (k == q) (eq-eqb k q e))
-      | inr ne ↦ updated_apart k q now was true h ne ∙ (elim was as (λ w. w ≡ (w || (k == q))) [ true ↦ refl | false ↦ sym (ne_eqb k q ne) ])
+      | inr ne ↦ updated_apart k q now was true h ne ∙
+          (elim was as (λ w. w ≡ (w || (k == q))) [ true ↦ refl | false ↦ sym (ne_eqb k q ne) ])
     ]
 
 -- where a number is removed when its edge comes to the end of the list, each that is removed has an edge to it
-pub met_more : (left was now : ℕ → Bool) (trail : List Edge) (e : Edge) (at : ℕ) → e.to ≡ at → ((q : ℕ) → now q ≡ cond (is_eq (nat_cmp at q)) false (was q)) →
-    ((q : ℕ) → left q ≡ true → was q ≡ false → list_any (λ x. x.to == q) trail ≡ true) →
-    (q : ℕ) → left q ≡ true → now q ≡ false → list_any (λ x. x.to == q) (trail ++ e ∷ []) ≡ true
+pub met_more : (left was now : ℕ → Bool) (trail : List Edge) (e : Edge) (at : ℕ) → e.to ≡ at
+    → ((q : ℕ) → now q ≡ cond (is_eq (nat_cmp at q)) false (was q))
+    → ((q : ℕ) → left q ≡ true → was q ≡ false → list_any (λ x. x.to == q) trail ≡ true)
+    → (q : ℕ) → left q ≡ true → now q ≡ false → list_any (λ x. x.to == q) (trail ++ e ∷ []) ≡ true
 met_more left was now trail e at to up met q l n =
     list_any-append (λ x. x.to == q) trail (e ∷ []) ∙
     elim (cases_eq at q) [

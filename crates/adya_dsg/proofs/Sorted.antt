@@ -10,22 +10,29 @@ use Rattle.adya_dsg.specs.declared.edge.Edge.{Edge}
 module _ (edges : List Edge) (left : ℕ → Bool) (to : ℕ) where
   -- no edge before this place goes from a number that is left to this one
   abbrev pub NoneBefore : ℕ → Type 0
-  NoneBefore i = (k : ℕ) (d : Edge) → k < i → k < length edges → (slice_index_or edges k d).to ≡ to → left (slice_index_or edges k d).from ≡ false
+  NoneBefore i = (k : ℕ) (d : Edge) → k < i → k < length edges → (slice_index_or edges k d).to ≡ to
+      → left (slice_index_or edges k d).from ≡ false
 
-  pub one_more : (i : ℕ) (b : Edge) → NoneBefore i → b ≡ slice_index_or edges i b → left b.from ≡ false → NoneBefore (i + 1)
+  pub one_more : (i : ℕ) (b : Edge) → NoneBefore i → b ≡ slice_index_or edges i b → left b.from ≡ false
+      → NoneBefore (i + 1)
   one_more i b none here not_left k d l m e =
       elim (cases_lt k i) [
         | inl below ↦ none k d below m e
         | inr above ↦
             let same : k ≡ i = omega arith in
-            subst (λ x. left x.from ≡ false) (here ∙ get_or_default edges i b d (subst (λ x. x < length edges) same m) ∙ ap (λ j. slice_index_or edges j d) (sym same)) not_left
+            subst (λ x. left x.from ≡ false)
+            (here ∙ get_or_default edges i b d (subst (λ x. x < length edges) same m) ∙
+            ap (λ j. slice_index_or edges j d) (sym same)) not_left
       ]
 
-  pub none_at_all : (i : ℕ) → NoneBefore i → length edges ≤ i → (e : Edge) → Contains edges e → e.to ≡ to → left e.from ≡ false
+  pub none_at_all : (i : ℕ) → NoneBefore i → length edges ≤ i → (e : Edge) → Contains edges e → e.to ≡ to
+      → left e.from ≡ false
   none_at_all i none over e (k, l, at) s =
       subst (λ x. left x.from ≡ false) at (none k e (omega arith) l (ap (λ x. x.to) at ∙ s))
 
-  pub none_from_here : IsNonDecreasingBy (λ e. e.to) edges → (i : ℕ) (b : Edge) → NoneBefore i → i < length edges → to ≤ (slice_index_or edges i b).to → (slice_index_or edges i b).to ≢ to → (e : Edge) → Contains edges e → e.to ≡ to → left e.from ≡ false
+  pub none_from_here : IsNonDecreasingBy (λ e. e.to) edges → (i : ℕ) (b : Edge) → NoneBefore i → i < length edges
+      → to ≤ (slice_index_or edges i b).to → (slice_index_or edges i b).to ≢ to → (e : Edge) → Contains edges e
+      → e.to ≡ to → left e.from ≡ false
   none_from_here rises i b none within above other e (k, l, at) s =
       elim (cases_lt k i) [
         | inl below ↦ subst (λ x. left x.from ≡ false) at (none k e below l (ap (λ x. x.to) at ∙ s))
@@ -36,13 +43,15 @@ module _ (edges : List Edge) (left : ℕ → Bool) (to : ℕ) where
       ]
 
 module _ (edges : List Edge) (rises : IsNonDecreasingBy (λ e. e.to) edges) (i : ℕ) (b : Edge) (to : ℕ) where
-  pub below_from : i < length edges → (slice_index_or edges i b).to < to → (k : ℕ) (d : Edge) → k < i + 1 → (slice_index_or edges k d).to < to
+  pub below_from : i < length edges → (slice_index_or edges i b).to < to → (k : ℕ) (d : Edge) → k < i + 1
+      → (slice_index_or edges k d).to < to
   below_from l h k d m =
       let order = rises k i d (omega arith) l in
       let same = ap (λ (e : Edge). e.to) (get_or_default edges i d b l) in
       omega (arith, order, same, h)
 
-  pub above_from : i < length edges → to ≤ (slice_index_or edges i b).to → (k : ℕ) (d : Edge) → i ≤ k → k < length edges → to ≤ (slice_index_or edges k d).to
+  pub above_from : i < length edges → to ≤ (slice_index_or edges i b).to → (k : ℕ) (d : Edge) → i ≤ k
+      → k < length edges → to ≤ (slice_index_or edges k d).to
   above_from l h k d m n =
       let order = rises i k d m n in
       let same = ap (λ (e : Edge). e.to) (get_or_default edges i d b l) in

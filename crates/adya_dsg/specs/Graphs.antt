@@ -9,7 +9,8 @@ use Rattle.adya_dsg.specs.declared.found.Found.TheVariants.{Serial, Cycle}
 
 -- the ends of each edge are nodes
 abbrev pub HasEnds : List ℕ → List Edge → Type 0
-HasEnds nodes graph = (e : Edge) → Contains graph e → (list_any (λ u. u == e.from) nodes ≡ true) × (list_any (λ u. u == e.to) nodes ≡ true)
+HasEnds nodes graph = (e : Edge) → Contains graph e
+    → (list_any (λ u. u == e.from) nodes ≡ true) × (list_any (λ u. u == e.to) nodes ≡ true)
 
 -- each node once and no other, and each edge forward
 pub record IsOrder (nodes : List ℕ) (graph : List Edge) (ts : List ℕ) : Type 0 where

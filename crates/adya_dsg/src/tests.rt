@@ -39,7 +39,8 @@ fn is_node(nodes: &[Txn], t: Txn) -> bool
 }
 
 fn has_ends(nodes: &[Txn], edges: &[Edge]) -> bool
-    ensures { result ≡ list_all (λ e. list_any (λ u. u == e.from) nodes.now && list_any (λ u. u == e.to) nodes.now) edges.now }
+    ensures { result
+        ≡ list_all (λ e. list_any (λ u. u == e.from) nodes.now && list_any (λ u. u == e.to) nodes.now) edges.now }
 {
     edges
         .iter()

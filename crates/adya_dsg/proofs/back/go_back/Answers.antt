@@ -19,10 +19,18 @@ back-preserved c =
     let was = c.back.invariant in
     record {
       is_left = found.2;
-      path = subst (λ xs. IsPath e.from (map edge_of (reverse xs)) c.args.from) (sym longer) (subst (λ xs. IsPath e.from (map edge_of xs) c.args.from) (sym (reverse_push c.back.trail.items e)) (refl, subst (λ x. IsPath x (map edge_of (reverse c.back.trail.items)) c.args.from) (sym found.1) was.path));
-      known = subst (All (Contains c.args.edges.now)) (sym longer) (All-push (Contains c.args.edges.now) c.back.trail.items e was.known found.0);
+      path = subst (λ xs. IsPath e.from (map edge_of (reverse xs)) c.args.from) (sym longer)
+          (subst (λ xs. IsPath e.from (map edge_of xs) c.args.from) (sym (reverse_push c.back.trail.items e)) (
+            refl,
+            subst (λ x. IsPath x (map edge_of (reverse c.back.trail.items)) c.args.from)
+                (sym found.1) was.path,
+          ));
+      known = subst (All (Contains c.args.edges.now)) (sym longer)
+          (All-push (Contains c.args.edges.now) c.back.trail.items e was.known found.0);
       met = λ q l n. subst (λ xs. list_any (λ (x : Edge). x.to == q) xs ≡ true) (sym longer)
-          (met_more (contains nat_cmp c.args.left.now) (contains nat_cmp c.back.unmet) (contains nat_cmp c.remove.new.self) c.back.trail.items e c.back.at found.1 c.back-test.ensures.updates.0 was.met q l n);
+          (met_more (contains nat_cmp c.args.left.now) (contains nat_cmp c.back.unmet)
+          (contains nat_cmp c.remove.new.self) c.back.trail.items e c.back.at found.1
+          c.back-test.ensures.updates.0 was.met q l n);
     }
 
 pub close-requires-clause-returns : goal.close-requires-clause-returns
@@ -31,4 +39,5 @@ close-requires-clause-returns c =
     c.back.invariant.met c.back.at c.back.invariant.is_left (sym c.remove.ensures.test ∙ c.back-test.false)
 
 pub close-requires-clause-known : goal.close-requires-clause-known
-close-requires-clause-known c = All-permutation (Contains c.args.edges.now) _ _ c.reverse.ensures.permutation c.back.invariant.known
+close-requires-clause-known c =
+    All-permutation (Contains c.args.edges.now) _ _ c.reverse.ensures.permutation c.back.invariant.known

@@ -11,7 +11,8 @@ pub record Walks (graph trail : List Edge) (left unmet : BTreeSet ℕ) (from at 
   pub is_left : contains nat_cmp left at ≡ true
   pub path : IsPath at (map edge_of (reverse trail)) from
   pub known : All (Contains graph) trail
-  pub met : (q : ℕ) → contains nat_cmp left q ≡ true → contains nat_cmp unmet q ≡ false → list_any (λ e. e.to == q) trail ≡ true
+  pub met : (q : ℕ) → contains nat_cmp left q ≡ true → contains nat_cmp unmet q ≡ false
+      → list_any (λ e. e.to == q) trail ≡ true
 
 abbrev pub invariant-back : goal.invariant-back
 invariant-back l = Walks l.edges l.trail.items l.left l.unmet l.fn.from l.at

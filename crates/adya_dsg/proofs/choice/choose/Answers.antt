@@ -21,17 +21,23 @@ begin-preserved c q =
     let t = c.t-item.result in
     let ts = c.args.nodes.now in
     added t q _ _ (c.in_ok-insert.ensures.updates.0 q) ∙
-    (ap (λ b. b || (t == q)) (c.begin.invariant q) ∙ (ap (λ x. list_any (λ u. u == q) (take i ts) || (x == q)) c.t-item.is ∙ sym (list_any_more (λ u. u == q) ts i t c.begin-test.true)))
+    (ap (λ b. b || (t == q)) (c.begin.invariant q) ∙
+    (ap (λ x. list_any (λ u. u == q) (take i ts) || (x == q)) c.t-item.is ∙
+    sym (list_any_more (λ u. u == q) ts i t c.begin-test.true)))
 
 pub place-init : goal.place-init
 place-init c =
     let graph = map edge_of c.args.edges.now in
     subst (λ xs. Places c.args.nodes.now xs graph (contains nat_cmp c.begin.left)) (sym c.new-placed.ensures.items)
     (nothing_placed c.args.nodes.now graph c.requires (contains nat_cmp c.begin.left)
-    (λ q. c.begin.invariant q ∙ ap (list_any (λ u. u == q)) (take_all c.begin.t-index c.args.nodes.now c.begin-test.false)))
+    (λ q. c.begin.invariant q ∙ ap (list_any (λ u. u == q))
+    (take_all c.begin.t-index c.args.nodes.now c.begin-test.false)))
 
 pub go_back-requires-clause-rises : goal.go_back-requires-clause-rises
-go_back-requires-clause-rises c = subst (IsNonDecreasingBy (λ e. e.to)) (sym c.deref.ensures.value) (IsNonDecreasingBy-from_sort_by_key (λ e. e.to) _ c.in_ok-sort_by_key-2.ensures.sorted (λ a r q k. search rules))
+go_back-requires-clause-rises c =
+    subst (IsNonDecreasingBy (λ e. e.to)) (sym c.deref.ensures.value)
+    (IsNonDecreasingBy-from_sort_by_key (λ e. e.to) _ c.in_ok-sort_by_key-2.ensures.sorted
+    (λ a r q k. search rules))
 
 pub returns-in-Round : goal.returns-in-Round
 returns-in-Round c =
@@ -50,7 +56,8 @@ place-preserved c =
     let less = contains nat_cmp c.remove.new.self in
     let t = c.in-Start.t in
     let walk = subst (IsWalk lent c.place.left) c.in-Start.is c.in_ok-way.ensures in
-    subst (λ xs. Places c.args.nodes.now xs (map edge_of edges) less) (sym {A = List ℕ} c.in_ok-push-in-Start.ensures.items)
+    subst (λ xs. Places c.args.nodes.now xs (map edge_of edges) less)
+    (sym {A = List ℕ} c.in_ok-push-in-Start.ensures.items)
     (one_placed c.args.nodes.now (map edge_of edges) c.requires left less c.place.placed.items t c.place.invariant walk.0
     (each_plain (λ e. e.to ≡ t → left e.from ≡ false) edges (λ e k. walk.1 e
     (kept_through edges _ _ _ lent c.in_ok-into.ensures.items c.sort_by_key.ensures.permutation c.sort_by_key-2.ensures.permutation c.deref.ensures.value e k)))
@@ -58,4 +65,8 @@ place-preserved c =
 
 pub returns : goal.returns
 returns c =
-    subst (IsOrder c.args.nodes.now (map edge_of c.args.edges.now)) (sym (ap (λ v. v.items) c.new.ensures)) (all_placed c.args.nodes.now (map edge_of c.args.edges.now) c.requires (contains nat_cmp c.place.left) c.place.placed.items c.place.invariant (λ q. none_in_empty _ c.place.left.keys (empty_if _ (λ l. true≢false (sym (c.in_default.ensures.variant.1 l))))))
+    subst (IsOrder c.args.nodes.now (map edge_of c.args.edges.now)) (sym (ap (λ v. v.items) c.new.ensures))
+    (all_placed c.args.nodes.now (map edge_of c.args.edges.now) c.requires
+    (contains nat_cmp c.place.left) c.place.placed.items c.place.invariant
+    (λ q. none_in_empty _ c.place.left.keys
+    (empty_if _ (λ l. true≢false (sym (c.in_default.ensures.variant.1 l))))))

@@ -12,10 +12,14 @@ both : (a b : Bool) → (a && b) ≡ true → (a ≡ true) × (b ≡ true)
 both true b h = (refl, h)
 both false b h = absurd (true≢false (sym h))
 
-ends : (nodes : List ℕ) (edges : List Edge) → list_all (λ e. list_any (λ u. u == e.from) nodes && list_any (λ u. u == e.to) nodes) edges ≡ true → HasEnds nodes (map edge_of edges)
+ends : (nodes : List ℕ) (edges : List Edge)
+    → list_all (λ e. list_any (λ u. u == e.from) nodes && list_any (λ u. u == e.to) nodes) edges ≡ true
+    → HasEnds nodes (map edge_of edges)
 ends nodes edges all =
     each_plain (λ e. (list_any (λ u. u == e.from) nodes ≡ true) × (list_any (λ u. u == e.to) nodes ≡ true)) edges
-    (λ e in'. both _ _ (All-contains (λ (d : Edge). (list_any (λ u. u == d.from) nodes && list_any (λ u. u == d.to) nodes) ≡ true) edges e (AllPass-from_list_all _ edges all) in'))
+    (λ e in'. both _ _ (All-contains
+    (λ (d : Edge). (list_any (λ u. u == d.from) nodes && list_any (λ u. u == d.to) nodes) ≡ true) edges e
+    (AllPass-from_list_all _ edges all) in'))
 
 pub choose-requires : goal.choose-requires
 choose-requires c = ends c.args.nodes.now c.args.edges.now (sym c.has_ends.ensures ∙ c.if-not-has_ends.false)
