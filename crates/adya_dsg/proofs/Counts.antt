@@ -8,7 +8,7 @@ use Rattle.std.specs.Ordering.{nat_cmp, is_eq}
 use Rattle.adya_terms.specs.Orders.{place}
 use Rattle.adya_terms.specs.Edges.{Edge}
 use Rattle.adya_terms.specs.Acceptance.{IsBefore}
-use Rattle.adya_dsg.specs.Graphs.{HasEnds, IsOrder}
+use Rattle.adya_dsg.specs.Graphs.{HasEnds, IsTopologicalOrder}
 use Rattle.adya_dsg.proofs.Sets.{updated_here, updated_apart}
 
 abbrev pub count : List ℕ → ℕ → ℕ
@@ -85,7 +85,7 @@ module _ (nodes : List ℕ) (graph : List Edge) (ends : HasEnds nodes graph) whe
   }
 
   pub all_placed : (left : ℕ → Bool) (placed : List ℕ) → Places nodes placed graph left
-      → ((q : ℕ) → left q ≡ false) → IsOrder nodes graph placed
+      → ((q : ℕ) → left q ≡ false) → IsTopologicalOrder nodes graph placed
   all_placed left placed p none = record {
     nodes_once = λ q. let one = p.once q in let zero' = cond-false {A = ℕ} (left q) 1 0 (none q) in
         omega (arith, one, zero');

@@ -1,9 +1,7 @@
 -- Graphs of edges, and of the plain edges that they hold.
-use Rattle.std.proofs.Common.{◌≡◌, ◌<◌, List, map, Contains, sym, ◌∙◌, ap, subst}
+use Rattle.std.proofs.Common.{◌<◌, List, map, Contains, sym, ◌∙◌, ap, subst}
 use Rattle.std.proofs.lemmas.List.{get_or-map, length-map}
 use Rattle.std.proofs.lemmas.List.Elements.{All-map, All-contains, All-contains_itself, All-weaker}
-use Rattle.std.specs.List.Sorted.{IsPermutation}
-use Rattle.std.proofs.lemmas.List.Sorted.{Contains-permutation, IsPermutation-sym}
 use Rattle.adya_terms.specs.Edges.{Edge}
 use Rattle.adya_dsg.specs.Values.{edge_of}
 use Rattle.adya_dsg.specs.declared.edge.Edge.{Edge as EdgeValue}
@@ -20,18 +18,3 @@ each_plain P graph all e in' =
     All-contains P (map edge_of graph) e
     (All-map P edge_of graph (All-weaker (Contains graph) (λ d. P (edge_of d)) all graph
     (All-contains_itself graph))) in'
-
--- a list that was copied, ordered twice and lent has the same edges
-module _ (edges copy once twice lent : List EdgeValue) (copied : copy ≡ edges) (first : IsPermutation copy once)
-    (second : IsPermutation once twice) (same : lent ≡ twice) (e : EdgeValue) where
-  pub kept_through : Contains edges e → Contains lent e
-  kept_through in' =
-      subst (λ xs. Contains xs e) (sym same)
-      (Contains-permutation once twice e second
-      (Contains-permutation copy once e first (subst (λ xs. Contains xs e) (sym copied) in')))
-
-  pub known_before : Contains lent e → Contains edges e
-  known_before in' =
-      subst (λ xs. Contains xs e) copied
-      (Contains-permutation once copy e (IsPermutation-sym copy once first)
-      (Contains-permutation twice once e (IsPermutation-sym once twice second) (subst (λ xs. Contains xs e) same in')))

@@ -13,7 +13,7 @@ HasEnds nodes graph = (e : Edge) → Contains graph e
     → (list_any (λ u. u == e.from) nodes ≡ true) × (list_any (λ u. u == e.to) nodes ≡ true)
 
 -- each node once and no other, and each edge forward
-pub record IsOrder (nodes : List ℕ) (graph : List Edge) (ts : List ℕ) : Type 0 where
+pub record IsTopologicalOrder (nodes : List ℕ) (graph : List Edge) (ts : List ℕ) : Type 0 where
   pub nodes_once : (t : ℕ) → count_by (λ u. u == t) ts ≡ cond (list_any (λ u. u == t) nodes) 1 0
   pub forward : (e : Edge) → Contains graph e → IsBefore ts e.from e.to
 
@@ -23,5 +23,5 @@ IsCycleIn graph [] = ⊥
 IsCycleIn graph (e ∷ es) = AllByRecursion (Contains graph) (e ∷ es) × IsPath e.from (e ∷ es) e.from
 
 abbrev pub IsFound : List ℕ → List Edge → Found → Type 0
-IsFound nodes graph (Serial s) = IsOrder nodes graph s.txns.items
+IsFound nodes graph (Serial s) = IsTopologicalOrder nodes graph s.txns.items
 IsFound nodes graph (Cycle es) = IsCycleIn graph (map edge_of es.items)

@@ -1,13 +1,25 @@
 //! The edges into a node, in a list that is ordered by where its edges go.
 
-ghost use Rattle.std.specs.Prelude.{◌≡◌, ◌<◌, ◌≤◌, ℕ, true, false, length, Contains, IfSome, IfNone, slice_index_or};
-ghost use Rattle.std.specs.List.Sorted.{IsNonDecreasingBy};
+ghost use Rattle.std.specs.Prelude.{◌≡◌, ◌<◌, ◌≤◌, ℕ, true, false, length, Contains, IfOk, IfSome, IfNone, slice_index_or};
+ghost use Rattle.std.specs.List.Sorted.{IsNonDecreasingBy, IsPermutation};
 ghost use Rattle.std.specs.Ordering.{nat_cmp};
 ghost use Rattle.std.specs.BTreeSet.{contains};
 
 use crate::Edge;
 use adya_terms::Txn;
+use std::alloc::{AllocError, Global};
 use std::collections::BTreeSet;
+
+/// The edges by where they go, those to one number by where they come from, and those with equal ends as they stood.
+pub(crate) fn by_target(alloc: Global, edges: &[Edge]) -> Result<Vec<Edge>, AllocError>
+    ensures rises { IfOk result (λ v. IsNonDecreasingBy (λ e. e.to) v.items) }
+    ensures same { IfOk result (λ v. IsPermutation edges.now v.items) }
+{
+    let mut into = Vec::from_slice(alloc, edges)?;
+    into.sort_by_key(|e| e.from)?;
+    into.sort_by_key(|e| e.to)?;
+    Ok(into)
+}
 
 // The first place from which on no edge goes to a smaller number.
 fn first_into(edges: &[Edge], to: Txn) -> usize

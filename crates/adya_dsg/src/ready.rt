@@ -14,14 +14,20 @@ pub(crate) struct Ready {
     out: Vec<Edge>,
 }
 
+// How many edges go to each number to which any goes.
+fn edges_into(alloc: Global, edges: &[Edge]) -> Result<BTreeMap<Txn, usize>, AllocError> {
+    let mut open = BTreeMap::new(alloc);
+    for e in edges {
+        let n = open.get(&e.to).copied().unwrap_or(0usize);
+        open.insert(e.to, n.wrapping_add(1))?;
+    }
+    Ok(open)
+}
+
 impl Ready {
     /// The numbers into which no edge goes.
     pub fn of(alloc: Global, nodes: &[Txn], edges: &[Edge]) -> Result<Ready, AllocError> {
-        let mut open = BTreeMap::new(alloc);
-        for e in edges {
-            let n = open.get(&e.to).copied().unwrap_or(0usize);
-            open.insert(e.to, n.wrapping_add(1))?;
-        }
+        let open = edges_into(alloc, edges)?;
         let mut free = BTreeSet::new(alloc);
         for t in nodes {
             if !open.contains_key(t) {
