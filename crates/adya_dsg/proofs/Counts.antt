@@ -1,0 +1,134 @@
+-- What stands in a list, and before what.
+use Rattle.std.proofs.Common.{◌≡◌, ◌≢◌, ℕ, suc, ◌+◌, ◌==◌, ◌<◌, Bool, true, false, cond, List, [], ◌∷◌, ◌++◌, count_by, sym, ◌∙◌, ap, subst, arith, inl, inr}
+use Rattle.std.proofs.lemmas.Bool.{eq-eqb, ne_eqb, cases_eq, cond-true, cond-false}
+use Rattle.std.proofs.lemmas.List.Sums.{sum_by-append, sum_by-cons}
+use Rattle.std.proofs.Common.{Contains, true≢false}
+use Rattle.std.specs.List.{list_any}
+use Rattle.std.specs.Ordering.{nat_cmp, is_eq}
+use Rattle.adya_terms.specs.Orders.{place}
+use Rattle.adya_terms.specs.Edges.{Edge}
+use Rattle.adya_terms.specs.Acceptance.{IsBefore}
+use Rattle.adya_dsg.specs.Graphs.{HasEnds, IsTopologicalOrder}
+use Rattle.adya_dsg.proofs.Sets.{updated_here, updated_apart}
+
+abbrev pub count : List ℕ → ℕ → ℕ
+count xs t = count_by (λ u. u == t) xs
+
+pub count_same : (x : ℕ) (xs : List ℕ) (t : ℕ) → x ≡ t → count (x ∷ xs) t ≡ suc (count xs t)
+count_same x xs t e =
+    let cons = sum_by-cons (λ u. cond (u == t) 1 0) x xs in
+    let same = cond-true {A = ℕ} (x == t) 1 0 (eq-eqb x t e) in
+    omega (arith, cons, same)
+
+pub count_other : (x : ℕ) (xs : List ℕ) (t : ℕ) → x ≢ t → count (x ∷ xs) t ≡ count xs t
+count_other x xs t e =
+    let cons = sum_by-cons (λ u. cond (u == t) 1 0) x xs in
+    let other = cond-false {A = ℕ} (x == t) 1 0 (ne_eqb x t e) in
+    omega (arith, cons, other)
+
+pub count-append : (xs ys : List ℕ) (t : ℕ) → count (xs ++ ys) t ≡ count xs t + count ys t
+count-append xs ys t = sum_by-append (λ u. cond (u == t) 1 0) xs ys
+
+pub place_same : (x : ℕ) (xs : List ℕ) (t : ℕ) → x ≡ t → place (x ∷ xs) t ≡ 0
+place_same x xs t e = cond-true {A = ℕ} (x == t) 0 (suc (place xs t)) (eq-eqb x t e)
+
+pub place_other : (x : ℕ) (xs : List ℕ) (t : ℕ) → x ≢ t → place (x ∷ xs) t ≡ suc (place xs t)
+place_other x xs t e = cond-false {A = ℕ} (x == t) 0 (suc (place xs t)) (ne_eqb x t e)
+
+pub before_more : (xs ys : List ℕ) (a b : ℕ) → IsBefore xs a b → IsBefore (xs ++ ys) a b
+before_more [] ys a b h = absurd (omega arith)
+before_more (x ∷ xs) ys a b h =
+    elim (cases_eq x b) [
+      | inl e ↦ let none = place_same x xs b e in absurd (omega (arith, none, h))
+      | inr ne ↦
+          let far = place_other x xs b ne in
+          let far' = place_other x (xs ++ ys) b ne in
+          elim (cases_eq x a) [
+            | inl e ↦ let near' = place_same x (xs ++ ys) a e in omega (arith, far', near')
+            | inr other ↦
+                let near = place_other x xs a other in
+                let near' = place_other x (xs ++ ys) a other in
+                let rest = before_more xs ys a b (omega (arith, h, far, near)) in
+                omega (arith, far', near', rest)
+          ]
+    ]
+
+pub before_new : (xs : List ℕ) (a t : ℕ) → 0 < count xs a → count xs t ≡ 0 → IsBefore (xs ++ t ∷ []) a t
+before_new [] a t h none = absurd (omega arith)
+before_new (x ∷ xs) a t h none =
+    elim (cases_eq x t) [
+      | inl e ↦ let some = count_same x xs t e in absurd (omega (arith, some, none))
+      | inr ne ↦
+          let less = count_other x xs t ne in
+          let far = place_other x (xs ++ t ∷ []) t ne in
+          elim (cases_eq x a) [
+            | inl e ↦ let near = place_same x (xs ++ t ∷ []) a e in omega (arith, far, near)
+            | inr other ↦
+                let fewer = count_other x xs a other in
+                let near = place_other x (xs ++ t ∷ []) a other in
+                let rest = before_new xs a t (omega (arith, h, fewer)) (omega (arith, none, less)) in
+                omega (arith, far, near, rest)
+          ]
+    ]
+
+-- each node is placed once or left, and each edge to a placed one goes forward
+pub record Places (nodes placed : List ℕ) (graph : List Edge) (left : ℕ → Bool) : Type 0 where
+  pub once : (q : ℕ) → count_by (λ u. u == q) placed + cond (left q) 1 0 ≡ cond (list_any (λ u. u == q) nodes) 1 0
+  pub forward : (e : Edge) → Contains graph e → left e.to ≡ false → IsBefore placed e.from e.to
+
+module _ (nodes : List ℕ) (graph : List Edge) (ends : HasEnds nodes graph) where
+  pub nothing_placed : (left : ℕ → Bool) → ((q : ℕ) → left q ≡ list_any (λ u. u == q) nodes)
+      → Places nodes [] graph left
+  nothing_placed left all = record {
+    once = λ q. let same = ap (λ b. cond {A = ℕ} b 1 0) (all q) in omega (arith, same);
+    forward = λ e in' n. absurd (true≢false (sym (ends e in').1 ∙ (sym (all e.to) ∙ n)));
+  }
+
+  pub all_placed : (left : ℕ → Bool) (placed : List ℕ) → Places nodes placed graph left
+      → ((q : ℕ) → left q ≡ false) → IsTopologicalOrder nodes graph placed
+  all_placed left placed p none = record {
+    nodes_once = λ q. let one = p.once q in let zero' = cond-false {A = ℕ} (left q) 1 0 (none q) in
+        omega (arith, one, zero');
+    forward = λ e in'. p.forward e in' (none e.to);
+  }
+
+  pub one_placed : (was now : ℕ → Bool) (placed : List ℕ) (t : ℕ) → Places nodes placed graph was → was t ≡ true
+      → ((e : Edge) → Contains graph e → e.to ≡ t → was e.from ≡ false)
+      → ((q : ℕ) → now q ≡ cond (is_eq (nat_cmp t q)) false (was q)) → Places nodes (placed ++ t ∷ []) graph now
+  one_placed was now placed t p was_left ready up =
+      let taken : (q : ℕ) → t ≡ q → (now q ≡ false) × (was q ≡ true) =
+      λ q e. (updated_here t q (now q) (was q) false (up q) e, subst (λ x. was x ≡ true) e was_left) in
+      let unmoved : (q : ℕ) → t ≢ q → now q ≡ was q = λ q ne. updated_apart t q (now q) (was q) false (up q) ne in
+      let fresh : (q : ℕ) → list_any (λ u. u == q) nodes ≡ true → was q ≡ true → count placed q ≡ 0 = λ q node l.
+      let one = p.once q in
+      let one' = cond-true {A = ℕ} (was q) 1 0 l in
+      let all = cond-true {A = ℕ} (list_any (λ u. u == q) nodes) 1 0 node in
+      omega (arith, one, one', all) in
+      let old : (q : ℕ) → list_any (λ u. u == q) nodes ≡ true → was q ≡ false → 0 < count placed q = λ q node l.
+      let one = p.once q in
+      let one' = cond-false {A = ℕ} (was q) 1 0 l in
+      let all = cond-true {A = ℕ} (list_any (λ u. u == q) nodes) 1 0 node in
+      omega (arith, one, one', all) in
+      record {
+        once = λ q.
+            let parts = count-append placed (t ∷ []) q in
+            let one = p.once q in
+            elim (cases_eq t q) [
+              | inl e ↦
+                  let single = count_same t [] q e in
+                  let now' = cond-false {A = ℕ} (now q) 1 0 (taken q e).0 in
+                  let was' = cond-true {A = ℕ} (was q) 1 0 (taken q e).1 in
+                  omega (arith, parts, one, single, now', was')
+              | inr ne ↦
+                  let single = count_other t [] q ne in
+                  let same = ap (λ b. cond {A = ℕ} b 1 0) (unmoved q ne) in
+                  omega (arith, parts, one, single, same)
+            ];
+        forward = λ e in' n.
+            elim (cases_eq t e.to) [
+              | inl s ↦ subst (λ x. IsBefore (placed ++ t ∷ []) e.from x) s
+                  (before_new placed e.from t (old e.from (ends e in').0 (ready e in' (sym s)))
+                  (fresh t (subst (λ x. list_any (λ u. u == x) nodes ≡ true) (sym s) (ends e in').1) was_left))
+              | inr ne ↦ before_more placed (t ∷ []) e.from e.to (p.forward e in' (sym (unmoved e.to ne) ∙ n))
+            ];
+      }

@@ -1,0 +1,23 @@
+-- Along a path of forward edges the place in a list rises, so it has no cycle.
+use Rattle.std.proofs.Common.{◌≡◌, ℕ, ◌≤◌, List, [], ◌∷◌, ap, arith}
+use Rattle.std.specs.List.{AllByRecursion}
+use Rattle.adya_terms.specs.Histories.{History}
+use Rattle.adya_terms.specs.Orders.{place}
+use Rattle.adya_terms.specs.Edges.{Edge, IsEdge, IsPath, IsCycle}
+use Rattle.adya_terms.specs.Acceptance.{IsBefore}
+
+module _ (h : History) (ts : List ℕ) (forward : (e : Edge) → IsEdge h e → IsBefore ts e.from e.to) where
+  path_rises : (es : List Edge) (a b : ℕ) → AllByRecursion (IsEdge h) es → IsPath a es b → place ts a ≤ place ts b
+  path_rises [] a b edges path = let same : place ts a ≡ place ts b = ap (place ts) path in omega (arith, same)
+  path_rises (e ∷ es) a b edges path =
+      let step = forward e edges.0 in
+      let rest = path_rises es e.to b edges.1 path.1 in
+      let same = ap (place ts) path.0 in
+      omega (arith, step, rest, same)
+
+  pub no_cycle : (es : List Edge) → IsCycle h es → ⊥
+  no_cycle [] c = c
+  no_cycle (e ∷ es) c =
+      let step = forward e c.0.0 in
+      let rest = path_rises es e.to e.from c.0.1 c.1.1 in
+      omega (arith, step, rest)

@@ -1,0 +1,4 @@
+pub mod Values
+pub mod Graphs
+pub mod Walks
+pub mod Laws
