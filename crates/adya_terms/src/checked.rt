@@ -1,10 +1,11 @@
 //! Checked histories.
 
-ghost use Rattle.std.specs.Prelude.{◌≡◌, [], true, None, Some, map, is_none, IfOk, MatchResult};
+ghost use Rattle.std.specs.Prelude.{◌≡◌, ◌≢◌, [], true, None, Some, map, is_none, IfOk, IfErr, MatchResult};
 ghost use Rattle.adya_terms.specs.Keys.{keys_rise};
 ghost use Rattle.adya_terms.specs.Histories.{event_of, order_of, final_of};
 ghost use Rattle.adya_terms.specs.Values.{history_of};
 ghost use Rattle.adya_terms.specs.Faults.{first_fault, check_faults};
+ghost use Rattle.adya_terms.specs.Acceptance.{IsChecked};
 ghost use Rattle.adya_terms.specs.Tables.{Means};
 ghost use Rattle.adya_terms.specs.Checks.{Names, IsFault, parts, later_faults, rule_faults};
 
@@ -30,6 +31,17 @@ impl<'a> Checked<'a> {
         ensures found { MatchResult result (λ c. first_fault (history_of history.now) ≡ None)
             (IsFault (first_fault (history_of history.now))) }
         ensures same { IfOk result (λ c. c.history.now ≡ history.now) }
+        // It succeeds exactly where the history is well-formed without aborted and intermediate reads.
+        ensures checked { IfOk result (λ c. IsChecked (history_of history.now)) }
+        ensures refused { IfErr result (λ e. e ≢ CheckFault.Memory → IsChecked (history_of history.now) → ⊥) }
+    {
+        Checked::judged(alloc, history)
+    }
+
+    fn judged(alloc: Global, history: &'a History) -> Result<Checked<'a>, CheckFault>
+        ensures found { MatchResult result (λ c. first_fault (history_of history.now) ≡ None)
+            (IsFault (first_fault (history_of history.now))) }
+        ensures same { IfOk result (λ c. c.history.now ≡ history.now) }
     {
         if let Err(fault) = check(alloc, history.events(), history.orders(), history.finals()) {
             return Err(fault);
@@ -40,7 +52,8 @@ impl<'a> Checked<'a> {
     /// The history.
     pub fn history(&self) -> &History
         ensures same { result.now ≡ self.now.history.now }
-        ensures checked { first_fault (history_of result.now) ≡ None }
+        ensures no_fault { first_fault (history_of result.now) ≡ None }
+        ensures checked { IsChecked (history_of result.now) }
     {
         self.history
     }
