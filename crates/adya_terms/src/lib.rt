@@ -1,6 +1,7 @@
 //! The values of transaction histories: keys, values, versions, events, histories and certificates.
 #![tactic(auto)]
 
+mod edition;
 mod event;
 mod fault;
 mod history;
@@ -14,7 +15,8 @@ mod source;
 mod value;
 mod watched;
 
-pub use event::{Event, Version};
+pub use edition::Edition;
+pub use event::{Content, Entry, Event, Version};
 pub use fault::{CheckFault, Rule};
 pub use history::{BadShape, History};
 pub use key::{BadKey, Key, MAX_KEY_LEN, is_key_byte};
