@@ -3,8 +3,7 @@
 use Rattle.std.specs.Prelude.{ℕ, List, [], map, take}
 use Rattle.adya_terms.specs.declared.value.Value.{Value}
 use Rattle.adya_terms.specs.declared.event.Version.{Version}
-pub use Rattle.adya_terms.specs.declared.edition.Edition.{Edition}
-pub use Rattle.adya_terms.specs.declared.edition.Edition.TheVariants.{One, Two}
+use Rattle.adya_terms.specs.declared.edition.Edition.{Edition}
 use Rattle.adya_terms.specs.declared.event.Content.{Content as ContentValue}
 use Rattle.adya_terms.specs.declared.event.Content.TheVariants as Holds
 use Rattle.adya_terms.specs.declared.event.Entry.{Entry as EntryValue}

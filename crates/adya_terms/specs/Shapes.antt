@@ -3,7 +3,9 @@
 use Rattle.std.specs.Prelude.{ℕ, Bool, true, ◌&&◌, ◌==◌, not, nat_lt, List, [], ◌∷◌, map, length}
 use Rattle.std.specs.List.{list_all}
 use Rattle.adya_terms.specs.Keys.{keys_rise}
-use Rattle.adya_terms.specs.Histories.{Edition, One, Two, Order, FinalPair}
+use Rattle.adya_terms.specs.declared.edition.Edition.{Edition}
+use Rattle.adya_terms.specs.declared.edition.Edition.TheVariants.{One, Two}
+use Rattle.adya_terms.specs.Histories.{Order, FinalPair}
 
 abbrev pub is_shape : List Order → List FinalPair → Bool
 is_shape orders finals =
