@@ -15,4 +15,6 @@ pub mod Acceptance
 pub mod Faults
 pub mod Certificates
 pub mod Watched
+pub mod Tables
+pub mod Checks
 pub mod Laws

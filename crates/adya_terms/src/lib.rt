@@ -2,21 +2,31 @@
 #![tactic(auto)]
 
 mod edition;
+mod checked;
 mod event;
 mod fault;
+mod finals;
 mod history;
 mod key;
 pub mod laws;
+mod listed;
 mod number;
 mod order;
 mod padded;
+mod reads;
+mod rules;
 mod serial;
 mod source;
+mod tables;
+#[cfg(test)]
+mod tests;
 mod value;
 mod watched;
 
 pub use edition::Edition;
 pub use event::{Content, Entry, Event, Version};
+pub use checked::Checked;
+pub use event::{Event, Version};
 pub use fault::{CheckFault, Rule};
 pub use history::{BadShape, History};
 pub use key::{BadKey, Key, MAX_KEY_LEN, is_key_byte};

@@ -1,0 +1,57 @@
+-- The first fault of joined lists, and of the events from one on.
+use Rattle.std.proofs.Common.{◌≡◌, ℕ, suc, ◌+◌, ◌⊎◌, inl, inr, true, false, List, [], ◌∷◌, ◌++◌, Some, take, drop, refl, sym, ◌∙◌, ap, subst, arith}
+use Rattle.adya_terms.specs.declared.fault.Rule.{Rule}
+use Rattle.adya_terms.specs.declared.fault.CheckFault.{CheckFault}
+use Rattle.adya_terms.specs.declared.fault.CheckFault.TheVariants.{Malformed, AbortedRead, IntermediateRead, Memory}
+use Rattle.adya_terms.specs.declared.fault.Rule.TheVariants.{M7}
+use Rattle.adya_terms.specs.Histories.{Event, Order}
+use Rattle.adya_terms.specs.Rules.{installs}
+use Rattle.adya_terms.specs.Faults.{first, faults_at, event_faults, fault_unless, lists_exactly, order_faults}
+use Rattle.adya_terms.specs.Checks.{Names}
+use Rattle.adya_terms.proofs.Turns.{Turn}
+
+pub first_front : {X : Type 0} (xs ys : List X) (x : X) → first xs ≡ Some x → first (xs ++ ys) ≡ Some x
+first_front [] ys x e = absurd (cc (e))
+first_front (z ∷ xs) ys x e = e
+
+pub first_rest : {X : Type 0} (xs ys : List X) (x : X) → xs ≡ [] → first ys ≡ Some x → first (xs ++ ys) ≡ Some x
+first_rest xs ys x none e = subst (λ zs. first (zs ++ ys) ≡ Some x) (sym none) e
+
+-- the faults from an event on
+faults_from : (all : List Event) (i : ℕ) (e : Event) → Turn all i e
+    → event_faults (take i all) (2 + i) (drop i all) ≡ faults_at (take i all) (2 + i) e ++ event_faults (take (i + 1) all) (2 + (i + 1)) (drop (i + 1) all)
+faults_from all i e t =
+    let line : suc (2 + i) ≡ 2 + (i + 1) = omega arith in
+    ap (event_faults (take i all) (2 + i)) t.rest ∙
+    (ap (λ n. faults_at (take i all) (2 + i) e ++ event_faults (take i all ++ e ∷ []) n (drop (i + 1) all)) line ∙
+    ap (λ b. faults_at (take i all) (2 + i) e ++ event_faults b (2 + (i + 1)) (drop (i + 1) all)) (sym t.front))
+
+pub fault_here : (all : List Event) (i : ℕ) (e : Event) → Turn all i e → (fault : CheckFault) → first (faults_at (take i all) (2 + i) e) ≡ Some fault
+    → first (event_faults (take i all) (2 + i) (drop i all)) ≡ Some fault
+fault_here all i e t fault h =
+    ap first (faults_from all i e t) ∙ first_front (faults_at (take i all) (2 + i) e) (event_faults (take (i + 1) all) (2 + (i + 1)) (drop (i + 1) all)) fault h
+
+pub fault_later : (all : List Event) (i : ℕ) (e : Event) → Turn all i e → faults_at (take i all) (2 + i) e ≡ []
+    → event_faults (take i all) (2 + i) (drop i all) ≡ event_faults (take (i + 1) all) (2 + (i + 1)) (drop (i + 1) all)
+fault_later all i e t h =
+    faults_from all i e t ∙ ap (λ fs. fs ++ event_faults (take (i + 1) all) (2 + (i + 1)) (drop (i + 1) all)) h
+
+pub names_broken : (fs : List CheckFault) (line : ℕ) (rule : Rule) (r : CheckFault) → first fs ≡ Some (Malformed line rule)
+    → (r ≡ Malformed line rule) ⊎ (r ≡ Memory) → Names fs r
+names_broken fs line rule r h (inl e) = subst (Names fs) (sym e) h
+names_broken fs line rule r h (inr e) = subst (Names fs) (sym e) tt
+
+-- the faults of lines, where the line of the element is broken or not
+pub order_here : (all : List Event) (line : ℕ) (os : List Order) (i : ℕ) (o : Order) → Turn os i o → lists_exactly (installs all o.key) o.writers all ≡ false
+    → first (order_faults all line (drop i os)) ≡ Some (Malformed line M7)
+order_here all line os i o t e =
+    ap (λ xs. first (order_faults all line xs)) t.rest ∙
+    ap (λ b. first (fault_unless b line M7 ++ order_faults all (suc line) (drop (i + 1) os))) e
+
+pub order_later : (all : List Event) (line : ℕ) (os : List Order) (i : ℕ) (o : Order) → Turn os i o → lists_exactly (installs all o.key) o.writers all ≡ true
+    → order_faults all (line + i) (drop i os) ≡ order_faults all (line + (i + 1)) (drop (i + 1) os)
+order_later all line os i o t e =
+    let next : suc (line + i) ≡ line + (i + 1) = omega arith in
+    ap (order_faults all (line + i)) t.rest ∙
+    (ap (λ b. fault_unless b (line + i) M7 ++ order_faults all (suc (line + i)) (drop (i + 1) os)) e ∙
+    ap (λ n. order_faults all n (drop (i + 1) os)) next)

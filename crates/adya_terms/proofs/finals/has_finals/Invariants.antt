@@ -1,0 +1,13 @@
+use Rattle.std.proofs.Common.{◌≡◌, ◌||◌, map, drop, is_none, is_some}
+use Rattle.std.specs.List.{list_all}
+use Rattle.adya_terms.specs.Histories.{Order, order_of}
+use Rattle.adya_terms.specs.Rules.{final_value}
+use Rattle.adya_terms.specs.Faults.{last_value}
+use Rattle.adya_terms.specs.Checks.{parts}
+use Rattle.adya_terms.proofs.finals.has_finals.Given as goal
+
+abbrev pub invariant-loop-order : goal.invariant-loop-order
+invariant-loop-order l =
+    let h = parts l.events l.orders l.finals in
+    let test = λ (o : Order). is_none (last_value h o.key) || is_some (final_value h.finals o.key) in
+    list_all test h.orders ≡ list_all test (map order_of (drop l.order-index l.orders))

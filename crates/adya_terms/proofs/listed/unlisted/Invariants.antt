@@ -1,0 +1,14 @@
+use Rattle.std.proofs.Common.{◌≡◌, ℕ, List, map, take, nat_cmp}
+use Rattle.std.specs.List.{filter_map, list_any}
+use Rattle.std.specs.BTreeSet.{contains}
+use Rattle.std.specs.Cmp.Lexicographic.{slice_cmp}
+use Rattle.adya_terms.specs.Histories.{Event, Order, event_of}
+use Rattle.adya_terms.specs.Events.{written}
+use Rattle.adya_terms.specs.Tables.{Means}
+use Rattle.adya_terms.specs.Checks.{Lists, is_unlisted}
+use Rattle.adya_terms.proofs.listed.unlisted.Given as goal
+
+abbrev pub invariant-loop-event : goal.invariant-loop-event
+invariant-loop-event l =
+    (all : List Event) (os : List Order) → Means l.tables all all → Lists l.listed os
+    → (k : List ℕ) → contains (slice_cmp nat_cmp) l.keys k ≡ list_any (is_unlisted all os k) (filter_map written (take l.event-index (map event_of l.events)))

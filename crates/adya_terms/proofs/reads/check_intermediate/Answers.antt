@@ -1,0 +1,27 @@
+use Rattle.std.proofs.Common.{◌≡◌, ◌+◌, ◌∙◌, ap, map, Some, arith}
+use Rattle.adya_terms.specs.declared.fault.CheckFault.TheVariants.{IntermediateRead}
+use Rattle.adya_terms.specs.Histories.{event_of}
+use Rattle.adya_terms.specs.Faults.{first}
+use Rattle.adya_terms.specs.Checks.{is_own_or_last}
+use Rattle.adya_terms.proofs.Turns.{turn}
+use Rattle.adya_terms.proofs.Refused.{bad_here, bad_later}
+use Rattle.adya_terms.proofs.reads.check_intermediate.Goals as goal
+
+pub returns-in-Some : goal.returns-in-Some
+returns-in-Some c =
+    let all = map event_of c.args.events.now in
+    let i = c.loop-i.i in
+    let e = c.index-events-i.result in
+    let t = turn event_of c.args.events.now i e c.loop-i-test.true c.index-events-i.is in
+    let line : 2 + i ≡ i + 2 = omega arith in
+    ap first c.loop-i.invariant ∙
+    (bad_here (is_own_or_last all) IntermediateRead all i (event_of e) t c.in-Some.version (c.in-Some.ensures c.requires) ∙
+    ap (λ n. Some (IntermediateRead n c.in-Some.version)) line)
+
+pub loop-i-preserved : goal.loop-i-preserved
+loop-i-preserved c =
+    let all = map event_of c.args.events.now in
+    let i = c.loop-i.i in
+    let e = c.index-events-i.result in
+    let t = turn event_of c.args.events.now i e c.loop-i-test.true c.index-events-i.is in
+    c.loop-i.invariant ∙ bad_later (is_own_or_last all) IntermediateRead all i (event_of e) t (c.in_default.ensures c.requires)

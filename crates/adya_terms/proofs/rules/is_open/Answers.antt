@@ -1,0 +1,12 @@
+use Rattle.std.proofs.Common.{◌≡◌, ap}
+use Rattle.adya_terms.specs.Histories.{event_of}
+use Rattle.adya_terms.specs.Events.{txn_of, has_ended}
+use Rattle.adya_terms.proofs.rules.is_open.Goals as goal
+
+pub returns : goal.returns
+returns c all before m =
+    let t = c.txn.result in
+    let committed = m.committed_is t in
+    let aborted = m.aborted_is t in
+    let same : has_ended before t ≡ has_ended before (txn_of (event_of c.args.event.now)) = ap (has_ended before) c.txn.ensures in
+    cc

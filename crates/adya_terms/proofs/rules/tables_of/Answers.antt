@@ -1,0 +1,34 @@
+use Rattle.std.proofs.Common.{◌≡◌, ◌+◌, ◌∙◌, ap, map, take, Some, arith, subst, sym}
+use Rattle.adya_terms.specs.declared.fault.CheckFault.TheVariants.{Malformed}
+use Rattle.adya_terms.specs.Histories.{event_of}
+use Rattle.adya_terms.specs.Faults.{first}
+use Rattle.adya_terms.specs.Tables.{Means}
+use Rattle.adya_terms.proofs.Turns.{turn}
+use Rattle.adya_terms.proofs.Firsts.{fault_here, fault_later}
+use Rattle.adya_terms.proofs.Checking.{passes_all}
+use Rattle.adya_terms.proofs.rules.tables_of.Goals as goal
+
+pub returns-in-Some : goal.returns-in-Some
+returns-in-Some c =
+    let all = map event_of c.args.events.now in
+    let i = c.loop-i.i in
+    let e = c.index-events-i.result in
+    let t = turn event_of c.args.events.now i e c.loop-i-test.true c.index-events-i.is in
+    let line : 2 + i ≡ i + 2 = omega arith in
+    ap first c.loop-i.invariant.faults ∙
+    (fault_here all i (event_of e) t (Malformed (2 + i) c.in-Some.rule) (c.in-Some.ensures (take i all) c.loop-i.invariant.means (2 + i)) ∙
+    ap (λ n. Some (Malformed n c.in-Some.rule)) line)
+
+pub loop-i-preserved : goal.loop-i-preserved
+loop-i-preserved c =
+    let all = map event_of c.args.events.now in
+    let i = c.loop-i.i in
+    let e = c.index-events-i.result in
+    let t = turn event_of c.args.events.now i e c.loop-i-test.true c.index-events-i.is in
+    let m = c.loop-i.invariant.means in
+    let none = c.in_default.ensures (take i all) m (2 + i) in
+    record {
+      means = subst (Means c.record.new.self all) (sym t.front)
+        (c.in-Ok.ensures all (take i all) m t.found (passes_all (take i all) (2 + i) (event_of e) none).next);
+      faults = c.loop-i.invariant.faults ∙ fault_later all i (event_of e) t none;
+    }

@@ -1,0 +1,13 @@
+use Rattle.std.proofs.Common.{◌≡◌, ◌+◌, [], map, take, drop}
+use Rattle.adya_terms.specs.Histories.{event_of}
+use Rattle.adya_terms.specs.Faults.{event_faults}
+use Rattle.adya_terms.specs.Tables.{Means}
+use Rattle.adya_terms.proofs.rules.tables_of.Given as goal
+
+abbrev pub invariant-loop-i : goal.invariant-loop-i
+invariant-loop-i l =
+    let all = map event_of l.events in
+    record {
+      means : Means l.tables all (take l.i all);
+      faults : event_faults [] 2 all ≡ event_faults (take l.i all) (2 + l.i) (drop l.i all);
+    }

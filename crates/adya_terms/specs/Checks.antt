@@ -1,0 +1,108 @@
+-- What the parts of a check answer.
+use Rattle.std.specs.Prelude.{◌≡◌, ℕ, zero, suc, ◌==◌, Bool, true, false, cond, not, ◌&&◌, ◌||◌, List, [], Option, Some, None, map, filter, count_by, sum_by}
+use Rattle.std.specs.List.{list_any}
+use Rattle.std.specs.BTreeMap.{BTreeMap, get}
+use Rattle.adya_terms.specs.declared.event.Version.{Version}
+use Rattle.adya_terms.specs.declared.event.Event.{Event as EventValue}
+use Rattle.adya_terms.specs.declared.order.Order.{Order as OrderValue}
+use Rattle.adya_terms.specs.declared.order.FinalPair.{FinalPair as FinalValue}
+use Rattle.adya_terms.specs.declared.fault.CheckFault.{CheckFault}
+use Rattle.adya_terms.specs.declared.fault.CheckFault.TheVariants.{Malformed, AbortedRead, IntermediateRead, Memory}
+use Rattle.adya_terms.specs.declared.tables.Own.{Own}
+use Rattle.adya_terms.specs.declared.listed.Times.{Times}
+use Rattle.adya_terms.specs.declared.listed.Times.TheVariants.{Once, More}
+use Rattle.adya_terms.specs.Keys.{key_eq}
+use Rattle.adya_terms.specs.Histories.{Entry, Event, Order, History, One, event_of, order_of, final_of}
+use Rattle.adya_terms.specs.Events.{txn_of, observed, written, is_committed, aborts, last_write}
+use Rattle.adya_terms.specs.Rules.{installs}
+use Rattle.adya_terms.specs.Faults.{first, is_entry}
+use Rattle.adya_terms.specs.Tables.{own, own_cmp}
+
+-- the fault is the first of the list, or memory ran out
+abbrev pub Names : List CheckFault → CheckFault → Type 0
+Names fs (Malformed line rule) = first fs ≡ Some (Malformed line rule)
+Names fs (AbortedRead line version) = first fs ≡ Some (AbortedRead line version)
+Names fs (IntermediateRead line version) = first fs ≡ Some (IntermediateRead line version)
+Names fs Memory = Unit {0}
+
+-- the history of these parts
+abbrev pub parts : List EventValue → List OrderValue → List FinalValue → History
+parts events orders finals = record {
+  edition = One;
+  events = map event_of events;
+  unfinished = [];
+  orders = map order_of orders;
+  finals = map final_of finals;
+}
+
+-- the entry is of no aborted transaction
+abbrev pub is_not_aborted : List Event → Event → Entry → Bool
+is_not_aborted all e o = not (list_any (aborts o.version.txn) all)
+
+-- the entry is of the event's transaction, or its writer's last of the key
+abbrev pub is_own_or_last : List Event → Event → Entry → Bool
+is_own_or_last all e o = (o.version.txn == txn_of e) || is_entry (last_write o.version.txn o.version.key all) o
+
+-- what the event reads or lists and the test refuses, where its transaction is committed
+abbrev pub refused : (Event → Entry → Bool) → List Event → Event → List Entry
+refused good events e = filter (λ o. is_committed events (txn_of e) && not (good e o)) (observed e)
+
+-- none, or the first of the list
+abbrev pub IsFirst : List Entry → Option Version → Type 0
+IsFirst es None = es ≡ []
+IsFirst es (Some v) = first (map (λ o. o.version) es) ≡ Some v
+
+-- there is no entry, or it passes
+abbrev pub passes : (Entry → Bool) → Option Entry → Bool
+passes test None = true
+passes test (Some w) = test w
+
+-- the key of the entry has a line, if its transaction is committed
+abbrev pub has_line : List Event → List Order → Entry → Bool
+has_line events os w = not (is_committed events w.version.txn) || list_any (λ o. key_eq o.key w.version.key) os
+
+-- not at all, once, or more often
+abbrev pub times : ℕ → Option Times
+times zero = None
+times (suc zero) = Some Once
+times (suc (suc n)) = Some More
+
+abbrev pub once_more : Option Times → Times
+once_more None = Once
+once_more (Some n) = More
+
+-- once where it is wanted, and else not at all
+abbrev pub fits : Option Times → Bool → Bool
+fits None wanted = not wanted
+fits (Some Once) wanted = wanted
+fits (Some More) wanted = false
+
+-- how often the line lists the transaction, if it is the key's
+abbrev pub listed_by : ℕ → List ℕ → Order → ℕ
+listed_by t k o = cond (key_eq o.key k) (count_by (λ u. u == t) o.writers) 0
+
+-- how often the key's lines list the transaction
+abbrev pub listed : List Order → ℕ → List ℕ → ℕ
+listed os t k = sum_by (listed_by t k) os
+
+abbrev pub Lists : BTreeMap Own Times → List Order → Type 0
+Lists m os = (t : ℕ) (k : List ℕ) → get own_cmp m (own t k) ≡ times (listed os t k)
+
+-- a committed write of the key, which no line of its key lists
+abbrev pub is_unlisted : List Event → List Order → List ℕ → Entry → Bool
+is_unlisted events os k w =
+    is_committed events w.version.txn && ((listed os w.version.txn w.version.key == 0) && key_eq w.version.key k)
+
+-- there is an entry, and it passes
+abbrev pub is_some_and : (Entry → Bool) → Option Entry → Bool
+is_some_and test None = false
+is_some_and test (Some w) = test w
+
+-- it is this key
+abbrev pub is_this : Option (List ℕ) → List ℕ → Bool
+is_this None k = false
+is_this (Some j) k = key_eq j k
+
+-- the key's lines list the transaction once where it is a committed writer of the key, and else not at all
+abbrev pub belongs : List Event → List Order → List ℕ → ℕ → Bool
+belongs events os k t = listed os t k == cond (installs events k t) 1 0

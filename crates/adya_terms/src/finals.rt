@@ -1,0 +1,88 @@
+//! M8: the finals are the visible last versions of the keys.
+
+ghost use Rattle.std.specs.Prelude.{◌≡◌, [], true, map, option_map, is_some, MatchResult};
+ghost use Rattle.adya_terms.specs.Keys.{keys_rise};
+ghost use Rattle.adya_terms.specs.Histories.{event_of, order_of, final_of, value_of};
+ghost use Rattle.adya_terms.specs.Rules.{final_value};
+ghost use Rattle.adya_terms.specs.Faults as faults;
+ghost use Rattle.adya_terms.specs.Tables.{Means};
+ghost use Rattle.adya_terms.specs.Checks.{Names, parts};
+
+use crate::listed::{broken, line_of};
+use crate::tables::Tables;
+use crate::{CheckFault, Event, FinalPair, Key, Order, Rule, Value};
+
+/// What is visible of the key's last version.
+fn last_value(tables: &Tables, events: &[Event], orders: &[Order], key: Key) -> Option<Value>
+    requires tell { Means tables.now (map event_of events.now) (map event_of events.now) }
+    requires rise { keys_rise (map (λ o. o.key) (map order_of orders.now)) ≡ true }
+    ensures { option_map value_of result ≡ faults.last_value (parts events.now orders.now []) key }
+{
+    let Some(order) = line_of(orders, key) else {
+        return None;
+    };
+    let Some(txn) = order.writers.as_slice().last() else {
+        return None;
+    };
+    let Some(last) = tables.last_write(events, *txn, key) else {
+        return None;
+    };
+    Some(last.value)
+}
+
+fn is_value(last: Option<Value>, value: &Value) -> bool
+    ensures { result ≡ faults.is_value (option_map value_of last) (value_of value.now) }
+{
+    match last {
+        None => false,
+        Some(last) => last.same(value),
+    }
+}
+
+/// The first final line that isn't the last version of its key.
+pub(crate) fn check_finals(
+    tables: &Tables,
+    events: &[Event],
+    orders: &[Order],
+    finals: &[FinalPair],
+    first: usize,
+) -> Result<(), CheckFault>
+    requires tell { Means tables.now (map event_of events.now) (map event_of events.now) }
+    requires rise { keys_rise (map (λ o. o.key) (map order_of orders.now)) ≡ true }
+    ensures {
+        let found = faults.final_faults (parts events.now orders.now finals.now) first (map final_of finals.now) in
+        MatchResult result (λ u. found ≡ []) (Names found)
+    }
+{
+    for (i, pair) in finals.iter().enumerate() {
+        if !is_value(last_value(tables, events, orders, pair.key), &pair.value) {
+            return Err(broken(first, i, Rule::M8));
+        }
+    }
+    Ok(())
+}
+
+fn has_final(finals: &[FinalPair], key: Key) -> bool
+    requires { keys_rise (map (λ f. f.key) (map final_of finals.now)) ≡ true }
+    ensures { result ≡ is_some (final_value (map final_of finals.now) key) }
+{
+    match finals.binary_search_by_key(&key, |f| f.key) {
+        Err(_) => false,
+        Ok(_) => true,
+    }
+}
+
+/// Whether each key whose last version is visible has a final line.
+pub(crate) fn has_finals(tables: &Tables, events: &[Event], orders: &[Order], finals: &[FinalPair]) -> bool
+    requires tell { Means tables.now (map event_of events.now) (map event_of events.now) }
+    requires orders_rise { keys_rise (map (λ o. o.key) (map order_of orders.now)) ≡ true }
+    requires finals_rise { keys_rise (map (λ f. f.key) (map final_of finals.now)) ≡ true }
+    ensures { result ≡ faults.has_finals (parts events.now orders.now finals.now) }
+{
+    for order in orders {
+        if last_value(tables, events, orders, order.key).is_some() && !has_final(finals, order.key) {
+            return false;
+        }
+    }
+    true
+}

@@ -1,0 +1,278 @@
+//! M7: the order of a key lists its committed writers, once each.
+
+ghost use Rattle.std.specs.Prelude.{◌≡◌, ◌+◌, ◌==◌, ℕ, List, [], true, not, ◌&&◌, ◌||◌, ◌⊎◌, map, cond, count_by, option_copied, is_some, IfSome, IfOk, MatchOption, MatchResult, Contains};
+ghost use Rattle.std.specs.List.{filter_map, list_all, list_any};
+ghost use Rattle.std.specs.BTreeMap.{get};
+ghost use Rattle.std.specs.BTreeSet.{contains};
+ghost use Rattle.std.specs.Ordering.{nat_cmp};
+ghost use Rattle.std.specs.Cmp.Lexicographic.{slice_cmp};
+ghost use Rattle.adya_terms.specs.Keys.{key_eq, keys_rise};
+ghost use Rattle.adya_terms.specs.Histories.{Event as EventValue, Order as OrderValue, event_of, order_of};
+ghost use Rattle.adya_terms.specs.Events.{written, is_committed};
+ghost use Rattle.adya_terms.specs.Faults as faults;
+ghost use Rattle.adya_terms.specs.Orders.{line_of};
+ghost use Rattle.adya_terms.specs.Rules.{installs};
+ghost use Rattle.adya_terms.specs.Tables.{own, own_cmp, Means};
+ghost use Rattle.adya_terms.specs.Checks as checks;
+ghost use Rattle.adya_terms.specs.Checks.{Names, Lists, parts};
+
+use crate::tables::{Own, Tables};
+use crate::{CheckFault, Event, Key, Order, Rule, Txn};
+use std::alloc::{AllocError, Global};
+use std::collections::{BTreeMap, BTreeSet};
+
+/// How often the lines of a key list a transaction, where they do.
+#[derive(Clone, Copy)]
+pub(crate) enum Times {
+    Once,
+    More,
+}
+
+/// How often the lines of each key list each transaction.
+fn listed(alloc: Global, orders: &[Order]) -> Result<BTreeMap<Own, Times>, AllocError>
+    ensures { IfOk result (λ m. Lists m (map order_of orders.now)) }
+{
+    let mut listed = BTreeMap::new(alloc);
+    for order in orders {
+        list(&mut listed, order.key, &order.writers)?;
+    }
+    Ok(listed)
+}
+
+/// Adds the writers of a line of the key.
+fn list(listed: &mut BTreeMap<Own, Times>, key: Key, writers: &[Txn]) -> Result<(), AllocError>
+    ensures {
+        IfOk result
+            (λ u. (n : ℕ → List ℕ → ℕ)
+                → ((t : ℕ) (k : List ℕ) → get own_cmp listed.old (own t k) ≡ checks.times (n t k))
+                → (t : ℕ) (k : List ℕ)
+                → get own_cmp listed.new (own t k)
+                    ≡ checks.times (n t k + cond (key_eq key k) (count_by (λ u. u == t) writers.now) 0))
+    }
+{
+    for txn in writers {
+        let own = Own { txn: *txn, key };
+        let times = once_more(listed.get(&own).copied());
+        listed.insert(own, times)?;
+    }
+    Ok(())
+}
+
+fn once_more(times: Option<Times>) -> Times
+    ensures { result ≡ checks.once_more times }
+{
+    match times {
+        None => Times::Once,
+        Some(_) => Times::More,
+    }
+}
+
+/// The keys of committed writes that no line of their key lists.
+fn unlisted(
+    alloc: Global,
+    tables: &Tables,
+    events: &[Event],
+    listed: &BTreeMap<Own, Times>,
+) -> Result<BTreeSet<Key>, AllocError>
+    ensures {
+        IfOk result
+            (λ s. (all : List EventValue) (os : List OrderValue)
+                → Means tables.now all all
+                → Lists listed.now os
+                → (k : List ℕ)
+                → contains (slice_cmp nat_cmp) s k
+                    ≡ list_any (checks.is_unlisted all os k) (filter_map written (map event_of events.now)))
+    }
+{
+    let mut keys = BTreeSet::new(alloc);
+    for event in events {
+        if let Some(key) = unlisted_key(tables, listed, event) {
+            keys.insert(key)?;
+        }
+    }
+    Ok(keys)
+}
+
+/// The key of the event, where it is a committed write that no line of its key lists.
+fn unlisted_key(tables: &Tables, listed: &BTreeMap<Own, Times>, event: &Event) -> Option<Key>
+    ensures {
+        (all : List EventValue) (os : List OrderValue)
+            → Means tables.now all all
+            → Lists listed.now os
+            → (k : List ℕ)
+            → checks.is_this result k ≡ checks.is_some_and (checks.is_unlisted all os k) (written (event_of event.now))
+    }
+{
+    match *event {
+        Event::Write { txn, key, .. } => {
+            if !tables.has_committed(txn) {
+                return None;
+            }
+            if listed.contains_key(&Own { txn, key }) {
+                return None;
+            }
+            Some(key)
+        }
+        Event::Read { .. } => None,
+        Event::Commit { .. } => None,
+        Event::Abort { .. } => None,
+    }
+}
+
+/// Whether a transaction that is listed so often is listed right.
+fn fits(times: Option<Times>, wanted: bool) -> bool
+    ensures { result ≡ checks.fits times wanted }
+{
+    match times {
+        None => !wanted,
+        Some(Times::Once) => wanted,
+        Some(Times::More) => false,
+    }
+}
+
+/// Whether the key's lines list the transaction once where it is a committed writer of the key, and else not at all.
+fn belongs(tables: &Tables, events: &[Event], listed: &BTreeMap<Own, Times>, key: Key, txn: Txn) -> bool
+    ensures {
+        let all = map event_of events.now in
+        (os : List OrderValue)
+            → Means tables.now all all
+            → Lists listed.now os
+            → result ≡ checks.belongs all os key txn
+    }
+{
+    fits(listed.get(&Own { txn, key }).copied(), tables.installs(events, txn, key))
+}
+
+/// Whether that holds of each transaction of the line.
+fn all_belong(
+    tables: &Tables,
+    events: &[Event],
+    listed: &BTreeMap<Own, Times>,
+    key: Key,
+    writers: &[Txn],
+) -> bool
+    ensures {
+        let all = map event_of events.now in
+        (os : List OrderValue)
+            → Means tables.now all all
+            → Lists listed.now os
+            → result ≡ list_all (checks.belongs all os key) writers.now
+    }
+{
+    for txn in writers {
+        if !belongs(tables, events, listed, key, *txn) {
+            return false;
+        }
+    }
+    true
+}
+
+/// Whether the line lists the committed writers of its key, once each.
+fn is_exact(
+    tables: &Tables,
+    events: &[Event],
+    listed: &BTreeMap<Own, Times>,
+    unlisted: &BTreeSet<Key>,
+    order: &Order,
+) -> bool
+    ensures {
+        let all = map event_of events.now in
+        (os : List OrderValue)
+            → Means tables.now all all
+            → Lists listed.now os
+            → ((k : List ℕ)
+                → contains (slice_cmp nat_cmp) unlisted.now k
+                    ≡ list_any (checks.is_unlisted all os k) (filter_map written all))
+            → keys_rise (map (λ o. o.key) os) ≡ true
+            → Contains os (order_of order.now)
+            → result ≡ faults.lists_exactly (installs all order.now.key) order.now.writers.items all
+    }
+{
+    if unlisted.contains(&order.key) {
+        return false;
+    }
+    all_belong(tables, events, listed, order.key, &order.writers)
+}
+
+/// The first line that doesn't list the committed writers of its key, once each, where `first` is the line of the
+/// first order.
+pub(crate) fn check_orders(
+    alloc: Global,
+    tables: &Tables,
+    events: &[Event],
+    orders: &[Order],
+    first: usize,
+) -> Result<(), CheckFault>
+    requires tell { Means tables.now (map event_of events.now) (map event_of events.now) }
+    requires rise { keys_rise (map (λ o. o.key) (map order_of orders.now)) ≡ true }
+    ensures {
+        let found = faults.order_faults (map event_of events.now) first (map order_of orders.now) in
+        MatchResult result (λ u. found ≡ []) (Names found)
+    }
+{
+    let Ok(listed) = listed(alloc, orders) else {
+        return Err(CheckFault::Memory);
+    };
+    let Ok(unlisted) = unlisted(alloc, tables, events, &listed) else {
+        return Err(CheckFault::Memory);
+    };
+    for (i, order) in orders.iter().enumerate() {
+        if !is_exact(tables, events, &listed, &unlisted, order) {
+            return Err(broken(first, i, Rule::M7));
+        }
+    }
+    Ok(())
+}
+
+/// The rule is broken so many lines after the line; `Memory` where that line has no number.
+pub(crate) fn broken(line: usize, after: usize, rule: Rule) -> CheckFault
+    ensures { (result ≡ CheckFault.Malformed (line + after) rule) ⊎ (result ≡ CheckFault.Memory) }
+{
+    match line.checked_add(after) {
+        None => CheckFault::Memory,
+        Some(line) => CheckFault::Malformed { line, rule },
+    }
+}
+
+/// The line of the key.
+pub(crate) fn line_of(orders: &[Order], key: Key) -> Option<&Order>
+    requires { keys_rise (map (λ o. o.key) (map order_of orders.now)) ≡ true }
+    ensures found { is_some result ≡ list_any (λ o. key_eq o.key key) (map order_of orders.now) }
+    ensures line { IfSome result (λ o. line_of (map order_of orders.now) key ≡ o.now.writers.items) }
+{
+    match orders.binary_search_by_key(&key, |o| o.key) {
+        Err(_) => None,
+        Ok(at) => Some(&orders[at]),
+    }
+}
+
+/// Whether the event's key has a line, where it is a committed write.
+fn has_line(tables: &Tables, orders: &[Order], event: &Event) -> bool
+    requires { keys_rise (map (λ o. o.key) (map order_of orders.now)) ≡ true }
+    ensures {
+        (all : List EventValue)
+            → Means tables.now all all
+            → result ≡ checks.passes (checks.has_line all (map order_of orders.now)) (written (event_of event.now))
+    }
+{
+    match *event {
+        Event::Write { txn, key, .. } => !tables.has_committed(txn) || line_of(orders, key).is_some(),
+        Event::Read { .. } => true,
+        Event::Commit { .. } => true,
+        Event::Abort { .. } => true,
+    }
+}
+
+/// Whether each committed write has a line of its key.
+pub(crate) fn has_lines(tables: &Tables, events: &[Event], orders: &[Order]) -> bool
+    requires tell { Means tables.now (map event_of events.now) (map event_of events.now) }
+    requires rise { keys_rise (map (λ o. o.key) (map order_of orders.now)) ≡ true }
+    ensures { result ≡ faults.has_lines (parts events.now orders.now []) }
+{
+    for event in events {
+        if !has_line(tables, orders, event) {
+            return false;
+        }
+    }
+    true
+}

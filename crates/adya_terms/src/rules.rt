@@ -1,0 +1,124 @@
+//! The rules M1 to M4 of each event, given those before it.
+
+ghost use Rattle.std.specs.Prelude.{◌≡◌, ◌+◌, ℕ, List, [], Some, map, MatchOption, MatchResult};
+ghost use Rattle.adya_terms.specs.Histories.{Event as EventValue, event_of};
+ghost use Rattle.adya_terms.specs.Events.{written};
+ghost use Rattle.adya_terms.specs.Faults as faults;
+ghost use Rattle.adya_terms.specs.Tables.{Means};
+ghost use Rattle.adya_terms.specs.Checks.{Names};
+
+use crate::tables::{Tables, Entry, wrote};
+use crate::{CheckFault, Event, Rule};
+use std::alloc::Global;
+
+/// M1: the event's transaction has not ended before.
+fn is_open(tables: &Tables, event: &Event) -> bool
+    ensures {
+        (all before : List EventValue) → Means tables.now all before → result ≡ faults.is_open before (event_of event.now)
+    }
+{
+    !tables.has_ended(event.txn())
+}
+
+/// M2: the transaction's writes of a key are numbered from 1.
+fn is_next(tables: &Tables, events: &[Event], event: &Event) -> bool
+    ensures {
+        (before : List EventValue)
+            → Means tables.now (map event_of events.now) before
+            → result ≡ faults.is_next before (written (event_of event.now))
+    }
+{
+    let Some(new) = wrote(event) else {
+        return true;
+    };
+    let number = u32::from(new.version.m.get());
+    match tables.last_write(events, new.version.txn, new.version.key) {
+        None => number == 1,
+        Some(last) => number == u32::from(last.version.m.get()) + 1,
+    }
+}
+
+/// M3: what is read was written before.
+fn was_written(tables: &Tables, events: &[Event], event: &Event) -> bool
+    ensures {
+        (before : List EventValue)
+            → Means tables.now (map event_of events.now) before
+            → result ≡ faults.was_written before (event_of event.now)
+    }
+{
+    match *event {
+        Event::Read { version, value, .. } => {
+            tables.was_written(events, &Entry { version, value })
+        }
+        Event::Write { .. } => true,
+        Event::Commit { .. } => true,
+        Event::Abort { .. } => true,
+    }
+}
+
+/// M4: of a key that it has written a transaction reads its own last write.
+fn sees_own(tables: &Tables, events: &[Event], event: &Event) -> bool
+    ensures {
+        (before : List EventValue)
+            → Means tables.now (map event_of events.now) before
+            → result ≡ faults.sees_own before (event_of event.now)
+    }
+{
+    match *event {
+        Event::Read {
+            txn,
+            version,
+            value,
+        } => match tables.last_write(events, txn, version.key) {
+            None => true,
+            Some(last) => last.same(&Entry { version, value }),
+        },
+        Event::Write { .. } => true,
+        Event::Commit { .. } => true,
+        Event::Abort { .. } => true,
+    }
+}
+
+/// The first rule that the event breaks.
+fn broken_rule(tables: &Tables, events: &[Event], event: &Event) -> Option<Rule>
+    ensures {
+        (before : List EventValue)
+            → Means tables.now (map event_of events.now) before
+            → (line : ℕ)
+            → MatchOption result (faults.faults_at before line (event_of event.now) ≡ [])
+                (λ r. faults.first (faults.faults_at before line (event_of event.now)) ≡ Some (CheckFault.Malformed line r))
+    }
+{
+    if !is_open(tables, event) {
+        return Some(Rule::M1);
+    }
+    if !is_next(tables, events, event) {
+        return Some(Rule::M2);
+    }
+    if !was_written(tables, events, event) {
+        return Some(Rule::M3);
+    }
+    if !sees_own(tables, events, event) {
+        return Some(Rule::M4);
+    }
+    None
+}
+
+/// The tables of the events, where none breaks a rule.
+pub(crate) fn tables_of(alloc: Global, events: &[Event]) -> Result<Tables, CheckFault>
+    ensures {
+        let all = map event_of events.now in
+        MatchResult result (λ t. Means t all all × (faults.event_faults [] 2 all ≡ [])) (Names (faults.event_faults [] 2 all))
+    }
+{
+    let mut tables = Tables::new(alloc);
+    for (i, event) in events.iter().enumerate() {
+        if let Some(rule) = broken_rule(&tables, events, event) {
+            return Err(CheckFault::Malformed { line: i + 2, rule });
+        }
+        let Ok(()) = tables.record(i, event) else {
+            return Err(CheckFault::Memory);
+        };
+    }
+    Ok(tables)
+}
