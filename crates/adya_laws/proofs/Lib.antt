@@ -17,3 +17,12 @@ pub mod Clean
 pub mod Seen
 pub mod Whole
 pub mod Rows
+pub mod Firsts
+pub mod Rules
+pub mod Ranks
+pub mod Broken
+pub mod Malformed
+pub mod FirstReads
+pub mod Unbroken
+pub mod Naming
+pub mod Backward

@@ -1,6 +1,8 @@
-//! What it implies that a history and a certificate are accepted: laws of the definitions, each proved
-//! as the contract of a function that does nothing.
+//! What it implies that a history and a certificate are accepted, and which fault is named where they are not: laws
+//! of the definitions, each proved as the contract of a function that does nothing.
 #![tactic(auto)]
+
+pub mod first_faults;
 
 ghost use Rattle.adya_laws.specs.Laws.{EdgeListIsExact, EdgeListIsDistinct, EdgeListKeepsFirst, AcceptedHasNoPhenomenon, AcceptedWhereForward, AcceptedAgrees};
 
