@@ -1,8 +1,8 @@
 //! The values of transaction histories: keys, values, versions, events, histories and certificates.
 #![tactic(auto)]
 
-mod edition;
 mod checked;
+mod edition;
 mod event;
 mod fault;
 mod finals;
@@ -23,10 +23,9 @@ mod tests;
 mod value;
 mod watched;
 
+pub use checked::Checked;
 pub use edition::Edition;
 pub use event::{Content, Entry, Event, Version};
-pub use checked::Checked;
-pub use event::{Event, Version};
 pub use fault::{CheckFault, Rule};
 pub use history::{BadShape, History};
 pub use key::{BadKey, Key, MAX_KEY_LEN, is_key_byte};
