@@ -2,6 +2,8 @@
 use Rattle.std.specs.Prelude.{◌≡◌, ℕ, zero, suc, ◌==◌, Bool, true, false, cond, not, ◌&&◌, ◌||◌, List, [], Option, Some, None, map, filter, count_by, sum_by}
 use Rattle.std.specs.List.{list_any}
 use Rattle.std.specs.BTreeMap.{BTreeMap, get}
+use Rattle.std.specs.BTreeSet.{BTreeSet, contains}
+use Rattle.std.specs.Ordering.{nat_cmp}
 use Rattle.adya_terms.specs.declared.event.Version.{Version}
 use Rattle.adya_terms.specs.declared.event.Event.{Event as EventValue}
 use Rattle.adya_terms.specs.declared.order.Order.{Order as OrderValue}
@@ -35,9 +37,13 @@ parts events orders finals = record {
   finals = map final_of finals;
 }
 
--- the entry is of no aborted transaction
-abbrev pub is_not_aborted : List Event → Event → Entry → Bool
-is_not_aborted all e o = not (list_any (aborts o.version.txn) all)
+-- the entry is of no aborted or unfinished transaction
+abbrev pub is_not_aborted : List Event → List ℕ → Event → Entry → Bool
+is_not_aborted all unfinished e o = not (list_any (aborts o.version.txn) all || list_any (λ u. u == o.version.txn) unfinished)
+
+-- the set holds the numbers of the list
+abbrev pub Holds : BTreeSet ℕ → List ℕ → Type 0
+Holds s us = (t : ℕ) → contains nat_cmp s t ≡ list_any (λ u. u == t) us
 
 -- the entry is of the event's transaction, or its writer's last of the key
 abbrev pub is_own_or_last : List Event → Event → Entry → Bool

@@ -8,10 +8,9 @@ use Rattle.std.specs.BTreeMap.{get}
 use Rattle.std.specs.BTreeSet.{contains}
 use Rattle.adya_terms.specs.declared.event.Version.{Version}
 use Rattle.adya_terms.specs.declared.tables.Own.{Own}
-use Rattle.adya_terms.specs.declared.tables.Entry.{Entry as EntryValue}
 use Rattle.adya_terms.specs.declared.tables.Tables.{Tables}
-use Rattle.adya_terms.specs.Histories.{Live, Entry, Event, value_of}
-use Rattle.adya_terms.specs.Events.{entry, written, writes_of, last_write, is_committed, aborts}
+use Rattle.adya_terms.specs.Histories.{Entry, Event}
+use Rattle.adya_terms.specs.Events.{written, writes_of, last_write, is_committed, aborts}
 use Rattle.adya_terms.specs.Faults.{entry_eq}
 
 abbrev pub own : ℕ → List ℕ → Own
@@ -22,9 +21,6 @@ own_cmp a b = ordering_then (nat_cmp a.txn b.txn) (slice_cmp nat_cmp a.key b.key
 
 abbrev pub version_cmp : Version → Version → Ordering
 version_cmp a b = ordering_then (slice_cmp nat_cmp a.key b.key) (ordering_then (nat_cmp a.txn b.txn) (nat_cmp a.m b.m))
-
-abbrev pub entry_of : EntryValue → Entry
-entry_of w = entry w.version (Live (value_of w.value))
 
 abbrev pub written_by : Option Event → Option Entry
 written_by None = None

@@ -1,8 +1,9 @@
 //! Events.
 
 ghost use Rattle.std.specs.Prelude.{◌≡◌, IfOk};
-ghost use Rattle.adya_terms.specs.Histories.{event_of};
+ghost use Rattle.adya_terms.specs.Histories.{content_of, entry_of, event_of};
 ghost use Rattle.adya_terms.specs.Events.{txn_of};
+ghost use Rattle.adya_terms.specs.Faults.{content_eq, entry_eq};
 
 use crate::{Key, Mod, Txn, Value};
 use std::alloc::{AllocError, Global};
@@ -27,6 +28,20 @@ pub enum Content {
     Dead,
 }
 
+impl Content {
+    /// Whether the two are the same value, or both dead.
+    pub fn same(&self, other: &Content) -> bool
+        ensures { result ≡ content_eq (content_of self.now) (content_of other.now) }
+    {
+        match (self, other) {
+            (Content::Live(value), Content::Live(other)) => value.same(other),
+            (Content::Live(_), Content::Dead) => false,
+            (Content::Dead, Content::Live(_)) => false,
+            (Content::Dead, Content::Dead) => true,
+        }
+    }
+}
+
 /// A version with its content, as a scan lists it.
 #[derive(Clone, Copy)]
 pub struct Entry {
@@ -34,6 +49,15 @@ pub struct Entry {
     pub version: Version,
     /// What it is.
     pub content: Content,
+}
+
+impl Entry {
+    /// Whether the two are the same version with the same content.
+    pub fn same(&self, other: &Entry) -> bool
+        ensures { result ≡ entry_eq (entry_of self.now) (entry_of other.now) }
+    {
+        self.version == other.version && self.content.same(&other.content)
+    }
 }
 
 /// One step of a transaction.
