@@ -1,5 +1,5 @@
 -- The first fault of joined lists, and of the events from one on.
-use Rattle.std.proofs.Common.{◌≡◌, ℕ, suc, ◌+◌, ◌⊎◌, inl, inr, true, false, List, [], ◌∷◌, ◌++◌, Some, take, drop, refl, sym, ◌∙◌, ap, subst, arith}
+use Rattle.std.proofs.Common.{◌≡◌, ℕ, suc, ◌+◌, ◌⊎◌, Result, MatchResult, inl, inr, true, false, List, [], ◌∷◌, ◌++◌, Some, take, drop, refl, sym, ◌∙◌, ap, subst, arith}
 use Rattle.adya_terms.specs.declared.fault.Rule.{Rule}
 use Rattle.adya_terms.specs.declared.fault.CheckFault.{CheckFault}
 use Rattle.adya_terms.specs.declared.fault.CheckFault.TheVariants.{Malformed, AbortedRead, IntermediateRead, Memory}
@@ -55,3 +55,17 @@ order_later all line os i o t e =
     ap (order_faults all (line + i)) t.rest ∙
     (ap (λ b. fault_unless b (line + i) M7 ++ order_faults all (suc (line + i)) (drop (i + 1) os)) e ∙
     ap (λ n. order_faults all n (drop (i + 1) os)) next)
+
+-- what is found of a list, behind one with no fault or before any
+pub names_front : (xs ys : List CheckFault) (e : CheckFault) → Names xs e → Names (xs ++ ys) e
+names_front xs ys (Malformed line rule) h = first_front xs ys _ h
+names_front xs ys (AbortedRead line version) h = first_front xs ys _ h
+names_front xs ys (IntermediateRead line version) h = first_front xs ys _ h
+names_front xs ys Memory h = tt
+
+pub found_behind : (r : Result (Unit {0}) CheckFault) (xs ys : List CheckFault) → xs ≡ [] → MatchResult r (λ u. ys ≡ []) (Names ys)
+    → MatchResult r (λ u. xs ++ ys ≡ []) (Names (xs ++ ys))
+found_behind r xs ys none h = subst (λ zs. MatchResult r (λ u. zs ++ ys ≡ []) (Names (zs ++ ys))) (sym none) h
+
+pub names_behind : (xs ys : List CheckFault) (e : CheckFault) → xs ≡ [] → Names ys e → Names (xs ++ ys) e
+names_behind xs ys e none h = subst (λ zs. Names (zs ++ ys) e) (sym none) h

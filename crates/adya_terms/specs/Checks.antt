@@ -1,5 +1,5 @@
 -- What the parts of a check answer.
-use Rattle.std.specs.Prelude.{◌≡◌, ℕ, zero, suc, ◌==◌, Bool, true, false, cond, not, ◌&&◌, ◌||◌, List, [], Option, Some, None, map, filter, count_by, sum_by}
+use Rattle.std.specs.Prelude.{◌≡◌, ℕ, zero, suc, ◌+◌, ◌==◌, Bool, true, false, cond, not, ◌&&◌, ◌||◌, List, [], ◌++◌, length, Option, Some, None, map, filter, count_by, sum_by}
 use Rattle.std.specs.List.{list_any}
 use Rattle.std.specs.BTreeMap.{BTreeMap, get}
 use Rattle.std.specs.BTreeSet.{BTreeSet, contains}
@@ -8,6 +8,7 @@ use Rattle.adya_terms.specs.declared.event.Version.{Version}
 use Rattle.adya_terms.specs.declared.event.Event.{Event as EventValue}
 use Rattle.adya_terms.specs.declared.order.Order.{Order as OrderValue}
 use Rattle.adya_terms.specs.declared.order.FinalPair.{FinalPair as FinalValue}
+use Rattle.adya_terms.specs.declared.fault.Rule.TheVariants.{M6, M7, M8}
 use Rattle.adya_terms.specs.declared.fault.CheckFault.{CheckFault}
 use Rattle.adya_terms.specs.declared.fault.CheckFault.TheVariants.{Malformed, AbortedRead, IntermediateRead, Memory}
 use Rattle.adya_terms.specs.declared.tables.Own.{Own}
@@ -17,15 +18,19 @@ use Rattle.adya_terms.specs.Keys.{key_eq}
 use Rattle.adya_terms.specs.Histories.{Entry, Event, Order, History, One, event_of, order_of, final_of}
 use Rattle.adya_terms.specs.Events.{txn_of, observed, written, is_committed, aborts, last_write}
 use Rattle.adya_terms.specs.Rules.{installs}
-use Rattle.adya_terms.specs.Faults.{first, is_entry}
+use Rattle.adya_terms.specs.Faults.{first, is_entry, fault_unless, all_end, order_faults, has_lines, final_faults, has_finals}
 use Rattle.adya_terms.specs.Tables.{own, own_cmp}
+
+-- it is this fault, or memory ran out
+abbrev pub IsFault : Option CheckFault → CheckFault → Type 0
+IsFault found (Malformed line rule) = found ≡ Some (Malformed line rule)
+IsFault found (AbortedRead line version) = found ≡ Some (AbortedRead line version)
+IsFault found (IntermediateRead line version) = found ≡ Some (IntermediateRead line version)
+IsFault found Memory = Unit {0}
 
 -- the fault is the first of the list, or memory ran out
 abbrev pub Names : List CheckFault → CheckFault → Type 0
-Names fs (Malformed line rule) = first fs ≡ Some (Malformed line rule)
-Names fs (AbortedRead line version) = first fs ≡ Some (AbortedRead line version)
-Names fs (IntermediateRead line version) = first fs ≡ Some (IntermediateRead line version)
-Names fs Memory = Unit {0}
+Names fs e = IsFault (first fs) e
 
 -- the history of these parts
 abbrev pub parts : List EventValue → List OrderValue → List FinalValue → History
@@ -112,3 +117,17 @@ is_this (Some j) k = key_eq j k
 -- the key's lines list the transaction once where it is a committed writer of the key, and else not at all
 abbrev pub belongs : List Event → List Order → List ℕ → ℕ → Bool
 belongs events os k t = listed os t k == cond (installs events k t) 1 0
+
+-- the faults of the lines from the one behind the orders on
+abbrev pub later_faults : History → ℕ → List CheckFault
+later_faults h line =
+    fault_unless (has_lines h) line M7 ++
+    (final_faults h line h.finals ++
+    fault_unless (has_finals h) (line + length h.finals) M8)
+
+-- the faults of the lines from the first order on
+abbrev pub rule_faults : History → ℕ → List CheckFault
+rule_faults h line =
+    fault_unless (all_end h) line M6 ++
+    (order_faults h.events line h.orders ++
+    later_faults h (line + length h.orders))
