@@ -15,10 +15,11 @@ use Rattle.adya_terms.specs.declared.tables.Own.{Own}
 use Rattle.adya_terms.specs.declared.listed.Times.{Times}
 use Rattle.adya_terms.specs.declared.listed.Times.TheVariants.{Once, More}
 use Rattle.adya_terms.specs.Keys.{key_eq}
-use Rattle.adya_terms.specs.Histories.{Entry, Event, Order, History, One, event_of, order_of, final_of}
-use Rattle.adya_terms.specs.Events.{txn_of, observed, written, is_committed, aborts, last_write}
+use Rattle.adya_terms.specs.Histories.{Entry, Event, Order, History, event_of, order_of, final_of}
+use Rattle.adya_terms.specs.declared.edition.Edition.TheVariants.{One, Two}
+use Rattle.adya_terms.specs.Events.{txn_of, observed, written, is_committed, has_ended, aborts, last_write}
 use Rattle.adya_terms.specs.Rules.{installs}
-use Rattle.adya_terms.specs.Faults.{first, is_entry, fault_unless, all_end, order_faults, has_lines, final_faults, has_finals}
+use Rattle.adya_terms.specs.Faults.{entry_eq, first, is_entry, fault_unless, aborted_reads, all_end, intermediate_reads, order_faults, has_lines, final_faults, has_finals}
 use Rattle.adya_terms.specs.Tables.{own, own_cmp}
 
 -- it is this fault, or memory ran out
@@ -38,6 +39,16 @@ parts events orders finals = record {
   edition = One;
   events = map event_of events;
   unfinished = [];
+  orders = map order_of orders;
+  finals = map final_of finals;
+}
+
+-- the same with unfinished transactions
+abbrev pub whole : List EventValue → List ℕ → List OrderValue → List FinalValue → History
+whole events unfinished orders finals = record {
+  edition = Two;
+  events = map event_of events;
+  unfinished = unfinished;
   orders = map order_of orders;
   finals = map final_of finals;
 }
@@ -131,3 +142,15 @@ rule_faults h line =
     fault_unless (all_end h) line M6 ++
     (order_faults h.events line h.orders ++
     later_faults h (line + length h.orders))
+
+-- aborted and intermediate reads
+abbrev pub read_faults : History → List CheckFault
+read_faults h = aborted_reads h ++ intermediate_reads h
+
+-- the entry is this write, or of another key
+abbrev pub is_of_key : Entry → Entry → Bool
+is_of_key w x = not (key_eq x.version.key w.version.key) || entry_eq x w
+
+-- the event's transaction has ended or is unfinished
+abbrev pub ends : List Event → List ℕ → Event → Bool
+ends all unfinished e = has_ended all (txn_of e) || list_any (λ u. u == txn_of e) unfinished

@@ -15,6 +15,7 @@ mod order;
 mod padded;
 mod reads;
 mod rules;
+mod scans;
 mod serial;
 mod source;
 mod tables;
