@@ -1,13 +1,15 @@
 -- The first fault of joined lists, and of the events from one on.
-use Rattle.std.proofs.Common.{◌≡◌, ℕ, suc, ◌+◌, ◌⊎◌, Result, MatchResult, inl, inr, true, false, List, [], ◌∷◌, ◌++◌, Some, take, drop, refl, sym, ◌∙◌, ap, subst, arith}
+use Rattle.std.proofs.Common.{◌≡◌, ℕ, suc, ◌+◌, ◌<◌, ◌⊎◌, not, length, get_or, Result, MatchResult, inl, inr, true, false, List, [], ◌∷◌, ◌++◌, Some, take, drop, refl, sym, ◌∙◌, ap, subst, arith}
 use Rattle.adya_terms.specs.declared.fault.Rule.{Rule}
 use Rattle.adya_terms.specs.declared.fault.CheckFault.{CheckFault}
 use Rattle.adya_terms.specs.declared.fault.CheckFault.TheVariants.{Malformed, AbortedRead, IntermediateRead, Memory}
-use Rattle.adya_terms.specs.declared.fault.Rule.TheVariants.{M7}
+use Rattle.adya_terms.specs.declared.fault.Rule.TheVariants.{M6, M7}
 use Rattle.adya_terms.specs.Histories.{Event, Order}
+use Rattle.adya_terms.specs.Events.{has_ended}
 use Rattle.adya_terms.specs.Rules.{installs}
-use Rattle.adya_terms.specs.Faults.{first, faults_at, event_faults, fault_unless, lists_exactly, order_faults}
+use Rattle.adya_terms.specs.Faults.{first, faults_at, event_faults, fault_unless, lists_exactly, order_faults, unfinished_faults}
 use Rattle.adya_terms.specs.Checks.{Names}
+use Rattle.adya_terms.proofs.Steps.{drop_step}
 use Rattle.adya_terms.proofs.Turns.{Turn}
 
 pub first_front : {X : Type 0} (xs ys : List X) (x : X) → first xs ≡ Some x → first (xs ++ ys) ≡ Some x
@@ -69,3 +71,17 @@ found_behind r xs ys none h = subst (λ zs. MatchResult r (λ u. zs ++ ys ≡ []
 
 pub names_behind : (xs ys : List CheckFault) (e : CheckFault) → xs ≡ [] → Names ys e → Names (xs ++ ys) e
 names_behind xs ys e none h = subst (λ zs. Names (zs ++ ys) e) (sym none) h
+
+pub unfinished_here : (all : List Event) (line : ℕ) (ts : List ℕ) (i : ℕ) (t : ℕ) → i < length ts → t ≡ get_or ts i t → has_ended all t ≡ true
+    → first (unfinished_faults all line (drop i ts)) ≡ Some (Malformed line M6)
+unfinished_here all line ts i t l at e =
+    ap (λ xs. first (unfinished_faults all line xs)) (drop_step ts i t l at) ∙
+    ap (λ b. first (fault_unless (not b) line M6 ++ unfinished_faults all (suc line) (drop (i + 1) ts))) e
+
+pub unfinished_later : (all : List Event) (line : ℕ) (ts : List ℕ) (i : ℕ) (t : ℕ) → i < length ts → t ≡ get_or ts i t → has_ended all t ≡ false
+    → unfinished_faults all (line + i) (drop i ts) ≡ unfinished_faults all (line + (i + 1)) (drop (i + 1) ts)
+unfinished_later all line ts i t l at e =
+    let next : suc (line + i) ≡ line + (i + 1) = omega arith in
+    ap (unfinished_faults all (line + i)) (drop_step ts i t l at) ∙
+    (ap (λ b. fault_unless (not b) (line + i) M6 ++ unfinished_faults all (suc (line + i)) (drop (i + 1) ts)) e ∙
+    ap (λ n. unfinished_faults all n (drop (i + 1) ts)) next)

@@ -1,9 +1,9 @@
 //! M6, and aborted and intermediate reads (Adya 1999, G1a and G1b).
 
 ghost use Rattle.std.specs.Prelude.{◌≡◌, ◌||◌, ◌==◌, ℕ, List, [], not, map, filter, IfOk, MatchResult};
-ghost use Rattle.std.specs.List.{list_all};
+ghost use Rattle.std.specs.List.{list_all, list_any};
 ghost use Rattle.adya_terms.specs.Histories.{Event as EventValue, entry_of, event_of};
-ghost use Rattle.adya_terms.specs.Events.{txn_of, last_write};
+ghost use Rattle.adya_terms.specs.Events.{txn_of, aborts, has_ended, last_write};
 ghost use Rattle.adya_terms.specs.Faults.{is_entry, bad_reads, unfinished_faults};
 ghost use Rattle.adya_terms.specs.Tables.{Means};
 ghost use Rattle.adya_terms.specs.Checks.{Names, Holds, IsFirst, ends, refused, is_not_aborted, is_own_or_last};
@@ -46,6 +46,18 @@ pub(crate) fn check_unfinished(
     Ok(())
 }
 
+/// Whether the transaction has ended or is unfinished.
+fn is_done(tables: &Tables, unfinished: &BTreeSet<Txn>, txn: Txn) -> bool
+    ensures {
+        (all : List EventValue) (us : List ℕ)
+            → Means tables.now all all
+            → Holds unfinished.now us
+            → result ≡ (has_ended all txn || list_any (λ u. u == txn) us)
+    }
+{
+    tables.has_ended(txn) || unfinished.contains(&txn)
+}
+
 /// Whether each event's transaction has ended or is unfinished.
 pub(crate) fn all_end(tables: &Tables, events: &[Event], unfinished: &BTreeSet<Txn>) -> bool
     requires { Means tables.now (map event_of events.now) (map event_of events.now) }
@@ -55,12 +67,23 @@ pub(crate) fn all_end(tables: &Tables, events: &[Event], unfinished: &BTreeSet<T
     }
 {
     for event in events {
-        let txn = event.txn();
-        if !tables.has_ended(txn) && !unfinished.contains(&txn) {
+        if !is_done(tables, unfinished, event.txn()) {
             return false;
         }
     }
     true
+}
+
+/// Whether the transaction has aborted or is unfinished.
+fn is_aborted(tables: &Tables, unfinished: &BTreeSet<Txn>, txn: Txn) -> bool
+    ensures {
+        (all : List EventValue) (us : List ℕ)
+            → Means tables.now all all
+            → Holds unfinished.now us
+            → result ≡ (list_any (aborts txn) all || list_any (λ u. u == txn) us)
+    }
+{
+    tables.has_aborted(txn) || unfinished.contains(&txn)
 }
 
 /// The first version of an aborted or unfinished transaction that is listed.
@@ -73,9 +96,8 @@ fn first_aborted(tables: &Tables, unfinished: &BTreeSet<Txn>, entries: &[Entry])
     }
 {
     for entry in entries {
-        let version = entry.version;
-        if tables.has_aborted(version.txn) || unfinished.contains(&version.txn) {
-            return Some(version);
+        if is_aborted(tables, unfinished, entry.version.txn) {
+            return Some(entry.version);
         }
     }
     None

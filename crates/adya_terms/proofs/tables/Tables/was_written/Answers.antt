@@ -1,6 +1,6 @@
 use Rattle.std.proofs.Common.{◌∙◌, ap, map}
-use Rattle.adya_terms.specs.Histories.{event_of}
-use Rattle.adya_terms.specs.Tables.{entry_of, is_there, written_at}
+use Rattle.adya_terms.specs.Histories.{entry_of, event_of}
+use Rattle.adya_terms.specs.Tables.{is_there, written_at}
 use Rattle.adya_terms.proofs.tables.Tables.was_written.Goals as goal
 
 pub returns-in-Some : goal.returns-in-Some
