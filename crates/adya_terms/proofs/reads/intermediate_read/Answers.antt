@@ -11,3 +11,11 @@ returns-then-not-has_committed c m =
     let e = event_of c.args.event.now in
     let same : c.has_committed.result ≡ is_committed all (txn_of e) = c.has_committed.ensures ∙ (m.committed_is c.txn.result ∙ ap (is_committed all) c.txn.ensures) in
     none_refused (is_own_or_last all) all e (sym same ∙ c.if-not-has_committed.true)
+
+pub returns-in-Read : goal.returns-in-Read
+returns-in-Read c m =
+    let all = map event_of c.args.events.now in
+    let e = event_of c.args.event.now in
+    let same : c.has_committed.result ≡ is_committed all (txn_of e) = c.has_committed.ensures ∙ (m.committed_is c.txn.result ∙ ap (is_committed all) c.txn.ensures) in
+    committed_refused (is_own_or_last all) all e c.first_intermediate.result (sym same ∙ c.if-not-has_committed.false)
+      (rw c.in-Read.is (c.first_intermediate.ensures (event_of c.args.event.now) (sym (ap (λ x. txn_of (event_of x)) c.in-Read.is)) m))
