@@ -1,8 +1,13 @@
 -- What the parts of a check say, in the words of the whole.
-use Rattle.std.proofs.Common.{◌≡◌, List, [], ◌++◌, length}
+use Rattle.std.proofs.Common.{◌≡◌, ℕ, true, List, [], ◌++◌, length, Option, Some, None, is_none, refl, sym, ◌∙◌, ap, subst}
+use Rattle.adya_terms.specs.declared.event.Event.{Event as EventValue}
+use Rattle.adya_terms.specs.declared.order.Order.{Order as OrderValue}
+use Rattle.adya_terms.specs.declared.order.FinalPair.{FinalPair as FinalValue}
+use Rattle.adya_terms.specs.declared.history.History.{History as HistoryValue}
+use Rattle.adya_terms.specs.Values.{history_of}
 use Rattle.adya_terms.specs.Histories.{History}
-use Rattle.adya_terms.specs.Faults.{first, malformed, check_faults, event_faults, unfinished_faults, unfinished_line, orders_line}
-use Rattle.adya_terms.specs.Checks.{Names, rule_faults, read_faults}
+use Rattle.adya_terms.specs.Faults.{first, first_fault, malformed, check_faults, event_faults, unfinished_faults, unfinished_line, orders_line}
+use Rattle.adya_terms.specs.Checks.{IsFault, Names, whole, rule_faults, read_faults}
 use Rattle.adya_terms.specs.declared.fault.CheckFault.{CheckFault}
 use Rattle.adya_terms.proofs.Converse.{both_nil}
 use Rattle.adya_terms.proofs.Firsts.{names_front, names_behind}
@@ -32,3 +37,23 @@ module _ (h : History) where
       none_malformed rules =
           both_nil (event_faults [] 2 h.events) behind_events none
           (both_nil (unfinished_faults h.events (unfinished_line h) h.unfinished) (rule_faults h (orders_line h)) ended rules)
+
+pub none_from : {X : Type 0} (o : Option X) → is_none o ≡ true → o ≡ None
+none_from None e = refl
+none_from (Some x) e = absurd (cc (e))
+
+-- what is found of the lists of a history is found of it
+module _ (h : HistoryValue) (es : List EventValue) (us : List ℕ) (os : List OrderValue) (fs : List FinalValue)
+    (e_is : es ≡ h.events.items) (u_is : us ≡ h.unfinished.items) (o_is : os ≡ h.orders.items) (f_is : fs ≡ h.finals.items) where
+  whole_is : check_faults (whole es us os fs) ≡ check_faults (history_of h)
+  whole_is =
+      ap (λ xs. check_faults (whole xs us os fs)) e_is ∙
+      (ap (λ xs. check_faults (whole h.events.items xs os fs)) u_is ∙
+      (ap (λ xs. check_faults (whole h.events.items h.unfinished.items xs fs)) o_is ∙
+      ap (λ xs. check_faults (whole h.events.items h.unfinished.items h.orders.items xs)) f_is))
+
+  pub found_whole : (e : CheckFault) → Names (check_faults (whole es us os fs)) e → IsFault (first_fault (history_of h)) e
+  found_whole e n = subst (λ xs. Names xs e) whole_is n
+
+  pub faultless_whole : check_faults (whole es us os fs) ≡ [] → first_fault (history_of h) ≡ None
+  faultless_whole none = ap first (sym whole_is ∙ none)

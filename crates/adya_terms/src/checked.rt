@@ -5,6 +5,7 @@ ghost use Rattle.adya_terms.specs.Keys.{keys_rise};
 ghost use Rattle.adya_terms.specs.Histories.{event_of, order_of, final_of};
 ghost use Rattle.adya_terms.specs.Values.{history_of};
 ghost use Rattle.adya_terms.specs.Faults.{first_fault, check_faults};
+ghost use Rattle.adya_terms.specs.Acceptance.{IsChecked};
 ghost use Rattle.adya_terms.specs.Tables.{Means};
 ghost use Rattle.adya_terms.specs.Checks.{Names, IsFault, Holds, parts, whole, later_faults, rule_faults, read_faults};
 
@@ -33,6 +34,7 @@ impl<'a> Checked<'a> {
                 (IsFault (first_fault (history_of history.now)))
         }
         ensures same { IfOk result (λ c. c.history.now ≡ history.now) }
+        ensures checked { IfOk result (λ c. IsChecked (history_of c.history.now)) }
     {
         if let Err(fault) = check(alloc, history.events(), history.unfinished(), history.orders(), history.finals()) {
             return Err(fault);
@@ -43,7 +45,8 @@ impl<'a> Checked<'a> {
     /// The history.
     pub fn history(&self) -> &History
         ensures same { result.now ≡ self.now.history.now }
-        ensures checked { first_fault (history_of result.now) ≡ None }
+        ensures faultless { first_fault (history_of result.now) ≡ None }
+        ensures checked { IsChecked (history_of result.now) }
     {
         self.history
     }
