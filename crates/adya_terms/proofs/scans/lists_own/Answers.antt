@@ -10,7 +10,7 @@ use Rattle.adya_terms.specs.Events.{written, last_write}
 use Rattle.adya_terms.specs.Faults.{none_or_lists_only}
 use Rattle.adya_terms.specs.Tables.{own, own_cmp, written_at}
 use Rattle.adya_terms.proofs.Lists.{list_all_when}
-use Rattle.adya_terms.proofs.Selected.{nothing_between, range_shows, runs_forward}
+use Rattle.adya_terms.proofs.Selected.{nothing_between, scan_shows, runs_forward}
 use Rattle.adya_terms.proofs.scans.lists_own.Goals as goal
 
 pub returns-then-lt : goal.returns-then-lt
