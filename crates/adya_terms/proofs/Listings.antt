@@ -1,9 +1,9 @@
 -- How often lines list a transaction, writer by writer and line by line.
-use Rattle.std.proofs.Common.{◌≡◌, ℕ, zero, suc, ◌+◌, ◌==◌, Bool, true, false, cond, not, is_some, ◌&&◌, ◌||◌, List, [], ◌∷◌, ◌++◌, Option, Some, None, refl, sym, ◌∙◌, ap, inl, inr, arith}
-use Rattle.std.specs.List.{cons_option, filter_map, list_any}
+use Rattle.std.proofs.Common.{◌≡◌, ℕ, zero, suc, ◌+◌, ◌==◌, Bool, true, false, cond, not, is_some, ◌&&◌, ◌||◌, List, [], ◌∷◌, ◌++◌, Option, Some, None, take, refl, sym, ◌∙◌, ap, subst, inl, inr, arith}
+use Rattle.std.specs.List.{count_by, cons_option, filter_map, list_any}
 use Rattle.std.specs.Ordering.{is_eq}
 use Rattle.std.proofs.lemmas.Bool.{cases_Bool, and_parts, eqb-true, ne_eqb}
-use Rattle.std.proofs.Math.Bool.{not-not, or-false}
+use Rattle.std.proofs.Math.Bool.{not-not, or-false, or-true}
 use Rattle.std.proofs.lemmas.List.Folds.{list_any-append}
 use Rattle.std.proofs.lemmas.List.Sums.{sum_by-append, sum_by-cons}
 use Rattle.adya_terms.specs.declared.tables.Own.{Own}
@@ -43,27 +43,26 @@ list_next g g' u key xs n old new t k =
     let hit = (u == t) && key_eq key k in
     let before = n t k + cond (key_eq key k) (count xs t) 0 in
     let counted : cond (key_eq key k) (count (xs ++ u ∷ []) t) 0 ≡ cond (key_eq key k) (count xs t) 0 + cond hit 1 0 =
-    ap (λ m. cond (key_eq key k) m 0) (count_more xs u t) ∙ tally (u == t) (key_eq key k) (count xs t) in
+      ap (λ m. cond (key_eq key k) m 0) (count_more xs u t) ∙ tally (u == t) (key_eq key k) (count xs t) in
     let now : n t k + cond (key_eq key k) (count (xs ++ u ∷ []) t) 0 ≡ before + cond hit 1 0 = omega (arith, counted) in
     let at : g' (own t k) ≡ cond hit (Some (once_more (g (own u key)))) (g (own t k)) =
-    new (own t k) ∙ ap (λ b. cond b (Some (once_more (g (own u key)))) (g (own t k))) (sym (own_tied u key t k)) in
+      new (own t k) ∙ ap (λ b. cond b (Some (once_more (g (own u key)))) (g (own t k))) (sym (own_tied u key t k)) in
     let same : cond hit (Some (once_more (g (own u key)))) (g (own t k)) ≡ times (before + cond hit 1 0) =
-    elim (cases_Bool hit) [
-      | inl h ↦
-          let both = and_parts _ _ h in
-          let it : own u key ≡ own t k = ap (λ v. own v key) (eqb-true _ _ both.0) ∙ ap (own t) (key_same _ _ both.1) in
-          ap (λ b. cond b (Some (once_more (g (own u key)))) (g (own t k))) h ∙
-          (ap (λ q. Some (once_more (g q))) it ∙
-          (ap (λ o. Some (once_more o)) (old t k) ∙
-          (times_more before ∙ ap (λ b. times (before + cond b 1 0)) (sym h))))
-      | inr h ↦
-          let none : before ≡ before + cond hit 1 0 = rw h (omega arith) in
-          ap (λ b. cond b (Some (once_more (g (own u key)))) (g (own t k))) h ∙ (old t k ∙ ap times none)
-    ] in
+      elim (cases_Bool hit) [
+        | inl h ↦
+            let both = and_parts _ _ h in
+            let it : own u key ≡ own t k = ap (λ v. own v key) (eqb-true _ _ both.0) ∙ ap (own t) (key_same _ _ both.1) in
+            ap (λ b. cond b (Some (once_more (g (own u key)))) (g (own t k))) h ∙
+            (ap (λ q. Some (once_more (g q))) it ∙
+            (ap (λ o. Some (once_more o)) (old t k) ∙
+            (times_more before ∙ ap (λ b. times (before + cond b 1 0)) (sym h))))
+        | inr h ↦
+            let none : before ≡ before + cond hit 1 0 = rw h (omega arith) in
+            ap (λ b. cond b (Some (once_more (g (own u key)))) (g (own t k))) h ∙ (old t k ∙ ap times none)
+      ] in
     at ∙ (same ∙ ap times (sym now))
 
-pub listed_more : (os : List Order) (o : Order) (t : ℕ) (k : List ℕ)
-    → listed (os ++ o ∷ []) t k ≡ listed os t k + listed_by t k o
+pub listed_more : (os : List Order) (o : Order) (t : ℕ) (k : List ℕ) → listed (os ++ o ∷ []) t k ≡ listed os t k + listed_by t k o
 listed_more os o t k =
     let joined = sum_by-append (listed_by t k) os (o ∷ []) in
     let one = sum_by-cons (listed_by t k) o [] in
@@ -78,15 +77,17 @@ some_times (suc (suc n)) = ap not (sym (ne_eqb (suc (suc n)) 0 (λ e. omega (ari
 pub not_listed : (n : ℕ) (b r : Bool) → b ≡ is_some (times n) → b ≡ r → (n == 0) ≡ not r
 not_listed n b r e f = sym (not-not (n == 0)) ∙ ap not (sym (some_times n) ∙ (sym e ∙ f))
 
+pub cond_or : (b x : Bool) → cond b true x ≡ (x || b)
+cond_or true x = sym (or-true x)
+cond_or false x = sym (or-false x)
+
 any_one : (test : Entry → Bool) (o : Option Entry) → list_any test (cons_option o []) ≡ is_some_and test o
 any_one test None = refl
 any_one test (Some w) = or-false (test w)
 
 -- whether a write passes, with one more event
 pub any_written : (test : Entry → Bool) (before : List Event) (e : Event)
-    → list_any test (filter_map written (before ++ e ∷ [])) ≡
-    (list_any test (filter_map written before) || is_some_and test (written e))
+    → list_any test (filter_map written (before ++ e ∷ [])) ≡ (list_any test (filter_map written before) || is_some_and test (written e))
 any_written test before e =
     ap (list_any test) (written_more before e) ∙
-    (list_any-append test (filter_map written before) (cons_option (written e) []) ∙
-    ap (λ b. list_any test (filter_map written before) || b) (any_one test (written e)))
+    (list_any-append test (filter_map written before) (cons_option (written e) []) ∙ ap (λ b. list_any test (filter_map written before) || b) (any_one test (written e)))

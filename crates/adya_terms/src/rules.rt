@@ -1,4 +1,4 @@
-//! The rules M1 to M4 of each event, given those before it.
+//! The rules M1 to M5 of each event, given those before it.
 
 ghost use Rattle.std.specs.Prelude.{◌≡◌, ◌+◌, ℕ, List, [], Some, map, MatchOption, MatchResult};
 ghost use Rattle.adya_terms.specs.Histories.{Event as EventValue, event_of};
@@ -7,22 +7,27 @@ ghost use Rattle.adya_terms.specs.Faults as faults;
 ghost use Rattle.adya_terms.specs.Tables.{Means};
 ghost use Rattle.adya_terms.specs.Checks.{Names};
 
-use crate::tables::{Entry, Tables, wrote};
-use crate::{CheckFault, Event, Rule};
+use crate::scans::{all_lie_in, all_written, keys_rise, lists_own};
+use crate::tables::{Tables, wrote};
+use crate::{CheckFault, Content, Entry, Event, Rule};
 use std::alloc::Global;
 
 /// M1: the event's transaction has not ended before.
 fn is_open(tables: &Tables, event: &Event) -> bool
-    ensures { (all before : List EventValue) → Means tables.now all before → result ≡ faults.is_open before (event_of event.now) }
+    ensures {
+        (all before : List EventValue) → Means tables.now all before → result ≡ faults.is_open before (event_of event.now)
+    }
 {
     !tables.has_ended(event.txn())
 }
 
 /// M2: the transaction's writes of a key are numbered from 1.
 fn is_next(tables: &Tables, events: &[Event], event: &Event) -> bool
-    ensures { (before : List EventValue)
-        → Means tables.now (map event_of events.now) before
-        → result ≡ faults.is_next before (written (event_of event.now)) }
+    ensures {
+        (before : List EventValue)
+            → Means tables.now (map event_of events.now) before
+            → result ≡ faults.is_next before (written (event_of event.now))
+    }
 {
     let Some(new) = wrote(event) else {
         return true;
@@ -36,36 +41,54 @@ fn is_next(tables: &Tables, events: &[Event], event: &Event) -> bool
 
 /// M3: what is read was written before.
 fn was_written(tables: &Tables, events: &[Event], event: &Event) -> bool
-    ensures { (before : List EventValue)
-        → Means tables.now (map event_of events.now) before
-        → result ≡ faults.was_written before (event_of event.now) }
+    ensures {
+        (before : List EventValue)
+            → Means tables.now (map event_of events.now) before
+            → result ≡ faults.was_written before (event_of event.now)
+    }
 {
-    match *event {
+    match event {
         Event::Read { version, value, .. } => {
-            tables.was_written(events, &Entry { version, value })
+            tables.was_written(events, &Entry { version: *version, content: Content::Live(*value) })
         }
+        Event::Scan { entries, .. } => all_written(tables, events, entries),
         Event::Write { .. } => true,
+        Event::Delete { .. } => true,
         Event::Commit { .. } => true,
         Event::Abort { .. } => true,
     }
 }
 
-/// M4: of a key that it has written a transaction reads its own last write.
+/// M4: of a key that it has written a transaction reads and lists its own last write.
 fn sees_own(tables: &Tables, events: &[Event], event: &Event) -> bool
-    ensures { (before : List EventValue)
-        → Means tables.now (map event_of events.now) before
-        → result ≡ faults.sees_own before (event_of event.now) }
+    ensures {
+        (before : List EventValue)
+            → Means tables.now (map event_of events.now) before
+            → result ≡ faults.sees_own before (event_of event.now)
+    }
 {
-    match *event {
-        Event::Read {
-            txn,
-            version,
-            value,
-        } => match tables.last_write(events, txn, version.key) {
+    match event {
+        Event::Read { txn, version, value } => match tables.last_write(events, *txn, version.key) {
             None => true,
-            Some(last) => last.same(&Entry { version, value }),
+            Some(last) => last.same(&Entry { version: *version, content: Content::Live(*value) }),
         },
+        Event::Scan { txn, lo, hi, entries } => lists_own(tables, events, *txn, *lo, *hi, entries),
         Event::Write { .. } => true,
+        Event::Delete { .. } => true,
+        Event::Commit { .. } => true,
+        Event::Abort { .. } => true,
+    }
+}
+
+/// M5: a scan lists keys of its range, rising.
+fn is_rising(event: &Event) -> bool
+    ensures { result ≡ faults.is_rising (event_of event.now) }
+{
+    match event {
+        Event::Scan { lo, hi, entries, .. } => *lo <= *hi && keys_rise(entries) && all_lie_in(*lo, *hi, entries),
+        Event::Read { .. } => true,
+        Event::Write { .. } => true,
+        Event::Delete { .. } => true,
         Event::Commit { .. } => true,
         Event::Abort { .. } => true,
     }
@@ -73,11 +96,13 @@ fn sees_own(tables: &Tables, events: &[Event], event: &Event) -> bool
 
 /// The first rule that the event breaks.
 fn broken_rule(tables: &Tables, events: &[Event], event: &Event) -> Option<Rule>
-    ensures { (before : List EventValue)
-        → Means tables.now (map event_of events.now) before
-        → (line : ℕ)
-        → MatchOption result (faults.faults_at before line (event_of event.now) ≡ [])
-        (λ r. faults.first (faults.faults_at before line (event_of event.now)) ≡ Some (CheckFault.Malformed line r)) }
+    ensures {
+        (before : List EventValue)
+            → Means tables.now (map event_of events.now) before
+            → (line : ℕ)
+            → MatchOption result (faults.faults_at before line (event_of event.now) ≡ [])
+                (λ r. faults.first (faults.faults_at before line (event_of event.now)) ≡ Some (CheckFault.Malformed line r))
+    }
 {
     if !is_open(tables, event) {
         return Some(Rule::M1);
@@ -91,13 +116,18 @@ fn broken_rule(tables: &Tables, events: &[Event], event: &Event) -> Option<Rule>
     if !sees_own(tables, events, event) {
         return Some(Rule::M4);
     }
+    if !is_rising(event) {
+        return Some(Rule::M5);
+    }
     None
 }
 
 /// The tables of the events, where none breaks a rule.
 pub(crate) fn tables_of(alloc: Global, events: &[Event]) -> Result<Tables, CheckFault>
-    ensures { let all = map event_of events.now in
-        MatchResult result (λ t. Means t all all × (faults.event_faults [] 2 all ≡ [])) (Names (faults.event_faults [] 2 all)) }
+    ensures {
+        let all = map event_of events.now in
+        MatchResult result (λ t. Means t all all × (faults.event_faults [] 2 all ≡ [])) (Names (faults.event_faults [] 2 all))
+    }
 {
     let mut tables = Tables::new(alloc);
     for (i, event) in events.iter().enumerate() {

@@ -56,11 +56,7 @@ fn pair(key: &[u8], value: &[u8]) -> Result<FinalPair, Fail> {
     })
 }
 
-fn history(
-    events: Vec<Event>,
-    orders: Vec<Order>,
-    finals: Vec<FinalPair>,
-) -> Result<History, Fail> {
+fn history(events: Vec<Event>, orders: Vec<Order>, finals: Vec<FinalPair>) -> Result<History, Fail> {
     match History::new(events, orders, finals) {
         Ok(history) => Ok(history),
         Err(_) => Err(Fail::from("bad shape")),
@@ -70,12 +66,7 @@ fn history(
 #[test]
 fn check_succeeds_with_ample_memory(rt: HostRuntime) -> Result<(), Fail> {
     let alloc = rt.alloc();
-    let events = vec![in alloc;
-        write(1, b"x", 1, b"5")?,
-        commit(1)?,
-        read(2, version(b"x", 1, 1)?, b"5")?,
-        commit(2)?,
-    ]?;
+    let events = vec![in alloc; write(1, b"x", 1, b"5")?, commit(1)?, read(2, version(b"x", 1, 1)?, b"5")?, commit(2)?]?;
     let orders = vec![in alloc; order(alloc, b"x", 1)?]?;
     let finals = vec![in alloc; pair(b"x", b"5")?]?;
     let history = history(events, orders, finals)?;

@@ -1,4 +1,5 @@
 use Rattle.std.proofs.Common.{◌≡◌, ◌∙◌, sym, ap, subst, map, true, Equal, rules}
+use Rattle.std.specs.List.{list_any}
 use Rattle.std.specs.Ordering.{nat_cmp}
 use Rattle.std.specs.Cmp.Lexicographic.{slice_cmp}
 use Rattle.std.proofs.lemmas.Simd.{map-map}
@@ -8,6 +9,7 @@ use Rattle.adya_terms.specs.Keys.{key_eq, keys_rise}
 use Rattle.adya_terms.specs.Histories.{Order, order_of}
 use Rattle.adya_terms.specs.Orders.{line_of}
 use Rattle.adya_terms.proofs.Lists.{Contains-slice_get}
+use Rattle.adya_terms.proofs.Entries.{key_same}
 use Rattle.adya_terms.proofs.Lines.{line_found}
 use Rattle.adya_terms.proofs.Turns.{turn}
 use Rattle.adya_terms.proofs.Searches.{search_misses, search_finds, tied_key, any_map}
@@ -17,19 +19,16 @@ pub returns-in-Err-clause-found : goal.returns-in-Err-clause-found
 returns-in-Err-clause-found c =
     let ys = c.args.orders.now in
     let k = c.args.key in
-    let rise : keys_rise (map (λ (o : OrderValue). o.key) ys) ≡ true =
-    ap keys_rise (sym (map-map (λ (o : Order). o.key) order_of ys)) ∙ c.requires in
+    let rise : keys_rise (map (λ (o : OrderValue). o.key) ys) ≡ true = ap keys_rise (sym (map-map (λ (o : Order). o.key) order_of ys)) ∙ c.requires in
     let by_key = c.in-Err.ensures.position (λ o. o.key) (answers_always _ _ _ (λ f a r g called. search rules)) in
-    sym (any_map (λ (o : Order). key_eq o.key k) order_of ys ∙
-    search_misses (λ (o : OrderValue). o.key) ys k c.in-Err.field-0 rise by_key)
+    sym (any_map (λ (o : Order). key_eq o.key k) order_of ys ∙ search_misses (λ (o : OrderValue). o.key) ys k c.in-Err.field-0 rise by_key)
 
 pub returns-in-Ok-clause-found : goal.returns-in-Ok-clause-found
 returns-in-Ok-clause-found c =
     let ys = c.args.orders.now in
     let k = c.args.key in
     let by_key = c.in-Ok.ensures.position (λ o. o.key) (answers_always _ _ _ (λ f a r g called. search rules)) in
-    sym (any_map (λ (o : Order). key_eq o.key k) order_of ys ∙
-    search_finds (λ (o : OrderValue). o.key) ys k c.in-Ok.at c.in-Ok.ensures.bound by_key)
+    sym (any_map (λ (o : Order). key_eq o.key k) order_of ys ∙ search_finds (λ (o : OrderValue). o.key) ys k c.in-Ok.at c.in-Ok.ensures.bound by_key)
 
 pub returns-in-Ok-clause-line : goal.returns-in-Ok-clause-line
 returns-in-Ok-clause-line c =
@@ -42,4 +41,4 @@ returns-in-Ok-clause-line c =
     let tied : slice_cmp nat_cmp y.key k ≡ Equal = ap (λ (o : OrderValue). slice_cmp nat_cmp o.key k) at ∙ by_key y in
     let t = turn order_of ys i y c.in-Ok.ensures.bound at in
     subst (λ j. line_of (map order_of ys) j ≡ y.writers.items) (tied_key y.key k tied)
-    (line_found (map order_of ys) (order_of y) c.requires (Contains-slice_get (map order_of ys) i (order_of y) t.found))
+      (line_found (map order_of ys) (order_of y) c.requires (Contains-slice_get (map order_of ys) i (order_of y) t.found))

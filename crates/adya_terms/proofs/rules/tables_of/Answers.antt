@@ -16,8 +16,7 @@ returns-in-Some c =
     let t = turn event_of c.args.events.now i e c.loop-i-test.true c.index-events-i.is in
     let line : 2 + i ≡ i + 2 = omega arith in
     ap first c.loop-i.invariant.faults ∙
-    (fault_here all i (event_of e) t (Malformed (2 + i) c.in-Some.rule)
-    (c.in-Some.ensures (take i all) c.loop-i.invariant.means (2 + i)) ∙
+    (fault_here all i (event_of e) t (Malformed (2 + i) c.in-Some.rule) (c.in-Some.ensures (take i all) c.loop-i.invariant.means (2 + i)) ∙
     ap (λ n. Some (Malformed n c.in-Some.rule)) line)
 
 pub loop-i-preserved : goal.loop-i-preserved
@@ -30,6 +29,6 @@ loop-i-preserved c =
     let none = c.in_default.ensures (take i all) m (2 + i) in
     record {
       means = subst (Means c.record.new.self all) (sym t.front)
-          (c.in-Ok.ensures all (take i all) m t.found (passes_all (take i all) (2 + i) (event_of e) none).next);
+        (c.in-Ok.ensures all (take i all) m t.found (passes_all (take i all) (2 + i) (event_of e) none).next);
       faults = c.loop-i.invariant.faults ∙ fault_later all i (event_of e) t none;
     }
