@@ -1,0 +1,9 @@
+use Rattle.std.proofs.Common.{take}
+use Rattle.std.specs.List.{flat_map}
+use Rattle.adya_line.specs.Spelling.{later_text}
+use Rattle.adya_line.specs.Growing.{Grows}
+use Rattle.adya_line.proofs.writing.put_later.Given as goal
+
+abbrev pub invariant-loop-txn : goal.invariant-loop-txn
+invariant-loop-txn g l = Grows (g.W.Write.contents l.initial.out) (flat_map later_text (take l.txn-index l.writers))
+    (g.W.Write.contents l.out)

@@ -1,0 +1,85 @@
+//! The lines of events.
+
+ghost use Rattle.std.specs.Prelude.{◌≡◌, IfSome, MatchOption};
+ghost use Rattle.adya_terms.specs.Histories.{Event as Plain, event_of};
+ghost use Rattle.adya_line.specs.Reading.{Gives, write_at, read_at, event_at};
+ghost use Rattle.adya_line.specs.Spelling.{event_text};
+ghost use Rattle.adya_line.specs.Limits.{IsEvent};
+ghost use Rattle.adya_line.specs.Views.{view};
+
+use crate::event_ref::{EndRef, EventRef, ReadRef, WriteRef};
+use crate::fields::{after, txn_at, value_at, version_at};
+use crate::txn_line::txn_at_line;
+use adya_terms::Event;
+
+/// A write behind its letter.
+#[tactic(auto, unfolding(crate::specs::Reading::write_at))]
+fn write_at(bytes: &[u8]) -> Option<EventRef<'_>>
+    ensures { Gives view result (write_at bytes.now) }
+{
+    let (txn, rest) = txn_at(bytes)?;
+    let rest = after(b'(', rest)?;
+    let (version, rest) = version_at(rest)?;
+    let rest = after(b',', rest)?;
+    let (value, rest) = value_at(rest)?;
+    let rest = after(b')', rest)?;
+    if version.txn != txn || !rest.is_empty() {
+        return None;
+    }
+    Some(EventRef::Write(WriteRef { version, value }))
+}
+
+/// A read behind its letter.
+#[tactic(auto, unfolding(crate::specs::Reading::read_at))]
+fn read_at(bytes: &[u8]) -> Option<EventRef<'_>>
+    ensures { Gives view result (read_at bytes.now) }
+{
+    let (txn, rest) = txn_at(bytes)?;
+    let rest = after(b'(', rest)?;
+    let (version, rest) = version_at(rest)?;
+    let rest = after(b',', rest)?;
+    let (value, rest) = value_at(rest)?;
+    let rest = after(b')', rest)?;
+    if !rest.is_empty() {
+        return None;
+    }
+    Some(EventRef::Read(ReadRef {
+        txn,
+        version,
+        value,
+    }))
+}
+
+#[tactic(auto, unfolding(crate::specs::Reading::event_at))]
+fn event_at(line: &[u8]) -> Option<EventRef<'_>>
+    ensures { Gives view result (event_at line.now) }
+{
+    match line {
+        [b'w', rest @ ..] => write_at(rest),
+        [b'r', rest @ ..] => read_at(rest),
+        [b'c', rest @ ..] => Some(EventRef::Commit(EndRef {
+            txn: txn_at_line(rest)?,
+        })),
+        [b'a', rest @ ..] => Some(EventRef::Abort(EndRef {
+            txn: txn_at_line(rest)?,
+        })),
+        _ => None,
+    }
+}
+
+/// The event whose line this is, without its line feed: `wT(K.T:M,V)`, `rT(K.T:M,V)`, `cT` or `aT`. None on every
+/// other text.
+pub fn read_event(line: &[u8]) -> Option<EventRef<'_>>
+    ensures found { IfSome result (λ e. (line.now ≡ event_text (view e)) × IsEvent (view e)) }
+    ensures exact { Gives view result (event_at line.now) }
+    ensures only { (e : Plain) → IsEvent e → line.now ≡ event_text e → MatchOption result ⊥ (λ r. view r ≡ e) }
+{
+    event_at(line)
+}
+
+/// The event whose line this is, by itself. None where [`read_event`] gives none.
+pub fn event(line: &[u8]) -> Option<Event>
+    ensures { Gives event_of result (event_at line.now) }
+{
+    Some(read_event(line)?.event())
+}

@@ -1,0 +1,24 @@
+//! The lines of finals.
+
+ghost use Rattle.adya_terms.specs.Histories.{final_of};
+ghost use Rattle.adya_line.specs.Reading.{Gives, final_at};
+
+use crate::fields::{after, key_between, value_at};
+use adya_terms::{FinalPair, Key, Value};
+
+/// The final whose line this is, without its line feed: `{K,V}`. None on every other text.
+#[tactic(auto, unfolding(crate::specs::Reading::final_at))]
+pub fn final_pair(line: &[u8]) -> Option<FinalPair>
+    ensures { Gives final_of result (final_at line.now) }
+{
+    let (key, rest) = key_between(b'{', b',', line)?;
+    let (value, rest) = value_at(rest)?;
+    let rest = after(b'}', rest)?;
+    if !rest.is_empty() {
+        return None;
+    }
+    Some(FinalPair {
+        key: Key::new(key).ok()?,
+        value: Value::new(value).ok()?,
+    })
+}

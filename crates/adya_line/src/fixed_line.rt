@@ -1,0 +1,25 @@
+//! The lines that each text has once.
+
+ghost use Rattle.std.specs.Prelude.{◌≡◌};
+ghost use Rattle.adya_line.specs.Spelling.{history_head, serial_head, tail};
+
+/// The first line of a history, without its line feed: `adya 1`.
+pub fn history_head() -> &'static [u8]
+    ensures { result.now ≡ history_head }
+{
+    b"adya 1"
+}
+
+/// The first line of a certificate, without its line feed: `serial 1`.
+pub fn serial_head() -> &'static [u8]
+    ensures { result.now ≡ serial_head }
+{
+    b"serial 1"
+}
+
+/// The last line of a history and of a certificate, without its line feed: `end`.
+pub fn tail() -> &'static [u8]
+    ensures { result.now ≡ tail }
+{
+    b"end"
+}

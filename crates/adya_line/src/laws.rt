@@ -1,0 +1,72 @@
+//! What holds of lines: the calls do nothing, and their contracts are the laws.
+
+ghost use Rattle.adya_terms.specs.Keys.{IsTxn};
+ghost use Rattle.adya_line.specs.Spelling.{history_head, serial_head, tail, event_text, order_text, final_text, txn_text};
+ghost use Rattle.adya_line.specs.Limits.{IsEvent, IsOrder, IsFinal};
+ghost use Rattle.adya_line.specs.Reading.{event_at, order_at, final_at, txn_at_line};
+ghost use Rattle.adya_line.specs.Laws.{IsReaderOf, IsOneText, Excludes, ExcludesLine, IsPlain, HasPlainTexts};
+
+/// The lines of events are the texts of the events within their limits.
+pub fn event_lines()
+    ensures reading { IsReaderOf event_at IsEvent event_text }
+    ensures one_text { IsOneText IsEvent event_text }
+{}
+
+/// The lines of orders are the texts of the orders within their limits.
+pub fn order_lines()
+    ensures reading { IsReaderOf order_at IsOrder order_text }
+    ensures one_text { IsOneText IsOrder order_text }
+{}
+
+/// The lines of finals are the texts of the finals within their limits.
+pub fn final_lines()
+    ensures reading { IsReaderOf final_at IsFinal final_text }
+    ensures one_text { IsOneText IsFinal final_text }
+{}
+
+/// The lines of certificates are the texts of the numbers within their limits.
+pub fn txn_lines()
+    ensures reading { IsReaderOf txn_at_line IsTxn txn_text }
+    ensures one_text { IsOneText IsTxn txn_text }
+{}
+
+/// No line of an event is one of another kind.
+pub fn events_apart()
+    ensures orders { Excludes event_at order_at }
+    ensures finals { Excludes event_at final_at }
+    ensures tail { ExcludesLine event_at tail }
+    ensures head { ExcludesLine event_at history_head }
+{}
+
+/// No line of an order is one of another kind.
+pub fn orders_apart()
+    ensures events { Excludes order_at event_at }
+    ensures finals { Excludes order_at final_at }
+    ensures tail { ExcludesLine order_at tail }
+    ensures head { ExcludesLine order_at history_head }
+{}
+
+/// No line of a final is one of another kind.
+pub fn finals_apart()
+    ensures events { Excludes final_at event_at }
+    ensures orders { Excludes final_at order_at }
+    ensures tail { ExcludesLine final_at tail }
+    ensures head { ExcludesLine final_at history_head }
+{}
+
+/// No line of a certificate is its head or its tail.
+pub fn txns_apart()
+    ensures tail { ExcludesLine txn_at_line tail }
+    ensures head { ExcludesLine txn_at_line serial_head }
+{}
+
+/// No line has a line feed in it.
+pub fn no_line_feeds()
+    ensures events { HasPlainTexts IsEvent event_text }
+    ensures orders { HasPlainTexts IsOrder order_text }
+    ensures finals { HasPlainTexts IsFinal final_text }
+    ensures txns { HasPlainTexts IsTxn txn_text }
+    ensures history_head { IsPlain history_head }
+    ensures serial_head { IsPlain serial_head }
+    ensures tail { IsPlain tail }
+{}

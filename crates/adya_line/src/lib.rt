@@ -1,0 +1,23 @@
+//! The lines of a history text and of a certificate text: their spelling, reading and writing.
+#![tactic(auto)]
+
+mod event_line;
+mod event_ref;
+mod fields;
+mod final_line;
+mod fixed_line;
+pub mod laws;
+mod order_line;
+mod txn_line;
+mod writing;
+
+pub use event_line::{event, read_event};
+pub use event_ref::{EndRef, EventRef, ReadRef, VersionRef, WriteRef};
+pub use final_line::final_pair;
+pub use fixed_line::{history_head, serial_head, tail};
+pub use order_line::order;
+pub use txn_line::txn;
+pub use writing::{write_event, write_final, write_order, write_txn};
+
+#[cfg(test)]
+mod tests;

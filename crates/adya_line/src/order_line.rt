@@ -1,0 +1,88 @@
+//! The lines of orders.
+
+ghost use Rattle.std.specs.Prelude.{◌≡◌, List, [], ◌∷◌, length, IfOk};
+ghost use Rattle.adya_terms.specs.Histories.{order_of};
+ghost use Rattle.adya_line.specs.Reading.{Gives, Steps, behind, txn_at, writer_at, later_at, writers_at, order_at};
+
+use crate::fields::{after, key_between, txn_at};
+use adya_terms::{Key, Order, Txn};
+use std::alloc::{AllocError, Global};
+
+/// What is left of a line.
+#[derive(Clone, Copy)]
+struct Cursor<'a> {
+    rest: &'a [u8],
+}
+
+impl Cursor<'_> {
+    /// Goes past a number.
+    fn txn(&mut self) -> Option<Txn>
+        ensures { Steps (λ x. x) result self.new.rest.now (txn_at self.old.rest.now) }
+    {
+        let (number, rest) = txn_at(self.rest)?;
+        self.rest = rest;
+        Txn::new(u64::from(number)).ok()
+    }
+
+    /// Goes past the second `<` of a mark and a number.
+    #[tactic(auto, unfolding(crate::specs::Reading::writer_at))]
+    fn writer(&mut self) -> Option<Txn>
+        ensures { Steps (λ x. x) result self.new.rest.now (writer_at self.old.rest.now) }
+    {
+        self.rest = after(b'<', self.rest)?;
+        self.txn()
+    }
+
+    /// Goes past `<<T<<..`, and gives the numbers behind the first writer.
+    fn later(&mut self, alloc: Global, first: Txn) -> Result<Option<Vec<Txn>>, AllocError>
+        ensures { IfOk result (λ r. Steps (λ w. w.items) r self.new.rest.now
+            (behind (first ∷ []) (later_at (length self.old.rest.now) self.old.rest.now))) }
+    {
+        let mut writers = Vec::new(alloc);
+        writers.push(first)?;
+        'later: while let Some(rest) = after(b'<', self.rest) {
+            self.rest = rest;
+            let Some(writer) = self.writer() else {
+                return Ok(None);
+            };
+            writers.push(writer)?;
+        }
+        Ok(Some(writers))
+    }
+
+    /// Goes past `T<<T<<..`.
+    #[tactic(auto, unfolding(crate::specs::Reading::writers_at))]
+    fn writers(&mut self, alloc: Global) -> Result<Option<Vec<Txn>>, AllocError>
+        ensures { IfOk result (λ r. Steps (λ w. w.items) r self.new.rest.now (writers_at self.old.rest.now)) }
+    {
+        let Some(first) = self.txn() else {
+            return Ok(None);
+        };
+        self.later(alloc, first)
+    }
+}
+
+/// The order whose line this is, without its line feed: `[K:T<<T<<..]`, with at least one writer. None on every
+/// other text.
+#[tactic(auto, unfolding(crate::specs::Reading::order_at))]
+pub fn order(alloc: Global, line: &[u8]) -> Result<Option<Order>, AllocError>
+    ensures { IfOk result (λ r. Gives order_of r (order_at line.now)) }
+{
+    let Some((key, rest)) = key_between(b'[', b':', line) else {
+        return Ok(None);
+    };
+    let Ok(key) = Key::new(key) else {
+        return Ok(None);
+    };
+    let mut cursor = Cursor { rest };
+    let Some(writers) = cursor.writers(alloc)? else {
+        return Ok(None);
+    };
+    let Some(rest) = after(b']', cursor.rest) else {
+        return Ok(None);
+    };
+    if !rest.is_empty() {
+        return Ok(None);
+    }
+    Ok(Some(Order { key, writers }))
+}

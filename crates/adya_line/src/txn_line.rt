@@ -1,0 +1,25 @@
+//! The lines of certificates.
+
+ghost use Rattle.std.specs.Prelude.{IfSome};
+ghost use Rattle.adya_terms.specs.Keys.{IsTxn};
+ghost use Rattle.adya_line.specs.Reading.{Gives, txn_at_line};
+
+use crate::fields::txn_at;
+use adya_terms::Txn;
+
+/// The number that is all of the line.
+#[tactic(auto, unfolding(crate::specs::Reading::txn_at_line))]
+pub(crate) fn txn_at_line(bytes: &[u8]) -> Option<u32>
+    ensures exact { Gives (λ x. x) result (txn_at_line bytes.now) }
+    ensures good { IfSome result (λ x. IsTxn x) }
+{
+    let (txn, rest) = txn_at(bytes)?;
+    rest.is_empty().then_some(txn)
+}
+
+/// The transaction whose number this line is, without its line feed: `T`. None on every other text.
+pub fn txn(line: &[u8]) -> Option<Txn>
+    ensures { Gives (λ t. t) result (txn_at_line line.now) }
+{
+    Txn::new(u64::from(txn_at_line(line)?)).ok()
+}
