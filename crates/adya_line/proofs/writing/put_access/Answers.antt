@@ -1,7 +1,7 @@
 use Rattle.adya_line.proofs.Growth.{and_then, last_part}
 use Rattle.adya_line.proofs.writing.put_access.Goals as goal
 
-pub returns : goal.returns
-returns g c =
-    let front = and_then (and_then c.in_ok-put_front.ensures c.in_ok-put_version.ensures) c.in_ok-put.ensures in
-    rw (← c.bytes.ensures.same) (last_part _ _ c.put-3.result (and_then front c.in_ok-put-2.ensures) c.put-3.ensures)
+pub returns-clause-bytes : goal.returns-clause-bytes
+returns-clause-bytes g c =
+    let front = and_then (and_then c.in_ok-put_front.ensures.bytes c.in_ok-put_version.ensures.bytes) c.in_ok-put.ensures.bytes in
+    rw (← c.bytes.ensures.same) (last_part _ _ c.put-3.result (and_then front c.in_ok-put-2.ensures.bytes) c.put-3.ensures.bytes)
