@@ -40,7 +40,7 @@ fn delete_at(bytes: &[u8]) -> Option<EventRef<'_>>
     let rest = after(b'(', rest)?;
     let (version, rest) = version_at(rest)?;
     let rest = after(b')', rest)?;
-    if version.txn != txn || !rest.is_empty() {
+    if !rest.is_empty() || version.txn != txn {
         return None;
     }
     Some(EventRef::Delete(DeleteRef { version }))
