@@ -49,7 +49,8 @@ nest_delete a b = simp append_assoc
 delete_is : (version : Version) → event_text (Delete version.txn version.key version.m) ≡ 100 ∷ delete_then version
 unfolding event_text delete_then
 delete_is version =
-    nest_delete (decimal version.txn) (version_text version) ∙ ap (λ (t : List ℕ). 100 ∷ (decimal version.txn ++ (40 ∷ t)))
+    nest_delete (decimal version.txn) (version_text version) ∙
+    ap (λ (t : List ℕ). 100 ∷ (decimal version.txn ++ (40 ∷ t)))
     (version_then-is version (41 ∷ []))
 
 -- ---- what is read is spelled so

@@ -83,16 +83,16 @@ scan_plain : (t : ℕ) (low high : List ℕ) (es : List Entry) → IsTxn t → i
     → AllByRecursion IsEntry es
     → Plain (codes "s" ++ decimal t ++ codes "(" ++ low ++ codes "," ++ high ++ flat_map entry_text es ++ codes ")")
 scan_plain t low high es is_t is_low is_high are =
-    with_text (with_text (with_text (with_text (with_text (with_text (with_text (fixed (codes "s") refl) (txn_plain t is_t))
-    (fixed (codes "(") refl)) (key_plain low is_low)) (fixed (codes ",") refl)) (key_plain high is_high))
+    with_text (with_text (with_text (with_text (with_text (with_text (with_text (fixed (codes "s") refl)
+    (txn_plain t is_t)) (fixed (codes "(") refl)) (key_plain low is_low)) (fixed (codes ",") refl)) (key_plain high is_high))
     (entries_plain es are)) (fixed (codes ")") refl)
 
 pub events_plain : HasPlainTexts IsEvent event_text
 unfolding event_text
 events_plain (Write t k m v) is = (access_plain (codes "w") t (record { key = k; txn = t; m = m }) v
     (fixed (codes "w") refl) is.0.txn is.0 is.1).holds
-events_plain (Delete t k m) is = (with_text (with_text (with_text (with_text (fixed (codes "d") refl) (txn_plain t is.txn))
-    (fixed (codes "(") refl)) (version_plain (record { key = k; txn = t; m = m }) is)) (fixed (codes ")") refl)).holds
+events_plain (Delete t k m) is = (with_text (with_text (with_text (with_text (fixed (codes "d") refl)
+    (txn_plain t is.txn)) (fixed (codes "(") refl)) (version_plain (record { key = k; txn = t; m = m }) is)) (fixed (codes ")") refl)).holds
 events_plain (Read t r v) is = (access_plain (codes "r") t r v (fixed (codes "r") refl) is.0 is.1 is.2).holds
 events_plain (Scan t low high es) is = (scan_plain t low high es is.0 is.1 is.2 is.3).holds
 events_plain (Commit t) is = (with_text (fixed (codes "c") refl) (txn_plain t is)).holds

@@ -15,7 +15,8 @@ use std::io::Write;
 /// Writes the event's line, without its line feed. An error is the device's, which has failed then, and
 /// nothing is said of how much went out.
 pub fn write_event<W: Write>(event: &Event, out: &mut Watched<W>) -> io::Result<()>
-    ensures bytes { OnOk result (Appends (watched_contents W.contents out.old) (watched_contents W.contents out.new) (event_text (event_of event.now))) }
+    ensures bytes { OnOk result (Appends (watched_contents W.contents out.old) (watched_contents W.contents out.new)
+        (event_text (event_of event.now))) }
     ensures fault { IsErr result → has_failed out.new ≡ true }
     ensures works { OnOk result (has_failed out.new ≡ has_failed out.old) }
 {
@@ -25,7 +26,8 @@ pub fn write_event<W: Write>(event: &Event, out: &mut Watched<W>) -> io::Result<
 /// Writes the order's line, without its line feed. An error is the device's, which has failed then, and
 /// nothing is said of how much went out.
 pub fn write_order<W: Write>(order: &Order, out: &mut Watched<W>) -> io::Result<()>
-    ensures bytes { OnOk result (Appends (watched_contents W.contents out.old) (watched_contents W.contents out.new) (order_text (order_of order.now))) }
+    ensures bytes { OnOk result (Appends (watched_contents W.contents out.old) (watched_contents W.contents out.new)
+        (order_text (order_of order.now))) }
     ensures fault { IsErr result → has_failed out.new ≡ true }
     ensures works { OnOk result (has_failed out.new ≡ has_failed out.old) }
 {
@@ -35,7 +37,8 @@ pub fn write_order<W: Write>(order: &Order, out: &mut Watched<W>) -> io::Result<
 /// Writes the final's line, without its line feed. An error is the device's, which has failed then, and
 /// nothing is said of how much went out.
 pub fn write_final<W: Write>(pair: &FinalPair, out: &mut Watched<W>) -> io::Result<()>
-    ensures bytes { OnOk result (Appends (watched_contents W.contents out.old) (watched_contents W.contents out.new) (final_text (final_of pair.now))) }
+    ensures bytes { OnOk result (Appends (watched_contents W.contents out.old) (watched_contents W.contents out.new)
+        (final_text (final_of pair.now))) }
     ensures fault { IsErr result → has_failed out.new ≡ true }
     ensures works { OnOk result (has_failed out.new ≡ has_failed out.old) }
 {
@@ -45,7 +48,8 @@ pub fn write_final<W: Write>(pair: &FinalPair, out: &mut Watched<W>) -> io::Resu
 /// Writes the transaction's line of a certificate, without its line feed. An error is the device's, which
 /// has failed then, and nothing is said of how much went out.
 pub fn write_txn<W: Write>(txn: Txn, out: &mut Watched<W>) -> io::Result<()>
-    ensures bytes { OnOk result (Appends (watched_contents W.contents out.old) (watched_contents W.contents out.new) (txn_text txn)) }
+    ensures bytes { OnOk result (Appends (watched_contents W.contents out.old) (watched_contents W.contents out.new)
+        (txn_text txn)) }
     ensures fault { IsErr result → has_failed out.new ≡ true }
     ensures works { OnOk result (has_failed out.new ≡ has_failed out.old) }
 {
@@ -55,7 +59,8 @@ pub fn write_txn<W: Write>(txn: Txn, out: &mut Watched<W>) -> io::Result<()>
 /// Writes the unfinished transaction's line, without its line feed. An error is the device's, which has failed then,
 /// and nothing is said of how much went out.
 pub fn write_unfinished<W: Write>(txn: Txn, out: &mut Watched<W>) -> io::Result<()>
-    ensures bytes { OnOk result (Appends (watched_contents W.contents out.old) (watched_contents W.contents out.new) (unfinished_text txn)) }
+    ensures bytes { OnOk result (Appends (watched_contents W.contents out.old) (watched_contents W.contents out.new)
+        (unfinished_text txn)) }
     ensures fault { IsErr result → has_failed out.new ≡ true }
     ensures works { OnOk result (has_failed out.new ≡ has_failed out.old) }
 {
@@ -63,7 +68,9 @@ pub fn write_unfinished<W: Write>(txn: Txn, out: &mut Watched<W>) -> io::Result<
 }
 
 fn put<W: Write>(bytes: &[u8], out: &mut Watched<W>) -> io::Result<()>
-    ensures bytes { OnOk result (Grows (watched_contents W.contents out.old) bytes.now (watched_contents W.contents out.new)) }
+    ensures bytes { OnOk result (Grows (watched_contents W.contents out.old)
+        bytes.now
+        (watched_contents W.contents out.new)) }
     ensures fault { IsErr result → has_failed out.new ≡ true }
     ensures works { OnOk result (has_failed out.new ≡ has_failed out.old) }
 {
@@ -71,7 +78,9 @@ fn put<W: Write>(bytes: &[u8], out: &mut Watched<W>) -> io::Result<()>
 }
 
 fn put_number<W: Write>(number: u32, out: &mut Watched<W>) -> io::Result<()>
-    ensures bytes { OnOk result (Grows (watched_contents W.contents out.old) (decimal number) (watched_contents W.contents out.new)) }
+    ensures bytes { OnOk result (Grows (watched_contents W.contents out.old)
+        (decimal number)
+        (watched_contents W.contents out.new)) }
     ensures fault { IsErr result → has_failed out.new ≡ true }
     ensures works { OnOk result (has_failed out.new ≡ has_failed out.old) }
 {
@@ -79,7 +88,9 @@ fn put_number<W: Write>(number: u32, out: &mut Watched<W>) -> io::Result<()>
 }
 
 fn put_version<W: Write>(version: &Version, out: &mut Watched<W>) -> io::Result<()>
-    ensures bytes { OnOk result (Grows (watched_contents W.contents out.old) (version_text version.now) (watched_contents W.contents out.new)) }
+    ensures bytes { OnOk result (Grows (watched_contents W.contents out.old)
+        (version_text version.now)
+        (watched_contents W.contents out.new)) }
     ensures fault { IsErr result → has_failed out.new ≡ true }
     ensures works { OnOk result (has_failed out.new ≡ has_failed out.old) }
 {
@@ -92,7 +103,9 @@ fn put_version<W: Write>(version: &Version, out: &mut Watched<W>) -> io::Result<
 
 #[tactic(auto, unfolding(crate::specs::Spelling::final_text))]
 fn put_final<W: Write>(pair: &FinalPair, out: &mut Watched<W>) -> io::Result<()>
-    ensures bytes { OnOk result (Grows (watched_contents W.contents out.old) (final_text (final_of pair.now)) (watched_contents W.contents out.new)) }
+    ensures bytes { OnOk result (Grows (watched_contents W.contents out.old)
+        (final_text (final_of pair.now))
+        (watched_contents W.contents out.new)) }
     ensures fault { IsErr result → has_failed out.new ≡ true }
     ensures works { OnOk result (has_failed out.new ≡ has_failed out.old) }
 {
@@ -105,7 +118,9 @@ fn put_final<W: Write>(pair: &FinalPair, out: &mut Watched<W>) -> io::Result<()>
 
 /// Writes the letter, the number and what opens the version.
 fn put_front<W: Write>(letter: &[u8], txn: Txn, out: &mut Watched<W>) -> io::Result<()>
-    ensures bytes { OnOk result (Grows (watched_contents W.contents out.old) (letter.now ++ decimal txn ++ codes "(") (watched_contents W.contents out.new)) }
+    ensures bytes { OnOk result (Grows (watched_contents W.contents out.old)
+        (letter.now ++ decimal txn ++ codes "(")
+        (watched_contents W.contents out.new)) }
     ensures fault { IsErr result → has_failed out.new ≡ true }
     ensures works { OnOk result (has_failed out.new ≡ has_failed out.old) }
 {
@@ -138,7 +153,9 @@ fn put_access<W: Write>(
 
 /// Writes a version with its content, as a scan lists it.
 fn put_entry<W: Write>(entry: &Entry, out: &mut Watched<W>) -> io::Result<()>
-    ensures bytes { OnOk result (Grows (watched_contents W.contents out.old) (entry_text (entry_of entry.now)) (watched_contents W.contents out.new)) }
+    ensures bytes { OnOk result (Grows (watched_contents W.contents out.old)
+        (entry_text (entry_of entry.now))
+        (watched_contents W.contents out.new)) }
     ensures fault { IsErr result → has_failed out.new ≡ true }
     ensures works { OnOk result (has_failed out.new ≡ has_failed out.old) }
 {
@@ -149,7 +166,9 @@ fn put_entry<W: Write>(entry: &Entry, out: &mut Watched<W>) -> io::Result<()>
 }
 
 fn put_content<W: Write>(content: &Content, out: &mut Watched<W>) -> io::Result<()>
-    ensures bytes { OnOk result (Grows (watched_contents W.contents out.old) (content_text (content_of content.now)) (watched_contents W.contents out.new)) }
+    ensures bytes { OnOk result (Grows (watched_contents W.contents out.old)
+        (content_text (content_of content.now))
+        (watched_contents W.contents out.new)) }
     ensures fault { IsErr result → has_failed out.new ≡ true }
     ensures works { OnOk result (has_failed out.new ≡ has_failed out.old) }
 {
@@ -160,7 +179,9 @@ fn put_content<W: Write>(content: &Content, out: &mut Watched<W>) -> io::Result<
 }
 
 fn put_entries<W: Write>(entries: &[Entry], out: &mut Watched<W>) -> io::Result<()>
-    ensures bytes { OnOk result (Grows (watched_contents W.contents out.old) (flat_map entry_text (map entry_of entries.now)) (watched_contents W.contents out.new)) }
+    ensures bytes { OnOk result (Grows (watched_contents W.contents out.old)
+        (flat_map entry_text (map entry_of entries.now))
+        (watched_contents W.contents out.new)) }
     ensures fault { IsErr result → has_failed out.new ≡ true }
     ensures works { OnOk result (has_failed out.new ≡ has_failed out.old) }
 {
@@ -172,7 +193,9 @@ fn put_entries<W: Write>(entries: &[Entry], out: &mut Watched<W>) -> io::Result<
 
 /// Writes the bounds of a scan.
 fn put_range<W: Write>(lo: &Key, hi: &Key, out: &mut Watched<W>) -> io::Result<()>
-    ensures bytes { OnOk result (Grows (watched_contents W.contents out.old) (lo.now ++ codes "," ++ hi.now) (watched_contents W.contents out.new)) }
+    ensures bytes { OnOk result (Grows (watched_contents W.contents out.old)
+        (lo.now ++ codes "," ++ hi.now)
+        (watched_contents W.contents out.new)) }
     ensures fault { IsErr result → has_failed out.new ≡ true }
     ensures works { OnOk result (has_failed out.new ≡ has_failed out.old) }
 {
@@ -217,7 +240,9 @@ fn put_delete<W: Write>(version: &Version, out: &mut Watched<W>) -> io::Result<(
 
 /// Writes a commit, an abort or an unfinished transaction, by its letter.
 fn put_end<W: Write>(letter: &[u8], txn: Txn, out: &mut Watched<W>) -> io::Result<()>
-    ensures bytes { OnOk result (Grows (watched_contents W.contents out.old) (letter.now ++ decimal txn) (watched_contents W.contents out.new)) }
+    ensures bytes { OnOk result (Grows (watched_contents W.contents out.old)
+        (letter.now ++ decimal txn)
+        (watched_contents W.contents out.new)) }
     ensures fault { IsErr result → has_failed out.new ≡ true }
     ensures works { OnOk result (has_failed out.new ≡ has_failed out.old) }
 {
@@ -227,7 +252,9 @@ fn put_end<W: Write>(letter: &[u8], txn: Txn, out: &mut Watched<W>) -> io::Resul
 
 #[tactic(auto, unfolding(crate::specs::Spelling::event_text))]
 fn put_event<W: Write>(event: &Event, out: &mut Watched<W>) -> io::Result<()>
-    ensures bytes { OnOk result (Grows (watched_contents W.contents out.old) (event_text (event_of event.now)) (watched_contents W.contents out.new)) }
+    ensures bytes { OnOk result (Grows (watched_contents W.contents out.old)
+        (event_text (event_of event.now))
+        (watched_contents W.contents out.new)) }
     ensures fault { IsErr result → has_failed out.new ≡ true }
     ensures works { OnOk result (has_failed out.new ≡ has_failed out.old) }
 {
@@ -266,7 +293,9 @@ fn put_event<W: Write>(event: &Event, out: &mut Watched<W>) -> io::Result<()>
 
 /// Writes `<<T` for each number.
 fn put_later<W: Write>(writers: &[Txn], out: &mut Watched<W>) -> io::Result<()>
-    ensures bytes { OnOk result (Grows (watched_contents W.contents out.old) (flat_map later_text writers.now) (watched_contents W.contents out.new)) }
+    ensures bytes { OnOk result (Grows (watched_contents W.contents out.old)
+        (flat_map later_text writers.now)
+        (watched_contents W.contents out.new)) }
     ensures fault { IsErr result → has_failed out.new ≡ true }
     ensures works { OnOk result (has_failed out.new ≡ has_failed out.old) }
 {
@@ -278,7 +307,9 @@ fn put_later<W: Write>(writers: &[Txn], out: &mut Watched<W>) -> io::Result<()>
 }
 
 fn put_writers<W: Write>(writers: &[Txn], out: &mut Watched<W>) -> io::Result<()>
-    ensures bytes { OnOk result (Grows (watched_contents W.contents out.old) (writers_text writers.now) (watched_contents W.contents out.new)) }
+    ensures bytes { OnOk result (Grows (watched_contents W.contents out.old)
+        (writers_text writers.now)
+        (watched_contents W.contents out.new)) }
     ensures fault { IsErr result → has_failed out.new ≡ true }
     ensures works { OnOk result (has_failed out.new ≡ has_failed out.old) }
 {
@@ -291,7 +322,9 @@ fn put_writers<W: Write>(writers: &[Txn], out: &mut Watched<W>) -> io::Result<()
 
 #[tactic(auto, unfolding(crate::specs::Spelling::order_text))]
 fn put_order<W: Write>(order: &Order, out: &mut Watched<W>) -> io::Result<()>
-    ensures bytes { OnOk result (Grows (watched_contents W.contents out.old) (order_text (order_of order.now)) (watched_contents W.contents out.new)) }
+    ensures bytes { OnOk result (Grows (watched_contents W.contents out.old)
+        (order_text (order_of order.now))
+        (watched_contents W.contents out.new)) }
     ensures fault { IsErr result → has_failed out.new ≡ true }
     ensures works { OnOk result (has_failed out.new ≡ has_failed out.old) }
 {

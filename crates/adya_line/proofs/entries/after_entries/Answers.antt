@@ -1,4 +1,4 @@
-use Rattle.std.proofs.Common.{◌≡◌, sym, ◌∙◌}
+use Rattle.std.proofs.Common.{sym, ◌∙◌}
 use Rattle.adya_line.proofs.Scans.{none_more, one_more, entry_shorter}
 use Rattle.adya_line.proofs.entries.after_entries.Goals as goal
 
