@@ -14,6 +14,7 @@ use crate::certificate::lists_the_committed;
 use crate::committed::committed;
 use crate::next::next_writers;
 use crate::places::places;
+use crate::visible::visible;
 use crate::{Edge, Verdict};
 use adya_laws::edge_list_keeps_first;
 use adya_terms::{History, Serial, Txn};
@@ -22,11 +23,7 @@ use std::collections::{BTreeMap, BTreeSet};
 
 /// The verdict on a certificate of a history that is well-formed without aborted and intermediate reads: yes, not the
 /// committed, or the first edge that goes backward. `AllocError` where memory ran out.
-pub(crate) fn judge(
-    alloc: Global,
-    history: &History,
-    serial: &Serial,
-) -> Result<Verdict, AllocError>
+pub(crate) fn judge(alloc: Global, history: &History, serial: &Serial) -> Result<Verdict, AllocError>
     ensures { IfOk result (λ v. plain_verdict v ≡ certificate_verdict (history_of history.now) serial.now.txns.items) }
 {
     let txns = serial.txns();
@@ -60,5 +57,15 @@ fn first_backward(
         return Ok(found);
     }
     let next = next_writers(alloc, history.orders())?;
-    Ok(first_read(places, txns, committed, &next, history.events()))
+    let visible = visible(alloc, history.events())?;
+    first_read(
+        alloc,
+        places,
+        txns,
+        committed,
+        &next,
+        &visible,
+        history.orders(),
+        history.events(),
+    )
 }
