@@ -1,8 +1,9 @@
 //! The first edge that doesn't go forward along a certificate.
 
-ghost use Rattle.std.specs.Prelude.{◌≡◌, Some, IfOk, option_map, flat_map, filter, map};
+ghost use Rattle.std.specs.Prelude.{◌≡◌, Some, IfOk, option_map, flat_map, filter, map, true};
 ghost use Rattle.std.specs.Ordering.{nat_cmp};
 ghost use Rattle.std.specs.BTreeSet.{contains};
+ghost use Rattle.adya_terms.specs.Keys.{keys_rise};
 ghost use Rattle.adya_terms.specs.Histories.{event_of, order_of};
 ghost use Rattle.adya_terms.specs.Events.{txn_of};
 ghost use Rattle.adya_terms.specs.Orders.{place};
@@ -128,7 +129,8 @@ fn first_of_event(
     orders: &[Order],
     e: &Event,
 ) -> Result<Option<Edge>, AllocError>
-    requires { HasPlaces places.now txns.now }
+    requires places { HasPlaces places.now txns.now }
+    requires rise { keys_rise (map (λ o. o.key) (map order_of orders.now)) ≡ true }
     ensures { IfOk result (λ o. option_map edge_of o ≡ backward_in txns.now
         (edges_of (next_by next.now) (shows visible.now) (map order_of orders.now) (event_of e.now))) }
 {
@@ -162,7 +164,8 @@ pub(crate) fn first_read(
     orders: &[Order],
     events: &[Event],
 ) -> Result<Option<Edge>, AllocError>
-    requires { HasPlaces places.now txns.now }
+    requires places { HasPlaces places.now txns.now }
+    requires rise { keys_rise (map (λ o. o.key) (map order_of orders.now)) ≡ true }
     ensures { IfOk result (λ o. option_map edge_of o ≡ backward_in txns.now
         (flat_map (edges_of (next_by next.now) (shows visible.now) (map order_of orders.now))
         (filter (λ e. contains nat_cmp committed.now (txn_of e)) (map event_of events.now)))) }

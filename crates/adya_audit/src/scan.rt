@@ -1,7 +1,8 @@
 //! The first edge of a scan that doesn't go forward along a certificate.
 
-ghost use Rattle.std.specs.Prelude.{◌≡◌, ◌≤◌, ℕ, suc, List, Some, option_map, map, length, IfOk};
-ghost use Rattle.adya_terms.specs.Keys.{lies_in};
+ghost use Rattle.std.specs.Prelude.{◌≡◌, ◌≤◌, ℕ, suc, List, Some, true, option_map, map, length, take, IfOk};
+ghost use Rattle.std.specs.List.{list_all};
+ghost use Rattle.adya_terms.specs.Keys.{key_lt, keys_rise, lies_in};
 ghost use Rattle.adya_terms.specs.Histories.{order_of, entry_of};
 ghost use Rattle.adya_terms.specs.Orders.{place};
 ghost use Rattle.adya_audit.specs.Edges.{edge_of};
@@ -177,6 +178,58 @@ fn first_in_order(
     )
 }
 
+fn is_below(low: Key, high: Key) -> bool
+    ensures { result ≡ key_lt low high }
+{
+    low < high
+}
+
+/// How many orders surely stand before those from this key on.
+fn before(orders: &[Order], lo: Key) -> usize
+    requires { keys_rise (map (λ o. o.key) (map order_of orders.now)) ≡ true }
+    ensures within { result ≤ length orders.now }
+    ensures below { list_all (λ o. key_lt o.key lo) (map order_of (take result orders.now)) ≡ true }
+{
+    let mut first = 0;
+    let mut end = orders.len();
+    while first < end {
+        let middle = first + (end - first) / 2;
+        if is_below(orders[middle].key, lo) {
+            first = middle + 1;
+        } else {
+            end = middle;
+        }
+    }
+    first
+}
+
+fn first_up_to(
+    places: &BTreeMap<Txn, usize>,
+    txns: &[Txn],
+    visible: &BTreeMap<Slot, bool>,
+    listers: &BTreeMap<Key, Txn>,
+    txn: Txn,
+    lo: Key,
+    hi: Key,
+    orders: &[Order],
+) -> Option<Edge>
+    requires places { HasPlaces places.now txns.now }
+    requires rise { keys_rise (map (λ o. o.key) (map order_of orders.now)) ≡ true }
+    ensures { option_map edge_of result
+        ≡ backward_in txns.now (range_edges (shows visible.now) (lister_by listers.now) txn lo hi
+        (map order_of orders.now)) }
+{
+    for o in orders {
+        if is_below(hi, o.key) {
+            return None;
+        }
+        if let Some(found) = first_in_order(places, txns, visible, listers, txn, lo, hi, o) {
+            return Some(found);
+        }
+    }
+    None
+}
+
 fn first_in_range(
     places: &BTreeMap<Txn, usize>,
     txns: &[Txn],
@@ -187,17 +240,23 @@ fn first_in_range(
     hi: Key,
     orders: &[Order],
 ) -> Option<Edge>
-    requires { HasPlaces places.now txns.now }
+    requires places { HasPlaces places.now txns.now }
+    requires rise { keys_rise (map (λ o. o.key) (map order_of orders.now)) ≡ true }
     ensures { option_map edge_of result
         ≡ backward_in txns.now (range_edges (shows visible.now) (lister_by listers.now) txn lo hi
         (map order_of orders.now)) }
 {
-    for o in orders {
-        if let Some(found) = first_in_order(places, txns, visible, listers, txn, lo, hi, o) {
-            return Some(found);
-        }
-    }
-    None
+    let start = before(orders, lo);
+    first_up_to(
+        places,
+        txns,
+        visible,
+        listers,
+        txn,
+        lo,
+        hi,
+        &orders[start..],
+    )
 }
 
 /// The first edge of the scan that doesn't go forward.
@@ -212,7 +271,8 @@ pub(crate) fn first_of_scan(
     hi: Key,
     entries: &[Entry],
 ) -> Result<Option<Edge>, AllocError>
-    requires { HasPlaces places.now txns.now }
+    requires places { HasPlaces places.now txns.now }
+    requires rise { keys_rise (map (λ o. o.key) (map order_of orders.now)) ≡ true }
     ensures { IfOk result (λ o. option_map edge_of o
         ≡ backward_in txns.now (range_edges (shows visible.now) (lister (map entry_of entries.now)) txn lo hi
         (map order_of orders.now))) }

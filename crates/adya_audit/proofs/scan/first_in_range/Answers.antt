@@ -1,22 +1,27 @@
-use Rattle.std.proofs.Common.{◌∙◌, sym}
-use Rattle.adya_terms.specs.Histories.{order_of}
-use Rattle.adya_audit.specs.Edges.{edge_of}
+use Rattle.std.proofs.Common.{◌∙◌, ap, map, List}
+use Rattle.std.proofs.lemmas.List.{take_rest}
+use Rattle.adya_terms.specs.declared.order.Order.{Order as OrderValue}
+use Rattle.adya_terms.specs.Keys.{keys_rise}
+use Rattle.adya_terms.specs.Histories.{Order, order_of}
 use Rattle.adya_audit.specs.Visible.{shows}
-use Rattle.adya_audit.specs.Backward.{is_backward}
-use Rattle.adya_audit.specs.Scans.{lister_by, order_edges}
-use Rattle.adya_audit.proofs.Finds.{find_here, find_later}
+use Rattle.adya_audit.specs.Backward.{backward_in}
+use Rattle.adya_audit.specs.Scans.{lister_by, range_edges}
+use Rattle.adya_audit.proofs.Ranges.{skip_below, rise_drop}
 use Rattle.adya_audit.proofs.scan.first_in_range.Goals as goal
 
-pub returns-in-Some : goal.returns-in-Some
-returns-in-Some c =
-    let p = is_backward c.args.txns.now in
-    let f = order_edges (shows c.args.visible.now) (lister_by c.args.listers.now) c.args.txn c.args.lo c.args.hi in
-    find_here p f order_of c.args.orders.now c.loop-o.o-index c.o-item.result c.loop-o-test.true c.o-item.is (edge_of c.in-Some.found) c.in-Some.ensures ∙
-    sym c.loop-o.invariant
+pub first_up_to-requires-clause-rise : goal.first_up_to-requires-clause-rise
+first_up_to-requires-clause-rise c =
+    ap (λ (ys : List OrderValue). keys_rise (map (λ (o : Order). o.key) (map order_of ys)))
+    (take_rest c.args.orders.now c.before-start.result) ∙
+    rise_drop c.args.orders.now c.before-start.result c.requires.rise
 
-pub loop-o-preserved : goal.loop-o-preserved
-loop-o-preserved c =
-    let p = is_backward c.args.txns.now in
-    let f = order_edges (shows c.args.visible.now) (lister_by c.args.listers.now) c.args.txn c.args.lo c.args.hi in
-    c.loop-o.invariant ∙
-    find_later p f order_of c.args.orders.now c.loop-o.o-index c.o-item.result c.loop-o-test.true c.o-item.is c.in_default.ensures
+pub returns : goal.returns
+returns c =
+    let flags = shows c.args.visible.now in
+    let shown = lister_by c.args.listers.now in
+    let ts = c.args.txns.now in
+    c.first_up_to.ensures ∙
+    (ap (λ (ys : List OrderValue). backward_in ts (range_edges flags shown c.args.txn c.args.lo c.args.hi (map order_of ys)))
+    (take_rest c.args.orders.now c.before-start.result) ∙
+    ap (backward_in ts)
+    (skip_below flags shown c.args.txn c.args.lo c.args.hi c.args.orders.now c.before-start.result c.before-start.ensures.below))

@@ -3,7 +3,7 @@ use Rattle.adya_terms.specs.Histories.{order_of}
 use Rattle.adya_audit.specs.Visible.{shows}
 use Rattle.adya_audit.specs.Backward.{is_backward}
 use Rattle.adya_audit.specs.Scans.{lister_by, range_edges}
-use Rattle.adya_audit.proofs.scan.first_in_range.Given as goal
+use Rattle.adya_audit.proofs.scan.first_up_to.Given as goal
 
 abbrev pub invariant-loop-o : goal.invariant-loop-o
 invariant-loop-o l =
