@@ -13,6 +13,4 @@ pub mod ItemEdges
 pub mod Whole
 pub mod Growth
 pub mod Accepting
-pub mod Scanning
-pub mod ScanEdges
 pub mod Shown
