@@ -1,6 +1,6 @@
 //! Checked histories.
 
-ghost use Rattle.std.specs.Prelude.{◌≡◌, ℕ, List, [], true, None, Some, map, is_none, IfOk, MatchResult};
+ghost use Rattle.std.specs.Prelude.{◌≡◌, ◌≢◌, ℕ, List, [], true, None, Some, map, is_none, IfOk, IfErr, MatchResult};
 ghost use Rattle.adya_terms.specs.Keys.{keys_rise};
 ghost use Rattle.adya_terms.specs.Histories.{event_of, order_of, final_of};
 ghost use Rattle.adya_terms.specs.Values.{history_of};
@@ -32,7 +32,9 @@ impl<'a> Checked<'a> {
         ensures found { MatchResult result (λ c. first_fault (history_of history.now) ≡ None)
             (IsFault (first_fault (history_of history.now))) }
         ensures same { IfOk result (λ c. c.history.now ≡ history.now) }
+        // It succeeds exactly where the history is well-formed without aborted and intermediate reads.
         ensures checked { IfOk result (λ c. IsChecked (history_of c.history.now)) }
+        ensures refused { IfErr result (λ e. e ≢ CheckFault.Memory → IsChecked (history_of history.now) → ⊥) }
     {
         if let Err(fault) = check(
             alloc,

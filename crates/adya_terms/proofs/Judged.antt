@@ -1,0 +1,22 @@
+-- A history of which a fault was found is not checked.
+use Rattle.std.proofs.Common.{◌≡◌, ◌≢◌, true, Option, Some, None, refl}
+use Rattle.adya_terms.specs.declared.fault.CheckFault.{CheckFault}
+use Rattle.adya_terms.specs.declared.fault.CheckFault.TheVariants.{Malformed, AbortedRead, IntermediateRead, Memory}
+use Rattle.adya_terms.specs.Histories.{History}
+use Rattle.adya_terms.specs.Shapes.{is_shape}
+use Rattle.adya_terms.specs.Acceptance.{IsChecked}
+use Rattle.adya_terms.specs.Faults.{first_fault}
+use Rattle.adya_terms.specs.Checks.{IsFault}
+use Rattle.adya_terms.proofs.Converse.{no_fault_when_checked}
+
+-- a fault that was found is there
+found_is : (found : Option CheckFault) (e : CheckFault) → found ≡ None → IsFault found e → e ≢ Memory → ⊥
+found_is found (Malformed line rule) none is other = cc (none, is)
+found_is found (AbortedRead line version) none is other = cc (none, is)
+found_is found (IntermediateRead line version) none is other = cc (none, is)
+found_is found Memory none is other = other refl
+
+pub refused_when_found : (h : History) → is_shape h.orders h.finals ≡ true → (e : CheckFault) → IsFault (first_fault h) e
+    → e ≢ Memory → IsChecked h → ⊥
+refused_when_found h shape e found other checked =
+    found_is (first_fault h) e (no_fault_when_checked h shape checked) found other
