@@ -41,4 +41,4 @@ returns-in-Ok-clause-line c =
     let tied : slice_cmp nat_cmp y.key k ≡ Equal = ap (λ (o : OrderValue). slice_cmp nat_cmp o.key k) at ∙ by_key y in
     let t = turn order_of ys i y c.in-Ok.ensures.bound at in
     subst (λ j. line_of (map order_of ys) j ≡ y.writers.items) (tied_key y.key k tied)
-      (line_found (map order_of ys) (order_of y) c.requires (Contains-slice_get (map order_of ys) i (order_of y) t.found))
+    (line_found (map order_of ys) (order_of y) c.requires (Contains-slice_get (map order_of ys) i (order_of y) t.found))

@@ -17,8 +17,8 @@ returns-then-has_ended c =
     let aborted = c.requires.aborted_is t in
     let ended : c.has_ended.result ≡ has_ended all t = cc in
     names_broken (unfinished_faults all c.args.first ts) (c.args.first + i) M6 c.broken.result
-      (ap first c.loop-i.invariant ∙ unfinished_here all (c.args.first + i) ts i t c.loop-i-test.true c.index-unfinished-i.is (sym ended ∙ c.if-has_ended.true))
-      c.broken.ensures
+    (ap first c.loop-i.invariant ∙ unfinished_here all (c.args.first + i) ts i t c.loop-i-test.true c.index-unfinished-i.is (sym ended ∙ c.if-has_ended.true))
+    c.broken.ensures
 
 pub loop-i-preserved : goal.loop-i-preserved
 loop-i-preserved c =

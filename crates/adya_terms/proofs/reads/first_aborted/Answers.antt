@@ -12,7 +12,7 @@ returns-then-is_aborted c all us e m holds =
     let test : Entry → Bool = λ x. not (is_not_aborted all us e x) in
     let hit : test (entry_of o) ≡ true = ap (λ b. not (not b)) (sym (c.is_aborted.ensures all us m holds) ∙ c.if-is_aborted.true) in
     subst (λ xs. IsFirst xs (Some o.version)) (sym (c.loop-entry.invariant all us e m holds))
-      (kept_here test entry_of c.args.entries.now c.loop-entry.entry-index o c.loop-entry-test.true c.entry-item.is hit)
+    (kept_here test entry_of c.args.entries.now c.loop-entry.entry-index o c.loop-entry-test.true c.entry-item.is hit)
 
 pub loop-entry-preserved : goal.loop-entry-preserved
 loop-entry-preserved c all us e m holds =

@@ -12,8 +12,8 @@ returns-then-not-was_written c before m =
     let o = c.entry-item.result in
     let test : Entry → Bool = λ x. list_any (entry_eq x) (filter_map written before) in
     sym (c.loop-entry.invariant before m ∙
-      list_all_fails test entry_of c.args.entries.now c.loop-entry.entry-index o c.loop-entry-test.true c.entry-item.is
-      (sym (c.was_written.ensures ∙ m.written_is (entry_of o)) ∙ c.if-not-was_written.true))
+    list_all_fails test entry_of c.args.entries.now c.loop-entry.entry-index o c.loop-entry-test.true c.entry-item.is
+    (sym (c.was_written.ensures ∙ m.written_is (entry_of o)) ∙ c.if-not-was_written.true))
 
 pub loop-entry-preserved : goal.loop-entry-preserved
 loop-entry-preserved c before m =
