@@ -1,10 +1,10 @@
 -- A line is exact where each of its writers belongs there and no committed write of its key is left out.
-use Rattle.std.proofs.Common.{◌≡◌, ℕ, zero, suc, ◌+◌, ◌<◌, ◌==◌, Bool, true, false, cond, not, is_some, ◌&&◌, List, [], ◌∷◌, Some, map, refl, sym, ◌∙◌, ap, subst, inl, inr, arith}
+use Rattle.std.proofs.Common.{◌≡◌, ℕ, zero, suc, ◌+◌, Bool, true, false, cond, not, is_some, ◌&&◌, List, [], ◌∷◌, map, refl, sym, ◌∙◌, ap, inl, inr, arith}
 use Rattle.std.specs.List.{filter_map, list_all, list_any, Contains}
 use Rattle.std.proofs.lemmas.Bool.{cases_Bool, cases_lt, both_ways, and_parts, and_from, eqb-true, eq-eqb}
 use Rattle.std.proofs.lemmas.List.Sums.{sum_by-cons}
-use Rattle.adya_terms.specs.Keys.{key_eq, keys_rise}
-use Rattle.adya_terms.specs.Histories.{Entry, Event, Order}
+use Rattle.adya_terms.specs.Keys.{keys_rise}
+use Rattle.adya_terms.specs.Histories.{Event, Order}
 use Rattle.adya_terms.specs.Events.{written, last_write, is_committed}
 use Rattle.adya_terms.specs.Rules.{installs}
 use Rattle.adya_terms.specs.Faults.{lists_exactly}

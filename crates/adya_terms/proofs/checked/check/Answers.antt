@@ -1,4 +1,4 @@
-use Rattle.std.proofs.Common.{◌≡◌, ℕ, ◌+◌, ◌∙◌, sym, ap, subst, map, length, [], arith}
+use Rattle.std.proofs.Common.{◌≡◌, ◌+◌, ◌∙◌, ap, subst, length, [], arith}
 use Rattle.std.proofs.lemmas.List.{length-map}
 use Rattle.adya_terms.specs.Histories.{event_of}
 use Rattle.adya_terms.specs.Faults.{malformed, unfinished_faults, unfinished_line, orders_line}

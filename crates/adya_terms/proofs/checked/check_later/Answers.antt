@@ -1,4 +1,4 @@
-use Rattle.std.proofs.Common.{◌≡◌, ◌+◌, ◌∙◌, sym, ap, map, length, Some, ◌++◌, false, true, []}
+use Rattle.std.proofs.Common.{◌≡◌, ◌+◌, ◌∙◌, sym, ap, length, Some, []}
 use Rattle.std.proofs.lemmas.List.{length-map}
 use Rattle.adya_terms.specs.declared.fault.Rule.TheVariants.{M7, M8}
 use Rattle.adya_terms.specs.declared.fault.CheckFault.TheVariants.{Malformed}

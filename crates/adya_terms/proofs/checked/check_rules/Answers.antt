@@ -1,4 +1,4 @@
-use Rattle.std.proofs.Common.{◌≡◌, ◌+◌, ◌++◌, ◌∙◌, sym, ap, subst, map, length, [], MatchResult, Some}
+use Rattle.std.proofs.Common.{◌≡◌, ◌+◌, ◌++◌, ◌∙◌, sym, ap, subst, length, [], MatchResult}
 use Rattle.std.proofs.lemmas.List.{length-map}
 use Rattle.adya_terms.specs.declared.fault.Rule.TheVariants.{M6}
 use Rattle.adya_terms.specs.declared.fault.CheckFault.TheVariants.{Malformed}

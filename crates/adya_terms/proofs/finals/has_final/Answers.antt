@@ -1,4 +1,4 @@
-use Rattle.std.proofs.Common.{◌≡◌, ◌∙◌, sym, ap, map, true, get_or, Equal, rules}
+use Rattle.std.proofs.Common.{◌≡◌, ◌∙◌, sym, ap, map, true, rules}
 use Rattle.std.proofs.lemmas.Simd.{map-map}
 use Rattle.std.proofs.lemmas.List.Sorted.{answers_always}
 use Rattle.adya_terms.specs.declared.order.FinalPair.{FinalPair as FinalValue}

@@ -1,4 +1,4 @@
-use Rattle.std.proofs.Common.{◌≡◌, ◌+◌, ◌∙◌, sym, ap, map, drop}
+use Rattle.std.proofs.Common.{◌≡◌, ◌+◌, ◌∙◌, sym, ap, map}
 use Rattle.adya_terms.specs.declared.fault.Rule.TheVariants.{M7}
 use Rattle.adya_terms.specs.Histories.{event_of, order_of}
 use Rattle.adya_terms.specs.Rules.{installs}

@@ -1,4 +1,4 @@
-use Rattle.std.proofs.Common.{◌≡◌, ℕ, ◌+◌, cond, ◌∷◌, ◌++◌, [], Some, take, length, arith, sym, ◌∙◌, ap, subst}
+use Rattle.std.proofs.Common.{◌≡◌, ◌+◌, cond, ◌∷◌, ◌++◌, [], Some, take, sym, ◌∙◌, ap, subst}
 use Rattle.std.specs.Ordering.{is_eq}
 use Rattle.std.specs.BTreeMap.{get}
 use Rattle.std.proofs.lemmas.List.{take_more, take_all}

@@ -2,7 +2,6 @@ use Rattle.std.proofs.Common.{◌≡◌, ◌+◌, ◌||◌, cond, true, false, m
 use Rattle.std.proofs.Math.Bool.{or-false}
 use Rattle.std.specs.List.{filter_map, list_any}
 use Rattle.std.specs.BTreeSet.{contains}
-use Rattle.std.specs.Ordering.{is_eq}
 use Rattle.std.specs.Cmp.Lexicographic.{slice_cmp, texts_ties}
 use Rattle.adya_terms.specs.declared.key.Key.{Key}
 use Rattle.adya_terms.specs.Keys.{key_eq}

@@ -1,4 +1,4 @@
-use Rattle.std.proofs.Common.{◌≡◌, ◌∙◌, sym, ap, map, true, false}
+use Rattle.std.proofs.Common.{◌≡◌, ◌∙◌, sym, ap}
 use Rattle.adya_terms.specs.Histories.{event_of}
 use Rattle.adya_terms.specs.Events.{txn_of, is_committed}
 use Rattle.adya_terms.specs.Checks.{is_not_aborted}

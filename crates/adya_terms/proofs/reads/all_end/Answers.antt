@@ -1,7 +1,7 @@
-use Rattle.std.proofs.Common.{◌≡◌, ◌∙◌, sym, ap, map, true, false, ◌||◌, ◌==◌}
+use Rattle.std.proofs.Common.{◌≡◌, ◌∙◌, sym, ap, map, ◌||◌, ◌==◌}
 use Rattle.std.specs.List.{list_any}
 use Rattle.adya_terms.specs.Histories.{event_of}
-use Rattle.adya_terms.specs.Events.{txn_of, has_ended}
+use Rattle.adya_terms.specs.Events.{has_ended}
 use Rattle.adya_terms.specs.Checks.{ends}
 use Rattle.adya_terms.proofs.Steps.{list_all_fails}
 use Rattle.adya_terms.proofs.Turns.{list_all_goes}

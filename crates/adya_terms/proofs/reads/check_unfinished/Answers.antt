@@ -1,8 +1,7 @@
-use Rattle.std.proofs.Common.{◌≡◌, ◌+◌, ◌∙◌, sym, ap, map, true, false, ◌||◌}
-use Rattle.std.specs.List.{list_any}
+use Rattle.std.proofs.Common.{◌≡◌, ◌+◌, ◌∙◌, sym, ap, map}
 use Rattle.adya_terms.specs.declared.fault.Rule.TheVariants.{M6}
 use Rattle.adya_terms.specs.Histories.{event_of}
-use Rattle.adya_terms.specs.Events.{is_committed, has_ended, aborts}
+use Rattle.adya_terms.specs.Events.{has_ended}
 use Rattle.adya_terms.specs.Faults.{first, unfinished_faults}
 use Rattle.adya_terms.proofs.Firsts.{names_broken, unfinished_here, unfinished_later}
 use Rattle.adya_terms.proofs.reads.check_unfinished.Goals as goal

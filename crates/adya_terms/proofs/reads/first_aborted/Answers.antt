@@ -1,5 +1,4 @@
-use Rattle.std.proofs.Common.{◌≡◌, ◌∙◌, sym, ap, map, not, true, false, subst, drop, filter}
-use Rattle.std.specs.List.{list_any}
+use Rattle.std.proofs.Common.{◌≡◌, ◌∙◌, sym, ap, not, true, false, subst}
 use Rattle.adya_terms.specs.Histories.{Entry, entry_of}
 use Rattle.adya_terms.specs.Checks.{IsFirst, is_not_aborted}
 use Rattle.adya_terms.proofs.Refused.{kept_here, kept_later}

@@ -1,4 +1,4 @@
-use Rattle.std.proofs.Common.{◌≡◌, ◌∙◌, sym, ap, map, true, false, refl}
+use Rattle.std.proofs.Common.{◌≡◌, ◌∙◌, sym, ap, map, refl}
 use Rattle.adya_terms.specs.Histories.{Read, event_of, value_of}
 use Rattle.adya_terms.specs.Events.{txn_of, is_committed}
 use Rattle.adya_terms.specs.Checks.{is_own_or_last}

@@ -1,4 +1,4 @@
-use Rattle.std.proofs.Common.{◌≡◌, ◌∙◌, sym, ap, ◌||◌, ◌==◌, false}
+use Rattle.std.proofs.Common.{◌≡◌, ◌∙◌, sym, ap, ◌||◌, ◌==◌}
 use Rattle.std.specs.List.{list_any}
 use Rattle.adya_terms.specs.Events.{has_ended}
 use Rattle.adya_terms.proofs.reads.is_done.Goals as goal

@@ -1,4 +1,4 @@
-use Rattle.std.proofs.Common.{◌≡◌, ◌∙◌, sym, map, false, true, Bool}
+use Rattle.std.proofs.Common.{◌∙◌, sym, Bool}
 use Rattle.std.specs.List.{filter_map, list_any}
 use Rattle.adya_terms.specs.Histories.{Entry, entry_of}
 use Rattle.adya_terms.specs.Events.{written}

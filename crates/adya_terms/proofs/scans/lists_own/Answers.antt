@@ -1,14 +1,11 @@
-use Rattle.std.proofs.Common.{◌≡◌, ℕ, ◌∙◌, sym, ap, map, not, true, false, ◌||◌, ◌&&◌, refl, Bool, Some, List, Ordering}
+use Rattle.std.proofs.Common.{◌≡◌, ℕ, ◌∙◌, sym, ap, map, not, false, ◌&&◌, Bool, Some}
 use Rattle.std.specs.List.{filter_map, list_all}
-use Rattle.std.specs.Ordering.{is_gt, is_lt, nat_cmp, ordering_reverse, ordering_then}
-use Rattle.std.specs.Cmp.Lexicographic.{slice_cmp}
 use Rattle.std.proofs.lemmas.Bool.{or_left}
 use Rattle.adya_terms.specs.declared.tables.Own.{Own}
-use Rattle.adya_terms.specs.Keys.{lies_in}
 use Rattle.adya_terms.specs.Histories.{entry_of, event_of}
-use Rattle.adya_terms.specs.Events.{written, last_write}
+use Rattle.adya_terms.specs.Events.{written}
 use Rattle.adya_terms.specs.Faults.{none_or_lists_only}
-use Rattle.adya_terms.specs.Tables.{own, own_cmp, written_at}
+use Rattle.adya_terms.specs.Tables.{written_at}
 use Rattle.adya_terms.proofs.Lists.{list_all_when}
 use Rattle.adya_terms.proofs.Selected.{nothing_between, scan_shows, runs_forward}
 use Rattle.adya_terms.proofs.scans.lists_own.Goals as goal

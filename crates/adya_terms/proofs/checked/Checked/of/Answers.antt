@@ -1,4 +1,4 @@
-use Rattle.std.proofs.Common.{◌≡◌, ap, is_none}
+use Rattle.std.proofs.Common.{ap, is_none}
 use Rattle.adya_terms.proofs.Parts.{found_whole, faultless_whole}
 use Rattle.adya_terms.proofs.Checking.{checked_when_no_fault}
 use Rattle.adya_terms.specs.Values.{history_of}
