@@ -1,10 +1,10 @@
 -- A line is exact where each of its writers belongs there and no committed write of its key is left out.
-use Rattle.std.proofs.Common.{◌≡◌, ℕ, zero, suc, ◌+◌, ◌<◌, ◌==◌, Bool, true, false, cond, not, is_some, ◌&&◌, List, [], ◌∷◌, Some, map, refl, sym, ◌∙◌, ap, subst, inl, inr, arith}
+use Rattle.std.proofs.Common.{◌≡◌, ℕ, zero, suc, ◌+◌, Bool, true, false, cond, not, is_some, ◌&&◌, List, [], ◌∷◌, map, refl, sym, ◌∙◌, ap, inl, inr, arith}
 use Rattle.std.specs.List.{filter_map, list_all, list_any, Contains}
 use Rattle.std.proofs.lemmas.Bool.{cases_Bool, cases_lt, both_ways, and_parts, and_from, eqb-true, eq-eqb}
 use Rattle.std.proofs.lemmas.List.Sums.{sum_by-cons}
-use Rattle.adya_terms.specs.Keys.{key_eq, keys_rise}
-use Rattle.adya_terms.specs.Histories.{Entry, Event, Order}
+use Rattle.adya_terms.specs.Keys.{keys_rise}
+use Rattle.adya_terms.specs.Histories.{Event, Order}
 use Rattle.adya_terms.specs.Events.{written, last_write, is_committed}
 use Rattle.adya_terms.specs.Rules.{installs}
 use Rattle.adya_terms.specs.Faults.{lists_exactly}
@@ -39,14 +39,14 @@ listed_line (x ∷ os) o t r (zero, l, e) =
     let k : x.key ≡ o.key = ap (λ (y : Order). y.key) e in
     let rest = none_listed os t o.key (λ y c same. key_lt-apart x.key y.key (rises_below (λ (z : Order). z.key) x os y r c) (k ∙ same)) in
     let here : listed_by t o.key x ≡ count o.writers t =
-      ap (λ b. cond b (count x.writers t) 0) (same_key x.key o.key k) ∙ ap (λ (y : Order). count y.writers t) e in
+    ap (λ b. cond b (count x.writers t) 0) (same_key x.key o.key k) ∙ ap (λ (y : Order). count y.writers t) e in
     let cons = listed_cons x os t o.key in
     omega (arith, cons, here, rest)
 listed_line (x ∷ os) o t r (suc i, l, e) =
     let c : Contains os o = (i, omega (arith, l), e) in
     let rest = listed_line os o t (keys_rise-tail x.key (map (λ y. y.key) os) r) c in
     let here : listed_by t o.key x ≡ 0 =
-      ap (λ b. cond b (count x.writers t) 0) (other_key x.key o.key (key_lt-apart _ _ (rises_below (λ (y : Order). y.key) x os o r c))) in
+    ap (λ b. cond b (count x.writers t) 0) (other_key x.key o.key (key_lt-apart _ _ (rises_below (λ (y : Order). y.key) x os o r c))) in
     let cons = listed_cons x os t o.key in
     omega (arith, cons, here, rest)
 
@@ -58,7 +58,7 @@ left_out all os k t i none =
     let last = some_of (last_write t k all) both.1 in
     let w = last_write_from t k all last.0 last.1 in
     let zero_is : listed os last.0.version.txn last.0.version.key ≡ 0 =
-      ap (λ u. listed os u last.0.version.key) w.txn_is ∙ (ap (listed os t) w.key_is ∙ none) in
+    ap (λ u. listed os u last.0.version.key) w.txn_is ∙ (ap (listed os t) w.key_is ∙ none) in
     list_any_when (is_unlisted all os k) (filter_map written all) last.0 w.there
     (and_from _ _ (ap (is_committed all) w.txn_is ∙ both.0) (and_from _ _ (eq-eqb _ _ zero_is) (same_key last.0.version.key k w.key_is)))
 
@@ -73,8 +73,8 @@ none_out all os k right out =
     let j : w.version.key ≡ k = key_same w.version.key k rest.1 in
     let none : listed os w.version.txn k ≡ 0 = ap (listed os w.version.txn) (sym j) ∙ eqb-true _ _ rest.0 in
     let last : is_some (last_write w.version.txn k all) ≡ true =
-      ap (λ i. is_some (last_write w.version.txn i all)) (sym j) ∙
-      some_from_not_none (last_write w.version.txn w.version.key all) (last_write_there all w at.1) in
+    ap (λ i. is_some (last_write w.version.txn i all)) (sym j) ∙
+    some_from_not_none (last_write w.version.txn w.version.key all) (last_write_there all w at.1) in
     let one : listed os w.version.txn k ≡ 1 = right w.version.txn ∙ ap (λ b. cond b 1 0) (and_from _ _ both.0 last) in
     omega (arith, none, one)
 
@@ -87,22 +87,22 @@ exact_line all os o r c =
     let out = list_any (is_unlisted all os k) (filter_map written all) in
     same_test (list_all (belongs all os k) xs && not out) (lists_exactly (installs all k) xs all)
     (λ h.
-      let both = and_parts (list_all (belongs all os k) xs) (not out) h in
-      test_from_exactly (installs all k) xs all
-        (λ t. elim (cases_lt 0 (count xs t)) [
-          | inl more ↦
-              let at = count_place xs t more in
-              sym (line t) ∙ eqb-true _ _ (all_pass (belongs all os k) xs t both.0 (Contains-slice_get xs at.0 t at.1))
-          | inr none ↦
-              let zero_is : count xs t ≡ 0 = omega (arith, none) in
-              elim (cases_Bool (installs all k t)) [
-                | inl i ↦ absurd (both_ways (not out) (ap not (left_out all os k t i (line t ∙ zero_is))) both.1)
-                | inr i ↦ zero_is ∙ ap (λ b. cond b 1 0) (sym i)
-              ]
-        ]))
+    let both = and_parts (list_all (belongs all os k) xs) (not out) h in
+    test_from_exactly (installs all k) xs all
+    (λ t. elim (cases_lt 0 (count xs t)) [
+      | inl more ↦
+          let at = count_place xs t more in
+          sym (line t) ∙ eqb-true _ _ (all_pass (belongs all os k) xs t both.0 (Contains-slice_get xs at.0 t at.1))
+      | inr none ↦
+          let zero_is : count xs t ≡ 0 = omega (arith, none) in
+          elim (cases_Bool (installs all k t)) [
+            | inl i ↦ absurd (both_ways (not out) (ap not (left_out all os k t i (line t ∙ zero_is))) both.1)
+            | inr i ↦ zero_is ∙ ap (λ b. cond b 1 0) (sym i)
+          ]
+    ]))
     (λ h.
-      let right : (t : ℕ) → count xs t ≡ cond (installs all k t) 1 0 =
-        exactly_from_test (installs all k) xs all (λ t i. committed_source all t (and_parts (is_committed all t) (is_some (last_write t k all)) i).0) h in
-      let counted : (t : ℕ) → listed os t k ≡ cond (installs all k t) 1 0 = λ t. line t ∙ right t in
-      and_from _ _ (list_all_when (belongs all os k) xs (λ t d. eq-eqb _ _ (counted t)))
-        (elim (cases_Bool out) [ inl t ↦ absurd (none_out all os k counted t) | inr f ↦ ap not f ]))
+    let right : (t : ℕ) → count xs t ≡ cond (installs all k t) 1 0 =
+    exactly_from_test (installs all k) xs all (λ t i. committed_source all t (and_parts (is_committed all t) (is_some (last_write t k all)) i).0) h in
+    let counted : (t : ℕ) → listed os t k ≡ cond (installs all k t) 1 0 = λ t. line t ∙ right t in
+    and_from _ _ (list_all_when (belongs all os k) xs (λ t d. eq-eqb _ _ (counted t)))
+    (elim (cases_Bool out) [ inl t ↦ absurd (none_out all os k counted t) | inr f ↦ ap not f ]))

@@ -1,6 +1,6 @@
 -- How often lines list a transaction, writer by writer and line by line.
-use Rattle.std.proofs.Common.{◌≡◌, ℕ, zero, suc, ◌+◌, ◌==◌, Bool, true, false, cond, not, is_some, ◌&&◌, ◌||◌, List, [], ◌∷◌, ◌++◌, Option, Some, None, take, refl, sym, ◌∙◌, ap, subst, inl, inr, arith}
-use Rattle.std.specs.List.{count_by, cons_option, filter_map, list_any}
+use Rattle.std.proofs.Common.{◌≡◌, ℕ, zero, suc, ◌+◌, ◌==◌, Bool, true, false, cond, not, is_some, ◌&&◌, ◌||◌, List, [], ◌∷◌, ◌++◌, Option, Some, None, refl, sym, ◌∙◌, ap, inl, inr, arith}
+use Rattle.std.specs.List.{cons_option, filter_map, list_any}
 use Rattle.std.specs.Ordering.{is_eq}
 use Rattle.std.proofs.lemmas.Bool.{cases_Bool, and_parts, eqb-true, ne_eqb}
 use Rattle.std.proofs.Math.Bool.{not-not, or-false, or-true}
@@ -43,23 +43,23 @@ list_next g g' u key xs n old new t k =
     let hit = (u == t) && key_eq key k in
     let before = n t k + cond (key_eq key k) (count xs t) 0 in
     let counted : cond (key_eq key k) (count (xs ++ u ∷ []) t) 0 ≡ cond (key_eq key k) (count xs t) 0 + cond hit 1 0 =
-      ap (λ m. cond (key_eq key k) m 0) (count_more xs u t) ∙ tally (u == t) (key_eq key k) (count xs t) in
+    ap (λ m. cond (key_eq key k) m 0) (count_more xs u t) ∙ tally (u == t) (key_eq key k) (count xs t) in
     let now : n t k + cond (key_eq key k) (count (xs ++ u ∷ []) t) 0 ≡ before + cond hit 1 0 = omega (arith, counted) in
     let at : g' (own t k) ≡ cond hit (Some (once_more (g (own u key)))) (g (own t k)) =
-      new (own t k) ∙ ap (λ b. cond b (Some (once_more (g (own u key)))) (g (own t k))) (sym (own_tied u key t k)) in
+    new (own t k) ∙ ap (λ b. cond b (Some (once_more (g (own u key)))) (g (own t k))) (sym (own_tied u key t k)) in
     let same : cond hit (Some (once_more (g (own u key)))) (g (own t k)) ≡ times (before + cond hit 1 0) =
-      elim (cases_Bool hit) [
-        | inl h ↦
-            let both = and_parts _ _ h in
-            let it : own u key ≡ own t k = ap (λ v. own v key) (eqb-true _ _ both.0) ∙ ap (own t) (key_same _ _ both.1) in
-            ap (λ b. cond b (Some (once_more (g (own u key)))) (g (own t k))) h ∙
-            (ap (λ q. Some (once_more (g q))) it ∙
-            (ap (λ o. Some (once_more o)) (old t k) ∙
-            (times_more before ∙ ap (λ b. times (before + cond b 1 0)) (sym h))))
-        | inr h ↦
-            let none : before ≡ before + cond hit 1 0 = rw h (omega arith) in
-            ap (λ b. cond b (Some (once_more (g (own u key)))) (g (own t k))) h ∙ (old t k ∙ ap times none)
-      ] in
+    elim (cases_Bool hit) [
+      | inl h ↦
+          let both = and_parts _ _ h in
+          let it : own u key ≡ own t k = ap (λ v. own v key) (eqb-true _ _ both.0) ∙ ap (own t) (key_same _ _ both.1) in
+          ap (λ b. cond b (Some (once_more (g (own u key)))) (g (own t k))) h ∙
+          (ap (λ q. Some (once_more (g q))) it ∙
+          (ap (λ o. Some (once_more o)) (old t k) ∙
+          (times_more before ∙ ap (λ b. times (before + cond b 1 0)) (sym h))))
+      | inr h ↦
+          let none : before ≡ before + cond hit 1 0 = rw h (omega arith) in
+          ap (λ b. cond b (Some (once_more (g (own u key)))) (g (own t k))) h ∙ (old t k ∙ ap times none)
+    ] in
     at ∙ (same ∙ ap times (sym now))
 
 pub listed_more : (os : List Order) (o : Order) (t : ℕ) (k : List ℕ) → listed (os ++ o ∷ []) t k ≡ listed os t k + listed_by t k o

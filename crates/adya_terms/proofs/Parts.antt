@@ -1,5 +1,5 @@
 -- What the parts of a check say, in the words of the whole.
-use Rattle.std.proofs.Common.{◌≡◌, ℕ, true, List, [], ◌++◌, length, Option, Some, None, is_none, refl, sym, ◌∙◌, ap, subst}
+use Rattle.std.proofs.Common.{◌≡◌, ℕ, true, List, [], ◌++◌, Option, Some, None, is_none, refl, sym, ◌∙◌, ap, subst}
 use Rattle.adya_terms.specs.declared.event.Event.{Event as EventValue}
 use Rattle.adya_terms.specs.declared.order.Order.{Order as OrderValue}
 use Rattle.adya_terms.specs.declared.order.FinalPair.{FinalPair as FinalValue}

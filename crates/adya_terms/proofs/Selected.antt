@@ -1,5 +1,5 @@
 -- What a scan's list has of a key, where its keys rise.
-use Rattle.std.proofs.Common.{◌≡◌, ℕ, zero, suc, ◌⊎◌, Bool, true, false, not, ◌&&◌, ◌||◌, List, [], ◌∷◌, map, Option, Some, None, refl, sym, ◌∙◌, ap, subst, arith, inl, inr}
+use Rattle.std.proofs.Common.{◌≡◌, ℕ, zero, suc, ◌⊎◌, Bool, true, false, not, ◌||◌, List, [], ◌∷◌, map, Option, Some, None, refl, sym, ◌∙◌, ap, subst, arith, inl, inr}
 use Rattle.std.proofs.Common.{Ordering, Less, Equal, Greater}
 use Rattle.std.specs.List.{list_all, list_any, Contains}
 use Rattle.std.specs.List.{filter_map, All}
@@ -56,8 +56,8 @@ found_only es x w r c same =
           let here : Contains es w = subst (Contains es) (entry_same x w t) c in
           t ∙
           sym (and_from _ _
-            (list_any_when (entry_eq w) es x c (same_entry w x (sym (entry_same x w t))))
-            (list_all_when (is_of_key w) es (λ y d. one_of_key es w y r here d)))
+          (list_any_when (entry_eq w) es x c (same_entry w x (sym (entry_same x w t))))
+          (list_all_when (is_of_key w) es (λ y d. one_of_key es w y r here d)))
       | inr f ↦
           elim (cases_Bool (lists_only es w)) [
             | inl t ↦
@@ -167,7 +167,7 @@ module _ (m : BTreeMap Own ℕ) (t : ℕ) (low high : List ℕ) (items : List (O
   item_there : (k : List ℕ) (p : ℕ) → lies_in low high k ≡ true → get own_cmp m (own t k) ≡ Some p → Contains items (own t k, p)
   item_there k p inside g =
       let kept = Contains-filter (λ (e : Own × ℕ). range_contains own_cmp (Included (own t low)) (Included (own t high)) e.0) m.entries (own t k, p)
-        ((btree_map_get_iff own_total own_exact m ordered (own t k) p).0 g) (contained_key t low high k inside) in
+      ((btree_map_get_iff own_total own_exact m ordered (own t k) p).0 g) (contained_key t low high k inside) in
       subst (λ xs. Contains xs (own t k, p)) (sym between) kept
 
   module _ (all before : List Event) (es : List Entry) (last_is : (u : ℕ) (k : List ℕ) → written_at all (get own_cmp m (own u k)) ≡ last_write u k before) where
@@ -237,8 +237,8 @@ pub scan_shows : (m : BTreeMap Own ℕ) (t : ℕ) (low high : List ℕ) (items :
 scan_shows m t low high items a b from to between ordered in_range all before es last_is =
     range_shows m t low high items
     (subst (λ q. items ≡ entries_between own_cmp (Included (own t low)) (Included q) m.entries) to
-      (subst (λ q. items ≡ entries_between own_cmp (Included q) (Included b) m.entries) from between))
+    (subst (λ q. items ≡ entries_between own_cmp (Included q) (Included b) m.entries) from between))
     ordered
     (subst (λ q. All (IsEntryInRange own_cmp (Included (own t low)) (Included q) m) items) to
-      (subst (λ q. All (IsEntryInRange own_cmp (Included q) (Included b) m) items) from in_range))
+    (subst (λ q. All (IsEntryInRange own_cmp (Included q) (Included b) m) items) from in_range))
     all before es last_is

@@ -3,7 +3,7 @@ use Rattle.std.proofs.Common.{◌≡◌, ℕ, suc, ◌+◌, ◌≤◌, ◌==◌,
 use Rattle.std.specs.List.{filter_map, cons_option, list_any}
 use Rattle.std.specs.Option.{IsSome}
 use Rattle.std.specs.Ordering.{is_eq, nat_cmp}
-use Rattle.std.specs.Cmp.{both_tied, unsigned_tied, IsEquivalence}
+use Rattle.std.specs.Cmp.{both_tied, unsigned_tied}
 use Rattle.std.specs.Cmp.Lexicographic.{slice_cmp, texts_ties}
 use Rattle.std.proofs.lemmas.Cmp.{nat_list_eq_equiv, nat_eq_equiv}
 use Rattle.std.proofs.lemmas.Bool.{cases_Bool, and_parts, and_from, eqb-true, eq-eqb}
@@ -65,7 +65,7 @@ pub tell_quiet : (c a : ℕ → Bool) (l : Own → Option ℕ) (v : Version → 
     → Tell c' a' l v all (before ++ e ∷ [])
 tell_quiet c a l v all before m e w c' a' hc ha =
     let same : filter_map written (before ++ e ∷ []) ≡ filter_map written before =
-      written_more before e ∙ (ap (λ o. filter_map written before ++ cons_option o []) w ∙ append-nil (filter_map written before)) in
+    written_more before e ∙ (ap (λ o. filter_map written before ++ cons_option o []) w ∙ append-nil (filter_map written before)) in
     record {
       committed_is = λ t. hc t ∙ (ap (λ b. b || commits t e) (m.committed_is t) ∙ sym (any_more (commits t) before e));
       aborted_is = λ t. ha t ∙ (ap (λ b. b || aborts t e) (m.aborted_is t) ∙ sym (any_more (aborts t) before e));
@@ -144,12 +144,12 @@ counted_next before e w h next n p r old s =
           let v = w.version in
           let own : is_of v.txn v.key w ≡ true = and_from _ _ (eq-eqb v.txn v.txn refl) (same_key v.key v.key refl) in
           let long : length (writes_of v.txn v.key (before ++ e ∷ [])) ≡ length (writes_of v.txn v.key before) + 1 =
-            ap length (writes_hit before e w h v.txn v.key own) ∙ length-append (writes_of v.txn v.key before) (w ∷ []) in
+          ap length (writes_hit before e w h v.txn v.key own) ∙ length-append (writes_of v.txn v.key before) (w ∷ []) in
           subst (λ (q : Version). q.m ≤ length (writes_of q.txn q.key (before ++ e ∷ []))) (version_same v r hit) (omega (arith, next, long))
       | inr miss ↦
           let o : r.m ≤ length (writes_of r.txn r.key before) = old (subst (λ b. IsSome (cond b (Some n) p)) miss s) in
           let long : length (writes_of r.txn r.key (before ++ e ∷ [])) ≡ length (writes_of r.txn r.key before) + length (cond (is_of r.txn r.key w) (w ∷ []) []) =
-            ap length (writes_of_one before e w h r.txn r.key) ∙ length-append (writes_of r.txn r.key before) (cond (is_of r.txn r.key w) (w ∷ []) []) in
+          ap length (writes_of_one before e w h r.txn r.key) ∙ length-append (writes_of r.txn r.key before) (cond (is_of r.txn r.key w) (w ∷ []) []) in
           omega (arith, o, long)
     ]
 
@@ -163,11 +163,11 @@ written_next : (all before : List Event) (n : ℕ) (e : Event) (w : Entry) → W
     → is_there o (written_at all (cond (version_eq w.version o.version) (Some n) p)) ≡ list_any (entry_eq o) (filter_map written (before ++ e ∷ []))
 written_next all before n e w s next p o old counted =
     let more : list_any (entry_eq o) (filter_map written (before ++ e ∷ [])) ≡ (list_any (entry_eq o) (filter_map written before) || entry_eq o w) =
-      ap (list_any (entry_eq o)) (written_one before e w s.wrote) ∙ any_more (entry_eq o) (filter_map written before) w in
+    ap (list_any (entry_eq o)) (written_one before e w s.wrote) ∙ any_more (entry_eq o) (filter_map written before) w in
     elim (cases_Bool (version_eq w.version o.version)) [
       | inl hit ↦
           let here : o.version.m ≡ suc (length (writes_of o.version.txn o.version.key before)) =
-            subst (λ (q : Version). q.m ≡ suc (length (writes_of q.txn q.key before))) (version_same w.version o.version hit) next in
+          subst (λ (q : Version). q.m ≡ suc (length (writes_of q.txn q.key before))) (version_same w.version o.version hit) next in
           let none : p ≡ None = absent p (λ is. omega (arith, here, counted is)) in
           let new : list_any (entry_eq o) (filter_map written before) ≡ false = sym (ap (λ q. is_there o (written_at all q)) (sym none) ∙ old) in
           ap (λ b. is_there o (written_at all (cond b (Some n) p))) hit ∙
@@ -184,15 +184,15 @@ pub tell_write : (c a : ℕ → Bool) (l : Own → Option ℕ) (v : Version → 
     → ((q : Version) → v' q ≡ cond (is_eq (version_cmp w.version q)) (Some n) (v q)) → Tell c a l' v' all (before ++ e ∷ [])
 tell_write c a l v all before m n e w s next l' v' hl hv =
     let last_at : (t : ℕ) (k : List ℕ) → l' (own t k) ≡ cond (is_of t k w) (Some n) (l (own t k)) =
-      λ t k. hl (own t k) ∙ ap (λ b. cond b (Some n) (l (own t k))) (sym (own_tied w.version.txn w.version.key t k)) in
+    λ t k. hl (own t k) ∙ ap (λ b. cond b (Some n) (l (own t k))) (sym (own_tied w.version.txn w.version.key t k)) in
     let version_at : (r : Version) → v' r ≡ cond (version_eq w.version r) (Some n) (v r) =
-      λ r. hv r ∙ ap (λ b. cond b (Some n) (v r)) (sym (version_tied w.version r)) in
+    λ r. hv r ∙ ap (λ b. cond b (Some n) (v r)) (sym (version_tied w.version r)) in
     record {
       committed_is = λ t. m.committed_is t ∙ sym (any_more (commits t) before e ∙ (ap (λ b. is_committed before t || b) (s.commits_none t) ∙ or-false _));
       aborted_is = λ t. m.aborted_is t ∙ sym (any_more (aborts t) before e ∙ (ap (λ b. list_any (aborts t) before || b) (s.aborts_none t) ∙ or-false _));
       last_is = λ t k. ap (written_at all) (last_at t k) ∙ last_next all before n e w s (l (own t k)) t k (m.last_is t k);
       written_is = λ o. ap (λ p. is_there o (written_at all p)) (version_at o.version) ∙
-        written_next all before n e w s next (v o.version) o (m.written_is o) (m.counted o.version);
+          written_next all before n e w s next (v o.version) o (m.written_is o) (m.counted o.version);
       number_is = λ t k. number_next before e w s.wrote next t k (m.number_is t k);
       counted = λ r is. counted_next before e w s.wrote next n (v r) r (m.counted r) (subst IsSome (version_at r) is);
     }

@@ -17,7 +17,7 @@ use Rattle.adya_terms.specs.declared.listed.Times.TheVariants.{Once, More}
 use Rattle.adya_terms.specs.Keys.{key_eq}
 use Rattle.adya_terms.specs.Histories.{Entry, Event, Order, History, event_of, order_of, final_of}
 use Rattle.adya_terms.specs.declared.edition.Edition.TheVariants.{One, Two}
-use Rattle.adya_terms.specs.Events.{txn_of, observed, written, is_committed, has_ended, aborts, last_write}
+use Rattle.adya_terms.specs.Events.{txn_of, observed, is_committed, has_ended, aborts, last_write}
 use Rattle.adya_terms.specs.Rules.{installs}
 use Rattle.adya_terms.specs.Faults.{entry_eq, first, is_entry, fault_unless, aborted_reads, all_end, intermediate_reads, order_faults, has_lines, final_faults, has_finals}
 use Rattle.adya_terms.specs.Tables.{own, own_cmp}

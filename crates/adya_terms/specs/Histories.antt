@@ -1,6 +1,6 @@
 -- Histories as plain values (Adya 1999, section 3.1): what the Rust types hold, with lists for
 -- vectors, and keys and values as their bytes.
-use Rattle.std.specs.Prelude.{ℕ, List, [], map, take}
+use Rattle.std.specs.Prelude.{ℕ, List, map, take}
 use Rattle.adya_terms.specs.declared.value.Value.{Value}
 use Rattle.adya_terms.specs.declared.event.Version.{Version}
 use Rattle.adya_terms.specs.declared.edition.Edition.{Edition}

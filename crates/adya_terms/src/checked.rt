@@ -29,14 +29,18 @@ impl<'a> Checked<'a> {
     /// Checks the history: its first fault, in the order of kinds, lines and rules, or `CheckFault::Memory` where
     /// memory runs out, which says nothing of the history.
     pub fn of(alloc: Global, history: &'a History) -> Result<Checked<'a>, CheckFault>
-        ensures found {
-            MatchResult result (λ c. first_fault (history_of history.now) ≡ None)
-                (IsFault (first_fault (history_of history.now)))
-        }
+        ensures found { MatchResult result (λ c. first_fault (history_of history.now) ≡ None)
+            (IsFault (first_fault (history_of history.now))) }
         ensures same { IfOk result (λ c. c.history.now ≡ history.now) }
         ensures checked { IfOk result (λ c. IsChecked (history_of c.history.now)) }
     {
-        if let Err(fault) = check(alloc, history.events(), history.unfinished(), history.orders(), history.finals()) {
+        if let Err(fault) = check(
+            alloc,
+            history.events(),
+            history.unfinished(),
+            history.orders(),
+            history.finals(),
+        ) {
             return Err(fault);
         }
         Ok(Checked { history })
@@ -61,10 +65,8 @@ fn check(
 ) -> Result<(), CheckFault>
     requires orders_rise { keys_rise (map (λ o. o.key) (map order_of orders.now)) ≡ true }
     requires finals_rise { keys_rise (map (λ f. f.key) (map final_of finals.now)) ≡ true }
-    ensures {
-        let faults = check_faults (whole events.now unfinished.now orders.now finals.now) in
-        MatchResult result (λ u. faults ≡ []) (Names faults)
-    }
+    ensures { let faults = check_faults (whole events.now unfinished.now orders.now finals.now) in
+        MatchResult result (λ u. faults ≡ []) (Names faults) }
 {
     let tables = match tables_of(alloc, events) {
         Ok(tables) => tables,
@@ -86,14 +88,16 @@ fn check(
 }
 
 /// G1a and G1b.
-fn check_reads(tables: &Tables, events: &[Event], unfinished: &BTreeSet<Txn>) -> Result<(), CheckFault>
+fn check_reads(
+    tables: &Tables,
+    events: &[Event],
+    unfinished: &BTreeSet<Txn>,
+) -> Result<(), CheckFault>
     requires { Means tables.now (map event_of events.now) (map event_of events.now) }
-    ensures {
-        (us : List ℕ)
-            → Holds unfinished.now us
-            → let faults = read_faults (whole events.now us [] []) in
-            MatchResult result (λ u. faults ≡ []) (Names faults)
-    }
+    ensures { (us : List ℕ)
+        → Holds unfinished.now us
+        → let faults = read_faults (whole events.now us [] []) in
+        MatchResult result (λ u. faults ≡ []) (Names faults) }
 {
     if let Err(fault) = check_aborted(tables, events, unfinished) {
         return Err(fault);
@@ -114,12 +118,10 @@ fn check_rules(
     requires tell { Means tables.now (map event_of events.now) (map event_of events.now) }
     requires orders_rise { keys_rise (map (λ o. o.key) (map order_of orders.now)) ≡ true }
     requires finals_rise { keys_rise (map (λ f. f.key) (map final_of finals.now)) ≡ true }
-    ensures {
-        (us : List ℕ)
-            → Holds unfinished.now us
-            → let faults = rule_faults (whole events.now us orders.now finals.now) line in
-            MatchResult result (λ u. faults ≡ []) (Names faults)
-    }
+    ensures { (us : List ℕ)
+        → Holds unfinished.now us
+        → let faults = rule_faults (whole events.now us orders.now finals.now) line in
+        MatchResult result (λ u. faults ≡ []) (Names faults) }
 {
     if !all_end(tables, events, unfinished) {
         return Err(CheckFault::Malformed {
@@ -147,10 +149,8 @@ fn check_later(
     requires tell { Means tables.now (map event_of events.now) (map event_of events.now) }
     requires orders_rise { keys_rise (map (λ o. o.key) (map order_of orders.now)) ≡ true }
     requires finals_rise { keys_rise (map (λ f. f.key) (map final_of finals.now)) ≡ true }
-    ensures {
-        let faults = later_faults (parts events.now orders.now finals.now) line in
-        MatchResult result (λ u. faults ≡ []) (Names faults)
-    }
+    ensures { let faults = later_faults (parts events.now orders.now finals.now) line in
+        MatchResult result (λ u. faults ≡ []) (Names faults) }
 {
     if !has_lines(tables, events, orders) {
         return Err(CheckFault::Malformed {

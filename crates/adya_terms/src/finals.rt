@@ -52,10 +52,8 @@ pub(crate) fn check_finals(
 ) -> Result<(), CheckFault>
     requires tell { Means tables.now (map event_of events.now) (map event_of events.now) }
     requires rise { keys_rise (map (λ o. o.key) (map order_of orders.now)) ≡ true }
-    ensures {
-        let found = faults.final_faults (parts events.now orders.now finals.now) first (map final_of finals.now) in
-        MatchResult result (λ u. found ≡ []) (Names found)
-    }
+    ensures { let found = faults.final_faults (parts events.now orders.now finals.now) first (map final_of finals.now) in
+        MatchResult result (λ u. found ≡ []) (Names found) }
 {
     for (i, pair) in finals.iter().enumerate() {
         if !is_value(last_value(tables, events, orders, pair.key), &pair.value) {
@@ -76,14 +74,21 @@ fn has_final(finals: &[FinalPair], key: Key) -> bool
 }
 
 /// Whether each key whose last version is visible has a final line.
-pub(crate) fn has_finals(tables: &Tables, events: &[Event], orders: &[Order], finals: &[FinalPair]) -> bool
+pub(crate) fn has_finals(
+    tables: &Tables,
+    events: &[Event],
+    orders: &[Order],
+    finals: &[FinalPair],
+) -> bool
     requires tell { Means tables.now (map event_of events.now) (map event_of events.now) }
     requires orders_rise { keys_rise (map (λ o. o.key) (map order_of orders.now)) ≡ true }
     requires finals_rise { keys_rise (map (λ f. f.key) (map final_of finals.now)) ≡ true }
     ensures { result ≡ faults.has_finals (parts events.now orders.now finals.now) }
 {
     for order in orders {
-        if last_value(tables, events, orders, order.key).is_some() && !has_final(finals, order.key) {
+        if last_value(tables, events, orders, order.key).is_some()
+            && !has_final(finals, order.key)
+        {
             return false;
         }
     }

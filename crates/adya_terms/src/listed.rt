@@ -41,14 +41,12 @@ fn listed(alloc: Global, orders: &[Order]) -> Result<BTreeMap<Own, Times>, Alloc
 
 /// Adds the writers of a line of the key.
 fn list(listed: &mut BTreeMap<Own, Times>, key: Key, writers: &[Txn]) -> Result<(), AllocError>
-    ensures {
-        IfOk result
-            (λ u. (n : ℕ → List ℕ → ℕ)
-                → ((t : ℕ) (k : List ℕ) → get own_cmp listed.old (own t k) ≡ checks.times (n t k))
-                → (t : ℕ) (k : List ℕ)
-                → get own_cmp listed.new (own t k)
-                    ≡ checks.times (n t k + cond (key_eq key k) (count_by (λ u. u == t) writers.now) 0))
-    }
+    ensures { IfOk result
+        (λ u. (n : ℕ → List ℕ → ℕ)
+        → ((t : ℕ) (k : List ℕ) → get own_cmp listed.old (own t k) ≡ checks.times (n t k))
+        → (t : ℕ) (k : List ℕ)
+        → get own_cmp listed.new (own t k)
+        ≡ checks.times (n t k + cond (key_eq key k) (count_by (λ u. u == t) writers.now) 0)) }
 {
     for txn in writers {
         let own = Own { txn: *txn, key };
@@ -74,15 +72,13 @@ fn unlisted(
     events: &[Event],
     listed: &BTreeMap<Own, Times>,
 ) -> Result<BTreeSet<Key>, AllocError>
-    ensures {
-        IfOk result
-            (λ s. (all : List EventValue) (os : List OrderValue)
-                → Means tables.now all all
-                → Lists listed.now os
-                → (k : List ℕ)
-                → contains (slice_cmp nat_cmp) s k
-                    ≡ list_any (checks.is_unlisted all os k) (filter_map written (map event_of events.now)))
-    }
+    ensures { IfOk result
+        (λ s. (all : List EventValue) (os : List OrderValue)
+        → Means tables.now all all
+        → Lists listed.now os
+        → (k : List ℕ)
+        → contains (slice_cmp nat_cmp) s k
+        ≡ list_any (checks.is_unlisted all os k) (filter_map written (map event_of events.now))) }
 {
     let mut keys = BTreeSet::new(alloc);
     for event in events {
@@ -95,13 +91,11 @@ fn unlisted(
 
 /// The key of the event, where it is a committed write that no line of its key lists.
 fn unlisted_key(tables: &Tables, listed: &BTreeMap<Own, Times>, event: &Event) -> Option<Key>
-    ensures {
-        (all : List EventValue) (os : List OrderValue)
-            → Means tables.now all all
-            → Lists listed.now os
-            → (k : List ℕ)
-            → checks.is_this result k ≡ checks.is_some_and (checks.is_unlisted all os k) (written (event_of event.now))
-    }
+    ensures { (all : List EventValue) (os : List OrderValue)
+        → Means tables.now all all
+        → Lists listed.now os
+        → (k : List ℕ)
+        → checks.is_this result k ≡ checks.is_some_and (checks.is_unlisted all os k) (written (event_of event.now)) }
 {
     let Some(Entry { version, .. }) = wrote(event) else {
         return None;
@@ -109,7 +103,10 @@ fn unlisted_key(tables: &Tables, listed: &BTreeMap<Own, Times>, event: &Event) -
     if !tables.has_committed(version.txn) {
         return None;
     }
-    if listed.contains_key(&Own { txn: version.txn, key: version.key }) {
+    if listed.contains_key(&Own {
+        txn: version.txn,
+        key: version.key,
+    }) {
         return None;
     }
     Some(version.key)
@@ -127,16 +124,23 @@ fn fits(times: Option<Times>, wanted: bool) -> bool
 }
 
 /// Whether the key's lines list the transaction once where it is a committed writer of the key, and else not at all.
-fn belongs(tables: &Tables, events: &[Event], listed: &BTreeMap<Own, Times>, key: Key, txn: Txn) -> bool
-    ensures {
-        let all = map event_of events.now in
+fn belongs(
+    tables: &Tables,
+    events: &[Event],
+    listed: &BTreeMap<Own, Times>,
+    key: Key,
+    txn: Txn,
+) -> bool
+    ensures { let all = map event_of events.now in
         (os : List OrderValue)
-            → Means tables.now all all
-            → Lists listed.now os
-            → result ≡ checks.belongs all os key txn
-    }
+        → Means tables.now all all
+        → Lists listed.now os
+        → result ≡ checks.belongs all os key txn }
 {
-    fits(listed.get(&Own { txn, key }).copied(), tables.installs(events, txn, key))
+    fits(
+        listed.get(&Own { txn, key }).copied(),
+        tables.installs(events, txn, key),
+    )
 }
 
 /// Whether that holds of each transaction of the line.
@@ -147,13 +151,11 @@ fn all_belong(
     key: Key,
     writers: &[Txn],
 ) -> bool
-    ensures {
-        let all = map event_of events.now in
+    ensures { let all = map event_of events.now in
         (os : List OrderValue)
-            → Means tables.now all all
-            → Lists listed.now os
-            → result ≡ list_all (checks.belongs all os key) writers.now
-    }
+        → Means tables.now all all
+        → Lists listed.now os
+        → result ≡ list_all (checks.belongs all os key) writers.now }
 {
     for txn in writers {
         if !belongs(tables, events, listed, key, *txn) {
@@ -171,18 +173,16 @@ fn is_exact(
     unlisted: &BTreeSet<Key>,
     order: &Order,
 ) -> bool
-    ensures {
-        let all = map event_of events.now in
+    ensures { let all = map event_of events.now in
         (os : List OrderValue)
-            → Means tables.now all all
-            → Lists listed.now os
-            → ((k : List ℕ)
-                → contains (slice_cmp nat_cmp) unlisted.now k
-                    ≡ list_any (checks.is_unlisted all os k) (filter_map written all))
-            → keys_rise (map (λ o. o.key) os) ≡ true
-            → Contains os (order_of order.now)
-            → result ≡ faults.lists_exactly (installs all order.now.key) order.now.writers.items all
-    }
+        → Means tables.now all all
+        → Lists listed.now os
+        → ((k : List ℕ)
+        → contains (slice_cmp nat_cmp) unlisted.now k
+        ≡ list_any (checks.is_unlisted all os k) (filter_map written all))
+        → keys_rise (map (λ o. o.key) os) ≡ true
+        → Contains os (order_of order.now)
+        → result ≡ faults.lists_exactly (installs all order.now.key) order.now.writers.items all }
 {
     if unlisted.contains(&order.key) {
         return false;
@@ -201,10 +201,8 @@ pub(crate) fn check_orders(
 ) -> Result<(), CheckFault>
     requires tell { Means tables.now (map event_of events.now) (map event_of events.now) }
     requires rise { keys_rise (map (λ o. o.key) (map order_of orders.now)) ≡ true }
-    ensures {
-        let found = faults.order_faults (map event_of events.now) first (map order_of orders.now) in
-        MatchResult result (λ u. found ≡ []) (Names found)
-    }
+    ensures { let found = faults.order_faults (map event_of events.now) first (map order_of orders.now) in
+        MatchResult result (λ u. found ≡ []) (Names found) }
 {
     let Ok(listed) = listed(alloc, orders) else {
         return Err(CheckFault::Memory);
@@ -245,11 +243,9 @@ pub(crate) fn line_of(orders: &[Order], key: Key) -> Option<&Order>
 /// Whether the event's key has a line, where it is a committed write.
 fn has_line(tables: &Tables, orders: &[Order], event: &Event) -> bool
     requires { keys_rise (map (λ o. o.key) (map order_of orders.now)) ≡ true }
-    ensures {
-        (all : List EventValue)
-            → Means tables.now all all
-            → result ≡ checks.passes (checks.has_line all (map order_of orders.now)) (written (event_of event.now))
-    }
+    ensures { (all : List EventValue)
+        → Means tables.now all all
+        → result ≡ checks.passes (checks.has_line all (map order_of orders.now)) (written (event_of event.now)) }
 {
     match wrote(event) {
         None => true,

@@ -33,10 +33,8 @@ pub(crate) fn check_unfinished(
     first: usize,
 ) -> Result<(), CheckFault>
     requires { Means tables.now (map event_of events.now) (map event_of events.now) }
-    ensures {
-        let found = unfinished_faults (map event_of events.now) first unfinished.now in
-        MatchResult result (λ u. found ≡ []) (Names found)
-    }
+    ensures { let found = unfinished_faults (map event_of events.now) first unfinished.now in
+        MatchResult result (λ u. found ≡ []) (Names found) }
 {
     for (i, txn) in unfinished.iter().enumerate() {
         if tables.has_ended(*txn) {
@@ -48,12 +46,10 @@ pub(crate) fn check_unfinished(
 
 /// Whether the transaction has ended or is unfinished.
 fn is_done(tables: &Tables, unfinished: &BTreeSet<Txn>, txn: Txn) -> bool
-    ensures {
-        (all : List EventValue) (us : List ℕ)
-            → Means tables.now all all
-            → Holds unfinished.now us
-            → result ≡ (has_ended all txn || list_any (λ u. u == txn) us)
-    }
+    ensures { (all : List EventValue) (us : List ℕ)
+        → Means tables.now all all
+        → Holds unfinished.now us
+        → result ≡ (has_ended all txn || list_any (λ u. u == txn) us) }
 {
     tables.has_ended(txn) || unfinished.contains(&txn)
 }
@@ -61,10 +57,8 @@ fn is_done(tables: &Tables, unfinished: &BTreeSet<Txn>, txn: Txn) -> bool
 /// Whether each event's transaction has ended or is unfinished.
 pub(crate) fn all_end(tables: &Tables, events: &[Event], unfinished: &BTreeSet<Txn>) -> bool
     requires { Means tables.now (map event_of events.now) (map event_of events.now) }
-    ensures {
-        let all = map event_of events.now in
-        (us : List ℕ) → Holds unfinished.now us → result ≡ list_all (ends all us) all
-    }
+    ensures { let all = map event_of events.now in
+        (us : List ℕ) → Holds unfinished.now us → result ≡ list_all (ends all us) all }
 {
     for event in events {
         if !is_done(tables, unfinished, event.txn()) {
@@ -76,24 +70,20 @@ pub(crate) fn all_end(tables: &Tables, events: &[Event], unfinished: &BTreeSet<T
 
 /// Whether the transaction has aborted or is unfinished.
 fn is_aborted(tables: &Tables, unfinished: &BTreeSet<Txn>, txn: Txn) -> bool
-    ensures {
-        (all : List EventValue) (us : List ℕ)
-            → Means tables.now all all
-            → Holds unfinished.now us
-            → result ≡ (list_any (aborts txn) all || list_any (λ u. u == txn) us)
-    }
+    ensures { (all : List EventValue) (us : List ℕ)
+        → Means tables.now all all
+        → Holds unfinished.now us
+        → result ≡ (list_any (aborts txn) all || list_any (λ u. u == txn) us) }
 {
     tables.has_aborted(txn) || unfinished.contains(&txn)
 }
 
 /// The first version of an aborted or unfinished transaction that is listed.
 fn first_aborted(tables: &Tables, unfinished: &BTreeSet<Txn>, entries: &[Entry]) -> Option<Version>
-    ensures {
-        (all : List EventValue) (us : List ℕ) (e : EventValue)
-            → Means tables.now all all
-            → Holds unfinished.now us
-            → IsFirst (filter (λ o. not (is_not_aborted all us e o)) (map entry_of entries.now)) result
-    }
+    ensures { (all : List EventValue) (us : List ℕ) (e : EventValue)
+        → Means tables.now all all
+        → Holds unfinished.now us
+        → IsFirst (filter (λ o. not (is_not_aborted all us e o)) (map entry_of entries.now)) result }
 {
     for entry in entries {
         if is_aborted(tables, unfinished, entry.version.txn) {
@@ -106,19 +96,20 @@ fn first_aborted(tables: &Tables, unfinished: &BTreeSet<Txn>, entries: &[Entry])
 /// The first version of an aborted or unfinished transaction that the event reads or lists, where its transaction is
 /// committed.
 fn aborted_read(tables: &Tables, unfinished: &BTreeSet<Txn>, event: &Event) -> Option<Version>
-    ensures {
-        (all : List EventValue) (us : List ℕ)
-            → Means tables.now all all
-            → Holds unfinished.now us
-            → IsFirst (refused (is_not_aborted all us) all (event_of event.now)) result
-    }
+    ensures { (all : List EventValue) (us : List ℕ)
+        → Means tables.now all all
+        → Holds unfinished.now us
+        → IsFirst (refused (is_not_aborted all us) all (event_of event.now)) result }
 {
     if !tables.has_committed(event.txn()) {
         return None;
     }
     match event {
         Event::Read { version, value, .. } => {
-            let seen = [Entry { version: *version, content: Content::Live(*value) }];
+            let seen = [Entry {
+                version: *version,
+                content: Content::Live(*value),
+            }];
             first_aborted(tables, unfinished, &seen)
         }
         Event::Scan { entries, .. } => first_aborted(tables, unfinished, entries),
@@ -136,13 +127,11 @@ pub(crate) fn check_aborted(
     unfinished: &BTreeSet<Txn>,
 ) -> Result<(), CheckFault>
     requires { Means tables.now (map event_of events.now) (map event_of events.now) }
-    ensures {
-        let all = map event_of events.now in
+    ensures { let all = map event_of events.now in
         (us : List ℕ)
-            → Holds unfinished.now us
-            → let faults = bad_reads (is_not_aborted all us) CheckFault.AbortedRead all 2 all in
-            MatchResult result (λ u. faults ≡ []) (Names faults)
-    }
+        → Holds unfinished.now us
+        → let faults = bad_reads (is_not_aborted all us) CheckFault.AbortedRead all 2 all in
+        MatchResult result (λ u. faults ≡ []) (Names faults) }
 {
     for (i, event) in events.iter().enumerate() {
         if let Some(version) = aborted_read(tables, unfinished, event) {
@@ -157,13 +146,11 @@ pub(crate) fn check_aborted(
 
 /// Whether the transaction itself wrote the entry, or it is its writer's last write of the key.
 fn is_own_or_last(tables: &Tables, events: &[Event], txn: Txn, seen: &Entry) -> bool
-    ensures {
-        let all = map event_of events.now in
+    ensures { let all = map event_of events.now in
         Means tables.now all all
-            → result
-                ≡ ((seen.now.version.txn == txn)
-                    || is_entry (last_write seen.now.version.txn seen.now.version.key all) (entry_of seen.now))
-    }
+        → result
+        ≡ ((seen.now.version.txn == txn)
+        || is_entry (last_write seen.now.version.txn seen.now.version.key all) (entry_of seen.now)) }
 {
     if seen.version.txn == txn {
         return true;
@@ -175,14 +162,17 @@ fn is_own_or_last(tables: &Tables, events: &[Event], txn: Txn, seen: &Entry) -> 
 }
 
 /// The first version that is listed and is neither the transaction's nor its writer's last of the key.
-fn first_intermediate(tables: &Tables, events: &[Event], txn: Txn, entries: &[Entry]) -> Option<Version>
-    ensures {
-        let all = map event_of events.now in
+fn first_intermediate(
+    tables: &Tables,
+    events: &[Event],
+    txn: Txn,
+    entries: &[Entry],
+) -> Option<Version>
+    ensures { let all = map event_of events.now in
         (e : EventValue)
-            → txn ≡ txn_of e
-            → Means tables.now all all
-            → IsFirst (filter (λ o. not (is_own_or_last all e o)) (map entry_of entries.now)) result
-    }
+        → txn ≡ txn_of e
+        → Means tables.now all all
+        → IsFirst (filter (λ o. not (is_own_or_last all e o)) (map entry_of entries.now)) result }
 {
     for entry in entries {
         if !is_own_or_last(tables, events, txn, entry) {
@@ -195,17 +185,22 @@ fn first_intermediate(tables: &Tables, events: &[Event], txn: Txn, entries: &[En
 /// The first version that the event reads or lists and that is not its writer's last of the key, where the event's
 /// transaction is committed and didn't write it.
 fn intermediate_read(tables: &Tables, events: &[Event], event: &Event) -> Option<Version>
-    ensures {
-        let all = map event_of events.now in
-        Means tables.now all all → IsFirst (refused (is_own_or_last all) all (event_of event.now)) result
-    }
+    ensures { let all = map event_of events.now in
+        Means tables.now all all → IsFirst (refused (is_own_or_last all) all (event_of event.now)) result }
 {
     if !tables.has_committed(event.txn()) {
         return None;
     }
     match event {
-        Event::Read { txn, version, value } => {
-            let seen = [Entry { version: *version, content: Content::Live(*value) }];
+        Event::Read {
+            txn,
+            version,
+            value,
+        } => {
+            let seen = [Entry {
+                version: *version,
+                content: Content::Live(*value),
+            }];
             first_intermediate(tables, events, *txn, &seen)
         }
         Event::Scan { txn, entries, .. } => first_intermediate(tables, events, *txn, entries),
@@ -219,11 +214,9 @@ fn intermediate_read(tables: &Tables, events: &[Event], event: &Event) -> Option
 /// G1b: the first read of a version of another that isn't that one's last write of the key by a committed one.
 pub(crate) fn check_intermediate(tables: &Tables, events: &[Event]) -> Result<(), CheckFault>
     requires { Means tables.now (map event_of events.now) (map event_of events.now) }
-    ensures {
-        let all = map event_of events.now in
+    ensures { let all = map event_of events.now in
         let faults = bad_reads (is_own_or_last all) CheckFault.IntermediateRead all 2 all in
-        MatchResult result (λ u. faults ≡ []) (Names faults)
-    }
+        MatchResult result (λ u. faults ≡ []) (Names faults) }
 {
     for (i, event) in events.iter().enumerate() {
         if let Some(version) = intermediate_read(tables, events, event) {

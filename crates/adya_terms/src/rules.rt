@@ -14,20 +14,16 @@ use std::alloc::Global;
 
 /// M1: the event's transaction has not ended before.
 fn is_open(tables: &Tables, event: &Event) -> bool
-    ensures {
-        (all before : List EventValue) → Means tables.now all before → result ≡ faults.is_open before (event_of event.now)
-    }
+    ensures { (all before : List EventValue) → Means tables.now all before → result ≡ faults.is_open before (event_of event.now) }
 {
     !tables.has_ended(event.txn())
 }
 
 /// M2: the transaction's writes of a key are numbered from 1.
 fn is_next(tables: &Tables, events: &[Event], event: &Event) -> bool
-    ensures {
-        (before : List EventValue)
-            → Means tables.now (map event_of events.now) before
-            → result ≡ faults.is_next before (written (event_of event.now))
-    }
+    ensures { (before : List EventValue)
+        → Means tables.now (map event_of events.now) before
+        → result ≡ faults.is_next before (written (event_of event.now)) }
 {
     let Some(new) = wrote(event) else {
         return true;
@@ -41,15 +37,19 @@ fn is_next(tables: &Tables, events: &[Event], event: &Event) -> bool
 
 /// M3: what is read was written before.
 fn was_written(tables: &Tables, events: &[Event], event: &Event) -> bool
-    ensures {
-        (before : List EventValue)
-            → Means tables.now (map event_of events.now) before
-            → result ≡ faults.was_written before (event_of event.now)
-    }
+    ensures { (before : List EventValue)
+        → Means tables.now (map event_of events.now) before
+        → result ≡ faults.was_written before (event_of event.now) }
 {
     match event {
         Event::Read { version, value, .. } => {
-            tables.was_written(events, &Entry { version: *version, content: Content::Live(*value) })
+            tables.was_written(
+                events,
+                &Entry {
+                    version: *version,
+                    content: Content::Live(*value),
+                },
+            )
         }
         Event::Scan { entries, .. } => all_written(tables, events, entries),
         Event::Write { .. } => true,
@@ -61,18 +61,28 @@ fn was_written(tables: &Tables, events: &[Event], event: &Event) -> bool
 
 /// M4: of a key that it has written a transaction reads and lists its own last write.
 fn sees_own(tables: &Tables, events: &[Event], event: &Event) -> bool
-    ensures {
-        (before : List EventValue)
-            → Means tables.now (map event_of events.now) before
-            → result ≡ faults.sees_own before (event_of event.now)
-    }
+    ensures { (before : List EventValue)
+        → Means tables.now (map event_of events.now) before
+        → result ≡ faults.sees_own before (event_of event.now) }
 {
     match event {
-        Event::Read { txn, version, value } => match tables.last_write(events, *txn, version.key) {
+        Event::Read {
+            txn,
+            version,
+            value,
+        } => match tables.last_write(events, *txn, version.key) {
             None => true,
-            Some(last) => last.same(&Entry { version: *version, content: Content::Live(*value) }),
+            Some(last) => last.same(&Entry {
+                version: *version,
+                content: Content::Live(*value),
+            }),
         },
-        Event::Scan { txn, lo, hi, entries } => lists_own(tables, events, *txn, *lo, *hi, entries),
+        Event::Scan {
+            txn,
+            lo,
+            hi,
+            entries,
+        } => lists_own(tables, events, *txn, *lo, *hi, entries),
         Event::Write { .. } => true,
         Event::Delete { .. } => true,
         Event::Commit { .. } => true,
@@ -85,7 +95,12 @@ fn is_rising(event: &Event) -> bool
     ensures { result ≡ faults.is_rising (event_of event.now) }
 {
     match event {
-        Event::Scan { lo, hi, entries, .. } => *lo <= *hi && keys_rise(entries) && all_lie_in(*lo, *hi, entries),
+        Event::Scan {
+            lo,
+            hi,
+            entries,
+            ..
+        } => *lo <= *hi && keys_rise(entries) && all_lie_in(*lo, *hi, entries),
         Event::Read { .. } => true,
         Event::Write { .. } => true,
         Event::Delete { .. } => true,
@@ -96,13 +111,11 @@ fn is_rising(event: &Event) -> bool
 
 /// The first rule that the event breaks.
 fn broken_rule(tables: &Tables, events: &[Event], event: &Event) -> Option<Rule>
-    ensures {
-        (before : List EventValue)
-            → Means tables.now (map event_of events.now) before
-            → (line : ℕ)
-            → MatchOption result (faults.faults_at before line (event_of event.now) ≡ [])
-                (λ r. faults.first (faults.faults_at before line (event_of event.now)) ≡ Some (CheckFault.Malformed line r))
-    }
+    ensures { (before : List EventValue)
+        → Means tables.now (map event_of events.now) before
+        → (line : ℕ)
+        → MatchOption result (faults.faults_at before line (event_of event.now) ≡ [])
+        (λ r. faults.first (faults.faults_at before line (event_of event.now)) ≡ Some (CheckFault.Malformed line r)) }
 {
     if !is_open(tables, event) {
         return Some(Rule::M1);
@@ -124,10 +137,8 @@ fn broken_rule(tables: &Tables, events: &[Event], event: &Event) -> Option<Rule>
 
 /// The tables of the events, where none breaks a rule.
 pub(crate) fn tables_of(alloc: Global, events: &[Event]) -> Result<Tables, CheckFault>
-    ensures {
-        let all = map event_of events.now in
-        MatchResult result (λ t. Means t all all × (faults.event_faults [] 2 all ≡ [])) (Names (faults.event_faults [] 2 all))
-    }
+    ensures { let all = map event_of events.now in
+        MatchResult result (λ t. Means t all all × (faults.event_faults [] 2 all ≡ [])) (Names (faults.event_faults [] 2 all)) }
 {
     let mut tables = Tables::new(alloc);
     for (i, event) in events.iter().enumerate() {

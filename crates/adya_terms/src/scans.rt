@@ -15,11 +15,9 @@ use crate::{Entry, Event, Key, Txn};
 
 /// Whether each entry was written before.
 pub(crate) fn all_written(tables: &Tables, events: &[Event], entries: &[Entry]) -> bool
-    ensures {
-        (before : List EventValue)
-            → Means tables.now (map event_of events.now) before
-            → result ≡ list_all (λ o. list_any (entry_eq o) (filter_map written before)) (map entry_of entries.now)
-    }
+    ensures { (before : List EventValue)
+        → Means tables.now (map event_of events.now) before
+        → result ≡ list_all (λ o. list_any (entry_eq o) (filter_map written before)) (map entry_of entries.now) }
 {
     for entry in entries {
         if !tables.was_written(events, entry) {
@@ -135,18 +133,26 @@ fn lists_write(events: &[Event], at: usize, entries: &[Entry], rising: bool) -> 
 }
 
 /// Of each key between the two that the transaction has written, its last write is listed and nothing else.
-pub(crate) fn lists_own(tables: &Tables, events: &[Event], txn: Txn, lo: Key, hi: Key, entries: &[Entry]) -> bool
-    ensures {
-        (before : List EventValue)
-            → Means tables.now (map event_of events.now) before
-            → result ≡ sees_own before (Scan txn lo hi (map entry_of entries.now))
-    }
+pub(crate) fn lists_own(
+    tables: &Tables,
+    events: &[Event],
+    txn: Txn,
+    lo: Key,
+    hi: Key,
+    entries: &[Entry],
+) -> bool
+    ensures { (before : List EventValue)
+        → Means tables.now (map event_of events.now) before
+        → result ≡ sees_own before (Scan txn lo hi (map entry_of entries.now)) }
 {
     if hi < lo {
         return true;
     }
     let rising = keys_rise(entries);
-    for (_, at) in tables.last.range(Own { txn, key: lo }..=Own { txn, key: hi }) {
+    for (_, at) in tables
+        .last
+        .range(Own { txn, key: lo }..=Own { txn, key: hi })
+    {
         if !lists_write(events, *at, entries, rising) {
             return false;
         }

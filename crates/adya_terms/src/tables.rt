@@ -36,11 +36,19 @@ pub(crate) fn wrote(event: &Event) -> Option<Entry>
 {
     match event {
         Event::Write { txn, key, m, value } => Some(Entry {
-            version: Version { key: *key, txn: *txn, m: *m },
+            version: Version {
+                key: *key,
+                txn: *txn,
+                m: *m,
+            },
             content: Content::Live(*value),
         }),
         Event::Delete { txn, key, m } => Some(Entry {
-            version: Version { key: *key, txn: *txn, m: *m },
+            version: Version {
+                key: *key,
+                txn: *txn,
+                m: *m,
+            },
             content: Content::Dead,
         }),
         Event::Read { .. } => None,
@@ -99,31 +107,25 @@ impl Tables {
 
     /// The transaction's last write of the key.
     pub fn last_write(&self, events: &[Event], txn: Txn, key: Key) -> Option<Entry>
-        ensures {
-            option_map entry_of result ≡ written_at (map event_of events.now) (get own_cmp self.now.last (own txn key))
-        }
+        ensures { option_map entry_of result ≡ written_at (map event_of events.now) (get own_cmp self.now.last (own txn key)) }
     {
         wrote_at(events, self.last.get(&Own { txn, key }).copied())
     }
 
     /// Whether the transaction is committed and wrote the key.
     pub fn installs(&self, events: &[Event], txn: Txn, key: Key) -> bool
-        ensures {
-            result
-                ≡ (contains nat_cmp self.now.committed txn
-                    && is_some (written_at (map event_of events.now) (get own_cmp self.now.last (own txn key))))
-        }
+        ensures { result
+            ≡ (contains nat_cmp self.now.committed txn
+            && is_some (written_at (map event_of events.now) (get own_cmp self.now.last (own txn key)))) }
     {
         self.has_committed(txn) && self.last_write(events, txn, key).is_some()
     }
 
     /// Whether the version was written with the value.
     pub fn was_written(&self, events: &[Event], seen: &Entry) -> bool
-        ensures {
-            result
-                ≡ is_there (entry_of seen.now)
-                    (written_at (map event_of events.now) (get version_cmp self.now.versions seen.now.version))
-        }
+        ensures { result
+            ≡ is_there (entry_of seen.now)
+            (written_at (map event_of events.now) (get version_cmp self.now.versions seen.now.version)) }
     {
         match wrote_at(events, self.versions.get(&seen.version).copied()) {
             None => false,
@@ -133,23 +135,47 @@ impl Tables {
 
     /// Takes in the event at the place.
     pub fn record(&mut self, at: usize, event: &Event) -> Result<(), AllocError>
-        ensures {
-            IfOk result
-                (λ u. (all before : List EventValue)
-                    → Means self.old all before
-                    → slice_get all at ≡ Some (event_of event.now)
-                    → is_next before (written (event_of event.now)) ≡ true
-                    → Means self.new all (before ++ event_of event.now ∷ []))
-        }
+        ensures { IfOk result
+            (λ u. (all before : List EventValue)
+            → Means self.old all before
+            → slice_get all at ≡ Some (event_of event.now)
+            → is_next before (written (event_of event.now)) ≡ true
+            → Means self.new all (before ++ event_of event.now ∷ [])) }
     {
         match event {
             Event::Write { txn, key, m, .. } => {
-                self.versions.insert(Version { key: *key, txn: *txn, m: *m }, at)?;
-                self.last.insert(Own { txn: *txn, key: *key }, at)?;
+                self.versions.insert(
+                    Version {
+                        key: *key,
+                        txn: *txn,
+                        m: *m,
+                    },
+                    at,
+                )?;
+                self.last.insert(
+                    Own {
+                        txn: *txn,
+                        key: *key,
+                    },
+                    at,
+                )?;
             }
             Event::Delete { txn, key, m } => {
-                self.versions.insert(Version { key: *key, txn: *txn, m: *m }, at)?;
-                self.last.insert(Own { txn: *txn, key: *key }, at)?;
+                self.versions.insert(
+                    Version {
+                        key: *key,
+                        txn: *txn,
+                        m: *m,
+                    },
+                    at,
+                )?;
+                self.last.insert(
+                    Own {
+                        txn: *txn,
+                        key: *key,
+                    },
+                    at,
+                )?;
             }
             Event::Read { .. } => {}
             Event::Scan { .. } => {}

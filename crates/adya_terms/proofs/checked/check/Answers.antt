@@ -1,4 +1,4 @@
-use Rattle.std.proofs.Common.{◌≡◌, ℕ, ◌+◌, ◌∙◌, sym, ap, subst, map, length, [], arith}
+use Rattle.std.proofs.Common.{◌≡◌, ◌+◌, ◌∙◌, ap, subst, length, [], arith}
 use Rattle.std.proofs.lemmas.List.{length-map}
 use Rattle.adya_terms.specs.Histories.{event_of}
 use Rattle.adya_terms.specs.Faults.{malformed, unfinished_faults, unfinished_line, orders_line}
@@ -19,7 +19,7 @@ returns-in-Err-check_unfinished c =
     let at : length c.args.events.now + 2 ≡ unfinished_line h = omega (arith, n) in
     let fault = c.in-Err-check_unfinished.fault in
     unfinished_first h c.in-Ok.ensures.1 fault
-      (subst (λ k. Names (unfinished_faults h.events k h.unfinished) fault) at c.in-Err-check_unfinished.ensures)
+    (subst (λ k. Names (unfinished_faults h.events k h.unfinished) fault) at c.in-Err-check_unfinished.ensures)
 
 pub returns-in-Err-check_rules : goal.returns-in-Err-check_rules
 returns-in-Err-check_rules c =
@@ -30,7 +30,7 @@ returns-in-Err-check_rules c =
     let line : c.in-Some.line ≡ orders_line h = c.in-Some.ensures.1 ∙ ap (λ k. k + length h.unfinished) at in
     let fault = c.in-Err-check_rules.fault in
     rules_first h c.in-Ok.ensures.1 ended fault
-      (subst (λ k. Names (rule_faults h k) fault) line (c.in-Err-check_rules.ensures c.args.unfinished.now c.in-Ok-set_of.ensures))
+    (subst (λ k. Names (rule_faults h k) fault) line (c.in-Err-check_rules.ensures c.args.unfinished.now c.in-Ok-set_of.ensures))
 
 pub returns : goal.returns
 returns c =
@@ -41,4 +41,4 @@ returns c =
     let line : c.in-Some.line ≡ orders_line h = c.in-Some.ensures.1 ∙ ap (λ k. k + length h.unfinished) at in
     let rules = subst (λ k. rule_faults h k ≡ []) line (c.in_default-check_rules.ensures c.args.unfinished.now c.in-Ok-set_of.ensures) in
     found_behind c.check_reads.result (malformed h) (read_faults h) (none_malformed h c.in-Ok.ensures.1 ended rules)
-      (c.check_reads.ensures c.args.unfinished.now c.in-Ok-set_of.ensures)
+    (c.check_reads.ensures c.args.unfinished.now c.in-Ok-set_of.ensures)

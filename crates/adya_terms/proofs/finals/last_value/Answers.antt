@@ -1,4 +1,4 @@
-use Rattle.std.proofs.Common.{◌≡◌, ◌∙◌, sym, ap, map, length, refl}
+use Rattle.std.proofs.Common.{sym, map, refl}
 use Rattle.adya_terms.specs.Histories.{order_of}
 use Rattle.adya_terms.proofs.Searches.{no_line}
 use Rattle.adya_terms.proofs.finals.last_value.Goals as goal

@@ -1,5 +1,4 @@
 use Rattle.std.proofs.Common.{◌≡◌, ◌∙◌, sym, ap, subst, map, true, Equal, rules}
-use Rattle.std.specs.List.{list_any}
 use Rattle.std.specs.Ordering.{nat_cmp}
 use Rattle.std.specs.Cmp.Lexicographic.{slice_cmp}
 use Rattle.std.proofs.lemmas.Simd.{map-map}
@@ -9,7 +8,6 @@ use Rattle.adya_terms.specs.Keys.{key_eq, keys_rise}
 use Rattle.adya_terms.specs.Histories.{Order, order_of}
 use Rattle.adya_terms.specs.Orders.{line_of}
 use Rattle.adya_terms.proofs.Lists.{Contains-slice_get}
-use Rattle.adya_terms.proofs.Entries.{key_same}
 use Rattle.adya_terms.proofs.Lines.{line_found}
 use Rattle.adya_terms.proofs.Turns.{turn}
 use Rattle.adya_terms.proofs.Searches.{search_misses, search_finds, tied_key, any_map}
@@ -41,4 +39,4 @@ returns-in-Ok-clause-line c =
     let tied : slice_cmp nat_cmp y.key k ≡ Equal = ap (λ (o : OrderValue). slice_cmp nat_cmp o.key k) at ∙ by_key y in
     let t = turn order_of ys i y c.in-Ok.ensures.bound at in
     subst (λ j. line_of (map order_of ys) j ≡ y.writers.items) (tied_key y.key k tied)
-      (line_found (map order_of ys) (order_of y) c.requires (Contains-slice_get (map order_of ys) i (order_of y) t.found))
+    (line_found (map order_of ys) (order_of y) c.requires (Contains-slice_get (map order_of ys) i (order_of y) t.found))

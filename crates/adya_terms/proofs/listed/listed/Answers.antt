@@ -1,6 +1,5 @@
-use Rattle.std.proofs.Common.{◌≡◌, ℕ, ◌+◌, List, cond, map, take, length, sym, ◌∙◌, ap, subst}
+use Rattle.std.proofs.Common.{◌≡◌, ℕ, ◌+◌, List, cond, map, take, sym, ◌∙◌, ap, subst}
 use Rattle.std.proofs.lemmas.List.{take_all, length-map}
-use Rattle.std.specs.List.{count_by}
 use Rattle.adya_terms.specs.Keys.{key_eq}
 use Rattle.adya_terms.specs.Histories.{order_of}
 use Rattle.adya_terms.specs.Checks.{Lists, times, listed}

@@ -1,4 +1,4 @@
-use Rattle.std.proofs.Common.{◌≡◌, ◌∙◌, sym, ap, map, true, false}
+use Rattle.std.proofs.Common.{◌≡◌, ◌∙◌, sym, ap}
 use Rattle.adya_terms.specs.Histories.{event_of}
 use Rattle.adya_terms.specs.Events.{txn_of, is_committed}
 use Rattle.adya_terms.specs.Checks.{is_not_aborted}
@@ -16,11 +16,11 @@ returns-in-Read c all us m holds =
     let e = event_of c.args.event.now in
     let same : c.has_committed.result ≡ is_committed all (txn_of e) = c.has_committed.ensures ∙ (m.committed_is c.txn.result ∙ ap (is_committed all) c.txn.ensures) in
     committed_refused (is_not_aborted all us) all e c.first_aborted.result (sym same ∙ c.if-not-has_committed.false)
-      (rw c.in-Read.is (c.first_aborted.ensures all us e m holds))
+    (rw c.in-Read.is (c.first_aborted.ensures all us e m holds))
 
 pub returns-in-Scan : goal.returns-in-Scan
 returns-in-Scan c all us m holds =
     let e = event_of c.args.event.now in
     let same : c.has_committed.result ≡ is_committed all (txn_of e) = c.has_committed.ensures ∙ (m.committed_is c.txn.result ∙ ap (is_committed all) c.txn.ensures) in
     committed_refused (is_not_aborted all us) all e c.first_aborted-in-Scan.result (sym same ∙ c.if-not-has_committed.false)
-      (rw c.in-Scan.is (rw (sym c.deref.ensures.value) (c.first_aborted-in-Scan.ensures all us e m holds)))
+    (rw c.in-Scan.is (rw (sym c.deref.ensures.value) (c.first_aborted-in-Scan.ensures all us e m holds)))

@@ -1,8 +1,7 @@
-use Rattle.std.proofs.Common.{◌≡◌, ◌+◌, ◌∙◌, sym, ap, map, true, false, ◌||◌}
-use Rattle.std.specs.List.{list_any}
+use Rattle.std.proofs.Common.{◌≡◌, ◌+◌, ◌∙◌, sym, ap, map}
 use Rattle.adya_terms.specs.declared.fault.Rule.TheVariants.{M6}
 use Rattle.adya_terms.specs.Histories.{event_of}
-use Rattle.adya_terms.specs.Events.{is_committed, has_ended, aborts}
+use Rattle.adya_terms.specs.Events.{has_ended}
 use Rattle.adya_terms.specs.Faults.{first, unfinished_faults}
 use Rattle.adya_terms.proofs.Firsts.{names_broken, unfinished_here, unfinished_later}
 use Rattle.adya_terms.proofs.reads.check_unfinished.Goals as goal
@@ -17,8 +16,8 @@ returns-then-has_ended c =
     let aborted = c.requires.aborted_is t in
     let ended : c.has_ended.result ≡ has_ended all t = cc in
     names_broken (unfinished_faults all c.args.first ts) (c.args.first + i) M6 c.broken.result
-      (ap first c.loop-i.invariant ∙ unfinished_here all (c.args.first + i) ts i t c.loop-i-test.true c.index-unfinished-i.is (sym ended ∙ c.if-has_ended.true))
-      c.broken.ensures
+    (ap first c.loop-i.invariant ∙ unfinished_here all (c.args.first + i) ts i t c.loop-i-test.true c.index-unfinished-i.is (sym ended ∙ c.if-has_ended.true))
+    c.broken.ensures
 
 pub loop-i-preserved : goal.loop-i-preserved
 loop-i-preserved c =

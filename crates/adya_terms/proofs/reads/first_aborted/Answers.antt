@@ -1,5 +1,4 @@
-use Rattle.std.proofs.Common.{◌≡◌, ◌∙◌, sym, ap, map, not, true, false, subst, drop, filter}
-use Rattle.std.specs.List.{list_any}
+use Rattle.std.proofs.Common.{◌≡◌, ◌∙◌, sym, ap, not, true, false, subst}
 use Rattle.adya_terms.specs.Histories.{Entry, entry_of}
 use Rattle.adya_terms.specs.Checks.{IsFirst, is_not_aborted}
 use Rattle.adya_terms.proofs.Refused.{kept_here, kept_later}
@@ -12,7 +11,7 @@ returns-then-is_aborted c all us e m holds =
     let test : Entry → Bool = λ x. not (is_not_aborted all us e x) in
     let hit : test (entry_of o) ≡ true = ap (λ b. not (not b)) (sym (c.is_aborted.ensures all us m holds) ∙ c.if-is_aborted.true) in
     subst (λ xs. IsFirst xs (Some o.version)) (sym (c.loop-entry.invariant all us e m holds))
-      (kept_here test entry_of c.args.entries.now c.loop-entry.entry-index o c.loop-entry-test.true c.entry-item.is hit)
+    (kept_here test entry_of c.args.entries.now c.loop-entry.entry-index o c.loop-entry-test.true c.entry-item.is hit)
 
 pub loop-entry-preserved : goal.loop-entry-preserved
 loop-entry-preserved c all us e m holds =

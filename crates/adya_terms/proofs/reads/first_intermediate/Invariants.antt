@@ -1,4 +1,4 @@
-use Rattle.std.proofs.Common.{◌≡◌, ℕ, Bool, not, List, map, filter, drop}
+use Rattle.std.proofs.Common.{◌≡◌, Bool, not, map, filter, drop}
 use Rattle.adya_terms.specs.Histories.{Event, Entry, entry_of, event_of}
 use Rattle.adya_terms.specs.Events.{txn_of}
 use Rattle.adya_terms.specs.Tables.{Means}

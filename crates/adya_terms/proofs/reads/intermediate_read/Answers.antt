@@ -1,4 +1,4 @@
-use Rattle.std.proofs.Common.{◌≡◌, ◌∙◌, sym, ap, map, true, false, refl}
+use Rattle.std.proofs.Common.{◌≡◌, ◌∙◌, sym, ap, map, refl}
 use Rattle.adya_terms.specs.Histories.{Read, event_of, value_of}
 use Rattle.adya_terms.specs.Events.{txn_of, is_committed}
 use Rattle.adya_terms.specs.Checks.{is_own_or_last}
@@ -18,4 +18,4 @@ returns-in-Read c m =
     let e = event_of c.args.event.now in
     let same : c.has_committed.result ≡ is_committed all (txn_of e) = c.has_committed.ensures ∙ (m.committed_is c.txn.result ∙ ap (is_committed all) c.txn.ensures) in
     committed_refused (is_own_or_last all) all e c.first_intermediate.result (sym same ∙ c.if-not-has_committed.false)
-      (rw c.in-Read.is (c.first_intermediate.ensures (Read c.in-Read.txn c.in-Read.version (value_of c.in-Read.value)) refl m))
+    (rw c.in-Read.is (c.first_intermediate.ensures (Read c.in-Read.txn c.in-Read.version (value_of c.in-Read.value)) refl m))

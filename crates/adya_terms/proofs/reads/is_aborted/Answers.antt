@@ -1,6 +1,5 @@
-use Rattle.std.proofs.Common.{◌≡◌, ◌∙◌, sym, ap, ◌||◌, ◌==◌}
+use Rattle.std.proofs.Common.{◌∙◌, sym, ap, ◌||◌, ◌==◌}
 use Rattle.std.specs.List.{list_any}
-use Rattle.adya_terms.specs.Events.{aborts}
 use Rattle.adya_terms.proofs.reads.is_aborted.Goals as goal
 
 pub returns-else-has_aborted : goal.returns-else-has_aborted

@@ -29,6 +29,6 @@ loop-i-preserved c =
     let none = c.in_default.ensures (take i all) m (2 + i) in
     record {
       means = subst (Means c.record.new.self all) (sym t.front)
-        (c.in-Ok.ensures all (take i all) m t.found (passes_all (take i all) (2 + i) (event_of e) none).next);
+          (c.in-Ok.ensures all (take i all) m t.found (passes_all (take i all) (2 + i) (event_of e) none).next);
       faults = c.loop-i.invariant.faults ∙ fault_later all i (event_of e) t none;
     }

@@ -20,7 +20,7 @@ returns-in-Err c =
     let rise : keys_rise (map (λ (x : EntryValue). x.version.key) ys) ≡ true = ap keys_rise (sym (map-map (λ (x : Entry). x.version.key) entry_of ys)) ∙ c.requires in
     let by_key = c.in-Err.ensures.position (λ x. x.version.key) (answers_always _ _ _ (λ f a r g called. search rules)) in
     sym (missed_only (map entry_of ys) w
-      (any_map (λ (x : Entry). key_eq x.version.key k) entry_of ys ∙ search_misses (λ (x : EntryValue). x.version.key) ys k c.in-Err.field-0 rise by_key))
+    (any_map (λ (x : Entry). key_eq x.version.key k) entry_of ys ∙ search_misses (λ (x : EntryValue). x.version.key) ys k c.in-Err.field-0 rise by_key))
 
 pub returns-in-Ok : goal.returns-in-Ok
 returns-in-Ok c =

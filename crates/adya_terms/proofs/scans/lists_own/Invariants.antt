@@ -1,4 +1,4 @@
-use Rattle.std.proofs.Common.{◌≡◌, ℕ, Bool, Some, List, map, drop}
+use Rattle.std.proofs.Common.{◌≡◌, ℕ, Bool, Some, map}
 use Rattle.std.specs.List.{list_all}
 use Rattle.adya_terms.specs.declared.tables.Own.{Own}
 use Rattle.adya_terms.specs.Histories.{entry_of, event_of}

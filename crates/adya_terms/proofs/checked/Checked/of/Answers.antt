@@ -1,4 +1,4 @@
-use Rattle.std.proofs.Common.{◌≡◌, ap, is_none}
+use Rattle.std.proofs.Common.{ap, is_none}
 use Rattle.adya_terms.proofs.Parts.{found_whole, faultless_whole}
 use Rattle.adya_terms.proofs.Checking.{checked_when_no_fault}
 use Rattle.adya_terms.specs.Values.{history_of}
@@ -7,16 +7,16 @@ use Rattle.adya_terms.proofs.checked.Checked.of.Goals as goal
 pub returns-in-Err-clause-found : goal.returns-in-Err-clause-found
 returns-in-Err-clause-found c =
     found_whole c.args.history.now c.events.result.now c.unfinished.result.now c.orders.result.now c.finals.result.now
-      c.events.ensures c.unfinished.ensures.value c.orders.ensures.value c.finals.ensures c.in-Err.fault c.in-Err.ensures
+    c.events.ensures c.unfinished.ensures.value c.orders.ensures.value c.finals.ensures c.in-Err.fault c.in-Err.ensures
 
 pub invariant_of-result : goal.invariant_of-result
 invariant_of-result c =
     let none = faultless_whole c.args.history.now c.events.result.now c.unfinished.result.now c.orders.result.now c.finals.result.now
-          c.events.ensures c.unfinished.ensures.value c.orders.ensures.value c.finals.ensures c.in_default.ensures in
+    c.events.ensures c.unfinished.ensures.value c.orders.ensures.value c.finals.ensures c.in_default.ensures in
     record { checked = ap is_none none }
 
 pub returns-clause-checked : goal.returns-clause-checked
 returns-clause-checked c =
     checked_when_no_fault (history_of c.args.history.now)
-      (faultless_whole c.args.history.now c.events.result.now c.unfinished.result.now c.orders.result.now c.finals.result.now
-        c.events.ensures c.unfinished.ensures.value c.orders.ensures.value c.finals.ensures c.in_default.ensures)
+    (faultless_whole c.args.history.now c.events.result.now c.unfinished.result.now c.orders.result.now c.finals.result.now
+    c.events.ensures c.unfinished.ensures.value c.orders.ensures.value c.finals.ensures c.in_default.ensures)
