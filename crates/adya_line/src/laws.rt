@@ -1,14 +1,15 @@
 //! What holds of lines: the calls change nothing, and their contracts are the laws.
 
-ghost use Rattle.std.specs.Prelude.{ℕ, ◌<◌, length};
+ghost use Rattle.std.specs.Prelude.{ℕ, ◌<◌, length, map};
+ghost use Rattle.std.specs.List.{AllByRecursion};
 ghost use Rattle.adya_terms.specs.Keys.{IsTxn};
-ghost use Rattle.adya_terms.specs.Histories.{event_of, order_of, final_of};
+ghost use Rattle.adya_terms.specs.Histories.{entry_of, event_of, order_of, final_of};
 ghost use Rattle.adya_line.specs.Spelling.{history_head, second_head, serial_head, tail, event_text, unfinished_text, order_text, final_text, txn_text};
-ghost use Rattle.adya_line.specs.Limits.{IsEvent, IsOrder, IsFinal};
+ghost use Rattle.adya_line.specs.Limits.{IsEntry, IsEvent, IsOrder, IsFinal};
 ghost use Rattle.adya_line.specs.Reading.{event_at, unfinished_at, order_at, final_at, txn_at_line};
 ghost use Rattle.adya_line.specs.Laws.{IsReaderOf, IsOneText, Excludes, ExcludesLine, IsPlain, HasPlainTexts};
 
-use adya_terms::{Event, FinalPair, Order};
+use adya_terms::{Content, Entry, Event, FinalPair, Order};
 
 /// The lines of events are the texts of the events within their limits.
 pub fn event_lines()
@@ -110,6 +111,11 @@ pub fn event_within(event: &Event)
             let _ = m.get();
             let _ = value.bytes();
         }
+        Event::Delete { txn, key, m } => {
+            let _ = txn.get();
+            let _ = key.bytes();
+            let _ = m.get();
+        }
         Event::Read {
             txn,
             version,
@@ -121,9 +127,39 @@ pub fn event_within(event: &Event)
             let _ = version.m.get();
             let _ = value.bytes();
         }
+        Event::Scan {
+            txn,
+            lo,
+            hi,
+            entries,
+        } => {
+            let _ = txn.get();
+            let _ = lo.bytes();
+            let _ = hi.bytes();
+            entries_within(entries);
+        }
         Event::Commit { txn } | Event::Abort { txn } => {
             let _ = txn.get();
         }
+    }
+}
+
+fn entries_within(entries: &[Entry])
+    ensures { AllByRecursion IsEntry (map entry_of entries.now) }
+{
+    for entry in entries {
+        entry_within(entry);
+    }
+}
+
+fn entry_within(entry: &Entry)
+    ensures { IsEntry (entry_of entry.now) }
+{
+    let _ = entry.version.key.bytes();
+    let _ = entry.version.txn.get();
+    let _ = entry.version.m.get();
+    if let Content::Live(value) = &entry.content {
+        let _ = value.bytes();
     }
 }
 
