@@ -23,7 +23,11 @@ use std::collections::{BTreeMap, BTreeSet};
 
 /// The verdict on a certificate of a history that is well-formed without aborted and intermediate reads: yes, not the
 /// committed, or the first edge that goes backward. `AllocError` where memory ran out.
-pub(crate) fn judge(alloc: Global, history: &History, serial: &Serial) -> Result<Verdict, AllocError>
+pub(crate) fn judge(
+    alloc: Global,
+    history: &History,
+    serial: &Serial,
+) -> Result<Verdict, AllocError>
     ensures { IfOk result (λ v. plain_verdict v ≡ certificate_verdict (history_of history.now) serial.now.txns.items) }
 {
     let txns = serial.txns();

@@ -7,8 +7,11 @@ use std::io::ErrorKind;
 use std::process::ExitCode;
 
 const ACCEPTED: u8 = 0;
+
 const REFUSED: u8 = 1;
+
 const WRONG_WORDS: u8 = 2;
+
 const FAULT: u8 = 3;
 
 /// Whether the program was given words.
@@ -39,7 +42,9 @@ fn audit_standard_input(rt: &HostRuntime) -> u8 {
     let told = match run_pipe(rt.alloc(), &mut input, &mut output) {
         Ok(Verdict::Yes) => return ACCEPTED,
         Ok(_) => return REFUSED,
-        Err(RunFault::ReadHistory | RunFault::ReadSerial) => eprintln!(rt; "ssi: read fault: stdin"),
+        Err(RunFault::ReadHistory | RunFault::ReadSerial) => eprintln!(rt;
+            "ssi: read fault: stdin"
+        ),
         Err(RunFault::Write) => eprintln!(rt; "ssi: write fault: stdout"),
         Err(RunFault::Memory) => eprintln!(rt; "ssi: memory"),
     };
@@ -54,7 +59,9 @@ fn run(rt: &HostRuntime) -> u8 {
             let _ = eprintln!(rt; "ssi: memory");
             return FAULT;
         }
-        Words::Some => eprintln!(rt; "ssi: takes no words: give it a history and its certificate on standard input"),
+        Words::Some => eprintln!(rt;
+            "ssi: takes no words: give it a history and its certificate on standard input"
+        ),
     };
     let _ = told;
     WRONG_WORDS
