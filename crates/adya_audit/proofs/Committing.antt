@@ -18,7 +18,9 @@ or_cond false b = refl
 
 no_commit : (t : ℕ) (e : EventValue) → ((x : ℕ) → e ≡ In.Commit x → ⊥) → commits t (event_of e) ≡ false
 no_commit t (In.Write u k m v) h = refl
+no_commit t (In.Delete u k m) h = refl
 no_commit t (In.Read u r v) h = refl
+no_commit t (In.Scan u low high es) h = refl
 no_commit t (In.Commit u) h = absurd (h u refl)
 no_commit t (In.Abort u) h = refl
 

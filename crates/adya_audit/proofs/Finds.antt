@@ -9,7 +9,7 @@ pub option_or-none : {X : Type 0} (o : Option X) → option_or o None ≡ o
 option_or-none None = refl
 option_or-none (Some x) = refl
 
-option_or-some : {X : Type 0} (o p : Option X) (x : X) → o ≡ Some x → option_or o p ≡ o
+pub option_or-some : {X : Type 0} (o p : Option X) (x : X) → o ≡ Some x → option_or o p ≡ o
 option_or-some None p x e = absurd (cc (e))
 option_or-some (Some y) p x e = refl
 

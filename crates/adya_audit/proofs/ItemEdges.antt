@@ -1,5 +1,5 @@
--- The dependencies of an item event, by who comes next in the line of its key.
-use Rattle.std.proofs.Common.{◌≡◌, ℕ, zero, suc, ◌+◌, ◌==◌, ◌<◌, ◌≤◌, Bool, true, false, cond, not, ◌&&◌, ◌||◌, List, [], ◌∷◌, ◌++◌, length, Option, Some, None, slice_get, find, filter, flat_map, refl, sym, ◌∙◌, ap, arith, inl, inr, append-nil}
+-- The dependencies of an event, by who comes next in the line of its key.
+use Rattle.std.proofs.Common.{◌≡◌, ℕ, zero, suc, ◌+◌, ◌==◌, ◌<◌, ◌≤◌, Bool, true, false, cond, not, ◌&&◌, ◌||◌, List, [], ◌∷◌, ◌++◌, map, length, Option, Some, None, slice_get, find, filter, flat_map, refl, sym, ◌∙◌, ap, arith, inl, inr, append-nil}
 use Rattle.std.specs.Option.{option_or}
 use Rattle.std.specs.List.{list_any}
 use Rattle.std.proofs.lemmas.Bool.{cases_Bool, cases_eq, eq-eqb, ne_eqb, or_parts, and_from, and_left, and_right}
@@ -9,16 +9,19 @@ use Rattle.std.proofs.lemmas.List.Folds.{find-append}
 use Rattle.adya_terms.specs.declared.event.Event.{Event as EventValue}
 use Rattle.adya_terms.specs.declared.event.Event.TheVariants as In
 use Rattle.adya_terms.specs.declared.event.Version.{Version}
-use Rattle.adya_terms.specs.Keys.{key_eq}
-use Rattle.adya_terms.specs.Histories.{Read, Order, History, event_of, value_of}
+use Rattle.adya_terms.specs.declared.order.Order.{Order as OrderValue}
+use Rattle.adya_terms.specs.Keys.{key_eq, keys_rise}
+use Rattle.adya_terms.specs.Histories.{Read, Order, History, event_of, order_of, entry_of, value_of}
 use Rattle.adya_terms.specs.Orders.{writers, line_of, installer, place}
 use Rattle.adya_terms.specs.Selections.{selected}
 use Rattle.adya_terms.specs.Edges.{Wr, Rw, Edge}
 use Rattle.adya_terms.specs.EdgeList.{numbers, joined, place_edges, read_edges, overwrite_edges, event_edges}
 use Rattle.adya_audit.specs.Next.{next_of}
-use Rattle.adya_audit.specs.Backward.{read_dependencies, item_edges}
+use Rattle.adya_audit.specs.Backward.{read_dependencies, edges_of}
 use Rattle.adya_audit.proofs.Keys.{key_eq-true}
+use Rattle.adya_audit.specs.Visible.{is_shown}
 use Rattle.adya_audit.proofs.Finds.{option_or-none}
+use Rattle.adya_audit.proofs.ScanEdges.{scan_edges_are}
 
 -- one place among the numbers
 no_place : {A : Type 0} (f : ℕ → List A) (test : ℕ → Bool) (p a n : ℕ) → ((q : ℕ) → test q ≡ (q == p)) → p < a
@@ -150,9 +153,10 @@ module _ (h : History) (p : Edge → Bool) (t : ℕ) (r : Version) (v : List ℕ
   everywhere false e =
       sym (ap (λ ws. find p (read_dependencies r.key t r.txn (next_of ws r.txn))) (line_of-none r.key h.orders e))
 
-  read_is : (next : List ℕ → ℕ → Option (Option ℕ)) → next r.key r.txn ≡ next_of (writers h r.key) r.txn
-      → find p (event_edges h (Read t r v)) ≡ find p (item_edges next (Read t r v))
-  read_is next e =
+  read_is : (next : List ℕ → ℕ → Option (Option ℕ)) (shows : List ℕ → ℕ → Bool) (os : List Order)
+      → next r.key r.txn ≡ next_of (writers h r.key) r.txn
+      → find p (event_edges h (Read t r v)) ≡ find p (edges_of next shows os (Read t r v))
+  read_is next shows os e =
       elim (cases_Bool (r.txn == t)) [
         | inl own ↦
             ap (find p) (no_orders own h.orders) ∙
@@ -168,11 +172,18 @@ nothing : {X A : Type 0} (xs : List X) → flat_map (λ x. let none : List A = [
 nothing [] = refl
 nothing (x ∷ xs) = nothing xs
 
--- the first of an item event's edges
+-- the first of an event's edges
 pub find-event_edges : (h : History) (p : Edge → Bool) (next : List ℕ → ℕ → Option (Option ℕ))
+    (shows : List ℕ → ℕ → Bool) (ys : List OrderValue) → h.orders ≡ map order_of ys
+    → keys_rise (map (λ o. o.key) (map order_of ys)) ≡ true
     → ((k : List ℕ) (x : ℕ) → next k x ≡ next_of (writers h k) x)
-    → (e : EventValue) → find p (event_edges h (event_of e)) ≡ find p (item_edges next (event_of e))
-find-event_edges h p next same (In.Write t k m v) = ap (find p) (nothing h.orders)
-find-event_edges h p next same (In.Read t r v) = read_is h p t r (value_of v) next (same r.key r.txn)
-find-event_edges h p next same (In.Commit t) = ap (find p) (nothing h.orders)
-find-event_edges h p next same (In.Abort t) = ap (find p) (nothing h.orders)
+    → ((k : List ℕ) (x : ℕ) → shows k x ≡ is_shown h.events k x)
+    → (e : EventValue) → find p (event_edges h (event_of e)) ≡ find p (edges_of next shows (map order_of ys) (event_of e))
+find-event_edges h p next shows ys lines rise same shown (In.Write t k m v) = ap (find p) (nothing h.orders)
+find-event_edges h p next shows ys lines rise same shown (In.Delete t k m) = ap (find p) (nothing h.orders)
+find-event_edges h p next shows ys lines rise same shown (In.Read t r v) =
+    read_is h p t r (value_of v) next shows (map order_of ys) (same r.key r.txn)
+find-event_edges h p next shows ys lines rise same shown (In.Scan t low high es) =
+    ap (find p) (scan_edges_are h shows shown t low high (map entry_of es.items) ys lines rise)
+find-event_edges h p next shows ys lines rise same shown (In.Commit t) = ap (find p) (nothing h.orders)
+find-event_edges h p next shows ys lines rise same shown (In.Abort t) = ap (find p) (nothing h.orders)

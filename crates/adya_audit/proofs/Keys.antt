@@ -29,7 +29,7 @@ is_eq-slot_cmp k j t u =
     is_eq-ordering_then (slice_cmp nat_cmp k j) (nat_cmp t u) ∙
     (ap (λ b. b && is_eq (nat_cmp t u)) (sym (texts_ties k j)) ∙ ap (λ b. key_eq k j && b) (is_eq-nat_cmp t u))
 
-less_from_is_lt : (o : Ordering) → is_lt o ≡ true → o ≡ Less
+pub less_from_is_lt : (o : Ordering) → is_lt o ≡ true → o ≡ Less
 less_from_is_lt Less h = refl
 less_from_is_lt Equal h = absurd (true≢false (sym h))
 less_from_is_lt Greater h = absurd (true≢false (sym h))

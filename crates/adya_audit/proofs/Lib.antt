@@ -6,7 +6,11 @@ pub mod Committing
 pub mod Counts
 pub mod Finds
 pub mod Writes
+pub mod Scanning
+pub mod Ranges
+pub mod ScanEdges
 pub mod ItemEdges
 pub mod Whole
 pub mod Growth
 pub mod Accepting
+pub mod Shown

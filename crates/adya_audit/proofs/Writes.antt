@@ -24,7 +24,7 @@ from_numbers k f (x ∷ ws) a h =
     ap (λ es. joined Ww k (Some x) (slice_get ws 0) ++ es)
     (from_numbers k f ws (suc a) (λ j q e. h (suc j) q (omega (arith, e)))))
 
-installed : (h : History) (k : List ℕ) (j q : ℕ) → q ≡ j + 1 → installer h k q ≡ slice_get (writers h k) j
+pub installed : (h : History) (k : List ℕ) (j q : ℕ) → q ≡ j + 1 → installer h k q ≡ slice_get (writers h k) j
 installed h k j zero e = absurd (omega (arith, e))
 installed h k j (suc q) e = let same : q ≡ j = omega (arith, e) in ap (slice_get (writers h k)) same
 

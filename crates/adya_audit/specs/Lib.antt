@@ -9,3 +9,5 @@ pub mod Output
 pub mod Streams
 pub mod Laws
 pub mod TextVerdicts
+pub mod Visible
+pub mod Scans

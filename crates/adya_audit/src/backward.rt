@@ -1,8 +1,9 @@
 //! The first edge that doesn't go forward along a certificate.
 
-ghost use Rattle.std.specs.Prelude.{◌≡◌, Some, option_map, flat_map, filter, map};
+ghost use Rattle.std.specs.Prelude.{◌≡◌, Some, IfOk, option_map, flat_map, filter, map, true};
 ghost use Rattle.std.specs.Ordering.{nat_cmp};
 ghost use Rattle.std.specs.BTreeSet.{contains};
+ghost use Rattle.adya_terms.specs.Keys.{keys_rise};
 ghost use Rattle.adya_terms.specs.Histories.{event_of, order_of};
 ghost use Rattle.adya_terms.specs.Events.{txn_of};
 ghost use Rattle.adya_terms.specs.Orders.{place};
@@ -10,11 +11,14 @@ ghost use Rattle.adya_terms.specs.EdgeList.{joined};
 ghost use Rattle.adya_audit.specs.Edges.{kind_of, edge_of};
 ghost use Rattle.adya_audit.specs.Places.{HasPlaces};
 ghost use Rattle.adya_audit.specs.Next.{next_by};
-ghost use Rattle.adya_audit.specs.Backward.{backward_in, line_edges, read_dependencies, item_edges};
+ghost use Rattle.adya_audit.specs.Visible.{shows};
+ghost use Rattle.adya_audit.specs.Backward.{backward_in, line_edges, read_dependencies, edges_of};
 
 use crate::next::Slot;
+use crate::scan::first_of_scan;
 use crate::{Edge, Kind};
 use adya_terms::{Event, Key, Order, Txn, Version};
+use std::alloc::{AllocError, Global};
 use std::collections::{BTreeMap, BTreeSet};
 
 fn place(places: &BTreeMap<Txn, usize>, txns: &[Txn], t: Txn) -> usize
@@ -25,7 +29,7 @@ fn place(places: &BTreeMap<Txn, usize>, txns: &[Txn], t: Txn) -> usize
 }
 
 /// The edge, if it joins two transactions and doesn't go forward.
-fn if_backward(places: &BTreeMap<Txn, usize>, txns: &[Txn], edge: Edge) -> Option<Edge>
+pub(crate) fn if_backward(places: &BTreeMap<Txn, usize>, txns: &[Txn], edge: Edge) -> Option<Edge>
     requires { HasPlaces places.now txns.now }
     ensures { option_map edge_of result
         ≡ backward_in txns.now (joined (kind_of edge.kind) edge.key (Some edge.from) (Some edge.to)) }
@@ -117,56 +121,61 @@ fn first_of_read(
 }
 
 fn first_of_event(
+    alloc: Global,
     places: &BTreeMap<Txn, usize>,
     txns: &[Txn],
     next: &BTreeMap<Slot, Option<Txn>>,
+    visible: &BTreeMap<Slot, bool>,
+    orders: &[Order],
     e: &Event,
-) -> Option<Edge>
-    requires { HasPlaces places.now txns.now }
-    ensures { option_map edge_of result
-        ≡ backward_in txns.now (item_edges (next_by next.now) (event_of e.now)) }
+) -> Result<Option<Edge>, AllocError>
+    requires places { HasPlaces places.now txns.now }
+    requires rise { keys_rise (map (λ o. o.key) (map order_of orders.now)) ≡ true }
+    ensures { IfOk result (λ o. option_map edge_of o ≡ backward_in txns.now
+        (edges_of (next_by next.now) (shows visible.now) (map order_of orders.now) (event_of e.now))) }
 {
     match e {
         Event::Read { txn, version, .. } => {
             if version.txn == *txn {
-                return None;
+                return Ok(None);
             }
-            first_of_read(places, txns, next, *txn, *version)
+            Ok(first_of_read(places, txns, next, *txn, *version))
         }
-        _ => None,
+        Event::Scan {
+            txn,
+            lo,
+            hi,
+            entries,
+        } => first_of_scan(
+            alloc, places, txns, visible, orders, *txn, *lo, *hi, entries,
+        ),
+        _ => Ok(None),
     }
 }
 
-fn txn_of(e: &Event) -> Txn
-    ensures { result ≡ txn_of (event_of e.now) }
-{
-    match e {
-        Event::Write { txn, .. } => *txn,
-        Event::Read { txn, .. } => *txn,
-        Event::Commit { txn } => *txn,
-        Event::Abort { txn } => *txn,
-    }
-}
-
-/// The first read dependency or anti-dependency that doesn't go forward.
+/// The first read dependency or anti-dependency that doesn't go forward; `AllocError` where memory ran out.
 pub(crate) fn first_read(
+    alloc: Global,
     places: &BTreeMap<Txn, usize>,
     txns: &[Txn],
     committed: &BTreeSet<Txn>,
     next: &BTreeMap<Slot, Option<Txn>>,
+    visible: &BTreeMap<Slot, bool>,
+    orders: &[Order],
     events: &[Event],
-) -> Option<Edge>
-    requires { HasPlaces places.now txns.now }
-    ensures { option_map edge_of result
-        ≡ backward_in txns.now (flat_map (item_edges (next_by next.now))
-        (filter (λ e. contains nat_cmp committed.now (txn_of e)) (map event_of events.now))) }
+) -> Result<Option<Edge>, AllocError>
+    requires places { HasPlaces places.now txns.now }
+    requires rise { keys_rise (map (λ o. o.key) (map order_of orders.now)) ≡ true }
+    ensures { IfOk result (λ o. option_map edge_of o ≡ backward_in txns.now
+        (flat_map (edges_of (next_by next.now) (shows visible.now) (map order_of orders.now))
+        (filter (λ e. contains nat_cmp committed.now (txn_of e)) (map event_of events.now)))) }
 {
     for e in events {
-        if committed.contains(&txn_of(e)) {
-            if let Some(found) = first_of_event(places, txns, next, e) {
-                return Some(found);
+        if committed.contains(&e.txn()) {
+            if let Some(found) = first_of_event(alloc, places, txns, next, visible, orders, e)? {
+                return Ok(Some(found));
             }
         }
     }
-    None
+    Ok(None)
 }

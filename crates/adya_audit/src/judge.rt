@@ -14,6 +14,7 @@ use crate::certificate::lists_the_committed;
 use crate::committed::committed;
 use crate::next::next_writers;
 use crate::places::places;
+use crate::visible::visible;
 use crate::{Edge, Verdict};
 use adya_laws::edge_list_keeps_first;
 use adya_terms::{History, Serial, Txn};
@@ -60,5 +61,15 @@ fn first_backward(
         return Ok(found);
     }
     let next = next_writers(alloc, history.orders())?;
-    Ok(first_read(places, txns, committed, &next, history.events()))
+    let visible = visible(alloc, history.events())?;
+    first_read(
+        alloc,
+        places,
+        txns,
+        committed,
+        &next,
+        &visible,
+        history.orders(),
+        history.events(),
+    )
 }

@@ -8,14 +8,17 @@ mod committed;
 mod edge;
 mod judge;
 pub mod laws;
+mod listing;
 mod next;
 mod pipe;
 mod places;
 mod run_fault;
+mod scan;
 mod stream;
 #[cfg(test)]
 mod tests;
 mod verdict;
+mod visible;
 mod write_fault;
 mod writing;
 

@@ -3,7 +3,8 @@ use Rattle.std.proofs.Common.{◌≡◌, ℕ, true, false, List, [], ◌∷◌, 
 use Rattle.adya_terms.specs.declared.fault.Rule.TheVariants.{M1, M2, M3, M4, M5, M6, M7, M8}
 use Rattle.adya_terms.specs.declared.fault.CheckFault.{CheckFault}
 use Rattle.adya_terms.specs.declared.fault.CheckFault.TheVariants.{Malformed, AbortedRead, IntermediateRead}
-use Rattle.adya_terms.specs.Histories.{Live, Dead, Event, Write, Delete, Read, Scan, Commit, Abort, Order, FinalPair, One, Two, History}
+use Rattle.adya_terms.specs.Histories.{Live, Dead, Event, Write, Delete, Read, Scan, Commit, Abort, Order, FinalPair, History}
+use Rattle.adya_terms.specs.declared.edition.Edition.TheVariants.{One, Two}
 use Rattle.adya_terms.specs.Events.{version, entry}
 use Rattle.adya_terms.specs.Edges.{Kind, Ww, Wr, Rw, Edge}
 use Rattle.adya_terms.specs.EdgeList.{edge_list}

@@ -5,12 +5,12 @@ use Rattle.std.proofs.lemmas.Slice.Eq.{bytes_eq-Decides}
 use Rattle.std.proofs.lemmas.Option.{none-some, same_Some}
 use Rattle.adya_terms.specs.Keys.{IsTxn}
 use Rattle.adya_terms.specs.Histories.{Event, Write, Delete, Read, Scan, Commit, Abort, Order, FinalPair}
-use Rattle.adya_line.specs.Spelling.{history_head, serial_head, tail, event_text, order_text, final_text, txn_text}
+use Rattle.adya_line.specs.Spelling.{history_head, second_head, serial_head, tail, event_text, unfinished_text, order_text, final_text, txn_text}
 use Rattle.adya_line.specs.Limits.{IsEvent, IsOrder, IsFinal}
-use Rattle.adya_line.specs.Reading.{after, event_at, order_at, final_at, key_between, txn_at, txn_at_line}
+use Rattle.adya_line.specs.Reading.{after, event_at, unfinished_at, order_at, final_at, key_between, txn_at, txn_at_line}
 use Rattle.adya_line.specs.Laws.{IsReaderOf, IsOneText, Excludes, ExcludesLine}
 use Rattle.adya_line.proofs.Parts.{Only, line_takes, line_again}
-use Rattle.adya_line.proofs.Events.{event_takes, event_again}
+use Rattle.adya_line.proofs.Events.{event_takes, event_again, unfinished_takes, unfinished_again}
 use Rattle.adya_line.proofs.Orders.{order_takes, order_again}
 use Rattle.adya_line.proofs.Finals.{final_takes, final_again}
 
@@ -29,6 +29,9 @@ one read Is text again x y is_x is_y same = same_Some x y (sym (again x is_x) �
 pub events_read : IsReaderOf event_at IsEvent event_text
 events_read = reader event_at IsEvent event_text event_takes event_again
 
+pub unfinished_read : IsReaderOf unfinished_at IsTxn unfinished_text
+unfinished_read = reader unfinished_at IsTxn unfinished_text unfinished_takes unfinished_again
+
 pub orders_read : IsReaderOf order_at IsOrder order_text
 orders_read = reader order_at IsOrder order_text order_takes order_again
 
@@ -40,6 +43,9 @@ txns_read = reader txn_at_line IsTxn txn_text line_takes line_again
 
 pub one_event : IsOneText IsEvent event_text
 one_event = one event_at IsEvent event_text event_again
+
+pub one_unfinished : IsOneText IsTxn unfinished_text
+one_unfinished = one unfinished_at IsTxn unfinished_text unfinished_again
 
 pub one_order : IsOneText IsOrder order_text
 one_order = one order_at IsOrder order_text order_again
@@ -69,20 +75,49 @@ never read fixed refused line x is = differs line fixed (bytes_eq line fixed) re
 no_order : (e : Event) → IsEvent e → order_at (event_text e) ≡ None
 unfolding order_at key_between after event_text
 no_order (Write t k m v) is = refl
-no_order (Delete t k m) is = absurd is
+no_order (Delete t k m) is = refl
 no_order (Read t r v) is = refl
-no_order (Scan t low high es) is = absurd is
+no_order (Scan t low high es) is = refl
 no_order (Commit t) is = refl
 no_order (Abort t) is = refl
 
 no_final : (e : Event) → IsEvent e → final_at (event_text e) ≡ None
 unfolding final_at key_between after event_text
 no_final (Write t k m v) is = refl
-no_final (Delete t k m) is = absurd is
+no_final (Delete t k m) is = refl
 no_final (Read t r v) is = refl
-no_final (Scan t low high es) is = absurd is
+no_final (Scan t low high es) is = refl
 no_final (Commit t) is = refl
 no_final (Abort t) is = refl
+
+no_unfinished : (e : Event) → IsEvent e → unfinished_at (event_text e) ≡ None
+unfolding unfinished_at after event_text
+no_unfinished (Write t k m v) is = refl
+no_unfinished (Delete t k m) is = refl
+no_unfinished (Read t r v) is = refl
+no_unfinished (Scan t low high es) is = refl
+no_unfinished (Commit t) is = refl
+no_unfinished (Abort t) is = refl
+
+unfinished_no_event : (t : ℕ) → IsTxn t → event_at (unfinished_text t) ≡ None
+unfolding event_at
+unfinished_no_event t is = refl
+
+unfinished_no_order : (t : ℕ) → IsTxn t → order_at (unfinished_text t) ≡ None
+unfolding order_at key_between after
+unfinished_no_order t is = refl
+
+unfinished_no_final : (t : ℕ) → IsTxn t → final_at (unfinished_text t) ≡ None
+unfolding final_at key_between after
+unfinished_no_final t is = refl
+
+order_no_unfinished : (o : Order) → IsOrder o → unfinished_at (order_text o) ≡ None
+unfolding unfinished_at after order_text
+order_no_unfinished o is = refl
+
+final_no_unfinished : (f : FinalPair) → IsFinal f → unfinished_at (final_text f) ≡ None
+unfolding unfinished_at after final_text
+final_no_unfinished f is = refl
 
 order_no_event : (o : Order) → IsOrder o → event_at (order_text o) ≡ None
 unfolding event_at order_text
@@ -106,6 +141,24 @@ events_no_orders = apart event_at order_at IsEvent event_text events_read no_ord
 pub events_no_finals : Excludes event_at final_at
 events_no_finals = apart event_at final_at IsEvent event_text events_read no_final
 
+pub events_no_unfinished : Excludes event_at unfinished_at
+events_no_unfinished = apart event_at unfinished_at IsEvent event_text events_read no_unfinished
+
+pub unfinished_no_events : Excludes unfinished_at event_at
+unfinished_no_events = apart unfinished_at event_at IsTxn unfinished_text unfinished_read unfinished_no_event
+
+pub unfinished_no_orders : Excludes unfinished_at order_at
+unfinished_no_orders = apart unfinished_at order_at IsTxn unfinished_text unfinished_read unfinished_no_order
+
+pub unfinished_no_finals : Excludes unfinished_at final_at
+unfinished_no_finals = apart unfinished_at final_at IsTxn unfinished_text unfinished_read unfinished_no_final
+
+pub orders_no_unfinished : Excludes order_at unfinished_at
+orders_no_unfinished = apart order_at unfinished_at IsOrder order_text orders_read order_no_unfinished
+
+pub finals_no_unfinished : Excludes final_at unfinished_at
+finals_no_unfinished = apart final_at unfinished_at IsFinal final_text finals_read final_no_unfinished
+
 pub orders_no_events : Excludes order_at event_at
 orders_no_events = apart order_at event_at IsOrder order_text orders_read order_no_event
 
@@ -128,6 +181,22 @@ pub no_event_head : event_at history_head ≡ None
 unfolding event_at txn_at_line txn_at
 no_event_head = refl
 
+pub no_event_second_head : event_at second_head ≡ None
+unfolding event_at txn_at_line txn_at
+no_event_second_head = refl
+
+pub no_unfinished_tail : unfinished_at tail ≡ None
+unfolding unfinished_at after
+no_unfinished_tail = refl
+
+pub no_unfinished_head : unfinished_at history_head ≡ None
+unfolding unfinished_at after
+no_unfinished_head = refl
+
+pub no_unfinished_second_head : unfinished_at second_head ≡ None
+unfolding unfinished_at after
+no_unfinished_second_head = refl
+
 pub no_order_tail : order_at tail ≡ None
 unfolding order_at key_between after
 no_order_tail = refl
@@ -136,6 +205,10 @@ pub no_order_head : order_at history_head ≡ None
 unfolding order_at key_between after
 no_order_head = refl
 
+pub no_order_second_head : order_at second_head ≡ None
+unfolding order_at key_between after
+no_order_second_head = refl
+
 pub no_final_tail : final_at tail ≡ None
 unfolding final_at key_between after
 no_final_tail = refl
@@ -143,6 +216,10 @@ no_final_tail = refl
 pub no_final_head : final_at history_head ≡ None
 unfolding final_at key_between after
 no_final_head = refl
+
+pub no_final_second_head : final_at second_head ≡ None
+unfolding final_at key_between after
+no_final_second_head = refl
 
 pub no_txn_tail : txn_at_line tail ≡ None
 unfolding txn_at_line txn_at

@@ -6,12 +6,13 @@ use Rattle.std.proofs.lemmas.Option.{none-some, same_Some}
 use Rattle.adya_terms.specs.declared.event.Version.{Version}
 use Rattle.adya_terms.specs.Histories.{Event, Write, Delete, Read, Scan, Commit, Abort}
 use Rattle.adya_terms.specs.Keys.{is_value, is_value_byte, IsTxn}
-use Rattle.adya_line.specs.Spelling.{version_text, event_text}
+use Rattle.adya_line.specs.Spelling.{version_text, event_text, unfinished_text}
 use Rattle.adya_line.specs.Limits.{IsVersion, IsEvent}
-use Rattle.adya_line.specs.Reading.{Gives, ◌>>=◌, after, txn_at_line, write_at, read_at, event_at}
+use Rattle.adya_line.specs.Reading.{Gives, ◌>>=◌, after, txn_at_line, write_at, delete_at, read_at, event_at, unfinished_at}
 use Rattle.adya_line.specs.Views.{view}
 use Rattle.adya_line.specs.declared.event_ref.EventRef.{EventRef}
-use Rattle.adya_line.proofs.Parts.{Only, found, then, if_then, by_byte, nothing, ended, both_parts, after_takes, text_takes, text_again, txn_takes, txn_again, line_takes, line_again, version_then, version_then-is, version_takes, version_again}
+use Rattle.adya_line.proofs.Parts.{Only, found, then, weaken, if_then, by_byte, nothing, ended, both_parts, after_takes, text_takes, text_again, txn_takes, txn_again, line_takes, line_again, version_then, version_then-is, version_takes, version_again}
+use Rattle.adya_line.proofs.Scans.{scan_is, scan_takes, scan_again}
 
 -- ---- the texts, nested to the right
 
@@ -39,6 +40,19 @@ read_is : (txn : ℕ) (version : Version) (value : List ℕ)
 unfolding event_text
 read_is txn version value = ap (λ (t : List ℕ). 114 ∷ t) (parts_is txn version value)
 
+delete_then : Version → List ℕ
+delete_then version = decimal version.txn ++ (40 ∷ version_then version (41 ∷ []))
+
+nest_delete : (a b : List ℕ) → codes "d" ++ a ++ codes "(" ++ b ++ codes ")" ≡ 100 ∷ (a ++ (40 ∷ (b ++ (41 ∷ []))))
+nest_delete a b = simp append_assoc
+
+delete_is : (version : Version) → event_text (Delete version.txn version.key version.m) ≡ 100 ∷ delete_then version
+unfolding event_text delete_then
+delete_is version =
+    nest_delete (decimal version.txn) (version_text version) ∙
+    ap (λ (t : List ℕ). 100 ∷ (decimal version.txn ++ (40 ∷ t)))
+    (version_then-is version (41 ∷ []))
+
 -- ---- what is read is spelled so
 
 abbrev pub Spells : List ℕ → Event → Type 0
@@ -59,6 +73,19 @@ write_takes bytes =
     let whole : 119 ∷ bytes ≡ 119 ∷ parts_then version.0.txn version.0 value.0 =
     rw (t.0, same, o, v.0, c, l.0, n, ended end both.1) refl in
     rw same (whole ∙ sym (write_is version.0 value.0), (v.1, l.1)))))))))
+
+delete_takes : (bytes : List ℕ) → Only (delete_at bytes) (Spells (100 ∷ bytes))
+unfolding delete_at delete_then
+delete_takes bytes =
+    then (txn_takes bytes) (λ (txn : ℕ × List ℕ) t.
+    then (after_takes 40 txn.1) (λ (inner : List ℕ) o.
+    then (version_takes inner) (λ (version : Version × List ℕ) v.
+    then (after_takes 41 version.1) (λ (end : List ℕ) n.
+    if_then _ _ (λ e.
+    let both = both_parts (eqb version.0.txn txn.0) (eqb (length end) 0) e in
+    let same : txn.0 ≡ version.0.txn = sym (eqb-true version.0.txn txn.0 both.0) in
+    let whole : 100 ∷ bytes ≡ 100 ∷ delete_then version.0 = rw (t.0, same, o, v.0, n, ended end both.1) refl in
+    rw same (whole ∙ sym (delete_is version.0), v.1))))))
 
 read_takes : (bytes : List ℕ) → Only (read_at bytes) (Spells (114 ∷ bytes))
 unfolding read_at parts_then
@@ -86,8 +113,9 @@ pub event_takes : (line : List ℕ) → Only (event_at line) (Spells line)
 unfolding event_at
 event_takes [] = nothing
 event_takes (b ∷ bytes) =
-    by_byte b 119 (λ e. rw e (write_takes bytes)) (by_byte b 114 (λ e. rw e (read_takes bytes))
-    (by_byte b 99 (λ e. rw e (commit_takes bytes)) (by_byte b 97 (λ e. rw e (abort_takes bytes)) nothing)))
+    by_byte b 119 (λ e. rw e (write_takes bytes)) (by_byte b 100 (λ e. rw e (delete_takes bytes))
+    (by_byte b 114 (λ e. rw e (read_takes bytes)) (by_byte b 115 (λ e. rw e (scan_takes bytes))
+    (by_byte b 99 (λ e. rw e (commit_takes bytes)) (by_byte b 97 (λ e. rw e (abort_takes bytes)) nothing)))))
 
 -- ---- each event is read from its text
 
@@ -99,6 +127,16 @@ write_again version value is good =
       txn_again version.txn (40 ∷ version_then version (44 ∷ (value ++ (41 ∷ [])))) is.txn refl,
       version_again version (44 ∷ (value ++ (41 ∷ []))) is refl,
       text_again 64 is_value_byte value (41 ∷ []) good refl,
+      eq-eqb version.txn version.txn refl,
+    ) refl
+
+delete_again : (version : Version) → IsVersion version
+    → delete_at (delete_then version) ≡ Some (Delete version.txn version.key version.m)
+unfolding delete_at after delete_then
+delete_again version is =
+    rw (
+      txn_again version.txn (40 ∷ version_then version (41 ∷ [])) is.txn refl,
+      version_again version (41 ∷ []) is refl,
       eq-eqb version.txn version.txn refl,
     ) refl
 
@@ -117,12 +155,27 @@ unfolding event_at event_text
 event_again (Write txn key m value) is =
     let version : Version = record { key = key; txn = txn; m = m } in
     ap event_at (write_is version value) ∙ write_again version value is.0 is.1
-event_again (Delete txn key m) is = absurd is
+event_again (Delete txn key m) is =
+    let version : Version = record { key = key; txn = txn; m = m } in
+    ap event_at (delete_is version) ∙ delete_again version is
 event_again (Read txn version value) is = ap event_at (read_is txn version value)
     ∙ read_again txn version value is.0 is.1 is.2
-event_again (Scan txn low high entries) is = absurd is
+event_again (Scan txn low high entries) is = ap event_at (scan_is txn low high entries)
+    ∙ scan_again txn low high entries is.0 is.1 is.2 is.3
 event_again (Commit txn) is = rw (line_again txn is) refl
 event_again (Abort txn) is = rw (line_again txn is) refl
+
+-- ---- unfinished transactions
+
+pub unfinished_takes : (line : List ℕ) → Only (unfinished_at line) (λ t. (line ≡ unfinished_text t) × IsTxn t)
+unfolding unfinished_at
+unfinished_takes line =
+    then (after_takes 117 line) (λ (rest : List ℕ) u.
+    weaken (line_takes rest) (λ (t : ℕ) h. (u ∙ ap (λ (x : List ℕ). 117 ∷ x) h.0, h.1)))
+
+pub unfinished_again : (t : ℕ) → IsTxn t → unfinished_at (unfinished_text t) ≡ Some t
+unfolding unfinished_at after
+unfinished_again t is = line_again t is
 
 -- ---- what the reader's answer says
 

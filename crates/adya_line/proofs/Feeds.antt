@@ -9,9 +9,9 @@ use Rattle.std.proofs.lemmas.List.Concat.{flat_map-cons}
 use Rattle.std.proofs.lemmas.Fmt.{digits_decimal}
 use Rattle.adya_terms.specs.declared.event.Version.{Version}
 use Rattle.adya_terms.specs.Keys.{is_key, is_value, is_key_byte, is_value_byte, IsTxn}
-use Rattle.adya_terms.specs.Histories.{Write, Delete, Read, Scan, Commit, Abort}
-use Rattle.adya_line.specs.Spelling.{history_head, serial_head, tail, version_text, event_text, later_text, writers_text, order_text, final_text}
-use Rattle.adya_line.specs.Limits.{IsVersion, IsEvent, IsOrder, IsFinal}
+use Rattle.adya_terms.specs.Histories.{Content, Live, Dead, Entry, Write, Delete, Read, Scan, Commit, Abort}
+use Rattle.adya_line.specs.Spelling.{history_head, second_head, serial_head, tail, version_text, content_text, entry_text, event_text, unfinished_text, later_text, writers_text, order_text, final_text}
+use Rattle.adya_line.specs.Limits.{IsVersion, IsContent, IsEntry, IsEvent, IsOrder, IsFinal}
 use Rattle.adya_line.specs.Laws.{IsPlain, HasPlainTexts}
 use Rattle.adya_line.proofs.Parts.{both_parts}
 use Rattle.adya_line.proofs.Digits.{model, list_all-is}
@@ -68,13 +68,33 @@ access_plain letter t v value l is_t is_v good =
     with_text (with_text (with_text (with_text (with_text (with_text l (txn_plain t is_t)) (fixed (codes "(") refl))
     (version_plain v is_v)) (fixed (codes ",") refl)) (value_plain value good)) (fixed (codes ")") refl)
 
+content_plain : (c : Content) → IsContent c → Plain (content_text c)
+content_plain (Live value) is = value_plain value is
+content_plain Dead is = fixed (codes "!") refl
+
+entries_plain : (es : List Entry) → AllByRecursion IsEntry es → Plain (flat_map entry_text es)
+entries_plain [] is = fixed [] refl
+entries_plain (e ∷ es) is =
+    rw (flat_map-cons entry_text e es) (with_text (with_text (with_text (with_text (fixed (codes ";") refl)
+    (version_plain e.version is.0.version)) (fixed (codes ",") refl)) (content_plain e.content is.0.content))
+    (entries_plain es is.1))
+
+scan_plain : (t : ℕ) (low high : List ℕ) (es : List Entry) → IsTxn t → is_key low ≡ true → is_key high ≡ true
+    → AllByRecursion IsEntry es
+    → Plain (codes "s" ++ decimal t ++ codes "(" ++ low ++ codes "," ++ high ++ flat_map entry_text es ++ codes ")")
+scan_plain t low high es is_t is_low is_high are =
+    with_text (with_text (with_text (with_text (with_text (with_text (with_text (fixed (codes "s") refl)
+    (txn_plain t is_t)) (fixed (codes "(") refl)) (key_plain low is_low)) (fixed (codes ",") refl)) (key_plain high is_high))
+    (entries_plain es are)) (fixed (codes ")") refl)
+
 pub events_plain : HasPlainTexts IsEvent event_text
 unfolding event_text
 events_plain (Write t k m v) is = (access_plain (codes "w") t (record { key = k; txn = t; m = m }) v
     (fixed (codes "w") refl) is.0.txn is.0 is.1).holds
-events_plain (Delete t k m) is = absurd is
+events_plain (Delete t k m) is = (with_text (with_text (with_text (with_text (fixed (codes "d") refl)
+    (txn_plain t is.txn)) (fixed (codes "(") refl)) (version_plain (record { key = k; txn = t; m = m }) is)) (fixed (codes ")") refl)).holds
 events_plain (Read t r v) is = (access_plain (codes "r") t r v (fixed (codes "r") refl) is.0 is.1 is.2).holds
-events_plain (Scan t low high es) is = absurd is
+events_plain (Scan t low high es) is = (scan_plain t low high es is.0 is.1 is.2 is.3).holds
 events_plain (Commit t) is = (with_text (fixed (codes "c") refl) (txn_plain t is)).holds
 events_plain (Abort t) is = (with_text (fixed (codes "a") refl) (txn_plain t is)).holds
 
@@ -99,11 +119,17 @@ finals_plain f is =
     (with_text (with_text (with_text (with_text (fixed (codes "{") refl) (key_plain f.key is.key))
     (fixed (codes ",") refl)) (value_plain f.value is.value)) (fixed (codes "}") refl)).holds
 
+pub unfinished_plain : HasPlainTexts IsTxn unfinished_text
+unfinished_plain t is = (with_text (fixed (codes "u") refl) (txn_plain t is)).holds
+
 pub txns_plain : HasPlainTexts IsTxn decimal
 txns_plain t is = (txn_plain t is).holds
 
 pub history_head_plain : IsPlain history_head
 history_head_plain = (fixed history_head refl).holds
+
+pub second_head_plain : IsPlain second_head
+second_head_plain = (fixed second_head refl).holds
 
 pub serial_head_plain : IsPlain serial_head
 serial_head_plain = (fixed serial_head refl).holds

@@ -1,5 +1,6 @@
 pub mod Digits
 pub mod Parts
+pub mod Scans
 pub mod Events
 pub mod Orders
 pub mod Finals

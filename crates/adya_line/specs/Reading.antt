@@ -5,7 +5,7 @@ use Rattle.std.specs.Char.{is_ascii_digit}
 use Rattle.std.specs.Str.Parse.{digits_value}
 use Rattle.adya_terms.specs.declared.event.Version.{Version}
 use Rattle.adya_terms.specs.Keys.{is_key_byte, is_value_byte}
-use Rattle.adya_terms.specs.Histories.{Event, Write, Read, Commit, Abort, Order, FinalPair}
+use Rattle.adya_terms.specs.Histories.{Content, Live, Dead, Entry, Event, Write, Delete, Read, Scan, Commit, Abort, Order, FinalPair}
 
 -- What a function returned, seen by view, is what reading gives.
 abbrev pub Gives : {X Y : Type 0} → (X → Y) → Option X → Option Y → Type 0
@@ -65,6 +65,11 @@ version_at bytes = do
 abbrev pub whole : {A : Type 0} → A → List ℕ → Option A
 whole x rest = if length rest == 0 then Some x else None
 
+-- what comes of a part that may be there
+abbrev pub none_or : {A B : Type 0} → Option B → A → (B → A) → A
+none_or None absent present = absent
+none_or (Some part) absent present = present part
+
 -- T(K.T:M,V), both T the same
 unfoldable pub write_at : List ℕ → Option Event
 write_at bytes = do
@@ -75,6 +80,15 @@ write_at bytes = do
   value ← text_at 64 is_value_byte comma
   end ← after 41 value.1
   if version.0.txn == txn.0 && length end == 0 then Some (Write txn.0 version.0.key version.0.m value.0) else None
+
+-- T(K.T:M), both T the same
+unfoldable pub delete_at : List ℕ → Option Event
+delete_at bytes = do
+  txn ← txn_at bytes
+  inner ← after 40 txn.1
+  version ← version_at inner
+  end ← after 41 version.1
+  if version.0.txn == txn.0 && length end == 0 then Some (Delete txn.0 version.0.key version.0.m) else None
 
 -- T(K.T:M,V)
 unfoldable pub read_at : List ℕ → Option Event
@@ -87,6 +101,49 @@ read_at bytes = do
   end ← after 41 value.1
   whole (Read txn.0 version.0 value.0) end
 
+-- V or !, and what follows
+unfoldable pub content_at : List ℕ → Option (Content × List ℕ)
+content_at bytes =
+    none_or (after 33 bytes) (text_at 64 is_value_byte bytes >>= λ value. Some (Live value.0, value.1))
+    (λ rest. Some (Dead, rest))
+
+-- ;K.T:M,V or ;K.T:M,!, and what follows
+unfoldable pub entry_at : List ℕ → Option (Entry × List ℕ)
+entry_at bytes = do
+  mark ← after 59 bytes
+  version ← version_at mark
+  comma ← after 44 version.1
+  content ← content_at comma
+  Some (record { version = version.0; content = content.0 }, content.1)
+
+-- an entry before those that were read
+abbrev pub behind_entry : Entry → List Entry × List ℕ → List Entry × List ℕ
+behind_entry e read = (e ∷ read.0, read.1)
+
+-- the entries at the front, at most n of them, and what follows
+unfoldable pub entries_at : ℕ → List ℕ → List Entry × List ℕ
+entries_at zero bytes = ([], bytes)
+entries_at (suc n) bytes = none_or (entry_at bytes) ([], bytes) (λ e. behind_entry e.0 (entries_at n e.1))
+
+-- all the entries at the front
+abbrev pub entries_of : List ℕ → List Entry
+entries_of bytes = (entries_at (length bytes) bytes).0
+
+-- what follows all the entries at the front
+abbrev pub after_entries : List ℕ → List ℕ
+after_entries bytes = (entries_at (length bytes) bytes).1
+
+-- T(K,K;K.T:M,V;..)
+unfoldable pub scan_at : List ℕ → Option Event
+scan_at bytes = do
+  txn ← txn_at bytes
+  inner ← after 40 txn.1
+  low ← text_at 32 is_key_byte inner
+  comma ← after 44 low.1
+  high ← text_at 32 is_key_byte comma
+  end ← after 41 (after_entries high.1)
+  whole (Scan txn.0 low.0 high.0 (entries_of high.1)) end
+
 -- the number that is all of the line
 unfoldable pub txn_at_line : List ℕ → Option ℕ
 txn_at_line bytes = txn_at bytes >>= λ txn. whole txn.0 txn.1
@@ -96,15 +153,16 @@ unfoldable pub event_at : List ℕ → Option Event
 event_at [] = None
 event_at (b ∷ bytes) =
     if b == 119 then write_at bytes
+    else (if b == 100 then delete_at bytes
     else (if b == 114 then read_at bytes
+    else (if b == 115 then scan_at bytes
     else (if b == 99 then (txn_at_line bytes >>= λ txn. Some (Commit txn))
     else (if b == 97 then (txn_at_line bytes >>= λ txn. Some (Abort txn))
-    else None)))
+    else None)))))
 
--- what follows a byte, if it is there
-abbrev pub none_or : {A : Type 0} → Option (List ℕ) → A → (List ℕ → A) → A
-none_or None absent present = absent
-none_or (Some rest) absent present = present rest
+-- the unfinished transaction of the line
+unfoldable pub unfinished_at : List ℕ → Option ℕ
+unfinished_at line = after 117 line >>= txn_at_line
 
 -- the second byte of the mark << and a number, and what follows
 unfoldable pub writer_at : List ℕ → Option (ℕ × List ℕ)

@@ -1,10 +1,14 @@
--- The one line of each event, order, final and transaction number, without its line feed.
+-- The one line of each event, unfinished transaction, order, final and transaction number, without its line feed.
 use Rattle.std.specs.Prelude.{ℕ, List, [], ◌∷◌, ◌++◌, codes, decimal, flat_map}
 use Rattle.adya_terms.specs.declared.event.Version.{Version}
 use Rattle.adya_terms.specs.Histories.{Content, Live, Dead, Entry, Event, Write, Delete, Read, Scan, Commit, Abort, Order, FinalPair}
 
 abbrev pub history_head : List ℕ
 history_head = codes "adya 1"
+
+-- of an edition with unfinished transactions
+abbrev pub second_head : List ℕ
+second_head = codes "adya 2"
 
 abbrev pub serial_head : List ℕ
 serial_head = codes "serial 1"
@@ -38,6 +42,10 @@ event_text (Scan t low high es) =
     codes "s" ++ decimal t ++ codes "(" ++ low ++ codes "," ++ high ++ flat_map entry_text es ++ codes ")"
 event_text (Commit t) = codes "c" ++ decimal t
 event_text (Abort t) = codes "a" ++ decimal t
+
+-- uT
+abbrev pub unfinished_text : ℕ → List ℕ
+unfinished_text t = codes "u" ++ decimal t
 
 -- <<T
 abbrev pub later_text : ℕ → List ℕ

@@ -1,16 +1,18 @@
 //! The lines of events.
 
-ghost use Rattle.std.specs.Prelude.{◌≡◌, IfSome, MatchOption};
+ghost use Rattle.std.specs.Prelude.{◌≡◌, IfSome, IfOk, MatchOption};
 ghost use Rattle.adya_terms.specs.Histories.{Event as Plain, event_of};
-ghost use Rattle.adya_line.specs.Reading.{Gives, write_at, read_at, event_at};
+ghost use Rattle.adya_line.specs.Reading.{Gives, write_at, delete_at, read_at, scan_at, event_at};
 ghost use Rattle.adya_line.specs.Spelling.{event_text};
 ghost use Rattle.adya_line.specs.Limits.{IsEvent};
 ghost use Rattle.adya_line.specs.Views.{view};
 
-use crate::event_ref::{EndRef, EventRef, ReadRef, WriteRef};
-use crate::fields::{after, txn_at, value_at, version_at};
+use crate::entries::after_entries;
+use crate::event_ref::{DeleteRef, EndRef, EventRef, ReadRef, ScanRef, WriteRef};
+use crate::fields::{after, key_at, txn_at, value_at, version_at};
 use crate::txn_line::txn_at_line;
 use adya_terms::Event;
+use std::alloc::{AllocError, Global};
 
 /// A write behind its letter.
 #[tactic(auto, unfolding(crate::specs::Reading::write_at))]
@@ -27,6 +29,21 @@ fn write_at(bytes: &[u8]) -> Option<EventRef<'_>>
         return None;
     }
     Some(EventRef::Write(WriteRef { version, value }))
+}
+
+/// A delete behind its letter.
+#[tactic(auto, unfolding(crate::specs::Reading::delete_at))]
+fn delete_at(bytes: &[u8]) -> Option<EventRef<'_>>
+    ensures { Gives view result (delete_at bytes.now) }
+{
+    let (txn, rest) = txn_at(bytes)?;
+    let rest = after(b'(', rest)?;
+    let (version, rest) = version_at(rest)?;
+    let rest = after(b')', rest)?;
+    if !rest.is_empty() || version.txn != txn {
+        return None;
+    }
+    Some(EventRef::Delete(DeleteRef { version }))
 }
 
 /// A read behind its letter.
@@ -50,13 +67,37 @@ fn read_at(bytes: &[u8]) -> Option<EventRef<'_>>
     }))
 }
 
+/// A scan behind its letter.
+#[tactic(auto, unfolding(crate::specs::Reading::scan_at))]
+fn scan_at(bytes: &[u8]) -> Option<EventRef<'_>>
+    ensures { Gives view result (scan_at bytes.now) }
+{
+    let (txn, rest) = txn_at(bytes)?;
+    let rest = after(b'(', rest)?;
+    let (lo, rest) = key_at(rest)?;
+    let rest = after(b',', rest)?;
+    let (hi, listed) = key_at(rest)?;
+    let rest = after(b')', after_entries(listed))?;
+    if !rest.is_empty() {
+        return None;
+    }
+    Some(EventRef::Scan(ScanRef {
+        txn,
+        lo,
+        hi,
+        listed,
+    }))
+}
+
 #[tactic(auto, unfolding(crate::specs::Reading::event_at))]
 fn event_at(line: &[u8]) -> Option<EventRef<'_>>
     ensures { Gives view result (event_at line.now) }
 {
     match line {
         [b'w', rest @ ..] => write_at(rest),
+        [b'd', rest @ ..] => delete_at(rest),
         [b'r', rest @ ..] => read_at(rest),
+        [b's', rest @ ..] => scan_at(rest),
         [b'c', rest @ ..] => Some(EventRef::Commit(EndRef {
             txn: txn_at_line(rest)?,
         })),
@@ -67,8 +108,8 @@ fn event_at(line: &[u8]) -> Option<EventRef<'_>>
     }
 }
 
-/// The event whose line this is, without its line feed: `wT(K.T:M,V)`, `rT(K.T:M,V)`, `cT` or `aT`. None on every
-/// other text.
+/// The event whose line this is, without its line feed: `wT(K.T:M,V)`, `dT(K.T:M)`, `rT(K.T:M,V)`,
+/// `sT(K,K;K.T:M,V;..)`, `cT` or `aT`. None on every other text. A scan's entries are read as they are asked for.
 pub fn read_event(line: &[u8]) -> Option<EventRef<'_>>
     ensures found { IfSome result (λ e. (line.now ≡ event_text (view e)) × IsEvent (view e)) }
     ensures exact { Gives view result (event_at line.now) }
@@ -77,9 +118,13 @@ pub fn read_event(line: &[u8]) -> Option<EventRef<'_>>
     event_at(line)
 }
 
-/// The event whose line this is, by itself. None where [`read_event`] gives none.
-pub fn event(line: &[u8]) -> Option<Event>
-    ensures { Gives event_of result (event_at line.now) }
+/// The event whose line this is, by itself. None where [`read_event`] gives none; `AllocError` where there is no
+/// memory for a scan's list.
+pub fn event(alloc: Global, line: &[u8]) -> Result<Option<Event>, AllocError>
+    ensures { IfOk result (λ r. Gives event_of r (event_at line.now)) }
 {
-    Some(read_event(line)?.event())
+    let Some(found) = read_event(line) else {
+        return Ok(None);
+    };
+    Ok(Some(found.to_event(alloc)?))
 }

@@ -3,7 +3,8 @@
 ghost use Rattle.std.specs.Prelude.{◌≡◌, true};
 ghost use Rattle.adya_terms.specs.Keys.{is_key, is_value, IsTxn, IsMod};
 
-use adya_terms::{Event, Key, Mod, Txn, Value, Version};
+use crate::entries::Entries;
+use adya_terms::{Entry, Event, Key, Mod, Txn, Value, Version};
 use std::alloc::{AllocError, Global};
 
 /// A version whose key is a slice of the line.
@@ -25,6 +26,12 @@ pub struct WriteRef<'a> {
     pub ghost is_value: { is_value value.now ≡ true },
 }
 
+/// A delete whose key is a slice of the line.
+#[derive(Clone, Copy)]
+pub struct DeleteRef<'a> {
+    pub version: VersionRef<'a>,
+}
+
 /// A read whose key and value are slices of the line.
 #[derive(Clone, Copy)]
 pub struct ReadRef<'a> {
@@ -33,6 +40,19 @@ pub struct ReadRef<'a> {
     pub value: &'a [u8],
     pub ghost is_txn: { IsTxn txn },
     pub ghost is_value: { is_value value.now ≡ true },
+}
+
+/// A scan whose keys and entries are slices of the line.
+#[derive(Clone, Copy)]
+pub struct ScanRef<'a> {
+    pub txn: u32,
+    pub lo: &'a [u8],
+    pub hi: &'a [u8],
+    /// The line from the first entry's `;` on, or from the closing bracket on where there is no entry.
+    pub listed: &'a [u8],
+    pub ghost is_txn: { IsTxn txn },
+    pub ghost is_lo: { is_key lo.now ≡ true },
+    pub ghost is_hi: { is_key hi.now ≡ true },
 }
 
 /// A commit or an abort.
@@ -48,8 +68,12 @@ pub struct EndRef {
 pub enum EventRef<'a> {
     /// The transaction of the version writes it.
     Write(WriteRef<'a>),
+    /// The transaction of the version deletes the key: the version is dead.
+    Delete(DeleteRef<'a>),
     /// The transaction reads a version and finds the value.
     Read(ReadRef<'a>),
+    /// The transaction scans the keys from `lo` to `hi`, both included, and is shown the entries.
+    Scan(ScanRef<'a>),
     /// The transaction commits.
     Commit(EndRef),
     /// The transaction aborts.
@@ -61,27 +85,32 @@ impl EventRef<'_> {
     ghost use Rattle.adya_terms.specs.Histories.{event_of};
     ghost use Rattle.adya_line.specs.Views.{view};
 
-    /// The event by itself. No event takes memory so far.
-    pub fn to_event(&self, _alloc: Global) -> Result<Event, AllocError>
+    /// The event by itself; `AllocError` where there is no memory for a scan's list.
+    pub fn to_event(&self, alloc: Global) -> Result<Event, AllocError>
         ensures { IfOk result (λ e. event_of e ≡ view self.now) }
     {
-        Ok(self.event())
-    }
-
-    pub(crate) fn event(&self) -> Event
-        ensures { event_of result ≡ view self.now }
-    {
-        match self {
+        Ok(match self {
             EventRef::Write(w) => Event::Write {
                 txn: Txn::new(u64::from(w.version.txn)).unwrap(),
                 key: Key::new(w.version.key).unwrap(),
                 m: Mod::new(u64::from(w.version.m)).unwrap(),
                 value: Value::new(w.value).unwrap(),
             },
+            EventRef::Delete(d) => Event::Delete {
+                txn: Txn::new(u64::from(d.version.txn)).unwrap(),
+                key: Key::new(d.version.key).unwrap(),
+                m: Mod::new(u64::from(d.version.m)).unwrap(),
+            },
             EventRef::Read(r) => Event::Read {
                 txn: Txn::new(u64::from(r.txn)).unwrap(),
                 version: r.version.version(),
                 value: Value::new(r.value).unwrap(),
+            },
+            EventRef::Scan(s) => Event::Scan {
+                txn: Txn::new(u64::from(s.txn)).unwrap(),
+                lo: Key::new(s.lo).unwrap(),
+                hi: Key::new(s.hi).unwrap(),
+                entries: s.to_entries(alloc)?,
             },
             EventRef::Commit(e) => Event::Commit {
                 txn: Txn::new(u64::from(e.txn)).unwrap(),
@@ -89,14 +118,39 @@ impl EventRef<'_> {
             EventRef::Abort(e) => Event::Abort {
                 txn: Txn::new(u64::from(e.txn)).unwrap(),
             },
+        })
+    }
+}
+
+impl<'a> ScanRef<'a> {
+    ghost use Rattle.std.specs.Prelude.{map, IfOk};
+    ghost use Rattle.adya_terms.specs.Histories.{entry_of};
+    ghost use Rattle.adya_line.specs.Reading.{entries_of};
+    ghost use Rattle.adya_line.specs.Views.{entries_left};
+
+    /// The entries, in the order of the line.
+    pub fn entries(&self) -> Entries<'a>
+        ensures { entries_left result ≡ entries_of self.now.listed.now }
+    {
+        Entries::new(self.listed)
+    }
+
+    fn to_entries(&self, alloc: Global) -> Result<Vec<Entry>, AllocError>
+        ensures { IfOk result (λ v. map entry_of v.items ≡ entries_of self.now.listed.now) }
+    {
+        let mut owned = Vec::new(alloc);
+        let mut left = self.entries();
+        while let Some(entry) = left.next() {
+            owned.push(entry.to_entry())?;
         }
+        Ok(owned)
     }
 }
 
 impl VersionRef<'_> {
     ghost use Rattle.adya_line.specs.Views.{view_version};
 
-    fn version(&self) -> Version
+    pub(crate) fn version(&self) -> Version
         ensures { result ≡ view_version self.now }
     {
         Version {

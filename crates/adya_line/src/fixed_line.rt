@@ -1,13 +1,20 @@
 //! The lines that each text has once.
 
 ghost use Rattle.std.specs.Prelude.{◌≡◌};
-ghost use Rattle.adya_line.specs.Spelling.{history_head, serial_head, tail};
+ghost use Rattle.adya_line.specs.Spelling.{history_head, second_head, serial_head, tail};
 
 /// The first line of a history, without its line feed: `adya 1`.
 pub fn history_head() -> &'static [u8]
     ensures { result.now ≡ history_head }
 {
     b"adya 1"
+}
+
+/// The first line of a history of the second edition, without its line feed: `adya 2`.
+pub fn second_head() -> &'static [u8]
+    ensures { result.now ≡ second_head }
+{
+    b"adya 2"
 }
 
 /// The first line of a certificate, without its line feed: `serial 1`.

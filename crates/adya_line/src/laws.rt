@@ -1,19 +1,26 @@
 //! What holds of lines: the calls change nothing, and their contracts are the laws.
 
-ghost use Rattle.std.specs.Prelude.{ℕ, ◌<◌, length};
+ghost use Rattle.std.specs.Prelude.{ℕ, ◌<◌, length, map};
+ghost use Rattle.std.specs.List.{AllByRecursion};
 ghost use Rattle.adya_terms.specs.Keys.{IsTxn};
-ghost use Rattle.adya_terms.specs.Histories.{event_of, order_of, final_of};
-ghost use Rattle.adya_line.specs.Spelling.{history_head, serial_head, tail, event_text, order_text, final_text, txn_text};
-ghost use Rattle.adya_line.specs.Limits.{IsEvent, IsOrder, IsFinal};
-ghost use Rattle.adya_line.specs.Reading.{event_at, order_at, final_at, txn_at_line};
+ghost use Rattle.adya_terms.specs.Histories.{entry_of, event_of, order_of, final_of};
+ghost use Rattle.adya_line.specs.Spelling.{history_head, second_head, serial_head, tail, event_text, unfinished_text, order_text, final_text, txn_text};
+ghost use Rattle.adya_line.specs.Limits.{IsEntry, IsEvent, IsOrder, IsFinal};
+ghost use Rattle.adya_line.specs.Reading.{event_at, unfinished_at, order_at, final_at, txn_at_line};
 ghost use Rattle.adya_line.specs.Laws.{IsReaderOf, IsOneText, Excludes, ExcludesLine, IsPlain, HasPlainTexts};
 
-use adya_terms::{Event, FinalPair, Order};
+use adya_terms::{Content, Entry, Event, FinalPair, Order};
 
 /// The lines of events are the texts of the events within their limits.
 pub fn event_lines()
     ensures reading { IsReaderOf event_at IsEvent event_text }
     ensures one_text { IsOneText IsEvent event_text }
+{}
+
+/// The lines of unfinished transactions are the texts of the numbers within their limits.
+pub fn unfinished_lines()
+    ensures reading { IsReaderOf unfinished_at IsTxn unfinished_text }
+    ensures one_text { IsOneText IsTxn unfinished_text }
 {}
 
 /// The lines of orders are the texts of the orders within their limits.
@@ -36,26 +43,42 @@ pub fn txn_lines()
 
 /// No line of an event is one of another kind.
 pub fn events_apart()
+    ensures unfinished { Excludes event_at unfinished_at }
     ensures orders { Excludes event_at order_at }
     ensures finals { Excludes event_at final_at }
     ensures tail { ExcludesLine event_at tail }
     ensures head { ExcludesLine event_at history_head }
+    ensures second_head { ExcludesLine event_at second_head }
+{}
+
+/// No line of an unfinished transaction is one of another kind.
+pub fn unfinished_apart()
+    ensures events { Excludes unfinished_at event_at }
+    ensures orders { Excludes unfinished_at order_at }
+    ensures finals { Excludes unfinished_at final_at }
+    ensures tail { ExcludesLine unfinished_at tail }
+    ensures head { ExcludesLine unfinished_at history_head }
+    ensures second_head { ExcludesLine unfinished_at second_head }
 {}
 
 /// No line of an order is one of another kind.
 pub fn orders_apart()
     ensures events { Excludes order_at event_at }
+    ensures unfinished { Excludes order_at unfinished_at }
     ensures finals { Excludes order_at final_at }
     ensures tail { ExcludesLine order_at tail }
     ensures head { ExcludesLine order_at history_head }
+    ensures second_head { ExcludesLine order_at second_head }
 {}
 
 /// No line of a final is one of another kind.
 pub fn finals_apart()
     ensures events { Excludes final_at event_at }
+    ensures unfinished { Excludes final_at unfinished_at }
     ensures orders { Excludes final_at order_at }
     ensures tail { ExcludesLine final_at tail }
     ensures head { ExcludesLine final_at history_head }
+    ensures second_head { ExcludesLine final_at second_head }
 {}
 
 /// No line of a certificate is its head or its tail.
@@ -67,10 +90,12 @@ pub fn txns_apart()
 /// No line has a line feed in it.
 pub fn no_line_feeds()
     ensures events { HasPlainTexts IsEvent event_text }
+    ensures unfinished { HasPlainTexts IsTxn unfinished_text }
     ensures orders { HasPlainTexts IsOrder order_text }
     ensures finals { HasPlainTexts IsFinal final_text }
     ensures txns { HasPlainTexts IsTxn txn_text }
     ensures history_head { IsPlain history_head }
+    ensures second_head { IsPlain second_head }
     ensures serial_head { IsPlain serial_head }
     ensures tail { IsPlain tail }
 {}
@@ -86,6 +111,11 @@ pub fn event_within(event: &Event)
             let _ = m.get();
             let _ = value.bytes();
         }
+        Event::Delete { txn, key, m } => {
+            let _ = txn.get();
+            let _ = key.bytes();
+            let _ = m.get();
+        }
         Event::Read {
             txn,
             version,
@@ -97,9 +127,39 @@ pub fn event_within(event: &Event)
             let _ = version.m.get();
             let _ = value.bytes();
         }
+        Event::Scan {
+            txn,
+            lo,
+            hi,
+            entries,
+        } => {
+            let _ = txn.get();
+            let _ = lo.bytes();
+            let _ = hi.bytes();
+            entries_within(entries);
+        }
         Event::Commit { txn } | Event::Abort { txn } => {
             let _ = txn.get();
         }
+    }
+}
+
+fn entries_within(entries: &[Entry])
+    ensures { AllByRecursion IsEntry (map entry_of entries.now) }
+{
+    for entry in entries {
+        entry_within(entry);
+    }
+}
+
+fn entry_within(entry: &Entry)
+    ensures { IsEntry (entry_of entry.now) }
+{
+    let _ = entry.version.key.bytes();
+    let _ = entry.version.txn.get();
+    let _ = entry.version.m.get();
+    if let Content::Live(value) = &entry.content {
+        let _ = value.bytes();
     }
 }
 

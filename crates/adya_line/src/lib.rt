@@ -1,6 +1,8 @@
 //! The lines of a history text and of a certificate text: their spelling, reading and writing.
 #![tactic(auto)]
 
+mod entries;
+mod entry_ref;
 mod event_line;
 mod event_ref;
 mod fields;
@@ -9,15 +11,19 @@ mod fixed_line;
 pub mod laws;
 mod order_line;
 mod txn_line;
+mod unfinished_line;
 mod writing;
 
+pub use entries::Entries;
+pub use entry_ref::{ContentRef, EntryRef, ValueRef};
 pub use event_line::{event, read_event};
-pub use event_ref::{EndRef, EventRef, ReadRef, VersionRef, WriteRef};
+pub use event_ref::{DeleteRef, EndRef, EventRef, ReadRef, ScanRef, VersionRef, WriteRef};
 pub use final_line::final_pair;
-pub use fixed_line::{history_head, serial_head, tail};
+pub use fixed_line::{history_head, second_head, serial_head, tail};
 pub use order_line::order;
 pub use txn_line::txn;
-pub use writing::{write_event, write_final, write_order, write_txn};
+pub use unfinished_line::unfinished;
+pub use writing::{write_event, write_final, write_order, write_txn, write_unfinished};
 
 #[cfg(test)]
 mod tests;

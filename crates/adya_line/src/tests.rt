@@ -1,5 +1,5 @@
 use super::*;
-use adya_terms::Watched;
+use adya_terms::{Event, Watched};
 use std::test::Fail;
 
 #[test]
@@ -8,8 +8,11 @@ fn event_lines_are_taken_and_written_again(rt: HostRuntime) -> Result<(), Fail> 
         b"w7(x.7:1,ab+)".as_slice(),
         b"w4294967295(k_9.4294967295:65535,V.1-0)",
         b"w1(abcdefghijklmnopqrstuvwxyz012345.1:1,v)",
+        b"d7(x.7:2)",
         b"r2(x.1:1,0)",
         b"r1(x.1:10,_)",
+        b"s1(x,x)",
+        b"s3(b,a;c.1:1,V.1-0;c.4294967295:65535,!;a.3:2,0)",
         b"c1",
         b"a4294967295",
     ] {
@@ -47,15 +50,102 @@ fn other_lines_are_no_events(rt: HostRuntime) -> Result<(), Fail> {
         b"w7(x.7:1,a",
         b"r7(x.7:1,a))",
         b"r7 (x.7:1,a)",
-        b"d1(x.1:1)",
-        b"s1(x,x)",
+        b"d1(x.2:1)",
+        b"d1(x.1:1,0)",
+        b"d1(x.1:1",
+        b"s1(x)",
+        b"s1(x,x;)",
+        b"s1(x,x;x.1:1)",
+        b"s1(x,x;x.1:1,)",
+        b"s1(x,x;x.1:1,!!)",
+        b"s1(x,x;x.1:1,0!)",
+        b"s1(x,x;x.1:1,!;x.1:0,0)",
+        b"s1(x,x;x.1:1,!",
+        b"s1(x,x))",
         b"u1",
         b"end",
         b"adya 1",
         b"[x:1]",
         b"{x,1}",
     ] {
-        assert!(rt; event(line).is_none());
+        assert!(rt; event(rt.alloc(), line)?.is_none());
+    }
+    Ok(())
+}
+
+#[test]
+fn entries_come_in_the_order_of_the_line(rt: HostRuntime) -> Result<(), Fail> {
+    let line = b"s1(a,c;b.2:1,7;a.3:4,!)";
+    let Some(EventRef::Scan(scan)) = read_event(line) else {
+        return Err(Fail::new("the line is no scan"));
+    };
+    assert_eq!(rt; scan.txn, 1);
+    assert_eq!(rt; scan.lo, b"a".as_slice());
+    assert_eq!(rt; scan.hi, b"c".as_slice());
+    let mut entries = scan.entries();
+    let Some(first) = entries.next() else {
+        return Err(Fail::new("the first entry is missing"));
+    };
+    assert_eq!(rt; first.version.key, b"b".as_slice());
+    assert_eq!(rt; first.version.txn, 2);
+    let ContentRef::Live(value) = first.content else {
+        return Err(Fail::new("the first entry is dead"));
+    };
+    assert_eq!(rt; value.bytes, b"7".as_slice());
+    let Some(second) = entries.next() else {
+        return Err(Fail::new("the second entry is missing"));
+    };
+    assert_eq!(rt; second.version.m, 4);
+    assert!(rt; matches!(second.content, ContentRef::Dead));
+    assert!(rt; entries.next().is_none());
+    Ok(())
+}
+
+#[test]
+fn long_scans_are_taken_and_written_again(rt: HostRuntime) -> Result<(), Fail> {
+    let mut line = Vec::new(rt.alloc());
+    line.extend_from_slice(b"s1(a,c")?;
+    for _ in 0..5000 {
+        line.extend_from_slice(b";b.2:1,7")?;
+    }
+    line.extend_from_slice(b")")?;
+    let Some(found) = event(rt.alloc(), &line)? else {
+        return Err(Fail::new("the line is refused"));
+    };
+    let Event::Scan { entries, .. } = &found else {
+        return Err(Fail::new("the line is no scan"));
+    };
+    assert_eq!(rt; entries.len(), 5000);
+    let mut out = Watched::new(Vec::new(rt.alloc()));
+    write_event(&found, &mut out)?;
+    assert_eq!(rt; out.into_inner().as_slice(), line.as_slice());
+    Ok(())
+}
+
+#[test]
+fn unfinished_lines_are_taken_and_written_again(rt: HostRuntime) -> Result<(), Fail> {
+    for line in [b"u1".as_slice(), b"u4294967295"] {
+        let mut out = Watched::new(Vec::new(rt.alloc()));
+        let Some(found) = unfinished(line) else {
+            return Err(Fail::new("the line is refused"));
+        };
+        write_unfinished(found, &mut out)?;
+        assert_eq!(rt; out.into_inner().as_slice(), line);
+    }
+    for line in [
+        b"".as_slice(),
+        b"u",
+        b"u0",
+        b"u01",
+        b"u4294967296",
+        b"u1 ",
+        b"U1",
+        b"1",
+        b"c1",
+        b"end",
+        b"adya 2",
+    ] {
+        assert!(rt; unfinished(line).is_none());
     }
     Ok(())
 }

@@ -28,20 +28,16 @@ none_listed : (os : List Order) (t : ℕ) (k : List ℕ) → ((o : Order) → Co
 none_listed [] t k apart = refl
 none_listed (x ∷ os) t k apart =
     let rest = none_listed os t k (λ o c. apart o (Contains-cons x os o c)) in
-    let here : listed_by t k x ≡ 0 = ap (λ b. cond b (count x.writers t) 0)
-    (other_key x.key k (λ e. apart x (0, omega arith, refl) (sym e))) in
+    let here : listed_by t k x ≡ 0 = ap (λ b. cond b (count x.writers t) 0) (other_key x.key k (λ e. apart x (0, omega arith, refl) (sym e))) in
     let cons = listed_cons x os t k in
     omega (arith, cons, here, rest)
 
 -- where the keys of lines rise, the lines of a key are one line
-pub listed_line : (os : List Order) (o : Order) (t : ℕ) → keys_rise (map (λ x. x.key) os) ≡ true → Contains os o
-    → listed os t o.key ≡ count o.writers t
+pub listed_line : (os : List Order) (o : Order) (t : ℕ) → keys_rise (map (λ x. x.key) os) ≡ true → Contains os o → listed os t o.key ≡ count o.writers t
 listed_line [] o t r c = absurd (none_contained o c)
 listed_line (x ∷ os) o t r (zero, l, e) =
     let k : x.key ≡ o.key = ap (λ (y : Order). y.key) e in
-    let rest =
-    none_listed os t o.key (λ y c same. key_lt-apart x.key y.key (rises_below (λ (z : Order). z.key) x os y r c)
-    (k ∙ same)) in
+    let rest = none_listed os t o.key (λ y c same. key_lt-apart x.key y.key (rises_below (λ (z : Order). z.key) x os y r c) (k ∙ same)) in
     let here : listed_by t o.key x ≡ count o.writers t =
     ap (λ b. cond b (count x.writers t) 0) (same_key x.key o.key k) ∙ ap (λ (y : Order). count y.writers t) e in
     let cons = listed_cons x os t o.key in
@@ -50,8 +46,7 @@ listed_line (x ∷ os) o t r (suc i, l, e) =
     let c : Contains os o = (i, omega (arith, l), e) in
     let rest = listed_line os o t (keys_rise-tail x.key (map (λ y. y.key) os) r) c in
     let here : listed_by t o.key x ≡ 0 =
-    ap (λ b. cond b (count x.writers t) 0)
-    (other_key x.key o.key (key_lt-apart _ _ (rises_below (λ (y : Order). y.key) x os o r c))) in
+    ap (λ b. cond b (count x.writers t) 0) (other_key x.key o.key (key_lt-apart _ _ (rises_below (λ (y : Order). y.key) x os o r c))) in
     let cons = listed_cons x os t o.key in
     omega (arith, cons, here, rest)
 
@@ -65,8 +60,7 @@ left_out all os k t i none =
     let zero_is : listed os last.0.version.txn last.0.version.key ≡ 0 =
     ap (λ u. listed os u last.0.version.key) w.txn_is ∙ (ap (listed os t) w.key_is ∙ none) in
     list_any_when (is_unlisted all os k) (filter_map written all) last.0 w.there
-    (and_from _ _ (ap (is_committed all) w.txn_is ∙ both.0)
-    (and_from _ _ (eq-eqb _ _ zero_is) (same_key last.0.version.key k w.key_is)))
+    (and_from _ _ (ap (is_committed all) w.txn_is ∙ both.0) (and_from _ _ (eq-eqb _ _ zero_is) (same_key last.0.version.key k w.key_is)))
 
 -- where writers are counted right, none is left out
 none_out : (all : List Event) (os : List Order) (k : List ℕ) → ((t : ℕ) → listed os t k ≡ cond (installs all k t) 1 0)
@@ -84,10 +78,8 @@ none_out all os k right out =
     let one : listed os w.version.txn k ≡ 1 = right w.version.txn ∙ ap (λ b. cond b 1 0) (and_from _ _ both.0 last) in
     omega (arith, none, one)
 
-pub exact_line : (all : List Event) (os : List Order) (o : Order) → keys_rise (map (λ x. x.key) os) ≡ true
-    → Contains os o
-    → (list_all (belongs all os o.key) o.writers && not (list_any (is_unlisted all os o.key)
-    (filter_map written all))) ≡ lists_exactly (installs all o.key) o.writers all
+pub exact_line : (all : List Event) (os : List Order) (o : Order) → keys_rise (map (λ x. x.key) os) ≡ true → Contains os o
+    → (list_all (belongs all os o.key) o.writers && not (list_any (is_unlisted all os o.key) (filter_map written all))) ≡ lists_exactly (installs all o.key) o.writers all
 exact_line all os o r c =
     let k = o.key in
     let xs = o.writers in
@@ -110,8 +102,7 @@ exact_line all os o r c =
     ]))
     (λ h.
     let right : (t : ℕ) → count xs t ≡ cond (installs all k t) 1 0 =
-    exactly_from_test (installs all k) xs all (λ t i. committed_source all t (and_parts (is_committed all t)
-    (is_some (last_write t k all)) i).0) h in
+    exactly_from_test (installs all k) xs all (λ t i. committed_source all t (and_parts (is_committed all t) (is_some (last_write t k all)) i).0) h in
     let counted : (t : ℕ) → listed os t k ≡ cond (installs all k t) 1 0 = λ t. line t ∙ right t in
     and_from _ _ (list_all_when (belongs all os k) xs (λ t d. eq-eqb _ _ (counted t)))
     (elim (cases_Bool out) [ inl t ↦ absurd (none_out all os k counted t) | inr f ↦ ap not f ]))

@@ -1,13 +1,15 @@
 -- The first fault of joined lists, and of the events from one on.
-use Rattle.std.proofs.Common.{◌≡◌, ℕ, suc, ◌+◌, ◌⊎◌, Result, MatchResult, inl, inr, true, false, List, [], ◌∷◌, ◌++◌, Some, take, drop, sym, ◌∙◌, ap, subst, arith}
+use Rattle.std.proofs.Common.{◌≡◌, ℕ, suc, ◌+◌, ◌<◌, ◌⊎◌, not, length, get_or, Result, MatchResult, inl, inr, true, false, List, [], ◌∷◌, ◌++◌, Some, take, drop, sym, ◌∙◌, ap, subst, arith}
 use Rattle.adya_terms.specs.declared.fault.Rule.{Rule}
 use Rattle.adya_terms.specs.declared.fault.CheckFault.{CheckFault}
 use Rattle.adya_terms.specs.declared.fault.CheckFault.TheVariants.{Malformed, AbortedRead, IntermediateRead, Memory}
-use Rattle.adya_terms.specs.declared.fault.Rule.TheVariants.{M7}
+use Rattle.adya_terms.specs.declared.fault.Rule.TheVariants.{M6, M7}
 use Rattle.adya_terms.specs.Histories.{Event, Order}
+use Rattle.adya_terms.specs.Events.{has_ended}
 use Rattle.adya_terms.specs.Rules.{installs}
-use Rattle.adya_terms.specs.Faults.{first, faults_at, event_faults, fault_unless, lists_exactly, order_faults}
+use Rattle.adya_terms.specs.Faults.{first, faults_at, event_faults, fault_unless, lists_exactly, order_faults, unfinished_faults}
 use Rattle.adya_terms.specs.Checks.{Names}
+use Rattle.adya_terms.proofs.Steps.{drop_step}
 use Rattle.adya_terms.proofs.Turns.{Turn}
 
 pub first_front : {X : Type 0} (xs ys : List X) (x : X) → first xs ≡ Some x → first (xs ++ ys) ≡ Some x
@@ -19,42 +21,36 @@ first_rest xs ys x none e = subst (λ zs. first (zs ++ ys) ≡ Some x) (sym none
 
 -- the faults from an event on
 faults_from : (all : List Event) (i : ℕ) (e : Event) → Turn all i e
-    → event_faults (take i all) (2 + i) (drop i all) ≡ faults_at (take i all)
-    (2 + i) e ++ event_faults (take (i + 1) all) (2 + (i + 1)) (drop (i + 1) all)
+    → event_faults (take i all) (2 + i) (drop i all) ≡ faults_at (take i all) (2 + i) e ++ event_faults (take (i + 1) all) (2 + (i + 1)) (drop (i + 1) all)
 faults_from all i e t =
     let line : suc (2 + i) ≡ 2 + (i + 1) = omega arith in
     ap (event_faults (take i all) (2 + i)) t.rest ∙
     (ap (λ n. faults_at (take i all) (2 + i) e ++ event_faults (take i all ++ e ∷ []) n (drop (i + 1) all)) line ∙
     ap (λ b. faults_at (take i all) (2 + i) e ++ event_faults b (2 + (i + 1)) (drop (i + 1) all)) (sym t.front))
 
-pub fault_here : (all : List Event) (i : ℕ) (e : Event) → Turn all i e
-    → (fault : CheckFault) → first (faults_at (take i all) (2 + i) e) ≡ Some fault
+pub fault_here : (all : List Event) (i : ℕ) (e : Event) → Turn all i e → (fault : CheckFault) → first (faults_at (take i all) (2 + i) e) ≡ Some fault
     → first (event_faults (take i all) (2 + i) (drop i all)) ≡ Some fault
 fault_here all i e t fault h =
-    ap first (faults_from all i e t) ∙ first_front (faults_at (take i all) (2 + i) e)
-    (event_faults (take (i + 1) all) (2 + (i + 1)) (drop (i + 1) all)) fault h
+    ap first (faults_from all i e t) ∙ first_front (faults_at (take i all) (2 + i) e) (event_faults (take (i + 1) all) (2 + (i + 1)) (drop (i + 1) all)) fault h
 
 pub fault_later : (all : List Event) (i : ℕ) (e : Event) → Turn all i e → faults_at (take i all) (2 + i) e ≡ []
     → event_faults (take i all) (2 + i) (drop i all) ≡ event_faults (take (i + 1) all) (2 + (i + 1)) (drop (i + 1) all)
 fault_later all i e t h =
     faults_from all i e t ∙ ap (λ fs. fs ++ event_faults (take (i + 1) all) (2 + (i + 1)) (drop (i + 1) all)) h
 
-pub names_broken : (fs : List CheckFault) (line : ℕ) (rule : Rule) (r : CheckFault)
-    → first fs ≡ Some (Malformed line rule)
+pub names_broken : (fs : List CheckFault) (line : ℕ) (rule : Rule) (r : CheckFault) → first fs ≡ Some (Malformed line rule)
     → (r ≡ Malformed line rule) ⊎ (r ≡ Memory) → Names fs r
 names_broken fs line rule r h (inl e) = subst (Names fs) (sym e) h
 names_broken fs line rule r h (inr e) = subst (Names fs) (sym e) tt
 
 -- the faults of lines, where the line of the element is broken or not
-pub order_here : (all : List Event) (line : ℕ) (os : List Order) (i : ℕ) (o : Order) → Turn os i o
-    → lists_exactly (installs all o.key) o.writers all ≡ false
+pub order_here : (all : List Event) (line : ℕ) (os : List Order) (i : ℕ) (o : Order) → Turn os i o → lists_exactly (installs all o.key) o.writers all ≡ false
     → first (order_faults all line (drop i os)) ≡ Some (Malformed line M7)
 order_here all line os i o t e =
     ap (λ xs. first (order_faults all line xs)) t.rest ∙
     ap (λ b. first (fault_unless b line M7 ++ order_faults all (suc line) (drop (i + 1) os))) e
 
-pub order_later : (all : List Event) (line : ℕ) (os : List Order) (i : ℕ) (o : Order) → Turn os i o
-    → lists_exactly (installs all o.key) o.writers all ≡ true
+pub order_later : (all : List Event) (line : ℕ) (os : List Order) (i : ℕ) (o : Order) → Turn os i o → lists_exactly (installs all o.key) o.writers all ≡ true
     → order_faults all (line + i) (drop i os) ≡ order_faults all (line + (i + 1)) (drop (i + 1) os)
 order_later all line os i o t e =
     let next : suc (line + i) ≡ line + (i + 1) = omega arith in
@@ -69,10 +65,23 @@ names_front xs ys (AbortedRead line version) h = first_front xs ys _ h
 names_front xs ys (IntermediateRead line version) h = first_front xs ys _ h
 names_front xs ys Memory h = tt
 
-pub found_behind : (r : Result (Unit {0}) CheckFault) (xs ys : List CheckFault) → xs ≡ []
-    → MatchResult r (λ u. ys ≡ []) (Names ys)
+pub found_behind : (r : Result (Unit {0}) CheckFault) (xs ys : List CheckFault) → xs ≡ [] → MatchResult r (λ u. ys ≡ []) (Names ys)
     → MatchResult r (λ u. xs ++ ys ≡ []) (Names (xs ++ ys))
 found_behind r xs ys none h = subst (λ zs. MatchResult r (λ u. zs ++ ys ≡ []) (Names (zs ++ ys))) (sym none) h
 
 pub names_behind : (xs ys : List CheckFault) (e : CheckFault) → xs ≡ [] → Names ys e → Names (xs ++ ys) e
 names_behind xs ys e none h = subst (λ zs. Names (zs ++ ys) e) (sym none) h
+
+pub unfinished_here : (all : List Event) (line : ℕ) (ts : List ℕ) (i : ℕ) (t : ℕ) → i < length ts → t ≡ get_or ts i t → has_ended all t ≡ true
+    → first (unfinished_faults all line (drop i ts)) ≡ Some (Malformed line M6)
+unfinished_here all line ts i t l at e =
+    ap (λ xs. first (unfinished_faults all line xs)) (drop_step ts i t l at) ∙
+    ap (λ b. first (fault_unless (not b) line M6 ++ unfinished_faults all (suc line) (drop (i + 1) ts))) e
+
+pub unfinished_later : (all : List Event) (line : ℕ) (ts : List ℕ) (i : ℕ) (t : ℕ) → i < length ts → t ≡ get_or ts i t → has_ended all t ≡ false
+    → unfinished_faults all (line + i) (drop i ts) ≡ unfinished_faults all (line + (i + 1)) (drop (i + 1) ts)
+unfinished_later all line ts i t l at e =
+    let next : suc (line + i) ≡ line + (i + 1) = omega arith in
+    ap (unfinished_faults all (line + i)) (drop_step ts i t l at) ∙
+    (ap (λ b. fault_unless (not b) (line + i) M6 ++ unfinished_faults all (suc (line + i)) (drop (i + 1) ts)) e ∙
+    ap (λ n. unfinished_faults all n (drop (i + 1) ts)) next)

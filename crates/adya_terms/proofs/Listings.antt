@@ -3,7 +3,7 @@ use Rattle.std.proofs.Common.{◌≡◌, ℕ, zero, suc, ◌+◌, ◌==◌, Bool
 use Rattle.std.specs.List.{cons_option, filter_map, list_any}
 use Rattle.std.specs.Ordering.{is_eq}
 use Rattle.std.proofs.lemmas.Bool.{cases_Bool, and_parts, eqb-true, ne_eqb}
-use Rattle.std.proofs.Math.Bool.{not-not, or-false}
+use Rattle.std.proofs.Math.Bool.{not-not, or-false, or-true}
 use Rattle.std.proofs.lemmas.List.Folds.{list_any-append}
 use Rattle.std.proofs.lemmas.List.Sums.{sum_by-append, sum_by-cons}
 use Rattle.adya_terms.specs.declared.tables.Own.{Own}
@@ -62,8 +62,7 @@ list_next g g' u key xs n old new t k =
     ] in
     at ∙ (same ∙ ap times (sym now))
 
-pub listed_more : (os : List Order) (o : Order) (t : ℕ) (k : List ℕ)
-    → listed (os ++ o ∷ []) t k ≡ listed os t k + listed_by t k o
+pub listed_more : (os : List Order) (o : Order) (t : ℕ) (k : List ℕ) → listed (os ++ o ∷ []) t k ≡ listed os t k + listed_by t k o
 listed_more os o t k =
     let joined = sum_by-append (listed_by t k) os (o ∷ []) in
     let one = sum_by-cons (listed_by t k) o [] in
@@ -78,15 +77,17 @@ some_times (suc (suc n)) = ap not (sym (ne_eqb (suc (suc n)) 0 (λ e. omega (ari
 pub not_listed : (n : ℕ) (b r : Bool) → b ≡ is_some (times n) → b ≡ r → (n == 0) ≡ not r
 not_listed n b r e f = sym (not-not (n == 0)) ∙ ap not (sym (some_times n) ∙ (sym e ∙ f))
 
+pub cond_or : (b x : Bool) → cond b true x ≡ (x || b)
+cond_or true x = sym (or-true x)
+cond_or false x = sym (or-false x)
+
 any_one : (test : Entry → Bool) (o : Option Entry) → list_any test (cons_option o []) ≡ is_some_and test o
 any_one test None = refl
 any_one test (Some w) = or-false (test w)
 
 -- whether a write passes, with one more event
 pub any_written : (test : Entry → Bool) (before : List Event) (e : Event)
-    → list_any test (filter_map written (before ++ e ∷ [])) ≡
-    (list_any test (filter_map written before) || is_some_and test (written e))
+    → list_any test (filter_map written (before ++ e ∷ [])) ≡ (list_any test (filter_map written before) || is_some_and test (written e))
 any_written test before e =
     ap (list_any test) (written_more before e) ∙
-    (list_any-append test (filter_map written before) (cons_option (written e) []) ∙
-    ap (λ b. list_any test (filter_map written before) || b) (any_one test (written e)))
+    (list_any-append test (filter_map written before) (cons_option (written e) []) ∙ ap (λ b. list_any test (filter_map written before) || b) (any_one test (written e)))

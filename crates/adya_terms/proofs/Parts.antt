@@ -1,35 +1,59 @@
 -- What the parts of a check say, in the words of the whole.
-use Rattle.std.proofs.Common.{◌≡◌, ◌+◌, not, List, [], map, length, ap, subst, arith}
-use Rattle.std.specs.List.{list_all, list_any}
-use Rattle.std.proofs.Math.Bool.{or-false}
-use Rattle.std.proofs.lemmas.List.{length-map}
+use Rattle.std.proofs.Common.{◌≡◌, ℕ, true, List, [], ◌++◌, Option, Some, None, is_none, refl, sym, ◌∙◌, ap, subst}
 use Rattle.adya_terms.specs.declared.event.Event.{Event as EventValue}
 use Rattle.adya_terms.specs.declared.order.Order.{Order as OrderValue}
 use Rattle.adya_terms.specs.declared.order.FinalPair.{FinalPair as FinalValue}
-use Rattle.adya_terms.specs.declared.fault.CheckFault.TheVariants.{AbortedRead}
-use Rattle.adya_terms.specs.Histories.{event_of}
-use Rattle.adya_terms.specs.Events.{txn_of, has_ended, aborts}
-use Rattle.adya_terms.specs.Faults.{all_end, malformed, event_faults, aborted_reads, bad_reads}
-use Rattle.adya_terms.specs.Checks.{parts, rule_faults, is_not_aborted}
+use Rattle.adya_terms.specs.declared.history.History.{History as HistoryValue}
+use Rattle.adya_terms.specs.Values.{history_of}
+use Rattle.adya_terms.specs.Histories.{History}
+use Rattle.adya_terms.specs.Faults.{first, first_fault, malformed, check_faults, event_faults, unfinished_faults, unfinished_line, orders_line}
+use Rattle.adya_terms.specs.Checks.{IsFault, Names, whole, rule_faults, read_faults}
+use Rattle.adya_terms.specs.declared.fault.CheckFault.{CheckFault}
 use Rattle.adya_terms.proofs.Converse.{both_nil}
+use Rattle.adya_terms.proofs.Firsts.{names_front, names_behind}
 
-module _ (events : List EventValue) (orders : List OrderValue) (finals : List FinalValue) where
-  pub ends_whole : all_end (parts events orders finals) ≡ list_all (λ e. has_ended (map event_of events) (txn_of e))
-      (map event_of events)
-  ends_whole = ap (λ f. list_all f (map event_of events))
-      (λ i e. or-false (has_ended (map event_of events) (txn_of e)) i)
+module _ (h : History) where
+  abbrev behind_events : List CheckFault
+  behind_events = unfinished_faults h.events (unfinished_line h) h.unfinished ++ rule_faults h (orders_line h)
 
-  pub aborted_whole : aborted_reads (parts events orders finals) ≡
-      bad_reads (is_not_aborted (map event_of events)) AbortedRead (map event_of events) 2 (map event_of events)
-  aborted_whole =
-      ap (λ good. bad_reads good AbortedRead (map event_of events) 2 (map event_of events))
-      (λ i e o. not (or-false (list_any (aborts o.version.txn) (map event_of events)) i))
+  pub events_first : (e : CheckFault) → Names (event_faults [] 2 h.events) e → Names (check_faults h) e
+  events_first e n = names_front (malformed h) (read_faults h) e (names_front (event_faults [] 2 h.events) behind_events e n)
 
-  pub none_malformed : event_faults [] 2 (map event_of events) ≡ [] → rule_faults (parts events orders finals)
-      (length events + 2) ≡ [] → malformed (parts events orders finals) ≡ []
-  none_malformed none later =
-      let h = parts events orders finals in
-      let n = length-map events event_of in
-      let line : length events + 2 ≡ 2 + length h.events + length h.unfinished = omega (arith, n) in
-      both_nil (event_faults [] 2 h.events)
-      (rule_faults h (2 + length h.events + length h.unfinished)) none (subst (λ k. rule_faults h k ≡ []) line later)
+  module _ (none : event_faults [] 2 h.events ≡ []) where
+    pub unfinished_first : (e : CheckFault) → Names (unfinished_faults h.events (unfinished_line h) h.unfinished) e → Names (check_faults h) e
+    unfinished_first e n =
+        names_front (malformed h) (read_faults h) e
+        (names_behind (event_faults [] 2 h.events) behind_events e none
+        (names_front (unfinished_faults h.events (unfinished_line h) h.unfinished) (rule_faults h (orders_line h)) e n))
+
+    module _ (ended : unfinished_faults h.events (unfinished_line h) h.unfinished ≡ []) where
+      pub rules_first : (e : CheckFault) → Names (rule_faults h (orders_line h)) e → Names (check_faults h) e
+      rules_first e n =
+          names_front (malformed h) (read_faults h) e
+          (names_behind (event_faults [] 2 h.events) behind_events e none
+          (names_behind (unfinished_faults h.events (unfinished_line h) h.unfinished) (rule_faults h (orders_line h)) e ended n))
+
+      pub none_malformed : rule_faults h (orders_line h) ≡ [] → malformed h ≡ []
+      none_malformed rules =
+          both_nil (event_faults [] 2 h.events) behind_events none
+          (both_nil (unfinished_faults h.events (unfinished_line h) h.unfinished) (rule_faults h (orders_line h)) ended rules)
+
+pub none_from : {X : Type 0} (o : Option X) → is_none o ≡ true → o ≡ None
+none_from None e = refl
+none_from (Some x) e = absurd (cc (e))
+
+-- what is found of the lists of a history is found of it
+module _ (h : HistoryValue) (es : List EventValue) (us : List ℕ) (os : List OrderValue) (fs : List FinalValue)
+    (e_is : es ≡ h.events.items) (u_is : us ≡ h.unfinished.items) (o_is : os ≡ h.orders.items) (f_is : fs ≡ h.finals.items) where
+  whole_is : check_faults (whole es us os fs) ≡ check_faults (history_of h)
+  whole_is =
+      ap (λ xs. check_faults (whole xs us os fs)) e_is ∙
+      (ap (λ xs. check_faults (whole h.events.items xs os fs)) u_is ∙
+      (ap (λ xs. check_faults (whole h.events.items h.unfinished.items xs fs)) o_is ∙
+      ap (λ xs. check_faults (whole h.events.items h.unfinished.items h.orders.items xs)) f_is))
+
+  pub found_whole : (e : CheckFault) → Names (check_faults (whole es us os fs)) e → IsFault (first_fault (history_of h)) e
+  found_whole e n = subst (λ xs. Names xs e) whole_is n
+
+  pub faultless_whole : check_faults (whole es us os fs) ≡ [] → first_fault (history_of h) ≡ None
+  faultless_whole none = ap first (sym whole_is ∙ none)

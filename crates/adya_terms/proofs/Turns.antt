@@ -13,11 +13,9 @@ pub record Turn {X : Type 0} (xs : List X) (i : ℕ) (x : X) : Type 0 where
   pub rest : drop i xs ≡ x ∷ drop (i + 1) xs
   pub front : take (i + 1) xs ≡ take i xs ++ x ∷ []
 
-pub turn : {X Y : Type 0} (f : Y → X) (ys : List Y) (i : ℕ) (y : Y) → i < length ys → y ≡ get_or ys i y
-    → Turn (map f ys) i (f y)
+pub turn : {X Y : Type 0} (f : Y → X) (ys : List Y) (i : ℕ) (y : Y) → i < length ys → y ≡ get_or ys i y → Turn (map f ys) i (f y)
 turn f ys i y l at =
-    let found : slice_get (map f ys) i ≡ Some (f y) = slice_get-map f ys i ∙
-    ap (option_map f) (slice_get_read ys (length ys) i y refl l at) in
+    let found : slice_get (map f ys) i ≡ Some (f y) = slice_get-map f ys i ∙ ap (option_map f) (slice_get_read ys (length ys) i y refl l at) in
     let less : i < length (map f ys) = rw length-map l in
     let item : get_or (map f ys) i (f y) ≡ f y = get_or_from_slice_get (map f ys) i (f y) (f y) found in
     record {
@@ -27,8 +25,7 @@ turn f ys i y l at =
       front = take_more (map f ys) i (f y) less ∙ ap (λ z. take i (map f ys) ++ z ∷ []) item;
     }
 
-pub list_all_goes : {X Y : Type 0} (f : X → Bool) (view : Y → X) (ys : List Y) (i : ℕ) (y : Y) → i < length ys
-    → y ≡ get_or ys i y → f (view y) ≡ true
+pub list_all_goes : {X Y : Type 0} (f : X → Bool) (view : Y → X) (ys : List Y) (i : ℕ) (y : Y) → i < length ys → y ≡ get_or ys i y → f (view y) ≡ true
     → list_all f (map view (drop i ys)) ≡ list_all f (map view (drop (i + 1) ys))
 list_all_goes f view ys i y l at e =
     ap (λ x. list_all f (map view x)) (drop_step ys i y l at) ∙ ap (λ b. b && list_all f (map view (drop (i + 1) ys))) e

@@ -2,6 +2,8 @@
 use Rattle.std.specs.Prelude.{◌≡◌, ℕ, zero, suc, ◌+◌, ◌==◌, Bool, true, false, cond, not, ◌&&◌, ◌||◌, List, [], ◌++◌, length, Option, Some, None, map, filter, count_by, sum_by}
 use Rattle.std.specs.List.{list_any}
 use Rattle.std.specs.BTreeMap.{BTreeMap, get}
+use Rattle.std.specs.BTreeSet.{BTreeSet, contains}
+use Rattle.std.specs.Ordering.{nat_cmp}
 use Rattle.adya_terms.specs.declared.event.Version.{Version}
 use Rattle.adya_terms.specs.declared.event.Event.{Event as EventValue}
 use Rattle.adya_terms.specs.declared.order.Order.{Order as OrderValue}
@@ -13,10 +15,11 @@ use Rattle.adya_terms.specs.declared.tables.Own.{Own}
 use Rattle.adya_terms.specs.declared.listed.Times.{Times}
 use Rattle.adya_terms.specs.declared.listed.Times.TheVariants.{Once, More}
 use Rattle.adya_terms.specs.Keys.{key_eq}
-use Rattle.adya_terms.specs.Histories.{Entry, Event, Order, History, One, event_of, order_of, final_of}
-use Rattle.adya_terms.specs.Events.{txn_of, observed, is_committed, aborts, last_write}
+use Rattle.adya_terms.specs.Histories.{Entry, Event, Order, History, event_of, order_of, final_of}
+use Rattle.adya_terms.specs.declared.edition.Edition.TheVariants.{One, Two}
+use Rattle.adya_terms.specs.Events.{txn_of, observed, is_committed, has_ended, aborts, last_write}
 use Rattle.adya_terms.specs.Rules.{installs}
-use Rattle.adya_terms.specs.Faults.{first, is_entry, fault_unless, all_end, order_faults, has_lines, final_faults, has_finals}
+use Rattle.adya_terms.specs.Faults.{entry_eq, first, is_entry, fault_unless, aborted_reads, all_end, intermediate_reads, order_faults, has_lines, final_faults, has_finals}
 use Rattle.adya_terms.specs.Tables.{own, own_cmp}
 
 -- it is this fault, or memory ran out
@@ -40,9 +43,23 @@ parts events orders finals = record {
   finals = map final_of finals;
 }
 
--- the entry is of no aborted transaction
-abbrev pub is_not_aborted : List Event → Event → Entry → Bool
-is_not_aborted all e o = not (list_any (aborts o.version.txn) all)
+-- the same with unfinished transactions
+abbrev pub whole : List EventValue → List ℕ → List OrderValue → List FinalValue → History
+whole events unfinished orders finals = record {
+  edition = Two;
+  events = map event_of events;
+  unfinished = unfinished;
+  orders = map order_of orders;
+  finals = map final_of finals;
+}
+
+-- the entry is of no aborted or unfinished transaction
+abbrev pub is_not_aborted : List Event → List ℕ → Event → Entry → Bool
+is_not_aborted all unfinished e o = not (list_any (aborts o.version.txn) all || list_any (λ u. u == o.version.txn) unfinished)
+
+-- the set holds the numbers of the list
+abbrev pub Holds : BTreeSet ℕ → List ℕ → Type 0
+Holds s us = (t : ℕ) → contains nat_cmp s t ≡ list_any (λ u. u == t) us
 
 -- the entry is of the event's transaction, or its writer's last of the key
 abbrev pub is_own_or_last : List Event → Event → Entry → Bool
@@ -125,3 +142,15 @@ rule_faults h line =
     fault_unless (all_end h) line M6 ++
     (order_faults h.events line h.orders ++
     later_faults h (line + length h.orders))
+
+-- aborted and intermediate reads
+abbrev pub read_faults : History → List CheckFault
+read_faults h = aborted_reads h ++ intermediate_reads h
+
+-- the entry is this write, or of another key
+abbrev pub is_of_key : Entry → Entry → Bool
+is_of_key w x = not (key_eq x.version.key w.version.key) || entry_eq x w
+
+-- the event's transaction has ended or is unfinished
+abbrev pub ends : List Event → List ℕ → Event → Bool
+ends all unfinished e = has_ended all (txn_of e) || list_any (λ u. u == txn_of e) unfinished

@@ -1,8 +1,12 @@
 -- Histories as plain values (Adya 1999, section 3.1): what the Rust types hold, with lists for
 -- vectors, and keys and values as their bytes.
-use Rattle.std.specs.Prelude.{ℕ, List, [], map, take}
+use Rattle.std.specs.Prelude.{ℕ, List, map, take}
 use Rattle.adya_terms.specs.declared.value.Value.{Value}
 use Rattle.adya_terms.specs.declared.event.Version.{Version}
+use Rattle.adya_terms.specs.declared.edition.Edition.{Edition}
+use Rattle.adya_terms.specs.declared.event.Content.{Content as ContentValue}
+use Rattle.adya_terms.specs.declared.event.Content.TheVariants as Holds
+use Rattle.adya_terms.specs.declared.event.Entry.{Entry as EntryValue}
 use Rattle.adya_terms.specs.declared.event.Event.{Event as EventValue}
 use Rattle.adya_terms.specs.declared.event.Event.TheVariants as In
 use Rattle.adya_terms.specs.declared.order.Order.{Order as OrderValue}
@@ -36,11 +40,6 @@ pub record FinalPair : Type 0 where
   pub key : List ℕ
   pub value : List ℕ
 
--- the edition of the text
-pub data Edition : Type 0 where
-  One : Edition
-  Two : Edition
-
 -- unfinished transactions are those that may still go on; a history of edition One has none
 pub record History : Type 0 where
   pub edition : Edition
@@ -53,9 +52,18 @@ pub record History : Type 0 where
 abbrev pub value_of : Value → List ℕ
 value_of v = take v.len v.bytes
 
+abbrev pub content_of : ContentValue → Content
+content_of (Holds.Live v) = Live (value_of v)
+content_of Holds.Dead = Dead
+
+abbrev pub entry_of : EntryValue → Entry
+entry_of w = record { version = w.version; content = content_of w.content }
+
 abbrev pub event_of : EventValue → Event
 event_of (In.Write t k m v) = Write t k m (value_of v)
+event_of (In.Delete t k m) = Delete t k m
 event_of (In.Read t r v) = Read t r (value_of v)
+event_of (In.Scan t low high es) = Scan t low high (map entry_of es.items)
 event_of (In.Commit t) = Commit t
 event_of (In.Abort t) = Abort t
 

@@ -1,21 +1,22 @@
 //! Checked histories.
 
-ghost use Rattle.std.specs.Prelude.{◌≡◌, ◌≢◌, [], true, None, Some, map, is_none, IfOk, IfErr, MatchResult};
+ghost use Rattle.std.specs.Prelude.{◌≡◌, ◌≢◌, ℕ, List, [], true, None, Some, map, is_none, IfOk, IfErr, MatchResult};
 ghost use Rattle.adya_terms.specs.Keys.{keys_rise};
 ghost use Rattle.adya_terms.specs.Histories.{event_of, order_of, final_of};
 ghost use Rattle.adya_terms.specs.Values.{history_of};
 ghost use Rattle.adya_terms.specs.Faults.{first_fault, check_faults};
 ghost use Rattle.adya_terms.specs.Acceptance.{IsChecked};
 ghost use Rattle.adya_terms.specs.Tables.{Means};
-ghost use Rattle.adya_terms.specs.Checks.{Names, IsFault, parts, later_faults, rule_faults};
+ghost use Rattle.adya_terms.specs.Checks.{Names, IsFault, Holds, parts, whole, later_faults, rule_faults, read_faults};
 
 use crate::finals::{check_finals, has_finals};
 use crate::listed::{broken, check_orders, has_lines};
-use crate::reads::{all_end, check_aborted, check_intermediate};
+use crate::reads::{all_end, check_aborted, check_intermediate, check_unfinished, set_of};
 use crate::rules::tables_of;
 use crate::tables::Tables;
-use crate::{CheckFault, Event, FinalPair, History, Order, Rule};
+use crate::{CheckFault, Event, FinalPair, History, Order, Rule, Txn};
 use std::alloc::Global;
+use std::collections::BTreeSet;
 
 /// A history that is well-formed without aborted and intermediate reads (Adya 1999, G1a and G1b).
 #[derive(Drop)]
@@ -32,18 +33,16 @@ impl<'a> Checked<'a> {
             (IsFault (first_fault (history_of history.now))) }
         ensures same { IfOk result (λ c. c.history.now ≡ history.now) }
         // It succeeds exactly where the history is well-formed without aborted and intermediate reads.
-        ensures checked { IfOk result (λ c. IsChecked (history_of history.now)) }
+        ensures checked { IfOk result (λ c. IsChecked (history_of c.history.now)) }
         ensures refused { IfErr result (λ e. e ≢ CheckFault.Memory → IsChecked (history_of history.now) → ⊥) }
     {
-        Checked::judged(alloc, history)
-    }
-
-    fn judged(alloc: Global, history: &'a History) -> Result<Checked<'a>, CheckFault>
-        ensures found { MatchResult result (λ c. first_fault (history_of history.now) ≡ None)
-            (IsFault (first_fault (history_of history.now))) }
-        ensures same { IfOk result (λ c. c.history.now ≡ history.now) }
-    {
-        if let Err(fault) = check(alloc, history.events(), history.orders(), history.finals()) {
+        if let Err(fault) = check(
+            alloc,
+            history.events(),
+            history.unfinished(),
+            history.orders(),
+            history.finals(),
+        ) {
             return Err(fault);
         }
         Ok(Checked { history })
@@ -52,7 +51,7 @@ impl<'a> Checked<'a> {
     /// The history.
     pub fn history(&self) -> &History
         ensures same { result.now ≡ self.now.history.now }
-        ensures no_fault { first_fault (history_of result.now) ≡ None }
+        ensures faultless { first_fault (history_of result.now) ≡ None }
         ensures checked { IsChecked (history_of result.now) }
     {
         self.history
@@ -62,32 +61,58 @@ impl<'a> Checked<'a> {
 fn check(
     alloc: Global,
     events: &[Event],
+    unfinished: &[Txn],
     orders: &[Order],
     finals: &[FinalPair],
 ) -> Result<(), CheckFault>
     requires orders_rise { keys_rise (map (λ o. o.key) (map order_of orders.now)) ≡ true }
     requires finals_rise { keys_rise (map (λ f. f.key) (map final_of finals.now)) ≡ true }
-    ensures { let faults = check_faults (parts events.now orders.now finals.now) in
+    ensures { let faults = check_faults (whole events.now unfinished.now orders.now finals.now) in
         MatchResult result (λ u. faults ≡ []) (Names faults) }
 {
     let tables = match tables_of(alloc, events) {
         Ok(tables) => tables,
         Err(fault) => return Err(fault),
     };
-    if let Err(fault) = check_rules(alloc, &tables, events, orders, finals, events.len() + 2) {
+    let Ok(set) = set_of(alloc, unfinished) else {
+        return Err(CheckFault::Memory);
+    };
+    if let Err(fault) = check_unfinished(&tables, events, unfinished, events.len() + 2) {
         return Err(fault);
     }
-    if let Err(fault) = check_aborted(&tables, events) {
+    let Some(line) = (events.len() + 2).checked_add(unfinished.len()) else {
+        return Err(CheckFault::Memory);
+    };
+    if let Err(fault) = check_rules(alloc, &tables, events, &set, orders, finals, line) {
         return Err(fault);
     }
-    check_intermediate(&tables, events)
+    check_reads(&tables, events, &set)
 }
 
-/// M6, M7 and M8, where `line` is that of the first order.
+/// G1a and G1b.
+fn check_reads(
+    tables: &Tables,
+    events: &[Event],
+    unfinished: &BTreeSet<Txn>,
+) -> Result<(), CheckFault>
+    requires { Means tables.now (map event_of events.now) (map event_of events.now) }
+    ensures { (us : List ℕ)
+        → Holds unfinished.now us
+        → let faults = read_faults (whole events.now us [] []) in
+        MatchResult result (λ u. faults ≡ []) (Names faults) }
+{
+    if let Err(fault) = check_aborted(tables, events, unfinished) {
+        return Err(fault);
+    }
+    check_intermediate(tables, events)
+}
+
+/// That all transactions end or are unfinished, M7 and M8, where `line` is that of the first order.
 fn check_rules(
     alloc: Global,
     tables: &Tables,
     events: &[Event],
+    unfinished: &BTreeSet<Txn>,
     orders: &[Order],
     finals: &[FinalPair],
     line: usize,
@@ -95,10 +120,12 @@ fn check_rules(
     requires tell { Means tables.now (map event_of events.now) (map event_of events.now) }
     requires orders_rise { keys_rise (map (λ o. o.key) (map order_of orders.now)) ≡ true }
     requires finals_rise { keys_rise (map (λ f. f.key) (map final_of finals.now)) ≡ true }
-    ensures { let faults = rule_faults (parts events.now orders.now finals.now) line in
+    ensures { (us : List ℕ)
+        → Holds unfinished.now us
+        → let faults = rule_faults (whole events.now us orders.now finals.now) line in
         MatchResult result (λ u. faults ≡ []) (Names faults) }
 {
-    if !all_end(tables, events) {
+    if !all_end(tables, events, unfinished) {
         return Err(CheckFault::Malformed {
             line,
             rule: Rule::M6,

@@ -10,7 +10,7 @@ ghost use Rattle.adya_terms.specs.Checks.{Names, parts};
 
 use crate::listed::{broken, line_of};
 use crate::tables::Tables;
-use crate::{CheckFault, Event, FinalPair, Key, Order, Rule, Value};
+use crate::{CheckFault, Content, Event, FinalPair, Key, Order, Rule, Value};
 
 /// What is visible of the key's last version.
 fn last_value(tables: &Tables, events: &[Event], orders: &[Order], key: Key) -> Option<Value>
@@ -27,7 +27,10 @@ fn last_value(tables: &Tables, events: &[Event], orders: &[Order], key: Key) -> 
     let Some(last) = tables.last_write(events, *txn, key) else {
         return None;
     };
-    Some(last.value)
+    match last.content {
+        Content::Live(value) => Some(value),
+        Content::Dead => None,
+    }
 }
 
 fn is_value(last: Option<Value>, value: &Value) -> bool

@@ -1,57 +1,114 @@
 //! Histories.
 
-ghost use Rattle.std.specs.Prelude.{◌≡◌, ◌↔◌, true, length, map, IsOk, IfOk, IfErr, ◌==◌, not};
+ghost use Rattle.std.specs.Prelude.{◌≡◌, ◌↔◌, true, length, map, IsOk, IfOk, IfErr, ◌==◌, ◌&&◌, not, [], nat_lt, ◌∷◌};
 ghost use Rattle.std.specs.List.{list_all};
 ghost use Rattle.adya_terms.specs.Keys.{key_lt, keys_rise};
 ghost use Rattle.adya_terms.specs.Histories.{order_of, final_of};
-ghost use Rattle.adya_terms.specs.Shapes.{is_shape};
+ghost use Rattle.adya_terms.specs.Shapes.{is_shape, numbers_rise, fits_edition};
 
 use crate::order::{FinalPair, Order};
-use crate::{Event, Key};
+use crate::{Edition, Event, Key, Txn};
 
-/// A history has no such orders and finals: an order names no writer, or the keys of the orders or those of the
-/// finals don't rise strictly. It gives the three lists back.
+/// A history has no such lists: an order names no writer, or the keys of the orders, those of the finals or the
+/// unfinished transactions don't rise strictly. It gives the lists back.
 #[derive(Drop)]
 pub struct BadShape {
     pub events: Vec<Event>,
+    /// Empty where the history was to be of the first edition.
+    pub unfinished: Vec<Txn>,
     pub orders: Vec<Order>,
     pub finals: Vec<FinalPair>,
 }
 
 /// A history (Adya 1999, section 3.1): events in one list, the version orders of the keys, and what the keys hold
-/// after all. The keys of the orders rise strictly, as do those of the finals.
+/// after all. The keys of the orders rise strictly, as do those of the finals. In the second edition transactions
+/// may be unfinished: they count as aborted.
 #[derive(Drop)]
 pub struct History {
+    edition: Edition,
     events: Vec<Event>,
+    unfinished: Vec<Txn>,
     orders: Vec<Order>,
     finals: Vec<FinalPair>,
+    pub ghost edited: { fits_edition edition unfinished.items ≡ true },
     pub ghost shape: { is_shape (map order_of orders.items) (map final_of finals.items) ≡ true },
 }
 
 impl History {
-    /// The history of these lists; `BadShape` with the lists where an order names no writer, or the keys of the
-    /// orders or of the finals don't rise strictly.
+    /// The history of the first edition with these lists; `BadShape` with the lists where an order names no writer,
+    /// or the keys of the orders or of the finals don't rise strictly.
     pub fn new(
         events: Vec<Event>,
         orders: Vec<Order>,
         finals: Vec<FinalPair>,
     ) -> Result<History, BadShape>
         ensures limits { IsOk result ↔ (is_shape (map order_of orders.items) (map final_of finals.items) ≡ true) }
+        ensures edition { IfOk result (λ h. (h.edition ≡ Edition.One) × (h.unfinished.items ≡ [])) }
         ensures same { IfOk result (λ h. (h.events ≡ events) × (h.orders ≡ orders) × (h.finals ≡ finals)) }
         ensures back { IfErr result (λ b. (b.events ≡ events) × (b.orders ≡ orders) × (b.finals ≡ finals)) }
     {
+        let unfinished = Vec::new(*events.allocator());
         if !is_shape(&orders, &finals) {
             return Err(BadShape {
                 events,
+                unfinished,
                 orders,
                 finals,
             });
         }
         Ok(History {
+            edition: Edition::One,
             events,
+            unfinished,
             orders,
             finals,
         })
+    }
+
+    /// The history of the second edition with these lists; `BadShape` with the lists where an order names no writer,
+    /// or the unfinished transactions, the keys of the orders or those of the finals don't rise strictly.
+    pub fn new_two(
+        events: Vec<Event>,
+        unfinished: Vec<Txn>,
+        orders: Vec<Order>,
+        finals: Vec<FinalPair>,
+    ) -> Result<History, BadShape>
+        ensures limits { IsOk result
+            ↔ ((numbers_rise unfinished.items && is_shape (map order_of orders.items) (map final_of finals.items)) ≡ true) }
+        ensures edition { IfOk result (λ h. h.edition ≡ Edition.Two) }
+        ensures same { IfOk result (λ h. (h.events ≡ events) × (h.unfinished ≡ unfinished) × (h.orders ≡ orders) × (h.finals ≡ finals)) }
+        ensures back { IfErr result (λ b. (b.events ≡ events) × (b.unfinished ≡ unfinished) × (b.orders ≡ orders) × (b.finals ≡ finals)) }
+    {
+        if !numbers_rise(&unfinished) || !is_shape(&orders, &finals) {
+            return Err(BadShape {
+                events,
+                unfinished,
+                orders,
+                finals,
+            });
+        }
+        Ok(History {
+            edition: Edition::Two,
+            events,
+            unfinished,
+            orders,
+            finals,
+        })
+    }
+
+    /// The edition of the history's text.
+    pub fn edition(&self) -> Edition
+        ensures { result ≡ self.now.edition }
+    {
+        self.edition
+    }
+
+    /// The unfinished transactions, rising; none in the first edition.
+    pub fn unfinished(&self) -> &[Txn]
+        ensures value { result.now ≡ self.now.unfinished.items }
+        ensures edited { fits_edition self.now.edition self.now.unfinished.items ≡ true }
+    {
+        &self.unfinished
     }
 
     /// The events, in the order in which they happened.
@@ -75,6 +132,22 @@ impl History {
     {
         &self.finals
     }
+}
+
+fn numbers_rise(txns: &[Txn]) -> bool
+    ensures { result ≡ numbers_rise txns.now }
+{
+    let [first, rest @ ..] = txns else {
+        return true;
+    };
+    let mut last = *first;
+    for t in rest {
+        if *t <= last {
+            return false;
+        }
+        last = *t;
+    }
+    true
 }
 
 fn is_shape(orders: &[Order], finals: &[FinalPair]) -> bool

@@ -2,6 +2,7 @@
 #![tactic(auto)]
 
 mod checked;
+mod edition;
 mod event;
 mod fault;
 mod finals;
@@ -14,6 +15,7 @@ mod order;
 mod padded;
 mod reads;
 mod rules;
+mod scans;
 mod serial;
 mod source;
 mod tables;
@@ -23,7 +25,8 @@ mod value;
 mod watched;
 
 pub use checked::Checked;
-pub use event::{Event, Version};
+pub use edition::Edition;
+pub use event::{Content, Entry, Event, Version};
 pub use fault::{CheckFault, Rule};
 pub use history::{BadShape, History};
 pub use key::{BadKey, Key, MAX_KEY_LEN, is_key_byte};

@@ -16,8 +16,8 @@ ghost use Rattle.adya_terms.specs.Tables.{own, own_cmp, Means};
 ghost use Rattle.adya_terms.specs.Checks as checks;
 ghost use Rattle.adya_terms.specs.Checks.{Names, Lists, parts};
 
-use crate::tables::{Own, Tables};
-use crate::{CheckFault, Event, Key, Order, Rule, Txn};
+use crate::tables::{Own, Tables, wrote};
+use crate::{CheckFault, Entry, Event, Key, Order, Rule, Txn};
 use std::alloc::{AllocError, Global};
 use std::collections::{BTreeMap, BTreeSet};
 
@@ -97,20 +97,19 @@ fn unlisted_key(tables: &Tables, listed: &BTreeMap<Own, Times>, event: &Event) -
         → (k : List ℕ)
         → checks.is_this result k ≡ checks.is_some_and (checks.is_unlisted all os k) (written (event_of event.now)) }
 {
-    match *event {
-        Event::Write { txn, key, .. } => {
-            if !tables.has_committed(txn) {
-                return None;
-            }
-            if listed.contains_key(&Own { txn, key }) {
-                return None;
-            }
-            Some(key)
-        }
-        Event::Read { .. } => None,
-        Event::Commit { .. } => None,
-        Event::Abort { .. } => None,
+    let Some(Entry { version, .. }) = wrote(event) else {
+        return None;
+    };
+    if !tables.has_committed(version.txn) {
+        return None;
     }
+    if listed.contains_key(&Own {
+        txn: version.txn,
+        key: version.key,
+    }) {
+        return None;
+    }
+    Some(version.key)
 }
 
 /// Whether a transaction that is listed so often is listed right.
@@ -219,8 +218,7 @@ pub(crate) fn check_orders(
     Ok(())
 }
 
-/// The rule is broken so many lines after the line; `Memory` where that line's number is above `usize::MAX`, which
-/// no memory holds.
+/// The rule is broken so many lines after the line; `Memory` where that line has no number.
 pub(crate) fn broken(line: usize, after: usize, rule: Rule) -> CheckFault
     ensures { (result ≡ CheckFault.Malformed (line + after) rule) ⊎ (result ≡ CheckFault.Memory) }
 {
@@ -249,12 +247,11 @@ fn has_line(tables: &Tables, orders: &[Order], event: &Event) -> bool
         → Means tables.now all all
         → result ≡ checks.passes (checks.has_line all (map order_of orders.now)) (written (event_of event.now)) }
 {
-    match *event {
-        Event::Write { txn, key, .. } => !tables.has_committed(txn)
-            || line_of(orders, key).is_some(),
-        Event::Read { .. } => true,
-        Event::Commit { .. } => true,
-        Event::Abort { .. } => true,
+    match wrote(event) {
+        None => true,
+        Some(Entry { version, .. }) => {
+            !tables.has_committed(version.txn) || line_of(orders, version.key).is_some()
+        }
     }
 }
 

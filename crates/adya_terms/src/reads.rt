@@ -1,55 +1,140 @@
-//! Aborted and intermediate reads (Adya 1999, G1a and G1b).
+//! M6, and aborted and intermediate reads (Adya 1999, G1a and G1b).
 
-ghost use Rattle.std.specs.Prelude.{◌≡◌, ◌||◌, ◌==◌, List, [], not, map, MatchResult};
+ghost use Rattle.std.specs.Prelude.{◌≡◌, ◌||◌, ◌==◌, ℕ, List, [], not, map, filter, IfOk, MatchResult};
 ghost use Rattle.std.specs.List.{list_all, list_any};
-ghost use Rattle.adya_terms.specs.Histories.{Event as EventValue, event_of};
+ghost use Rattle.adya_terms.specs.Histories.{Event as EventValue, entry_of, event_of};
 ghost use Rattle.adya_terms.specs.Events.{txn_of, aborts, has_ended, last_write};
-ghost use Rattle.adya_terms.specs.Faults.{is_entry, bad_reads};
-ghost use Rattle.adya_terms.specs.Tables.{entry_of, Means};
-ghost use Rattle.adya_terms.specs.Checks.{Names, IsFirst, refused, is_not_aborted, is_own_or_last};
+ghost use Rattle.adya_terms.specs.Faults.{is_entry, bad_reads, unfinished_faults};
+ghost use Rattle.adya_terms.specs.Tables.{Means};
+ghost use Rattle.adya_terms.specs.Checks.{Names, Holds, IsFirst, ends, refused, is_not_aborted, is_own_or_last};
 
-use crate::tables::{Entry, Tables, seen};
-use crate::{CheckFault, Event, Txn, Version};
+use crate::listed::broken;
+use crate::tables::Tables;
+use crate::{CheckFault, Content, Entry, Event, Rule, Txn, Version};
+use std::alloc::{AllocError, Global};
+use std::collections::BTreeSet;
 
-/// Whether each event's transaction has ended.
-pub(crate) fn all_end(tables: &Tables, events: &[Event]) -> bool
+/// The set of the numbers.
+pub(crate) fn set_of(alloc: Global, txns: &[Txn]) -> Result<BTreeSet<Txn>, AllocError>
+    ensures { IfOk result (λ s. Holds s txns.now) }
+{
+    let mut set = BTreeSet::new(alloc);
+    for txn in txns {
+        set.insert(*txn)?;
+    }
+    Ok(set)
+}
+
+/// The first unfinished transaction that has ended, where `first` is the line of the first one.
+pub(crate) fn check_unfinished(
+    tables: &Tables,
+    events: &[Event],
+    unfinished: &[Txn],
+    first: usize,
+) -> Result<(), CheckFault>
     requires { Means tables.now (map event_of events.now) (map event_of events.now) }
-    ensures { result ≡ list_all (λ e. has_ended (map event_of events.now) (txn_of e)) (map event_of events.now) }
+    ensures { let found = unfinished_faults (map event_of events.now) first unfinished.now in
+        MatchResult result (λ u. found ≡ []) (Names found) }
+{
+    for (i, txn) in unfinished.iter().enumerate() {
+        if tables.has_ended(*txn) {
+            return Err(broken(first, i, Rule::M6));
+        }
+    }
+    Ok(())
+}
+
+/// Whether the transaction has ended or is unfinished.
+fn is_done(tables: &Tables, unfinished: &BTreeSet<Txn>, txn: Txn) -> bool
+    ensures { (all : List EventValue) (us : List ℕ)
+        → Means tables.now all all
+        → Holds unfinished.now us
+        → result ≡ (has_ended all txn || list_any (λ u. u == txn) us) }
+{
+    tables.has_ended(txn) || unfinished.contains(&txn)
+}
+
+/// Whether each event's transaction has ended or is unfinished.
+pub(crate) fn all_end(tables: &Tables, events: &[Event], unfinished: &BTreeSet<Txn>) -> bool
+    requires { Means tables.now (map event_of events.now) (map event_of events.now) }
+    ensures { let all = map event_of events.now in
+        (us : List ℕ) → Holds unfinished.now us → result ≡ list_all (ends all us) all }
 {
     for event in events {
-        if !tables.has_ended(event.txn()) {
+        if !is_done(tables, unfinished, event.txn()) {
             return false;
         }
     }
     true
 }
 
-/// The version of an aborted transaction that the event reads, where its transaction is committed.
-fn aborted_read(tables: &Tables, event: &Event) -> Option<Version>
-    ensures { (all : List EventValue) → Means tables.now all all → IsFirst (refused (is_not_aborted all) all (event_of event.now)) result }
+/// Whether the transaction has aborted or is unfinished.
+fn is_aborted(tables: &Tables, unfinished: &BTreeSet<Txn>, txn: Txn) -> bool
+    ensures { (all : List EventValue) (us : List ℕ)
+        → Means tables.now all all
+        → Holds unfinished.now us
+        → result ≡ (list_any (aborts txn) all || list_any (λ u. u == txn) us) }
 {
-    let Some(Entry { version, .. }) = seen(event) else {
-        return None;
-    };
-    let txn = event.txn();
-    if !tables.has_committed(txn) {
-        return None;
-    }
-    if !tables.has_aborted(version.txn) {
-        return None;
-    }
-    Some(version)
+    tables.has_aborted(txn) || unfinished.contains(&txn)
 }
 
-/// G1a: the first read of a version of an aborted transaction by a committed one.
-pub(crate) fn check_aborted(tables: &Tables, events: &[Event]) -> Result<(), CheckFault>
+/// The first version of an aborted or unfinished transaction that is listed.
+fn first_aborted(tables: &Tables, unfinished: &BTreeSet<Txn>, entries: &[Entry]) -> Option<Version>
+    ensures { (all : List EventValue) (us : List ℕ) (e : EventValue)
+        → Means tables.now all all
+        → Holds unfinished.now us
+        → IsFirst (filter (λ o. not (is_not_aborted all us e o)) (map entry_of entries.now)) result }
+{
+    for entry in entries {
+        if is_aborted(tables, unfinished, entry.version.txn) {
+            return Some(entry.version);
+        }
+    }
+    None
+}
+
+/// The first version of an aborted or unfinished transaction that the event reads or lists, where its transaction is
+/// committed.
+fn aborted_read(tables: &Tables, unfinished: &BTreeSet<Txn>, event: &Event) -> Option<Version>
+    ensures { (all : List EventValue) (us : List ℕ)
+        → Means tables.now all all
+        → Holds unfinished.now us
+        → IsFirst (refused (is_not_aborted all us) all (event_of event.now)) result }
+{
+    if !tables.has_committed(event.txn()) {
+        return None;
+    }
+    match event {
+        Event::Read { version, value, .. } => {
+            let seen = [Entry {
+                version: *version,
+                content: Content::Live(*value),
+            }];
+            first_aborted(tables, unfinished, &seen)
+        }
+        Event::Scan { entries, .. } => first_aborted(tables, unfinished, entries),
+        Event::Write { .. } => None,
+        Event::Delete { .. } => None,
+        Event::Commit { .. } => None,
+        Event::Abort { .. } => None,
+    }
+}
+
+/// G1a: the first read of a version of an aborted or unfinished transaction by a committed one.
+pub(crate) fn check_aborted(
+    tables: &Tables,
+    events: &[Event],
+    unfinished: &BTreeSet<Txn>,
+) -> Result<(), CheckFault>
     requires { Means tables.now (map event_of events.now) (map event_of events.now) }
     ensures { let all = map event_of events.now in
-        let faults = bad_reads (is_not_aborted all) CheckFault.AbortedRead all 2 all in
+        (us : List ℕ)
+        → Holds unfinished.now us
+        → let faults = bad_reads (is_not_aborted all us) CheckFault.AbortedRead all 2 all in
         MatchResult result (λ u. faults ≡ []) (Names faults) }
 {
     for (i, event) in events.iter().enumerate() {
-        if let Some(version) = aborted_read(tables, event) {
+        if let Some(version) = aborted_read(tables, unfinished, event) {
             return Err(CheckFault::AbortedRead {
                 line: i + 2,
                 version,
@@ -76,23 +161,54 @@ fn is_own_or_last(tables: &Tables, events: &[Event], txn: Txn, seen: &Entry) -> 
     }
 }
 
-/// The version that the event reads and that is not its writer's last of the key, where the event's transaction is
-/// committed and didn't write it.
+/// The first version that is listed and is neither the transaction's nor its writer's last of the key.
+fn first_intermediate(
+    tables: &Tables,
+    events: &[Event],
+    txn: Txn,
+    entries: &[Entry],
+) -> Option<Version>
+    ensures { let all = map event_of events.now in
+        (e : EventValue)
+        → txn ≡ txn_of e
+        → Means tables.now all all
+        → IsFirst (filter (λ o. not (is_own_or_last all e o)) (map entry_of entries.now)) result }
+{
+    for entry in entries {
+        if !is_own_or_last(tables, events, txn, entry) {
+            return Some(entry.version);
+        }
+    }
+    None
+}
+
+/// The first version that the event reads or lists and that is not its writer's last of the key, where the event's
+/// transaction is committed and didn't write it.
 fn intermediate_read(tables: &Tables, events: &[Event], event: &Event) -> Option<Version>
     ensures { let all = map event_of events.now in
         Means tables.now all all → IsFirst (refused (is_own_or_last all) all (event_of event.now)) result }
 {
-    let Some(seen) = seen(event) else {
-        return None;
-    };
-    let txn = event.txn();
-    if !tables.has_committed(txn) {
+    if !tables.has_committed(event.txn()) {
         return None;
     }
-    if is_own_or_last(tables, events, txn, &seen) {
-        return None;
+    match event {
+        Event::Read {
+            txn,
+            version,
+            value,
+        } => {
+            let seen = [Entry {
+                version: *version,
+                content: Content::Live(*value),
+            }];
+            first_intermediate(tables, events, *txn, &seen)
+        }
+        Event::Scan { txn, entries, .. } => first_intermediate(tables, events, *txn, entries),
+        Event::Write { .. } => None,
+        Event::Delete { .. } => None,
+        Event::Commit { .. } => None,
+        Event::Abort { .. } => None,
     }
-    Some(seen.version)
 }
 
 /// G1b: the first read of a version of another that isn't that one's last write of the key by a committed one.

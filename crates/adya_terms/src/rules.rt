@@ -1,4 +1,4 @@
-//! The rules M1 to M4 of each event, given those before it.
+//! The rules M1 to M5 of each event, given those before it.
 
 ghost use Rattle.std.specs.Prelude.{◌≡◌, ◌+◌, ℕ, List, [], Some, map, MatchOption, MatchResult};
 ghost use Rattle.adya_terms.specs.Histories.{Event as EventValue, event_of};
@@ -7,8 +7,9 @@ ghost use Rattle.adya_terms.specs.Faults as faults;
 ghost use Rattle.adya_terms.specs.Tables.{Means};
 ghost use Rattle.adya_terms.specs.Checks.{Names};
 
-use crate::tables::{Entry, Tables, wrote};
-use crate::{CheckFault, Event, Rule};
+use crate::scans::{all_lie_in, all_written, keys_rise, lists_own};
+use crate::tables::{Tables, wrote};
+use crate::{CheckFault, Content, Entry, Event, Rule};
 use std::alloc::Global;
 
 /// M1: the event's transaction has not ended before.
@@ -40,32 +41,69 @@ fn was_written(tables: &Tables, events: &[Event], event: &Event) -> bool
         → Means tables.now (map event_of events.now) before
         → result ≡ faults.was_written before (event_of event.now) }
 {
-    match *event {
+    match event {
         Event::Read { version, value, .. } => {
-            tables.was_written(events, &Entry { version, value })
+            tables.was_written(
+                events,
+                &Entry {
+                    version: *version,
+                    content: Content::Live(*value),
+                },
+            )
         }
+        Event::Scan { entries, .. } => all_written(tables, events, entries),
         Event::Write { .. } => true,
+        Event::Delete { .. } => true,
         Event::Commit { .. } => true,
         Event::Abort { .. } => true,
     }
 }
 
-/// M4: of a key that it has written a transaction reads its own last write.
+/// M4: of a key that it has written a transaction reads and lists its own last write.
 fn sees_own(tables: &Tables, events: &[Event], event: &Event) -> bool
     ensures { (before : List EventValue)
         → Means tables.now (map event_of events.now) before
         → result ≡ faults.sees_own before (event_of event.now) }
 {
-    match *event {
+    match event {
         Event::Read {
             txn,
             version,
             value,
-        } => match tables.last_write(events, txn, version.key) {
+        } => match tables.last_write(events, *txn, version.key) {
             None => true,
-            Some(last) => last.same(&Entry { version, value }),
+            Some(last) => last.same(&Entry {
+                version: *version,
+                content: Content::Live(*value),
+            }),
         },
+        Event::Scan {
+            txn,
+            lo,
+            hi,
+            entries,
+        } => lists_own(tables, events, *txn, *lo, *hi, entries),
         Event::Write { .. } => true,
+        Event::Delete { .. } => true,
+        Event::Commit { .. } => true,
+        Event::Abort { .. } => true,
+    }
+}
+
+/// M5: a scan lists keys of its range, rising.
+fn is_rising(event: &Event) -> bool
+    ensures { result ≡ faults.is_rising (event_of event.now) }
+{
+    match event {
+        Event::Scan {
+            lo,
+            hi,
+            entries,
+            ..
+        } => *lo <= *hi && keys_rise(entries) && all_lie_in(*lo, *hi, entries),
+        Event::Read { .. } => true,
+        Event::Write { .. } => true,
+        Event::Delete { .. } => true,
         Event::Commit { .. } => true,
         Event::Abort { .. } => true,
     }
@@ -90,6 +128,9 @@ fn broken_rule(tables: &Tables, events: &[Event], event: &Event) -> Option<Rule>
     }
     if !sees_own(tables, events, event) {
         return Some(Rule::M4);
+    }
+    if !is_rising(event) {
+        return Some(Rule::M5);
     }
     None
 }

@@ -2,15 +2,14 @@
 
 ghost use Rattle.std.specs.Prelude.{◌≡◌, ◌||◌, ◌&&◌, is_some, ◌++◌, [], ◌∷◌, List, true, Some, map, option_map, slice_get, IfOk};
 ghost use Rattle.std.specs.Ordering.{nat_cmp};
-ghost use Rattle.std.specs.Option.{option_to_list};
 ghost use Rattle.std.specs.BTreeMap.{get};
 ghost use Rattle.std.specs.BTreeSet.{contains};
-ghost use Rattle.adya_terms.specs.Histories.{Event as EventValue, event_of};
-ghost use Rattle.adya_terms.specs.Events.{written, observed};
-ghost use Rattle.adya_terms.specs.Faults.{entry_eq, is_next};
-ghost use Rattle.adya_terms.specs.Tables.{own, own_cmp, version_cmp, entry_of, written_at, is_there, Means};
+ghost use Rattle.adya_terms.specs.Histories.{Event as EventValue, entry_of, event_of};
+ghost use Rattle.adya_terms.specs.Events.{written};
+ghost use Rattle.adya_terms.specs.Faults.{is_next};
+ghost use Rattle.adya_terms.specs.Tables.{own, own_cmp, version_cmp, written_at, is_there, Means};
 
-use crate::{Event, Key, Txn, Value, Version};
+use crate::{Content, Entry, Event, Key, Txn, Version};
 use std::alloc::{AllocError, Global};
 use std::collections::{BTreeMap, BTreeSet};
 
@@ -19,13 +18,6 @@ use std::collections::{BTreeMap, BTreeSet};
 pub(crate) struct Own {
     pub txn: Txn,
     pub key: Key,
-}
-
-/// A version with the value that its write left.
-#[derive(Clone, Copy)]
-pub(crate) struct Entry {
-    pub version: Version,
-    pub value: Value,
 }
 
 /// Which transactions have ended, and where in the list of events each transaction wrote each key last and each
@@ -38,44 +30,36 @@ pub(crate) struct Tables {
     pub versions: BTreeMap<Version, usize>,
 }
 
-impl Entry {
-    /// Whether the two are the same version with the same value.
-    pub fn same(&self, other: &Entry) -> bool
-        ensures { result ≡ entry_eq (entry_of self.now) (entry_of other.now) }
-    {
-        self.version == other.version && self.value.same(&other.value)
-    }
-}
-
 /// What the event writes.
 pub(crate) fn wrote(event: &Event) -> Option<Entry>
     ensures { option_map entry_of result ≡ written (event_of event.now) }
 {
-    match *event {
+    match event {
         Event::Write { txn, key, m, value } => Some(Entry {
-            version: Version { key, txn, m },
-            value,
+            version: Version {
+                key: *key,
+                txn: *txn,
+                m: *m,
+            },
+            content: Content::Live(*value),
+        }),
+        Event::Delete { txn, key, m } => Some(Entry {
+            version: Version {
+                key: *key,
+                txn: *txn,
+                m: *m,
+            },
+            content: Content::Dead,
         }),
         Event::Read { .. } => None,
-        Event::Commit { .. } => None,
-        Event::Abort { .. } => None,
-    }
-}
-
-/// What the event reads.
-pub(crate) fn seen(event: &Event) -> Option<Entry>
-    ensures { option_to_list (option_map entry_of result) ≡ observed (event_of event.now) }
-{
-    match *event {
-        Event::Read { version, value, .. } => Some(Entry { version, value }),
-        Event::Write { .. } => None,
+        Event::Scan { .. } => None,
         Event::Commit { .. } => None,
         Event::Abort { .. } => None,
     }
 }
 
 /// What the event at the place writes.
-fn wrote_at(events: &[Event], at: Option<usize>) -> Option<Entry>
+pub(crate) fn wrote_at(events: &[Event], at: Option<usize>) -> Option<Entry>
     ensures { option_map entry_of result ≡ written_at (map event_of events.now) at }
 {
     let Some(at) = at else {
@@ -158,17 +142,48 @@ impl Tables {
             → is_next before (written (event_of event.now)) ≡ true
             → Means self.new all (before ++ event_of event.now ∷ [])) }
     {
-        match *event {
+        match event {
             Event::Write { txn, key, m, .. } => {
-                self.versions.insert(Version { key, txn, m }, at)?;
-                self.last.insert(Own { txn, key }, at)?;
+                self.versions.insert(
+                    Version {
+                        key: *key,
+                        txn: *txn,
+                        m: *m,
+                    },
+                    at,
+                )?;
+                self.last.insert(
+                    Own {
+                        txn: *txn,
+                        key: *key,
+                    },
+                    at,
+                )?;
+            }
+            Event::Delete { txn, key, m } => {
+                self.versions.insert(
+                    Version {
+                        key: *key,
+                        txn: *txn,
+                        m: *m,
+                    },
+                    at,
+                )?;
+                self.last.insert(
+                    Own {
+                        txn: *txn,
+                        key: *key,
+                    },
+                    at,
+                )?;
             }
             Event::Read { .. } => {}
+            Event::Scan { .. } => {}
             Event::Commit { txn } => {
-                self.committed.insert(txn)?;
+                self.committed.insert(*txn)?;
             }
             Event::Abort { txn } => {
-                self.aborted.insert(txn)?;
+                self.aborted.insert(*txn)?;
             }
         }
         Ok(())

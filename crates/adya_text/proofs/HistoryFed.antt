@@ -7,17 +7,19 @@ use Rattle.std.specs.Cmp.Derive.{both_true}
 use Rattle.std.proofs.lemmas.Bool.Decides.{nat_tests}
 use Rattle.std.proofs.lemmas.List.{length-append}
 use Rattle.std.proofs.lemmas.List.Elements.{filter_map-append}
-use Rattle.adya_terms.specs.Shapes.{is_shape}
+use Rattle.adya_terms.specs.Shapes.{is_shape, fits_edition}
 use Rattle.adya_terms.specs.Values.{history_of}
 use Rattle.adya_terms.specs.Histories.{Event, Order, FinalPair, History, event_of, order_of, final_of}
 use Rattle.adya_terms.specs.declared.history.History.{History as HistoryValue}
 use Rattle.adya_line.specs.Limits.{IsOrder}
 use Rattle.adya_text.specs.Texts.{IsHistory, history_lines, AreHistoryLines, with_ends, history_text}
 use Rattle.adya_text.specs.Faults.{Begins, IsFaultLine, IsCut}
-use Rattle.adya_text.specs.HistoryRuns.{Line, HeadLine, EventLine, OrderLine, FinalLine, TailLine, IsLine, line_text, allows, stage_after, event_in, order_in, final_in}
+use Rattle.adya_text.specs.HistoryRuns.{Line, HeadLine, EventLine, UnfinishedLine, OrderLine, FinalLine, TailLine, IsLine, line_text, allows, edition_at, stage_after, event_in, unfinished_in, order_in, final_in}
 use Rattle.adya_text.specs.HistoryReaders.{IsTaken, IsFed, IsLineOf, IsRefused, IsAllowed, Takes, IsKept, ReadsHistory, is_failed, is_done}
+use Rattle.adya_terms.specs.declared.edition.Edition.{Edition}
+use Rattle.adya_terms.specs.declared.edition.Edition.TheVariants.{One}
 use Rattle.adya_text.specs.declared.history_reader.Stage.{Stage}
-use Rattle.adya_text.specs.declared.history_reader.Stage.TheVariants.{Head, Events, Orders, Finals, Done, Failed}
+use Rattle.adya_text.specs.declared.history_reader.Stage.TheVariants.{Head, Events, Unfinished, Orders, Finals, Done, Failed}
 use Rattle.adya_text.specs.declared.history_reader.HistoryReader.{HistoryReader}
 use Rattle.adya_text.specs.declared.read_fault.ReadFault.{ReadFault}
 use Rattle.adya_text.specs.declared.read_fault.ReadFault.TheVariants.{Syntax}
@@ -25,50 +27,58 @@ use Rattle.adya_text.specs.declared.read_fault.Text.TheVariants as Of
 use Rattle.adya_text.proofs.RunLemmas.{run_join, refused, taken, one_end}
 use Rattle.adya_text.proofs.FaultLemmas.{fault_at, fault_missing, fault_stays, fault_stops, whole_begins}
 use Rattle.adya_text.proofs.LineLaws.{lines_tell}
-use Rattle.adya_text.proofs.HistoryTexts.{HasLines, Run, end, run_of, are_lines, items_of, event_items, order_items, final_items, held_by, items_texts}
+use Rattle.adya_text.proofs.HistoryTexts.{HasLines, Run, end, run_of, are_lines, items_of, event_items, unfinished_items, order_items, final_items, held_by, items_texts}
 
 -- ---- stages
 
 failed_at : (s : Stage) → is_failed s ≡ true → (k : ℕ) × (s ≡ Failed k)
 failed_at (Failed k) is = (k, refl)
 failed_at Head is = absurd cc
-failed_at Events is = absurd cc
-failed_at (Orders last) is = absurd cc
-failed_at (Finals last) is = absurd cc
-failed_at Done is = absurd cc
+failed_at (Events e) is = absurd cc
+failed_at (Unfinished last) is = absurd cc
+failed_at (Orders e last) is = absurd cc
+failed_at (Finals e last) is = absurd cc
+failed_at (Done e) is = absurd cc
 
-done_is : (s : Stage) → is_done s ≡ true → s ≡ Done
-done_is Done is = refl
-done_is (Failed k) is = absurd cc
-done_is Head is = absurd cc
-done_is Events is = absurd cc
-done_is (Orders last) is = absurd cc
-done_is (Finals last) is = absurd cc
+done_going : (s : Stage) → is_done s ≡ true → is_failed s ≡ false
+done_going (Done e) is = refl
+done_going (Failed k) is = absurd cc
+done_going Head is = absurd cc
+done_going (Events e) is = absurd cc
+done_going (Unfinished last) is = absurd cc
+done_going (Orders e last) is = absurd cc
+done_going (Finals e last) is = absurd cc
 
-after_unfailed : (x : Line) → is_failed (stage_after x) ≡ false
-after_unfailed HeadLine = refl
-after_unfailed (EventLine e) = refl
-after_unfailed (OrderLine o) = refl
-after_unfailed (FinalLine f) = refl
-after_unfailed TailLine = refl
+after_unfailed : (s : Stage) (x : Line) → is_failed (stage_after s x) ≡ false
+after_unfailed s (HeadLine e) = refl
+after_unfailed s (EventLine v) = refl
+after_unfailed s (UnfinishedLine t) = refl
+after_unfailed s (OrderLine o) = refl
+after_unfailed s (FinalLine f) = refl
+after_unfailed s TailLine = refl
 
 -- ---- what the lines begin
 
 joined : (s : Stage) (lines : List (List ℕ)) (ys : List Line) → HasLines s lines → AllByRecursion IsLine ys → Run s ys
-    → end s ys ≡ Done → Begins AreHistoryLines lines
-joined s lines ys front goods runs ends = record {
+    → is_done (end s ys) ≡ true → Begins AreHistoryLines lines
+joined s lines ys front goods runs done = record {
   more = map line_text ys;
-  within = are_lines _ (run_join allows stage_after line_text IsLine Head s Done lines ys front goods runs ends);
+  within = are_lines (end s ys) _ done
+      (run_join allows stage_after line_text IsLine Head s (end s ys) lines ys front goods runs refl);
 }
 
 run_begins : (s : Stage) (lines : List (List ℕ)) → is_failed s ≡ false → HasLines s lines
     → Begins AreHistoryLines lines
 run_begins Head lines is front =
-    joined Head lines (HeadLine ∷ TailLine ∷ []) front (tt, (tt, tt)) (refl, (refl, tt)) refl
-run_begins Events lines is front = joined Events lines (TailLine ∷ []) front (tt, tt) (refl, tt) refl
-run_begins (Orders last) lines is front = joined (Orders last) lines (TailLine ∷ []) front (tt, tt) (refl, tt) refl
-run_begins (Finals last) lines is front = joined (Finals last) lines (TailLine ∷ []) front (tt, tt) (refl, tt) refl
-run_begins Done lines is front = joined Done lines [] front tt tt refl
+    joined Head lines (HeadLine One ∷ TailLine ∷ []) front (tt, (tt, tt)) (refl, (refl, tt)) refl
+run_begins (Events e) lines is front = joined (Events e) lines (TailLine ∷ []) front (tt, tt) (refl, tt) refl
+run_begins (Unfinished last) lines is front =
+    joined (Unfinished last) lines (TailLine ∷ []) front (tt, tt) (refl, tt) refl
+run_begins (Orders e last) lines is front =
+    joined (Orders e last) lines (TailLine ∷ []) front (tt, tt) (refl, tt) refl
+run_begins (Finals e last) lines is front =
+    joined (Finals e last) lines (TailLine ∷ []) front (tt, tt) (refl, tt) refl
+run_begins (Done e) lines is front = joined (Done e) lines [] front tt tt refl
 run_begins (Failed k) lines is front = absurd cc
 
 run_stops : (s : Stage) (lines : List (List ℕ)) (l : List ℕ) → HasLines s lines → IsRefused s l
@@ -76,8 +86,8 @@ run_stops : (s : Stage) (lines : List (List ℕ)) (l : List ℕ) → HasLines s 
 run_stops s lines l front none b =
     let (h, is, whole) = b.within in
     let longer : lines ++ l ∷ b.more ≡ history_lines h = sym (append_assoc lines (l ∷ []) b.more) ∙ whole in
-    let run : HasLines Done (lines ++ l ∷ b.more) = rw longer (run_of h is) in
-    refused allows stage_after line_text IsLine lines_tell Head s Done lines l b.more front run
+    let run : HasLines (Done h.edition) (lines ++ l ∷ b.more) = rw longer (run_of h is) in
+    refused allows stage_after line_text IsLine lines_tell Head s (Done h.edition) lines l b.more front run
     (λ x good same ok. none x (record { good = good; same = sym same }) ok)
 
 pub fed_begins : (r : HistoryReader) (past : List (List ℕ)) → IsFed r past → is_failed r.stage ≡ false
@@ -93,10 +103,7 @@ fed_stops r past fed failed b =
 
 pub fed_done : (r : HistoryReader) (past : List (List ℕ)) → IsFed r past → is_done r.stage ≡ true
     → AreHistoryLines past
-fed_done r past fed done =
-    let is = done_is r.stage done in
-    let going : is_failed r.stage ≡ false = ap is_failed is in
-    are_lines past (rw is at (fed.taken going).run)
+fed_done r past fed done = are_lines r.stage past done (fed.taken (done_going r.stage done)).run
 
 pub fed_undone : (r : HistoryReader) (past : List (List ℕ)) → IsFed r past → is_done r.stage ≡ false
     → AreHistoryLines past → ⊥
@@ -105,18 +112,19 @@ fed_undone r past fed undone (h, is, whole) = by_failed (is_failed r.stage) refl
     by_failed : (b : Bool) → is_failed r.stage ≡ b → ⊥
     by_failed true failed = fed_stops r past fed failed (whole_begins AreHistoryLines past (h, is, whole))
     by_failed false going =
-        let run : HasLines Done past = rw whole (run_of h is) in
-        let same : r.stage ≡ Done =
-        one_end allows stage_after line_text IsLine lines_tell Head r.stage Done past (fed.taken going).run run in
+        let run : HasLines (Done h.edition) past = rw whole (run_of h is) in
+        let same : r.stage ≡ Done h.edition =
+        one_end allows stage_after line_text IsLine lines_tell Head r.stage (Done h.edition) past
+        (fed.taken going).run run in
         let done : is_done r.stage ≡ true = ap is_done same in
         absurd cc
 
 -- ---- one line more
 
-more_in : {X Y : Type 0} (v : X → Y) (h : Line → Option Y) (old new : List X) (items : List Line) (x : Line)
-    → map v old ≡ filter_map h items → map v new ≡ map v old ++ filter_map h (x ∷ [])
-    → map v new ≡ filter_map h (items ++ x ∷ [])
-more_in v h old new items x before step = step ∙ ap (λ r. r ++ filter_map h (x ∷ [])) before
+more_in : {Y : Type 0} (h : Line → Option Y) (old new : List Y) (items : List Line) (x : Line)
+    → old ≡ filter_map h items → new ≡ old ++ filter_map h (x ∷ [])
+    → new ≡ filter_map h (items ++ x ∷ [])
+more_in h old new items x before step = step ∙ ap (λ r. r ++ filter_map h (x ∷ [])) before
     ∙ sym (filter_map-append h items (x ∷ []))
 
 pub fed_taken : (old new : HistoryReader) (past : List (List ℕ)) (text : List ℕ) (x : Line) → IsFed old past
@@ -134,14 +142,15 @@ fed_taken old new past text x fed going allowed takes = record {
           ends = run.ends ∙ sym takes.stage;
           same = ap (λ (l : List ℕ). past ++ l ∷ []) allowed.0.same ∙ run.same;
         };
-        events = more_in event_of event_in old.events.items new.events.items t.run.items x t.events takes.events;
-        orders = more_in order_of order_in old.orders.items new.orders.items t.run.items x t.orders takes.orders;
-        finals = more_in final_of final_in old.finals.items new.finals.items t.run.items x t.finals takes.finals;
+        events = more_in event_in _ _ t.run.items x t.events takes.events;
+        unfinished = more_in unfinished_in _ _ t.run.items x t.unfinished takes.unfinished;
+        orders = more_in order_in _ _ t.run.items x t.orders takes.orders;
+        finals = more_in final_in _ _ t.run.items x t.finals takes.finals;
         next = takes.next ∙ ap (λ (n : ℕ). suc n) t.next ∙ omega (arith, length-append past (text ∷ []));
       };
   faulty = λ k is.
       let failed : is_failed new.stage ≡ true = ap is_failed is in
-      let unfailed : is_failed new.stage ≡ false = ap is_failed takes.stage ∙ after_unfailed x in
+      let unfailed : is_failed new.stage ≡ false = ap is_failed takes.stage ∙ after_unfailed old.stage x in
       absurd cc;
 }
 
@@ -183,6 +192,7 @@ fed_kept old new past fed kept = record {
           same = t.run.same;
         };
         events = ap (map event_of) kept.events ∙ t.events;
+        unfinished = kept.unfinished ∙ t.unfinished;
         orders = ap (map order_of) kept.orders ∙ t.orders;
         finals = ap (map final_of) kept.finals ∙ t.finals;
         next = kept.next ∙ t.next;
@@ -220,75 +230,122 @@ missing_fault r past text rest fed going none cut = record {
     by_done false undone are empty = fed_undone r past fed undone are
 
 pub in_events : (h : History) → filter_map event_in (items_of h) ≡ h.events
-in_events h = events_front h.events h.orders h.finals
+in_events h = of_events h.events h.unfinished h.orders h.finals
   where
-    finals_none : (fs : List FinalPair) → filter_map event_in (final_items fs) ≡ []
-    finals_none [] = refl
-    finals_none (f ∷ fs) = finals_none fs
+    of_finals : (fs : List FinalPair) → filter_map event_in (final_items fs) ≡ []
+    of_finals [] = refl
+    of_finals (f ∷ fs) = of_finals fs
 
-    orders_none : (os : List Order) (fs : List FinalPair) → filter_map event_in (order_items os fs) ≡ []
-    orders_none [] fs = finals_none fs
-    orders_none (o ∷ os) fs = orders_none os fs
+    of_orders : (os : List Order) (fs : List FinalPair) → filter_map event_in (order_items os fs) ≡ []
+    of_orders [] fs = of_finals fs
+    of_orders (o ∷ os) fs = of_orders os fs
 
-    events_front : (es : List Event) (os : List Order) (fs : List FinalPair)
-        → filter_map event_in (event_items es os fs) ≡ es
-    events_front [] os fs = orders_none os fs
-    events_front (e ∷ es) os fs = ap (λ (r : List Event). e ∷ r) (events_front es os fs)
+    of_unfinished : (ts : List ℕ) (os : List Order) (fs : List FinalPair)
+        → filter_map event_in (unfinished_items ts os fs) ≡ []
+    of_unfinished [] os fs = of_orders os fs
+    of_unfinished (t ∷ ts) os fs = of_unfinished ts os fs
+
+    of_events : (es : List Event) (ts : List ℕ) (os : List Order) (fs : List FinalPair)
+        → filter_map event_in (event_items es ts os fs) ≡ es
+    of_events [] ts os fs = of_unfinished ts os fs
+    of_events (e ∷ es) ts os fs = ap (λ (r : List Event). e ∷ r) (of_events es ts os fs)
+
+pub in_unfinished : (h : History) → filter_map unfinished_in (items_of h) ≡ h.unfinished
+in_unfinished h = of_events h.events h.unfinished h.orders h.finals
+  where
+    of_finals : (fs : List FinalPair) → filter_map unfinished_in (final_items fs) ≡ []
+    of_finals [] = refl
+    of_finals (f ∷ fs) = of_finals fs
+
+    of_orders : (os : List Order) (fs : List FinalPair) → filter_map unfinished_in (order_items os fs) ≡ []
+    of_orders [] fs = of_finals fs
+    of_orders (o ∷ os) fs = of_orders os fs
+
+    of_unfinished : (ts : List ℕ) (os : List Order) (fs : List FinalPair)
+        → filter_map unfinished_in (unfinished_items ts os fs) ≡ ts
+    of_unfinished [] os fs = of_orders os fs
+    of_unfinished (t ∷ ts) os fs = ap (λ (r : List ℕ). t ∷ r) (of_unfinished ts os fs)
+
+    of_events : (es : List Event) (ts : List ℕ) (os : List Order) (fs : List FinalPair)
+        → filter_map unfinished_in (event_items es ts os fs) ≡ ts
+    of_events [] ts os fs = of_unfinished ts os fs
+    of_events (e ∷ es) ts os fs = of_events es ts os fs
 
 pub in_orders : (h : History) → filter_map order_in (items_of h) ≡ h.orders
-in_orders h = events_none h.events h.orders h.finals
+in_orders h = of_events h.events h.unfinished h.orders h.finals
   where
-    finals_none : (fs : List FinalPair) → filter_map order_in (final_items fs) ≡ []
-    finals_none [] = refl
-    finals_none (f ∷ fs) = finals_none fs
+    of_finals : (fs : List FinalPair) → filter_map order_in (final_items fs) ≡ []
+    of_finals [] = refl
+    of_finals (f ∷ fs) = of_finals fs
 
-    orders_front : (os : List Order) (fs : List FinalPair) → filter_map order_in (order_items os fs) ≡ os
-    orders_front [] fs = finals_none fs
-    orders_front (o ∷ os) fs = ap (λ (r : List Order). o ∷ r) (orders_front os fs)
+    of_orders : (os : List Order) (fs : List FinalPair) → filter_map order_in (order_items os fs) ≡ os
+    of_orders [] fs = of_finals fs
+    of_orders (o ∷ os) fs = ap (λ (r : List Order). o ∷ r) (of_orders os fs)
 
-    events_none : (es : List Event) (os : List Order) (fs : List FinalPair)
-        → filter_map order_in (event_items es os fs) ≡ os
-    events_none [] os fs = orders_front os fs
-    events_none (e ∷ es) os fs = events_none es os fs
+    of_unfinished : (ts : List ℕ) (os : List Order) (fs : List FinalPair)
+        → filter_map order_in (unfinished_items ts os fs) ≡ os
+    of_unfinished [] os fs = of_orders os fs
+    of_unfinished (t ∷ ts) os fs = of_unfinished ts os fs
+
+    of_events : (es : List Event) (ts : List ℕ) (os : List Order) (fs : List FinalPair)
+        → filter_map order_in (event_items es ts os fs) ≡ os
+    of_events [] ts os fs = of_unfinished ts os fs
+    of_events (e ∷ es) ts os fs = of_events es ts os fs
 
 pub in_finals : (h : History) → filter_map final_in (items_of h) ≡ h.finals
-in_finals h = events_none h.events h.orders h.finals
+in_finals h = of_events h.events h.unfinished h.orders h.finals
   where
-    finals_front : (fs : List FinalPair) → filter_map final_in (final_items fs) ≡ fs
-    finals_front [] = refl
-    finals_front (f ∷ fs) = ap (λ (r : List FinalPair). f ∷ r) (finals_front fs)
+    of_finals : (fs : List FinalPair) → filter_map final_in (final_items fs) ≡ fs
+    of_finals [] = refl
+    of_finals (f ∷ fs) = ap (λ (r : List FinalPair). f ∷ r) (of_finals fs)
 
-    orders_none : (os : List Order) (fs : List FinalPair) → filter_map final_in (order_items os fs) ≡ fs
-    orders_none [] fs = finals_front fs
-    orders_none (o ∷ os) fs = orders_none os fs
+    of_orders : (os : List Order) (fs : List FinalPair) → filter_map final_in (order_items os fs) ≡ fs
+    of_orders [] fs = of_finals fs
+    of_orders (o ∷ os) fs = of_orders os fs
 
-    events_none : (es : List Event) (os : List Order) (fs : List FinalPair)
-        → filter_map final_in (event_items es os fs) ≡ fs
-    events_none [] os fs = orders_none os fs
-    events_none (e ∷ es) os fs = events_none es os fs
+    of_unfinished : (ts : List ℕ) (os : List Order) (fs : List FinalPair)
+        → filter_map final_in (unfinished_items ts os fs) ≡ fs
+    of_unfinished [] os fs = of_orders os fs
+    of_unfinished (t ∷ ts) os fs = of_unfinished ts os fs
+
+    of_events : (es : List Event) (ts : List ℕ) (os : List Order) (fs : List FinalPair)
+        → filter_map final_in (event_items es ts os fs) ≡ fs
+    of_events [] ts os fs = of_unfinished ts os fs
+    of_events (e ∷ es) ts os fs = of_events es ts os fs
 
 -- the history in a reader that has taken the lines of one
 record IsHeld (r : HistoryReader) (past : List (List ℕ)) (h : History) : Type 0 where
   is : IsHistory h
   lines : past ≡ history_lines h
+  edition : edition_at r.stage ≡ h.edition
   events : map event_of r.events.items ≡ h.events
+  unfinished : r.unfinished.items ≡ h.unfinished
   orders : map order_of r.orders.items ≡ h.orders
   finals : map final_of r.finals.items ≡ h.finals
 
-held_in : (r : HistoryReader) (past : List (List ℕ)) → IsTaken r past → r.stage ≡ Done
+held_in : (r : HistoryReader) (past : List (List ℕ)) → IsTaken r past → is_done r.stage ≡ true
     → (h : History) × IsHeld r past h
 held_in r past t done =
-    let held = held_by t.run.items t.run.goods t.run.runs (t.run.ends ∙ done) in
+    let held = held_by t.run.items t.run.goods t.run.runs (ap is_done t.run.ends ∙ done) in
     let h = held.history in (
       h,
       record {
         is = held.is;
         lines = t.run.same ∙ ap (map line_text) held.whole ∙ items_texts h;
+        edition = ap edition_at (sym t.run.ends ∙ held.ends);
         events = t.events ∙ ap (filter_map event_in) held.whole ∙ in_events h;
+        unfinished = t.unfinished ∙ ap (filter_map unfinished_in) held.whole ∙ in_unfinished h;
         orders = t.orders ∙ ap (filter_map order_in) held.whole ∙ in_orders h;
         finals = t.finals ∙ ap (filter_map final_in) held.whole ∙ in_finals h;
       },
     )
+
+pub fed_fits : (r : HistoryReader) (past : List (List ℕ)) → IsFed r past → is_done r.stage ≡ true
+    → fits_edition (edition_at r.stage) r.unfinished.items ≡ true
+fed_fits r past fed done =
+    let (h, held) = held_in r past (fed.taken (done_going r.stage done)) done in
+    ap (λ (ts : List ℕ). fits_edition (edition_at r.stage) ts) held.unfinished
+    ∙ ap (λ (e : Edition). fits_edition e h.unfinished) held.edition ∙ held.is.edition
 
 some_writers : (os : List Order) → AllByRecursion IsOrder os → list_all (λ o. not (length o.writers == 0)) os ≡ true
 some_writers [] goods = refl
@@ -300,28 +357,26 @@ some_writers (o ∷ os) goods = both_true (some o goods.0.some) (some_writers os
 pub fed_shape : (r : HistoryReader) (past : List (List ℕ)) → IsFed r past → is_done r.stage ≡ true
     → is_shape (map order_of r.orders.items) (map final_of r.finals.items) ≡ true
 fed_shape r past fed done =
-    let at = done_is r.stage done in
-    let going : is_failed r.stage ≡ false = ap is_failed at in
-    let (h, held) = held_in r past (fed.taken going) at in
+    let (h, held) = held_in r past (fed.taken (done_going r.stage done)) done in
     rw (held.orders, held.finals)
     (both_true (both_true (some_writers h.orders held.is.orders) held.is.orders_rise) held.is.finals_rise)
 
 pub fed_history : (r : HistoryReader) (past : List (List ℕ)) (text rest : List ℕ) (v : HistoryValue) → IsFed r past
     → is_done r.stage ≡ true → rest ≡ [] → IsCut text past rest
+    → v.edition ≡ edition_at r.stage → v.unfinished.items ≡ r.unfinished.items
     → v.events ≡ r.events → v.orders ≡ r.orders → v.finals ≡ r.finals → ReadsHistory text (Ok v)
-fed_history r past text rest v fed done empty cut es os fs =
-    let at = done_is r.stage done in
-    let going : is_failed r.stage ≡ false = ap is_failed at in
-    let (h, held) = held_in r past (fed.taken going) at in
+fed_history r past text rest v fed done empty cut e ts es os fs =
+    let (h, held) = held_in r past (fed.taken (done_going r.stage done)) done in
+    let same_edition : v.edition ≡ h.edition = e ∙ held.edition in
+    let same_unfinished : v.unfinished.items ≡ h.unfinished = ts ∙ held.unfinished in
     let same_events : map event_of v.events.items ≡ h.events = ap (λ vs. map event_of vs.items) es ∙ held.events in
     let same_orders : map order_of v.orders.items ≡ h.orders = ap (λ vs. map order_of vs.items) os ∙ held.orders in
     let same_finals : map final_of v.finals.items ≡ h.finals = ap (λ vs. map final_of vs.items) fs ∙ held.finals in
     let same : history_of v ≡ h =
     λ i. record {
-      edition = sym held.is.edition i;
+      edition = same_edition i;
       events = same_events i;
-      unfinished =
-          sym held.is.unfinished i;
+      unfinished = same_unfinished i;
       orders = same_orders i;
       finals = same_finals i;
     } in
@@ -359,22 +414,24 @@ fault_is text k fault is line = subst (λ (f : ReadFault). ReadsHistory text (Er
 pub unfailed : (s : Stage) → ((k : ℕ) → s ≡ Failed k → ⊥) → is_failed s ≡ false
 unfailed (Failed k) none = absurd (none k refl)
 unfailed Head none = refl
-unfailed Events none = refl
-unfailed (Orders last) none = refl
-unfailed (Finals last) none = refl
-unfailed Done none = refl
+unfailed (Events e) none = refl
+unfailed (Unfinished last) none = refl
+unfailed (Orders e last) none = refl
+unfailed (Finals e last) none = refl
+unfailed (Done e) none = refl
 
 pub kept_on_err : {T E : Type 0} (result : Result T E) (old new : HistoryReader) → IsKept old new
     → OnErr result ((past : List (List ℕ)) → IsFed old past → IsFed new past)
 kept_on_err (Ok x) old new kept = tt
 kept_on_err (Err e) old new kept = λ past fed. fed_kept old new past fed kept
 
-pub fed_none : (r : HistoryReader) → r.stage ≡ Head → r.next ≡ 1 → r.events.items ≡ [] → r.orders.items ≡ []
-    → r.finals.items ≡ [] → IsFed r []
-fed_none r stage next events orders finals = record {
+pub fed_none : (r : HistoryReader) → r.stage ≡ Head → r.next ≡ 1 → r.events.items ≡ []
+    → r.unfinished.items ≡ [] → r.orders.items ≡ [] → r.finals.items ≡ [] → IsFed r []
+fed_none r stage next events unfinished orders finals = record {
   taken = λ going. record {
     run = record { items = []; goods = tt; runs = tt; ends = sym stage; same = refl };
     events = ap (map event_of) events;
+    unfinished = unfinished;
     orders = ap (map order_of) orders;
     finals = ap (map final_of) finals;
     next = next;

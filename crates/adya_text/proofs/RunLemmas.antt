@@ -6,20 +6,20 @@ use Rattle.std.specs.List.{AllByRecursion}
 use Rattle.adya_line.specs.Laws.{IsReaderOf, Excludes}
 use Rattle.adya_text.specs.Runs.{IsRun, end_of, HasRun}
 
-pub run_push : {S L : Type 0} (allows : S → L → Bool) (after : L → S) (s : S) (xs : List L) (x : L)
+pub run_push : {S L : Type 0} (allows : S → L → Bool) (after : S → L → S) (s : S) (xs : List L) (x : L)
     → IsRun allows after s xs → allows (end_of after s xs) x ≡ true → IsRun allows after s (xs ++ x ∷ [])
 run_push allows after s [] x run ok = (ok, tt)
-run_push allows after s (y ∷ ys) x run ok = (run.0, run_push allows after (after y) ys x run.1 ok)
+run_push allows after s (y ∷ ys) x run ok = (run.0, run_push allows after (after s y) ys x run.1 ok)
 
-pub end_push : {S L : Type 0} (after : L → S) (s : S) (xs : List L) (x : L) → end_of after s (xs ++ x ∷ []) ≡ after x
+pub end_push : {S L : Type 0} (after : S → L → S) (s : S) (xs : List L) (x : L) → end_of after s (xs ++ x ∷ []) ≡ after (end_of after s xs) x
 end_push after s [] x = refl
-end_push after s (y ∷ ys) x = end_push after (after y) ys x
+end_push after s (y ∷ ys) x = end_push after (after s y) ys x
 
 -- what stands behind a front was allowed there
-pub run_next : {S L : Type 0} (allows : S → L → Bool) (after : L → S) (s : S) (xs : List L) (x : L) (ys : List L)
+pub run_next : {S L : Type 0} (allows : S → L → Bool) (after : S → L → S) (s : S) (xs : List L) (x : L) (ys : List L)
     → IsRun allows after s (xs ++ x ∷ ys) → allows (end_of after s xs) x ≡ true
 run_next allows after s [] x ys run = run.0
-run_next allows after s (z ∷ zs) x ys run = run_next allows after (after z) zs x ys run.1
+run_next allows after s (z ∷ zs) x ys run = run_next allows after (after s z) zs x ys run.1
 
 pub all_push : {L : Type 0} (P : L → Type 0) (xs : List L) (x : L) → AllByRecursion P xs → P x
     → AllByRecursion P (xs ++ x ∷ [])
@@ -97,7 +97,7 @@ texts_tell text good tells (a ∷ more_a) (b ∷ more_b) ga gb e =
     cc (tells a b ga.0 gb.0 here, texts_tell text good tells more_a more_b ga.1 gb.1 later)
 
 -- the text of no line that is allowed behind the run goes on with it
-pub refused : {S L : Type 0} (allows : S → L → Bool) (after : L → S) (text : L → List ℕ) (good : L → Type 0)
+pub refused : {S L : Type 0} (allows : S → L → Bool) (after : S → L → S) (text : L → List ℕ) (good : L → Type 0)
     → Tells text good → (start here done : S) (lines : List (List ℕ)) (l : List ℕ) (more : List (List ℕ))
     → HasRun allows after text good start here lines → HasRun allows after text good start done (lines ++ l ∷ more)
     → ((x : L) → good x → text x ≡ l → allows here x ≡ true → ⊥) → ⊥
@@ -108,30 +108,30 @@ refused allows after text good tells start here done lines l more front whole no
     none s.line s.is s.same (rw front.ends at allowed)
 
 -- a run goes on with a line that is allowed behind it
-unfoldable pub taken : {S L : Type 0} (allows : S → L → Bool) (after : L → S) (text : L → List ℕ) (good : L → Type 0)
+unfoldable pub taken : {S L : Type 0} (allows : S → L → Bool) (after : S → L → S) (text : L → List ℕ) (good : L → Type 0)
     (start here : S) (lines : List (List ℕ)) (x : L)
     → HasRun allows after text good start here lines → good x → allows here x ≡ true
-    → HasRun allows after text good start (after x) (lines ++ text x ∷ [])
+    → HasRun allows after text good start (after here x) (lines ++ text x ∷ [])
 taken allows after text good start here lines x front is ok = record {
   items = front.items ++ x ∷ [];
   goods = all_push good front.items x front.goods is;
   runs = run_push allows after start front.items x front.runs (rw front.ends ok);
-  ends = end_push after start front.items x;
+  ends = end_push after start front.items x ∙ ap (λ s. after s x) front.ends;
   same = cc (front.same, map_push text front.items x);
 }
 
-run_append : {S L : Type 0} (allows : S → L → Bool) (after : L → S) (s : S) (xs ys : List L) → IsRun allows after s xs
+run_append : {S L : Type 0} (allows : S → L → Bool) (after : S → L → S) (s : S) (xs ys : List L) → IsRun allows after s xs
     → IsRun allows after (end_of after s xs) ys → IsRun allows after s (xs ++ ys)
 run_append allows after s [] ys front back = back
-run_append allows after s (x ∷ xs) ys front back = (front.0, run_append allows after (after x) xs ys front.1 back)
+run_append allows after s (x ∷ xs) ys front back = (front.0, run_append allows after (after s x) xs ys front.1 back)
 
-end_append : {S L : Type 0} (after : L → S) (s : S) (xs ys : List L)
+end_append : {S L : Type 0} (after : S → L → S) (s : S) (xs ys : List L)
     → end_of after s (xs ++ ys) ≡ end_of after (end_of after s xs) ys
 end_append after s [] ys = refl
-end_append after s (x ∷ xs) ys = end_append after (after x) xs ys
+end_append after s (x ∷ xs) ys = end_append after (after s x) xs ys
 
 -- a run goes on with a run from where it ends
-pub run_join : {S L : Type 0} (allows : S → L → Bool) (after : L → S) (text : L → List ℕ) (good : L → Type 0)
+pub run_join : {S L : Type 0} (allows : S → L → Bool) (after : S → L → S) (text : L → List ℕ) (good : L → Type 0)
     (start here end : S) (lines : List (List ℕ)) (ys : List L)
     → HasRun allows after text good start here lines → AllByRecursion good ys → IsRun allows after here ys
     → end_of after here ys ≡ end → HasRun allows after text good start end (lines ++ map text ys)
@@ -144,7 +144,7 @@ run_join allows after text good start here end lines ys front goods runs ends = 
 }
 
 -- one list of lines leads to one stage
-pub one_end : {S L : Type 0} (allows : S → L → Bool) (after : L → S) (text : L → List ℕ) (good : L → Type 0)
+pub one_end : {S L : Type 0} (allows : S → L → Bool) (after : S → L → S) (text : L → List ℕ) (good : L → Type 0)
     → Tells text good → (start a b : S) (lines : List (List ℕ))
     → HasRun allows after text good start a lines → HasRun allows after text good start b lines → a ≡ b
 one_end allows after text good tells start a b lines left right =

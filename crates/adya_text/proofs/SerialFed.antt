@@ -8,7 +8,7 @@ use Rattle.std.proofs.lemmas.List.Elements.{filter_map-append}
 use Rattle.adya_terms.specs.declared.serial.Serial.{Serial}
 use Rattle.adya_text.specs.Texts.{IsSerial, serial_lines, AreSerialLines, with_ends, serial_text}
 use Rattle.adya_text.specs.Faults.{Begins, IsFaultLine, IsCut}
-use Rattle.adya_text.specs.SerialRuns.{Line, HeadLine, TxnLine, TailLine, IsLine, line_text, allows, stage_after, txn_in}
+use Rattle.adya_text.specs.SerialRuns.{Line, HeadLine, TxnLine, TailLine, IsLine, line_text, allows, next_stage, stage_after, txn_in}
 use Rattle.adya_text.specs.SerialReaders.{IsFed, IsLineOf, IsRefused, IsAllowed, Takes, IsKept, ReadsSerial, is_failed, is_done}
 use Rattle.adya_text.specs.declared.serial_reader.Stage.{Stage}
 use Rattle.adya_text.specs.declared.serial_reader.Stage.TheVariants.{Head, Txns, Done, Failed}
@@ -45,7 +45,7 @@ joined : (s : Stage) (lines : List (List ℕ)) (ys : List Line) → HasLines s l
     → end s ys ≡ Done → Begins AreSerialLines lines
 joined s lines ys front goods runs ends = record {
   more = map line_text ys;
-  within = are_lines _ (run_join allows stage_after line_text IsLine Head s Done lines ys front goods runs ends);
+  within = are_lines _ (run_join allows next_stage line_text IsLine Head s Done lines ys front goods runs ends);
 }
 
 run_begins : (s : Stage) (lines : List (List ℕ)) → is_failed s ≡ false → HasLines s lines
@@ -62,7 +62,7 @@ run_stops s lines l front none b =
     let (h, is, whole) = b.within in
     let longer : lines ++ l ∷ b.more ≡ serial_lines h = sym (append_assoc lines (l ∷ []) b.more) ∙ whole in
     let run : HasLines Done (lines ++ l ∷ b.more) = rw longer (run_of h is) in
-    refused allows stage_after line_text IsLine lines_tell Head s Done lines l b.more front run
+    refused allows next_stage line_text IsLine lines_tell Head s Done lines l b.more front run
     (λ x good same ok. none x (record { good = good; same = sym same }) ok)
 
 pub fed_begins : (r : SerialReader) (past : List (List ℕ)) → IsFed r past → is_failed r.stage ≡ false
@@ -91,7 +91,7 @@ fed_undone r past fed undone (h, is, whole) = by_failed (is_failed r.stage) refl
     by_failed false going =
         let run : HasLines Done past = rw whole (run_of h is) in
         let same : r.stage ≡ Done =
-        one_end allows stage_after line_text IsLine lines_tell Head r.stage Done past (fed.taken going).run run in
+        one_end allows next_stage line_text IsLine lines_tell Head r.stage Done past (fed.taken going).run run in
         let done : is_done r.stage ≡ true = ap is_done same in
         absurd cc
 
@@ -103,7 +103,7 @@ unfolding taken
 fed_taken old new past text x fed going allowed takes = record {
   taken = λ still.
       let t = fed.taken going in
-      let run = taken allows stage_after line_text IsLine Head old.stage past x t.run allowed.0.good allowed.1 in
+      let run = taken allows next_stage line_text IsLine Head old.stage past x t.run allowed.0.good allowed.1 in
       record {
         run = record {
           items = t.run.items ++ x ∷ [];

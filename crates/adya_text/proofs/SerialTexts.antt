@@ -10,7 +10,7 @@ use Rattle.adya_line.proofs.Feeds.{txns_plain, serial_head_plain, tail_plain}
 use Rattle.adya_text.specs.Texts.{IsSerial, serial_lines, AreSerialLines}
 use Rattle.adya_text.specs.Faults.{IsPlain}
 use Rattle.adya_text.specs.Runs.{IsRun, end_of, HasRun}
-use Rattle.adya_text.specs.SerialRuns.{Line, HeadLine, TxnLine, TailLine, IsLine, line_text, allows, stage_after}
+use Rattle.adya_text.specs.SerialRuns.{Line, HeadLine, TxnLine, TailLine, IsLine, line_text, allows, next_stage}
 use Rattle.adya_text.specs.SerialReaders.{IsLineOf, IsNoLine}
 use Rattle.adya_text.specs.declared.serial_reader.Stage.{Stage}
 use Rattle.adya_text.specs.declared.serial_reader.Stage.TheVariants.{Head, Txns, Done}
@@ -45,10 +45,10 @@ no_line line txn head end TailLine is = end is.same
 -- ---- from a certificate to its run
 
 abbrev pub Run : Stage → List Line → Type 0
-Run s xs = IsRun allows stage_after s xs
+Run s xs = IsRun allows next_stage s xs
 
 abbrev pub end : Stage → List Line → Stage
-end s xs = end_of stage_after s xs
+end s xs = end_of next_stage s xs
 
 abbrev pub txn_items : List ℕ → List Line
 txn_items ts = map TxnLine ts ++ TailLine ∷ []
@@ -80,7 +80,7 @@ items_goods ts is = (
 
 -- the run of lines, up to the stage
 abbrev pub HasLines : Stage → List (List ℕ) → Type 0
-HasLines s lines = HasRun allows stage_after line_text IsLine Head s lines
+HasLines s lines = HasRun allows next_stage line_text IsLine Head s lines
 
 pub run_of : (ts : List ℕ) → IsSerial ts → HasLines Done (serial_lines ts)
 run_of ts is = record {

@@ -22,7 +22,7 @@ use Rattle.adya_text.proofs.RunLemmas.{texts_tell, refused}
 use Rattle.adya_text.proofs.LineLists.{one_cut, first_lines}
 use Rattle.adya_text.proofs.LineLaws as HL
 use Rattle.adya_text.proofs.HistoryTexts as HT
-use Rattle.adya_text.proofs.HistoryFed.{in_events, in_orders, in_finals}
+use Rattle.adya_text.proofs.HistoryFed.{in_events, in_unfinished, in_orders, in_finals}
 use Rattle.adya_text.proofs.SerialTexts as ST
 use Rattle.adya_text.proofs.SerialFed.{in_txns}
 
@@ -50,10 +50,11 @@ same_ends xs ys px py e = (one_cut xs ys [] [] px py nothing_plain nothing_plain
 
 -- ---- one text, one value
 
-one_run : (g h : History) → HT.items_of g ≡ HT.items_of h → IsHistory g → IsHistory h → g ≡ h
-one_run g h same is_g is_h =
-    let edition : g.edition ≡ h.edition = is_g.edition ∙ sym is_h.edition in
-    let unfinished : g.unfinished ≡ h.unfinished = is_g.unfinished ∙ sym is_h.unfinished in
+one_run : (g h : History) → HT.items_of g ≡ HT.items_of h → g ≡ h
+one_run g h same =
+    let edition : g.edition ≡ h.edition = cc in
+    let unfinished : g.unfinished ≡ h.unfinished =
+    sym (in_unfinished g) ∙ ap (filter_map H.unfinished_in) same ∙ in_unfinished h in
     let events : g.events ≡ h.events = sym (in_events g) ∙ ap (filter_map H.event_in) same ∙ in_events h in
     let orders : g.orders ≡ h.orders = sym (in_orders g) ∙ ap (filter_map H.order_in) same ∙ in_orders h in
     let finals : g.finals ≡ h.finals = sym (in_finals g) ∙ ap (filter_map H.final_in) same ∙ in_finals h in
@@ -70,7 +71,7 @@ pub one_history : (g h : History) → IsHistory g → IsHistory h → history_li
 one_history g h is_g is_h same =
     let items = texts_tell H.line_text H.IsLine HL.lines_tell (HT.items_of g) (HT.items_of h) (HT.items_goods g is_g)
     (HT.items_goods h is_h) (HT.items_texts g ∙ same ∙ sym (HT.items_texts h)) in
-    one_run g h items is_g is_h
+    one_run g h items
 
 pub one_history_text : (g h : History) → IsHistory g → IsHistory h → history_text g ≡ history_text h → g ≡ h
 one_history_text g h is_g is_h same =
@@ -94,9 +95,9 @@ history_ends : (g h : History) → IsHistory g → IsHistory h → (zs : List (L
     → history_lines h ≡ history_lines g ++ zs → zs ≡ []
 history_ends g h is_g is_h [] e = refl
 history_ends g h is_g is_h (l ∷ zs) e =
-    absurd (refused H.allows H.stage_after H.line_text H.IsLine HL.lines_tell HistoryStage.Head HistoryStage.Done
-    HistoryStage.Done (history_lines g) l zs (HT.run_of g is_g)
-    (subst (HT.HasLines HistoryStage.Done) e (HT.run_of h is_h)) (λ x good same ok. cc))
+    absurd (refused H.allows H.stage_after H.line_text H.IsLine HL.lines_tell HistoryStage.Head
+    (HistoryStage.Done g.edition) (HistoryStage.Done h.edition) (history_lines g) l zs (HT.run_of g is_g)
+    (subst (HT.HasLines (HistoryStage.Done h.edition)) e (HT.run_of h is_h)) (λ x good same ok. cc))
 
 pub no_longer_history : (g h : History) → IsHistory g → IsHistory h → (more : List ℕ)
     → history_text h ≡ history_text g ++ more → more ≡ []
@@ -109,7 +110,7 @@ serial_ends : (ts us : List ℕ) → IsSerial ts → IsSerial us → (zs : List 
     → serial_lines us ≡ serial_lines ts ++ zs → zs ≡ []
 serial_ends ts us is_ts is_us [] e = refl
 serial_ends ts us is_ts is_us (l ∷ zs) e =
-    absurd (refused S.allows S.stage_after S.line_text S.IsLine ST.lines_tell SerialStage.Head SerialStage.Done
+    absurd (refused S.allows S.next_stage S.line_text S.IsLine ST.lines_tell SerialStage.Head SerialStage.Done
     SerialStage.Done (serial_lines ts) l zs (ST.run_of ts is_ts)
     (subst (ST.HasLines SerialStage.Done) e (ST.run_of us is_us)) (λ x good same ok. cc))
 

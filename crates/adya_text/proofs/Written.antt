@@ -6,9 +6,9 @@ use Rattle.std.proofs.lemmas.List.{map_push}
 use Rattle.std.proofs.Math.Seq.{take-suc}
 use Rattle.adya_terms.specs.Histories.{History}
 use Rattle.adya_line.specs.Growing.{Grows}
-use Rattle.adya_line.specs.Spelling.{history_head, serial_head, tail, event_text, order_text, final_text, txn_text}
+use Rattle.adya_line.specs.Spelling.{serial_head, tail, event_text, unfinished_text, order_text, final_text, txn_text}
 use Rattle.adya_line.proofs.Growth.{and_then, last_part}
-use Rattle.adya_text.specs.Texts.{with_ends, history_text, serial_text}
+use Rattle.adya_text.specs.Texts.{with_ends, head_text, history_text, serial_text}
 use Rattle.adya_text.proofs.LineLists.{ends_append}
 
 -- the bytes of a line with its line feed
@@ -51,30 +51,36 @@ view_more text view xs i x {a = a} {b = b} {d = d} c within here so_far line fee
 
 -- ---- whole texts
 
-history_parts : (es os fs : List (List ℕ))
-    → (((ended history_head ++ with_ends es) ++ with_ends os) ++ with_ends fs)
-    ++ ended tail ≡ with_ends (history_head ∷ (es ++ (os ++ (fs ++ tail ∷ []))))
-history_parts es os fs =
-    let rest : with_ends (es ++ (os ++ (fs ++ tail ∷ []))) ≡ with_ends es
-    ++ (with_ends os ++ (with_ends fs ++ ended tail)) =
-    ends_append es (os ++ (fs ++ tail ∷ []))
+history_parts : (head : List ℕ) (es ts os fs : List (List ℕ))
+    → ((((ended head ++ with_ends es) ++ with_ends ts) ++ with_ends os) ++ with_ends fs)
+    ++ ended tail ≡ with_ends (head ∷ (es ++ (ts ++ (os ++ (fs ++ tail ∷ [])))))
+history_parts head es ts os fs =
+    let rest : with_ends (es ++ (ts ++ (os ++ (fs ++ tail ∷ [])))) ≡ with_ends es
+    ++ (with_ends ts ++ (with_ends os ++ (with_ends fs ++ ended tail))) =
+    ends_append es (ts ++ (os ++ (fs ++ tail ∷ [])))
     ∙ ap (λ l. with_ends es ++ l)
-    (ends_append os (fs ++ tail ∷ []) ∙ ap (λ l. with_ends os ++ l) (ends_append fs (tail ∷ []))) in
-    append_assoc ((ended history_head ++ with_ends es) ++ with_ends os) (with_ends fs) (ended tail)
-    ∙ append_assoc (ended history_head ++ with_ends es) (with_ends os) (with_ends fs ++ ended tail)
-    ∙ append_assoc (ended history_head) (with_ends es) (with_ends os ++ (with_ends fs ++ ended tail))
-    ∙ ap (λ l. ended history_head ++ l) (sym rest)
+    (ends_append ts (os ++ (fs ++ tail ∷ []))
+    ∙ ap (λ l. with_ends ts ++ l)
+    (ends_append os (fs ++ tail ∷ []) ∙ ap (λ l. with_ends os ++ l) (ends_append fs (tail ∷ [])))) in
+    append_assoc (((ended head ++ with_ends es) ++ with_ends ts) ++ with_ends os) (with_ends fs) (ended tail)
+    ∙ append_assoc ((ended head ++ with_ends es) ++ with_ends ts) (with_ends os) (with_ends fs ++ ended tail)
+    ∙ append_assoc (ended head ++ with_ends es) (with_ends ts) (with_ends os ++ (with_ends fs ++ ended tail))
+    ∙ append_assoc (ended head) (with_ends es) (with_ends ts ++ (with_ends os ++ (with_ends fs ++ ended tail)))
+    ∙ append_assoc head (10 ∷ []) (with_ends es ++ (with_ends ts ++ (with_ends os ++ (with_ends fs ++ ended tail))))
+    ∙ ap (λ l. head ++ (10 ∷ l)) (sym rest)
 
-pub whole_history : {E : Type 0} (h : History) {a b c d e : Option (List ℕ)} (f : Option (List ℕ))
+pub whole_history : {E : Type 0} (h : History) {a b c d e f : Option (List ℕ)} (g : Option (List ℕ))
     (r : Result (Unit {0}) E)
-    → Grows a (ended history_head) b → Grows b (with_ends (map event_text h.events)) c
-    → Grows c (with_ends (map order_text h.orders)) d → Grows d (with_ends (map final_text h.finals)) e
-    → OnOk r (Grows e (ended tail) f)
-    → OnOk r (Grows a (history_text h) f)
-whole_history h {a = a} f r head events orders finals end =
-    subst (λ (l : List ℕ). OnOk r (Grows a l f))
-    (history_parts (map event_text h.events) (map order_text h.orders) (map final_text h.finals))
-    (last_part f (ended tail) r (and_then (and_then (and_then head events) orders) finals) end)
+    → Grows a (ended (head_text h.edition)) b → Grows b (with_ends (map event_text h.events)) c
+    → Grows c (with_ends (map unfinished_text h.unfinished)) d
+    → Grows d (with_ends (map order_text h.orders)) e → Grows e (with_ends (map final_text h.finals)) f
+    → OnOk r (Grows f (ended tail) g)
+    → OnOk r (Grows a (history_text h) g)
+whole_history h {a = a} g r head events unfinished orders finals end =
+    subst (λ (l : List ℕ). OnOk r (Grows a l g))
+    (history_parts (head_text h.edition) (map event_text h.events) (map unfinished_text h.unfinished)
+    (map order_text h.orders) (map final_text h.finals))
+    (last_part g (ended tail) r (and_then (and_then (and_then (and_then head events) unfinished) orders) finals) end)
 
 serial_parts : (ts : List (List ℕ))
     → (ended serial_head ++ with_ends ts) ++ ended tail ≡ with_ends (serial_head ∷ (ts ++ tail ∷ []))

@@ -7,9 +7,9 @@ use Rattle.adya_terms.specs.declared.history.History.{History as HistoryValue}
 use Rattle.adya_text.specs.Texts.{IsHistory, history_text, AreHistoryLines}
 use Rattle.adya_text.specs.Faults.{IsFirstFaulty, IsFaultLine}
 use Rattle.adya_text.specs.Runs.{HasRun}
-use Rattle.adya_text.specs.HistoryRuns.{Line, IsLine, line_text, allows, stage_after, event_in, order_in, final_in}
+use Rattle.adya_text.specs.HistoryRuns.{Line, IsLine, line_text, allows, stage_after, event_in, unfinished_in, order_in, final_in}
 use Rattle.adya_text.specs.declared.history_reader.Stage.{Stage}
-use Rattle.adya_text.specs.declared.history_reader.Stage.TheVariants.{Head, Events, Orders, Finals, Done, Failed}
+use Rattle.adya_text.specs.declared.history_reader.Stage.TheVariants.{Head, Events, Unfinished, Orders, Finals, Done, Failed}
 use Rattle.adya_text.specs.declared.history_reader.HistoryReader.{HistoryReader}
 use Rattle.adya_text.specs.declared.read_fault.ReadFault.{ReadFault}
 use Rattle.adya_text.specs.declared.read_fault.ReadFault.TheVariants.{Syntax, Memory}
@@ -18,23 +18,26 @@ use Rattle.adya_text.specs.declared.read_fault.Text.TheVariants as Of
 abbrev pub is_failed : Stage → Bool
 is_failed (Failed k) = true
 is_failed Head = false
-is_failed Events = false
-is_failed (Orders last) = false
-is_failed (Finals last) = false
-is_failed Done = false
+is_failed (Events e) = false
+is_failed (Unfinished last) = false
+is_failed (Orders e last) = false
+is_failed (Finals e last) = false
+is_failed (Done e) = false
 
 abbrev pub is_done : Stage → Bool
-is_done Done = true
+is_done (Done e) = true
 is_done Head = false
-is_done Events = false
-is_done (Orders last) = false
-is_done (Finals last) = false
+is_done (Events e) = false
+is_done (Unfinished last) = false
+is_done (Orders e last) = false
+is_done (Finals e last) = false
 is_done (Failed k) = false
 
--- each line may stand where it stands, and the reader holds what the lines hold
+-- each line may stand where it stands, and the reader holds what the lines hold; the stage tells their edition
 pub record IsTaken (r : HistoryReader) (lines : List (List ℕ)) : Type 0 where
   pub run : HasRun allows stage_after line_text IsLine Head r.stage lines
   pub events : map event_of r.events.items ≡ filter_map event_in run.items
+  pub unfinished : r.unfinished.items ≡ filter_map unfinished_in run.items
   pub orders : map order_of r.orders.items ≡ filter_map order_in run.items
   pub finals : map final_of r.finals.items ≡ filter_map final_in run.items
   pub next : r.next ≡ suc (length lines)
@@ -62,9 +65,10 @@ IsAllowed s text x = IsLineOf x text × (allows s x ≡ true)
 
 -- the new reader is the old one with what the line holds
 pub record Takes (old new : HistoryReader) (x : Line) : Type 0 where
-  pub stage : new.stage ≡ stage_after x
+  pub stage : new.stage ≡ stage_after old.stage x
   pub next : new.next ≡ suc old.next
   pub events : map event_of new.events.items ≡ map event_of old.events.items ++ filter_map event_in (x ∷ [])
+  pub unfinished : new.unfinished.items ≡ old.unfinished.items ++ filter_map unfinished_in (x ∷ [])
   pub orders : map order_of new.orders.items ≡ map order_of old.orders.items ++ filter_map order_in (x ∷ [])
   pub finals : map final_of new.finals.items ≡ map final_of old.finals.items ++ filter_map final_in (x ∷ [])
 
@@ -73,6 +77,7 @@ pub record IsKept (old new : HistoryReader) : Type 0 where
   pub stage : new.stage ≡ old.stage
   pub next : new.next ≡ old.next
   pub events : new.events.items ≡ old.events.items
+  pub unfinished : new.unfinished.items ≡ old.unfinished.items
   pub orders : new.orders.items ≡ old.orders.items
   pub finals : new.finals.items ≡ old.finals.items
 

@@ -1,95 +1,139 @@
 -- Which line of a history text may come next, by the stage that the lines before have led to.
-use Rattle.std.specs.Prelude.{ℕ, Bool, true, false, List, Option, Some, None}
-use Rattle.adya_terms.specs.Keys.{key_lt}
+use Rattle.std.specs.Prelude.{ℕ, Bool, true, false, nat_lt, List, Option, Some, None}
+use Rattle.adya_terms.specs.declared.edition.Edition.{Edition}
+use Rattle.adya_terms.specs.declared.edition.Edition.TheVariants.{One, Two}
+use Rattle.adya_terms.specs.Keys.{key_lt, IsTxn}
 use Rattle.adya_terms.specs.Histories.{Event, Order, FinalPair, event_of, order_of, final_of}
-use Rattle.adya_line.specs.Spelling.{history_head, tail, event_text, order_text, final_text}
+use Rattle.adya_line.specs.Spelling.{tail, event_text, unfinished_text, order_text, final_text}
 use Rattle.adya_line.specs.Limits.{IsEvent, IsOrder, IsFinal}
+use Rattle.adya_text.specs.Texts.{head_text}
 use Rattle.adya_text.specs.declared.history_reader.Stage.{Stage}
-use Rattle.adya_text.specs.declared.history_reader.Stage.TheVariants.{Head, Events, Orders, Finals, Done, Failed}
+use Rattle.adya_text.specs.declared.history_reader.Stage.TheVariants.{Head, Events, Unfinished, Orders, Finals, Done, Failed}
 use Rattle.adya_text.specs.declared.history_reader.Line.{Line as LineValue}
 use Rattle.adya_text.specs.declared.history_reader.Line.TheVariants as In
 
 -- a line by its kind
 pub data Line : Type 0 where
-  HeadLine : Line
+  HeadLine : (edition : Edition) → Line
   EventLine : (event : Event) → Line
+  UnfinishedLine : (txn : ℕ) → Line
   OrderLine : (order : Order) → Line
   FinalLine : (pair : FinalPair) → Line
   TailLine : Line
 
 abbrev pub line_of : LineValue → Line
-line_of In.Head = HeadLine
-line_of (In.Event e) = EventLine (event_of e)
+line_of (In.Head e) = HeadLine e
+line_of (In.Event v) = EventLine (event_of v)
+line_of (In.Unfinished t) = UnfinishedLine t
 line_of (In.Order o) = OrderLine (order_of o)
 line_of (In.Final f) = FinalLine (final_of f)
 line_of In.Tail = TailLine
 
 abbrev pub line_text : Line → List ℕ
-line_text HeadLine = history_head
-line_text (EventLine e) = event_text e
+line_text (HeadLine e) = head_text e
+line_text (EventLine v) = event_text v
+line_text (UnfinishedLine t) = unfinished_text t
 line_text (OrderLine o) = order_text o
 line_text (FinalLine f) = final_text f
 line_text TailLine = tail
 
 -- what it holds has a line
 abbrev pub IsLine : Line → Type 0
-IsLine HeadLine = Unit {0}
-IsLine (EventLine e) = IsEvent e
+IsLine (HeadLine e) = Unit {0}
+IsLine (EventLine v) = IsEvent v
+IsLine (UnfinishedLine t) = IsTxn t
 IsLine (OrderLine o) = IsOrder o
 IsLine (FinalLine f) = IsFinal f
 IsLine TailLine = Unit {0}
 
--- the head comes first, the tail last, events before orders before finals, and the keys rise
+abbrev pub may_be_unfinished : Edition → Bool
+may_be_unfinished One = false
+may_be_unfinished Two = true
+
+-- the head comes first, the tail last, events before unfinished transactions before orders before finals, and the
+-- numbers and the keys rise
 abbrev pub allows : Stage → Line → Bool
-allows Head HeadLine = true
-allows Head (EventLine e) = false
+allows Head (HeadLine d) = true
+allows Head (EventLine v) = false
+allows Head (UnfinishedLine t) = false
 allows Head (OrderLine o) = false
 allows Head (FinalLine f) = false
 allows Head TailLine = false
-allows Events HeadLine = false
-allows Events (EventLine e) = true
-allows Events (OrderLine o) = true
-allows Events (FinalLine f) = true
-allows Events TailLine = true
-allows (Orders last) HeadLine = false
-allows (Orders last) (EventLine e) = false
-allows (Orders last) (OrderLine o) = key_lt last o.key
-allows (Orders last) (FinalLine f) = true
-allows (Orders last) TailLine = true
-allows (Finals last) HeadLine = false
-allows (Finals last) (EventLine e) = false
-allows (Finals last) (OrderLine o) = false
-allows (Finals last) (FinalLine f) = key_lt last f.key
-allows (Finals last) TailLine = true
-allows Done x = false
+allows (Events e) (HeadLine d) = false
+allows (Events e) (EventLine v) = true
+allows (Events e) (UnfinishedLine t) = may_be_unfinished e
+allows (Events e) (OrderLine o) = true
+allows (Events e) (FinalLine f) = true
+allows (Events e) TailLine = true
+allows (Unfinished last) (HeadLine d) = false
+allows (Unfinished last) (EventLine v) = false
+allows (Unfinished last) (UnfinishedLine t) = nat_lt last t
+allows (Unfinished last) (OrderLine o) = true
+allows (Unfinished last) (FinalLine f) = true
+allows (Unfinished last) TailLine = true
+allows (Orders e last) (HeadLine d) = false
+allows (Orders e last) (EventLine v) = false
+allows (Orders e last) (UnfinishedLine t) = false
+allows (Orders e last) (OrderLine o) = key_lt last o.key
+allows (Orders e last) (FinalLine f) = true
+allows (Orders e last) TailLine = true
+allows (Finals e last) (HeadLine d) = false
+allows (Finals e last) (EventLine v) = false
+allows (Finals e last) (UnfinishedLine t) = false
+allows (Finals e last) (OrderLine o) = false
+allows (Finals e last) (FinalLine f) = key_lt last f.key
+allows (Finals e last) TailLine = true
+allows (Done e) x = false
 allows (Failed k) x = false
 
+-- the edition of the head before the stage
+abbrev pub edition_at : Stage → Edition
+edition_at (Events e) = e
+edition_at (Unfinished last) = Two
+edition_at (Orders e last) = e
+edition_at (Finals e last) = e
+edition_at (Done e) = e
+edition_at Head = One
+edition_at (Failed k) = One
+
 -- the stage behind a line
-abbrev pub stage_after : Line → Stage
-stage_after HeadLine = Events
-stage_after (EventLine e) = Events
-stage_after (OrderLine o) = Orders o.key
-stage_after (FinalLine f) = Finals f.key
-stage_after TailLine = Done
+abbrev pub stage_after : Stage → Line → Stage
+stage_after s (HeadLine e) = Events e
+stage_after s (EventLine v) = Events (edition_at s)
+stage_after s (UnfinishedLine t) = Unfinished t
+stage_after s (OrderLine o) = Orders (edition_at s) o.key
+stage_after s (FinalLine f) = Finals (edition_at s) f.key
+stage_after s TailLine = Done (edition_at s)
 
 -- what a line holds
 abbrev pub event_in : Line → Option Event
-event_in (EventLine e) = Some e
-event_in HeadLine = None
+event_in (EventLine v) = Some v
+event_in (HeadLine e) = None
+event_in (UnfinishedLine t) = None
 event_in (OrderLine o) = None
 event_in (FinalLine f) = None
 event_in TailLine = None
 
+abbrev pub unfinished_in : Line → Option ℕ
+unfinished_in (UnfinishedLine t) = Some t
+unfinished_in (HeadLine e) = None
+unfinished_in (EventLine v) = None
+unfinished_in (OrderLine o) = None
+unfinished_in (FinalLine f) = None
+unfinished_in TailLine = None
+
 abbrev pub order_in : Line → Option Order
 order_in (OrderLine o) = Some o
-order_in HeadLine = None
-order_in (EventLine e) = None
+order_in (HeadLine e) = None
+order_in (EventLine v) = None
+order_in (UnfinishedLine t) = None
 order_in (FinalLine f) = None
 order_in TailLine = None
 
 abbrev pub final_in : Line → Option FinalPair
 final_in (FinalLine f) = Some f
-final_in HeadLine = None
-final_in (EventLine e) = None
+final_in (HeadLine e) = None
+final_in (EventLine v) = None
+final_in (UnfinishedLine t) = None
 final_in (OrderLine o) = None
 final_in TailLine = None

@@ -5,7 +5,7 @@ use Rattle.adya_terms.specs.declared.serial.Serial.{Serial}
 use Rattle.adya_text.specs.Texts.{IsSerial, serial_text, AreSerialLines}
 use Rattle.adya_text.specs.Faults.{IsFirstFaulty, IsFaultLine}
 use Rattle.adya_text.specs.Runs.{HasRun}
-use Rattle.adya_text.specs.SerialRuns.{Line, IsLine, line_text, allows, stage_after, txn_in}
+use Rattle.adya_text.specs.SerialRuns.{Line, IsLine, line_text, allows, next_stage, stage_after, txn_in}
 use Rattle.adya_text.specs.declared.serial_reader.Stage.{Stage}
 use Rattle.adya_text.specs.declared.serial_reader.Stage.TheVariants.{Head, Txns, Done, Failed}
 use Rattle.adya_text.specs.declared.serial_reader.SerialReader.{SerialReader}
@@ -27,7 +27,7 @@ is_done (Failed k) = false
 
 -- each line may stand where it stands, and the reader holds what the lines hold
 pub record IsTaken (r : SerialReader) (lines : List (List ℕ)) : Type 0 where
-  pub run : HasRun allows stage_after line_text IsLine Head r.stage lines
+  pub run : HasRun allows next_stage line_text IsLine Head r.stage lines
   pub txns : r.txns.items ≡ filter_map txn_in run.items
   pub next : r.next ≡ suc (length lines)
 

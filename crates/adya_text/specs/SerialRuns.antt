@@ -46,6 +46,10 @@ stage_after HeadLine = Txns
 stage_after (TxnLine t) = Txns
 stage_after TailLine = Done
 
+-- the same, whatever the stage before the line
+abbrev pub next_stage : Stage → Line → Stage
+next_stage s x = stage_after x
+
 -- what a line holds
 abbrev pub txn_in : Line → Option ℕ
 txn_in (TxnLine t) = Some t

@@ -2,14 +2,17 @@
 use Rattle.std.specs.Prelude.{◌≡◌, ℕ, true, List, [], ◌∷◌, ◌++◌, map}
 use Rattle.std.specs.List.{AllByRecursion}
 use Rattle.adya_terms.specs.Keys.{IsTxn, keys_rise}
-use Rattle.adya_terms.specs.Histories.{One, History}
-use Rattle.adya_line.specs.Spelling.{history_head, serial_head, tail, event_text, order_text, final_text, txn_text}
+use Rattle.adya_terms.specs.Shapes.{fits_edition}
+use Rattle.adya_terms.specs.declared.edition.Edition.{Edition}
+use Rattle.adya_terms.specs.declared.edition.Edition.TheVariants.{One, Two}
+use Rattle.adya_terms.specs.Histories.{History}
+use Rattle.adya_line.specs.Spelling.{history_head, second_head, serial_head, tail, event_text, unfinished_text, order_text, final_text, txn_text}
 use Rattle.adya_line.specs.Limits.{IsEvent, IsOrder, IsFinal}
 
 -- a history that has a text
 pub record IsHistory (h : History) : Type 0 where
-  pub edition : h.edition ≡ One
-  pub unfinished : h.unfinished ≡ []
+  pub edition : fits_edition h.edition h.unfinished ≡ true
+  pub unfinished : AllByRecursion IsTxn h.unfinished
   pub events : AllByRecursion IsEvent h.events
   pub orders : AllByRecursion IsOrder h.orders
   pub orders_rise : keys_rise (map (λ o. o.key) h.orders) ≡ true
@@ -20,10 +23,15 @@ pub record IsHistory (h : History) : Type 0 where
 abbrev pub IsSerial : List ℕ → Type 0
 IsSerial ts = AllByRecursion IsTxn ts
 
--- the head, the events, the orders, the finals and the tail
+-- the first line of an edition
+abbrev pub head_text : Edition → List ℕ
+head_text One = history_head
+head_text Two = second_head
+
+-- the head, the events, the unfinished transactions, the orders, the finals and the tail
 abbrev pub history_lines : History → List (List ℕ)
-history_lines h = history_head ∷ (map event_text h.events
-    ++ (map order_text h.orders ++ (map final_text h.finals ++ tail ∷ [])))
+history_lines h = head_text h.edition ∷ (map event_text h.events ++ (map unfinished_text h.unfinished
+    ++ (map order_text h.orders ++ (map final_text h.finals ++ tail ∷ []))))
 
 -- the head, the transactions and the tail
 abbrev pub serial_lines : List ℕ → List (List ℕ)

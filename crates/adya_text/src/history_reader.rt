@@ -1,16 +1,18 @@
 //! A reader of history texts, line by line.
 
-ghost use Rattle.std.specs.Prelude.{◌≡◌, ◌↔◌, ◌++◌, ◌∷◌, [], List, ℕ, IsTrue, IfOk, OnOk, OnErr, MatchOption};
+ghost use Rattle.std.specs.Prelude.{◌≡◌, ◌↔◌, ◌++◌, ◌∷◌, [], List, true, ℕ, IsTrue, IfOk, OnOk, OnErr, MatchOption, IsOk, map};
 ghost use Rattle.std.specs.Bool.{OnTrue, OnFalse};
-ghost use Rattle.adya_text.specs.HistoryRuns.{allows, line_of, stage_after};
-ghost use Rattle.adya_line.specs.Spelling.{history_head, tail};
+ghost use Rattle.adya_terms.specs.Shapes.{fits_edition, is_shape};
+ghost use Rattle.adya_terms.specs.Histories.{order_of, final_of};
+ghost use Rattle.adya_text.specs.HistoryRuns.{allows, edition_at, line_of, stage_after};
+ghost use Rattle.adya_line.specs.Spelling.{history_head, second_head, tail};
 ghost use Rattle.adya_text.specs.Texts.{AreHistoryLines};
 ghost use Rattle.adya_text.specs.Faults.{Begins, IsCut};
 ghost use Rattle.adya_text.specs.HistoryReaders.{IsFed, IsLineOf, IsNoLine, IsRefused, IsAllowed, Takes, IsKept, ReadsHistory, is_done, is_failed};
 
 use crate::read_fault::{ReadFault, Text};
-use adya_line::{event, final_pair, history_head, order, tail};
-use adya_terms::{Event, FinalPair, History, Key, Order};
+use adya_line::{event, final_pair, history_head, order, second_head, tail, unfinished};
+use adya_terms::{BadShape, Edition, Event, FinalPair, History, Key, Order, Txn};
 use std::alloc::{AllocError, Global};
 
 /// Which lines may come next.
@@ -18,14 +20,16 @@ use std::alloc::{AllocError, Global};
 enum Stage {
     /// The head.
     Head,
-    /// An event, an order, a final or the tail.
-    Events,
+    /// An event, in the second edition an unfinished transaction, an order, a final or the tail.
+    Events { edition: Edition },
+    /// In the second edition: an unfinished transaction above this one, an order, a final or the tail.
+    Unfinished { last: Txn },
     /// An order of a key above this one, a final or the tail.
-    Orders { last: Key },
+    Orders { edition: Edition, last: Key },
     /// A final of a key above this one or the tail.
-    Finals { last: Key },
+    Finals { edition: Edition, last: Key },
     /// None.
-    Done,
+    Done { edition: Edition },
     /// None: this line could not stand where it stood.
     Failed { line: usize },
 }
@@ -33,8 +37,9 @@ enum Stage {
 /// A line by its kind.
 #[derive(Drop)]
 enum Line {
-    Head,
+    Head(Edition),
     Event(Event),
+    Unfinished(Txn),
     Order(Order),
     Final(FinalPair),
     Tail,
@@ -44,7 +49,7 @@ impl Stage {
     fn is_done(&self) -> bool
         ensures { result ≡ is_done self.now }
     {
-        matches!(self, Stage::Done)
+        matches!(self, Stage::Done { .. })
     }
 
     fn has_failed(&self) -> bool
@@ -57,34 +62,65 @@ impl Stage {
         ensures { result ≡ allows self.now (line_of line.now) }
     {
         match line {
-            Line::Head => matches!(self, Stage::Head),
-            Line::Event(_) => matches!(self, Stage::Events),
+            Line::Head(_) => matches!(self, Stage::Head),
+            Line::Event(_) => matches!(self, Stage::Events { .. }),
+            Line::Unfinished(txn) => match self {
+                Stage::Events { edition } => matches!(edition, Edition::Two),
+                Stage::Unfinished { last } => *last < *txn,
+                _ => false,
+            },
             Line::Order(order) => match self {
-                Stage::Events => true,
-                Stage::Orders { last } => *last < order.key,
+                Stage::Events { .. } | Stage::Unfinished { .. } => true,
+                Stage::Orders { last, .. } => *last < order.key,
                 _ => false,
             },
             Line::Final(pair) => match self {
-                Stage::Events | Stage::Orders { .. } => true,
-                Stage::Finals { last } => *last < pair.key,
+                Stage::Events { .. } | Stage::Unfinished { .. } | Stage::Orders { .. } => true,
+                Stage::Finals { last, .. } => *last < pair.key,
                 _ => false,
             },
             Line::Tail => matches!(
                 self,
-                Stage::Events | Stage::Orders { .. } | Stage::Finals { .. }
+                Stage::Events { .. }
+                    | Stage::Unfinished { .. }
+                    | Stage::Orders { .. }
+                    | Stage::Finals { .. }
             ),
         }
     }
 
-    /// The stage behind a line.
-    fn after(line: &Line) -> Stage
-        ensures { result ≡ stage_after (line_of line.now) }
+    /// The edition of the head; the first before it.
+    fn edition(&self) -> Edition
+        ensures { result ≡ edition_at self.now }
     {
+        match self {
+            Stage::Events { edition }
+            | Stage::Orders { edition, .. }
+            | Stage::Finals { edition, .. }
+            | Stage::Done { edition } => *edition,
+            Stage::Unfinished { .. } => Edition::Two,
+            Stage::Head | Stage::Failed { .. } => Edition::One,
+        }
+    }
+
+    /// The stage behind a line.
+    fn after(&self, line: &Line) -> Stage
+        ensures { result ≡ stage_after self.now (line_of line.now) }
+    {
+        let edition = self.edition();
         match line {
-            Line::Head | Line::Event(_) => Stage::Events,
-            Line::Order(order) => Stage::Orders { last: order.key },
-            Line::Final(pair) => Stage::Finals { last: pair.key },
-            Line::Tail => Stage::Done,
+            Line::Head(edition) => Stage::Events { edition: *edition },
+            Line::Event(_) => Stage::Events { edition },
+            Line::Unfinished(txn) => Stage::Unfinished { last: *txn },
+            Line::Order(order) => Stage::Orders {
+                edition,
+                last: order.key,
+            },
+            Line::Final(pair) => Stage::Finals {
+                edition,
+                last: pair.key,
+            },
+            Line::Tail => Stage::Done { edition },
         }
     }
 }
@@ -96,6 +132,7 @@ pub struct HistoryReader {
     stage: Stage,
     next: usize,
     events: Vec<Event>,
+    unfinished: Vec<Txn>,
     orders: Vec<Order>,
     finals: Vec<FinalPair>,
 }
@@ -110,6 +147,7 @@ impl HistoryReader {
             stage: Stage::Head,
             next: 1,
             events: Vec::new(alloc),
+            unfinished: Vec::new(alloc),
             orders: Vec::new(alloc),
             finals: Vec::new(alloc),
         }
@@ -166,13 +204,14 @@ impl HistoryReader {
         ensures ok { OnOk result (Takes self.old self.new (line_of line)) }
         ensures err { OnErr result (IsKept self.old self.new) }
     {
-        let stage = Stage::after(&line);
+        let stage = self.stage.after(&line);
         let next = self.next.checked_add(1).ok_or(AllocError)?;
         match line {
             Line::Event(event) => self.events.push(event)?,
+            Line::Unfinished(txn) => self.unfinished.push(txn)?,
             Line::Order(order) => self.orders.push(order)?,
             Line::Final(pair) => self.finals.push(pair)?,
-            Line::Head | Line::Tail => {}
+            Line::Head(_) | Line::Tail => {}
         }
         self.stage = stage;
         self.next = next;
@@ -195,11 +234,37 @@ impl HistoryReader {
             return Err(fault_at(self.next));
         }
         let next = self.next;
-        // The keys have been seen to rise line by line.
-        match History::new(self.events, self.orders, self.finals) {
+        let edition = self.stage.edition();
+        // The numbers and the keys have been seen to rise line by line.
+        match of_edition(
+            edition,
+            self.events,
+            self.unfinished,
+            self.orders,
+            self.finals,
+        ) {
             Ok(history) => Ok(history),
             Err(_) => Err(fault_at(next)),
         }
+    }
+}
+
+/// The history of the edition with these lists.
+fn of_edition(
+    edition: Edition,
+    events: Vec<Event>,
+    unfinished: Vec<Txn>,
+    orders: Vec<Order>,
+    finals: Vec<FinalPair>,
+) -> Result<History, BadShape>
+    ensures limits { fits_edition edition unfinished.items ≡ true
+        → is_shape (map order_of orders.items) (map final_of finals.items) ≡ true → IsOk result }
+    ensures edition { fits_edition edition unfinished.items ≡ true → IfOk result (λ h. (h.edition ≡ edition) × (h.unfinished.items ≡ unfinished.items)) }
+    ensures same { IfOk result (λ h. (h.events ≡ events) × (h.orders ≡ orders) × (h.finals ≡ finals)) }
+{
+    match edition {
+        Edition::One => History::new(events, orders, finals),
+        Edition::Two => History::new_two(events, unfinished, orders, finals),
     }
 }
 
@@ -218,6 +283,12 @@ fn is_head(line: &[u8]) -> bool
     line == history_head()
 }
 
+fn is_second_head(line: &[u8]) -> bool
+    ensures { IsTrue result ↔ (line.now ≡ second_head) }
+{
+    line == second_head()
+}
+
 fn is_tail(line: &[u8]) -> bool
     ensures { IsTrue result ↔ (line.now ≡ tail) }
 {
@@ -228,8 +299,11 @@ fn is_tail(line: &[u8]) -> bool
 fn read_line(alloc: Global, line: &[u8]) -> Result<Option<Line>, AllocError>
     ensures { IfOk result (λ o. MatchOption o (IsNoLine line.now) (λ x. IsLineOf (line_of x) line.now)) }
 {
-    if let Some(event) = event(line) {
+    if let Some(event) = event(alloc, line)? {
         return Ok(Some(Line::Event(event)));
+    }
+    if let Some(txn) = unfinished(line) {
+        return Ok(Some(Line::Unfinished(txn)));
     }
     if let Some(order) = order(alloc, line)? {
         return Ok(Some(Line::Order(order)));
@@ -238,7 +312,10 @@ fn read_line(alloc: Global, line: &[u8]) -> Result<Option<Line>, AllocError>
         return Ok(Some(Line::Final(pair)));
     }
     if is_head(line) {
-        return Ok(Some(Line::Head));
+        return Ok(Some(Line::Head(Edition::One)));
+    }
+    if is_second_head(line) {
+        return Ok(Some(Line::Head(Edition::Two)));
     }
     if is_tail(line) {
         return Ok(Some(Line::Tail));

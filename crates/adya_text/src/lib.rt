@@ -9,6 +9,10 @@ mod reading;
 mod serial_reader;
 mod writing;
 
+pub use adya_line::{
+    ContentRef, DeleteRef, EndRef, Entries, EntryRef, EventRef, ReadRef, ScanRef, ValueRef,
+    VersionRef, WriteRef, read_event,
+};
 pub use history_reader::HistoryReader;
 pub use lines::{LineBuffer, LineFault};
 pub use read_fault::{ReadFault, Text};

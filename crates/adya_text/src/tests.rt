@@ -1,5 +1,5 @@
 use super::*;
-use adya_terms::{History, Watched};
+use adya_terms::{Edition, History, Watched};
 use std::alloc::Global;
 use std::test::Fail;
 
@@ -66,6 +66,43 @@ fn faults_of_histories(rt: HostRuntime) -> Result<(), Fail> {
         (b"adya 1\nend\n\n", 3),
         (b"adya 1\n{y,5}\n{x,5}\nend\n", 3),
         (b"adya 1\n{x,5}\n[x:1]\nend\n", 3),
+    ] {
+        assert_eq!(rt; fault_line(rt.alloc(), text), Some(line));
+    }
+    Ok(())
+}
+
+#[test]
+fn histories_of_the_second_edition(rt: HostRuntime) -> Result<(), Fail> {
+    for (text, unfinished) in [
+        // two_empty
+        (b"adya 2\nend\n".as_slice(), 0),
+        (
+            b"adya 2\nw1(x.1:1,5)\nc1\nd2(x.2:1)\ns3(a,z;x.1:1,5)\nu2\nu3\n[x:1]\n{x,5}\nend\n",
+            2,
+        ),
+    ] {
+        let Ok(history) = read_history(rt.alloc(), text) else {
+            return Err(Fail::new("the text is refused"));
+        };
+        assert_eq!(rt; history.edition(), Edition::Two);
+        assert_eq!(rt; history.unfinished().len(), unfinished);
+        let Some(again) = text_of(rt.alloc(), &history) else {
+            return Err(Fail::new("the history is not written"));
+        };
+        assert_eq!(rt; again.as_slice(), text);
+    }
+    for (text, line) in [
+        // two_unfinished_falls
+        (b"adya 2\nw1(x.1:1,5)\nu2\nu1\nend\n".as_slice(), 4),
+        // one_with_unfinished_line
+        (b"adya 1\nw1(x.1:1,5)\nu1\nend\n", 3),
+        // scan_with_empty_entry
+        (b"adya 1\ns1(a,m;)\nc1\nend\n", 2),
+        (b"adya 2\nu1\nu1\nend\n", 3),
+        (b"adya 2\nu1\nc1\nend\n", 3),
+        (b"adya 2\n[x:1]\nu1\nend\n", 3),
+        (b"adya 3\nend\n", 1),
     ] {
         assert_eq!(rt; fault_line(rt.alloc(), text), Some(line));
     }

@@ -6,13 +6,14 @@ ghost use Rattle.adya_terms.specs.Histories.{event_of, order_of, final_of};
 ghost use Rattle.adya_terms.specs.Values.{history_of};
 ghost use Rattle.adya_terms.specs.Watched.{has_failed, watched_contents};
 ghost use Rattle.adya_line.specs.Growing.{Grows};
-ghost use Rattle.adya_line.specs.Spelling.{event_text, order_text, final_text, txn_text};
-ghost use Rattle.adya_text.specs.Texts.{with_ends, history_text, serial_text};
+ghost use Rattle.adya_line.specs.Spelling.{event_text, unfinished_text, order_text, final_text, txn_text};
+ghost use Rattle.adya_text.specs.Texts.{head_text, with_ends, history_text, serial_text};
 
 use adya_line::{
-    history_head, serial_head, tail, write_event, write_final, write_order, write_txn,
+    history_head, second_head, serial_head, tail, write_event, write_final, write_order, write_txn,
+    write_unfinished,
 };
-use adya_terms::{Event, FinalPair, History, Order, Serial, Txn, Watched};
+use adya_terms::{Edition, Event, FinalPair, History, Order, Serial, Txn, Watched};
 use std::io;
 use std::io::Write;
 use thiserror::Error;
@@ -49,8 +50,9 @@ fn put_history<W: Write>(history: &History, out: &mut Watched<W>) -> io::Result<
         (watched_contents W.contents out.new)) }
     ensures fault { IsErr result → has_failed out.new ≡ true }
 {
-    put_line(history_head(), out)?;
+    put_head(history.edition(), out)?;
     put_events(history.events(), out)?;
+    put_unfinished(history.unfinished(), out)?;
     put_orders(history.orders(), out)?;
     put_finals(history.finals(), out)?;
     put_line(tail(), out)
@@ -65,6 +67,18 @@ fn put_serial<W: Write>(serial: &Serial, out: &mut Watched<W>) -> io::Result<()>
     put_line(serial_head(), out)?;
     put_txns(serial.txns(), out)?;
     put_line(tail(), out)
+}
+
+fn put_head<W: Write>(edition: Edition, out: &mut Watched<W>) -> io::Result<()>
+    ensures ok { OnOk result
+        (Grows (watched_contents W.contents out.old) (head_text edition ++ 10 ∷ [])
+        (watched_contents W.contents out.new)) }
+    ensures fault { IsErr result → has_failed out.new ≡ true }
+{
+    match edition {
+        Edition::One => put_line(history_head(), out),
+        Edition::Two => put_line(second_head(), out),
+    }
 }
 
 /// Writes the line with its line feed.
@@ -85,6 +99,19 @@ fn put_events<W: Write>(events: &[Event], out: &mut Watched<W>) -> io::Result<()
 {
     for event in events {
         write_event(event, out)?;
+        out.write_all(b"\n")?;
+    }
+    Ok(())
+}
+
+fn put_unfinished<W: Write>(txns: &[Txn], out: &mut Watched<W>) -> io::Result<()>
+    ensures ok { OnOk result
+        (Grows (watched_contents W.contents out.old) (with_ends (map unfinished_text txns.now))
+        (watched_contents W.contents out.new)) }
+    ensures fault { IsErr result → has_failed out.new ≡ true }
+{
+    for txn in txns {
+        write_unfinished(*txn, out)?;
         out.write_all(b"\n")?;
     }
     Ok(())

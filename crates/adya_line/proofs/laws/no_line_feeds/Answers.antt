@@ -1,4 +1,4 @@
-use Rattle.adya_line.proofs.Feeds.{events_plain, orders_plain, finals_plain, txns_plain, history_head_plain, serial_head_plain, tail_plain}
+use Rattle.adya_line.proofs.Feeds.{events_plain, unfinished_plain, orders_plain, finals_plain, txns_plain, history_head_plain, second_head_plain, serial_head_plain, tail_plain}
 use Rattle.adya_line.proofs.laws.no_line_feeds.Goals as goal
 
 pub returns-clause-events : goal.returns-clause-events
@@ -21,3 +21,9 @@ returns-clause-serial_head c = serial_head_plain
 
 pub returns-clause-tail : goal.returns-clause-tail
 returns-clause-tail c = tail_plain
+
+pub returns-clause-unfinished : goal.returns-clause-unfinished
+returns-clause-unfinished c = unfinished_plain
+
+pub returns-clause-second_head : goal.returns-clause-second_head
+returns-clause-second_head c = second_head_plain

@@ -1,28 +1,44 @@
-use Rattle.std.proofs.Common.{◌∙◌, sym, subst}
-use Rattle.adya_terms.specs.Faults.{malformed, aborted_reads, intermediate_reads}
-use Rattle.adya_terms.specs.Checks.{Names, parts}
-use Rattle.adya_terms.proofs.Firsts.{names_front, names_behind, found_behind}
-use Rattle.adya_terms.proofs.Parts.{none_malformed, aborted_whole}
+use Rattle.std.proofs.Common.{◌≡◌, ◌+◌, ◌∙◌, ap, subst, length, [], arith}
+use Rattle.std.proofs.lemmas.List.{length-map}
+use Rattle.adya_terms.specs.Histories.{event_of}
+use Rattle.adya_terms.specs.Faults.{malformed, unfinished_faults, unfinished_line, orders_line}
+use Rattle.adya_terms.specs.Checks.{Names, whole, rule_faults, read_faults}
+use Rattle.adya_terms.proofs.Firsts.{found_behind}
+use Rattle.adya_terms.proofs.Parts.{events_first, unfinished_first, rules_first, none_malformed}
 use Rattle.adya_terms.proofs.checked.check.Goals as goal
 
-pub returns-in-Err-check_aborted : goal.returns-in-Err-check_aborted
-returns-in-Err-check_aborted c =
-    let h = parts c.args.events.now c.args.orders.now c.args.finals.now in
-    let none =
-    none_malformed c.args.events.now c.args.orders.now c.args.finals.now c.in-Ok.ensures.1 c.in_default.ensures in
-    let fault = c.in-Err-check_aborted.fault in
-    names_behind (malformed h) _ fault none
-    (names_front (aborted_reads h) (intermediate_reads h) fault
-    (subst (λ xs. Names xs fault)
-    (sym (aborted_whole c.args.events.now c.args.orders.now c.args.finals.now)) c.in-Err-check_aborted.ensures))
+pub returns-in-Err : goal.returns-in-Err
+returns-in-Err c =
+    let h = whole c.args.events.now c.args.unfinished.now c.args.orders.now c.args.finals.now in
+    events_first h c.in-Err.fault c.in-Err.ensures
+
+pub returns-in-Err-check_unfinished : goal.returns-in-Err-check_unfinished
+returns-in-Err-check_unfinished c =
+    let h = whole c.args.events.now c.args.unfinished.now c.args.orders.now c.args.finals.now in
+    let n = length-map c.args.events.now event_of in
+    let at : length c.args.events.now + 2 ≡ unfinished_line h = omega (arith, n) in
+    let fault = c.in-Err-check_unfinished.fault in
+    unfinished_first h c.in-Ok.ensures.1 fault
+    (subst (λ k. Names (unfinished_faults h.events k h.unfinished) fault) at c.in-Err-check_unfinished.ensures)
+
+pub returns-in-Err-check_rules : goal.returns-in-Err-check_rules
+returns-in-Err-check_rules c =
+    let h = whole c.args.events.now c.args.unfinished.now c.args.orders.now c.args.finals.now in
+    let n = length-map c.args.events.now event_of in
+    let at : length c.args.events.now + 2 ≡ unfinished_line h = omega (arith, n) in
+    let ended = subst (λ k. unfinished_faults h.events k h.unfinished ≡ []) at c.in_default-check_unfinished.ensures in
+    let line : c.in-Some.line ≡ orders_line h = c.in-Some.ensures.1 ∙ ap (λ k. k + length h.unfinished) at in
+    let fault = c.in-Err-check_rules.fault in
+    rules_first h c.in-Ok.ensures.1 ended fault
+    (subst (λ k. Names (rule_faults h k) fault) line (c.in-Err-check_rules.ensures c.args.unfinished.now c.in-Ok-set_of.ensures))
 
 pub returns : goal.returns
 returns c =
-    let h = parts c.args.events.now c.args.orders.now c.args.finals.now in
-    let none =
-    none_malformed c.args.events.now c.args.orders.now c.args.finals.now c.in-Ok.ensures.1 c.in_default.ensures in
-    let r = c.check_intermediate.result in
-    found_behind r (malformed h) _ none
-    (found_behind r (aborted_reads h) (intermediate_reads h)
-    (aborted_whole c.args.events.now c.args.orders.now c.args.finals.now ∙ c.in_default-check_aborted.ensures)
-    c.check_intermediate.ensures)
+    let h = whole c.args.events.now c.args.unfinished.now c.args.orders.now c.args.finals.now in
+    let n = length-map c.args.events.now event_of in
+    let at : length c.args.events.now + 2 ≡ unfinished_line h = omega (arith, n) in
+    let ended = subst (λ k. unfinished_faults h.events k h.unfinished ≡ []) at c.in_default-check_unfinished.ensures in
+    let line : c.in-Some.line ≡ orders_line h = c.in-Some.ensures.1 ∙ ap (λ k. k + length h.unfinished) at in
+    let rules = subst (λ k. rule_faults h k ≡ []) line (c.in_default-check_rules.ensures c.args.unfinished.now c.in-Ok-set_of.ensures) in
+    found_behind c.check_reads.result (malformed h) (read_faults h) (none_malformed h c.in-Ok.ensures.1 ended rules)
+    (c.check_reads.ensures c.args.unfinished.now c.in-Ok-set_of.ensures)

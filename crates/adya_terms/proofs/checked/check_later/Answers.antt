@@ -12,13 +12,10 @@ pub returns-then-not-has_finals : goal.returns-then-not-has_finals
 returns-then-not-has_finals c =
     let h = parts c.args.events.now c.args.orders.now c.args.finals.now in
     let line = c.args.line in
-    let lines : fault_unless (has_lines h) line M7 ≡ [] =
-    ap (λ b. fault_unless b line M7) (sym c.has_lines.ensures ∙ c.if-not-has_lines.false) in
-    let last : first (fault_unless (has_finals h)
-    (line + length h.finals) M8) ≡ Some (Malformed (line + length c.args.finals.now) M8) =
+    let lines : fault_unless (has_lines h) line M7 ≡ [] = ap (λ b. fault_unless b line M7) (sym c.has_lines.ensures ∙ c.if-not-has_lines.false) in
+    let last : first (fault_unless (has_finals h) (line + length h.finals) M8) ≡ Some (Malformed (line + length c.args.finals.now) M8) =
     ap (λ b. first (fault_unless b (line + length h.finals) M8)) (sym c.has_finals.ensures ∙ c.if-not-has_finals.true) ∙
     ap (λ n. Some (Malformed (line + n) M8)) (length-map c.args.finals.now final_of) in
     names_broken (later_faults h line) (line + length c.args.finals.now) M8 c.broken.result
-    (first_rest (fault_unless (has_lines h) line M7) _ _ lines (first_rest (final_faults h line h.finals) _ _
-    c.in_default.ensures last))
+    (first_rest (fault_unless (has_lines h) line M7) _ _ lines (first_rest (final_faults h line h.finals) _ _ c.in_default.ensures last))
     c.broken.ensures

@@ -11,12 +11,10 @@ pub returns-in-Err : goal.returns-in-Err
 returns-in-Err c =
     let ys = c.args.finals.now in
     let k = c.args.key in
-    let rise : keys_rise (map (λ (f : FinalValue). f.key) ys) ≡ true =
-    ap keys_rise (sym (map-map (λ (f : FinalPair). f.key) final_of ys)) ∙ c.requires in
+    let rise : keys_rise (map (λ (f : FinalValue). f.key) ys) ≡ true = ap keys_rise (sym (map-map (λ (f : FinalPair). f.key) final_of ys)) ∙ c.requires in
     let by_key = c.in-Err.ensures.position (λ f. f.key) (answers_always _ _ _ (λ f a r g called. search rules)) in
     sym (final_any (map final_of ys) k ∙
-    (any_map (λ (f : FinalPair). key_eq f.key k) final_of ys ∙
-    search_misses (λ (f : FinalValue). f.key) ys k c.in-Err.field-0 rise by_key))
+    (any_map (λ (f : FinalPair). key_eq f.key k) final_of ys ∙ search_misses (λ (f : FinalValue). f.key) ys k c.in-Err.field-0 rise by_key))
 
 pub returns-in-Ok : goal.returns-in-Ok
 returns-in-Ok c =
@@ -24,5 +22,4 @@ returns-in-Ok c =
     let k = c.args.key in
     let by_key = c.in-Ok.ensures.position (λ f. f.key) (answers_always _ _ _ (λ f a r g called. search rules)) in
     sym (final_any (map final_of ys) k ∙
-    (any_map (λ (f : FinalPair). key_eq f.key k) final_of ys ∙
-    search_finds (λ (f : FinalValue). f.key) ys k c.in-Ok.field-0 c.in-Ok.ensures.bound by_key))
+    (any_map (λ (f : FinalPair). key_eq f.key k) final_of ys ∙ search_finds (λ (f : FinalValue). f.key) ys k c.in-Ok.field-0 c.in-Ok.ensures.bound by_key))

@@ -18,11 +18,9 @@ returns-then-not-is_exact c =
     let lists = c.in-Ok.ensures in
     let t = turn order_of c.args.orders.now i o c.loop-i-test.true c.index-orders-i.is in
     let exact : c.is_exact.result ≡ lists_exactly (installs all o.key) o.writers.items all =
-    c.is_exact.ensures os m lists (c.in-Ok-unlisted.ensures all os m lists) c.requires.rise
-    (Contains-slice_get os i (order_of o) t.found) in
+    c.is_exact.ensures os m lists (c.in-Ok-unlisted.ensures all os m lists) c.requires.rise (Contains-slice_get os i (order_of o) t.found) in
     names_broken (order_faults all c.args.first os) (c.args.first + i) M7 c.broken.result
-    (ap first c.loop-i.invariant ∙ order_here all (c.args.first + i) os i (order_of o) t (sym exact ∙
-    c.if-not-is_exact.true)) c.broken.ensures
+    (ap first c.loop-i.invariant ∙ order_here all (c.args.first + i) os i (order_of o) t (sym exact ∙ c.if-not-is_exact.true)) c.broken.ensures
 
 pub loop-i-preserved : goal.loop-i-preserved
 loop-i-preserved c =
@@ -34,6 +32,5 @@ loop-i-preserved c =
     let lists = c.in-Ok.ensures in
     let t = turn order_of c.args.orders.now i o c.loop-i-test.true c.index-orders-i.is in
     let exact : c.is_exact.result ≡ lists_exactly (installs all o.key) o.writers.items all =
-    c.is_exact.ensures os m lists (c.in-Ok-unlisted.ensures all os m lists) c.requires.rise
-    (Contains-slice_get os i (order_of o) t.found) in
+    c.is_exact.ensures os m lists (c.in-Ok-unlisted.ensures all os m lists) c.requires.rise (Contains-slice_get os i (order_of o) t.found) in
     c.loop-i.invariant ∙ order_later all c.args.first os i (order_of o) t (sym exact ∙ c.if-not-is_exact.false)

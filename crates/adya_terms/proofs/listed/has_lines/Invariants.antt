@@ -9,5 +9,4 @@ abbrev pub invariant-loop-event : goal.invariant-loop-event
 invariant-loop-event l =
     let all = map event_of l.events in
     let test = has_line all (map order_of l.orders) in
-    list_all test (filter_map written all) ≡
-    list_all test (filter_map written (map event_of (drop l.event-index l.events)))
+    list_all test (filter_map written all) ≡ list_all test (filter_map written (map event_of (drop l.event-index l.events)))

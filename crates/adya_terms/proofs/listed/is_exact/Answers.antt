@@ -11,8 +11,7 @@ pub returns-then-contains : goal.returns-then-contains
 returns-then-contains c os m lists out rise has =
     let all = map event_of c.args.events.now in
     let o = order_of c.args.order.now in
-    let left : list_any (is_unlisted all os o.key) (filter_map written all) ≡ true = sym (out o.key) ∙
-    (sym c.contains.ensures ∙ c.if-contains.true) in
+    let left : list_any (is_unlisted all os o.key) (filter_map written all) ≡ true = sym (out o.key) ∙ (sym c.contains.ensures ∙ c.if-contains.true) in
     let right = list_all (belongs all os o.key) o.writers in
     sym (and-false right) ∙ (ap (λ b. right && not b) (sym left) ∙ exact_line all os o rise has)
 
@@ -20,8 +19,7 @@ pub returns : goal.returns
 returns c os m lists out rise has =
     let all = map event_of c.args.events.now in
     let o = order_of c.args.order.now in
-    let left : list_any (is_unlisted all os o.key) (filter_map written all) ≡ false = sym (out o.key) ∙
-    (sym c.contains.ensures ∙ c.if-contains.false) in
+    let left : list_any (is_unlisted all os o.key) (filter_map written all) ≡ false = sym (out o.key) ∙ (sym c.contains.ensures ∙ c.if-contains.false) in
     let right = list_all (belongs all os o.key) o.writers in
     c.all_belong.ensures os m lists ∙
     (ap (list_all (belongs all os o.key)) c.deref.ensures.value ∙

@@ -17,19 +17,16 @@ pub returns-in-Err-clause-found : goal.returns-in-Err-clause-found
 returns-in-Err-clause-found c =
     let ys = c.args.orders.now in
     let k = c.args.key in
-    let rise : keys_rise (map (λ (o : OrderValue). o.key) ys) ≡ true =
-    ap keys_rise (sym (map-map (λ (o : Order). o.key) order_of ys)) ∙ c.requires in
+    let rise : keys_rise (map (λ (o : OrderValue). o.key) ys) ≡ true = ap keys_rise (sym (map-map (λ (o : Order). o.key) order_of ys)) ∙ c.requires in
     let by_key = c.in-Err.ensures.position (λ o. o.key) (answers_always _ _ _ (λ f a r g called. search rules)) in
-    sym (any_map (λ (o : Order). key_eq o.key k) order_of ys ∙
-    search_misses (λ (o : OrderValue). o.key) ys k c.in-Err.field-0 rise by_key)
+    sym (any_map (λ (o : Order). key_eq o.key k) order_of ys ∙ search_misses (λ (o : OrderValue). o.key) ys k c.in-Err.field-0 rise by_key)
 
 pub returns-in-Ok-clause-found : goal.returns-in-Ok-clause-found
 returns-in-Ok-clause-found c =
     let ys = c.args.orders.now in
     let k = c.args.key in
     let by_key = c.in-Ok.ensures.position (λ o. o.key) (answers_always _ _ _ (λ f a r g called. search rules)) in
-    sym (any_map (λ (o : Order). key_eq o.key k) order_of ys ∙
-    search_finds (λ (o : OrderValue). o.key) ys k c.in-Ok.at c.in-Ok.ensures.bound by_key)
+    sym (any_map (λ (o : Order). key_eq o.key k) order_of ys ∙ search_finds (λ (o : OrderValue). o.key) ys k c.in-Ok.at c.in-Ok.ensures.bound by_key)
 
 pub returns-in-Ok-clause-line : goal.returns-in-Ok-clause-line
 returns-in-Ok-clause-line c =

@@ -19,13 +19,10 @@ loop-txn-preserved c n start t k =
     let key = c.args.key in
     let g = get own_cmp c.loop-txn.listed in
     let g' = get own_cmp c.insert.new.self in
-    let front : take (i + 1) xs ≡ take i xs ++ u ∷ [] = take_more xs i u c.loop-txn-test.true ∙
-    ap (λ v. take i xs ++ v ∷ []) (sym c.txn-item.is) in
-    let more : c.once_more-times.result ≡ once_more (g (own u key)) = c.once_more-times.ensures ∙
-    ap once_more (c.copied.ensures ∙ c.get.ensures.value) in
+    let front : take (i + 1) xs ≡ take i xs ++ u ∷ [] = take_more xs i u c.loop-txn-test.true ∙ ap (λ v. take i xs ++ v ∷ []) (sym c.txn-item.is) in
+    let more : c.once_more-times.result ≡ once_more (g (own u key)) = c.once_more-times.ensures ∙ ap once_more (c.copied.ensures ∙ c.get.ensures.value) in
     let new : (q : Own) → g' q ≡ cond (is_eq (own_cmp (own u key) q)) (Some (once_more (g (own u key)))) (g q) =
-    λ q. c.in_ok-insert.ensures.updates.0 q ∙
-    ap (λ (x : Times). cond (is_eq (own_cmp (own u key) q)) (Some x) (g q)) more in
+    λ q. c.in_ok-insert.ensures.updates.0 q ∙ ap (λ (x : Times). cond (is_eq (own_cmp (own u key) q)) (Some x) (g q)) more in
     subst (λ ys. g' (own t k) ≡ times (n t k + cond (key_eq key k) (count ys t) 0)) (sym front)
     (list_next g g' u key (take i xs) n (c.loop-txn.invariant n start) new t k)
 

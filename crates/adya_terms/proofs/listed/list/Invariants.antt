@@ -9,5 +9,4 @@ use Rattle.adya_terms.proofs.listed.list.Given as goal
 abbrev pub invariant-loop-txn : goal.invariant-loop-txn
 invariant-loop-txn l =
     (n : ℕ → List ℕ → ℕ) → ((t : ℕ) (k : List ℕ) → get own_cmp l.fn.listed (own t k) ≡ times (n t k))
-    → (t : ℕ) (k : List ℕ) → get own_cmp l.listed (own t k) ≡ times (n t k + cond (key_eq l.key k)
-    (count_by (λ u. u == t) (take l.txn-index l.writers)) 0)
+    → (t : ℕ) (k : List ℕ) → get own_cmp l.listed (own t k) ≡ times (n t k + cond (key_eq l.key k) (count_by (λ u. u == t) (take l.txn-index l.writers)) 0)

@@ -9,8 +9,7 @@ use Rattle.adya_terms.specs.Histories.{event_of}
 use Rattle.adya_terms.specs.Events.{written}
 use Rattle.adya_terms.specs.Checks.{is_unlisted, is_some_and, is_this}
 use Rattle.adya_terms.proofs.Turns.{turn}
-use Rattle.adya_terms.proofs.Tells.{cond_or}
-use Rattle.adya_terms.proofs.Listings.{any_written}
+use Rattle.adya_terms.proofs.Listings.{any_written, cond_or}
 use Rattle.adya_terms.proofs.listed.unlisted.Goals as goal
 use Rattle.adya_terms.proofs.listed.unlisted.Goals.{in-Some+in_ok-insert, in_default}
 
@@ -23,15 +22,13 @@ loop-event-preserved c all os m lists k =
     let test = is_unlisted all os k in
     let set = λ (s : BTreeSet Key). contains (slice_cmp nat_cmp) s k in
     let old = c.loop-event.invariant all os m lists k in
-    let more : list_any test (filter_map written (take (i + 1) es)) ≡
-    (list_any test (filter_map written (take i es)) || is_some_and test (written (event_of e))) =
+    let more : list_any test (filter_map written (take (i + 1) es)) ≡ (list_any test (filter_map written (take i es)) || is_some_and test (written (event_of e))) =
     ap (λ ys. list_any test (filter_map written ys)) t.front ∙ any_written test (take i es) (event_of e) in
     let here = c.unlisted_key.ensures all os m lists k in
     elim c.match-unlisted_key.branch [
       | in-Some+in_ok-insert w ↦
           let j = w.in-Some.key in
-          let found : key_eq j k ≡ is_some_and test (written (event_of e)) =
-          ap (λ o. is_this o k) (sym w.in-Some.is) ∙ here in
+          let found : key_eq j k ≡ is_some_and test (written (event_of e)) = ap (λ o. is_this o k) (sym w.in-Some.is) ∙ here in
           ap set w.keys-is ∙
           (w.in_ok-insert.ensures.updates.0 k ∙
           (ap (λ b. cond b true (set c.loop-event.keys)) (sym (texts_ties j k)) ∙
@@ -39,8 +36,6 @@ loop-event-preserved c all os m lists k =
           (ap (λ b. b || key_eq j k) old ∙
           (ap (λ b. list_any test (filter_map written (take i es)) || b) found ∙ sym more)))))
       | in_default w ↦
-          let none : is_some_and test (written (event_of e)) ≡ false = sym here ∙
-          ap (λ o. is_this o k) w.in_default.is in
-          ap set w.keys-is ∙ (old ∙ sym (more ∙
-          (ap (λ b. list_any test (filter_map written (take i es)) || b) none ∙ or-false _)))
+          let none : is_some_and test (written (event_of e)) ≡ false = sym here ∙ ap (λ o. is_this o k) w.in_default.is in
+          ap set w.keys-is ∙ (old ∙ sym (more ∙ (ap (λ b. list_any test (filter_map written (take i es)) || b) none ∙ or-false _)))
     ]

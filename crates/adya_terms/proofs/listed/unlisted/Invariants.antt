@@ -11,5 +11,4 @@ use Rattle.adya_terms.proofs.listed.unlisted.Given as goal
 abbrev pub invariant-loop-event : goal.invariant-loop-event
 invariant-loop-event l =
     (all : List Event) (os : List Order) → Means l.tables all all → Lists l.listed os
-    → (k : List ℕ) → contains (slice_cmp nat_cmp) l.keys k ≡ list_any (is_unlisted all os k)
-    (filter_map written (take l.event-index (map event_of l.events)))
+    → (k : List ℕ) → contains (slice_cmp nat_cmp) l.keys k ≡ list_any (is_unlisted all os k) (filter_map written (take l.event-index (map event_of l.events)))

@@ -1,17 +1,26 @@
-use Rattle.std.proofs.Common.{◌≡◌, ◌∙◌, sym, ap, map}
+use Rattle.std.proofs.Common.{◌≡◌, ◌∙◌, sym, ap, map, ◌||◌, ◌==◌}
+use Rattle.std.specs.List.{list_any}
 use Rattle.adya_terms.specs.Histories.{event_of}
-use Rattle.adya_terms.specs.Events.{txn_of, has_ended}
+use Rattle.adya_terms.specs.Events.{has_ended}
+use Rattle.adya_terms.specs.Checks.{ends}
+use Rattle.adya_terms.proofs.Steps.{list_all_fails}
 use Rattle.adya_terms.proofs.Turns.{list_all_goes}
 use Rattle.adya_terms.proofs.reads.all_end.Goals as goal
 
-pub loop-event-preserved : goal.loop-event-preserved
-loop-event-preserved c =
+pub returns-then-not-is_done : goal.returns-then-not-is_done
+returns-then-not-is_done c us holds =
     let all = map event_of c.args.events.now in
-    let t = c.txn.result in
-    let committed = c.requires.committed_is t in
-    let aborted = c.requires.aborted_is t in
-    let ended : c.has_ended.result ≡ has_ended all t = cc in
-    c.loop-event.invariant ∙
-    list_all_goes (λ e. has_ended all (txn_of e)) event_of c.args.events.now c.loop-event.event-index
-    c.event-item.result c.loop-event-test.true c.event-item.is
-    (ap (has_ended all) (sym c.txn.ensures) ∙ (sym ended ∙ c.if-not-has_ended.false))
+    let e = event_of c.event-item.result in
+    let done : c.is_done.result ≡ ends all us e = c.is_done.ensures all us c.requires holds ∙ ap (λ t. has_ended all t || list_any (λ u. u == t) us) c.txn.ensures in
+    sym (c.loop-event.invariant us holds ∙
+    list_all_fails (ends all us) event_of c.args.events.now c.loop-event.event-index c.event-item.result c.loop-event-test.true c.event-item.is
+    (sym done ∙ c.if-not-is_done.true))
+
+pub loop-event-preserved : goal.loop-event-preserved
+loop-event-preserved c us holds =
+    let all = map event_of c.args.events.now in
+    let e = event_of c.event-item.result in
+    let done : c.is_done.result ≡ ends all us e = c.is_done.ensures all us c.requires holds ∙ ap (λ t. has_ended all t || list_any (λ u. u == t) us) c.txn.ensures in
+    c.loop-event.invariant us holds ∙
+    list_all_goes (ends all us) event_of c.args.events.now c.loop-event.event-index c.event-item.result c.loop-event-test.true c.event-item.is
+    (sym done ∙ c.if-not-is_done.false)

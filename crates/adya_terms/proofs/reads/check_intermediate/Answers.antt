@@ -15,8 +15,7 @@ returns-in-Some c =
     let t = turn event_of c.args.events.now i e c.loop-i-test.true c.index-events-i.is in
     let line : 2 + i ≡ i + 2 = omega arith in
     ap first c.loop-i.invariant ∙
-    (bad_here (is_own_or_last all) IntermediateRead all i (event_of e) t c.in-Some.version (c.in-Some.ensures
-    c.requires) ∙
+    (bad_here (is_own_or_last all) IntermediateRead all i (event_of e) t c.in-Some.version (c.in-Some.ensures c.requires) ∙
     ap (λ n. Some (IntermediateRead n c.in-Some.version)) line)
 
 pub loop-i-preserved : goal.loop-i-preserved
@@ -25,5 +24,4 @@ loop-i-preserved c =
     let i = c.loop-i.i in
     let e = c.index-events-i.result in
     let t = turn event_of c.args.events.now i e c.loop-i-test.true c.index-events-i.is in
-    c.loop-i.invariant ∙
-    bad_later (is_own_or_last all) IntermediateRead all i (event_of e) t (c.in_default.ensures c.requires)
+    c.loop-i.invariant ∙ bad_later (is_own_or_last all) IntermediateRead all i (event_of e) t (c.in_default.ensures c.requires)

@@ -8,5 +8,4 @@ use Rattle.adya_terms.proofs.reads.check_intermediate.Given as goal
 abbrev pub invariant-loop-i : goal.invariant-loop-i
 invariant-loop-i l =
     let all = map event_of l.events in
-    bad_reads (is_own_or_last all) IntermediateRead all 2 all ≡
-    bad_reads (is_own_or_last all) IntermediateRead all (2 + l.i) (drop l.i all)
+    bad_reads (is_own_or_last all) IntermediateRead all 2 all ≡ bad_reads (is_own_or_last all) IntermediateRead all (2 + l.i) (drop l.i all)

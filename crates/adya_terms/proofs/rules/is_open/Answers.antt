@@ -8,6 +8,5 @@ returns c all before m =
     let t = c.txn.result in
     let committed = m.committed_is t in
     let aborted = m.aborted_is t in
-    let same : has_ended before t ≡ has_ended before (txn_of (event_of c.args.event.now)) =
-    ap (has_ended before) c.txn.ensures in
+    let same : has_ended before t ≡ has_ended before (txn_of (event_of c.args.event.now)) = ap (has_ended before) c.txn.ensures in
     cc

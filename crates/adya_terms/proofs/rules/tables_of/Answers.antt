@@ -16,8 +16,7 @@ returns-in-Some c =
     let t = turn event_of c.args.events.now i e c.loop-i-test.true c.index-events-i.is in
     let line : 2 + i ≡ i + 2 = omega arith in
     ap first c.loop-i.invariant.faults ∙
-    (fault_here all i (event_of e) t (Malformed (2 + i) c.in-Some.rule)
-    (c.in-Some.ensures (take i all) c.loop-i.invariant.means (2 + i)) ∙
+    (fault_here all i (event_of e) t (Malformed (2 + i) c.in-Some.rule) (c.in-Some.ensures (take i all) c.loop-i.invariant.means (2 + i)) ∙
     ap (λ n. Some (Malformed n c.in-Some.rule)) line)
 
 pub loop-i-preserved : goal.loop-i-preserved

@@ -9,4 +9,4 @@ pub loop-event-preserved : goal.loop-event-preserved
 loop-event-preserved g c =
     view_more event_text event_of c.args.events.now c.loop-event.event-index c.event-item.result
     (watched_contents g.W.Write.contents c.write_event.new.out) (omega arith) c.event-item.is
-    c.loop-event.invariant c.in_ok-write_event.ensures.ok c.in_ok-write_all.ensures.bytes
+    c.loop-event.invariant c.in_ok-write_event.ensures.bytes c.in_ok-write_all.ensures.bytes

@@ -9,4 +9,4 @@ pub loop-pair-preserved : goal.loop-pair-preserved
 loop-pair-preserved g c =
     view_more final_text final_of c.args.finals.now c.loop-pair.pair-index c.pair-item.result
     (watched_contents g.W.Write.contents c.write_final.new.out) (omega arith) c.pair-item.is c.loop-pair.invariant
-    c.in_ok-write_final.ensures.ok c.in_ok-write_all.ensures.bytes
+    c.in_ok-write_final.ensures.bytes c.in_ok-write_all.ensures.bytes

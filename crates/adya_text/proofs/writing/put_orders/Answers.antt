@@ -9,4 +9,4 @@ pub loop-order-preserved : goal.loop-order-preserved
 loop-order-preserved g c =
     view_more order_text order_of c.args.orders.now c.loop-order.order-index c.order-item.result
     (watched_contents g.W.Write.contents c.write_order.new.out) (omega arith) c.order-item.is
-    c.loop-order.invariant c.in_ok-write_order.ensures.ok c.in_ok-write_all.ensures.bytes
+    c.loop-order.invariant c.in_ok-write_order.ensures.bytes c.in_ok-write_all.ensures.bytes

@@ -1,9 +1,29 @@
+use Rattle.std.proofs.Common.{ap, is_none}
+use Rattle.adya_terms.proofs.Parts.{found_whole, faultless_whole}
+use Rattle.adya_terms.proofs.Checking.{checked_when_no_fault}
+use Rattle.adya_terms.proofs.Judged.{refused_when_found}
 use Rattle.adya_terms.specs.Values.{history_of}
-use Rattle.adya_terms.proofs.Judged.{judged_checked, judged_refused}
 use Rattle.adya_terms.proofs.checked.Checked.of.Goals as goal
 
-pub returns-clause-checked : goal.returns-clause-checked
-returns-clause-checked c = judged_checked (history_of c.args.history.now) c.judged.result c.judged.ensures.found
+pub returns-in-Err-clause-found : goal.returns-in-Err-clause-found
+returns-in-Err-clause-found c =
+    found_whole c.args.history.now c.events.result.now c.unfinished.result.now c.orders.result.now c.finals.result.now
+    c.events.ensures c.unfinished.ensures.value c.orders.ensures.value c.finals.ensures c.in-Err.fault c.in-Err.ensures
 
-pub returns-clause-refused : goal.returns-clause-refused
-returns-clause-refused c = judged_refused (history_of c.args.history.now) c.args.history.now.shape c.judged.result c.judged.ensures.found
+pub invariant_of-result : goal.invariant_of-result
+invariant_of-result c =
+    let none = faultless_whole c.args.history.now c.events.result.now c.unfinished.result.now c.orders.result.now c.finals.result.now
+    c.events.ensures c.unfinished.ensures.value c.orders.ensures.value c.finals.ensures c.in_default.ensures in
+    record { checked = ap is_none none }
+
+pub returns-clause-checked : goal.returns-clause-checked
+returns-clause-checked c =
+    checked_when_no_fault (history_of c.args.history.now)
+    (faultless_whole c.args.history.now c.events.result.now c.unfinished.result.now c.orders.result.now c.finals.result.now
+    c.events.ensures c.unfinished.ensures.value c.orders.ensures.value c.finals.ensures c.in_default.ensures)
+
+pub returns-in-Err-clause-refused : goal.returns-in-Err-clause-refused
+returns-in-Err-clause-refused c =
+    refused_when_found (history_of c.args.history.now) c.args.history.now.shape c.in-Err.fault
+    (found_whole c.args.history.now c.events.result.now c.unfinished.result.now c.orders.result.now c.finals.result.now
+    c.events.ensures c.unfinished.ensures.value c.orders.ensures.value c.finals.ensures c.in-Err.fault c.in-Err.ensures)

@@ -1,7 +1,7 @@
 use Rattle.std.proofs.Common.{Some, ◌∙◌, sym, ap, refl}
 use Rattle.std.proofs.Math.Bool.{or-false}
 use Rattle.std.proofs.lemmas.Bool.{eqb-true}
-use Rattle.adya_terms.specs.Histories.{Live, Commit, Abort, event_of, value_of}
+use Rattle.adya_terms.specs.Histories.{Live, Dead, Commit, Abort, event_of, value_of}
 use Rattle.adya_terms.specs.Events.{version, entry, written}
 use Rattle.adya_terms.specs.Faults.{is_next}
 use Rattle.adya_terms.proofs.Tells.{tell_quiet, tell_write, added}
@@ -13,18 +13,25 @@ returns-in_ok-insert-in-Write-2 c all before m found next =
     let number = ap (λ x. is_next before (written (event_of x))) (sym c.in-Write.is) ∙ next in
     rw c.in-Write.is
     (tell_write _ _ _ _ all before m c.args.at _ w
-    (record {
-      found = found ∙ ap (λ x. Some (event_of x)) c.in-Write.is;
-      wrote = refl;
-      commits_none =
-          λ t. refl;
-      aborts_none = λ t. refl;
-    })
+    (record { found = found ∙ ap (λ x. Some (event_of x)) c.in-Write.is; wrote = refl; commits_none = λ t. refl; aborts_none = λ t. refl })
     (eqb-true _ _ number) _ _ c.in_ok-insert-in-Write-2.ensures.updates.0 c.in_ok-insert-in-Write.ensures.updates.0)
+
+pub returns-in_ok-insert-in-Delete-2 : goal.returns-in_ok-insert-in-Delete-2
+returns-in_ok-insert-in-Delete-2 c all before m found next =
+    let w = entry (version c.in-Delete.key c.in-Delete.txn c.in-Delete.m) Dead in
+    let number = ap (λ x. is_next before (written (event_of x))) (sym c.in-Delete.is) ∙ next in
+    rw c.in-Delete.is
+    (tell_write _ _ _ _ all before m c.args.at _ w
+    (record { found = found ∙ ap (λ x. Some (event_of x)) c.in-Delete.is; wrote = refl; commits_none = λ t. refl; aborts_none = λ t. refl })
+    (eqb-true _ _ number) _ _ c.in_ok-insert-in-Delete-2.ensures.updates.0 c.in_ok-insert-in-Delete.ensures.updates.0)
 
 pub returns-in-Read : goal.returns-in-Read
 returns-in-Read c all before m found next =
     rw c.in-Read.is (tell_quiet _ _ _ _ all before m _ refl _ _ (λ t. sym (or-false _)) (λ t. sym (or-false _)))
+
+pub returns-in-Scan : goal.returns-in-Scan
+returns-in-Scan c all before m found next =
+    rw c.in-Scan.is (tell_quiet _ _ _ _ all before m _ refl _ _ (λ t. sym (or-false _)) (λ t. sym (or-false _)))
 
 pub returns-in_ok-insert-in-Commit : goal.returns-in_ok-insert-in-Commit
 returns-in_ok-insert-in-Commit c all before m found next =

@@ -2,7 +2,7 @@ use Rattle.std.proofs.Common.{◌≡◌, [], length, ap, sym, ◌∙◌, rules, 
 use Rattle.std.proofs.lemmas.Bool.{eqb-true, eq-eqb}
 use Rattle.std.proofs.lemmas.List.{nil_from_length}
 use Rattle.adya_text.specs.HistoryReaders.{is_failed, is_done}
-use Rattle.adya_text.proofs.HistoryFed.{failed_fault, missing_fault, fed_shape, fed_history, fault_is, unfailed}
+use Rattle.adya_text.proofs.HistoryFed.{failed_fault, missing_fault, fed_fits, fed_shape, fed_history, fault_is, unfailed}
 use Rattle.adya_text.proofs.history_reader.HistoryReader.finish.Goals as goal
 
 pub returns-in-Failed : goal.returns-in-Failed
@@ -30,12 +30,16 @@ pub returns-in-Ok : goal.returns-in-Ok
 returns-in-Ok c = λ past fed text cut.
     let empty : c.args.rest.now ≡ [] =
     nil_from_length _ (eqb-true _ 0 (sym c.is_empty.ensures ∙ c.if-not-is_empty.false)) in
-    fed_history c.args.self past text c.args.rest.now c.in-Ok.history fed
-    (sym c.is_done.ensures ∙ c.if-not-is_done.false) empty cut c.in-Ok.ensures.same.0 c.in-Ok.ensures.same.1
-    c.in-Ok.ensures.same.2
+    let done : is_done c.args.self.stage ≡ true = sym c.is_done.ensures ∙ c.if-not-is_done.false in
+    let fits = fed_fits c.args.self past fed done in
+    let edited = c.in-Ok.ensures.edition (rw c.edition-edition.ensures fits) in
+    fed_history c.args.self past text c.args.rest.now c.in-Ok.history fed done empty cut
+    (edited.0 ∙ c.edition-edition.ensures) edited.1 c.in-Ok.ensures.same.0 c.in-Ok.ensures.same.1 c.in-Ok.ensures.same.2
 
 -- the constructor takes what the lines held
 pub returns : goal.returns
-returns c = λ past fed text cut. let taken =
-    c.in-Err.ensures.limits.1 (fed_shape c.args.self past fed (sym c.is_done.ensures ∙ c.if-not-is_done.false)) in
+returns c = λ past fed text cut.
+    let done : is_done c.args.self.stage ≡ true = sym c.is_done.ensures ∙ c.if-not-is_done.false in
+    let fits = fed_fits c.args.self past fed done in
+    let taken = c.in-Err.ensures.limits (rw c.edition-edition.ensures fits) (fed_shape c.args.self past fed done) in
     absurd cc

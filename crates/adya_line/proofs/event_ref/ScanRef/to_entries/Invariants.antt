@@ -1,0 +1,11 @@
+use Rattle.std.proofs.Common.{◌≡◌, ◌++◌, length, map}
+use Rattle.adya_terms.specs.Histories.{entry_of}
+use Rattle.adya_line.specs.Reading.{entries_of}
+use Rattle.adya_line.specs.Views.{entries_left}
+use Rattle.adya_line.proofs.event_ref.ScanRef.to_entries.Given as goal
+
+abbrev pub invariant-loop-entry : goal.invariant-loop-entry
+invariant-loop-entry l = map entry_of l.owned.items ++ entries_left l.left ≡ entries_of l.self.listed.now
+
+abbrev pub decreases-loop-entry : goal.decreases-loop-entry
+decreases-loop-entry l = length (entries_left l.left)

@@ -1,0 +1,74 @@
+//! The entries of a scan that lies in a line.
+
+ghost use Rattle.std.specs.Prelude.{◌≡◌};
+ghost use Rattle.adya_line.specs.Reading.{Gives, content_at, entry_at, entries_of, after_entries};
+ghost use Rattle.adya_line.specs.Views.{view_content, view_entry, entries_left};
+
+use crate::entry_ref::{ContentRef, EntryRef, ValueRef};
+use crate::fields::{after, value_at, version_at};
+
+/// The entries of a scan, in the order of the line. They are read where they lie, and take no memory.
+#[derive(Clone, Copy)]
+pub struct Entries<'a> {
+    rest: &'a [u8],
+}
+
+impl<'a> Entries<'a> {
+    pub(crate) fn new(listed: &'a [u8]) -> Entries<'a>
+        ensures { entries_left result ≡ entries_of listed.now }
+    {
+        Entries { rest: listed }
+    }
+}
+
+impl<'a> Iterator for Entries<'a> {
+    ghost use Rattle.std.specs.Iterator.{item_count};
+    ghost use Rattle.adya_line.specs.Views.{entries_left, GivesEntry};
+
+    type Item = EntryRef<'a>;
+
+    ghost next_gives = { GivesEntry };
+
+    ghost remaining = { item_count entries_left };
+
+    fn next(&mut self) -> Option<EntryRef<'a>> {
+        let (entry, rest) = entry_at(self.rest)?;
+        self.rest = rest;
+        Some(entry)
+    }
+}
+
+/// The content at the front, and what follows.
+#[tactic(auto, unfolding(crate::specs::Reading::content_at))]
+fn content_at(bytes: &[u8]) -> Option<(ContentRef<'_>, &[u8])>
+    ensures { Gives (λ x. (view_content x.0, x.1.now)) result (content_at bytes.now) }
+{
+    if let Some(rest) = after(b'!', bytes) {
+        return Some((ContentRef::Dead, rest));
+    }
+    let (value, rest) = value_at(bytes)?;
+    Some((ContentRef::Live(ValueRef { bytes: value }), rest))
+}
+
+/// The entry at the front, behind its `;`, and what follows.
+#[tactic(auto, unfolding(crate::specs::Reading::entry_at))]
+fn entry_at(bytes: &[u8]) -> Option<(EntryRef<'_>, &[u8])>
+    ensures { Gives (λ x. (view_entry x.0, x.1.now)) result (entry_at bytes.now) }
+{
+    let rest = after(b';', bytes)?;
+    let (version, rest) = version_at(rest)?;
+    let rest = after(b',', rest)?;
+    let (content, rest) = content_at(rest)?;
+    Some((EntryRef { version, content }, rest))
+}
+
+/// What follows the entries at the front.
+pub(crate) fn after_entries(bytes: &[u8]) -> &[u8]
+    ensures { result.now ≡ after_entries bytes.now }
+{
+    let mut left = bytes;
+    'entries: while let Some((_, rest)) = entry_at(left) {
+        left = rest;
+    }
+    left
+}

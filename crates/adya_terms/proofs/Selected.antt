@@ -1,0 +1,244 @@
+-- What a scan's list has of a key, where its keys rise.
+use Rattle.std.proofs.Common.{◌≡◌, ℕ, zero, suc, ◌⊎◌, Bool, true, false, not, ◌||◌, List, [], ◌∷◌, map, Option, Some, None, refl, sym, ◌∙◌, ap, subst, arith, inl, inr}
+use Rattle.std.proofs.Common.{Ordering, Less, Equal, Greater}
+use Rattle.std.specs.List.{list_all, list_any, Contains}
+use Rattle.std.specs.List.{filter_map, All}
+use Rattle.std.specs.Ordering.{is_eq, is_gt, is_le, is_lt, nat_cmp, ordering_reverse, ordering_then}
+use Rattle.std.specs.Cmp.{IsTotalOrder}
+use Rattle.std.specs.declared.ops.Bound.TheVariants.{Included}
+use Rattle.std.specs.BTreeMap.{BTreeMap, IsOrdered, get}
+use Rattle.std.specs.BTreeMap.Range.{IsEntryInRange, entries_between, range_contains}
+use Rattle.std.proofs.lemmas.Cmp.{nat_cmp_total, nat_list_cmp_total, then_total, tied_itself}
+use Rattle.std.proofs.lemmas.Map.Lookups.{CmpEqualImpliesEq, exact_unsigned}
+use Rattle.std.proofs.lemmas.Map.Views.{btree_map_get_iff}
+use Rattle.std.specs.Cmp.Lexicographic.{slice_cmp}
+use Rattle.std.proofs.lemmas.Bool.{cases_Bool, and_parts, and_from, both_ways, eqb-true, not-true, or_cases, or_left, or_right}
+use Rattle.adya_terms.specs.Keys.{key_eq, key_le, key_lt, keys_rise, lies_in}
+use Rattle.adya_terms.specs.declared.tables.Own.{Own}
+use Rattle.adya_terms.specs.Histories.{Entry, Event}
+use Rattle.adya_terms.specs.Events.{written, last_write}
+use Rattle.adya_terms.specs.Faults.{entry_eq, lists_only, none_or_lists_only}
+use Rattle.adya_terms.specs.Tables.{own, own_cmp, written_at}
+use Rattle.adya_terms.specs.Checks.{is_of_key}
+use Rattle.adya_terms.proofs.Lists.{none_contained, Contains-filter, list_all_when, list_any_source, list_any_when, all_pass}
+use Rattle.adya_terms.proofs.Entries.{key_same, same_key, entry_same, same_entry, last_write_from}
+use Rattle.adya_terms.proofs.Lines.{key_lt-trans, key_lt-apart, rises_below, keys_rise-tail}
+use Rattle.adya_terms.proofs.Tells.{own_tied}
+use Rattle.adya_terms.proofs.Checking.{only_of_key}
+use Rattle.adya_terms.proofs.Searches.{tied_key}
+
+-- of two that have the same key there is one
+pub rise_unique : {Y : Type 0} (key : Y → List ℕ) (ys : List Y) (x y : Y) → keys_rise (map key ys) ≡ true → Contains ys x → Contains ys y → key x ≡ key y → x ≡ y
+rise_unique key [] x y r c d same = absurd (none_contained x c)
+rise_unique key (z ∷ ys) x y r (zero, l, e) (zero, m, f) same = sym e ∙ f
+rise_unique key (z ∷ ys) x y r (zero, l, e) (suc j, m, f) same =
+    absurd (key_lt-apart (key z) (key y) (rises_below key z ys y r (j, omega (arith, m), f)) (ap key e ∙ same))
+rise_unique key (z ∷ ys) x y r (suc i, l, e) (zero, m, f) same =
+    absurd (key_lt-apart (key z) (key x) (rises_below key z ys x r (i, omega (arith, l), e)) (ap key f ∙ sym same))
+rise_unique key (z ∷ ys) x y r (suc i, l, e) (suc j, m, f) same =
+    rise_unique key ys x y (keys_rise-tail (key z) (map key ys) r) (i, omega (arith, l), e) (j, omega (arith, m), f) same
+
+abbrev key_of : Entry → List ℕ
+key_of w = w.version.key
+
+one_of_key : (es : List Entry) (w y : Entry) → keys_rise (map key_of es) ≡ true → Contains es w → Contains es y → is_of_key w y ≡ true
+one_of_key es w y r c d =
+    elim (cases_Bool (key_eq y.version.key w.version.key)) [
+      | inl same ↦ or_right _ _ (same_entry y w (rise_unique key_of es y w r d c (key_same _ _ same)))
+      | inr other ↦ or_left _ _ (ap not other)
+    ]
+
+pub found_only : (es : List Entry) (x w : Entry) → keys_rise (map (λ (v : Entry). v.version.key) es) ≡ true → Contains es x → x.version.key ≡ w.version.key
+    → entry_eq x w ≡ lists_only es w
+found_only es x w r c same =
+    elim (cases_Bool (entry_eq x w)) [
+      | inl t ↦
+          let here : Contains es w = subst (Contains es) (entry_same x w t) c in
+          t ∙
+          sym (and_from _ _
+          (list_any_when (entry_eq w) es x c (same_entry w x (sym (entry_same x w t))))
+          (list_all_when (is_of_key w) es (λ y d. one_of_key es w y r here d)))
+      | inr f ↦
+          elim (cases_Bool (lists_only es w)) [
+            | inl t ↦
+                let only = all_pass (is_of_key w) es x (and_parts _ _ t).1 c in
+                absurd (both_ways _ f (same_entry x w (only_of_key w x only (same_key _ _ same))))
+            | inr g ↦ f ∙ sym g
+          ]
+    ]
+
+pub missed_only : (es : List Entry) (w : Entry) → list_any (λ (v : Entry). key_eq v.version.key w.version.key) es ≡ false → lists_only es w ≡ false
+missed_only es w none =
+    elim (cases_Bool (lists_only es w)) [
+      | inl t ↦
+          let at = list_any_source (entry_eq w) es (and_parts _ _ t).0 in
+          let same : at.0.version.key ≡ w.version.key = sym (ap key_of (entry_same w at.0 at.2)) in
+          absurd (both_ways _ none (list_any_when (λ (v : Entry). key_eq v.version.key w.version.key) es at.0 at.1 (same_key _ _ same)))
+      | inr f ↦ f
+    ]
+
+le_cases : (a b : List ℕ) (o : Ordering) → slice_cmp nat_cmp a b ≡ o → is_le o ≡ true → (key_lt a b ≡ true) ⊎ (a ≡ b)
+le_cases a b Less e l = inl (ap is_lt e)
+le_cases a b Equal e l = inr (tied_key a b e)
+le_cases a b Greater e l = absurd (cc (l))
+
+below_le : (a b c : List ℕ) → key_lt a b ≡ true → key_le b c ≡ true → key_lt a c ≡ true
+below_le a b c l e =
+    elim (le_cases b c (slice_cmp nat_cmp b c) refl e) [
+      | inl m ↦ key_lt-trans a b c l m
+      | inr same ↦ subst (λ k. key_lt a k ≡ true) same l
+    ]
+
+-- no key lies between two that run backwards
+pub nothing_between : (low high k : List ℕ) → key_lt high low ≡ true → lies_in low high k ≡ false
+nothing_between low high k back =
+    elim (cases_Bool (lies_in low high k)) [
+      | inl t ↦
+          let both = and_parts _ _ t in
+          absurd (key_lt-apart high high (below_le high k high (below_le high low k back both.0) both.1) refl)
+      | inr f ↦ f
+    ]
+
+from_all : {X : Type 0} (P : X → Type 0) (xs : List X) → All P xs → (x : X) → Contains xs x → P x
+from_all P xs h x c = subst P c.2 (h c.0 x c.1)
+
+le_not_gt : (o : Ordering) → is_gt o ≡ false → is_le o ≡ true
+le_not_gt Less e = refl
+le_not_gt Equal e = refl
+le_not_gt Greater e = absurd (cc (e))
+
+le_back : (o : Ordering) → is_le o ≡ true → not (is_lt (ordering_reverse o)) ≡ true
+le_back Less e = refl
+le_back Equal e = refl
+le_back Greater e = absurd (cc (e))
+
+gt_back : (o : Ordering) → is_gt (ordering_reverse o) ≡ is_lt o
+gt_back Less = refl
+gt_back Equal = refl
+gt_back Greater = refl
+
+txn_total : IsTotalOrder (λ (x y : Own). nat_cmp x.txn y.txn)
+txn_total = record {
+  antisymm = λ x y. nat_cmp_total.antisymm x.txn y.txn;
+  trans = λ x y z. nat_cmp_total.trans x.txn y.txn z.txn;
+  congr = λ x y z. nat_cmp_total.congr x.txn y.txn z.txn;
+}
+
+key_total : IsTotalOrder (λ (x y : Own). slice_cmp nat_cmp x.key y.key)
+key_total = record {
+  antisymm = λ x y. nat_list_cmp_total.antisymm x.key y.key;
+  trans = λ x y z. nat_list_cmp_total.trans x.key y.key z.key;
+  congr = λ x y z. nat_list_cmp_total.congr x.key y.key z.key;
+}
+
+pub own_total : IsTotalOrder own_cmp
+own_total = then_total txn_total key_total
+
+pub own_exact : CmpEqualImpliesEq own_cmp
+own_exact x y e =
+    let both = and_parts _ _ (own_tied x.txn x.key y.txn y.key ∙ ap is_eq e) in
+    ap (λ t. own t x.key) (eqb-true _ _ both.0) ∙ ap (own y.txn) (key_same _ _ both.1)
+
+same_txn : (t : ℕ) (a b : List ℕ) → own_cmp (own t a) (own t b) ≡ slice_cmp nat_cmp a b
+same_txn t a b = ap (λ o. ordering_then o (slice_cmp nat_cmp a b)) (tied_itself nat_cmp_total t)
+
+within : (t : ℕ) (low high : List ℕ) (q : Own) (o : Ordering) → nat_cmp t q.txn ≡ o → is_gt (own_cmp (own t low) q) ≡ false → is_gt (own_cmp q (own t high)) ≡ false → q.txn ≡ t
+within t low high q Equal e above below = sym (exact_unsigned t q.txn e)
+within t low high q Greater e above below =
+    absurd (both_ways _ above (ap (λ o. is_gt (ordering_then o (slice_cmp nat_cmp low q.key))) e))
+within t low high q Less e above below =
+    let back : nat_cmp q.txn t ≡ Greater = nat_cmp_total.antisymm q.txn t ∙ ap ordering_reverse e in
+    absurd (both_ways _ below (ap (λ o. is_gt (ordering_then o (slice_cmp nat_cmp q.key high))) back))
+
+between_keys : (t : ℕ) (low high k : List ℕ) → is_gt (own_cmp (own t low) (own t k)) ≡ false → is_gt (own_cmp (own t k) (own t high)) ≡ false → lies_in low high k ≡ true
+between_keys t low high k above below =
+    and_from _ _ (le_not_gt _ (ap is_gt (sym (same_txn t low k)) ∙ above)) (le_not_gt _ (ap is_gt (sym (same_txn t k high)) ∙ below))
+
+contained_key : (t : ℕ) (low high k : List ℕ) → lies_in low high k ≡ true → range_contains own_cmp (Included (own t low)) (Included (own t high)) (own t k) ≡ true
+contained_key t low high k e =
+    let both = and_parts _ _ e in
+    let back : own_cmp (own t high) (own t k) ≡ ordering_reverse (slice_cmp nat_cmp k high) = same_txn t high k ∙ nat_list_cmp_total.antisymm high k in
+    and_from _ _ (ap is_le (same_txn t low k) ∙ both.0) (ap (λ o. not (is_lt o)) back ∙ le_back _ both.1)
+
+-- the range of the transaction's keys between two
+module _ (m : BTreeMap Own ℕ) (t : ℕ) (low high : List ℕ) (items : List (Own × ℕ))
+    (between : items ≡ entries_between own_cmp (Included (own t low)) (Included (own t high)) m.entries) (ordered : IsOrdered own_cmp m)
+    (in_range : All (IsEntryInRange own_cmp (Included (own t low)) (Included (own t high)) m) items) where
+  item_there : (k : List ℕ) (p : ℕ) → lies_in low high k ≡ true → get own_cmp m (own t k) ≡ Some p → Contains items (own t k, p)
+  item_there k p inside g =
+      let kept = Contains-filter (λ (e : Own × ℕ). range_contains own_cmp (Included (own t low)) (Included (own t high)) e.0) m.entries (own t k, p)
+      ((btree_map_get_iff own_total own_exact m ordered (own t k) p).0 g) (contained_key t low high k inside) in
+      subst (λ xs. Contains xs (own t k, p)) (sym between) kept
+
+  module _ (all before : List Event) (es : List Entry) (last_is : (u : ℕ) (k : List ℕ) → written_at all (get own_cmp m (own u k)) ≡ last_write u k before) where
+    abbrev shows : Own × ℕ → Bool
+    shows e = none_or_lists_only es (written_at all (Some e.1))
+
+    abbrev test : Entry → Bool
+    test w = not (lies_in low high w.version.key) || none_or_lists_only es (last_write t w.version.key before)
+
+    item_shows : list_all shows items ≡ true → (k : List ℕ) → lies_in low high k ≡ true → (o : Option ℕ) → get own_cmp m (own t k) ≡ o → none_or_lists_only es (written_at all o) ≡ true
+    item_shows pass k inside None e = refl
+    item_shows pass k inside (Some p) e = all_pass shows items (own t k, p) pass (item_there k p inside e)
+
+    all_shown : list_all shows items ≡ true → list_all test (filter_map written before) ≡ true
+    all_shown pass =
+        list_all_when test (filter_map written before)
+        (λ w c. elim (cases_Bool (lies_in low high w.version.key)) [
+          | inl inside ↦
+              or_right _ _ (ap (none_or_lists_only es) (sym (last_is t w.version.key)) ∙ item_shows pass w.version.key inside (get own_cmp m (own t w.version.key)) refl)
+          | inr out ↦ or_left _ _ (ap not out)
+        ])
+
+    last_shown : list_all test (filter_map written before) ≡ true → (k : List ℕ) → lies_in low high k ≡ true → (o : Option Entry) → last_write t k before ≡ o → none_or_lists_only es o ≡ true
+    last_shown pass k inside None e = refl
+    last_shown pass k inside (Some w) e =
+        let at = last_write_from t k before w e in
+        let now = subst (λ j. (not (lies_in low high j) || none_or_lists_only es (last_write t j before)) ≡ true) at.key_is (all_pass test (filter_map written before) w pass at.there) in
+        elim (or_cases _ _ now) [
+          | inl out ↦ absurd (both_ways _ (not-true _ out) inside)
+          | inr own ↦ subst (λ x. none_or_lists_only es x ≡ true) e own
+        ]
+
+    one_shown : list_all test (filter_map written before) ≡ true → (e : Own × ℕ) → IsEntryInRange own_cmp (Included (own t low)) (Included (own t high)) m e → shows e ≡ true
+    one_shown pass e ((above, below), g) =
+        let k = e.0.key in
+        let is : e.0.txn ≡ t = within t low high e.0 (nat_cmp t e.0.txn) refl above below in
+        let same : e.0 ≡ own t k = ap (λ u. own u k) is in
+        let inside = between_keys t low high k (subst (λ q. is_gt (own_cmp (own t low) q) ≡ false) same above) (subst (λ q. is_gt (own_cmp q (own t high)) ≡ false) same below) in
+        let found : get own_cmp m (own t k) ≡ Some e.1 = ap (get own_cmp m) (sym same) ∙ g in
+        ap (λ o. none_or_lists_only es (written_at all o)) (sym found) ∙
+        (ap (none_or_lists_only es) (last_is t k) ∙ last_shown pass k inside (last_write t k before) refl)
+
+    items_shown : list_all test (filter_map written before) ≡ true → list_all shows items ≡ true
+    items_shown pass = list_all_when shows items (λ e c. one_shown pass e (from_all (IsEntryInRange own_cmp (Included (own t low)) (Included (own t high)) m) items in_range e c))
+
+    pub range_shows : list_all shows items ≡ list_all test (filter_map written before)
+    range_shows =
+        elim (cases_Bool (list_all shows items)) [
+          | inl a ↦ a ∙ sym (all_shown a)
+          | inr a ↦
+              elim (cases_Bool (list_all test (filter_map written before))) [
+                | inl b ↦ absurd (both_ways _ a (items_shown b))
+                | inr b ↦ a ∙ sym b
+              ]
+        ]
+
+pub runs_forward : (t : ℕ) (low high : List ℕ) → key_lt high low ≡ false → is_gt (own_cmp (own t low) (own t high)) ≡ false
+runs_forward t low high e =
+    ap is_gt (same_txn t low high ∙ nat_list_cmp_total.antisymm low high) ∙ (gt_back (slice_cmp nat_cmp high low) ∙ e)
+
+-- the same, where the bounds are these
+pub scan_shows : (m : BTreeMap Own ℕ) (t : ℕ) (low high : List ℕ) (items : List (Own × ℕ)) (a b : Own) → a ≡ own t low → b ≡ own t high
+    → items ≡ entries_between own_cmp (Included a) (Included b) m.entries → IsOrdered own_cmp m → All (IsEntryInRange own_cmp (Included a) (Included b) m) items
+    → (all before : List Event) (es : List Entry) → ((u : ℕ) (k : List ℕ) → written_at all (get own_cmp m (own u k)) ≡ last_write u k before)
+    → list_all (λ (e : Own × ℕ). none_or_lists_only es (written_at all (Some e.1))) items
+    ≡ list_all (λ w. not (lies_in low high w.version.key) || none_or_lists_only es (last_write t w.version.key before)) (filter_map written before)
+scan_shows m t low high items a b from to between ordered in_range all before es last_is =
+    range_shows m t low high items
+    (subst (λ q. items ≡ entries_between own_cmp (Included (own t low)) (Included q) m.entries) to
+    (subst (λ q. items ≡ entries_between own_cmp (Included q) (Included b) m.entries) from between))
+    ordered
+    (subst (λ q. All (IsEntryInRange own_cmp (Included (own t low)) (Included q) m) items) to
+    (subst (λ q. All (IsEntryInRange own_cmp (Included q) (Included b) m) items) from in_range))
+    all before es last_is

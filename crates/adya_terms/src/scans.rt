@@ -1,0 +1,161 @@
+//! What a scan lists: M3, M4 and M5.
+
+ghost use Rattle.std.specs.Prelude.{◌≡◌, ◌&&◌, List, true, Some, map};
+ghost use Rattle.std.specs.List.{filter_map, list_all, list_any};
+ghost use Rattle.adya_terms.specs.Keys as keys;
+ghost use Rattle.adya_terms.specs.Histories.{Event as EventValue, entry_of, event_of, Scan};
+ghost use Rattle.adya_terms.specs.Events.{written};
+ghost use Rattle.adya_terms.specs.Faults as faults;
+ghost use Rattle.adya_terms.specs.Faults.{entry_eq, none_or_lists_only, sees_own};
+ghost use Rattle.adya_terms.specs.Checks as checks;
+ghost use Rattle.adya_terms.specs.Tables.{written_at, Means};
+
+use crate::tables::{Own, Tables, wrote_at};
+use crate::{Entry, Event, Key, Txn};
+
+/// Whether each entry was written before.
+pub(crate) fn all_written(tables: &Tables, events: &[Event], entries: &[Entry]) -> bool
+    ensures { (before : List EventValue)
+        → Means tables.now (map event_of events.now) before
+        → result ≡ list_all (λ o. list_any (entry_eq o) (filter_map written before)) (map entry_of entries.now) }
+{
+    for entry in entries {
+        if !tables.was_written(events, entry) {
+            return false;
+        }
+    }
+    true
+}
+
+fn lies_in(lo: Key, hi: Key, key: Key) -> bool
+    ensures { result ≡ keys.lies_in lo hi key }
+{
+    lo <= key && key <= hi
+}
+
+/// Whether each key lies between the two, both included.
+pub(crate) fn all_lie_in(lo: Key, hi: Key, entries: &[Entry]) -> bool
+    ensures { result ≡ list_all (λ w. keys.lies_in lo hi w.version.key) (map entry_of entries.now) }
+{
+    for entry in entries {
+        if !lies_in(lo, hi, entry.version.key) {
+            return false;
+        }
+    }
+    true
+}
+
+fn is_below(low: Key, high: Key) -> bool
+    ensures { result ≡ keys.key_lt low high }
+{
+    low < high
+}
+
+/// Whether each key is below the next.
+pub(crate) fn keys_rise(entries: &[Entry]) -> bool
+    ensures { result ≡ keys.keys_rise (map (λ w. w.version.key) (map entry_of entries.now)) }
+{
+    let [first, rest @ ..] = entries else {
+        return true;
+    };
+    let mut last = first.version.key;
+    for entry in rest {
+        if !is_below(last, entry.version.key) {
+            return false;
+        }
+        last = entry.version.key;
+    }
+    true
+}
+
+/// Whether the write is listed.
+fn lists(entries: &[Entry], write: &Entry) -> bool
+    ensures { result ≡ list_any (entry_eq (entry_of write.now)) (map entry_of entries.now) }
+{
+    for entry in entries {
+        if write.same(entry) {
+            return true;
+        }
+    }
+    false
+}
+
+/// Whether the entry is the write, or of another key.
+fn is_of_key(write: &Entry, entry: &Entry) -> bool
+    ensures { result ≡ checks.is_of_key (entry_of write.now) (entry_of entry.now) }
+{
+    entry.version.key != write.version.key || entry.same(write)
+}
+
+/// Whether nothing else of the write's key is listed.
+fn lists_no_other(entries: &[Entry], write: &Entry) -> bool
+    ensures { result ≡ list_all (checks.is_of_key (entry_of write.now)) (map entry_of entries.now) }
+{
+    for entry in entries {
+        if !is_of_key(write, entry) {
+            return false;
+        }
+    }
+    true
+}
+
+/// Whether the write is listed and nothing else of its key.
+fn lists_only(entries: &[Entry], write: &Entry) -> bool
+    ensures { result ≡ faults.lists_only (map entry_of entries.now) (entry_of write.now) }
+{
+    lists(entries, write) && lists_no_other(entries, write)
+}
+
+/// The same by binary search, of a list that rises.
+fn finds_only(entries: &[Entry], write: &Entry) -> bool
+    requires { keys.keys_rise (map (λ w. w.version.key) (map entry_of entries.now)) ≡ true }
+    ensures { result ≡ faults.lists_only (map entry_of entries.now) (entry_of write.now) }
+{
+    match entries.binary_search_by_key(&write.version.key, |entry| entry.version.key) {
+        Err(_) => false,
+        Ok(at) => entries[at].same(write),
+    }
+}
+
+/// Whether what the event at the place writes is listed and nothing else of its key, where `rising` says whether the
+/// list rises.
+fn lists_write(events: &[Event], at: usize, entries: &[Entry], rising: bool) -> bool
+    requires { rising ≡ true → keys.keys_rise (map (λ w. w.version.key) (map entry_of entries.now)) ≡ true }
+    ensures { result ≡ none_or_lists_only (map entry_of entries.now) (written_at (map event_of events.now) (Some at)) }
+{
+    let Some(write) = wrote_at(events, Some(at)) else {
+        return true;
+    };
+    if rising {
+        return finds_only(entries, &write);
+    }
+    lists_only(entries, &write)
+}
+
+/// Of each key between the two that the transaction has written, its last write is listed and nothing else.
+pub(crate) fn lists_own(
+    tables: &Tables,
+    events: &[Event],
+    txn: Txn,
+    lo: Key,
+    hi: Key,
+    entries: &[Entry],
+) -> bool
+    ensures { (before : List EventValue)
+        → Means tables.now (map event_of events.now) before
+        → result ≡ sees_own before (Scan txn lo hi (map entry_of entries.now)) }
+{
+    if hi < lo {
+        return true;
+    }
+    let rising = keys_rise(entries);
+    for (_, at) in tables
+        .last
+        .range(Own { txn, key: lo }..=Own { txn, key: hi })
+    {
+        if !lists_write(events, *at, entries, rising) {
+            return false;
+        }
+    }
+    true
+}

@@ -1,0 +1,12 @@
+-- The lines so far are written.
+use Rattle.std.proofs.Common.{take, map}
+use Rattle.adya_terms.specs.Watched.{watched_contents}
+use Rattle.adya_line.specs.Growing.{Grows}
+use Rattle.adya_line.specs.Spelling.{unfinished_text}
+use Rattle.adya_text.specs.Texts.{with_ends}
+use Rattle.adya_text.proofs.writing.put_unfinished.Given as goal
+
+abbrev pub invariant-loop-txn : goal.invariant-loop-txn
+invariant-loop-txn g l =
+    Grows (watched_contents g.W.Write.contents l.initial.out) (with_ends (map unfinished_text (take l.txn-index l.txns)))
+    (watched_contents g.W.Write.contents l.out)
