@@ -1,6 +1,9 @@
 //! The worked histories, through the auditor: for each name on standard input, the verdict on the history and the
-//! certificate that lie in `audit/NAME`, read as one stream in pieces of 1, of 3 and of all bytes.
+//! certificate that lie in `audit/NAME`, read as one stream in pieces of 1, of 3 and of all bytes. Then a scan of 5,000
+//! entries, as values and as bytes.
 #![tactic(auto)]
+
+mod long_scan;
 
 use adya_audit::run_pipe;
 use adya_devices::Pieces;
@@ -32,11 +35,26 @@ fn verdict_of(rt: &HostRuntime, name: &str) -> io::Result<Vec<u8>> {
     Ok(whole)
 }
 
+/// The verdicts on a history with a scan of so many entries, from the values and from the bytes.
+fn long_scan_verdicts(alloc: Global, size: u32) -> Option<(Vec<u8>, Vec<u8>)> {
+    let history = long_scan::history(alloc, size)?;
+    let certificate = long_scan::certificate(alloc)?;
+    let of_values = long_scan::verdict(alloc, &history, &certificate)?;
+    let bytes = long_scan::stream(alloc, &history, &certificate)?;
+    let of_bytes = verdict(alloc, &bytes, bytes.len());
+    Some((of_values, of_bytes))
+}
+
 fn main(rt: HostRuntime) -> io::Result<()> {
     for line in rt.lines(rt.alloc()) {
         let name = line?;
         let line = verdict_of(&rt, name.as_str())?;
         print!(rt; "{name}: {}", str::from_utf8(&line).unwrap_or(""))?;
+    }
+    if let Some((of_values, of_bytes)) = long_scan_verdicts(rt.alloc(), 5000) {
+        let values = str::from_utf8(&of_values).unwrap_or("");
+        let bytes = str::from_utf8(&of_bytes).unwrap_or("");
+        print!(rt; "scan of 5000 entries, from values: {values}from bytes: {bytes}")?;
     }
     Ok(())
 }
