@@ -1,6 +1,6 @@
 #!/usr/bin/env bash
 # Runs the built program on every worked history, and on wrong words and failing devices, and compares what it writes and
-# its status. Build it first: (cd crates/ssi && rt run). Takes the program's path, crates/ssi/out/ssi where none is given.
+# its status. Build it first: (cd crates/ssi && rt run < stdin). Takes the program's path, crates/ssi/out/ssi where none is given.
 set -u
 cd "$(dirname "$0")/.."
 ssi=$(realpath "${1:-crates/ssi/out/ssi}")
