@@ -1,5 +1,6 @@
 -- When a verdict is yes.
-use Rattle.std.proofs.Common.{◌≡◌, ◌↔◌, ℕ, Bool, true, false, cond, List, Option, Some, None, Result, Ok, Err, IfOk, refl, sym, ◌∙◌, ap}
+use Rattle.std.proofs.Common.{◌≡◌, ◌↔◌, ℕ, Bool, true, false, cond, List, Option, Some, None, Result, Ok, Err, IfOk}
+use Rattle.std.proofs.Common.{refl, sym, ◌∙◌, ap}
 use Rattle.std.specs.declared.alloc.AllocError.{AllocError}
 use Rattle.adya_terms.specs.declared.fault.CheckFault.{CheckFault}
 use Rattle.adya_terms.specs.declared.fault.CheckFault.TheVariants as Checked
@@ -13,7 +14,8 @@ use Rattle.adya_terms.specs.Laws.{CheckedIfNoFault, CheckedWhereNoFault}
 use Rattle.adya_laws.specs.Laws.{AcceptedWhereForward}
 use Rattle.adya_audit.specs.declared.verdict.Verdict.{Verdict as VerdictValue}
 use Rattle.adya_audit.specs.declared.verdict.Verdict.TheVariants as Said
-use Rattle.adya_audit.specs.Verdicts.{Verdict, Yes, NotTheCommitted, plain_verdict, edge_verdict, certificate_verdict, fault_verdict, verdict_of}
+use Rattle.adya_audit.specs.Verdicts.{Verdict, Yes, NotTheCommitted, plain_verdict, edge_verdict, certificate_verdict}
+use Rattle.adya_audit.specs.Verdicts.{fault_verdict, verdict_of}
 use Rattle.adya_audit.specs.Laws.{IsSerializableBy, YesWhereAccepted, AcceptedIsSerializable}
 
 certificate_yes : (b : Bool) (o : Option Edge) → cond b (edge_verdict o) NotTheCommitted ≡ Yes → (b ≡ true) × (o ≡ None)
@@ -67,7 +69,7 @@ module _ (h : History) (ts : List ℕ) (shape : is_shape h.orders h.finals ≡ t
   result_yes (Ok v) e = yes_exactly v e
   result_yes (Err x) e = tt
 
-  pub result_promise : AcceptedIsSerializable → (r : Result VerdictValue AllocError) → IfOk r (λ v. plain_verdict v ≡ verdict_of h ts)
-      → IfOk r (λ v. v ≡ Said.Yes → IsSerializableBy h ts)
+  pub result_promise : AcceptedIsSerializable → (r : Result VerdictValue AllocError)
+      → IfOk r (λ v. plain_verdict v ≡ verdict_of h ts) → IfOk r (λ v. v ≡ Said.Yes → IsSerializableBy h ts)
   result_promise serial (Ok v) e = λ (y : v ≡ Said.Yes). serial h ts shape ((yes_exactly v e).0 y)
   result_promise serial (Err x) e = tt

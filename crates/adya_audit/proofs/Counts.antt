@@ -1,21 +1,23 @@
 -- The test that a certificate lists the committed transactions, by what tables say.
-use Rattle.std.proofs.Common.{◌≡◌, ◌≢◌, ℕ, zero, suc, ◌==◌, ◌<◌, ◌≤◌, Bool, true, false, cond, ◌&&◌, List, [], ◌∷◌, Some, slice_get, refl, sym, ◌∙◌, ap, subst, arith, inl, inr}
+use Rattle.std.proofs.Common.{◌≡◌, ◌≢◌, ℕ, zero, suc, ◌==◌, ◌<◌, ◌≤◌, Bool, true, false, cond, ◌&&◌, List, [], ◌∷◌}
+use Rattle.std.proofs.Common.{Some, slice_get, refl, sym, ◌∙◌, ap, subst, arith, inl, inr}
 use Rattle.std.specs.List.{list_all, list_any, Contains}
-use Rattle.std.proofs.lemmas.Bool.{cases_Bool, cases_eq, cases_lt, eqb-true, eq-eqb, ne_eqb, and_parts, and_from, or_cases, or_left, or_right, false_from_ne_true}
+use Rattle.std.proofs.lemmas.Bool.{cases_Bool, cases_eq, cases_lt, eqb-true, eq-eqb, ne_eqb, and_parts, and_from}
+use Rattle.std.proofs.lemmas.Bool.{or_cases, or_left, or_right, false_from_ne_true}
 use Rattle.std.proofs.lemmas.Option.{slice_get_within, get_or_from_slice_get}
 use Rattle.adya_terms.specs.Histories.{Event, Write, Delete, Read, Scan, Commit, Abort}
 use Rattle.adya_terms.specs.Events.{txn_of, commits, is_committed}
 use Rattle.adya_terms.specs.Faults.{lists_exactly}
-use Rattle.adya_audit.specs.Backward.{commit_passes}
-use Rattle.adya_audit.proofs.Placing.{count, count-cons}
+use Rattle.adya_audit.specs.Listed.{commit_passes}
+use Rattle.adya_audit.proofs.Listing.{count, count-cons}
 
-none_contained : {X : Type 0} (x : X) → Contains [] x → ⊥
+pub none_contained : {X : Type 0} (x : X) → Contains [] x → ⊥
 none_contained x c = omega (arith, c.1)
 
-Contains-head : {X : Type 0} (x : X) (xs : List X) → Contains (x ∷ xs) x
+pub Contains-head : {X : Type 0} (x : X) (xs : List X) → Contains (x ∷ xs) x
 Contains-head x xs = (0, omega arith, refl)
 
-Contains-cons : {X : Type 0} (x : X) (xs : List X) (y : X) → Contains xs y → Contains (x ∷ xs) y
+pub Contains-cons : {X : Type 0} (x : X) (xs : List X) (y : X) → Contains xs y → Contains (x ∷ xs) y
 Contains-cons x xs y c = (suc c.0, omega (arith, c.1), c.2)
 
 Contains-slice_get : {X : Type 0} (xs : List X) (i : ℕ) (x : X) → slice_get xs i ≡ Some x → Contains xs x
@@ -32,7 +34,7 @@ list_all_when f [] h = refl
 list_all_when f (x ∷ xs) h =
     and_from _ _ (h x (Contains-head x xs)) (list_all_when f xs (λ y c. h y (Contains-cons x xs y c)))
 
-list_any_source : {X : Type 0} (f : X → Bool) (xs : List X) → list_any f xs ≡ true
+pub list_any_source : {X : Type 0} (f : X → Bool) (xs : List X) → list_any f xs ≡ true
     → (x : X) × Contains xs x × (f x ≡ true)
 list_any_source f [] t = absurd (cc (t))
 list_any_source f (x ∷ xs) t =
@@ -69,7 +71,7 @@ count_place (x ∷ xs) t h =
           (suc rest.0, rest.1)
     ]
 
-count_positive : (xs : List ℕ) (t : ℕ) → Contains xs t → 0 < count xs t
+pub count_positive : (xs : List ℕ) (t : ℕ) → Contains xs t → 0 < count xs t
 count_positive [] t c = absurd (none_contained t c)
 count_positive (x ∷ xs) t (zero, l, e) = let same = count_same x xs t e in omega (arith, same)
 count_positive (x ∷ xs) t (suc i, l, e) =
@@ -77,7 +79,7 @@ count_positive (x ∷ xs) t (suc i, l, e) =
     let c = count-cons x xs t in
     omega (arith, rest, c)
 
-commits_txn : (t : ℕ) (e : Event) → commits t e ≡ true → txn_of e ≡ t
+pub commits_txn : (t : ℕ) (e : Event) → commits t e ≡ true → txn_of e ≡ t
 commits_txn t (Write u k n v) c = absurd (cc (c))
 commits_txn t (Delete u k n) c = absurd (cc (c))
 commits_txn t (Read u r v) c = absurd (cc (c))
@@ -97,7 +99,7 @@ cond-below : (b : Bool) → cond b 1 0 ≤ 1
 cond-below true = omega arith
 cond-below false = omega arith
 
-positive_passes : (b : Bool) (n : ℕ) → n ≡ cond b 1 0 → 0 < n → b ≡ true
+pub positive_passes : (b : Bool) (n : ℕ) → n ≡ cond b 1 0 → 0 < n → b ≡ true
 positive_passes true n e h = refl
 positive_passes false n e h = absurd (omega (arith, e, h))
 
@@ -120,14 +122,17 @@ module _ (events : List Event) (ts : List ℕ) where
       elim (cases_lt 0 (count ts t)) [
         | inl more ↦
             let at = count_place ts t more in
-            eqb-true _ _ (all_pass (λ u. count ts u == cond (is_committed events u) 1 0) ts t parts.0 (Contains-slice_get ts at.0 t at.1))
+            eqb-true _ _
+            (all_pass (λ u. count ts u == cond (is_committed events u) 1 0) ts t parts.0
+            (Contains-slice_get ts at.0 t at.1))
         | inr none ↦
             elim (cases_Bool (is_committed events t)) [
               | inl c ↦
                   let e = list_any_source (commits t) events c in
                   eqb-true _ _ (subst (λ u. (count ts u == cond (is_committed events u) 1 0) ≡ true)
                   (commits_txn t e.0 e.2)
-                  (all_pass (λ x. count ts (txn_of x) == cond (is_committed events (txn_of x)) 1 0) events e.0 parts.1 e.1))
+                  (all_pass (λ x. count ts (txn_of x) == cond (is_committed events (txn_of x)) 1 0) events e.0
+                  parts.1 e.1))
               | inr c ↦ let zero_is : count ts t ≡ 0 = omega (arith, none) in zero_is ∙ ap (λ b. cond b 1 0) (sym c)
             ]
       ]
@@ -137,7 +142,8 @@ module _ (events : List Event) (ts : List ℕ) where
   test_from_counts all =
       and_from _ _
       (list_all_when (λ t. count ts t == cond (is_committed events t) 1 0) ts (λ t c. eq-eqb _ _ (all t)))
-      (list_all_when (λ e. count ts (txn_of e) == cond (is_committed events (txn_of e)) 1 0) events (λ e c. eq-eqb _ _ (all (txn_of e))))
+      (list_all_when (λ e. count ts (txn_of e) == cond (is_committed events (txn_of e)) 1 0) events
+      (λ e c. eq-eqb _ _ (all (txn_of e))))
 
   -- a number that stands there twice fails the test
   pub twice_fails : (t : ℕ) → 1 < count ts t → lists_exactly (is_committed events) ts events ≡ false
@@ -147,26 +153,24 @@ module _ (events : List Event) (ts : List ℕ) where
       let b = cond-below (is_committed events t) in
       absurd (omega (arith, c, b, h)))
 
-  -- the test, where each number stands there at most once
-  module _ (found is_in : ℕ → Bool) (counted : (t : ℕ) → count ts t ≡ cond (is_in t) 1 0)
-      (committed : (t : ℕ) → found t ≡ is_committed events t) where
-    counts_agree : list_all found ts ≡ true → list_all (commit_passes is_in) events ≡ true → (t : ℕ)
+  -- the test, where each number of the list stands there once
+  module _ (is_in : ℕ → Bool) (counted : (t : ℕ) → count ts t ≡ cond (is_in t) 1 0) where
+    counts_agree : list_all (is_committed events) ts ≡ true → list_all (commit_passes is_in) events ≡ true → (t : ℕ)
         → count ts t ≡ cond (is_committed events t) 1 0
     counts_agree a b t =
         let down : is_in t ≡ true → is_committed events t ≡ true =
         λ i.
         let at = count_place ts t (one_if (is_in t) (count ts t) (counted t) i) in
-        sym (committed t) ∙ all_pass found ts t a (Contains-slice_get ts at.0 t at.1) in
+        all_pass (is_committed events) ts t a (Contains-slice_get ts at.0 t at.1) in
         let up : is_committed events t ≡ true → is_in t ≡ true =
         λ c.
         let e = list_any_source (commits t) events c in
         commit_found is_in t e.0 e.2 (all_pass (commit_passes is_in) events e.0 b e.1) in
         counted t ∙ ap (λ z. cond z 1 0) (both_true (is_in t) (is_committed events t) down up)
 
-    all_found : lists_exactly (is_committed events) ts events ≡ true → list_all found ts ≡ true
+    all_found : lists_exactly (is_committed events) ts events ≡ true → list_all (is_committed events) ts ≡ true
     all_found all =
-        list_all_when found ts (λ t c.
-        committed t ∙
+        list_all_when (is_committed events) ts (λ t c.
         positive_passes (is_committed events t) (count ts t) (counts_from_test all t) (count_positive ts t c))
 
     passes : lists_exactly (is_committed events) ts events ≡ true → (e : Event) → Contains events e
@@ -181,9 +185,9 @@ module _ (events : List Event) (ts : List ℕ) where
         (one_if (is_committed events u) (count ts u) (counts_from_test all u) done)
     passes all (Abort u) c = refl
 
-    pub lists_by_tables : (list_all found ts && list_all (commit_passes is_in) events)
+    pub lists_by_set : (list_all (is_committed events) ts && list_all (commit_passes is_in) events)
         ≡ lists_exactly (is_committed events) ts events
-    lists_by_tables =
+    lists_by_set =
         both_true _ _
         (λ h. let p = and_parts _ _ h in test_from_counts (counts_agree p.0 p.1))
         (λ all. and_from _ _ (all_found all) (list_all_when (commit_passes is_in) events (passes all)))

@@ -1,24 +1,14 @@
--- What is written part by part.
-use Rattle.std.proofs.Common.{◌≡◌, ℕ, List, ◌++◌, Option, Result, Ok, Err, subst}
+-- What is written part by part, where a part is told otherwise.
+use Rattle.std.proofs.Common.{◌≡◌, ℕ, List, Option, Result, Ok, Err, subst}
 use Rattle.std.specs.Prelude.{OnOk}
 use Rattle.std.specs.Io.KnownBytes.{Appends}
-use Rattle.std.proofs.KnownBytes.{Appends-trans}
-use Rattle.adya_audit.specs.Growing.{Grows}
-
--- one part and then another
-pub and_then : {a b c : Option (List ℕ)} {x y : List ℕ} → Grows a x b → Grows b y c → Grows a (x ++ y) c
-and_then {a = a} {b = b} {c = c} {x = x} {y = y} p q = record { appends = Appends-trans a b c x y p.appends q.appends }
-
--- the last part, which may fail
-pub last_part : {E : Type 0} {a b : Option (List ℕ)} {x : List ℕ} (c : Option (List ℕ)) (y : List ℕ)
-    (r : Result (Unit {0}) E) → Grows a x b → OnOk r (Grows b y c) → OnOk r (Grows a (x ++ y) c)
-last_part c y (Ok u) p q = and_then p q
-last_part c y (Err e) p q = tt
+use Rattle.adya_line.specs.Growing.{Grows}
 
 -- the same bytes, told otherwise
 pub told : {a b : Option (List ℕ)} {x y : List ℕ} → x ≡ y → Grows a x b → Grows a y b
 told {a = a} {b = b} {x = x} {y = y} e p = record { appends = subst (λ bs. Appends a b bs) e p.appends }
 
+-- the same of the last part, which may fail
 pub last_told : {E : Type 0} (a b : Option (List ℕ)) (x y : List ℕ) (r : Result (Unit {0}) E) → x ≡ y
     → OnOk r (Grows a x b) → OnOk r (Grows a y b)
 last_told a b x y (Ok u) e p = told e p

@@ -1,13 +1,7 @@
-pub mod Edges
 pub mod Verdicts
-pub mod Places
-pub mod Committed
-pub mod Next
-pub mod Backward
-pub mod Growing
+pub mod Listed
 pub mod Output
-pub mod Streams
 pub mod Laws
 pub mod TextVerdicts
-pub mod Visible
-pub mod Scans
+pub mod TextLaws
+pub mod Answers

@@ -5,8 +5,9 @@ use Rattle.adya_terms.specs.Acceptance.{IsAccepted}
 use Rattle.adya_text.specs.declared.read_fault.Text.TheVariants as Of
 use Rattle.adya_text.specs.Texts.{IsHistory, IsSerial, history_text, serial_text, AreHistoryLines, AreSerialLines}
 use Rattle.adya_text.specs.Faults.{IsFaultLine}
-use Rattle.adya_audit.specs.Verdicts.{Verdict, Yes, Syntax, Malformed, AbortedRead, IntermediateRead, NotTheCommitted, Backward, verdict_of}
-use Rattle.adya_audit.specs.Streams.{history_part, serial_part}
+use Rattle.adya_audit.specs.Verdicts.{Verdict, Yes, Syntax, Malformed, AbortedRead, IntermediateRead, NotTheCommitted}
+use Rattle.adya_audit.specs.Verdicts.{Backward, verdict_of}
+use Rattle.adya_text.specs.Streams.{history_part, serial_part}
 use Rattle.adya_audit.specs.Laws.{IsSerializableBy}
 
 -- the text is that of the history

@@ -1,5 +1,5 @@
 -- Verdicts as plain values, and what the verdict on a history and a certificate is.
-use Rattle.std.specs.Prelude.{ℕ, if◌then◌else◌, List, Option, Some, None}
+use Rattle.std.specs.Prelude.{◌≡◌, ℕ, if◌then◌else◌, List, Option, Some, None}
 use Rattle.adya_terms.specs.declared.event.Version.{Version}
 use Rattle.adya_terms.specs.declared.fault.Rule.{Rule}
 use Rattle.adya_terms.specs.declared.fault.CheckFault.{CheckFault}
@@ -11,7 +11,7 @@ use Rattle.adya_terms.specs.Certificates.{lists_the_committed, first_backward}
 use Rattle.adya_text.specs.declared.read_fault.Text.{Text}
 use Rattle.adya_audit.specs.declared.verdict.Verdict.{Verdict as VerdictValue}
 use Rattle.adya_audit.specs.declared.verdict.Verdict.TheVariants as Said
-use Rattle.adya_audit.specs.Edges.{edge_of}
+use Rattle.adya_dsg.specs.Values.{edge_of}
 
 pub data Verdict : Type 0 where
   Yes : Verdict
@@ -39,6 +39,13 @@ edge_verdict (Some e) = Backward e
 -- the verdict on a certificate of a history that is taken as checked
 abbrev pub certificate_verdict : History → List ℕ → Verdict
 certificate_verdict h ts = if lists_the_committed h ts then edge_verdict (first_backward h ts) else NotTheCommitted
+
+-- the verdict names the fault
+abbrev pub Refuses : CheckFault → Verdict → Type 0
+Refuses (Checked.Malformed line rule) v = v ≡ Malformed line rule
+Refuses (Checked.AbortedRead line version) v = v ≡ AbortedRead line version
+Refuses (Checked.IntermediateRead line version) v = v ≡ IntermediateRead line version
+Refuses Checked.Memory v = ⊥
 
 -- the fault of a history, else what is said of the certificate; `Memory` is no fault of any history, and so never met
 abbrev pub fault_verdict : Option CheckFault → Verdict → Verdict

@@ -3,7 +3,7 @@
 ghost use Rattle.std.specs.Prelude.{◌≡◌, ◌↔◌, IfOk};
 ghost use Rattle.adya_terms.specs.Values.{history_of};
 ghost use Rattle.adya_terms.specs.Acceptance.{IsAccepted};
-ghost use Rattle.adya_audit.specs.Verdicts.{plain_verdict, verdict_of};
+ghost use Rattle.adya_audit.specs.Verdicts.{plain_verdict, Refuses, verdict_of};
 ghost use Rattle.adya_audit.specs.Laws.{IsSerializableBy};
 
 use crate::Verdict;
@@ -18,7 +18,8 @@ use std::alloc::{AllocError, Global};
 pub fn audit(alloc: Global, history: &History, serial: &Serial) -> Result<Verdict, AllocError>
     ensures verdict { IfOk result (λ v. plain_verdict v ≡ verdict_of (history_of history.now) serial.now.txns.items) }
     ensures yes { IfOk result (λ v. (v ≡ Verdict.Yes) ↔ IsAccepted (history_of history.now) serial.now.txns.items) }
-    ensures promise { IfOk result (λ v. v ≡ Verdict.Yes → IsSerializableBy (history_of history.now) serial.now.txns.items) }
+    ensures promise { IfOk result (λ v. v ≡ Verdict.Yes
+        → IsSerializableBy (history_of history.now) serial.now.txns.items) }
 {
     yes_where_accepted();
     accepted_is_serializable();
@@ -29,16 +30,22 @@ fn verdict(alloc: Global, history: &History, serial: &Serial) -> Result<Verdict,
     ensures { IfOk result (λ v. plain_verdict v ≡ verdict_of (history_of history.now) serial.now.txns.items) }
 {
     match Checked::of(alloc, history) {
-        Ok(_) => judge(alloc, history, serial),
-        Err(CheckFault::Malformed { line, rule }) => Ok(Verdict::Malformed { line, rule }),
-        Err(CheckFault::AbortedRead { line, version }) => Ok(Verdict::AbortedRead {
+        Ok(checked) => judge(alloc, &checked, serial),
+        Err(fault) => refusal(fault),
+    }
+}
+
+/// The verdict that names the fault of a history. `AllocError` where it was want of memory.
+pub(crate) fn refusal(fault: CheckFault) -> Result<Verdict, AllocError>
+    ensures { IfOk result (λ v. Refuses fault (plain_verdict v)) }
+{
+    match fault {
+        CheckFault::Malformed { line, rule } => Ok(Verdict::Malformed { line, rule }),
+        CheckFault::AbortedRead { line, version } => Ok(Verdict::AbortedRead { line, version }),
+        CheckFault::IntermediateRead { line, version } => Ok(Verdict::IntermediateRead {
             line,
             version,
         }),
-        Err(CheckFault::IntermediateRead { line, version }) => Ok(Verdict::IntermediateRead {
-            line,
-            version,
-        }),
-        Err(CheckFault::Memory) => Err(AllocError),
+        CheckFault::Memory => Err(AllocError),
     }
 }

@@ -1,56 +1,70 @@
 //! Whether a certificate lists the committed transactions.
 
-ghost use Rattle.std.specs.Prelude.{◌≡◌, is_some, map};
+ghost use Rattle.std.specs.Prelude.{◌≡◌, ◌<◌, ◌==◌, ℕ, IfOk, MatchOption, map, count_by};
 ghost use Rattle.std.specs.List.{list_all};
 ghost use Rattle.std.specs.Ordering.{nat_cmp};
-ghost use Rattle.std.specs.BTreeMap.{get};
 ghost use Rattle.std.specs.BTreeSet.{contains};
 ghost use Rattle.adya_terms.specs.Histories.{event_of};
 ghost use Rattle.adya_terms.specs.Events.{is_committed};
-ghost use Rattle.adya_terms.specs.Faults.{lists_exactly};
-ghost use Rattle.adya_audit.specs.Backward.{commit_passes};
-ghost use Rattle.adya_audit.specs.Committed.{HasCommitted};
-ghost use Rattle.adya_audit.specs.Places.{StandOnce};
+ghost use Rattle.adya_terms.specs.Values.{history_of};
+ghost use Rattle.adya_terms.specs.Certificates.{lists_the_committed};
+ghost use Rattle.adya_audit.specs.Listed.{StandOnce, commit_passes};
 
-use adya_terms::{Event, Txn};
-use std::collections::{BTreeMap, BTreeSet};
+use adya_terms::{Checked, Event, Txn};
+use std::alloc::{AllocError, Global};
+use std::collections::BTreeSet;
 
-/// Whether the transactions of the certificate, which have these places, are those that commit.
+/// Whether the list has each committed transaction once, and no other; `AllocError` where memory ran out.
 pub(crate) fn lists_the_committed(
-    places: &BTreeMap<Txn, usize>,
-    committed: &BTreeSet<Txn>,
-    events: &[Event],
+    alloc: Global,
+    checked: &Checked,
     txns: &[Txn],
-) -> bool
-    requires places { StandOnce places.now txns.now }
-    requires committed { HasCommitted committed.now (map event_of events.now) }
-    ensures { result ≡ lists_exactly (is_committed (map event_of events.now)) txns.now (map event_of events.now) }
+) -> Result<bool, AllocError>
+    ensures { IfOk result (λ b. b ≡ lists_the_committed (history_of checked.now.history.now) txns.now) }
 {
-    all_committed(committed, txns) && all_placed(places, events)
+    let Some(listed) = listed(alloc, txns)? else {
+        return Ok(false);
+    };
+    let events = checked.history().events();
+    Ok(all_committed(checked, txns) && all_listed(&listed, events))
 }
 
-fn all_committed(committed: &BTreeSet<Txn>, txns: &[Txn]) -> bool
-    ensures { result ≡ list_all (λ t. contains nat_cmp committed.now t) txns.now }
+/// The set of the numbers, or `None` where one stands there twice.
+fn listed(alloc: Global, txns: &[Txn]) -> Result<Option<BTreeSet<Txn>>, AllocError>
+    ensures { IfOk result
+        (λ o. MatchOption o ((t : ℕ) × (1 < count_by (λ u. u == t) txns.now)) (λ s. StandOnce s txns.now)) }
 {
-    txns.iter().all(|t| committed.contains(t))
+    let mut listed = BTreeSet::new(alloc);
+    for txn in txns {
+        if !listed.insert(*txn)? {
+            return Ok(None);
+        }
+    }
+    Ok(Some(listed))
 }
 
-fn all_placed(places: &BTreeMap<Txn, usize>, events: &[Event]) -> bool
-    ensures { result ≡ list_all (commit_passes (λ t. is_some (get nat_cmp places.now t))) (map event_of events.now) }
+fn all_committed(checked: &Checked, txns: &[Txn]) -> bool
+    ensures { result ≡ list_all (is_committed (history_of checked.now.history.now).events) txns.now }
 {
-    for e in events {
-        if !is_placed(places, e) {
+    txns.iter().all(|t| checked.is_committed(*t))
+}
+
+fn all_listed(listed: &BTreeSet<Txn>, events: &[Event]) -> bool
+    ensures { result ≡ list_all (commit_passes (λ t. contains nat_cmp listed.now t)) (map event_of events.now) }
+{
+    for event in events {
+        if !is_listed(listed, event) {
             return false;
         }
     }
     true
 }
 
-fn is_placed(places: &BTreeMap<Txn, usize>, e: &Event) -> bool
-    ensures { result ≡ commit_passes (λ t. is_some (get nat_cmp places.now t)) (event_of e.now) }
+fn is_listed(listed: &BTreeSet<Txn>, event: &Event) -> bool
+    ensures { result ≡ commit_passes (λ t. contains nat_cmp listed.now t) (event_of event.now) }
 {
-    match e {
-        Event::Commit { txn } => places.contains_key(txn),
+    match event {
+        Event::Commit { txn } => listed.contains(txn),
         _ => true,
     }
 }

@@ -3,10 +3,11 @@
 ghost use Rattle.std.specs.Prelude.{◌≡◌, ◌++◌, OnOk, IsErr, codes, decimal, true};
 ghost use Rattle.std.specs.Io.KnownBytes.{Appends};
 ghost use Rattle.adya_terms.specs.Watched.{has_failed, watched_contents};
-ghost use Rattle.adya_audit.specs.Edges.{kind_of, edge_of};
+ghost use Rattle.adya_dsg.specs.Values.{kind_of, edge_of};
 ghost use Rattle.adya_audit.specs.Verdicts.{plain_verdict};
-ghost use Rattle.adya_audit.specs.Growing.{Grows};
-ghost use Rattle.adya_audit.specs.Output.{text_name, rule_name, kind_name, version_name, verdict_text, verdict_line};
+ghost use Rattle.adya_line.specs.Growing.{Grows};
+ghost use Rattle.adya_line.specs.Spelling.{version_text};
+ghost use Rattle.adya_audit.specs.Output.{text_name, rule_name, kind_name, edge_text, verdict_text, verdict_line};
 
 use crate::{Edge, Kind, Text, Verdict, WriteFault};
 use adya_terms::{Rule, Version, Watched};
@@ -94,7 +95,7 @@ fn put_read<W: Write>(
     out: &mut Watched<W>,
 ) -> io::Result<()>
     ensures written { OnOk result (Grows (watched_contents W.contents out.old)
-        (words.now ++ decimal line ++ codes " " ++ version_name version.now)
+        (words.now ++ decimal line ++ codes " " ++ version_text version.now)
         (watched_contents W.contents out.new)) }
     ensures fault { IsErr result → has_failed out.new ≡ true }
 {
@@ -106,7 +107,7 @@ fn put_read<W: Write>(
 
 fn put_version<W: Write>(version: &Version, out: &mut Watched<W>) -> io::Result<()>
     ensures written { OnOk result (Grows (watched_contents W.contents out.old)
-        (version_name version.now)
+        (version_text version.now)
         (watched_contents W.contents out.new)) }
     ensures fault { IsErr result → has_failed out.new ≡ true }
 {
@@ -119,12 +120,20 @@ fn put_version<W: Write>(version: &Version, out: &mut Watched<W>) -> io::Result<
 
 fn put_backward<W: Write>(edge: &Edge, out: &mut Watched<W>) -> io::Result<()>
     ensures written { OnOk result (Grows (watched_contents W.contents out.old)
-        (codes "no 6 backward " ++ kind_name (kind_of edge.now.kind) ++ codes " "
-        ++ edge.now.key ++ codes " " ++ decimal edge.now.from ++ codes " " ++ decimal edge.now.to)
+        (codes "no 6 backward " ++ edge_text (edge_of edge.now))
         (watched_contents W.contents out.new)) }
     ensures fault { IsErr result → has_failed out.new ≡ true }
 {
     put(b"no 6 backward ", out)?;
+    put_edge(edge, out)
+}
+
+/// Writes the edge as `KIND K FROM TO`.
+pub(crate) fn put_edge<W: Write>(edge: &Edge, out: &mut Watched<W>) -> io::Result<()>
+    ensures written { OnOk result (Grows (watched_contents W.contents out.old) (edge_text (edge_of edge.now))
+        (watched_contents W.contents out.new)) }
+    ensures fault { IsErr result → has_failed out.new ≡ true }
+{
     put(kind_bytes(edge.kind), out)?;
     put(b" ", out)?;
     put(edge.key.bytes(), out)?;
@@ -134,7 +143,7 @@ fn put_backward<W: Write>(edge: &Edge, out: &mut Watched<W>) -> io::Result<()>
     put_number(u64::from(edge.to.get()), out)
 }
 
-fn put_number<W: Write>(number: u64, out: &mut Watched<W>) -> io::Result<()>
+pub(crate) fn put_number<W: Write>(number: u64, out: &mut Watched<W>) -> io::Result<()>
     ensures written { OnOk result (Grows (watched_contents W.contents out.old)
         (decimal number)
         (watched_contents W.contents out.new)) }
@@ -143,7 +152,7 @@ fn put_number<W: Write>(number: u64, out: &mut Watched<W>) -> io::Result<()>
     put(Buffer::new().format(number).as_bytes(), out)
 }
 
-fn put<W: Write>(bytes: &[u8], out: &mut Watched<W>) -> io::Result<()>
+pub(crate) fn put<W: Write>(bytes: &[u8], out: &mut Watched<W>) -> io::Result<()>
     ensures written { OnOk result (Grows (watched_contents W.contents out.old)
         bytes.now
         (watched_contents W.contents out.new)) }

@@ -1,7 +1,10 @@
 //! Readers and writers for tests: over memory, in pieces, and failing on demand.
 #![tactic(auto)]
 
-ghost use Rattle.std.specs.Prelude.{◌≡◌, ◌+◌, ◌-◌, ◌<◌, ◌≤◌, ℕ, Some, None, IsErr, IsErrAnd, IfOk, OnOk, length, take, drop, min};
+ghost use Rattle.std.specs.Prelude.{◌≡◌, ◌↔◌, ◌+◌, ◌-◌, ◌^◌, ◌<◌, ◌≤◌, ℕ, Some, None, IsErr, IsErrAnd, IsTrue, IfOk, OnOk, length};
+ghost use Rattle.std.specs.Prelude.{take, drop, min};
+ghost use Rattle.std.specs.Io.{ReadsAtMost, WritesAtMost};
+ghost use Rattle.std.specs.Io.KnownBytes.{ReadConsumes, WriteAppends};
 ghost use Rattle.std.specs.IoError.{error_kind};
 
 use std::io;
@@ -47,7 +50,9 @@ pub struct FailsAt<D> {
 impl<D> FailsAt<D> {
     /// The device, whose k-th call, counted from 1, fails with this kind; no call fails where k is 0.
     pub fn new(device: D, k: u64, kind: ErrorKind) -> FailsAt<D>
-        ensures { result.device ≡ device }
+        ensures device { result.device ≡ device }
+        ensures none { result.calls ≡ 0 }
+        ensures fault { (result.calls_before ≡ k) × (result.kind ≡ kind) }
     {
         FailsAt {
             device,
@@ -72,7 +77,10 @@ impl<D> FailsAt<D> {
     }
 
     fn is_next_call_bad(&mut self) -> bool
-        ensures { self.new.device ≡ self.old.device }
+        ensures device { self.new.device ≡ self.old.device }
+        ensures fault { (self.new.calls_before ≡ self.old.calls_before) × (self.new.kind ≡ self.old.kind) }
+        ensures counted { self.new.calls ≡ min (self.old.calls + 1) (2 ^ 64 - 1) }
+        ensures bad { IsTrue result ↔ (self.new.calls ≡ self.new.calls_before) }
     {
         self.calls = self.calls.saturating_add(1);
         self.calls == self.calls_before
@@ -82,7 +90,13 @@ impl<D> FailsAt<D> {
 impl<D: Read> Read for FailsAt<D> {
     ghost remaining = { λ f. D.remaining f.device };
 
-    fn read(&mut self, buf: &mut [u8]) -> io::Result<usize> {
+    fn read(&mut self, buf: &mut [u8]) -> io::Result<usize>
+        ensures bound { ReadsAtMost result buf.new }
+        ensures bytes { ReadConsumes (D.remaining self.old.device) (D.remaining self.new.device) result buf.new }
+        ensures counted { self.new.calls ≡ min (self.old.calls + 1) (2 ^ 64 - 1) }
+        ensures fails { (self.new.calls ≡ self.old.calls_before)
+            → (self.new.device ≡ self.old.device) × IsErrAnd result (λ e. error_kind e ≡ self.old.kind) }
+    {
         if self.is_next_call_bad() {
             return Err(Error::from(self.kind));
         }
@@ -93,7 +107,13 @@ impl<D: Read> Read for FailsAt<D> {
 impl<D: Write> Write for FailsAt<D> {
     ghost contents = { λ f. D.contents f.device };
 
-    fn write(&mut self, buf: &[u8]) -> io::Result<usize> {
+    fn write(&mut self, buf: &[u8]) -> io::Result<usize>
+        ensures bound { WritesAtMost result buf.now }
+        ensures bytes { WriteAppends (D.contents self.old.device) (D.contents self.new.device) result buf.now }
+        ensures counted { self.new.calls ≡ min (self.old.calls + 1) (2 ^ 64 - 1) }
+        ensures fails { (self.new.calls ≡ self.old.calls_before)
+            → (self.new.device ≡ self.old.device) × IsErrAnd result (λ e. error_kind e ≡ self.old.kind) }
+    {
         if self.is_next_call_bad() {
             return Err(Error::from(self.kind));
         }

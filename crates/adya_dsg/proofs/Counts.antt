@@ -6,8 +6,8 @@ use Rattle.std.proofs.Common.{Contains, true≢false}
 use Rattle.std.specs.List.{list_any}
 use Rattle.std.specs.Ordering.{nat_cmp, is_eq}
 use Rattle.adya_terms.specs.Orders.{place}
-use Rattle.adya_terms.specs.Edges.{Edge}
 use Rattle.adya_terms.specs.Acceptance.{IsBefore}
+use Rattle.adya_dsg.specs.declared.arc.Arc.{Arc}
 use Rattle.adya_dsg.specs.Graphs.{HasEnds, IsTopologicalOrder}
 use Rattle.adya_dsg.proofs.Sets.{updated_here, updated_apart}
 
@@ -71,30 +71,30 @@ before_new (x ∷ xs) a t h none =
           ]
     ]
 
--- each node is placed once or left, and each edge to a placed one goes forward
-pub record Places (nodes placed : List ℕ) (graph : List Edge) (left : ℕ → Bool) : Type 0 where
+-- each node is placed once or left, and each arc to a placed one goes forward
+pub record Places (nodes placed : List ℕ) (arcs : List Arc) (left : ℕ → Bool) : Type 0 where
   pub once : (q : ℕ) → count_by (λ u. u == q) placed + cond (left q) 1 0 ≡ cond (list_any (λ u. u == q) nodes) 1 0
-  pub forward : (e : Edge) → Contains graph e → left e.to ≡ false → IsBefore placed e.from e.to
+  pub forward : (a : Arc) → Contains arcs a → left a.to ≡ false → IsBefore placed a.from a.to
 
-module _ (nodes : List ℕ) (graph : List Edge) (ends : HasEnds nodes graph) where
+module _ (nodes : List ℕ) (arcs : List Arc) (ends : HasEnds nodes arcs) where
   pub nothing_placed : (left : ℕ → Bool) → ((q : ℕ) → left q ≡ list_any (λ u. u == q) nodes)
-      → Places nodes [] graph left
+      → Places nodes [] arcs left
   nothing_placed left all = record {
     once = λ q. let same = ap (λ b. cond {A = ℕ} b 1 0) (all q) in omega (arith, same);
-    forward = λ e in' n. absurd (true≢false (sym (ends e in').1 ∙ (sym (all e.to) ∙ n)));
+    forward = λ a in' n. absurd (true≢false (sym (ends a in').1 ∙ (sym (all a.to) ∙ n)));
   }
 
-  pub all_placed : (left : ℕ → Bool) (placed : List ℕ) → Places nodes placed graph left
-      → ((q : ℕ) → left q ≡ false) → IsTopologicalOrder nodes graph placed
+  pub all_placed : (left : ℕ → Bool) (placed : List ℕ) → Places nodes placed arcs left
+      → ((q : ℕ) → left q ≡ false) → IsTopologicalOrder nodes arcs placed
   all_placed left placed p none = record {
     nodes_once = λ q. let one = p.once q in let zero' = cond-false {A = ℕ} (left q) 1 0 (none q) in
         omega (arith, one, zero');
-    forward = λ e in'. p.forward e in' (none e.to);
+    forward = λ a in'. p.forward a in' (none a.to);
   }
 
-  pub one_placed : (was now : ℕ → Bool) (placed : List ℕ) (t : ℕ) → Places nodes placed graph was → was t ≡ true
-      → ((e : Edge) → Contains graph e → e.to ≡ t → was e.from ≡ false)
-      → ((q : ℕ) → now q ≡ cond (is_eq (nat_cmp t q)) false (was q)) → Places nodes (placed ++ t ∷ []) graph now
+  pub one_placed : (was now : ℕ → Bool) (placed : List ℕ) (t : ℕ) → Places nodes placed arcs was → was t ≡ true
+      → ((a : Arc) → Contains arcs a → a.to ≡ t → was a.from ≡ false)
+      → ((q : ℕ) → now q ≡ cond (is_eq (nat_cmp t q)) false (was q)) → Places nodes (placed ++ t ∷ []) arcs now
   one_placed was now placed t p was_left ready up =
       let taken : (q : ℕ) → t ≡ q → (now q ≡ false) × (was q ≡ true) =
       λ q e. (updated_here t q (now q) (was q) false (up q) e, subst (λ x. was x ≡ true) e was_left) in
@@ -124,11 +124,11 @@ module _ (nodes : List ℕ) (graph : List Edge) (ends : HasEnds nodes graph) whe
                   let same = ap (λ b. cond {A = ℕ} b 1 0) (unmoved q ne) in
                   omega (arith, parts, one, single, same)
             ];
-        forward = λ e in' n.
-            elim (cases_eq t e.to) [
-              | inl s ↦ subst (λ x. IsBefore (placed ++ t ∷ []) e.from x) s
-                  (before_new placed e.from t (old e.from (ends e in').0 (ready e in' (sym s)))
-                  (fresh t (subst (λ x. list_any (λ u. u == x) nodes ≡ true) (sym s) (ends e in').1) was_left))
-              | inr ne ↦ before_more placed (t ∷ []) e.from e.to (p.forward e in' (sym (unmoved e.to ne) ∙ n))
+        forward = λ a in' n.
+            elim (cases_eq t a.to) [
+              | inl s ↦ subst (λ x. IsBefore (placed ++ t ∷ []) a.from x) s
+                  (before_new placed a.from t (old a.from (ends a in').0 (ready a in' (sym s)))
+                  (fresh t (subst (λ x. list_any (λ u. u == x) nodes ≡ true) (sym s) (ends a in').1) was_left))
+              | inr ne ↦ before_more placed (t ∷ []) a.from a.to (p.forward a in' (sym (unmoved a.to ne) ∙ n))
             ];
       }

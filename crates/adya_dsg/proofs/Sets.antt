@@ -2,7 +2,7 @@
 use Rattle.std.proofs.Common.{◌≡◌, ◌≢◌, ℕ, zero, suc, ◌==◌, ◌<◌, Bool, true, false, cond, ◌||◌, List, [], ◌∷◌, ◌++◌, length, refl, sym, ◌∙◌, arith, inl, inr}
 use Rattle.std.specs.List.{list_any}
 use Rattle.std.proofs.lemmas.List.Folds.{list_any-append}
-use Rattle.adya_dsg.specs.declared.edge.Edge.{Edge}
+use Rattle.adya_dsg.specs.declared.arc.Arc.{Arc}
 use Rattle.std.proofs.lemmas.Bool.{eq-eqb, ne_eqb, cases_eq, cond-true, cond-false, or_left, or_right}
 use Rattle.std.proofs.lemmas.Bool.Decides.{nat_tests}
 use Rattle.std.specs.Ordering.{nat_cmp, is_eq}
@@ -24,15 +24,15 @@ added k q now was h =
           (elim was as (λ w. w ≡ (w || (k == q))) [ true ↦ refl | false ↦ sym (ne_eqb k q ne) ])
     ]
 
--- where a number is removed when its edge comes to the end of the list, each that is removed has an edge to it
-pub met_more : (left was now : ℕ → Bool) (trail : List Edge) (e : Edge) (at : ℕ) → e.to ≡ at
+-- where a number is removed when its arc comes to the end of the list, each that is removed has an arc to it
+pub met_more : (left was now : ℕ → Bool) (trail : List Arc) (a : Arc) (at : ℕ) → a.to ≡ at
     → ((q : ℕ) → now q ≡ cond (is_eq (nat_cmp at q)) false (was q))
     → ((q : ℕ) → left q ≡ true → was q ≡ false → list_any (λ x. x.to == q) trail ≡ true)
-    → (q : ℕ) → left q ≡ true → now q ≡ false → list_any (λ x. x.to == q) (trail ++ e ∷ []) ≡ true
-met_more left was now trail e at to up met q l n =
-    list_any-append (λ x. x.to == q) trail (e ∷ []) ∙
+    → (q : ℕ) → left q ≡ true → now q ≡ false → list_any (λ x. x.to == q) (trail ++ a ∷ []) ≡ true
+met_more left was now trail a at to up met q l n =
+    list_any-append (λ x. x.to == q) trail (a ∷ []) ∙
     elim (cases_eq at q) [
-      | inl same ↦ or_right (list_any (λ x. x.to == q) trail) _ (or_left (e.to == q) false (eq-eqb e.to q (to ∙ same)))
+      | inl same ↦ or_right (list_any (λ x. x.to == q) trail) _ (or_left (a.to == q) false (eq-eqb a.to q (to ∙ same)))
       | inr apart ↦ or_left _ _ (met q l (sym (updated_apart at q (now q) (was q) false (up q) apart) ∙ n))
     ]
 

@@ -1,19 +1,19 @@
--- Edges in the order of the numbers that they go to.
+-- Arcs in the order of the numbers that they go to.
 use Rattle.std.proofs.Common.{◌≡◌, ◌≢◌, ℕ, ◌+◌, ◌<◌, ◌≤◌, Bool, true, false, not, ◌==◌, nat_lt, List, length, slice_index_or, Contains, sym, ◌∙◌, ap, subst, arith, inl, inr}
 use Rattle.std.specs.Ordering.{nat_cmp, is_lt}
 use Rattle.std.specs.List.Sorted.{IsNonDecreasingBy}
 use Rattle.std.proofs.lemmas.List.{get_or_default}
 use Rattle.std.proofs.lemmas.Bool.{cases_lt, eq-eqb}
 use Rattle.std.proofs.lemmas.Bool.Decides.{nat_tests}
-use Rattle.adya_dsg.specs.declared.edge.Edge.{Edge}
+use Rattle.adya_dsg.specs.declared.arc.Arc.{Arc}
 
-module _ (edges : List Edge) (left : ℕ → Bool) (to : ℕ) where
-  -- no edge before this place goes from a number that is left to this one
+module _ (arcs : List Arc) (left : ℕ → Bool) (to : ℕ) where
+  -- no arc before this place goes from a number that is left to this one
   abbrev pub NoneBefore : ℕ → Type 0
-  NoneBefore i = (k : ℕ) (d : Edge) → k < i → k < length edges → (slice_index_or edges k d).to ≡ to
-      → left (slice_index_or edges k d).from ≡ false
+  NoneBefore i = (k : ℕ) (d : Arc) → k < i → k < length arcs → (slice_index_or arcs k d).to ≡ to
+      → left (slice_index_or arcs k d).from ≡ false
 
-  pub one_more : (i : ℕ) (b : Edge) → NoneBefore i → b ≡ slice_index_or edges i b → left b.from ≡ false
+  pub one_more : (i : ℕ) (b : Arc) → NoneBefore i → b ≡ slice_index_or arcs i b → left b.from ≡ false
       → NoneBefore (i + 1)
   one_more i b none here not_left k d l m e =
       elim (cases_lt k i) [
@@ -21,40 +21,40 @@ module _ (edges : List Edge) (left : ℕ → Bool) (to : ℕ) where
         | inr above ↦
             let same : k ≡ i = omega arith in
             subst (λ x. left x.from ≡ false)
-            (here ∙ get_or_default edges i b d (subst (λ x. x < length edges) same m) ∙
-            ap (λ j. slice_index_or edges j d) (sym same)) not_left
+            (here ∙ get_or_default arcs i b d (subst (λ x. x < length arcs) same m) ∙
+            ap (λ j. slice_index_or arcs j d) (sym same)) not_left
       ]
 
-  pub none_at_all : (i : ℕ) → NoneBefore i → length edges ≤ i → (e : Edge) → Contains edges e → e.to ≡ to
-      → left e.from ≡ false
-  none_at_all i none over e (k, l, at) s =
-      subst (λ x. left x.from ≡ false) at (none k e (omega arith) l (ap (λ x. x.to) at ∙ s))
+  pub none_at_all : (i : ℕ) → NoneBefore i → length arcs ≤ i → (a : Arc) → Contains arcs a → a.to ≡ to
+      → left a.from ≡ false
+  none_at_all i none over a (k, l, at) s =
+      subst (λ x. left x.from ≡ false) at (none k a (omega arith) l (ap (λ x. x.to) at ∙ s))
 
-  pub none_from_here : IsNonDecreasingBy (λ e. e.to) edges → (i : ℕ) (b : Edge) → NoneBefore i → i < length edges
-      → to ≤ (slice_index_or edges i b).to → (slice_index_or edges i b).to ≢ to → (e : Edge) → Contains edges e
-      → e.to ≡ to → left e.from ≡ false
-  none_from_here rises i b none within above other e (k, l, at) s =
+  pub none_from_here : IsNonDecreasingBy (λ a. a.to) arcs → (i : ℕ) (b : Arc) → NoneBefore i → i < length arcs
+      → to ≤ (slice_index_or arcs i b).to → (slice_index_or arcs i b).to ≢ to → (a : Arc) → Contains arcs a
+      → a.to ≡ to → left a.from ≡ false
+  none_from_here rises i b none within above other a (k, l, at) s =
       elim (cases_lt k i) [
-        | inl below ↦ subst (λ x. left x.from ≡ false) at (none k e below l (ap (λ x. x.to) at ∙ s))
+        | inl below ↦ subst (λ x. left x.from ≡ false) at (none k a below l (ap (λ x. x.to) at ∙ s))
         | inr from ↦
             let order = rises i k b from l in
-            let here : (slice_index_or edges k b).to ≡ to = ap (λ x. x.to) (get_or_default edges k b e l ∙ at) ∙ s in
+            let here : (slice_index_or arcs k b).to ≡ to = ap (λ x. x.to) (get_or_default arcs k b a l ∙ at) ∙ s in
             absurd (omega (arith, order, here, above, other))
       ]
 
-module _ (edges : List Edge) (rises : IsNonDecreasingBy (λ e. e.to) edges) (i : ℕ) (b : Edge) (to : ℕ) where
-  pub below_from : i < length edges → (slice_index_or edges i b).to < to → (k : ℕ) (d : Edge) → k < i + 1
-      → (slice_index_or edges k d).to < to
+module _ (arcs : List Arc) (rises : IsNonDecreasingBy (λ a. a.to) arcs) (i : ℕ) (b : Arc) (to : ℕ) where
+  pub below_from : i < length arcs → (slice_index_or arcs i b).to < to → (k : ℕ) (d : Arc) → k < i + 1
+      → (slice_index_or arcs k d).to < to
   below_from l h k d m =
       let order = rises k i d (omega arith) l in
-      let same = ap (λ (e : Edge). e.to) (get_or_default edges i d b l) in
+      let same = ap (λ (a : Arc). a.to) (get_or_default arcs i d b l) in
       omega (arith, order, same, h)
 
-  pub above_from : i < length edges → to ≤ (slice_index_or edges i b).to → (k : ℕ) (d : Edge) → i ≤ k
-      → k < length edges → to ≤ (slice_index_or edges k d).to
+  pub above_from : i < length arcs → to ≤ (slice_index_or arcs i b).to → (k : ℕ) (d : Arc) → i ≤ k
+      → k < length arcs → to ≤ (slice_index_or arcs k d).to
   above_from l h k d m n =
       let order = rises i k d m n in
-      let same = ap (λ (e : Edge). e.to) (get_or_default edges i d b l) in
+      let same = ap (λ (a : Arc). a.to) (get_or_default arcs i d b l) in
       omega (arith, order, same, h)
 
 pub is_lt_nat : (m n : ℕ) → is_lt (nat_cmp m n) ≡ nat_lt m n

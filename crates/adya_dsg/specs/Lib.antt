@@ -1,4 +1,12 @@
-pub mod Values
+pub mod Along
+pub mod Arcs
+pub mod Choices
+pub mod Dependencies
+pub mod Found
 pub mod Graphs
-pub mod Walks
 pub mod Laws
+pub mod Links
+pub mod Nodes
+pub mod Places
+pub mod Values
+pub mod Walks

@@ -1,19 +1,27 @@
 //! The choice of an order or a cycle.
 
-ghost use Rattle.std.specs.Prelude.{◌≡◌, ◌==◌, ℕ, map, IfOk};
+ghost use Rattle.std.specs.Prelude.{◌≡◌, ◌==◌, ◌↔◌, ℕ, Contains, IfOk};
 ghost use Rattle.std.specs.List.{list_any};
 ghost use Rattle.std.specs.Ordering.{nat_cmp};
 ghost use Rattle.std.specs.BTreeSet.{contains};
-ghost use Rattle.adya_dsg.specs.Values.{edge_of};
-ghost use Rattle.adya_dsg.specs.Graphs.{HasEnds, IsFound};
+ghost use Rattle.adya_dsg.specs.Graphs.{HasEnds, IsChosen};
 
+use crate::arc::Arc;
 use crate::back::{Walk, go_back};
 use crate::incoming::by_target;
 use crate::ready::Ready;
-use crate::{Edge, Found};
-use adya_terms::{Serial, Txn};
+use adya_terms::Txn;
 use std::alloc::{AllocError, Global};
 use std::collections::BTreeSet;
+
+/// An order of a graph's nodes, or why there is none.
+#[derive(Drop)]
+pub(crate) enum Chosen {
+    /// Each node once, and each arc forward.
+    Order(Vec<Txn>),
+    /// At least one arc: each starts where the one before ends, and the last ends where the first starts.
+    Cycle(Vec<Arc>),
+}
 
 // The set of these numbers.
 fn set_of(alloc: Global, nodes: &[Txn]) -> Result<BTreeSet<Txn>, AllocError>
@@ -26,21 +34,32 @@ fn set_of(alloc: Global, nodes: &[Txn]) -> Result<BTreeSet<Txn>, AllocError>
     Ok(set)
 }
 
-/// The nodes in an order in which each edge goes forward, or a cycle, for edges whose ends are nodes; `AllocError`
-/// where memory is refused. It takes O((n + e) log n) steps for n nodes and e edges.
+// The arcs by where they come from, each once.
+fn by_source(mut arcs: Vec<Arc>) -> Vec<Arc>
+    ensures { (a : Arc) → Contains arcs.items a ↔ Contains result.items a }
+{
+    arcs.sort_unstable_by_key(|a| (a.from, a.to));
+    arcs.dedup();
+    arcs
+}
+
+/// The nodes in an order in which each arc goes forward, or a cycle, for arcs whose ends are nodes; `AllocError`
+/// where memory is refused. It takes O((n + a) log n) steps for n nodes and a arcs, and beside the arcs one copy of
+/// them.
 ///
 /// In the order each place has the smallest number, not yet placed, all of whose predecessors are placed. Where
 /// numbers are left and none of them has all its predecessors placed, the cycle is chosen so: begin with the
 /// smallest number left, and go again and again to the smallest predecessor that is itself left, until a number is
-/// met for the second time. The cycle goes through the numbers between its two meetings, along the edges' direction,
-/// and begins at the smallest of them; between two neighbours it takes the first edge of the list.
-pub fn choose(alloc: Global, nodes: &[Txn], edges: &[Edge]) -> Result<Found, AllocError>
-    requires { HasEnds nodes.now (map edge_of edges.now) }
-    ensures { IfOk result (IsFound nodes.now (map edge_of edges.now)) }
+/// met for the second time. The cycle goes through the numbers between its two meetings, along the arcs' direction,
+/// and begins at the smallest of them.
+pub(crate) fn choose(alloc: Global, nodes: &[Txn], arcs: Vec<Arc>) -> Result<Chosen, AllocError>
+    requires { HasEnds nodes.now arcs.items }
+    ensures { IfOk result (IsChosen nodes.now arcs.items) }
 {
-    let into = by_target(alloc, edges)?;
+    let out = by_source(arcs);
+    let into = by_target(alloc, &out)?;
     let mut left = set_of(alloc, nodes)?;
-    let mut ready = Ready::of(alloc, nodes, edges)?;
+    let mut ready = Ready::of(alloc, nodes, out)?;
     let mut placed = Vec::new(alloc);
     'place: while let Some(first) = left.first() {
         let next = match ready.next() {
@@ -48,7 +67,7 @@ pub fn choose(alloc: Global, nodes: &[Txn], edges: &[Edge]) -> Result<Found, All
             _ => *first,
         };
         match go_back(alloc, &into, &left, next)? {
-            Walk::Round(way) => return Ok(Found::Cycle(way)),
+            Walk::Round(way) => return Ok(Chosen::Cycle(way)),
             Walk::Start(t) => {
                 placed.push(t)?;
                 left.remove(&t);
@@ -56,5 +75,5 @@ pub fn choose(alloc: Global, nodes: &[Txn], edges: &[Edge]) -> Result<Found, All
             }
         }
     }
-    Ok(Found::Serial(Serial::new(placed)))
+    Ok(Chosen::Order(placed))
 }

@@ -1,9 +1,9 @@
-//! Edges of the direct serialization graph (Adya 1999, section 3.3).
+//! Edges of the direct serialization graph (Adya 1999, section 3.1.4).
 
 use adya_terms::{Key, Txn};
 
 /// What joins two transactions.
-#[derive(Clone, Copy, PartialEq, Eq)]
+#[derive(Clone, Copy, PartialEq, Eq, Hash)]
 pub enum Kind {
     /// A write dependency: `to` installs the version after that of `from`.
     Ww,
@@ -14,7 +14,7 @@ pub enum Kind {
 }
 
 /// An edge from one transaction to another, by a key.
-#[derive(Clone, Copy, PartialEq, Eq)]
+#[derive(Clone, Copy, PartialEq, Eq, Hash)]
 pub struct Edge {
     /// The transaction that has to come first.
     pub from: Txn,

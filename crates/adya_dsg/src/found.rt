@@ -1,13 +1,14 @@
-//! What is found of a graph.
+//! What is found of a history.
 
 use crate::Edge;
 use adya_terms::Serial;
 
-/// An order of a graph's nodes, or why there is none.
+/// A certificate with which a history is accepted, or why there is none.
 #[derive(Drop)]
 pub enum Found {
-    /// Each node once, and each edge forward.
+    /// The certificate: each committed transaction once, and each edge forward.
     Serial(Serial),
-    /// At least one edge: each starts where the one before ends, and the last ends where the first starts.
+    /// At least one edge of the graph: each starts where the one before ends, and the last ends where the first
+    /// starts.
     Cycle(Vec<Edge>),
 }

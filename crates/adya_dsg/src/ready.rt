@@ -1,41 +1,39 @@
 //! Numbers that may be placed next.
 
-use crate::Edge;
+use crate::arc::Arc;
 use adya_terms::Txn;
 use std::alloc::{AllocError, Global};
 use std::collections::{BTreeMap, BTreeSet};
 
-/// Numbers that may be placed next, by counts of the edges from numbers that are left. It chooses alone: each
+/// Numbers that may be placed next, by counts of the arcs from numbers that are left. It chooses alone: each
 /// number is looked at before it is placed.
 #[derive(Drop)]
 pub(crate) struct Ready {
     open: BTreeMap<Txn, usize>,
     free: BTreeSet<Txn>,
-    out: Vec<Edge>,
+    out: Vec<Arc>,
 }
 
-// How many edges go to each number to which any goes.
-fn edges_into(alloc: Global, edges: &[Edge]) -> Result<BTreeMap<Txn, usize>, AllocError> {
+// How many arcs go to each number to which any goes.
+fn arcs_into(alloc: Global, arcs: &[Arc]) -> Result<BTreeMap<Txn, usize>, AllocError> {
     let mut open = BTreeMap::new(alloc);
-    for e in edges {
-        let n = open.get(&e.to).copied().unwrap_or(0usize);
-        open.insert(e.to, n.wrapping_add(1))?;
+    for a in arcs {
+        let n = open.get(&a.to).copied().unwrap_or(0usize);
+        open.insert(a.to, n.wrapping_add(1))?;
     }
     Ok(open)
 }
 
 impl Ready {
-    /// The numbers into which no edge goes.
-    pub fn of(alloc: Global, nodes: &[Txn], edges: &[Edge]) -> Result<Ready, AllocError> {
-        let open = edges_into(alloc, edges)?;
+    /// The numbers into which no arc goes, for arcs by where they come from.
+    pub fn of(alloc: Global, nodes: &[Txn], out: Vec<Arc>) -> Result<Ready, AllocError> {
+        let open = arcs_into(alloc, &out)?;
         let mut free = BTreeSet::new(alloc);
         for t in nodes {
             if !open.contains_key(t) {
                 free.insert(*t)?;
             }
         }
-        let mut out = Vec::from_slice(alloc, edges)?;
-        out.sort_by_key(|e| e.from)?;
         Ok(Ready { open, free, out })
     }
 
@@ -44,17 +42,17 @@ impl Ready {
         self.free.pop_first()
     }
 
-    /// Lowers the counts of the numbers to which edges go from this one.
+    /// Lowers the counts of the numbers to which arcs go from this one.
     pub fn placed(&mut self, t: Txn) -> Result<(), AllocError> {
-        let first = self.out.partition_point(|e| e.from < t);
-        for e in &self.out[first..] {
-            if e.from != t {
+        let first = self.out.partition_point(|a| a.from < t);
+        for a in &self.out[first..] {
+            if a.from != t {
                 return Ok(());
             }
-            if let Some(n) = self.open.get_mut(&e.to) {
+            if let Some(n) = self.open.get_mut(&a.to) {
                 *n = n.wrapping_sub(1);
                 if *n == 0 {
-                    self.free.insert(e.to)?;
+                    self.free.insert(a.to)?;
                 }
             }
         }

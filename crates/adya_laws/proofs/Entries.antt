@@ -20,10 +20,10 @@ pub entry_eq-same : (a b : Entry) → entry_eq a b ≡ true → a ≡ b
 entry_eq-same a b e =
     let one = and_parts _ _ e in
     let two = and_parts _ _ one.0 in
-    let three = and_parts _ _ two.0 in
-    let key = key_eq-same _ _ three.0 in
-    let txn = eqb-true _ _ three.1 in
-    let m = eqb-true _ _ two.1 in
+    let three = and_parts _ _ two.1 in
+    let key = key_eq-same _ _ two.0 in
+    let txn = eqb-true _ _ three.0 in
+    let m = eqb-true _ _ three.1 in
     let content = content_eq-same _ _ one.1 in
     ap (λ k. entry (version k a.version.txn a.version.m) a.content) key ∙
     (ap (λ t. entry (version b.version.key t a.version.m) a.content) txn ∙
@@ -32,8 +32,8 @@ entry_eq-same a b e =
 pub entry_eq-itself : (a : Entry) → entry_eq a a ≡ true
 entry_eq-itself a =
     and_from _ _
-    (and_from _ _ (and_from _ _ (key_eq-itself a.version.key) (eq-eqb a.version.txn a.version.txn refl))
-    (eq-eqb a.version.m a.version.m refl))
+    (and_from _ _ (key_eq-itself a.version.key)
+    (and_from _ _ (eq-eqb a.version.txn a.version.txn refl) (eq-eqb a.version.m a.version.m refl)))
     (content_eq-itself a.content)
 
 pub is_entry-same : (o : Option Entry) (b : Entry) → is_entry o b ≡ true → o ≡ Some b

@@ -26,3 +26,4 @@ pub mod FirstReads
 pub mod Unbroken
 pub mod Naming
 pub mod Backward
+pub mod Installed

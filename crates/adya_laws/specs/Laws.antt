@@ -1,7 +1,10 @@
--- What acceptance of a history and a certificate implies (Adya 1999, sections 3.3 and 4.2).
-use Rattle.std.specs.Prelude.{◌≡◌, ◌≢◌, ◌↔◌, ℕ, Bool, true, List, None, Contains}
+-- What acceptance of a history and a certificate implies (Adya 1999, sections 3.1 and 3.2).
+use Rattle.std.specs.Prelude.{◌≡◌, ◌≢◌, ◌<◌, ◌↔◌, ℕ, Bool, true, List, None, Some, Contains}
 use Rattle.std.specs.List.{find, AllPairs}
-use Rattle.adya_terms.specs.Histories.{History}
+use Rattle.adya_terms.specs.Histories.{Event, History}
+use Rattle.adya_terms.specs.Events.{txn_of, is_committed}
+use Rattle.adya_terms.specs.Orders.{installer}
+use Rattle.adya_terms.specs.Selections.{selected}
 use Rattle.adya_terms.specs.Shapes.{is_shape}
 use Rattle.adya_terms.specs.Edges.{Edge, IsEdge}
 use Rattle.adya_terms.specs.EdgeList.{dependencies, edge_list}
@@ -36,3 +39,9 @@ AcceptedWhereForward = (h : History) (ts : List ℕ) → IsChecked h
 -- at first, give every read, every scan and the final contents
 abbrev pub AcceptedAgrees : Type 0
 AcceptedAgrees = (h : History) (ts : List ℕ) → is_shape h.orders h.finals ≡ true → IsAccepted h ts → Agrees h ts
+
+-- what a committed transaction of a checked history reads or selects of a key is the unborn version, or stands in
+-- the key's version order
+abbrev pub SelectedIsInstalled : Type 0
+SelectedIsInstalled = (h : History) (e : Event) (k : List ℕ) (p : ℕ) → IsChecked h → Contains h.events e
+    → is_committed h.events (txn_of e) ≡ true → selected h e k ≡ Some p → 0 < p → (t : ℕ) × (installer h k p ≡ Some t)

@@ -4,9 +4,9 @@
 
 pub mod first_faults;
 
-ghost use Rattle.adya_laws.specs.Laws.{EdgeListIsExact, EdgeListIsDistinct, EdgeListKeepsFirst, AcceptedHasNoPhenomenon, AcceptedWhereForward, AcceptedAgrees};
+ghost use Rattle.adya_laws.specs.Laws.{EdgeListIsExact, EdgeListIsDistinct, EdgeListKeepsFirst, AcceptedHasNoPhenomenon, AcceptedWhereForward, AcceptedAgrees, SelectedIsInstalled};
 
-/// The list of edges holds exactly the edges of the direct serialization graph (Adya 1999, section 3.3).
+/// The list of edges holds exactly the edges of the direct serialization graph (Adya 1999, section 3.1.4).
 pub fn edge_list_is_exact()
     ensures { EdgeListIsExact }
 {}
@@ -22,7 +22,7 @@ pub fn edge_list_keeps_first()
 {}
 
 /// An accepted history shows none of the phenomena that level PL-3 proscribes: neither G1 (aborted reads,
-/// intermediate reads, circular information flow) nor G2, a cycle with an anti-dependency (Adya 1999, section 4.2).
+/// intermediate reads, circular information flow) nor G2, a cycle with an anti-dependency (Adya 1999, section 3.2).
 pub fn accepted_has_no_phenomenon()
     ensures { AcceptedHasNoPhenomenon }
 {}
@@ -38,4 +38,10 @@ pub fn accepted_where_forward()
 /// finals rise is a fact of every history from its constructor on.
 pub fn accepted_agrees()
     ensures { AcceptedAgrees }
+{}
+
+/// What a committed transaction of a checked history reads or selects of a key is the unborn version, or one that
+/// stands in the key's version order (Adya 1999, section 3.1.2).
+pub fn selected_is_installed()
+    ensures { SelectedIsInstalled }
 {}

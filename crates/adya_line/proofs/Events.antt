@@ -1,5 +1,6 @@
 -- What is read is the line's event, and each event is read from its line.
-use Rattle.std.proofs.Common.{◌≡◌, ℕ, true, eqb, List, [], ◌∷◌, ◌++◌, length, Option, Some, None, refl, sym, ap, ◌∙◌, append_assoc}
+use Rattle.std.proofs.Common.{◌≡◌, ℕ, true, eqb, List, [], ◌∷◌, ◌++◌, length, Option, Some, None, refl, sym, ap, ◌∙◌}
+use Rattle.std.proofs.Common.{append_assoc}
 use Rattle.std.specs.Prelude.{decimal, IfSome, MatchOption, codes}
 use Rattle.std.proofs.lemmas.Bool.{eqb-true, eq-eqb}
 use Rattle.std.proofs.lemmas.Option.{none-some, same_Some}
@@ -8,10 +9,13 @@ use Rattle.adya_terms.specs.Histories.{Event, Write, Delete, Read, Scan, Commit,
 use Rattle.adya_terms.specs.Keys.{is_value, is_value_byte, IsTxn}
 use Rattle.adya_line.specs.Spelling.{version_text, event_text, unfinished_text}
 use Rattle.adya_line.specs.Limits.{IsVersion, IsEvent}
-use Rattle.adya_line.specs.Reading.{Gives, ◌>>=◌, after, txn_at_line, write_at, delete_at, read_at, event_at, unfinished_at}
+use Rattle.adya_line.specs.Reading.{Gives, ◌>>=◌, after, txn_at_line, write_at, delete_at, read_at, event_at}
+use Rattle.adya_line.specs.Reading.{unfinished_at}
 use Rattle.adya_line.specs.Views.{view}
 use Rattle.adya_line.specs.declared.event_ref.EventRef.{EventRef}
-use Rattle.adya_line.proofs.Parts.{Only, found, then, weaken, if_then, by_byte, nothing, ended, both_parts, after_takes, text_takes, text_again, txn_takes, txn_again, line_takes, line_again, version_then, version_then-is, version_takes, version_again}
+use Rattle.adya_line.proofs.Parts.{Only, found, then, weaken, if_then, by_byte, nothing, ended, both_parts}
+use Rattle.adya_line.proofs.Parts.{after_takes, text_takes, text_again, txn_takes, txn_again, line_takes, line_again}
+use Rattle.adya_line.proofs.Parts.{version_then, version_then-is, version_takes, version_again}
 use Rattle.adya_line.proofs.Scans.{scan_is, scan_takes, scan_again}
 
 -- ---- the texts, nested to the right

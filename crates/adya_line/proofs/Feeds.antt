@@ -1,5 +1,6 @@
 -- No line has a line feed in it.
-use Rattle.std.proofs.Common.{◌≡◌, ◌≢◌, ℕ, ◌<◌, ◌^◌, Bool, true, false, List, [], ◌∷◌, ◌++◌, length, refl, ap, ◌∙◌, arith}
+use Rattle.std.proofs.Common.{◌≡◌, ◌≢◌, ℕ, ◌<◌, ◌^◌, Bool, true, false, List, [], ◌∷◌, ◌++◌, length, refl, ap, ◌∙◌}
+use Rattle.std.proofs.Common.{arith}
 use Rattle.std.specs.Prelude.{decimal, codes, nat_lt, nat_le, ◌&&◌, not, ◌==◌}
 use Rattle.std.specs.List.{list_all, flat_map, AllByRecursion}
 use Rattle.std.specs.Char.{is_ascii_digit}
@@ -10,7 +11,9 @@ use Rattle.std.proofs.lemmas.Fmt.{digits_decimal}
 use Rattle.adya_terms.specs.declared.event.Version.{Version}
 use Rattle.adya_terms.specs.Keys.{is_key, is_value, is_key_byte, is_value_byte, IsTxn}
 use Rattle.adya_terms.specs.Histories.{Content, Live, Dead, Entry, Write, Delete, Read, Scan, Commit, Abort}
-use Rattle.adya_line.specs.Spelling.{history_head, second_head, serial_head, tail, version_text, content_text, entry_text, event_text, unfinished_text, later_text, writers_text, order_text, final_text}
+use Rattle.adya_line.specs.Spelling.{history_head, second_head, serial_head, tail, version_text, content_text}
+use Rattle.adya_line.specs.Spelling.{entry_text, event_text, unfinished_text, later_text, writers_text, order_text}
+use Rattle.adya_line.specs.Spelling.{final_text}
 use Rattle.adya_line.specs.Limits.{IsVersion, IsContent, IsEntry, IsEvent, IsOrder, IsFinal}
 use Rattle.adya_line.specs.Laws.{IsPlain, HasPlainTexts}
 use Rattle.adya_line.proofs.Parts.{both_parts}
@@ -84,7 +87,8 @@ scan_plain : (t : ℕ) (low high : List ℕ) (es : List Entry) → IsTxn t → i
     → Plain (codes "s" ++ decimal t ++ codes "(" ++ low ++ codes "," ++ high ++ flat_map entry_text es ++ codes ")")
 scan_plain t low high es is_t is_low is_high are =
     with_text (with_text (with_text (with_text (with_text (with_text (with_text (fixed (codes "s") refl)
-    (txn_plain t is_t)) (fixed (codes "(") refl)) (key_plain low is_low)) (fixed (codes ",") refl)) (key_plain high is_high))
+    (txn_plain t is_t)) (fixed (codes "(") refl)) (key_plain low is_low)) (fixed (codes ",") refl))
+    (key_plain high is_high))
     (entries_plain es are)) (fixed (codes ")") refl)
 
 pub events_plain : HasPlainTexts IsEvent event_text
@@ -92,7 +96,8 @@ unfolding event_text
 events_plain (Write t k m v) is = (access_plain (codes "w") t (record { key = k; txn = t; m = m }) v
     (fixed (codes "w") refl) is.0.txn is.0 is.1).holds
 events_plain (Delete t k m) is = (with_text (with_text (with_text (with_text (fixed (codes "d") refl)
-    (txn_plain t is.txn)) (fixed (codes "(") refl)) (version_plain (record { key = k; txn = t; m = m }) is)) (fixed (codes ")") refl)).holds
+    (txn_plain t is.txn)) (fixed (codes "(") refl)) (version_plain (record { key = k; txn = t; m = m }) is))
+    (fixed (codes ")") refl)).holds
 events_plain (Read t r v) is = (access_plain (codes "r") t r v (fixed (codes "r") refl) is.0 is.1 is.2).holds
 events_plain (Scan t low high es) is = (scan_plain t low high es is.0 is.1 is.2 is.3).holds
 events_plain (Commit t) is = (with_text (fixed (codes "c") refl) (txn_plain t is)).holds

@@ -6,7 +6,8 @@ use Rattle.adya_terms.specs.Histories.{FinalPair}
 use Rattle.adya_line.specs.Spelling.{final_text}
 use Rattle.adya_line.specs.Limits.{IsFinal}
 use Rattle.adya_line.specs.Reading.{after, final_at}
-use Rattle.adya_line.proofs.Parts.{Only, then, if_then, ended, after_takes, text_takes, text_again, key_between_takes, key_between_again}
+use Rattle.adya_line.proofs.Parts.{Only, then, if_then, ended, after_takes, text_takes, text_again, key_between_takes}
+use Rattle.adya_line.proofs.Parts.{key_between_again}
 
 final_then : FinalPair → List ℕ
 final_then f = 123 ∷ (f.key ++ (44 ∷ (f.value ++ (125 ∷ []))))

@@ -4,6 +4,8 @@ pub mod Scans
 pub mod Events
 pub mod Orders
 pub mod Finals
-pub mod Apart
 pub mod Feeds
+pub mod Readers
+pub mod HistoryKinds
+pub mod SerialKinds
 pub mod Growth

@@ -1,5 +1,6 @@
 -- What is read is the line's order, and each order is read from its line.
-use Rattle.std.proofs.Common.{◌≡◌, ℕ, zero, suc, ◌<◌, ◌≤◌, false, get_or, List, [], ◌∷◌, ◌++◌, length, Option, Some, None, refl, sym, ap, ◌∙◌, append_assoc, arith}
+use Rattle.std.proofs.Common.{◌≡◌, ℕ, zero, suc, ◌<◌, ◌≤◌, false, get_or, List, [], ◌∷◌, ◌++◌, length, Option, Some}
+use Rattle.std.proofs.Common.{None, refl, sym, ap, ◌∙◌, append_assoc, arith}
 use Rattle.std.specs.Prelude.{decimal, codes}
 use Rattle.std.specs.Char.{is_ascii_digit}
 use Rattle.std.specs.List.{flat_map, AllByRecursion}
@@ -10,7 +11,8 @@ use Rattle.adya_terms.specs.Histories.{Order}
 use Rattle.adya_line.specs.Spelling.{later_text, writers_text, order_text}
 use Rattle.adya_line.specs.Limits.{IsOrder}
 use Rattle.adya_line.specs.Reading.{◌>>=◌, after, writer_at, later_at, writers_at, order_at, behind}
-use Rattle.adya_line.proofs.Parts.{Only, found, then, weaken, ended, if_then, if_after, after_takes, txn_takes, txn_again, key_between_takes, key_between_again}
+use Rattle.adya_line.proofs.Parts.{Only, found, then, weaken, ended, if_then, if_after, after_takes, txn_takes}
+use Rattle.adya_line.proofs.Parts.{txn_again, key_between_takes, key_between_again}
 
 -- ---- what is read is shorter
 

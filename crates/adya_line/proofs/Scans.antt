@@ -1,5 +1,6 @@
 -- What is read is the line's scan, and each scan is read from its line.
-use Rattle.std.proofs.Common.{◌≡◌, ℕ, zero, suc, ◌<◌, ◌≤◌, false, true, get_or, List, [], ◌∷◌, ◌++◌, length, Option, Some, None, refl, sym, ap, ◌∙◌, append_assoc, arith, inl, inr}
+use Rattle.std.proofs.Common.{◌≡◌, ℕ, zero, suc, ◌<◌, ◌≤◌, false, true, get_or, List, [], ◌∷◌, ◌++◌, length, Option}
+use Rattle.std.proofs.Common.{Some, None, refl, sym, ap, ◌∙◌, append_assoc, arith, inl, inr}
 use Rattle.std.specs.Prelude.{decimal, codes, ◌&&◌}
 use Rattle.std.specs.List.{flat_map, list_all, AllByRecursion}
 use Rattle.std.proofs.lemmas.Bool.{both_ways}
@@ -11,8 +12,11 @@ use Rattle.adya_terms.specs.Keys.{is_key, is_value, is_key_byte, is_value_byte, 
 use Rattle.adya_terms.specs.Histories.{Content, Live, Dead, Entry, Scan}
 use Rattle.adya_line.specs.Spelling.{version_text, content_text, entry_text, event_text}
 use Rattle.adya_line.specs.Limits.{IsContent, IsEntry, IsEvent}
-use Rattle.adya_line.specs.Reading.{◌>>=◌, after, none_or, content_at, entry_at, behind_entry, entries_at, entries_of, after_entries, whole, scan_at}
-use Rattle.adya_line.proofs.Parts.{Only, found, then, if_then, if_after, ended, both_parts, after_takes, text_takes, text_again, txn_takes, txn_again, version_then, version_then-is, version_takes, version_again}
+use Rattle.adya_line.specs.Reading.{◌>>=◌, after, none_or, content_at, entry_at, behind_entry, entries_at, entries_of}
+use Rattle.adya_line.specs.Reading.{after_entries, whole, scan_at}
+use Rattle.adya_line.proofs.Parts.{Only, found, then, if_then, if_after, ended, both_parts, after_takes, text_takes}
+use Rattle.adya_line.proofs.Parts.{text_again, txn_takes, txn_again, version_then, version_then-is, version_takes}
+use Rattle.adya_line.proofs.Parts.{version_again}
 
 -- ---- the texts, nested to the right
 

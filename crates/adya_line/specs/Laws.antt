@@ -1,7 +1,6 @@
 -- What holds of the lines of each kind.
-use Rattle.std.specs.Prelude.{◌≡◌, ◌≢◌, ◌↔◌, ℕ, false, List, Option, Some, None}
+use Rattle.std.specs.Prelude.{◌≡◌, ◌≢◌, ◌↔◌, ℕ, List, Option, Some}
 use Rattle.std.specs.List.{All}
-use Rattle.std.specs.Str.{bytes_eq}
 
 -- reading gives x exactly where x is within its limits and the line is its text
 abbrev pub IsReaderOf : {X : Type 0} → (List ℕ → Option X) → (X → Type 0) → (X → List ℕ) → Type 0
@@ -10,14 +9,6 @@ IsReaderOf {X} read Is text = (line : List ℕ) (x : X) → (read line ≡ Some 
 -- different values have different texts
 abbrev pub IsOneText : {X : Type 0} → (X → Type 0) → (X → List ℕ) → Type 0
 IsOneText {X} Is text = (x y : X) → Is x → Is y → text x ≡ text y → x ≡ y
-
--- what the first reads, the second refuses
-abbrev pub Excludes : {X Y : Type 0} → (List ℕ → Option X) → (List ℕ → Option Y) → Type 0
-Excludes {X} read other = (line : List ℕ) (x : X) → read line ≡ Some x → other line ≡ None
-
--- what is read is not this line
-abbrev pub ExcludesLine : {X : Type 0} → (List ℕ → Option X) → List ℕ → Type 0
-ExcludesLine {X} read fixed = (line : List ℕ) (x : X) → read line ≡ Some x → bytes_eq line fixed ≡ false
 
 -- no line feed is among the bytes
 abbrev pub IsPlain : List ℕ → Type 0

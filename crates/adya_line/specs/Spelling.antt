@@ -1,7 +1,10 @@
 -- The one line of each event, unfinished transaction, order, final and transaction number, without its line feed.
 use Rattle.std.specs.Prelude.{ℕ, List, [], ◌∷◌, ◌++◌, codes, decimal, flat_map}
+use Rattle.adya_terms.specs.declared.edition.Edition.{Edition}
+use Rattle.adya_terms.specs.declared.edition.Edition.TheVariants.{One, Two}
 use Rattle.adya_terms.specs.declared.event.Version.{Version}
-use Rattle.adya_terms.specs.Histories.{Content, Live, Dead, Entry, Event, Write, Delete, Read, Scan, Commit, Abort, Order, FinalPair}
+use Rattle.adya_terms.specs.Histories.{Content, Live, Dead, Entry, Event, Write, Delete, Read, Scan, Commit, Abort}
+use Rattle.adya_terms.specs.Histories.{Order, FinalPair}
 
 abbrev pub history_head : List ℕ
 history_head = codes "adya 1"
@@ -9,6 +12,11 @@ history_head = codes "adya 1"
 -- of an edition with unfinished transactions
 abbrev pub second_head : List ℕ
 second_head = codes "adya 2"
+
+-- the first line of a history of the edition
+abbrev pub head_text : Edition → List ℕ
+head_text One = history_head
+head_text Two = second_head
 
 abbrev pub serial_head : List ℕ
 serial_head = codes "serial 1"

@@ -1,6 +1,6 @@
 //! The lines that each text has once.
 
-ghost use Rattle.std.specs.Prelude.{◌≡◌};
+ghost use Rattle.std.specs.Prelude.{◌≡◌, ◌↔◌, IsTrue};
 ghost use Rattle.adya_line.specs.Spelling.{history_head, second_head, serial_head, tail};
 
 /// The first line of a history, without its line feed: `adya 1`.
@@ -29,4 +29,29 @@ pub fn tail() -> &'static [u8]
     ensures { result.now ≡ tail }
 {
     b"end"
+}
+
+pub(crate) fn is_history_head(line: &[u8]) -> bool
+    ensures { IsTrue result ↔ (line.now ≡ history_head) }
+{
+    line == history_head()
+}
+
+pub(crate) fn is_second_head(line: &[u8]) -> bool
+    ensures { IsTrue result ↔ (line.now ≡ second_head) }
+{
+    line == second_head()
+}
+
+pub(crate) fn is_serial_head(line: &[u8]) -> bool
+    ensures { IsTrue result ↔ (line.now ≡ serial_head) }
+{
+    line == serial_head()
+}
+
+/// Whether the line, without its line feed, is the last of a text: `end`.
+pub fn is_tail(line: &[u8]) -> bool
+    ensures { IsTrue result ↔ (line.now ≡ tail) }
+{
+    line == tail()
 }

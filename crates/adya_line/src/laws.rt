@@ -4,10 +4,12 @@ ghost use Rattle.std.specs.Prelude.{ℕ, ◌<◌, length, map};
 ghost use Rattle.std.specs.List.{AllByRecursion};
 ghost use Rattle.adya_terms.specs.Keys.{IsTxn};
 ghost use Rattle.adya_terms.specs.Histories.{entry_of, event_of, order_of, final_of};
-ghost use Rattle.adya_line.specs.Spelling.{history_head, second_head, serial_head, tail, event_text, unfinished_text, order_text, final_text, txn_text};
+ghost use Rattle.adya_line.specs.Spelling.{event_text, unfinished_text, order_text, final_text, txn_text};
 ghost use Rattle.adya_line.specs.Limits.{IsEntry, IsEvent, IsOrder, IsFinal};
 ghost use Rattle.adya_line.specs.Reading.{event_at, unfinished_at, order_at, final_at, txn_at_line};
-ghost use Rattle.adya_line.specs.Laws.{IsReaderOf, IsOneText, Excludes, ExcludesLine, IsPlain, HasPlainTexts};
+ghost use Rattle.adya_line.specs.Laws.{IsReaderOf, IsOneText, HasPlainTexts};
+ghost use Rattle.adya_line.specs.HistoryLines.{IsLine as IsHistoryLine, line_text as history_line_text};
+ghost use Rattle.adya_line.specs.SerialLines.{IsLine as IsSerialLine, line_text as serial_line_text};
 
 use adya_terms::{Content, Entry, Event, FinalPair, Order};
 
@@ -41,63 +43,16 @@ pub fn txn_lines()
     ensures one_text { IsOneText IsTxn txn_text }
 {}
 
-/// No line of an event is one of another kind.
-pub fn events_apart()
-    ensures unfinished { Excludes event_at unfinished_at }
-    ensures orders { Excludes event_at order_at }
-    ensures finals { Excludes event_at final_at }
-    ensures tail { ExcludesLine event_at tail }
-    ensures head { ExcludesLine event_at history_head }
-    ensures second_head { ExcludesLine event_at second_head }
+/// Each line of a history has a text of its own, without a line feed.
+pub fn history_lines()
+    ensures one_text { IsOneText IsHistoryLine history_line_text }
+    ensures no_line_feed { HasPlainTexts IsHistoryLine history_line_text }
 {}
 
-/// No line of an unfinished transaction is one of another kind.
-pub fn unfinished_apart()
-    ensures events { Excludes unfinished_at event_at }
-    ensures orders { Excludes unfinished_at order_at }
-    ensures finals { Excludes unfinished_at final_at }
-    ensures tail { ExcludesLine unfinished_at tail }
-    ensures head { ExcludesLine unfinished_at history_head }
-    ensures second_head { ExcludesLine unfinished_at second_head }
-{}
-
-/// No line of an order is one of another kind.
-pub fn orders_apart()
-    ensures events { Excludes order_at event_at }
-    ensures unfinished { Excludes order_at unfinished_at }
-    ensures finals { Excludes order_at final_at }
-    ensures tail { ExcludesLine order_at tail }
-    ensures head { ExcludesLine order_at history_head }
-    ensures second_head { ExcludesLine order_at second_head }
-{}
-
-/// No line of a final is one of another kind.
-pub fn finals_apart()
-    ensures events { Excludes final_at event_at }
-    ensures unfinished { Excludes final_at unfinished_at }
-    ensures orders { Excludes final_at order_at }
-    ensures tail { ExcludesLine final_at tail }
-    ensures head { ExcludesLine final_at history_head }
-    ensures second_head { ExcludesLine final_at second_head }
-{}
-
-/// No line of a certificate is its head or its tail.
-pub fn txns_apart()
-    ensures tail { ExcludesLine txn_at_line tail }
-    ensures head { ExcludesLine txn_at_line serial_head }
-{}
-
-/// No line has a line feed in it.
-pub fn no_line_feeds()
-    ensures events { HasPlainTexts IsEvent event_text }
-    ensures unfinished { HasPlainTexts IsTxn unfinished_text }
-    ensures orders { HasPlainTexts IsOrder order_text }
-    ensures finals { HasPlainTexts IsFinal final_text }
-    ensures txns { HasPlainTexts IsTxn txn_text }
-    ensures history_head { IsPlain history_head }
-    ensures second_head { IsPlain second_head }
-    ensures serial_head { IsPlain serial_head }
-    ensures tail { IsPlain tail }
+/// Each line of a certificate has a text of its own, without a line feed.
+pub fn serial_lines()
+    ensures one_text { IsOneText IsSerialLine serial_line_text }
+    ensures no_line_feed { HasPlainTexts IsSerialLine serial_line_text }
 {}
 
 /// Each event is within its limits.

@@ -4,7 +4,8 @@ ghost use Rattle.std.specs.Prelude.{◌≡◌, true, IsErr, OnOk, codes, ◌++�
 ghost use Rattle.std.specs.Io.KnownBytes.{Appends};
 ghost use Rattle.adya_terms.specs.Histories.{content_of, entry_of, event_of, order_of, final_of, value_of};
 ghost use Rattle.adya_terms.specs.Watched.{has_failed, watched_contents};
-ghost use Rattle.adya_line.specs.Spelling.{version_text, content_text, entry_text, event_text, unfinished_text, later_text, writers_text, order_text, final_text, txn_text};
+ghost use Rattle.adya_line.specs.Spelling.{version_text, content_text, entry_text, event_text, unfinished_text};
+ghost use Rattle.adya_line.specs.Spelling.{later_text, writers_text, order_text, final_text, txn_text};
 ghost use Rattle.adya_line.specs.Growing.{Grows};
 
 use adya_terms::{Content, Entry, Event, FinalPair, Key, Order, Txn, Value, Version, Watched};

@@ -13,7 +13,7 @@ fn key(alloc: Global, i: u32) -> Option<Key> {
 }
 
 /// Transaction 1 writes so many keys, and transaction 2 scans them all.
-pub fn history(alloc: Global, size: u32) -> Option<History> {
+pub(crate) fn history(alloc: Global, size: u32) -> Option<History> {
     let writer = Txn::new(1).ok()?;
     let m = Mod::new(1).ok()?;
     let value = Value::new(b"1").ok()?;
@@ -60,22 +60,27 @@ pub fn history(alloc: Global, size: u32) -> Option<History> {
 }
 
 /// The certificate that runs transaction 1 before 2.
-pub fn certificate(alloc: Global) -> Option<Serial> {
+pub(crate) fn certificate(alloc: Global) -> Option<Serial> {
     Some(Serial::new(vec![in alloc; Txn::new(1).ok()?, Txn::new(2).ok()?].ok()?))
 }
 
 /// The line of the verdict on the values.
-pub fn verdict(alloc: Global, history: &History, certificate: &Serial) -> Option<Vec<u8>> {
+pub(crate) fn verdict(alloc: Global, history: &History, certificate: &Serial) -> Option<Vec<u8>> {
     let found = audit(alloc, history, certificate).ok()?;
     let mut out = Watched::new(Vec::new(alloc));
     write_verdict(&found, &mut out).ok()?;
     Some(out.into_inner())
 }
 
-/// Both texts, one behind the other.
-pub fn stream(alloc: Global, history: &History, certificate: &Serial) -> Option<Vec<u8>> {
-    let mut out = Watched::new(Vec::new(alloc));
-    write_history(history, &mut out).ok()?;
-    write_serial(certificate, &mut out).ok()?;
-    Some(out.into_inner())
+/// The texts of both.
+pub(crate) fn texts(
+    alloc: Global,
+    history: &History,
+    certificate: &Serial,
+) -> Option<(Vec<u8>, Vec<u8>)> {
+    let mut first = Watched::new(Vec::new(alloc));
+    write_history(history, &mut first).ok()?;
+    let mut second = Watched::new(Vec::new(alloc));
+    write_serial(certificate, &mut second).ok()?;
+    Some((first.into_inner(), second.into_inner()))
 }

@@ -1,92 +1,41 @@
-use adya_audit::{RunFault, Verdict, run_pipe};
-use adya_devices::{Endless, FailsAt, Narrow, Pieces};
+//! The runs of the auditor on failing devices and on endless streams.
+
+mod audit;
+mod order;
+mod pipe;
+mod texts_from_sources;
+
+use adya_devices::{FailsAt, Narrow, Pieces};
 use adya_terms::Watched;
+use std::alloc::Global;
 use std::io::ErrorKind;
-use std::test::Fail;
 
-const STREAM: &[u8] =
-    b"adya 1\nw1(x.1:1,5)\nc1\nr2(x.1:1,5)\nc2\n[x:1]\n{x,5}\nend\nserial 1\n1\n2\nend\n";
+/// Transaction 2 reads what 1 wrote.
+const HISTORY: &[u8] = b"adya 1\nw1(x.1:1,5)\nc1\nr2(x.1:1,5)\nc2\n[x:1]\n{x,5}\nend\n";
 
-#[test]
-fn kth_read_fails(rt: HostRuntime) -> Result<(), Fail> {
-    for kind in [ErrorKind::Interrupted, ErrorKind::TimedOut] {
-        let mut ended = false;
-        for k in 1..100 {
-            if !ended {
-                let mut input = Watched::new(FailsAt::new(Pieces::new(STREAM, 7), k, kind));
-                let mut out = Watched::new(Vec::new(rt.alloc()));
-                match run_pipe(rt.alloc(), &mut input, &mut out) {
-                    Ok(verdict) => {
-                        assert!(rt; matches!(verdict, Verdict::Yes));
-                        assert!(rt; !input.failed());
-                        ended = true;
-                    }
-                    Err(fault) => {
-                        assert_eq!(rt; fault, RunFault::ReadHistory, "at {k}");
-                        assert!(rt; input.failed());
-                        assert!(rt; out.into_inner().is_empty());
-                        assert_eq!(rt; input.into_inner().calls(), k);
-                    }
-                }
-            }
-        }
-        assert!(rt; ended);
-    }
-    Ok(())
+const CERTIFICATE: &[u8] = b"serial 1\n1\n2\nend\n";
+
+/// How failing devices fail. An interrupted call is a failed one.
+const KINDS: [ErrorKind; 2] = [ErrorKind::Interrupted, ErrorKind::TimedOut];
+
+/// A reader of the text in pieces of 7 bytes, whose k-th call fails; none where k is 0.
+fn reader(text: &[u8], k: u64, kind: ErrorKind) -> Watched<FailsAt<Pieces<'_>>> {
+    Watched::new(FailsAt::new(Pieces::new(text, 7), k, kind))
 }
 
-#[test]
-fn kth_write_fails(rt: HostRuntime) -> Result<(), Fail> {
-    let mut ended = false;
-    for k in 1..20 {
-        if !ended {
-            let narrow = Narrow {
-                bytes: Vec::new(rt.alloc()),
-                most: 1,
-            };
-            let mut input = Watched::new(Pieces::new(STREAM, 7));
-            let mut out = Watched::new(FailsAt::new(narrow, k, ErrorKind::Interrupted));
-            match run_pipe(rt.alloc(), &mut input, &mut out) {
-                Ok(_) => {
-                    assert_eq!(rt;
-                        out.into_inner().get_ref().bytes.as_slice(),
-                        b"yes\n".as_slice()
-                    );
-                    ended = true;
-                }
-                Err(fault) => {
-                    assert_eq!(rt; fault, RunFault::Write, "at {k}");
-                    assert!(rt; out.failed());
-                    assert_eq!(rt; out.into_inner().calls(), k);
-                }
-            }
-        }
-    }
-    assert!(rt; ended);
-    Ok(())
-}
-
-#[test]
-fn writer_takes_nothing(rt: HostRuntime) -> Result<(), Fail> {
+/// A writer that takes a byte a call, and whose k-th call fails; none where k is 0.
+fn writer(alloc: Global, k: u64, kind: ErrorKind) -> Watched<FailsAt<Narrow>> {
     let narrow = Narrow {
-        bytes: Vec::new(rt.alloc()),
-        most: 0,
+        bytes: Vec::new(alloc),
+        most: 1,
     };
-    let mut input = Watched::new(Pieces::new(STREAM, 7));
-    let mut out = Watched::new(narrow);
-    let told = run_pipe(rt.alloc(), &mut input, &mut out);
-    assert!(rt; matches!(told, Err(RunFault::Write)));
-    assert!(rt; out.failed());
-    Ok(())
+    Watched::new(FailsAt::new(narrow, k, kind))
 }
 
-#[test]
-fn endless_input(rt: HostRuntime) -> Result<(), Fail> {
-    let mut input = Watched::with_bound(Endless(b'a'), 10);
-    let mut out = Watched::new(Vec::new(rt.alloc()));
-    let told = run_pipe(rt.alloc(), &mut input, &mut out);
-    assert!(rt; matches!(told, Err(RunFault::ReadHistory)));
-    assert!(rt; input.failed());
-    assert!(rt; out.into_inner().is_empty());
-    Ok(())
+/// A writer that takes nothing.
+fn full(alloc: Global) -> Watched<Narrow> {
+    Watched::new(Narrow {
+        bytes: Vec::new(alloc),
+        most: 0,
+    })
 }

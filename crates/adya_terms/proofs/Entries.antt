@@ -29,9 +29,9 @@ content_same Dead Dead e = refl
 pub version_same : (a b : Version) → version_eq a b ≡ true → a ≡ b
 version_same a b e =
     let one = and_parts _ _ e in
-    let two = and_parts _ _ one.0 in
-    ap (λ k. version k a.txn a.m) (key_same _ _ two.0) ∙
-    (ap (λ t. version b.key t a.m) (eqb-true _ _ two.1) ∙ ap (version b.key b.txn) (eqb-true _ _ one.1))
+    let two = and_parts _ _ one.1 in
+    ap (λ k. version k a.txn a.m) (key_same _ _ one.0) ∙
+    (ap (λ t. version b.key t a.m) (eqb-true _ _ two.0) ∙ ap (version b.key b.txn) (eqb-true _ _ two.1))
 
 pub entry_same : (a b : Entry) → entry_eq a b ≡ true → a ≡ b
 entry_same a b e =
@@ -45,8 +45,8 @@ content_itself Dead = refl
 pub entry_itself : (a : Entry) → entry_eq a a ≡ true
 entry_itself a =
     and_from _ _
-    (and_from _ _ (and_from _ _ (same_key a.version.key a.version.key refl) (eq-eqb a.version.txn a.version.txn refl))
-    (eq-eqb a.version.m a.version.m refl))
+    (and_from _ _ (same_key a.version.key a.version.key refl)
+    (and_from _ _ (eq-eqb a.version.txn a.version.txn refl) (eq-eqb a.version.m a.version.m refl)))
     (content_itself a.content)
 
 pub same_entry : (a b : Entry) → a ≡ b → entry_eq a b ≡ true

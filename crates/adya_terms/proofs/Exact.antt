@@ -1,20 +1,24 @@
 -- A line is exact where each of its writers belongs there and no committed write of its key is left out.
-use Rattle.std.proofs.Common.{◌≡◌, ℕ, zero, suc, ◌+◌, Bool, true, false, cond, not, is_some, ◌&&◌, List, [], ◌∷◌, map, refl, sym, ◌∙◌, ap, inl, inr, arith}
+use Rattle.std.proofs.Common.{◌≡◌, ℕ, zero, suc, ◌+◌, ◌<◌, Bool, true, false, cond, not, is_some, ◌&&◌, ◌||◌, List, [], ◌∷◌, length, map, refl, sym, ◌∙◌, ap, inl, inr, arith}
 use Rattle.std.specs.List.{filter_map, list_all, list_any, Contains}
-use Rattle.std.proofs.lemmas.Bool.{cases_Bool, cases_lt, both_ways, and_parts, and_from, eqb-true, eq-eqb}
+use Rattle.std.proofs.lemmas.Bool.{cases_Bool, cases_lt, both_ways, and_parts, and_from, or_cases, not-true, false_from_ne_true, eqb-true, eq-eqb}
 use Rattle.std.proofs.lemmas.List.Sums.{sum_by-cons}
-use Rattle.adya_terms.specs.Keys.{keys_rise}
-use Rattle.adya_terms.specs.Histories.{Event, Order}
+use Rattle.std.specs.Ordering.{is_eq, nat_cmp}
+use Rattle.std.specs.Cmp.Lexicographic.{slice_cmp}
+use Rattle.std.specs.BTreeSet.{BTreeSet, btree_set_len, contains}
+use Rattle.adya_terms.specs.declared.fault.Rule.TheVariants.{M7}
+use Rattle.adya_terms.specs.Keys.{key_eq, keys_rise}
+use Rattle.adya_terms.specs.Histories.{Entry, Event, Order}
 use Rattle.adya_terms.specs.Events.{written, last_write, is_committed}
 use Rattle.adya_terms.specs.Rules.{installs}
-use Rattle.adya_terms.specs.Faults.{lists_exactly}
+use Rattle.adya_terms.specs.Faults.{lists_exactly, order_faults}
 use Rattle.adya_terms.specs.Checks.{listed, listed_by, is_unlisted, belongs}
 use Rattle.adya_terms.proofs.Lists.{none_contained, all_pass, list_all_when, list_any_source, list_any_when, Contains-slice_get, Contains-cons}
 use Rattle.adya_terms.proofs.Counts.{count, count_place, exactly_from_test, test_from_exactly}
 use Rattle.adya_terms.proofs.Entries.{key_same, same_key, other_key, last_write_from, last_write_there, committed_source}
 use Rattle.adya_terms.proofs.Lines.{key_lt-apart, rises_below, keys_rise-tail}
-use Rattle.adya_terms.proofs.Checking.{some_of}
-use Rattle.adya_terms.proofs.Converse.{some_from_not_none}
+use Rattle.adya_terms.proofs.Checking.{some_of, each_passes}
+use Rattle.adya_terms.proofs.Converse.{or_unless, some_from_not_none}
 
 pub same_test : (a b : Bool) → (a ≡ true → b ≡ true) → (b ≡ true → a ≡ true) → a ≡ b
 same_test true b f g = sym (f refl)
@@ -106,3 +110,69 @@ exact_line all os o r c =
     let counted : (t : ℕ) → listed os t k ≡ cond (installs all k t) 1 0 = λ t. line t ∙ right t in
     and_from _ _ (list_all_when (belongs all os k) xs (λ t d. eq-eqb _ _ (counted t)))
     (elim (cases_Bool out) [ inl t ↦ absurd (none_out all os k counted t) | inr f ↦ ap not f ]))
+
+-- what the lines list of a key they have a line for
+listed_has_line : (os : List Order) (t : ℕ) (k : List ℕ) → (listed os t k ≡ 0 → ⊥) → list_any (λ o. key_eq o.key k) os ≡ true
+listed_has_line os t k some =
+    elim (cases_Bool (list_any (λ o. key_eq o.key k) os)) [
+      | inl there ↦ there
+      | inr none ↦
+          absurd (some (none_listed os t k (λ o c same.
+          both_ways _ none (list_any_when (λ x. key_eq x.key k) os o c (same_key o.key k (sym same))))))
+    ]
+
+-- the key of the write has a line, if its transaction is committed
+abbrev has_line : List Event → List Order → Entry → Bool
+has_line all os w = not (is_committed all w.version.txn) || list_any (λ o. key_eq o.key w.version.key) os
+
+-- where no committed write is left out, each has a line of its key
+pub lines_where_none_out : (all : List Event) (os : List Order)
+    → ((k : List ℕ) → list_any (is_unlisted all os k) (filter_map written all) ≡ false)
+    → list_all (has_line all os) (filter_map written all) ≡ true
+lines_where_none_out all os none =
+    list_all_when (has_line all os) (filter_map written all)
+    (λ w c.
+    let t = w.version.txn in
+    let k = w.version.key in
+    or_unless _ _ (λ done.
+    listed_has_line os t k
+    (λ zero_is.
+    both_ways _ (none k)
+    (list_any_when (is_unlisted all os k) (filter_map written all) w c (and_from _ _ done (and_from _ _ (eq-eqb _ _ zero_is) (same_key k k refl)))))))
+
+-- where the lines are right, a committed write that is left out has none of its key
+pub no_line_where_out : (all : List Event) (os : List Order) → keys_rise (map (λ x. x.key) os) ≡ true
+    → ((o : Order) → Contains os o → lists_exactly (installs all o.key) o.writers all ≡ true)
+    → (k : List ℕ) → list_any (is_unlisted all os k) (filter_map written all) ≡ true
+    → list_all (has_line all os) (filter_map written all) ≡ false
+no_line_where_out all os rise right k out =
+    let at = list_any_source (is_unlisted all os k) (filter_map written all) out in
+    let w = at.0 in
+    let both = and_parts _ _ at.2 in
+    let j : w.version.key ≡ k = key_same w.version.key k (and_parts _ _ both.1).1 in
+    false_from_ne_true _ (λ lines.
+    elim (or_cases _ _ (all_pass (has_line all os) (filter_map written all) w lines at.1)) [
+      | inl undone ↦ both_ways _ (not-true _ undone) both.0
+      | inr line ↦
+          let o = list_any_source (λ x. key_eq x.key w.version.key) os line in
+          let same : o.0.key ≡ k = key_same o.0.key w.version.key o.2 ∙ j in
+          let here : list_any (is_unlisted all os o.0.key) (filter_map written all) ≡ true =
+          ap (λ i. list_any (is_unlisted all os i) (filter_map written all)) same ∙ out in
+          let exact = exact_line all os o.0 rise o.1 ∙ right o.0 o.1 in
+          both_ways _ (ap not here) (and_parts _ _ exact).1
+    ])
+
+-- lines without a fault are right
+pub lines_right : (all : List Event) (line : ℕ) (os : List Order) → order_faults all line os ≡ []
+    → (o : Order) → Contains os o → lists_exactly (installs all o.key) o.writers all ≡ true
+lines_right all line os none o c =
+    each_passes (λ (x : Order). lists_exactly (installs all x.key) x.writers all) M7 (order_faults all) (λ _ _ _. refl) line os o none c
+
+-- a set without a first key has none
+pub none_in_set : (s : BTreeSet (List ℕ)) (k : List ℕ) → (0 < btree_set_len s → false ≡ true) → contains (slice_cmp nat_cmp) s k ≡ false
+none_in_set s k empty =
+    false_from_ne_true _ (λ there.
+    let at = list_any_source (λ j. is_eq (slice_cmp nat_cmp k j)) s.keys there in
+    let l = at.1.1 in
+    let more : 0 < length s.keys = omega (arith, l) in
+    cc (empty more))

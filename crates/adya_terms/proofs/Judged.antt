@@ -1,5 +1,5 @@
 -- A history of which a fault was found is not checked.
-use Rattle.std.proofs.Common.{◌≡◌, ◌≢◌, true, Option, Some, None, refl}
+use Rattle.std.proofs.Common.{◌≡◌, ◌≢◌, true, Option, None, refl}
 use Rattle.adya_terms.specs.declared.fault.CheckFault.{CheckFault}
 use Rattle.adya_terms.specs.declared.fault.CheckFault.TheVariants.{Malformed, AbortedRead, IntermediateRead, Memory}
 use Rattle.adya_terms.specs.Histories.{History}

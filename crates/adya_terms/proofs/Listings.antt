@@ -1,7 +1,6 @@
 -- How often lines list a transaction, writer by writer and line by line.
 use Rattle.std.proofs.Common.{◌≡◌, ℕ, zero, suc, ◌+◌, ◌==◌, Bool, true, false, cond, not, is_some, ◌&&◌, ◌||◌, List, [], ◌∷◌, ◌++◌, Option, Some, None, refl, sym, ◌∙◌, ap, inl, inr, arith}
 use Rattle.std.specs.List.{cons_option, filter_map, list_any}
-use Rattle.std.specs.Ordering.{is_eq}
 use Rattle.std.proofs.lemmas.Bool.{cases_Bool, and_parts, eqb-true, ne_eqb}
 use Rattle.std.proofs.Math.Bool.{not-not, or-false, or-true}
 use Rattle.std.proofs.lemmas.List.Folds.{list_any-append}
@@ -9,13 +8,13 @@ use Rattle.std.proofs.lemmas.List.Sums.{sum_by-append, sum_by-cons}
 use Rattle.adya_terms.specs.declared.tables.Own.{Own}
 use Rattle.adya_terms.specs.declared.listed.Times.{Times}
 use Rattle.adya_terms.specs.Keys.{key_eq}
-use Rattle.adya_terms.specs.Tables.{own, own_cmp}
+use Rattle.adya_terms.specs.Tables.{own, own_eq}
 use Rattle.adya_terms.specs.Histories.{Entry, Event, Order}
 use Rattle.adya_terms.specs.Events.{written}
 use Rattle.adya_terms.specs.Checks.{times, once_more, listed, listed_by, is_some_and}
 use Rattle.adya_terms.proofs.Counts.{count}
 use Rattle.adya_terms.proofs.Entries.{key_same}
-use Rattle.adya_terms.proofs.Tells.{own_tied, written_more}
+use Rattle.adya_terms.proofs.Tells.{written_more}
 
 times_more : (n : ℕ) → Some (once_more (times n)) ≡ times (n + 1)
 times_more zero = refl
@@ -37,7 +36,7 @@ tally false false n = refl
 -- one more writer of a line of the key
 pub list_next : (g g' : Own → Option Times) (u : ℕ) (key : List ℕ) (xs : List ℕ) (n : ℕ → List ℕ → ℕ)
     → ((t : ℕ) (k : List ℕ) → g (own t k) ≡ times (n t k + cond (key_eq key k) (count xs t) 0))
-    → ((q : Own) → g' q ≡ cond (is_eq (own_cmp (own u key) q)) (Some (once_more (g (own u key)))) (g q))
+    → ((q : Own) → g' q ≡ cond (own_eq (own u key) q) (Some (once_more (g (own u key)))) (g q))
     → (t : ℕ) (k : List ℕ) → g' (own t k) ≡ times (n t k + cond (key_eq key k) (count (xs ++ u ∷ []) t) 0)
 list_next g g' u key xs n old new t k =
     let hit = (u == t) && key_eq key k in
@@ -46,7 +45,7 @@ list_next g g' u key xs n old new t k =
     ap (λ m. cond (key_eq key k) m 0) (count_more xs u t) ∙ tally (u == t) (key_eq key k) (count xs t) in
     let now : n t k + cond (key_eq key k) (count (xs ++ u ∷ []) t) 0 ≡ before + cond hit 1 0 = omega (arith, counted) in
     let at : g' (own t k) ≡ cond hit (Some (once_more (g (own u key)))) (g (own t k)) =
-    new (own t k) ∙ ap (λ b. cond b (Some (once_more (g (own u key)))) (g (own t k))) (sym (own_tied u key t k)) in
+    new (own t k) in
     let same : cond hit (Some (once_more (g (own u key)))) (g (own t k)) ≡ times (before + cond hit 1 0) =
     elim (cases_Bool hit) [
       | inl h ↦

@@ -6,8 +6,10 @@ use Rattle.adya_terms.specs.declared.order.FinalPair.{FinalPair as FinalValue}
 use Rattle.adya_terms.specs.declared.history.History.{History as HistoryValue}
 use Rattle.adya_terms.specs.Values.{history_of}
 use Rattle.adya_terms.specs.Histories.{History}
-use Rattle.adya_terms.specs.Faults.{first, first_fault, malformed, check_faults, event_faults, unfinished_faults, unfinished_line, orders_line}
-use Rattle.adya_terms.specs.Checks.{IsFault, Names, whole, rule_faults, read_faults}
+use Rattle.adya_terms.specs.Faults.{first, first_fault, malformed, check_faults, event_faults, fault_unless, unfinished_faults, all_end, order_faults, has_lines, unfinished_line, orders_line, finals_line}
+use Rattle.adya_terms.specs.Checks.{IsFault, Names, whole, final_value_faults, rule_faults, read_faults}
+use Rattle.std.proofs.lemmas.List.{append_assoc}
+use Rattle.adya_terms.specs.declared.fault.Rule.TheVariants.{M6, M7}
 use Rattle.adya_terms.specs.declared.fault.CheckFault.{CheckFault}
 use Rattle.adya_terms.proofs.Converse.{both_nil}
 use Rattle.adya_terms.proofs.Firsts.{names_front, names_behind}
@@ -16,25 +18,40 @@ module _ (h : History) where
   abbrev behind_events : List CheckFault
   behind_events = unfinished_faults h.events (unfinished_line h) h.unfinished ++ rule_faults h (orders_line h)
 
+  -- rule by rule they are the faults of the whole
+  rules_joined : event_faults [] 2 h.events ++ behind_events ≡ malformed h
+  rules_joined =
+      let orders = order_faults h.events (orders_line h) h.orders in
+      let lines = fault_unless (has_lines h) (finals_line h) M7 in
+      ap (λ (fs : List CheckFault). event_faults [] 2 h.events ++
+      (unfinished_faults h.events (unfinished_line h) h.unfinished ++
+      (fault_unless (all_end h) (orders_line h) M6 ++ fs)))
+      (append_assoc orders lines (final_value_faults h (finals_line h)))
+
+  before_reads : (e : CheckFault) → Names (event_faults [] 2 h.events ++ behind_events) e → Names (check_faults h) e
+  before_reads e n = names_front (malformed h) (read_faults h) e (subst (λ fs. Names fs e) rules_joined n)
+
   pub events_first : (e : CheckFault) → Names (event_faults [] 2 h.events) e → Names (check_faults h) e
-  events_first e n = names_front (malformed h) (read_faults h) e (names_front (event_faults [] 2 h.events) behind_events e n)
+  events_first e n = before_reads e (names_front (event_faults [] 2 h.events) behind_events e n)
 
   module _ (none : event_faults [] 2 h.events ≡ []) where
-    pub unfinished_first : (e : CheckFault) → Names (unfinished_faults h.events (unfinished_line h) h.unfinished) e → Names (check_faults h) e
+    pub unfinished_first : (e : CheckFault) → Names (unfinished_faults h.events (unfinished_line h) h.unfinished) e
+        → Names (check_faults h) e
     unfinished_first e n =
-        names_front (malformed h) (read_faults h) e
+        before_reads e
         (names_behind (event_faults [] 2 h.events) behind_events e none
         (names_front (unfinished_faults h.events (unfinished_line h) h.unfinished) (rule_faults h (orders_line h)) e n))
 
     module _ (ended : unfinished_faults h.events (unfinished_line h) h.unfinished ≡ []) where
       pub rules_first : (e : CheckFault) → Names (rule_faults h (orders_line h)) e → Names (check_faults h) e
       rules_first e n =
-          names_front (malformed h) (read_faults h) e
+          before_reads e
           (names_behind (event_faults [] 2 h.events) behind_events e none
           (names_behind (unfinished_faults h.events (unfinished_line h) h.unfinished) (rule_faults h (orders_line h)) e ended n))
 
       pub none_malformed : rule_faults h (orders_line h) ≡ [] → malformed h ≡ []
       none_malformed rules =
+          sym rules_joined ∙
           both_nil (event_faults [] 2 h.events) behind_events none
           (both_nil (unfinished_faults h.events (unfinished_line h) h.unfinished) (rule_faults h (orders_line h)) ended rules)
 

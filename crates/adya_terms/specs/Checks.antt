@@ -1,7 +1,8 @@
 -- What the parts of a check answer.
 use Rattle.std.specs.Prelude.{◌≡◌, ℕ, zero, suc, ◌+◌, ◌==◌, Bool, true, false, cond, not, ◌&&◌, ◌||◌, List, [], ◌++◌, length, Option, Some, None, map, filter, count_by, sum_by}
-use Rattle.std.specs.List.{list_any}
-use Rattle.std.specs.BTreeMap.{BTreeMap, get}
+use Rattle.std.specs.List.{filter_map, list_all, list_any}
+use Rattle.std.specs.Cmp.Lexicographic.{slice_cmp}
+use Rattle.std.specs.HashMap.{HashMap, get}
 use Rattle.std.specs.BTreeSet.{BTreeSet, contains}
 use Rattle.std.specs.Ordering.{nat_cmp}
 use Rattle.adya_terms.specs.declared.event.Version.{Version}
@@ -17,10 +18,10 @@ use Rattle.adya_terms.specs.declared.listed.Times.TheVariants.{Once, More}
 use Rattle.adya_terms.specs.Keys.{key_eq}
 use Rattle.adya_terms.specs.Histories.{Entry, Event, Order, History, event_of, order_of, final_of}
 use Rattle.adya_terms.specs.declared.edition.Edition.TheVariants.{One, Two}
-use Rattle.adya_terms.specs.Events.{txn_of, observed, is_committed, has_ended, aborts, last_write}
+use Rattle.adya_terms.specs.Events.{txn_of, written, observed, is_committed, has_ended, aborts, last_write}
 use Rattle.adya_terms.specs.Rules.{installs}
 use Rattle.adya_terms.specs.Faults.{entry_eq, first, is_entry, fault_unless, aborted_reads, all_end, intermediate_reads, order_faults, has_lines, final_faults, has_finals}
-use Rattle.adya_terms.specs.Tables.{own, own_cmp}
+use Rattle.adya_terms.specs.Tables.{own, own_eq}
 
 -- it is this fault, or memory ran out
 abbrev pub IsFault : Option CheckFault → CheckFault → Type 0
@@ -61,6 +62,10 @@ is_not_aborted all unfinished e o = not (list_any (aborts o.version.txn) all || 
 abbrev pub Holds : BTreeSet ℕ → List ℕ → Type 0
 Holds s us = (t : ℕ) → contains nat_cmp s t ≡ list_any (λ u. u == t) us
 
+-- each entry is written by one of the events
+abbrev pub are_written : List Event → List Entry → Bool
+are_written events es = list_all (λ o. list_any (entry_eq o) (filter_map written events)) es
+
 -- the entry is of the event's transaction, or its writer's last of the key
 abbrev pub is_own_or_last : List Event → Event → Entry → Bool
 is_own_or_last all e o = (o.version.txn == txn_of e) || is_entry (last_write o.version.txn o.version.key all) o
@@ -73,15 +78,6 @@ refused good events e = filter (λ o. is_committed events (txn_of e) && not (goo
 abbrev pub IsFirst : List Entry → Option Version → Type 0
 IsFirst es None = es ≡ []
 IsFirst es (Some v) = first (map (λ o. o.version) es) ≡ Some v
-
--- there is no entry, or it passes
-abbrev pub passes : (Entry → Bool) → Option Entry → Bool
-passes test None = true
-passes test (Some w) = test w
-
--- the key of the entry has a line, if its transaction is committed
-abbrev pub has_line : List Event → List Order → Entry → Bool
-has_line events os w = not (is_committed events w.version.txn) || list_any (λ o. key_eq o.key w.version.key) os
 
 -- not at all, once, or more often
 abbrev pub times : ℕ → Option Times
@@ -107,13 +103,17 @@ listed_by t k o = cond (key_eq o.key k) (count_by (λ u. u == t) o.writers) 0
 abbrev pub listed : List Order → ℕ → List ℕ → ℕ
 listed os t k = sum_by (listed_by t k) os
 
-abbrev pub Lists : BTreeMap Own Times → List Order → Type 0
-Lists m os = (t : ℕ) (k : List ℕ) → get own_cmp m (own t k) ≡ times (listed os t k)
+abbrev pub Lists : {S : Type 0} → HashMap Own Times S → List Order → Type 0
+Lists m os = (t : ℕ) (k : List ℕ) → get own_eq m (own t k) ≡ times (listed os t k)
 
 -- a committed write of the key, which no line of its key lists
 abbrev pub is_unlisted : List Event → List Order → List ℕ → Entry → Bool
 is_unlisted events os k w =
     is_committed events w.version.txn && ((listed os w.version.txn w.version.key == 0) && key_eq w.version.key k)
+
+-- the set has the keys of committed writes that no line of their key lists
+abbrev pub LeavesOut : BTreeSet (List ℕ) → List Event → List Order → Type 0
+LeavesOut s events os = (k : List ℕ) → contains (slice_cmp nat_cmp) s k ≡ list_any (is_unlisted events os k) (filter_map written events)
 
 -- there is an entry, and it passes
 abbrev pub is_some_and : (Entry → Bool) → Option Entry → Bool
@@ -129,19 +129,20 @@ is_this (Some j) k = key_eq j k
 abbrev pub belongs : List Event → List Order → List ℕ → ℕ → Bool
 belongs events os k t = listed os t k == cond (installs events k t) 1 0
 
--- the faults of the lines from the one behind the orders on
-abbrev pub later_faults : History → ℕ → List CheckFault
-later_faults h line =
-    fault_unless (has_lines h) line M7 ++
-    (final_faults h line h.finals ++
-    fault_unless (has_finals h) (line + length h.finals) M8)
+-- M7, from the line of the first order on
+abbrev pub listing_faults : History → ℕ → List CheckFault
+listing_faults h line = order_faults h.events line h.orders ++ fault_unless (has_lines h) (line + length h.orders) M7
+
+-- M8, from the line of the first final on
+abbrev pub final_value_faults : History → ℕ → List CheckFault
+final_value_faults h line = final_faults h line h.finals ++ fault_unless (has_finals h) (line + length h.finals) M8
 
 -- the faults of the lines from the first order on
 abbrev pub rule_faults : History → ℕ → List CheckFault
 rule_faults h line =
     fault_unless (all_end h) line M6 ++
-    (order_faults h.events line h.orders ++
-    later_faults h (line + length h.orders))
+    (listing_faults h line ++
+    final_value_faults h (line + length h.orders))
 
 -- aborted and intermediate reads
 abbrev pub read_faults : History → List CheckFault

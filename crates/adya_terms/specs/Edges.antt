@@ -1,4 +1,4 @@
--- The dependencies of a history: the edges of its direct serialization graph (Adya 1999, section 3.3),
+-- The dependencies of a history: the edges of its direct serialization graph (Adya 1999, section 3.1.4),
 -- and cycles of them.
 use Rattle.std.specs.Prelude.{◌≡◌, ◌≢◌, ℕ, suc, true, List, [], ◌∷◌, Some, Contains}
 use Rattle.std.specs.List.{AllByRecursion}

@@ -20,7 +20,7 @@ content_eq Dead (Live w) = false
 content_eq Dead Dead = true
 
 abbrev pub version_eq : Version → Version → Bool
-version_eq a b = key_eq a.key b.key && (a.txn == b.txn) && (a.m == b.m)
+version_eq a b = key_eq a.key b.key && ((a.txn == b.txn) && (a.m == b.m))
 
 abbrev pub entry_eq : Entry → Entry → Bool
 entry_eq a b = version_eq a.version b.version && content_eq a.content b.content

@@ -1,4 +1,4 @@
--- The phenomena that level PL-3 proscribes (Adya 1999, section 4.2): G1 and G2.
+-- The phenomena that level PL-3 proscribes (Adya 1999, section 3.2): G1 and G2.
 use Rattle.std.specs.Prelude.{◌≡◌, ◌≢◌, ◌⊎◌, true, List, Some, Any, Contains}
 use Rattle.std.specs.List.{AllByRecursion}
 use Rattle.adya_terms.specs.Histories.{Entry, Event, History}

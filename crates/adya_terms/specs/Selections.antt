@@ -1,5 +1,5 @@
 -- Which place of a key's version order an event reads or selects, and on which places that depends
--- (Adya 1999, section 3.2; the only predicate is that the key lies in a range and the version is visible).
+-- (Adya 1999, section 3.1.3; the only predicate is that the key lies in a range and the version is visible).
 use Rattle.std.specs.Prelude.{ℕ, zero, suc, ◌==◌, Bool, true, false, not, ◌&&◌, ◌||◌, nat_lt, if◌then◌else◌, List, Option, Some, None}
 use Rattle.adya_terms.specs.Keys.{key_eq, lies_in}
 use Rattle.adya_terms.specs.Histories.{Entry, Event, Write, Delete, Read, Scan, Commit, Abort, History}

@@ -1,20 +1,22 @@
 //! Checked histories.
 
-ghost use Rattle.std.specs.Prelude.{◌≡◌, ◌≢◌, ℕ, List, [], true, None, Some, map, is_none, IfOk, IfErr, MatchResult};
+ghost use Rattle.std.specs.Prelude.{◌≡◌, ◌≢◌, ℕ, List, [], true, None, Some, map, option_map, is_none, IfOk, IfErr, MatchResult};
+ghost use Rattle.std.specs.List.{list_all};
 ghost use Rattle.adya_terms.specs.Keys.{keys_rise};
-ghost use Rattle.adya_terms.specs.Histories.{event_of, order_of, final_of};
+ghost use Rattle.adya_terms.specs.Histories.{entry_of, event_of, order_of, final_of};
+ghost use Rattle.adya_terms.specs.Events.{is_committed, last_write};
 ghost use Rattle.adya_terms.specs.Values.{history_of};
-ghost use Rattle.adya_terms.specs.Faults.{first_fault, check_faults};
+ghost use Rattle.adya_terms.specs.Faults.{was_written, first_fault, check_faults};
 ghost use Rattle.adya_terms.specs.Acceptance.{IsChecked};
 ghost use Rattle.adya_terms.specs.Tables.{Means};
-ghost use Rattle.adya_terms.specs.Checks.{Names, IsFault, Holds, parts, whole, later_faults, rule_faults, read_faults};
+ghost use Rattle.adya_terms.specs.Checks.{Names, IsFault, Holds, whole, rule_faults, read_faults};
 
-use crate::finals::{check_finals, has_finals};
-use crate::listed::{broken, check_orders, has_lines};
+use crate::finals::check_finals;
+use crate::listed::check_orders;
 use crate::reads::{all_end, check_aborted, check_intermediate, check_unfinished, set_of};
 use crate::rules::tables_of;
 use crate::tables::Tables;
-use crate::{CheckFault, Event, FinalPair, History, Order, Rule, Txn};
+use crate::{CheckFault, Entry, Event, FinalPair, History, Key, Order, Rule, Txn};
 use std::alloc::Global;
 use std::collections::BTreeSet;
 
@@ -22,7 +24,9 @@ use std::collections::BTreeSet;
 #[derive(Drop)]
 pub struct Checked<'a> {
     history: &'a History,
+    tables: Tables,
     pub ghost checked: { is_none (first_fault (history_of history.now)) ≡ true },
+    pub ghost tell: { let all = (history_of history.now).events in Means tables all all },
 }
 
 impl<'a> Checked<'a> {
@@ -36,16 +40,16 @@ impl<'a> Checked<'a> {
         ensures checked { IfOk result (λ c. IsChecked (history_of c.history.now)) }
         ensures refused { IfErr result (λ e. e ≢ CheckFault.Memory → IsChecked (history_of history.now) → ⊥) }
     {
-        if let Err(fault) = check(
+        match check(
             alloc,
             history.events(),
             history.unfinished(),
             history.orders(),
             history.finals(),
         ) {
-            return Err(fault);
+            Err(fault) => Err(fault),
+            Ok(tables) => Ok(Checked { history, tables }),
         }
-        Ok(Checked { history })
     }
 
     /// The history.
@@ -56,19 +60,36 @@ impl<'a> Checked<'a> {
     {
         self.history
     }
+
+    /// Whether the transaction has committed.
+    pub fn is_committed(&self, txn: Txn) -> bool
+        ensures { result ≡ is_committed (history_of self.now.history.now).events txn }
+    {
+        self.tables.has_committed(txn)
+    }
+
+    /// The transaction's last write of the key (Adya 1999, section 3.1), whether it has committed or not; `None`
+    /// where it has written none.
+    pub fn last_write(&self, txn: Txn, key: Key) -> Option<Entry>
+        ensures { option_map entry_of result ≡ last_write txn key (history_of self.now.history.now).events }
+    {
+        self.tables.last_write(self.history.events(), txn, key)
+    }
 }
 
+/// The tables of the events, where the lists have no fault.
 fn check(
     alloc: Global,
     events: &[Event],
     unfinished: &[Txn],
     orders: &[Order],
     finals: &[FinalPair],
-) -> Result<(), CheckFault>
+) -> Result<Tables, CheckFault>
     requires orders_rise { keys_rise (map (λ o. o.key) (map order_of orders.now)) ≡ true }
     requires finals_rise { keys_rise (map (λ f. f.key) (map final_of finals.now)) ≡ true }
-    ensures { let faults = check_faults (whole events.now unfinished.now orders.now finals.now) in
-        MatchResult result (λ u. faults ≡ []) (Names faults) }
+    ensures faults { let faults = check_faults (whole events.now unfinished.now orders.now finals.now) in
+        MatchResult result (λ t. faults ≡ []) (Names faults) }
+    ensures tell { let all = map event_of events.now in IfOk result (λ t. Means t all all) }
 {
     let tables = match tables_of(alloc, events) {
         Ok(tables) => tables,
@@ -86,7 +107,10 @@ fn check(
     if let Err(fault) = check_rules(alloc, &tables, events, &set, orders, finals, line) {
         return Err(fault);
     }
-    check_reads(&tables, events, &set)
+    if let Err(fault) = check_reads(&tables, events, &set) {
+        return Err(fault);
+    }
+    Ok(tables)
 }
 
 /// G1a and G1b.
@@ -95,7 +119,8 @@ fn check_reads(
     events: &[Event],
     unfinished: &BTreeSet<Txn>,
 ) -> Result<(), CheckFault>
-    requires { Means tables.now (map event_of events.now) (map event_of events.now) }
+    requires tell { Means tables.now (map event_of events.now) (map event_of events.now) }
+    requires written { let all = map event_of events.now in list_all (was_written all) all ≡ true }
     ensures { (us : List ℕ)
         → Holds unfinished.now us
         → let faults = read_faults (whole events.now us [] []) in
@@ -137,34 +162,5 @@ fn check_rules(
     let Some(later) = line.checked_add(orders.len()) else {
         return Err(CheckFault::Memory);
     };
-    check_later(tables, events, orders, finals, later)
-}
-
-/// M7 of lines that aren't there, and M8, where `line` is that of the first final.
-fn check_later(
-    tables: &Tables,
-    events: &[Event],
-    orders: &[Order],
-    finals: &[FinalPair],
-    line: usize,
-) -> Result<(), CheckFault>
-    requires tell { Means tables.now (map event_of events.now) (map event_of events.now) }
-    requires orders_rise { keys_rise (map (λ o. o.key) (map order_of orders.now)) ≡ true }
-    requires finals_rise { keys_rise (map (λ f. f.key) (map final_of finals.now)) ≡ true }
-    ensures { let faults = later_faults (parts events.now orders.now finals.now) line in
-        MatchResult result (λ u. faults ≡ []) (Names faults) }
-{
-    if !has_lines(tables, events, orders) {
-        return Err(CheckFault::Malformed {
-            line,
-            rule: Rule::M7,
-        });
-    }
-    if let Err(fault) = check_finals(tables, events, orders, finals, line) {
-        return Err(fault);
-    }
-    if !has_finals(tables, events, orders, finals) {
-        return Err(broken(line, finals.len(), Rule::M8));
-    }
-    Ok(())
+    check_finals(tables, events, orders, finals, later)
 }

@@ -9,7 +9,7 @@ use crate::{Key, Mod, Txn, Value};
 use std::alloc::{AllocError, Global};
 
 /// What a transaction made of a key by one of its writes (Adya 1999, section 3.1: an object version).
-#[derive(Clone, Copy, PartialEq, Eq, PartialOrd, Ord)]
+#[derive(Clone, Copy, PartialEq, Eq, PartialOrd, Ord, Hash)]
 pub struct Version {
     /// The object.
     pub key: Key,

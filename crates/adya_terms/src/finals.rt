@@ -6,7 +6,7 @@ ghost use Rattle.adya_terms.specs.Histories.{event_of, order_of, final_of, value
 ghost use Rattle.adya_terms.specs.Rules.{final_value};
 ghost use Rattle.adya_terms.specs.Faults as faults;
 ghost use Rattle.adya_terms.specs.Tables.{Means};
-ghost use Rattle.adya_terms.specs.Checks.{Names, parts};
+ghost use Rattle.adya_terms.specs.Checks.{Names, final_value_faults, parts};
 
 use crate::listed::{broken, line_of};
 use crate::tables::Tables;
@@ -43,7 +43,7 @@ fn is_value(last: Option<Value>, value: &Value) -> bool
 }
 
 /// The first final line that isn't the last version of its key.
-pub(crate) fn check_finals(
+fn check_lines(
     tables: &Tables,
     events: &[Event],
     orders: &[Order],
@@ -74,12 +74,7 @@ fn has_final(finals: &[FinalPair], key: Key) -> bool
 }
 
 /// Whether each key whose last version is visible has a final line.
-pub(crate) fn has_finals(
-    tables: &Tables,
-    events: &[Event],
-    orders: &[Order],
-    finals: &[FinalPair],
-) -> bool
+fn has_finals(tables: &Tables, events: &[Event], orders: &[Order], finals: &[FinalPair]) -> bool
     requires tell { Means tables.now (map event_of events.now) (map event_of events.now) }
     requires orders_rise { keys_rise (map (λ o. o.key) (map order_of orders.now)) ≡ true }
     requires finals_rise { keys_rise (map (λ f. f.key) (map final_of finals.now)) ≡ true }
@@ -93,4 +88,28 @@ pub(crate) fn has_finals(
         }
     }
     true
+}
+
+/// The first final line that isn't the last version of its key, or else the one behind the finals where a key whose
+/// last version is visible has none; `first` is the line of the first final.
+pub(crate) fn check_finals(
+    tables: &Tables,
+    events: &[Event],
+    orders: &[Order],
+    finals: &[FinalPair],
+    first: usize,
+) -> Result<(), CheckFault>
+    requires tell { Means tables.now (map event_of events.now) (map event_of events.now) }
+    requires orders_rise { keys_rise (map (λ o. o.key) (map order_of orders.now)) ≡ true }
+    requires finals_rise { keys_rise (map (λ f. f.key) (map final_of finals.now)) ≡ true }
+    ensures { let found = final_value_faults (parts events.now orders.now finals.now) first in
+        MatchResult result (λ u. found ≡ []) (Names found) }
+{
+    if let Err(fault) = check_lines(tables, events, orders, finals, first) {
+        return Err(fault);
+    }
+    if !has_finals(tables, events, orders, finals) {
+        return Err(broken(first, finals.len(), Rule::M8));
+    }
+    Ok(())
 }

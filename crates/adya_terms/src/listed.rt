@@ -2,7 +2,7 @@
 
 ghost use Rattle.std.specs.Prelude.{◌≡◌, ◌+◌, ◌==◌, ℕ, List, [], true, not, ◌&&◌, ◌||◌, ◌⊎◌, map, cond, count_by, option_copied, is_some, IfSome, IfOk, MatchOption, MatchResult, Contains};
 ghost use Rattle.std.specs.List.{filter_map, list_all, list_any};
-ghost use Rattle.std.specs.BTreeMap.{get};
+ghost use Rattle.std.specs.HashMap.{get};
 ghost use Rattle.std.specs.BTreeSet.{contains};
 ghost use Rattle.std.specs.Ordering.{nat_cmp};
 ghost use Rattle.std.specs.Cmp.Lexicographic.{slice_cmp};
@@ -12,14 +12,14 @@ ghost use Rattle.adya_terms.specs.Events.{written, is_committed};
 ghost use Rattle.adya_terms.specs.Faults as faults;
 ghost use Rattle.adya_terms.specs.Orders.{line_of};
 ghost use Rattle.adya_terms.specs.Rules.{installs};
-ghost use Rattle.adya_terms.specs.Tables.{own, own_cmp, Means};
+ghost use Rattle.adya_terms.specs.Tables.{own, own_eq, Means};
 ghost use Rattle.adya_terms.specs.Checks as checks;
-ghost use Rattle.adya_terms.specs.Checks.{Names, Lists, parts};
+ghost use Rattle.adya_terms.specs.Checks.{Names, Lists, LeavesOut, listing_faults, parts};
 
 use crate::tables::{Own, Tables, wrote};
 use crate::{CheckFault, Entry, Event, Key, Order, Rule, Txn};
 use std::alloc::{AllocError, Global};
-use std::collections::{BTreeMap, BTreeSet};
+use std::collections::{BTreeSet, HashMap};
 
 /// How often the lines of a key list a transaction, where they do.
 #[derive(Clone, Copy)]
@@ -29,10 +29,10 @@ pub(crate) enum Times {
 }
 
 /// How often the lines of each key list each transaction.
-fn listed(alloc: Global, orders: &[Order]) -> Result<BTreeMap<Own, Times>, AllocError>
+fn listed(alloc: Global, orders: &[Order]) -> Result<HashMap<Own, Times>, AllocError>
     ensures { IfOk result (λ m. Lists m (map order_of orders.now)) }
 {
-    let mut listed = BTreeMap::new(alloc);
+    let mut listed = HashMap::new(alloc);
     for order in orders {
         list(&mut listed, order.key, &order.writers)?;
     }
@@ -40,12 +40,12 @@ fn listed(alloc: Global, orders: &[Order]) -> Result<BTreeMap<Own, Times>, Alloc
 }
 
 /// Adds the writers of a line of the key.
-fn list(listed: &mut BTreeMap<Own, Times>, key: Key, writers: &[Txn]) -> Result<(), AllocError>
+fn list(listed: &mut HashMap<Own, Times>, key: Key, writers: &[Txn]) -> Result<(), AllocError>
     ensures { IfOk result
         (λ u. (n : ℕ → List ℕ → ℕ)
-        → ((t : ℕ) (k : List ℕ) → get own_cmp listed.old (own t k) ≡ checks.times (n t k))
+        → ((t : ℕ) (k : List ℕ) → get own_eq listed.old (own t k) ≡ checks.times (n t k))
         → (t : ℕ) (k : List ℕ)
-        → get own_cmp listed.new (own t k)
+        → get own_eq listed.new (own t k)
         ≡ checks.times (n t k + cond (key_eq key k) (count_by (λ u. u == t) writers.now) 0)) }
 {
     for txn in writers {
@@ -70,7 +70,7 @@ fn unlisted(
     alloc: Global,
     tables: &Tables,
     events: &[Event],
-    listed: &BTreeMap<Own, Times>,
+    listed: &HashMap<Own, Times>,
 ) -> Result<BTreeSet<Key>, AllocError>
     ensures { IfOk result
         (λ s. (all : List EventValue) (os : List OrderValue)
@@ -90,7 +90,7 @@ fn unlisted(
 }
 
 /// The key of the event, where it is a committed write that no line of its key lists.
-fn unlisted_key(tables: &Tables, listed: &BTreeMap<Own, Times>, event: &Event) -> Option<Key>
+fn unlisted_key(tables: &Tables, listed: &HashMap<Own, Times>, event: &Event) -> Option<Key>
     ensures { (all : List EventValue) (os : List OrderValue)
         → Means tables.now all all
         → Lists listed.now os
@@ -124,41 +124,27 @@ fn fits(times: Option<Times>, wanted: bool) -> bool
 }
 
 /// Whether the key's lines list the transaction once where it is a committed writer of the key, and else not at all.
-fn belongs(
-    tables: &Tables,
-    events: &[Event],
-    listed: &BTreeMap<Own, Times>,
-    key: Key,
-    txn: Txn,
-) -> bool
-    ensures { let all = map event_of events.now in
-        (os : List OrderValue)
+fn belongs(tables: &Tables, listed: &HashMap<Own, Times>, key: Key, txn: Txn) -> bool
+    ensures { (all : List EventValue) (os : List OrderValue)
         → Means tables.now all all
         → Lists listed.now os
         → result ≡ checks.belongs all os key txn }
 {
     fits(
         listed.get(&Own { txn, key }).copied(),
-        tables.installs(events, txn, key),
+        tables.installs(txn, key),
     )
 }
 
 /// Whether that holds of each transaction of the line.
-fn all_belong(
-    tables: &Tables,
-    events: &[Event],
-    listed: &BTreeMap<Own, Times>,
-    key: Key,
-    writers: &[Txn],
-) -> bool
-    ensures { let all = map event_of events.now in
-        (os : List OrderValue)
+fn all_belong(tables: &Tables, listed: &HashMap<Own, Times>, key: Key, writers: &[Txn]) -> bool
+    ensures { (all : List EventValue) (os : List OrderValue)
         → Means tables.now all all
         → Lists listed.now os
         → result ≡ list_all (checks.belongs all os key) writers.now }
 {
     for txn in writers {
-        if !belongs(tables, events, listed, key, *txn) {
+        if !belongs(tables, listed, key, *txn) {
             return false;
         }
     }
@@ -168,18 +154,14 @@ fn all_belong(
 /// Whether the line lists the committed writers of its key, once each.
 fn is_exact(
     tables: &Tables,
-    events: &[Event],
-    listed: &BTreeMap<Own, Times>,
+    listed: &HashMap<Own, Times>,
     unlisted: &BTreeSet<Key>,
     order: &Order,
 ) -> bool
-    ensures { let all = map event_of events.now in
-        (os : List OrderValue)
+    ensures { (all : List EventValue) (os : List OrderValue)
         → Means tables.now all all
         → Lists listed.now os
-        → ((k : List ℕ)
-        → contains (slice_cmp nat_cmp) unlisted.now k
-        ≡ list_any (checks.is_unlisted all os k) (filter_map written all))
+        → LeavesOut unlisted.now all os
         → keys_rise (map (λ o. o.key) os) ≡ true
         → Contains os (order_of order.now)
         → result ≡ faults.lists_exactly (installs all order.now.key) order.now.writers.items all }
@@ -187,11 +169,37 @@ fn is_exact(
     if unlisted.contains(&order.key) {
         return false;
     }
-    all_belong(tables, events, listed, order.key, &order.writers)
+    all_belong(tables, listed, order.key, &order.writers)
 }
 
 /// The first line that doesn't list the committed writers of its key, once each, where `first` is the line of the
 /// first order.
+fn check_lines(
+    tables: &Tables,
+    listed: &HashMap<Own, Times>,
+    unlisted: &BTreeSet<Key>,
+    orders: &[Order],
+    first: usize,
+) -> Result<(), CheckFault>
+    requires lists { Lists listed.now (map order_of orders.now) }
+    requires rise { keys_rise (map (λ o. o.key) (map order_of orders.now)) ≡ true }
+    ensures { let os = map order_of orders.now in
+        (all : List EventValue)
+        → Means tables.now all all
+        → LeavesOut unlisted.now all os
+        → let found = faults.order_faults all first os in
+        MatchResult result (λ u. found ≡ []) (Names found) }
+{
+    for (i, order) in orders.iter().enumerate() {
+        if !is_exact(tables, listed, unlisted, order) {
+            return Err(broken(first, i, Rule::M7));
+        }
+    }
+    Ok(())
+}
+
+/// The first line that doesn't list the committed writers of its key, once each, or else the one behind the orders
+/// where a key with a committed writer has none; `first` is the line of the first order.
 pub(crate) fn check_orders(
     alloc: Global,
     tables: &Tables,
@@ -201,7 +209,7 @@ pub(crate) fn check_orders(
 ) -> Result<(), CheckFault>
     requires tell { Means tables.now (map event_of events.now) (map event_of events.now) }
     requires rise { keys_rise (map (λ o. o.key) (map order_of orders.now)) ≡ true }
-    ensures { let found = faults.order_faults (map event_of events.now) first (map order_of orders.now) in
+    ensures { let found = listing_faults (parts events.now orders.now []) first in
         MatchResult result (λ u. found ≡ []) (Names found) }
 {
     let Ok(listed) = listed(alloc, orders) else {
@@ -210,12 +218,14 @@ pub(crate) fn check_orders(
     let Ok(unlisted) = unlisted(alloc, tables, events, &listed) else {
         return Err(CheckFault::Memory);
     };
-    for (i, order) in orders.iter().enumerate() {
-        if !is_exact(tables, events, &listed, &unlisted, order) {
-            return Err(broken(first, i, Rule::M7));
-        }
+    if let Err(fault) = check_lines(tables, &listed, &unlisted, orders, first) {
+        return Err(fault);
     }
-    Ok(())
+    // no line is at fault, so what is left out has none
+    match unlisted.first() {
+        None => Ok(()),
+        Some(_) => Err(broken(first, orders.len(), Rule::M7)),
+    }
 }
 
 /// The rule is broken so many lines after the line; `Memory` where that line has no number.
@@ -238,33 +248,4 @@ pub(crate) fn line_of(orders: &[Order], key: Key) -> Option<&Order>
         Err(_) => None,
         Ok(at) => Some(&orders[at]),
     }
-}
-
-/// Whether the event's key has a line, where it is a committed write.
-fn has_line(tables: &Tables, orders: &[Order], event: &Event) -> bool
-    requires { keys_rise (map (λ o. o.key) (map order_of orders.now)) ≡ true }
-    ensures { (all : List EventValue)
-        → Means tables.now all all
-        → result ≡ checks.passes (checks.has_line all (map order_of orders.now)) (written (event_of event.now)) }
-{
-    match wrote(event) {
-        None => true,
-        Some(Entry { version, .. }) => {
-            !tables.has_committed(version.txn) || line_of(orders, version.key).is_some()
-        }
-    }
-}
-
-/// Whether each committed write has a line of its key.
-pub(crate) fn has_lines(tables: &Tables, events: &[Event], orders: &[Order]) -> bool
-    requires tell { Means tables.now (map event_of events.now) (map event_of events.now) }
-    requires rise { keys_rise (map (λ o. o.key) (map order_of orders.now)) ≡ true }
-    ensures { result ≡ faults.has_lines (parts events.now orders.now []) }
-{
-    for event in events {
-        if !has_line(tables, orders, event) {
-            return false;
-        }
-    }
-    true
 }

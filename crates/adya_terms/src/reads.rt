@@ -1,12 +1,12 @@
 //! M6, and aborted and intermediate reads (Adya 1999, G1a and G1b).
 
-ghost use Rattle.std.specs.Prelude.{◌≡◌, ◌||◌, ◌==◌, ℕ, List, [], not, map, filter, IfOk, MatchResult};
-ghost use Rattle.std.specs.List.{list_all, list_any};
+ghost use Rattle.std.specs.Prelude.{◌≡◌, ◌||◌, ◌==◌, ℕ, List, [], true, not, map, filter, IfOk, MatchResult};
+ghost use Rattle.std.specs.List.{filter_map, list_all, list_any};
 ghost use Rattle.adya_terms.specs.Histories.{Event as EventValue, entry_of, event_of};
-ghost use Rattle.adya_terms.specs.Events.{txn_of, aborts, has_ended, last_write};
-ghost use Rattle.adya_terms.specs.Faults.{is_entry, bad_reads, unfinished_faults};
+ghost use Rattle.adya_terms.specs.Events.{txn_of, written, aborts, has_ended, last_write};
+ghost use Rattle.adya_terms.specs.Faults.{entry_eq, is_entry, was_written, bad_reads, unfinished_faults};
 ghost use Rattle.adya_terms.specs.Tables.{Means};
-ghost use Rattle.adya_terms.specs.Checks.{Names, Holds, IsFirst, ends, refused, is_not_aborted, is_own_or_last};
+ghost use Rattle.adya_terms.specs.Checks.{Names, Holds, IsFirst, ends, refused, is_not_aborted, are_written, is_own_or_last};
 
 use crate::listed::broken;
 use crate::tables::Tables;
@@ -144,38 +144,29 @@ pub(crate) fn check_aborted(
     Ok(())
 }
 
-/// Whether the transaction itself wrote the entry, or it is its writer's last write of the key.
-fn is_own_or_last(tables: &Tables, events: &[Event], txn: Txn, seen: &Entry) -> bool
-    ensures { let all = map event_of events.now in
-        Means tables.now all all
-        → result
-        ≡ ((seen.now.version.txn == txn)
-        || is_entry (last_write seen.now.version.txn seen.now.version.key all) (entry_of seen.now)) }
+/// Whether the transaction itself wrote the entry, or it is its writer's last write of the key, where it was written.
+fn is_own_or_last(tables: &Tables, txn: Txn, seen: &Entry) -> bool
+    ensures { let o = entry_of seen.now in
+        (all : List EventValue)
+        → Means tables.now all all
+        → list_any (entry_eq o) (filter_map written all) ≡ true
+        → result ≡ ((o.version.txn == txn) || is_entry (last_write o.version.txn o.version.key all) o) }
 {
-    if seen.version.txn == txn {
-        return true;
-    }
-    match tables.last_write(events, seen.version.txn, seen.version.key) {
-        None => false,
-        Some(last) => last.same(seen),
-    }
+    seen.version.txn == txn || !tables.was_replaced(seen.version)
 }
 
-/// The first version that is listed and is neither the transaction's nor its writer's last of the key.
-fn first_intermediate(
-    tables: &Tables,
-    events: &[Event],
-    txn: Txn,
-    entries: &[Entry],
-) -> Option<Version>
-    ensures { let all = map event_of events.now in
-        (e : EventValue)
+/// The first version that is listed and is neither the transaction's nor its writer's last of the key, where all that
+/// is listed was written.
+fn first_intermediate(tables: &Tables, txn: Txn, entries: &[Entry]) -> Option<Version>
+    ensures { let es = map entry_of entries.now in
+        (all : List EventValue) (e : EventValue)
         → txn ≡ txn_of e
         → Means tables.now all all
-        → IsFirst (filter (λ o. not (is_own_or_last all e o)) (map entry_of entries.now)) result }
+        → are_written all es ≡ true
+        → IsFirst (filter (λ o. not (is_own_or_last all e o)) es) result }
 {
     for entry in entries {
-        if !is_own_or_last(tables, events, txn, entry) {
+        if !is_own_or_last(tables, txn, entry) {
             return Some(entry.version);
         }
     }
@@ -184,9 +175,11 @@ fn first_intermediate(
 
 /// The first version that the event reads or lists and that is not its writer's last of the key, where the event's
 /// transaction is committed and didn't write it.
-fn intermediate_read(tables: &Tables, events: &[Event], event: &Event) -> Option<Version>
-    ensures { let all = map event_of events.now in
-        Means tables.now all all → IsFirst (refused (is_own_or_last all) all (event_of event.now)) result }
+fn intermediate_read(tables: &Tables, event: &Event) -> Option<Version>
+    ensures { (all : List EventValue)
+        → Means tables.now all all
+        → was_written all (event_of event.now) ≡ true
+        → IsFirst (refused (is_own_or_last all) all (event_of event.now)) result }
 {
     if !tables.has_committed(event.txn()) {
         return None;
@@ -201,9 +194,9 @@ fn intermediate_read(tables: &Tables, events: &[Event], event: &Event) -> Option
                 version: *version,
                 content: Content::Live(*value),
             }];
-            first_intermediate(tables, events, *txn, &seen)
+            first_intermediate(tables, *txn, &seen)
         }
-        Event::Scan { txn, entries, .. } => first_intermediate(tables, events, *txn, entries),
+        Event::Scan { txn, entries, .. } => first_intermediate(tables, *txn, entries),
         Event::Write { .. } => None,
         Event::Delete { .. } => None,
         Event::Commit { .. } => None,
@@ -213,13 +206,14 @@ fn intermediate_read(tables: &Tables, events: &[Event], event: &Event) -> Option
 
 /// G1b: the first read of a version of another that isn't that one's last write of the key by a committed one.
 pub(crate) fn check_intermediate(tables: &Tables, events: &[Event]) -> Result<(), CheckFault>
-    requires { Means tables.now (map event_of events.now) (map event_of events.now) }
+    requires tell { Means tables.now (map event_of events.now) (map event_of events.now) }
+    requires written { let all = map event_of events.now in list_all (was_written all) all ≡ true }
     ensures { let all = map event_of events.now in
         let faults = bad_reads (is_own_or_last all) CheckFault.IntermediateRead all 2 all in
         MatchResult result (λ u. faults ≡ []) (Names faults) }
 {
     for (i, event) in events.iter().enumerate() {
-        if let Some(version) = intermediate_read(tables, events, event) {
+        if let Some(version) = intermediate_read(tables, event) {
             return Err(CheckFault::IntermediateRead {
                 line: i + 2,
                 version,

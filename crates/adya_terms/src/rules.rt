@@ -4,13 +4,14 @@ ghost use Rattle.std.specs.Prelude.{◌≡◌, ◌+◌, ℕ, List, [], Some, map
 ghost use Rattle.adya_terms.specs.Histories.{Event as EventValue, event_of};
 ghost use Rattle.adya_terms.specs.Events.{written};
 ghost use Rattle.adya_terms.specs.Faults as faults;
-ghost use Rattle.adya_terms.specs.Tables.{Means};
+ghost use Rattle.adya_terms.specs.Tables.{Keeps, Means};
 ghost use Rattle.adya_terms.specs.Checks.{Names};
 
-use crate::scans::{all_lie_in, all_written, keys_rise, lists_own};
-use crate::tables::{Tables, wrote};
+use crate::scans::{all_lie_in, all_written, keep, keys_rise, lists_own};
+use crate::tables::{Own, Tables, wrote};
 use crate::{CheckFault, Content, Entry, Event, Rule};
 use std::alloc::Global;
+use std::collections::BTreeMap;
 
 /// M1: the event's transaction has not ended before.
 fn is_open(tables: &Tables, event: &Event) -> bool
@@ -60,9 +61,16 @@ fn was_written(tables: &Tables, events: &[Event], event: &Event) -> bool
 }
 
 /// M4: of a key that it has written a transaction reads and lists its own last write.
-fn sees_own(tables: &Tables, events: &[Event], event: &Event) -> bool
-    ensures { (before : List EventValue)
-        → Means tables.now (map event_of events.now) before
+fn sees_own(
+    tables: &Tables,
+    written: &BTreeMap<Own, usize>,
+    events: &[Event],
+    event: &Event,
+) -> bool
+    ensures { let all = map event_of events.now in
+        (before : List EventValue)
+        → Means tables.now all before
+        → Keeps written.now all before
         → result ≡ faults.sees_own before (event_of event.now) }
 {
     match event {
@@ -82,7 +90,7 @@ fn sees_own(tables: &Tables, events: &[Event], event: &Event) -> bool
             lo,
             hi,
             entries,
-        } => lists_own(tables, events, *txn, *lo, *hi, entries),
+        } => lists_own(written, events, *txn, *lo, *hi, entries),
         Event::Write { .. } => true,
         Event::Delete { .. } => true,
         Event::Commit { .. } => true,
@@ -110,9 +118,16 @@ fn is_rising(event: &Event) -> bool
 }
 
 /// The first rule that the event breaks.
-fn broken_rule(tables: &Tables, events: &[Event], event: &Event) -> Option<Rule>
-    ensures { (before : List EventValue)
-        → Means tables.now (map event_of events.now) before
+fn broken_rule(
+    tables: &Tables,
+    written: &BTreeMap<Own, usize>,
+    events: &[Event],
+    event: &Event,
+) -> Option<Rule>
+    ensures { let all = map event_of events.now in
+        (before : List EventValue)
+        → Means tables.now all before
+        → Keeps written.now all before
         → (line : ℕ)
         → MatchOption result (faults.faults_at before line (event_of event.now) ≡ [])
         (λ r. faults.first (faults.faults_at before line (event_of event.now)) ≡ Some (CheckFault.Malformed line r)) }
@@ -126,7 +141,7 @@ fn broken_rule(tables: &Tables, events: &[Event], event: &Event) -> Option<Rule>
     if !was_written(tables, events, event) {
         return Some(Rule::M3);
     }
-    if !sees_own(tables, events, event) {
+    if !sees_own(tables, written, events, event) {
         return Some(Rule::M4);
     }
     if !is_rising(event) {
@@ -141,11 +156,15 @@ pub(crate) fn tables_of(alloc: Global, events: &[Event]) -> Result<Tables, Check
         MatchResult result (λ t. Means t all all × (faults.event_faults [] 2 all ≡ [])) (Names (faults.event_faults [] 2 all)) }
 {
     let mut tables = Tables::new(alloc);
+    let mut written = BTreeMap::new(alloc);
     for (i, event) in events.iter().enumerate() {
-        if let Some(rule) = broken_rule(&tables, events, event) {
+        if let Some(rule) = broken_rule(&tables, &written, events, event) {
             return Err(CheckFault::Malformed { line: i + 2, rule });
         }
-        let Ok(()) = tables.record(i, event) else {
+        let Ok(()) = tables.record(events, i, event) else {
+            return Err(CheckFault::Memory);
+        };
+        let Ok(()) = keep(&mut written, i, event) else {
             return Err(CheckFault::Memory);
         };
     }

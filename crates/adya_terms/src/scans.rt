@@ -1,6 +1,6 @@
 //! What a scan lists: M3, M4 and M5.
 
-ghost use Rattle.std.specs.Prelude.{◌≡◌, ◌&&◌, List, true, Some, map};
+ghost use Rattle.std.specs.Prelude.{◌≡◌, ◌&&◌, ◌++◌, [], ◌∷◌, List, true, Some, map, slice_get, IfOk};
 ghost use Rattle.std.specs.List.{filter_map, list_all, list_any};
 ghost use Rattle.adya_terms.specs.Keys as keys;
 ghost use Rattle.adya_terms.specs.Histories.{Event as EventValue, entry_of, event_of, Scan};
@@ -8,10 +8,12 @@ ghost use Rattle.adya_terms.specs.Events.{written};
 ghost use Rattle.adya_terms.specs.Faults as faults;
 ghost use Rattle.adya_terms.specs.Faults.{entry_eq, none_or_lists_only, sees_own};
 ghost use Rattle.adya_terms.specs.Checks as checks;
-ghost use Rattle.adya_terms.specs.Tables.{written_at, Means};
+ghost use Rattle.adya_terms.specs.Tables.{written_at, Keeps, Means};
 
-use crate::tables::{Own, Tables, wrote_at};
+use crate::tables::{Own, Tables, wrote, wrote_at};
 use crate::{Entry, Event, Key, Txn};
+use std::alloc::{AllocError, Global};
+use std::collections::BTreeMap;
 
 /// Whether each entry was written before.
 pub(crate) fn all_written(tables: &Tables, events: &[Event], entries: &[Entry]) -> bool
@@ -132,9 +134,33 @@ fn lists_write(events: &[Event], at: usize, entries: &[Entry], rising: bool) -> 
     lists_only(entries, &write)
 }
 
+/// Takes in what the event at the place writes.
+pub(crate) fn keep(
+    written: &mut BTreeMap<Own, usize>,
+    at: usize,
+    event: &Event,
+) -> Result<(), AllocError>
+    ensures { IfOk result
+        (λ u. (all before : List EventValue)
+        → Keeps written.old all before
+        → slice_get all at ≡ Some (event_of event.now)
+        → Keeps written.new all (before ++ event_of event.now ∷ [])) }
+{
+    if let Some(Entry { version, .. }) = wrote(event) {
+        written.insert(
+            Own {
+                txn: version.txn,
+                key: version.key,
+            },
+            at,
+        )?;
+    }
+    Ok(())
+}
+
 /// Of each key between the two that the transaction has written, its last write is listed and nothing else.
 pub(crate) fn lists_own(
-    tables: &Tables,
+    written: &BTreeMap<Own, usize>,
     events: &[Event],
     txn: Txn,
     lo: Key,
@@ -142,17 +168,14 @@ pub(crate) fn lists_own(
     entries: &[Entry],
 ) -> bool
     ensures { (before : List EventValue)
-        → Means tables.now (map event_of events.now) before
+        → Keeps written.now (map event_of events.now) before
         → result ≡ sees_own before (Scan txn lo hi (map entry_of entries.now)) }
 {
     if hi < lo {
         return true;
     }
     let rising = keys_rise(entries);
-    for (_, at) in tables
-        .last
-        .range(Own { txn, key: lo }..=Own { txn, key: hi })
-    {
+    for (_, at) in written.range(Own { txn, key: lo }..=Own { txn, key: hi }) {
         if !lists_write(events, *at, entries, rising) {
             return false;
         }

@@ -1,33 +1,32 @@
 //! What the events so far say of transactions, of their keys and of versions.
 
-ghost use Rattle.std.specs.Prelude.{◌≡◌, ◌||◌, ◌&&◌, is_some, ◌++◌, [], ◌∷◌, List, true, Some, map, option_map, slice_get, IfOk};
-ghost use Rattle.std.specs.Ordering.{nat_cmp};
-ghost use Rattle.std.specs.BTreeMap.{get};
-ghost use Rattle.std.specs.BTreeSet.{contains};
+ghost use Rattle.std.specs.Prelude.{◌≡◌, ◌||◌, ◌&&◌, is_some, ◌++◌, [], ◌∷◌, List, true, Some, cond, map, nat_eq, option_map, slice_get, IfOk};
+ghost use Rattle.std.specs.HashMap.{get};
+ghost use Rattle.std.specs.HashSet.{contains};
 ghost use Rattle.adya_terms.specs.Histories.{Event as EventValue, entry_of, event_of};
 ghost use Rattle.adya_terms.specs.Events.{written};
-ghost use Rattle.adya_terms.specs.Faults.{is_next};
-ghost use Rattle.adya_terms.specs.Tables.{own, own_cmp, version_cmp, written_at, is_there, Means};
+ghost use Rattle.adya_terms.specs.Faults.{is_next, version_eq};
+ghost use Rattle.adya_terms.specs.Tables.{own, own_eq, written_at, is_there, with_replaced, Means};
 
 use crate::{Content, Entry, Event, Key, Txn, Version};
 use std::alloc::{AllocError, Global};
-use std::collections::{BTreeMap, BTreeSet};
+use std::collections::{HashMap, HashSet};
 
 /// A transaction with a key of its own.
-#[derive(Clone, Copy, PartialEq, Eq, PartialOrd, Ord)]
+#[derive(Clone, Copy, PartialEq, Eq, PartialOrd, Ord, Hash)]
 pub(crate) struct Own {
     pub txn: Txn,
     pub key: Key,
 }
 
-/// Which transactions have ended, and where in the list of events each transaction wrote each key last and each
-/// version was written.
+/// Which transactions have ended, and where in the list of events each transaction wrote each key last, and each
+/// version that a later write of the same transaction replaced.
 #[derive(Drop)]
 pub(crate) struct Tables {
-    pub committed: BTreeSet<Txn>,
-    pub aborted: BTreeSet<Txn>,
-    pub last: BTreeMap<Own, usize>,
-    pub versions: BTreeMap<Version, usize>,
+    pub committed: HashSet<Txn>,
+    pub aborted: HashSet<Txn>,
+    pub last: HashMap<Own, usize>,
+    pub replaced: HashMap<Version, usize>,
 }
 
 /// What the event writes.
@@ -71,110 +70,118 @@ pub(crate) fn wrote_at(events: &[Event], at: Option<usize>) -> Option<Entry>
     wrote(event)
 }
 
+/// Whether it is this entry.
+fn is_there(seen: &Entry, wrote: Option<Entry>) -> bool
+    ensures { result ≡ is_there (entry_of seen.now) (option_map entry_of wrote) }
+{
+    match wrote {
+        None => false,
+        Some(wrote) => seen.same(&wrote),
+    }
+}
+
 impl Tables {
     /// The tables of no events.
     pub fn new(alloc: Global) -> Tables
         ensures { (all : List EventValue) → Means result all [] }
     {
         Tables {
-            committed: BTreeSet::new(alloc),
-            aborted: BTreeSet::new(alloc),
-            last: BTreeMap::new(alloc),
-            versions: BTreeMap::new(alloc),
+            committed: HashSet::new(alloc),
+            aborted: HashSet::new(alloc),
+            last: HashMap::new(alloc),
+            replaced: HashMap::new(alloc),
         }
     }
 
     /// Whether the transaction has committed.
     pub fn has_committed(&self, txn: Txn) -> bool
-        ensures { result ≡ contains nat_cmp self.now.committed txn }
+        ensures { result ≡ contains nat_eq self.now.committed txn }
     {
         self.committed.contains(&txn)
     }
 
     /// Whether the transaction has aborted.
     pub fn has_aborted(&self, txn: Txn) -> bool
-        ensures { result ≡ contains nat_cmp self.now.aborted txn }
+        ensures { result ≡ contains nat_eq self.now.aborted txn }
     {
         self.aborted.contains(&txn)
     }
 
     /// Whether the transaction has committed or aborted.
     pub fn has_ended(&self, txn: Txn) -> bool
-        ensures { result ≡ (contains nat_cmp self.now.committed txn || contains nat_cmp self.now.aborted txn) }
+        ensures { result ≡ (contains nat_eq self.now.committed txn || contains nat_eq self.now.aborted txn) }
     {
         self.has_committed(txn) || self.has_aborted(txn)
     }
 
     /// The transaction's last write of the key.
     pub fn last_write(&self, events: &[Event], txn: Txn, key: Key) -> Option<Entry>
-        ensures { option_map entry_of result ≡ written_at (map event_of events.now) (get own_cmp self.now.last (own txn key)) }
+        ensures { option_map entry_of result
+            ≡ written_at (map event_of events.now) (get own_eq self.now.last (own txn key)) }
     {
         wrote_at(events, self.last.get(&Own { txn, key }).copied())
     }
 
     /// Whether the transaction is committed and wrote the key.
-    pub fn installs(&self, events: &[Event], txn: Txn, key: Key) -> bool
+    pub fn installs(&self, txn: Txn, key: Key) -> bool
         ensures { result
-            ≡ (contains nat_cmp self.now.committed txn
-            && is_some (written_at (map event_of events.now) (get own_cmp self.now.last (own txn key)))) }
+            ≡ (contains nat_eq self.now.committed txn && is_some (get own_eq self.now.last (own txn key))) }
     {
-        self.has_committed(txn) && self.last_write(events, txn, key).is_some()
+        self.has_committed(txn) && self.last.contains_key(&Own { txn, key })
+    }
+
+    /// Whether a later write of the same transaction replaced the version.
+    pub fn was_replaced(&self, version: Version) -> bool
+        ensures { result ≡ is_some (get version_eq self.now.replaced version) }
+    {
+        self.replaced.contains_key(&version)
     }
 
     /// Whether the version was written with the value.
     pub fn was_written(&self, events: &[Event], seen: &Entry) -> bool
-        ensures { result
-            ≡ is_there (entry_of seen.now)
-            (written_at (map event_of events.now) (get version_cmp self.now.versions seen.now.version)) }
+        ensures { let all = map event_of events.now in
+            let o = entry_of seen.now in
+            result
+            ≡ (is_there o (written_at all (get own_eq self.now.last (own o.version.txn o.version.key)))
+            || is_there o (written_at all (get version_eq self.now.replaced o.version))) }
     {
-        match wrote_at(events, self.versions.get(&seen.version).copied()) {
-            None => false,
-            Some(wrote) => seen.same(&wrote),
-        }
+        let Version { key, txn, .. } = seen.version;
+        is_there(seen, self.last_write(events, txn, key))
+            || is_there(
+                seen,
+                wrote_at(events, self.replaced.get(&seen.version).copied()),
+            )
     }
 
     /// Takes in the event at the place.
-    pub fn record(&mut self, at: usize, event: &Event) -> Result<(), AllocError>
-        ensures { IfOk result
-            (λ u. (all before : List EventValue)
+    pub fn record(&mut self, events: &[Event], at: usize, event: &Event) -> Result<(), AllocError>
+        ensures { let all = map event_of events.now in
+            IfOk result
+            (λ u. (before : List EventValue)
             → Means self.old all before
             → slice_get all at ≡ Some (event_of event.now)
             → is_next before (written (event_of event.now)) ≡ true
             → Means self.new all (before ++ event_of event.now ∷ [])) }
     {
         match event {
-            Event::Write { txn, key, m, .. } => {
-                self.versions.insert(
-                    Version {
-                        key: *key,
-                        txn: *txn,
-                        m: *m,
-                    },
+            Event::Write { txn, key, .. } => {
+                self.put(
+                    events,
                     at,
-                )?;
-                self.last.insert(
                     Own {
                         txn: *txn,
                         key: *key,
                     },
-                    at,
                 )?;
             }
-            Event::Delete { txn, key, m } => {
-                self.versions.insert(
-                    Version {
-                        key: *key,
-                        txn: *txn,
-                        m: *m,
-                    },
+            Event::Delete { txn, key, .. } => {
+                self.put(
+                    events,
                     at,
-                )?;
-                self.last.insert(
                     Own {
                         txn: *txn,
                         key: *key,
                     },
-                    at,
                 )?;
             }
             Event::Read { .. } => {}
@@ -186,6 +193,28 @@ impl Tables {
                 self.aborted.insert(*txn)?;
             }
         }
+        Ok(())
+    }
+
+    /// The transaction's last write of the key is at the place, and the one before it is replaced.
+    fn put(&mut self, events: &[Event], at: usize, own: Own) -> Result<(), AllocError>
+        ensures last { IfOk result
+            (λ u. (q : Own) → get own_eq self.new.last q ≡ cond (own_eq own q) (Some at) (get own_eq self.old.last q)) }
+        ensures replaced { let p = get own_eq self.old.last own in
+            IfOk result
+            (λ u. (r : Version)
+            → get version_eq self.new.replaced r
+            ≡ with_replaced (written_at (map event_of events.now) p) p (get version_eq self.old.replaced) r) }
+        ensures ended { IfOk result
+            (λ u. (self.new.committed ≡ self.old.committed) × (self.new.aborted ≡ self.old.aborted)) }
+    {
+        let Some(place) = self.last.insert(own, at)? else {
+            return Ok(());
+        };
+        let Some(old) = wrote_at(events, Some(place)) else {
+            return Ok(());
+        };
+        self.replaced.insert(old.version, place)?;
         Ok(())
     }
 }

@@ -1,5 +1,6 @@
 -- What a reader of history lines knows of the lines that it was fed with.
-use Rattle.std.proofs.Common.{◌≡◌, ℕ, suc, ◌<◌, Bool, true, false, List, [], ◌∷◌, ◌++◌, length, map, Option, Result, Ok, Err, refl, sym, ap, subst, ◌∙◌, arith, append_assoc, append-nil}
+use Rattle.std.proofs.Common.{◌≡◌, ℕ, suc, ◌<◌, Bool, true, false, List, [], ◌∷◌, ◌++◌, length, map, Option, Result}
+use Rattle.std.proofs.Common.{Ok, Err, refl, sym, ap, subst, ◌∙◌, arith, append_assoc, append-nil}
 use Rattle.std.specs.Prelude.{not, ◌==◌, ◌↔◌, IsTrue, OnErr}
 use Rattle.std.specs.Bool.{OnTrue, OnFalse}
 use Rattle.std.specs.List.{AllByRecursion, filter_map, list_all}
@@ -14,20 +15,25 @@ use Rattle.adya_terms.specs.declared.history.History.{History as HistoryValue}
 use Rattle.adya_line.specs.Limits.{IsOrder}
 use Rattle.adya_text.specs.Texts.{IsHistory, history_lines, AreHistoryLines, with_ends, history_text}
 use Rattle.adya_text.specs.Faults.{Begins, IsFaultLine, IsCut}
-use Rattle.adya_text.specs.HistoryRuns.{Line, HeadLine, EventLine, UnfinishedLine, OrderLine, FinalLine, TailLine, IsLine, line_text, allows, edition_at, stage_after, event_in, unfinished_in, order_in, final_in}
-use Rattle.adya_text.specs.HistoryReaders.{IsTaken, IsFed, IsLineOf, IsRefused, IsAllowed, Takes, IsKept, ReadsHistory, is_failed, is_done}
+use Rattle.adya_line.specs.HistoryLines.{Line, HeadLine, EventLine, UnfinishedLine, OrderLine, FinalLine, TailLine}
+use Rattle.adya_line.specs.HistoryLines.{IsLine, line_text, IsLineOf, IsOnlyLineOf}
+use Rattle.adya_text.specs.HistoryRuns.{allows, edition_at, stage_after}
+use Rattle.adya_text.specs.HistoryRuns.{event_in, unfinished_in, order_in, final_in}
+use Rattle.adya_text.specs.HistoryReaders.{IsTaken, IsFed, IsRefused, IsAllowed, Takes, IsKept, ReadsHistory}
+use Rattle.adya_text.specs.HistoryReaders.{is_failed, is_done}
 use Rattle.adya_terms.specs.declared.edition.Edition.{Edition}
 use Rattle.adya_terms.specs.declared.edition.Edition.TheVariants.{One}
 use Rattle.adya_text.specs.declared.history_reader.Stage.{Stage}
-use Rattle.adya_text.specs.declared.history_reader.Stage.TheVariants.{Head, Events, Unfinished, Orders, Finals, Done, Failed}
+use Rattle.adya_text.specs.declared.history_reader.Stage.TheVariants.{Head, Events, Unfinished, Orders, Finals, Done}
+use Rattle.adya_text.specs.declared.history_reader.Stage.TheVariants.{Failed}
 use Rattle.adya_text.specs.declared.history_reader.HistoryReader.{HistoryReader}
 use Rattle.adya_text.specs.declared.read_fault.ReadFault.{ReadFault}
 use Rattle.adya_text.specs.declared.read_fault.ReadFault.TheVariants.{Syntax}
 use Rattle.adya_text.specs.declared.read_fault.Text.TheVariants as Of
 use Rattle.adya_text.proofs.RunLemmas.{run_join, refused, taken, one_end}
 use Rattle.adya_text.proofs.FaultLemmas.{fault_at, fault_missing, fault_stays, fault_stops, whole_begins}
-use Rattle.adya_text.proofs.LineLaws.{lines_tell}
-use Rattle.adya_text.proofs.HistoryTexts.{HasLines, Run, end, run_of, are_lines, items_of, event_items, unfinished_items, order_items, final_items, held_by, items_texts}
+use Rattle.adya_text.proofs.HistoryTexts.{LinesTell, HasLines, Run, end, run_of, are_lines, items_of, event_items}
+use Rattle.adya_text.proofs.HistoryTexts.{unfinished_items, order_items, final_items, held_by, items_texts}
 
 -- ---- stages
 
@@ -81,13 +87,13 @@ run_begins (Finals e last) lines is front =
 run_begins (Done e) lines is front = joined (Done e) lines [] front tt tt refl
 run_begins (Failed k) lines is front = absurd cc
 
-run_stops : (s : Stage) (lines : List (List ℕ)) (l : List ℕ) → HasLines s lines → IsRefused s l
+run_stops : LinesTell → (s : Stage) (lines : List (List ℕ)) (l : List ℕ) → HasLines s lines → IsRefused s l
     → Begins AreHistoryLines (lines ++ l ∷ []) → ⊥
-run_stops s lines l front none b =
+run_stops tell s lines l front none b =
     let (h, is, whole) = b.within in
     let longer : lines ++ l ∷ b.more ≡ history_lines h = sym (append_assoc lines (l ∷ []) b.more) ∙ whole in
     let run : HasLines (Done h.edition) (lines ++ l ∷ b.more) = rw longer (run_of h is) in
-    refused allows stage_after line_text IsLine lines_tell Head s (Done h.edition) lines l b.more front run
+    refused allows stage_after line_text IsLine tell Head s (Done h.edition) lines l b.more front run
     (λ x good same ok. none x (record { good = good; same = sym same }) ok)
 
 pub fed_begins : (r : HistoryReader) (past : List (List ℕ)) → IsFed r past → is_failed r.stage ≡ false
@@ -105,16 +111,16 @@ pub fed_done : (r : HistoryReader) (past : List (List ℕ)) → IsFed r past →
     → AreHistoryLines past
 fed_done r past fed done = are_lines r.stage past done (fed.taken (done_going r.stage done)).run
 
-pub fed_undone : (r : HistoryReader) (past : List (List ℕ)) → IsFed r past → is_done r.stage ≡ false
+pub fed_undone : LinesTell → (r : HistoryReader) (past : List (List ℕ)) → IsFed r past → is_done r.stage ≡ false
     → AreHistoryLines past → ⊥
-fed_undone r past fed undone (h, is, whole) = by_failed (is_failed r.stage) refl
+fed_undone tell r past fed undone (h, is, whole) = by_failed (is_failed r.stage) refl
   where
     by_failed : (b : Bool) → is_failed r.stage ≡ b → ⊥
     by_failed true failed = fed_stops r past fed failed (whole_begins AreHistoryLines past (h, is, whole))
     by_failed false going =
         let run : HasLines (Done h.edition) past = rw whole (run_of h is) in
         let same : r.stage ≡ Done h.edition =
-        one_end allows stage_after line_text IsLine lines_tell Head r.stage (Done h.edition) past
+        one_end allows stage_after line_text IsLine tell Head r.stage (Done h.edition) past
         (fed.taken going).run run in
         let done : is_done r.stage ≡ true = ap is_done same in
         absurd cc
@@ -154,10 +160,10 @@ fed_taken old new past text x fed going allowed takes = record {
       absurd cc;
 }
 
-pub fed_refused : (old new : HistoryReader) (past : List (List ℕ)) (text : List ℕ) → IsFed old past
+pub fed_refused : LinesTell → (old new : HistoryReader) (past : List (List ℕ)) (text : List ℕ) → IsFed old past
     → is_failed old.stage ≡ false → IsRefused old.stage text → new.stage ≡ Failed old.next
     → IsFed new (past ++ text ∷ [])
-fed_refused old new past text fed going none is = record {
+fed_refused tell old new past text fed going none is = record {
   taken = λ still. let failed : is_failed new.stage ≡ true = ap is_failed is in absurd cc;
   faulty = λ k at.
       let t = fed.taken going in
@@ -165,7 +171,7 @@ fed_refused old new past text fed going none is = record {
       let here : Failed k ≡ Failed old.next = sym at ∙ is in
       let line : k ≡ suc (length past) = cc in
       let fault = fault_at AreHistoryLines past text (run_begins old.stage past going run)
-      (run_stops old.stage past text run none) in
+      (run_stops tell old.stage past text run none) in
       (omega (arith, length-append past (text ∷ [])), rw line fault);
 }
 
@@ -214,10 +220,10 @@ failed_fault r past text rest k fed is cut =
       first = fault;
     }
 
-pub missing_fault : (r : HistoryReader) (past : List (List ℕ)) (text rest : List ℕ) → IsFed r past
+pub missing_fault : LinesTell → (r : HistoryReader) (past : List (List ℕ)) (text rest : List ℕ) → IsFed r past
     → is_failed r.stage ≡ false → (is_done r.stage ≡ true → rest ≡ [] → ⊥) → IsCut text past rest
     → IsFaultLine AreHistoryLines text r.next
-missing_fault r past text rest fed going none cut = record {
+missing_fault tell r past text rest fed going none cut = record {
   lines = past;
   rest = rest;
   cut = cut;
@@ -227,7 +233,7 @@ missing_fault r past text rest fed going none cut = record {
   where
     by_done : (b : Bool) → is_done r.stage ≡ b → AreHistoryLines past → rest ≡ [] → ⊥
     by_done true done are empty = none done empty
-    by_done false undone are empty = fed_undone r past fed undone are
+    by_done false undone are empty = fed_undone tell r past fed undone are
 
 pub in_events : (h : History) → filter_map event_in (items_of h) ≡ h.events
 in_events h = of_events h.events h.unfinished h.orders h.finals
@@ -396,15 +402,14 @@ pub stops_if : (r : HistoryReader) (b : Bool) → b ≡ is_failed r.stage
 stops_if r true is = λ past fed. fed_stops r past fed (sym is)
 stops_if r false is = tt
 
-pub done_iff : (r : HistoryReader) (b : Bool) → b ≡ is_done r.stage → (past : List (List ℕ)) → IsFed r past
+pub done_iff : LinesTell → (r : HistoryReader) (b : Bool) → b ≡ is_done r.stage → (past : List (List ℕ)) → IsFed r past
     → IsTrue b ↔ AreHistoryLines past
-done_iff r true is past fed = (λ t. fed_done r past fed (sym is), λ are. refl)
-done_iff r false is past fed = (λ t. absurd cc, λ are. absurd (fed_undone r past fed (sym is) are))
+done_iff tell r true is past fed = (λ t. fed_done r past fed (sym is), λ are. refl)
+done_iff tell r false is past fed = (λ t. absurd cc, λ are. absurd (fed_undone tell r past fed (sym is) are))
 
-pub refused_by : (s : Stage) (text : List ℕ) (y : Line) → IsLineOf y text → allows s y ≡ false → IsRefused s text
+pub refused_by : (s : Stage) (text : List ℕ) (y : Line) → IsOnlyLineOf y text → allows s y ≡ false → IsRefused s text
 refused_by s text y here never x there ok =
-    let same : x ≡ y = lines_tell x y there.good here.good (sym there.same ∙ here.same) in
-    let allowed : allows s y ≡ true = ap (allows s) (sym same) ∙ ok in
+    let allowed : allows s y ≡ true = ap (allows s) (sym (here.only x there)) ∙ ok in
     absurd cc
 
 pub fault_is : (text : List ℕ) (k : ℕ) (fault : ReadFault) → fault ≡ Syntax Of.History k

@@ -1,35 +1,39 @@
 -- The lines of a history are those of a run from the head to the tail, and no others are.
-use Rattle.std.proofs.Common.{◌≡◌, ℕ, suc, length, nat_lt, Bool, true, false, ◌&&◌, List, [], ◌∷◌, ◌++◌, map, refl, sym, ap, ◌∙◌}
+use Rattle.std.proofs.Common.{◌≡◌, ℕ, suc, length, nat_lt, Bool, true, false, ◌&&◌, List, [], ◌∷◌, ◌++◌, map, refl}
+use Rattle.std.proofs.Common.{sym, ap, ◌∙◌}
 use Rattle.std.specs.List.{AllByRecursion}
-use Rattle.std.proofs.lemmas.Bool.{eqb-true}
+use Rattle.std.proofs.lemmas.Bool.{eqb-true, and_parts, and_from}
 use Rattle.adya_terms.specs.Keys.{keys_rise, key_lt, IsTxn}
 use Rattle.adya_terms.specs.Shapes.{numbers_rise, fits_edition}
 use Rattle.adya_terms.specs.declared.edition.Edition.{Edition}
 use Rattle.adya_terms.specs.declared.edition.Edition.TheVariants.{One, Two}
 use Rattle.adya_terms.specs.Histories.{Event, Order, FinalPair, History}
-use Rattle.adya_line.specs.Spelling.{tail, event_text, unfinished_text, order_text, final_text}
+use Rattle.adya_line.specs.Spelling.{head_text, tail, event_text, unfinished_text, order_text, final_text}
 use Rattle.adya_line.specs.Limits.{IsEvent, IsOrder, IsFinal}
-use Rattle.adya_text.specs.Texts.{IsHistory, head_text, history_lines, AreHistoryLines}
+use Rattle.adya_text.specs.Texts.{IsHistory, history_lines, AreHistoryLines}
 use Rattle.adya_text.specs.Runs.{IsRun, end_of, HasRun}
-use Rattle.adya_text.specs.HistoryRuns.{Line, HeadLine, EventLine, UnfinishedLine, OrderLine, FinalLine, TailLine, IsLine, line_text, allows, edition_at, stage_after}
+use Rattle.adya_line.specs.Laws.{IsOneText, HasPlainTexts}
+use Rattle.adya_line.specs.HistoryLines.{Line, HeadLine, EventLine, UnfinishedLine, OrderLine, FinalLine, TailLine}
+use Rattle.adya_line.specs.HistoryLines.{IsLine, line_text}
+use Rattle.adya_text.specs.HistoryRuns.{allows, edition_at, stage_after}
 use Rattle.adya_text.specs.HistoryReaders.{is_done}
 use Rattle.adya_text.specs.declared.history_reader.Stage.{Stage}
 use Rattle.adya_text.specs.declared.history_reader.Stage.TheVariants.{Head, Events, Unfinished, Orders, Finals, Done}
 use Rattle.adya_text.proofs.RunLemmas.{all_append, all_map}
-
-and_parts : (a b : Bool) → a && b ≡ true → (a ≡ true) × (b ≡ true)
-and_parts true b e = (refl, e)
-and_parts false b e = absurd cc
-
-both : (a b : Bool) → a ≡ true → b ≡ true → a && b ≡ true
-both true b is also = also
-both false b is also = is
 
 abbrev pub Run : Stage → List Line → Type 0
 Run s xs = IsRun allows stage_after s xs
 
 abbrev pub end : Stage → List Line → Stage
 end s xs = end_of stage_after s xs
+
+-- each line has a text of its own
+abbrev pub LinesTell : Type 0
+LinesTell = IsOneText IsLine line_text
+
+-- no line has a line feed
+abbrev pub LinesPlain : Type 0
+LinesPlain = HasPlainTexts IsLine line_text
 
 -- ---- from a history to its run
 
@@ -205,7 +209,7 @@ final_part e last (FinalLine f ∷ xs) goods runs ends =
     record {
       finals = f ∷ part.finals;
       goods = (goods.0, part.goods);
-      rise = both (key_lt last f.key) (keys_rise (f.key ∷ map (λ f. f.key) part.finals)) runs.0 part.rise;
+      rise = and_from (key_lt last f.key) (keys_rise (f.key ∷ map (λ f. f.key) part.finals)) runs.0 part.rise;
       whole = ap (λ (r : List Line). FinalLine f ∷ r) part.whole;
     }
 
@@ -252,7 +256,7 @@ order_part e last (OrderLine o ∷ xs) goods runs ends =
       finals = part.finals;
       goods = (goods.0, part.goods);
       final_goods = part.final_goods;
-      rise = both (key_lt last o.key) (keys_rise (o.key ∷ map (λ o. o.key) part.orders)) runs.0 part.rise;
+      rise = and_from (key_lt last o.key) (keys_rise (o.key ∷ map (λ o. o.key) part.orders)) runs.0 part.rise;
       finals_rise = part.finals_rise;
       whole = ap (λ (r : List Line). OrderLine o ∷ r) part.whole;
     }
@@ -296,7 +300,7 @@ unfinished_part last (UnfinishedLine t ∷ xs) goods runs ends =
     record {
       unfinished = t ∷ p.unfinished;
       goods = (goods.0, p.goods);
-      rise = both (nat_lt last t) (numbers_rise (t ∷ p.unfinished)) runs.0 p.rise;
+      rise = and_from (nat_lt last t) (numbers_rise (t ∷ p.unfinished)) runs.0 p.rise;
       rest = p.rest;
       part = p.part;
       whole = ap (λ (r : List Line). UnfinishedLine t ∷ r) p.whole;

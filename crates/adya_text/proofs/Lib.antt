@@ -1,7 +1,9 @@
 pub mod RunLemmas
 pub mod FaultLemmas
 pub mod LineLists
-pub mod LineLaws
+pub mod Fronts
+pub mod Gone
+pub mod StreamParts
 pub mod HistoryTexts
 pub mod HistoryFed
 pub mod SerialTexts

@@ -1,9 +1,8 @@
 -- Runs of lines, and how the texts of their lines tell them.
-use Rattle.std.proofs.Common.{◌≡◌, ℕ, Bool, true, List, [], ◌∷◌, ◌++◌, map, Option, None, refl, sym, ap, ◌∙◌}
+use Rattle.std.proofs.Common.{◌≡◌, ℕ, Bool, true, List, [], ◌∷◌, ◌++◌, map, refl, sym, ap, ◌∙◌}
 use Rattle.std.proofs.lemmas.List.{map_push, map-append}
-use Rattle.std.proofs.lemmas.Option.{none-some}
 use Rattle.std.specs.List.{AllByRecursion}
-use Rattle.adya_line.specs.Laws.{IsReaderOf, Excludes}
+use Rattle.adya_line.specs.Laws.{IsOneText}
 use Rattle.adya_text.specs.Runs.{IsRun, end_of, HasRun}
 
 pub run_push : {S L : Type 0} (allows : S → L → Bool) (after : S → L → S) (s : S) (xs : List L) (x : L)
@@ -11,7 +10,8 @@ pub run_push : {S L : Type 0} (allows : S → L → Bool) (after : S → L → S
 run_push allows after s [] x run ok = (ok, tt)
 run_push allows after s (y ∷ ys) x run ok = (run.0, run_push allows after (after s y) ys x run.1 ok)
 
-pub end_push : {S L : Type 0} (after : S → L → S) (s : S) (xs : List L) (x : L) → end_of after s (xs ++ x ∷ []) ≡ after (end_of after s xs) x
+pub end_push : {S L : Type 0} (after : S → L → S) (s : S) (xs : List L) (x : L)
+    → end_of after s (xs ++ x ∷ []) ≡ after (end_of after s xs) x
 end_push after s [] x = refl
 end_push after s (y ∷ ys) x = end_push after (after s y) ys x
 
@@ -36,23 +36,6 @@ pub all_map : {K L : Type 0} (P : L → Type 0) (Q : K → Type 0) (f : K → L)
 all_map P Q f each [] all = tt
 all_map P Q f each (k ∷ ks) all = (each k all.0, all_map P Q f each ks all.1)
 
--- no two lines have one text
-abbrev pub Tells : {L : Type 0} → (L → List ℕ) → (L → Type 0) → Type 0
-Tells {L} text good = (a b : L) → good a → good b → text a ≡ text b → a ≡ b
-
--- what one reader reads and another refuses is no text of the other
-pub unlike_text : {X Y : Type 0} {read : List ℕ → Option X} {other : List ℕ → Option Y} {Is : X → Type 0}
-    {Other : Y → Type 0} {text : X → List ℕ} {text' : Y → List ℕ}
-    → IsReaderOf read Is text → IsReaderOf other Other text' → Excludes read other → (x : X) (y : Y) → Is x → Other y
-    → text x ≡ text' y → ⊥
-unlike_text {text = text} reads others apart x y is_x is_y same =
-    none-some y (sym (apart (text x) x ((reads (text x) x).1 (is_x, refl))) ∙ (others (text x) y).1 (is_y, same))
-
--- a line that a reader refuses is no text of it
-pub unlike_line : {X : Type 0} {read : List ℕ → Option X} {Is : X → Type 0} {text : X → List ℕ} {fixed : List ℕ}
-    → IsReaderOf read Is text → read fixed ≡ None → (x : X) → Is x → text x ≡ fixed → ⊥
-unlike_line {fixed = fixed} reads none x is same = none-some x (sym none ∙ (reads fixed x).1 (is, sym same))
-
 -- the line whose text stands behind the texts of a front
 pub record Split {L : Type 0} (text : L → List ℕ) (good : L → Type 0) (all front : List L) (l : List ℕ)
     (more : List (List ℕ)) : Type 0 where
@@ -63,7 +46,7 @@ pub record Split {L : Type 0} (text : L → List ℕ) (good : L → Type 0) (all
   pub is : good line
   pub rest_same : map text rest ≡ more
 
-pub split : {L : Type 0} (text : L → List ℕ) (good : L → Type 0) → Tells text good
+pub split : {L : Type 0} (text : L → List ℕ) (good : L → Type 0) → IsOneText good text
     → (all front : List L) (l : List ℕ) (more : List (List ℕ))
     → AllByRecursion good all → AllByRecursion good front → map text all ≡ map text front ++ l ∷ more
     → Split text good all front l more
@@ -86,7 +69,7 @@ split text good tells (a ∷ more_a) (x ∷ xs) l more goods fronts e =
     }
 
 -- the lines of one list of texts are one list
-pub texts_tell : {L : Type 0} (text : L → List ℕ) (good : L → Type 0) → Tells text good → (xs ys : List L)
+pub texts_tell : {L : Type 0} (text : L → List ℕ) (good : L → Type 0) → IsOneText good text → (xs ys : List L)
     → AllByRecursion good xs → AllByRecursion good ys → map text xs ≡ map text ys → xs ≡ ys
 texts_tell text good tells [] [] ga gb e = refl
 texts_tell text good tells [] (b ∷ more_b) ga gb e = absurd cc
@@ -98,7 +81,7 @@ texts_tell text good tells (a ∷ more_a) (b ∷ more_b) ga gb e =
 
 -- the text of no line that is allowed behind the run goes on with it
 pub refused : {S L : Type 0} (allows : S → L → Bool) (after : S → L → S) (text : L → List ℕ) (good : L → Type 0)
-    → Tells text good → (start here done : S) (lines : List (List ℕ)) (l : List ℕ) (more : List (List ℕ))
+    → IsOneText good text → (start here done : S) (lines : List (List ℕ)) (l : List ℕ) (more : List (List ℕ))
     → HasRun allows after text good start here lines → HasRun allows after text good start done (lines ++ l ∷ more)
     → ((x : L) → good x → text x ≡ l → allows here x ≡ true → ⊥) → ⊥
 refused allows after text good tells start here done lines l more front whole none =
@@ -108,8 +91,8 @@ refused allows after text good tells start here done lines l more front whole no
     none s.line s.is s.same (rw front.ends at allowed)
 
 -- a run goes on with a line that is allowed behind it
-unfoldable pub taken : {S L : Type 0} (allows : S → L → Bool) (after : S → L → S) (text : L → List ℕ) (good : L → Type 0)
-    (start here : S) (lines : List (List ℕ)) (x : L)
+unfoldable pub taken : {S L : Type 0} (allows : S → L → Bool) (after : S → L → S) (text : L → List ℕ)
+    (good : L → Type 0) (start here : S) (lines : List (List ℕ)) (x : L)
     → HasRun allows after text good start here lines → good x → allows here x ≡ true
     → HasRun allows after text good start (after here x) (lines ++ text x ∷ [])
 taken allows after text good start here lines x front is ok = record {
@@ -120,8 +103,8 @@ taken allows after text good start here lines x front is ok = record {
   same = cc (front.same, map_push text front.items x);
 }
 
-run_append : {S L : Type 0} (allows : S → L → Bool) (after : S → L → S) (s : S) (xs ys : List L) → IsRun allows after s xs
-    → IsRun allows after (end_of after s xs) ys → IsRun allows after s (xs ++ ys)
+run_append : {S L : Type 0} (allows : S → L → Bool) (after : S → L → S) (s : S) (xs ys : List L)
+    → IsRun allows after s xs → IsRun allows after (end_of after s xs) ys → IsRun allows after s (xs ++ ys)
 run_append allows after s [] ys front back = back
 run_append allows after s (x ∷ xs) ys front back = (front.0, run_append allows after (after s x) xs ys front.1 back)
 
@@ -145,7 +128,7 @@ run_join allows after text good start here end lines ys front goods runs ends = 
 
 -- one list of lines leads to one stage
 pub one_end : {S L : Type 0} (allows : S → L → Bool) (after : S → L → S) (text : L → List ℕ) (good : L → Type 0)
-    → Tells text good → (start a b : S) (lines : List (List ℕ))
+    → IsOneText good text → (start a b : S) (lines : List (List ℕ))
     → HasRun allows after text good start a lines → HasRun allows after text good start b lines → a ≡ b
 one_end allows after text good tells start a b lines left right =
     let same : left.items ≡ right.items =

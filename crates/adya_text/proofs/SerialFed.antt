@@ -1,5 +1,6 @@
 -- What a reader of certificate lines knows of the lines that it was fed with.
-use Rattle.std.proofs.Common.{◌≡◌, ℕ, suc, Bool, true, false, List, [], ◌∷◌, ◌++◌, length, map, Result, Ok, Err, refl, sym, ap, subst, ◌∙◌, arith, append_assoc, append-nil}
+use Rattle.std.proofs.Common.{◌≡◌, ℕ, suc, Bool, true, false, List, [], ◌∷◌, ◌++◌, length, map, Result, Ok, Err, refl}
+use Rattle.std.proofs.Common.{sym, ap, subst, ◌∙◌, arith, append_assoc, append-nil}
 use Rattle.std.specs.Prelude.{◌↔◌, IsTrue, OnErr}
 use Rattle.std.specs.Bool.{OnTrue, OnFalse}
 use Rattle.std.specs.List.{AllByRecursion, filter_map}
@@ -8,8 +9,10 @@ use Rattle.std.proofs.lemmas.List.Elements.{filter_map-append}
 use Rattle.adya_terms.specs.declared.serial.Serial.{Serial}
 use Rattle.adya_text.specs.Texts.{IsSerial, serial_lines, AreSerialLines, with_ends, serial_text}
 use Rattle.adya_text.specs.Faults.{Begins, IsFaultLine, IsCut}
-use Rattle.adya_text.specs.SerialRuns.{Line, HeadLine, TxnLine, TailLine, IsLine, line_text, allows, next_stage, stage_after, txn_in}
-use Rattle.adya_text.specs.SerialReaders.{IsFed, IsLineOf, IsRefused, IsAllowed, Takes, IsKept, ReadsSerial, is_failed, is_done}
+use Rattle.adya_line.specs.SerialLines.{Line, HeadLine, TxnLine, TailLine}
+use Rattle.adya_line.specs.SerialLines.{IsLine, line_text, IsLineOf, IsOnlyLineOf}
+use Rattle.adya_text.specs.SerialRuns.{allows, next_stage, stage_after, txn_in}
+use Rattle.adya_text.specs.SerialReaders.{IsFed, IsRefused, IsAllowed, Takes, IsKept, ReadsSerial, is_failed, is_done}
 use Rattle.adya_text.specs.declared.serial_reader.Stage.{Stage}
 use Rattle.adya_text.specs.declared.serial_reader.Stage.TheVariants.{Head, Txns, Done, Failed}
 use Rattle.adya_text.specs.declared.serial_reader.SerialReader.{SerialReader}
@@ -18,7 +21,8 @@ use Rattle.adya_text.specs.declared.read_fault.ReadFault.TheVariants.{Syntax}
 use Rattle.adya_text.specs.declared.read_fault.Text.TheVariants as Of
 use Rattle.adya_text.proofs.RunLemmas.{run_join, refused, taken, one_end}
 use Rattle.adya_text.proofs.FaultLemmas.{fault_at, fault_missing, fault_stays, fault_stops, whole_begins}
-use Rattle.adya_text.proofs.SerialTexts.{lines_tell, HasLines, Run, end, run_of, are_lines, items_of, txn_items, held_by, items_texts}
+use Rattle.adya_text.proofs.SerialTexts.{LinesTell, HasLines, Run, end, run_of, are_lines, items_of, txn_items, held_by}
+use Rattle.adya_text.proofs.SerialTexts.{items_texts}
 
 -- ---- stages
 
@@ -56,13 +60,13 @@ run_begins Txns lines is front = joined Txns lines (TailLine ∷ []) front (tt, 
 run_begins Done lines is front = joined Done lines [] front tt tt refl
 run_begins (Failed k) lines is front = absurd cc
 
-run_stops : (s : Stage) (lines : List (List ℕ)) (l : List ℕ) → HasLines s lines → IsRefused s l
+run_stops : LinesTell → (s : Stage) (lines : List (List ℕ)) (l : List ℕ) → HasLines s lines → IsRefused s l
     → Begins AreSerialLines (lines ++ l ∷ []) → ⊥
-run_stops s lines l front none b =
+run_stops tell s lines l front none b =
     let (h, is, whole) = b.within in
     let longer : lines ++ l ∷ b.more ≡ serial_lines h = sym (append_assoc lines (l ∷ []) b.more) ∙ whole in
     let run : HasLines Done (lines ++ l ∷ b.more) = rw longer (run_of h is) in
-    refused allows next_stage line_text IsLine lines_tell Head s Done lines l b.more front run
+    refused allows next_stage line_text IsLine tell Head s Done lines l b.more front run
     (λ x good same ok. none x (record { good = good; same = sym same }) ok)
 
 pub fed_begins : (r : SerialReader) (past : List (List ℕ)) → IsFed r past → is_failed r.stage ≡ false
@@ -82,16 +86,16 @@ fed_done r past fed done =
     let going : is_failed r.stage ≡ false = ap is_failed is in
     are_lines past (rw is at (fed.taken going).run)
 
-pub fed_undone : (r : SerialReader) (past : List (List ℕ)) → IsFed r past → is_done r.stage ≡ false
+pub fed_undone : LinesTell → (r : SerialReader) (past : List (List ℕ)) → IsFed r past → is_done r.stage ≡ false
     → AreSerialLines past → ⊥
-fed_undone r past fed undone (h, is, whole) = by_failed (is_failed r.stage) refl
+fed_undone tell r past fed undone (h, is, whole) = by_failed (is_failed r.stage) refl
   where
     by_failed : (b : Bool) → is_failed r.stage ≡ b → ⊥
     by_failed true failed = fed_stops r past fed failed (whole_begins AreSerialLines past (h, is, whole))
     by_failed false going =
         let run : HasLines Done past = rw whole (run_of h is) in
         let same : r.stage ≡ Done =
-        one_end allows next_stage line_text IsLine lines_tell Head r.stage Done past (fed.taken going).run run in
+        one_end allows next_stage line_text IsLine tell Head r.stage Done past (fed.taken going).run run in
         let done : is_done r.stage ≡ true = ap is_done same in
         absurd cc
 
@@ -122,10 +126,10 @@ fed_taken old new past text x fed going allowed takes = record {
       absurd cc;
 }
 
-pub fed_refused : (old new : SerialReader) (past : List (List ℕ)) (text : List ℕ) → IsFed old past
+pub fed_refused : LinesTell → (old new : SerialReader) (past : List (List ℕ)) (text : List ℕ) → IsFed old past
     → is_failed old.stage ≡ false → IsRefused old.stage text → new.stage ≡ Failed old.next
     → IsFed new (past ++ text ∷ [])
-fed_refused old new past text fed going none is = record {
+fed_refused tell old new past text fed going none is = record {
   taken = λ still. let failed : is_failed new.stage ≡ true = ap is_failed is in absurd cc;
   faulty = λ k at.
       let t = fed.taken going in
@@ -133,7 +137,7 @@ fed_refused old new past text fed going none is = record {
       let here : Failed k ≡ Failed old.next = sym at ∙ is in
       let line : k ≡ suc (length past) = cc in
       let fault = fault_at AreSerialLines past text (run_begins old.stage past going run)
-      (run_stops old.stage past text run none) in
+      (run_stops tell old.stage past text run none) in
       (omega (arith, length-append past (text ∷ [])), rw line fault);
 }
 
@@ -179,10 +183,10 @@ failed_fault r past text rest k fed is cut =
       first = fault;
     }
 
-pub missing_fault : (r : SerialReader) (past : List (List ℕ)) (text rest : List ℕ) → IsFed r past
+pub missing_fault : LinesTell → (r : SerialReader) (past : List (List ℕ)) (text rest : List ℕ) → IsFed r past
     → is_failed r.stage ≡ false → (is_done r.stage ≡ true → rest ≡ [] → ⊥) → IsCut text past rest
     → IsFaultLine AreSerialLines text r.next
-missing_fault r past text rest fed going none cut = record {
+missing_fault tell r past text rest fed going none cut = record {
   lines = past;
   rest = rest;
   cut = cut;
@@ -192,7 +196,7 @@ missing_fault r past text rest fed going none cut = record {
   where
     by_done : (b : Bool) → is_done r.stage ≡ b → AreSerialLines past → rest ≡ [] → ⊥
     by_done true done are empty = none done empty
-    by_done false undone are empty = fed_undone r past fed undone are
+    by_done false undone are empty = fed_undone tell r past fed undone are
 
 pub in_txns : (ts : List ℕ) → filter_map txn_in (items_of ts) ≡ ts
 in_txns ts = txns_front ts
@@ -227,15 +231,14 @@ pub stops_if : (r : SerialReader) (b : Bool) → b ≡ is_failed r.stage
 stops_if r true is = λ past fed. fed_stops r past fed (sym is)
 stops_if r false is = tt
 
-pub done_iff : (r : SerialReader) (b : Bool) → b ≡ is_done r.stage → (past : List (List ℕ)) → IsFed r past
+pub done_iff : LinesTell → (r : SerialReader) (b : Bool) → b ≡ is_done r.stage → (past : List (List ℕ)) → IsFed r past
     → IsTrue b ↔ AreSerialLines past
-done_iff r true is past fed = (λ t. fed_done r past fed (sym is), λ are. refl)
-done_iff r false is past fed = (λ t. absurd cc, λ are. absurd (fed_undone r past fed (sym is) are))
+done_iff tell r true is past fed = (λ t. fed_done r past fed (sym is), λ are. refl)
+done_iff tell r false is past fed = (λ t. absurd cc, λ are. absurd (fed_undone tell r past fed (sym is) are))
 
-pub refused_by : (s : Stage) (text : List ℕ) (y : Line) → IsLineOf y text → allows s y ≡ false → IsRefused s text
+pub refused_by : (s : Stage) (text : List ℕ) (y : Line) → IsOnlyLineOf y text → allows s y ≡ false → IsRefused s text
 refused_by s text y here never x there ok =
-    let same : x ≡ y = lines_tell x y there.good here.good (sym there.same ∙ here.same) in
-    let allowed : allows s y ≡ true = ap (allows s) (sym same) ∙ ok in
+    let allowed : allows s y ≡ true = ap (allows s) (sym (here.only x there)) ∙ ok in
     absurd cc
 
 pub fault_is : (text : List ℕ) (k : ℕ) (fault : ReadFault) → fault ≡ Syntax Of.Serial k

@@ -1,46 +1,24 @@
 -- The lines of a certificate are those of a run from the head to the tail, and no others are.
-use Rattle.std.proofs.Common.{◌≡◌, ℕ, List, [], ◌∷◌, ◌++◌, map, Some, None, refl, sym, ap, ◌∙◌}
-use Rattle.std.proofs.lemmas.Option.{none-some}
+use Rattle.std.proofs.Common.{◌≡◌, ℕ, List, [], ◌∷◌, ◌++◌, map, refl, sym, ap, ◌∙◌}
 use Rattle.std.specs.List.{AllByRecursion}
 use Rattle.adya_terms.specs.Keys.{IsTxn}
 use Rattle.adya_line.specs.Spelling.{serial_head, tail, txn_text}
-use Rattle.adya_line.specs.Reading.{txn_at_line}
-use Rattle.adya_line.proofs.Apart.{txns_read, one_txn, no_txn_tail, no_txn_head}
-use Rattle.adya_line.proofs.Feeds.{txns_plain, serial_head_plain, tail_plain}
 use Rattle.adya_text.specs.Texts.{IsSerial, serial_lines, AreSerialLines}
-use Rattle.adya_text.specs.Faults.{IsPlain}
 use Rattle.adya_text.specs.Runs.{IsRun, end_of, HasRun}
-use Rattle.adya_text.specs.SerialRuns.{Line, HeadLine, TxnLine, TailLine, IsLine, line_text, allows, next_stage}
-use Rattle.adya_text.specs.SerialReaders.{IsLineOf, IsNoLine}
+use Rattle.adya_line.specs.Laws.{IsOneText, HasPlainTexts}
+use Rattle.adya_line.specs.SerialLines.{Line, HeadLine, TxnLine, TailLine, IsLine, line_text}
+use Rattle.adya_text.specs.SerialRuns.{allows, next_stage}
 use Rattle.adya_text.specs.declared.serial_reader.Stage.{Stage}
 use Rattle.adya_text.specs.declared.serial_reader.Stage.TheVariants.{Head, Txns, Done}
-use Rattle.adya_text.proofs.RunLemmas.{Tells, unlike_line, all_append, all_map}
+use Rattle.adya_text.proofs.RunLemmas.{all_append, all_map}
 
--- ---- lines
+-- each line has a text of its own
+abbrev pub LinesTell : Type 0
+LinesTell = IsOneText IsLine line_text
 
-pub lines_tell : Tells line_text IsLine
-lines_tell HeadLine HeadLine ga gb same = refl
-lines_tell HeadLine (TxnLine t) ga gb same = absurd (unlike_line txns_read no_txn_head t gb (sym same))
-lines_tell HeadLine TailLine ga gb same = absurd cc
-lines_tell (TxnLine t) HeadLine ga gb same = absurd (unlike_line txns_read no_txn_head t ga same)
-lines_tell (TxnLine t) (TxnLine u) ga gb same = ap TxnLine (one_txn t u ga gb same)
-lines_tell (TxnLine t) TailLine ga gb same = absurd (unlike_line txns_read no_txn_tail t ga same)
-lines_tell TailLine HeadLine ga gb same = absurd cc
-lines_tell TailLine (TxnLine t) ga gb same = absurd (unlike_line txns_read no_txn_tail t gb (sym same))
-lines_tell TailLine TailLine ga gb same = refl
-
-pub line_plain : (x : Line) → IsLine x → IsPlain (line_text x)
-line_plain HeadLine is = serial_head_plain
-line_plain (TxnLine t) is = txns_plain t is
-line_plain TailLine is = tail_plain
-
-pub txn_line : (line : List ℕ) (t : ℕ) → txn_at_line line ≡ Some t → IsLineOf (TxnLine t) line
-txn_line line t read = let h = (txns_read line t).0 read in record { good = h.0; same = h.1 }
-
-pub no_line : (line : List ℕ) → txn_at_line line ≡ None → (line ≡ serial_head → ⊥) → (line ≡ tail → ⊥) → IsNoLine line
-no_line line txn head end HeadLine is = head is.same
-no_line line txn head end (TxnLine t) is = none-some t (sym txn ∙ (txns_read line t).1 (is.good, is.same))
-no_line line txn head end TailLine is = end is.same
+-- no line has a line feed
+abbrev pub LinesPlain : Type 0
+LinesPlain = HasPlainTexts IsLine line_text
 
 -- ---- from a certificate to its run
 

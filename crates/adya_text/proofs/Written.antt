@@ -1,15 +1,29 @@
 -- What is written line after line.
-use Rattle.std.proofs.Common.{◌≡◌, ℕ, suc, ◌+◌, ◌<◌, List, [], ◌∷◌, ◌++◌, length, map, take, get_or, Option, Result, refl, sym, ap, subst, ◌∙◌, arith, append_assoc}
+use Rattle.std.proofs.Common.{◌≡◌, ℕ, suc, ◌+◌, ◌<◌, List, [], ◌∷◌, ◌++◌, length, map, take, get_or, Option, Result}
+use Rattle.std.proofs.Common.{Ok, Err, refl, sym, ap, subst, ◌∙◌, arith, append_assoc}
 use Rattle.std.specs.Prelude.{OnOk}
 use Rattle.std.specs.Io.KnownBytes.{Appends}
+use Rattle.std.proofs.KnownBytes.{Appends-trans}
 use Rattle.std.proofs.lemmas.List.{map_push}
 use Rattle.std.proofs.Math.Seq.{take-suc}
 use Rattle.adya_terms.specs.Histories.{History}
 use Rattle.adya_line.specs.Growing.{Grows}
-use Rattle.adya_line.specs.Spelling.{serial_head, tail, event_text, unfinished_text, order_text, final_text, txn_text}
-use Rattle.adya_line.proofs.Growth.{and_then, last_part}
-use Rattle.adya_text.specs.Texts.{with_ends, head_text, history_text, serial_text}
+use Rattle.adya_line.specs.Spelling.{head_text, serial_head, tail, event_text, unfinished_text, order_text}
+use Rattle.adya_line.specs.Spelling.{final_text, txn_text}
+use Rattle.adya_text.specs.Texts.{with_ends, history_text, serial_text}
 use Rattle.adya_text.proofs.LineLists.{ends_append}
+
+-- one part and then another
+and_then : {a b c : Option (List ℕ)} {x y : List ℕ} → Grows a x b → Grows b y c → Grows a (x ++ y) c
+and_then {a = a} {b = b} {c = c} {x = x} {y = y} p q = record {
+  appends = Appends-trans a b c x y p.appends q.appends;
+}
+
+-- the last part, which may fail
+last_part : {E : Type 0} {a b : Option (List ℕ)} {x : List ℕ} (c : Option (List ℕ)) (y : List ℕ)
+    (r : Result (Unit {0}) E) → Grows a x b → OnOk r (Grows b y c) → OnOk r (Grows a (x ++ y) c)
+last_part c y (Ok u) p q = and_then p q
+last_part c y (Err e) p q = tt
 
 -- the bytes of a line with its line feed
 abbrev pub ended : List ℕ → List ℕ

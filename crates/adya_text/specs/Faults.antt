@@ -11,6 +11,12 @@ pub record IsCut (text : List ℕ) (lines : List (List ℕ)) (rest : List ℕ) :
   pub plain_rest : IsPlain rest
   pub whole : text ≡ with_ends lines ++ rest
 
+-- the text begins with these complete lines
+pub record HasFront (text : List ℕ) (lines : List (List ℕ)) : Type 0 where
+  pub plain : All IsPlain lines
+  pub rest : List ℕ
+  pub whole : text ≡ with_ends lines ++ rest
+
 -- the lines begin a text of the grammar
 pub record Begins (grammar : List (List ℕ) → Type 0) (lines : List (List ℕ)) : Type 0 where
   pub more : List (List ℕ)

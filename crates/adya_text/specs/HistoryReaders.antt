@@ -6,13 +6,16 @@ use Rattle.adya_terms.specs.Values.{history_of}
 use Rattle.adya_terms.specs.declared.history.History.{History as HistoryValue}
 use Rattle.adya_text.specs.Texts.{IsHistory, history_text, AreHistoryLines}
 use Rattle.adya_text.specs.Faults.{IsFirstFaulty, IsFaultLine}
+use Rattle.adya_text.specs.Answers.{IsOfText}
 use Rattle.adya_text.specs.Runs.{HasRun}
-use Rattle.adya_text.specs.HistoryRuns.{Line, IsLine, line_text, allows, stage_after, event_in, unfinished_in, order_in, final_in}
+use Rattle.adya_line.specs.HistoryLines.{Line, IsLine, line_text, IsLineOf}
+use Rattle.adya_text.specs.HistoryRuns.{allows, stage_after, event_in, unfinished_in, order_in, final_in}
 use Rattle.adya_text.specs.declared.history_reader.Stage.{Stage}
-use Rattle.adya_text.specs.declared.history_reader.Stage.TheVariants.{Head, Events, Unfinished, Orders, Finals, Done, Failed}
+use Rattle.adya_text.specs.declared.history_reader.Stage.TheVariants.{Head, Events, Unfinished, Orders, Finals}
+use Rattle.adya_text.specs.declared.history_reader.Stage.TheVariants.{Done, Failed}
 use Rattle.adya_text.specs.declared.history_reader.HistoryReader.{HistoryReader}
 use Rattle.adya_text.specs.declared.read_fault.ReadFault.{ReadFault}
-use Rattle.adya_text.specs.declared.read_fault.ReadFault.TheVariants.{Syntax, Memory}
+use Rattle.adya_text.specs.declared.read_fault.ReadFault.TheVariants.{Syntax, Device, Memory}
 use Rattle.adya_text.specs.declared.read_fault.Text.TheVariants as Of
 
 abbrev pub is_failed : Stage → Bool
@@ -47,14 +50,6 @@ pub record IsFed (r : HistoryReader) (lines : List (List ℕ)) : Type 0 where
   pub taken : is_failed r.stage ≡ false → IsTaken r lines
   pub faulty : (k : ℕ) → r.stage ≡ Failed k → (k ≤ length lines) × IsFirstFaulty AreHistoryLines lines k
 
--- the text is that of the line
-pub record IsLineOf (x : Line) (text : List ℕ) : Type 0 where
-  pub good : IsLine x
-  pub same : text ≡ line_text x
-
-abbrev pub IsNoLine : List ℕ → Type 0
-IsNoLine text = (x : Line) → IsLineOf x text → ⊥
-
 -- no line of this text may come in the stage
 abbrev pub IsRefused : Stage → List ℕ → Type 0
 IsRefused s text = (x : Line) → IsLineOf x text → allows s x ≡ true → ⊥
@@ -86,4 +81,13 @@ abbrev pub ReadsHistory : List ℕ → Result HistoryValue ReadFault → Type 0
 ReadsHistory text (Ok h) = IsHistory (history_of h) × (text ≡ history_text (history_of h))
 ReadsHistory text (Err (Syntax Of.History k)) = IsFaultLine AreHistoryLines text k
 ReadsHistory text (Err (Syntax Of.Serial k)) = ⊥
+ReadsHistory text (Err Device) = Unit {0}
 ReadsHistory text (Err Memory) = Unit {0}
+
+-- an answer that is not of the text says nothing of it
+pub untold_history : (text : List ℕ) (result : Result HistoryValue ReadFault) → (IsOfText result → ⊥)
+    → ReadsHistory text result
+untold_history text (Ok v) untold = absurd (untold tt)
+untold_history text (Err (Syntax of line)) untold = absurd (untold tt)
+untold_history text (Err Device) untold = tt
+untold_history text (Err Memory) untold = tt

@@ -1,50 +1,13 @@
 -- Which line of a history text may come next, by the stage that the lines before have led to.
-use Rattle.std.specs.Prelude.{ℕ, Bool, true, false, nat_lt, List, Option, Some, None}
+use Rattle.std.specs.Prelude.{ℕ, Bool, true, false, nat_lt, Option, Some, None}
 use Rattle.adya_terms.specs.declared.edition.Edition.{Edition}
 use Rattle.adya_terms.specs.declared.edition.Edition.TheVariants.{One, Two}
-use Rattle.adya_terms.specs.Keys.{key_lt, IsTxn}
-use Rattle.adya_terms.specs.Histories.{Event, Order, FinalPair, event_of, order_of, final_of}
-use Rattle.adya_line.specs.Spelling.{tail, event_text, unfinished_text, order_text, final_text}
-use Rattle.adya_line.specs.Limits.{IsEvent, IsOrder, IsFinal}
-use Rattle.adya_text.specs.Texts.{head_text}
+use Rattle.adya_terms.specs.Keys.{key_lt}
+use Rattle.adya_terms.specs.Histories.{Event, Order, FinalPair}
+use Rattle.adya_line.specs.HistoryLines.{Line, HeadLine, EventLine, UnfinishedLine, OrderLine, FinalLine, TailLine}
 use Rattle.adya_text.specs.declared.history_reader.Stage.{Stage}
-use Rattle.adya_text.specs.declared.history_reader.Stage.TheVariants.{Head, Events, Unfinished, Orders, Finals, Done, Failed}
-use Rattle.adya_text.specs.declared.history_reader.Line.{Line as LineValue}
-use Rattle.adya_text.specs.declared.history_reader.Line.TheVariants as In
-
--- a line by its kind
-pub data Line : Type 0 where
-  HeadLine : (edition : Edition) → Line
-  EventLine : (event : Event) → Line
-  UnfinishedLine : (txn : ℕ) → Line
-  OrderLine : (order : Order) → Line
-  FinalLine : (pair : FinalPair) → Line
-  TailLine : Line
-
-abbrev pub line_of : LineValue → Line
-line_of (In.Head e) = HeadLine e
-line_of (In.Event v) = EventLine (event_of v)
-line_of (In.Unfinished t) = UnfinishedLine t
-line_of (In.Order o) = OrderLine (order_of o)
-line_of (In.Final f) = FinalLine (final_of f)
-line_of In.Tail = TailLine
-
-abbrev pub line_text : Line → List ℕ
-line_text (HeadLine e) = head_text e
-line_text (EventLine v) = event_text v
-line_text (UnfinishedLine t) = unfinished_text t
-line_text (OrderLine o) = order_text o
-line_text (FinalLine f) = final_text f
-line_text TailLine = tail
-
--- what it holds has a line
-abbrev pub IsLine : Line → Type 0
-IsLine (HeadLine e) = Unit {0}
-IsLine (EventLine v) = IsEvent v
-IsLine (UnfinishedLine t) = IsTxn t
-IsLine (OrderLine o) = IsOrder o
-IsLine (FinalLine f) = IsFinal f
-IsLine TailLine = Unit {0}
+use Rattle.adya_text.specs.declared.history_reader.Stage.TheVariants.{Head, Events, Unfinished, Orders, Finals}
+use Rattle.adya_text.specs.declared.history_reader.Stage.TheVariants.{Done, Failed}
 
 abbrev pub may_be_unfinished : Edition → Bool
 may_be_unfinished One = false

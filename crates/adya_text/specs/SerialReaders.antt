@@ -4,13 +4,15 @@ use Rattle.std.specs.List.{filter_map}
 use Rattle.adya_terms.specs.declared.serial.Serial.{Serial}
 use Rattle.adya_text.specs.Texts.{IsSerial, serial_text, AreSerialLines}
 use Rattle.adya_text.specs.Faults.{IsFirstFaulty, IsFaultLine}
+use Rattle.adya_text.specs.Answers.{IsOfText}
 use Rattle.adya_text.specs.Runs.{HasRun}
-use Rattle.adya_text.specs.SerialRuns.{Line, IsLine, line_text, allows, next_stage, stage_after, txn_in}
+use Rattle.adya_line.specs.SerialLines.{Line, IsLine, line_text, IsLineOf}
+use Rattle.adya_text.specs.SerialRuns.{allows, next_stage, stage_after, txn_in}
 use Rattle.adya_text.specs.declared.serial_reader.Stage.{Stage}
 use Rattle.adya_text.specs.declared.serial_reader.Stage.TheVariants.{Head, Txns, Done, Failed}
 use Rattle.adya_text.specs.declared.serial_reader.SerialReader.{SerialReader}
 use Rattle.adya_text.specs.declared.read_fault.ReadFault.{ReadFault}
-use Rattle.adya_text.specs.declared.read_fault.ReadFault.TheVariants.{Syntax, Memory}
+use Rattle.adya_text.specs.declared.read_fault.ReadFault.TheVariants.{Syntax, Device, Memory}
 use Rattle.adya_text.specs.declared.read_fault.Text.TheVariants as Of
 
 abbrev pub is_failed : Stage → Bool
@@ -35,14 +37,6 @@ pub record IsTaken (r : SerialReader) (lines : List (List ℕ)) : Type 0 where
 pub record IsFed (r : SerialReader) (lines : List (List ℕ)) : Type 0 where
   pub taken : is_failed r.stage ≡ false → IsTaken r lines
   pub faulty : (k : ℕ) → r.stage ≡ Failed k → (k ≤ length lines) × IsFirstFaulty AreSerialLines lines k
-
--- the text is that of the line
-pub record IsLineOf (x : Line) (text : List ℕ) : Type 0 where
-  pub good : IsLine x
-  pub same : text ≡ line_text x
-
-abbrev pub IsNoLine : List ℕ → Type 0
-IsNoLine text = (x : Line) → IsLineOf x text → ⊥
 
 -- no line of this text may come in the stage
 abbrev pub IsRefused : Stage → List ℕ → Type 0
@@ -69,4 +63,13 @@ abbrev pub ReadsSerial : List ℕ → Result Serial ReadFault → Type 0
 ReadsSerial text (Ok s) = IsSerial s.txns.items × (text ≡ serial_text s.txns.items)
 ReadsSerial text (Err (Syntax Of.Serial k)) = IsFaultLine AreSerialLines text k
 ReadsSerial text (Err (Syntax Of.History k)) = ⊥
+ReadsSerial text (Err Device) = Unit {0}
 ReadsSerial text (Err Memory) = Unit {0}
+
+-- an answer that is not of the text says nothing of it
+pub untold_serial : (text : List ℕ) (result : Result Serial ReadFault) → (IsOfText result → ⊥)
+    → ReadsSerial text result
+untold_serial text (Ok v) untold = absurd (untold tt)
+untold_serial text (Err (Syntax of line)) untold = absurd (untold tt)
+untold_serial text (Err Device) untold = tt
+untold_serial text (Err Memory) untold = tt

@@ -1,33 +1,8 @@
 -- Which line of a certificate text may come next, by the stage that the lines before have led to.
-use Rattle.std.specs.Prelude.{ℕ, Bool, true, false, List, Option, Some, None}
-use Rattle.adya_terms.specs.Keys.{IsTxn}
-use Rattle.adya_line.specs.Spelling.{serial_head, tail, txn_text}
+use Rattle.std.specs.Prelude.{ℕ, Bool, true, false, Option, Some, None}
+use Rattle.adya_line.specs.SerialLines.{Line, HeadLine, TxnLine, TailLine}
 use Rattle.adya_text.specs.declared.serial_reader.Stage.{Stage}
 use Rattle.adya_text.specs.declared.serial_reader.Stage.TheVariants.{Head, Txns, Done, Failed}
-use Rattle.adya_text.specs.declared.serial_reader.Line.{Line as LineValue}
-use Rattle.adya_text.specs.declared.serial_reader.Line.TheVariants as In
-
--- a line by its kind
-pub data Line : Type 0 where
-  HeadLine : Line
-  TxnLine : (txn : ℕ) → Line
-  TailLine : Line
-
-abbrev pub line_of : LineValue → Line
-line_of In.Head = HeadLine
-line_of (In.Txn t) = TxnLine t
-line_of In.Tail = TailLine
-
-abbrev pub line_text : Line → List ℕ
-line_text HeadLine = serial_head
-line_text (TxnLine t) = txn_text t
-line_text TailLine = tail
-
--- what it holds has a line
-abbrev pub IsLine : Line → Type 0
-IsLine HeadLine = Unit {0}
-IsLine (TxnLine t) = IsTxn t
-IsLine TailLine = Unit {0}
 
 -- the head comes first, and the tail last
 abbrev pub allows : Stage → Line → Bool

@@ -3,10 +3,9 @@ use Rattle.std.specs.Prelude.{◌≡◌, ℕ, true, List, [], ◌∷◌, ◌++�
 use Rattle.std.specs.List.{AllByRecursion}
 use Rattle.adya_terms.specs.Keys.{IsTxn, keys_rise}
 use Rattle.adya_terms.specs.Shapes.{fits_edition}
-use Rattle.adya_terms.specs.declared.edition.Edition.{Edition}
-use Rattle.adya_terms.specs.declared.edition.Edition.TheVariants.{One, Two}
 use Rattle.adya_terms.specs.Histories.{History}
-use Rattle.adya_line.specs.Spelling.{history_head, second_head, serial_head, tail, event_text, unfinished_text, order_text, final_text, txn_text}
+use Rattle.adya_line.specs.Spelling.{head_text, serial_head, tail}
+use Rattle.adya_line.specs.Spelling.{event_text, unfinished_text, order_text, final_text, txn_text}
 use Rattle.adya_line.specs.Limits.{IsEvent, IsOrder, IsFinal}
 
 -- a history that has a text
@@ -22,11 +21,6 @@ pub record IsHistory (h : History) : Type 0 where
 -- a certificate that has a text
 abbrev pub IsSerial : List ℕ → Type 0
 IsSerial ts = AllByRecursion IsTxn ts
-
--- the first line of an edition
-abbrev pub head_text : Edition → List ℕ
-head_text One = history_head
-head_text Two = second_head
 
 -- the head, the events, the unfinished transactions, the orders, the finals and the tail
 abbrev pub history_lines : History → List (List ℕ)

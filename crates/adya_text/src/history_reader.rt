@@ -1,17 +1,22 @@
 //! A reader of history texts, line by line.
 
-ghost use Rattle.std.specs.Prelude.{◌≡◌, ◌↔◌, ◌++◌, ◌∷◌, [], List, true, ℕ, IsTrue, IfOk, OnOk, OnErr, MatchOption, IsOk, map};
+ghost use Rattle.std.specs.Prelude.{◌≡◌, ◌↔◌, ◌++◌, ◌∷◌, [], List, true, ℕ, IsTrue, IfOk, OnOk, OnErr, IsErr};
+ghost use Rattle.std.specs.Prelude.{MatchOption, IsOk, map};
 ghost use Rattle.std.specs.Bool.{OnTrue, OnFalse};
 ghost use Rattle.adya_terms.specs.Shapes.{fits_edition, is_shape};
 ghost use Rattle.adya_terms.specs.Histories.{order_of, final_of};
-ghost use Rattle.adya_text.specs.HistoryRuns.{allows, edition_at, line_of, stage_after};
-ghost use Rattle.adya_line.specs.Spelling.{history_head, second_head, tail};
+ghost use Rattle.adya_line.specs.HistoryLines.{line_of};
+ghost use Rattle.adya_text.specs.HistoryRuns.{allows, edition_at, stage_after};
 ghost use Rattle.adya_text.specs.Texts.{AreHistoryLines};
-ghost use Rattle.adya_text.specs.Faults.{Begins, IsCut};
-ghost use Rattle.adya_text.specs.HistoryReaders.{IsFed, IsLineOf, IsNoLine, IsRefused, IsAllowed, Takes, IsKept, ReadsHistory, is_done, is_failed};
+ghost use Rattle.adya_text.specs.Faults.{Begins, HasFront, IsCut};
+ghost use Rattle.adya_text.specs.Answers.{IsOfText};
+ghost use Rattle.adya_text.specs.HistoryReaders.{IsFed, IsRefused, IsAllowed, Takes, IsKept, is_done, is_failed};
+ghost use Rattle.adya_text.specs.HistoryReaders.{ReadsHistory, untold_history};
 
+use crate::line_reader::LineReader;
 use crate::read_fault::{ReadFault, Text};
-use adya_line::{event, final_pair, history_head, order, second_head, tail, unfinished};
+use adya_line::laws::history_lines;
+use adya_line::{HistoryLine, history_line};
 use adya_terms::{BadShape, Edition, Event, FinalPair, History, Key, Order, Txn};
 use std::alloc::{AllocError, Global};
 
@@ -34,17 +39,6 @@ enum Stage {
     Failed { line: usize },
 }
 
-/// A line by its kind.
-#[derive(Drop)]
-enum Line {
-    Head(Edition),
-    Event(Event),
-    Unfinished(Txn),
-    Order(Order),
-    Final(FinalPair),
-    Tail,
-}
-
 impl Stage {
     fn is_done(&self) -> bool
         ensures { result ≡ is_done self.now }
@@ -58,28 +52,28 @@ impl Stage {
         matches!(self, Stage::Failed { .. })
     }
 
-    fn allows(&self, line: &Line) -> bool
+    fn allows(&self, line: &HistoryLine) -> bool
         ensures { result ≡ allows self.now (line_of line.now) }
     {
         match line {
-            Line::Head(_) => matches!(self, Stage::Head),
-            Line::Event(_) => matches!(self, Stage::Events { .. }),
-            Line::Unfinished(txn) => match self {
+            HistoryLine::Head(_) => matches!(self, Stage::Head),
+            HistoryLine::Event(_) => matches!(self, Stage::Events { .. }),
+            HistoryLine::Unfinished(txn) => match self {
                 Stage::Events { edition } => matches!(edition, Edition::Two),
                 Stage::Unfinished { last } => *last < *txn,
                 _ => false,
             },
-            Line::Order(order) => match self {
+            HistoryLine::Order(order) => match self {
                 Stage::Events { .. } | Stage::Unfinished { .. } => true,
                 Stage::Orders { last, .. } => *last < order.key,
                 _ => false,
             },
-            Line::Final(pair) => match self {
+            HistoryLine::Final(pair) => match self {
                 Stage::Events { .. } | Stage::Unfinished { .. } | Stage::Orders { .. } => true,
                 Stage::Finals { last, .. } => *last < pair.key,
                 _ => false,
             },
-            Line::Tail => matches!(
+            HistoryLine::Tail => matches!(
                 self,
                 Stage::Events { .. }
                     | Stage::Unfinished { .. }
@@ -104,23 +98,23 @@ impl Stage {
     }
 
     /// The stage behind a line.
-    fn after(&self, line: &Line) -> Stage
+    fn after(&self, line: &HistoryLine) -> Stage
         ensures { result ≡ stage_after self.now (line_of line.now) }
     {
         let edition = self.edition();
         match line {
-            Line::Head(edition) => Stage::Events { edition: *edition },
-            Line::Event(_) => Stage::Events { edition },
-            Line::Unfinished(txn) => Stage::Unfinished { last: *txn },
-            Line::Order(order) => Stage::Orders {
+            HistoryLine::Head(edition) => Stage::Events { edition: *edition },
+            HistoryLine::Event(_) => Stage::Events { edition },
+            HistoryLine::Unfinished(txn) => Stage::Unfinished { last: *txn },
+            HistoryLine::Order(order) => Stage::Orders {
                 edition,
                 last: order.key,
             },
-            Line::Final(pair) => Stage::Finals {
+            HistoryLine::Final(pair) => Stage::Finals {
                 edition,
                 last: pair.key,
             },
-            Line::Tail => Stage::Done { edition },
+            HistoryLine::Tail => Stage::Done { edition },
         }
     }
 }
@@ -157,6 +151,7 @@ impl HistoryReader {
     pub fn is_done(&self) -> bool
         ensures { (past : List (List ℕ)) → IsFed self.now past → IsTrue result ↔ AreHistoryLines past }
     {
+        history_lines();
         self.stage.is_done()
     }
 
@@ -175,6 +170,7 @@ impl HistoryReader {
             → IsFed self.new (past ++ line.now ∷ [])) }
         ensures err { OnErr result ((past : List (List ℕ)) → IsFed self.old past → IsFed self.new past) }
     {
+        history_lines();
         if self.stage.has_failed() {
             return Ok(());
         }
@@ -186,12 +182,12 @@ impl HistoryReader {
     }
 
     /// The line by its kind, if it may come next.
-    fn allowed(&self, line: &[u8]) -> Result<Option<Line>, AllocError>
+    fn allowed(&self, line: &[u8]) -> Result<Option<HistoryLine>, AllocError>
         ensures { IfOk result
             (λ o. MatchOption o (IsRefused self.now.stage line.now)
             (λ x. IsAllowed self.now.stage line.now (line_of x))) }
     {
-        let Some(read) = read_line(self.alloc, line)? else {
+        let Some(read) = history_line(self.alloc, line)? else {
             return Ok(None);
         };
         if !self.stage.allows(&read) {
@@ -200,18 +196,18 @@ impl HistoryReader {
         Ok(Some(read))
     }
 
-    fn take(&mut self, line: Line) -> Result<(), AllocError>
+    fn take(&mut self, line: HistoryLine) -> Result<(), AllocError>
         ensures ok { OnOk result (Takes self.old self.new (line_of line)) }
         ensures err { OnErr result (IsKept self.old self.new) }
     {
         let stage = self.stage.after(&line);
         let next = self.next.checked_add(1).ok_or(AllocError)?;
         match line {
-            Line::Event(event) => self.events.push(event)?,
-            Line::Unfinished(txn) => self.unfinished.push(txn)?,
-            Line::Order(order) => self.orders.push(order)?,
-            Line::Final(pair) => self.finals.push(pair)?,
-            Line::Head(_) | Line::Tail => {}
+            HistoryLine::Event(event) => self.events.push(event)?,
+            HistoryLine::Unfinished(txn) => self.unfinished.push(txn)?,
+            HistoryLine::Order(order) => self.orders.push(order)?,
+            HistoryLine::Final(pair) => self.finals.push(pair)?,
+            HistoryLine::Head(_) | HistoryLine::Tail => {}
         }
         self.stage = stage;
         self.next = next;
@@ -221,9 +217,14 @@ impl HistoryReader {
     /// The history whose lines were fed, where nothing stands behind its tail. `rest` is what stands behind the last
     /// line feed of the text. `Syntax` with the line of the fault where the text is that of no history.
     pub fn finish(self, rest: &[u8]) -> Result<History, ReadFault>
-        ensures { (past : List (List ℕ)) → IsFed self past → (text : List ℕ) → IsCut text past rest.now
+        ensures answer { (past : List (List ℕ)) → IsFed self past → (text : List ℕ) → IsCut text past rest.now
             → ReadsHistory text result }
+        ensures early { (past : List (List ℕ)) → IsFed self past → (Begins AreHistoryLines past → ⊥)
+            → (text : List ℕ) → HasFront text past → ReadsHistory text result }
+        ensures refused { (past : List (List ℕ)) → IsFed self past → (Begins AreHistoryLines past → ⊥) → IsErr result }
+        ensures of_text { IsOfText result }
     {
+        history_lines();
         if let Stage::Failed { line } = self.stage {
             return Err(fault_at(line));
         }
@@ -249,6 +250,30 @@ impl HistoryReader {
     }
 }
 
+impl LineReader for HistoryReader {
+    type Value = History;
+
+    ghost grammar = { AreHistoryLines };
+
+    ghost is_fed = { IsFed };
+
+    ghost reads = { ReadsHistory };
+
+    ghost untold = { untold_history };
+
+    fn has_failed(&self) -> bool {
+        HistoryReader::has_failed(self)
+    }
+
+    fn line(&mut self, line: &[u8]) -> Result<(), AllocError> {
+        HistoryReader::line(self, line)
+    }
+
+    fn finish(self, rest: &[u8]) -> Result<History, ReadFault> {
+        HistoryReader::finish(self, rest)
+    }
+}
+
 /// The history of the edition with these lists.
 fn of_edition(
     edition: Edition,
@@ -259,7 +284,8 @@ fn of_edition(
 ) -> Result<History, BadShape>
     ensures limits { fits_edition edition unfinished.items ≡ true
         → is_shape (map order_of orders.items) (map final_of finals.items) ≡ true → IsOk result }
-    ensures edition { fits_edition edition unfinished.items ≡ true → IfOk result (λ h. (h.edition ≡ edition) × (h.unfinished.items ≡ unfinished.items)) }
+    ensures edition { fits_edition edition unfinished.items ≡ true
+        → IfOk result (λ h. (h.edition ≡ edition) × (h.unfinished.items ≡ unfinished.items)) }
     ensures same { IfOk result (λ h. (h.events ≡ events) × (h.orders ≡ orders) × (h.finals ≡ finals)) }
 {
     match edition {
@@ -275,50 +301,4 @@ fn fault_at(line: usize) -> ReadFault
         text: Text::History,
         line,
     }
-}
-
-fn is_head(line: &[u8]) -> bool
-    ensures { IsTrue result ↔ (line.now ≡ history_head) }
-{
-    line == history_head()
-}
-
-fn is_second_head(line: &[u8]) -> bool
-    ensures { IsTrue result ↔ (line.now ≡ second_head) }
-{
-    line == second_head()
-}
-
-fn is_tail(line: &[u8]) -> bool
-    ensures { IsTrue result ↔ (line.now ≡ tail) }
-{
-    line == tail()
-}
-
-/// The line by its kind, without its line feed. None where it has no kind.
-fn read_line(alloc: Global, line: &[u8]) -> Result<Option<Line>, AllocError>
-    ensures { IfOk result (λ o. MatchOption o (IsNoLine line.now) (λ x. IsLineOf (line_of x) line.now)) }
-{
-    if let Some(event) = event(alloc, line)? {
-        return Ok(Some(Line::Event(event)));
-    }
-    if let Some(txn) = unfinished(line) {
-        return Ok(Some(Line::Unfinished(txn)));
-    }
-    if let Some(order) = order(alloc, line)? {
-        return Ok(Some(Line::Order(order)));
-    }
-    if let Some(pair) = final_pair(line) {
-        return Ok(Some(Line::Final(pair)));
-    }
-    if is_head(line) {
-        return Ok(Some(Line::Head(Edition::One)));
-    }
-    if is_second_head(line) {
-        return Ok(Some(Line::Head(Edition::Two)));
-    }
-    if is_tail(line) {
-        return Ok(Some(Line::Tail));
-    }
-    Ok(None)
 }

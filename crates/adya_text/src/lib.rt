@@ -3,10 +3,12 @@
 
 mod history_reader;
 pub mod laws;
+mod line_reader;
 mod lines;
 mod read_fault;
 mod reading;
 mod serial_reader;
+mod sources;
 mod writing;
 
 pub use adya_line::{
@@ -18,6 +20,7 @@ pub use lines::{LineBuffer, LineFault};
 pub use read_fault::{ReadFault, Text};
 pub use reading::{read_history, read_serial};
 pub use serial_reader::SerialReader;
+pub use sources::{read_history_from, read_history_part, read_serial_from, read_serial_rest};
 pub use writing::{WriteFault, write_history, write_serial};
 
 #[cfg(test)]

@@ -1,6 +1,7 @@
 //! Lines of any length out of a source.
 
-ghost use Rattle.std.specs.Prelude.{◌≡◌, ◌≢◌, ◌↔◌, ℕ, ◌+◌, ◌*◌, ◌<◌, ◌≤◌, List, [], ◌∷◌, ◌++◌, length, All, true, false, if◌then◌else◌, IfOk, OnOk, IsErrOf, slice_range};
+ghost use Rattle.std.specs.Prelude.{◌≡◌, ◌≢◌, ◌↔◌, ℕ, ◌+◌, ◌*◌, ◌<◌, ◌≤◌, List, [], ◌∷◌, ◌++◌, length, All, true};
+ghost use Rattle.std.specs.Prelude.{false, if◌then◌else◌, IfOk, OnOk, IsErrOf, slice_range};
 ghost use Rattle.std.specs.Io.KnownBytes.{Consumes, IsAtEnd, prepend_known};
 ghost use Rattle.adya_text.specs.Buffers.{work_left, line_end};
 
@@ -84,6 +85,7 @@ impl LineBuffer {
         ensures end { IfOk result (λ some. some ≡ false → (self.new ≡ []) × IsAtEnd (S.remaining source.new)) }
         ensures fault { IsErrOf result LineFault.Device ↔ (S.is_failed source.new ≡ true) }
         ensures memory { IsErrOf result LineFault.Memory → ⊥ }
+        ensures works { OnOk result (S.is_failed source.new ≡ false) }
         ensures kept { S.is_failed source.old ≡ true → S.is_failed source.new ≡ true }
         ensures less { IfOk result (λ some. some ≡ true → S.left source.new < S.left source.old) }
         ensures no_more { S.left source.new ≤ S.left source.old }
@@ -118,6 +120,8 @@ impl LineBuffer {
         ensures fault { IsErrOf result LineFault.Device → S.is_failed source.new ≡ true }
         ensures stream { S.same source.old source.new }
         ensures unfailed { (IsErrOf result LineFault.Device → ⊥) → S.is_failed source.new ≡ S.is_failed source.old }
+        ensures read_works { self.old ≡ [] → OnOk result (S.is_failed source.new ≡ false) }
+        ensures end_works { IfOk result (λ ended. ended ≡ false → S.is_failed source.new ≡ false) }
     {
         line.clear();
         loop {

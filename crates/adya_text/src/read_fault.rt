@@ -2,6 +2,7 @@
 
 ghost use Rattle.std.specs.Prelude.{◌≡◌};
 
+use crate::lines::LineFault;
 use std::alloc::AllocError;
 use thiserror::Error;
 
@@ -21,6 +22,9 @@ pub enum ReadFault {
     /// the lines so far begin no text of the grammar.
     #[error("no text of the grammar at line {line}")]
     Syntax { text: Text, line: usize },
+    /// The source failed: a read failed, or the bound on read calls was met. Nothing is said of the text.
+    #[error("read fault")]
+    Device,
     /// Memory ran out; nothing is said of the text.
     #[error("memory")]
     Memory,
@@ -33,5 +37,18 @@ impl From<AllocError> for ReadFault {
 
     fn from(_: AllocError) -> ReadFault {
         ReadFault::Memory
+    }
+}
+
+impl From<LineFault> for ReadFault {
+    ghost use Rattle.adya_text.specs.Answers.{fault_of};
+
+    ghost from_gives = { λ e f. f ≡ fault_of e };
+
+    fn from(fault: LineFault) -> ReadFault {
+        match fault {
+            LineFault::Device => ReadFault::Device,
+            LineFault::Memory => ReadFault::Memory,
+        }
     }
 }

@@ -1,6 +1,6 @@
 //! Reading whole texts.
 
-ghost use Rattle.std.specs.Prelude.{◌≡◌, List, ℕ, MatchResult};
+ghost use Rattle.std.specs.Prelude.{◌≡◌, List, [], ℕ, MatchResult, IsErrOf};
 ghost use Rattle.adya_terms.specs.Histories.{History as Plain};
 ghost use Rattle.adya_terms.specs.Values.{history_of};
 ghost use Rattle.adya_text.specs.Texts.{IsHistory, IsSerial, history_text, serial_text};
@@ -8,8 +8,10 @@ ghost use Rattle.adya_text.specs.HistoryReaders.{ReadsHistory};
 ghost use Rattle.adya_text.specs.SerialReaders.{ReadsSerial};
 
 use crate::history_reader::HistoryReader;
+use crate::line_reader::LineReader;
 use crate::read_fault::ReadFault;
 use crate::serial_reader::SerialReader;
+use adya_line::laws::{history_lines, serial_lines};
 use adya_terms::{History, Serial};
 use memchr::memchr;
 use std::alloc::Global;
@@ -19,22 +21,12 @@ use std::alloc::Global;
 /// out.
 pub fn read_history(alloc: Global, text: &[u8]) -> Result<History, ReadFault>
     ensures answer { ReadsHistory text.now result }
+    ensures no_device { IsErrOf result ReadFault.Device → ⊥ }
     ensures only { (h : Plain) → IsHistory h → text.now ≡ history_text h →
         MatchResult result (λ v. history_of v ≡ h) (λ e. e ≡ ReadFault.Memory) }
 {
-    history_in(alloc, text)
-}
-
-fn history_in(alloc: Global, text: &[u8]) -> Result<History, ReadFault>
-    ensures { ReadsHistory text.now result }
-{
-    let mut reader = HistoryReader::new(alloc);
-    let mut rest = text;
-    'lines: while let Some(at) = memchr(b'\n', rest) {
-        reader.line(&rest[..at])?;
-        rest = &rest[at + 1..];
-    }
-    reader.finish(rest)
+    history_lines();
+    read_lines(HistoryReader::new(alloc), text)
 }
 
 /// The certificate whose text this is. `Syntax` exactly where the text is that of no certificate, with the line of
@@ -42,16 +34,21 @@ fn history_in(alloc: Global, text: &[u8]) -> Result<History, ReadFault>
 /// memory ran out.
 pub fn read_serial(alloc: Global, text: &[u8]) -> Result<Serial, ReadFault>
     ensures answer { ReadsSerial text.now result }
+    ensures no_device { IsErrOf result ReadFault.Device → ⊥ }
     ensures only { (ts : List ℕ) → IsSerial ts → text.now ≡ serial_text ts →
         MatchResult result (λ v. v.txns.items ≡ ts) (λ e. e ≡ ReadFault.Memory) }
 {
-    serial_in(alloc, text)
+    serial_lines();
+    read_lines(SerialReader::new(alloc), text)
 }
 
-fn serial_in(alloc: Global, text: &[u8]) -> Result<Serial, ReadFault>
-    ensures { ReadsSerial text.now result }
+/// Feeds the reader with the lines of the text.
+fn read_lines<R: LineReader>(reader: R, text: &[u8]) -> Result<R::Value, ReadFault>
+    requires { R.is_fed reader [] }
+    ensures answer { R.reads text.now result }
+    ensures no_device { IsErrOf result ReadFault.Device → ⊥ }
 {
-    let mut reader = SerialReader::new(alloc);
+    let mut reader = reader;
     let mut rest = text;
     'lines: while let Some(at) = memchr(b'\n', rest) {
         reader.line(&rest[..at])?;

@@ -1,15 +1,19 @@
 //! A reader of certificate texts, line by line.
 
-ghost use Rattle.std.specs.Prelude.{◌≡◌, ◌↔◌, ◌++◌, ◌∷◌, [], List, ℕ, IsTrue, IfOk, OnOk, OnErr, MatchOption};
+ghost use Rattle.std.specs.Prelude.{◌≡◌, ◌↔◌, ◌++◌, ◌∷◌, [], List, ℕ, IsTrue, IfOk, OnOk, OnErr, IsErr, MatchOption};
 ghost use Rattle.std.specs.Bool.{OnTrue, OnFalse};
-ghost use Rattle.adya_line.specs.Spelling.{serial_head, tail};
-ghost use Rattle.adya_text.specs.SerialRuns.{allows, line_of, stage_after};
+ghost use Rattle.adya_line.specs.SerialLines.{line_of};
+ghost use Rattle.adya_text.specs.SerialRuns.{allows, stage_after};
 ghost use Rattle.adya_text.specs.Texts.{AreSerialLines};
-ghost use Rattle.adya_text.specs.Faults.{Begins, IsCut};
-ghost use Rattle.adya_text.specs.SerialReaders.{IsFed, IsLineOf, IsNoLine, IsRefused, IsAllowed, Takes, IsKept, ReadsSerial, is_done, is_failed};
+ghost use Rattle.adya_text.specs.Faults.{Begins, HasFront, IsCut};
+ghost use Rattle.adya_text.specs.Answers.{IsOfText};
+ghost use Rattle.adya_text.specs.SerialReaders.{IsFed, IsRefused, IsAllowed, Takes, IsKept, is_done, is_failed};
+ghost use Rattle.adya_text.specs.SerialReaders.{ReadsSerial, untold_serial};
 
+use crate::line_reader::LineReader;
 use crate::read_fault::{ReadFault, Text};
-use adya_line::{serial_head, tail, txn};
+use adya_line::laws::serial_lines;
+use adya_line::{SerialLine, serial_line};
 use adya_terms::{Serial, Txn};
 use std::alloc::{AllocError, Global};
 
@@ -26,14 +30,6 @@ enum Stage {
     Failed { line: usize },
 }
 
-/// A line by its kind.
-#[derive(Clone, Copy)]
-enum Line {
-    Head,
-    Txn(Txn),
-    Tail,
-}
-
 impl Stage {
     fn is_done(&self) -> bool
         ensures { result ≡ is_done self.now }
@@ -47,22 +43,22 @@ impl Stage {
         matches!(self, Stage::Failed { .. })
     }
 
-    fn allows(&self, line: &Line) -> bool
+    fn allows(&self, line: &SerialLine) -> bool
         ensures { result ≡ allows self.now (line_of line.now) }
     {
         match line {
-            Line::Head => matches!(self, Stage::Head),
-            Line::Txn(_) | Line::Tail => matches!(self, Stage::Txns),
+            SerialLine::Head => matches!(self, Stage::Head),
+            SerialLine::Txn(_) | SerialLine::Tail => matches!(self, Stage::Txns),
         }
     }
 
     /// The stage behind a line.
-    fn after(line: &Line) -> Stage
+    fn after(line: &SerialLine) -> Stage
         ensures { result ≡ stage_after (line_of line.now) }
     {
         match line {
-            Line::Head | Line::Txn(_) => Stage::Txns,
-            Line::Tail => Stage::Done,
+            SerialLine::Head | SerialLine::Txn(_) => Stage::Txns,
+            SerialLine::Tail => Stage::Done,
         }
     }
 }
@@ -91,6 +87,7 @@ impl SerialReader {
     pub fn is_done(&self) -> bool
         ensures { (past : List (List ℕ)) → IsFed self.now past → IsTrue result ↔ AreSerialLines past }
     {
+        serial_lines();
         self.stage.is_done()
     }
 
@@ -109,6 +106,7 @@ impl SerialReader {
             → IsFed self.new (past ++ line.now ∷ [])) }
         ensures err { OnErr result ((past : List (List ℕ)) → IsFed self.old past → IsFed self.new past) }
     {
+        serial_lines();
         if self.stage.has_failed() {
             return Ok(());
         }
@@ -120,11 +118,11 @@ impl SerialReader {
     }
 
     /// The line by its kind, if it may come next.
-    fn allowed(&self, line: &[u8]) -> Option<Line>
+    fn allowed(&self, line: &[u8]) -> Option<SerialLine>
         ensures { MatchOption result (IsRefused self.now.stage line.now)
             (λ x. IsAllowed self.now.stage line.now (line_of x)) }
     {
-        let Some(read) = read_line(line) else {
+        let Some(read) = serial_line(line) else {
             return None;
         };
         if !self.stage.allows(&read) {
@@ -133,13 +131,13 @@ impl SerialReader {
         Some(read)
     }
 
-    fn take(&mut self, line: Line) -> Result<(), AllocError>
+    fn take(&mut self, line: SerialLine) -> Result<(), AllocError>
         ensures ok { OnOk result (Takes self.old self.new (line_of line)) }
         ensures err { OnErr result (IsKept self.old self.new) }
     {
         let stage = Stage::after(&line);
         let next = self.next.checked_add(1).ok_or(AllocError)?;
-        if let Line::Txn(txn) = line {
+        if let SerialLine::Txn(txn) = line {
             self.txns.push(txn)?;
         }
         self.stage = stage;
@@ -150,9 +148,14 @@ impl SerialReader {
     /// The certificate whose lines were fed, where nothing stands behind its tail. `rest` is what stands behind the
     /// last line feed of the text. `Syntax` with the line of the fault where the text is that of no certificate.
     pub fn finish(self, rest: &[u8]) -> Result<Serial, ReadFault>
-        ensures { (past : List (List ℕ)) → IsFed self past → (text : List ℕ) → IsCut text past rest.now
+        ensures answer { (past : List (List ℕ)) → IsFed self past → (text : List ℕ) → IsCut text past rest.now
             → ReadsSerial text result }
+        ensures early { (past : List (List ℕ)) → IsFed self past → (Begins AreSerialLines past → ⊥)
+            → (text : List ℕ) → HasFront text past → ReadsSerial text result }
+        ensures refused { (past : List (List ℕ)) → IsFed self past → (Begins AreSerialLines past → ⊥) → IsErr result }
+        ensures of_text { IsOfText result }
     {
+        serial_lines();
         if let Stage::Failed { line } = self.stage {
             return Err(fault_at(line));
         }
@@ -166,6 +169,30 @@ impl SerialReader {
     }
 }
 
+impl LineReader for SerialReader {
+    type Value = Serial;
+
+    ghost grammar = { AreSerialLines };
+
+    ghost is_fed = { IsFed };
+
+    ghost reads = { ReadsSerial };
+
+    ghost untold = { untold_serial };
+
+    fn has_failed(&self) -> bool {
+        SerialReader::has_failed(self)
+    }
+
+    fn line(&mut self, line: &[u8]) -> Result<(), AllocError> {
+        SerialReader::line(self, line)
+    }
+
+    fn finish(self, rest: &[u8]) -> Result<Serial, ReadFault> {
+        SerialReader::finish(self, rest)
+    }
+}
+
 fn fault_at(line: usize) -> ReadFault
     ensures { result ≡ ReadFault.Syntax Text.Serial line }
 {
@@ -173,32 +200,4 @@ fn fault_at(line: usize) -> ReadFault
         text: Text::Serial,
         line,
     }
-}
-
-fn is_head(line: &[u8]) -> bool
-    ensures { IsTrue result ↔ (line.now ≡ serial_head) }
-{
-    line == serial_head()
-}
-
-fn is_tail(line: &[u8]) -> bool
-    ensures { IsTrue result ↔ (line.now ≡ tail) }
-{
-    line == tail()
-}
-
-/// The line by its kind, without its line feed. None where it has no kind.
-fn read_line(line: &[u8]) -> Option<Line>
-    ensures { MatchOption result (IsNoLine line.now) (λ x. IsLineOf (line_of x) line.now) }
-{
-    if let Some(txn) = txn(line) {
-        return Some(Line::Txn(txn));
-    }
-    if is_head(line) {
-        return Some(Line::Head);
-    }
-    if is_tail(line) {
-        return Some(Line::Tail);
-    }
-    None
 }

@@ -6,8 +6,9 @@ ghost use Rattle.adya_terms.specs.Histories.{event_of, order_of, final_of};
 ghost use Rattle.adya_terms.specs.Values.{history_of};
 ghost use Rattle.adya_terms.specs.Watched.{has_failed, watched_contents};
 ghost use Rattle.adya_line.specs.Growing.{Grows};
+ghost use Rattle.adya_line.specs.Spelling.{head_text};
 ghost use Rattle.adya_line.specs.Spelling.{event_text, unfinished_text, order_text, final_text, txn_text};
-ghost use Rattle.adya_text.specs.Texts.{head_text, with_ends, history_text, serial_text};
+ghost use Rattle.adya_text.specs.Texts.{with_ends, history_text, serial_text};
 
 use adya_line::{
     history_head, second_head, serial_head, tail, write_event, write_final, write_order, write_txn,

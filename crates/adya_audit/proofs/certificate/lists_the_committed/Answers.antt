@@ -1,27 +1,31 @@
-use Rattle.std.proofs.Common.{◌&&◌, is_some, map, ◌∙◌, sym, ap, nat_cmp}
+use Rattle.std.proofs.Common.{◌≡◌, ◌&&◌, ℕ, List, map, sym, ◌∙◌, ap, nat_cmp}
 use Rattle.std.specs.List.{list_all}
-use Rattle.std.specs.BTreeMap.{get}
 use Rattle.std.specs.BTreeSet.{contains}
 use Rattle.adya_terms.specs.Histories.{event_of}
-use Rattle.adya_audit.specs.Backward.{commit_passes}
-use Rattle.adya_audit.proofs.Counts.{lists_by_tables}
+use Rattle.adya_terms.specs.Values.{history_of}
+use Rattle.adya_audit.specs.Listed.{commit_passes}
+use Rattle.adya_audit.proofs.Counts.{twice_fails, lists_by_set}
 use Rattle.adya_audit.proofs.certificate.lists_the_committed.Goals as goal
+use Rattle.adya_audit.proofs.certificate.lists_the_committed.Goals.{then-all_committed, else-all_committed}
 
-pub returns-then-all_committed : goal.returns-then-all_committed
-returns-then-all_committed c =
-    let found = list_all (λ t. contains nat_cmp c.args.committed.now t) c.args.txns.now in
-    let placed =
-    list_all (commit_passes (λ t. is_some (get nat_cmp c.args.places.now t))) (map event_of c.args.events.now) in
-    c.all_placed.ensures ∙
-    (sym (ap (λ b. b && placed) (sym c.all_committed.ensures ∙ c.if-all_committed.true)) ∙
-    lists_by_tables (map event_of c.args.events.now) c.args.txns.now (λ t. contains nat_cmp c.args.committed.now t)
-    (λ t. is_some (get nat_cmp c.args.places.now t)) c.requires.places c.requires.committed)
+pub returns-in_default : goal.returns-in_default
+returns-in_default c =
+    let h = history_of c.args.checked.now.history.now in
+    let twice = rw c.in_default.is at c.in_ok-listed.ensures in
+    sym (twice_fails h.events c.args.txns.now twice.0 twice.1)
 
-pub returns-else-all_committed : goal.returns-else-all_committed
-returns-else-all_committed c =
-    let placed =
-    list_all (commit_passes (λ t. is_some (get nat_cmp c.args.places.now t))) (map event_of c.args.events.now) in
-    c.if-all_committed.false ∙
-    (sym (ap (λ b. b && placed) (sym c.all_committed.ensures ∙ c.if-all_committed.false)) ∙
-    lists_by_tables (map event_of c.args.events.now) c.args.txns.now (λ t. contains nat_cmp c.args.committed.now t)
-    (λ t. is_some (get nat_cmp c.args.places.now t)) c.requires.places c.requires.committed)
+pub returns : goal.returns
+returns c =
+    let h = history_of c.args.checked.now.history.now in
+    let listed = λ (t : ℕ). contains nat_cmp c.in-Some.listed t in
+    let all = lists_by_set h.events c.args.txns.now listed (rw c.in-Some.is at c.in_ok-listed.ensures) in
+    let events = c.events-events.ensures ∙ ap (λ x. x.events.items) c.history.ensures.same in
+    let rest = list_all (commit_passes listed) h.events in
+    elim c.if-all_committed.branch [
+      | then-all_committed w ↦
+          w.result-is ∙ w.all_listed.ensures ∙ ap (λ es. list_all (commit_passes listed) (map event_of es)) events
+          ∙ ap (λ b. b && rest) (sym w.if-all_committed.true ∙ c.all_committed.ensures) ∙ all
+      | else-all_committed w ↦
+          w.result-is ∙ w.if-all_committed.false
+          ∙ ap (λ b. b && rest) (sym w.if-all_committed.false ∙ c.all_committed.ensures) ∙ all
+    ]

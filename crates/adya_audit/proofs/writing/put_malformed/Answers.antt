@@ -1,4 +1,5 @@
-use Rattle.adya_audit.proofs.Growth.{and_then, last_part, last_told}
+use Rattle.adya_line.proofs.Growth.{and_then, last_part}
+use Rattle.adya_audit.proofs.Growth.{last_told}
 use Rattle.adya_audit.proofs.writing.put_malformed.Goals as goal
 
 pub returns-clause-written : goal.returns-clause-written

@@ -1,4 +1,5 @@
-use Rattle.adya_audit.proofs.Growth.{and_then, told, last_part}
+use Rattle.adya_line.proofs.Growth.{and_then, last_part}
+use Rattle.adya_audit.proofs.Growth.{told}
 use Rattle.adya_audit.proofs.writing.put_syntax.Goals as goal
 
 pub returns-clause-written : goal.returns-clause-written

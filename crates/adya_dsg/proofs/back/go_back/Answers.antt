@@ -1,43 +1,41 @@
-use Rattle.std.proofs.Common.{◌≡◌, ◌==◌, true, map, reverse, All, Contains, ◌++◌, [], ◌∷◌, subst, ◌∙◌, sym, refl}
+use Rattle.std.proofs.Common.{◌≡◌, ◌==◌, true, reverse, All, Contains, ◌++◌, [], ◌∷◌, subst, ◌∙◌, sym, refl}
 use Rattle.std.specs.List.{list_any}
 use Rattle.std.specs.Ordering.{nat_cmp}
 use Rattle.std.specs.BTreeSet.{contains}
 use Rattle.std.proofs.lemmas.List.Elements.{All-push}
 use Rattle.std.proofs.lemmas.List.Sorted.{All-permutation, list_any-IsPermutation}
-use Rattle.adya_dsg.specs.declared.edge.Edge.{Edge}
-use Rattle.adya_terms.specs.Edges.{IsPath}
-use Rattle.adya_dsg.specs.Values.{edge_of}
+use Rattle.adya_dsg.specs.declared.arc.Arc.{Arc}
+use Rattle.adya_dsg.specs.Graphs.{IsWay}
 use Rattle.adya_dsg.proofs.Paths.{reverse_push}
 use Rattle.adya_dsg.proofs.Sets.{met_more}
 use Rattle.adya_dsg.proofs.back.go_back.Goals as goal
 
 pub back-preserved : goal.back-preserved
 back-preserved c =
-    let e = c.in-Some.e in
+    let a = c.in-Some.a in
     let found = c.in-Some.ensures.found in
-    let longer : c.push.new.self.items ≡ c.back.trail.items ++ e ∷ [] = c.in_ok-push-in-Some.ensures.items in
+    let longer : c.push.new.self.items ≡ c.back.trail.items ++ a ∷ [] = c.in_ok-push-in-Some.ensures.items in
     let was = c.back.invariant in
     record {
       is_left = found.2;
-      path = subst (λ xs. IsPath e.from (map edge_of (reverse xs)) c.args.from) (sym longer)
-          (subst (λ xs. IsPath e.from (map edge_of xs) c.args.from) (sym (reverse_push c.back.trail.items e)) (
+      way = subst (λ xs. IsWay a.from (reverse xs) c.args.from) (sym longer)
+          (subst (λ xs. IsWay a.from xs c.args.from) (sym (reverse_push c.back.trail.items a)) (
             refl,
-            subst (λ x. IsPath x (map edge_of (reverse c.back.trail.items)) c.args.from)
-                (sym found.1) was.path,
+            subst (λ x. IsWay x (reverse c.back.trail.items) c.args.from) (sym found.1) was.way,
           ));
-      known = subst (All (Contains c.args.edges.now)) (sym longer)
-          (All-push (Contains c.args.edges.now) c.back.trail.items e was.known found.0);
-      met = λ q l n. subst (λ xs. list_any (λ (x : Edge). x.to == q) xs ≡ true) (sym longer)
+      known = subst (All (Contains c.args.arcs.now)) (sym longer)
+          (All-push (Contains c.args.arcs.now) c.back.trail.items a was.known found.0);
+      met = λ q l n. subst (λ xs. list_any (λ (x : Arc). x.to == q) xs ≡ true) (sym longer)
           (met_more (contains nat_cmp c.args.left.now) (contains nat_cmp c.back.unmet)
-          (contains nat_cmp c.remove.new.self) c.back.trail.items e c.back.at found.1
+          (contains nat_cmp c.remove.new.self) c.back.trail.items a c.back.at found.1
           c.back-test.ensures.updates.0 was.met q l n);
     }
 
 pub close-requires-clause-returns : goal.close-requires-clause-returns
 close-requires-clause-returns c =
-    sym (list_any-IsPermutation (λ (x : Edge). x.to == c.back.at) _ _ c.reverse.ensures.permutation) ∙
+    sym (list_any-IsPermutation (λ (x : Arc). x.to == c.back.at) _ _ c.reverse.ensures.permutation) ∙
     c.back.invariant.met c.back.at c.back.invariant.is_left (sym c.remove.ensures.test ∙ c.back-test.false)
 
 pub close-requires-clause-known : goal.close-requires-clause-known
 close-requires-clause-known c =
-    All-permutation (Contains c.args.edges.now) _ _ c.reverse.ensures.permutation c.back.invariant.known
+    All-permutation (Contains c.args.arcs.now) _ _ c.reverse.ensures.permutation c.back.invariant.known

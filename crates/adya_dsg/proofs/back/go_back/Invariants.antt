@@ -1,21 +1,20 @@
-use Rattle.std.proofs.Common.{◌≡◌, ℕ, true, false, ◌==◌, List, map, reverse, All, Contains}
+use Rattle.std.proofs.Common.{◌≡◌, ℕ, true, false, ◌==◌, List, reverse, All, Contains}
 use Rattle.std.specs.List.{list_any}
 use Rattle.std.specs.Ordering.{nat_cmp}
 use Rattle.std.specs.BTreeSet.{BTreeSet, contains, btree_set_len}
-use Rattle.adya_dsg.specs.declared.edge.Edge.{Edge}
-use Rattle.adya_terms.specs.Edges.{IsPath}
-use Rattle.adya_dsg.specs.Values.{edge_of}
+use Rattle.adya_dsg.specs.declared.arc.Arc.{Arc}
+use Rattle.adya_dsg.specs.Graphs.{IsWay}
 use Rattle.adya_dsg.proofs.back.go_back.Given as goal
 
-pub record Walks (graph trail : List Edge) (left unmet : BTreeSet ℕ) (from at : ℕ) : Type 0 where
+pub record Walks (arcs trail : List Arc) (left unmet : BTreeSet ℕ) (from at : ℕ) : Type 0 where
   pub is_left : contains nat_cmp left at ≡ true
-  pub path : IsPath at (map edge_of (reverse trail)) from
-  pub known : All (Contains graph) trail
+  pub way : IsWay at (reverse trail) from
+  pub known : All (Contains arcs) trail
   pub met : (q : ℕ) → contains nat_cmp left q ≡ true → contains nat_cmp unmet q ≡ false
-      → list_any (λ e. e.to == q) trail ≡ true
+      → list_any (λ a. a.to == q) trail ≡ true
 
 abbrev pub invariant-back : goal.invariant-back
-invariant-back l = Walks l.edges l.trail.items l.left l.unmet l.fn.from l.at
+invariant-back l = Walks l.arcs l.trail.items l.left l.unmet l.fn.from l.at
 
 abbrev pub decreases-back : goal.decreases-back
 decreases-back l = btree_set_len l.unmet

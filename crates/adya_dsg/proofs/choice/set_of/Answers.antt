@@ -16,4 +16,5 @@ loop-t-preserved c q =
     sym (list_any_more (λ u. u == q) ts i t c.loop-t-test.true)))
 
 pub returns : goal.returns
-returns c q = c.loop-t.invariant q ∙ ap (list_any (λ u. u == q)) (take_all c.loop-t.t-index c.args.nodes.now c.loop-t-test.false)
+returns c q =
+    c.loop-t.invariant q ∙ ap (list_any (λ u. u == q)) (take_all c.loop-t.t-index c.args.nodes.now c.loop-t-test.false)

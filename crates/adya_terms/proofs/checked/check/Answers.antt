@@ -1,19 +1,21 @@
-use Rattle.std.proofs.Common.{◌≡◌, ◌+◌, ◌∙◌, ap, subst, length, [], arith}
+use Rattle.std.proofs.Common.{◌≡◌, ◌+◌, ◌∙◌, ap, subst, length, map, [], arith}
 use Rattle.std.proofs.lemmas.List.{length-map}
 use Rattle.adya_terms.specs.Histories.{event_of}
 use Rattle.adya_terms.specs.Faults.{malformed, unfinished_faults, unfinished_line, orders_line}
 use Rattle.adya_terms.specs.Checks.{Names, whole, rule_faults, read_faults}
-use Rattle.adya_terms.proofs.Firsts.{found_behind}
+use Rattle.adya_terms.proofs.Converse.{both_nil}
+use Rattle.adya_terms.proofs.Firsts.{names_behind}
+use Rattle.adya_terms.proofs.Replaced.{all_were_written}
 use Rattle.adya_terms.proofs.Parts.{events_first, unfinished_first, rules_first, none_malformed}
 use Rattle.adya_terms.proofs.checked.check.Goals as goal
 
-pub returns-in-Err : goal.returns-in-Err
-returns-in-Err c =
+pub returns-in-Err-clause-faults : goal.returns-in-Err-clause-faults
+returns-in-Err-clause-faults c =
     let h = whole c.args.events.now c.args.unfinished.now c.args.orders.now c.args.finals.now in
     events_first h c.in-Err.fault c.in-Err.ensures
 
-pub returns-in-Err-check_unfinished : goal.returns-in-Err-check_unfinished
-returns-in-Err-check_unfinished c =
+pub returns-in-Err-check_unfinished-clause-faults : goal.returns-in-Err-check_unfinished-clause-faults
+returns-in-Err-check_unfinished-clause-faults c =
     let h = whole c.args.events.now c.args.unfinished.now c.args.orders.now c.args.finals.now in
     let n = length-map c.args.events.now event_of in
     let at : length c.args.events.now + 2 ≡ unfinished_line h = omega (arith, n) in
@@ -21,8 +23,8 @@ returns-in-Err-check_unfinished c =
     unfinished_first h c.in-Ok.ensures.1 fault
     (subst (λ k. Names (unfinished_faults h.events k h.unfinished) fault) at c.in-Err-check_unfinished.ensures)
 
-pub returns-in-Err-check_rules : goal.returns-in-Err-check_rules
-returns-in-Err-check_rules c =
+pub returns-in-Err-check_rules-clause-faults : goal.returns-in-Err-check_rules-clause-faults
+returns-in-Err-check_rules-clause-faults c =
     let h = whole c.args.events.now c.args.unfinished.now c.args.orders.now c.args.finals.now in
     let n = length-map c.args.events.now event_of in
     let at : length c.args.events.now + 2 ≡ unfinished_line h = omega (arith, n) in
@@ -32,13 +34,27 @@ returns-in-Err-check_rules c =
     rules_first h c.in-Ok.ensures.1 ended fault
     (subst (λ k. Names (rule_faults h k) fault) line (c.in-Err-check_rules.ensures c.args.unfinished.now c.in-Ok-set_of.ensures))
 
-pub returns : goal.returns
-returns c =
+pub returns-in-Err-check_reads-clause-faults : goal.returns-in-Err-check_reads-clause-faults
+returns-in-Err-check_reads-clause-faults c =
     let h = whole c.args.events.now c.args.unfinished.now c.args.orders.now c.args.finals.now in
     let n = length-map c.args.events.now event_of in
     let at : length c.args.events.now + 2 ≡ unfinished_line h = omega (arith, n) in
     let ended = subst (λ k. unfinished_faults h.events k h.unfinished ≡ []) at c.in_default-check_unfinished.ensures in
     let line : c.in-Some.line ≡ orders_line h = c.in-Some.ensures.1 ∙ ap (λ k. k + length h.unfinished) at in
     let rules = subst (λ k. rule_faults h k ≡ []) line (c.in_default-check_rules.ensures c.args.unfinished.now c.in-Ok-set_of.ensures) in
-    found_behind c.check_reads.result (malformed h) (read_faults h) (none_malformed h c.in-Ok.ensures.1 ended rules)
-    (c.check_reads.ensures c.args.unfinished.now c.in-Ok-set_of.ensures)
+    names_behind (malformed h) (read_faults h) c.in-Err-check_reads.fault (none_malformed h c.in-Ok.ensures.1 ended rules)
+    (c.in-Err-check_reads.ensures c.args.unfinished.now c.in-Ok-set_of.ensures)
+
+pub returns-clause-faults : goal.returns-clause-faults
+returns-clause-faults c =
+    let h = whole c.args.events.now c.args.unfinished.now c.args.orders.now c.args.finals.now in
+    let n = length-map c.args.events.now event_of in
+    let at : length c.args.events.now + 2 ≡ unfinished_line h = omega (arith, n) in
+    let ended = subst (λ k. unfinished_faults h.events k h.unfinished ≡ []) at c.in_default-check_unfinished.ensures in
+    let line : c.in-Some.line ≡ orders_line h = c.in-Some.ensures.1 ∙ ap (λ k. k + length h.unfinished) at in
+    let rules = subst (λ k. rule_faults h k ≡ []) line (c.in_default-check_rules.ensures c.args.unfinished.now c.in-Ok-set_of.ensures) in
+    both_nil (malformed h) (read_faults h) (none_malformed h c.in-Ok.ensures.1 ended rules)
+    (c.in_default-check_reads.ensures c.args.unfinished.now c.in-Ok-set_of.ensures)
+
+pub check_reads-requires-clause-written : goal.check_reads-requires-clause-written
+check_reads-requires-clause-written c = all_were_written [] 2 (map event_of c.args.events.now) c.in-Ok.ensures.1

@@ -3,15 +3,15 @@ use Rattle.std.proofs.lemmas.List.{length-map}
 use Rattle.adya_terms.specs.declared.fault.Rule.TheVariants.{M6}
 use Rattle.adya_terms.specs.declared.fault.CheckFault.TheVariants.{Malformed}
 use Rattle.adya_terms.specs.Histories.{order_of}
-use Rattle.adya_terms.specs.Faults.{first, fault_unless, all_end, order_faults}
-use Rattle.adya_terms.specs.Checks.{Names, whole, later_faults}
+use Rattle.adya_terms.specs.Faults.{first, fault_unless, all_end}
+use Rattle.adya_terms.specs.Checks.{Names, whole, listing_faults, final_value_faults}
 use Rattle.adya_terms.proofs.Firsts.{first_front, found_behind, names_front, names_behind}
 use Rattle.adya_terms.proofs.checked.check_rules.Goals as goal
 
 pub returns-then-not-all_end : goal.returns-then-not-all_end
 returns-then-not-all_end c us holds =
     let h = whole c.args.events.now us c.args.orders.now c.args.finals.now in
-    first_front (fault_unless (all_end h) c.args.line M6) (order_faults h.events c.args.line h.orders ++ later_faults h (c.args.line + length h.orders)) (Malformed c.args.line M6)
+    first_front (fault_unless (all_end h) c.args.line M6) (listing_faults h c.args.line ++ final_value_faults h (c.args.line + length h.orders)) (Malformed c.args.line M6)
     (ap (λ b. first (fault_unless b c.args.line M6)) (sym (c.all_end.ensures us holds) ∙ c.if-not-all_end.true))
 
 pub returns-in-Err : goal.returns-in-Err
@@ -20,16 +20,16 @@ returns-in-Err c us holds =
     let line = c.args.line in
     let ends : fault_unless (all_end h) line M6 ≡ [] = ap (λ b. fault_unless b line M6) (sym (c.all_end.ensures us holds) ∙ c.if-not-all_end.false) in
     names_behind (fault_unless (all_end h) line M6) _ c.in-Err.fault ends
-    (names_front (order_faults h.events line h.orders) (later_faults h (line + length h.orders)) c.in-Err.fault c.in-Err.ensures)
+    (names_front (listing_faults h line) (final_value_faults h (line + length h.orders)) c.in-Err.fault c.in-Err.ensures)
 
 pub returns : goal.returns
 returns c us holds =
     let h = whole c.args.events.now us c.args.orders.now c.args.finals.now in
     let line = c.args.line in
-    let r = c.check_later.result in
+    let r = c.check_finals.result in
     let ends : fault_unless (all_end h) line M6 ≡ [] =
     ap (λ b. fault_unless b line M6) (sym (c.all_end.ensures us holds) ∙ c.if-not-all_end.false) in
     let at : c.in-Some.later ≡ line + length h.orders = c.in-Some.ensures.1 ∙ ap (λ n. line + n) (sym (length-map c.args.orders.now order_of)) in
     found_behind r (fault_unless (all_end h) line M6) _ ends
-    (found_behind r (order_faults h.events line h.orders) _ c.in_default.ensures
-    (subst (λ n. MatchResult r (λ u. later_faults h n ≡ []) (Names (later_faults h n))) at c.check_later.ensures))
+    (found_behind r (listing_faults h line) _ c.in_default.ensures
+    (subst (λ n. MatchResult r (λ u. final_value_faults h n ≡ []) (Names (final_value_faults h n))) at c.check_finals.ensures))

@@ -1,36 +1,43 @@
-use Rattle.std.proofs.Common.{◌≡◌, ◌+◌, ◌∙◌, sym, ap, map}
+use Rattle.std.proofs.Common.{◌≡◌, ◌+◌, ◌∙◌, sym, ap, map, length, Some, [], true, false}
+use Rattle.std.proofs.lemmas.List.{length-map}
 use Rattle.adya_terms.specs.declared.fault.Rule.TheVariants.{M7}
+use Rattle.adya_terms.specs.declared.fault.CheckFault.TheVariants.{Malformed}
 use Rattle.adya_terms.specs.Histories.{event_of, order_of}
-use Rattle.adya_terms.specs.Rules.{installs}
-use Rattle.adya_terms.specs.Faults.{lists_exactly, order_faults, first}
-use Rattle.adya_terms.proofs.Lists.{Contains-slice_get}
-use Rattle.adya_terms.proofs.Turns.{turn}
-use Rattle.adya_terms.proofs.Firsts.{names_broken, order_here, order_later}
+use Rattle.adya_terms.specs.Faults.{first, fault_unless, has_lines, order_faults}
+use Rattle.adya_terms.specs.Checks.{parts, listing_faults}
+use Rattle.adya_terms.proofs.Firsts.{first_rest, names_front, names_broken}
+use Rattle.adya_terms.proofs.Converse.{both_nil}
+use Rattle.adya_terms.proofs.Exact.{lines_where_none_out, no_line_where_out, lines_right, none_in_set}
 use Rattle.adya_terms.proofs.listed.check_orders.Goals as goal
 
-pub returns-then-not-is_exact : goal.returns-then-not-is_exact
-returns-then-not-is_exact c =
-    let all = map event_of c.args.events.now in
-    let os = map order_of c.args.orders.now in
-    let i = c.loop-i.i in
-    let o = c.index-orders-i.result in
-    let m = c.requires.tell in
-    let lists = c.in-Ok.ensures in
-    let t = turn order_of c.args.orders.now i o c.loop-i-test.true c.index-orders-i.is in
-    let exact : c.is_exact.result ≡ lists_exactly (installs all o.key) o.writers.items all =
-    c.is_exact.ensures os m lists (c.in-Ok-unlisted.ensures all os m lists) c.requires.rise (Contains-slice_get os i (order_of o) t.found) in
-    names_broken (order_faults all c.args.first os) (c.args.first + i) M7 c.broken.result
-    (ap first c.loop-i.invariant ∙ order_here all (c.args.first + i) os i (order_of o) t (sym exact ∙ c.if-not-is_exact.true)) c.broken.ensures
+pub returns-in-Err : goal.returns-in-Err
+returns-in-Err c =
+    let h = parts c.args.events.now c.args.orders.now [] in
+    let out = c.in-Ok-unlisted.ensures h.events h.orders c.requires.tell c.in-Ok.ensures in
+    names_front (order_faults h.events c.args.first h.orders) _ c.in-Err.fault (c.in-Err.ensures h.events c.requires.tell out)
 
-pub loop-i-preserved : goal.loop-i-preserved
-loop-i-preserved c =
-    let all = map event_of c.args.events.now in
-    let os = map order_of c.args.orders.now in
-    let i = c.loop-i.i in
-    let o = c.index-orders-i.result in
-    let m = c.requires.tell in
-    let lists = c.in-Ok.ensures in
-    let t = turn order_of c.args.orders.now i o c.loop-i-test.true c.index-orders-i.is in
-    let exact : c.is_exact.result ≡ lists_exactly (installs all o.key) o.writers.items all =
-    c.is_exact.ensures os m lists (c.in-Ok-unlisted.ensures all os m lists) c.requires.rise (Contains-slice_get os i (order_of o) t.found) in
-    c.loop-i.invariant ∙ order_later all c.args.first os i (order_of o) t (sym exact ∙ c.if-not-is_exact.false)
+pub returns : goal.returns
+returns c =
+    let h = parts c.args.events.now c.args.orders.now [] in
+    let line = c.args.first in
+    let k = c.in-Some.field-0.now in
+    let out = c.in-Ok-unlisted.ensures h.events h.orders c.requires.tell c.in-Ok.ensures in
+    let right = lines_right h.events line h.orders (c.in_default-check_lines.ensures h.events c.requires.tell out) in
+    let none : has_lines h ≡ false = no_line_where_out h.events h.orders c.requires.rise right k (sym (out k) ∙ c.in-Some.ensures.member) in
+    let last : first (fault_unless (has_lines h) (line + length h.orders) M7) ≡ Some (Malformed (line + length c.args.orders.now) M7) =
+    ap (λ b. first (fault_unless b (line + length h.orders) M7)) none ∙
+    ap (λ n. Some (Malformed (line + n) M7)) (length-map c.args.orders.now order_of) in
+    names_broken (listing_faults h line) (line + length c.args.orders.now) M7 c.broken.result
+    (first_rest (order_faults h.events line h.orders) _ _ (c.in_default-check_lines.ensures h.events c.requires.tell out) last)
+    c.broken.ensures
+
+pub returns-in-None : goal.returns-in-None
+returns-in-None c =
+    let h = parts c.args.events.now c.args.orders.now [] in
+    let line = c.args.first in
+    let out = c.in-Ok-unlisted.ensures h.events h.orders c.requires.tell c.in-Ok.ensures in
+    let there : has_lines h ≡ true = lines_where_none_out h.events h.orders
+    (λ k. sym (out k) ∙
+    none_in_set c.in-Ok-unlisted.unlisted k c.in-None.ensures.variant.1) in
+    both_nil (order_faults h.events line h.orders) _ (c.in_default-check_lines.ensures h.events c.requires.tell out)
+    (ap (λ b. fault_unless b (line + length h.orders) M7) there)

@@ -1,11 +1,10 @@
 use Rattle.std.proofs.Common.{◌≡◌, ◌+◌, cond, ◌∷◌, ◌++◌, [], Some, take, sym, ◌∙◌, ap, subst}
-use Rattle.std.specs.Ordering.{is_eq}
-use Rattle.std.specs.BTreeMap.{get}
+use Rattle.std.specs.HashMap.{get}
 use Rattle.std.proofs.lemmas.List.{take_more, take_all}
 use Rattle.adya_terms.specs.declared.tables.Own.{Own}
 use Rattle.adya_terms.specs.declared.listed.Times.{Times}
 use Rattle.adya_terms.specs.Keys.{key_eq}
-use Rattle.adya_terms.specs.Tables.{own, own_cmp}
+use Rattle.adya_terms.specs.Tables.{own, own_eq}
 use Rattle.adya_terms.specs.Checks.{times, once_more}
 use Rattle.adya_terms.proofs.Counts.{count}
 use Rattle.adya_terms.proofs.Listings.{list_next}
@@ -17,12 +16,12 @@ loop-txn-preserved c n start t k =
     let i = c.loop-txn.txn-index in
     let u = c.txn-item.result in
     let key = c.args.key in
-    let g = get own_cmp c.loop-txn.listed in
-    let g' = get own_cmp c.insert.new.self in
+    let g = get own_eq c.loop-txn.listed in
+    let g' = get own_eq c.insert.new.self in
     let front : take (i + 1) xs ≡ take i xs ++ u ∷ [] = take_more xs i u c.loop-txn-test.true ∙ ap (λ v. take i xs ++ v ∷ []) (sym c.txn-item.is) in
     let more : c.once_more-times.result ≡ once_more (g (own u key)) = c.once_more-times.ensures ∙ ap once_more (c.copied.ensures ∙ c.get.ensures.value) in
-    let new : (q : Own) → g' q ≡ cond (is_eq (own_cmp (own u key) q)) (Some (once_more (g (own u key)))) (g q) =
-    λ q. c.in_ok-insert.ensures.updates.0 q ∙ ap (λ (x : Times). cond (is_eq (own_cmp (own u key) q)) (Some x) (g q)) more in
+    let new : (q : Own) → g' q ≡ cond (own_eq (own u key) q) (Some (once_more (g (own u key)))) (g q) =
+    λ q. c.in_ok-insert.ensures.updates.0 q ∙ ap (λ (x : Times). cond (own_eq (own u key) q) (Some x) (g q)) more in
     subst (λ ys. g' (own t k) ≡ times (n t k + cond (key_eq key k) (count ys t) 0)) (sym front)
     (list_next g g' u key (take i xs) n (c.loop-txn.invariant n start) new t k)
 

@@ -1,8 +1,9 @@
 use Rattle.std.proofs.Common.{◌≡◌, ◌+◌, ◌∙◌, ap, map, Some, arith}
 use Rattle.adya_terms.specs.declared.fault.CheckFault.TheVariants.{IntermediateRead}
 use Rattle.adya_terms.specs.Histories.{event_of}
-use Rattle.adya_terms.specs.Faults.{first}
+use Rattle.adya_terms.specs.Faults.{first, was_written}
 use Rattle.adya_terms.specs.Checks.{is_own_or_last}
+use Rattle.adya_terms.proofs.Lists.{Contains-slice_get, all_pass}
 use Rattle.adya_terms.proofs.Turns.{turn}
 use Rattle.adya_terms.proofs.Refused.{bad_here, bad_later}
 use Rattle.adya_terms.proofs.reads.check_intermediate.Goals as goal
@@ -13,9 +14,10 @@ returns-in-Some c =
     let i = c.loop-i.i in
     let e = c.index-events-i.result in
     let t = turn event_of c.args.events.now i e c.loop-i-test.true c.index-events-i.is in
+    let was = all_pass (was_written all) all (event_of e) c.requires.written (Contains-slice_get all i (event_of e) t.found) in
     let line : 2 + i ≡ i + 2 = omega arith in
     ap first c.loop-i.invariant ∙
-    (bad_here (is_own_or_last all) IntermediateRead all i (event_of e) t c.in-Some.version (c.in-Some.ensures c.requires) ∙
+    (bad_here (is_own_or_last all) IntermediateRead all i (event_of e) t c.in-Some.version (c.in-Some.ensures all c.requires.tell was) ∙
     ap (λ n. Some (IntermediateRead n c.in-Some.version)) line)
 
 pub loop-i-preserved : goal.loop-i-preserved
@@ -24,4 +26,5 @@ loop-i-preserved c =
     let i = c.loop-i.i in
     let e = c.index-events-i.result in
     let t = turn event_of c.args.events.now i e c.loop-i-test.true c.index-events-i.is in
-    c.loop-i.invariant ∙ bad_later (is_own_or_last all) IntermediateRead all i (event_of e) t (c.in_default.ensures c.requires)
+    let was = all_pass (was_written all) all (event_of e) c.requires.written (Contains-slice_get all i (event_of e) t.found) in
+    c.loop-i.invariant ∙ bad_later (is_own_or_last all) IntermediateRead all i (event_of e) t (c.in_default.ensures all c.requires.tell was)

@@ -2,7 +2,7 @@ use Rattle.std.proofs.Common.{◌≡◌, ◌+◌, ◌∙◌, ap, map, take, Some
 use Rattle.adya_terms.specs.declared.fault.CheckFault.TheVariants.{Malformed}
 use Rattle.adya_terms.specs.Histories.{event_of}
 use Rattle.adya_terms.specs.Faults.{first}
-use Rattle.adya_terms.specs.Tables.{Means}
+use Rattle.adya_terms.specs.Tables.{Keeps, Means}
 use Rattle.adya_terms.proofs.Turns.{turn}
 use Rattle.adya_terms.proofs.Firsts.{fault_here, fault_later}
 use Rattle.adya_terms.proofs.Checking.{passes_all}
@@ -16,7 +16,7 @@ returns-in-Some c =
     let t = turn event_of c.args.events.now i e c.loop-i-test.true c.index-events-i.is in
     let line : 2 + i ≡ i + 2 = omega arith in
     ap first c.loop-i.invariant.faults ∙
-    (fault_here all i (event_of e) t (Malformed (2 + i) c.in-Some.rule) (c.in-Some.ensures (take i all) c.loop-i.invariant.means (2 + i)) ∙
+    (fault_here all i (event_of e) t (Malformed (2 + i) c.in-Some.rule) (c.in-Some.ensures (take i all) c.loop-i.invariant.means c.loop-i.invariant.keeps (2 + i)) ∙
     ap (λ n. Some (Malformed n c.in-Some.rule)) line)
 
 pub loop-i-preserved : goal.loop-i-preserved
@@ -26,9 +26,10 @@ loop-i-preserved c =
     let e = c.index-events-i.result in
     let t = turn event_of c.args.events.now i e c.loop-i-test.true c.index-events-i.is in
     let m = c.loop-i.invariant.means in
-    let none = c.in_default.ensures (take i all) m (2 + i) in
+    let none = c.in_default.ensures (take i all) m c.loop-i.invariant.keeps (2 + i) in
     record {
       means = subst (Means c.record.new.self all) (sym t.front)
-          (c.in-Ok.ensures all (take i all) m t.found (passes_all (take i all) (2 + i) (event_of e) none).next);
+          (c.in-Ok.ensures (take i all) m t.found (passes_all (take i all) (2 + i) (event_of e) none).next);
+      keeps = subst (Keeps c.keep.new.written all) (sym t.front) (c.in-Ok-keep.ensures all (take i all) c.loop-i.invariant.keeps t.found);
       faults = c.loop-i.invariant.faults ∙ fault_later all i (event_of e) t none;
     }

@@ -26,9 +26,9 @@ returns-then-not-lists_write c before m =
     let all = map event_of c.args.events.now in
     let items = c.range-at-items.result in
     let test : Own × ℕ → Bool = λ e. none_or_lists_only es (written_at all (Some e.1)) in
-    let shown = scan_shows c.args.tables.now.last t c.args.lo c.args.hi items c.new.result.start c.new.result.end c.new.ensures.start c.new.ensures.end
+    let shown = scan_shows c.args.written.now t c.args.lo c.args.hi items c.new.result.start c.new.result.end c.new.ensures.start c.new.ensures.end
     (c.range-at-items.ensures.between c.new.ensures.exhausted) c.range-at-items.ensures.ordered (c.range-at-items.ensures.in_range c.new.ensures.exhausted).0
-    all before es m.last_is in
+    all before es m in
     let same : list_all test items ≡ list_all test c.into_iter-at-iterator.result = ap (list_all test) (sym c.into_iter-at-iterator.ensures.into_iter_gives) in
     let fails : list_all test c.loop-at.at-iterator ≡ false =
     ap (list_all test) c.in-Some.ensures.steps ∙ ap (λ b. b && list_all test c.next.new.self) (sym c.lists_write.ensures ∙ c.if-not-lists_write.true) in
@@ -41,8 +41,8 @@ returns c before m =
     let all = map event_of c.args.events.now in
     let items = c.range-at-items.result in
     let test : Own × ℕ → Bool = λ e. none_or_lists_only es (written_at all (Some e.1)) in
-    let shown = scan_shows c.args.tables.now.last t c.args.lo c.args.hi items c.new.result.start c.new.result.end c.new.ensures.start c.new.ensures.end
+    let shown = scan_shows c.args.written.now t c.args.lo c.args.hi items c.new.result.start c.new.result.end c.new.ensures.start c.new.ensures.end
     (c.range-at-items.ensures.between c.new.ensures.exhausted) c.range-at-items.ensures.ordered (c.range-at-items.ensures.in_range c.new.ensures.exhausted).0
-    all before es m.last_is in
+    all before es m in
     let same : list_all test items ≡ list_all test c.into_iter-at-iterator.result = ap (list_all test) (sym c.into_iter-at-iterator.ensures.into_iter_gives) in
     sym (sym shown ∙ (same ∙ (c.loop-at.invariant ∙ ap (list_all test) c.in-None.ensures.steps.0)))

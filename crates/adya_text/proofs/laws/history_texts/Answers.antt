@@ -2,7 +2,8 @@ use Rattle.adya_text.proofs.TextLaws.{one_history_text, no_longer_history}
 use Rattle.adya_text.proofs.laws.history_texts.Goals as goal
 
 pub returns-clause-one_text : goal.returns-clause-one_text
-returns-clause-one_text c = one_history_text
+returns-clause-one_text c = one_history_text c.history_lines.ensures.one_text c.history_lines.ensures.no_line_feed
 
 pub returns-clause-no_proper_prefix : goal.returns-clause-no_proper_prefix
-returns-clause-no_proper_prefix c = no_longer_history
+returns-clause-no_proper_prefix c =
+    no_longer_history c.history_lines.ensures.one_text c.history_lines.ensures.no_line_feed

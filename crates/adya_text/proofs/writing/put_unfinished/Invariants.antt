@@ -8,5 +8,5 @@ use Rattle.adya_text.proofs.writing.put_unfinished.Given as goal
 
 abbrev pub invariant-loop-txn : goal.invariant-loop-txn
 invariant-loop-txn g l =
-    Grows (watched_contents g.W.Write.contents l.initial.out) (with_ends (map unfinished_text (take l.txn-index l.txns)))
-    (watched_contents g.W.Write.contents l.out)
+    Grows (watched_contents g.W.Write.contents l.initial.out)
+    (with_ends (map unfinished_text (take l.txn-index l.txns))) (watched_contents g.W.Write.contents l.out)

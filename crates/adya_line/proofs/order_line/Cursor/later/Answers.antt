@@ -8,7 +8,8 @@ returns-in_default-writer c =
     let bytes = c.args.self.now.rest.now in
     let total = behind (c.args.first ∷ []) (later_at (length bytes) bytes) in
     let on = c.later.invariant in
-    fails c.later.writers.items c.later.self.rest.now c.in-Some.rest.now total c.in-Some.ensures c.in_default-writer.ensures on
+    fails c.later.writers.items c.later.self.rest.now c.in-Some.rest.now total c.in-Some.ensures
+    c.in_default-writer.ensures on
 
 pub later-smaller : goal.later-smaller
 later-smaller c =
@@ -16,8 +17,7 @@ later-smaller c =
     let first = after_shorter 60 c.later.self.rest.now rest c.in-Some.ensures in
     let one = c.in-Some-writer in
     let then = writer_shorter rest c.writer.new.self.rest.now one.writer one.ensures in
-    let both : length c.writer.new.self.rest.now < length c.later.self.rest.now = omega (arith, first, then) in
-    both
+    omega (arith, first, then)
 
 pub later-preserved : goal.later-preserved
 later-preserved c =
@@ -27,7 +27,8 @@ later-preserved c =
     let after_t = c.writer.new.self.rest.now in
     let on = c.later.invariant in
     rw c.in_ok-push-2.ensures.items
-    (goes_on c.later.writers.items c.later.self.rest.now c.in-Some.rest.now after_t one.writer total c.in-Some.ensures one.ensures on)
+    (goes_on c.later.writers.items c.later.self.rest.now c.in-Some.rest.now after_t one.writer total c.in-Some.ensures
+    one.ensures on)
 
 pub returns : goal.returns
 returns c =

@@ -1,29 +1,31 @@
-use Rattle.std.proofs.Common.{ap, is_none}
+use Rattle.std.proofs.Common.{ap, subst, map, is_none}
 use Rattle.adya_terms.proofs.Parts.{found_whole, faultless_whole}
 use Rattle.adya_terms.proofs.Checking.{checked_when_no_fault}
 use Rattle.adya_terms.proofs.Judged.{refused_when_found}
+use Rattle.adya_terms.specs.Histories.{event_of}
+use Rattle.adya_terms.specs.Tables.{Means}
 use Rattle.adya_terms.specs.Values.{history_of}
 use Rattle.adya_terms.proofs.checked.Checked.of.Goals as goal
 
 pub returns-in-Err-clause-found : goal.returns-in-Err-clause-found
 returns-in-Err-clause-found c =
     found_whole c.args.history.now c.events.result.now c.unfinished.result.now c.orders.result.now c.finals.result.now
-    c.events.ensures c.unfinished.ensures.value c.orders.ensures.value c.finals.ensures c.in-Err.fault c.in-Err.ensures
+    c.events.ensures c.unfinished.ensures.value c.orders.ensures.value c.finals.ensures c.in-Err.fault c.in-Err.ensures.faults
 
 pub invariant_of-result : goal.invariant_of-result
 invariant_of-result c =
     let none = faultless_whole c.args.history.now c.events.result.now c.unfinished.result.now c.orders.result.now c.finals.result.now
-    c.events.ensures c.unfinished.ensures.value c.orders.ensures.value c.finals.ensures c.in_default.ensures in
-    record { checked = ap is_none none }
+    c.events.ensures c.unfinished.ensures.value c.orders.ensures.value c.finals.ensures c.in-Ok.ensures.faults in
+    record { checked = ap is_none none; tell = subst (λ es. let all = map event_of es in Means c.in-Ok.tables all all) c.events.ensures c.in-Ok.ensures.tell }
 
-pub returns-clause-checked : goal.returns-clause-checked
-returns-clause-checked c =
+pub returns-in-Ok-clause-checked : goal.returns-in-Ok-clause-checked
+returns-in-Ok-clause-checked c =
     checked_when_no_fault (history_of c.args.history.now)
     (faultless_whole c.args.history.now c.events.result.now c.unfinished.result.now c.orders.result.now c.finals.result.now
-    c.events.ensures c.unfinished.ensures.value c.orders.ensures.value c.finals.ensures c.in_default.ensures)
+    c.events.ensures c.unfinished.ensures.value c.orders.ensures.value c.finals.ensures c.in-Ok.ensures.faults)
 
 pub returns-in-Err-clause-refused : goal.returns-in-Err-clause-refused
 returns-in-Err-clause-refused c =
     refused_when_found (history_of c.args.history.now) c.args.history.now.shape c.in-Err.fault
     (found_whole c.args.history.now c.events.result.now c.unfinished.result.now c.orders.result.now c.finals.result.now
-    c.events.ensures c.unfinished.ensures.value c.orders.ensures.value c.finals.ensures c.in-Err.fault c.in-Err.ensures)
+    c.events.ensures c.unfinished.ensures.value c.orders.ensures.value c.finals.ensures c.in-Err.fault c.in-Err.ensures.faults)

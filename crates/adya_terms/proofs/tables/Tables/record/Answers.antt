@@ -7,42 +7,42 @@ use Rattle.adya_terms.specs.Faults.{is_next}
 use Rattle.adya_terms.proofs.Tells.{tell_quiet, tell_write, added}
 use Rattle.adya_terms.proofs.tables.Tables.record.Goals as goal
 
-pub returns-in_ok-insert-in-Write-2 : goal.returns-in_ok-insert-in-Write-2
-returns-in_ok-insert-in-Write-2 c all before m found next =
+pub returns-in_ok-put-in-Write : goal.returns-in_ok-put-in-Write
+returns-in_ok-put-in-Write c before m found next =
     let w = entry (version c.in-Write.key c.in-Write.txn c.in-Write.m) (Live (value_of c.in-Write.value)) in
     let number = ap (λ x. is_next before (written (event_of x))) (sym c.in-Write.is) ∙ next in
-    rw c.in-Write.is
-    (tell_write _ _ _ _ all before m c.args.at _ w
+    rw (c.in-Write.is, c.in_ok-put-in-Write.ensures.ended.0, c.in_ok-put-in-Write.ensures.ended.1)
+    (tell_write _ _ _ _ _ before m c.args.at _ w
     (record { found = found ∙ ap (λ x. Some (event_of x)) c.in-Write.is; wrote = refl; commits_none = λ t. refl; aborts_none = λ t. refl })
-    (eqb-true _ _ number) _ _ c.in_ok-insert-in-Write-2.ensures.updates.0 c.in_ok-insert-in-Write.ensures.updates.0)
+    (eqb-true _ _ number) _ _ c.in_ok-put-in-Write.ensures.last c.in_ok-put-in-Write.ensures.replaced)
 
-pub returns-in_ok-insert-in-Delete-2 : goal.returns-in_ok-insert-in-Delete-2
-returns-in_ok-insert-in-Delete-2 c all before m found next =
+pub returns-in_ok-put-in-Delete : goal.returns-in_ok-put-in-Delete
+returns-in_ok-put-in-Delete c before m found next =
     let w = entry (version c.in-Delete.key c.in-Delete.txn c.in-Delete.m) Dead in
     let number = ap (λ x. is_next before (written (event_of x))) (sym c.in-Delete.is) ∙ next in
-    rw c.in-Delete.is
-    (tell_write _ _ _ _ all before m c.args.at _ w
+    rw (c.in-Delete.is, c.in_ok-put-in-Delete.ensures.ended.0, c.in_ok-put-in-Delete.ensures.ended.1)
+    (tell_write _ _ _ _ _ before m c.args.at _ w
     (record { found = found ∙ ap (λ x. Some (event_of x)) c.in-Delete.is; wrote = refl; commits_none = λ t. refl; aborts_none = λ t. refl })
-    (eqb-true _ _ number) _ _ c.in_ok-insert-in-Delete-2.ensures.updates.0 c.in_ok-insert-in-Delete.ensures.updates.0)
+    (eqb-true _ _ number) _ _ c.in_ok-put-in-Delete.ensures.last c.in_ok-put-in-Delete.ensures.replaced)
 
 pub returns-in-Read : goal.returns-in-Read
-returns-in-Read c all before m found next =
-    rw c.in-Read.is (tell_quiet _ _ _ _ all before m _ refl _ _ (λ t. sym (or-false _)) (λ t. sym (or-false _)))
+returns-in-Read c before m found next =
+    rw c.in-Read.is (tell_quiet _ _ _ _ _ before m _ refl _ _ (λ t. sym (or-false _)) (λ t. sym (or-false _)))
 
 pub returns-in-Scan : goal.returns-in-Scan
-returns-in-Scan c all before m found next =
-    rw c.in-Scan.is (tell_quiet _ _ _ _ all before m _ refl _ _ (λ t. sym (or-false _)) (λ t. sym (or-false _)))
+returns-in-Scan c before m found next =
+    rw c.in-Scan.is (tell_quiet _ _ _ _ _ before m _ refl _ _ (λ t. sym (or-false _)) (λ t. sym (or-false _)))
 
 pub returns-in_ok-insert-in-Commit : goal.returns-in_ok-insert-in-Commit
-returns-in_ok-insert-in-Commit c all before m found next =
+returns-in_ok-insert-in-Commit c before m found next =
     rw c.in-Commit.is
-    (tell_quiet _ _ _ _ all before m (Commit c.in-Commit.txn) refl _ _
+    (tell_quiet _ _ _ _ _ before m (Commit c.in-Commit.txn) refl _ _
     (λ t. added c.in-Commit.txn t _ _ (c.in_ok-insert-in-Commit.ensures.updates.0 t))
     (λ t. sym (or-false _)))
 
 pub returns-in_ok-insert-in-Abort : goal.returns-in_ok-insert-in-Abort
-returns-in_ok-insert-in-Abort c all before m found next =
+returns-in_ok-insert-in-Abort c before m found next =
     rw c.in-Abort.is
-    (tell_quiet _ _ _ _ all before m (Abort c.in-Abort.txn) refl _ _
+    (tell_quiet _ _ _ _ _ before m (Abort c.in-Abort.txn) refl _ _
     (λ t. sym (or-false _))
     (λ t. added c.in-Abort.txn t _ _ (c.in_ok-insert-in-Abort.ensures.updates.0 t)))

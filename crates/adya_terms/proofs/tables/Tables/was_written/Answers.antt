@@ -1,9 +1,18 @@
-use Rattle.std.proofs.Common.{◌∙◌, ap, map}
+use Rattle.std.proofs.Common.{◌≡◌, ◌∙◌, ◌||◌, Bool, false, sym, ap, map}
+use Rattle.std.specs.HashMap.{get}
+use Rattle.adya_terms.specs.Faults.{version_eq}
 use Rattle.adya_terms.specs.Histories.{entry_of, event_of}
-use Rattle.adya_terms.specs.Tables.{is_there, written_at}
+use Rattle.adya_terms.specs.Tables.{own, own_eq, is_there, written_at}
 use Rattle.adya_terms.proofs.tables.Tables.was_written.Goals as goal
 
-pub returns-in-Some : goal.returns-in-Some
-returns-in-Some c =
-    c.same.ensures ∙
-    ap (is_there (entry_of c.args.seen.now)) (c.in-Some.ensures ∙ ap (written_at (map event_of c.args.events.now)) (c.copied.ensures ∙ c.get.ensures.value))
+pub returns-else-is_there : goal.returns-else-is_there
+returns-else-is_there c =
+    let all = map event_of c.args.events.now in
+    let o = entry_of c.args.seen.now in
+    let r = o.version in
+    let replaced = is_there o (written_at all (get version_eq c.args.self.now.replaced r)) in
+    let not_last : is_there o (written_at all (get own_eq c.args.self.now.last (own r.txn r.key))) ≡ false =
+    ap (is_there o) (sym c.last_write.ensures) ∙ (sym c.is_there.ensures ∙ c.if-is_there.false) in
+    c.is_there-else-is_there.ensures ∙
+    (ap (is_there o) (c.wrote_at.ensures ∙ ap (written_at all) (c.copied.ensures ∙ c.get.ensures.value)) ∙
+    ap (λ b. b || replaced) (sym not_last))

@@ -1,4 +1,4 @@
-use Rattle.std.proofs.Common.{◌≡◌, ◌≢◌, ◌≤◌, All}
+use Rattle.std.proofs.Common.{◌≡◌, ◌≢◌, ◌≤◌, ◌⊎◌, [], false, All}
 use Rattle.std.specs.Io.KnownBytes.{Consumes, prepend_known}
 use Rattle.adya_text.specs.Buffers.{work_left}
 use Rattle.adya_text.proofs.lines.LineBuffer.next_line.Given as goal
@@ -9,6 +9,7 @@ invariant-loop-self g l =
     × (g.S.Source.same l.initial.source l.source)
     × (work_left (g.S.Source.left l.source) l.self ≤ work_left (g.S.Source.left l.initial.source) l.initial.self)
     × (g.S.Source.is_failed l.source ≡ g.S.Source.is_failed l.initial.source)
+    × (l.initial.self ≡ [] → (l.self ≡ []) ⊎ (g.S.Source.is_failed l.source ≡ false))
     × Consumes (prepend_known l.initial.self (g.S.Read.remaining l.initial.source))
     (prepend_known l.self (g.S.Read.remaining l.source)) l.line.items
 

@@ -1,4 +1,5 @@
-use Rattle.std.proofs.Common.{◌+◌, ◌-◌, ◌<◌, ◌≤◌, ◌++◌, [], rules, arith, take, slice_range, length, sym, ap, ◌∙◌, append-nil}
+use Rattle.std.proofs.Common.{◌+◌, ◌-◌, ◌<◌, ◌≤◌, ◌++◌, [], rules, arith, take, slice_range, length, sym, ap, ◌∙◌}
+use Rattle.std.proofs.Common.{append-nil}
 use Rattle.adya_text.proofs.BufferLemmas.{range_split, plain_before, plain_all, length_range, byte_is, empty_range}
 use Rattle.adya_text.proofs.lines.LineBuffer.take_line.Goals as goal
 
@@ -26,5 +27,6 @@ returns-in_ok-extend_from_slice-in-None-clause-moved c =
       search rules,
       plain_all pending c.in-None.ensures,
       sym c.self.view_is
-          ∙ sym (ap (λ l. (pending ++ []) ++ l) (empty_range b.bytes b.end) ∙ append-nil (pending ++ []) ∙ append-nil pending),
+          ∙ sym (ap (λ l. (pending ++ []) ++ l) (empty_range b.bytes b.end)
+          ∙ append-nil (pending ++ []) ∙ append-nil pending),
     )

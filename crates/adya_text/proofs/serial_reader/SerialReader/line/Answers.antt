@@ -1,5 +1,5 @@
 use Rattle.std.proofs.Common.{sym, ◌∙◌, refl, rules}
-use Rattle.adya_text.specs.SerialRuns.{line_of}
+use Rattle.adya_line.specs.SerialLines.{line_of}
 use Rattle.adya_text.proofs.SerialFed.{fed_taken, fed_refused, fed_failed, kept_on_err}
 use Rattle.adya_text.proofs.serial_reader.SerialReader.line.Goals as goal
 
@@ -14,7 +14,7 @@ returns-in_ok-take-in-Some-clause-ok c =
 
 pub returns-in-None-clause-ok : goal.returns-in-None-clause-ok
 returns-in-None-clause-ok c =
-    λ past fed. fed_refused c.args.self.now _ past c.args.line.now fed
+    λ past fed. fed_refused c.serial_lines.ensures.one_text c.args.self.now _ past c.args.line.now fed
     (sym c.has_failed.ensures ∙ c.if-has_failed.false) (search rules) refl
 
 pub returns-in_err-take-in-Some-clause-err : goal.returns-in_err-take-in-Some-clause-err

@@ -1,0 +1,14 @@
+-- The lines so far are written.
+use Rattle.std.proofs.Common.{take, map}
+use Rattle.adya_terms.specs.Watched.{watched_contents}
+use Rattle.adya_line.specs.Growing.{Grows}
+use Rattle.adya_text.specs.Texts.{with_ends}
+use Rattle.adya_dsg.specs.Values.{edge_of}
+use Rattle.adya_audit.specs.Output.{edge_text}
+use Rattle.adya_audit.proofs.cycle.put_edges.Given as goal
+
+abbrev pub invariant-loop-edge : goal.invariant-loop-edge
+invariant-loop-edge g l =
+    Grows (watched_contents g.W.Write.contents l.initial.out)
+    (with_ends (map edge_text (map edge_of (take l.edge-index l.edges))))
+    (watched_contents g.W.Write.contents l.out)

@@ -1,0 +1,68 @@
+//! What is written where an order of a history's transactions is asked for.
+
+ghost use Rattle.std.specs.Prelude.{◌≡◌, true, IfOk, OnOk, IsErr};
+ghost use Rattle.std.specs.Io.KnownBytes.{Appends};
+ghost use Rattle.adya_terms.specs.Values.{history_of};
+ghost use Rattle.adya_terms.specs.Watched.{has_failed, watched_contents};
+ghost use Rattle.adya_audit.specs.Answers.{Tells, IsAnswerOn, answer_of, answer_text};
+
+use crate::auditor::refusal;
+use crate::cycle::write_cycle;
+use crate::{Edge, Ordered, Verdict, WriteFault, write_verdict};
+use adya_dsg::{Found, order};
+use adya_terms::{Checked, History, Serial, Watched};
+use adya_text::write_serial;
+use std::alloc::{AllocError, Global};
+use std::io::Write;
+
+/// An order of a history's transactions, or why there is none.
+#[derive(Drop)]
+pub(crate) enum Answer {
+    /// A certificate with which the history is accepted.
+    Certificate(Serial),
+    /// A cycle of the history's graph.
+    Cycle(Vec<Edge>),
+    /// The verdict on the history.
+    Refusal(Verdict),
+}
+
+/// The answer on a history. `AllocError` where memory ran out.
+pub(crate) fn answer_on(alloc: Global, history: &History) -> Result<Answer, AllocError>
+    ensures { IfOk result (λ a. IsAnswerOn (history_of history.now) (answer_of a)) }
+{
+    let checked = match Checked::of(alloc, history) {
+        Ok(checked) => checked,
+        Err(fault) => return Ok(Answer::Refusal(refusal(fault)?)),
+    };
+    match order(alloc, &checked)? {
+        Found::Serial(serial) => Ok(Answer::Certificate(serial)),
+        Found::Cycle(edges) => Ok(Answer::Cycle(edges)),
+    }
+}
+
+/// Writes the answer, and tells of which kind it is. `WriteFault` only where the writer failed, now or before; nothing
+/// is said of how much went out then.
+pub(crate) fn write_answer<W: Write>(
+    answer: &Answer,
+    out: &mut Watched<W>,
+) -> Result<Ordered, WriteFault>
+    ensures kind { IfOk result (λ o. Tells o (answer_of answer.now)) }
+    ensures written { OnOk result (Appends (watched_contents W.contents out.old) (watched_contents W.contents out.new)
+        (answer_text (answer_of answer.now))) }
+    ensures fault { IsErr result → has_failed out.new ≡ true }
+{
+    match answer {
+        Answer::Certificate(serial) => {
+            write_serial(serial, out)?;
+            Ok(Ordered::Serial)
+        }
+        Answer::Cycle(edges) => {
+            write_cycle(edges, out)?;
+            Ok(Ordered::Cycle)
+        }
+        Answer::Refusal(verdict) => {
+            write_verdict(verdict, out)?;
+            Ok(Ordered::No(*verdict))
+        }
+    }
+}

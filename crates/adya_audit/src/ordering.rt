@@ -1,0 +1,62 @@
+//! A certificate, a cycle or a verdict for a history text.
+
+ghost use Rattle.std.specs.Prelude.{◌≡◌, ◌≢◌, false, true, IfOk, IfErr, IfSome, OnOk, IsErrOf};
+ghost use Rattle.std.specs.Io.KnownBytes.{Appends};
+ghost use Rattle.adya_terms.specs.Watched.{has_failed, watched_remaining, watched_contents};
+ghost use Rattle.adya_audit.specs.Answers.{Answer as Plain, Tells, IsAnswer, answer_of, answer_text};
+
+use crate::answer::{Answer, answer_on, write_answer};
+use crate::laws::accepted_texts_are_serializable;
+use crate::{Ordered, RunFault, Text, Verdict};
+use adya_terms::Watched;
+use adya_text::laws::history_texts;
+use adya_text::{ReadFault, read_history_from};
+use std::alloc::Global;
+use std::io::{Read, Write};
+
+/// Reads a history text to the stream's end and writes a certificate with which the history is accepted, or a cycle of
+/// its graph where there is no such certificate, or the line of the verdict where it is of kinds 1 to 4, and tells
+/// which of the three it was. It keeps one line and what the lines before it say, may leave unread what stands behind
+/// a syntax fault, and has the whole answer before it writes.
+///
+/// `ReadHistory` where reading failed, `Write` where writing failed, `Memory` where memory ran out; in the first and
+/// the last case nothing was written. `ReadSerial` never comes.
+pub fn run_order<H: Read, W: Write>(
+    alloc: Global,
+    history: &mut Watched<H>,
+    out: &mut Watched<W>,
+) -> Result<Ordered, RunFault>
+    ensures answer { IfOk result (λ o. (a : Plain)
+        × Tells o a
+        × IfSome (watched_remaining H.remaining history.old) (λ text. IsAnswer text a)
+        × Appends (watched_contents W.contents out.old) (watched_contents W.contents out.new) (answer_text a)) }
+    ensures ended { OnOk result (has_failed history.new ≡ false) }
+    ensures read_fault { IsErrOf result RunFault.ReadHistory → has_failed history.new ≡ true }
+    ensures write_fault { IsErrOf result RunFault.Write → has_failed out.new ≡ true }
+    ensures no_other { IsErrOf result RunFault.ReadSerial → ⊥ }
+    ensures unwritten { IfErr result (λ e. e ≢ RunFault.Write → out.new ≡ out.old) }
+{
+    let answer = answer_on_stream(alloc, history)?;
+    Ok(write_answer(&answer, out)?)
+}
+
+fn answer_on_stream<H: Read>(alloc: Global, history: &mut Watched<H>) -> Result<Answer, RunFault>
+    ensures answer { IfOk result (λ a. IfSome (watched_remaining H.remaining history.old)
+        (λ text. IsAnswer text (answer_of a))) }
+    ensures ended { OnOk result (has_failed history.new ≡ false) }
+    ensures read_fault { IsErrOf result RunFault.ReadHistory → has_failed history.new ≡ true }
+    ensures no_serial { IsErrOf result RunFault.ReadSerial → ⊥ }
+    ensures no_write { IsErrOf result RunFault.Write → ⊥ }
+{
+    history_texts();
+    accepted_texts_are_serializable();
+    match read_history_from(alloc, history) {
+        Ok(history) => Ok(answer_on(alloc, &history)?),
+        Err(ReadFault::Syntax { line, .. }) => Ok(Answer::Refusal(Verdict::Syntax {
+            text: Text::History,
+            line,
+        })),
+        Err(ReadFault::Device) => Err(RunFault::ReadHistory),
+        Err(ReadFault::Memory) => Err(RunFault::Memory),
+    }
+}

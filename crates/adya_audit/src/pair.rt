@@ -1,0 +1,90 @@
+//! The verdict on a history text and a certificate text in a stream each.
+
+ghost use Rattle.std.specs.Prelude.{◌≡◌, ◌≢◌, ◌↔◌, ◌⊎◌, ℕ, false, true, IfOk, IfErr, IfSome, OnOk, IsErrOf};
+ghost use Rattle.std.specs.Io.KnownBytes.{Appends};
+ghost use Rattle.adya_terms.specs.Watched.{has_failed, watched_remaining, watched_contents};
+ghost use Rattle.adya_audit.specs.Verdicts.{plain_verdict};
+ghost use Rattle.adya_audit.specs.Output.{verdict_line};
+ghost use Rattle.adya_audit.specs.TextVerdicts.{IsVerdictOn, AreAccepted, AreSerializable};
+
+use crate::laws::{accepted_texts_are_serializable, yes_where_texts_accepted};
+use crate::{RunFault, Text, Verdict, audit, write_verdict};
+use adya_terms::Watched;
+use adya_text::{ReadFault, read_history_from, read_serial_from};
+use std::alloc::Global;
+use std::io::{Read, Write};
+
+/// Reads a history text from the one stream and then a certificate text from the other, each to the stream's end,
+/// writes the line of the verdict, and answers the verdict. It keeps one line and what the lines before it say. It may
+/// leave unread what stands behind a syntax fault, and the certificate where the history has one.
+///
+/// `ReadHistory` and `ReadSerial` where reading the history or the certificate failed, `Write` where writing failed,
+/// `Memory` where memory ran out; in all cases but `Write` nothing was written.
+pub fn run_audit<H: Read, C: Read, W: Write>(
+    alloc: Global,
+    history: &mut Watched<H>,
+    certificate: &mut Watched<C>,
+    out: &mut Watched<W>,
+) -> Result<Verdict, RunFault>
+    ensures verdict { IfOk result (λ v. IfSome (watched_remaining H.remaining history.old)
+        (λ h. IfSome (watched_remaining C.remaining certificate.old) (λ c. IsVerdictOn h c (plain_verdict v)))) }
+    ensures yes { IfOk result (λ v. IfSome (watched_remaining H.remaining history.old)
+        (λ h. IfSome (watched_remaining C.remaining certificate.old) (λ c. (v ≡ Verdict.Yes) ↔ AreAccepted h c))) }
+    ensures promise { IfOk result (λ v. IfSome (watched_remaining H.remaining history.old)
+        (λ h. IfSome (watched_remaining C.remaining certificate.old) (λ c. v ≡ Verdict.Yes → AreSerializable h c))) }
+    ensures written { IfOk result (λ v. Appends (watched_contents W.contents out.old)
+        (watched_contents W.contents out.new) (verdict_line (plain_verdict v))) }
+    ensures history_ended { OnOk result (has_failed history.new ≡ false) }
+    // The certificate isn't needed where the history has a syntax fault.
+    ensures certificate_ended { IfOk result
+        (λ v. ((k : ℕ) × (v ≡ Verdict.Syntax Text.History k)) ⊎ (has_failed certificate.new ≡ false)) }
+    ensures history_fault { IsErrOf result RunFault.ReadHistory → has_failed history.new ≡ true }
+    ensures certificate_fault { IsErrOf result RunFault.ReadSerial → has_failed certificate.new ≡ true }
+    ensures write_fault { IsErrOf result RunFault.Write → has_failed out.new ≡ true }
+    ensures unwritten { IfErr result (λ e. e ≢ RunFault.Write → out.new ≡ out.old) }
+{
+    yes_where_texts_accepted();
+    accepted_texts_are_serializable();
+    let verdict = verdict_on_streams(alloc, history, certificate)?;
+    write_verdict(&verdict, out)?;
+    Ok(verdict)
+}
+
+fn verdict_on_streams<H: Read, C: Read>(
+    alloc: Global,
+    history: &mut Watched<H>,
+    certificate: &mut Watched<C>,
+) -> Result<Verdict, RunFault>
+    ensures verdict { IfOk result (λ v. IfSome (watched_remaining H.remaining history.old)
+        (λ h. IfSome (watched_remaining C.remaining certificate.old) (λ c. IsVerdictOn h c (plain_verdict v)))) }
+    ensures history_ended { OnOk result (has_failed history.new ≡ false) }
+    ensures certificate_ended { IfOk result
+        (λ v. ((k : ℕ) × (v ≡ Verdict.Syntax Text.History k)) ⊎ (has_failed certificate.new ≡ false)) }
+    ensures history_fault { IsErrOf result RunFault.ReadHistory → has_failed history.new ≡ true }
+    ensures certificate_fault { IsErrOf result RunFault.ReadSerial → has_failed certificate.new ≡ true }
+    ensures no_write { IsErrOf result RunFault.Write → ⊥ }
+{
+    let history = match read_history_from(alloc, history) {
+        Ok(history) => history,
+        Err(ReadFault::Syntax { line, .. }) => {
+            return Ok(Verdict::Syntax {
+                text: Text::History,
+                line,
+            });
+        }
+        Err(ReadFault::Device) => return Err(RunFault::ReadHistory),
+        Err(ReadFault::Memory) => return Err(RunFault::Memory),
+    };
+    let serial = match read_serial_from(alloc, certificate) {
+        Ok(serial) => serial,
+        Err(ReadFault::Syntax { line, .. }) => {
+            return Ok(Verdict::Syntax {
+                text: Text::Serial,
+                line,
+            });
+        }
+        Err(ReadFault::Device) => return Err(RunFault::ReadSerial),
+        Err(ReadFault::Memory) => return Err(RunFault::Memory),
+    };
+    Ok(audit(alloc, &history, &serial)?)
+}

@@ -1,0 +1,220 @@
+-- Along an order line whose write dependencies go forward, a later writer is the same or comes later.
+use Rattle.std.proofs.Common.{◌≡◌, ◌≢◌, ℕ, zero, suc, ◌+◌, ◌-◌, ◌<◌, ◌≤◌, ◌==◌, ◌⊎◌, Bool, true, false, cond, List, [], ◌∷◌, ◌++◌, map, length, get_or, slice_get, Option, Some, None, refl, sym, ◌∙◌, ap, subst, arith, inl, inr}
+use Rattle.std.specs.List.{find, flat_map, Contains}
+use Rattle.std.proofs.lemmas.Bool.{cases_Bool, cases_eq, eq-eqb, ne_eqb, both_ways}
+use Rattle.std.proofs.lemmas.Option.{none-some, same_Some, slice_get_within, slice_get-get_or}
+use Rattle.adya_terms.specs.declared.order.Order.{Order as OrderValue}
+use Rattle.adya_terms.specs.Keys.{keys_rise}
+use Rattle.adya_terms.specs.Histories.{Order, History, order_of}
+use Rattle.adya_terms.specs.Orders.{writers, line_of, installer}
+use Rattle.adya_terms.specs.Edges.{Kind, Ww, Edge}
+use Rattle.adya_terms.specs.EdgeList.{numbers, places, joined, write_edges}
+use Rattle.adya_terms.specs.Acceptance.{IsBefore}
+use Rattle.adya_dsg.specs.Dependencies.{line_edges}
+use Rattle.adya_dsg.proofs.Keys.{line_of-at}
+use Rattle.adya_dsg.proofs.Containing.{none_contained, Contains-cons, Contains-flat_map}
+
+pub Contains-joined : (kind : Kind) (k : List ℕ) (x y : Option ℕ) (a b : ℕ) → x ≡ Some a → y ≡ Some b → a ≢ b
+    → Contains (joined kind k x y) (record { from = a; kind = kind; key = k; to = b })
+Contains-joined kind k None y a b e f ne = absurd (none-some a e)
+Contains-joined kind k (Some x) None a b e f ne = absurd (none-some b f)
+Contains-joined kind k (Some x) (Some y) a b e f ne =
+    let p : x ≡ a = same_Some x a e in
+    let q : y ≡ b = same_Some y b f in
+    let edge : Edge = record { from = x; kind = kind; key = k; to = y } in
+    let other : (x == y) ≡ false = ne_eqb x y (λ s. ne (sym p ∙ (s ∙ q))) in
+    subst (λ c. Contains (cond c [] (edge ∷ [])) (record { from = a; kind = kind; key = k; to = b })) (sym other)
+    (0, omega arith, cc (p, q))
+
+-- what the ends of a listed edge are
+pub record Joins (x y : Option ℕ) (e : Edge) : Type 0 where
+  pub from_is : x ≡ Some e.from
+  pub to_is : y ≡ Some e.to
+  pub apart : e.from ≢ e.to
+
+joined_one : (a b : ℕ) (kind : Kind) (k : List ℕ) (e : Edge) → a ≢ b
+    → Contains (record { from = a; kind = kind; key = k; to = b } ∷ []) e → Joins (Some a) (Some b) e
+joined_one a b kind k e ne (zero, l, f) = record {
+  from_is = ap (λ x. Some x.from) f;
+  to_is = ap (λ x. Some x.to) f;
+  apart = λ s. ne (ap (λ x. x.from) f ∙ (s ∙ ap (λ x. x.to) (sym f)));
+}
+joined_one a b kind k e ne (suc i, l, f) = absurd (omega (arith, l))
+
+pub joined_ends : (kind : Kind) (k : List ℕ) (x y : Option ℕ) (e : Edge) → Contains (joined kind k x y) e → Joins x y e
+joined_ends kind k None y e c = absurd (none_contained e c)
+joined_ends kind k (Some a) None e c = absurd (none_contained e c)
+joined_ends kind k (Some a) (Some b) e c =
+    let edge : Edge = record { from = a; kind = kind; key = k; to = b } in
+    elim (cases_eq a b) [
+      | inl s ↦ absurd (none_contained e (subst (λ t. Contains (cond t [] (edge ∷ [])) e) (eq-eqb a b s) c))
+      | inr ne ↦ joined_one a b kind k e ne (subst (λ t. Contains (cond t [] (edge ∷ [])) e) (ne_eqb a b ne) c)
+    ]
+
+Contains-numbers : (from n q : ℕ) → from ≤ q → q < from + n → Contains (numbers from n) q
+Contains-numbers from zero q l m = absurd (omega (arith, l, m))
+Contains-numbers from (suc n) q l m =
+    elim (cases_eq from q) [
+      | inl e ↦ (0, omega arith, e)
+      | inr e ↦ Contains-cons from (numbers (suc from) n) q
+          (Contains-numbers (suc from) n q (omega (arith, l, e)) (omega (arith, m)))
+    ]
+
+-- the first of the numbers that passes, where this one does
+pub record FirstOf (test : ℕ → Bool) (from n q : ℕ) : Type 0 where
+  pub first : ℕ
+  pub found : find test (numbers from n) ≡ Some first
+  pub low : from ≤ first
+  pub high : first ≤ q
+
+pub first_of : (test : ℕ → Bool) (from n q : ℕ) → from ≤ q → q < from + n → test q ≡ true → FirstOf test from n q
+first_of test from zero q l m t = absurd (omega (arith, l, m))
+first_of test from (suc n) q l m t =
+    elim (cases_Bool (test from)) [
+      | inl s ↦ record {
+        first = from;
+        found = ap (λ b. cond b (Some from) (find test (numbers (suc from) n))) s;
+        low = omega arith;
+        high = l;
+      }
+      | inr f ↦
+          let ne = λ (e : from ≡ q). both_ways (test q) (ap test (sym e) ∙ f) t in
+          let rest = first_of test (suc from) n q (omega (arith, l, ne)) (omega (arith, m)) t in
+          record {
+            first = rest.first;
+            found = ap (λ b. cond b (Some from) (find test (numbers (suc from) n))) f ∙ rest.found;
+            low = let low = rest.low in omega (arith, low);
+            high = rest.high;
+          }
+    ]
+
+module _ (h : History) (k : List ℕ) where
+  pub installer_within : (q u : ℕ) → installer h k q ≡ Some u → (1 ≤ q) × (q ≤ length (writers h k))
+  installer_within zero u e = absurd (none-some u e)
+  installer_within (suc q) u e =
+      let within = slice_get_within (writers h k) q u e in
+      (omega arith, omega (arith, within))
+
+  pub installer_there : (q : ℕ) → 1 ≤ q → q ≤ length (writers h k) → (u : ℕ) × (installer h k q ≡ Some u)
+  installer_there zero l m = absurd (omega (arith, l))
+  installer_there (suc q) l m = (get_or (writers h k) q 0, slice_get-get_or (writers h k) q 0 (omega (arith, m)))
+
+  pub Contains-places : (q u : ℕ) → installer h k q ≡ Some u → Contains (places h k) q
+  Contains-places q u e =
+      let within = installer_within q u e in
+      let low = within.0 in
+      let high = within.1 in
+      Contains-numbers 1 (length (writers h k)) q low (omega (arith, high))
+
+  module _ (ts : List ℕ) (forward : (x : Edge) → Contains (write_edges h k) x → IsBefore ts x.from x.to) where
+    step : (q a b : ℕ) → installer h k q ≡ Some a → installer h k (suc q) ≡ Some b → (a ≡ b) ⊎ IsBefore ts a b
+    step q a b e f =
+        elim (cases_eq a b) [
+          | inl s ↦ inl s
+          | inr ne ↦
+              let x : Edge = record { from = a; kind = Ww; key = k; to = b } in
+              inr (forward x
+              (Contains-flat_map (λ j. joined Ww k (installer h k j) (installer h k (suc j))) (places h k) q x
+              (Contains-places q a e) (Contains-joined Ww k _ _ a b e f ne)))
+        ]
+
+    both : (a u b : ℕ) → (a ≡ u) ⊎ IsBefore ts a u → (u ≡ b) ⊎ IsBefore ts u b → (a ≡ b) ⊎ IsBefore ts a b
+    both a u b (inl s) r = subst (λ x. (x ≡ b) ⊎ IsBefore ts x b) (sym s) r
+    both a u b (inr l) (inl s) = inr (subst (IsBefore ts a) s l)
+    both a u b (inr l) (inr m) = inr (omega (arith, l, m))
+
+    reach_by : (d q p a b : ℕ) → p ≡ q + d → installer h k q ≡ Some a → installer h k p ≡ Some b
+        → (a ≡ b) ⊎ IsBefore ts a b
+    reach_by zero q p a b s e f =
+        let same : q ≡ p = omega (arith, s) in
+        inl (same_Some a b (sym e ∙ (ap (installer h k) same ∙ f)))
+    reach_by (suc d) q p a b s e f =
+        let within = installer_within p b f in
+        let high = within.1 in
+        let next = installer_there (suc q) (omega arith) (omega (arith, high, s)) in
+        both a next.0 b (step q a next.0 e next.1) (reach_by d (suc q) p next.0 b (omega (arith, s)) next.1 f)
+
+    -- who installed the version at a place, and who that at a place no earlier
+    pub reach : (q p a b : ℕ) → q ≤ p → installer h k q ≡ Some a → installer h k p ≡ Some b
+        → (a ≡ b) ⊎ IsBefore ts a b
+    reach q p a b l e f = reach_by (p - q) q p a b (omega (arith, l)) e f
+
+    -- who comes before another comes before who installed no earlier than that one
+    pub before_later : (t q p a b : ℕ) → q ≤ p → installer h k q ≡ Some a → installer h k p ≡ Some b → t ≢ b
+        → (t ≢ a → IsBefore ts t a) → IsBefore ts t b
+    before_later t q p a b l e f ne link =
+        elim (cases_eq t a) [
+          | inl s ↦
+              (elim (reach q p a b l e f) [
+                | inl r ↦ absurd (ne (s ∙ r))
+                | inr r ↦ subst (λ x. IsBefore ts x b) (sym s) r
+              ])
+          | inr o ↦
+              let first = link o in
+              (elim (reach q p a b l e f) [
+                | inl r ↦ subst (IsBefore ts t) r first
+                | inr r ↦ omega (arith, first, r)
+              ])
+        ]
+
+    -- who comes before another also comes after who installed no later than that one
+    pub earlier_before : (t q p a b : ℕ) → q ≤ p → installer h k q ≡ Some a → installer h k p ≡ Some b → a ≢ t
+        → (b ≢ t → IsBefore ts b t) → IsBefore ts a t
+    earlier_before t q p a b l e f ne link =
+        elim (cases_eq b t) [
+          | inl s ↦
+              (elim (reach q p a b l e f) [
+                | inl r ↦ absurd (ne (r ∙ s))
+                | inr r ↦ subst (IsBefore ts a) s r
+              ])
+          | inr o ↦
+              let last = link o in
+              (elim (reach q p a b l e f) [
+                | inl r ↦ subst (λ x. IsBefore ts x t) (sym r) last
+                | inr r ↦ omega (arith, r, last)
+              ])
+        ]
+
+-- the write dependencies of a key are those of its line
+from_numbers : (k : List ℕ) (f : ℕ → Option ℕ) (ws : List ℕ) (a : ℕ)
+    → ((j q : ℕ) → q ≡ j + a → f q ≡ slice_get ws j)
+    → flat_map (λ q. joined Ww k (f q) (f (suc q))) (numbers a (length ws)) ≡ line_edges k ws
+from_numbers k f [] a h = refl
+from_numbers k f (x ∷ ws) a h =
+    let here : f a ≡ Some x = h 0 a (omega arith) in
+    let next : f (suc a) ≡ slice_get ws 0 = h 1 (suc a) (omega arith) in
+    ap (λ o. joined Ww k o (f (suc a)) ++ flat_map (λ q. joined Ww k (f q) (f (suc q)))
+    (numbers (suc a) (length ws))) here ∙
+    (ap (λ o. joined Ww k (Some x) o ++ flat_map (λ q. joined Ww k (f q) (f (suc q)))
+    (numbers (suc a) (length ws))) next ∙
+    ap (λ es. joined Ww k (Some x) (slice_get ws 0) ++ es)
+    (from_numbers k f ws (suc a) (λ j q e. h (suc j) q (omega (arith, e)))))
+
+installs_at : (h : History) (k : List ℕ) (j q : ℕ) → q ≡ j + 1 → installer h k q ≡ slice_get (writers h k) j
+installs_at h k j zero e = absurd (omega (arith, e))
+installs_at h k j (suc q) e = let same : q ≡ j = omega (arith, e) in ap (slice_get (writers h k)) same
+
+of_line : (h : History) (k : List ℕ) → write_edges h k ≡ line_edges k (writers h k)
+of_line h k = from_numbers k (installer h k) (writers h k) 1 (installs_at h k)
+
+of_lines : (h : History) (os : List OrderValue)
+    → ((i : ℕ) (o : OrderValue) → i < length os → o ≡ get_or os i o
+    → writers h o.key ≡ o.writers.items)
+    → flat_map (λ (o : Order). write_edges h o.key) (map order_of os)
+    ≡ flat_map (λ (o : Order). line_edges o.key o.writers) (map order_of os)
+of_lines h [] same = refl
+of_lines h (o ∷ os) same =
+    ap (λ es. es ++ flat_map (λ (x : Order). write_edges h x.key) (map order_of os))
+    (of_line h o.key ∙ ap (line_edges o.key) (same 0 o (omega arith) refl)) ∙
+    ap (λ es. line_edges o.key o.writers.items ++ es)
+    (of_lines h os (λ i x l e. same (suc i) x (omega (arith, l)) e))
+
+-- the write dependencies of a history are those of its lines
+pub write_edges_are : (h : History) (os : List OrderValue) → h.orders ≡ map order_of os
+    → keys_rise (map (λ (o : Order). o.key) (map order_of os)) ≡ true
+    → flat_map (λ (o : Order). write_edges h o.key) h.orders
+    ≡ flat_map (λ (o : Order). line_edges o.key o.writers) (map order_of os)
+write_edges_are h os same rise =
+    ap (flat_map (λ (o : Order). write_edges h o.key)) same ∙
+    of_lines h os
+    (λ i o l e. ap (λ zs. line_of zs o.key) same ∙ line_of-at order_of os i o rise l e)

@@ -1,0 +1,20 @@
+-- What each event of a checked history has.
+use Rattle.std.proofs.Common.{◌≡◌, ℕ, zero, suc, true, List, [], ◌∷◌, ◌++◌, Option, Some, None, is_none, refl, subst, arith}
+use Rattle.std.specs.List.{Contains}
+use Rattle.adya_terms.specs.Histories.{Event, History}
+use Rattle.adya_terms.specs.Rules.{EachAfter, IsRising}
+use Rattle.adya_terms.specs.Acceptance.{IsChecked}
+use Rattle.adya_dsg.proofs.Members.{none_contained}
+
+pub none_from : {X : Type 0} (o : Option X) → is_none o ≡ true → o ≡ None
+none_from None h = refl
+none_from (Some x) h = absurd (cc (h))
+
+each_at : (P : Event → Type 0) (before es : List Event) (e : Event) → EachAfter (λ b x. P x) before es → Contains es e
+    → P e
+each_at P before [] e all c = absurd (none_contained e c)
+each_at P before (x ∷ es) e all (zero, l, same) = subst P same all.0
+each_at P before (x ∷ es) e all (suc i, l, same) = each_at P (before ++ x ∷ []) es e all.1 (i, omega (arith, l), same)
+
+pub rising_at : (h : History) → IsChecked h → (e : Event) → Contains h.events e → IsRising e
+rising_at h checked e = each_at IsRising [] h.events e checked.well_formed.rising

@@ -1,0 +1,59 @@
+-- The committed transactions, and the ends of edges among them.
+use Rattle.std.proofs.Common.{◌≡◌, ℕ, zero, suc, ◌==◌, ◌<◌, Bool, true, false, cond, ◌&&◌, ◌||◌, List, [], ◌∷◌, Option, Some, None, is_some, refl, sym, ◌∙◌, ap, arith, inl, inr}
+use Rattle.std.specs.List.{list_any, slice_get}
+use Rattle.std.proofs.lemmas.Bool.{cases_Bool, and_parts, cond-false}
+use Rattle.std.proofs.lemmas.List.Sums.{sum_by-cons}
+use Rattle.adya_terms.specs.Histories.{Event, Write, Delete, Read, Scan, Commit, Abort, History}
+use Rattle.adya_terms.specs.Events.{last_write, is_committed}
+use Rattle.adya_terms.specs.Orders.{writers, installer}
+use Rattle.adya_terms.specs.Edges.{Kind, Ww, Wr, Rw, Edge, IsEdge, Depends}
+use Rattle.adya_terms.specs.Rules.{installs}
+use Rattle.adya_terms.specs.Acceptance.{IsChecked}
+use Rattle.adya_dsg.specs.Nodes.{committed}
+use Rattle.adya_dsg.proofs.Counts.{count, count_same}
+
+-- the list of the committed transactions has those that are committed
+pub committed_are_nodes : (events : List Event) (t : ℕ)
+    → list_any (λ u. u == t) (committed events) ≡ is_committed events t
+committed_are_nodes [] t = refl
+committed_are_nodes (Write u k m v ∷ es) t = committed_are_nodes es t
+committed_are_nodes (Delete u k m ∷ es) t = committed_are_nodes es t
+committed_are_nodes (Read u r v ∷ es) t = committed_are_nodes es t
+committed_are_nodes (Scan u low high entries ∷ es) t = committed_are_nodes es t
+committed_are_nodes (Commit u ∷ es) t = ap (λ b. (u == t) || b) (committed_are_nodes es t)
+committed_are_nodes (Abort u ∷ es) t = committed_are_nodes es t
+
+stands_counted : (ts : List ℕ) (i t : ℕ) → slice_get ts i ≡ Some t → 0 < count ts t
+stands_counted [] i t e = absurd (cc (e))
+stands_counted (x ∷ ts) zero t e =
+    let same : x ≡ t = cc (e) in
+    let one = count_same x ts t same in
+    omega (arith, one)
+stands_counted (x ∷ ts) (suc i) t e =
+    let rest = stands_counted ts i t e in
+    let cons = sum_by-cons (λ u. cond (u == t) 1 0) x ts in
+    omega (arith, rest, cons)
+
+module _ (h : History) (checked : IsChecked h) where
+  -- who stands in the version order of a key is committed
+  installer_commits : (k : List ℕ) (q t : ℕ) → installer h k q ≡ Some t → is_committed h.events t ≡ true
+  installer_commits k zero t e = absurd (cc (e))
+  installer_commits k (suc p) t e =
+      let listed = stands_counted (writers h k) p t e in
+      let orders = checked.well_formed.orders k t in
+      elim (cases_Bool (installs h.events k t)) [
+        | inl yes' ↦ (and_parts (is_committed h.events t) (is_some (last_write t k h.events)) yes').0
+        | inr no' ↦
+            let none = cond-false {A = ℕ} (installs h.events k t) 1 0 no' in
+            absurd (omega (arith, listed, orders, none))
+      ]
+
+  depends_commit : (kind : Kind) (k : List ℕ) (from to : ℕ) → Depends h kind k from to
+      → (is_committed h.events from ≡ true) × (is_committed h.events to ≡ true)
+  depends_commit Ww k from to d = (installer_commits k d.0 from d.1, installer_commits k (suc d.0) to d.2)
+  depends_commit Wr k from to d = (installer_commits k d.source from d.installs, d.committed)
+  depends_commit Rw k from to d = (d.committed, installer_commits k d.next to d.installs)
+
+  pub ends_commit : (e : Edge) → IsEdge h e
+      → (is_committed h.events e.from ≡ true) × (is_committed h.events e.to ≡ true)
+  ends_commit e edge = depends_commit e.kind e.key e.from e.to edge.1

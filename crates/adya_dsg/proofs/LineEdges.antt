@@ -1,0 +1,39 @@
+-- The write dependencies of an order line, by its writers and by the places of its versions.
+use Rattle.std.proofs.Common.{◌≡◌, ◌<◌, ℕ, zero, suc, true, List, [], ◌∷◌, ◌++◌, map, flat_map, length, get_or, slice_get, refl, sym, ◌∙◌, ap}
+use Rattle.adya_terms.specs.declared.order.Order.{Order as OrderValue}
+use Rattle.adya_terms.specs.Keys.{keys_rise}
+use Rattle.adya_terms.specs.Histories.{Order, History, order_of}
+use Rattle.adya_terms.specs.Orders.{line_of, writers, installer}
+use Rattle.adya_terms.specs.Edges.{Ww, Edge}
+use Rattle.adya_terms.specs.EdgeList.{numbers, joined, write_edges}
+use Rattle.adya_dsg.specs.Dependencies.{line_edges}
+use Rattle.adya_dsg.proofs.Keys.{line_of-at}
+
+flat_map-shift : {X : Type 0} (f : ℕ → List X) (a n : ℕ)
+    → flat_map f (numbers (suc a) n) ≡ flat_map (λ q. f (suc q)) (numbers a n)
+flat_map-shift f a zero = refl
+flat_map-shift f a (suc n) = ap (λ xs. f (suc a) ++ xs) (flat_map-shift f (suc a) n)
+
+-- from the writer with q writers before it to the next
+abbrev step : List ℕ → List ℕ → ℕ → List Edge
+step k ws q = joined Ww k (slice_get ws q) (slice_get ws (suc q))
+
+line_edges-steps : (k ws : List ℕ) → line_edges k ws ≡ flat_map (step k ws) (numbers 0 (length ws))
+line_edges-steps k [] = refl
+line_edges-steps k (x ∷ ws) =
+    ap (λ xs. step k (x ∷ ws) 0 ++ xs)
+    (line_edges-steps k ws ∙ sym (flat_map-shift (step k (x ∷ ws)) 0 (length ws)))
+
+line_edges-places : (h : History) (k : List ℕ) → line_edges k (writers h k) ≡ write_edges h k
+line_edges-places h k =
+    line_edges-steps k (writers h k) ∙
+    sym (flat_map-shift (λ q. joined Ww k (installer h k q) (installer h k (suc q))) 0 (length (writers h k)))
+
+-- the edges of a line are the write dependencies of its key, where the keys of the lines rise
+pub line_edges-at : (h : History) (os : List OrderValue) (i : ℕ) (o : OrderValue) → map order_of os ≡ h.orders
+    → keys_rise (map (λ (x : Order). x.key) (map order_of os)) ≡ true → i < length os → o ≡ get_or os i o
+    → line_edges o.key o.writers.items ≡ write_edges h o.key
+line_edges-at h os i o same rise l at =
+    ap (line_edges o.key)
+    (sym (line_of-at order_of os i o rise l at) ∙ ap (λ (lines : List Order). line_of lines o.key) same) ∙
+    line_edges-places h o.key

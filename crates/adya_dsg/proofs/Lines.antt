@@ -1,0 +1,118 @@
+-- Order lines by their places in the list of lines.
+use Rattle.std.proofs.Common.{◌≡◌, ℕ, zero, suc, ◌<◌, ◌≤◌, ◌==◌, Bool, true, false, cond, List, [], ◌∷◌, map, length, get_or, Option, Some, None, IfSome, IfNone, slice_get, option_map, refl, sym, ◌∙◌, ap, subst, arith, inl, inr}
+use Rattle.std.proofs.Common.{Result, Ok, Err, Equal, nat_cmp}
+use Rattle.std.specs.List.{HoldsAt}
+use Rattle.std.specs.List.Sorted.{IsBinarySearchResult, IsSearchInRange, IsPartitionPoint}
+use Rattle.std.specs.Cmp.Lexicographic.{slice_cmp}
+use Rattle.std.specs.Result.{result_ok}
+use Rattle.std.proofs.lemmas.Bool.{cases_eq, eq-eqb, ne_eqb}
+use Rattle.std.proofs.lemmas.Option.{slice_get-map, slice_get_read, slice_get-get_or}
+use Rattle.std.proofs.lemmas.Simd.{map-map}
+use Rattle.adya_terms.specs.declared.order.Order.{Order as OrderValue}
+use Rattle.adya_terms.specs.Keys.{key_lt, keys_rise}
+use Rattle.adya_terms.specs.Histories.{Order, order_of}
+use Rattle.adya_terms.specs.Orders.{place, line_of}
+use Rattle.adya_dsg.specs.Choices.{key_of}
+use Rattle.adya_dsg.proofs.Keys.{line_of-at}
+use Rattle.adya_dsg.proofs.Searches.{tied_key, search_misses}
+
+pub rise_of_values : (os : List OrderValue) → keys_rise (map (λ (o : Order). o.key) (map order_of os)) ≡ true
+    → keys_rise (map (λ (o : OrderValue). o.key) os) ≡ true
+rise_of_values os r = ap keys_rise (sym (map-map (λ (o : Order). o.key) order_of os)) ∙ r
+
+-- the key of the line
+pub key_is : (os : List OrderValue) (i : ℕ) (o : OrderValue) → i < length os → o ≡ get_or os i o
+    → key_of (slice_get (map order_of os) i) ≡ o.key
+key_is os i o l e =
+    ap key_of (slice_get-map order_of os i ∙ ap (option_map order_of) (slice_get_read os (length os) i o refl l e))
+
+pub key_there : (os : List OrderValue) (i : ℕ) (d : OrderValue) → i < length os
+    → key_of (slice_get (map order_of os) i) ≡ (get_or os i d).key
+key_there os i d l =
+    ap key_of (slice_get-map order_of os i ∙ ap (option_map order_of) (slice_get-get_or os i d l))
+
+pub writers_are : (os : List OrderValue) (i : ℕ) (o : OrderValue)
+    → keys_rise (map (λ (x : Order). x.key) (map order_of os)) ≡ true → i < length os → o ≡ get_or os i o
+    → o.writers.items ≡ line_of (map order_of os) (key_of (slice_get (map order_of os) i))
+writers_are os i o r l e =
+    sym (line_of-at order_of os i o r l e) ∙ ap (line_of (map order_of os)) (sym (key_is os i o l e))
+
+pub place-le : (ws : List ℕ) (t : ℕ) → place ws t ≤ length ws
+place-le [] t = omega arith
+place-le (x ∷ ws) t =
+    let rest = place-le ws t in
+    elim (cases_eq x t) [
+      | inl e ↦
+          let here : place (x ∷ ws) t ≡ 0 = ap (λ b. cond b 0 (suc (place ws t))) (eq-eqb x t e) in
+          omega (arith, here)
+      | inr e ↦
+          let there : place (x ∷ ws) t ≡ suc (place ws t) = ap (λ b. cond b 0 (suc (place ws t))) (ne_eqb x t e) in
+          omega (arith, there, rest)
+    ]
+
+-- a fact of the line of an index, whatever stands for a line past the end
+at_key : (os : List OrderValue) (i : ℕ) (k : List ℕ) → i < length os
+    → ((d : OrderValue) → slice_cmp nat_cmp (get_or os i d).key k ≡ Equal)
+    → key_of (slice_get (map order_of os) i) ≡ k
+at_key [] i k l h = absurd (omega (arith, l))
+at_key (o ∷ os) i k l h = key_there (o ∷ os) i o l ∙ tied_key _ k (h o)
+
+tested_at : (os : List OrderValue) (k : List ℕ) (b : Bool) (i : ℕ) → i < length os
+    → ((d : OrderValue) → key_lt (get_or os i d).key k ≡ b)
+    → key_lt (key_of (slice_get (map order_of os) i)) k ≡ b
+tested_at [] k b i l h = absurd (omega (arith, l))
+tested_at (o ∷ os) k b i l h = ap (λ j. key_lt j k) (key_there (o ∷ os) i o l) ∙ h o
+
+nowhere : (os : List OrderValue) (k : List ℕ) (n : ℕ) → keys_rise (map (λ (o : OrderValue). o.key) os) ≡ true
+    → IsBinarySearchResult (λ (o : OrderValue). slice_cmp nat_cmp o.key k) os (Err n) → (i : ℕ) → i < length os
+    → key_of (slice_get (map order_of os) i) ≡ k → ⊥
+nowhere [] k n rise found i l e = omega (arith, l)
+nowhere (o ∷ os) k n rise found i l e =
+    search_misses (λ (x : OrderValue). x.key) (o ∷ os) k n rise found i o l (sym (key_there (o ∷ os) i o l) ∙ e)
+
+-- what is noted of each line, at one of them
+pub mapped_at : {X Y : Type 0} (f : List ℕ → Y) (view : X → Y) (xs : List X) (os : List OrderValue) (i : ℕ) (x : X)
+    → map view xs ≡ map (λ (o : Order). f o.key) (map order_of os) → i < length os → x ≡ get_or xs i x
+    → view x ≡ f (key_of (slice_get (map order_of os) i))
+mapped_at f view [] [] i x same l e = absurd (omega (arith, l))
+mapped_at f view [] (o ∷ os) i x same l e = absurd (cc (same))
+mapped_at f view (y ∷ xs) [] i x same l e = absurd (omega (arith, l))
+mapped_at f view (y ∷ xs) (o ∷ os) zero x same l e = ap view e ∙ cc (same)
+mapped_at f view (y ∷ xs) (o ∷ os) (suc i) x same l e =
+    mapped_at f view xs os i x (cc (same)) (omega (arith, l)) e
+
+-- what a binary search by keys answers, where it answers
+pub found_at : (os orders : List OrderValue) → orders ≡ os → (k : List ℕ) (r : Result ℕ ℕ) → IsSearchInRange r (length orders)
+    → IsBinarySearchResult (λ (o : OrderValue). slice_cmp nat_cmp o.key k) orders r
+    → IfSome (result_ok r) (λ i. key_of (slice_get (map order_of os) i) ≡ k)
+found_at os orders same k (Ok i) within found =
+    let l : i < length os = subst (λ (zs : List OrderValue). i < length zs) same within in
+    at_key os i k l (subst (λ zs. HoldsAt (λ (o : OrderValue). slice_cmp nat_cmp o.key k ≡ Equal) zs i) same found)
+found_at os orders same k (Err i) within found = tt
+
+-- where it answers nothing, no line has the key
+pub found_nowhere : (os orders : List OrderValue) → orders ≡ os
+    → keys_rise (map (λ (o : Order). o.key) (map order_of os)) ≡ true → (k : List ℕ) (r : Result ℕ ℕ)
+    → IsBinarySearchResult (λ (o : OrderValue). slice_cmp nat_cmp o.key k) orders r
+    → IfNone (result_ok r)
+    ((i : ℕ) → i < length os → key_of (slice_get (map order_of os) i) ≡ k → ⊥)
+found_nowhere os orders same rise k (Ok n) found = tt
+found_nowhere os orders same rise k (Err n) found = λ i l e.
+    nowhere os k n (rise_of_values os rise)
+    (subst (λ zs. IsBinarySearchResult (λ (o : OrderValue). slice_cmp nat_cmp o.key k) zs (Err n)) same found) i l e
+
+-- the lines up to a partition by a key are below it
+pub keys_below : (os orders : List OrderValue) → orders ≡ os → (k : List ℕ) (n : ℕ) → n ≤ length os
+    → IsPartitionPoint (λ (o : OrderValue). key_lt o.key k ≡ true) (λ o. key_lt o.key k ≡ false) orders n → (i : ℕ)
+    → i < n → key_lt (key_of (slice_get (map order_of os) i)) k ≡ true
+keys_below os orders same k n within point i l =
+    tested_at os k true i (omega (arith, l, within))
+    (λ d. subst (λ zs. (j : ℕ) (x : OrderValue) → 0 ≤ j → j < n → key_lt (get_or zs j x).key k ≡ true) same point.0 i d (omega arith) l)
+
+-- and those behind it aren't
+pub keys_from : (os orders : List OrderValue) → orders ≡ os → (k : List ℕ) (n : ℕ)
+    → IsPartitionPoint (λ (o : OrderValue). key_lt o.key k ≡ true) (λ o. key_lt o.key k ≡ false) orders n → (i : ℕ)
+    → n ≤ i → i < length os → key_lt (key_of (slice_get (map order_of os) i)) k ≡ false
+keys_from os orders same k n point i l m =
+    tested_at os k false i m
+    (λ d. subst (λ zs. (j : ℕ) (x : OrderValue) → n ≤ j → j < length zs → key_lt (get_or zs j x).key k ≡ false) same point.1 i d l m)

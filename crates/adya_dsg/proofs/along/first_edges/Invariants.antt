@@ -1,0 +1,6 @@
+use Rattle.std.proofs.Common.{take}
+use Rattle.adya_dsg.specs.Along.{HasFirst}
+use Rattle.adya_dsg.proofs.along.first_edges.Given as goal
+
+abbrev pub invariant-loop-e : goal.invariant-loop-e
+invariant-loop-e l = HasFirst l.first l.way (take l.e-index l.edges)

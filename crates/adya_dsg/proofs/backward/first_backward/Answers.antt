@@ -1,0 +1,53 @@
+use Rattle.std.proofs.Common.{◌≡◌, Option, None, option_map, flat_map, ◌∙◌, sym, ap, subst}
+use Rattle.std.specs.List.{find}
+use Rattle.std.proofs.lemmas.Result.{IfOk-weaker}
+use Rattle.adya_terms.specs.declared.history.History.{History as HistoryValue}
+use Rattle.adya_terms.specs.Values.{history_of}
+use Rattle.adya_terms.specs.EdgeList.{event_edges}
+use Rattle.adya_terms.specs.Certificates.{first_backward}
+use Rattle.adya_dsg.specs.declared.edge.Edge.{Edge}
+use Rattle.adya_dsg.specs.Values.{edge_of}
+use Rattle.adya_dsg.specs.Dependencies.{is_backward}
+use Rattle.adya_dsg.proofs.Forward.{all_writes, readers, lends, no_backward_write, first_is_of_writes, first_is_of_reads}
+use Rattle.adya_dsg.proofs.backward.first_backward.Goals as goal
+
+pub returns-then-is_some : goal.returns-then-is_some
+returns-then-is_some c =
+    let history = c.args.checked.now.history.now in
+    let os = c.orders.result.now in
+    let h = history_of history in
+    first_is_of_writes h os
+    (lends history c.history.result.now os c.history.ensures.same c.orders.ensures.value c.orders.ensures.shape)
+    c.in_ok-certificate.certificate.txns.now c.in_ok-found.found c.in_ok-found.ensures c.edge_list_keeps_first.ensures
+    (sym c.is_some.ensures ∙ c.if-is_some.true) ∙
+    ap (first_backward h) (c.in_ok-certificate.ensures ∙ c.txns.ensures)
+
+pub first_read-requires-clause-writes : goal.first_read-requires-clause-writes
+first_read-requires-clause-writes c =
+    let history = c.args.checked.now.history.now in
+    let os = c.orders.result.now in
+    let ts = c.in_ok-certificate.certificate.txns.now in
+    subst (λ (x : HistoryValue). find (is_backward ts) (all_writes (history_of x)) ≡ None)
+    (sym c.in_ok-graph.ensures.same)
+    (no_backward_write (history_of history) os
+    (lends history c.history.result.now os c.history.ensures.same c.orders.ensures.value c.orders.ensures.shape)
+    ts c.in_ok-found.found c.in_ok-found.ensures (sym c.is_some.ensures ∙ c.if-is_some.false))
+
+pub returns : goal.returns
+returns c =
+    let history = c.args.checked.now.history.now in
+    let os = c.orders.result.now in
+    let h = history_of history in
+    let ts = c.in_ok-certificate.certificate.txns.now in
+    let of_reads = λ (x : HistoryValue). find (is_backward ts)
+    (flat_map (event_edges (history_of x)) (readers (history_of x))) in
+    let none = first_is_of_reads h os
+    (lends history c.history.result.now os c.history.ensures.same c.orders.ensures.value c.orders.ensures.shape)
+    ts c.in_ok-found.found c.in_ok-found.ensures c.edge_list_keeps_first.ensures
+    (sym c.is_some.ensures ∙ c.if-is_some.false) in
+    IfOk-weaker c.first_read.result
+    (λ (o : Option Edge). option_map edge_of o ≡ of_reads c.in_ok-graph.graph.checked.now.history.now)
+    (λ (o : Option Edge). option_map edge_of o ≡ first_backward h c.args.serial.now.txns.items)
+    (λ o e. e ∙
+    (ap of_reads c.in_ok-graph.ensures.same ∙
+    (none ∙ ap (first_backward h) (c.in_ok-certificate.ensures ∙ c.txns.ensures)))) c.first_read.ensures

@@ -1,0 +1,22 @@
+use Rattle.std.proofs.Common.{◌++◌, not, map, sym, ◌∙◌, ap}
+use Rattle.std.specs.List.{find}
+use Rattle.adya_terms.specs.Histories.{event_of}
+use Rattle.adya_terms.specs.Values.{history_of}
+use Rattle.adya_dsg.specs.Values.{edge_of}
+use Rattle.adya_dsg.specs.Dependencies.{is_backward}
+use Rattle.adya_dsg.specs.Links.{event_links}
+use Rattle.adya_dsg.proofs.Forward.{none_mapped, none_of_event}
+use Rattle.adya_dsg.proofs.backward.first_of_event.Goals as goal
+
+pub returns-then-is_none : goal.returns-then-is_none
+returns-then-is_none c =
+    let h = history_of c.args.graph.now.checked.now.history.now in
+    let ts = c.args.certificate.now.txns.now in
+    let e = event_of c.args.event.now in
+    let given = ap (map edge_of) c.deref.ensures.value ∙
+    (c.in_ok-push_event_links.ensures ∙ ap (λ es. map edge_of es ++ event_links h e) c.clear.ensures.items) in
+    let none = ap (find (is_backward ts)) (sym given) ∙
+    (sym c.first_backward.ensures ∙
+    none_mapped edge_of c.first_backward.result (c.is_none.ensures ∙ ap not c.if-is_none.true)) in
+    sym (none_of_event c.selected_is_installed.ensures h c.requires.checked e c.requires.occurs c.requires.committed ts
+    c.requires.writes none)

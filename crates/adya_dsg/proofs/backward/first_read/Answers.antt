@@ -1,0 +1,48 @@
+use Rattle.std.proofs.Common.{◌+◌, map, option_map, drop, filter, flat_map, sym, ◌∙◌, ap}
+use Rattle.std.specs.List.{find}
+use Rattle.adya_terms.specs.Histories.{Event, event_of}
+use Rattle.adya_terms.specs.Values.{history_of}
+use Rattle.adya_terms.specs.Events.{txn_of, is_committed}
+use Rattle.adya_terms.specs.EdgeList.{event_edges}
+use Rattle.adya_dsg.specs.Values.{edge_of}
+use Rattle.adya_dsg.specs.Dependencies.{is_backward}
+use Rattle.adya_dsg.proofs.Finding.{from_kept, from_left_out, found_in_front, none_in_front}
+use Rattle.adya_dsg.proofs.backward.first_read.Goals as goal
+use Rattle.adya_dsg.proofs.backward.first_read.Goals.{then-is_committed+in_ok-found+in_default, else-is_committed}
+
+pub returns-in-Some : goal.returns-in-Some
+returns-in-Some c =
+    let h = history_of c.args.graph.now.checked.now.history.now in
+    let events = c.events-events.result.now in
+    let i = c.loop-event.event-index in
+    let e = c.event-item.result in
+    let keep = λ (x : Event). is_committed h.events (txn_of x) in
+    sym (c.loop-event.invariant ∙
+    found_in_front (is_backward c.args.certificate.now.txns.now)
+    (flat_map (event_edges h) (filter keep (map event_of (drop i events)))) (event_edges h (event_of e))
+    (flat_map (event_edges h) (filter keep (map event_of (drop (i + 1) events)))) (edge_of c.in-Some.found)
+    (from_kept (event_edges h) event_of events i e c.loop-event-test.true c.event-item.is keep
+    (sym c.is_committed.ensures ∙ c.if-is_committed.true))
+    (sym c.in_ok-found.ensures ∙ ap (option_map edge_of) c.in-Some.is))
+
+pub loop-event-preserved : goal.loop-event-preserved
+loop-event-preserved c =
+    let h = history_of c.args.graph.now.checked.now.history.now in
+    let p = is_backward c.args.certificate.now.txns.now in
+    let events = c.events-events.result.now in
+    let i = c.loop-event.event-index in
+    let e = c.event-item.result in
+    let keep = λ (x : Event). is_committed h.events (txn_of x) in
+    c.loop-event.invariant ∙
+    elim c.if-is_committed.branch [
+      | then-is_committed+in_ok-found+in_default w ↦
+          none_in_front p (flat_map (event_edges h) (filter keep (map event_of (drop i events))))
+          (event_edges h (event_of e)) (flat_map (event_edges h) (filter keep (map event_of (drop (i + 1) events))))
+          (from_kept (event_edges h) event_of events i e c.loop-event-test.true c.event-item.is keep
+          (sym c.is_committed.ensures ∙ w.if-is_committed.true))
+          (sym w.in_ok-found.ensures ∙ ap (option_map edge_of) w.in_default.is)
+      | else-is_committed w ↦
+          ap (find p)
+          (from_left_out (event_edges h) event_of events i e c.loop-event-test.true c.event-item.is keep
+          (sym c.is_committed.ensures ∙ w.if-is_committed.false))
+    ]

@@ -1,0 +1,16 @@
+use Rattle.std.proofs.Common.{◌≡◌, map, drop, filter, flat_map}
+use Rattle.std.specs.List.{find}
+use Rattle.adya_terms.specs.Histories.{event_of}
+use Rattle.adya_terms.specs.Values.{history_of}
+use Rattle.adya_terms.specs.Events.{txn_of, is_committed}
+use Rattle.adya_terms.specs.EdgeList.{event_edges}
+use Rattle.adya_dsg.specs.Dependencies.{is_backward}
+use Rattle.adya_dsg.proofs.backward.first_read.Given as goal
+
+abbrev pub invariant-loop-event : goal.invariant-loop-event
+invariant-loop-event l =
+    let h = history_of l.graph.checked.now.history.now in
+    find (is_backward l.certificate.txns.now)
+    (flat_map (event_edges h) (filter (λ e. is_committed h.events (txn_of e)) h.events))
+    ≡ find (is_backward l.certificate.txns.now)
+    (flat_map (event_edges h) (filter (λ e. is_committed h.events (txn_of e)) (map event_of (drop l.event-index l.events))))

@@ -1,0 +1,16 @@
+use Rattle.std.proofs.Common.{◌≡◌, suc, ◌++◌, length, drop, filter}
+use Rattle.adya_terms.specs.Values.{history_of}
+use Rattle.adya_terms.specs.Orders.{is_visible_at}
+use Rattle.adya_terms.specs.Selections.{changes_matches}
+use Rattle.adya_terms.specs.EdgeList.{numbers}
+use Rattle.adya_dsg.specs.Links.{changed_places}
+use Rattle.adya_dsg.proofs.changes.changed_places.Given as goal
+
+abbrev pub invariant-loop-i : goal.invariant-loop-i
+invariant-loop-i l =
+    let h = history_of l.checked.history.now in
+    let k = l.order.key in record {
+      before : l.was ≡ is_visible_at h k l.i;
+      all : l.places.items ++ filter (changes_matches h k) (numbers (suc l.i) (length (drop l.i l.order.writers.items)))
+          ≡ changed_places h k;
+    }

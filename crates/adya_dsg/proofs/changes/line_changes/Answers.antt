@@ -1,0 +1,33 @@
+use Rattle.std.proofs.Common.{◌≡◌, ◌+◌, ◌<◌, ◌++◌, [], ◌∷◌, ℕ, List, Vec, Global, map, length, drop, get_or, sym, ◌∙◌, ap, subst}
+use Rattle.std.proofs.lemmas.List.{map-append}
+use Rattle.adya_terms.specs.declared.order.Order.{Order as OrderValue}
+use Rattle.adya_terms.specs.Histories.{Order, order_of}
+use Rattle.adya_terms.specs.Values.{history_of}
+use Rattle.adya_dsg.specs.Links.{changed_places}
+use Rattle.adya_dsg.proofs.Keys.{line_of-at}
+use Rattle.adya_dsg.proofs.Steps.{map_step}
+use Rattle.adya_dsg.proofs.changes.line_changes.Goals as goal
+
+pub changed_places-requires : goal.changed_places-requires
+changed_places-requires c =
+    let os = c.args.checked.now.history.now.orders.items in
+    let i = c.loop-order.order-index in
+    let o = c.order-item.result in
+    let same = c.orders_of-orders.ensures.value in
+    line_of-at order_of os i o c.orders_of-orders.ensures.rise
+    (subst (λ (zs : List OrderValue). i < length zs) same c.loop-order-test.true)
+    (c.order-item.is ∙ ap (λ zs. get_or zs i o) same)
+
+pub loop-order-preserved : goal.loop-order-preserved
+loop-order-preserved c =
+    let h = history_of c.args.checked.now.history.now in
+    let os = c.orders_of-orders.result.now in
+    let i = c.loop-order.order-index in
+    let o = c.order-item.result in
+    let line = λ (v : Vec ℕ Global). v.items in
+    let rest = map (λ (x : Order). changed_places h x.key) (map order_of (drop (i + 1) os)) in
+    ap (λ zs. map line zs ++ rest) c.in_ok-push.ensures.items ∙
+    (ap (λ zs. zs ++ rest) (map-append line c.loop-order.lines.items (c.in_ok-changed_places.field-0 ∷ [])) ∙
+    (ap (λ z. (map line c.loop-order.lines.items ++ z ∷ []) ++ rest) c.in_ok-changed_places.ensures ∙
+    map_step order_of os i o c.loop-order-test.true c.order-item.is (map line c.loop-order.lines.items) _
+    (λ (x : Order). changed_places h x.key) c.loop-order.invariant))

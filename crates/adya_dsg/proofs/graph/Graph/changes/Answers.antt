@@ -1,0 +1,15 @@
+use Rattle.std.proofs.Common.{◌≡◌, ◌<◌, ◌∙◌, ℕ, List, Vec, Global, map, length, get_or, sym, ap, subst}
+use Rattle.adya_terms.specs.Histories.{Order, order_of}
+use Rattle.adya_terms.specs.Values.{history_of}
+use Rattle.adya_dsg.specs.Links.{changed_places}
+use Rattle.adya_dsg.proofs.Lines.{mapped_at}
+use Rattle.adya_dsg.proofs.graph.Graph.changes.Goals as goal
+
+pub returns : goal.returns
+returns c =
+    let g = c.args.self.now in
+    let h = history_of g.checked.now.history.now in
+    let os = g.checked.now.history.now.orders.items in
+    c.deref.ensures.value ∙
+    mapped_at (changed_places h) (λ (v : Vec ℕ Global). v.items) g.changes.items os c.args.line c.index.result.now
+    g.changed c.requires c.index.ensures

@@ -1,0 +1,13 @@
+use Rattle.std.proofs.Common.{◌≡◌, map, flat_map, fold, drop}
+use Rattle.adya_terms.specs.Histories.{order_of}
+use Rattle.adya_terms.specs.Values.{history_of}
+use Rattle.adya_terms.specs.EdgeList.{with_edge, write_edges}
+use Rattle.adya_dsg.specs.Values.{edge_of}
+use Rattle.adya_dsg.proofs.listing.add_write_edges.Given as goal
+
+abbrev pub invariant-loop-order : goal.invariant-loop-order
+invariant-loop-order l =
+    let h = history_of l.graph.checked.now.history.now in
+    fold with_edge (map edge_of l.set.keys)
+    (flat_map (λ o. write_edges h o.key) (map order_of (drop l.order-index l.orders)))
+    ≡ fold with_edge (map edge_of l.fn.set.keys) (flat_map (λ o. write_edges h o.key) h.orders)

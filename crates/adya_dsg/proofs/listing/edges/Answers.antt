@@ -1,0 +1,45 @@
+use Rattle.std.proofs.Common.{◌≡◌, ◌≢◌, List, [], map, filter, flat_map, fold, refl, ap, sym, ◌∙◌}
+use Rattle.std.specs.List.{AllPairs}
+use Rattle.std.proofs.lemmas.List.Sums.{fold-append}
+use Rattle.adya_terms.specs.declared.history.History.{History as HistoryValue}
+use Rattle.adya_terms.specs.Histories.{Order, Event}
+use Rattle.adya_terms.specs.Values.{history_of}
+use Rattle.adya_terms.specs.Events.{txn_of, is_committed}
+use Rattle.adya_terms.specs.Edges.{Edge}
+use Rattle.adya_terms.specs.EdgeList.{with_edge, write_edges, event_edges, edge_list}
+use Rattle.adya_dsg.specs.Values.{edge_of}
+use Rattle.adya_dsg.specs.Dependencies.{AreEdges}
+use Rattle.adya_dsg.specs.declared.edge.Edge.{Edge as EdgeValue}
+use Rattle.adya_dsg.proofs.Repeats.{copied}
+use Rattle.adya_dsg.proofs.listing.edges.Goals as goal
+
+listed : (c : goal.After-drop-graph-3)
+    → map edge_of c.as_slice.result.now ≡ edge_list (history_of c.args.checked.now.history.now)
+listed c =
+    let h = history_of c.in_ok-graph.graph.checked.now.history.now in
+    let writes = flat_map (λ (o : Order). write_edges h o.key) h.orders in
+    let events = flat_map (event_edges h) (filter (λ (e : Event). is_committed h.events (txn_of e)) h.events) in
+    ap (λ (zs : List EdgeValue). map edge_of zs) c.as_slice.ensures.keys ∙
+    (c.in_ok-add_event_edges.ensures ∙
+    (ap (λ (zs : List Edge). fold with_edge zs events)
+    (c.in_ok-add_write_edges.ensures ∙
+    ap (λ (zs : List EdgeValue). fold with_edge (map edge_of zs) writes) c.new-set.ensures.empty) ∙
+    (sym (fold-append with_edge [] writes events) ∙
+    ap (λ (g : HistoryValue). edge_list (history_of g)) c.in_ok-graph.ensures.same)))
+
+pub returns-clause-exact : goal.returns-clause-exact
+returns-clause-exact c =
+    let all = edge_list (history_of c.args.checked.now.history.now) in
+    copied c.from_slice.result c.as_slice.result.now all (λ es. es ≡ all) c.from_slice.ensures.items (listed c) refl
+
+pub returns-clause-edges : goal.returns-clause-edges
+returns-clause-edges c =
+    let h = history_of c.args.checked.now.history.now in
+    copied c.from_slice.result c.as_slice.result.now (edge_list h) (AreEdges h) c.from_slice.ensures.items (listed c)
+    (c.edge_list_is_exact.ensures h)
+
+pub returns-clause-once : goal.returns-clause-once
+returns-clause-once c =
+    let h = history_of c.args.checked.now.history.now in
+    copied c.from_slice.result c.as_slice.result.now (edge_list h) (AllPairs (λ (a b : Edge). a ≢ b))
+    c.from_slice.ensures.items (listed c) (c.edge_list_is_distinct.ensures h)

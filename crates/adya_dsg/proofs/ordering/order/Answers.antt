@@ -1,0 +1,29 @@
+use Rattle.std.proofs.Common.{◌≡◌, ◌↔◌, subst}
+use Rattle.adya_terms.specs.Values.{history_of}
+use Rattle.adya_terms.specs.declared.history.History.{History as HistoryValue}
+use Rattle.adya_terms.specs.Phenomena.{HasG1, HasG2}
+use Rattle.adya_terms.specs.Acceptance.{IsChecked}
+use Rattle.adya_dsg.specs.Found.{HasCertificate}
+use Rattle.adya_dsg.specs.Laws.{CertifiedWhereNoPhenomenon}
+use Rattle.adya_dsg.proofs.Certifying.{none_beside_result}
+use Rattle.adya_dsg.proofs.ordering.order.Goals as goal
+
+decided : CertifiedWhereNoPhenomenon → (own lent : HistoryValue) → lent ≡ own → IsChecked (history_of lent)
+    → HasCertificate (history_of own) ↔ ((HasG1 (history_of own) → ⊥) × (HasG2 (history_of own) → ⊥))
+decided law own lent same checked =
+    law (history_of own) (subst (λ h. IsChecked (history_of h)) same checked).well_formed
+
+pub returns-clause-refused : goal.returns-clause-refused
+returns-clause-refused c =
+    none_beside_result c.cycle_excludes_certificates.ensures (history_of c.args.checked.now.history.now)
+    c.by_links.result c.by_links.ensures
+
+pub returns-clause-decided : goal.returns-clause-decided
+returns-clause-decided c =
+    decided c.certified_where_no_phenomenon.ensures c.args.checked.now.history.now c.history.result.now
+    c.history.ensures.same c.history.ensures.checked
+
+pub returns-in_err-nodes-clause-decided : goal.returns-in_err-nodes-clause-decided
+returns-in_err-nodes-clause-decided c =
+    decided c.certified_where_no_phenomenon.ensures c.args.checked.now.history.now c.history.result.now
+    c.history.ensures.same c.history.ensures.checked

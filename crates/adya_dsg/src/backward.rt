@@ -1,0 +1,119 @@
+//! The first edge that doesn't go forward.
+
+ghost use Rattle.std.specs.Prelude.{◌≡◌, None, true, IfOk, map, option_map, filter, flat_map, Contains};
+ghost use Rattle.std.specs.List.{find};
+ghost use Rattle.adya_terms.specs.Histories.{event_of, order_of};
+ghost use Rattle.adya_terms.specs.Values.{history_of};
+ghost use Rattle.adya_terms.specs.Events.{txn_of, is_committed};
+ghost use Rattle.adya_terms.specs.EdgeList.{write_edges, event_edges};
+ghost use Rattle.adya_terms.specs.Certificates.{first_backward};
+ghost use Rattle.adya_terms.specs.Acceptance.{IsChecked};
+ghost use Rattle.adya_dsg.specs.Values.{edge_of};
+ghost use Rattle.adya_dsg.specs.Dependencies.{line_edges, is_backward};
+
+use crate::Edge;
+use crate::certificate::Certificate;
+use crate::dependencies::{push_event_edges, push_write_edges};
+use crate::event_links::push_event_links;
+use crate::graph::Graph;
+use adya_laws::{edge_list_keeps_first, selected_is_installed};
+use adya_terms::{Checked, Event, Order, Serial};
+use std::alloc::{AllocError, Global};
+
+/// The first of the [`edges`](crate::edges) that doesn't go forward in the certificate, if there is one: whose `to`
+/// doesn't stand behind its `from` there. `AllocError` where memory is refused.
+///
+/// It takes O(n log n) steps, where n counts the events, the entries that scans list, the keys of their ranges and the
+/// transactions of the orders and the certificate.
+pub fn first_backward(
+    alloc: Global,
+    checked: &Checked,
+    serial: &Serial,
+) -> Result<Option<Edge>, AllocError>
+    ensures { IfOk result (λ o. option_map edge_of o
+        ≡ first_backward (history_of checked.now.history.now) serial.now.txns.items) }
+{
+    edge_list_keeps_first();
+    let certificate = Certificate::of(alloc, serial.txns())?;
+    let found = first_write(alloc, &certificate, checked.history().orders())?;
+    if found.is_some() {
+        return Ok(found);
+    }
+    let graph = Graph::of(alloc, checked)?;
+    first_read(alloc, &certificate, &graph)
+}
+
+/// The first write dependency that doesn't go forward.
+fn first_write(
+    alloc: Global,
+    certificate: &Certificate,
+    orders: &[Order],
+) -> Result<Option<Edge>, AllocError>
+    ensures { IfOk result (λ o. option_map edge_of o ≡ find (is_backward certificate.now.txns.now)
+        (flat_map (λ o. line_edges o.key o.writers) (map order_of orders.now))) }
+{
+    let mut edges = Vec::new(alloc);
+    for order in orders {
+        edges.clear();
+        push_write_edges(&mut edges, order)?;
+        if let Some(found) = certificate.first_backward(&edges) {
+            return Ok(Some(found));
+        }
+    }
+    Ok(None)
+}
+
+/// The first dependency of a committed transaction's event that doesn't go forward, where all write dependencies do.
+fn first_read(
+    alloc: Global,
+    certificate: &Certificate,
+    graph: &Graph,
+) -> Result<Option<Edge>, AllocError>
+    requires checked { IsChecked (history_of graph.now.checked.now.history.now) }
+    requires writes { let h = history_of graph.now.checked.now.history.now in
+        find (is_backward certificate.now.txns.now) (flat_map (λ o. write_edges h o.key) h.orders) ≡ None }
+    ensures { let h = history_of graph.now.checked.now.history.now in
+        IfOk result (λ o. option_map edge_of o ≡ find (is_backward certificate.now.txns.now)
+        (flat_map (event_edges h) (filter (λ e. is_committed h.events (txn_of e)) h.events))) }
+{
+    let mut edges = Vec::new(alloc);
+    let events = graph.events();
+    for event in events {
+        if graph.is_committed(event) {
+            if let Some(found) = first_of_event(alloc, certificate, graph, event, &mut edges)? {
+                return Ok(Some(found));
+            }
+        }
+    }
+    Ok(None)
+}
+
+/// The first of the event's edges that doesn't go forward, where all write dependencies do. Where its links go
+/// forward, so do all of its edges; so the whole list is made only where a link goes backward.
+fn first_of_event(
+    alloc: Global,
+    certificate: &Certificate,
+    graph: &Graph,
+    event: &Event,
+    edges: &mut Vec<Edge>,
+) -> Result<Option<Edge>, AllocError>
+    requires checked { IsChecked (history_of graph.now.checked.now.history.now) }
+    requires writes { let h = history_of graph.now.checked.now.history.now in
+        find (is_backward certificate.now.txns.now) (flat_map (λ o. write_edges h o.key) h.orders) ≡ None }
+    requires occurs { Contains (history_of graph.now.checked.now.history.now).events (event_of event.now) }
+    requires committed { is_committed (history_of graph.now.checked.now.history.now).events (txn_of (event_of event.now))
+        ≡ true }
+    ensures { let h = history_of graph.now.checked.now.history.now in
+        IfOk result (λ o. option_map edge_of o
+        ≡ find (is_backward certificate.now.txns.now) (event_edges h (event_of event.now))) }
+{
+    selected_is_installed();
+    edges.clear();
+    push_event_links(alloc, edges, graph, event)?;
+    if certificate.first_backward(edges).is_none() {
+        return Ok(None);
+    }
+    edges.clear();
+    push_event_edges(alloc, edges, graph, event)?;
+    Ok(certificate.first_backward(edges))
+}

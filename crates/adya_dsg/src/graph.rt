@@ -1,0 +1,162 @@
+//! The version orders of a history, with tables of the places in them.
+
+ghost use Rattle.std.specs.Prelude.{◌≡◌, ◌<◌, ◌≤◌, ℕ, suc, Some, slice_get, List, nat_lt, length, map, true, false, IfNone, IfSome, IfOk};
+ghost use Rattle.std.specs.List.{find, list_all};
+ghost use Rattle.adya_terms.specs.Keys.{key_lt, keys_rise};
+ghost use Rattle.adya_terms.specs.Histories.{event_of, order_of};
+ghost use Rattle.adya_terms.specs.Events.{txn_of, is_committed};
+ghost use Rattle.adya_terms.specs.Values.{history_of};
+ghost use Rattle.adya_terms.specs.Orders.{writers, place, installer, is_visible_at};
+ghost use Rattle.adya_dsg.specs.Places.{HasLines};
+ghost use Rattle.adya_dsg.specs.Choices.{key_at};
+ghost use Rattle.adya_dsg.specs.Links.{changed_places};
+
+use crate::changes::{line_changes, shows};
+use crate::parts::{events_of, orders_of};
+use crate::places::{Slot, line_places};
+use adya_terms::{Checked, Event, Key, Order, Txn};
+use std::alloc::{AllocError, Global};
+use std::collections::BTreeMap;
+
+/// The version orders of a checked history. An order line goes by its place in the list of lines. In a line place 0
+/// is that of the unborn version, and the writers stand from place 1 on.
+#[derive(Drop)]
+pub(crate) struct Graph<'a> {
+    checked: &'a Checked<'a>,
+    places: BTreeMap<Slot, usize>,
+    changes: Vec<Vec<usize>>,
+    ghost placed: { HasLines places checked.now.history.now.orders.items },
+    ghost changed: { let h = history_of checked.now.history.now in
+        map (λ line. line.items) changes.items ≡ map (λ o. changed_places h o.key) h.orders },
+}
+
+impl<'a> Graph<'a> {
+    /// The orders of the history with their tables; `AllocError` where memory is refused.
+    pub fn of(alloc: Global, checked: &'a Checked<'a>) -> Result<Graph<'a>, AllocError>
+        ensures same { IfOk result (λ g. g.checked.now.history.now ≡ checked.now.history.now) }
+    {
+        let places = line_places(alloc, orders_of(checked))?;
+        let changes = line_changes(alloc, checked)?;
+        Ok(Graph {
+            checked,
+            places,
+            changes,
+        })
+    }
+
+    /// The events of the history.
+    pub fn events(&self) -> &[Event]
+        ensures { result.now ≡ self.now.checked.now.history.now.events.items }
+    {
+        events_of(self.checked)
+    }
+
+    /// Whether the event's transaction has committed.
+    pub fn is_committed(&self, event: &Event) -> bool
+        ensures { let h = history_of self.now.checked.now.history.now in
+            result ≡ is_committed h.events (txn_of (event_of event.now)) }
+    {
+        self.checked.is_committed(event.txn())
+    }
+
+    /// The order lines.
+    pub fn orders(&self) -> &[Order]
+        ensures value { result.now ≡ self.now.checked.now.history.now.orders.items }
+        ensures rise { keys_rise (map (λ o. o.key) (map order_of self.now.checked.now.history.now.orders.items)) ≡ true }
+    {
+        orders_of(self.checked)
+    }
+
+    /// The order line.
+    pub fn order(&self, line: usize) -> &Order
+        requires { line < length self.now.checked.now.history.now.orders.items }
+        ensures line { slice_get self.now.checked.now.history.now.orders.items line ≡ Some result.now }
+        ensures key { result.now.key ≡ key_at (history_of self.now.checked.now.history.now) line }
+        ensures writers { let h = history_of self.now.checked.now.history.now in
+            result.now.writers.items ≡ writers h (key_at h line) }
+    {
+        &self.orders()[line]
+    }
+
+    /// The place of the transaction in the line, or the place behind the last one where it doesn't stand there.
+    pub fn place(&self, line: usize, txn: Txn) -> usize
+        requires { line < length self.now.checked.now.history.now.orders.items }
+        ensures { let h = history_of self.now.checked.now.history.now in
+            result ≡ suc (place (writers h (key_at h line)) txn) }
+    {
+        let len = self.order(line).writers.len();
+        let before = self.places.get(&Slot { line, txn });
+        before.copied().unwrap_or(len) + 1
+    }
+
+    /// Who installed the version at the place of the line.
+    pub fn installer(&self, line: usize, place: usize) -> Option<Txn>
+        requires { line < length self.now.checked.now.history.now.orders.items }
+        ensures { let h = history_of self.now.checked.now.history.now in
+            result ≡ installer h (key_at h line) place }
+    {
+        if place == 0 {
+            return None;
+        }
+        self.order(line).writers.get(place - 1).copied()
+    }
+
+    /// Whether the version at the place of the line is neither unborn nor dead.
+    pub fn is_visible(&self, line: usize, place: usize) -> bool
+        requires { line < length self.now.checked.now.history.now.orders.items }
+        ensures { let h = history_of self.now.checked.now.history.now in
+            result ≡ is_visible_at h (key_at h line) place }
+    {
+        match self.installer(line, place) {
+            None => false,
+            Some(txn) => shows(self.checked, txn, self.order(line).key),
+        }
+    }
+
+    /// The places of the line where the version is visible and the one before isn't, or the other way round.
+    pub fn changes(&self, line: usize) -> &[usize]
+        requires { line < length self.now.checked.now.history.now.orders.items }
+        ensures { let h = history_of self.now.checked.now.history.now in
+            result.now ≡ changed_places h (key_at h line) }
+    {
+        &self.changes[line]
+    }
+
+    /// The first such place behind this one.
+    pub fn next_change(&self, line: usize, place: usize) -> Option<usize>
+        requires { line < length self.now.checked.now.history.now.orders.items }
+        ensures { let h = history_of self.now.checked.now.history.now in
+            result ≡ find (λ q. nat_lt place q) (changed_places h (key_at h line)) }
+    {
+        let changes = self.changes(line);
+        let next = changes.partition_point(|q| *q <= place);
+        changes.get(next).copied()
+    }
+
+    /// The line of the key.
+    pub fn line_of(&self, key: Key) -> Option<usize>
+        ensures within { IfSome result (λ i. i < length self.now.checked.now.history.now.orders.items) }
+        ensures found { IfSome result (λ i. key_at (history_of self.now.checked.now.history.now) i ≡ key) }
+        ensures none { IfNone result ((i : ℕ) → i < length self.now.checked.now.history.now.orders.items
+            → key_at (history_of self.now.checked.now.history.now) i ≡ key → ⊥) }
+    {
+        self.orders().binary_search_by_key(&key, |o| o.key).ok()
+    }
+
+    /// How many lines have smaller keys.
+    pub fn lines_below(&self, key: Key) -> usize
+        ensures within { result ≤ length self.now.checked.now.history.now.orders.items }
+        ensures below { (i : ℕ) → i < result
+            → key_lt (key_at (history_of self.now.checked.now.history.now) i) key ≡ true }
+        ensures others { (i : ℕ) → result ≤ i → i < length self.now.checked.now.history.now.orders.items
+            → key_lt (key_at (history_of self.now.checked.now.history.now) i) key ≡ false }
+    {
+        self.orders().partition_point(|o| is_below(o.key, key))
+    }
+}
+
+pub(crate) fn is_below(low: Key, high: Key) -> bool
+    ensures { result ≡ key_lt low high }
+{
+    low < high
+}

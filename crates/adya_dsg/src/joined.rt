@@ -1,0 +1,34 @@
+//! Edges between two transactions that are there and differ.
+
+ghost use Rattle.std.specs.Prelude.{◌≡◌, ◌++◌, OnOk, map};
+ghost use Rattle.adya_terms.specs.EdgeList.{joined};
+ghost use Rattle.adya_dsg.specs.Values.{kind_of, edge_of};
+
+use crate::{Edge, Kind};
+use adya_terms::{Key, Txn};
+use std::alloc::AllocError;
+
+/// Adds the edge, unless it joins a transaction with itself or lacks an end.
+pub(crate) fn push_joined(
+    edges: &mut Vec<Edge>,
+    from: Option<Txn>,
+    kind: Kind,
+    key: Key,
+    to: Option<Txn>,
+) -> Result<(), AllocError>
+    ensures { OnOk result (map edge_of edges.new.items
+        ≡ map edge_of edges.old.items ++ joined (kind_of kind) key from to) }
+{
+    let (Some(from), Some(to)) = (from, to) else {
+        return Ok(());
+    };
+    if from != to {
+        edges.push(Edge {
+            from,
+            kind,
+            key,
+            to,
+        })?;
+    }
+    Ok(())
+}

@@ -1,0 +1,62 @@
+//! Where the writers of order lines stand, and the transactions of a certificate.
+
+ghost use Rattle.std.specs.Prelude.{◌≡◌, ◌≢◌, ℕ, None, IfOk, OnOk, length};
+ghost use Rattle.std.specs.BTreeMap.{get};
+ghost use Rattle.adya_dsg.specs.Places.{slot, slot_cmp, HasLine, HasLines, HasPlaces};
+
+use adya_terms::{Order, Txn};
+use std::alloc::{AllocError, Global};
+use std::collections::BTreeMap;
+
+/// A transaction in an order line, which goes by its place in the list of lines.
+#[derive(Clone, Copy, PartialEq, Eq, PartialOrd, Ord)]
+pub(crate) struct Slot {
+    pub line: usize,
+    pub txn: Txn,
+}
+
+/// For each writer of each line how many stand before it there.
+pub(crate) fn line_places(
+    alloc: Global,
+    orders: &[Order],
+) -> Result<BTreeMap<Slot, usize>, AllocError>
+    ensures { IfOk result (λ m. HasLines m orders.now) }
+{
+    let mut places = BTreeMap::new(alloc);
+    for (line, order) in orders.iter().enumerate() {
+        add_line(&mut places, line, &order.writers)?;
+    }
+    Ok(places)
+}
+
+fn add_line(
+    places: &mut BTreeMap<Slot, usize>,
+    line: usize,
+    writers: &[Txn],
+) -> Result<(), AllocError>
+    requires { (t : ℕ) → get slot_cmp places.old (slot line t) ≡ None }
+    ensures line { OnOk result (HasLine places.new line writers.now) }
+    ensures others { OnOk result ((i t : ℕ) → i ≢ line →
+        get slot_cmp places.new (slot i t) ≡ get slot_cmp places.old (slot i t)) }
+{
+    let mut i = writers.len();
+    while i > 0 {
+        i -= 1;
+        let txn = writers[i];
+        places.insert(Slot { line, txn }, i)?;
+    }
+    Ok(())
+}
+
+/// For each transaction of the certificate how many stand before it.
+pub(crate) fn places(alloc: Global, txns: &[Txn]) -> Result<BTreeMap<Txn, usize>, AllocError>
+    ensures { IfOk result (λ m. HasPlaces m txns.now) }
+{
+    let mut places = BTreeMap::new(alloc);
+    let mut i = txns.len();
+    while i > 0 {
+        i -= 1;
+        places.insert(txns[i], i)?;
+    }
+    Ok(places)
+}

@@ -1,0 +1,118 @@
+//! What an event reads or selects.
+
+ghost use Rattle.std.specs.Prelude.{◌≡◌, ◌<◌, ℕ, List, length, map, true, IfOk, IfSome, All, Contains, option_map, option_to_list};
+ghost use Rattle.adya_terms.specs.Keys.{keys_rise};
+ghost use Rattle.adya_terms.specs.Histories.{event_of, entry_of, Read, Scan};
+ghost use Rattle.adya_terms.specs.Events.{listed};
+ghost use Rattle.adya_terms.specs.Values.{history_of};
+ghost use Rattle.adya_terms.specs.Selections.{place_of};
+ghost use Rattle.adya_dsg.specs.Choices.{choices, choice_of, key_at};
+
+use crate::graph::{Graph, is_below};
+use adya_terms::laws::checked_where_no_fault;
+use adya_terms::{Entry, Event, Key, Txn, Version};
+use std::alloc::{AllocError, Global};
+
+/// A place of an order line, of which an event reads the version or a scan selects it.
+#[derive(Clone, Copy)]
+pub(crate) struct Selection {
+    pub line: usize,
+    pub place: usize,
+}
+
+/// What the event reads or selects of others, by rising keys.
+pub(crate) fn selections(
+    alloc: Global,
+    graph: &Graph,
+    event: &Event,
+) -> Result<Vec<Selection>, AllocError>
+    requires { Contains (history_of graph.now.checked.now.history.now).events (event_of event.now) }
+    ensures within { IfOk result (λ v. All (λ s. s.line < length graph.now.checked.now.history.now.orders.items) v.items) }
+    ensures choices { let h = history_of graph.now.checked.now.history.now in
+        IfOk result (λ v. map (choice_of h) v.items ≡ choices h (event_of event.now)) }
+{
+    checked_where_no_fault();
+    match event {
+        Event::Read { txn, version, .. } => {
+            let mut selections = Vec::new(alloc);
+            if let Some(selection) = of_read(graph, *txn, *version) {
+                selections.push(selection)?;
+            }
+            Ok(selections)
+        }
+        Event::Scan {
+            txn,
+            lo,
+            hi,
+            entries,
+        } => of_scan(alloc, graph, *txn, *lo, *hi, entries),
+        _ => Ok(Vec::new(alloc)),
+    }
+}
+
+fn of_read(graph: &Graph, txn: Txn, version: Version) -> Option<Selection>
+    ensures within { IfSome result (λ s. s.line < length graph.now.checked.now.history.now.orders.items) }
+    ensures choice { let h = history_of graph.now.checked.now.history.now in
+        (value : List ℕ) → option_to_list (option_map (choice_of h) result) ≡ choices h (Read txn version value) }
+{
+    if version.txn == txn {
+        return None;
+    }
+    let line = graph.line_of(version.key)?;
+    Some(Selection {
+        line,
+        place: graph.place(line, version.txn),
+    })
+}
+
+fn of_scan(
+    alloc: Global,
+    graph: &Graph,
+    txn: Txn,
+    lo: Key,
+    hi: Key,
+    entries: &[Entry],
+) -> Result<Vec<Selection>, AllocError>
+    requires { keys_rise (map (λ w. w.version.key) (map entry_of entries.now)) ≡ true }
+    ensures within { IfOk result (λ v. All (λ s. s.line < length graph.now.checked.now.history.now.orders.items) v.items) }
+    ensures choices { let h = history_of graph.now.checked.now.history.now in
+        IfOk result (λ v. map (choice_of h) v.items ≡ choices h (Scan txn lo hi (map entry_of entries.now))) }
+{
+    let mut selections = Vec::new(alloc);
+    for line in graph.lines_below(lo)..graph.orders().len() {
+        let key = graph.order(line).key;
+        if is_below(hi, key) {
+            return Ok(selections);
+        }
+        if let Some(place) = selected(graph, txn, line, listed(entries, key)) {
+            selections.push(Selection { line, place })?;
+        }
+    }
+    Ok(selections)
+}
+
+/// The entry of the key.
+fn listed(entries: &[Entry], key: Key) -> Option<Entry>
+    requires { keys_rise (map (λ w. w.version.key) (map entry_of entries.now)) ≡ true }
+    ensures { option_map entry_of result ≡ listed key (map entry_of entries.now) }
+{
+    match entries.binary_search_by_key(&key, |entry| entry.version.key) {
+        Err(_) => None,
+        Ok(at) => Some(entries[at]),
+    }
+}
+
+/// The place of the line that a scan of the transaction selects, where this is listed of its key.
+fn selected(graph: &Graph, txn: Txn, line: usize, listed: Option<Entry>) -> Option<usize>
+    requires { line < length graph.now.checked.now.history.now.orders.items }
+    ensures { let h = history_of graph.now.checked.now.history.now in
+        result ≡ place_of h txn (key_at h line) (option_map entry_of listed) }
+{
+    let Some(entry) = listed else {
+        return Some(0);
+    };
+    if entry.version.txn == txn {
+        return None;
+    }
+    Some(graph.place(line, entry.version.txn))
+}

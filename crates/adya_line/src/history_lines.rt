@@ -1,0 +1,58 @@
+//! The lines of a history text, by their kind.
+
+ghost use Rattle.std.specs.Prelude.{IfOk, MatchOption};
+ghost use Rattle.adya_line.specs.HistoryLines.{IsNoLine, IsOnlyLineOf, line_of};
+
+use crate::event_line::event;
+use crate::final_line::final_pair;
+use crate::fixed_line::{is_history_head, is_second_head, is_tail};
+use crate::order_line::order;
+use crate::unfinished_line::unfinished;
+use adya_terms::{Edition, Event, FinalPair, Order, Txn};
+use std::alloc::{AllocError, Global};
+
+/// A line of a history text.
+#[derive(Drop)]
+pub enum HistoryLine {
+    /// The first line, which names the edition.
+    Head(Edition),
+    /// A write, a delete, a read, a scan, a commit or an abort.
+    Event(Event),
+    /// An unfinished transaction, in the second edition.
+    Unfinished(Txn),
+    /// The version order of a key.
+    Order(Order),
+    /// What a key holds at the end.
+    Final(FinalPair),
+    /// The last line, `end`.
+    Tail,
+}
+
+/// The line of this text, which has no line feed. None where it is the text of no line; `AllocError` where there is no
+/// memory for a list of entries or of writers.
+pub fn history_line(alloc: Global, text: &[u8]) -> Result<Option<HistoryLine>, AllocError>
+    ensures { IfOk result (λ o. MatchOption o (IsNoLine text.now) (λ x. IsOnlyLineOf (line_of x) text.now)) }
+{
+    if let Some(event) = event(alloc, text)? {
+        return Ok(Some(HistoryLine::Event(event)));
+    }
+    if let Some(txn) = unfinished(text) {
+        return Ok(Some(HistoryLine::Unfinished(txn)));
+    }
+    if let Some(order) = order(alloc, text)? {
+        return Ok(Some(HistoryLine::Order(order)));
+    }
+    if let Some(pair) = final_pair(text) {
+        return Ok(Some(HistoryLine::Final(pair)));
+    }
+    if is_history_head(text) {
+        return Ok(Some(HistoryLine::Head(Edition::One)));
+    }
+    if is_second_head(text) {
+        return Ok(Some(HistoryLine::Head(Edition::Two)));
+    }
+    if is_tail(text) {
+        return Ok(Some(HistoryLine::Tail));
+    }
+    Ok(None)
+}

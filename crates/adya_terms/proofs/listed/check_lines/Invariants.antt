@@ -1,0 +1,12 @@
+use Rattle.std.proofs.Common.{◌≡◌, ◌+◌, List, map, drop}
+use Rattle.adya_terms.specs.Histories.{Event, order_of}
+use Rattle.adya_terms.specs.Faults.{order_faults}
+use Rattle.adya_terms.specs.Tables.{Means}
+use Rattle.adya_terms.specs.Checks.{LeavesOut}
+use Rattle.adya_terms.proofs.listed.check_lines.Given as goal
+
+abbrev pub invariant-loop-i : goal.invariant-loop-i
+invariant-loop-i l =
+    let os = map order_of l.orders in
+    (all : List Event) → Means l.tables all all → LeavesOut l.unlisted all os
+    → order_faults all l.first os ≡ order_faults all (l.first + l.i) (drop l.i os)

@@ -1,0 +1,20 @@
+-- The reader was fed with the lines that are gone, and none of them is `end`.
+use Rattle.std.proofs.Common.{◌≡◌, ◌≢◌, ◌⊎◌, ℕ, List, [], All, false}
+use Rattle.std.specs.Io.KnownBytes.{prepend_known}
+use Rattle.adya_line.specs.Spelling.{tail}
+use Rattle.adya_text.specs.HistoryReaders.{IsFed}
+use Rattle.adya_text.specs.Buffers.{work_left}
+use Rattle.adya_text.proofs.Gone.{Gone}
+use Rattle.adya_text.proofs.sources.read_history_part.Given as goal
+
+abbrev pub invariant-loop-line : goal.invariant-loop-line
+invariant-loop-line g l =
+    (g.S.Source.same l.fn.source l.source)
+    × (g.S.Source.is_failed l.source ≡ g.S.Source.is_failed l.fn.source)
+    × (l.fn.buffer ≡ [] → (l.buffer ≡ []) ⊎ (g.S.Source.is_failed l.source ≡ false))
+    × ((past : List (List ℕ)) × IsFed l.reader past × All (λ line. line ≢ tail) past
+    × Gone (prepend_known l.fn.buffer (g.S.Read.remaining l.fn.source)) past
+    (prepend_known l.buffer (g.S.Read.remaining l.source)))
+
+abbrev pub decreases-loop-line : goal.decreases-loop-line
+decreases-loop-line g l = work_left (g.S.Source.left l.source) l.buffer

@@ -1,0 +1,46 @@
+//! What reads a text line by line.
+
+ghost use Rattle.std.specs.Prelude.{List, ℕ, Result, [], ◌∷◌, ◌++◌, OnOk, IsErr};
+ghost use Rattle.std.specs.Bool.{OnTrue};
+ghost use Rattle.adya_text.specs.Answers.{IsOfText};
+ghost use Rattle.adya_text.specs.Faults.{Begins, HasFront, IsCut};
+ghost use Rattle.adya_text.specs.declared.read_fault.ReadFault.{ReadFault as Fault};
+
+use crate::read_fault::ReadFault;
+use std::alloc::AllocError;
+
+/// A reader of one kind of text, which is fed with line after line. Once the lines begin no text of its kind, its
+/// answer is final.
+pub(crate) trait LineReader: Drop {
+    /// What a text holds.
+    type Value;
+
+    // the lines of a text
+    ghost grammar: { List (List ℕ) → Type 0 };
+
+    // the reader was fed with these lines
+    ghost is_fed: { Self → List (List ℕ) → Type 0 };
+
+    // what was read of the text
+    ghost reads: { List ℕ → Result Self.Value Fault → Type 0 };
+
+    /// Whether the lines so far begin no text.
+    fn has_failed(&self) -> bool
+        ensures { OnTrue result ((past : List (List ℕ)) → is_fed self.now past → Begins grammar past → ⊥) };
+
+    /// Feeds the reader with the next line, without its line feed.
+    fn line(&mut self, line: &[u8]) -> Result<(), AllocError>
+        ensures { OnOk result ((past : List (List ℕ)) → is_fed self.old past
+            → is_fed self.new (past ++ line.now ∷ [])) };
+
+    /// What the text holds whose lines were fed; `rest` is what stands behind its last line feed.
+    fn finish(self, rest: &[u8]) -> Result<Self::Value, ReadFault>
+        ensures of_text { IsOfText result }
+        ensures answer { (past : List (List ℕ)) → is_fed self past → (text : List ℕ) → IsCut text past rest.now
+            → reads text result }
+        ensures early { (past : List (List ℕ)) → is_fed self past → (Begins grammar past → ⊥)
+            → (text : List ℕ) → HasFront text past → reads text result }
+        ensures refused { (past : List (List ℕ)) → is_fed self past → (Begins grammar past → ⊥) → IsErr result };
+
+    ghost untold: { (text : List ℕ) (result : Result Self.Value Fault) → (IsOfText result → ⊥) → reads text result };
+}

@@ -1,0 +1,135 @@
+//! Reading texts out of sources, line by line.
+
+ghost use Rattle.std.specs.Prelude.{◌≡◌, ◌⊎◌, List, [], ℕ, Some, true, false, IfSome, OnOk, IsErrOf, MatchResult};
+ghost use Rattle.std.specs.Io.KnownBytes.{IsAtEnd, prepend_known};
+ghost use Rattle.adya_terms.specs.Histories.{History as Plain};
+ghost use Rattle.adya_terms.specs.Values.{history_of};
+ghost use Rattle.adya_text.specs.Texts.{IsHistory, IsSerial, history_text, serial_text};
+ghost use Rattle.adya_text.specs.Answers.{IsOfText};
+ghost use Rattle.adya_text.specs.HistoryReaders.{ReadsHistory};
+ghost use Rattle.adya_text.specs.SerialReaders.{ReadsSerial};
+ghost use Rattle.adya_text.specs.Streams.{history_part, serial_part};
+
+use crate::LineBuffer;
+use crate::history_reader::HistoryReader;
+use crate::line_reader::LineReader;
+use crate::read_fault::ReadFault;
+use crate::serial_reader::SerialReader;
+use adya_line::is_tail;
+use adya_line::laws::{history_lines, serial_lines};
+use adya_terms::{History, Serial, Source};
+use std::alloc::Global;
+
+/// The history whose text all that the source has left is. It keeps one line and the history so far, reads to the end
+/// of the input, and stops earlier only behind a line that is a syntax fault. `Syntax` exactly where the bytes are
+/// the text of no history, with the line of the fault as [`read_history`](crate::read_history) gives it; `Device` where
+/// the source failed, `Memory` where memory ran out.
+pub fn read_history_from<S: Source>(alloc: Global, source: &mut S) -> Result<History, ReadFault>
+    ensures answer { IfSome (S.remaining source.old) (λ text. ReadsHistory text result) }
+    ensures only { (h : Plain) → IsHistory h → S.remaining source.old ≡ Some (history_text h) →
+        MatchResult result (λ v. history_of v ≡ h) (λ e. (e ≡ ReadFault.Device) ⊎ (e ≡ ReadFault.Memory)) }
+    ensures ended { OnOk result (IsAtEnd (S.remaining source.new)) }
+    ensures fault { IsErrOf result ReadFault.Device → S.is_failed source.new ≡ true }
+    ensures unfailed { (IsErrOf result ReadFault.Device → ⊥) → S.is_failed source.new ≡ S.is_failed source.old }
+    ensures works { IsOfText result → S.is_failed source.new ≡ false }
+    ensures stream { S.same source.old source.new }
+{
+    history_lines();
+    let mut buffer = LineBuffer::new();
+    read_rest(alloc, HistoryReader::new(alloc), &mut buffer, source)
+}
+
+/// The certificate whose text all that the source has left is. It keeps one line and the certificate so far, reads to
+/// the end of the input, and stops earlier only behind a line that is a syntax fault. `Syntax` exactly where the bytes
+/// are the text of no certificate, with the line of the fault as [`read_serial`](crate::read_serial) gives it; `Device`
+/// where the source failed, `Memory` where memory ran out.
+pub fn read_serial_from<S: Source>(alloc: Global, source: &mut S) -> Result<Serial, ReadFault>
+    ensures answer { IfSome (S.remaining source.old) (λ text. ReadsSerial text result) }
+    ensures only { (ts : List ℕ) → IsSerial ts → S.remaining source.old ≡ Some (serial_text ts) →
+        MatchResult result (λ v. v.txns.items ≡ ts) (λ e. (e ≡ ReadFault.Device) ⊎ (e ≡ ReadFault.Memory)) }
+    ensures ended { OnOk result (IsAtEnd (S.remaining source.new)) }
+    ensures fault { IsErrOf result ReadFault.Device → S.is_failed source.new ≡ true }
+    ensures unfailed { (IsErrOf result ReadFault.Device → ⊥) → S.is_failed source.new ≡ S.is_failed source.old }
+    ensures works { IsOfText result → S.is_failed source.new ≡ false }
+    ensures stream { S.same source.old source.new }
+{
+    serial_lines();
+    let mut buffer = LineBuffer::new();
+    read_rest(alloc, SerialReader::new(alloc), &mut buffer, source)
+}
+
+/// The history whose text stands at the front of a stream of two texts: up to and with the first line `end`, or all of
+/// the stream where it has no such line. The stream is what `buffer` holds and then what the source has left; on `Ok`
+/// they hold what stands behind. After a fault nothing is said of what they hold. It keeps one line and the history
+/// so far, and stops before the line `end` only behind a line that is a syntax fault. Faults are those of
+/// [`read_history_from`].
+pub fn read_history_part<S: Source>(
+    alloc: Global,
+    buffer: &mut LineBuffer,
+    source: &mut S,
+) -> Result<History, ReadFault>
+    ensures answer { IfSome (prepend_known buffer.old (S.remaining source.old))
+        (λ stream. ReadsHistory (history_part stream) result) }
+    ensures rest { OnOk result (IfSome (prepend_known buffer.old (S.remaining source.old))
+        (λ stream. prepend_known buffer.new (S.remaining source.new) ≡ Some (serial_part stream))) }
+    ensures fault { IsErrOf result ReadFault.Device → S.is_failed source.new ≡ true }
+    ensures unfailed { (IsErrOf result ReadFault.Device → ⊥) → S.is_failed source.new ≡ S.is_failed source.old }
+    ensures works { buffer.old ≡ [] → IsOfText result → S.is_failed source.new ≡ false }
+    ensures stream { S.same source.old source.new }
+{
+    let mut reader = HistoryReader::new(alloc);
+    let mut line = Vec::new(alloc);
+    while buffer.next_line(source, &mut line)? {
+        reader.line(&line)?;
+        if is_tail(&line) {
+            return reader.finish(b"");
+        }
+        if reader.has_failed() {
+            return reader.finish(b"");
+        }
+    }
+    reader.finish(&line)
+}
+
+/// The certificate whose text is what `buffer` holds and then all that the source has left: the second text of a
+/// stream, behind [`read_history_part`]. Otherwise as [`read_serial_from`].
+pub fn read_serial_rest<S: Source>(
+    alloc: Global,
+    buffer: &mut LineBuffer,
+    source: &mut S,
+) -> Result<Serial, ReadFault>
+    ensures answer { IfSome (prepend_known buffer.old (S.remaining source.old)) (λ text. ReadsSerial text result) }
+    ensures ended { OnOk result ((buffer.new ≡ []) × IsAtEnd (S.remaining source.new)) }
+    ensures fault { IsErrOf result ReadFault.Device → S.is_failed source.new ≡ true }
+    ensures unfailed { (IsErrOf result ReadFault.Device → ⊥) → S.is_failed source.new ≡ S.is_failed source.old }
+    ensures works { buffer.old ≡ [] → IsOfText result → S.is_failed source.new ≡ false }
+    ensures stream { S.same source.old source.new }
+{
+    read_rest(alloc, SerialReader::new(alloc), buffer, source)
+}
+
+/// Feeds the reader with the lines of what `buffer` holds and then of what the source has left.
+fn read_rest<S: Source, R: LineReader>(
+    alloc: Global,
+    reader: R,
+    buffer: &mut LineBuffer,
+    source: &mut S,
+) -> Result<R::Value, ReadFault>
+    requires { R.is_fed reader [] }
+    ensures answer { IfSome (prepend_known buffer.old (S.remaining source.old)) (λ text. R.reads text result) }
+    ensures ended { OnOk result ((buffer.new ≡ []) × IsAtEnd (S.remaining source.new)) }
+    ensures fault { IsErrOf result ReadFault.Device → S.is_failed source.new ≡ true }
+    ensures unfailed { (IsErrOf result ReadFault.Device → ⊥) → S.is_failed source.new ≡ S.is_failed source.old }
+    ensures works { buffer.old ≡ [] → IsOfText result → S.is_failed source.new ≡ false }
+    ensures stream { S.same source.old source.new }
+{
+    let mut reader = reader;
+    let mut line = Vec::new(alloc);
+    while buffer.next_line(source, &mut line)? {
+        reader.line(&line)?;
+        if reader.has_failed() {
+            return reader.finish(b"");
+        }
+    }
+    reader.finish(&line)
+}

@@ -1,0 +1,41 @@
+-- How the parser meets a word that names no subcommand and doesn't begin with a hyphen.
+use Rattle.std.proofs.Common.{◌≡◌, ℕ, ◌==◌, Bool, true, false, not, List, [], ◌∷◌, refl, ap}
+use Rattle.std.specs.Prelude.{None}
+use Rattle.clap.specs.Walk.{Held, Names, Rule, Text, Walk, idle, value, walked, word_met, arg_by_index}
+use Rattle.clap.specs.Walk.{after_step, subcommand_met, to_positional}
+use Rattle.clap.specs.Simple.{Shape}
+use Rattle.clap.specs.Takes.{step_passes, turn_passes}
+use Rattle.clap.specs.Faults.{step_fault, turn_fault}
+use Rattle.ssi.specs.Words.{is_plain}
+
+not_true : (b : Bool) → not b ≡ true → b ≡ false
+not_true true e = absurd (cc e)
+not_true false e = refl
+
+-- a walk that waits for nothing
+abbrev pub at : Held → ℕ → Walk
+at held position =
+    record { held = held; waiting = idle; position = position; is_trailing = false; stopped = None }
+
+module _ (names : Names) (held : Held) (position : ℕ) where
+  word_met-plain : (rules : List Rule) (word : Text) → is_plain word ≡ true → subcommand_met names idle word ≡ None
+      → word_met rules names false idle position word held ≡ (held, value)
+  word_met-plain rules [] p m = rw m refl
+  word_met-plain rules (b ∷ bs) p m = let e = not_true (b == 45) p in rw (m, e, e) refl
+
+  pub walked-plain : (rules : List Rule) (word : Text) → is_plain word ≡ true → subcommand_met names idle word ≡ None
+      → walked rules names (at held position) word
+      ≡ to_positional rules (arg_by_index rules position) word (at held position) held
+  unfolding walked
+  walked-plain rules word p m =
+      ap (λ met. after_step rules word (at held position) met.0 met.1) (word_met-plain rules word p m)
+
+  pub turn_passes-plain : (s : Shape) (word : Text) → is_plain word ≡ true → subcommand_met names idle word ≡ None
+      → turn_passes s names (at held position) word ≡ step_passes s position held value
+  turn_passes-plain s [] p m = rw m refl
+  turn_passes-plain s (b ∷ bs) p m = let e = not_true (b == 45) p in rw (m, e, e) refl
+
+  pub turn_fault-plain : (s : Shape) (word : Text) → is_plain word ≡ true → subcommand_met names idle word ≡ None
+      → turn_fault s names (at held position) word ≡ step_fault s position held value
+  turn_fault-plain s [] p m = rw m refl
+  turn_fault-plain s (b ∷ bs) p m = let e = not_true (b == 45) p in rw (m, e, e) refl

@@ -1,0 +1,20 @@
+-- The lines on standard error.
+use Rattle.std.specs.Prelude.{ℕ, List, ◌++◌, codes}
+use Rattle.ssi.specs.declared.fault.Fault.{Fault}
+use Rattle.ssi.specs.declared.fault.Fault.TheVariants.{Read, Write, Memory}
+
+-- what reading at a place failed with
+abbrev pub read_fault : List ℕ → List ℕ
+read_fault place = codes "ssi: read fault: " ++ place
+
+abbrev pub write_fault : List ℕ → List ℕ
+write_fault place = codes "ssi: write fault: " ++ place
+
+abbrev pub want_of_memory : List ℕ
+want_of_memory = codes "ssi: memory"
+
+-- the line that tells the fault, without its line feed
+abbrev pub line_of : Fault → List ℕ
+line_of (Read place) = read_fault place.now
+line_of (Write place) = write_fault place.now
+line_of Memory = want_of_memory

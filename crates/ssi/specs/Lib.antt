@@ -1,0 +1,4 @@
+pub mod Fault
+pub mod Parser
+pub mod Status
+pub mod Words
