@@ -133,5 +133,4 @@ pub fn final_within(pair: &FinalPair)
     ensures { IsFinal (final_of pair.now) }
 {
     let _ = pair.key.bytes();
-    let _ = pair.value.bytes();
 }
