@@ -1,6 +1,7 @@
 //! The worked histories: for each name on standard input what is written for the files in the folder of that name. Under
 //! `audit` it is the verdict on a history and a certificate in a stream each, and beside it that on one stream of
-//! both where it is another; under `order` the certificate, cycle or verdict for a history; under `edges` its edges.
+//! both where it is another; under `order` the certificate, cycle or verdict for a history; under `edges` its edges;
+//! under `examples`, copies of those of the repository, the verdict and the order.
 //! These texts are read in pieces of 1, of 3 and of all bytes. Then a scan of 5,000 entries, as values and as bytes.
 #![tactic(auto)]
 
@@ -40,19 +41,36 @@ fn verdicts(rt: &HostRuntime, name: &str) -> io::Result<String> {
     Ok(format!(in rt.alloc(); "{name}: {two}{name} in one stream: {one}")?)
 }
 
-/// What is written for the worked history, behind its name.
+/// The certificate, cycle or verdict, behind the name.
+fn order(rt: &HostRuntime, name: &str) -> io::Result<String> {
+    let history = file(rt, name, "history")?;
+    let lines = orders::of_text(rt.alloc(), &history);
+    let lines = str::from_utf8(&lines).unwrap_or("");
+    Ok(format!(in rt.alloc(); "{name}:\n{lines}")?)
+}
+
+/// The edges, behind the name.
+fn edge_list(rt: &HostRuntime, name: &str) -> io::Result<String> {
+    let history = file(rt, name, "history")?;
+    let lines = edge_lists::of_text(rt.alloc(), &history)?;
+    let lines = str::from_utf8(&lines).unwrap_or("");
+    Ok(format!(in rt.alloc(); "{name}:\n{lines}")?)
+}
+
+/// What is written for the worked history.
 fn row(rt: &HostRuntime, name: &str) -> io::Result<String> {
     if name.starts_with("audit/") {
         return verdicts(rt, name);
     }
-    let history = file(rt, name, "history")?;
-    let lines = if name.starts_with("order/") {
-        orders::of_text(rt.alloc(), &history)
-    } else {
-        edge_lists::of_text(rt.alloc(), &history)?
-    };
-    let lines = str::from_utf8(&lines).unwrap_or("");
-    Ok(format!(in rt.alloc(); "{name}:\n{lines}")?)
+    if name.starts_with("order/") {
+        return order(rt, name);
+    }
+    if name.starts_with("edges/") {
+        return edge_list(rt, name);
+    }
+    let verdicts = verdicts(rt, name)?;
+    let order = order(rt, name)?;
+    Ok(format!(in rt.alloc(); "{verdicts}{order}")?)
 }
 
 /// The verdicts on a history with a scan of so many entries, from the values, from a stream for each text, and from

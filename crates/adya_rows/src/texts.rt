@@ -18,7 +18,7 @@ pub enum Told {
 }
 
 /// What was read of a history text.
-pub fn told_of_history(alloc: Global, read: Result<History, ReadFault>) -> Told {
+pub(crate) fn told_of_history(alloc: Global, read: Result<History, ReadFault>) -> Told {
     match read {
         Ok(history) => {
             let mut out = Watched::new(Vec::new(alloc));
@@ -32,7 +32,7 @@ pub fn told_of_history(alloc: Global, read: Result<History, ReadFault>) -> Told 
 }
 
 /// What was read of a certificate text.
-pub fn told_of_serial(alloc: Global, read: Result<Serial, ReadFault>) -> Told {
+pub(crate) fn told_of_serial(alloc: Global, read: Result<Serial, ReadFault>) -> Told {
     match read {
         Ok(serial) => {
             let mut out = Watched::new(Vec::new(alloc));
@@ -46,7 +46,7 @@ pub fn told_of_serial(alloc: Global, read: Result<Serial, ReadFault>) -> Told {
 }
 
 /// Whether the texts are read in pieces of at most `most` bytes as they are read whole.
-pub fn read_alike(alloc: Global, history: &[u8], serial: &[u8], most: usize) -> bool {
+pub(crate) fn read_alike(alloc: Global, history: &[u8], serial: &[u8], most: usize) -> bool {
     if most == 0 {
         return false;
     }
