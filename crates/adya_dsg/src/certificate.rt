@@ -12,13 +12,13 @@ use crate::Edge;
 use crate::places::places;
 use adya_terms::Txn;
 use std::alloc::{AllocError, Global};
-use std::collections::BTreeMap;
+use std::collections::HashMap;
 
 /// A certificate and where its transactions stand. Those that it doesn't list stand behind it.
 #[derive(Drop)]
 pub(crate) struct Certificate<'a> {
     txns: &'a [Txn],
-    places: BTreeMap<Txn, usize>,
+    places: HashMap<Txn, usize>,
     ghost placed: { HasPlaces places txns.now },
 }
 

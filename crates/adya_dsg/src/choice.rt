@@ -1,6 +1,6 @@
 //! The choice of an order or a cycle.
 
-ghost use Rattle.std.specs.Prelude.{◌≡◌, ◌==◌, ◌↔◌, ℕ, Contains, IfOk};
+ghost use Rattle.std.specs.Prelude.{◌≡◌, ◌==◌, ◌↔◌, ℕ, true, Contains, IfOk};
 ghost use Rattle.std.specs.List.{list_any};
 ghost use Rattle.std.specs.Ordering.{nat_cmp};
 ghost use Rattle.std.specs.BTreeSet.{contains};
@@ -43,6 +43,17 @@ fn by_source(mut arcs: Vec<Arc>) -> Vec<Arc>
     arcs
 }
 
+// The number, where it is left, and else the first.
+fn left_or_first(left: &BTreeSet<Txn>, next: Option<Txn>, first: Txn) -> Txn
+    requires { contains nat_cmp left.now first ≡ true }
+    ensures { contains nat_cmp left.now result ≡ true }
+{
+    match next {
+        Some(t) if left.contains(&t) => t,
+        _ => first,
+    }
+}
+
 /// The nodes in an order in which each arc goes forward, or a cycle, for arcs whose ends are nodes; `AllocError`
 /// where memory is refused. It takes O((n + a) log n) steps for n nodes and a arcs, and beside the arcs one copy of
 /// them.
@@ -62,10 +73,7 @@ pub(crate) fn choose(alloc: Global, nodes: &[Txn], arcs: Vec<Arc>) -> Result<Cho
     let mut ready = Ready::of(alloc, nodes, out)?;
     let mut placed = Vec::new(alloc);
     'place: while let Some(first) = left.first() {
-        let next = match ready.next() {
-            Some(t) if left.contains(&t) => t,
-            _ => *first,
-        };
+        let next = left_or_first(&left, ready.next(), *first);
         match go_back(alloc, &into, &left, next)? {
             Walk::Round(way) => return Ok(Chosen::Cycle(way)),
             Walk::Start(t) => {

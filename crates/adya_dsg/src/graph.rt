@@ -16,14 +16,14 @@ use crate::parts::{events_of, orders_of};
 use crate::places::{Slot, line_places};
 use adya_terms::{Checked, Event, Key, Order, Txn};
 use std::alloc::{AllocError, Global};
-use std::collections::BTreeMap;
+use std::collections::HashMap;
 
 /// The version orders of a checked history. An order line goes by its place in the list of lines. In a line place 0
 /// is that of the unborn version, and the writers stand from place 1 on.
 #[derive(Drop)]
 pub(crate) struct Graph<'a> {
     checked: &'a Checked<'a>,
-    places: BTreeMap<Slot, usize>,
+    places: HashMap<Slot, usize>,
     changes: Vec<Vec<usize>>,
     ghost placed: { HasLines places checked.now.history.now.orders.items },
     ghost changed: { let h = history_of checked.now.history.now in

@@ -1,15 +1,15 @@
 //! Where the writers of order lines stand, and the transactions of a certificate.
 
 ghost use Rattle.std.specs.Prelude.{◌≡◌, ◌≢◌, ℕ, None, IfOk, OnOk, length};
-ghost use Rattle.std.specs.BTreeMap.{get};
-ghost use Rattle.adya_dsg.specs.Places.{slot, slot_cmp, HasLine, HasLines, HasPlaces};
+ghost use Rattle.std.specs.HashMap.{get};
+ghost use Rattle.adya_dsg.specs.Places.{slot, slot_eq, HasLine, HasLines, HasPlaces};
 
 use adya_terms::{Order, Txn};
 use std::alloc::{AllocError, Global};
-use std::collections::BTreeMap;
+use std::collections::HashMap;
 
 /// A transaction in an order line, which goes by its place in the list of lines.
-#[derive(Clone, Copy, PartialEq, Eq, PartialOrd, Ord)]
+#[derive(Clone, Copy, PartialEq, Eq, Hash)]
 pub(crate) struct Slot {
     pub line: usize,
     pub txn: Txn,
@@ -19,10 +19,10 @@ pub(crate) struct Slot {
 pub(crate) fn line_places(
     alloc: Global,
     orders: &[Order],
-) -> Result<BTreeMap<Slot, usize>, AllocError>
+) -> Result<HashMap<Slot, usize>, AllocError>
     ensures { IfOk result (λ m. HasLines m orders.now) }
 {
-    let mut places = BTreeMap::new(alloc);
+    let mut places = HashMap::new(alloc);
     for (line, order) in orders.iter().enumerate() {
         add_line(&mut places, line, &order.writers)?;
     }
@@ -30,14 +30,14 @@ pub(crate) fn line_places(
 }
 
 fn add_line(
-    places: &mut BTreeMap<Slot, usize>,
+    places: &mut HashMap<Slot, usize>,
     line: usize,
     writers: &[Txn],
 ) -> Result<(), AllocError>
-    requires { (t : ℕ) → get slot_cmp places.old (slot line t) ≡ None }
+    requires { (t : ℕ) → get slot_eq places.old (slot line t) ≡ None }
     ensures line { OnOk result (HasLine places.new line writers.now) }
     ensures others { OnOk result ((i t : ℕ) → i ≢ line →
-        get slot_cmp places.new (slot i t) ≡ get slot_cmp places.old (slot i t)) }
+        get slot_eq places.new (slot i t) ≡ get slot_eq places.old (slot i t)) }
 {
     let mut i = writers.len();
     while i > 0 {
@@ -49,10 +49,10 @@ fn add_line(
 }
 
 /// For each transaction of the certificate how many stand before it.
-pub(crate) fn places(alloc: Global, txns: &[Txn]) -> Result<BTreeMap<Txn, usize>, AllocError>
+pub(crate) fn places(alloc: Global, txns: &[Txn]) -> Result<HashMap<Txn, usize>, AllocError>
     ensures { IfOk result (λ m. HasPlaces m txns.now) }
 {
-    let mut places = BTreeMap::new(alloc);
+    let mut places = HashMap::new(alloc);
     let mut i = txns.len();
     while i > 0 {
         i -= 1;

@@ -3,23 +3,23 @@
 use crate::arc::Arc;
 use adya_terms::Txn;
 use std::alloc::{AllocError, Global};
-use std::collections::{BTreeMap, BTreeSet};
+use std::collections::{BTreeSet, HashMap};
 
 /// Numbers that may be placed next, by counts of the arcs from numbers that are left. It chooses alone: each
 /// number is looked at before it is placed.
 #[derive(Drop)]
 pub(crate) struct Ready {
-    open: BTreeMap<Txn, usize>,
+    open: HashMap<Txn, usize>,
     free: BTreeSet<Txn>,
     out: Vec<Arc>,
 }
 
 // How many arcs go to each number to which any goes.
-fn arcs_into(alloc: Global, arcs: &[Arc]) -> Result<BTreeMap<Txn, usize>, AllocError> {
-    let mut open = BTreeMap::new(alloc);
+fn arcs_into(alloc: Global, arcs: &[Arc]) -> Result<HashMap<Txn, usize>, AllocError> {
+    let mut open = HashMap::new(alloc);
     for a in arcs {
-        let n = open.get(&a.to).copied().unwrap_or(0usize);
-        open.insert(a.to, n.wrapping_add(1))?;
+        let n = open.entry(a.to)?.or_insert(0usize);
+        *n = n.wrapping_add(1);
     }
     Ok(open)
 }

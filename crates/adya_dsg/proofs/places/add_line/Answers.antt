@@ -1,8 +1,8 @@
 use Rattle.std.proofs.Common.{◌≡◌, ◌+◌, ◌-◌, ℕ, suc, List, Some, cond, drop, length, ◌∙◌, sym, ap, subst, arith}
 use Rattle.std.specs.Option.{unwrap_or}
-use Rattle.std.specs.BTreeMap.{get}
+use Rattle.std.specs.HashMap.{get}
 use Rattle.adya_terms.specs.Orders.{place}
-use Rattle.adya_dsg.specs.Places.{slot, slot_cmp}
+use Rattle.adya_dsg.specs.Places.{slot, slot_eq}
 use Rattle.adya_dsg.proofs.Steps.{drop_back}
 use Rattle.adya_dsg.proofs.Slots.{same_line, other_line, placed_step}
 use Rattle.adya_dsg.proofs.places.add_line.Goals as goal
@@ -18,14 +18,14 @@ loop-i-preserved c =
     let back : suc (i - 1) ≡ i = omega arith in record {
       within = let l = c.loop-i.invariant.within in omega (arith, l);
       line = λ t.
-          subst (λ (xs : List ℕ). unwrap_or (get slot_cmp c.insert.new.self (slot line t)) (length ws)
+          subst (λ (xs : List ℕ). unwrap_or (get slot_eq c.insert.new.self (slot line t)) (length ws)
           ≡ (i - 1) + place xs t) (sym step)
-          (placed_step (i - 1) (length ws) (drop i ws) x t (get slot_cmp m (slot line t)) _
+          (placed_step (i - 1) (length ws) (drop i ws) x t (get slot_eq m (slot line t)) _
           (c.in_ok-insert.ensures.updates.0 (slot line t) ∙
-          ap (λ b. cond b (Some (i - 1)) (get slot_cmp m (slot line t))) (same_line line x t))
+          ap (λ b. cond b (Some (i - 1)) (get slot_eq m (slot line t))) (same_line line x t))
           (c.loop-i.invariant.line t ∙ ap (λ j. j + place (drop i ws) t) (sym back)));
       others = λ j t ne.
           c.in_ok-insert.ensures.updates.0 (slot j t) ∙
-          (ap (λ b. cond b (Some (i - 1)) (get slot_cmp m (slot j t))) (other_line line j x t ne) ∙
+          (ap (λ b. cond b (Some (i - 1)) (get slot_eq m (slot j t))) (other_line line j x t ne) ∙
           c.loop-i.invariant.others j t ne);
     }

@@ -1,14 +1,13 @@
-use Rattle.std.proofs.Common.{◌≡◌, ◌+◌, ◌≤◌, ℕ, length, drop}
+use Rattle.std.proofs.Common.{◌≡◌, ◌+◌, ◌≤◌, ℕ, nat_eq, length, drop}
 use Rattle.std.specs.Option.{unwrap_or}
-use Rattle.std.specs.Ordering.{nat_cmp}
-use Rattle.std.specs.BTreeMap.{get}
+use Rattle.std.specs.HashMap.{get}
 use Rattle.adya_terms.specs.Orders.{place}
 use Rattle.adya_dsg.proofs.places.places.Given as goal
 
 abbrev pub invariant-loop-i : goal.invariant-loop-i
 invariant-loop-i l =
     (l.i ≤ length l.txns) ×
-    ((t : ℕ) → unwrap_or (get nat_cmp l.places t) (length l.txns) ≡ l.i + place (drop l.i l.txns) t)
+    ((t : ℕ) → unwrap_or (get nat_eq l.places t) (length l.txns) ≡ l.i + place (drop l.i l.txns) t)
 
 abbrev pub decreases-loop-i : goal.decreases-loop-i
 decreases-loop-i l = l.i

@@ -1,8 +1,8 @@
 use Rattle.std.proofs.Common.{◌≡◌, ◌∙◌, suc, ap, arith, add-one}
 use Rattle.std.specs.Option.{unwrap_or}
-use Rattle.std.specs.BTreeMap.{get}
+use Rattle.std.specs.HashMap.{get}
 use Rattle.adya_terms.specs.Orders.{place}
-use Rattle.adya_dsg.specs.Places.{slot, slot_cmp}
+use Rattle.adya_dsg.specs.Places.{slot, slot_eq}
 use Rattle.adya_dsg.proofs.Lines.{place-le}
 use Rattle.adya_dsg.proofs.graph.Graph.place.Goals as goal
 
@@ -12,7 +12,7 @@ before c =
     let o = c.order.result.now in
     c.unwrap_or.ensures ∙
     (ap (λ m. unwrap_or m c.len-len.result) (c.copied.ensures ∙ c.get-before.ensures.value) ∙
-    (ap (unwrap_or (get slot_cmp g.places (slot c.args.line c.args.txn))) (c.len-len.ensures ∙ o.writers.ok.0) ∙
+    (ap (unwrap_or (get slot_eq g.places (slot c.args.line c.args.txn))) (c.len-len.ensures ∙ o.writers.ok.0) ∙
     g.placed c.args.line o c.order.ensures.line c.args.txn))
 
 pub overflow_add-result : goal.overflow_add-result
