@@ -1,6 +1,6 @@
 -- The steps of the loop that notes which transactions a certificate lists.
-use Rattle.std.proofs.Common.{◌≡◌, ℕ, suc, ◌+◌, ◌==◌, ◌<◌, Bool, true, false, cond, List, [], ◌∷◌, length, drop, get_or}
-use Rattle.std.proofs.Common.{not, nat_cmp, is_eq, refl, sym, ◌∙◌, ap, arith, inl, inr}
+use Rattle.std.proofs.Common.{◌≡◌, ℕ, suc, ◌+◌, ◌==◌, ◌<◌, Bool, true, false, cond, List, ◌∷◌, length, drop, get_or}
+use Rattle.std.proofs.Common.{nat_cmp, is_eq, sym, ◌∙◌, ap, arith, inl, inr}
 use Rattle.std.specs.List.{count_by}
 use Rattle.std.specs.Cmp.{unsigned_ties}
 use Rattle.std.proofs.Math.Seq.{drop-cons}

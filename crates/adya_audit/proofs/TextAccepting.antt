@@ -1,5 +1,5 @@
 -- When a verdict on texts is yes.
-use Rattle.std.proofs.Common.{◌≡◌, ◌↔◌, ℕ, ◌<◌, ◌==◌, true, false, List, [], ◌∷◌, length, Option, Some, None, IfSome}
+use Rattle.std.proofs.Common.{◌≡◌, ◌↔◌, ℕ, ◌<◌, ◌==◌, true, List, [], ◌∷◌, length, Option, Some, None, IfSome}
 use Rattle.std.proofs.Common.{refl, sym, ◌∙◌, ap, subst, not, arith}
 use Rattle.std.specs.List.{AllByRecursion, list_all}
 use Rattle.std.proofs.lemmas.Bool.{and_from}
@@ -8,7 +8,7 @@ use Rattle.adya_terms.specs.Shapes.{is_shape}
 use Rattle.adya_terms.specs.Acceptance.{IsAccepted}
 use Rattle.adya_line.specs.Limits.{IsOrder}
 use Rattle.adya_text.specs.declared.read_fault.Text.TheVariants as Of
-use Rattle.adya_text.specs.Texts.{IsHistory, history_text, history_lines, serial_lines, AreHistoryLines, AreSerialLines}
+use Rattle.adya_text.specs.Texts.{IsHistory, history_lines, serial_lines, AreHistoryLines, AreSerialLines}
 use Rattle.adya_text.specs.Faults.{IsFaultLine}
 use Rattle.adya_text.specs.Laws.{HistoriesDiffer, SerialsDiffer, HasNoFaultWithin}
 use Rattle.adya_audit.specs.declared.verdict.Verdict.{Verdict as VerdictValue}
@@ -17,7 +17,6 @@ use Rattle.adya_audit.specs.Verdicts.{Verdict, Yes, Syntax, Malformed, AbortedRe
 use Rattle.adya_audit.specs.Verdicts.{Backward, plain_verdict}
 use Rattle.adya_audit.specs.Laws.{YesWhereAccepted, AcceptedIsSerializable}
 use Rattle.adya_audit.specs.TextVerdicts.{IsTextOf, IsSerialTextOf, HaveVerdict, IsVerdictOn, AreAccepted}
-use Rattle.adya_audit.specs.TextVerdicts.{AreSerializable}
 use Rattle.adya_audit.specs.TextLaws.{YesWhereTextsAccepted, AcceptedTextsAreSerializable}
 use Rattle.adya_audit.proofs.Accepting.{plain_yes}
 

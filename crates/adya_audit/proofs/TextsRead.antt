@@ -1,5 +1,5 @@
 -- The verdict on what was read of two texts.
-use Rattle.std.proofs.Common.{◌≡◌, ℕ, Bool, true, false, cond, List, [], ◌++◌, Option, Some, None, IfSome, Result, Ok}
+use Rattle.std.proofs.Common.{◌≡◌, ℕ, Bool, true, false, cond, List, [], ◌++◌, Option, Some, None, IfSome, Ok}
 use Rattle.std.proofs.Common.{Err, subst}
 use Rattle.std.specs.Io.KnownBytes.{prepend_known}
 use Rattle.adya_terms.specs.declared.fault.CheckFault.{CheckFault}
@@ -11,7 +11,6 @@ use Rattle.adya_terms.specs.Edges.{Edge}
 use Rattle.adya_terms.specs.Values.{history_of}
 use Rattle.adya_terms.specs.Faults.{first_fault}
 use Rattle.adya_terms.specs.Certificates.{lists_the_committed, first_backward}
-use Rattle.adya_text.specs.declared.read_fault.ReadFault.{ReadFault}
 use Rattle.adya_text.specs.declared.read_fault.ReadFault.TheVariants.{Syntax}
 use Rattle.adya_text.specs.declared.read_fault.Text.{Text}
 use Rattle.adya_text.specs.declared.read_fault.Text.TheVariants as Of

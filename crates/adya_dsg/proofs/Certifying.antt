@@ -1,5 +1,5 @@
 -- From an order or a cycle of arcs to a certificate or a cycle of the history.
-use Rattle.std.proofs.Common.{◌≡◌, ◌≢◌, ◌⊎◌, ◌==◌, ◌<◌, ℕ, zero, suc, true, cond, List, [], ◌∷◌, map, length, Contains, Any, refl, sym, ◌∙◌, ap, subst, inl, inr, arith, Some, Result, Ok, Err, IfOk}
+use Rattle.std.proofs.Common.{◌≡◌, ◌≢◌, ◌⊎◌, ◌==◌, ◌<◌, ℕ, zero, suc, true, cond, List, [], ◌∷◌, map, Contains, Any, refl, sym, ◌∙◌, ap, subst, inl, inr, arith, Some, Result, Ok, Err, IfOk}
 use Rattle.std.specs.declared.alloc.AllocError.{AllocError}
 use Rattle.std.specs.List.{list_any, AllByRecursion}
 use Rattle.std.proofs.lemmas.List.{get_or-map, length-map}
@@ -12,7 +12,7 @@ use Rattle.adya_terms.specs.Phenomena.{HasG1c, HasG2}
 use Rattle.adya_terms.specs.Acceptance.{IsChecked, IsAccepted}
 use Rattle.adya_laws.specs.Laws.{EdgeListIsExact, AcceptedHasNoPhenomenon}
 use Rattle.adya_dsg.specs.declared.arc.Arc.{Arc}
-use Rattle.adya_dsg.specs.Arcs.{ends, HasEdge, AreEnds, Decide}
+use Rattle.adya_dsg.specs.Arcs.{ends, AreEnds, Decide}
 use Rattle.adya_dsg.specs.Graphs.{HasEnds, IsTopologicalOrder, IsWay, IsCycleIn}
 use Rattle.adya_dsg.specs.Nodes.{committed}
 use Rattle.adya_dsg.specs.declared.edge.Edge.{Edge as EdgeValue}

@@ -7,7 +7,6 @@ use Rattle.adya_terms.specs.Events.{last_write, shown}
 use Rattle.adya_terms.specs.Orders.{writers, installer, value_by, is_visible_at}
 use Rattle.adya_terms.specs.Selections.{differ, changes_matches}
 use Rattle.adya_terms.specs.EdgeList.{numbers}
-use Rattle.adya_dsg.specs.Links.{changed_places}
 use Rattle.adya_dsg.proofs.Steps.{drop_step}
 
 differ_is : (a b : Bool) → not (beq a b) ≡ differ a b

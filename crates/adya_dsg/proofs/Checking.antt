@@ -1,5 +1,5 @@
 -- What each event of a checked history has.
-use Rattle.std.proofs.Common.{◌≡◌, ℕ, zero, suc, true, List, [], ◌∷◌, ◌++◌, Option, Some, None, is_none, refl, subst, arith}
+use Rattle.std.proofs.Common.{◌≡◌, zero, suc, true, List, [], ◌∷◌, ◌++◌, Option, Some, None, is_none, refl, subst, arith}
 use Rattle.std.specs.List.{Contains}
 use Rattle.adya_terms.specs.Histories.{Event, History}
 use Rattle.adya_terms.specs.Rules.{EachAfter, IsRising}

@@ -1,10 +1,9 @@
 -- The edges of an event are those of the places that it reads or selects.
-use Rattle.std.proofs.Common.{◌≡◌, ℕ, List, [], ◌∷◌, ◌++◌, Option, Some, None, option_map, flat_map, refl, sym, ◌∙◌, ap, subst}
+use Rattle.std.proofs.Common.{◌≡◌, ℕ, List, [], ◌∷◌, ◌++◌, Option, Some, None, option_map, flat_map, refl, sym, ◌∙◌, ap}
 use Rattle.std.specs.List.{filter_map, cons_option, Contains}
 use Rattle.std.proofs.lemmas.Option.{same_Some, none-some}
 use Rattle.adya_terms.specs.Histories.{Event, Order, History}
 use Rattle.adya_terms.specs.Selections.{selected}
-use Rattle.adya_terms.specs.Edges.{Edge}
 use Rattle.adya_terms.specs.EdgeList.{place_edges, event_edges}
 use Rattle.adya_dsg.specs.Choices.{Choice, choice, choices}
 use Rattle.adya_dsg.specs.Dependencies.{choice_edges}

@@ -1,5 +1,5 @@
 -- The committed transactions, and the ends of edges among them.
-use Rattle.std.proofs.Common.{◌≡◌, ℕ, zero, suc, ◌==◌, ◌<◌, Bool, true, false, cond, ◌&&◌, ◌||◌, List, [], ◌∷◌, Option, Some, None, is_some, refl, sym, ◌∙◌, ap, arith, inl, inr}
+use Rattle.std.proofs.Common.{◌≡◌, ℕ, zero, suc, ◌==◌, ◌<◌, true, cond, ◌||◌, List, [], ◌∷◌, Some, is_some, refl, ap, arith, inl, inr}
 use Rattle.std.specs.List.{list_any, slice_get}
 use Rattle.std.proofs.lemmas.Bool.{cases_Bool, and_parts, cond-false}
 use Rattle.std.proofs.lemmas.List.Sums.{sum_by-cons}

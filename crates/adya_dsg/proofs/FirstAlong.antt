@@ -1,5 +1,5 @@
 -- The first edges along arcs: one more edge in a pass, and what the edges of a cycle are.
-use Rattle.std.proofs.Common.{◌≡◌, ◌⊎◌, ◌≢◌, ℕ, zero, suc, ◌+◌, ◌<◌, ◌==◌, Bool, true, false, ◌&&◌, ◌||◌, cond, List, [], ◌∷◌, ◌++◌, map, take, get_or, length, Contains, Option, Some, None, is_some, IsSome, refl, sym, ◌∙◌, ap, subst, arith, inl, inr, Ordering, Less, Equal, Greater}
+use Rattle.std.proofs.Common.{◌≡◌, ℕ, zero, suc, ◌+◌, ◌<◌, ◌==◌, true, false, ◌&&◌, cond, List, [], ◌∷◌, ◌++◌, map, take, get_or, length, Contains, Option, Some, None, is_some, IsSome, refl, sym, ◌∙◌, ap, arith, inl, inr, Ordering, Less, Equal, Greater}
 use Rattle.std.specs.List.{list_any, AllByRecursion}
 use Rattle.std.specs.Option.{option_or}
 use Rattle.std.specs.BTreeMap.{BTreeMap, get}

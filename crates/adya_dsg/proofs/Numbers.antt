@@ -1,5 +1,5 @@
 -- Numbers in a row, and those of them that pass a test.
-use Rattle.std.proofs.Common.{◌≡◌, ℕ, zero, suc, ◌+◌, ◌<◌, ◌≤◌, Bool, true, false, cond, nat_lt, leb, List, [], ◌∷◌, length, get_or, Some, slice_get, filter, find, refl, ◌∙◌, ap, arith}
+use Rattle.std.proofs.Common.{◌≡◌, ℕ, zero, suc, ◌<◌, ◌≤◌, Bool, true, false, cond, nat_lt, leb, List, [], ◌∷◌, length, get_or, Some, slice_get, filter, find, refl, ◌∙◌, ap, arith}
 use Rattle.std.specs.List.Sorted.{IsNonDecreasingBy, IsPartitionPoint}
 use Rattle.std.proofs.lemmas.Bool.{leb-true, leb-false, le-ltb, lt-ltb}
 use Rattle.adya_terms.specs.EdgeList.{numbers}

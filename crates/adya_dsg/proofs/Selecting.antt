@@ -1,19 +1,17 @@
 -- What is selected, line by line.
-use Rattle.std.proofs.Common.{◌≡◌, ◌≢◌, ℕ, zero, suc, ◌+◌, ◌==◌, ◌<◌, ◌≤◌, Bool, true, false, cond, not, ◌&&◌, List, [], ◌∷◌, ◌++◌, map, drop, length, get_or, Option, Some, None, option_map, option_to_list, slice_get, Vec, Global, nat_cmp, is_le, is_lt, Ordering, Less, Equal, Greater, refl, sym, ◌∙◌, ap, subst, arith, inl, inr, append_assoc}
+use Rattle.std.proofs.Common.{◌≡◌, ◌≢◌, ℕ, zero, suc, ◌+◌, ◌==◌, ◌<◌, ◌≤◌, true, false, cond, not, ◌&&◌, List, [], ◌∷◌, ◌++◌, map, drop, length, get_or, Option, Some, None, option_map, option_to_list, slice_get, Vec, Global, nat_cmp, is_le, is_lt, Ordering, Less, Equal, Greater, refl, sym, ◌∙◌, ap, subst, arith, inl, inr, append_assoc}
 use Rattle.std.specs.List.{filter_map, cons_option}
 use Rattle.std.specs.Ordering.{ordering_reverse}
 use Rattle.std.specs.Cmp.Lexicographic.{slice_cmp, nat_list_cmp_total}
-use Rattle.std.proofs.lemmas.Bool.{cases_lt, cases_eq, and_left, and_right, and_from, false_from_ne_true}
+use Rattle.std.proofs.lemmas.Bool.{cases_lt, and_left, and_right, and_from, false_from_ne_true}
 use Rattle.std.proofs.lemmas.Option.{slice_get-get_or}
-use Rattle.std.proofs.lemmas.List.{length-map}
 use Rattle.adya_terms.specs.declared.value.Value.{Value}
 use Rattle.adya_terms.specs.declared.event.Version.{Version}
 use Rattle.adya_terms.specs.declared.event.Entry.{Entry as EntryValue}
 use Rattle.adya_terms.specs.declared.event.Event.{Event as EventValue}
 use Rattle.adya_terms.specs.declared.event.Event.TheVariants as In
-use Rattle.adya_terms.specs.declared.order.Order.{Order as OrderValue}
 use Rattle.adya_terms.specs.Keys.{key_eq, key_lt, key_le, keys_rise, lies_in}
-use Rattle.adya_terms.specs.Histories.{Event, Read, Scan, Entry, Order, History, event_of, order_of}
+use Rattle.adya_terms.specs.Histories.{Read, Scan, Entry, Order, History, event_of}
 use Rattle.adya_terms.specs.Events.{listed}
 use Rattle.adya_terms.specs.Orders.{place, writers}
 use Rattle.adya_terms.specs.Selections.{selected, place_of}

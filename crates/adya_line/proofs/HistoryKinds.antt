@@ -11,7 +11,7 @@ use Rattle.adya_line.specs.Reading.{after, none_or, key_between, txn_at, txn_at_
 use Rattle.adya_line.specs.Reading.{event_at, unfinished_at, order_at, final_at}
 use Rattle.adya_line.specs.Laws.{IsOneText, HasPlainTexts}
 use Rattle.adya_line.specs.HistoryLines.{Line, HeadLine, EventLine, UnfinishedLine, OrderLine, FinalLine, TailLine}
-use Rattle.adya_line.specs.HistoryLines.{IsLine, line_text, IsLineOf, IsNoLine, IsOnlyLineOf}
+use Rattle.adya_line.specs.HistoryLines.{IsLine, line_text, IsNoLine, IsOnlyLineOf}
 use Rattle.adya_line.proofs.Events.{event_again, unfinished_again}
 use Rattle.adya_line.proofs.Orders.{order_again}
 use Rattle.adya_line.proofs.Finals.{final_again}

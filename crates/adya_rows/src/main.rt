@@ -1,8 +1,8 @@
-//! The worked histories: for each name on standard input what is written for the files in the folder of that name. Under
-//! `audit` it is the verdict on a history and a certificate in a stream each, and beside it that on one stream of
+//! The worked histories: for each name on standard input what is written for the files in the folder of that name.
+//! Under `audit` it is the verdict on a history and a certificate in a stream each, and beside it that on one stream of
 //! both where it is another; under `order` the certificate, cycle or verdict for a history; under `edges` its edges;
-//! under `examples`, copies of those of the repository, the verdict and the order.
-//! These texts are read in pieces of 1, of 3 and of all bytes. Then a scan of 5,000 entries, as values and as bytes.
+//! under `examples`, copies of those of the repository, the verdict and the order. These texts are read in pieces of 1,
+//! of 3 and of all bytes. Then a scan of 5,000 entries, as values and as bytes.
 #![tactic(auto)]
 
 mod audits;

@@ -16,7 +16,7 @@ use Rattle.adya_line.specs.Limits.{IsOrder}
 use Rattle.adya_text.specs.Texts.{IsHistory, history_lines, AreHistoryLines, with_ends, history_text}
 use Rattle.adya_text.specs.Faults.{Begins, IsFaultLine, IsCut}
 use Rattle.adya_line.specs.HistoryLines.{Line, HeadLine, EventLine, UnfinishedLine, OrderLine, FinalLine, TailLine}
-use Rattle.adya_line.specs.HistoryLines.{IsLine, line_text, IsLineOf, IsOnlyLineOf}
+use Rattle.adya_line.specs.HistoryLines.{IsLine, line_text, IsOnlyLineOf}
 use Rattle.adya_text.specs.HistoryRuns.{allows, edition_at, stage_after}
 use Rattle.adya_text.specs.HistoryRuns.{event_in, unfinished_in, order_in, final_in}
 use Rattle.adya_text.specs.HistoryReaders.{IsTaken, IsFed, IsRefused, IsAllowed, Takes, IsKept, ReadsHistory}

@@ -1,5 +1,5 @@
 -- The lines of a history are those of a run from the head to the tail, and no others are.
-use Rattle.std.proofs.Common.{◌≡◌, ℕ, suc, length, nat_lt, Bool, true, false, ◌&&◌, List, [], ◌∷◌, ◌++◌, map, refl}
+use Rattle.std.proofs.Common.{◌≡◌, ℕ, suc, length, nat_lt, true, List, [], ◌∷◌, ◌++◌, map, refl}
 use Rattle.std.proofs.Common.{sym, ap, ◌∙◌}
 use Rattle.std.specs.List.{AllByRecursion}
 use Rattle.std.proofs.lemmas.Bool.{eqb-true, and_parts, and_from}

@@ -10,7 +10,7 @@ use Rattle.adya_terms.specs.declared.serial.Serial.{Serial}
 use Rattle.adya_text.specs.Texts.{IsSerial, serial_lines, AreSerialLines, with_ends, serial_text}
 use Rattle.adya_text.specs.Faults.{Begins, IsFaultLine, IsCut}
 use Rattle.adya_line.specs.SerialLines.{Line, HeadLine, TxnLine, TailLine}
-use Rattle.adya_line.specs.SerialLines.{IsLine, line_text, IsLineOf, IsOnlyLineOf}
+use Rattle.adya_line.specs.SerialLines.{IsLine, line_text, IsOnlyLineOf}
 use Rattle.adya_text.specs.SerialRuns.{allows, next_stage, stage_after, txn_in}
 use Rattle.adya_text.specs.SerialReaders.{IsFed, IsRefused, IsAllowed, Takes, IsKept, ReadsSerial, is_failed, is_done}
 use Rattle.adya_text.specs.declared.serial_reader.Stage.{Stage}

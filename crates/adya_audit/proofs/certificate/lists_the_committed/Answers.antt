@@ -1,4 +1,4 @@
-use Rattle.std.proofs.Common.{◌≡◌, ◌&&◌, ℕ, List, map, sym, ◌∙◌, ap, nat_cmp}
+use Rattle.std.proofs.Common.{◌&&◌, ℕ, map, sym, ◌∙◌, ap, nat_cmp}
 use Rattle.std.specs.List.{list_all}
 use Rattle.std.specs.BTreeSet.{contains}
 use Rattle.adya_terms.specs.Histories.{event_of}

@@ -1,4 +1,4 @@
-use Rattle.std.proofs.Common.{◌≡◌, ◌<◌, ◌+◌, ◌++◌, List, map, drop, flat_map, length, get_or, sym, ◌∙◌, ap, subst}
+use Rattle.std.proofs.Common.{◌<◌, ◌+◌, ◌++◌, List, map, drop, flat_map, length, get_or, sym, ◌∙◌, ap, subst}
 use Rattle.adya_terms.specs.Histories.{event_of}
 use Rattle.adya_terms.specs.Values.{history_of}
 use Rattle.adya_dsg.specs.declared.selection.Selection.{Selection}

@@ -1,7 +1,7 @@
-use Rattle.std.proofs.Common.{◌≡◌, ◌++◌, ℕ, List, Some, map, drop, filter, flat_map, nat_lt}
+use Rattle.std.proofs.Common.{◌≡◌, ◌++◌, ℕ, Some, map, drop, filter, flat_map, nat_lt}
 use Rattle.adya_terms.specs.Values.{history_of}
 use Rattle.adya_terms.specs.Orders.{installer}
-use Rattle.adya_terms.specs.Edges.{Rw, Edge}
+use Rattle.adya_terms.specs.Edges.{Rw}
 use Rattle.adya_terms.specs.EdgeList.{joined}
 use Rattle.adya_dsg.specs.Values.{edge_of}
 use Rattle.adya_dsg.specs.Choices.{key_at}

@@ -1,8 +1,8 @@
-use Rattle.std.proofs.Common.{◌≡◌, ◌&&◌, not, Bool, true, false, Option, Some, ℕ, slice_get, sym, ◌∙◌, ap, length}
+use Rattle.std.proofs.Common.{◌≡◌, ◌&&◌, not, false, slice_get, sym, ◌∙◌, ap}
 use Rattle.std.proofs.lemmas.Bool.{and_left, and_right}
 use Rattle.adya_terms.specs.Histories.{event_of}
 use Rattle.adya_terms.specs.Values.{history_of}
-use Rattle.adya_terms.specs.Orders.{installer, is_visible_at}
+use Rattle.adya_terms.specs.Orders.{is_visible_at}
 use Rattle.adya_terms.specs.Selections.{is_scan}
 use Rattle.adya_dsg.specs.Choices.{key_at}
 use Rattle.adya_dsg.specs.Links.{installer_at}

@@ -1,4 +1,4 @@
-use Rattle.std.proofs.Common.{◌≡◌, ◌<◌, ◌≤◌, ◌+◌, ◌++◌, ◌∷◌, [], ℕ, List, Vec, Global, Option, Some, None, map, drop, length, get_or, sym, ◌∙◌, ap, subst, arith, append-nil}
+use Rattle.std.proofs.Common.{◌≡◌, ◌<◌, ◌+◌, ◌++◌, ◌∷◌, [], ℕ, List, Vec, Global, map, drop, length, get_or, sym, ◌∙◌, ap, subst, append-nil}
 use Rattle.std.specs.List.{All}
 use Rattle.std.proofs.lemmas.Bool.{and_parts}
 use Rattle.std.proofs.lemmas.List.{length-map, map-append}
@@ -10,7 +10,7 @@ use Rattle.adya_terms.specs.Events.{listed}
 use Rattle.adya_terms.specs.Values.{history_of}
 use Rattle.adya_terms.specs.Selections.{selected, place_of}
 use Rattle.adya_dsg.specs.declared.selection.Selection.{Selection}
-use Rattle.adya_dsg.specs.Choices.{choice, choice_of, key_at}
+use Rattle.adya_dsg.specs.Choices.{choice_of, key_at}
 use Rattle.adya_dsg.proofs.Selecting.{chosen_in, scan_starts, scan_ends, inside, chosen_step, passed_step}
 use Rattle.adya_dsg.proofs.selection.of_scan.Goals as goal
 use Rattle.adya_dsg.proofs.selection.of_scan.Goals.{in-Some+in_ok-push, in_default}

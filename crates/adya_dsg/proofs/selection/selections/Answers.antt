@@ -1,5 +1,4 @@
-use Rattle.std.proofs.Common.{◌≡◌, ◌<◌, ◌∙◌, ℕ, List, map, length, get_or, true, sym, ap, subst}
-use Rattle.std.specs.List.{All}
+use Rattle.std.proofs.Common.{◌<◌, ◌∙◌, ℕ, List, map, length, get_or, sym, ap, subst}
 use Rattle.std.proofs.lemmas.List.Elements.{All-nil}
 use Rattle.adya_terms.specs.declared.event.Entry.{Entry as EntryValue}
 use Rattle.adya_terms.specs.Keys.{keys_rise}

@@ -1,8 +1,8 @@
-use Rattle.std.proofs.Common.{◌≡◌, ◌+◌, ◌∙◌, sym, ap, map, length, Some, [], true, false}
+use Rattle.std.proofs.Common.{◌≡◌, ◌+◌, ◌∙◌, sym, ap, length, Some, [], true, false}
 use Rattle.std.proofs.lemmas.List.{length-map}
 use Rattle.adya_terms.specs.declared.fault.Rule.TheVariants.{M7}
 use Rattle.adya_terms.specs.declared.fault.CheckFault.TheVariants.{Malformed}
-use Rattle.adya_terms.specs.Histories.{event_of, order_of}
+use Rattle.adya_terms.specs.Histories.{order_of}
 use Rattle.adya_terms.specs.Faults.{first, fault_unless, has_lines, order_faults}
 use Rattle.adya_terms.specs.Checks.{parts, listing_faults}
 use Rattle.adya_terms.proofs.Firsts.{first_rest, names_front, names_broken}

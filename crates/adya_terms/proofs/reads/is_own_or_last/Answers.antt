@@ -1,4 +1,4 @@
-use Rattle.std.proofs.Common.{◌≡◌, ◌∙◌, ◌||◌, not, sym, ap}
+use Rattle.std.proofs.Common.{◌∙◌, ◌||◌, not, sym, ap}
 use Rattle.adya_terms.specs.Histories.{entry_of}
 use Rattle.adya_terms.specs.Events.{last_write}
 use Rattle.adya_terms.specs.Faults.{is_entry}

@@ -1,5 +1,4 @@
-use Rattle.std.proofs.Common.{◌≡◌, ◌<◌, ◌∙◌, ℕ, List, Vec, Global, map, length, get_or, sym, ap, subst}
-use Rattle.adya_terms.specs.Histories.{Order, order_of}
+use Rattle.std.proofs.Common.{◌∙◌, ℕ, Vec, Global}
 use Rattle.adya_terms.specs.Values.{history_of}
 use Rattle.adya_dsg.specs.Links.{changed_places}
 use Rattle.adya_dsg.proofs.Lines.{mapped_at}

@@ -1,6 +1,4 @@
-use Rattle.std.proofs.Common.{◌<◌, ◌∙◌, List, length, get_or, sym, ap, subst}
-use Rattle.std.proofs.lemmas.Bool.{and_parts}
-use Rattle.adya_terms.specs.declared.order.Order.{Order as OrderValue}
+use Rattle.std.proofs.Common.{◌∙◌, get_or, ap}
 use Rattle.adya_dsg.proofs.Lines.{writers_are}
 use Rattle.adya_dsg.proofs.graph.Graph.order.Goals as goal
 

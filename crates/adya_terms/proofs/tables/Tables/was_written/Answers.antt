@@ -1,4 +1,4 @@
-use Rattle.std.proofs.Common.{◌≡◌, ◌∙◌, ◌||◌, Bool, false, sym, ap, map}
+use Rattle.std.proofs.Common.{◌≡◌, ◌∙◌, ◌||◌, false, sym, ap, map}
 use Rattle.std.specs.HashMap.{get}
 use Rattle.adya_terms.specs.Faults.{version_eq}
 use Rattle.adya_terms.specs.Histories.{entry_of, event_of}
