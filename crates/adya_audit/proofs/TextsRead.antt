@@ -14,7 +14,7 @@ use Rattle.adya_terms.specs.Certificates.{lists_the_committed, first_backward}
 use Rattle.adya_text.specs.declared.read_fault.ReadFault.TheVariants.{Syntax}
 use Rattle.adya_text.specs.declared.read_fault.Text.{Text}
 use Rattle.adya_text.specs.declared.read_fault.Text.TheVariants as Of
-use Rattle.adya_text.specs.Texts.{AreHistoryLines, AreSerialLines}
+use Rattle.adya_text.specs.Texts.{AreHistoryLines}
 use Rattle.adya_text.specs.Faults.{IsFaultLine}
 use Rattle.adya_text.specs.Streams.{history_part, serial_part}
 use Rattle.adya_text.specs.HistoryReaders.{ReadsHistory}
@@ -29,11 +29,6 @@ pub history_fault : (h : List ℕ) (text : Text) (line : ℕ) → ReadsHistory h
     → IsFaultLine AreHistoryLines h line
 history_fault h Of.History line r = r
 history_fault h Of.Serial line r = absurd r
-
-pub serial_fault : (c : List ℕ) (text : Text) (line : ℕ) → ReadsSerial c (Err (Syntax text line))
-    → IsFaultLine AreSerialLines c line
-serial_fault c Of.History line r = absurd r
-serial_fault c Of.Serial line r = r
 
 -- the verdict on values is no syntax fault
 no_syntax : (f : Option CheckFault) (b : Bool) (o : Option Edge) (text : Text) (line : ℕ)

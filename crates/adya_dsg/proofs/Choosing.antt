@@ -1,13 +1,12 @@
 -- The edges of an event are those of the places that it reads or selects.
 use Rattle.std.proofs.Common.{◌≡◌, ℕ, List, [], ◌∷◌, ◌++◌, Option, Some, None, option_map, flat_map, refl, sym, ◌∙◌, ap}
-use Rattle.std.specs.List.{filter_map, cons_option, Contains}
+use Rattle.std.specs.List.{filter_map, cons_option}
 use Rattle.std.proofs.lemmas.Option.{same_Some, none-some}
 use Rattle.adya_terms.specs.Histories.{Event, Order, History}
 use Rattle.adya_terms.specs.Selections.{selected}
 use Rattle.adya_terms.specs.EdgeList.{place_edges, event_edges}
 use Rattle.adya_dsg.specs.Choices.{Choice, choice, choices}
 use Rattle.adya_dsg.specs.Dependencies.{choice_edges}
-use Rattle.adya_dsg.proofs.Members.{filter_map-source}
 
 one_choice : (h : History) (e : Event) (k : List ℕ) (s : Option ℕ) (cs : List Choice)
     → flat_map (choice_edges h e) (cons_option (option_map (choice k) s) cs)
@@ -32,10 +31,3 @@ chosen h e k c None is m = absurd (none-some c m)
 chosen h e k c (Some p) is m =
     let same = same_Some (choice k p) c m in
     ap (λ (x : Choice). selected h e x.key) (sym same) ∙ (is ∙ ap (λ (x : Choice). Some x.place) same)
-
--- a choice is of a key that has an order line, and is what is selected there
-pub choice_source : (h : History) (e : Event) (c : Choice) → Contains (choices h e) c
-    → selected h e c.key ≡ Some c.place
-choice_source h e c there =
-    let at = filter_map-source (λ (o : Order). option_map (choice o.key) (selected h e o.key)) h.orders c there in
-    chosen h e at.0.key c (selected h e at.0.key) refl at.2

@@ -1,10 +1,8 @@
 -- The steps of loops over a list.
-use Rattle.std.proofs.Common.{◌≡◌, ℕ, suc, ◌+◌, ◌-◌, ◌<◌, ◌≤◌, Bool, true, false, cond, List, [], ◌∷◌, ◌++◌, map, filter, flat_map, sym, ◌∙◌, ap, arith, drop, get_or, length, append_assoc, append-nil, Option, Some, None, is_some, IfSome, slice_get, option_map, option_copied, nat_lt, ltb-true, ltb-false, Bor, refl}
+use Rattle.std.proofs.Common.{◌≡◌, ℕ, suc, ◌+◌, ◌-◌, ◌<◌, ◌≤◌, Bool, true, false, cond, List, [], ◌∷◌, ◌++◌, map, filter, flat_map, sym, ◌∙◌, ap, arith, drop, get_or, length, append_assoc, append-nil, Option, Some, None, is_some, IfSome, slice_get, option_copied, nat_lt, ltb-true, ltb-false, Bor, refl}
 use Rattle.std.proofs.Math.Seq.{drop-cons}
 use Rattle.std.proofs.lemmas.List.{drop_all}
-use Rattle.std.proofs.lemmas.Option.{slice_get-map, slice_get_past, slice_get_read}
-use Rattle.std.specs.List.{Contains}
-use Rattle.adya_dsg.proofs.Members.{Contains-slice_get}
+use Rattle.std.proofs.lemmas.Option.{slice_get_past, slice_get_read}
 
 -- what is left of a list at an index, by its first element
 pub drop_step : {Y : Type 0} (ys : List Y) (i : ℕ) (y : Y) → i < length ys → y ≡ get_or ys i y
@@ -19,13 +17,6 @@ pub drop_back : {Y : Type 0} (ys : List Y) (i : ℕ) (y : Y) → 0 < i → i ≤
 drop_back ys i y z l e =
     let back : (i - 1) + 1 ≡ i = omega arith in
     drop_step ys (i - 1) y (omega arith) e ∙ ap (λ j. y ∷ drop j ys) back
-
--- an item stands in the list, as it is seen
-pub item_there : {X Y : Type 0} (view : Y → X) (ys : List Y) (i : ℕ) (y : Y) → i < length ys → y ≡ get_or ys i y
-    → Contains (map view ys) (view y)
-item_there view ys i y l e =
-    Contains-slice_get (map view ys) i (view y)
-    (slice_get-map view ys i ∙ ap (option_map view) (slice_get_read ys (length ys) i y refl l e))
 
 -- loops that add what the items give
 module _ {X Y A : Type 0} (view : Y → X) (ys : List Y) (i : ℕ) (y : Y) (l : i < length ys) (at : y ≡ get_or ys i y)

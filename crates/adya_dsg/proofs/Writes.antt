@@ -1,13 +1,10 @@
 -- The write dependencies of a key are those of its line.
-use Rattle.std.proofs.Common.{◌≡◌, ℕ, zero, suc, ◌+◌, ◌<◌, true, List, [], ◌∷◌, ◌++◌, map, length, get_or, Option, Some, slice_get, flat_map, refl, sym, ◌∙◌, ap, arith}
-use Rattle.adya_terms.specs.declared.order.Order.{Order as OrderValue}
-use Rattle.adya_terms.specs.Keys.{keys_rise}
-use Rattle.adya_terms.specs.Histories.{Order, History, order_of}
-use Rattle.adya_terms.specs.Orders.{writers, line_of, installer}
+use Rattle.std.proofs.Common.{◌≡◌, ℕ, zero, suc, ◌+◌, List, [], ◌∷◌, ◌++◌, length, Option, Some, slice_get, flat_map, refl, ◌∙◌, ap, arith}
+use Rattle.adya_terms.specs.Histories.{History}
+use Rattle.adya_terms.specs.Orders.{writers, installer}
 use Rattle.adya_terms.specs.Edges.{Ww}
 use Rattle.adya_terms.specs.EdgeList.{numbers, joined, write_edges}
 use Rattle.adya_dsg.specs.Dependencies.{line_edges}
-use Rattle.adya_dsg.proofs.Keys.{line_of-at}
 
 from_numbers : (k : List ℕ) (f : ℕ → Option ℕ) (ws : List ℕ) (a : ℕ)
     → ((j q : ℕ) → q ≡ j + a → f q ≡ slice_get ws j)
@@ -29,11 +26,3 @@ installed h k j (suc q) e = let same : q ≡ j = omega (arith, e) in ap (slice_g
 
 write_edges_is : (h : History) (k : List ℕ) → write_edges h k ≡ line_edges k (writers h k)
 write_edges_is h k = from_numbers k (installer h k) (writers h k) 1 (installed h k)
-
--- those of each line, where the keys rise
-pub line_edges_are : (h : History) (os : List OrderValue) → h.orders ≡ map order_of os
-    → keys_rise (map (λ (o : Order). o.key) (map order_of os)) ≡ true → (i : ℕ) (o : OrderValue) → i < length os
-    → o ≡ get_or os i o → line_edges o.key o.writers.items ≡ write_edges h o.key
-line_edges_are h os same rise i o l e =
-    ap (line_edges o.key) (sym (line_of-at order_of os i o rise l e) ∙ ap (λ xs. line_of xs o.key) (sym same)) ∙
-    sym (write_edges_is h o.key)

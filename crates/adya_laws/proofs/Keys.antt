@@ -1,6 +1,6 @@
 -- Equality of keys and values, as a test and as a fact.
-use Rattle.std.proofs.Common.{◌≡◌, ◌≢◌, ◌⊎◌, ℕ, true, false, List, refl, inl, inr}
-use Rattle.std.proofs.lemmas.Bool.{cases_Bool, both_ways, false_from_ne_true}
+use Rattle.std.proofs.Common.{◌≡◌, ◌≢◌, ℕ, true, false, List, refl}
+use Rattle.std.proofs.lemmas.Bool.{false_from_ne_true}
 use Rattle.std.specs.Cmp.Lexicographic.{bytes_decides}
 use Rattle.adya_terms.specs.Keys.{key_eq}
 
@@ -15,10 +15,3 @@ key_eq-itself a = key_eq-from a a refl
 
 pub key_eq-other : (a b : List ℕ) → a ≢ b → key_eq a b ≡ false
 key_eq-other a b ne = false_from_ne_true (key_eq a b) (λ e. ne (key_eq-same a b e))
-
-pub cases_key : (a b : List ℕ) → (a ≡ b) ⊎ (a ≢ b)
-cases_key a b =
-    elim (cases_Bool (key_eq a b)) [
-      | inl t ↦ inl (key_eq-same a b t)
-      | inr f ↦ inr (λ e. both_ways _ f (key_eq-from a b e))
-    ]

@@ -78,9 +78,6 @@ is_done_at front bytes total (suc k) none so_far =
     let step : later_at (suc k) bytes ≡ Some ([], bytes) = rw none refl in
     sym so_far ∙ ap (behind front) step ∙ ap (λ (ts : List ℕ). Some (ts, bytes)) (append-nil front)
 
-pub starts : (front bytes : List ℕ) → IsOn front bytes (behind front (later_at (length bytes) bytes))
-starts front bytes = record { fuel = length bytes; enough = omega arith; so_far = refl }
-
 pub goes_on : (front : List ℕ) (bytes rest after_t : List ℕ) (t : ℕ) (total : Option (List ℕ × List ℕ))
     → after 60 bytes ≡ Some rest → writer_at rest ≡ Some (t, after_t)
     → IsOn front bytes total → IsOn (front ++ t ∷ []) after_t total

@@ -1,7 +1,7 @@
 -- How often a number stands in a list, and the test that a list has exactly the numbers that pass.
 use Rattle.std.proofs.Common.{◌≡◌, ◌≢◌, ℕ, suc, ◌==◌, ◌<◌, Bool, true, cond, List, [], ◌∷◌, Some, slice_get, sym, ◌∙◌, ap, subst, arith, inl, inr}
 use Rattle.std.specs.List.{count_by, Contains}
-use Rattle.std.proofs.lemmas.Bool.{cases_Bool, cases_eq, cases_lt, eqb-true, eq-eqb, ne_eqb, cond-true, cond-false, and_parts, and_from}
+use Rattle.std.proofs.lemmas.Bool.{cases_Bool, cases_eq, cases_lt, eqb-true, eq-eqb, ne_eqb, cond-false, and_parts, and_from}
 use Rattle.std.proofs.lemmas.List.Sums.{sum_by-cons}
 use Rattle.adya_terms.specs.Histories.{Event}
 use Rattle.adya_terms.specs.Events.{txn_of}
@@ -10,12 +10,6 @@ use Rattle.adya_terms.proofs.Lists.{Contains-slice_get, all_pass, list_all_when}
 
 abbrev pub count : List ℕ → ℕ → ℕ
 count xs t = count_by (λ u. u == t) xs
-
-pub count_same : (x : ℕ) (xs : List ℕ) (t : ℕ) → x ≡ t → count (x ∷ xs) t ≡ suc (count xs t)
-count_same x xs t e =
-    let cons = sum_by-cons (λ u. cond (u == t) 1 0) x xs in
-    let same = cond-true {A = ℕ} (x == t) 1 0 (eq-eqb x t e) in
-    omega (arith, cons, same)
 
 pub count_other : (x : ℕ) (xs : List ℕ) (t : ℕ) → x ≢ t → count (x ∷ xs) t ≡ count xs t
 count_other x xs t e =

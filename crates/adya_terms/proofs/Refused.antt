@@ -31,9 +31,6 @@ committed_refused good all e r c h = subst (λ b. IsFirst (filter (λ o. b && no
 pub none_refused : (good : Event → Entry → Bool) (all : List Event) (e : Event) → is_committed all (txn_of e) ≡ false → refused good all e ≡ []
 none_refused good all e c = filter_nothing _ (observed e) (λ o d. ap (λ b. b && not (good e o)) c)
 
-pub nothing_refused : (good : Event → Entry → Bool) (all : List Event) (e : Event) → [] ≡ observed e → refused good all e ≡ []
-nothing_refused good all e at = ap (filter (λ (x : Entry). is_committed all (txn_of e) && not (good e x))) (sym at)
-
 first_map : (f : Version → CheckFault) (es : List Entry) (v : Version) → first (map (λ (x : Entry). x.version) es) ≡ Some v → first (map (λ (x : Entry). f x.version) es) ≡ Some (f v)
 first_map f [] v e = absurd (cc (e))
 first_map f (x ∷ es) v e = let same : x.version ≡ v = cc (e) in ap (λ w. Some (f w)) same

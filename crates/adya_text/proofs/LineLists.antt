@@ -84,9 +84,6 @@ pub record IsAt (text : List ℕ) (past : List (List ℕ)) (rest : List ℕ) : T
   pub plain : All IsPlain past
   pub whole : text ≡ with_ends past ++ rest
 
-pub at_start : (text : List ℕ) → IsAt text [] text
-at_start text = record { plain = λ k d below. absurd (omega arith); whole = refl }
-
 plain_before : (hay : List ℕ) (at : ℕ) → at ≤ length hay → Nowhere (Passes (is_byte 10) hay) 0 at
     → IsPlain (take at hay)
 plain_before hay at fits none = λ k d below e.
