@@ -31,4 +31,3 @@ pub mod Slots
 pub mod Sorted
 pub mod Standing
 pub mod Steps
-pub mod Writes
