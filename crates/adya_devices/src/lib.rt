@@ -13,7 +13,9 @@ use std::io::{Error, ErrorKind, Read, Write};
 /// Gives what it has in pieces of at most `most` bytes.
 #[derive(Drop)]
 pub struct Pieces<'a> {
+    /// What is left to give.
     pub bytes: &'a [u8],
+    /// The most bytes that one call gives, at least 1.
     pub most: usize,
     pub ghost gives: { 0 < most },
 }
@@ -139,7 +141,9 @@ impl Read for Endless {
 /// Takes at most `most` bytes a write; none at all where `most` is 0.
 #[derive(Drop)]
 pub struct Narrow {
+    /// What was taken.
     pub bytes: Vec<u8>,
+    /// The most bytes that one write takes.
     pub most: usize,
 }
 

@@ -9,6 +9,7 @@ use adya_terms::{Content, Entry, Value};
 /// A value that is a slice of the line.
 #[derive(Clone, Copy)]
 pub struct ValueRef<'a> {
+    /// The bytes of the value, 1 to 64.
     pub bytes: &'a [u8],
     pub ghost is_value: { is_value bytes.now ≡ true },
 }
@@ -25,7 +26,9 @@ pub enum ContentRef<'a> {
 /// A version with its content, as a scan lists it, whose key and value are slices of the line.
 #[derive(Clone, Copy)]
 pub struct EntryRef<'a> {
+    /// The version.
     pub version: VersionRef<'a>,
+    /// What it is.
     pub content: ContentRef<'a>,
 }
 

@@ -10,8 +10,11 @@ use std::alloc::{AllocError, Global};
 /// A version whose key is a slice of the line.
 #[derive(Clone, Copy)]
 pub struct VersionRef<'a> {
+    /// The bytes of the key, 1 to 32.
     pub key: &'a [u8],
+    /// Who wrote it, from 1 on.
     pub txn: u32,
+    /// Which of the writes of this key by this transaction it was, counted from 1.
     pub m: u16,
     pub ghost is_key: { is_key key.now ≡ true },
     pub ghost is_txn: { IsTxn txn },
@@ -21,7 +24,9 @@ pub struct VersionRef<'a> {
 /// A write whose key and value are slices of the line.
 #[derive(Clone, Copy)]
 pub struct WriteRef<'a> {
+    /// The version that is written, by its own transaction.
     pub version: VersionRef<'a>,
+    /// The bytes of the value, 1 to 64.
     pub value: &'a [u8],
     pub ghost is_value: { is_value value.now ≡ true },
 }
@@ -29,14 +34,18 @@ pub struct WriteRef<'a> {
 /// A delete whose key is a slice of the line.
 #[derive(Clone, Copy)]
 pub struct DeleteRef<'a> {
+    /// The dead version that is written, by its own transaction.
     pub version: VersionRef<'a>,
 }
 
 /// A read whose key and value are slices of the line.
 #[derive(Clone, Copy)]
 pub struct ReadRef<'a> {
+    /// Who reads, from 1 on.
     pub txn: u32,
+    /// The version that is read.
     pub version: VersionRef<'a>,
+    /// The bytes of the value that is found, 1 to 64.
     pub value: &'a [u8],
     pub ghost is_txn: { IsTxn txn },
     pub ghost is_value: { is_value value.now ≡ true },
@@ -45,8 +54,11 @@ pub struct ReadRef<'a> {
 /// A scan whose keys and entries are slices of the line.
 #[derive(Clone, Copy)]
 pub struct ScanRef<'a> {
+    /// Who scans, from 1 on.
     pub txn: u32,
+    /// The bytes of the first key of the range, 1 to 32.
     pub lo: &'a [u8],
+    /// The bytes of the last key of the range, 1 to 32; the range has both.
     pub hi: &'a [u8],
     /// The line from the first entry's `;` on, or from the closing bracket on where there is no entry.
     pub listed: &'a [u8],
@@ -58,6 +70,7 @@ pub struct ScanRef<'a> {
 /// A commit or an abort.
 #[derive(Clone, Copy)]
 pub struct EndRef {
+    /// Who ends, from 1 on.
     pub txn: u32,
     pub ghost is_txn: { IsTxn txn },
 }

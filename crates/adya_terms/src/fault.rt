@@ -1,7 +1,6 @@
 //! Why a history is not checked.
 
 use crate::Version;
-use std::fmt;
 
 /// The rules of well-formed histories.
 #[derive(Clone, Copy, Debug, PartialEq, Eq, Drop)]
@@ -10,13 +9,13 @@ pub enum Rule {
     M1,
     /// A transaction's writes of a key are numbered 1, 2 and on.
     M2,
-    /// A version is read after it was written, with the value that was written.
+    /// A version is read or listed after it was written, with the content that was written.
     M3,
-    /// A transaction reads its own last write of a key that it has written.
+    /// Of a key that it has written a transaction reads and lists its own last write, and no other.
     M4,
-    /// The keys that a scan lists rise and lie in its range.
+    /// A scan's range doesn't begin above its end; the keys that it lists rise and lie in the range.
     M5,
-    /// Every transaction commits or aborts.
+    /// Every transaction commits or aborts, or is unfinished and does neither.
     M6,
     /// The order of a key lists its committed writers, once each.
     M7,
@@ -37,19 +36,4 @@ pub enum CheckFault {
     IntermediateRead { line: usize, version: Version },
     /// Memory ran out; nothing is said of the history.
     Memory,
-}
-
-impl fmt::Display for Rule {
-    fn fmt<W: fmt::Write>(&self, f: &mut fmt::Formatter<W>) -> fmt::Result {
-        f.write_str(match self {
-            Rule::M1 => "M1",
-            Rule::M2 => "M2",
-            Rule::M3 => "M3",
-            Rule::M4 => "M4",
-            Rule::M5 => "M5",
-            Rule::M6 => "M6",
-            Rule::M7 => "M7",
-            Rule::M8 => "M8",
-        })
-    }
 }

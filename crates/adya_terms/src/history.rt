@@ -13,10 +13,13 @@ use crate::{Edition, Event, Key, Txn};
 /// unfinished transactions don't rise strictly. It gives the lists back.
 #[derive(Drop)]
 pub struct BadShape {
+    /// The events, as given.
     pub events: Vec<Event>,
-    /// Empty where the history was to be of the first edition.
+    /// The unfinished transactions, as given; empty where the history was to be of the first edition.
     pub unfinished: Vec<Txn>,
+    /// The orders, as given.
     pub orders: Vec<Order>,
+    /// The finals, as given.
     pub finals: Vec<FinalPair>,
 }
 

@@ -1,7 +1,9 @@
 //! The texts of help, in lines of at most 80 columns.
 
+/// What the program does.
 pub const ABOUT: &str = "Audits histories of database transactions: are they serializable?";
 
+/// What stands behind the list of commands: the texts by an example, and the statuses.
 pub const MORE: &str = "\
 Without a command, ssi reads a history and behind it a certificate from standard
 input, and judges as `audit` does.
@@ -28,8 +30,10 @@ Exit status:
     2  wrong words
     3  reading or writing failed, or memory ran out";
 
+/// What `audit` does.
 pub const AUDIT: &str = "Judges a history by a certificate";
 
+/// What `audit` writes, and its statuses.
 pub const AUDIT_MORE: &str = "\
 Writes one line. `yes`: each read, each scan and the contents at the end are as
 if the committed transactions had run one at a time in the certificate's order.
@@ -41,8 +45,10 @@ Exit status:
     2  wrong words
     3  reading or writing failed, or memory ran out";
 
+/// What `order` does.
 pub const ORDER: &str = "Finds a certificate of a history, or a cycle";
 
+/// What `order` writes, and its statuses.
 pub const ORDER_MORE: &str = "\
 Writes a certificate by which the history gets a yes. Where none can be, writes
 `cycle N` and then N dependencies that form a cycle, one a line: `rw x 3 2` says
@@ -55,6 +61,8 @@ Exit status:
     2  wrong words
     3  reading or writing failed, or memory ran out";
 
+/// The argument that names a history.
 pub const HISTORY: &str = "The file of the history";
 
+/// The argument that names a certificate.
 pub const CERTIFICATE: &str = "The file of the certificate";
