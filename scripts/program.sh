@@ -7,7 +7,7 @@ top=$(realpath "$(dirname "$0")/..")
 ssi=$(realpath "${1:-$top/crates/ssi/out/ssi}")
 cd "$top" || exit
 [ -x "$ssi" ] || { echo "no program at $ssi"; exit 2; }
-rows=$PWD/crates/adya_rows/data
+rows=$PWD/crates/adya_tests/data
 sample=$PWD/crates/ssi/stdin
 passed=0 failed=0
 work=$(mktemp -d)

@@ -2,21 +2,21 @@
 use Rattle.std.proofs.Common.{◌≡◌, ◌↔◌, ℕ, Bool, true, false, cond, List, Option, Some, None, Result, Ok, Err, IfOk}
 use Rattle.std.proofs.Common.{refl, sym, ◌∙◌, ap}
 use Rattle.std.specs.declared.alloc.AllocError.{AllocError}
-use Rattle.adya_terms.specs.declared.fault.CheckFault.{CheckFault}
-use Rattle.adya_terms.specs.declared.fault.CheckFault.TheVariants as Checked
-use Rattle.adya_terms.specs.Histories.{History}
-use Rattle.adya_terms.specs.Shapes.{is_shape}
-use Rattle.adya_terms.specs.Edges.{Edge}
-use Rattle.adya_terms.specs.Faults.{first_fault}
-use Rattle.adya_terms.specs.Certificates.{lists_the_committed, first_backward}
-use Rattle.adya_terms.specs.Acceptance.{IsAccepted}
-use Rattle.adya_terms.specs.Laws.{CheckedIfNoFault, CheckedWhereNoFault}
-use Rattle.adya_laws.specs.Laws.{AcceptedWhereForward}
+use Rattle.adya_values.specs.declared.fault.CheckFault.{CheckFault}
+use Rattle.adya_values.specs.declared.fault.CheckFault.TheVariants as Checked
+use Rattle.adya_values.specs.Meaning.Histories.{History}
+use Rattle.adya_values.specs.Meaning.Shapes.{is_shape}
+use Rattle.adya_values.specs.Meaning.Edges.{Edge}
+use Rattle.adya_values.specs.Computing.Faults.{first_fault}
+use Rattle.adya_values.specs.Computing.Certificates.{lists_the_committed, first_backward}
+use Rattle.adya_values.specs.Meaning.Acceptance.{IsAccepted}
+use Rattle.adya_terms.specs.Meaning.Laws.{CheckedIfNoFault, CheckedWhereNoFault}
+use Rattle.adya_laws.specs.Meaning.Laws.{AcceptedWhereForward}
 use Rattle.adya_audit.specs.declared.verdict.Verdict.{Verdict as VerdictValue}
 use Rattle.adya_audit.specs.declared.verdict.Verdict.TheVariants as Said
-use Rattle.adya_audit.specs.Verdicts.{Verdict, Yes, NotTheCommitted, plain_verdict, edge_verdict, certificate_verdict}
-use Rattle.adya_audit.specs.Verdicts.{fault_verdict, verdict_of}
-use Rattle.adya_audit.specs.Laws.{IsSerializableBy, YesWhereAccepted, AcceptedIsSerializable}
+use Rattle.adya_audit.specs.Meaning.Verdicts.{Verdict, Yes, NotTheCommitted, plain_verdict, edge_verdict, certificate_verdict}
+use Rattle.adya_audit.specs.Meaning.Verdicts.{fault_verdict, verdict_of}
+use Rattle.adya_audit.specs.Meaning.Laws.{IsSerializableBy, YesWhereAccepted, AcceptedIsSerializable}
 
 certificate_yes : (b : Bool) (o : Option Edge) → cond b (edge_verdict o) NotTheCommitted ≡ Yes → (b ≡ true) × (o ≡ None)
 certificate_yes true None e = (refl, refl)

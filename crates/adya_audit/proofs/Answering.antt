@@ -2,19 +2,19 @@
 use Rattle.std.proofs.Common.{◌≡◌, ℕ, zero, suc, true, List, [], ◌∷◌, Option, Some, None, IfSome, Ok, refl, subst}
 use Rattle.std.proofs.Common.{arith}
 use Rattle.std.specs.List.{AllByRecursion, Contains}
-use Rattle.adya_terms.specs.declared.history.History.{History as HistoryValue}
-use Rattle.adya_terms.specs.Keys.{IsTxn}
-use Rattle.adya_terms.specs.Histories.{History, Event, Write, Delete, Read, Scan, Commit, Abort}
-use Rattle.adya_terms.specs.Values.{history_of}
-use Rattle.adya_terms.specs.Events.{commits, is_committed}
-use Rattle.adya_terms.specs.Acceptance.{IsAccepted}
-use Rattle.adya_line.specs.Limits.{IsEvent}
-use Rattle.adya_text.specs.Texts.{IsHistory, IsSerial, serial_text}
-use Rattle.adya_text.specs.Laws.{HistoriesDiffer}
-use Rattle.adya_text.specs.HistoryReaders.{ReadsHistory}
-use Rattle.adya_audit.specs.TextVerdicts.{IsTextOf, AreAccepted}
-use Rattle.adya_audit.specs.TextLaws.{AcceptedTextsAreSerializable}
-use Rattle.adya_audit.specs.Answers.{Answer, Certificate, Cycle, Refusal, IsAnswerOn, IsAnswer}
+use Rattle.adya_values.specs.declared.history.History.{History as HistoryValue}
+use Rattle.adya_values.specs.Meaning.Keys.{IsTxn}
+use Rattle.adya_values.specs.Meaning.Histories.{History, Event, Write, Delete, Read, Scan, Commit, Abort}
+use Rattle.adya_values.specs.Meaning.Values.{history_of}
+use Rattle.adya_values.specs.Meaning.Events.{commits, is_committed}
+use Rattle.adya_values.specs.Meaning.Acceptance.{IsAccepted}
+use Rattle.adya_line.specs.Meaning.Limits.{IsEvent}
+use Rattle.adya_text.specs.Meaning.Texts.{IsHistory, IsSerial, serial_text}
+use Rattle.adya_text.specs.Meaning.Laws.{HistoriesDiffer}
+use Rattle.adya_text.specs.Machinery.HistoryReaders.{ReadsHistory}
+use Rattle.adya_audit.specs.Meaning.TextVerdicts.{IsTextOf, AreAccepted}
+use Rattle.adya_audit.specs.Meaning.TextLaws.{AcceptedTextsAreSerializable}
+use Rattle.adya_audit.specs.Meaning.Answers.{Answer, Certificate, Cycle, Refusal, IsAnswerOn, IsAnswer}
 use Rattle.adya_audit.proofs.Counts.{none_contained, Contains-head, Contains-cons, list_any_source, count_positive}
 use Rattle.adya_audit.proofs.Counts.{commits_txn, positive_passes}
 use Rattle.adya_audit.proofs.Listing.{count}

@@ -5,10 +5,10 @@ use Rattle.std.specs.List.{list_all, list_any, Contains}
 use Rattle.std.proofs.lemmas.Bool.{cases_Bool, cases_eq, cases_lt, eqb-true, eq-eqb, ne_eqb, and_parts, and_from}
 use Rattle.std.proofs.lemmas.Bool.{or_cases, or_left, or_right, false_from_ne_true}
 use Rattle.std.proofs.lemmas.Option.{slice_get_within, get_or_from_slice_get}
-use Rattle.adya_terms.specs.Histories.{Event, Write, Delete, Read, Scan, Commit, Abort}
-use Rattle.adya_terms.specs.Events.{txn_of, commits, is_committed}
-use Rattle.adya_terms.specs.Faults.{lists_exactly}
-use Rattle.adya_audit.specs.Listed.{commit_passes}
+use Rattle.adya_values.specs.Meaning.Histories.{Event, Write, Delete, Read, Scan, Commit, Abort}
+use Rattle.adya_values.specs.Meaning.Events.{txn_of, commits, is_committed}
+use Rattle.adya_values.specs.Computing.Faults.{lists_exactly}
+use Rattle.adya_audit.specs.Machinery.Listed.{commit_passes}
 use Rattle.adya_audit.proofs.Listing.{count, count-cons}
 
 pub none_contained : {X : Type 0} (x : X) → Contains [] x → ⊥

@@ -2,7 +2,7 @@
 use Rattle.std.proofs.Common.{◌≡◌, ℕ, List, Option, Result, Ok, Err, subst}
 use Rattle.std.specs.Prelude.{OnOk}
 use Rattle.std.specs.Io.KnownBytes.{Appends}
-use Rattle.adya_line.specs.Growing.{Grows}
+use Rattle.adya_line.specs.Machinery.Growing.{Grows}
 
 -- the same bytes, told otherwise
 pub told : {a b : Option (List ℕ)} {x y : List ℕ} → x ≡ y → Grows a x b → Grows a y b

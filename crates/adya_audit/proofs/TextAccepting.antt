@@ -3,21 +3,21 @@ use Rattle.std.proofs.Common.{◌≡◌, ◌↔◌, ℕ, ◌<◌, ◌==◌, true
 use Rattle.std.proofs.Common.{refl, sym, ◌∙◌, ap, subst, not, arith}
 use Rattle.std.specs.List.{AllByRecursion, list_all}
 use Rattle.std.proofs.lemmas.Bool.{and_from}
-use Rattle.adya_terms.specs.Histories.{History, Order}
-use Rattle.adya_terms.specs.Shapes.{is_shape}
-use Rattle.adya_terms.specs.Acceptance.{IsAccepted}
-use Rattle.adya_line.specs.Limits.{IsOrder}
+use Rattle.adya_values.specs.Meaning.Histories.{History, Order}
+use Rattle.adya_values.specs.Meaning.Shapes.{is_shape}
+use Rattle.adya_values.specs.Meaning.Acceptance.{IsAccepted}
+use Rattle.adya_line.specs.Meaning.Limits.{IsOrder}
 use Rattle.adya_text.specs.declared.read_fault.Text.TheVariants as Of
-use Rattle.adya_text.specs.Texts.{IsHistory, history_lines, serial_lines, AreHistoryLines, AreSerialLines}
-use Rattle.adya_text.specs.Faults.{IsFaultLine}
-use Rattle.adya_text.specs.Laws.{HistoriesDiffer, SerialsDiffer, HasNoFaultWithin}
+use Rattle.adya_text.specs.Meaning.Texts.{IsHistory, history_lines, serial_lines, AreHistoryLines, AreSerialLines}
+use Rattle.adya_text.specs.Meaning.Faults.{IsFaultLine}
+use Rattle.adya_text.specs.Meaning.Laws.{HistoriesDiffer, SerialsDiffer, HasNoFaultWithin}
 use Rattle.adya_audit.specs.declared.verdict.Verdict.{Verdict as VerdictValue}
 use Rattle.adya_audit.specs.declared.verdict.Verdict.TheVariants as Said
-use Rattle.adya_audit.specs.Verdicts.{Verdict, Yes, Syntax, Malformed, AbortedRead, IntermediateRead, NotTheCommitted}
-use Rattle.adya_audit.specs.Verdicts.{Backward, plain_verdict}
-use Rattle.adya_audit.specs.Laws.{YesWhereAccepted, AcceptedIsSerializable}
-use Rattle.adya_audit.specs.TextVerdicts.{IsTextOf, IsSerialTextOf, HaveVerdict, IsVerdictOn, AreAccepted}
-use Rattle.adya_audit.specs.TextLaws.{YesWhereTextsAccepted, AcceptedTextsAreSerializable}
+use Rattle.adya_audit.specs.Meaning.Verdicts.{Verdict, Yes, Syntax, Malformed, AbortedRead, IntermediateRead, NotTheCommitted}
+use Rattle.adya_audit.specs.Meaning.Verdicts.{Backward, plain_verdict}
+use Rattle.adya_audit.specs.Meaning.Laws.{YesWhereAccepted, AcceptedIsSerializable}
+use Rattle.adya_audit.specs.Meaning.TextVerdicts.{IsTextOf, IsSerialTextOf, HaveVerdict, IsVerdictOn, AreAccepted}
+use Rattle.adya_audit.specs.Meaning.TextLaws.{YesWhereTextsAccepted, AcceptedTextsAreSerializable}
 use Rattle.adya_audit.proofs.Accepting.{plain_yes}
 
 has_writer : (n : ℕ) → 0 < n → not (n == 0) ≡ true

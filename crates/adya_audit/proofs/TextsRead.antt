@@ -2,27 +2,27 @@
 use Rattle.std.proofs.Common.{◌≡◌, ℕ, Bool, true, false, cond, List, [], ◌++◌, Option, Some, None, IfSome, Ok}
 use Rattle.std.proofs.Common.{Err, subst}
 use Rattle.std.specs.Io.KnownBytes.{prepend_known}
-use Rattle.adya_terms.specs.declared.fault.CheckFault.{CheckFault}
-use Rattle.adya_terms.specs.declared.fault.CheckFault.TheVariants as Checked
-use Rattle.adya_terms.specs.declared.history.History.{History}
-use Rattle.adya_terms.specs.declared.serial.Serial.{Serial}
-use Rattle.adya_terms.specs.Histories.{History as Plain}
-use Rattle.adya_terms.specs.Edges.{Edge}
-use Rattle.adya_terms.specs.Values.{history_of}
-use Rattle.adya_terms.specs.Faults.{first_fault}
-use Rattle.adya_terms.specs.Certificates.{lists_the_committed, first_backward}
+use Rattle.adya_values.specs.declared.fault.CheckFault.{CheckFault}
+use Rattle.adya_values.specs.declared.fault.CheckFault.TheVariants as Checked
+use Rattle.adya_values.specs.declared.history.History.{History}
+use Rattle.adya_values.specs.declared.serial.Serial.{Serial}
+use Rattle.adya_values.specs.Meaning.Histories.{History as Plain}
+use Rattle.adya_values.specs.Meaning.Edges.{Edge}
+use Rattle.adya_values.specs.Meaning.Values.{history_of}
+use Rattle.adya_values.specs.Computing.Faults.{first_fault}
+use Rattle.adya_values.specs.Computing.Certificates.{lists_the_committed, first_backward}
 use Rattle.adya_text.specs.declared.read_fault.ReadFault.TheVariants.{Syntax}
 use Rattle.adya_text.specs.declared.read_fault.Text.{Text}
 use Rattle.adya_text.specs.declared.read_fault.Text.TheVariants as Of
-use Rattle.adya_text.specs.Texts.{AreHistoryLines}
-use Rattle.adya_text.specs.Faults.{IsFaultLine}
-use Rattle.adya_text.specs.Streams.{history_part, serial_part}
-use Rattle.adya_text.specs.HistoryReaders.{ReadsHistory}
-use Rattle.adya_text.specs.SerialReaders.{ReadsSerial}
-use Rattle.adya_audit.specs.Verdicts.{Verdict, Yes, Malformed, AbortedRead, IntermediateRead, NotTheCommitted, Backward}
-use Rattle.adya_audit.specs.Verdicts.{edge_verdict, fault_verdict, verdict_of}
-use Rattle.adya_audit.specs.Verdicts as Said
-use Rattle.adya_audit.specs.TextVerdicts.{IsTextOf, IsSerialTextOf, HaveVerdict, IsVerdictOn, IsVerdictOnStream}
+use Rattle.adya_text.specs.Meaning.Texts.{AreHistoryLines}
+use Rattle.adya_text.specs.Meaning.Faults.{IsFaultLine}
+use Rattle.adya_text.specs.Meaning.Streams.{history_part, serial_part}
+use Rattle.adya_text.specs.Machinery.HistoryReaders.{ReadsHistory}
+use Rattle.adya_text.specs.Machinery.SerialReaders.{ReadsSerial}
+use Rattle.adya_audit.specs.Meaning.Verdicts.{Verdict, Yes, Malformed, AbortedRead, IntermediateRead, NotTheCommitted, Backward}
+use Rattle.adya_audit.specs.Meaning.Verdicts.{edge_verdict, fault_verdict, verdict_of}
+use Rattle.adya_audit.specs.Meaning.Verdicts as Said
+use Rattle.adya_audit.specs.Meaning.TextVerdicts.{IsTextOf, IsSerialTextOf, HaveVerdict, IsVerdictOn, IsVerdictOnStream}
 
 -- a syntax fault of a reader is of the text that it reads
 pub history_fault : (h : List ℕ) (text : Text) (line : ℕ) → ReadsHistory h (Err (Syntax text line))

@@ -2,15 +2,17 @@
 
 ghost use Rattle.std.specs.Prelude.{◌≡◌, true, IfOk, OnOk, IsErr};
 ghost use Rattle.std.specs.Io.KnownBytes.{Appends};
-ghost use Rattle.adya_terms.specs.Values.{history_of};
-ghost use Rattle.adya_terms.specs.Watched.{has_failed, watched_contents};
-ghost use Rattle.adya_audit.specs.Answers.{Tells, IsAnswerOn, answer_of, answer_text};
+ghost use Rattle.adya_values.specs.Meaning.Values.{history_of};
+ghost use Rattle.devices.specs.Meaning.Watched.{has_failed, watched_contents};
+ghost use Rattle.adya_audit.specs.Meaning.Answers.{Tells, IsAnswerOn, answer_of, answer_text};
 
 use crate::auditor::refusal;
 use crate::cycle::write_cycle;
 use crate::{Edge, Ordered, Verdict, WriteFault, write_verdict};
 use adya_dsg::{Found, order};
-use adya_terms::{Checked, History, Serial, Watched};
+use adya_terms::Checked;
+use adya_values::{History, Serial};
+use devices::Watched;
 use adya_text::write_serial;
 use std::alloc::{AllocError, Global};
 use std::io::Write;

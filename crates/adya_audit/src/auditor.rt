@@ -1,15 +1,16 @@
 //! The verdict on a history and a certificate.
 
 ghost use Rattle.std.specs.Prelude.{◌≡◌, ◌↔◌, IfOk};
-ghost use Rattle.adya_terms.specs.Values.{history_of};
-ghost use Rattle.adya_terms.specs.Acceptance.{IsAccepted};
-ghost use Rattle.adya_audit.specs.Verdicts.{plain_verdict, Refuses, verdict_of};
-ghost use Rattle.adya_audit.specs.Laws.{IsSerializableBy};
+ghost use Rattle.adya_values.specs.Meaning.Values.{history_of};
+ghost use Rattle.adya_values.specs.Meaning.Acceptance.{IsAccepted};
+ghost use Rattle.adya_audit.specs.Meaning.Verdicts.{plain_verdict, Refuses, verdict_of};
+ghost use Rattle.adya_audit.specs.Meaning.Laws.{IsSerializableBy};
 
 use crate::Verdict;
 use crate::judge::judge;
 use crate::laws::{accepted_is_serializable, yes_where_accepted};
-use adya_terms::{CheckFault, Checked, History, Serial};
+use adya_terms::Checked;
+use adya_values::{CheckFault, History, Serial};
 use std::alloc::{AllocError, Global};
 
 /// The verdict on a history and a certificate: the first fault of the history, in the order of the kinds, else that

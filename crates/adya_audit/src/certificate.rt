@@ -4,13 +4,14 @@ ghost use Rattle.std.specs.Prelude.{◌≡◌, ◌<◌, ◌==◌, ℕ, IfOk, Mat
 ghost use Rattle.std.specs.List.{list_all};
 ghost use Rattle.std.specs.Ordering.{nat_cmp};
 ghost use Rattle.std.specs.BTreeSet.{contains};
-ghost use Rattle.adya_terms.specs.Histories.{event_of};
-ghost use Rattle.adya_terms.specs.Events.{is_committed};
-ghost use Rattle.adya_terms.specs.Values.{history_of};
-ghost use Rattle.adya_terms.specs.Certificates.{lists_the_committed};
-ghost use Rattle.adya_audit.specs.Listed.{StandOnce, commit_passes};
+ghost use Rattle.adya_values.specs.Meaning.Histories.{event_of};
+ghost use Rattle.adya_values.specs.Meaning.Events.{is_committed};
+ghost use Rattle.adya_values.specs.Meaning.Values.{history_of};
+ghost use Rattle.adya_values.specs.Computing.Certificates.{lists_the_committed};
+ghost use Rattle.adya_audit.specs.Machinery.Listed.{StandOnce, commit_passes};
 
-use adya_terms::{Checked, Event, Txn};
+use adya_terms::Checked;
+use adya_values::{Event, Txn};
 use std::alloc::{AllocError, Global};
 use std::collections::BTreeSet;
 

@@ -2,15 +2,15 @@
 
 ghost use Rattle.std.specs.Prelude.{◌≡◌, ◌++◌, OnOk, IsErr, map, true};
 ghost use Rattle.std.specs.Io.KnownBytes.{Appends};
-ghost use Rattle.adya_terms.specs.Watched.{has_failed, watched_contents};
-ghost use Rattle.adya_line.specs.Growing.{Grows};
-ghost use Rattle.adya_text.specs.Texts.{with_ends};
-ghost use Rattle.adya_dsg.specs.Values.{edge_of};
-ghost use Rattle.adya_audit.specs.Output.{edge_text, cycle_text};
+ghost use Rattle.devices.specs.Meaning.Watched.{has_failed, watched_contents};
+ghost use Rattle.adya_line.specs.Machinery.Growing.{Grows};
+ghost use Rattle.adya_text.specs.Meaning.Texts.{with_ends};
+ghost use Rattle.adya_dsg.specs.Meaning.Values.{edge_of};
+ghost use Rattle.adya_audit.specs.Meaning.Output.{edge_text, cycle_text};
 
 use crate::writing::{put, put_edge, put_number};
 use crate::{Edge, WriteFault};
-use adya_terms::Watched;
+use devices::Watched;
 use std::io;
 use std::io::Write;
 

@@ -1,13 +1,14 @@
 //! The verdict on a certificate.
 
 ghost use Rattle.std.specs.Prelude.{◌≡◌, IfOk};
-ghost use Rattle.adya_terms.specs.Values.{history_of};
-ghost use Rattle.adya_audit.specs.Verdicts.{plain_verdict, certificate_verdict};
+ghost use Rattle.adya_values.specs.Meaning.Values.{history_of};
+ghost use Rattle.adya_audit.specs.Meaning.Verdicts.{plain_verdict, certificate_verdict};
 
 use crate::Verdict;
 use crate::certificate::lists_the_committed;
 use adya_dsg::first_backward;
-use adya_terms::{Checked, Serial};
+use adya_terms::Checked;
+use adya_values::Serial;
 use std::alloc::{AllocError, Global};
 
 /// The verdict on a certificate of a checked history: yes, not the committed, or the first edge that goes backward.

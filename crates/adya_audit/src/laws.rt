@@ -1,7 +1,7 @@
 //! What a yes says: laws of the definitions, each the contract of a function that does nothing.
 
-ghost use Rattle.adya_audit.specs.Laws.{YesWhereAccepted, AcceptedIsSerializable};
-ghost use Rattle.adya_audit.specs.TextLaws.{YesWhereTextsAccepted, AcceptedTextsAreSerializable};
+ghost use Rattle.adya_audit.specs.Meaning.Laws.{YesWhereAccepted, AcceptedIsSerializable};
+ghost use Rattle.adya_audit.specs.Meaning.TextLaws.{YesWhereTextsAccepted, AcceptedTextsAreSerializable};
 
 use adya_laws::{accepted_agrees, accepted_has_no_phenomenon, accepted_where_forward};
 use adya_terms::laws::checked_where_no_fault;

@@ -2,13 +2,13 @@
 
 ghost use Rattle.std.specs.Prelude.{◌≡◌, ◌≢◌, false, true, IfOk, IfErr, IfSome, OnOk, IsErrOf};
 ghost use Rattle.std.specs.Io.KnownBytes.{Appends};
-ghost use Rattle.adya_terms.specs.Watched.{has_failed, watched_remaining, watched_contents};
-ghost use Rattle.adya_audit.specs.Answers.{Answer as Plain, Tells, IsAnswer, answer_of, answer_text};
+ghost use Rattle.devices.specs.Meaning.Watched.{has_failed, watched_remaining, watched_contents};
+ghost use Rattle.adya_audit.specs.Meaning.Answers.{Answer as Plain, Tells, IsAnswer, answer_of, answer_text};
 
 use crate::answer::{Answer, answer_on, write_answer};
 use crate::laws::accepted_texts_are_serializable;
 use crate::{Ordered, RunFault, Text, Verdict};
-use adya_terms::Watched;
+use devices::Watched;
 use adya_text::laws::history_texts;
 use adya_text::{ReadFault, read_history_from};
 use std::alloc::Global;

@@ -2,14 +2,14 @@
 
 ghost use Rattle.std.specs.Prelude.{◌≡◌, ◌≢◌, ◌↔◌, false, true, IfOk, IfErr, IfSome, OnOk, IsErrOf};
 ghost use Rattle.std.specs.Io.KnownBytes.{Appends};
-ghost use Rattle.adya_terms.specs.Watched.{has_failed, watched_remaining, watched_contents};
-ghost use Rattle.adya_audit.specs.Verdicts.{plain_verdict};
-ghost use Rattle.adya_audit.specs.Output.{verdict_line};
-ghost use Rattle.adya_audit.specs.TextVerdicts.{IsVerdictOnStream, IsAcceptedStream, IsSerializableStream};
+ghost use Rattle.devices.specs.Meaning.Watched.{has_failed, watched_remaining, watched_contents};
+ghost use Rattle.adya_audit.specs.Meaning.Verdicts.{plain_verdict};
+ghost use Rattle.adya_audit.specs.Meaning.Output.{verdict_line};
+ghost use Rattle.adya_audit.specs.Meaning.TextVerdicts.{IsVerdictOnStream, IsAcceptedStream, IsSerializableStream};
 
 use crate::laws::{accepted_texts_are_serializable, yes_where_texts_accepted};
 use crate::{RunFault, Text, Verdict, audit, write_verdict};
-use adya_terms::Watched;
+use devices::Watched;
 use adya_text::{LineBuffer, ReadFault, read_history_part, read_serial_rest};
 use std::alloc::Global;
 use std::io::{Read, Write};

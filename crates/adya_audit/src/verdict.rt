@@ -1,7 +1,7 @@
 //! Verdicts.
 
 use crate::{Edge, Text};
-use adya_terms::{Rule, Version};
+use adya_values::{Rule, Version};
 
 /// What an auditor says: yes, or the first reason why not. Lines are those of a text, from 1.
 #[derive(Clone, Copy)]

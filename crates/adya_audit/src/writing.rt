@@ -2,15 +2,16 @@
 
 ghost use Rattle.std.specs.Prelude.{◌≡◌, ◌++◌, OnOk, IsErr, codes, decimal, true};
 ghost use Rattle.std.specs.Io.KnownBytes.{Appends};
-ghost use Rattle.adya_terms.specs.Watched.{has_failed, watched_contents};
-ghost use Rattle.adya_dsg.specs.Values.{kind_of, edge_of};
-ghost use Rattle.adya_audit.specs.Verdicts.{plain_verdict};
-ghost use Rattle.adya_line.specs.Growing.{Grows};
-ghost use Rattle.adya_line.specs.Spelling.{version_text};
-ghost use Rattle.adya_audit.specs.Output.{text_name, rule_name, kind_name, edge_text, verdict_text, verdict_line};
+ghost use Rattle.devices.specs.Meaning.Watched.{has_failed, watched_contents};
+ghost use Rattle.adya_dsg.specs.Meaning.Values.{kind_of, edge_of};
+ghost use Rattle.adya_audit.specs.Meaning.Verdicts.{plain_verdict};
+ghost use Rattle.adya_line.specs.Machinery.Growing.{Grows};
+ghost use Rattle.adya_line.specs.Meaning.Spelling.{version_text};
+ghost use Rattle.adya_audit.specs.Meaning.Output.{text_name, rule_name, kind_name, edge_text, verdict_text, verdict_line};
 
 use crate::{Edge, Kind, Text, Verdict, WriteFault};
-use adya_terms::{Rule, Version, Watched};
+use adya_values::{Rule, Version};
+use devices::Watched;
 use itoa::Buffer;
 use std::io;
 use std::io::Write;

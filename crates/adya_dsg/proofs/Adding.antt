@@ -3,14 +3,14 @@ use Rattle.std.proofs.Common.{◌≡◌, ◌==◌, Bool, true, false, cond, ◌&
 use Rattle.std.specs.List.{list_any}
 use Rattle.std.proofs.lemmas.List.{map-append}
 use denote.Enum.Bare.{sameb}
-use Rattle.adya_terms.specs.Keys.{key_eq}
-use Rattle.adya_terms.specs.EdgeList.{kind_eq, edge_eq, with_edge}
+use Rattle.adya_values.specs.Meaning.Keys.{key_eq}
+use Rattle.adya_values.specs.Computing.EdgeList.{kind_eq, edge_eq, with_edge}
 use Rattle.adya_dsg.specs.declared.edge.Kind.{Kind as KindValue}
 use Rattle.adya_dsg.specs.declared.edge.Kind.TheVariants as In
 use Rattle.adya_dsg.specs.declared.edge.Edge.{Edge as EdgeValue}
 use Rattle.adya_dsg.specs.contracts.edge.Kind.{the_type}
 use Rattle.adya_dsg.specs.contracts.edge.EdgePartialEq.TheImpl.{eq-value}
-use Rattle.adya_dsg.specs.Values.{kind_of, edge_of}
+use Rattle.adya_dsg.specs.Meaning.Values.{kind_of, edge_of}
 
 kinds_are : (k j : KindValue) → sameb the_type k j ≡ kind_eq (kind_of k) (kind_of j)
 kinds_are In.Ww In.Ww = refl

@@ -4,24 +4,24 @@ use Rattle.std.specs.declared.alloc.AllocError.{AllocError}
 use Rattle.std.specs.List.{list_any, AllByRecursion}
 use Rattle.std.proofs.lemmas.List.{get_or-map, length-map}
 use Rattle.std.proofs.lemmas.List.Elements.{All-from_recursion, All-contains}
-use Rattle.adya_terms.specs.Histories.{History}
-use Rattle.adya_terms.specs.Events.{is_committed}
-use Rattle.adya_terms.specs.EdgeList.{edge_list}
-use Rattle.adya_terms.specs.Edges.{Kind, Ww, Wr, Rw, Edge, IsEdge, IsPath, IsCycle}
-use Rattle.adya_terms.specs.Phenomena.{HasG1c, HasG2}
-use Rattle.adya_terms.specs.Acceptance.{IsChecked, IsAccepted}
-use Rattle.adya_laws.specs.Laws.{EdgeListIsExact, AcceptedHasNoPhenomenon}
+use Rattle.adya_values.specs.Meaning.Histories.{History}
+use Rattle.adya_values.specs.Meaning.Events.{is_committed}
+use Rattle.adya_values.specs.Computing.EdgeList.{edge_list}
+use Rattle.adya_values.specs.Meaning.Edges.{Kind, Ww, Wr, Rw, Edge, IsEdge, IsPath, IsCycle}
+use Rattle.adya_values.specs.Meaning.Phenomena.{HasG1c, HasG2}
+use Rattle.adya_values.specs.Meaning.Acceptance.{IsChecked, IsAccepted}
+use Rattle.adya_laws.specs.Meaning.Laws.{EdgeListIsExact, AcceptedHasNoPhenomenon}
 use Rattle.adya_dsg.specs.declared.arc.Arc.{Arc}
-use Rattle.adya_dsg.specs.Arcs.{ends, AreEnds, Decide}
-use Rattle.adya_dsg.specs.Graphs.{HasEnds, IsTopologicalOrder, IsWay, IsCycleIn}
-use Rattle.adya_dsg.specs.Nodes.{committed}
+use Rattle.adya_dsg.specs.Machinery.Arcs.{ends, AreEnds, Decide}
+use Rattle.adya_dsg.specs.Meaning.Graphs.{HasEnds, IsTopologicalOrder, IsWay, IsCycleIn}
+use Rattle.adya_dsg.specs.Machinery.Nodes.{committed}
 use Rattle.adya_dsg.specs.declared.edge.Edge.{Edge as EdgeValue}
-use Rattle.adya_dsg.specs.Along.{first_along}
+use Rattle.adya_dsg.specs.Machinery.Along.{first_along}
 use Rattle.adya_dsg.specs.declared.found.Found.{Found}
 use Rattle.adya_dsg.specs.declared.found.Found.TheVariants.{Serial, Cycle}
-use Rattle.adya_dsg.specs.Values.{edge_of}
-use Rattle.adya_dsg.specs.Found.{IsFound, NoneBesideCycle}
-use Rattle.adya_dsg.specs.Laws.{CycleExcludesCertificates, EdgesJoinCommitted, CertifiedWhereNoPhenomenon}
+use Rattle.adya_dsg.specs.Meaning.Values.{edge_of}
+use Rattle.adya_dsg.specs.Meaning.Found.{IsFound, NoneBesideCycle}
+use Rattle.adya_dsg.specs.Meaning.Laws.{CycleExcludesCertificates, EdgesJoinCommitted, CertifiedWhereNoPhenomenon}
 use Rattle.adya_dsg.proofs.Ends.{ends_equal}
 use Rattle.adya_dsg.proofs.FirstAlong.{first_edges_along}
 use Rattle.adya_dsg.proofs.Existence.{sorted_or_cyclic}

@@ -3,14 +3,14 @@ use Rattle.std.proofs.Common.{◌≡◌, ◌≢◌, ℕ, zero, suc, ◌+◌, ◌
 use Rattle.std.specs.List.{find, flat_map, Contains}
 use Rattle.std.proofs.lemmas.Bool.{cases_Bool, cases_eq, eq-eqb, ne_eqb, both_ways}
 use Rattle.std.proofs.lemmas.Option.{none-some, same_Some, slice_get_within, slice_get-get_or}
-use Rattle.adya_terms.specs.declared.order.Order.{Order as OrderValue}
-use Rattle.adya_terms.specs.Keys.{keys_rise}
-use Rattle.adya_terms.specs.Histories.{Order, History, order_of}
-use Rattle.adya_terms.specs.Orders.{writers, line_of, installer}
-use Rattle.adya_terms.specs.Edges.{Kind, Ww, Edge}
-use Rattle.adya_terms.specs.EdgeList.{numbers, places, joined, write_edges}
-use Rattle.adya_terms.specs.Acceptance.{IsBefore}
-use Rattle.adya_dsg.specs.Dependencies.{line_edges}
+use Rattle.adya_values.specs.declared.order.Order.{Order as OrderValue}
+use Rattle.adya_values.specs.Meaning.Keys.{keys_rise}
+use Rattle.adya_values.specs.Meaning.Histories.{Order, History, order_of}
+use Rattle.adya_values.specs.Meaning.Orders.{writers, line_of, installer}
+use Rattle.adya_values.specs.Meaning.Edges.{Kind, Ww, Edge}
+use Rattle.adya_values.specs.Computing.EdgeList.{numbers, places, joined, write_edges}
+use Rattle.adya_values.specs.Meaning.Acceptance.{IsBefore}
+use Rattle.adya_dsg.specs.Computing.Dependencies.{line_edges}
 use Rattle.adya_dsg.proofs.Keys.{line_of-at}
 use Rattle.adya_dsg.proofs.Containing.{none_contained, Contains-cons, Contains-flat_map}
 

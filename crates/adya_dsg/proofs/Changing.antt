@@ -2,11 +2,11 @@
 use Rattle.std.proofs.Common.{◌≡◌, ℕ, suc, ◌+◌, ◌<◌, Bool, true, false, cond, not, List, [], ◌∷◌, ◌++◌, length, get_or, drop, Some, is_some, filter, slice_get, refl, sym, ◌∙◌, ap, arith, append_assoc}
 use Rattle.std.proofs.lemmas.Option.{slice_get_read}
 use mathlib.Core.Bool.{beq}
-use Rattle.adya_terms.specs.Histories.{History}
-use Rattle.adya_terms.specs.Events.{last_write, shown}
-use Rattle.adya_terms.specs.Orders.{writers, installer, value_by, is_visible_at}
-use Rattle.adya_terms.specs.Selections.{differ, changes_matches}
-use Rattle.adya_terms.specs.EdgeList.{numbers}
+use Rattle.adya_values.specs.Meaning.Histories.{History}
+use Rattle.adya_values.specs.Meaning.Events.{last_write, shown}
+use Rattle.adya_values.specs.Meaning.Orders.{writers, installer, value_by, is_visible_at}
+use Rattle.adya_values.specs.Meaning.Selections.{differ, changes_matches}
+use Rattle.adya_values.specs.Computing.EdgeList.{numbers}
 use Rattle.adya_dsg.proofs.Steps.{drop_step}
 
 differ_is : (a b : Bool) → not (beq a b) ≡ differ a b

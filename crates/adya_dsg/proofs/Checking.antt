@@ -1,9 +1,9 @@
 -- What each event of a checked history has.
 use Rattle.std.proofs.Common.{◌≡◌, zero, suc, true, List, [], ◌∷◌, ◌++◌, Option, Some, None, is_none, refl, subst, arith}
 use Rattle.std.specs.List.{Contains}
-use Rattle.adya_terms.specs.Histories.{Event, History}
-use Rattle.adya_terms.specs.Rules.{EachAfter, IsRising}
-use Rattle.adya_terms.specs.Acceptance.{IsChecked}
+use Rattle.adya_values.specs.Meaning.Histories.{Event, History}
+use Rattle.adya_values.specs.Meaning.Rules.{EachAfter, IsRising}
+use Rattle.adya_values.specs.Meaning.Acceptance.{IsChecked}
 use Rattle.adya_dsg.proofs.Members.{none_contained}
 
 pub none_from : {X : Type 0} (o : Option X) → is_none o ≡ true → o ≡ None

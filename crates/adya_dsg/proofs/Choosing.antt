@@ -2,11 +2,11 @@
 use Rattle.std.proofs.Common.{◌≡◌, ℕ, List, [], ◌∷◌, ◌++◌, Option, Some, None, option_map, flat_map, refl, sym, ◌∙◌, ap}
 use Rattle.std.specs.List.{filter_map, cons_option}
 use Rattle.std.proofs.lemmas.Option.{same_Some, none-some}
-use Rattle.adya_terms.specs.Histories.{Event, Order, History}
-use Rattle.adya_terms.specs.Selections.{selected}
-use Rattle.adya_terms.specs.EdgeList.{place_edges, event_edges}
-use Rattle.adya_dsg.specs.Choices.{Choice, choice, choices}
-use Rattle.adya_dsg.specs.Dependencies.{choice_edges}
+use Rattle.adya_values.specs.Meaning.Histories.{Event, Order, History}
+use Rattle.adya_values.specs.Meaning.Selections.{selected}
+use Rattle.adya_values.specs.Computing.EdgeList.{place_edges, event_edges}
+use Rattle.adya_dsg.specs.Computing.Choices.{Choice, choice, choices}
+use Rattle.adya_dsg.specs.Computing.Dependencies.{choice_edges}
 
 one_choice : (h : History) (e : Event) (k : List ℕ) (s : Option ℕ) (cs : List Choice)
     → flat_map (choice_edges h e) (cons_option (option_map (choice k) s) cs)

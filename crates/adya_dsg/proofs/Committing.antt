@@ -3,13 +3,13 @@ use Rattle.std.proofs.Common.{◌≡◌, ℕ, zero, suc, ◌==◌, ◌<◌, true
 use Rattle.std.specs.List.{list_any, slice_get}
 use Rattle.std.proofs.lemmas.Bool.{cases_Bool, and_parts, cond-false}
 use Rattle.std.proofs.lemmas.List.Sums.{sum_by-cons}
-use Rattle.adya_terms.specs.Histories.{Event, Write, Delete, Read, Scan, Commit, Abort, History}
-use Rattle.adya_terms.specs.Events.{last_write, is_committed}
-use Rattle.adya_terms.specs.Orders.{writers, installer}
-use Rattle.adya_terms.specs.Edges.{Kind, Ww, Wr, Rw, Edge, IsEdge, Depends}
-use Rattle.adya_terms.specs.Rules.{installs}
-use Rattle.adya_terms.specs.Acceptance.{IsChecked}
-use Rattle.adya_dsg.specs.Nodes.{committed}
+use Rattle.adya_values.specs.Meaning.Histories.{Event, Write, Delete, Read, Scan, Commit, Abort, History}
+use Rattle.adya_values.specs.Meaning.Events.{last_write, is_committed}
+use Rattle.adya_values.specs.Meaning.Orders.{writers, installer}
+use Rattle.adya_values.specs.Meaning.Edges.{Kind, Ww, Wr, Rw, Edge, IsEdge, Depends}
+use Rattle.adya_values.specs.Meaning.Rules.{installs}
+use Rattle.adya_values.specs.Meaning.Acceptance.{IsChecked}
+use Rattle.adya_dsg.specs.Machinery.Nodes.{committed}
 use Rattle.adya_dsg.proofs.Counts.{count, count_same}
 
 -- the list of the committed transactions has those that are committed

@@ -5,10 +5,10 @@ use Rattle.std.proofs.lemmas.List.Sums.{sum_by-append, sum_by-cons}
 use Rattle.std.proofs.Common.{Contains, true≢false}
 use Rattle.std.specs.List.{list_any}
 use Rattle.std.specs.Ordering.{nat_cmp, is_eq}
-use Rattle.adya_terms.specs.Orders.{place}
-use Rattle.adya_terms.specs.Acceptance.{IsBefore}
+use Rattle.adya_values.specs.Meaning.Orders.{place}
+use Rattle.adya_values.specs.Meaning.Acceptance.{IsBefore}
 use Rattle.adya_dsg.specs.declared.arc.Arc.{Arc}
-use Rattle.adya_dsg.specs.Graphs.{HasEnds, IsTopologicalOrder}
+use Rattle.adya_dsg.specs.Meaning.Graphs.{HasEnds, IsTopologicalOrder}
 use Rattle.adya_dsg.proofs.Sets.{updated_here, updated_apart}
 
 abbrev pub count : List ℕ → ℕ → ℕ

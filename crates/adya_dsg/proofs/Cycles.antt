@@ -1,10 +1,10 @@
 -- Along a path of forward edges the place in a list rises, so it has no cycle.
 use Rattle.std.proofs.Common.{◌≡◌, ℕ, ◌≤◌, List, [], ◌∷◌, ap, arith}
 use Rattle.std.specs.List.{AllByRecursion}
-use Rattle.adya_terms.specs.Histories.{History}
-use Rattle.adya_terms.specs.Orders.{place}
-use Rattle.adya_terms.specs.Edges.{Edge, IsEdge, IsPath, IsCycle}
-use Rattle.adya_terms.specs.Acceptance.{IsBefore}
+use Rattle.adya_values.specs.Meaning.Histories.{History}
+use Rattle.adya_values.specs.Meaning.Orders.{place}
+use Rattle.adya_values.specs.Meaning.Edges.{Edge, IsEdge, IsPath, IsCycle}
+use Rattle.adya_values.specs.Meaning.Acceptance.{IsBefore}
 
 module _ (h : History) (ts : List ℕ) (forward : (e : Edge) → IsEdge h e → IsBefore ts e.from e.to) where
   path_rises : (es : List Edge) (a b : ℕ) → AllByRecursion (IsEdge h) es → IsPath a es b → place ts a ≤ place ts b

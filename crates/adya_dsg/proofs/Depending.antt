@@ -2,15 +2,15 @@
 use Rattle.std.proofs.Common.{◌≡◌, ℕ, zero, suc, ◌+◌, ◌==◌, ◌<◌, ◌≤◌, Bool, true, false, cond, not, ◌&&◌, ◌||◌, nat_lt, List, [], ◌++◌, length, Option, Some, None, filter, find, flat_map, refl, sym, ◌∙◌, ap, arith, inl, inr}
 use Rattle.std.proofs.lemmas.Bool.{cases_lt, eq-eqb, ne_eqb, lt-ltb, le-ltb}
 use Rattle.std.proofs.lemmas.Option.{slice_get_past}
-use Rattle.adya_terms.specs.Histories.{Event, History}
-use Rattle.adya_terms.specs.Events.{txn_of}
-use Rattle.adya_terms.specs.Orders.{writers, installer, is_visible_at}
-use Rattle.adya_terms.specs.Selections.{is_scan, changes_matches, reads_from, overwritten_by}
-use Rattle.adya_terms.specs.Edges.{Wr, Rw, Edge}
-use Rattle.adya_terms.specs.EdgeList.{places, joined, read_edges, overwrite_edges}
-use Rattle.adya_dsg.specs.Choices.{choice}
-use Rattle.adya_dsg.specs.Links.{changed_places, installer_at, overwriter, choice_links}
-use Rattle.adya_dsg.specs.Dependencies.{choice_edges}
+use Rattle.adya_values.specs.Meaning.Histories.{Event, History}
+use Rattle.adya_values.specs.Meaning.Events.{txn_of}
+use Rattle.adya_values.specs.Meaning.Orders.{writers, installer, is_visible_at}
+use Rattle.adya_values.specs.Meaning.Selections.{is_scan, changes_matches, reads_from, overwritten_by}
+use Rattle.adya_values.specs.Meaning.Edges.{Wr, Rw, Edge}
+use Rattle.adya_values.specs.Computing.EdgeList.{places, joined, read_edges, overwrite_edges}
+use Rattle.adya_dsg.specs.Computing.Choices.{choice}
+use Rattle.adya_dsg.specs.Computing.Links.{changed_places, installer_at, overwriter, choice_links}
+use Rattle.adya_dsg.specs.Computing.Dependencies.{choice_edges}
 use Rattle.adya_dsg.proofs.Ranges.{filter_same, filter_both, find_same, find_both, find_at_place, find_nowhere, none_pass, one_place, sources_from, overwriters_from}
 
 no_installer : (h : History) (k : List ℕ) (p : ℕ) → 1 + length (writers h k) ≤ p → installer h k p ≡ None

@@ -8,7 +8,7 @@ use Rattle.std.proofs.lemmas.List.Elements.{All-from_recursion}
 use Rattle.std.proofs.lemmas.List.Folds.{Any-from_list_any, list_any-from_Any}
 use Rattle.std.proofs.lemmas.Map.Views.{any-filter_same}
 use Rattle.adya_dsg.specs.declared.arc.Arc.{Arc}
-use Rattle.adya_dsg.specs.Graphs.{HasEnds, IsTopologicalOrder, IsWay, IsCycleIn}
+use Rattle.adya_dsg.specs.Meaning.Graphs.{HasEnds, IsTopologicalOrder, IsWay, IsCycleIn}
 use Rattle.adya_dsg.proofs.Counts.{Places, nothing_placed, one_placed, all_placed}
 use Rattle.adya_dsg.proofs.Paths.{cycle_of}
 use Rattle.adya_dsg.proofs.Sets.{is_eq_nat}

@@ -7,12 +7,12 @@ use Rattle.std.specs.Ordering.{is_eq, nat_cmp, ordering_then}
 use Rattle.std.proofs.lemmas.Bool.{cases_Bool, and_parts, and_from, eq-eqb, eqb-true, both_ways}
 use Rattle.std.proofs.lemmas.List.{take_more, map-append}
 use Rattle.std.proofs.lemmas.List.Folds.{find-append, list_any-from_Any}
-use Rattle.adya_terms.specs.Edges.{Edge as Plain}
+use Rattle.adya_values.specs.Meaning.Edges.{Edge as Plain}
 use Rattle.adya_dsg.specs.declared.arc.Arc.{Arc}
 use Rattle.adya_dsg.specs.declared.edge.Edge.{Edge}
-use Rattle.adya_dsg.specs.Along.{joins, first_along, ends_cmp}
-use Rattle.adya_dsg.specs.Arcs.{ends}
-use Rattle.adya_dsg.specs.Values.{edge_of}
+use Rattle.adya_dsg.specs.Machinery.Along.{joins, first_along, ends_cmp}
+use Rattle.adya_dsg.specs.Machinery.Arcs.{ends}
+use Rattle.adya_dsg.specs.Meaning.Values.{edge_of}
 use Rattle.adya_dsg.proofs.Ends.{ends_equal}
 use Rattle.adya_dsg.proofs.Sets.{is_eq_nat}
 

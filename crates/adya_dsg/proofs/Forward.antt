@@ -5,27 +5,27 @@ use Rattle.std.proofs.lemmas.Bool.{eq-eqb, eqb-true, lt-ltb, and_parts, and_from
 use Rattle.std.proofs.lemmas.Option.{none-some, same_Some}
 use Rattle.std.proofs.lemmas.List.{map-append}
 use Rattle.std.proofs.lemmas.List.Elements.{Contains-append_left, Contains-append_right, Contains-append_cases}
-use Rattle.adya_terms.specs.declared.history.History.{History as HistoryValue}
-use Rattle.adya_terms.specs.declared.order.Order.{Order as OrderValue}
-use Rattle.adya_terms.specs.Keys.{keys_rise}
-use Rattle.adya_terms.specs.Histories.{Event, Order, History, order_of, final_of}
-use Rattle.adya_terms.specs.Values.{history_of}
-use Rattle.adya_terms.specs.Shapes.{is_shape}
-use Rattle.adya_terms.specs.Events.{txn_of, is_committed}
-use Rattle.adya_terms.specs.Orders.{place, installer}
-use Rattle.adya_terms.specs.Selections.{is_scan, changes_matches, selected, reads_from, overwritten_by}
-use Rattle.adya_terms.specs.Edges.{Wr, Rw, Edge}
-use Rattle.adya_terms.specs.EdgeList.{places, joined, write_edges, read_edges, overwrite_edges, place_edges, event_edges, dependencies, edge_list}
-use Rattle.adya_terms.specs.Acceptance.{IsChecked, IsBefore}
-use Rattle.adya_terms.specs.Certificates.{first_backward}
-use Rattle.adya_laws.specs.Laws.{EdgeListKeepsFirst, SelectedIsInstalled}
+use Rattle.adya_values.specs.declared.history.History.{History as HistoryValue}
+use Rattle.adya_values.specs.declared.order.Order.{Order as OrderValue}
+use Rattle.adya_values.specs.Meaning.Keys.{keys_rise}
+use Rattle.adya_values.specs.Meaning.Histories.{Event, Order, History, order_of, final_of}
+use Rattle.adya_values.specs.Meaning.Values.{history_of}
+use Rattle.adya_values.specs.Meaning.Shapes.{is_shape}
+use Rattle.adya_values.specs.Meaning.Events.{txn_of, is_committed}
+use Rattle.adya_values.specs.Meaning.Orders.{place, installer}
+use Rattle.adya_values.specs.Meaning.Selections.{is_scan, changes_matches, selected, reads_from, overwritten_by}
+use Rattle.adya_values.specs.Meaning.Edges.{Wr, Rw, Edge}
+use Rattle.adya_values.specs.Computing.EdgeList.{places, joined, write_edges, read_edges, overwrite_edges, place_edges, event_edges, dependencies, edge_list}
+use Rattle.adya_values.specs.Meaning.Acceptance.{IsChecked, IsBefore}
+use Rattle.adya_values.specs.Computing.Certificates.{first_backward}
+use Rattle.adya_laws.specs.Meaning.Laws.{EdgeListKeepsFirst, SelectedIsInstalled}
 use Rattle.adya_dsg.specs.declared.arc.Arc.{Arc}
 use Rattle.adya_dsg.specs.declared.edge.Edge.{Edge as EdgeValue}
-use Rattle.adya_dsg.specs.Values.{edge_of}
-use Rattle.adya_dsg.specs.Choices.{Choice, choice, choices}
-use Rattle.adya_dsg.specs.Links.{installer_at, choice_links, event_links, links}
-use Rattle.adya_dsg.specs.Dependencies.{line_edges, is_backward}
-use Rattle.adya_dsg.specs.Arcs.{ends, AreEnds, Decide}
+use Rattle.adya_dsg.specs.Meaning.Values.{edge_of}
+use Rattle.adya_dsg.specs.Computing.Choices.{Choice, choice, choices}
+use Rattle.adya_dsg.specs.Computing.Links.{installer_at, choice_links, event_links, links}
+use Rattle.adya_dsg.specs.Computing.Dependencies.{line_edges, is_backward}
+use Rattle.adya_dsg.specs.Machinery.Arcs.{ends, AreEnds, Decide}
 use Rattle.adya_dsg.proofs.Containing.{none_contained, Contains-map, map-source, Contains-flat_map, flat_map-source, Contains-filter, filter-source, Contains-filter_map, filter_map-source, find_none, none_found, find-source, find_when}
 use Rattle.adya_dsg.proofs.Finding.{found_in_front, none_in_front}
 use Rattle.adya_dsg.proofs.Chains.{Contains-joined, joined_ends, first_of, installer_within, installer_there, Contains-places, before_later, earlier_before, write_edges_are}

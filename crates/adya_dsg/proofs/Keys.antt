@@ -4,9 +4,9 @@ use Rattle.std.specs.Cmp.{unsigned_Decides}
 use Rattle.std.specs.Cmp.Lexicographic.{pointwise_decides, nat_list_cmp_total}
 use Rattle.std.proofs.lemmas.Bool.{and_parts, and_from, false_from_ne_true, true≢false}
 use Rattle.std.proofs.lemmas.Cmp.{tied_itself}
-use Rattle.adya_terms.specs.Keys.{key_eq, key_lt, keys_rise}
-use Rattle.adya_terms.specs.Histories.{Order}
-use Rattle.adya_terms.specs.Orders.{line_of}
+use Rattle.adya_values.specs.Meaning.Keys.{key_eq, key_lt, keys_rise}
+use Rattle.adya_values.specs.Meaning.Histories.{Order}
+use Rattle.adya_values.specs.Meaning.Orders.{line_of}
 
 pub key_eq-true : (a b : List ℕ) → key_eq a b ≡ true → a ≡ b
 key_eq-true a b h = (pointwise_decides unsigned_Decides a b).0 h

@@ -1,12 +1,12 @@
 -- The write dependencies of an order line, by its writers and by the places of its versions.
 use Rattle.std.proofs.Common.{◌≡◌, ◌<◌, ℕ, zero, suc, true, List, [], ◌∷◌, ◌++◌, map, flat_map, length, get_or, slice_get, refl, sym, ◌∙◌, ap}
-use Rattle.adya_terms.specs.declared.order.Order.{Order as OrderValue}
-use Rattle.adya_terms.specs.Keys.{keys_rise}
-use Rattle.adya_terms.specs.Histories.{Order, History, order_of}
-use Rattle.adya_terms.specs.Orders.{line_of, writers, installer}
-use Rattle.adya_terms.specs.Edges.{Ww, Edge}
-use Rattle.adya_terms.specs.EdgeList.{numbers, joined, write_edges}
-use Rattle.adya_dsg.specs.Dependencies.{line_edges}
+use Rattle.adya_values.specs.declared.order.Order.{Order as OrderValue}
+use Rattle.adya_values.specs.Meaning.Keys.{keys_rise}
+use Rattle.adya_values.specs.Meaning.Histories.{Order, History, order_of}
+use Rattle.adya_values.specs.Meaning.Orders.{line_of, writers, installer}
+use Rattle.adya_values.specs.Meaning.Edges.{Ww, Edge}
+use Rattle.adya_values.specs.Computing.EdgeList.{numbers, joined, write_edges}
+use Rattle.adya_dsg.specs.Computing.Dependencies.{line_edges}
 use Rattle.adya_dsg.proofs.Keys.{line_of-at}
 
 flat_map-shift : {X : Type 0} (f : ℕ → List X) (a n : ℕ)

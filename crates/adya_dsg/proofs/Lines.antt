@@ -8,11 +8,11 @@ use Rattle.std.specs.Result.{result_ok}
 use Rattle.std.proofs.lemmas.Bool.{cases_eq, eq-eqb, ne_eqb}
 use Rattle.std.proofs.lemmas.Option.{slice_get-map, slice_get_read, slice_get-get_or}
 use Rattle.std.proofs.lemmas.Simd.{map-map}
-use Rattle.adya_terms.specs.declared.order.Order.{Order as OrderValue}
-use Rattle.adya_terms.specs.Keys.{key_lt, keys_rise}
-use Rattle.adya_terms.specs.Histories.{Order, order_of}
-use Rattle.adya_terms.specs.Orders.{place, line_of}
-use Rattle.adya_dsg.specs.Choices.{key_of}
+use Rattle.adya_values.specs.declared.order.Order.{Order as OrderValue}
+use Rattle.adya_values.specs.Meaning.Keys.{key_lt, keys_rise}
+use Rattle.adya_values.specs.Meaning.Histories.{Order, order_of}
+use Rattle.adya_values.specs.Meaning.Orders.{place, line_of}
+use Rattle.adya_dsg.specs.Computing.Choices.{key_of}
 use Rattle.adya_dsg.proofs.Keys.{line_of-at}
 use Rattle.adya_dsg.proofs.Searches.{tied_key, search_misses}
 

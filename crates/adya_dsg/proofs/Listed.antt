@@ -5,10 +5,10 @@ use Rattle.std.specs.Cmp.Lexicographic.{slice_cmp}
 use Rattle.std.specs.List.Sorted.{IsBinarySearchResult}
 use Rattle.std.proofs.lemmas.Bool.{false_from_ne_true}
 use Rattle.std.proofs.lemmas.Simd.{map-map}
-use Rattle.adya_terms.specs.declared.event.Entry.{Entry as EntryValue}
-use Rattle.adya_terms.specs.Keys.{key_eq, key_lt, keys_rise}
-use Rattle.adya_terms.specs.Histories.{Entry, entry_of}
-use Rattle.adya_terms.specs.Events.{listed}
+use Rattle.adya_values.specs.declared.event.Entry.{Entry as EntryValue}
+use Rattle.adya_values.specs.Meaning.Keys.{key_eq, key_lt, keys_rise}
+use Rattle.adya_values.specs.Meaning.Histories.{Entry, entry_of}
+use Rattle.adya_values.specs.Meaning.Events.{listed}
 use Rattle.adya_dsg.proofs.Keys.{key_eq-true, key_eq-refl, key_eq-lt, rise_tail}
 use Rattle.adya_dsg.proofs.Searches.{tied_key, rises_at, search_misses}
 

@@ -2,10 +2,10 @@
 use Rattle.std.proofs.Common.{◌≡◌, ℕ, ◌+◌, ◌<◌, List, [], ◌∷◌, ◌++◌, map, take, get_or, length, refl, sym, ◌∙◌, ap}
 use Rattle.std.proofs.lemmas.List.{take_more, map-append, append-nil}
 use Rattle.std.proofs.lemmas.List.Elements.{filter_map-append}
-use Rattle.adya_terms.specs.declared.event.Event.{Event as EventValue}
-use Rattle.adya_terms.specs.declared.event.Event.TheVariants as In
-use Rattle.adya_terms.specs.Histories.{event_of}
-use Rattle.adya_dsg.specs.Nodes.{committer, committed}
+use Rattle.adya_values.specs.declared.event.Event.{Event as EventValue}
+use Rattle.adya_values.specs.declared.event.Event.TheVariants as In
+use Rattle.adya_values.specs.Meaning.Histories.{event_of}
+use Rattle.adya_dsg.specs.Machinery.Nodes.{committer, committed}
 
 no_committer : (e : EventValue) → ((t : ℕ) → e ≡ In.Commit t → ⊥) → committed (event_of e ∷ []) ≡ []
 no_committer (In.Write u k m v) h = refl

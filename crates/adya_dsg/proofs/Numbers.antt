@@ -2,7 +2,7 @@
 use Rattle.std.proofs.Common.{◌≡◌, ℕ, zero, suc, ◌<◌, ◌≤◌, Bool, true, false, cond, nat_lt, leb, List, [], ◌∷◌, length, get_or, Some, slice_get, filter, find, refl, ◌∙◌, ap, arith}
 use Rattle.std.specs.List.Sorted.{IsNonDecreasingBy, IsPartitionPoint}
 use Rattle.std.proofs.lemmas.Bool.{leb-true, leb-false, le-ltb, lt-ltb}
-use Rattle.adya_terms.specs.EdgeList.{numbers}
+use Rattle.adya_values.specs.Computing.EdgeList.{numbers}
 
 -- each number of the list is at least this one
 abbrev AreAtLeast : ℕ → List ℕ → Type 0

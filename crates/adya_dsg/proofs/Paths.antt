@@ -4,7 +4,7 @@ use Rattle.std.proofs.lemmas.List.{reverse-append, take-append-drop}
 use Rattle.std.proofs.lemmas.List.Elements.{All-take, All-drop, All-append, All-weaker, All-from_recursion, recursion_from_All}
 use Rattle.std.proofs.lemmas.List.Sorted.{length_permutation, IsPermutation-append_comm}
 use Rattle.adya_dsg.specs.declared.arc.Arc.{Arc}
-use Rattle.adya_dsg.specs.Graphs.{IsWay, IsCycleIn}
+use Rattle.adya_dsg.specs.Meaning.Graphs.{IsWay, IsCycleIn}
 
 pub way_append : (xs ys : List Arc) (s t u : ℕ) → IsWay s xs t → IsWay t ys u → IsWay s (xs ++ ys) u
 way_append [] ys s t u p q = subst (λ x. IsWay x ys u) (sym p) q

@@ -4,10 +4,10 @@ use Rattle.std.specs.List.{list_any}
 use Rattle.std.proofs.lemmas.List.{map-append}
 use Rattle.std.proofs.lemmas.List.Sums.{fold-append}
 use Rattle.indexmap.specs.IndexSet.{insert_key}
-use Rattle.adya_terms.specs.Keys.{key_eq}
-use Rattle.adya_terms.specs.Edges.{Edge}
-use Rattle.adya_terms.specs.EdgeList.{kind_eq, edge_eq, with_edge}
-use Rattle.adya_dsg.specs.Values.{kind_of, edge_of}
+use Rattle.adya_values.specs.Meaning.Keys.{key_eq}
+use Rattle.adya_values.specs.Meaning.Edges.{Edge}
+use Rattle.adya_values.specs.Computing.EdgeList.{kind_eq, edge_eq, with_edge}
+use Rattle.adya_dsg.specs.Meaning.Values.{kind_of, edge_of}
 use Rattle.adya_dsg.specs.contracts.edge.EdgePartialEq.TheImpl as edges
 use Rattle.adya_dsg.specs.contracts.edge.KindPartialEq.TheImpl as kinds
 use Rattle.adya_dsg.specs.declared.edge.Kind.{Kind as KindValue}

@@ -5,7 +5,7 @@ use Rattle.std.specs.Ordering.{ordering_index}
 use Rattle.std.specs.Cmp.Lexicographic.{slice_cmp, texts_ties, nat_list_cmp_total}
 use Rattle.std.proofs.lemmas.Bool.{cases_lt, and_parts}
 use Rattle.std.proofs.lemmas.Cmp.{tied_itself}
-use Rattle.adya_terms.specs.Keys.{key_lt, keys_rise}
+use Rattle.adya_values.specs.Meaning.Keys.{key_lt, keys_rise}
 use Rattle.adya_dsg.proofs.Keys.{key_eq-true, less_from_is_lt, key_lt-trans, rise_tail, rise_skip}
 
 abbrev key_cmp : List ℕ → List ℕ → Ordering

@@ -5,17 +5,17 @@ use Rattle.std.specs.Ordering.{ordering_reverse}
 use Rattle.std.specs.Cmp.Lexicographic.{slice_cmp, nat_list_cmp_total}
 use Rattle.std.proofs.lemmas.Bool.{cases_lt, and_left, and_right, and_from, false_from_ne_true}
 use Rattle.std.proofs.lemmas.Option.{slice_get-get_or}
-use Rattle.adya_terms.specs.declared.value.Value.{Value}
-use Rattle.adya_terms.specs.declared.event.Version.{Version}
-use Rattle.adya_terms.specs.declared.event.Entry.{Entry as EntryValue}
-use Rattle.adya_terms.specs.declared.event.Event.{Event as EventValue}
-use Rattle.adya_terms.specs.declared.event.Event.TheVariants as In
-use Rattle.adya_terms.specs.Keys.{key_eq, key_lt, key_le, keys_rise, lies_in}
-use Rattle.adya_terms.specs.Histories.{Read, Scan, Entry, Order, History, event_of}
-use Rattle.adya_terms.specs.Events.{listed}
-use Rattle.adya_terms.specs.Orders.{place, writers}
-use Rattle.adya_terms.specs.Selections.{selected, place_of}
-use Rattle.adya_dsg.specs.Choices.{Choice, choice, choices, key_of}
+use Rattle.adya_values.specs.declared.value.Value.{Value}
+use Rattle.adya_values.specs.declared.event.Version.{Version}
+use Rattle.adya_values.specs.declared.event.Entry.{Entry as EntryValue}
+use Rattle.adya_values.specs.declared.event.Event.{Event as EventValue}
+use Rattle.adya_values.specs.declared.event.Event.TheVariants as In
+use Rattle.adya_values.specs.Meaning.Keys.{key_eq, key_lt, key_le, keys_rise, lies_in}
+use Rattle.adya_values.specs.Meaning.Histories.{Read, Scan, Entry, Order, History, event_of}
+use Rattle.adya_values.specs.Meaning.Events.{listed}
+use Rattle.adya_values.specs.Meaning.Orders.{place, writers}
+use Rattle.adya_values.specs.Meaning.Selections.{selected, place_of}
+use Rattle.adya_dsg.specs.Computing.Choices.{Choice, choice, choices, key_of}
 use Rattle.adya_dsg.proofs.Keys.{key_eq-true, key_eq-refl, key_eq-lt, key_eq-gt, key_lt-trans, less_from_is_lt}
 use Rattle.adya_dsg.proofs.Searches.{rises_at}
 

@@ -2,8 +2,8 @@
 use Rattle.std.proofs.Common.{◌≡◌, ◌≢◌, ℕ, suc, ◌+◌, ◌==◌, false, cond, ◌&&◌, List, ◌∷◌, Option, Some, refl, sym, ◌∙◌, ap, arith, inl, inr}
 use Rattle.std.specs.Option.{unwrap_or}
 use Rattle.std.proofs.lemmas.Bool.{cases_eq, eq-eqb, ne_eqb}
-use Rattle.adya_terms.specs.Orders.{place}
-use Rattle.adya_dsg.specs.Places.{slot, slot_eq}
+use Rattle.adya_values.specs.Meaning.Orders.{place}
+use Rattle.adya_dsg.specs.Machinery.Places.{slot, slot_eq}
 
 pub same_line : (i t u : ℕ) → slot_eq (slot i t) (slot i u) ≡ (t == u)
 same_line i t u = ap (λ b. b && (t == u)) (eq-eqb i i refl)

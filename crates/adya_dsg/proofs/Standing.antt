@@ -5,14 +5,14 @@ use Rattle.std.proofs.lemmas.Bool.{cases_Bool, cases_eq, and_parts, and_from, bo
 use Rattle.std.proofs.lemmas.Option.{same_Some, none-some, cond_some}
 use Rattle.std.proofs.lemmas.List.Elements.{All-contains}
 use Rattle.std.proofs.lemmas.List.Sums.{sum_by-cons}
-use Rattle.adya_terms.specs.Keys.{key_eq, lies_in}
-use Rattle.adya_terms.specs.Histories.{Live, Dead, Entry, Event, Write, Delete, Read, Scan, Commit, Abort, History}
-use Rattle.adya_terms.specs.Events.{txn_of, version, entry, observed, listed, last, last_write, writes_of, is_committed, has_ended, is_unfinished, is_aborted}
-use Rattle.adya_terms.specs.Orders.{place, writers}
-use Rattle.adya_terms.specs.Selections.{place_of, selected}
-use Rattle.adya_terms.specs.Rules.{installs}
-use Rattle.adya_terms.specs.Phenomena.{ReadsCommitted}
-use Rattle.adya_terms.specs.Acceptance.{IsChecked}
+use Rattle.adya_values.specs.Meaning.Keys.{key_eq, lies_in}
+use Rattle.adya_values.specs.Meaning.Histories.{Live, Dead, Entry, Event, Write, Delete, Read, Scan, Commit, Abort, History}
+use Rattle.adya_values.specs.Meaning.Events.{txn_of, version, entry, observed, listed, last, last_write, writes_of, is_committed, has_ended, is_unfinished, is_aborted}
+use Rattle.adya_values.specs.Meaning.Orders.{place, writers}
+use Rattle.adya_values.specs.Meaning.Selections.{place_of, selected}
+use Rattle.adya_values.specs.Meaning.Rules.{installs}
+use Rattle.adya_values.specs.Meaning.Phenomena.{ReadsCommitted}
+use Rattle.adya_values.specs.Meaning.Acceptance.{IsChecked}
 use Rattle.adya_dsg.proofs.Keys.{key_eq-true}
 use Rattle.adya_dsg.proofs.Members.{Contains-head, Contains-cons}
 

@@ -1,12 +1,3 @@
-pub mod Along
-pub mod Arcs
-pub mod Choices
-pub mod Dependencies
-pub mod Found
-pub mod Graphs
-pub mod Laws
-pub mod Links
-pub mod Nodes
-pub mod Places
-pub mod Values
-pub mod Walks
+pub mod Meaning
+pub mod Computing
+pub mod Machinery

@@ -3,13 +3,13 @@
 ghost use Rattle.std.specs.Prelude.{◌≡◌, ◌==◌, ◌&&◌, ℕ, Some, map, IfOk};
 ghost use Rattle.std.specs.List.{list_any};
 ghost use Rattle.std.specs.BTreeSet.{contains};
-ghost use Rattle.adya_dsg.specs.Values.{edge_of};
-ghost use Rattle.adya_dsg.specs.Arcs.{AreEnds};
-ghost use Rattle.adya_dsg.specs.Along.{HasFirst, first_along, ends_cmp};
+ghost use Rattle.adya_dsg.specs.Meaning.Values.{edge_of};
+ghost use Rattle.adya_dsg.specs.Machinery.Arcs.{AreEnds};
+ghost use Rattle.adya_dsg.specs.Machinery.Along.{HasFirst, first_along, ends_cmp};
 
 use crate::Edge;
 use crate::arc::Arc;
-use adya_terms::Txn;
+use adya_values::Txn;
 use std::alloc::{AllocError, Global};
 use std::collections::{BTreeMap, BTreeSet};
 

@@ -1,6 +1,6 @@
 //! The ends of edges.
 
-use adya_terms::Txn;
+use adya_values::Txn;
 
 /// That one transaction has to come before another.
 #[derive(Clone, Copy, PartialEq, Eq)]

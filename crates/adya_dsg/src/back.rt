@@ -5,12 +5,12 @@ ghost use Rattle.std.specs.List.{list_any};
 ghost use Rattle.std.specs.List.Sorted.{IsNonDecreasingBy};
 ghost use Rattle.std.specs.Ordering.{nat_cmp};
 ghost use Rattle.std.specs.BTreeSet.{contains};
-ghost use Rattle.adya_dsg.specs.Graphs.{IsCycleIn, IsWay};
-ghost use Rattle.adya_dsg.specs.Walks.{IsWalk};
+ghost use Rattle.adya_dsg.specs.Meaning.Graphs.{IsCycleIn, IsWay};
+ghost use Rattle.adya_dsg.specs.Machinery.Walks.{IsWalk};
 
 use crate::arc::Arc;
 use crate::incoming::arc_from_left;
-use adya_terms::Txn;
+use adya_values::Txn;
 use std::alloc::{AllocError, Global};
 use std::collections::BTreeSet;
 

@@ -2,14 +2,14 @@
 
 ghost use Rattle.std.specs.Prelude.{◌≡◌, None, true, IfOk, map, option_map, filter, flat_map, Contains};
 ghost use Rattle.std.specs.List.{find};
-ghost use Rattle.adya_terms.specs.Histories.{event_of, order_of};
-ghost use Rattle.adya_terms.specs.Values.{history_of};
-ghost use Rattle.adya_terms.specs.Events.{txn_of, is_committed};
-ghost use Rattle.adya_terms.specs.EdgeList.{write_edges, event_edges};
-ghost use Rattle.adya_terms.specs.Certificates.{first_backward};
-ghost use Rattle.adya_terms.specs.Acceptance.{IsChecked};
-ghost use Rattle.adya_dsg.specs.Values.{edge_of};
-ghost use Rattle.adya_dsg.specs.Dependencies.{line_edges, is_backward};
+ghost use Rattle.adya_values.specs.Meaning.Histories.{event_of, order_of};
+ghost use Rattle.adya_values.specs.Meaning.Values.{history_of};
+ghost use Rattle.adya_values.specs.Meaning.Events.{txn_of, is_committed};
+ghost use Rattle.adya_values.specs.Computing.EdgeList.{write_edges, event_edges};
+ghost use Rattle.adya_values.specs.Computing.Certificates.{first_backward};
+ghost use Rattle.adya_values.specs.Meaning.Acceptance.{IsChecked};
+ghost use Rattle.adya_dsg.specs.Meaning.Values.{edge_of};
+ghost use Rattle.adya_dsg.specs.Computing.Dependencies.{line_edges, is_backward};
 
 use crate::Edge;
 use crate::certificate::Certificate;
@@ -17,7 +17,8 @@ use crate::dependencies::{push_event_edges, push_write_edges};
 use crate::event_links::push_event_links;
 use crate::graph::Graph;
 use adya_laws::{edge_list_keeps_first, selected_is_installed};
-use adya_terms::{Checked, Event, Order, Serial};
+use adya_terms::Checked;
+use adya_values::{Event, Order, Serial};
 use std::alloc::{AllocError, Global};
 
 /// The first of the [`edges`](crate::edges) that doesn't go forward in the certificate, if there is one: whose `to`

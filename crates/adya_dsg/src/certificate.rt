@@ -2,15 +2,15 @@
 
 ghost use Rattle.std.specs.Prelude.{◌≡◌, IfOk, map, option_map};
 ghost use Rattle.std.specs.List.{find};
-ghost use Rattle.adya_terms.specs.Orders.{place};
-ghost use Rattle.adya_terms.specs.Certificates.{is_forward};
-ghost use Rattle.adya_dsg.specs.Values.{edge_of};
-ghost use Rattle.adya_dsg.specs.Places.{HasPlaces};
-ghost use Rattle.adya_dsg.specs.Dependencies.{is_backward};
+ghost use Rattle.adya_values.specs.Meaning.Orders.{place};
+ghost use Rattle.adya_values.specs.Computing.Certificates.{is_forward};
+ghost use Rattle.adya_dsg.specs.Meaning.Values.{edge_of};
+ghost use Rattle.adya_dsg.specs.Machinery.Places.{HasPlaces};
+ghost use Rattle.adya_dsg.specs.Computing.Dependencies.{is_backward};
 
 use crate::Edge;
 use crate::places::places;
-use adya_terms::Txn;
+use adya_values::Txn;
 use std::alloc::{AllocError, Global};
 use std::collections::HashMap;
 

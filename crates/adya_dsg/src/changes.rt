@@ -1,14 +1,15 @@
 //! The places of an order line whose versions change what a scan of the key matches.
 
 ghost use Rattle.std.specs.Prelude.{◌≡◌, IfOk, map, is_some};
-ghost use Rattle.adya_terms.specs.Histories.{order_of};
-ghost use Rattle.adya_terms.specs.Values.{history_of};
-ghost use Rattle.adya_terms.specs.Events.{last_write, shown};
-ghost use Rattle.adya_terms.specs.Orders.{writers};
-ghost use Rattle.adya_dsg.specs.Links.{changed_places};
+ghost use Rattle.adya_values.specs.Meaning.Histories.{order_of};
+ghost use Rattle.adya_values.specs.Meaning.Values.{history_of};
+ghost use Rattle.adya_values.specs.Meaning.Events.{last_write, shown};
+ghost use Rattle.adya_values.specs.Meaning.Orders.{writers};
+ghost use Rattle.adya_dsg.specs.Computing.Links.{changed_places};
 
 use crate::parts::orders_of;
-use adya_terms::{Checked, Content, Entry, Key, Order, Txn};
+use adya_terms::Checked;
+use adya_values::{Content, Entry, Key, Order, Txn};
 use std::alloc::{AllocError, Global};
 
 /// Whether the transaction's last write of the key leaves a value.

@@ -4,13 +4,13 @@ ghost use Rattle.std.specs.Prelude.{◌≡◌, ◌==◌, ◌↔◌, ℕ, true, C
 ghost use Rattle.std.specs.List.{list_any};
 ghost use Rattle.std.specs.Ordering.{nat_cmp};
 ghost use Rattle.std.specs.BTreeSet.{contains};
-ghost use Rattle.adya_dsg.specs.Graphs.{HasEnds, IsChosen};
+ghost use Rattle.adya_dsg.specs.Meaning.Graphs.{HasEnds, IsChosen};
 
 use crate::arc::Arc;
 use crate::back::{Walk, go_back};
 use crate::incoming::by_target;
 use crate::ready::Ready;
-use adya_terms::Txn;
+use adya_values::Txn;
 use std::alloc::{AllocError, Global};
 use std::collections::BTreeSet;
 

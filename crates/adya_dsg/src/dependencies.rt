@@ -1,20 +1,20 @@
 //! The edges of an order line and of an event.
 
 ghost use Rattle.std.specs.Prelude.{◌≡◌, ◌<◌, ◌++◌, length, map, true, OnOk, Contains};
-ghost use Rattle.adya_terms.specs.Histories.{event_of};
-ghost use Rattle.adya_terms.specs.Values.{history_of};
-ghost use Rattle.adya_terms.specs.Selections.{is_scan};
-ghost use Rattle.adya_terms.specs.EdgeList.{event_edges, read_edges, overwrite_edges};
-ghost use Rattle.adya_dsg.specs.Values.{edge_of};
-ghost use Rattle.adya_dsg.specs.Choices.{choice_of, key_at};
-ghost use Rattle.adya_dsg.specs.Dependencies.{line_edges, choice_edges};
+ghost use Rattle.adya_values.specs.Meaning.Histories.{event_of};
+ghost use Rattle.adya_values.specs.Meaning.Values.{history_of};
+ghost use Rattle.adya_values.specs.Meaning.Selections.{is_scan};
+ghost use Rattle.adya_values.specs.Computing.EdgeList.{event_edges, read_edges, overwrite_edges};
+ghost use Rattle.adya_dsg.specs.Meaning.Values.{edge_of};
+ghost use Rattle.adya_dsg.specs.Computing.Choices.{choice_of, key_at};
+ghost use Rattle.adya_dsg.specs.Computing.Dependencies.{line_edges, choice_edges};
 
 use crate::event_links::{is_scan, push_links_at};
 use crate::graph::Graph;
 use crate::joined::push_joined;
 use crate::selection::{Selection, selections};
 use crate::{Edge, Kind};
-use adya_terms::{Event, Order};
+use adya_values::{Event, Order};
 use std::alloc::{AllocError, Global};
 
 /// Adds the write dependencies of the order.

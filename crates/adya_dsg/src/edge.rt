@@ -1,6 +1,6 @@
 //! Edges of the direct serialization graph (Adya 1999, section 3.1.4).
 
-use adya_terms::{Key, Txn};
+use adya_values::{Key, Txn};
 
 /// What joins two transactions.
 #[derive(Clone, Copy, PartialEq, Eq, Hash)]

@@ -1,18 +1,18 @@
 //! The links of an event.
 
 ghost use Rattle.std.specs.Prelude.{◌≡◌, ◌<◌, ◌++◌, length, map, OnOk, Contains};
-ghost use Rattle.adya_terms.specs.Histories.{event_of};
-ghost use Rattle.adya_terms.specs.Values.{history_of};
-ghost use Rattle.adya_terms.specs.Selections.{is_scan};
-ghost use Rattle.adya_dsg.specs.Values.{edge_of};
-ghost use Rattle.adya_dsg.specs.Choices.{choice_of, key_at};
-ghost use Rattle.adya_dsg.specs.Links.{overwriter, choice_links, event_links};
+ghost use Rattle.adya_values.specs.Meaning.Histories.{event_of};
+ghost use Rattle.adya_values.specs.Meaning.Values.{history_of};
+ghost use Rattle.adya_values.specs.Meaning.Selections.{is_scan};
+ghost use Rattle.adya_dsg.specs.Meaning.Values.{edge_of};
+ghost use Rattle.adya_dsg.specs.Computing.Choices.{choice_of, key_at};
+ghost use Rattle.adya_dsg.specs.Computing.Links.{overwriter, choice_links, event_links};
 
 use crate::graph::Graph;
 use crate::joined::push_joined;
 use crate::selection::{Selection, selections};
 use crate::{Edge, Kind};
-use adya_terms::{Event, Txn};
+use adya_values::{Event, Txn};
 use std::alloc::{AllocError, Global};
 
 /// Adds the links of the event.

@@ -1,7 +1,7 @@
 //! What is found of a history.
 
 use crate::Edge;
-use adya_terms::Serial;
+use adya_values::Serial;
 
 /// A certificate with which a history is accepted, or why there is none.
 #[derive(Drop)]

@@ -2,19 +2,20 @@
 
 ghost use Rattle.std.specs.Prelude.{◌≡◌, ◌<◌, ◌≤◌, ℕ, suc, Some, slice_get, List, nat_lt, length, map, true, false, IfNone, IfSome, IfOk};
 ghost use Rattle.std.specs.List.{find, list_all};
-ghost use Rattle.adya_terms.specs.Keys.{key_lt, keys_rise};
-ghost use Rattle.adya_terms.specs.Histories.{event_of, order_of};
-ghost use Rattle.adya_terms.specs.Events.{txn_of, is_committed};
-ghost use Rattle.adya_terms.specs.Values.{history_of};
-ghost use Rattle.adya_terms.specs.Orders.{writers, place, installer, is_visible_at};
-ghost use Rattle.adya_dsg.specs.Places.{HasLines};
-ghost use Rattle.adya_dsg.specs.Choices.{key_at};
-ghost use Rattle.adya_dsg.specs.Links.{changed_places};
+ghost use Rattle.adya_values.specs.Meaning.Keys.{key_lt, keys_rise};
+ghost use Rattle.adya_values.specs.Meaning.Histories.{event_of, order_of};
+ghost use Rattle.adya_values.specs.Meaning.Events.{txn_of, is_committed};
+ghost use Rattle.adya_values.specs.Meaning.Values.{history_of};
+ghost use Rattle.adya_values.specs.Meaning.Orders.{writers, place, installer, is_visible_at};
+ghost use Rattle.adya_dsg.specs.Machinery.Places.{HasLines};
+ghost use Rattle.adya_dsg.specs.Computing.Choices.{key_at};
+ghost use Rattle.adya_dsg.specs.Computing.Links.{changed_places};
 
 use crate::changes::{line_changes, shows};
 use crate::parts::{events_of, orders_of};
 use crate::places::{Slot, line_places};
-use adya_terms::{Checked, Event, Key, Order, Txn};
+use adya_terms::Checked;
+use adya_values::{Event, Key, Order, Txn};
 use std::alloc::{AllocError, Global};
 use std::collections::HashMap;
 

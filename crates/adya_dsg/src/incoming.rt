@@ -6,7 +6,7 @@ ghost use Rattle.std.specs.Ordering.{nat_cmp};
 ghost use Rattle.std.specs.BTreeSet.{contains};
 
 use crate::arc::Arc;
-use adya_terms::Txn;
+use adya_values::Txn;
 use std::alloc::{AllocError, Global};
 use std::collections::BTreeSet;
 

@@ -1,11 +1,11 @@
 //! Edges between two transactions that are there and differ.
 
 ghost use Rattle.std.specs.Prelude.{◌≡◌, ◌++◌, OnOk, map};
-ghost use Rattle.adya_terms.specs.EdgeList.{joined};
-ghost use Rattle.adya_dsg.specs.Values.{kind_of, edge_of};
+ghost use Rattle.adya_values.specs.Computing.EdgeList.{joined};
+ghost use Rattle.adya_dsg.specs.Meaning.Values.{kind_of, edge_of};
 
 use crate::{Edge, Kind};
-use adya_terms::{Key, Txn};
+use adya_values::{Key, Txn};
 use std::alloc::AllocError;
 
 /// Adds the edge, unless it joins a transaction with itself or lacks an end.

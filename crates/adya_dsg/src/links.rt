@@ -1,14 +1,14 @@
 //! The few edges that decide whether all go forward.
 
 ghost use Rattle.std.specs.Prelude.{◌≡◌, ◌++◌, IfOk, OnOk, map, filter, flat_map};
-ghost use Rattle.adya_terms.specs.Histories.{order_of};
-ghost use Rattle.adya_terms.specs.Values.{history_of};
-ghost use Rattle.adya_terms.specs.Events.{txn_of, is_committed};
-ghost use Rattle.adya_terms.specs.EdgeList.{edge_list};
-ghost use Rattle.adya_dsg.specs.Values.{edge_of};
-ghost use Rattle.adya_dsg.specs.Arcs.{AreEnds, Decide, ends};
-ghost use Rattle.adya_dsg.specs.Dependencies.{line_edges};
-ghost use Rattle.adya_dsg.specs.Links.{event_links};
+ghost use Rattle.adya_values.specs.Meaning.Histories.{order_of};
+ghost use Rattle.adya_values.specs.Meaning.Values.{history_of};
+ghost use Rattle.adya_values.specs.Meaning.Events.{txn_of, is_committed};
+ghost use Rattle.adya_values.specs.Computing.EdgeList.{edge_list};
+ghost use Rattle.adya_dsg.specs.Meaning.Values.{edge_of};
+ghost use Rattle.adya_dsg.specs.Machinery.Arcs.{AreEnds, Decide, ends};
+ghost use Rattle.adya_dsg.specs.Computing.Dependencies.{line_edges};
+ghost use Rattle.adya_dsg.specs.Computing.Links.{event_links};
 
 use crate::Edge;
 use crate::arc::Arc;
@@ -16,7 +16,8 @@ use crate::dependencies::push_write_edges;
 use crate::event_links::push_event_links;
 use crate::graph::Graph;
 use adya_laws::{edge_list_keeps_first, selected_is_installed};
-use adya_terms::{Checked, Order};
+use adya_terms::Checked;
+use adya_values::Order;
 use std::alloc::{AllocError, Global};
 
 /// The ends of some edges of the history, which decide for each order of its transactions whether all edges go

@@ -2,11 +2,11 @@
 
 ghost use Rattle.std.specs.Prelude.{◌≡◌, ◌≢◌, IfOk, OnOk, map, filter, flat_map, fold};
 ghost use Rattle.std.specs.List.{AllPairs};
-ghost use Rattle.adya_terms.specs.Values.{history_of};
-ghost use Rattle.adya_terms.specs.Events.{txn_of, is_committed};
-ghost use Rattle.adya_terms.specs.EdgeList.{with_edge, edge_list, write_edges, event_edges};
-ghost use Rattle.adya_dsg.specs.Values.{edge_of};
-ghost use Rattle.adya_dsg.specs.Dependencies.{AreEdges};
+ghost use Rattle.adya_values.specs.Meaning.Values.{history_of};
+ghost use Rattle.adya_values.specs.Meaning.Events.{txn_of, is_committed};
+ghost use Rattle.adya_values.specs.Computing.EdgeList.{with_edge, edge_list, write_edges, event_edges};
+ghost use Rattle.adya_dsg.specs.Meaning.Values.{edge_of};
+ghost use Rattle.adya_dsg.specs.Computing.Dependencies.{AreEdges};
 
 use crate::Edge;
 use crate::dependencies::{push_event_edges, push_write_edges};

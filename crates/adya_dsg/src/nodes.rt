@@ -1,10 +1,10 @@
 //! The nodes of a history's graph.
 
 ghost use Rattle.std.specs.Prelude.{◌≡◌, map, IfOk};
-ghost use Rattle.adya_terms.specs.Histories.{event_of};
-ghost use Rattle.adya_dsg.specs.Nodes.{committed};
+ghost use Rattle.adya_values.specs.Meaning.Histories.{event_of};
+ghost use Rattle.adya_dsg.specs.Machinery.Nodes.{committed};
 
-use adya_terms::{Event, Txn};
+use adya_values::{Event, Txn};
 use std::alloc::{AllocError, Global};
 
 /// The committed transactions, in the order of their commits; `AllocError` where memory is refused.

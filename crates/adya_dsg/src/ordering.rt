@@ -1,13 +1,13 @@
 //! A certificate of a history, or a cycle of its graph.
 
 ghost use Rattle.std.specs.Prelude.{◌≡◌, ◌↔◌, IfOk, map};
-ghost use Rattle.adya_terms.specs.Values.{history_of};
-ghost use Rattle.adya_terms.specs.Acceptance.{IsChecked};
-ghost use Rattle.adya_terms.specs.Phenomena.{HasG1, HasG2};
-ghost use Rattle.adya_dsg.specs.Arcs.{ends};
-ghost use Rattle.adya_dsg.specs.Values.{edge_of};
-ghost use Rattle.adya_dsg.specs.Nodes.{committed};
-ghost use Rattle.adya_dsg.specs.Found.{IsFound, NoneBesideCycle, HasCertificate};
+ghost use Rattle.adya_values.specs.Meaning.Values.{history_of};
+ghost use Rattle.adya_values.specs.Meaning.Acceptance.{IsChecked};
+ghost use Rattle.adya_values.specs.Meaning.Phenomena.{HasG1, HasG2};
+ghost use Rattle.adya_dsg.specs.Machinery.Arcs.{ends};
+ghost use Rattle.adya_dsg.specs.Meaning.Values.{edge_of};
+ghost use Rattle.adya_dsg.specs.Machinery.Nodes.{committed};
+ghost use Rattle.adya_dsg.specs.Meaning.Found.{IsFound, NoneBesideCycle, HasCertificate};
 
 use crate::along::edges_along;
 use crate::arc::Arc;
@@ -19,7 +19,8 @@ use crate::links::links;
 use crate::nodes::committed;
 use crate::{Edge, Found, edges};
 use adya_laws::edge_list_is_exact;
-use adya_terms::{Checked, Serial, Txn};
+use adya_terms::Checked;
+use adya_values::{Serial, Txn};
 use std::alloc::{AllocError, Global};
 
 /// A certificate with which the history is accepted, or a cycle of edges of its graph; `AllocError` where memory is

@@ -1,10 +1,11 @@
 //! The parts of a checked history.
 
 ghost use Rattle.std.specs.Prelude.{◌≡◌, map, true};
-ghost use Rattle.adya_terms.specs.Keys.{keys_rise};
-ghost use Rattle.adya_terms.specs.Histories.{order_of};
+ghost use Rattle.adya_values.specs.Meaning.Keys.{keys_rise};
+ghost use Rattle.adya_values.specs.Meaning.Histories.{order_of};
 
-use adya_terms::{Checked, Event, Order};
+use adya_terms::Checked;
+use adya_values::{Event, Order};
 
 /// The version orders, by rising key.
 pub(crate) fn orders_of<'a>(checked: &'a Checked) -> &'a [Order]

@@ -2,9 +2,9 @@
 
 ghost use Rattle.std.specs.Prelude.{◌≡◌, ◌≢◌, ℕ, None, IfOk, OnOk, length};
 ghost use Rattle.std.specs.HashMap.{get};
-ghost use Rattle.adya_dsg.specs.Places.{slot, slot_eq, HasLine, HasLines, HasPlaces};
+ghost use Rattle.adya_dsg.specs.Machinery.Places.{slot, slot_eq, HasLine, HasLines, HasPlaces};
 
-use adya_terms::{Order, Txn};
+use adya_values::{Order, Txn};
 use std::alloc::{AllocError, Global};
 use std::collections::HashMap;
 

@@ -1,7 +1,7 @@
 //! Numbers that may be placed next.
 
 use crate::arc::Arc;
-use adya_terms::Txn;
+use adya_values::Txn;
 use std::alloc::{AllocError, Global};
 use std::collections::{BTreeSet, HashMap};
 

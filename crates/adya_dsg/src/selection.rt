@@ -1,16 +1,16 @@
 //! What an event reads or selects.
 
 ghost use Rattle.std.specs.Prelude.{◌≡◌, ◌<◌, ℕ, List, length, map, true, IfOk, IfSome, All, Contains, option_map, option_to_list};
-ghost use Rattle.adya_terms.specs.Keys.{keys_rise};
-ghost use Rattle.adya_terms.specs.Histories.{event_of, entry_of, Read, Scan};
-ghost use Rattle.adya_terms.specs.Events.{listed};
-ghost use Rattle.adya_terms.specs.Values.{history_of};
-ghost use Rattle.adya_terms.specs.Selections.{place_of};
-ghost use Rattle.adya_dsg.specs.Choices.{choices, choice_of, key_at};
+ghost use Rattle.adya_values.specs.Meaning.Keys.{keys_rise};
+ghost use Rattle.adya_values.specs.Meaning.Histories.{event_of, entry_of, Read, Scan};
+ghost use Rattle.adya_values.specs.Meaning.Events.{listed};
+ghost use Rattle.adya_values.specs.Meaning.Values.{history_of};
+ghost use Rattle.adya_values.specs.Meaning.Selections.{place_of};
+ghost use Rattle.adya_dsg.specs.Computing.Choices.{choices, choice_of, key_at};
 
 use crate::graph::{Graph, is_below};
 use adya_terms::laws::checked_where_no_fault;
-use adya_terms::{Entry, Event, Key, Txn, Version};
+use adya_values::{Entry, Event, Key, Txn, Version};
 use std::alloc::{AllocError, Global};
 
 /// A place of an order line, of which an event reads the version or a scan selects it.

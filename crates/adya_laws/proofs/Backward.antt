@@ -2,11 +2,11 @@
 use Rattle.std.proofs.Common.{◌≡◌, ℕ, not, List, Some, ◌∙◌, ap}
 use Rattle.std.specs.List.{find}
 use Rattle.std.proofs.lemmas.Bool.{both_ways, ltb-true, lt-ltb, not-true, not-false, not_from_true, not_from_false, false_from_ne_true}
-use Rattle.adya_terms.specs.Histories.{History}
-use Rattle.adya_terms.specs.Edges.{Edge}
-use Rattle.adya_terms.specs.EdgeList.{edge_list}
-use Rattle.adya_terms.specs.Certificates.{is_forward, first_backward}
-use Rattle.adya_laws.specs.FirstFaults.{IsFirstBackward}
+use Rattle.adya_values.specs.Meaning.Histories.{History}
+use Rattle.adya_values.specs.Meaning.Edges.{Edge}
+use Rattle.adya_values.specs.Computing.EdgeList.{edge_list}
+use Rattle.adya_values.specs.Computing.Certificates.{is_forward, first_backward}
+use Rattle.adya_laws.specs.Meaning.FirstFaults.{IsFirstBackward}
 use Rattle.adya_laws.proofs.Firsts.{find_at_front, front_found}
 
 module _ (h : History) (ts : List ℕ) (e : Edge) where

@@ -5,18 +5,18 @@ use Rattle.std.proofs.lemmas.Bool.{cases_Bool, and_from, and_parts, both_ways, n
 use Rattle.std.proofs.lemmas.Option.{none-some}
 use Rattle.std.proofs.lemmas.List.{append-nil}
 use Rattle.std.proofs.lemmas.List.Elements.{Contains-append_left, Contains-append_right, Contains-append_cases}
-use Rattle.adya_terms.specs.declared.fault.Rule.{Rule}
-use Rattle.adya_terms.specs.declared.fault.Rule.TheVariants.{M1, M2, M3, M4, M5, M6, M7, M8}
-use Rattle.adya_terms.specs.declared.fault.CheckFault.{CheckFault}
-use Rattle.adya_terms.specs.declared.fault.CheckFault.TheVariants.{Malformed}
-use Rattle.adya_terms.specs.Keys.{key_eq}
-use Rattle.adya_terms.specs.Histories.{Event, Order, FinalPair, History}
-use Rattle.adya_terms.specs.Events.{txn_of, written, last_write, is_committed, has_ended, is_unfinished}
-use Rattle.adya_terms.specs.Orders.{value_by, writers, installer}
-use Rattle.adya_terms.specs.Rules.{installs, final_value}
-use Rattle.adya_terms.specs.Serial.{pair}
-use Rattle.adya_terms.specs.Faults.{is_open, is_next, was_written, sees_own, is_rising, fault_unless, faults_at, event_faults, all_end, lists_exactly, has_lines, last_value, has_finals}
-use Rattle.adya_laws.specs.FirstFaults.{Stands, LeavesOpen, ListsWriters, LacksOrder, LacksFinal}
+use Rattle.adya_values.specs.declared.fault.Rule.{Rule}
+use Rattle.adya_values.specs.declared.fault.Rule.TheVariants.{M1, M2, M3, M4, M5, M6, M7, M8}
+use Rattle.adya_values.specs.declared.fault.CheckFault.{CheckFault}
+use Rattle.adya_values.specs.declared.fault.CheckFault.TheVariants.{Malformed}
+use Rattle.adya_values.specs.Meaning.Keys.{key_eq}
+use Rattle.adya_values.specs.Meaning.Histories.{Event, Order, FinalPair, History}
+use Rattle.adya_values.specs.Meaning.Events.{txn_of, written, last_write, is_committed, has_ended, is_unfinished}
+use Rattle.adya_values.specs.Meaning.Orders.{value_by, writers, installer}
+use Rattle.adya_values.specs.Meaning.Rules.{installs, final_value}
+use Rattle.adya_values.specs.Meaning.Serial.{pair}
+use Rattle.adya_values.specs.Computing.Faults.{is_open, is_next, was_written, sees_own, is_rising, fault_unless, faults_at, event_faults, all_end, lists_exactly, has_lines, last_value, has_finals}
+use Rattle.adya_laws.specs.Meaning.FirstFaults.{Stands, LeavesOpen, ListsWriters, LacksOrder, LacksFinal}
 use Rattle.adya_laws.proofs.Keys.{key_eq-same, key_eq-from}
 use Rattle.adya_laws.proofs.Members.{none_contained, Contains-head, Contains-cases, list_any-source, list_any_when}
 use Rattle.adya_laws.proofs.Places.{order_there}

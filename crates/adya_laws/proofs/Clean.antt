@@ -3,11 +3,11 @@ use Rattle.std.proofs.Common.{◌≡◌, ◌≢◌, Bool, true, false, ◌||◌,
 use Rattle.std.specs.List.{Contains}
 use Rattle.std.proofs.lemmas.Bool.{cases_Bool, both_ways, false_from_ne_true}
 use Rattle.std.proofs.lemmas.List.Elements.{All-contains}
-use Rattle.adya_terms.specs.Histories.{Entry, Event, History}
-use Rattle.adya_terms.specs.Events.{txn_of, last_write, is_committed, has_ended, is_unfinished, is_aborted}
-use Rattle.adya_terms.specs.Phenomena.{ReadsCommitted}
-use Rattle.adya_terms.specs.Faults.{is_entry}
-use Rattle.adya_terms.specs.Acceptance.{IsChecked}
+use Rattle.adya_values.specs.Meaning.Histories.{Entry, Event, History}
+use Rattle.adya_values.specs.Meaning.Events.{txn_of, last_write, is_committed, has_ended, is_unfinished, is_aborted}
+use Rattle.adya_values.specs.Meaning.Phenomena.{ReadsCommitted}
+use Rattle.adya_values.specs.Computing.Faults.{is_entry}
+use Rattle.adya_values.specs.Meaning.Acceptance.{IsChecked}
 use Rattle.adya_laws.proofs.Entries.{is_entry-same, is_entry-from}
 
 -- who has ended, or is unfinished, and isn't aborted is committed

@@ -4,7 +4,7 @@ use Rattle.std.specs.List.{count_by}
 use Rattle.std.proofs.lemmas.Bool.{eq-eqb, ne_eqb, cases_eq, cond-true, cond-false}
 use Rattle.std.proofs.lemmas.Option.{same_Some, none-some}
 use Rattle.std.proofs.lemmas.List.Sums.{sum_by-append, sum_by-cons}
-use Rattle.adya_terms.specs.Orders.{place}
+use Rattle.adya_values.specs.Meaning.Orders.{place}
 
 abbrev pub count : List ℕ → ℕ → ℕ
 count xs t = count_by (λ u. u == t) xs

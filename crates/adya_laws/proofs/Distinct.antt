@@ -8,9 +8,9 @@ use Rattle.std.proofs.lemmas.List.Elements.{Contains-append_left, Contains-push_
 use Rattle.std.proofs.lemmas.List.Folds.{find-append, list_any_at}
 use Rattle.std.proofs.lemmas.List.Quantifiers.{all_pairs_push}
 use Rattle.std.proofs.lemmas.Map.Views.{Contains-from_any}
-use Rattle.adya_terms.specs.Histories.{History}
-use Rattle.adya_terms.specs.Edges.{Kind, Ww, Wr, Rw, Edge, IsEdge}
-use Rattle.adya_terms.specs.EdgeList.{dependencies, kind_eq, edge_eq, with_edge, edge_list}
+use Rattle.adya_values.specs.Meaning.Histories.{History}
+use Rattle.adya_values.specs.Meaning.Edges.{Kind, Ww, Wr, Rw, Edge, IsEdge}
+use Rattle.adya_values.specs.Computing.EdgeList.{dependencies, kind_eq, edge_eq, with_edge, edge_list}
 use Rattle.adya_laws.proofs.Keys.{key_eq-same, key_eq-from}
 use Rattle.adya_laws.proofs.Members.{none_contained, Contains-cons, Contains-cases}
 use Rattle.adya_laws.proofs.Listing.{listed_when_edge, edge_when_listed}

@@ -1,9 +1,9 @@
 -- Equality of entries, as a test and as a fact.
 use Rattle.std.proofs.Common.{◌≡◌, true, Option, Some, None, refl, sym, ◌∙◌, ap, subst}
 use Rattle.std.proofs.lemmas.Bool.{and_parts, and_from, eqb-true, eq-eqb}
-use Rattle.adya_terms.specs.Histories.{Content, Live, Dead, Entry}
-use Rattle.adya_terms.specs.Events.{version, entry}
-use Rattle.adya_terms.specs.Faults.{content_eq, entry_eq, is_entry}
+use Rattle.adya_values.specs.Meaning.Histories.{Content, Live, Dead, Entry}
+use Rattle.adya_values.specs.Meaning.Events.{version, entry}
+use Rattle.adya_values.specs.Computing.Faults.{content_eq, entry_eq, is_entry}
 use Rattle.adya_laws.proofs.Keys.{key_eq-same, key_eq-itself}
 
 pub content_eq-same : (a b : Content) → content_eq a b ≡ true → a ≡ b

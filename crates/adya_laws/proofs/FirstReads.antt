@@ -2,12 +2,12 @@
 use Rattle.std.proofs.Common.{◌≡◌, ℕ, suc, Bool, true, not, ◌&&◌, List, [], ◌∷◌, map, slice_get, Some, sym, subst, arith, inl, inr}
 use Rattle.std.specs.List.{filter, Contains}
 use Rattle.std.proofs.lemmas.Option.{none-some}
-use Rattle.adya_terms.specs.declared.event.Version.{Version}
-use Rattle.adya_terms.specs.declared.fault.CheckFault.{CheckFault}
-use Rattle.adya_terms.specs.Histories.{Entry, Event}
-use Rattle.adya_terms.specs.Events.{txn_of, observed, is_committed}
-use Rattle.adya_terms.specs.Faults.{bad_reads, first}
-use Rattle.adya_laws.specs.FirstFaults.{Stands, IsNoLater, IsFirstRead}
+use Rattle.adya_values.specs.declared.event.Version.{Version}
+use Rattle.adya_values.specs.declared.fault.CheckFault.{CheckFault}
+use Rattle.adya_values.specs.Meaning.Histories.{Entry, Event}
+use Rattle.adya_values.specs.Meaning.Events.{txn_of, observed, is_committed}
+use Rattle.adya_values.specs.Computing.Faults.{bad_reads, first}
+use Rattle.adya_laws.specs.Meaning.FirstFaults.{Stands, IsNoLater, IsFirstRead}
 use Rattle.adya_laws.proofs.Members.{none_contained, Contains-slice_get, Contains-filter}
 use Rattle.adya_laws.proofs.Firsts.{stands_head, stands_cons, stands_nowhere, stands_cases, first_append, first_map, map_none, FirstPass, first_filter, nil_left, nil_right}
 

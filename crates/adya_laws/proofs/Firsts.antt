@@ -4,8 +4,8 @@ use Rattle.std.specs.List.{filter, find, Contains}
 use Rattle.std.proofs.lemmas.Bool.{cases_Bool, both_ways}
 use Rattle.std.proofs.lemmas.Option.{same_Some, none-some, slice_get-get_or}
 use Rattle.std.proofs.lemmas.List.Elements.{Contains-append_right}
-use Rattle.adya_terms.specs.Faults.{first}
-use Rattle.adya_laws.specs.FirstFaults.{Stands}
+use Rattle.adya_values.specs.Computing.Faults.{first}
+use Rattle.adya_laws.specs.Meaning.FirstFaults.{Stands}
 use Rattle.adya_laws.proofs.Members.{none_contained, Contains-head, Contains-cons, Contains-cases}
 
 pub same_head : {X : Type 0} (x y : X) (xs ys : List X) → x ∷ xs ≡ y ∷ ys → x ≡ y

@@ -3,11 +3,11 @@ use Rattle.std.proofs.Common.{◌≡◌, ℕ, zero, suc, ◌==◌, ◌<◌, Bool
 use Rattle.std.specs.List.{filter, filter_map, cons_option, Contains}
 use Rattle.std.proofs.lemmas.Bool.{cases_Bool, eq-eqb, and_from, and_parts}
 use Rattle.std.proofs.lemmas.Option.{same_Some, none-some}
-use Rattle.adya_terms.specs.Histories.{Entry}
-use Rattle.adya_terms.specs.Histories.{Event}
-use Rattle.adya_terms.specs.Histories.{Write, Delete, Read, Scan, Commit, Abort}
-use Rattle.adya_terms.specs.Keys.{key_eq}
-use Rattle.adya_terms.specs.Events.{txn_of, written, last, last_write, writes_of, listed}
+use Rattle.adya_values.specs.Meaning.Histories.{Entry}
+use Rattle.adya_values.specs.Meaning.Histories.{Event}
+use Rattle.adya_values.specs.Meaning.Histories.{Write, Delete, Read, Scan, Commit, Abort}
+use Rattle.adya_values.specs.Meaning.Keys.{key_eq}
+use Rattle.adya_values.specs.Meaning.Events.{txn_of, written, last, last_write, writes_of, listed}
 use Rattle.adya_laws.proofs.Keys.{key_eq-same, key_eq-from}
 use Rattle.adya_laws.proofs.Members.{Contains-head, Contains-cons, filter-source}
 

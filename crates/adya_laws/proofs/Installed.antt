@@ -3,14 +3,14 @@ use Rattle.std.proofs.Common.{◌≡◌, ◌≢◌, ℕ, suc, ◌==◌, ◌<◌,
 use Rattle.std.specs.List.{filter_map, Contains}
 use Rattle.std.proofs.lemmas.Bool.{cases_Bool, cases_eq, eq-eqb, ne_eqb, and_parts, and_from, not-true, cond-true}
 use Rattle.std.proofs.lemmas.Option.{none-some, same_Some}
-use Rattle.adya_terms.specs.Keys.{key_eq, lies_in}
-use Rattle.adya_terms.specs.Histories.{Live, Entry, Event, Write, Delete, Read, Scan, Commit, Abort, History}
-use Rattle.adya_terms.specs.Events.{txn_of, entry, written, writes_of, is_committed, listed}
-use Rattle.adya_terms.specs.Orders.{place, writers, installer}
-use Rattle.adya_terms.specs.Selections.{selected, place_of}
-use Rattle.adya_terms.specs.Rules.{installs}
-use Rattle.adya_terms.specs.Phenomena.{ReadsCommitted}
-use Rattle.adya_terms.specs.Acceptance.{IsChecked}
+use Rattle.adya_values.specs.Meaning.Keys.{key_eq, lies_in}
+use Rattle.adya_values.specs.Meaning.Histories.{Live, Entry, Event, Write, Delete, Read, Scan, Commit, Abort, History}
+use Rattle.adya_values.specs.Meaning.Events.{txn_of, entry, written, writes_of, is_committed, listed}
+use Rattle.adya_values.specs.Meaning.Orders.{place, writers, installer}
+use Rattle.adya_values.specs.Meaning.Selections.{selected, place_of}
+use Rattle.adya_values.specs.Meaning.Rules.{installs}
+use Rattle.adya_values.specs.Meaning.Phenomena.{ReadsCommitted}
+use Rattle.adya_values.specs.Meaning.Acceptance.{IsChecked}
 use Rattle.adya_laws.proofs.Keys.{key_eq-same}
 use Rattle.adya_laws.proofs.Members.{Contains-head, filter-source}
 use Rattle.adya_laws.proofs.Counts.{place_get}

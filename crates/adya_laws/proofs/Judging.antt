@@ -2,12 +2,12 @@
 use Rattle.std.proofs.Common.{◌≡◌, ℕ, ◌==◌, Bool, true, cond, not, List, None, sym, ◌∙◌, ap, subst, arith, inl, inr}
 use Rattle.std.specs.List.{Contains}
 use Rattle.std.proofs.lemmas.Bool.{cases_Bool, cases_lt, eqb-true, eq-eqb, ltb-true, lt-ltb, and_parts, and_from, not-false, not_from_true}
-use Rattle.adya_terms.specs.Histories.{Event, Write, Delete, Read, Scan, Commit, Abort, History}
-use Rattle.adya_terms.specs.Events.{txn_of, commits, is_committed}
-use Rattle.adya_terms.specs.EdgeList.{edge_list}
-use Rattle.adya_terms.specs.Faults.{lists_exactly}
-use Rattle.adya_terms.specs.Acceptance.{IsChecked, IsAccepted}
-use Rattle.adya_terms.specs.Certificates.{lists_the_committed, is_forward, first_backward}
+use Rattle.adya_values.specs.Meaning.Histories.{Event, Write, Delete, Read, Scan, Commit, Abort, History}
+use Rattle.adya_values.specs.Meaning.Events.{txn_of, commits, is_committed}
+use Rattle.adya_values.specs.Computing.EdgeList.{edge_list}
+use Rattle.adya_values.specs.Computing.Faults.{lists_exactly}
+use Rattle.adya_values.specs.Meaning.Acceptance.{IsChecked, IsAccepted}
+use Rattle.adya_values.specs.Computing.Certificates.{lists_the_committed, is_forward, first_backward}
 use Rattle.adya_laws.proofs.Members.{Contains-slice_get, list_all_at, list_all_when, list_any-source, find_none, none_found}
 use Rattle.adya_laws.proofs.Counts.{count, count_place}
 use Rattle.adya_laws.proofs.Distinct.{edge_listed, listed_edge}

@@ -2,7 +2,7 @@
 use Rattle.std.proofs.Common.{◌≡◌, ◌≢◌, ℕ, true, false, List, refl}
 use Rattle.std.proofs.lemmas.Bool.{false_from_ne_true}
 use Rattle.std.specs.Cmp.Lexicographic.{bytes_decides}
-use Rattle.adya_terms.specs.Keys.{key_eq}
+use Rattle.adya_values.specs.Meaning.Keys.{key_eq}
 
 pub key_eq-same : (a b : List ℕ) → key_eq a b ≡ true → a ≡ b
 key_eq-same a b = (bytes_decides a b).0

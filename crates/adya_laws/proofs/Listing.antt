@@ -4,12 +4,12 @@ use Rattle.std.specs.List.{filter, flat_map, Contains}
 use Rattle.std.proofs.lemmas.Bool.{cases_eq, eq-eqb, ne_eqb}
 use Rattle.std.proofs.lemmas.Option.{same_Some, none-some}
 use Rattle.std.proofs.lemmas.List.Elements.{Contains-append_left, Contains-append_right, Contains-append_cases}
-use Rattle.adya_terms.specs.Histories.{Event, Order, History}
-use Rattle.adya_terms.specs.Events.{txn_of, is_committed}
-use Rattle.adya_terms.specs.Orders.{installer}
-use Rattle.adya_terms.specs.Selections.{selected, reads_from, overwritten_by}
-use Rattle.adya_terms.specs.Edges.{Kind, Ww, Wr, Rw, Edge, Depends, IsEdge}
-use Rattle.adya_terms.specs.EdgeList.{places, joined, write_edges, place_edges, event_edges, dependencies}
+use Rattle.adya_values.specs.Meaning.Histories.{Event, Order, History}
+use Rattle.adya_values.specs.Meaning.Events.{txn_of, is_committed}
+use Rattle.adya_values.specs.Meaning.Orders.{installer}
+use Rattle.adya_values.specs.Meaning.Selections.{selected, reads_from, overwritten_by}
+use Rattle.adya_values.specs.Meaning.Edges.{Kind, Ww, Wr, Rw, Edge, Depends, IsEdge}
+use Rattle.adya_values.specs.Computing.EdgeList.{places, joined, write_edges, place_edges, event_edges, dependencies}
 use Rattle.adya_laws.proofs.Members.{none_contained, Contains-flat_map, flat_map-source, Contains-filter, filter-source}
 use Rattle.adya_laws.proofs.Places.{Contains-places, order_there}
 

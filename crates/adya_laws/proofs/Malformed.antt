@@ -3,15 +3,15 @@ use Rattle.std.proofs.Common.{◌≡◌, ℕ, ◌≤◌, not, List, [], ◌++◌
 use Rattle.std.specs.List.{Contains}
 use Rattle.std.proofs.lemmas.Bool.{both_ways, not-true, not-false, not_from_true, not_from_false, false_from_ne_true, true_from_ne_false}
 use Rattle.std.proofs.lemmas.List.Elements.{Contains-append_left, Contains-append_right, Contains-append_cases}
-use Rattle.adya_terms.specs.declared.fault.Rule.{Rule}
-use Rattle.adya_terms.specs.declared.fault.Rule.TheVariants.{M1, M2, M3, M4, M5, M6, M7, M8}
-use Rattle.adya_terms.specs.declared.fault.CheckFault.{CheckFault}
-use Rattle.adya_terms.specs.declared.fault.CheckFault.TheVariants.{Malformed}
-use Rattle.adya_terms.specs.Histories.{Event, Order, FinalPair, History}
-use Rattle.adya_terms.specs.Events.{written, has_ended}
-use Rattle.adya_terms.specs.Rules.{installs}
-use Rattle.adya_terms.specs.Faults.{fault_unless, event_faults, unfinished_faults, all_end, lists_exactly, order_faults, has_lines, last_value, is_value, final_faults, has_finals, unfinished_line, orders_line, finals_line, tail_line, malformed, first}
-use Rattle.adya_laws.specs.FirstFaults.{Stands, BreaksRule, IsFirstMalformed}
+use Rattle.adya_values.specs.declared.fault.Rule.{Rule}
+use Rattle.adya_values.specs.declared.fault.Rule.TheVariants.{M1, M2, M3, M4, M5, M6, M7, M8}
+use Rattle.adya_values.specs.declared.fault.CheckFault.{CheckFault}
+use Rattle.adya_values.specs.declared.fault.CheckFault.TheVariants.{Malformed}
+use Rattle.adya_values.specs.Meaning.Histories.{Event, Order, FinalPair, History}
+use Rattle.adya_values.specs.Meaning.Events.{written, has_ended}
+use Rattle.adya_values.specs.Meaning.Rules.{installs}
+use Rattle.adya_values.specs.Computing.Faults.{fault_unless, event_faults, unfinished_faults, all_end, lists_exactly, order_faults, has_lines, last_value, is_value, final_faults, has_finals, unfinished_line, orders_line, finals_line, tail_line, malformed, first}
+use Rattle.adya_laws.specs.Meaning.FirstFaults.{Stands, BreaksRule, IsFirstMalformed}
 use Rattle.adya_laws.proofs.Firsts.{first_contained, first_there}
 use Rattle.adya_laws.proofs.Rules.{numbered_from, next_from, written_from, was_written_from, own_from, sees_own_from, rising_from, is_rising_from, value_from, is_value_from}
 use Rattle.adya_laws.proofs.Ranks.{rank, no_later_from_rank, rank_from_no_later, malformed_in_order, same_from_ranks, malformed_from_rank}

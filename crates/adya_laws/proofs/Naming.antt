@@ -3,16 +3,16 @@ use Rattle.std.proofs.Common.{◌≡◌, ◌≢◌, ℕ, slice_get, Bool, true, 
 use Rattle.std.specs.List.{Contains}
 use Rattle.std.proofs.lemmas.Bool.{and_parts, both_ways, not-true, not-false, or_parts, eqb-false, ne_eqb, false_from_ne_true, not_from_true, not_from_false, or_from, and_from}
 use Rattle.std.proofs.lemmas.Option.{same_Some}
-use Rattle.adya_terms.specs.declared.event.Version.{Version}
-use Rattle.adya_terms.specs.declared.fault.Rule.{Rule}
-use Rattle.adya_terms.specs.declared.fault.CheckFault.TheVariants.{Malformed, AbortedRead, IntermediateRead}
-use Rattle.adya_terms.specs.Histories.{Entry, Event, History}
-use Rattle.adya_terms.specs.Shapes.{is_shape}
-use Rattle.adya_terms.specs.Events.{txn_of, observed, last_write, is_aborted}
-use Rattle.adya_terms.specs.Rules.{IsWellFormed}
-use Rattle.adya_terms.specs.Phenomena.{ReadsCommitted, HasG1a}
-use Rattle.adya_terms.specs.Faults.{malformed, aborted_reads, is_last_of_another, intermediate_reads, first, first_fault}
-use Rattle.adya_laws.specs.FirstFaults.{BreaksRule, IsFirstMalformed, ReadsAt, ReadsAborted, ReadsIntermediate, IsFirstAbortedRead, IsFirstIntermediateRead}
+use Rattle.adya_values.specs.declared.event.Version.{Version}
+use Rattle.adya_values.specs.declared.fault.Rule.{Rule}
+use Rattle.adya_values.specs.declared.fault.CheckFault.TheVariants.{Malformed, AbortedRead, IntermediateRead}
+use Rattle.adya_values.specs.Meaning.Histories.{Entry, Event, History}
+use Rattle.adya_values.specs.Meaning.Shapes.{is_shape}
+use Rattle.adya_values.specs.Meaning.Events.{txn_of, observed, last_write, is_aborted}
+use Rattle.adya_values.specs.Meaning.Rules.{IsWellFormed}
+use Rattle.adya_values.specs.Meaning.Phenomena.{ReadsCommitted, HasG1a}
+use Rattle.adya_values.specs.Computing.Faults.{malformed, aborted_reads, is_last_of_another, intermediate_reads, first, first_fault}
+use Rattle.adya_laws.specs.Meaning.FirstFaults.{BreaksRule, IsFirstMalformed, ReadsAt, ReadsAborted, ReadsIntermediate, IsFirstAbortedRead, IsFirstIntermediateRead}
 use Rattle.adya_laws.proofs.Members.{none_contained, Contains-slice_get}
 use Rattle.adya_laws.proofs.Entries.{is_entry-same, is_entry-from}
 use Rattle.adya_laws.proofs.Firsts.{stands_same, nil_or_first, contained_stands, contained_place, stands_contained, first_append, first_contained, first_left}

@@ -2,12 +2,12 @@
 use Rattle.std.proofs.Common.{◌≡◌, ◌≢◌, ℕ, zero, suc, ◌+◌, ◌-◌, ◌<◌, ◌≤◌, Bool, true, false, cond, List, Some, slice_get, refl, ◌∙◌, ap, subst, arith}
 use Rattle.std.proofs.lemmas.Bool.{cond-true}
 use Rattle.std.proofs.lemmas.Option.{none-some, slice_get_within}
-use Rattle.adya_terms.specs.Edges.{Edge}
-use Rattle.adya_terms.specs.Edges.{Ww}
-use Rattle.adya_terms.specs.Histories.{History}
-use Rattle.adya_terms.specs.Orders.{place, writers, installer}
-use Rattle.adya_terms.specs.Rules.{installs}
-use Rattle.adya_terms.specs.Acceptance.{IsAccepted}
+use Rattle.adya_values.specs.Meaning.Edges.{Edge}
+use Rattle.adya_values.specs.Meaning.Edges.{Ww}
+use Rattle.adya_values.specs.Meaning.Histories.{History}
+use Rattle.adya_values.specs.Meaning.Orders.{place, writers, installer}
+use Rattle.adya_values.specs.Meaning.Rules.{installs}
+use Rattle.adya_values.specs.Meaning.Acceptance.{IsAccepted}
 use Rattle.adya_laws.proofs.Places.{installer_there}
 use Rattle.adya_laws.proofs.Counts.{count_at, count_twice, place_get}
 

@@ -4,11 +4,11 @@ use Rattle.std.specs.List.{filter_map, cons_option, All, Contains}
 use Rattle.std.proofs.lemmas.Bool.{cases_Bool}
 use Rattle.std.proofs.lemmas.Option.{none-some, same_Some}
 use Rattle.std.proofs.lemmas.List.Elements.{All-contains}
-use Rattle.adya_terms.specs.Keys.{key_eq, lies_in, keys_rise}
-use Rattle.adya_terms.specs.Histories.{Content, Entry, FinalPair}
-use Rattle.adya_terms.specs.Events.{listed, visible, shown}
-use Rattle.adya_terms.specs.Rules.{final_value}
-use Rattle.adya_terms.specs.Serial.{pair, visible_pair_of, visible_pairs}
+use Rattle.adya_values.specs.Meaning.Keys.{key_eq, lies_in, keys_rise}
+use Rattle.adya_values.specs.Meaning.Histories.{Content, Entry, FinalPair}
+use Rattle.adya_values.specs.Meaning.Events.{listed, visible, shown}
+use Rattle.adya_values.specs.Meaning.Rules.{final_value}
+use Rattle.adya_values.specs.Meaning.Serial.{pair, visible_pair_of, visible_pairs}
 use Rattle.adya_laws.proofs.Keys.{key_eq-same, key_eq-from}
 use Rattle.adya_laws.proofs.Members.{none_contained, Contains-head, Contains-cons, Contains-cases}
 use Rattle.adya_laws.proofs.Rising.{rises_tail, rises_other}

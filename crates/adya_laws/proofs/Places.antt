@@ -3,10 +3,10 @@ use Rattle.std.proofs.Common.{◌≡◌, ℕ, zero, suc, ◌<◌, ◌≤◌, ◌
 use Rattle.std.specs.List.{Contains}
 use Rattle.std.proofs.lemmas.Bool.{cases_Bool, cases_eq}
 use Rattle.std.proofs.lemmas.Option.{none-some, slice_get_within, slice_get-get_or}
-use Rattle.adya_terms.specs.Keys.{key_eq}
-use Rattle.adya_terms.specs.Histories.{Order, History}
-use Rattle.adya_terms.specs.Orders.{line_of, writers, installer}
-use Rattle.adya_terms.specs.EdgeList.{numbers, places}
+use Rattle.adya_values.specs.Meaning.Keys.{key_eq}
+use Rattle.adya_values.specs.Meaning.Histories.{Order, History}
+use Rattle.adya_values.specs.Meaning.Orders.{line_of, writers, installer}
+use Rattle.adya_values.specs.Computing.EdgeList.{numbers, places}
 use Rattle.adya_laws.proofs.Keys.{key_eq-same}
 use Rattle.adya_laws.proofs.Members.{Contains-head, Contains-cons}
 

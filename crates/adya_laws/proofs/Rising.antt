@@ -7,7 +7,7 @@ use Rattle.std.specs.Ordering.{nat_cmp, is_lt}
 use Rattle.std.specs.Cmp.Lexicographic.{slice_cmp, nat_list_cmp_total}
 use Rattle.std.proofs.lemmas.Bool.{and_parts, both_ways}
 use Rattle.std.proofs.lemmas.Cmp.{tied_itself}
-use Rattle.adya_terms.specs.Keys.{key_eq, key_lt, keys_rise}
+use Rattle.adya_values.specs.Meaning.Keys.{key_eq, key_lt, keys_rise}
 use Rattle.adya_laws.proofs.Keys.{key_eq-other}
 use Rattle.adya_laws.proofs.Members.{none_contained, Contains-cases}
 

@@ -1,16 +1,16 @@
 -- Worked histories and certificates, with what is said of them.
 use Rattle.std.proofs.Common.{◌≡◌, ℕ, true, false, List, [], ◌∷◌, Some, None, refl, codes}
-use Rattle.adya_terms.specs.declared.fault.Rule.TheVariants.{M1, M2, M3, M4, M5, M6, M7, M8}
-use Rattle.adya_terms.specs.declared.fault.CheckFault.{CheckFault}
-use Rattle.adya_terms.specs.declared.fault.CheckFault.TheVariants.{Malformed, AbortedRead, IntermediateRead}
-use Rattle.adya_terms.specs.Histories.{Live, Dead, Event, Write, Delete, Read, Scan, Commit, Abort, Order, FinalPair, History}
-use Rattle.adya_terms.specs.declared.edition.Edition.TheVariants.{One, Two}
-use Rattle.adya_terms.specs.Events.{version, entry}
-use Rattle.adya_terms.specs.Edges.{Kind, Ww, Wr, Rw, Edge}
-use Rattle.adya_terms.specs.EdgeList.{edge_list}
-use Rattle.adya_terms.specs.Serial.{pair}
-use Rattle.adya_terms.specs.Faults.{first_fault}
-use Rattle.adya_terms.specs.Certificates.{lists_the_committed, first_backward}
+use Rattle.adya_values.specs.declared.fault.Rule.TheVariants.{M1, M2, M3, M4, M5, M6, M7, M8}
+use Rattle.adya_values.specs.declared.fault.CheckFault.{CheckFault}
+use Rattle.adya_values.specs.declared.fault.CheckFault.TheVariants.{Malformed, AbortedRead, IntermediateRead}
+use Rattle.adya_values.specs.Meaning.Histories.{Live, Dead, Event, Write, Delete, Read, Scan, Commit, Abort, Order, FinalPair, History}
+use Rattle.adya_values.specs.declared.edition.Edition.TheVariants.{One, Two}
+use Rattle.adya_values.specs.Meaning.Events.{version, entry}
+use Rattle.adya_values.specs.Meaning.Edges.{Kind, Ww, Wr, Rw, Edge}
+use Rattle.adya_values.specs.Computing.EdgeList.{edge_list}
+use Rattle.adya_values.specs.Meaning.Serial.{pair}
+use Rattle.adya_values.specs.Computing.Faults.{first_fault}
+use Rattle.adya_values.specs.Computing.Certificates.{lists_the_committed, first_backward}
 
 abbrev pub a : List ℕ
 a = codes "a"

@@ -4,11 +4,11 @@ use Rattle.std.specs.List.{filter_map, list_all, list_any, Contains, All}
 use Rattle.std.proofs.lemmas.Bool.{eqb-true, eq-eqb, and_parts, and_from, and_cases, or_cases, both_ways, not-true, false_from_ne_true}
 use Rattle.std.proofs.lemmas.Option.{same_Some, none-some}
 use Rattle.std.proofs.lemmas.List.Elements.{All-contains, Contains-get_or}
-use Rattle.adya_terms.specs.Keys.{key_eq, lies_in}
-use Rattle.adya_terms.specs.Histories.{Live, Entry, Event, Write, Delete, Read, Scan, Commit, Abort}
-use Rattle.adya_terms.specs.Events.{entry, written, observed, writes_of, last_write}
-use Rattle.adya_terms.specs.Rules.{WasWritten, ListsOnly, SeesOwnWrites, IsRising}
-use Rattle.adya_terms.specs.Faults.{entry_eq, is_none_or, lists_only, none_or_lists_only, is_next, was_written, sees_own, is_rising, is_value}
+use Rattle.adya_values.specs.Meaning.Keys.{key_eq, lies_in}
+use Rattle.adya_values.specs.Meaning.Histories.{Live, Entry, Event, Write, Delete, Read, Scan, Commit, Abort}
+use Rattle.adya_values.specs.Meaning.Events.{entry, written, observed, writes_of, last_write}
+use Rattle.adya_values.specs.Meaning.Rules.{WasWritten, ListsOnly, SeesOwnWrites, IsRising}
+use Rattle.adya_values.specs.Computing.Faults.{entry_eq, is_none_or, lists_only, none_or_lists_only, is_next, was_written, sees_own, is_rising, is_value}
 use Rattle.adya_laws.proofs.Keys.{key_eq-same, key_eq-from}
 use Rattle.adya_laws.proofs.Members.{Contains-head, Contains-cons, filter-source, list_all_at, list_all_when, list_any-source, list_any_when}
 use Rattle.adya_laws.proofs.Entries.{entry_eq-same, entry_eq-itself}

@@ -1,12 +1,12 @@
 -- What a run leaves at a key.
 use Rattle.std.proofs.Common.{◌≡◌, ℕ, ◌==◌, ◌&&◌, true, false, cond, List, [], ◌∷◌, ◌++◌, Option, Some, None, refl, ◌∙◌}
-use Rattle.adya_terms.specs.Histories.{Entry}
-use Rattle.adya_terms.specs.Histories.{Live, Dead}
-use Rattle.adya_terms.specs.Histories.{Event}
-use Rattle.adya_terms.specs.Histories.{Write, Delete, Read, Scan, Commit, Abort}
-use Rattle.adya_terms.specs.Keys.{key_eq}
-use Rattle.adya_terms.specs.Events.{version, entry, writes_of, last, last_write, shown}
-use Rattle.adya_terms.specs.Serial.{Contents, after, run, events_of, AllSee}
+use Rattle.adya_values.specs.Meaning.Histories.{Entry}
+use Rattle.adya_values.specs.Meaning.Histories.{Live, Dead}
+use Rattle.adya_values.specs.Meaning.Histories.{Event}
+use Rattle.adya_values.specs.Meaning.Histories.{Write, Delete, Read, Scan, Commit, Abort}
+use Rattle.adya_values.specs.Meaning.Keys.{key_eq}
+use Rattle.adya_values.specs.Meaning.Events.{version, entry, writes_of, last, last_write, shown}
+use Rattle.adya_values.specs.Meaning.Serial.{Contents, after, run, events_of, AllSee}
 
 -- what a key holds where these were its last write and what it held before
 abbrev pub over : Option Entry → Option (List ℕ) → Option (List ℕ)

@@ -3,17 +3,17 @@ use Rattle.std.proofs.Common.{◌≡◌, ◌≢◌, ℕ, zero, suc, ◌+◌, ◌
 use Rattle.std.specs.List.{filter_map, Contains}
 use Rattle.std.proofs.lemmas.Bool.{cases_Bool, cases_lt, and_from, eq-eqb, ne_eqb, lt-ltb, or_left, or_right, cond-true, cond-false, not_from_false}
 use Rattle.std.proofs.lemmas.List.Elements.{All-contains}
-use Rattle.adya_terms.specs.declared.event.Version.{Version}
-use Rattle.adya_terms.specs.Keys.{key_eq, lies_in, keys_rise}
-use Rattle.adya_terms.specs.Histories.{Live, Entry, Event, Write, Delete, Read, Scan, Commit, Abort, History}
-use Rattle.adya_terms.specs.Events.{txn_of, entry, written, observed, last_write, is_committed, listed, shown}
-use Rattle.adya_terms.specs.Orders.{place, writers, installer, value_by, value_at, is_visible_at}
-use Rattle.adya_terms.specs.Selections.{selected, reads_from, overwritten_by, differ, place_of}
-use Rattle.adya_terms.specs.Edges.{Wr, Rw, Edge}
-use Rattle.adya_terms.specs.Serial.{Contents, run, events_of, Sees}
-use Rattle.adya_terms.specs.Rules.{WasWritten, ListsOnly, SeesOwnWrites, IsRising}
-use Rattle.adya_terms.specs.Phenomena.{ReadsCommitted}
-use Rattle.adya_terms.specs.Acceptance.{IsAccepted}
+use Rattle.adya_values.specs.declared.event.Version.{Version}
+use Rattle.adya_values.specs.Meaning.Keys.{key_eq, lies_in, keys_rise}
+use Rattle.adya_values.specs.Meaning.Histories.{Live, Entry, Event, Write, Delete, Read, Scan, Commit, Abort, History}
+use Rattle.adya_values.specs.Meaning.Events.{txn_of, entry, written, observed, last_write, is_committed, listed, shown}
+use Rattle.adya_values.specs.Meaning.Orders.{place, writers, installer, value_by, value_at, is_visible_at}
+use Rattle.adya_values.specs.Meaning.Selections.{selected, reads_from, overwritten_by, differ, place_of}
+use Rattle.adya_values.specs.Meaning.Edges.{Wr, Rw, Edge}
+use Rattle.adya_values.specs.Meaning.Serial.{Contents, run, events_of, Sees}
+use Rattle.adya_values.specs.Meaning.Rules.{WasWritten, ListsOnly, SeesOwnWrites, IsRising}
+use Rattle.adya_values.specs.Meaning.Phenomena.{ReadsCommitted}
+use Rattle.adya_values.specs.Meaning.Acceptance.{IsAccepted}
 use Rattle.adya_laws.proofs.Keys.{key_eq-itself}
 use Rattle.adya_laws.proofs.Members.{Contains-head}
 use Rattle.adya_laws.proofs.Clean.{read_last_write, read_committed}

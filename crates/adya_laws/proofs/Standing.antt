@@ -2,12 +2,12 @@
 use Rattle.std.proofs.Common.{◌≡◌, ◌≢◌, ℕ, suc, ◌+◌, ◌<◌, ◌≤◌, true, false, List, ◌∷◌, ◌++◌, length, Option, Some, None, is_some, refl, sym, ◌∙◌, ap, subst, arith, inl, inr}
 use Rattle.std.proofs.lemmas.Bool.{cases_Bool, cases_lt, and_parts, and_cases, both_ways}
 use Rattle.std.proofs.lemmas.Option.{same_Some, none-some}
-use Rattle.adya_terms.specs.Histories.{Entry}
-use Rattle.adya_terms.specs.Histories.{History}
-use Rattle.adya_terms.specs.Events.{is_committed, last_write, shown}
-use Rattle.adya_terms.specs.Orders.{place, writers, installer, value_by, value_at}
-use Rattle.adya_terms.specs.Rules.{installs}
-use Rattle.adya_terms.specs.Acceptance.{IsAccepted}
+use Rattle.adya_values.specs.Meaning.Histories.{Entry}
+use Rattle.adya_values.specs.Meaning.Histories.{History}
+use Rattle.adya_values.specs.Meaning.Events.{is_committed, last_write, shown}
+use Rattle.adya_values.specs.Meaning.Orders.{place, writers, installer, value_by, value_at}
+use Rattle.adya_values.specs.Meaning.Rules.{installs}
+use Rattle.adya_values.specs.Meaning.Acceptance.{IsAccepted}
 use Rattle.adya_laws.proofs.Runs.{over}
 use Rattle.adya_laws.proofs.Counts.{count, count_same, count-append, place_at, place_before}
 use Rattle.adya_laws.proofs.Places.{installer_within}

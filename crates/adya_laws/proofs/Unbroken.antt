@@ -5,15 +5,15 @@ use Rattle.std.proofs.lemmas.Bool.{cases_Bool, or_parts, or_from, both_ways, not
 use Rattle.std.proofs.lemmas.Option.{none-some}
 use Rattle.std.proofs.lemmas.List.{append-nil}
 use Rattle.std.proofs.lemmas.List.Elements.{All-contains}
-use Rattle.adya_terms.specs.declared.fault.Rule.{Rule}
-use Rattle.adya_terms.specs.declared.fault.Rule.TheVariants.{M1, M2, M3, M4, M5, M6, M7, M8}
-use Rattle.adya_terms.specs.Keys.{key_eq, keys_rise}
-use Rattle.adya_terms.specs.Histories.{Event, Order, FinalPair, History}
-use Rattle.adya_terms.specs.Events.{txn_of, written, has_ended, is_unfinished}
-use Rattle.adya_terms.specs.Orders.{line_of}
-use Rattle.adya_terms.specs.Rules.{EachAfter, IsOpen, IsNumbered, WasWritten, SeesOwnWrites, IsRising, AllEnd, installs, OrdersList, final_value, FinalsShow, IsWellFormed}
-use Rattle.adya_terms.specs.Faults.{is_open, is_next, was_written, sees_own, is_rising, lists_exactly, last_value, is_value, unfinished_line, orders_line, finals_line, tail_line}
-use Rattle.adya_laws.specs.FirstFaults.{Stands, BreaksAtEvent, StaysOpen, ListsWriters, LacksOrder, LacksFinal, BreaksRule}
+use Rattle.adya_values.specs.declared.fault.Rule.{Rule}
+use Rattle.adya_values.specs.declared.fault.Rule.TheVariants.{M1, M2, M3, M4, M5, M6, M7, M8}
+use Rattle.adya_values.specs.Meaning.Keys.{key_eq, keys_rise}
+use Rattle.adya_values.specs.Meaning.Histories.{Event, Order, FinalPair, History}
+use Rattle.adya_values.specs.Meaning.Events.{txn_of, written, has_ended, is_unfinished}
+use Rattle.adya_values.specs.Meaning.Orders.{line_of}
+use Rattle.adya_values.specs.Meaning.Rules.{EachAfter, IsOpen, IsNumbered, WasWritten, SeesOwnWrites, IsRising, AllEnd, installs, OrdersList, final_value, FinalsShow, IsWellFormed}
+use Rattle.adya_values.specs.Computing.Faults.{is_open, is_next, was_written, sees_own, is_rising, lists_exactly, last_value, is_value, unfinished_line, orders_line, finals_line, tail_line}
+use Rattle.adya_laws.specs.Meaning.FirstFaults.{Stands, BreaksAtEvent, StaysOpen, ListsWriters, LacksOrder, LacksFinal, BreaksRule}
 use Rattle.adya_laws.proofs.Keys.{key_eq-same, key_eq-from}
 use Rattle.adya_laws.proofs.Members.{none_contained, Contains-head, Contains-cons, Contains-cases}
 use Rattle.adya_laws.proofs.Rising.{rises_tail, rises_other}

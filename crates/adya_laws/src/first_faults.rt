@@ -1,7 +1,7 @@
 //! Which fault is named of a history and a certificate: the first of the first kind that is there. Each law is the
 //! contract of a function that does nothing.
 
-ghost use Rattle.adya_laws.specs.FirstFaultLaws.{WellFormedWhereUnbroken, FirstMalformedIsNamed, NamedAbortedReadIsFirst, FirstAbortedReadIsNamed, NamedIntermediateReadIsFirst, FirstIntermediateReadIsNamed, FirstBackwardIsNamed};
+ghost use Rattle.adya_laws.specs.Meaning.FirstFaultLaws.{WellFormedWhereUnbroken, FirstMalformedIsNamed, NamedAbortedReadIsFirst, FirstAbortedReadIsNamed, NamedIntermediateReadIsFirst, FirstIntermediateReadIsNamed, FirstBackwardIsNamed};
 
 /// A history is well-formed exactly where it breaks no rule at any line. That the keys of its orders and of its finals
 /// rise, as those of every history do, is needed in one direction alone.

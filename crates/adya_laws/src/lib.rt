@@ -4,7 +4,7 @@
 
 pub mod first_faults;
 
-ghost use Rattle.adya_laws.specs.Laws.{EdgeListIsExact, EdgeListIsDistinct, EdgeListKeepsFirst, AcceptedHasNoPhenomenon, AcceptedWhereForward, AcceptedAgrees, SelectedIsInstalled};
+ghost use Rattle.adya_laws.specs.Meaning.Laws.{EdgeListIsExact, EdgeListIsDistinct, EdgeListKeepsFirst, AcceptedHasNoPhenomenon, AcceptedWhereForward, AcceptedAgrees, SelectedIsInstalled};
 
 /// The list of edges holds exactly the edges of the direct serialization graph (Adya 1999, section 3.1.4).
 pub fn edge_list_is_exact()

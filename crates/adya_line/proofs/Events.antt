@@ -4,14 +4,14 @@ use Rattle.std.proofs.Common.{append_assoc}
 use Rattle.std.specs.Prelude.{decimal, IfSome, MatchOption, codes}
 use Rattle.std.proofs.lemmas.Bool.{eqb-true, eq-eqb}
 use Rattle.std.proofs.lemmas.Option.{none-some, same_Some}
-use Rattle.adya_terms.specs.declared.event.Version.{Version}
-use Rattle.adya_terms.specs.Histories.{Event, Write, Delete, Read, Scan, Commit, Abort}
-use Rattle.adya_terms.specs.Keys.{is_value, is_value_byte, IsTxn}
-use Rattle.adya_line.specs.Spelling.{version_text, event_text, unfinished_text}
-use Rattle.adya_line.specs.Limits.{IsVersion, IsEvent}
-use Rattle.adya_line.specs.Reading.{Gives, ◌>>=◌, after, txn_at_line, write_at, delete_at, read_at, event_at}
-use Rattle.adya_line.specs.Reading.{unfinished_at}
-use Rattle.adya_line.specs.Views.{view}
+use Rattle.adya_values.specs.declared.event.Version.{Version}
+use Rattle.adya_values.specs.Meaning.Histories.{Event, Write, Delete, Read, Scan, Commit, Abort}
+use Rattle.adya_values.specs.Meaning.Keys.{is_value, is_value_byte, IsTxn}
+use Rattle.adya_line.specs.Meaning.Spelling.{version_text, event_text, unfinished_text}
+use Rattle.adya_line.specs.Meaning.Limits.{IsVersion, IsEvent}
+use Rattle.adya_line.specs.Computing.Reading.{Gives, ◌>>=◌, after, txn_at_line, write_at, delete_at, read_at, event_at}
+use Rattle.adya_line.specs.Computing.Reading.{unfinished_at}
+use Rattle.adya_line.specs.Meaning.Views.{view}
 use Rattle.adya_line.specs.declared.event_ref.EventRef.{EventRef}
 use Rattle.adya_line.proofs.Parts.{Only, found, then, weaken, if_then, by_byte, nothing, ended, both_parts}
 use Rattle.adya_line.proofs.Parts.{after_takes, text_takes, text_again, txn_takes, txn_again, line_takes, line_again}

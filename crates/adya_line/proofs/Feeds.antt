@@ -8,14 +8,14 @@ use Rattle.std.proofs.lemmas.Bool.{both_ways}
 use Rattle.std.proofs.lemmas.List.Elements.{All-append, All-from_recursion}
 use Rattle.std.proofs.lemmas.List.Concat.{flat_map-cons}
 use Rattle.std.proofs.lemmas.Fmt.{digits_decimal}
-use Rattle.adya_terms.specs.declared.event.Version.{Version}
-use Rattle.adya_terms.specs.Keys.{is_key, is_value, is_key_byte, is_value_byte, IsTxn}
-use Rattle.adya_terms.specs.Histories.{Content, Live, Dead, Entry, Write, Delete, Read, Scan, Commit, Abort}
-use Rattle.adya_line.specs.Spelling.{history_head, second_head, serial_head, tail, version_text, content_text}
-use Rattle.adya_line.specs.Spelling.{entry_text, event_text, unfinished_text, later_text, writers_text, order_text}
-use Rattle.adya_line.specs.Spelling.{final_text}
-use Rattle.adya_line.specs.Limits.{IsVersion, IsContent, IsEntry, IsEvent, IsOrder, IsFinal}
-use Rattle.adya_line.specs.Laws.{IsPlain, HasPlainTexts}
+use Rattle.adya_values.specs.declared.event.Version.{Version}
+use Rattle.adya_values.specs.Meaning.Keys.{is_key, is_value, is_key_byte, is_value_byte, IsTxn}
+use Rattle.adya_values.specs.Meaning.Histories.{Content, Live, Dead, Entry, Write, Delete, Read, Scan, Commit, Abort}
+use Rattle.adya_line.specs.Meaning.Spelling.{history_head, second_head, serial_head, tail, version_text, content_text}
+use Rattle.adya_line.specs.Meaning.Spelling.{entry_text, event_text, unfinished_text, later_text, writers_text, order_text}
+use Rattle.adya_line.specs.Meaning.Spelling.{final_text}
+use Rattle.adya_line.specs.Meaning.Limits.{IsVersion, IsContent, IsEntry, IsEvent, IsOrder, IsFinal}
+use Rattle.adya_line.specs.Meaning.Laws.{IsPlain, HasPlainTexts}
 use Rattle.adya_line.proofs.Parts.{both_parts}
 use Rattle.adya_line.proofs.Digits.{model, list_all-is}
 

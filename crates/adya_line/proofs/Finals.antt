@@ -1,11 +1,11 @@
 -- What is read is the line's final, and each final is read from its line.
 use Rattle.std.proofs.Common.{◌≡◌, ℕ, List, [], ◌∷◌, ◌++◌, Some, refl, sym, ◌∙◌, append_assoc}
 use Rattle.std.specs.Prelude.{codes}
-use Rattle.adya_terms.specs.Keys.{is_key_byte, is_value_byte}
-use Rattle.adya_terms.specs.Histories.{FinalPair}
-use Rattle.adya_line.specs.Spelling.{final_text}
-use Rattle.adya_line.specs.Limits.{IsFinal}
-use Rattle.adya_line.specs.Reading.{after, final_at}
+use Rattle.adya_values.specs.Meaning.Keys.{is_key_byte, is_value_byte}
+use Rattle.adya_values.specs.Meaning.Histories.{FinalPair}
+use Rattle.adya_line.specs.Meaning.Spelling.{final_text}
+use Rattle.adya_line.specs.Meaning.Limits.{IsFinal}
+use Rattle.adya_line.specs.Computing.Reading.{after, final_at}
 use Rattle.adya_line.proofs.Parts.{Only, then, if_then, ended, after_takes, text_takes, text_again, key_between_takes}
 use Rattle.adya_line.proofs.Parts.{key_between_again}
 

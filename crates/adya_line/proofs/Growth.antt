@@ -2,7 +2,7 @@
 use Rattle.std.proofs.Common.{ℕ, List, [], ◌++◌, Option, Result, Ok, Err}
 use Rattle.std.specs.Prelude.{OnOk}
 use Rattle.std.proofs.KnownBytes.{Appends-nil, Appends-trans}
-use Rattle.adya_line.specs.Growing.{Grows}
+use Rattle.adya_line.specs.Machinery.Growing.{Grows}
 
 -- one part and then another
 pub and_then : {a b c : Option (List ℕ)} {x y : List ℕ} → Grows a x b → Grows b y c → Grows a (x ++ y) c

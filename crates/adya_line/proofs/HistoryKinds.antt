@@ -2,16 +2,16 @@
 use Rattle.std.proofs.Common.{◌≡◌, ℕ, List, Option, Some, None, if◌then◌else◌, refl, sym, ap, ◌∙◌}
 use Rattle.std.specs.Str.{bytes_eq}
 use Rattle.std.proofs.lemmas.Option.{none-some}
-use Rattle.adya_terms.specs.declared.edition.Edition.TheVariants.{One, Two}
-use Rattle.adya_terms.specs.Keys.{IsTxn}
-use Rattle.adya_terms.specs.Histories.{Event, Order, FinalPair}
-use Rattle.adya_line.specs.Spelling.{history_head, second_head, tail, unfinished_text, order_text, final_text}
-use Rattle.adya_line.specs.Limits.{IsOrder, IsFinal}
-use Rattle.adya_line.specs.Reading.{after, none_or, key_between, txn_at, txn_at_line}
-use Rattle.adya_line.specs.Reading.{event_at, unfinished_at, order_at, final_at}
-use Rattle.adya_line.specs.Laws.{IsOneText, HasPlainTexts}
-use Rattle.adya_line.specs.HistoryLines.{Line, HeadLine, EventLine, UnfinishedLine, OrderLine, FinalLine, TailLine}
-use Rattle.adya_line.specs.HistoryLines.{IsLine, line_text, IsNoLine, IsOnlyLineOf}
+use Rattle.adya_values.specs.declared.edition.Edition.TheVariants.{One, Two}
+use Rattle.adya_values.specs.Meaning.Keys.{IsTxn}
+use Rattle.adya_values.specs.Meaning.Histories.{Event, Order, FinalPair}
+use Rattle.adya_line.specs.Meaning.Spelling.{history_head, second_head, tail, unfinished_text, order_text, final_text}
+use Rattle.adya_line.specs.Meaning.Limits.{IsOrder, IsFinal}
+use Rattle.adya_line.specs.Computing.Reading.{after, none_or, key_between, txn_at, txn_at_line}
+use Rattle.adya_line.specs.Computing.Reading.{event_at, unfinished_at, order_at, final_at}
+use Rattle.adya_line.specs.Meaning.Laws.{IsOneText, HasPlainTexts}
+use Rattle.adya_line.specs.Meaning.HistoryLines.{Line, HeadLine, EventLine, UnfinishedLine, OrderLine, FinalLine, TailLine}
+use Rattle.adya_line.specs.Meaning.HistoryLines.{IsLine, line_text, IsNoLine, IsOnlyLineOf}
 use Rattle.adya_line.proofs.Events.{event_again, unfinished_again}
 use Rattle.adya_line.proofs.Orders.{order_again}
 use Rattle.adya_line.proofs.Finals.{final_again}

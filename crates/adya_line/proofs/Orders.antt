@@ -6,11 +6,11 @@ use Rattle.std.specs.Char.{is_ascii_digit}
 use Rattle.std.specs.List.{flat_map, AllByRecursion}
 use Rattle.std.proofs.lemmas.List.Concat.{flat_map-cons}
 use Rattle.std.proofs.lemmas.List.{length-append, append-nil}
-use Rattle.adya_terms.specs.Keys.{is_key_byte, IsTxn}
-use Rattle.adya_terms.specs.Histories.{Order}
-use Rattle.adya_line.specs.Spelling.{later_text, writers_text, order_text}
-use Rattle.adya_line.specs.Limits.{IsOrder}
-use Rattle.adya_line.specs.Reading.{◌>>=◌, after, writer_at, later_at, writers_at, order_at, behind}
+use Rattle.adya_values.specs.Meaning.Keys.{is_key_byte, IsTxn}
+use Rattle.adya_values.specs.Meaning.Histories.{Order}
+use Rattle.adya_line.specs.Meaning.Spelling.{later_text, writers_text, order_text}
+use Rattle.adya_line.specs.Meaning.Limits.{IsOrder}
+use Rattle.adya_line.specs.Computing.Reading.{◌>>=◌, after, writer_at, later_at, writers_at, order_at, behind}
 use Rattle.adya_line.proofs.Parts.{Only, found, then, weaken, ended, if_then, if_after, after_takes, txn_takes}
 use Rattle.adya_line.proofs.Parts.{txn_again, key_between_takes, key_between_again}
 

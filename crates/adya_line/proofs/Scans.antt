@@ -7,13 +7,13 @@ use Rattle.std.proofs.lemmas.Bool.{both_ways}
 use Rattle.std.proofs.lemmas.Bool.Decides.{eqb_tells}
 use Rattle.std.proofs.lemmas.List.Concat.{flat_map-cons}
 use Rattle.std.proofs.lemmas.List.{length-append}
-use Rattle.adya_terms.specs.declared.event.Version.{Version}
-use Rattle.adya_terms.specs.Keys.{is_key, is_value, is_key_byte, is_value_byte, IsTxn}
-use Rattle.adya_terms.specs.Histories.{Content, Live, Dead, Entry, Scan}
-use Rattle.adya_line.specs.Spelling.{version_text, content_text, entry_text, event_text}
-use Rattle.adya_line.specs.Limits.{IsContent, IsEntry, IsEvent}
-use Rattle.adya_line.specs.Reading.{◌>>=◌, after, none_or, content_at, entry_at, behind_entry, entries_at, entries_of}
-use Rattle.adya_line.specs.Reading.{after_entries, whole, scan_at}
+use Rattle.adya_values.specs.declared.event.Version.{Version}
+use Rattle.adya_values.specs.Meaning.Keys.{is_key, is_value, is_key_byte, is_value_byte, IsTxn}
+use Rattle.adya_values.specs.Meaning.Histories.{Content, Live, Dead, Entry, Scan}
+use Rattle.adya_line.specs.Meaning.Spelling.{version_text, content_text, entry_text, event_text}
+use Rattle.adya_line.specs.Meaning.Limits.{IsContent, IsEntry, IsEvent}
+use Rattle.adya_line.specs.Computing.Reading.{◌>>=◌, after, none_or, content_at, entry_at, behind_entry, entries_at, entries_of}
+use Rattle.adya_line.specs.Computing.Reading.{after_entries, whole, scan_at}
 use Rattle.adya_line.proofs.Parts.{Only, found, then, if_then, if_after, ended, both_parts, after_takes, text_takes}
 use Rattle.adya_line.proofs.Parts.{text_again, txn_takes, txn_again, version_then, version_then-is, version_takes}
 use Rattle.adya_line.proofs.Parts.{version_again}

@@ -2,10 +2,10 @@
 use Rattle.std.proofs.Common.{◌≡◌, ℕ, List, Option, Some, None, if◌then◌else◌, refl, sym, ◌∙◌}
 use Rattle.std.specs.Str.{bytes_eq}
 use Rattle.std.proofs.lemmas.Option.{none-some}
-use Rattle.adya_line.specs.Spelling.{serial_head, tail}
-use Rattle.adya_line.specs.Reading.{txn_at, txn_at_line}
-use Rattle.adya_line.specs.Laws.{IsOneText, HasPlainTexts}
-use Rattle.adya_line.specs.SerialLines.{Line, HeadLine, TxnLine, TailLine, IsLine, line_text, IsNoLine, IsOnlyLineOf}
+use Rattle.adya_line.specs.Meaning.Spelling.{serial_head, tail}
+use Rattle.adya_line.specs.Computing.Reading.{txn_at, txn_at_line}
+use Rattle.adya_line.specs.Meaning.Laws.{IsOneText, HasPlainTexts}
+use Rattle.adya_line.specs.Meaning.SerialLines.{Line, HeadLine, TxnLine, TailLine, IsLine, line_text, IsNoLine, IsOnlyLineOf}
 use Rattle.adya_line.proofs.Parts as parts
 use Rattle.adya_line.proofs.Readers.{one, txns_read}
 use Rattle.adya_line.proofs.HistoryKinds.{kind_or, of_kind}

@@ -1,8 +1,8 @@
 //! The entries of a scan that lies in a line.
 
 ghost use Rattle.std.specs.Prelude.{◌≡◌};
-ghost use Rattle.adya_line.specs.Reading.{Gives, content_at, entry_at, entries_of, after_entries};
-ghost use Rattle.adya_line.specs.Views.{view_content, view_entry, entries_left};
+ghost use Rattle.adya_line.specs.Computing.Reading.{Gives, content_at, entry_at, entries_of, after_entries};
+ghost use Rattle.adya_line.specs.Meaning.Views.{view_content, view_entry, entries_left};
 
 use crate::entry_ref::{ContentRef, EntryRef, ValueRef};
 use crate::fields::{after, value_at, version_at};
@@ -23,7 +23,7 @@ impl<'a> Entries<'a> {
 
 impl<'a> Iterator for Entries<'a> {
     ghost use Rattle.std.specs.Iterator.{item_count};
-    ghost use Rattle.adya_line.specs.Views.{entries_left, GivesEntry};
+    ghost use Rattle.adya_line.specs.Meaning.Views.{entries_left, GivesEntry};
 
     type Item = EntryRef<'a>;
 
@@ -39,7 +39,7 @@ impl<'a> Iterator for Entries<'a> {
 }
 
 /// The content at the front, and what follows.
-#[tactic(auto, unfolding(crate::specs::Reading::content_at))]
+#[tactic(auto, unfolding(crate::specs::Computing::Reading::content_at))]
 fn content_at(bytes: &[u8]) -> Option<(ContentRef<'_>, &[u8])>
     ensures { Gives (λ x. (view_content x.0, x.1.now)) result (content_at bytes.now) }
 {
@@ -51,7 +51,7 @@ fn content_at(bytes: &[u8]) -> Option<(ContentRef<'_>, &[u8])>
 }
 
 /// The entry at the front, behind its `;`, and what follows.
-#[tactic(auto, unfolding(crate::specs::Reading::entry_at))]
+#[tactic(auto, unfolding(crate::specs::Computing::Reading::entry_at))]
 fn entry_at(bytes: &[u8]) -> Option<(EntryRef<'_>, &[u8])>
     ensures { Gives (λ x. (view_entry x.0, x.1.now)) result (entry_at bytes.now) }
 {

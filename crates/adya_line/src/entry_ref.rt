@@ -1,10 +1,10 @@
 //! Entries of a scan that lie in a line.
 
 ghost use Rattle.std.specs.Prelude.{◌≡◌, true};
-ghost use Rattle.adya_terms.specs.Keys.{is_value};
+ghost use Rattle.adya_values.specs.Meaning.Keys.{is_value};
 
 use crate::event_ref::VersionRef;
-use adya_terms::{Content, Entry, Value};
+use adya_values::{Content, Entry, Value};
 
 /// A value that is a slice of the line.
 #[derive(Clone, Copy)]
@@ -33,8 +33,8 @@ pub struct EntryRef<'a> {
 }
 
 impl EntryRef<'_> {
-    ghost use Rattle.adya_terms.specs.Histories.{entry_of};
-    ghost use Rattle.adya_line.specs.Views.{view_entry};
+    ghost use Rattle.adya_values.specs.Meaning.Histories.{entry_of};
+    ghost use Rattle.adya_line.specs.Meaning.Views.{view_entry};
 
     /// The entry by itself.
     pub(crate) fn to_entry(&self) -> Entry
@@ -48,8 +48,8 @@ impl EntryRef<'_> {
 }
 
 impl ContentRef<'_> {
-    ghost use Rattle.adya_terms.specs.Histories.{content_of};
-    ghost use Rattle.adya_line.specs.Views.{view_content};
+    ghost use Rattle.adya_values.specs.Meaning.Histories.{content_of};
+    ghost use Rattle.adya_line.specs.Meaning.Views.{view_content};
 
     fn to_content(&self) -> Content
         ensures { content_of result ≡ view_content self.now }

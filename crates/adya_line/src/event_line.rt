@@ -1,21 +1,21 @@
 //! The lines of events.
 
 ghost use Rattle.std.specs.Prelude.{◌≡◌, IfSome, IfOk, MatchOption};
-ghost use Rattle.adya_terms.specs.Histories.{Event as Plain, event_of};
-ghost use Rattle.adya_line.specs.Reading.{Gives, write_at, delete_at, read_at, scan_at, event_at};
-ghost use Rattle.adya_line.specs.Spelling.{event_text};
-ghost use Rattle.adya_line.specs.Limits.{IsEvent};
-ghost use Rattle.adya_line.specs.Views.{view};
+ghost use Rattle.adya_values.specs.Meaning.Histories.{Event as Plain, event_of};
+ghost use Rattle.adya_line.specs.Computing.Reading.{Gives, write_at, delete_at, read_at, scan_at, event_at};
+ghost use Rattle.adya_line.specs.Meaning.Spelling.{event_text};
+ghost use Rattle.adya_line.specs.Meaning.Limits.{IsEvent};
+ghost use Rattle.adya_line.specs.Meaning.Views.{view};
 
 use crate::entries::after_entries;
 use crate::event_ref::{DeleteRef, EndRef, EventRef, ReadRef, ScanRef, WriteRef};
 use crate::fields::{after, key_at, txn_at, value_at, version_at};
 use crate::txn_line::txn_at_line;
-use adya_terms::Event;
+use adya_values::Event;
 use std::alloc::{AllocError, Global};
 
 /// A write behind its letter.
-#[tactic(auto, unfolding(crate::specs::Reading::write_at))]
+#[tactic(auto, unfolding(crate::specs::Computing::Reading::write_at))]
 fn write_at(bytes: &[u8]) -> Option<EventRef<'_>>
     ensures { Gives view result (write_at bytes.now) }
 {
@@ -32,7 +32,7 @@ fn write_at(bytes: &[u8]) -> Option<EventRef<'_>>
 }
 
 /// A delete behind its letter.
-#[tactic(auto, unfolding(crate::specs::Reading::delete_at))]
+#[tactic(auto, unfolding(crate::specs::Computing::Reading::delete_at))]
 fn delete_at(bytes: &[u8]) -> Option<EventRef<'_>>
     ensures { Gives view result (delete_at bytes.now) }
 {
@@ -47,7 +47,7 @@ fn delete_at(bytes: &[u8]) -> Option<EventRef<'_>>
 }
 
 /// A read behind its letter.
-#[tactic(auto, unfolding(crate::specs::Reading::read_at))]
+#[tactic(auto, unfolding(crate::specs::Computing::Reading::read_at))]
 fn read_at(bytes: &[u8]) -> Option<EventRef<'_>>
     ensures { Gives view result (read_at bytes.now) }
 {
@@ -68,7 +68,7 @@ fn read_at(bytes: &[u8]) -> Option<EventRef<'_>>
 }
 
 /// A scan behind its letter.
-#[tactic(auto, unfolding(crate::specs::Reading::scan_at))]
+#[tactic(auto, unfolding(crate::specs::Computing::Reading::scan_at))]
 fn scan_at(bytes: &[u8]) -> Option<EventRef<'_>>
     ensures { Gives view result (scan_at bytes.now) }
 {
@@ -89,7 +89,7 @@ fn scan_at(bytes: &[u8]) -> Option<EventRef<'_>>
     }))
 }
 
-#[tactic(auto, unfolding(crate::specs::Reading::event_at))]
+#[tactic(auto, unfolding(crate::specs::Computing::Reading::event_at))]
 fn event_at(line: &[u8]) -> Option<EventRef<'_>>
     ensures { Gives view result (event_at line.now) }
 {

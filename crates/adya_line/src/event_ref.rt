@@ -1,10 +1,10 @@
 //! Events that lie in a line.
 
 ghost use Rattle.std.specs.Prelude.{◌≡◌, true};
-ghost use Rattle.adya_terms.specs.Keys.{is_key, is_value, IsTxn, IsMod};
+ghost use Rattle.adya_values.specs.Meaning.Keys.{is_key, is_value, IsTxn, IsMod};
 
 use crate::entries::Entries;
-use adya_terms::{Entry, Event, Key, Mod, Txn, Value, Version};
+use adya_values::{Entry, Event, Key, Mod, Txn, Value, Version};
 use std::alloc::{AllocError, Global};
 
 /// A version whose key is a slice of the line.
@@ -95,8 +95,8 @@ pub enum EventRef<'a> {
 
 impl EventRef<'_> {
     ghost use Rattle.std.specs.Prelude.{IfOk};
-    ghost use Rattle.adya_terms.specs.Histories.{event_of};
-    ghost use Rattle.adya_line.specs.Views.{view};
+    ghost use Rattle.adya_values.specs.Meaning.Histories.{event_of};
+    ghost use Rattle.adya_line.specs.Meaning.Views.{view};
 
     /// The event by itself; `AllocError` where there is no memory for a scan's list.
     pub fn to_event(&self, alloc: Global) -> Result<Event, AllocError>
@@ -137,9 +137,9 @@ impl EventRef<'_> {
 
 impl<'a> ScanRef<'a> {
     ghost use Rattle.std.specs.Prelude.{map, IfOk};
-    ghost use Rattle.adya_terms.specs.Histories.{entry_of};
-    ghost use Rattle.adya_line.specs.Reading.{entries_of};
-    ghost use Rattle.adya_line.specs.Views.{entries_left};
+    ghost use Rattle.adya_values.specs.Meaning.Histories.{entry_of};
+    ghost use Rattle.adya_line.specs.Computing.Reading.{entries_of};
+    ghost use Rattle.adya_line.specs.Meaning.Views.{entries_left};
 
     /// The entries, in the order of the line.
     pub fn entries(&self) -> Entries<'a>
@@ -161,7 +161,7 @@ impl<'a> ScanRef<'a> {
 }
 
 impl VersionRef<'_> {
-    ghost use Rattle.adya_line.specs.Views.{view_version};
+    ghost use Rattle.adya_line.specs.Meaning.Views.{view_version};
 
     pub(crate) fn version(&self) -> Version
         ensures { result ≡ view_version self.now }

@@ -5,16 +5,16 @@ ghost use Rattle.std.specs.List.{prefix_len};
 ghost use Rattle.std.specs.Char.{is_ascii_digit};
 ghost use Rattle.std.specs.Str.{all_ascii_digits};
 ghost use Rattle.std.specs.Str.Parse.{digits_value};
-ghost use Rattle.adya_terms.specs.Keys.{is_key, is_value, is_key_byte, is_value_byte, IsTxn, IsMod};
-ghost use Rattle.adya_line.specs.Reading.{Gives, after, text_at, txn_at, mod_at, version_at, key_between};
-ghost use Rattle.adya_line.specs.Views.{view_version};
+ghost use Rattle.adya_values.specs.Meaning.Keys.{is_key, is_value, is_key_byte, is_value_byte, IsTxn, IsMod};
+ghost use Rattle.adya_line.specs.Computing.Reading.{Gives, after, text_at, txn_at, mod_at, version_at, key_between};
+ghost use Rattle.adya_line.specs.Meaning.Views.{view_version};
 
 use crate::event_ref::VersionRef;
-use adya_terms::{MAX_KEY_LEN, MAX_VALUE_LEN, is_key_byte, is_value_byte};
+use adya_values::{MAX_KEY_LEN, MAX_VALUE_LEN, is_key_byte, is_value_byte};
 use std::str;
 
 /// What follows the byte at the front.
-#[tactic(auto, unfolding(crate::specs::Reading::after))]
+#[tactic(auto, unfolding(crate::specs::Computing::Reading::after))]
 pub(crate) fn after(byte: u8, bytes: &[u8]) -> Option<&[u8]>
     ensures { Gives (λ x. x.now) result (after byte bytes.now) }
 {
@@ -46,7 +46,7 @@ fn digits_len(bytes: &[u8]) -> usize
 }
 
 /// The key at the front, and what follows.
-#[tactic(auto, unfolding(crate::specs::Reading::text_at))]
+#[tactic(auto, unfolding(crate::specs::Computing::Reading::text_at))]
 pub(crate) fn key_at(bytes: &[u8]) -> Option<(&[u8], &[u8])>
     ensures exact { Gives (λ x. (x.0.now, x.1.now)) result (text_at 32 is_key_byte bytes.now) }
     ensures good { IfSome result (λ x. is_key x.0.now ≡ true) }
@@ -59,7 +59,7 @@ pub(crate) fn key_at(bytes: &[u8]) -> Option<(&[u8], &[u8])>
 }
 
 /// The value at the front, and what follows.
-#[tactic(auto, unfolding(crate::specs::Reading::text_at))]
+#[tactic(auto, unfolding(crate::specs::Computing::Reading::text_at))]
 pub(crate) fn value_at(bytes: &[u8]) -> Option<(&[u8], &[u8])>
     ensures exact { Gives (λ x. (x.0.now, x.1.now)) result (text_at 64 is_value_byte bytes.now) }
     ensures good { IfSome result (λ x. is_value x.0.now ≡ true) }
@@ -72,7 +72,7 @@ pub(crate) fn value_at(bytes: &[u8]) -> Option<(&[u8], &[u8])>
 }
 
 /// The number at the front, which is not 0 and has no leading zero, and what follows.
-#[tactic(auto, using(crate::proofs::Digits::digits_front), unfolding(crate::specs::Reading::txn_at))]
+#[tactic(auto, using(crate::proofs::Digits::digits_front), unfolding(crate::specs::Computing::Reading::txn_at))]
 pub(crate) fn txn_at(bytes: &[u8]) -> Option<(u32, &[u8])>
     ensures exact { Gives (λ x. (x.0, x.1.now)) result (txn_at bytes.now) }
     ensures good { IfSome result (λ x. IsTxn x.0) }
@@ -95,7 +95,7 @@ fn value_of(digits: &[u8]) -> Option<u32>
 }
 
 /// The number of a modification at the front, and what follows.
-#[tactic(auto, unfolding(crate::specs::Reading::mod_at))]
+#[tactic(auto, unfolding(crate::specs::Computing::Reading::mod_at))]
 pub(crate) fn mod_at(bytes: &[u8]) -> Option<(u16, &[u8])>
     ensures exact { Gives (λ x. (x.0, x.1.now)) result (mod_at bytes.now) }
     ensures good { IfSome result (λ x. IsMod x.0) }
@@ -105,7 +105,7 @@ pub(crate) fn mod_at(bytes: &[u8]) -> Option<(u16, &[u8])>
 }
 
 /// The version at the front, and what follows.
-#[tactic(auto, unfolding(crate::specs::Reading::version_at))]
+#[tactic(auto, unfolding(crate::specs::Computing::Reading::version_at))]
 pub(crate) fn version_at(bytes: &[u8]) -> Option<(VersionRef<'_>, &[u8])>
     ensures { Gives (λ x. (view_version x.0, x.1.now)) result (version_at bytes.now) }
 {
@@ -118,7 +118,7 @@ pub(crate) fn version_at(bytes: &[u8]) -> Option<(VersionRef<'_>, &[u8])>
 }
 
 /// The key between the two bytes, the first of which is at the front, and what follows.
-#[tactic(auto, unfolding(crate::specs::Reading::key_between))]
+#[tactic(auto, unfolding(crate::specs::Computing::Reading::key_between))]
 pub(crate) fn key_between(opening: u8, closing: u8, bytes: &[u8]) -> Option<(&[u8], &[u8])>
     ensures exact { Gives (λ x. (x.0.now, x.1.now)) result (key_between opening closing bytes.now) }
     ensures good { IfSome result (λ x. is_key x.0.now ≡ true) }

@@ -1,13 +1,13 @@
 //! The lines of finals.
 
-ghost use Rattle.adya_terms.specs.Histories.{final_of};
-ghost use Rattle.adya_line.specs.Reading.{Gives, final_at};
+ghost use Rattle.adya_values.specs.Meaning.Histories.{final_of};
+ghost use Rattle.adya_line.specs.Computing.Reading.{Gives, final_at};
 
 use crate::fields::{after, key_between, value_at};
-use adya_terms::{FinalPair, Key, Value};
+use adya_values::{FinalPair, Key, Value};
 
 /// The final whose line this is, without its line feed: `{K,V}`. None on every other text.
-#[tactic(auto, unfolding(crate::specs::Reading::final_at))]
+#[tactic(auto, unfolding(crate::specs::Computing::Reading::final_at))]
 pub fn final_pair(line: &[u8]) -> Option<FinalPair>
     ensures { Gives final_of result (final_at line.now) }
 {

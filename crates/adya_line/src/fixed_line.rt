@@ -1,7 +1,7 @@
 //! The lines that each text has once.
 
 ghost use Rattle.std.specs.Prelude.{◌≡◌, ◌↔◌, IsTrue};
-ghost use Rattle.adya_line.specs.Spelling.{history_head, second_head, serial_head, tail};
+ghost use Rattle.adya_line.specs.Meaning.Spelling.{history_head, second_head, serial_head, tail};
 
 /// The first line of a history, without its line feed: `adya 1`.
 pub fn history_head() -> &'static [u8]

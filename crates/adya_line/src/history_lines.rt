@@ -1,14 +1,14 @@
 //! The lines of a history text, by their kind.
 
 ghost use Rattle.std.specs.Prelude.{IfOk, MatchOption};
-ghost use Rattle.adya_line.specs.HistoryLines.{IsNoLine, IsOnlyLineOf, line_of};
+ghost use Rattle.adya_line.specs.Meaning.HistoryLines.{IsNoLine, IsOnlyLineOf, line_of};
 
 use crate::event_line::event;
 use crate::final_line::final_pair;
 use crate::fixed_line::{is_history_head, is_second_head, is_tail};
 use crate::order_line::order;
 use crate::unfinished_line::unfinished;
-use adya_terms::{Edition, Event, FinalPair, Order, Txn};
+use adya_values::{Edition, Event, FinalPair, Order, Txn};
 use std::alloc::{AllocError, Global};
 
 /// A line of a history text.

@@ -2,16 +2,16 @@
 
 ghost use Rattle.std.specs.Prelude.{ℕ, ◌<◌, length, map};
 ghost use Rattle.std.specs.List.{AllByRecursion};
-ghost use Rattle.adya_terms.specs.Keys.{IsTxn};
-ghost use Rattle.adya_terms.specs.Histories.{entry_of, event_of, order_of, final_of};
-ghost use Rattle.adya_line.specs.Spelling.{event_text, unfinished_text, order_text, final_text, txn_text};
-ghost use Rattle.adya_line.specs.Limits.{IsEntry, IsEvent, IsOrder, IsFinal};
-ghost use Rattle.adya_line.specs.Reading.{event_at, unfinished_at, order_at, final_at, txn_at_line};
-ghost use Rattle.adya_line.specs.Laws.{IsReaderOf, IsOneText, HasPlainTexts};
-ghost use Rattle.adya_line.specs.HistoryLines.{IsLine as IsHistoryLine, line_text as history_line_text};
-ghost use Rattle.adya_line.specs.SerialLines.{IsLine as IsSerialLine, line_text as serial_line_text};
+ghost use Rattle.adya_values.specs.Meaning.Keys.{IsTxn};
+ghost use Rattle.adya_values.specs.Meaning.Histories.{entry_of, event_of, order_of, final_of};
+ghost use Rattle.adya_line.specs.Meaning.Spelling.{event_text, unfinished_text, order_text, final_text, txn_text};
+ghost use Rattle.adya_line.specs.Meaning.Limits.{IsEntry, IsEvent, IsOrder, IsFinal};
+ghost use Rattle.adya_line.specs.Computing.Reading.{event_at, unfinished_at, order_at, final_at, txn_at_line};
+ghost use Rattle.adya_line.specs.Meaning.Laws.{IsReaderOf, IsOneText, HasPlainTexts};
+ghost use Rattle.adya_line.specs.Meaning.HistoryLines.{IsLine as IsHistoryLine, line_text as history_line_text};
+ghost use Rattle.adya_line.specs.Meaning.SerialLines.{IsLine as IsSerialLine, line_text as serial_line_text};
 
-use adya_terms::{Content, Entry, Event, FinalPair, Order};
+use adya_values::{Content, Entry, Event, FinalPair, Order};
 
 /// The lines of events are the texts of the events within their limits.
 pub fn event_lines()

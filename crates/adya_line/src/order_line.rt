@@ -1,11 +1,11 @@
 //! The lines of orders.
 
 ghost use Rattle.std.specs.Prelude.{◌≡◌, List, [], ◌∷◌, length, IfOk};
-ghost use Rattle.adya_terms.specs.Histories.{order_of};
-ghost use Rattle.adya_line.specs.Reading.{Gives, Steps, behind, txn_at, writer_at, later_at, writers_at, order_at};
+ghost use Rattle.adya_values.specs.Meaning.Histories.{order_of};
+ghost use Rattle.adya_line.specs.Computing.Reading.{Gives, Steps, behind, txn_at, writer_at, later_at, writers_at, order_at};
 
 use crate::fields::{after, key_between, txn_at};
-use adya_terms::{Key, Order, Txn};
+use adya_values::{Key, Order, Txn};
 use std::alloc::{AllocError, Global};
 
 /// What is left of a line.
@@ -25,7 +25,7 @@ impl Cursor<'_> {
     }
 
     /// Goes past the second `<` of a mark and a number.
-    #[tactic(auto, unfolding(crate::specs::Reading::writer_at))]
+    #[tactic(auto, unfolding(crate::specs::Computing::Reading::writer_at))]
     fn writer(&mut self) -> Option<Txn>
         ensures { Steps (λ x. x) result self.new.rest.now (writer_at self.old.rest.now) }
     {
@@ -51,7 +51,7 @@ impl Cursor<'_> {
     }
 
     /// Goes past `T<<T<<..`.
-    #[tactic(auto, unfolding(crate::specs::Reading::writers_at))]
+    #[tactic(auto, unfolding(crate::specs::Computing::Reading::writers_at))]
     fn writers(&mut self, alloc: Global) -> Result<Option<Vec<Txn>>, AllocError>
         ensures { IfOk result (λ r. Steps (λ w. w.items) r self.new.rest.now (writers_at self.old.rest.now)) }
     {
@@ -64,7 +64,7 @@ impl Cursor<'_> {
 
 /// The order whose line this is, without its line feed: `[K:T<<T<<..]`, with at least one writer. None on every
 /// other text.
-#[tactic(auto, unfolding(crate::specs::Reading::order_at))]
+#[tactic(auto, unfolding(crate::specs::Computing::Reading::order_at))]
 pub fn order(alloc: Global, line: &[u8]) -> Result<Option<Order>, AllocError>
     ensures { IfOk result (λ r. Gives order_of r (order_at line.now)) }
 {

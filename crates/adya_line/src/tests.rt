@@ -1,5 +1,6 @@
 use super::*;
-use adya_terms::{Event, Watched};
+use adya_values::Event;
+use devices::Watched;
 use std::test::Fail;
 
 #[test]

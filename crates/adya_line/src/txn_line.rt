@@ -1,14 +1,14 @@
 //! The lines of certificates.
 
 ghost use Rattle.std.specs.Prelude.{IfSome};
-ghost use Rattle.adya_terms.specs.Keys.{IsTxn};
-ghost use Rattle.adya_line.specs.Reading.{Gives, txn_at_line};
+ghost use Rattle.adya_values.specs.Meaning.Keys.{IsTxn};
+ghost use Rattle.adya_line.specs.Computing.Reading.{Gives, txn_at_line};
 
 use crate::fields::txn_at;
-use adya_terms::Txn;
+use adya_values::Txn;
 
 /// The number that is all of the line.
-#[tactic(auto, unfolding(crate::specs::Reading::txn_at_line))]
+#[tactic(auto, unfolding(crate::specs::Computing::Reading::txn_at_line))]
 pub(crate) fn txn_at_line(bytes: &[u8]) -> Option<u32>
     ensures exact { Gives (λ x. x) result (txn_at_line bytes.now) }
     ensures good { IfSome result (λ x. IsTxn x) }

@@ -1,13 +1,13 @@
 //! The lines of unfinished transactions.
 
-ghost use Rattle.adya_line.specs.Reading.{Gives, unfinished_at};
+ghost use Rattle.adya_line.specs.Computing.Reading.{Gives, unfinished_at};
 
 use crate::fields::after;
 use crate::txn_line::txn;
-use adya_terms::Txn;
+use adya_values::Txn;
 
 /// The unfinished transaction whose line this is, without its line feed: `uT`. None on every other text.
-#[tactic(auto, unfolding(crate::specs::Reading::unfinished_at))]
+#[tactic(auto, unfolding(crate::specs::Computing::Reading::unfinished_at))]
 pub fn unfinished(line: &[u8]) -> Option<Txn>
     ensures { Gives (λ t. t) result (unfinished_at line.now) }
 {

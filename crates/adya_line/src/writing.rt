@@ -2,13 +2,14 @@
 
 ghost use Rattle.std.specs.Prelude.{◌≡◌, true, IsErr, OnOk, codes, ◌++◌, ◌∷◌, [], decimal, flat_map, map};
 ghost use Rattle.std.specs.Io.KnownBytes.{Appends};
-ghost use Rattle.adya_terms.specs.Histories.{content_of, entry_of, event_of, order_of, final_of, value_of};
-ghost use Rattle.adya_terms.specs.Watched.{has_failed, watched_contents};
-ghost use Rattle.adya_line.specs.Spelling.{version_text, content_text, entry_text, event_text, unfinished_text};
-ghost use Rattle.adya_line.specs.Spelling.{later_text, writers_text, order_text, final_text, txn_text};
-ghost use Rattle.adya_line.specs.Growing.{Grows};
+ghost use Rattle.adya_values.specs.Meaning.Histories.{content_of, entry_of, event_of, order_of, final_of, value_of};
+ghost use Rattle.devices.specs.Meaning.Watched.{has_failed, watched_contents};
+ghost use Rattle.adya_line.specs.Meaning.Spelling.{version_text, content_text, entry_text, event_text, unfinished_text};
+ghost use Rattle.adya_line.specs.Meaning.Spelling.{later_text, writers_text, order_text, final_text, txn_text};
+ghost use Rattle.adya_line.specs.Machinery.Growing.{Grows};
 
-use adya_terms::{Content, Entry, Event, FinalPair, Key, Order, Txn, Value, Version, Watched};
+use adya_values::{Content, Entry, Event, FinalPair, Key, Order, Txn, Value, Version};
+use devices::Watched;
 use itoa::Buffer;
 use std::io;
 use std::io::Write;
@@ -102,7 +103,7 @@ fn put_version<W: Write>(version: &Version, out: &mut Watched<W>) -> io::Result<
     put_number(u32::from(version.m.get()), out)
 }
 
-#[tactic(auto, unfolding(crate::specs::Spelling::final_text))]
+#[tactic(auto, unfolding(crate::specs::Meaning::Spelling::final_text))]
 fn put_final<W: Write>(pair: &FinalPair, out: &mut Watched<W>) -> io::Result<()>
     ensures bytes { OnOk result (Grows (watched_contents W.contents out.old)
         (final_text (final_of pair.now))
@@ -251,7 +252,7 @@ fn put_end<W: Write>(letter: &[u8], txn: Txn, out: &mut Watched<W>) -> io::Resul
     put_number(txn.get(), out)
 }
 
-#[tactic(auto, unfolding(crate::specs::Spelling::event_text))]
+#[tactic(auto, unfolding(crate::specs::Meaning::Spelling::event_text))]
 fn put_event<W: Write>(event: &Event, out: &mut Watched<W>) -> io::Result<()>
     ensures bytes { OnOk result (Grows (watched_contents W.contents out.old)
         (event_text (event_of event.now))
@@ -321,7 +322,7 @@ fn put_writers<W: Write>(writers: &[Txn], out: &mut Watched<W>) -> io::Result<()
     put_later(later, out)
 }
 
-#[tactic(auto, unfolding(crate::specs::Spelling::order_text))]
+#[tactic(auto, unfolding(crate::specs::Meaning::Spelling::order_text))]
 fn put_order<W: Write>(order: &Order, out: &mut Watched<W>) -> io::Result<()>
     ensures bytes { OnOk result (Grows (watched_contents W.contents out.old)
         (order_text (order_of order.now))

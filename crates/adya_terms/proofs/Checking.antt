@@ -4,19 +4,19 @@ use Rattle.std.specs.List.{filter, filter_map, list_all, list_any, Contains, All
 use Rattle.std.proofs.lemmas.Bool.{cases_Bool, eqb-true, and_parts, and_from, or_cases, both_ways, not-true}
 use Rattle.std.proofs.lemmas.Option.{none-some}
 use Rattle.std.proofs.lemmas.List.Elements.{Contains-get_or}
-use Rattle.adya_terms.specs.declared.event.Version.{Version}
-use Rattle.adya_terms.specs.declared.fault.Rule.{Rule}
-use Rattle.adya_terms.specs.declared.fault.Rule.TheVariants.{M1, M2, M3, M4, M5, M6, M7, M8}
-use Rattle.adya_terms.specs.declared.fault.CheckFault.{CheckFault}
-use Rattle.adya_terms.specs.declared.fault.CheckFault.TheVariants.{AbortedRead, IntermediateRead}
-use Rattle.adya_terms.specs.Keys.{key_eq, lies_in}
-use Rattle.adya_terms.specs.Histories.{Live, Entry, Event, Write, Delete, Read, Scan, Commit, Abort, Order, FinalPair, History}
-use Rattle.adya_terms.specs.Events.{txn_of, entry, written, observed, writes_of, last_write, is_committed, has_ended, is_unfinished, is_aborted}
-use Rattle.adya_terms.specs.Orders.{value_at}
-use Rattle.adya_terms.specs.Rules.{EachAfter, IsOpen, IsNumbered, WasWritten, ListsOnly, SeesOwnWrites, IsRising, AllEnd, installs, OrdersList, final_value, FinalsShow, IsWellFormed}
-use Rattle.adya_terms.specs.Phenomena.{HasG1a, HasG1b}
-use Rattle.adya_terms.specs.Acceptance.{IsChecked}
-use Rattle.adya_terms.specs.Faults.{entry_eq, is_none_or, lists_only, none_or_lists_only, is_open, is_next, was_written, sees_own, is_rising, fault_unless, faults_at, event_faults, unfinished_faults, all_end, lists_exactly, order_faults, has_lines, last_value, is_value, final_faults, has_finals, unfinished_line, orders_line, finals_line, tail_line, malformed, bad_reads, aborted_reads, is_last_of_another, intermediate_reads, first, check_faults, first_fault}
+use Rattle.adya_values.specs.declared.event.Version.{Version}
+use Rattle.adya_values.specs.declared.fault.Rule.{Rule}
+use Rattle.adya_values.specs.declared.fault.Rule.TheVariants.{M1, M2, M3, M4, M5, M6, M7, M8}
+use Rattle.adya_values.specs.declared.fault.CheckFault.{CheckFault}
+use Rattle.adya_values.specs.declared.fault.CheckFault.TheVariants.{AbortedRead, IntermediateRead}
+use Rattle.adya_values.specs.Meaning.Keys.{key_eq, lies_in}
+use Rattle.adya_values.specs.Meaning.Histories.{Live, Entry, Event, Write, Delete, Read, Scan, Commit, Abort, Order, FinalPair, History}
+use Rattle.adya_values.specs.Meaning.Events.{txn_of, entry, written, observed, writes_of, last_write, is_committed, has_ended, is_unfinished, is_aborted}
+use Rattle.adya_values.specs.Meaning.Orders.{value_at}
+use Rattle.adya_values.specs.Meaning.Rules.{EachAfter, IsOpen, IsNumbered, WasWritten, ListsOnly, SeesOwnWrites, IsRising, AllEnd, installs, OrdersList, final_value, FinalsShow, IsWellFormed}
+use Rattle.adya_values.specs.Meaning.Phenomena.{HasG1a, HasG1b}
+use Rattle.adya_values.specs.Meaning.Acceptance.{IsChecked}
+use Rattle.adya_values.specs.Computing.Faults.{entry_eq, is_none_or, lists_only, none_or_lists_only, is_open, is_next, was_written, sees_own, is_rising, fault_unless, faults_at, event_faults, unfinished_faults, all_end, lists_exactly, order_faults, has_lines, last_value, is_value, final_faults, has_finals, unfinished_line, orders_line, finals_line, tail_line, malformed, bad_reads, aborted_reads, is_last_of_another, intermediate_reads, first, check_faults, first_fault}
 use Rattle.adya_terms.proofs.Lists.{none_contained, Contains-filter, all_pass, list_any_source}
 use Rattle.adya_terms.proofs.Counts.{count, exactly_from_test}
 use Rattle.adya_terms.proofs.Entries.{key_same, entry_same, is_entry_same, last_write_from, writer_of}

@@ -4,19 +4,19 @@ use Rattle.std.specs.List.{filter_map, list_any, Contains}
 use Rattle.std.proofs.lemmas.Bool.{cases_Bool, cases_eq, eq-eqb, and_parts, and_from, or_left, or_right, both_ways, cond-true, not_from_false, not_from_true}
 use Rattle.std.proofs.lemmas.Option.{same_Some, none-some}
 use Rattle.std.proofs.lemmas.List.Elements.{All-contains}
-use Rattle.adya_terms.specs.declared.event.Version.{Version}
-use Rattle.adya_terms.specs.declared.fault.Rule.{Rule}
-use Rattle.adya_terms.specs.declared.fault.Rule.TheVariants.{M1, M2, M3, M4, M5, M6, M7, M8}
-use Rattle.adya_terms.specs.declared.fault.CheckFault.{CheckFault}
-use Rattle.adya_terms.specs.declared.fault.CheckFault.TheVariants.{AbortedRead, IntermediateRead}
-use Rattle.adya_terms.specs.Keys.{key_eq, lies_in, keys_rise}
-use Rattle.adya_terms.specs.Histories.{Live, Entry, Event, Write, Delete, Read, Scan, Commit, Abort, Order, FinalPair, History}
-use Rattle.adya_terms.specs.Shapes.{is_shape}
-use Rattle.adya_terms.specs.Events.{txn_of, entry, written, observed, writes_of, last_write, is_committed, has_ended, is_unfinished, is_aborted}
-use Rattle.adya_terms.specs.Rules.{EachAfter, IsOpen, IsNumbered, WasWritten, ListsOnly, SeesOwnWrites, IsRising, AllEnd, installs, OrdersList, final_value, FinalsShow, IsWellFormed}
-use Rattle.adya_terms.specs.Phenomena.{ReadsCommitted, HasG1a, HasG1b}
-use Rattle.adya_terms.specs.Acceptance.{IsChecked}
-use Rattle.adya_terms.specs.Faults.{entry_eq, is_entry, is_none_or, lists_only, none_or_lists_only, is_next, was_written, sees_own, is_rising, fault_unless, faults_at, event_faults, unfinished_faults, all_end, lists_exactly, order_faults, has_lines, last_value, is_value, final_faults, has_finals, unfinished_line, orders_line, finals_line, tail_line, malformed, bad_reads, aborted_reads, is_last_of_another, intermediate_reads, first, first_fault}
+use Rattle.adya_values.specs.declared.event.Version.{Version}
+use Rattle.adya_values.specs.declared.fault.Rule.{Rule}
+use Rattle.adya_values.specs.declared.fault.Rule.TheVariants.{M1, M2, M3, M4, M5, M6, M7, M8}
+use Rattle.adya_values.specs.declared.fault.CheckFault.{CheckFault}
+use Rattle.adya_values.specs.declared.fault.CheckFault.TheVariants.{AbortedRead, IntermediateRead}
+use Rattle.adya_values.specs.Meaning.Keys.{key_eq, lies_in, keys_rise}
+use Rattle.adya_values.specs.Meaning.Histories.{Live, Entry, Event, Write, Delete, Read, Scan, Commit, Abort, Order, FinalPair, History}
+use Rattle.adya_values.specs.Meaning.Shapes.{is_shape}
+use Rattle.adya_values.specs.Meaning.Events.{txn_of, entry, written, observed, writes_of, last_write, is_committed, has_ended, is_unfinished, is_aborted}
+use Rattle.adya_values.specs.Meaning.Rules.{EachAfter, IsOpen, IsNumbered, WasWritten, ListsOnly, SeesOwnWrites, IsRising, AllEnd, installs, OrdersList, final_value, FinalsShow, IsWellFormed}
+use Rattle.adya_values.specs.Meaning.Phenomena.{ReadsCommitted, HasG1a, HasG1b}
+use Rattle.adya_values.specs.Meaning.Acceptance.{IsChecked}
+use Rattle.adya_values.specs.Computing.Faults.{entry_eq, is_entry, is_none_or, lists_only, none_or_lists_only, is_next, was_written, sees_own, is_rising, fault_unless, faults_at, event_faults, unfinished_faults, all_end, lists_exactly, order_faults, has_lines, last_value, is_value, final_faults, has_finals, unfinished_line, orders_line, finals_line, tail_line, malformed, bad_reads, aborted_reads, is_last_of_another, intermediate_reads, first, first_fault}
 use Rattle.adya_terms.proofs.Lists.{Contains-head, Contains-cons, filter_nothing, list_all_when, list_any_when}
 use Rattle.adya_terms.proofs.Counts.{count, test_from_exactly}
 use Rattle.adya_terms.proofs.Entries.{same_key, entry_itself, same_entry, same_is_entry, last_write_there}

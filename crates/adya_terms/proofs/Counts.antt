@@ -3,9 +3,9 @@ use Rattle.std.proofs.Common.{◌≡◌, ◌≢◌, ℕ, suc, ◌==◌, ◌<◌,
 use Rattle.std.specs.List.{count_by, Contains}
 use Rattle.std.proofs.lemmas.Bool.{cases_Bool, cases_eq, cases_lt, eqb-true, eq-eqb, ne_eqb, cond-false, and_parts, and_from}
 use Rattle.std.proofs.lemmas.List.Sums.{sum_by-cons}
-use Rattle.adya_terms.specs.Histories.{Event}
-use Rattle.adya_terms.specs.Events.{txn_of}
-use Rattle.adya_terms.specs.Faults.{lists_exactly}
+use Rattle.adya_values.specs.Meaning.Histories.{Event}
+use Rattle.adya_values.specs.Meaning.Events.{txn_of}
+use Rattle.adya_values.specs.Computing.Faults.{lists_exactly}
 use Rattle.adya_terms.proofs.Lists.{Contains-slice_get, all_pass, list_all_when}
 
 abbrev pub count : List ℕ → ℕ → ℕ

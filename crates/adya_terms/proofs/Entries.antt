@@ -4,11 +4,11 @@ use Rattle.std.specs.List.{filter_map, cons_option, Contains}
 use Rattle.std.specs.Cmp.Lexicographic.{bytes_decides}
 use Rattle.std.proofs.lemmas.Bool.{eqb-true, eq-eqb, and_parts, and_from, false_from_ne_true}
 use Rattle.std.proofs.lemmas.Option.{same_Some, none-some}
-use Rattle.adya_terms.specs.declared.event.Version.{Version}
-use Rattle.adya_terms.specs.Keys.{key_eq}
-use Rattle.adya_terms.specs.Histories.{Content, Live, Dead, Entry, Event, Write, Delete, Read, Scan, Commit, Abort}
-use Rattle.adya_terms.specs.Events.{txn_of, version, entry, written, writes_of, last, last_write, commits, is_committed}
-use Rattle.adya_terms.specs.Faults.{content_eq, version_eq, entry_eq, is_entry}
+use Rattle.adya_values.specs.declared.event.Version.{Version}
+use Rattle.adya_values.specs.Meaning.Keys.{key_eq}
+use Rattle.adya_values.specs.Meaning.Histories.{Content, Live, Dead, Entry, Event, Write, Delete, Read, Scan, Commit, Abort}
+use Rattle.adya_values.specs.Meaning.Events.{txn_of, version, entry, written, writes_of, last, last_write, commits, is_committed}
+use Rattle.adya_values.specs.Computing.Faults.{content_eq, version_eq, entry_eq, is_entry}
 use Rattle.adya_terms.proofs.Lists.{none_contained, Contains-head, Contains-cons, Contains-filter, filter-source, list_any_source}
 
 pub key_same : (a b : List ℕ) → key_eq a b ≡ true → a ≡ b

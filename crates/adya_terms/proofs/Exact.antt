@@ -6,13 +6,13 @@ use Rattle.std.proofs.lemmas.List.Sums.{sum_by-cons}
 use Rattle.std.specs.Ordering.{is_eq, nat_cmp}
 use Rattle.std.specs.Cmp.Lexicographic.{slice_cmp}
 use Rattle.std.specs.BTreeSet.{BTreeSet, btree_set_len, contains}
-use Rattle.adya_terms.specs.declared.fault.Rule.TheVariants.{M7}
-use Rattle.adya_terms.specs.Keys.{key_eq, keys_rise}
-use Rattle.adya_terms.specs.Histories.{Entry, Event, Order}
-use Rattle.adya_terms.specs.Events.{written, last_write, is_committed}
-use Rattle.adya_terms.specs.Rules.{installs}
-use Rattle.adya_terms.specs.Faults.{lists_exactly, order_faults}
-use Rattle.adya_terms.specs.Checks.{listed, listed_by, is_unlisted, belongs}
+use Rattle.adya_values.specs.declared.fault.Rule.TheVariants.{M7}
+use Rattle.adya_values.specs.Meaning.Keys.{key_eq, keys_rise}
+use Rattle.adya_values.specs.Meaning.Histories.{Entry, Event, Order}
+use Rattle.adya_values.specs.Meaning.Events.{written, last_write, is_committed}
+use Rattle.adya_values.specs.Meaning.Rules.{installs}
+use Rattle.adya_values.specs.Computing.Faults.{lists_exactly, order_faults}
+use Rattle.adya_terms.specs.Machinery.Checks.{listed, listed_by, is_unlisted, belongs}
 use Rattle.adya_terms.proofs.Lists.{none_contained, all_pass, list_all_when, list_any_source, list_any_when, Contains-slice_get, Contains-cons}
 use Rattle.adya_terms.proofs.Counts.{count, count_place, exactly_from_test, test_from_exactly}
 use Rattle.adya_terms.proofs.Entries.{key_same, same_key, other_key, last_write_from, last_write_there, committed_source}

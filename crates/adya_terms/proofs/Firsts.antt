@@ -1,15 +1,15 @@
 -- The first fault of joined lists, and of the events from one on.
 use Rattle.std.proofs.Common.{◌≡◌, ℕ, suc, ◌+◌, ◌<◌, ◌⊎◌, not, length, get_or, Result, MatchResult, inl, inr, true, false, List, [], ◌∷◌, ◌++◌, Some, take, drop, sym, ◌∙◌, ap, subst, arith}
-use Rattle.adya_terms.specs.declared.fault.Rule.{Rule}
-use Rattle.adya_terms.specs.declared.fault.CheckFault.{CheckFault}
-use Rattle.adya_terms.specs.declared.fault.CheckFault.TheVariants.{Malformed, AbortedRead, IntermediateRead, Memory}
-use Rattle.adya_terms.specs.declared.fault.Rule.TheVariants.{M6, M7}
-use Rattle.adya_terms.specs.Histories.{Event, Order}
-use Rattle.adya_terms.specs.Events.{has_ended}
-use Rattle.adya_terms.specs.Rules.{installs}
-use Rattle.adya_terms.specs.Faults.{first, faults_at, event_faults, fault_unless, lists_exactly, order_faults, unfinished_faults}
-use Rattle.adya_terms.specs.Checks.{Names}
-use Rattle.adya_terms.proofs.Steps.{drop_step}
+use Rattle.adya_values.specs.declared.fault.Rule.{Rule}
+use Rattle.adya_values.specs.declared.fault.CheckFault.{CheckFault}
+use Rattle.adya_values.specs.declared.fault.CheckFault.TheVariants.{Malformed, AbortedRead, IntermediateRead, Memory}
+use Rattle.adya_values.specs.declared.fault.Rule.TheVariants.{M6, M7}
+use Rattle.adya_values.specs.Meaning.Histories.{Event, Order}
+use Rattle.adya_values.specs.Meaning.Events.{has_ended}
+use Rattle.adya_values.specs.Meaning.Rules.{installs}
+use Rattle.adya_values.specs.Computing.Faults.{first, faults_at, event_faults, fault_unless, lists_exactly, order_faults, unfinished_faults}
+use Rattle.adya_terms.specs.Machinery.Checks.{Names}
+use Rattle.adya_values.proofs.Steps.{drop_step}
 use Rattle.adya_terms.proofs.Turns.{Turn}
 
 pub first_front : {X : Type 0} (xs ys : List X) (x : X) → first xs ≡ Some x → first (xs ++ ys) ≡ Some x

@@ -5,10 +5,10 @@ use Rattle.std.proofs.Common.{Ordering, Less, Equal, Greater}
 use Rattle.std.specs.Ordering.{is_lt}
 use Rattle.std.proofs.lemmas.Bool.{cases_Bool, and_parts, both_ways}
 use Rattle.std.proofs.lemmas.Cmp.{tied_itself, nat_list_cmp_total}
-use Rattle.adya_terms.specs.Keys.{key_eq, key_lt, keys_rise}
-use Rattle.adya_terms.specs.Histories.{Order, FinalPair}
-use Rattle.adya_terms.specs.Orders.{line_of}
-use Rattle.adya_terms.specs.Rules.{final_value}
+use Rattle.adya_values.specs.Meaning.Keys.{key_eq, key_lt, keys_rise}
+use Rattle.adya_values.specs.Meaning.Histories.{Order, FinalPair}
+use Rattle.adya_values.specs.Meaning.Orders.{line_of}
+use Rattle.adya_values.specs.Meaning.Rules.{final_value}
 use Rattle.adya_terms.proofs.Lists.{none_contained, Contains-head, Contains-cons}
 use Rattle.adya_terms.proofs.Entries.{key_same, same_key, other_key}
 

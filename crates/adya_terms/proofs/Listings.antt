@@ -7,11 +7,11 @@ use Rattle.std.proofs.lemmas.List.Folds.{list_any-append}
 use Rattle.std.proofs.lemmas.List.Sums.{sum_by-append, sum_by-cons}
 use Rattle.adya_terms.specs.declared.tables.Own.{Own}
 use Rattle.adya_terms.specs.declared.listed.Times.{Times}
-use Rattle.adya_terms.specs.Keys.{key_eq}
-use Rattle.adya_terms.specs.Tables.{own, own_eq}
-use Rattle.adya_terms.specs.Histories.{Entry, Event, Order}
-use Rattle.adya_terms.specs.Events.{written}
-use Rattle.adya_terms.specs.Checks.{times, once_more, listed, listed_by, is_some_and}
+use Rattle.adya_values.specs.Meaning.Keys.{key_eq}
+use Rattle.adya_terms.specs.Machinery.Tables.{own, own_eq}
+use Rattle.adya_values.specs.Meaning.Histories.{Entry, Event, Order}
+use Rattle.adya_values.specs.Meaning.Events.{written}
+use Rattle.adya_terms.specs.Machinery.Checks.{times, once_more, listed, listed_by, is_some_and}
 use Rattle.adya_terms.proofs.Counts.{count}
 use Rattle.adya_terms.proofs.Entries.{key_same}
 use Rattle.adya_terms.proofs.Tells.{written_more}

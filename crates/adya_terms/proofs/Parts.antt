@@ -1,16 +1,16 @@
 -- What the parts of a check say, in the words of the whole.
 use Rattle.std.proofs.Common.{◌≡◌, ℕ, true, List, [], ◌++◌, Option, Some, None, is_none, refl, sym, ◌∙◌, ap, subst}
-use Rattle.adya_terms.specs.declared.event.Event.{Event as EventValue}
-use Rattle.adya_terms.specs.declared.order.Order.{Order as OrderValue}
-use Rattle.adya_terms.specs.declared.order.FinalPair.{FinalPair as FinalValue}
-use Rattle.adya_terms.specs.declared.history.History.{History as HistoryValue}
-use Rattle.adya_terms.specs.Values.{history_of}
-use Rattle.adya_terms.specs.Histories.{History}
-use Rattle.adya_terms.specs.Faults.{first, first_fault, malformed, check_faults, event_faults, fault_unless, unfinished_faults, all_end, order_faults, has_lines, unfinished_line, orders_line, finals_line}
-use Rattle.adya_terms.specs.Checks.{IsFault, Names, whole, final_value_faults, rule_faults, read_faults}
+use Rattle.adya_values.specs.declared.event.Event.{Event as EventValue}
+use Rattle.adya_values.specs.declared.order.Order.{Order as OrderValue}
+use Rattle.adya_values.specs.declared.order.FinalPair.{FinalPair as FinalValue}
+use Rattle.adya_values.specs.declared.history.History.{History as HistoryValue}
+use Rattle.adya_values.specs.Meaning.Values.{history_of}
+use Rattle.adya_values.specs.Meaning.Histories.{History}
+use Rattle.adya_values.specs.Computing.Faults.{first, first_fault, malformed, check_faults, event_faults, fault_unless, unfinished_faults, all_end, order_faults, has_lines, unfinished_line, orders_line, finals_line}
+use Rattle.adya_terms.specs.Machinery.Checks.{IsFault, Names, whole, final_value_faults, rule_faults, read_faults}
 use Rattle.std.proofs.lemmas.List.{append_assoc}
-use Rattle.adya_terms.specs.declared.fault.Rule.TheVariants.{M6, M7}
-use Rattle.adya_terms.specs.declared.fault.CheckFault.{CheckFault}
+use Rattle.adya_values.specs.declared.fault.Rule.TheVariants.{M6, M7}
+use Rattle.adya_values.specs.declared.fault.CheckFault.{CheckFault}
 use Rattle.adya_terms.proofs.Converse.{both_nil}
 use Rattle.adya_terms.proofs.Firsts.{names_front, names_behind}
 

@@ -1,12 +1,12 @@
 -- The reads that a test refuses, event by event.
 use Rattle.std.proofs.Common.{◌≡◌, ℕ, suc, ◌+◌, ◌<◌, Bool, true, false, cond, not, ◌&&◌, List, [], ◌∷◌, ◌++◌, length, get_or, Option, Some, map, filter, drop, sym, ◌∙◌, ap, subst, arith}
-use Rattle.adya_terms.specs.declared.event.Version.{Version}
-use Rattle.adya_terms.specs.declared.fault.CheckFault.{CheckFault}
-use Rattle.adya_terms.specs.Histories.{Entry, Event}
-use Rattle.adya_terms.specs.Events.{txn_of, observed, is_committed}
-use Rattle.adya_terms.specs.Faults.{first, bad_reads}
-use Rattle.adya_terms.specs.Checks.{IsFirst, refused}
-use Rattle.adya_terms.proofs.Steps.{drop_step}
+use Rattle.adya_values.specs.declared.event.Version.{Version}
+use Rattle.adya_values.specs.declared.fault.CheckFault.{CheckFault}
+use Rattle.adya_values.specs.Meaning.Histories.{Entry, Event}
+use Rattle.adya_values.specs.Meaning.Events.{txn_of, observed, is_committed}
+use Rattle.adya_values.specs.Computing.Faults.{first, bad_reads}
+use Rattle.adya_terms.specs.Machinery.Checks.{IsFirst, refused}
+use Rattle.adya_values.proofs.Steps.{drop_step}
 use Rattle.adya_terms.proofs.Lists.{filter_nothing}
 use Rattle.adya_terms.proofs.Turns.{Turn}
 use Rattle.adya_terms.proofs.Firsts.{first_front}

@@ -6,12 +6,12 @@ use Rattle.std.proofs.lemmas.Bool.{and_from, or_left, false_from_ne_true}
 use Rattle.std.proofs.lemmas.List.{append_assoc}
 use Rattle.std.proofs.lemmas.List.Elements.{filter_map-append}
 use Rattle.std.proofs.lemmas.List.Folds.{list_any-append}
-use Rattle.adya_terms.specs.declared.event.Version.{Version}
+use Rattle.adya_values.specs.declared.event.Version.{Version}
 use Rattle.adya_terms.specs.declared.tables.Own.{Own}
-use Rattle.adya_terms.specs.Histories.{Entry, Event}
-use Rattle.adya_terms.specs.Events.{written, observed, last_write}
-use Rattle.adya_terms.specs.Faults.{entry_eq, is_entry, was_written, faults_at, event_faults}
-use Rattle.adya_terms.specs.Tables.{own, written_at, is_there, number_of, Tell}
+use Rattle.adya_values.specs.Meaning.Histories.{Entry, Event}
+use Rattle.adya_values.specs.Meaning.Events.{written, observed, last_write}
+use Rattle.adya_values.specs.Computing.Faults.{entry_eq, is_entry, was_written, faults_at, event_faults}
+use Rattle.adya_terms.specs.Machinery.Tables.{own, written_at, is_there, number_of, Tell}
 use Rattle.adya_terms.proofs.Lists.{all_pass, list_all_when}
 use Rattle.adya_terms.proofs.Entries.{entry_same, same_entry}
 use Rattle.adya_terms.proofs.Checking.{nil_left, nil_right, passes_all}

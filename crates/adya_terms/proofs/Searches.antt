@@ -7,10 +7,10 @@ use Rattle.std.specs.Ordering.{nat_cmp, is_eq, ordering_index}
 use Rattle.std.specs.Cmp.Lexicographic.{slice_cmp, texts_ties}
 use Rattle.std.proofs.lemmas.Bool.{cases_Bool, cases_lt, both_ways, or_parts}
 use Rattle.std.proofs.lemmas.Cmp.{nat_list_cmp_total}
-use Rattle.adya_terms.specs.Keys.{key_eq, key_lt, keys_rise}
-use Rattle.adya_terms.specs.Histories.{Order, FinalPair}
-use Rattle.adya_terms.specs.Orders.{line_of}
-use Rattle.adya_terms.specs.Rules.{final_value}
+use Rattle.adya_values.specs.Meaning.Keys.{key_eq, key_lt, keys_rise}
+use Rattle.adya_values.specs.Meaning.Histories.{Order, FinalPair}
+use Rattle.adya_values.specs.Meaning.Orders.{line_of}
+use Rattle.adya_values.specs.Meaning.Rules.{final_value}
 use Rattle.std.proofs.lemmas.List.Elements.{Contains-get_or}
 use Rattle.adya_terms.proofs.Lists.{list_any_source, list_any_when}
 use Rattle.adya_terms.proofs.Entries.{key_same}

@@ -13,13 +13,13 @@ use Rattle.std.proofs.lemmas.Map.Lookups.{CmpEqualImpliesEq, exact_unsigned}
 use Rattle.std.proofs.lemmas.Map.Views.{btree_map_get_iff}
 use Rattle.std.specs.Cmp.Lexicographic.{slice_cmp}
 use Rattle.std.proofs.lemmas.Bool.{cases_Bool, and_parts, and_from, both_ways, eqb-true, not-true, or_cases, or_left, or_right}
-use Rattle.adya_terms.specs.Keys.{key_eq, key_le, key_lt, keys_rise, lies_in}
+use Rattle.adya_values.specs.Meaning.Keys.{key_eq, key_le, key_lt, keys_rise, lies_in}
 use Rattle.adya_terms.specs.declared.tables.Own.{Own}
-use Rattle.adya_terms.specs.Histories.{Entry, Event}
-use Rattle.adya_terms.specs.Events.{written, last_write}
-use Rattle.adya_terms.specs.Faults.{entry_eq, lists_only, none_or_lists_only}
-use Rattle.adya_terms.specs.Tables.{own, own_cmp, written_at}
-use Rattle.adya_terms.specs.Checks.{is_of_key}
+use Rattle.adya_values.specs.Meaning.Histories.{Entry, Event}
+use Rattle.adya_values.specs.Meaning.Events.{written, last_write}
+use Rattle.adya_values.specs.Computing.Faults.{entry_eq, lists_only, none_or_lists_only}
+use Rattle.adya_terms.specs.Machinery.Tables.{own, own_cmp, written_at}
+use Rattle.adya_terms.specs.Machinery.Checks.{is_of_key}
 use Rattle.adya_terms.proofs.Lists.{none_contained, Contains-filter, list_all_when, list_any_source, list_any_when, all_pass}
 use Rattle.adya_terms.proofs.Entries.{key_same, same_key, entry_same, same_entry, last_write_from}
 use Rattle.adya_terms.proofs.Lines.{key_lt-trans, key_lt-apart, rises_below, keys_rise-tail}

@@ -11,13 +11,13 @@ use Rattle.std.proofs.Math.Bool.{or-false, or-true, or_comm}
 use Rattle.std.proofs.lemmas.List.{append-nil, length-append}
 use Rattle.std.proofs.lemmas.List.Elements.{filter_map-append, filter-append}
 use Rattle.std.proofs.lemmas.List.Folds.{list_any-append}
-use Rattle.adya_terms.specs.declared.event.Version.{Version}
+use Rattle.adya_values.specs.declared.event.Version.{Version}
 use Rattle.adya_terms.specs.declared.tables.Own.{Own}
-use Rattle.adya_terms.specs.Keys.{key_eq}
-use Rattle.adya_terms.specs.Histories.{Entry, Event}
-use Rattle.adya_terms.specs.Events.{written, writes_of, last, last_write, is_committed, commits, aborts}
-use Rattle.adya_terms.specs.Faults.{content_eq, version_eq, entry_eq}
-use Rattle.adya_terms.specs.Tables.{own, own_eq, own_cmp, written_at, written_by, is_there, with_replaced, is_at, number_of, Tell}
+use Rattle.adya_values.specs.Meaning.Keys.{key_eq}
+use Rattle.adya_values.specs.Meaning.Histories.{Entry, Event}
+use Rattle.adya_values.specs.Meaning.Events.{written, writes_of, last, last_write, is_committed, commits, aborts}
+use Rattle.adya_values.specs.Computing.Faults.{content_eq, version_eq, entry_eq}
+use Rattle.adya_terms.specs.Machinery.Tables.{own, own_eq, own_cmp, written_at, written_by, is_there, with_replaced, is_at, number_of, Tell}
 use Rattle.adya_terms.proofs.Entries.{key_same, same_key, version_same, last_write_from}
 
 pub own_tied : (t : ℕ) (k : List ℕ) (u : ℕ) (j : List ℕ) → ((t == u) && key_eq k j) ≡ is_eq (own_cmp (own t k) (own u j))

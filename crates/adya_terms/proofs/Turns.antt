@@ -4,7 +4,7 @@ use Rattle.std.specs.List.{list_all}
 use Rattle.std.specs.Option.{option_map}
 use Rattle.std.proofs.lemmas.Option.{slice_get-map, slice_get_read, get_or_from_slice_get}
 use Rattle.std.proofs.lemmas.List.{length-map, take_more}
-use Rattle.adya_terms.proofs.Steps.{drop_step}
+use Rattle.adya_values.proofs.Steps.{drop_step}
 
 -- the element stands at the place
 pub record Turn {X : Type 0} (xs : List X) (i : ℕ) (x : X) : Type 0 where

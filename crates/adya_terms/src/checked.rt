@@ -2,14 +2,14 @@
 
 ghost use Rattle.std.specs.Prelude.{◌≡◌, ◌≢◌, ℕ, List, [], true, None, Some, map, option_map, is_none, IfOk, IfErr, MatchResult};
 ghost use Rattle.std.specs.List.{list_all};
-ghost use Rattle.adya_terms.specs.Keys.{keys_rise};
-ghost use Rattle.adya_terms.specs.Histories.{entry_of, event_of, order_of, final_of};
-ghost use Rattle.adya_terms.specs.Events.{is_committed, last_write};
-ghost use Rattle.adya_terms.specs.Values.{history_of};
-ghost use Rattle.adya_terms.specs.Faults.{was_written, first_fault, check_faults};
-ghost use Rattle.adya_terms.specs.Acceptance.{IsChecked};
-ghost use Rattle.adya_terms.specs.Tables.{Means};
-ghost use Rattle.adya_terms.specs.Checks.{Names, IsFault, Holds, whole, rule_faults, read_faults};
+ghost use Rattle.adya_values.specs.Meaning.Keys.{keys_rise};
+ghost use Rattle.adya_values.specs.Meaning.Histories.{entry_of, event_of, order_of, final_of};
+ghost use Rattle.adya_values.specs.Meaning.Events.{is_committed, last_write};
+ghost use Rattle.adya_values.specs.Meaning.Values.{history_of};
+ghost use Rattle.adya_values.specs.Computing.Faults.{was_written, first_fault, check_faults};
+ghost use Rattle.adya_values.specs.Meaning.Acceptance.{IsChecked};
+ghost use Rattle.adya_terms.specs.Machinery.Tables.{Means};
+ghost use Rattle.adya_terms.specs.Machinery.Checks.{Names, IsFault, Holds, whole, rule_faults, read_faults};
 
 use crate::finals::check_finals;
 use crate::listed::check_orders;

@@ -1,12 +1,12 @@
 //! M8: the finals are the visible last versions of the keys.
 
 ghost use Rattle.std.specs.Prelude.{◌≡◌, [], true, map, option_map, is_some, MatchResult};
-ghost use Rattle.adya_terms.specs.Keys.{keys_rise};
-ghost use Rattle.adya_terms.specs.Histories.{event_of, order_of, final_of, value_of};
-ghost use Rattle.adya_terms.specs.Rules.{final_value};
-ghost use Rattle.adya_terms.specs.Faults as faults;
-ghost use Rattle.adya_terms.specs.Tables.{Means};
-ghost use Rattle.adya_terms.specs.Checks.{Names, final_value_faults, parts};
+ghost use Rattle.adya_values.specs.Meaning.Keys.{keys_rise};
+ghost use Rattle.adya_values.specs.Meaning.Histories.{event_of, order_of, final_of, value_of};
+ghost use Rattle.adya_values.specs.Meaning.Rules.{final_value};
+ghost use Rattle.adya_values.specs.Computing.Faults as faults;
+ghost use Rattle.adya_terms.specs.Machinery.Tables.{Means};
+ghost use Rattle.adya_terms.specs.Machinery.Checks.{Names, final_value_faults, parts};
 
 use crate::listed::{broken, line_of};
 use crate::tables::Tables;

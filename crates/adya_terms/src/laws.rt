@@ -1,6 +1,6 @@
 //! Laws of the definitions, each the contract of a function that does nothing.
 
-ghost use Rattle.adya_terms.specs.Laws.{CheckedIfNoFault, CheckedWhereNoFault};
+ghost use Rattle.adya_terms.specs.Meaning.Laws.{CheckedIfNoFault, CheckedWhereNoFault};
 
 /// No fault is found of a history exactly where it is well-formed without aborted and intermediate reads (Adya 1999,
 /// G1a and G1b). That the keys of its orders and of its finals rise, as those of every [`History`](crate::History)

@@ -2,11 +2,11 @@
 
 ghost use Rattle.std.specs.Prelude.{◌≡◌, ◌||◌, ◌==◌, ℕ, List, [], true, not, map, filter, IfOk, MatchResult};
 ghost use Rattle.std.specs.List.{filter_map, list_all, list_any};
-ghost use Rattle.adya_terms.specs.Histories.{Event as EventValue, entry_of, event_of};
-ghost use Rattle.adya_terms.specs.Events.{txn_of, written, aborts, has_ended, last_write};
-ghost use Rattle.adya_terms.specs.Faults.{entry_eq, is_entry, was_written, bad_reads, unfinished_faults};
-ghost use Rattle.adya_terms.specs.Tables.{Means};
-ghost use Rattle.adya_terms.specs.Checks.{Names, Holds, IsFirst, ends, refused, is_not_aborted, are_written, is_own_or_last};
+ghost use Rattle.adya_values.specs.Meaning.Histories.{Event as EventValue, entry_of, event_of};
+ghost use Rattle.adya_values.specs.Meaning.Events.{txn_of, written, aborts, has_ended, last_write};
+ghost use Rattle.adya_values.specs.Computing.Faults.{entry_eq, is_entry, was_written, bad_reads, unfinished_faults};
+ghost use Rattle.adya_terms.specs.Machinery.Tables.{Means};
+ghost use Rattle.adya_terms.specs.Machinery.Checks.{Names, Holds, IsFirst, ends, refused, is_not_aborted, are_written, is_own_or_last};
 
 use crate::listed::broken;
 use crate::tables::Tables;

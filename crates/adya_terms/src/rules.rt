@@ -1,11 +1,11 @@
 //! The rules M1 to M5 of each event, given those before it.
 
 ghost use Rattle.std.specs.Prelude.{◌≡◌, ◌+◌, ℕ, List, [], Some, map, MatchOption, MatchResult};
-ghost use Rattle.adya_terms.specs.Histories.{Event as EventValue, event_of};
-ghost use Rattle.adya_terms.specs.Events.{written};
-ghost use Rattle.adya_terms.specs.Faults as faults;
-ghost use Rattle.adya_terms.specs.Tables.{Keeps, Means};
-ghost use Rattle.adya_terms.specs.Checks.{Names};
+ghost use Rattle.adya_values.specs.Meaning.Histories.{Event as EventValue, event_of};
+ghost use Rattle.adya_values.specs.Meaning.Events.{written};
+ghost use Rattle.adya_values.specs.Computing.Faults as faults;
+ghost use Rattle.adya_terms.specs.Machinery.Tables.{Keeps, Means};
+ghost use Rattle.adya_terms.specs.Machinery.Checks.{Names};
 
 use crate::scans::{all_lie_in, all_written, keep, keys_rise, lists_own};
 use crate::tables::{Own, Tables, wrote};

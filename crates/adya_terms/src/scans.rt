@@ -2,13 +2,13 @@
 
 ghost use Rattle.std.specs.Prelude.{◌≡◌, ◌&&◌, ◌++◌, [], ◌∷◌, List, true, Some, map, slice_get, IfOk};
 ghost use Rattle.std.specs.List.{filter_map, list_all, list_any};
-ghost use Rattle.adya_terms.specs.Keys as keys;
-ghost use Rattle.adya_terms.specs.Histories.{Event as EventValue, entry_of, event_of, Scan};
-ghost use Rattle.adya_terms.specs.Events.{written};
-ghost use Rattle.adya_terms.specs.Faults as faults;
-ghost use Rattle.adya_terms.specs.Faults.{entry_eq, none_or_lists_only, sees_own};
-ghost use Rattle.adya_terms.specs.Checks as checks;
-ghost use Rattle.adya_terms.specs.Tables.{written_at, Keeps, Means};
+ghost use Rattle.adya_values.specs.Meaning.Keys as keys;
+ghost use Rattle.adya_values.specs.Meaning.Histories.{Event as EventValue, entry_of, event_of, Scan};
+ghost use Rattle.adya_values.specs.Meaning.Events.{written};
+ghost use Rattle.adya_values.specs.Computing.Faults as faults;
+ghost use Rattle.adya_values.specs.Computing.Faults.{entry_eq, none_or_lists_only, sees_own};
+ghost use Rattle.adya_terms.specs.Machinery.Checks as checks;
+ghost use Rattle.adya_terms.specs.Machinery.Tables.{written_at, Keeps, Means};
 
 use crate::tables::{Own, Tables, wrote, wrote_at};
 use crate::{Entry, Event, Key, Txn};

@@ -3,10 +3,10 @@
 ghost use Rattle.std.specs.Prelude.{◌≡◌, ◌||◌, ◌&&◌, is_some, ◌++◌, [], ◌∷◌, List, true, Some, cond, map, nat_eq, option_map, slice_get, IfOk};
 ghost use Rattle.std.specs.HashMap.{get};
 ghost use Rattle.std.specs.HashSet.{contains};
-ghost use Rattle.adya_terms.specs.Histories.{Event as EventValue, entry_of, event_of};
-ghost use Rattle.adya_terms.specs.Events.{written};
-ghost use Rattle.adya_terms.specs.Faults.{is_next, version_eq};
-ghost use Rattle.adya_terms.specs.Tables.{own, own_eq, written_at, is_there, with_replaced, Means};
+ghost use Rattle.adya_values.specs.Meaning.Histories.{Event as EventValue, entry_of, event_of};
+ghost use Rattle.adya_values.specs.Meaning.Events.{written};
+ghost use Rattle.adya_values.specs.Computing.Faults.{is_next, version_eq};
+ghost use Rattle.adya_terms.specs.Machinery.Tables.{own, own_eq, written_at, is_there, with_replaced, Means};
 
 use crate::{Content, Entry, Event, Key, Txn, Version};
 use std::alloc::{AllocError, Global};

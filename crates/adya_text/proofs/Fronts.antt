@@ -3,8 +3,8 @@ use Rattle.std.proofs.Common.{◌≡◌, ◌≢◌, ◌==◌, ℕ, suc, ◌≤�
 use Rattle.std.proofs.Common.{refl, sym, ap, ◌∙◌, arith, append_assoc}
 use Rattle.std.proofs.lemmas.Bool.{eqb-true}
 use Rattle.std.proofs.lemmas.List.Elements.{All-cons, All-append}
-use Rattle.adya_text.specs.Texts.{with_ends}
-use Rattle.adya_text.specs.Faults.{IsPlain, IsCut, HasFront, IsFirstFaulty, IsFaultLine}
+use Rattle.adya_text.specs.Meaning.Texts.{with_ends}
+use Rattle.adya_text.specs.Meaning.Faults.{IsPlain, IsCut, HasFront, IsFirstFaulty, IsFaultLine}
 use Rattle.adya_text.proofs.LineLists.{ends_append}
 use Rattle.adya_text.proofs.FaultLemmas.{Grammar, front_begins, whole_begins, fault_stays, fault_stops}
 

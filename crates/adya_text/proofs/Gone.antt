@@ -4,9 +4,9 @@ use Rattle.std.proofs.Common.{Ok, Err, refl, sym, ap, subst, ◌∙◌, append-n
 use Rattle.std.specs.Prelude.{OnOk}
 use Rattle.std.specs.Io.KnownBytes.{Consumes, IsAtEnd, prepend_known}
 use Rattle.std.proofs.KnownBytes.{Consumes-nil, Consumes-trans, prepend_known-nil}
-use Rattle.adya_text.specs.Texts.{with_ends}
-use Rattle.adya_text.specs.Faults.{IsPlain, IsCut, HasFront}
-use Rattle.adya_text.specs.Buffers.{line_end}
+use Rattle.adya_text.specs.Meaning.Texts.{with_ends}
+use Rattle.adya_text.specs.Meaning.Faults.{IsPlain, IsCut, HasFront}
+use Rattle.adya_text.specs.Machinery.Buffers.{line_end}
 use Rattle.adya_text.proofs.LineLists.{ends_append, all_behind}
 
 -- the known bytes began with these lines, and these are left

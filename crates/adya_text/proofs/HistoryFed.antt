@@ -8,21 +8,21 @@ use Rattle.std.specs.Cmp.Derive.{both_true}
 use Rattle.std.proofs.lemmas.Bool.Decides.{nat_tests}
 use Rattle.std.proofs.lemmas.List.{length-append}
 use Rattle.std.proofs.lemmas.List.Elements.{filter_map-append}
-use Rattle.adya_terms.specs.Shapes.{is_shape, fits_edition}
-use Rattle.adya_terms.specs.Values.{history_of}
-use Rattle.adya_terms.specs.Histories.{Event, Order, FinalPair, History, event_of, order_of, final_of}
-use Rattle.adya_terms.specs.declared.history.History.{History as HistoryValue}
-use Rattle.adya_line.specs.Limits.{IsOrder}
-use Rattle.adya_text.specs.Texts.{IsHistory, history_lines, AreHistoryLines, with_ends, history_text}
-use Rattle.adya_text.specs.Faults.{Begins, IsFaultLine, IsCut}
-use Rattle.adya_line.specs.HistoryLines.{Line, HeadLine, EventLine, UnfinishedLine, OrderLine, FinalLine, TailLine}
-use Rattle.adya_line.specs.HistoryLines.{IsLine, line_text, IsOnlyLineOf}
-use Rattle.adya_text.specs.HistoryRuns.{allows, edition_at, stage_after}
-use Rattle.adya_text.specs.HistoryRuns.{event_in, unfinished_in, order_in, final_in}
-use Rattle.adya_text.specs.HistoryReaders.{IsTaken, IsFed, IsRefused, IsAllowed, Takes, IsKept, ReadsHistory}
-use Rattle.adya_text.specs.HistoryReaders.{is_failed, is_done}
-use Rattle.adya_terms.specs.declared.edition.Edition.{Edition}
-use Rattle.adya_terms.specs.declared.edition.Edition.TheVariants.{One}
+use Rattle.adya_values.specs.Meaning.Shapes.{is_shape, fits_edition}
+use Rattle.adya_values.specs.Meaning.Values.{history_of}
+use Rattle.adya_values.specs.Meaning.Histories.{Event, Order, FinalPair, History, event_of, order_of, final_of}
+use Rattle.adya_values.specs.declared.history.History.{History as HistoryValue}
+use Rattle.adya_line.specs.Meaning.Limits.{IsOrder}
+use Rattle.adya_text.specs.Meaning.Texts.{IsHistory, history_lines, AreHistoryLines, with_ends, history_text}
+use Rattle.adya_text.specs.Meaning.Faults.{Begins, IsFaultLine, IsCut}
+use Rattle.adya_line.specs.Meaning.HistoryLines.{Line, HeadLine, EventLine, UnfinishedLine, OrderLine, FinalLine, TailLine}
+use Rattle.adya_line.specs.Meaning.HistoryLines.{IsLine, line_text, IsOnlyLineOf}
+use Rattle.adya_text.specs.Computing.HistoryRuns.{allows, edition_at, stage_after}
+use Rattle.adya_text.specs.Computing.HistoryRuns.{event_in, unfinished_in, order_in, final_in}
+use Rattle.adya_text.specs.Machinery.HistoryReaders.{IsTaken, IsFed, IsRefused, IsAllowed, Takes, IsKept, ReadsHistory}
+use Rattle.adya_text.specs.Machinery.HistoryReaders.{is_failed, is_done}
+use Rattle.adya_values.specs.declared.edition.Edition.{Edition}
+use Rattle.adya_values.specs.declared.edition.Edition.TheVariants.{One}
 use Rattle.adya_text.specs.declared.history_reader.Stage.{Stage}
 use Rattle.adya_text.specs.declared.history_reader.Stage.TheVariants.{Head, Events, Unfinished, Orders, Finals, Done}
 use Rattle.adya_text.specs.declared.history_reader.Stage.TheVariants.{Failed}

@@ -3,20 +3,20 @@ use Rattle.std.proofs.Common.{◌≡◌, ℕ, suc, length, nat_lt, true, List, [
 use Rattle.std.proofs.Common.{sym, ap, ◌∙◌}
 use Rattle.std.specs.List.{AllByRecursion}
 use Rattle.std.proofs.lemmas.Bool.{eqb-true, and_parts, and_from}
-use Rattle.adya_terms.specs.Keys.{keys_rise, key_lt, IsTxn}
-use Rattle.adya_terms.specs.Shapes.{numbers_rise, fits_edition}
-use Rattle.adya_terms.specs.declared.edition.Edition.{Edition}
-use Rattle.adya_terms.specs.declared.edition.Edition.TheVariants.{One, Two}
-use Rattle.adya_terms.specs.Histories.{Event, Order, FinalPair, History}
-use Rattle.adya_line.specs.Spelling.{head_text, tail, event_text, unfinished_text, order_text, final_text}
-use Rattle.adya_line.specs.Limits.{IsEvent, IsOrder, IsFinal}
-use Rattle.adya_text.specs.Texts.{IsHistory, history_lines, AreHistoryLines}
-use Rattle.adya_text.specs.Runs.{IsRun, end_of, HasRun}
-use Rattle.adya_line.specs.Laws.{IsOneText, HasPlainTexts}
-use Rattle.adya_line.specs.HistoryLines.{Line, HeadLine, EventLine, UnfinishedLine, OrderLine, FinalLine, TailLine}
-use Rattle.adya_line.specs.HistoryLines.{IsLine, line_text}
-use Rattle.adya_text.specs.HistoryRuns.{allows, edition_at, stage_after}
-use Rattle.adya_text.specs.HistoryReaders.{is_done}
+use Rattle.adya_values.specs.Meaning.Keys.{keys_rise, key_lt, IsTxn}
+use Rattle.adya_values.specs.Meaning.Shapes.{numbers_rise, fits_edition}
+use Rattle.adya_values.specs.declared.edition.Edition.{Edition}
+use Rattle.adya_values.specs.declared.edition.Edition.TheVariants.{One, Two}
+use Rattle.adya_values.specs.Meaning.Histories.{Event, Order, FinalPair, History}
+use Rattle.adya_line.specs.Meaning.Spelling.{head_text, tail, event_text, unfinished_text, order_text, final_text}
+use Rattle.adya_line.specs.Meaning.Limits.{IsEvent, IsOrder, IsFinal}
+use Rattle.adya_text.specs.Meaning.Texts.{IsHistory, history_lines, AreHistoryLines}
+use Rattle.adya_text.specs.Computing.Runs.{IsRun, end_of, HasRun}
+use Rattle.adya_line.specs.Meaning.Laws.{IsOneText, HasPlainTexts}
+use Rattle.adya_line.specs.Meaning.HistoryLines.{Line, HeadLine, EventLine, UnfinishedLine, OrderLine, FinalLine, TailLine}
+use Rattle.adya_line.specs.Meaning.HistoryLines.{IsLine, line_text}
+use Rattle.adya_text.specs.Computing.HistoryRuns.{allows, edition_at, stage_after}
+use Rattle.adya_text.specs.Machinery.HistoryReaders.{is_done}
 use Rattle.adya_text.specs.declared.history_reader.Stage.{Stage}
 use Rattle.adya_text.specs.declared.history_reader.Stage.TheVariants.{Head, Events, Unfinished, Orders, Finals, Done}
 use Rattle.adya_text.proofs.RunLemmas.{all_append, all_map}

@@ -6,8 +6,8 @@ use Rattle.std.proofs.lemmas.List.{get_or-take, get_or_default}
 use Rattle.std.proofs.lemmas.List.Elements.{All-cons}
 use Rattle.std.proofs.Math.Seq.{take-suc}
 use Rattle.memchr.specs.Find.{Nowhere, Passes, is_byte}
-use Rattle.adya_text.specs.Texts.{with_ends}
-use Rattle.adya_text.specs.Faults.{IsPlain, IsCut}
+use Rattle.adya_text.specs.Meaning.Texts.{with_ends}
+use Rattle.adya_text.specs.Meaning.Faults.{IsPlain, IsCut}
 
 pub ends_append : (xs ys : List (List ℕ)) → with_ends (xs ++ ys) ≡ with_ends xs ++ with_ends ys
 ends_append [] ys = refl

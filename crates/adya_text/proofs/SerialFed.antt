@@ -6,13 +6,13 @@ use Rattle.std.specs.Bool.{OnTrue, OnFalse}
 use Rattle.std.specs.List.{AllByRecursion, filter_map}
 use Rattle.std.proofs.lemmas.List.{length-append}
 use Rattle.std.proofs.lemmas.List.Elements.{filter_map-append}
-use Rattle.adya_terms.specs.declared.serial.Serial.{Serial}
-use Rattle.adya_text.specs.Texts.{IsSerial, serial_lines, AreSerialLines, with_ends, serial_text}
-use Rattle.adya_text.specs.Faults.{Begins, IsFaultLine, IsCut}
-use Rattle.adya_line.specs.SerialLines.{Line, HeadLine, TxnLine, TailLine}
-use Rattle.adya_line.specs.SerialLines.{IsLine, line_text, IsOnlyLineOf}
-use Rattle.adya_text.specs.SerialRuns.{allows, next_stage, stage_after, txn_in}
-use Rattle.adya_text.specs.SerialReaders.{IsFed, IsRefused, IsAllowed, Takes, IsKept, ReadsSerial, is_failed, is_done}
+use Rattle.adya_values.specs.declared.serial.Serial.{Serial}
+use Rattle.adya_text.specs.Meaning.Texts.{IsSerial, serial_lines, AreSerialLines, with_ends, serial_text}
+use Rattle.adya_text.specs.Meaning.Faults.{Begins, IsFaultLine, IsCut}
+use Rattle.adya_line.specs.Meaning.SerialLines.{Line, HeadLine, TxnLine, TailLine}
+use Rattle.adya_line.specs.Meaning.SerialLines.{IsLine, line_text, IsOnlyLineOf}
+use Rattle.adya_text.specs.Computing.SerialRuns.{allows, next_stage, stage_after, txn_in}
+use Rattle.adya_text.specs.Machinery.SerialReaders.{IsFed, IsRefused, IsAllowed, Takes, IsKept, ReadsSerial, is_failed, is_done}
 use Rattle.adya_text.specs.declared.serial_reader.Stage.{Stage}
 use Rattle.adya_text.specs.declared.serial_reader.Stage.TheVariants.{Head, Txns, Done, Failed}
 use Rattle.adya_text.specs.declared.serial_reader.SerialReader.{SerialReader}

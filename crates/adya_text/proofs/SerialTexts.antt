@@ -1,13 +1,13 @@
 -- The lines of a certificate are those of a run from the head to the tail, and no others are.
 use Rattle.std.proofs.Common.{◌≡◌, ℕ, List, [], ◌∷◌, ◌++◌, map, refl, sym, ap, ◌∙◌}
 use Rattle.std.specs.List.{AllByRecursion}
-use Rattle.adya_terms.specs.Keys.{IsTxn}
-use Rattle.adya_line.specs.Spelling.{serial_head, tail, txn_text}
-use Rattle.adya_text.specs.Texts.{IsSerial, serial_lines, AreSerialLines}
-use Rattle.adya_text.specs.Runs.{IsRun, end_of, HasRun}
-use Rattle.adya_line.specs.Laws.{IsOneText, HasPlainTexts}
-use Rattle.adya_line.specs.SerialLines.{Line, HeadLine, TxnLine, TailLine, IsLine, line_text}
-use Rattle.adya_text.specs.SerialRuns.{allows, next_stage}
+use Rattle.adya_values.specs.Meaning.Keys.{IsTxn}
+use Rattle.adya_line.specs.Meaning.Spelling.{serial_head, tail, txn_text}
+use Rattle.adya_text.specs.Meaning.Texts.{IsSerial, serial_lines, AreSerialLines}
+use Rattle.adya_text.specs.Computing.Runs.{IsRun, end_of, HasRun}
+use Rattle.adya_line.specs.Meaning.Laws.{IsOneText, HasPlainTexts}
+use Rattle.adya_line.specs.Meaning.SerialLines.{Line, HeadLine, TxnLine, TailLine, IsLine, line_text}
+use Rattle.adya_text.specs.Computing.SerialRuns.{allows, next_stage}
 use Rattle.adya_text.specs.declared.serial_reader.Stage.{Stage}
 use Rattle.adya_text.specs.declared.serial_reader.Stage.TheVariants.{Head, Txns, Done}
 use Rattle.adya_text.proofs.RunLemmas.{all_append, all_map}

@@ -6,10 +6,10 @@ use Rattle.std.specs.Prelude.{codes}
 use Rattle.std.proofs.lemmas.Bool.{eqb-true, ne_eqb, and_parts}
 use Rattle.std.proofs.lemmas.List.{length-append}
 use Rattle.std.proofs.Math.Seq.{take-append-add, drop-append-add, take-length, drop-length}
-use Rattle.adya_line.specs.Spelling.{tail}
-use Rattle.adya_text.specs.Texts.{with_ends}
-use Rattle.adya_text.specs.Faults.{IsPlain, IsCut, HasFront}
-use Rattle.adya_text.specs.Streams.{begins_with, end_of_history, history_part, serial_part}
+use Rattle.adya_line.specs.Meaning.Spelling.{tail}
+use Rattle.adya_text.specs.Meaning.Texts.{with_ends}
+use Rattle.adya_text.specs.Meaning.Faults.{IsPlain, IsCut, HasFront}
+use Rattle.adya_text.specs.Meaning.Streams.{begins_with, end_of_history, history_part, serial_part}
 use Rattle.adya_text.proofs.LineLists.{ends_append}
 
 later : (b : ℕ) (l : List ℕ) → IsPlain (b ∷ l) → IsPlain l

@@ -4,20 +4,20 @@ use Rattle.std.proofs.Common.{ap, subst, ◌∙◌, append-nil, arith}
 use Rattle.std.specs.Prelude.{MatchResult, IsErrOf}
 use Rattle.std.specs.List.{AllByRecursion, filter_map}
 use Rattle.std.proofs.lemmas.List.Elements.{All-cons}
-use Rattle.adya_terms.specs.Histories.{History}
-use Rattle.adya_terms.specs.Values.{history_of}
-use Rattle.adya_terms.specs.declared.history.History.{History as HistoryValue}
-use Rattle.adya_terms.specs.declared.serial.Serial.{Serial}
-use Rattle.adya_text.specs.Texts.{IsHistory, IsSerial, history_lines, serial_lines, history_text, serial_text}
-use Rattle.adya_text.specs.Texts.{with_ends, AreHistoryLines, AreSerialLines}
-use Rattle.adya_text.specs.Faults.{IsPlain, IsFaultLine, IsFirstFaulty}
-use Rattle.adya_line.specs.Laws.{HasPlainTexts}
-use Rattle.adya_line.specs.HistoryLines as H
-use Rattle.adya_line.specs.SerialLines as S
-use Rattle.adya_text.specs.HistoryRuns as HR
-use Rattle.adya_text.specs.SerialRuns as SR
-use Rattle.adya_text.specs.HistoryReaders.{ReadsHistory}
-use Rattle.adya_text.specs.SerialReaders.{ReadsSerial}
+use Rattle.adya_values.specs.Meaning.Histories.{History}
+use Rattle.adya_values.specs.Meaning.Values.{history_of}
+use Rattle.adya_values.specs.declared.history.History.{History as HistoryValue}
+use Rattle.adya_values.specs.declared.serial.Serial.{Serial}
+use Rattle.adya_text.specs.Meaning.Texts.{IsHistory, IsSerial, history_lines, serial_lines, history_text, serial_text}
+use Rattle.adya_text.specs.Meaning.Texts.{with_ends, AreHistoryLines, AreSerialLines}
+use Rattle.adya_text.specs.Meaning.Faults.{IsPlain, IsFaultLine, IsFirstFaulty}
+use Rattle.adya_line.specs.Meaning.Laws.{HasPlainTexts}
+use Rattle.adya_line.specs.Meaning.HistoryLines as H
+use Rattle.adya_line.specs.Meaning.SerialLines as S
+use Rattle.adya_text.specs.Computing.HistoryRuns as HR
+use Rattle.adya_text.specs.Computing.SerialRuns as SR
+use Rattle.adya_text.specs.Machinery.HistoryReaders.{ReadsHistory}
+use Rattle.adya_text.specs.Machinery.SerialReaders.{ReadsSerial}
 use Rattle.adya_text.specs.declared.read_fault.ReadFault.{ReadFault}
 use Rattle.adya_text.specs.declared.read_fault.ReadFault.TheVariants.{Syntax, Device, Memory}
 use Rattle.adya_text.specs.declared.read_fault.Text.TheVariants as Of

@@ -6,11 +6,11 @@ use Rattle.std.specs.Io.KnownBytes.{Appends}
 use Rattle.std.proofs.KnownBytes.{Appends-trans}
 use Rattle.std.proofs.lemmas.List.{map_push}
 use Rattle.std.proofs.Math.Seq.{take-suc}
-use Rattle.adya_terms.specs.Histories.{History}
-use Rattle.adya_line.specs.Growing.{Grows}
-use Rattle.adya_line.specs.Spelling.{head_text, serial_head, tail, event_text, unfinished_text, order_text}
-use Rattle.adya_line.specs.Spelling.{final_text, txn_text}
-use Rattle.adya_text.specs.Texts.{with_ends, history_text, serial_text}
+use Rattle.adya_values.specs.Meaning.Histories.{History}
+use Rattle.adya_line.specs.Machinery.Growing.{Grows}
+use Rattle.adya_line.specs.Meaning.Spelling.{head_text, serial_head, tail, event_text, unfinished_text, order_text}
+use Rattle.adya_line.specs.Meaning.Spelling.{final_text, txn_text}
+use Rattle.adya_text.specs.Meaning.Texts.{with_ends, history_text, serial_text}
 use Rattle.adya_text.proofs.LineLists.{ends_append}
 
 -- one part and then another

@@ -1,11 +1,3 @@
-pub mod Texts
-pub mod Faults
-pub mod Answers
-pub mod Runs
-pub mod HistoryRuns
-pub mod HistoryReaders
-pub mod SerialRuns
-pub mod SerialReaders
-pub mod Streams
-pub mod Laws
-pub mod Buffers
+pub mod Meaning
+pub mod Computing
+pub mod Machinery

@@ -3,21 +3,21 @@
 ghost use Rattle.std.specs.Prelude.{◌≡◌, ◌↔◌, ◌++◌, ◌∷◌, [], List, true, ℕ, IsTrue, IfOk, OnOk, OnErr, IsErr};
 ghost use Rattle.std.specs.Prelude.{MatchOption, IsOk, map};
 ghost use Rattle.std.specs.Bool.{OnTrue, OnFalse};
-ghost use Rattle.adya_terms.specs.Shapes.{fits_edition, is_shape};
-ghost use Rattle.adya_terms.specs.Histories.{order_of, final_of};
-ghost use Rattle.adya_line.specs.HistoryLines.{line_of};
-ghost use Rattle.adya_text.specs.HistoryRuns.{allows, edition_at, stage_after};
-ghost use Rattle.adya_text.specs.Texts.{AreHistoryLines};
-ghost use Rattle.adya_text.specs.Faults.{Begins, HasFront, IsCut};
-ghost use Rattle.adya_text.specs.Answers.{IsOfText};
-ghost use Rattle.adya_text.specs.HistoryReaders.{IsFed, IsRefused, IsAllowed, Takes, IsKept, is_done, is_failed};
-ghost use Rattle.adya_text.specs.HistoryReaders.{ReadsHistory, untold_history};
+ghost use Rattle.adya_values.specs.Meaning.Shapes.{fits_edition, is_shape};
+ghost use Rattle.adya_values.specs.Meaning.Histories.{order_of, final_of};
+ghost use Rattle.adya_line.specs.Meaning.HistoryLines.{line_of};
+ghost use Rattle.adya_text.specs.Computing.HistoryRuns.{allows, edition_at, stage_after};
+ghost use Rattle.adya_text.specs.Meaning.Texts.{AreHistoryLines};
+ghost use Rattle.adya_text.specs.Meaning.Faults.{Begins, HasFront, IsCut};
+ghost use Rattle.adya_text.specs.Meaning.Answers.{IsOfText};
+ghost use Rattle.adya_text.specs.Machinery.HistoryReaders.{IsFed, IsRefused, IsAllowed, Takes, IsKept, is_done, is_failed};
+ghost use Rattle.adya_text.specs.Machinery.HistoryReaders.{ReadsHistory, untold_history};
 
 use crate::line_reader::LineReader;
 use crate::read_fault::{ReadFault, Text};
 use adya_line::laws::history_lines;
 use adya_line::{HistoryLine, history_line};
-use adya_terms::{BadShape, Edition, Event, FinalPair, History, Key, Order, Txn};
+use adya_values::{BadShape, Edition, Event, FinalPair, History, Key, Order, Txn};
 use std::alloc::{AllocError, Global};
 
 /// Which lines may come next.

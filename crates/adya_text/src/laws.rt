@@ -1,8 +1,8 @@
 //! What holds of texts: the calls change nothing, and their contracts are the laws.
 
-ghost use Rattle.adya_text.specs.Texts.{AreHistoryLines, AreSerialLines};
-ghost use Rattle.adya_text.specs.Laws.{HistoriesDiffer, SerialsDiffer, NoHistoryBegins, NoSerialBegins};
-ghost use Rattle.adya_text.specs.Laws.{HasOneFaultLine, HasNoFaultWithin};
+ghost use Rattle.adya_text.specs.Meaning.Texts.{AreHistoryLines, AreSerialLines};
+ghost use Rattle.adya_text.specs.Meaning.Laws.{HistoriesDiffer, SerialsDiffer, NoHistoryBegins, NoSerialBegins};
+ghost use Rattle.adya_text.specs.Meaning.Laws.{HasOneFaultLine, HasNoFaultWithin};
 
 use adya_line::laws::{history_lines, serial_lines};
 

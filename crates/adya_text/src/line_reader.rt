@@ -2,8 +2,8 @@
 
 ghost use Rattle.std.specs.Prelude.{List, ℕ, Result, [], ◌∷◌, ◌++◌, OnOk, IsErr};
 ghost use Rattle.std.specs.Bool.{OnTrue};
-ghost use Rattle.adya_text.specs.Answers.{IsOfText};
-ghost use Rattle.adya_text.specs.Faults.{Begins, HasFront, IsCut};
+ghost use Rattle.adya_text.specs.Meaning.Answers.{IsOfText};
+ghost use Rattle.adya_text.specs.Meaning.Faults.{Begins, HasFront, IsCut};
 ghost use Rattle.adya_text.specs.declared.read_fault.ReadFault.{ReadFault as Fault};
 
 use crate::read_fault::ReadFault;

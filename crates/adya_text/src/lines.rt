@@ -3,9 +3,9 @@
 ghost use Rattle.std.specs.Prelude.{◌≡◌, ◌≢◌, ◌↔◌, ℕ, ◌+◌, ◌*◌, ◌<◌, ◌≤◌, List, [], ◌∷◌, ◌++◌, length, All, true};
 ghost use Rattle.std.specs.Prelude.{false, if◌then◌else◌, IfOk, OnOk, IsErrOf, slice_range};
 ghost use Rattle.std.specs.Io.KnownBytes.{Consumes, IsAtEnd, prepend_known};
-ghost use Rattle.adya_text.specs.Buffers.{work_left, line_end};
+ghost use Rattle.adya_text.specs.Machinery.Buffers.{work_left, line_end};
 
-use adya_terms::Source;
+use devices::Source;
 use memchr::memchr;
 use std::alloc::AllocError;
 use std::marker::Model;

@@ -1,18 +1,18 @@
 //! Reading whole texts.
 
 ghost use Rattle.std.specs.Prelude.{◌≡◌, List, [], ℕ, MatchResult, IsErrOf};
-ghost use Rattle.adya_terms.specs.Histories.{History as Plain};
-ghost use Rattle.adya_terms.specs.Values.{history_of};
-ghost use Rattle.adya_text.specs.Texts.{IsHistory, IsSerial, history_text, serial_text};
-ghost use Rattle.adya_text.specs.HistoryReaders.{ReadsHistory};
-ghost use Rattle.adya_text.specs.SerialReaders.{ReadsSerial};
+ghost use Rattle.adya_values.specs.Meaning.Histories.{History as Plain};
+ghost use Rattle.adya_values.specs.Meaning.Values.{history_of};
+ghost use Rattle.adya_text.specs.Meaning.Texts.{IsHistory, IsSerial, history_text, serial_text};
+ghost use Rattle.adya_text.specs.Machinery.HistoryReaders.{ReadsHistory};
+ghost use Rattle.adya_text.specs.Machinery.SerialReaders.{ReadsSerial};
 
 use crate::history_reader::HistoryReader;
 use crate::line_reader::LineReader;
 use crate::read_fault::ReadFault;
 use crate::serial_reader::SerialReader;
 use adya_line::laws::{history_lines, serial_lines};
-use adya_terms::{History, Serial};
+use adya_values::{History, Serial};
 use memchr::memchr;
 use std::alloc::Global;
 

@@ -2,19 +2,19 @@
 
 ghost use Rattle.std.specs.Prelude.{◌≡◌, ◌↔◌, ◌++◌, ◌∷◌, [], List, ℕ, IsTrue, IfOk, OnOk, OnErr, IsErr, MatchOption};
 ghost use Rattle.std.specs.Bool.{OnTrue, OnFalse};
-ghost use Rattle.adya_line.specs.SerialLines.{line_of};
-ghost use Rattle.adya_text.specs.SerialRuns.{allows, stage_after};
-ghost use Rattle.adya_text.specs.Texts.{AreSerialLines};
-ghost use Rattle.adya_text.specs.Faults.{Begins, HasFront, IsCut};
-ghost use Rattle.adya_text.specs.Answers.{IsOfText};
-ghost use Rattle.adya_text.specs.SerialReaders.{IsFed, IsRefused, IsAllowed, Takes, IsKept, is_done, is_failed};
-ghost use Rattle.adya_text.specs.SerialReaders.{ReadsSerial, untold_serial};
+ghost use Rattle.adya_line.specs.Meaning.SerialLines.{line_of};
+ghost use Rattle.adya_text.specs.Computing.SerialRuns.{allows, stage_after};
+ghost use Rattle.adya_text.specs.Meaning.Texts.{AreSerialLines};
+ghost use Rattle.adya_text.specs.Meaning.Faults.{Begins, HasFront, IsCut};
+ghost use Rattle.adya_text.specs.Meaning.Answers.{IsOfText};
+ghost use Rattle.adya_text.specs.Machinery.SerialReaders.{IsFed, IsRefused, IsAllowed, Takes, IsKept, is_done, is_failed};
+ghost use Rattle.adya_text.specs.Machinery.SerialReaders.{ReadsSerial, untold_serial};
 
 use crate::line_reader::LineReader;
 use crate::read_fault::{ReadFault, Text};
 use adya_line::laws::serial_lines;
 use adya_line::{SerialLine, serial_line};
-use adya_terms::{Serial, Txn};
+use adya_values::{Serial, Txn};
 use std::alloc::{AllocError, Global};
 
 /// Which lines may come next.

@@ -2,13 +2,13 @@
 
 ghost use Rattle.std.specs.Prelude.{◌≡◌, ◌⊎◌, List, [], ℕ, Some, true, false, IfSome, OnOk, IsErrOf, MatchResult};
 ghost use Rattle.std.specs.Io.KnownBytes.{IsAtEnd, prepend_known};
-ghost use Rattle.adya_terms.specs.Histories.{History as Plain};
-ghost use Rattle.adya_terms.specs.Values.{history_of};
-ghost use Rattle.adya_text.specs.Texts.{IsHistory, IsSerial, history_text, serial_text};
-ghost use Rattle.adya_text.specs.Answers.{IsOfText};
-ghost use Rattle.adya_text.specs.HistoryReaders.{ReadsHistory};
-ghost use Rattle.adya_text.specs.SerialReaders.{ReadsSerial};
-ghost use Rattle.adya_text.specs.Streams.{history_part, serial_part};
+ghost use Rattle.adya_values.specs.Meaning.Histories.{History as Plain};
+ghost use Rattle.adya_values.specs.Meaning.Values.{history_of};
+ghost use Rattle.adya_text.specs.Meaning.Texts.{IsHistory, IsSerial, history_text, serial_text};
+ghost use Rattle.adya_text.specs.Meaning.Answers.{IsOfText};
+ghost use Rattle.adya_text.specs.Machinery.HistoryReaders.{ReadsHistory};
+ghost use Rattle.adya_text.specs.Machinery.SerialReaders.{ReadsSerial};
+ghost use Rattle.adya_text.specs.Meaning.Streams.{history_part, serial_part};
 
 use crate::LineBuffer;
 use crate::history_reader::HistoryReader;
@@ -17,7 +17,8 @@ use crate::read_fault::ReadFault;
 use crate::serial_reader::SerialReader;
 use adya_line::is_tail;
 use adya_line::laws::{history_lines, serial_lines};
-use adya_terms::{History, Serial, Source};
+use adya_values::{History, Serial};
+use devices::Source;
 use std::alloc::Global;
 
 /// The history whose text all that the source has left is. It keeps one line and the history so far, reads to the end

@@ -1,5 +1,6 @@
 use super::*;
-use adya_terms::{Edition, History, Watched};
+use adya_values::{Edition, History};
+use devices::Watched;
 use std::alloc::Global;
 use std::test::Fail;
 

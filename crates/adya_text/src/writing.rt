@@ -2,19 +2,20 @@
 
 ghost use Rattle.std.specs.Prelude.{◌≡◌, ◌++◌, ◌∷◌, [], true, map, IsErr, OnOk};
 ghost use Rattle.std.specs.Io.KnownBytes.{Appends};
-ghost use Rattle.adya_terms.specs.Histories.{event_of, order_of, final_of};
-ghost use Rattle.adya_terms.specs.Values.{history_of};
-ghost use Rattle.adya_terms.specs.Watched.{has_failed, watched_contents};
-ghost use Rattle.adya_line.specs.Growing.{Grows};
-ghost use Rattle.adya_line.specs.Spelling.{head_text};
-ghost use Rattle.adya_line.specs.Spelling.{event_text, unfinished_text, order_text, final_text, txn_text};
-ghost use Rattle.adya_text.specs.Texts.{with_ends, history_text, serial_text};
+ghost use Rattle.adya_values.specs.Meaning.Histories.{event_of, order_of, final_of};
+ghost use Rattle.adya_values.specs.Meaning.Values.{history_of};
+ghost use Rattle.devices.specs.Meaning.Watched.{has_failed, watched_contents};
+ghost use Rattle.adya_line.specs.Machinery.Growing.{Grows};
+ghost use Rattle.adya_line.specs.Meaning.Spelling.{head_text};
+ghost use Rattle.adya_line.specs.Meaning.Spelling.{event_text, unfinished_text, order_text, final_text, txn_text};
+ghost use Rattle.adya_text.specs.Meaning.Texts.{with_ends, history_text, serial_text};
 
 use adya_line::{
     history_head, second_head, serial_head, tail, write_event, write_final, write_order, write_txn,
     write_unfinished,
 };
-use adya_terms::{Edition, Event, FinalPair, History, Order, Serial, Txn, Watched};
+use adya_values::{Edition, Event, FinalPair, History, Order, Serial, Txn};
+use devices::Watched;
 use std::io;
 use std::io::Write;
 use thiserror::Error;

@@ -6,7 +6,7 @@ use Rattle.clap.specs.Walk.{after_step, subcommand_met, to_positional}
 use Rattle.clap.specs.Simple.{Shape}
 use Rattle.clap.specs.Takes.{step_passes, turn_passes}
 use Rattle.clap.specs.Faults.{step_fault, turn_fault}
-use Rattle.ssi.specs.Words.{is_plain}
+use Rattle.ssi.specs.Meaning.Words.{is_plain}
 
 not_true : (b : Bool) → not b ≡ true → b ≡ false
 not_true true e = absurd (cc e)

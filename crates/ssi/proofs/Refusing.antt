@@ -9,8 +9,8 @@ use Rattle.clap.specs.Kinds.{Kinds, or_else}
 use Rattle.clap.specs.Faults.{built_fault, check_fault, defaults_fault, entered_fault, fault_of, is_simple_and_free}
 use Rattle.clap.specs.Faults.{level_fault, settle_fault, turn_fault, walk_fault}
 use Rattle.clap.proofs.OnLiterals.{clap_on_literals}
-use Rattle.ssi.specs.Words.{Request, pipe, audit, order, are_plain, is_plain, words_of}
-use Rattle.ssi.specs.Parser.{ssi_app}
+use Rattle.ssi.specs.Meaning.Words.{Request, pipe, audit, order, are_plain, is_plain, words_of}
+use Rattle.ssi.specs.Machinery.Parser.{ssi_app}
 use Rattle.ssi.proofs.Commands.{audits, names, orders, parser, stops_at_audit, stops_at_order, top_walk}
 use Rattle.ssi.proofs.Plain.{at, turn_fault-plain}
 use Rattle.ssi.proofs.Taking.{both, one_path, path_plain, two_paths, walk_one, walk_two}

@@ -7,8 +7,8 @@ use Rattle.clap.specs.Simple.{Shape, entered, is_simple, subcommand_of}
 use Rattle.clap.specs.Takes.{built_takes, default_passes, is_valid, level_passes, settle_passes, takes, turn_passes}
 use Rattle.clap.specs.Takes.{walk_passes}
 use Rattle.clap.proofs.OnLiterals.{clap_on_literals}
-use Rattle.ssi.specs.Words.{Request, pipe, audit, order, are_plain, is_plain, words_of}
-use Rattle.ssi.specs.Parser.{request_in, ssi_app}
+use Rattle.ssi.specs.Meaning.Words.{Request, pipe, audit, order, are_plain, is_plain, words_of}
+use Rattle.ssi.specs.Machinery.Parser.{request_in, ssi_app}
 use Rattle.ssi.proofs.Commands.{audits, names, orders, parser, stops_at_audit, stops_at_order, top_walk}
 use Rattle.ssi.proofs.Plain.{at, turn_passes-plain, walked-plain}
 

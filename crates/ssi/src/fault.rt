@@ -1,7 +1,7 @@
 //! Why the program has no answer.
 
 ghost use Rattle.std.specs.Prelude.{◌≡◌, Some, codes};
-ghost use Rattle.ssi.specs.Fault.{line_of, read_fault, write_fault, want_of_memory};
+ghost use Rattle.ssi.specs.Meaning.Fault.{line_of, read_fault, write_fault, want_of_memory};
 
 use adya_audit::RunFault;
 use std::fmt;

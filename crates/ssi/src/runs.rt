@@ -2,13 +2,13 @@
 
 ghost use Rattle.std.specs.Prelude.{◌≡◌, ◌↔◌, true, List, ℕ, IfOk, IfSome, IsErrOf};
 ghost use Rattle.std.specs.Io.KnownBytes.{Appends};
-ghost use Rattle.adya_terms.specs.Watched.{has_failed, watched_remaining, watched_contents};
-ghost use Rattle.adya_audit.specs.TextVerdicts.{IsAcceptedStream, IsSerializableStream, AreAccepted, AreSerializable};
-ghost use Rattle.adya_audit.specs.Answers.{Answer, Certificate, IsAnswer, answer_text};
+ghost use Rattle.devices.specs.Meaning.Watched.{has_failed, watched_remaining, watched_contents};
+ghost use Rattle.adya_audit.specs.Meaning.TextVerdicts.{IsAcceptedStream, IsSerializableStream, AreAccepted, AreSerializable};
+ghost use Rattle.adya_audit.specs.Meaning.Answers.{Answer, Certificate, IsAnswer, answer_text};
 
 use crate::status::Status;
 use adya_audit::{RunFault, run_audit, run_order, run_pipe};
-use adya_terms::Watched;
+use devices::Watched;
 use std::alloc::Global;
 use std::io::{Read, Write};
 

@@ -8,7 +8,7 @@ use crate::fault::Fault;
 use crate::runs::{judge_stream, judge_texts, order_text};
 use crate::status::Status;
 use crate::words::{NoTask, Task, given_words, task_of};
-use adya_terms::Watched;
+use devices::Watched;
 use clap::Error;
 use std::fs::Files;
 use std::rt::Runtime;

@@ -3,8 +3,8 @@
 ghost use Rattle.std.specs.Prelude.{◌≡◌, ◌≢◌, true, map, drop, string_bytes, IfOk, MatchResult};
 ghost use Rattle.clap.specs.Words.{rows_of, found_of, kind_of, subcommand_rows_of};
 ghost use Rattle.clap.specs.declared.error.kind.ErrorKind.TheVariants.{OutOfMemory};
-ghost use Rattle.ssi.specs.Parser.{path_in, request_in};
-ghost use Rattle.ssi.specs.Words.{Request, request_of, words_of, are_plain};
+ghost use Rattle.ssi.specs.Machinery.Parser.{path_in, request_in};
+ghost use Rattle.ssi.specs.Meaning.Words.{Request, request_of, words_of, are_plain};
 ghost use Rattle.ssi.specs.declared.words.NoTask.TheVariants.{Text, Memory};
 
 use crate::command_line::command_line;

@@ -5,7 +5,7 @@ ghost use Rattle.std.specs.List.{list_any, list_all};
 
 use crate::arc::Arc;
 use crate::choice::{Chosen, choose};
-use adya_terms::Txn;
+use adya_values::Txn;
 use std::alloc::{AllocError, Global};
 use std::test::Fail;
 

@@ -2,7 +2,8 @@
 
 use super::histories::*;
 use crate::*;
-use adya_terms::{Checked, History};
+use adya_terms::Checked;
+use adya_values::History;
 use std::alloc::{AllocError, Global};
 use std::test::Fail;
 

@@ -1,8 +1,8 @@
 use Rattle.std.proofs.Common.{◌≡◌, map, drop, nat_cmp}
 use Rattle.std.specs.List.{list_all}
 use Rattle.std.specs.BTreeSet.{contains}
-use Rattle.adya_terms.specs.Histories.{event_of}
-use Rattle.adya_audit.specs.Listed.{commit_passes}
+use Rattle.adya_values.specs.Meaning.Histories.{event_of}
+use Rattle.adya_audit.specs.Machinery.Listed.{commit_passes}
 use Rattle.adya_audit.proofs.certificate.all_listed.Given as goal
 
 abbrev pub invariant-loop-event : goal.invariant-loop-event

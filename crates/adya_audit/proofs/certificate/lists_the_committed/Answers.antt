@@ -1,9 +1,9 @@
 use Rattle.std.proofs.Common.{◌&&◌, ℕ, map, sym, ◌∙◌, ap, nat_cmp}
 use Rattle.std.specs.List.{list_all}
 use Rattle.std.specs.BTreeSet.{contains}
-use Rattle.adya_terms.specs.Histories.{event_of}
-use Rattle.adya_terms.specs.Values.{history_of}
-use Rattle.adya_audit.specs.Listed.{commit_passes}
+use Rattle.adya_values.specs.Meaning.Histories.{event_of}
+use Rattle.adya_values.specs.Meaning.Values.{history_of}
+use Rattle.adya_audit.specs.Machinery.Listed.{commit_passes}
 use Rattle.adya_audit.proofs.Counts.{twice_fails, lists_by_set}
 use Rattle.adya_audit.proofs.certificate.lists_the_committed.Goals as goal
 use Rattle.adya_audit.proofs.certificate.lists_the_committed.Goals.{then-all_committed, else-all_committed}

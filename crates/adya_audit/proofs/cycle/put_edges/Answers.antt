@@ -1,8 +1,8 @@
 use Rattle.std.proofs.Common.{arith}
-use Rattle.adya_terms.specs.Watched.{watched_contents}
+use Rattle.devices.specs.Meaning.Watched.{watched_contents}
 use Rattle.adya_text.proofs.Written.{view_more}
-use Rattle.adya_dsg.specs.Values.{edge_of}
-use Rattle.adya_audit.specs.Output.{edge_text}
+use Rattle.adya_dsg.specs.Meaning.Values.{edge_of}
+use Rattle.adya_audit.specs.Meaning.Output.{edge_text}
 use Rattle.adya_audit.proofs.cycle.put_edges.Goals as goal
 
 pub loop-edge-preserved : goal.loop-edge-preserved

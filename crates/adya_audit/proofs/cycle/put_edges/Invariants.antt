@@ -1,10 +1,10 @@
 -- The lines so far are written.
 use Rattle.std.proofs.Common.{take, map}
-use Rattle.adya_terms.specs.Watched.{watched_contents}
-use Rattle.adya_line.specs.Growing.{Grows}
-use Rattle.adya_text.specs.Texts.{with_ends}
-use Rattle.adya_dsg.specs.Values.{edge_of}
-use Rattle.adya_audit.specs.Output.{edge_text}
+use Rattle.devices.specs.Meaning.Watched.{watched_contents}
+use Rattle.adya_line.specs.Machinery.Growing.{Grows}
+use Rattle.adya_text.specs.Meaning.Texts.{with_ends}
+use Rattle.adya_dsg.specs.Meaning.Values.{edge_of}
+use Rattle.adya_audit.specs.Meaning.Output.{edge_text}
 use Rattle.adya_audit.proofs.cycle.put_edges.Given as goal
 
 abbrev pub invariant-loop-edge : goal.invariant-loop-edge

@@ -1,5 +1,5 @@
 use Rattle.std.proofs.Common.{◌≡◌, Some, map, take}
-use Rattle.adya_dsg.specs.Along.{first_along}
+use Rattle.adya_dsg.specs.Machinery.Along.{first_along}
 use Rattle.adya_dsg.proofs.along.edges_along.Given as goal
 
 abbrev pub invariant-loop-a : goal.invariant-loop-a

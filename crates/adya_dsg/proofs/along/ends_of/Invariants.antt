@@ -1,7 +1,7 @@
 use Rattle.std.proofs.Common.{◌≡◌, ◌==◌, ◌&&◌, ℕ, take}
 use Rattle.std.specs.List.{list_any}
 use Rattle.std.specs.BTreeSet.{contains}
-use Rattle.adya_dsg.specs.Along.{ends_cmp}
+use Rattle.adya_dsg.specs.Machinery.Along.{ends_cmp}
 use Rattle.adya_dsg.proofs.along.ends_of.Given as goal
 
 abbrev pub invariant-loop-a : goal.invariant-loop-a

@@ -1,6 +1,6 @@
 use Rattle.std.proofs.Common.{◌∙◌, sym, ap}
 use Rattle.std.specs.BTreeMap.{get}
-use Rattle.adya_dsg.specs.Along.{ends_cmp}
+use Rattle.adya_dsg.specs.Machinery.Along.{ends_cmp}
 use Rattle.adya_dsg.proofs.FirstAlong.{noted, had_before, unwanted}
 use Rattle.adya_dsg.proofs.along.first_edges.Goals as goal
 use Rattle.adya_dsg.proofs.along.first_edges.Goals.{then-contains+then-not-contains_key+in_ok-insert, else-contains, else-contains-via-then-contains+else-not-contains_key, else-contains-via-else-contains}

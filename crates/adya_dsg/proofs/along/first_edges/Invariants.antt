@@ -1,5 +1,5 @@
 use Rattle.std.proofs.Common.{take}
-use Rattle.adya_dsg.specs.Along.{HasFirst}
+use Rattle.adya_dsg.specs.Machinery.Along.{HasFirst}
 use Rattle.adya_dsg.proofs.along.first_edges.Given as goal
 
 abbrev pub invariant-loop-e : goal.invariant-loop-e

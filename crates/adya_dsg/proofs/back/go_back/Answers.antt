@@ -5,7 +5,7 @@ use Rattle.std.specs.BTreeSet.{contains}
 use Rattle.std.proofs.lemmas.List.Elements.{All-push}
 use Rattle.std.proofs.lemmas.List.Sorted.{All-permutation, list_any-IsPermutation}
 use Rattle.adya_dsg.specs.declared.arc.Arc.{Arc}
-use Rattle.adya_dsg.specs.Graphs.{IsWay}
+use Rattle.adya_dsg.specs.Meaning.Graphs.{IsWay}
 use Rattle.adya_dsg.proofs.Paths.{reverse_push}
 use Rattle.adya_dsg.proofs.Sets.{met_more}
 use Rattle.adya_dsg.proofs.back.go_back.Goals as goal

@@ -3,7 +3,7 @@ use Rattle.std.specs.List.{list_any}
 use Rattle.std.specs.Ordering.{nat_cmp}
 use Rattle.std.specs.BTreeSet.{BTreeSet, contains, btree_set_len}
 use Rattle.adya_dsg.specs.declared.arc.Arc.{Arc}
-use Rattle.adya_dsg.specs.Graphs.{IsWay}
+use Rattle.adya_dsg.specs.Meaning.Graphs.{IsWay}
 use Rattle.adya_dsg.proofs.back.go_back.Given as goal
 
 pub record Walks (arcs trail : List Arc) (left unmet : BTreeSet ℕ) (from at : ℕ) : Type 0 where

@@ -1,13 +1,13 @@
 use Rattle.std.proofs.Common.{◌≡◌, Option, None, option_map, flat_map, ◌∙◌, sym, ap, subst}
 use Rattle.std.specs.List.{find}
 use Rattle.std.proofs.lemmas.Result.{IfOk-weaker}
-use Rattle.adya_terms.specs.declared.history.History.{History as HistoryValue}
-use Rattle.adya_terms.specs.Values.{history_of}
-use Rattle.adya_terms.specs.EdgeList.{event_edges}
-use Rattle.adya_terms.specs.Certificates.{first_backward}
+use Rattle.adya_values.specs.declared.history.History.{History as HistoryValue}
+use Rattle.adya_values.specs.Meaning.Values.{history_of}
+use Rattle.adya_values.specs.Computing.EdgeList.{event_edges}
+use Rattle.adya_values.specs.Computing.Certificates.{first_backward}
 use Rattle.adya_dsg.specs.declared.edge.Edge.{Edge}
-use Rattle.adya_dsg.specs.Values.{edge_of}
-use Rattle.adya_dsg.specs.Dependencies.{is_backward}
+use Rattle.adya_dsg.specs.Meaning.Values.{edge_of}
+use Rattle.adya_dsg.specs.Computing.Dependencies.{is_backward}
 use Rattle.adya_dsg.proofs.Forward.{all_writes, readers, lends, no_backward_write, first_is_of_writes, first_is_of_reads}
 use Rattle.adya_dsg.proofs.backward.first_backward.Goals as goal
 

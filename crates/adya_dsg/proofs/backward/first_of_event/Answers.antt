@@ -1,10 +1,10 @@
 use Rattle.std.proofs.Common.{◌++◌, not, map, sym, ◌∙◌, ap}
 use Rattle.std.specs.List.{find}
-use Rattle.adya_terms.specs.Histories.{event_of}
-use Rattle.adya_terms.specs.Values.{history_of}
-use Rattle.adya_dsg.specs.Values.{edge_of}
-use Rattle.adya_dsg.specs.Dependencies.{is_backward}
-use Rattle.adya_dsg.specs.Links.{event_links}
+use Rattle.adya_values.specs.Meaning.Histories.{event_of}
+use Rattle.adya_values.specs.Meaning.Values.{history_of}
+use Rattle.adya_dsg.specs.Meaning.Values.{edge_of}
+use Rattle.adya_dsg.specs.Computing.Dependencies.{is_backward}
+use Rattle.adya_dsg.specs.Computing.Links.{event_links}
 use Rattle.adya_dsg.proofs.Forward.{none_mapped, none_of_event}
 use Rattle.adya_dsg.proofs.backward.first_of_event.Goals as goal
 

@@ -1,11 +1,11 @@
 use Rattle.std.proofs.Common.{◌+◌, map, option_map, drop, filter, flat_map, sym, ◌∙◌, ap}
 use Rattle.std.specs.List.{find}
-use Rattle.adya_terms.specs.Histories.{Event, event_of}
-use Rattle.adya_terms.specs.Values.{history_of}
-use Rattle.adya_terms.specs.Events.{txn_of, is_committed}
-use Rattle.adya_terms.specs.EdgeList.{event_edges}
-use Rattle.adya_dsg.specs.Values.{edge_of}
-use Rattle.adya_dsg.specs.Dependencies.{is_backward}
+use Rattle.adya_values.specs.Meaning.Histories.{Event, event_of}
+use Rattle.adya_values.specs.Meaning.Values.{history_of}
+use Rattle.adya_values.specs.Meaning.Events.{txn_of, is_committed}
+use Rattle.adya_values.specs.Computing.EdgeList.{event_edges}
+use Rattle.adya_dsg.specs.Meaning.Values.{edge_of}
+use Rattle.adya_dsg.specs.Computing.Dependencies.{is_backward}
 use Rattle.adya_dsg.proofs.Finding.{from_kept, from_left_out, found_in_front, none_in_front}
 use Rattle.adya_dsg.proofs.backward.first_read.Goals as goal
 use Rattle.adya_dsg.proofs.backward.first_read.Goals.{then-is_committed+in_ok-found+in_default, else-is_committed}

@@ -1,10 +1,10 @@
 use Rattle.std.proofs.Common.{◌≡◌, map, drop, filter, flat_map}
 use Rattle.std.specs.List.{find}
-use Rattle.adya_terms.specs.Histories.{event_of}
-use Rattle.adya_terms.specs.Values.{history_of}
-use Rattle.adya_terms.specs.Events.{txn_of, is_committed}
-use Rattle.adya_terms.specs.EdgeList.{event_edges}
-use Rattle.adya_dsg.specs.Dependencies.{is_backward}
+use Rattle.adya_values.specs.Meaning.Histories.{event_of}
+use Rattle.adya_values.specs.Meaning.Values.{history_of}
+use Rattle.adya_values.specs.Meaning.Events.{txn_of, is_committed}
+use Rattle.adya_values.specs.Computing.EdgeList.{event_edges}
+use Rattle.adya_dsg.specs.Computing.Dependencies.{is_backward}
 use Rattle.adya_dsg.proofs.backward.first_read.Given as goal
 
 abbrev pub invariant-loop-event : goal.invariant-loop-event

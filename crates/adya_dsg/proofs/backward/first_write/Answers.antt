@@ -1,8 +1,8 @@
 use Rattle.std.proofs.Common.{◌+◌, ◌++◌, map, drop, flat_map, sym, ◌∙◌, ap}
 use Rattle.std.specs.List.{find}
-use Rattle.adya_terms.specs.Histories.{Order, order_of}
-use Rattle.adya_dsg.specs.Values.{edge_of}
-use Rattle.adya_dsg.specs.Dependencies.{line_edges, is_backward}
+use Rattle.adya_values.specs.Meaning.Histories.{Order, order_of}
+use Rattle.adya_dsg.specs.Meaning.Values.{edge_of}
+use Rattle.adya_dsg.specs.Computing.Dependencies.{line_edges, is_backward}
 use Rattle.adya_dsg.proofs.Finding.{from_here, found_in_front, none_in_front}
 use Rattle.adya_dsg.proofs.backward.first_write.Goals as goal
 

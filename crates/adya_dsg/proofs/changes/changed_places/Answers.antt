@@ -1,7 +1,7 @@
 use Rattle.std.proofs.Common.{◌≡◌, ◌+◌, ◌<◌, ◌++◌, ℕ, suc, List, Vec, Global, filter, length, drop, get_or, ◌∙◌, ap, subst}
-use Rattle.adya_terms.specs.Values.{history_of}
-use Rattle.adya_terms.specs.Selections.{changes_matches}
-use Rattle.adya_terms.specs.EdgeList.{numbers}
+use Rattle.adya_values.specs.Meaning.Values.{history_of}
+use Rattle.adya_values.specs.Meaning.Selections.{changes_matches}
+use Rattle.adya_values.specs.Computing.EdgeList.{numbers}
 use Rattle.adya_dsg.proofs.Changing.{visible_next, change_noted, change_passed}
 use Rattle.adya_dsg.proofs.changes.changed_places.Goals as goal
 use Rattle.adya_dsg.proofs.changes.changed_places.Goals.{then-now-was+in_ok-push, else-now-was}

@@ -1,9 +1,9 @@
 use Rattle.std.proofs.Common.{◌≡◌, suc, ◌++◌, length, drop, filter}
-use Rattle.adya_terms.specs.Values.{history_of}
-use Rattle.adya_terms.specs.Orders.{is_visible_at}
-use Rattle.adya_terms.specs.Selections.{changes_matches}
-use Rattle.adya_terms.specs.EdgeList.{numbers}
-use Rattle.adya_dsg.specs.Links.{changed_places}
+use Rattle.adya_values.specs.Meaning.Values.{history_of}
+use Rattle.adya_values.specs.Meaning.Orders.{is_visible_at}
+use Rattle.adya_values.specs.Meaning.Selections.{changes_matches}
+use Rattle.adya_values.specs.Computing.EdgeList.{numbers}
+use Rattle.adya_dsg.specs.Computing.Links.{changed_places}
 use Rattle.adya_dsg.proofs.changes.changed_places.Given as goal
 
 abbrev pub invariant-loop-i : goal.invariant-loop-i

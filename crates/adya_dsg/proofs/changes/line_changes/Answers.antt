@@ -1,9 +1,9 @@
 use Rattle.std.proofs.Common.{◌+◌, ◌<◌, ◌++◌, [], ◌∷◌, ℕ, List, Vec, Global, map, length, drop, get_or, ◌∙◌, ap, subst}
 use Rattle.std.proofs.lemmas.List.{map-append}
-use Rattle.adya_terms.specs.declared.order.Order.{Order as OrderValue}
-use Rattle.adya_terms.specs.Histories.{Order, order_of}
-use Rattle.adya_terms.specs.Values.{history_of}
-use Rattle.adya_dsg.specs.Links.{changed_places}
+use Rattle.adya_values.specs.declared.order.Order.{Order as OrderValue}
+use Rattle.adya_values.specs.Meaning.Histories.{Order, order_of}
+use Rattle.adya_values.specs.Meaning.Values.{history_of}
+use Rattle.adya_dsg.specs.Computing.Links.{changed_places}
 use Rattle.adya_dsg.proofs.Keys.{line_of-at}
 use Rattle.adya_dsg.proofs.Steps.{map_step}
 use Rattle.adya_dsg.proofs.changes.line_changes.Goals as goal

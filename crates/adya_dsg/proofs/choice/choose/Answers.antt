@@ -2,7 +2,7 @@ use Rattle.std.proofs.Common.{◌≡◌, ◌↔◌, ℕ, List, true≢false, Con
 use Rattle.std.specs.List.Sorted.{IsNonDecreasingBy}
 use Rattle.std.specs.Ordering.{nat_cmp}
 use Rattle.std.specs.BTreeSet.{contains}
-use Rattle.adya_dsg.specs.Walks.{IsWalk}
+use Rattle.adya_dsg.specs.Machinery.Walks.{IsWalk}
 use Rattle.adya_dsg.specs.declared.arc.Arc.{Arc}
 use Rattle.adya_dsg.proofs.Counts.{Places, nothing_placed, one_placed, all_placed}
 use Rattle.adya_dsg.proofs.Paths.{cycle_known}

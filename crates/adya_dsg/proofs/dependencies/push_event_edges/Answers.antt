@@ -1,10 +1,10 @@
 use Rattle.std.proofs.Common.{◌<◌, ◌+◌, ◌++◌, List, map, drop, flat_map, length, get_or, sym, ◌∙◌, ap, subst}
-use Rattle.adya_terms.specs.Histories.{event_of}
-use Rattle.adya_terms.specs.Values.{history_of}
+use Rattle.adya_values.specs.Meaning.Histories.{event_of}
+use Rattle.adya_values.specs.Meaning.Values.{history_of}
 use Rattle.adya_dsg.specs.declared.selection.Selection.{Selection}
-use Rattle.adya_dsg.specs.Values.{edge_of}
-use Rattle.adya_dsg.specs.Choices.{choice_of}
-use Rattle.adya_dsg.specs.Dependencies.{choice_edges}
+use Rattle.adya_dsg.specs.Meaning.Values.{edge_of}
+use Rattle.adya_dsg.specs.Computing.Choices.{choice_of}
+use Rattle.adya_dsg.specs.Computing.Dependencies.{choice_edges}
 use Rattle.adya_dsg.proofs.Steps.{flat_map_step, drop_at}
 use Rattle.adya_dsg.proofs.Choosing.{event_edges_are}
 use Rattle.adya_dsg.proofs.dependencies.push_event_edges.Goals as goal

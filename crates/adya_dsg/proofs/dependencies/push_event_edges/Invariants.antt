@@ -1,10 +1,10 @@
 use Rattle.std.proofs.Common.{◌≡◌, ◌++◌, map, drop, flat_map}
-use Rattle.adya_terms.specs.Histories.{event_of}
-use Rattle.adya_terms.specs.Values.{history_of}
-use Rattle.adya_terms.specs.EdgeList.{event_edges}
-use Rattle.adya_dsg.specs.Values.{edge_of}
-use Rattle.adya_dsg.specs.Choices.{choice_of}
-use Rattle.adya_dsg.specs.Dependencies.{choice_edges}
+use Rattle.adya_values.specs.Meaning.Histories.{event_of}
+use Rattle.adya_values.specs.Meaning.Values.{history_of}
+use Rattle.adya_values.specs.Computing.EdgeList.{event_edges}
+use Rattle.adya_dsg.specs.Meaning.Values.{edge_of}
+use Rattle.adya_dsg.specs.Computing.Choices.{choice_of}
+use Rattle.adya_dsg.specs.Computing.Dependencies.{choice_edges}
 use Rattle.adya_dsg.proofs.dependencies.push_event_edges.Given as goal
 
 abbrev pub invariant-loop-at : goal.invariant-loop-at

@@ -1,14 +1,14 @@
 use Rattle.std.proofs.Common.{◌+◌, ◌++◌, ℕ, suc, Vec, Global, Some, map, drop, filter, flat_map, get_or, slice_get, nat_lt, sym, ◌∙◌, ap, append_assoc, add-one}
 use Rattle.std.proofs.lemmas.Bool.{lt-ltb, le-ltb}
-use Rattle.adya_terms.specs.Histories.{event_of}
-use Rattle.adya_terms.specs.Events.{txn_of}
-use Rattle.adya_terms.specs.Values.{history_of}
-use Rattle.adya_terms.specs.Orders.{installer}
-use Rattle.adya_terms.specs.Edges.{Rw}
-use Rattle.adya_terms.specs.EdgeList.{joined}
+use Rattle.adya_values.specs.Meaning.Histories.{event_of}
+use Rattle.adya_values.specs.Meaning.Events.{txn_of}
+use Rattle.adya_values.specs.Meaning.Values.{history_of}
+use Rattle.adya_values.specs.Meaning.Orders.{installer}
+use Rattle.adya_values.specs.Meaning.Edges.{Rw}
+use Rattle.adya_values.specs.Computing.EdgeList.{joined}
 use Rattle.adya_dsg.specs.declared.edge.Edge.{Edge as EdgeValue}
-use Rattle.adya_dsg.specs.Values.{edge_of}
-use Rattle.adya_dsg.specs.Choices.{key_at}
+use Rattle.adya_dsg.specs.Meaning.Values.{edge_of}
+use Rattle.adya_dsg.specs.Computing.Choices.{key_at}
 use Rattle.adya_dsg.proofs.Steps.{kept_step, passed_step, at_end, drop_at, got}
 use Rattle.adya_dsg.proofs.Depending.{overwrite_edges_visible, overwrite_edges_hidden}
 use Rattle.adya_dsg.proofs.dependencies.push_overwriters.Goals as goal

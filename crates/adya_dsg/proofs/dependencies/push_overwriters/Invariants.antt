@@ -1,10 +1,10 @@
 use Rattle.std.proofs.Common.{◌≡◌, ◌++◌, ℕ, Some, map, drop, filter, flat_map, nat_lt}
-use Rattle.adya_terms.specs.Values.{history_of}
-use Rattle.adya_terms.specs.Orders.{installer}
-use Rattle.adya_terms.specs.Edges.{Rw}
-use Rattle.adya_terms.specs.EdgeList.{joined}
-use Rattle.adya_dsg.specs.Values.{edge_of}
-use Rattle.adya_dsg.specs.Choices.{key_at}
+use Rattle.adya_values.specs.Meaning.Values.{history_of}
+use Rattle.adya_values.specs.Meaning.Orders.{installer}
+use Rattle.adya_values.specs.Meaning.Edges.{Rw}
+use Rattle.adya_values.specs.Computing.EdgeList.{joined}
+use Rattle.adya_dsg.specs.Meaning.Values.{edge_of}
+use Rattle.adya_dsg.specs.Computing.Choices.{key_at}
 use Rattle.adya_dsg.proofs.dependencies.push_overwriters.Given as goal
 
 abbrev pub invariant-loop-place : goal.invariant-loop-place

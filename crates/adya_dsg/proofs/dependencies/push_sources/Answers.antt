@@ -1,15 +1,15 @@
 use Rattle.std.proofs.Common.{◌≡◌, ◌+◌, ◌++◌, ℕ, Vec, Global, Some, map, drop, filter, flat_map, get_or, nat_lt, sym, ◌∙◌, ap, append_assoc}
 use Rattle.std.proofs.lemmas.Bool.{lt-ltb, le-ltb}
 use Rattle.std.proofs.lemmas.Result.{on_ok_weaker}
-use Rattle.adya_terms.specs.Histories.{event_of}
-use Rattle.adya_terms.specs.Values.{history_of}
-use Rattle.adya_terms.specs.Orders.{installer}
-use Rattle.adya_terms.specs.Edges.{Wr}
-use Rattle.adya_terms.specs.EdgeList.{joined, read_edges}
+use Rattle.adya_values.specs.Meaning.Histories.{event_of}
+use Rattle.adya_values.specs.Meaning.Values.{history_of}
+use Rattle.adya_values.specs.Meaning.Orders.{installer}
+use Rattle.adya_values.specs.Meaning.Edges.{Wr}
+use Rattle.adya_values.specs.Computing.EdgeList.{joined, read_edges}
 use Rattle.adya_dsg.specs.declared.edge.Edge.{Edge as EdgeValue}
-use Rattle.adya_dsg.specs.Values.{edge_of}
-use Rattle.adya_dsg.specs.Choices.{key_at}
-use Rattle.adya_dsg.specs.Links.{changed_places}
+use Rattle.adya_dsg.specs.Meaning.Values.{edge_of}
+use Rattle.adya_dsg.specs.Computing.Choices.{key_at}
+use Rattle.adya_dsg.specs.Computing.Links.{changed_places}
 use Rattle.adya_dsg.proofs.Steps.{kept_step, passed_step, at_end, drop_at}
 use Rattle.adya_dsg.proofs.Depending.{read_edges_are}
 use Rattle.adya_dsg.proofs.dependencies.push_sources.Goals as goal

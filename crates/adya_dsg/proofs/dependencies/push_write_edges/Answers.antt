@@ -1,8 +1,8 @@
 use Rattle.std.proofs.Common.{◌∙◌, ◌+◌, ◌++◌, ◌-◌, ◌∷◌, Some, map, take, drop, length, sym, ap, append_assoc}
-use Rattle.adya_terms.specs.Edges.{Ww}
-use Rattle.adya_terms.specs.EdgeList.{joined}
-use Rattle.adya_dsg.specs.Values.{edge_of}
-use Rattle.adya_dsg.specs.Dependencies.{line_edges}
+use Rattle.adya_values.specs.Meaning.Edges.{Ww}
+use Rattle.adya_values.specs.Computing.EdgeList.{joined}
+use Rattle.adya_dsg.specs.Meaning.Values.{edge_of}
+use Rattle.adya_dsg.specs.Computing.Dependencies.{line_edges}
 use Rattle.adya_dsg.proofs.Steps.{drop_step}
 use Rattle.adya_dsg.proofs.dependencies.push_write_edges.Goals as goal
 

@@ -1,6 +1,6 @@
 use Rattle.std.proofs.Common.{◌≡◌, ◌++◌, ◌∷◌, map, drop}
-use Rattle.adya_dsg.specs.Values.{edge_of}
-use Rattle.adya_dsg.specs.Dependencies.{line_edges}
+use Rattle.adya_dsg.specs.Meaning.Values.{edge_of}
+use Rattle.adya_dsg.specs.Computing.Dependencies.{line_edges}
 use Rattle.adya_dsg.proofs.dependencies.push_write_edges.Given as goal
 
 abbrev pub invariant-loop-to : goal.invariant-loop-to

@@ -1,11 +1,11 @@
 use Rattle.std.proofs.Common.{◌≡◌, ◌&&◌, not, false, slice_get, sym, ◌∙◌, ap}
 use Rattle.std.proofs.lemmas.Bool.{and_left, and_right}
-use Rattle.adya_terms.specs.Histories.{event_of}
-use Rattle.adya_terms.specs.Values.{history_of}
-use Rattle.adya_terms.specs.Orders.{is_visible_at}
-use Rattle.adya_terms.specs.Selections.{is_scan}
-use Rattle.adya_dsg.specs.Choices.{key_at}
-use Rattle.adya_dsg.specs.Links.{installer_at}
+use Rattle.adya_values.specs.Meaning.Histories.{event_of}
+use Rattle.adya_values.specs.Meaning.Values.{history_of}
+use Rattle.adya_values.specs.Meaning.Orders.{is_visible_at}
+use Rattle.adya_values.specs.Meaning.Selections.{is_scan}
+use Rattle.adya_dsg.specs.Computing.Choices.{key_at}
+use Rattle.adya_dsg.specs.Computing.Links.{installer_at}
 use Rattle.adya_dsg.proofs.Steps.{got}
 use Rattle.adya_dsg.proofs.Depending.{overwriter_hidden, overwriter_next}
 use Rattle.adya_dsg.proofs.event_links.overwriter.Goals as goal

@@ -1,9 +1,9 @@
 use Rattle.std.proofs.Common.{◌≡◌, ◌++◌, map, drop, flat_map}
-use Rattle.adya_terms.specs.Histories.{event_of}
-use Rattle.adya_terms.specs.Values.{history_of}
-use Rattle.adya_dsg.specs.Values.{edge_of}
-use Rattle.adya_dsg.specs.Choices.{choice_of}
-use Rattle.adya_dsg.specs.Links.{choice_links, event_links}
+use Rattle.adya_values.specs.Meaning.Histories.{event_of}
+use Rattle.adya_values.specs.Meaning.Values.{history_of}
+use Rattle.adya_dsg.specs.Meaning.Values.{edge_of}
+use Rattle.adya_dsg.specs.Computing.Choices.{choice_of}
+use Rattle.adya_dsg.specs.Computing.Links.{choice_links, event_links}
 use Rattle.adya_dsg.proofs.event_links.push_event_links.Given as goal
 
 abbrev pub invariant-loop-at : goal.invariant-loop-at

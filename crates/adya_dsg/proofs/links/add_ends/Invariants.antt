@@ -1,6 +1,6 @@
 use Rattle.std.proofs.Common.{◌≡◌, ◌++◌, map, drop}
-use Rattle.adya_dsg.specs.Values.{edge_of}
-use Rattle.adya_dsg.specs.Arcs.{ends}
+use Rattle.adya_dsg.specs.Meaning.Values.{edge_of}
+use Rattle.adya_dsg.specs.Machinery.Arcs.{ends}
 use Rattle.adya_dsg.proofs.links.add_ends.Given as goal
 
 abbrev pub invariant-loop-edge : goal.invariant-loop-edge

@@ -1,11 +1,11 @@
 use Rattle.std.proofs.Common.{◌+◌, ◌++◌, List, Vec, Global, map, drop, filter, flat_map, sym, ◌∙◌, ap}
-use Rattle.adya_terms.specs.Histories.{Event, event_of}
-use Rattle.adya_terms.specs.Values.{history_of}
-use Rattle.adya_terms.specs.Events.{txn_of, is_committed}
+use Rattle.adya_values.specs.Meaning.Histories.{Event, event_of}
+use Rattle.adya_values.specs.Meaning.Values.{history_of}
+use Rattle.adya_values.specs.Meaning.Events.{txn_of, is_committed}
 use Rattle.adya_dsg.specs.declared.arc.Arc.{Arc}
-use Rattle.adya_dsg.specs.Values.{edge_of}
-use Rattle.adya_dsg.specs.Arcs.{ends}
-use Rattle.adya_dsg.specs.Links.{event_links}
+use Rattle.adya_dsg.specs.Meaning.Values.{edge_of}
+use Rattle.adya_dsg.specs.Machinery.Arcs.{ends}
+use Rattle.adya_dsg.specs.Computing.Links.{event_links}
 use Rattle.adya_dsg.proofs.Finding.{from_kept, from_left_out, added_front}
 use Rattle.adya_dsg.proofs.links.add_event_arcs.Goals as goal
 use Rattle.adya_dsg.proofs.links.add_event_arcs.Goals.{then-is_committed+in_ok-push_event_links+in_ok-add_ends, else-is_committed}

@@ -1,12 +1,12 @@
 use Rattle.std.proofs.Common.{◌≡◌, ◌++◌, List, map, flat_map, ◌∙◌, ap, subst}
-use Rattle.adya_terms.specs.declared.history.History.{History as HistoryValue}
-use Rattle.adya_terms.specs.Histories.{Order, History, order_of}
-use Rattle.adya_terms.specs.Values.{history_of}
-use Rattle.adya_terms.specs.Acceptance.{IsChecked}
+use Rattle.adya_values.specs.declared.history.History.{History as HistoryValue}
+use Rattle.adya_values.specs.Meaning.Histories.{Order, History, order_of}
+use Rattle.adya_values.specs.Meaning.Values.{history_of}
+use Rattle.adya_values.specs.Meaning.Acceptance.{IsChecked}
 use Rattle.adya_dsg.specs.declared.arc.Arc.{Arc}
-use Rattle.adya_dsg.specs.Arcs.{ends}
-use Rattle.adya_dsg.specs.Dependencies.{line_edges}
-use Rattle.adya_dsg.specs.Links.{event_links, links}
+use Rattle.adya_dsg.specs.Machinery.Arcs.{ends}
+use Rattle.adya_dsg.specs.Computing.Dependencies.{line_edges}
+use Rattle.adya_dsg.specs.Computing.Links.{event_links, links}
 use Rattle.adya_dsg.proofs.Forward.{readers, lends, ends_by_parts, links_are_ends, links_decide}
 use Rattle.adya_dsg.proofs.links.links.Goals as goal
 

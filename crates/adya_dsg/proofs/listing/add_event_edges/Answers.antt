@@ -1,9 +1,9 @@
 use Rattle.std.proofs.Common.{◌++◌, List, Bool, map, fold, sym, ◌∙◌, ap}
-use Rattle.adya_terms.specs.Histories.{Event, event_of}
-use Rattle.adya_terms.specs.Values.{history_of}
-use Rattle.adya_terms.specs.Events.{txn_of, is_committed}
-use Rattle.adya_terms.specs.EdgeList.{with_edge, event_edges}
-use Rattle.adya_dsg.specs.Values.{edge_of}
+use Rattle.adya_values.specs.Meaning.Histories.{Event, event_of}
+use Rattle.adya_values.specs.Meaning.Values.{history_of}
+use Rattle.adya_values.specs.Meaning.Events.{txn_of, is_committed}
+use Rattle.adya_values.specs.Computing.EdgeList.{with_edge, event_edges}
+use Rattle.adya_dsg.specs.Meaning.Values.{edge_of}
 use Rattle.adya_dsg.specs.declared.edge.Edge.{Edge as EdgeValue}
 use Rattle.adya_dsg.proofs.Repeats.{fold_kept, fold_passed}
 use Rattle.adya_dsg.proofs.listing.add_event_edges.Goals as goal

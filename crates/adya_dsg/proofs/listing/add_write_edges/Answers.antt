@@ -1,10 +1,10 @@
 use Rattle.std.proofs.Common.{◌<◌, ◌++◌, List, map, fold, length, get_or, refl, ◌∙◌, ap, subst}
-use Rattle.adya_terms.specs.declared.order.Order.{Order as OrderValue}
-use Rattle.adya_terms.specs.Histories.{Order, order_of}
-use Rattle.adya_terms.specs.Values.{history_of}
-use Rattle.adya_terms.specs.EdgeList.{with_edge, write_edges}
-use Rattle.adya_dsg.specs.Values.{edge_of}
-use Rattle.adya_dsg.specs.Dependencies.{line_edges}
+use Rattle.adya_values.specs.declared.order.Order.{Order as OrderValue}
+use Rattle.adya_values.specs.Meaning.Histories.{Order, order_of}
+use Rattle.adya_values.specs.Meaning.Values.{history_of}
+use Rattle.adya_values.specs.Computing.EdgeList.{with_edge, write_edges}
+use Rattle.adya_dsg.specs.Meaning.Values.{edge_of}
+use Rattle.adya_dsg.specs.Computing.Dependencies.{line_edges}
 use Rattle.adya_dsg.specs.declared.edge.Edge.{Edge as EdgeValue}
 use Rattle.adya_dsg.proofs.LineEdges.{line_edges-at}
 use Rattle.adya_dsg.proofs.Repeats.{fold_each}

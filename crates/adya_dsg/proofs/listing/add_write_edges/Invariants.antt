@@ -1,8 +1,8 @@
 use Rattle.std.proofs.Common.{◌≡◌, map, flat_map, fold, drop}
-use Rattle.adya_terms.specs.Histories.{order_of}
-use Rattle.adya_terms.specs.Values.{history_of}
-use Rattle.adya_terms.specs.EdgeList.{with_edge, write_edges}
-use Rattle.adya_dsg.specs.Values.{edge_of}
+use Rattle.adya_values.specs.Meaning.Histories.{order_of}
+use Rattle.adya_values.specs.Meaning.Values.{history_of}
+use Rattle.adya_values.specs.Computing.EdgeList.{with_edge, write_edges}
+use Rattle.adya_dsg.specs.Meaning.Values.{edge_of}
 use Rattle.adya_dsg.proofs.listing.add_write_edges.Given as goal
 
 abbrev pub invariant-loop-order : goal.invariant-loop-order

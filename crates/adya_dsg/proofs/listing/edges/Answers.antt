@@ -1,14 +1,14 @@
 use Rattle.std.proofs.Common.{◌≡◌, ◌≢◌, List, [], map, filter, flat_map, fold, refl, ap, sym, ◌∙◌}
 use Rattle.std.specs.List.{AllPairs}
 use Rattle.std.proofs.lemmas.List.Sums.{fold-append}
-use Rattle.adya_terms.specs.declared.history.History.{History as HistoryValue}
-use Rattle.adya_terms.specs.Histories.{Order, Event}
-use Rattle.adya_terms.specs.Values.{history_of}
-use Rattle.adya_terms.specs.Events.{txn_of, is_committed}
-use Rattle.adya_terms.specs.Edges.{Edge}
-use Rattle.adya_terms.specs.EdgeList.{with_edge, write_edges, event_edges, edge_list}
-use Rattle.adya_dsg.specs.Values.{edge_of}
-use Rattle.adya_dsg.specs.Dependencies.{AreEdges}
+use Rattle.adya_values.specs.declared.history.History.{History as HistoryValue}
+use Rattle.adya_values.specs.Meaning.Histories.{Order, Event}
+use Rattle.adya_values.specs.Meaning.Values.{history_of}
+use Rattle.adya_values.specs.Meaning.Events.{txn_of, is_committed}
+use Rattle.adya_values.specs.Meaning.Edges.{Edge}
+use Rattle.adya_values.specs.Computing.EdgeList.{with_edge, write_edges, event_edges, edge_list}
+use Rattle.adya_dsg.specs.Meaning.Values.{edge_of}
+use Rattle.adya_dsg.specs.Computing.Dependencies.{AreEdges}
 use Rattle.adya_dsg.specs.declared.edge.Edge.{Edge as EdgeValue}
 use Rattle.adya_dsg.proofs.Repeats.{copied}
 use Rattle.adya_dsg.proofs.listing.edges.Goals as goal

@@ -1,6 +1,6 @@
 use Rattle.std.proofs.Common.{◌≡◌, map, take}
-use Rattle.adya_terms.specs.Histories.{event_of}
-use Rattle.adya_dsg.specs.Nodes.{committed}
+use Rattle.adya_values.specs.Meaning.Histories.{event_of}
+use Rattle.adya_dsg.specs.Machinery.Nodes.{committed}
 use Rattle.adya_dsg.proofs.nodes.committed.Given as goal
 
 abbrev pub invariant-loop-e : goal.invariant-loop-e

@@ -1,13 +1,13 @@
 use Rattle.std.proofs.Common.{◌≡◌, List, map, sym, subst, ap, ◌∙◌}
 use Rattle.std.proofs.lemmas.Simd.{map-map}
-use Rattle.adya_terms.specs.Values.{history_of}
-use Rattle.adya_terms.specs.EdgeList.{edge_list}
-use Rattle.adya_terms.specs.Acceptance.{IsAccepted}
+use Rattle.adya_values.specs.Meaning.Values.{history_of}
+use Rattle.adya_values.specs.Computing.EdgeList.{edge_list}
+use Rattle.adya_values.specs.Meaning.Acceptance.{IsAccepted}
 use Rattle.adya_dsg.specs.declared.arc.Arc.{Arc}
 use Rattle.adya_dsg.specs.declared.edge.Edge.{Edge}
-use Rattle.adya_dsg.specs.Arcs.{ends, AreEnds, Decide}
-use Rattle.adya_dsg.specs.Graphs.{IsChosen, IsCycleIn}
-use Rattle.adya_dsg.specs.Values.{edge_of}
+use Rattle.adya_dsg.specs.Machinery.Arcs.{ends, AreEnds, Decide}
+use Rattle.adya_dsg.specs.Meaning.Graphs.{IsChosen, IsCycleIn}
+use Rattle.adya_dsg.specs.Meaning.Values.{edge_of}
 use Rattle.adya_dsg.proofs.Certifying.{all_are_ends, all_decide, accepted_if_sorted, ends_are_nodes, cycle_has_edges, first_edges_are_cycle}
 use Rattle.adya_dsg.proofs.ordering.by_edges.Goals as goal
 

@@ -1,7 +1,7 @@
 use Rattle.std.proofs.Common.{sym, subst, ap}
-use Rattle.adya_terms.specs.Values.{history_of}
-use Rattle.adya_terms.specs.Acceptance.{IsAccepted}
-use Rattle.adya_dsg.specs.Graphs.{IsChosen}
+use Rattle.adya_values.specs.Meaning.Values.{history_of}
+use Rattle.adya_values.specs.Meaning.Acceptance.{IsAccepted}
+use Rattle.adya_dsg.specs.Meaning.Graphs.{IsChosen}
 use Rattle.adya_dsg.proofs.Certifying.{accepted_if_sorted, ends_are_nodes}
 use Rattle.adya_dsg.proofs.ordering.by_links.Goals as goal
 

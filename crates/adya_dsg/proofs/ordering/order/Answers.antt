@@ -1,10 +1,10 @@
 use Rattle.std.proofs.Common.{◌≡◌, ◌↔◌, subst}
-use Rattle.adya_terms.specs.Values.{history_of}
-use Rattle.adya_terms.specs.declared.history.History.{History as HistoryValue}
-use Rattle.adya_terms.specs.Phenomena.{HasG1, HasG2}
-use Rattle.adya_terms.specs.Acceptance.{IsChecked}
-use Rattle.adya_dsg.specs.Found.{HasCertificate}
-use Rattle.adya_dsg.specs.Laws.{CertifiedWhereNoPhenomenon}
+use Rattle.adya_values.specs.Meaning.Values.{history_of}
+use Rattle.adya_values.specs.declared.history.History.{History as HistoryValue}
+use Rattle.adya_values.specs.Meaning.Phenomena.{HasG1, HasG2}
+use Rattle.adya_values.specs.Meaning.Acceptance.{IsChecked}
+use Rattle.adya_dsg.specs.Meaning.Found.{HasCertificate}
+use Rattle.adya_dsg.specs.Meaning.Laws.{CertifiedWhereNoPhenomenon}
 use Rattle.adya_dsg.proofs.Certifying.{none_beside_result}
 use Rattle.adya_dsg.proofs.ordering.order.Goals as goal
 

@@ -1,8 +1,8 @@
 use Rattle.std.proofs.Common.{◌≡◌, ◌+◌, ◌-◌, ℕ, suc, List, Some, cond, drop, length, ◌∙◌, sym, ap, subst, arith}
 use Rattle.std.specs.Option.{unwrap_or}
 use Rattle.std.specs.HashMap.{get}
-use Rattle.adya_terms.specs.Orders.{place}
-use Rattle.adya_dsg.specs.Places.{slot, slot_eq}
+use Rattle.adya_values.specs.Meaning.Orders.{place}
+use Rattle.adya_dsg.specs.Machinery.Places.{slot, slot_eq}
 use Rattle.adya_dsg.proofs.Steps.{drop_back}
 use Rattle.adya_dsg.proofs.Slots.{same_line, other_line, placed_step}
 use Rattle.adya_dsg.proofs.places.add_line.Goals as goal

@@ -1,8 +1,8 @@
 use Rattle.std.proofs.Common.{◌≡◌, ◌≢◌, ◌+◌, ◌≤◌, ℕ, length, drop}
 use Rattle.std.specs.Option.{unwrap_or}
 use Rattle.std.specs.HashMap.{get}
-use Rattle.adya_terms.specs.Orders.{place}
-use Rattle.adya_dsg.specs.Places.{slot, slot_eq}
+use Rattle.adya_values.specs.Meaning.Orders.{place}
+use Rattle.adya_dsg.specs.Machinery.Places.{slot, slot_eq}
 use Rattle.adya_dsg.proofs.places.add_line.Given as goal
 
 abbrev pub invariant-loop-i : goal.invariant-loop-i

@@ -1,7 +1,7 @@
 use Rattle.std.proofs.Common.{◌≡◌, ◌<◌, ◌≤◌, ℕ, None, Some, slice_get}
 use Rattle.std.specs.HashMap.{get}
-use Rattle.adya_terms.specs.declared.order.Order.{Order}
-use Rattle.adya_dsg.specs.Places.{slot, slot_eq, HasLine}
+use Rattle.adya_values.specs.declared.order.Order.{Order}
+use Rattle.adya_dsg.specs.Machinery.Places.{slot, slot_eq, HasLine}
 use Rattle.adya_dsg.proofs.places.line_places.Given as goal
 
 abbrev pub invariant-loop-line : goal.invariant-loop-line

@@ -1,7 +1,7 @@
 use Rattle.std.proofs.Common.{◌≡◌, ◌+◌, ◌≤◌, ℕ, nat_eq, length, drop}
 use Rattle.std.specs.Option.{unwrap_or}
 use Rattle.std.specs.HashMap.{get}
-use Rattle.adya_terms.specs.Orders.{place}
+use Rattle.adya_values.specs.Meaning.Orders.{place}
 use Rattle.adya_dsg.proofs.places.places.Given as goal
 
 abbrev pub invariant-loop-i : goal.invariant-loop-i

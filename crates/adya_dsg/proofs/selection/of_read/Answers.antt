@@ -1,9 +1,9 @@
 use Rattle.std.proofs.Common.{◌<◌, ℕ, option_map, option_to_list, ◌∷◌, [], sym, ◌∙◌, ap, subst}
 use Rattle.std.proofs.lemmas.Bool.{and_parts}
 use Rattle.std.proofs.lemmas.List.{length-map}
-use Rattle.adya_terms.specs.Histories.{order_of}
-use Rattle.adya_terms.specs.Values.{history_of}
-use Rattle.adya_dsg.specs.Choices.{choice, choice_of, key_at}
+use Rattle.adya_values.specs.Meaning.Histories.{order_of}
+use Rattle.adya_values.specs.Meaning.Values.{history_of}
+use Rattle.adya_dsg.specs.Computing.Choices.{choice, choice_of, key_at}
 use Rattle.adya_dsg.proofs.Selecting.{read_own, read_nowhere, read_found}
 use Rattle.adya_dsg.proofs.selection.of_read.Goals as goal
 

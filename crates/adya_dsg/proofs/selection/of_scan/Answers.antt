@@ -3,14 +3,14 @@ use Rattle.std.specs.List.{All}
 use Rattle.std.proofs.lemmas.Bool.{and_parts}
 use Rattle.std.proofs.lemmas.List.{length-map, map-append}
 use Rattle.std.proofs.lemmas.List.Elements.{All-push, All-nil}
-use Rattle.adya_terms.specs.declared.order.Order.{Order as OrderValue}
-use Rattle.adya_terms.specs.Keys.{key_lt}
-use Rattle.adya_terms.specs.Histories.{Scan, order_of, entry_of}
-use Rattle.adya_terms.specs.Events.{listed}
-use Rattle.adya_terms.specs.Values.{history_of}
-use Rattle.adya_terms.specs.Selections.{selected, place_of}
+use Rattle.adya_values.specs.declared.order.Order.{Order as OrderValue}
+use Rattle.adya_values.specs.Meaning.Keys.{key_lt}
+use Rattle.adya_values.specs.Meaning.Histories.{Scan, order_of, entry_of}
+use Rattle.adya_values.specs.Meaning.Events.{listed}
+use Rattle.adya_values.specs.Meaning.Values.{history_of}
+use Rattle.adya_values.specs.Meaning.Selections.{selected, place_of}
 use Rattle.adya_dsg.specs.declared.selection.Selection.{Selection}
-use Rattle.adya_dsg.specs.Choices.{choice_of, key_at}
+use Rattle.adya_dsg.specs.Computing.Choices.{choice_of, key_at}
 use Rattle.adya_dsg.proofs.Selecting.{chosen_in, scan_starts, scan_ends, inside, chosen_step, passed_step}
 use Rattle.adya_dsg.proofs.selection.of_scan.Goals as goal
 use Rattle.adya_dsg.proofs.selection.of_scan.Goals.{in-Some+in_ok-push, in_default}

@@ -1,8 +1,8 @@
 use Rattle.std.proofs.Common.{◌≡◌, ◌<◌, ◌++◌, map, length, drop, All}
-use Rattle.adya_terms.specs.Histories.{Scan, entry_of}
-use Rattle.adya_terms.specs.Values.{history_of}
-use Rattle.adya_terms.specs.Selections.{selected}
-use Rattle.adya_dsg.specs.Choices.{choices, choice_of}
+use Rattle.adya_values.specs.Meaning.Histories.{Scan, entry_of}
+use Rattle.adya_values.specs.Meaning.Values.{history_of}
+use Rattle.adya_values.specs.Meaning.Selections.{selected}
+use Rattle.adya_dsg.specs.Computing.Choices.{choices, choice_of}
 use Rattle.adya_dsg.proofs.Selecting.{chosen_in}
 use Rattle.adya_dsg.proofs.selection.of_scan.Given as goal
 

@@ -1,13 +1,13 @@
 use Rattle.std.proofs.Common.{◌<◌, ◌∙◌, ℕ, List, map, length, get_or, sym, ap, subst}
 use Rattle.std.proofs.lemmas.List.Elements.{All-nil}
-use Rattle.adya_terms.specs.declared.event.Entry.{Entry as EntryValue}
-use Rattle.adya_terms.specs.Keys.{keys_rise}
-use Rattle.adya_terms.specs.Histories.{Entry, event_of, entry_of}
-use Rattle.adya_terms.specs.Values.{history_of}
-use Rattle.adya_terms.specs.Faults.{first_fault}
-use Rattle.adya_terms.specs.Rules.{IsRising}
+use Rattle.adya_values.specs.declared.event.Entry.{Entry as EntryValue}
+use Rattle.adya_values.specs.Meaning.Keys.{keys_rise}
+use Rattle.adya_values.specs.Meaning.Histories.{Entry, event_of, entry_of}
+use Rattle.adya_values.specs.Meaning.Values.{history_of}
+use Rattle.adya_values.specs.Computing.Faults.{first_fault}
+use Rattle.adya_values.specs.Meaning.Rules.{IsRising}
 use Rattle.adya_dsg.specs.declared.selection.Selection.{Selection}
-use Rattle.adya_dsg.specs.Choices.{choice_of}
+use Rattle.adya_dsg.specs.Computing.Choices.{choice_of}
 use Rattle.adya_dsg.proofs.Checking.{none_from, rising_at}
 use Rattle.adya_dsg.proofs.Selecting.{nothing_chosen}
 use Rattle.adya_dsg.proofs.selection.selections.Goals as goal

@@ -1,5 +1,5 @@
 use Rattle.std.proofs.Common.{◌≡◌, length}
-use Rattle.adya_line.specs.Reading.{after_entries}
+use Rattle.adya_line.specs.Computing.Reading.{after_entries}
 use Rattle.adya_line.proofs.entries.after_entries.Given as goal
 
 abbrev pub invariant-entries : goal.invariant-entries

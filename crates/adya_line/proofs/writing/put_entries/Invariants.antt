@@ -1,9 +1,9 @@
 use Rattle.std.proofs.Common.{◌≡◌, take, map}
 use Rattle.std.specs.List.{flat_map}
-use Rattle.adya_terms.specs.Histories.{entry_of}
-use Rattle.adya_terms.specs.Watched.{has_failed, watched_contents}
-use Rattle.adya_line.specs.Spelling.{entry_text}
-use Rattle.adya_line.specs.Growing.{Grows}
+use Rattle.adya_values.specs.Meaning.Histories.{entry_of}
+use Rattle.devices.specs.Meaning.Watched.{has_failed, watched_contents}
+use Rattle.adya_line.specs.Meaning.Spelling.{entry_text}
+use Rattle.adya_line.specs.Machinery.Growing.{Grows}
 use Rattle.adya_line.proofs.writing.put_entries.Given as goal
 
 abbrev pub invariant-loop-entry : goal.invariant-loop-entry

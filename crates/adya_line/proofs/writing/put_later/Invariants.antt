@@ -1,8 +1,8 @@
 use Rattle.std.proofs.Common.{◌≡◌, take}
 use Rattle.std.specs.List.{flat_map}
-use Rattle.adya_terms.specs.Watched.{has_failed, watched_contents}
-use Rattle.adya_line.specs.Spelling.{later_text}
-use Rattle.adya_line.specs.Growing.{Grows}
+use Rattle.devices.specs.Meaning.Watched.{has_failed, watched_contents}
+use Rattle.adya_line.specs.Meaning.Spelling.{later_text}
+use Rattle.adya_line.specs.Machinery.Growing.{Grows}
 use Rattle.adya_line.proofs.writing.put_later.Given as goal
 
 abbrev pub invariant-loop-txn : goal.invariant-loop-txn

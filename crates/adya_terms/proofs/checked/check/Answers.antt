@@ -1,8 +1,8 @@
 use Rattle.std.proofs.Common.{◌≡◌, ◌+◌, ◌∙◌, ap, subst, length, map, [], arith}
 use Rattle.std.proofs.lemmas.List.{length-map}
-use Rattle.adya_terms.specs.Histories.{event_of}
-use Rattle.adya_terms.specs.Faults.{malformed, unfinished_faults, unfinished_line, orders_line}
-use Rattle.adya_terms.specs.Checks.{Names, whole, rule_faults, read_faults}
+use Rattle.adya_values.specs.Meaning.Histories.{event_of}
+use Rattle.adya_values.specs.Computing.Faults.{malformed, unfinished_faults, unfinished_line, orders_line}
+use Rattle.adya_terms.specs.Machinery.Checks.{Names, whole, rule_faults, read_faults}
 use Rattle.adya_terms.proofs.Converse.{both_nil}
 use Rattle.adya_terms.proofs.Firsts.{names_behind}
 use Rattle.adya_terms.proofs.Replaced.{all_were_written}

@@ -1,10 +1,10 @@
 use Rattle.std.proofs.Common.{◌≡◌, ◌+◌, ◌++◌, ◌∙◌, sym, ap, subst, length, [], MatchResult}
 use Rattle.std.proofs.lemmas.List.{length-map}
-use Rattle.adya_terms.specs.declared.fault.Rule.TheVariants.{M6}
-use Rattle.adya_terms.specs.declared.fault.CheckFault.TheVariants.{Malformed}
-use Rattle.adya_terms.specs.Histories.{order_of}
-use Rattle.adya_terms.specs.Faults.{first, fault_unless, all_end}
-use Rattle.adya_terms.specs.Checks.{Names, whole, listing_faults, final_value_faults}
+use Rattle.adya_values.specs.declared.fault.Rule.TheVariants.{M6}
+use Rattle.adya_values.specs.declared.fault.CheckFault.TheVariants.{Malformed}
+use Rattle.adya_values.specs.Meaning.Histories.{order_of}
+use Rattle.adya_values.specs.Computing.Faults.{first, fault_unless, all_end}
+use Rattle.adya_terms.specs.Machinery.Checks.{Names, whole, listing_faults, final_value_faults}
 use Rattle.adya_terms.proofs.Firsts.{first_front, found_behind, names_front, names_behind}
 use Rattle.adya_terms.proofs.checked.check_rules.Goals as goal
 

@@ -1,9 +1,9 @@
 use Rattle.std.proofs.Common.{◌≡◌, ◌∙◌, sym, ap, map, true, rules}
 use Rattle.std.proofs.lemmas.Simd.{map-map}
 use Rattle.std.proofs.lemmas.List.Sorted.{answers_always}
-use Rattle.adya_terms.specs.declared.order.FinalPair.{FinalPair as FinalValue}
-use Rattle.adya_terms.specs.Keys.{key_eq, keys_rise}
-use Rattle.adya_terms.specs.Histories.{FinalPair, final_of}
+use Rattle.adya_values.specs.declared.order.FinalPair.{FinalPair as FinalValue}
+use Rattle.adya_values.specs.Meaning.Keys.{key_eq, keys_rise}
+use Rattle.adya_values.specs.Meaning.Histories.{FinalPair, final_of}
 use Rattle.adya_terms.proofs.Searches.{search_misses, search_finds, any_map, final_any}
 use Rattle.adya_terms.proofs.finals.has_final.Goals as goal
 

@@ -1,5 +1,5 @@
 use Rattle.std.proofs.Common.{sym, map, refl}
-use Rattle.adya_terms.specs.Histories.{order_of}
+use Rattle.adya_values.specs.Meaning.Histories.{order_of}
 use Rattle.adya_terms.proofs.Searches.{no_line}
 use Rattle.adya_terms.proofs.finals.last_value.Goals as goal
 

@@ -1,8 +1,8 @@
 use Rattle.std.proofs.Common.{◌≡◌, List, drop}
 use Rattle.std.specs.List.{list_all}
-use Rattle.adya_terms.specs.Histories.{Event, Order}
-use Rattle.adya_terms.specs.Tables.{Means}
-use Rattle.adya_terms.specs.Checks.{Lists, belongs}
+use Rattle.adya_values.specs.Meaning.Histories.{Event, Order}
+use Rattle.adya_terms.specs.Machinery.Tables.{Means}
+use Rattle.adya_terms.specs.Machinery.Checks.{Lists, belongs}
 use Rattle.adya_terms.proofs.listed.all_belong.Given as goal
 
 abbrev pub invariant-loop-txn : goal.invariant-loop-txn

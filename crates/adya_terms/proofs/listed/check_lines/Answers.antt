@@ -1,8 +1,8 @@
 use Rattle.std.proofs.Common.{◌≡◌, ◌+◌, ◌∙◌, sym, ap, map}
-use Rattle.adya_terms.specs.declared.fault.Rule.TheVariants.{M7}
-use Rattle.adya_terms.specs.Histories.{order_of}
-use Rattle.adya_terms.specs.Rules.{installs}
-use Rattle.adya_terms.specs.Faults.{lists_exactly, order_faults, first}
+use Rattle.adya_values.specs.declared.fault.Rule.TheVariants.{M7}
+use Rattle.adya_values.specs.Meaning.Histories.{order_of}
+use Rattle.adya_values.specs.Meaning.Rules.{installs}
+use Rattle.adya_values.specs.Computing.Faults.{lists_exactly, order_faults, first}
 use Rattle.adya_terms.proofs.Lists.{Contains-slice_get}
 use Rattle.adya_terms.proofs.Turns.{turn}
 use Rattle.adya_terms.proofs.Firsts.{names_broken, order_here, order_later}

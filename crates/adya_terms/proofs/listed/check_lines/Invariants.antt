@@ -1,8 +1,8 @@
 use Rattle.std.proofs.Common.{◌≡◌, ◌+◌, List, map, drop}
-use Rattle.adya_terms.specs.Histories.{Event, order_of}
-use Rattle.adya_terms.specs.Faults.{order_faults}
-use Rattle.adya_terms.specs.Tables.{Means}
-use Rattle.adya_terms.specs.Checks.{LeavesOut}
+use Rattle.adya_values.specs.Meaning.Histories.{Event, order_of}
+use Rattle.adya_values.specs.Computing.Faults.{order_faults}
+use Rattle.adya_terms.specs.Machinery.Tables.{Means}
+use Rattle.adya_terms.specs.Machinery.Checks.{LeavesOut}
 use Rattle.adya_terms.proofs.listed.check_lines.Given as goal
 
 abbrev pub invariant-loop-i : goal.invariant-loop-i

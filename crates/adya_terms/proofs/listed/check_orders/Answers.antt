@@ -1,10 +1,10 @@
 use Rattle.std.proofs.Common.{◌≡◌, ◌+◌, ◌∙◌, sym, ap, length, Some, [], true, false}
 use Rattle.std.proofs.lemmas.List.{length-map}
-use Rattle.adya_terms.specs.declared.fault.Rule.TheVariants.{M7}
-use Rattle.adya_terms.specs.declared.fault.CheckFault.TheVariants.{Malformed}
-use Rattle.adya_terms.specs.Histories.{order_of}
-use Rattle.adya_terms.specs.Faults.{first, fault_unless, has_lines, order_faults}
-use Rattle.adya_terms.specs.Checks.{parts, listing_faults}
+use Rattle.adya_values.specs.declared.fault.Rule.TheVariants.{M7}
+use Rattle.adya_values.specs.declared.fault.CheckFault.TheVariants.{Malformed}
+use Rattle.adya_values.specs.Meaning.Histories.{order_of}
+use Rattle.adya_values.specs.Computing.Faults.{first, fault_unless, has_lines, order_faults}
+use Rattle.adya_terms.specs.Machinery.Checks.{parts, listing_faults}
 use Rattle.adya_terms.proofs.Firsts.{first_rest, names_front, names_broken}
 use Rattle.adya_terms.proofs.Converse.{both_nil}
 use Rattle.adya_terms.proofs.Exact.{lines_where_none_out, no_line_where_out, lines_right, none_in_set}

@@ -1,9 +1,9 @@
 use Rattle.std.proofs.Common.{◌≡◌, ◌∙◌, sym, ap, true, false, not, ◌&&◌}
 use Rattle.std.specs.List.{filter_map, list_all, list_any}
 use Rattle.std.proofs.Math.Bool.{and-false, and-true}
-use Rattle.adya_terms.specs.Histories.{order_of}
-use Rattle.adya_terms.specs.Events.{written}
-use Rattle.adya_terms.specs.Checks.{is_unlisted, belongs}
+use Rattle.adya_values.specs.Meaning.Histories.{order_of}
+use Rattle.adya_values.specs.Meaning.Events.{written}
+use Rattle.adya_terms.specs.Machinery.Checks.{is_unlisted, belongs}
 use Rattle.adya_terms.proofs.Exact.{exact_line}
 use Rattle.adya_terms.proofs.listed.is_exact.Goals as goal
 

@@ -3,10 +3,10 @@ use Rattle.std.specs.Ordering.{nat_cmp}
 use Rattle.std.specs.Cmp.Lexicographic.{slice_cmp}
 use Rattle.std.proofs.lemmas.Simd.{map-map}
 use Rattle.std.proofs.lemmas.List.Sorted.{answers_always}
-use Rattle.adya_terms.specs.declared.order.Order.{Order as OrderValue}
-use Rattle.adya_terms.specs.Keys.{key_eq, keys_rise}
-use Rattle.adya_terms.specs.Histories.{Order, order_of}
-use Rattle.adya_terms.specs.Orders.{line_of}
+use Rattle.adya_values.specs.declared.order.Order.{Order as OrderValue}
+use Rattle.adya_values.specs.Meaning.Keys.{key_eq, keys_rise}
+use Rattle.adya_values.specs.Meaning.Histories.{Order, order_of}
+use Rattle.adya_values.specs.Meaning.Orders.{line_of}
 use Rattle.adya_terms.proofs.Lists.{Contains-slice_get}
 use Rattle.adya_terms.proofs.Lines.{line_found}
 use Rattle.adya_terms.proofs.Turns.{turn}

@@ -3,9 +3,9 @@ use Rattle.std.specs.HashMap.{get}
 use Rattle.std.proofs.lemmas.List.{take_more, take_all}
 use Rattle.adya_terms.specs.declared.tables.Own.{Own}
 use Rattle.adya_terms.specs.declared.listed.Times.{Times}
-use Rattle.adya_terms.specs.Keys.{key_eq}
-use Rattle.adya_terms.specs.Tables.{own, own_eq}
-use Rattle.adya_terms.specs.Checks.{times, once_more}
+use Rattle.adya_values.specs.Meaning.Keys.{key_eq}
+use Rattle.adya_terms.specs.Machinery.Tables.{own, own_eq}
+use Rattle.adya_terms.specs.Machinery.Checks.{times, once_more}
 use Rattle.adya_terms.proofs.Counts.{count}
 use Rattle.adya_terms.proofs.Listings.{list_next}
 use Rattle.adya_terms.proofs.listed.list.Goals as goal

@@ -1,9 +1,9 @@
 use Rattle.std.proofs.Common.{◌≡◌, ℕ, ◌+◌, ◌==◌, List, cond, take}
 use Rattle.std.specs.List.{count_by}
 use Rattle.std.specs.HashMap.{get}
-use Rattle.adya_terms.specs.Keys.{key_eq}
-use Rattle.adya_terms.specs.Tables.{own, own_eq}
-use Rattle.adya_terms.specs.Checks.{times}
+use Rattle.adya_values.specs.Meaning.Keys.{key_eq}
+use Rattle.adya_terms.specs.Machinery.Tables.{own, own_eq}
+use Rattle.adya_terms.specs.Machinery.Checks.{times}
 use Rattle.adya_terms.proofs.listed.list.Given as goal
 
 abbrev pub invariant-loop-txn : goal.invariant-loop-txn

@@ -1,8 +1,8 @@
 use Rattle.std.proofs.Common.{◌≡◌, ℕ, ◌+◌, List, cond, map, take, sym, ◌∙◌, ap, subst}
 use Rattle.std.proofs.lemmas.List.{take_all, length-map}
-use Rattle.adya_terms.specs.Keys.{key_eq}
-use Rattle.adya_terms.specs.Histories.{order_of}
-use Rattle.adya_terms.specs.Checks.{Lists, times, listed}
+use Rattle.adya_values.specs.Meaning.Keys.{key_eq}
+use Rattle.adya_values.specs.Meaning.Histories.{order_of}
+use Rattle.adya_terms.specs.Machinery.Checks.{Lists, times, listed}
 use Rattle.adya_terms.proofs.Counts.{count}
 use Rattle.adya_terms.proofs.Turns.{turn}
 use Rattle.adya_terms.proofs.Listings.{listed_more}

@@ -1,6 +1,6 @@
 use Rattle.std.proofs.Common.{map, take}
-use Rattle.adya_terms.specs.Histories.{order_of}
-use Rattle.adya_terms.specs.Checks.{Lists}
+use Rattle.adya_values.specs.Meaning.Histories.{order_of}
+use Rattle.adya_terms.specs.Machinery.Checks.{Lists}
 use Rattle.adya_terms.proofs.listed.listed.Given as goal
 
 abbrev pub invariant-loop-order : goal.invariant-loop-order

@@ -3,11 +3,11 @@ use Rattle.std.proofs.Math.Bool.{or-false}
 use Rattle.std.specs.List.{filter_map, list_any}
 use Rattle.std.specs.BTreeSet.{contains}
 use Rattle.std.specs.Cmp.Lexicographic.{slice_cmp, texts_ties}
-use Rattle.adya_terms.specs.declared.key.Key.{Key}
-use Rattle.adya_terms.specs.Keys.{key_eq}
-use Rattle.adya_terms.specs.Histories.{event_of}
-use Rattle.adya_terms.specs.Events.{written}
-use Rattle.adya_terms.specs.Checks.{is_unlisted, is_some_and, is_this}
+use Rattle.adya_values.specs.declared.key.Key.{Key}
+use Rattle.adya_values.specs.Meaning.Keys.{key_eq}
+use Rattle.adya_values.specs.Meaning.Histories.{event_of}
+use Rattle.adya_values.specs.Meaning.Events.{written}
+use Rattle.adya_terms.specs.Machinery.Checks.{is_unlisted, is_some_and, is_this}
 use Rattle.adya_terms.proofs.Turns.{turn}
 use Rattle.adya_terms.proofs.Listings.{any_written, cond_or}
 use Rattle.adya_terms.proofs.listed.unlisted.Goals as goal

@@ -2,10 +2,10 @@ use Rattle.std.proofs.Common.{◌≡◌, ℕ, List, map, take, nat_cmp}
 use Rattle.std.specs.List.{filter_map, list_any}
 use Rattle.std.specs.BTreeSet.{contains}
 use Rattle.std.specs.Cmp.Lexicographic.{slice_cmp}
-use Rattle.adya_terms.specs.Histories.{Event, Order, event_of}
-use Rattle.adya_terms.specs.Events.{written}
-use Rattle.adya_terms.specs.Tables.{Means}
-use Rattle.adya_terms.specs.Checks.{Lists, is_unlisted}
+use Rattle.adya_values.specs.Meaning.Histories.{Event, Order, event_of}
+use Rattle.adya_values.specs.Meaning.Events.{written}
+use Rattle.adya_terms.specs.Machinery.Tables.{Means}
+use Rattle.adya_terms.specs.Machinery.Checks.{Lists, is_unlisted}
 use Rattle.adya_terms.proofs.listed.unlisted.Given as goal
 
 abbrev pub invariant-loop-event : goal.invariant-loop-event

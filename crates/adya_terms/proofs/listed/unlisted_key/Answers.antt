@@ -1,8 +1,8 @@
 use Rattle.std.proofs.Common.{◌≡◌, ◌==◌, true, false, ◌&&◌, is_some, sym, ap, ◌∙◌}
 use Rattle.std.proofs.Math.Bool.{and-false}
-use Rattle.adya_terms.specs.Keys.{key_eq}
-use Rattle.adya_terms.specs.Events.{is_committed}
-use Rattle.adya_terms.specs.Checks.{listed, times}
+use Rattle.adya_values.specs.Meaning.Keys.{key_eq}
+use Rattle.adya_values.specs.Meaning.Events.{is_committed}
+use Rattle.adya_terms.specs.Machinery.Checks.{listed, times}
 use Rattle.adya_terms.proofs.Listings.{not_listed}
 use Rattle.adya_terms.proofs.listed.unlisted_key.Goals as goal
 

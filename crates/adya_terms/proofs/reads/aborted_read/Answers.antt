@@ -1,7 +1,7 @@
 use Rattle.std.proofs.Common.{◌≡◌, ◌∙◌, sym, ap}
-use Rattle.adya_terms.specs.Histories.{event_of}
-use Rattle.adya_terms.specs.Events.{txn_of, is_committed}
-use Rattle.adya_terms.specs.Checks.{is_not_aborted}
+use Rattle.adya_values.specs.Meaning.Histories.{event_of}
+use Rattle.adya_values.specs.Meaning.Events.{txn_of, is_committed}
+use Rattle.adya_terms.specs.Machinery.Checks.{is_not_aborted}
 use Rattle.adya_terms.proofs.Refused.{committed_refused, none_refused}
 use Rattle.adya_terms.proofs.reads.aborted_read.Goals as goal
 

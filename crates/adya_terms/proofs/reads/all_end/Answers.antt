@@ -1,9 +1,9 @@
 use Rattle.std.proofs.Common.{◌≡◌, ◌∙◌, sym, ap, map, ◌||◌, ◌==◌}
 use Rattle.std.specs.List.{list_any}
-use Rattle.adya_terms.specs.Histories.{event_of}
-use Rattle.adya_terms.specs.Events.{has_ended}
-use Rattle.adya_terms.specs.Checks.{ends}
-use Rattle.adya_terms.proofs.Steps.{list_all_fails}
+use Rattle.adya_values.specs.Meaning.Histories.{event_of}
+use Rattle.adya_values.specs.Meaning.Events.{has_ended}
+use Rattle.adya_terms.specs.Machinery.Checks.{ends}
+use Rattle.adya_values.proofs.Steps.{list_all_fails}
 use Rattle.adya_terms.proofs.Turns.{list_all_goes}
 use Rattle.adya_terms.proofs.reads.all_end.Goals as goal
 

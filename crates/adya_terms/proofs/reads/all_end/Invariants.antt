@@ -1,7 +1,7 @@
 use Rattle.std.proofs.Common.{◌≡◌, ℕ, List, map, drop}
 use Rattle.std.specs.List.{list_all}
-use Rattle.adya_terms.specs.Histories.{event_of}
-use Rattle.adya_terms.specs.Checks.{Holds, ends}
+use Rattle.adya_values.specs.Meaning.Histories.{event_of}
+use Rattle.adya_terms.specs.Machinery.Checks.{Holds, ends}
 use Rattle.adya_terms.proofs.reads.all_end.Given as goal
 
 abbrev pub invariant-loop-event : goal.invariant-loop-event

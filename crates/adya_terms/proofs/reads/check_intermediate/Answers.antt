@@ -1,8 +1,8 @@
 use Rattle.std.proofs.Common.{◌≡◌, ◌+◌, ◌∙◌, ap, map, Some, arith}
-use Rattle.adya_terms.specs.declared.fault.CheckFault.TheVariants.{IntermediateRead}
-use Rattle.adya_terms.specs.Histories.{event_of}
-use Rattle.adya_terms.specs.Faults.{first, was_written}
-use Rattle.adya_terms.specs.Checks.{is_own_or_last}
+use Rattle.adya_values.specs.declared.fault.CheckFault.TheVariants.{IntermediateRead}
+use Rattle.adya_values.specs.Meaning.Histories.{event_of}
+use Rattle.adya_values.specs.Computing.Faults.{first, was_written}
+use Rattle.adya_terms.specs.Machinery.Checks.{is_own_or_last}
 use Rattle.adya_terms.proofs.Lists.{Contains-slice_get, all_pass}
 use Rattle.adya_terms.proofs.Turns.{turn}
 use Rattle.adya_terms.proofs.Refused.{bad_here, bad_later}

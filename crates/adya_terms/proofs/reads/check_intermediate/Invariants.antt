@@ -1,8 +1,8 @@
 use Rattle.std.proofs.Common.{◌≡◌, ◌+◌, map, drop}
-use Rattle.adya_terms.specs.declared.fault.CheckFault.TheVariants.{IntermediateRead}
-use Rattle.adya_terms.specs.Histories.{event_of}
-use Rattle.adya_terms.specs.Faults.{bad_reads}
-use Rattle.adya_terms.specs.Checks.{is_own_or_last}
+use Rattle.adya_values.specs.declared.fault.CheckFault.TheVariants.{IntermediateRead}
+use Rattle.adya_values.specs.Meaning.Histories.{event_of}
+use Rattle.adya_values.specs.Computing.Faults.{bad_reads}
+use Rattle.adya_terms.specs.Machinery.Checks.{is_own_or_last}
 use Rattle.adya_terms.proofs.reads.check_intermediate.Given as goal
 
 abbrev pub invariant-loop-i : goal.invariant-loop-i

@@ -1,8 +1,8 @@
 use Rattle.std.proofs.Common.{◌≡◌, ◌+◌, ◌∙◌, sym, ap, map}
-use Rattle.adya_terms.specs.declared.fault.Rule.TheVariants.{M6}
-use Rattle.adya_terms.specs.Histories.{event_of}
-use Rattle.adya_terms.specs.Events.{has_ended}
-use Rattle.adya_terms.specs.Faults.{first, unfinished_faults}
+use Rattle.adya_values.specs.declared.fault.Rule.TheVariants.{M6}
+use Rattle.adya_values.specs.Meaning.Histories.{event_of}
+use Rattle.adya_values.specs.Meaning.Events.{has_ended}
+use Rattle.adya_values.specs.Computing.Faults.{first, unfinished_faults}
 use Rattle.adya_terms.proofs.Firsts.{names_broken, unfinished_here, unfinished_later}
 use Rattle.adya_terms.proofs.reads.check_unfinished.Goals as goal
 

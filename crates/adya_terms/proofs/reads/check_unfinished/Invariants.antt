@@ -1,6 +1,6 @@
 use Rattle.std.proofs.Common.{◌≡◌, ◌+◌, map, drop}
-use Rattle.adya_terms.specs.Histories.{event_of}
-use Rattle.adya_terms.specs.Faults.{unfinished_faults}
+use Rattle.adya_values.specs.Meaning.Histories.{event_of}
+use Rattle.adya_values.specs.Computing.Faults.{unfinished_faults}
 use Rattle.adya_terms.proofs.reads.check_unfinished.Given as goal
 
 abbrev pub invariant-loop-i : goal.invariant-loop-i

@@ -1,6 +1,6 @@
 use Rattle.std.proofs.Common.{◌≡◌, ◌∙◌, sym, ap, not, true, false, subst}
-use Rattle.adya_terms.specs.Histories.{Entry, entry_of}
-use Rattle.adya_terms.specs.Checks.{IsFirst, is_not_aborted}
+use Rattle.adya_values.specs.Meaning.Histories.{Entry, entry_of}
+use Rattle.adya_terms.specs.Machinery.Checks.{IsFirst, is_not_aborted}
 use Rattle.adya_terms.proofs.Refused.{kept_here, kept_later}
 use Rattle.adya_terms.proofs.reads.first_aborted.Goals as goal
 use Rattle.std.proofs.Common.{Some, Bool}

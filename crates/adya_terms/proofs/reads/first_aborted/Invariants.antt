@@ -1,7 +1,7 @@
 use Rattle.std.proofs.Common.{◌≡◌, ℕ, Bool, not, List, map, filter, drop}
-use Rattle.adya_terms.specs.Histories.{Event, Entry, entry_of}
-use Rattle.adya_terms.specs.Tables.{Means}
-use Rattle.adya_terms.specs.Checks.{Holds, is_not_aborted}
+use Rattle.adya_values.specs.Meaning.Histories.{Event, Entry, entry_of}
+use Rattle.adya_terms.specs.Machinery.Tables.{Means}
+use Rattle.adya_terms.specs.Machinery.Checks.{Holds, is_not_aborted}
 use Rattle.adya_terms.proofs.reads.first_aborted.Given as goal
 
 abbrev pub invariant-loop-entry : goal.invariant-loop-entry

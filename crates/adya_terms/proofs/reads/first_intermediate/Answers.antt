@@ -1,9 +1,9 @@
 use Rattle.std.proofs.Common.{◌≡◌, ◌∙◌, ◌==◌, ◌||◌, Bool, Some, sym, ap, not, map, true, false, subst}
 use Rattle.std.specs.List.{filter_map, list_any}
-use Rattle.adya_terms.specs.Histories.{Entry, entry_of}
-use Rattle.adya_terms.specs.Events.{written, last_write}
-use Rattle.adya_terms.specs.Faults.{entry_eq, is_entry}
-use Rattle.adya_terms.specs.Checks.{IsFirst, is_own_or_last}
+use Rattle.adya_values.specs.Meaning.Histories.{Entry, entry_of}
+use Rattle.adya_values.specs.Meaning.Events.{written, last_write}
+use Rattle.adya_values.specs.Computing.Faults.{entry_eq, is_entry}
+use Rattle.adya_terms.specs.Machinery.Checks.{IsFirst, is_own_or_last}
 use Rattle.adya_terms.proofs.Lists.{Contains-slice_get, all_pass}
 use Rattle.adya_terms.proofs.Turns.{turn}
 use Rattle.adya_terms.proofs.Refused.{kept_here, kept_later}

@@ -1,8 +1,8 @@
 use Rattle.std.proofs.Common.{◌≡◌, Bool, true, not, List, map, filter, drop}
-use Rattle.adya_terms.specs.Histories.{Event, Entry, entry_of}
-use Rattle.adya_terms.specs.Events.{txn_of}
-use Rattle.adya_terms.specs.Tables.{Means}
-use Rattle.adya_terms.specs.Checks.{are_written, is_own_or_last}
+use Rattle.adya_values.specs.Meaning.Histories.{Event, Entry, entry_of}
+use Rattle.adya_values.specs.Meaning.Events.{txn_of}
+use Rattle.adya_terms.specs.Machinery.Tables.{Means}
+use Rattle.adya_terms.specs.Machinery.Checks.{are_written, is_own_or_last}
 use Rattle.adya_terms.proofs.reads.first_intermediate.Given as goal
 
 abbrev pub invariant-loop-entry : goal.invariant-loop-entry

@@ -1,8 +1,8 @@
 use Rattle.std.proofs.Common.{◌≡◌, ◌∙◌, sym, ap, refl}
-use Rattle.adya_terms.specs.Histories.{Read, event_of, value_of}
-use Rattle.adya_terms.specs.Events.{txn_of, is_committed}
-use Rattle.adya_terms.specs.Faults.{was_written}
-use Rattle.adya_terms.specs.Checks.{is_own_or_last}
+use Rattle.adya_values.specs.Meaning.Histories.{Read, event_of, value_of}
+use Rattle.adya_values.specs.Meaning.Events.{txn_of, is_committed}
+use Rattle.adya_values.specs.Computing.Faults.{was_written}
+use Rattle.adya_terms.specs.Machinery.Checks.{is_own_or_last}
 use Rattle.adya_terms.proofs.Refused.{committed_refused, none_refused}
 use Rattle.adya_terms.proofs.reads.intermediate_read.Goals as goal
 

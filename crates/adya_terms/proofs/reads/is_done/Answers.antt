@@ -1,6 +1,6 @@
 use Rattle.std.proofs.Common.{◌≡◌, ◌∙◌, sym, ap, ◌||◌, ◌==◌}
 use Rattle.std.specs.List.{list_any}
-use Rattle.adya_terms.specs.Events.{has_ended}
+use Rattle.adya_values.specs.Meaning.Events.{has_ended}
 use Rattle.adya_terms.proofs.reads.is_done.Goals as goal
 
 pub returns-else-has_ended : goal.returns-else-has_ended

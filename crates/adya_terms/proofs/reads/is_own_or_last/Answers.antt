@@ -1,7 +1,7 @@
 use Rattle.std.proofs.Common.{◌∙◌, ◌||◌, not, sym, ap}
-use Rattle.adya_terms.specs.Histories.{entry_of}
-use Rattle.adya_terms.specs.Events.{last_write}
-use Rattle.adya_terms.specs.Faults.{is_entry}
+use Rattle.adya_values.specs.Meaning.Histories.{entry_of}
+use Rattle.adya_values.specs.Meaning.Events.{last_write}
+use Rattle.adya_values.specs.Computing.Faults.{is_entry}
 use Rattle.adya_terms.proofs.Replaced.{last_unless_replaced}
 use Rattle.adya_terms.proofs.reads.is_own_or_last.Goals as goal
 use Rattle.std.proofs.Common.{refl}

@@ -1,6 +1,6 @@
 use Rattle.std.proofs.Common.{◌≡◌, ap}
-use Rattle.adya_terms.specs.Histories.{event_of}
-use Rattle.adya_terms.specs.Events.{txn_of, has_ended}
+use Rattle.adya_values.specs.Meaning.Histories.{event_of}
+use Rattle.adya_values.specs.Meaning.Events.{txn_of, has_ended}
 use Rattle.adya_terms.proofs.rules.is_open.Goals as goal
 
 pub returns : goal.returns

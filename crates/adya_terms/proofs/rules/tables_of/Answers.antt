@@ -1,8 +1,8 @@
 use Rattle.std.proofs.Common.{◌≡◌, ◌+◌, ◌∙◌, ap, map, take, Some, arith, subst, sym}
-use Rattle.adya_terms.specs.declared.fault.CheckFault.TheVariants.{Malformed}
-use Rattle.adya_terms.specs.Histories.{event_of}
-use Rattle.adya_terms.specs.Faults.{first}
-use Rattle.adya_terms.specs.Tables.{Keeps, Means}
+use Rattle.adya_values.specs.declared.fault.CheckFault.TheVariants.{Malformed}
+use Rattle.adya_values.specs.Meaning.Histories.{event_of}
+use Rattle.adya_values.specs.Computing.Faults.{first}
+use Rattle.adya_terms.specs.Machinery.Tables.{Keeps, Means}
 use Rattle.adya_terms.proofs.Turns.{turn}
 use Rattle.adya_terms.proofs.Firsts.{fault_here, fault_later}
 use Rattle.adya_terms.proofs.Checking.{passes_all}

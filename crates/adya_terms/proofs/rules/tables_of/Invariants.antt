@@ -1,7 +1,7 @@
 use Rattle.std.proofs.Common.{◌≡◌, ◌+◌, [], map, take, drop}
-use Rattle.adya_terms.specs.Histories.{event_of}
-use Rattle.adya_terms.specs.Faults.{event_faults}
-use Rattle.adya_terms.specs.Tables.{Keeps, Means}
+use Rattle.adya_values.specs.Meaning.Histories.{event_of}
+use Rattle.adya_values.specs.Computing.Faults.{event_faults}
+use Rattle.adya_terms.specs.Machinery.Tables.{Keeps, Means}
 use Rattle.adya_terms.proofs.rules.tables_of.Given as goal
 
 abbrev pub invariant-loop-i : goal.invariant-loop-i

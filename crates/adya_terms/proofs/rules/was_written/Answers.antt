@@ -1,9 +1,9 @@
 use Rattle.std.proofs.Common.{◌≡◌, ◌∙◌, sym}
 use Rattle.std.proofs.Math.Bool.{and-true}
 use Rattle.std.specs.List.{filter_map, list_any}
-use Rattle.adya_terms.specs.Histories.{Live, value_of}
-use Rattle.adya_terms.specs.Events.{entry, written}
-use Rattle.adya_terms.specs.Faults.{entry_eq}
+use Rattle.adya_values.specs.Meaning.Histories.{Live, value_of}
+use Rattle.adya_values.specs.Meaning.Events.{entry, written}
+use Rattle.adya_values.specs.Computing.Faults.{entry_eq}
 use Rattle.adya_terms.proofs.rules.was_written.Goals as goal
 
 pub returns-in-Read : goal.returns-in-Read

@@ -1,7 +1,7 @@
 use Rattle.std.proofs.Common.{◌≡◌, map, drop}
 use Rattle.std.specs.List.{list_all}
-use Rattle.adya_terms.specs.Keys.{lies_in}
-use Rattle.adya_terms.specs.Histories.{entry_of}
+use Rattle.adya_values.specs.Meaning.Keys.{lies_in}
+use Rattle.adya_values.specs.Meaning.Histories.{entry_of}
 use Rattle.adya_terms.proofs.scans.all_lie_in.Given as goal
 
 abbrev pub invariant-loop-entry : goal.invariant-loop-entry

@@ -1,9 +1,9 @@
 use Rattle.std.proofs.Common.{◌∙◌, sym, Bool}
 use Rattle.std.specs.List.{filter_map, list_any}
-use Rattle.adya_terms.specs.Histories.{Entry, entry_of}
-use Rattle.adya_terms.specs.Events.{written}
-use Rattle.adya_terms.specs.Faults.{entry_eq}
-use Rattle.adya_terms.proofs.Steps.{list_all_fails}
+use Rattle.adya_values.specs.Meaning.Histories.{Entry, entry_of}
+use Rattle.adya_values.specs.Meaning.Events.{written}
+use Rattle.adya_values.specs.Computing.Faults.{entry_eq}
+use Rattle.adya_values.proofs.Steps.{list_all_fails}
 use Rattle.adya_terms.proofs.Turns.{list_all_goes}
 use Rattle.adya_terms.proofs.scans.all_written.Goals as goal
 

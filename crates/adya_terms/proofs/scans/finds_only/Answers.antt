@@ -3,9 +3,9 @@ use Rattle.std.specs.Ordering.{nat_cmp}
 use Rattle.std.specs.Cmp.Lexicographic.{slice_cmp}
 use Rattle.std.proofs.lemmas.Simd.{map-map}
 use Rattle.std.proofs.lemmas.List.Sorted.{answers_always}
-use Rattle.adya_terms.specs.declared.event.Entry.{Entry as EntryValue}
-use Rattle.adya_terms.specs.Keys.{key_eq, keys_rise}
-use Rattle.adya_terms.specs.Histories.{Entry, entry_of}
+use Rattle.adya_values.specs.declared.event.Entry.{Entry as EntryValue}
+use Rattle.adya_values.specs.Meaning.Keys.{key_eq, keys_rise}
+use Rattle.adya_values.specs.Meaning.Histories.{Entry, entry_of}
 use Rattle.adya_terms.proofs.Lists.{Contains-slice_get}
 use Rattle.adya_terms.proofs.Turns.{turn}
 use Rattle.adya_terms.proofs.Searches.{search_misses, tied_key, any_map}

@@ -1,10 +1,10 @@
 use Rattle.std.proofs.Common.{◌≡◌, ◌∙◌, ◌==◌, ◌&&◌, Some, None, cond, filter, sym, ap}
 use Rattle.std.specs.Option.{option_map}
 use Rattle.std.specs.BTreeMap.{get}
-use Rattle.adya_terms.specs.Keys.{key_eq}
-use Rattle.adya_terms.specs.Histories.{entry_of, event_of}
-use Rattle.adya_terms.specs.Events.{written, last}
-use Rattle.adya_terms.specs.Tables.{own, own_cmp, written_at, written_by}
+use Rattle.adya_values.specs.Meaning.Keys.{key_eq}
+use Rattle.adya_values.specs.Meaning.Histories.{entry_of, event_of}
+use Rattle.adya_values.specs.Meaning.Events.{written, last}
+use Rattle.adya_terms.specs.Machinery.Tables.{own, own_cmp, written_at, written_by}
 use Rattle.adya_terms.proofs.Tells.{own_tied, last_next, written_none}
 use Rattle.adya_terms.proofs.scans.keep.Goals as goal
 

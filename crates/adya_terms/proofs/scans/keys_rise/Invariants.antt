@@ -1,6 +1,6 @@
 use Rattle.std.proofs.Common.{◌≡◌, ◌∷◌, map, drop}
-use Rattle.adya_terms.specs.Keys.{keys_rise}
-use Rattle.adya_terms.specs.Histories.{entry_of}
+use Rattle.adya_values.specs.Meaning.Keys.{keys_rise}
+use Rattle.adya_values.specs.Meaning.Histories.{entry_of}
 use Rattle.adya_terms.proofs.scans.keys_rise.Given as goal
 
 abbrev pub invariant-loop-entry : goal.invariant-loop-entry

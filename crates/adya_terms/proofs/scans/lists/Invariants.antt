@@ -1,7 +1,7 @@
 use Rattle.std.proofs.Common.{◌≡◌, map, drop}
 use Rattle.std.specs.List.{list_any}
-use Rattle.adya_terms.specs.Histories.{entry_of}
-use Rattle.adya_terms.specs.Faults.{entry_eq}
+use Rattle.adya_values.specs.Meaning.Histories.{entry_of}
+use Rattle.adya_values.specs.Computing.Faults.{entry_eq}
 use Rattle.adya_terms.proofs.scans.lists.Given as goal
 
 abbrev pub invariant-loop-entry : goal.invariant-loop-entry

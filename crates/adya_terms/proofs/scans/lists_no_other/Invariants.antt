@@ -1,7 +1,7 @@
 use Rattle.std.proofs.Common.{◌≡◌, map, drop}
 use Rattle.std.specs.List.{list_all}
-use Rattle.adya_terms.specs.Histories.{entry_of}
-use Rattle.adya_terms.specs.Checks.{is_of_key}
+use Rattle.adya_values.specs.Meaning.Histories.{entry_of}
+use Rattle.adya_terms.specs.Machinery.Checks.{is_of_key}
 use Rattle.adya_terms.proofs.scans.lists_no_other.Given as goal
 
 abbrev pub invariant-loop-entry : goal.invariant-loop-entry

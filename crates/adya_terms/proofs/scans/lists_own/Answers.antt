@@ -2,10 +2,10 @@ use Rattle.std.proofs.Common.{◌≡◌, ℕ, ◌∙◌, sym, ap, map, not, fals
 use Rattle.std.specs.List.{filter_map, list_all}
 use Rattle.std.proofs.lemmas.Bool.{or_left}
 use Rattle.adya_terms.specs.declared.tables.Own.{Own}
-use Rattle.adya_terms.specs.Histories.{entry_of, event_of}
-use Rattle.adya_terms.specs.Events.{written}
-use Rattle.adya_terms.specs.Faults.{none_or_lists_only}
-use Rattle.adya_terms.specs.Tables.{written_at}
+use Rattle.adya_values.specs.Meaning.Histories.{entry_of, event_of}
+use Rattle.adya_values.specs.Meaning.Events.{written}
+use Rattle.adya_values.specs.Computing.Faults.{none_or_lists_only}
+use Rattle.adya_terms.specs.Machinery.Tables.{written_at}
 use Rattle.adya_terms.proofs.Lists.{list_all_when}
 use Rattle.adya_terms.proofs.Selected.{nothing_between, scan_shows, runs_forward}
 use Rattle.adya_terms.proofs.scans.lists_own.Goals as goal

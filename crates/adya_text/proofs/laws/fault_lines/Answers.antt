@@ -1,4 +1,4 @@
-use Rattle.adya_text.specs.Texts.{AreHistoryLines, AreSerialLines}
+use Rattle.adya_text.specs.Meaning.Texts.{AreHistoryLines, AreSerialLines}
 use Rattle.adya_text.proofs.TextLaws.{one_fault, no_history_fault, no_serial_fault}
 use Rattle.adya_text.proofs.laws.fault_lines.Goals as goal
 

@@ -1,9 +1,9 @@
 -- The reader was fed with the lines that are gone, and none of them is `end`.
 use Rattle.std.proofs.Common.{◌≡◌, ◌≢◌, ◌⊎◌, ℕ, List, [], All, false}
 use Rattle.std.specs.Io.KnownBytes.{prepend_known}
-use Rattle.adya_line.specs.Spelling.{tail}
-use Rattle.adya_text.specs.HistoryReaders.{IsFed}
-use Rattle.adya_text.specs.Buffers.{work_left}
+use Rattle.adya_line.specs.Meaning.Spelling.{tail}
+use Rattle.adya_text.specs.Machinery.HistoryReaders.{IsFed}
+use Rattle.adya_text.specs.Machinery.Buffers.{work_left}
 use Rattle.adya_text.proofs.Gone.{Gone}
 use Rattle.adya_text.proofs.sources.read_history_part.Given as goal
 

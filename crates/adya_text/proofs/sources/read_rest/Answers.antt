@@ -1,5 +1,5 @@
 use Rattle.std.proofs.Common.{rules, [], ◌∷◌, ◌++◌, sym, subst}
-use Rattle.adya_text.specs.Faults.{IsCut}
+use Rattle.adya_text.specs.Meaning.Faults.{IsCut}
 use Rattle.adya_text.proofs.Gone.{none_gone, line_gone, front_gone, all_gone}
 use Rattle.adya_text.proofs.sources.read_rest.Goals as goal
 

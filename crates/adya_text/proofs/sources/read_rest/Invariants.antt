@@ -1,7 +1,7 @@
 -- The reader was fed with the lines that are gone.
 use Rattle.std.proofs.Common.{◌≡◌, ◌⊎◌, ℕ, List, [], false}
 use Rattle.std.specs.Io.KnownBytes.{prepend_known}
-use Rattle.adya_text.specs.Buffers.{work_left}
+use Rattle.adya_text.specs.Machinery.Buffers.{work_left}
 use Rattle.adya_text.proofs.Gone.{Gone}
 use Rattle.adya_text.proofs.sources.read_rest.Given as goal
 

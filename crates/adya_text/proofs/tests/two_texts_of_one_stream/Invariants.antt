@@ -1,5 +1,5 @@
-use Rattle.adya_terms.specs.Watched.{reads_left}
-use Rattle.adya_text.specs.Buffers.{work_left}
+use Rattle.devices.specs.Meaning.Watched.{reads_left}
+use Rattle.adya_text.specs.Machinery.Buffers.{work_left}
 use Rattle.adya_text.proofs.tests.two_texts_of_one_stream.Given as goal
 
 abbrev pub decreases-loop-serial : goal.decreases-loop-serial

@@ -1,7 +1,7 @@
 use Rattle.std.proofs.Common.{arith}
-use Rattle.adya_terms.specs.Histories.{event_of}
-use Rattle.adya_terms.specs.Watched.{watched_contents}
-use Rattle.adya_line.specs.Spelling.{event_text}
+use Rattle.adya_values.specs.Meaning.Histories.{event_of}
+use Rattle.devices.specs.Meaning.Watched.{watched_contents}
+use Rattle.adya_line.specs.Meaning.Spelling.{event_text}
 use Rattle.adya_text.proofs.Written.{view_more}
 use Rattle.adya_text.proofs.writing.put_events.Goals as goal
 

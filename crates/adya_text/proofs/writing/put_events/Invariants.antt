@@ -1,10 +1,10 @@
 -- The lines so far are written.
 use Rattle.std.proofs.Common.{take, map}
-use Rattle.adya_terms.specs.Watched.{watched_contents}
-use Rattle.adya_terms.specs.Histories.{event_of}
-use Rattle.adya_line.specs.Growing.{Grows}
-use Rattle.adya_line.specs.Spelling.{event_text}
-use Rattle.adya_text.specs.Texts.{with_ends}
+use Rattle.devices.specs.Meaning.Watched.{watched_contents}
+use Rattle.adya_values.specs.Meaning.Histories.{event_of}
+use Rattle.adya_line.specs.Machinery.Growing.{Grows}
+use Rattle.adya_line.specs.Meaning.Spelling.{event_text}
+use Rattle.adya_text.specs.Meaning.Texts.{with_ends}
 use Rattle.adya_text.proofs.writing.put_events.Given as goal
 
 abbrev pub invariant-loop-event : goal.invariant-loop-event

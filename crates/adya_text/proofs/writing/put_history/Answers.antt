@@ -1,4 +1,4 @@
-use Rattle.adya_terms.specs.Values.{history_of}
+use Rattle.adya_values.specs.Meaning.Values.{history_of}
 use Rattle.adya_text.proofs.Written.{whole_history}
 use Rattle.adya_text.proofs.writing.put_history.Goals as goal
 

@@ -1,6 +1,6 @@
 use Rattle.std.proofs.Common.{arith}
-use Rattle.adya_terms.specs.Watched.{watched_contents}
-use Rattle.adya_line.specs.Spelling.{txn_text}
+use Rattle.devices.specs.Meaning.Watched.{watched_contents}
+use Rattle.adya_line.specs.Meaning.Spelling.{txn_text}
 use Rattle.adya_text.proofs.Written.{line_more}
 use Rattle.adya_text.proofs.writing.put_txns.Goals as goal
 

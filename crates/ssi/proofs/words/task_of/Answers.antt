@@ -1,8 +1,8 @@
 use Rattle.std.proofs.Common.{◌∙◌, ap, sym, map, string_bytes, Result, Ok, Err, MatchResult}
 use Rattle.std.specs.Prelude.{IsErrAnd}
 use Rattle.clap.specs.Words.{fault_of, is_simple, is_simple_and_free, subcommand_of, takes}
-use Rattle.ssi.specs.Parser.{request_in}
-use Rattle.ssi.specs.Words.{words_of}
+use Rattle.ssi.specs.Machinery.Parser.{request_in}
+use Rattle.ssi.specs.Meaning.Words.{words_of}
 use Rattle.ssi.proofs.Refusing.{asks_request, simple_and_free}
 use Rattle.ssi.proofs.Taking.{simple, takes_request}
 use Rattle.ssi.proofs.words.task_of.Goals as goal

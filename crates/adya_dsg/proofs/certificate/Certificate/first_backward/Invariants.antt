@@ -1,6 +1,6 @@
 use Rattle.std.proofs.Common.{◌≡◌, map, drop, find}
-use Rattle.adya_dsg.specs.Values.{edge_of}
-use Rattle.adya_dsg.specs.Dependencies.{is_backward}
+use Rattle.adya_dsg.specs.Meaning.Values.{edge_of}
+use Rattle.adya_dsg.specs.Computing.Dependencies.{is_backward}
 use Rattle.adya_dsg.proofs.certificate.Certificate.first_backward.Given as goal
 
 abbrev pub invariant-loop-edge : goal.invariant-loop-edge

@@ -1,6 +1,6 @@
 use Rattle.std.proofs.Common.{◌∙◌, ℕ, Vec, Global}
-use Rattle.adya_terms.specs.Values.{history_of}
-use Rattle.adya_dsg.specs.Links.{changed_places}
+use Rattle.adya_values.specs.Meaning.Values.{history_of}
+use Rattle.adya_dsg.specs.Computing.Links.{changed_places}
 use Rattle.adya_dsg.proofs.Lines.{mapped_at}
 use Rattle.adya_dsg.proofs.graph.Graph.changes.Goals as goal
 

@@ -1,8 +1,8 @@
 use Rattle.std.proofs.Common.{◌<◌, ◌≡◌, ℕ, Option, map, length, slice_get, sym, subst, rules, IfSome, IfNone}
 use Rattle.std.proofs.lemmas.List.Sorted.{answers_always}
-use Rattle.adya_terms.specs.declared.order.Order.{Order as OrderValue}
-use Rattle.adya_terms.specs.Histories.{order_of}
-use Rattle.adya_dsg.specs.Choices.{key_of}
+use Rattle.adya_values.specs.declared.order.Order.{Order as OrderValue}
+use Rattle.adya_values.specs.Meaning.Histories.{order_of}
+use Rattle.adya_dsg.specs.Computing.Choices.{key_of}
 use Rattle.adya_dsg.proofs.Lines.{found_at, found_nowhere}
 use Rattle.adya_dsg.proofs.graph.Graph.line_of.Goals as goal
 

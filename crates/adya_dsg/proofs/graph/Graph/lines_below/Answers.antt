@@ -1,8 +1,8 @@
 use Rattle.std.proofs.Common.{◌≡◌, true, false, List, map, length, ap, subst, rules, ◌≤◌, ◌∙◌}
 use Rattle.std.specs.List.Sorted.{IsPartitionPoint}
 use Rattle.std.proofs.lemmas.List.Sorted.{IsPartitionPoint-from_clause}
-use Rattle.adya_terms.specs.Keys.{key_lt, keys_rise}
-use Rattle.adya_terms.specs.declared.order.Order.{Order as OrderValue}
+use Rattle.adya_values.specs.Meaning.Keys.{key_lt, keys_rise}
+use Rattle.adya_values.specs.declared.order.Order.{Order as OrderValue}
 use Rattle.adya_dsg.proofs.Lines.{rise_of_values, keys_below, keys_from}
 use Rattle.adya_dsg.proofs.Searches.{below_in_front}
 use Rattle.adya_dsg.proofs.graph.Graph.lines_below.Goals as goal

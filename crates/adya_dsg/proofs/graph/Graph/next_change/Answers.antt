@@ -2,10 +2,10 @@ use Rattle.std.proofs.Common.{◌∙◌, ℕ, List, length, nat_lt, sym, ap, sub
 use Rattle.std.specs.List.{find}
 use Rattle.std.specs.List.Sorted.{IsNonDecreasingBy}
 use Rattle.std.proofs.lemmas.List.Sorted.{IsPartitionPoint-from_clause, IsPartitionedBy-leb}
-use Rattle.adya_terms.specs.Values.{history_of}
-use Rattle.adya_terms.specs.Orders.{writers}
-use Rattle.adya_terms.specs.Selections.{changes_matches}
-use Rattle.adya_dsg.specs.Choices.{key_at}
+use Rattle.adya_values.specs.Meaning.Values.{history_of}
+use Rattle.adya_values.specs.Meaning.Orders.{writers}
+use Rattle.adya_values.specs.Meaning.Selections.{changes_matches}
+use Rattle.adya_dsg.specs.Computing.Choices.{key_at}
 use Rattle.adya_dsg.proofs.Steps.{got}
 use Rattle.adya_dsg.proofs.Numbers.{passing_rise, first_above}
 use Rattle.adya_dsg.proofs.graph.Graph.next_change.Goals as goal

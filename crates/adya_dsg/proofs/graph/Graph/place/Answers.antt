@@ -1,8 +1,8 @@
 use Rattle.std.proofs.Common.{◌≡◌, ◌∙◌, suc, ap, arith, add-one}
 use Rattle.std.specs.Option.{unwrap_or}
 use Rattle.std.specs.HashMap.{get}
-use Rattle.adya_terms.specs.Orders.{place}
-use Rattle.adya_dsg.specs.Places.{slot, slot_eq}
+use Rattle.adya_values.specs.Meaning.Orders.{place}
+use Rattle.adya_dsg.specs.Machinery.Places.{slot, slot_eq}
 use Rattle.adya_dsg.proofs.Lines.{place-le}
 use Rattle.adya_dsg.proofs.graph.Graph.place.Goals as goal
 

@@ -2,7 +2,7 @@ use Rattle.std.proofs.Common.{◌≡◌, ◌==◌, ◌&&◌, ℕ, Bool, true, fa
 use Rattle.std.specs.List.{list_any, list_all}
 use Rattle.std.proofs.lemmas.List.Sums.{AllPass-from_list_all}
 use Rattle.std.proofs.lemmas.List.Elements.{All-contains}
-use Rattle.adya_dsg.specs.Graphs.{HasEnds}
+use Rattle.adya_dsg.specs.Meaning.Graphs.{HasEnds}
 use Rattle.adya_dsg.specs.declared.arc.Arc.{Arc}
 use Rattle.adya_dsg.proofs.tests.choosing.choice_of.Goals as goal
 

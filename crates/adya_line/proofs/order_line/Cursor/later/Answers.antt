@@ -1,5 +1,5 @@
 use Rattle.std.proofs.Common.{[], ◌∷◌, length, arith}
-use Rattle.adya_line.specs.Reading.{behind, later_at}
+use Rattle.adya_line.specs.Computing.Reading.{behind, later_at}
 use Rattle.adya_line.proofs.Orders.{goes_on, fails, is_done, after_shorter, writer_shorter}
 use Rattle.adya_line.proofs.order_line.Cursor.later.Goals as goal
 

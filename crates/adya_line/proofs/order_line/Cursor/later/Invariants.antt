@@ -1,5 +1,5 @@
 use Rattle.std.proofs.Common.{[], ◌∷◌, length}
-use Rattle.adya_line.specs.Reading.{behind, later_at}
+use Rattle.adya_line.specs.Computing.Reading.{behind, later_at}
 use Rattle.adya_line.proofs.Orders.{IsOn}
 use Rattle.adya_line.proofs.order_line.Cursor.later.Given as goal
 

@@ -1,7 +1,7 @@
-use Rattle.adya_terms.specs.Values.{history_of}
+use Rattle.adya_values.specs.Meaning.Values.{history_of}
 use Rattle.adya_terms.proofs.Parts.{none_from}
 use Rattle.adya_terms.proofs.Checking.{checked_when_no_fault}
-use Rattle.adya_terms.specs.Faults.{first_fault}
+use Rattle.adya_values.specs.Computing.Faults.{first_fault}
 use Rattle.adya_terms.proofs.checked.Checked.history.Goals as goal
 
 pub returns-clause-checked : goal.returns-clause-checked

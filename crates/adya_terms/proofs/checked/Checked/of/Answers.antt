@@ -2,9 +2,9 @@ use Rattle.std.proofs.Common.{ap, subst, map, is_none}
 use Rattle.adya_terms.proofs.Parts.{found_whole, faultless_whole}
 use Rattle.adya_terms.proofs.Checking.{checked_when_no_fault}
 use Rattle.adya_terms.proofs.Judged.{refused_when_found}
-use Rattle.adya_terms.specs.Histories.{event_of}
-use Rattle.adya_terms.specs.Tables.{Means}
-use Rattle.adya_terms.specs.Values.{history_of}
+use Rattle.adya_values.specs.Meaning.Histories.{event_of}
+use Rattle.adya_terms.specs.Machinery.Tables.{Means}
+use Rattle.adya_values.specs.Meaning.Values.{history_of}
 use Rattle.adya_terms.proofs.checked.Checked.of.Goals as goal
 
 pub returns-in-Err-clause-found : goal.returns-in-Err-clause-found

@@ -1,9 +1,9 @@
 use Rattle.std.proofs.Common.{◌≡◌, ◌∙◌, ℕ, Option, Some, cond, map, sym, ap}
 use Rattle.std.specs.Option.{option_map}
 use Rattle.std.specs.HashMap.{get}
-use Rattle.adya_terms.specs.Faults.{version_eq}
-use Rattle.adya_terms.specs.Histories.{Entry, entry_of, event_of}
-use Rattle.adya_terms.specs.Tables.{own_eq, written_at, with_replaced}
+use Rattle.adya_values.specs.Computing.Faults.{version_eq}
+use Rattle.adya_values.specs.Meaning.Histories.{Entry, entry_of, event_of}
+use Rattle.adya_terms.specs.Machinery.Tables.{own_eq, written_at, with_replaced}
 use Rattle.adya_terms.proofs.tables.Tables.put.Goals as goal
 
 pub returns-clause-replaced : goal.returns-clause-replaced

@@ -1,9 +1,9 @@
 use Rattle.std.proofs.Common.{Some, ◌∙◌, sym, ap, refl}
 use Rattle.std.proofs.Math.Bool.{or-false}
 use Rattle.std.proofs.lemmas.Bool.{eqb-true}
-use Rattle.adya_terms.specs.Histories.{Live, Dead, Commit, Abort, event_of, value_of}
-use Rattle.adya_terms.specs.Events.{version, entry, written}
-use Rattle.adya_terms.specs.Faults.{is_next}
+use Rattle.adya_values.specs.Meaning.Histories.{Live, Dead, Commit, Abort, event_of, value_of}
+use Rattle.adya_values.specs.Meaning.Events.{version, entry, written}
+use Rattle.adya_values.specs.Computing.Faults.{is_next}
 use Rattle.adya_terms.proofs.Tells.{tell_quiet, tell_write, added}
 use Rattle.adya_terms.proofs.tables.Tables.record.Goals as goal
 

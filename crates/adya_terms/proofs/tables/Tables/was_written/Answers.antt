@@ -1,8 +1,8 @@
 use Rattle.std.proofs.Common.{◌≡◌, ◌∙◌, ◌||◌, false, sym, ap, map}
 use Rattle.std.specs.HashMap.{get}
-use Rattle.adya_terms.specs.Faults.{version_eq}
-use Rattle.adya_terms.specs.Histories.{entry_of, event_of}
-use Rattle.adya_terms.specs.Tables.{own, own_eq, is_there, written_at}
+use Rattle.adya_values.specs.Computing.Faults.{version_eq}
+use Rattle.adya_values.specs.Meaning.Histories.{entry_of, event_of}
+use Rattle.adya_terms.specs.Machinery.Tables.{own, own_eq, is_there, written_at}
 use Rattle.adya_terms.proofs.tables.Tables.was_written.Goals as goal
 
 pub returns-else-is_there : goal.returns-else-is_there

@@ -1,8 +1,8 @@
 use Rattle.std.proofs.Common.{◌≡◌, [], length, ap, sym, ◌∙◌, rules, false, true}
 use Rattle.std.proofs.lemmas.Bool.{eqb-true, eq-eqb}
 use Rattle.std.proofs.lemmas.List.{nil_from_length}
-use Rattle.adya_text.specs.HistoryReaders.{is_failed, is_done}
-use Rattle.adya_text.specs.Texts.{AreHistoryLines}
+use Rattle.adya_text.specs.Machinery.HistoryReaders.{is_failed, is_done}
+use Rattle.adya_text.specs.Meaning.Texts.{AreHistoryLines}
 use Rattle.adya_text.proofs.Fronts.{front_fault}
 use Rattle.adya_text.proofs.HistoryFed.{fed_begins, failed_fault, missing_fault, fed_fits, fed_shape, fed_history}
 use Rattle.adya_text.proofs.HistoryFed.{fault_is, unfailed}

@@ -1,5 +1,5 @@
 use Rattle.std.proofs.Common.{sym, ◌∙◌, refl, rules}
-use Rattle.adya_line.specs.HistoryLines.{line_of}
+use Rattle.adya_line.specs.Meaning.HistoryLines.{line_of}
 use Rattle.adya_text.proofs.HistoryFed.{fed_taken, fed_refused, fed_failed, kept_on_err}
 use Rattle.adya_text.proofs.history_reader.HistoryReader.line.Goals as goal
 

@@ -1,6 +1,6 @@
 use Rattle.std.proofs.Common.{◌≡◌, ◌≢◌, ◌≤◌, ◌⊎◌, [], false, All}
 use Rattle.std.specs.Io.KnownBytes.{Consumes, prepend_known}
-use Rattle.adya_text.specs.Buffers.{work_left}
+use Rattle.adya_text.specs.Machinery.Buffers.{work_left}
 use Rattle.adya_text.proofs.lines.LineBuffer.next_line.Given as goal
 
 abbrev pub invariant-loop-self : goal.invariant-loop-self

@@ -1,5 +1,5 @@
 use Rattle.std.proofs.Common.{sym, ◌∙◌, rules}
-use Rattle.adya_line.specs.SerialLines.{line_of}
+use Rattle.adya_line.specs.Meaning.SerialLines.{line_of}
 use Rattle.adya_text.proofs.SerialFed.{refused_by}
 use Rattle.adya_text.proofs.serial_reader.SerialReader.allowed.Goals as goal
 

@@ -1,8 +1,8 @@
 use Rattle.std.proofs.Common.{◌≡◌, [], length, ap, sym, ◌∙◌, rules, false, true}
 use Rattle.std.proofs.lemmas.Bool.{eqb-true, eq-eqb}
 use Rattle.std.proofs.lemmas.List.{nil_from_length}
-use Rattle.adya_text.specs.SerialReaders.{is_failed, is_done}
-use Rattle.adya_text.specs.Texts.{AreSerialLines}
+use Rattle.adya_text.specs.Machinery.SerialReaders.{is_failed, is_done}
+use Rattle.adya_text.specs.Meaning.Texts.{AreSerialLines}
 use Rattle.adya_text.proofs.Fronts.{front_fault}
 use Rattle.adya_text.proofs.SerialFed.{fed_begins, failed_fault, missing_fault, fed_serial, fault_is, unfailed}
 use Rattle.adya_text.proofs.serial_reader.SerialReader.finish.Goals as goal

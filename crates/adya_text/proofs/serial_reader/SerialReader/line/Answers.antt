@@ -1,5 +1,5 @@
 use Rattle.std.proofs.Common.{sym, ◌∙◌, refl, rules}
-use Rattle.adya_line.specs.SerialLines.{line_of}
+use Rattle.adya_line.specs.Meaning.SerialLines.{line_of}
 use Rattle.adya_text.proofs.SerialFed.{fed_taken, fed_refused, fed_failed, kept_on_err}
 use Rattle.adya_text.proofs.serial_reader.SerialReader.line.Goals as goal
 

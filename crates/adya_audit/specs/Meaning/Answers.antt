@@ -1,0 +1,70 @@
+-- What is answered where an order of a history's transactions is asked for.
+use Rattle.std.specs.Prelude.{◌≡◌, ℕ, List, map}
+use Rattle.adya_values.specs.Meaning.Histories.{History}
+use Rattle.adya_values.specs.Meaning.Edges.{Edge, IsCycle}
+use Rattle.adya_values.specs.Meaning.Acceptance.{IsAccepted}
+use Rattle.adya_text.specs.declared.read_fault.Text.TheVariants as Of
+use Rattle.adya_text.specs.Meaning.Texts.{IsSerial, serial_text}
+use Rattle.adya_dsg.specs.Meaning.Values.{edge_of}
+use Rattle.adya_dsg.specs.Meaning.Found.{HasCertificate}
+use Rattle.adya_audit.specs.declared.answer.Answer.{Answer as AnswerValue}
+use Rattle.adya_audit.specs.declared.answer.Answer.TheVariants as Holds
+use Rattle.adya_audit.specs.declared.ordered.Ordered.{Ordered}
+use Rattle.adya_audit.specs.declared.ordered.Ordered.TheVariants as Said
+use Rattle.adya_audit.specs.Meaning.Verdicts.{Verdict, Yes, Syntax, Malformed, AbortedRead, IntermediateRead, NotTheCommitted}
+use Rattle.adya_audit.specs.Meaning.Verdicts.{Backward, plain_verdict, verdict_of}
+use Rattle.adya_audit.specs.Meaning.Output.{verdict_line, cycle_text}
+use Rattle.adya_audit.specs.Meaning.TextVerdicts.{IsTextOf, IsVerdictOn, AreAccepted, AreSerializable}
+
+-- a certificate, a cycle, or the verdict on the history
+pub data Answer : Type 0 where
+  Certificate : (txns : List ℕ) → Answer
+  Cycle : (edges : List Edge) → Answer
+  Refusal : (verdict : Verdict) → Answer
+
+-- the plain answer that an answer holds
+abbrev pub answer_of : AnswerValue → Answer
+answer_of (Holds.Certificate s) = Certificate s.txns.items
+answer_of (Holds.Cycle es) = Cycle (map edge_of es.items)
+answer_of (Holds.Refusal v) = Refusal (plain_verdict v)
+
+abbrev pub answer_text : Answer → List ℕ
+answer_text (Certificate ts) = serial_text ts
+answer_text (Cycle es) = cycle_text es
+answer_text (Refusal v) = verdict_line v
+
+-- what is told is the kind of the answer
+abbrev pub Tells : Ordered → Answer → Type 0
+Tells Said.Serial a = (ts : List ℕ) × (a ≡ Certificate ts)
+Tells Said.Cycle a = (es : List Edge) × (a ≡ Cycle es)
+Tells (Said.No v) a = a ≡ Refusal (plain_verdict v)
+
+-- the verdict is of kinds 1 to 4
+abbrev pub IsOnHistory : Verdict → Type 0
+IsOnHistory (Syntax Of.History k) = Unit {0}
+IsOnHistory (Malformed line rule) = Unit {0}
+IsOnHistory (AbortedRead line version) = Unit {0}
+IsOnHistory (IntermediateRead line version) = Unit {0}
+IsOnHistory (Syntax Of.Serial k) = ⊥
+IsOnHistory Yes = ⊥
+IsOnHistory NotTheCommitted = ⊥
+IsOnHistory (Backward edge) = ⊥
+
+-- the answer to a history, as a value
+abbrev pub IsAnswerOn : History → Answer → Type 0
+IsAnswerOn h (Certificate ts) = IsAccepted h ts
+IsAnswerOn h (Cycle es) = IsCycle h es × (HasCertificate h → ⊥)
+IsAnswerOn h (Refusal v) = IsOnHistory v × ((ts : List ℕ) → v ≡ verdict_of h ts)
+
+-- the text is that of a history with this cycle
+pub record HasCycle (text : List ℕ) (es : List Edge) : Type 0 where
+  pub history : History
+  pub history_read : IsTextOf text history
+  pub cycle : IsCycle history es
+
+-- the answer to a history text: a certificate with which the history is accepted and by which it is serializable, or
+-- a cycle of its edges, where no certificate is accepted, or the verdict on it, which every certificate gets
+abbrev pub IsAnswer : List ℕ → Answer → Type 0
+IsAnswer text (Certificate ts) = AreAccepted text (serial_text ts) × AreSerializable text (serial_text ts)
+IsAnswer text (Cycle es) = HasCycle text es × ((certificate : List ℕ) → AreAccepted text certificate → ⊥)
+IsAnswer text (Refusal v) = IsOnHistory v × ((ts : List ℕ) → IsSerial ts → IsVerdictOn text (serial_text ts) v)

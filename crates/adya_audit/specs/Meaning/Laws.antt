@@ -1,0 +1,25 @@
+-- What a yes says.
+use Rattle.std.specs.Prelude.{◌≡◌, ◌↔◌, ℕ, true, List}
+use Rattle.adya_values.specs.Meaning.Histories.{History}
+use Rattle.adya_values.specs.Meaning.Shapes.{is_shape}
+use Rattle.adya_values.specs.Meaning.Phenomena.{HasG1, HasG2}
+use Rattle.adya_values.specs.Meaning.Serial.{Agrees}
+use Rattle.adya_values.specs.Meaning.Acceptance.{IsAccepted}
+use Rattle.adya_audit.specs.Meaning.Verdicts.{Yes, verdict_of}
+
+-- the history shows neither G1 nor G2, and its committed transactions, run one at a time in this order, give every
+-- recorded read, every scan and the final contents
+pub record IsSerializableBy (h : History) (ts : List ℕ) : Type 0 where
+  pub no_g1 : HasG1 h → ⊥
+  pub no_g2 : HasG2 h → ⊥
+  pub agrees : Agrees h ts
+
+-- the verdict is yes exactly where the history and the certificate are accepted
+abbrev pub YesWhereAccepted : Type 0
+YesWhereAccepted = (h : History) (ts : List ℕ) → is_shape h.orders h.finals ≡ true
+    → (verdict_of h ts ≡ Yes) ↔ IsAccepted h ts
+
+-- an accepted history is serializable by its certificate
+abbrev pub AcceptedIsSerializable : Type 0
+AcceptedIsSerializable = (h : History) (ts : List ℕ) → is_shape h.orders h.finals ≡ true → IsAccepted h ts
+    → IsSerializableBy h ts

@@ -1,0 +1,12 @@
+-- What a yes says of texts.
+use Rattle.std.specs.Prelude.{◌≡◌, ◌↔◌, ℕ, List}
+use Rattle.adya_audit.specs.Meaning.Verdicts.{Verdict, Yes}
+use Rattle.adya_audit.specs.Meaning.TextVerdicts.{IsVerdictOn, AreAccepted, AreSerializable}
+
+-- the verdict on texts is yes exactly where they are accepted
+abbrev pub YesWhereTextsAccepted : Type 0
+YesWhereTextsAccepted = (h c : List ℕ) (v : Verdict) → IsVerdictOn h c v → (v ≡ Yes) ↔ AreAccepted h c
+
+-- accepted texts are those of a history and a certificate by which it is serializable
+abbrev pub AcceptedTextsAreSerializable : Type 0
+AcceptedTextsAreSerializable = (h c : List ℕ) → AreAccepted h c → AreSerializable h c

@@ -1,0 +1,60 @@
+-- Verdicts as plain values, and what the verdict on a history and a certificate is.
+use Rattle.std.specs.Prelude.{◌≡◌, ℕ, if◌then◌else◌, List, Option, Some, None}
+use Rattle.adya_values.specs.declared.event.Version.{Version}
+use Rattle.adya_values.specs.declared.fault.Rule.{Rule}
+use Rattle.adya_values.specs.declared.fault.CheckFault.{CheckFault}
+use Rattle.adya_values.specs.declared.fault.CheckFault.TheVariants as Checked
+use Rattle.adya_values.specs.Meaning.Histories.{History}
+use Rattle.adya_values.specs.Meaning.Edges.{Edge}
+use Rattle.adya_values.specs.Computing.Faults.{first_fault}
+use Rattle.adya_values.specs.Computing.Certificates.{lists_the_committed, first_backward}
+use Rattle.adya_text.specs.declared.read_fault.Text.{Text}
+use Rattle.adya_audit.specs.declared.verdict.Verdict.{Verdict as VerdictValue}
+use Rattle.adya_audit.specs.declared.verdict.Verdict.TheVariants as Said
+use Rattle.adya_dsg.specs.Meaning.Values.{edge_of}
+
+pub data Verdict : Type 0 where
+  Yes : Verdict
+  Syntax : (text : Text) (line : ℕ) → Verdict
+  Malformed : (line : ℕ) (rule : Rule) → Verdict
+  AbortedRead : (line : ℕ) (version : Version) → Verdict
+  IntermediateRead : (line : ℕ) (version : Version) → Verdict
+  NotTheCommitted : Verdict
+  Backward : (edge : Edge) → Verdict
+
+-- the plain verdict that a verdict holds
+abbrev pub plain_verdict : VerdictValue → Verdict
+plain_verdict Said.Yes = Yes
+plain_verdict (Said.Syntax text line) = Syntax text line
+plain_verdict (Said.Malformed line rule) = Malformed line rule
+plain_verdict (Said.AbortedRead line version) = AbortedRead line version
+plain_verdict (Said.IntermediateRead line version) = IntermediateRead line version
+plain_verdict Said.NotTheCommitted = NotTheCommitted
+plain_verdict (Said.Backward edge) = Backward (edge_of edge)
+
+abbrev pub edge_verdict : Option Edge → Verdict
+edge_verdict None = Yes
+edge_verdict (Some e) = Backward e
+
+-- the verdict on a certificate of a history that is taken as checked
+abbrev pub certificate_verdict : History → List ℕ → Verdict
+certificate_verdict h ts = if lists_the_committed h ts then edge_verdict (first_backward h ts) else NotTheCommitted
+
+-- the verdict names the fault
+abbrev pub Refuses : CheckFault → Verdict → Type 0
+Refuses (Checked.Malformed line rule) v = v ≡ Malformed line rule
+Refuses (Checked.AbortedRead line version) v = v ≡ AbortedRead line version
+Refuses (Checked.IntermediateRead line version) v = v ≡ IntermediateRead line version
+Refuses Checked.Memory v = ⊥
+
+-- the fault of a history, else what is said of the certificate; `Memory` is no fault of any history, and so never met
+abbrev pub fault_verdict : Option CheckFault → Verdict → Verdict
+fault_verdict None v = v
+fault_verdict (Some (Checked.Malformed line rule)) v = Malformed line rule
+fault_verdict (Some (Checked.AbortedRead line version)) v = AbortedRead line version
+fault_verdict (Some (Checked.IntermediateRead line version)) v = IntermediateRead line version
+fault_verdict (Some Checked.Memory) v = NotTheCommitted
+
+-- the verdict on a history and a certificate
+abbrev pub verdict_of : History → List ℕ → Verdict
+verdict_of h ts = fault_verdict (first_fault h) (certificate_verdict h ts)

@@ -1,0 +1,48 @@
+-- That the fault that is named is the first of the first kind that is there.
+use Rattle.std.specs.Prelude.{◌≡◌, ◌↔◌, ℕ, true, List, Some}
+use Rattle.adya_values.specs.declared.event.Version.{Version}
+use Rattle.adya_values.specs.declared.fault.Rule.{Rule}
+use Rattle.adya_values.specs.declared.fault.CheckFault.TheVariants.{Malformed, AbortedRead, IntermediateRead}
+use Rattle.adya_values.specs.Meaning.Histories.{History}
+use Rattle.adya_values.specs.Meaning.Shapes.{is_shape}
+use Rattle.adya_values.specs.Meaning.Edges.{Edge}
+use Rattle.adya_values.specs.Meaning.Rules.{IsWellFormed}
+use Rattle.adya_values.specs.Meaning.Phenomena.{HasG1a}
+use Rattle.adya_values.specs.Computing.Faults.{first_fault}
+use Rattle.adya_values.specs.Computing.Certificates.{first_backward}
+use Rattle.adya_laws.specs.Meaning.FirstFaults.{BreaksRule, IsFirstMalformed, IsFirstAbortedRead, IsFirstIntermediateRead, IsFirstBackward}
+
+-- of a history's shape, those that break no rule at any line are exactly the well-formed ones
+abbrev pub WellFormedWhereUnbroken : Type 0
+WellFormedWhereUnbroken = (h : History) → is_shape h.orders h.finals ≡ true
+    → ((line : ℕ) (rule : Rule) → BreaksRule h line rule → ⊥) ↔ IsWellFormed h
+
+-- a broken rule is named exactly where it is the first one
+abbrev pub FirstMalformedIsNamed : Type 0
+FirstMalformedIsNamed = (h : History) (line : ℕ) (rule : Rule)
+    → (first_fault h ≡ Some (Malformed line rule)) ↔ IsFirstMalformed h line rule
+
+-- an aborted read is named of a well-formed history alone, and is the first one
+abbrev pub NamedAbortedReadIsFirst : Type 0
+NamedAbortedReadIsFirst = (h : History) (line : ℕ) (v : Version) → first_fault h ≡ Some (AbortedRead line v)
+    → IsWellFormed h × IsFirstAbortedRead h line v
+
+-- of a history's shape: where it is well-formed, its first aborted read is named
+abbrev pub FirstAbortedReadIsNamed : Type 0
+FirstAbortedReadIsNamed = (h : History) (line : ℕ) (v : Version) → is_shape h.orders h.finals ≡ true
+    → IsWellFormed h → IsFirstAbortedRead h line v → first_fault h ≡ Some (AbortedRead line v)
+
+-- an intermediate read is named of a well-formed history without aborted reads alone, and is the first one
+abbrev pub NamedIntermediateReadIsFirst : Type 0
+NamedIntermediateReadIsFirst = (h : History) (line : ℕ) (v : Version) → first_fault h ≡ Some (IntermediateRead line v)
+    → IsWellFormed h × (HasG1a h → ⊥) × IsFirstIntermediateRead h line v
+
+-- of a history's shape: where it is well-formed without aborted reads, its first intermediate read is named
+abbrev pub FirstIntermediateReadIsNamed : Type 0
+FirstIntermediateReadIsNamed = (h : History) (line : ℕ) (v : Version) → is_shape h.orders h.finals ≡ true
+    → IsWellFormed h → (HasG1a h → ⊥) → IsFirstIntermediateRead h line v
+    → first_fault h ≡ Some (IntermediateRead line v)
+
+-- an edge is named exactly where it is the first that doesn't go forward
+abbrev pub FirstBackwardIsNamed : Type 0
+FirstBackwardIsNamed = (h : History) (ts : List ℕ) (e : Edge) → (first_backward h ts ≡ Some e) ↔ IsFirstBackward h ts e

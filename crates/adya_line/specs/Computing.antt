@@ -1,0 +1,2 @@
+-- Plain functions that compute what the promises mean.
+pub mod Reading

@@ -1,0 +1,7 @@
+-- What the promises mean.
+pub mod Spelling
+pub mod Limits
+pub mod HistoryLines
+pub mod SerialLines
+pub mod Views
+pub mod Laws

@@ -1,0 +1,42 @@
+-- The lines of a certificate text, by their kind.
+use Rattle.std.specs.Prelude.{◌≡◌, ℕ, List}
+use Rattle.adya_values.specs.Meaning.Keys.{IsTxn}
+use Rattle.adya_line.specs.Meaning.Spelling.{serial_head, tail, txn_text}
+use Rattle.adya_line.specs.declared.serial_lines.SerialLine.{SerialLine as LineValue}
+use Rattle.adya_line.specs.declared.serial_lines.SerialLine.TheVariants as In
+
+-- the head, a transaction, the tail
+pub data Line : Type 0 where
+  HeadLine : Line
+  TxnLine : (txn : ℕ) → Line
+  TailLine : Line
+
+abbrev pub line_of : LineValue → Line
+line_of In.Head = HeadLine
+line_of (In.Txn t) = TxnLine t
+line_of In.Tail = TailLine
+
+abbrev pub line_text : Line → List ℕ
+line_text HeadLine = serial_head
+line_text (TxnLine t) = txn_text t
+line_text TailLine = tail
+
+-- what it holds is within its limits
+abbrev pub IsLine : Line → Type 0
+IsLine HeadLine = Unit {0}
+IsLine (TxnLine t) = IsTxn t
+IsLine TailLine = Unit {0}
+
+-- the text is that of the line
+pub record IsLineOf (x : Line) (text : List ℕ) : Type 0 where
+  pub good : IsLine x
+  pub same : text ≡ line_text x
+
+-- the text is that of no line
+abbrev pub IsNoLine : List ℕ → Type 0
+IsNoLine text = (x : Line) → IsLineOf x text → ⊥
+
+-- the text is that of this line, and of no other
+pub record IsOnlyLineOf (x : Line) (text : List ℕ) : Type 0 where
+  pub line : IsLineOf x text
+  pub only : (y : Line) → IsLineOf y text → y ≡ x

@@ -1,0 +1,77 @@
+-- The one line of each event, unfinished transaction, order, final and transaction number, without its line feed.
+use Rattle.std.specs.Prelude.{ℕ, List, [], ◌∷◌, ◌++◌, codes, decimal, flat_map}
+use Rattle.adya_values.specs.declared.edition.Edition.{Edition}
+use Rattle.adya_values.specs.declared.edition.Edition.TheVariants.{One, Two}
+use Rattle.adya_values.specs.declared.event.Version.{Version}
+use Rattle.adya_values.specs.Meaning.Histories.{Content, Live, Dead, Entry, Event, Write, Delete, Read, Scan, Commit, Abort}
+use Rattle.adya_values.specs.Meaning.Histories.{Order, FinalPair}
+
+abbrev pub history_head : List ℕ
+history_head = codes "adya 1"
+
+-- of an edition with unfinished transactions
+abbrev pub second_head : List ℕ
+second_head = codes "adya 2"
+
+-- the first line of a history of the edition
+abbrev pub head_text : Edition → List ℕ
+head_text One = history_head
+head_text Two = second_head
+
+abbrev pub serial_head : List ℕ
+serial_head = codes "serial 1"
+
+-- ends a history and a certificate
+abbrev pub tail : List ℕ
+tail = codes "end"
+
+-- K.T:M
+abbrev pub version_text : Version → List ℕ
+version_text v = v.key ++ codes "." ++ decimal v.txn ++ codes ":" ++ decimal v.m
+
+-- V or !
+abbrev pub content_text : Content → List ℕ
+content_text (Live value) = value
+content_text Dead = codes "!"
+
+-- ;K.T:M,V or ;K.T:M,!
+abbrev pub entry_text : Entry → List ℕ
+entry_text e = codes ";" ++ version_text e.version ++ codes "," ++ content_text e.content
+
+-- wT(K.T:M,V), dT(K.T:M), rT(K.T:M,V), sT(K,K;K.T:M,V;..), cT and aT
+unfoldable pub event_text : Event → List ℕ
+event_text (Write t k m v) =
+    codes "w" ++ decimal t ++ codes "(" ++ version_text (record { key = k; txn = t; m = m }) ++
+    codes "," ++ v ++ codes ")"
+event_text (Delete t k m) =
+    codes "d" ++ decimal t ++ codes "(" ++ version_text (record { key = k; txn = t; m = m }) ++ codes ")"
+event_text (Read t r v) = codes "r" ++ decimal t ++ codes "(" ++ version_text r ++ codes "," ++ v ++ codes ")"
+event_text (Scan t low high es) =
+    codes "s" ++ decimal t ++ codes "(" ++ low ++ codes "," ++ high ++ flat_map entry_text es ++ codes ")"
+event_text (Commit t) = codes "c" ++ decimal t
+event_text (Abort t) = codes "a" ++ decimal t
+
+-- uT
+abbrev pub unfinished_text : ℕ → List ℕ
+unfinished_text t = codes "u" ++ decimal t
+
+-- <<T
+abbrev pub later_text : ℕ → List ℕ
+later_text t = codes "<<" ++ decimal t
+
+-- T<<T<<..
+abbrev pub writers_text : List ℕ → List ℕ
+writers_text [] = []
+writers_text (t ∷ ts) = decimal t ++ flat_map later_text ts
+
+-- [K:T<<T<<..]
+unfoldable pub order_text : Order → List ℕ
+order_text o = codes "[" ++ o.key ++ codes ":" ++ writers_text o.writers ++ codes "]"
+
+-- {K,V}
+unfoldable pub final_text : FinalPair → List ℕ
+final_text f = codes "{" ++ f.key ++ codes "," ++ f.value ++ codes "}"
+
+-- T
+abbrev pub txn_text : ℕ → List ℕ
+txn_text t = decimal t

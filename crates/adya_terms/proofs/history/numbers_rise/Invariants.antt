@@ -1,6 +1,0 @@
-use Rattle.std.proofs.Common.{◌≡◌, ◌∷◌, drop}
-use Rattle.adya_terms.specs.Shapes.{numbers_rise}
-use Rattle.adya_terms.proofs.history.numbers_rise.Given as goal
-
-abbrev pub invariant-loop-t : goal.invariant-loop-t
-invariant-loop-t l = numbers_rise l.txns ≡ numbers_rise (l.last ∷ drop l.t-index l.rest)

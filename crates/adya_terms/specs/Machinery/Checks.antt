@@ -1,0 +1,157 @@
+-- What the parts of a check answer.
+use Rattle.std.specs.Prelude.{◌≡◌, ℕ, zero, suc, ◌+◌, ◌==◌, Bool, false, cond, not, ◌&&◌, ◌||◌, List, [], ◌++◌, length, Option, Some, None, map, filter, count_by, sum_by}
+use Rattle.std.specs.List.{filter_map, list_all, list_any}
+use Rattle.std.specs.Cmp.Lexicographic.{slice_cmp}
+use Rattle.std.specs.HashMap.{HashMap, get}
+use Rattle.std.specs.BTreeSet.{BTreeSet, contains}
+use Rattle.std.specs.Ordering.{nat_cmp}
+use Rattle.adya_values.specs.declared.event.Version.{Version}
+use Rattle.adya_values.specs.declared.event.Event.{Event as EventValue}
+use Rattle.adya_values.specs.declared.order.Order.{Order as OrderValue}
+use Rattle.adya_values.specs.declared.order.FinalPair.{FinalPair as FinalValue}
+use Rattle.adya_values.specs.declared.fault.Rule.TheVariants.{M6, M7, M8}
+use Rattle.adya_values.specs.declared.fault.CheckFault.{CheckFault}
+use Rattle.adya_values.specs.declared.fault.CheckFault.TheVariants.{Malformed, AbortedRead, IntermediateRead, Memory}
+use Rattle.adya_terms.specs.declared.tables.Own.{Own}
+use Rattle.adya_terms.specs.declared.listed.Times.{Times}
+use Rattle.adya_terms.specs.declared.listed.Times.TheVariants.{Once, More}
+use Rattle.adya_values.specs.Meaning.Keys.{key_eq}
+use Rattle.adya_values.specs.Meaning.Histories.{Entry, Event, Order, History, event_of, order_of, final_of}
+use Rattle.adya_values.specs.declared.edition.Edition.TheVariants.{One, Two}
+use Rattle.adya_values.specs.Meaning.Events.{txn_of, written, observed, is_committed, has_ended, aborts, last_write}
+use Rattle.adya_values.specs.Meaning.Rules.{installs}
+use Rattle.adya_values.specs.Computing.Faults.{entry_eq, first, is_entry, fault_unless, aborted_reads, all_end, intermediate_reads, order_faults, has_lines, final_faults, has_finals}
+use Rattle.adya_terms.specs.Machinery.Tables.{own, own_eq}
+
+-- it is this fault, or memory ran out
+abbrev pub IsFault : Option CheckFault → CheckFault → Type 0
+IsFault found (Malformed line rule) = found ≡ Some (Malformed line rule)
+IsFault found (AbortedRead line version) = found ≡ Some (AbortedRead line version)
+IsFault found (IntermediateRead line version) = found ≡ Some (IntermediateRead line version)
+IsFault found Memory = Unit {0}
+
+-- the fault is the first of the list, or memory ran out
+abbrev pub Names : List CheckFault → CheckFault → Type 0
+Names fs e = IsFault (first fs) e
+
+-- the history of these parts
+abbrev pub parts : List EventValue → List OrderValue → List FinalValue → History
+parts events orders finals = record {
+  edition = One;
+  events = map event_of events;
+  unfinished = [];
+  orders = map order_of orders;
+  finals = map final_of finals;
+}
+
+-- the same with unfinished transactions
+abbrev pub whole : List EventValue → List ℕ → List OrderValue → List FinalValue → History
+whole events unfinished orders finals = record {
+  edition = Two;
+  events = map event_of events;
+  unfinished = unfinished;
+  orders = map order_of orders;
+  finals = map final_of finals;
+}
+
+-- the entry is of no aborted or unfinished transaction
+abbrev pub is_not_aborted : List Event → List ℕ → Event → Entry → Bool
+is_not_aborted all unfinished e o = not (list_any (aborts o.version.txn) all || list_any (λ u. u == o.version.txn) unfinished)
+
+-- the set holds the numbers of the list
+abbrev pub Holds : BTreeSet ℕ → List ℕ → Type 0
+Holds s us = (t : ℕ) → contains nat_cmp s t ≡ list_any (λ u. u == t) us
+
+-- each entry is written by one of the events
+abbrev pub are_written : List Event → List Entry → Bool
+are_written events es = list_all (λ o. list_any (entry_eq o) (filter_map written events)) es
+
+-- the entry is of the event's transaction, or its writer's last of the key
+abbrev pub is_own_or_last : List Event → Event → Entry → Bool
+is_own_or_last all e o = (o.version.txn == txn_of e) || is_entry (last_write o.version.txn o.version.key all) o
+
+-- what the event reads or lists and the test refuses, where its transaction is committed
+abbrev pub refused : (Event → Entry → Bool) → List Event → Event → List Entry
+refused good events e = filter (λ o. is_committed events (txn_of e) && not (good e o)) (observed e)
+
+-- none, or the first of the list
+abbrev pub IsFirst : List Entry → Option Version → Type 0
+IsFirst es None = es ≡ []
+IsFirst es (Some v) = first (map (λ o. o.version) es) ≡ Some v
+
+-- not at all, once, or more often
+abbrev pub times : ℕ → Option Times
+times zero = None
+times (suc zero) = Some Once
+times (suc (suc n)) = Some More
+
+abbrev pub once_more : Option Times → Times
+once_more None = Once
+once_more (Some n) = More
+
+-- once where it is wanted, and else not at all
+abbrev pub fits : Option Times → Bool → Bool
+fits None wanted = not wanted
+fits (Some Once) wanted = wanted
+fits (Some More) wanted = false
+
+-- how often the line lists the transaction, if it is the key's
+abbrev pub listed_by : ℕ → List ℕ → Order → ℕ
+listed_by t k o = cond (key_eq o.key k) (count_by (λ u. u == t) o.writers) 0
+
+-- how often the key's lines list the transaction
+abbrev pub listed : List Order → ℕ → List ℕ → ℕ
+listed os t k = sum_by (listed_by t k) os
+
+abbrev pub Lists : {S : Type 0} → HashMap Own Times S → List Order → Type 0
+Lists m os = (t : ℕ) (k : List ℕ) → get own_eq m (own t k) ≡ times (listed os t k)
+
+-- a committed write of the key, which no line of its key lists
+abbrev pub is_unlisted : List Event → List Order → List ℕ → Entry → Bool
+is_unlisted events os k w =
+    is_committed events w.version.txn && ((listed os w.version.txn w.version.key == 0) && key_eq w.version.key k)
+
+-- the set has the keys of committed writes that no line of their key lists
+abbrev pub LeavesOut : BTreeSet (List ℕ) → List Event → List Order → Type 0
+LeavesOut s events os = (k : List ℕ) → contains (slice_cmp nat_cmp) s k ≡ list_any (is_unlisted events os k) (filter_map written events)
+
+-- there is an entry, and it passes
+abbrev pub is_some_and : (Entry → Bool) → Option Entry → Bool
+is_some_and test None = false
+is_some_and test (Some w) = test w
+
+-- it is this key
+abbrev pub is_this : Option (List ℕ) → List ℕ → Bool
+is_this None k = false
+is_this (Some j) k = key_eq j k
+
+-- the key's lines list the transaction once where it is a committed writer of the key, and else not at all
+abbrev pub belongs : List Event → List Order → List ℕ → ℕ → Bool
+belongs events os k t = listed os t k == cond (installs events k t) 1 0
+
+-- M7, from the line of the first order on
+abbrev pub listing_faults : History → ℕ → List CheckFault
+listing_faults h line = order_faults h.events line h.orders ++ fault_unless (has_lines h) (line + length h.orders) M7
+
+-- M8, from the line of the first final on
+abbrev pub final_value_faults : History → ℕ → List CheckFault
+final_value_faults h line = final_faults h line h.finals ++ fault_unless (has_finals h) (line + length h.finals) M8
+
+-- the faults of the lines from the first order on
+abbrev pub rule_faults : History → ℕ → List CheckFault
+rule_faults h line =
+    fault_unless (all_end h) line M6 ++
+    (listing_faults h line ++
+    final_value_faults h (line + length h.orders))
+
+-- aborted and intermediate reads
+abbrev pub read_faults : History → List CheckFault
+read_faults h = aborted_reads h ++ intermediate_reads h
+
+-- the entry is this write, or of another key
+abbrev pub is_of_key : Entry → Entry → Bool
+is_of_key w x = not (key_eq x.version.key w.version.key) || entry_eq x w
+
+-- the event's transaction has ended or is unfinished
+abbrev pub ends : List Event → List ℕ → Event → Bool
+ends all unfinished e = has_ended all (txn_of e) || list_any (λ u. u == txn_of e) unfinished

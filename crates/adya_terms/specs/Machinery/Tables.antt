@@ -1,0 +1,73 @@
+-- What the tables of a check mean, given the events that they were made of.
+use Rattle.std.specs.Prelude.{◌≡◌, ℕ, ◌<◌, ◌==◌, nat_eq, Bool, false, ◌&&◌, ◌||◌, cond, List, length, Option, Some, None, is_some, IsSome, slice_get}
+use Rattle.std.specs.List.{filter_map, list_any}
+use Rattle.std.specs.Ordering.{nat_cmp, ordering_then}
+use Rattle.std.specs.Cmp.Lexicographic.{slice_cmp}
+use Rattle.std.specs.declared.cmp.Ordering.{Ordering}
+use Rattle.std.specs.BTreeMap as tree
+use Rattle.std.specs.BTreeMap.{BTreeMap}
+use Rattle.std.specs.HashMap.{get}
+use Rattle.std.specs.HashSet.{contains}
+use Rattle.adya_values.specs.declared.event.Version.{Version}
+use Rattle.adya_terms.specs.declared.tables.Own.{Own}
+use Rattle.adya_terms.specs.declared.tables.Tables.{Tables}
+use Rattle.adya_values.specs.Meaning.Histories.{Entry, Event}
+use Rattle.adya_values.specs.Meaning.Events.{written, writes_of, last_write, is_committed, aborts}
+use Rattle.adya_values.specs.Meaning.Keys.{key_eq}
+use Rattle.adya_values.specs.Computing.Faults.{version_eq, entry_eq}
+
+abbrev pub own : ℕ → List ℕ → Own
+own t k = record { txn = t; key = k }
+
+abbrev pub own_eq : Own → Own → Bool
+own_eq a b = (a.txn == b.txn) && key_eq a.key b.key
+
+abbrev pub own_cmp : Own → Own → Ordering
+own_cmp a b = ordering_then (nat_cmp a.txn b.txn) (slice_cmp nat_cmp a.key b.key)
+
+abbrev pub written_by : Option Event → Option Entry
+written_by None = None
+written_by (Some e) = written e
+
+-- what the event at the place writes
+abbrev pub written_at : List Event → Option ℕ → Option Entry
+written_at all None = None
+written_at all (Some p) = written_by (slice_get all p)
+
+-- it is this entry
+abbrev pub is_there : Entry → Option Entry → Bool
+is_there o None = false
+is_there o (Some w) = entry_eq o w
+
+abbrev pub number_of : Option Entry → ℕ
+number_of None = 0
+number_of (Some w) = w.version.m
+
+-- the places of versions with that of this write, where there is one
+abbrev pub with_replaced : Option Entry → Option ℕ → (Version → Option ℕ) → Version → Option ℕ
+with_replaced None place places r = places r
+with_replaced (Some w) place places r = cond (version_eq w.version r) place (places r)
+
+-- the entry is at the place of the last write of its key by its transaction, or at that of its version
+abbrev pub is_at : (Own → Option ℕ) → (Version → Option ℕ) → List Event → Entry → Bool
+is_at last replaced all o =
+    is_there o (written_at all (last (own o.version.txn o.version.key))) || is_there o (written_at all (replaced o.version))
+
+-- the functions tell of the events before: which transactions have ended, and the places of last writes and of the
+-- versions that these replaced
+pub record Tell (committed aborted : ℕ → Bool) (last : Own → Option ℕ) (replaced : Version → Option ℕ) (all before : List Event) : Type 0 where
+  pub committed_is : (t : ℕ) → committed t ≡ is_committed before t
+  pub aborted_is : (t : ℕ) → aborted t ≡ list_any (aborts t) before
+  pub last_is : (t : ℕ) (k : List ℕ) → written_at all (last (own t k)) ≡ last_write t k before
+  pub has_is : (t : ℕ) (k : List ℕ) → is_some (last (own t k)) ≡ is_some (last_write t k before)
+  pub written_is : (o : Entry) → is_at last replaced all o ≡ list_any (entry_eq o) (filter_map written before)
+  pub number_is : (t : ℕ) (k : List ℕ) → number_of (last_write t k before) ≡ length (writes_of t k before)
+  pub later : (r : Version) → IsSome (replaced r) → r.m < length (writes_of r.txn r.key before)
+
+-- the tables tell of the events before, by places in all of them
+abbrev pub Means : Tables → List Event → List Event → Type 0
+Means t all before = Tell (contains nat_eq t.committed) (contains nat_eq t.aborted) (get own_eq t.last) (get version_eq t.replaced) all before
+
+-- the tree has the place of each transaction's last write of each key
+abbrev pub Keeps : BTreeMap Own ℕ → List Event → List Event → Type 0
+Keeps written all before = (t : ℕ) (k : List ℕ) → written_at all (tree.get own_cmp written (own t k)) ≡ last_write t k before

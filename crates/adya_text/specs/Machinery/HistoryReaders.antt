@@ -1,0 +1,93 @@
+-- What a reader of history lines holds of the lines that it was fed with.
+use Rattle.std.specs.Prelude.{◌≡◌, ℕ, suc, ◌≤◌, Bool, true, false, List, [], ◌∷◌, ◌++◌, length, map, Result, Ok, Err}
+use Rattle.std.specs.List.{filter_map}
+use Rattle.adya_values.specs.Meaning.Histories.{event_of, order_of, final_of}
+use Rattle.adya_values.specs.Meaning.Values.{history_of}
+use Rattle.adya_values.specs.declared.history.History.{History as HistoryValue}
+use Rattle.adya_text.specs.Meaning.Texts.{IsHistory, history_text, AreHistoryLines}
+use Rattle.adya_text.specs.Meaning.Faults.{IsFirstFaulty, IsFaultLine}
+use Rattle.adya_text.specs.Meaning.Answers.{IsOfText}
+use Rattle.adya_text.specs.Computing.Runs.{HasRun}
+use Rattle.adya_line.specs.Meaning.HistoryLines.{Line, IsLine, line_text, IsLineOf}
+use Rattle.adya_text.specs.Computing.HistoryRuns.{allows, stage_after, event_in, unfinished_in, order_in, final_in}
+use Rattle.adya_text.specs.declared.history_reader.Stage.{Stage}
+use Rattle.adya_text.specs.declared.history_reader.Stage.TheVariants.{Head, Events, Unfinished, Orders, Finals}
+use Rattle.adya_text.specs.declared.history_reader.Stage.TheVariants.{Done, Failed}
+use Rattle.adya_text.specs.declared.history_reader.HistoryReader.{HistoryReader}
+use Rattle.adya_text.specs.declared.read_fault.ReadFault.{ReadFault}
+use Rattle.adya_text.specs.declared.read_fault.ReadFault.TheVariants.{Syntax, Device, Memory}
+use Rattle.adya_text.specs.declared.read_fault.Text.TheVariants as Of
+
+abbrev pub is_failed : Stage → Bool
+is_failed (Failed k) = true
+is_failed Head = false
+is_failed (Events e) = false
+is_failed (Unfinished last) = false
+is_failed (Orders e last) = false
+is_failed (Finals e last) = false
+is_failed (Done e) = false
+
+abbrev pub is_done : Stage → Bool
+is_done (Done e) = true
+is_done Head = false
+is_done (Events e) = false
+is_done (Unfinished last) = false
+is_done (Orders e last) = false
+is_done (Finals e last) = false
+is_done (Failed k) = false
+
+-- each line may stand where it stands, and the reader holds what the lines hold; the stage tells their edition
+pub record IsTaken (r : HistoryReader) (lines : List (List ℕ)) : Type 0 where
+  pub run : HasRun allows stage_after line_text IsLine Head r.stage lines
+  pub events : map event_of r.events.items ≡ filter_map event_in run.items
+  pub unfinished : r.unfinished.items ≡ filter_map unfinished_in run.items
+  pub orders : map order_of r.orders.items ≡ filter_map order_in run.items
+  pub finals : map final_of r.finals.items ≡ filter_map final_in run.items
+  pub next : r.next ≡ suc (length lines)
+
+-- the reader was fed with these lines: it has taken them, or one of them is faulty
+pub record IsFed (r : HistoryReader) (lines : List (List ℕ)) : Type 0 where
+  pub taken : is_failed r.stage ≡ false → IsTaken r lines
+  pub faulty : (k : ℕ) → r.stage ≡ Failed k → (k ≤ length lines) × IsFirstFaulty AreHistoryLines lines k
+
+-- no line of this text may come in the stage
+abbrev pub IsRefused : Stage → List ℕ → Type 0
+IsRefused s text = (x : Line) → IsLineOf x text → allows s x ≡ true → ⊥
+
+-- the line of this text may come in the stage
+abbrev pub IsAllowed : Stage → List ℕ → Line → Type 0
+IsAllowed s text x = IsLineOf x text × (allows s x ≡ true)
+
+-- the new reader is the old one with what the line holds
+pub record Takes (old new : HistoryReader) (x : Line) : Type 0 where
+  pub stage : new.stage ≡ stage_after old.stage x
+  pub next : new.next ≡ suc old.next
+  pub events : map event_of new.events.items ≡ map event_of old.events.items ++ filter_map event_in (x ∷ [])
+  pub unfinished : new.unfinished.items ≡ old.unfinished.items ++ filter_map unfinished_in (x ∷ [])
+  pub orders : map order_of new.orders.items ≡ map order_of old.orders.items ++ filter_map order_in (x ∷ [])
+  pub finals : map final_of new.finals.items ≡ map final_of old.finals.items ++ filter_map final_in (x ∷ [])
+
+-- the two hold the same
+pub record IsKept (old new : HistoryReader) : Type 0 where
+  pub stage : new.stage ≡ old.stage
+  pub next : new.next ≡ old.next
+  pub events : new.events.items ≡ old.events.items
+  pub unfinished : new.unfinished.items ≡ old.unfinished.items
+  pub orders : new.orders.items ≡ old.orders.items
+  pub finals : new.finals.items ≡ old.finals.items
+
+-- what was read of the text: the history whose text it is, or the line of its fault
+abbrev pub ReadsHistory : List ℕ → Result HistoryValue ReadFault → Type 0
+ReadsHistory text (Ok h) = IsHistory (history_of h) × (text ≡ history_text (history_of h))
+ReadsHistory text (Err (Syntax Of.History k)) = IsFaultLine AreHistoryLines text k
+ReadsHistory text (Err (Syntax Of.Serial k)) = ⊥
+ReadsHistory text (Err Device) = Unit {0}
+ReadsHistory text (Err Memory) = Unit {0}
+
+-- an answer that is not of the text says nothing of it
+pub untold_history : (text : List ℕ) (result : Result HistoryValue ReadFault) → (IsOfText result → ⊥)
+    → ReadsHistory text result
+untold_history text (Ok v) untold = absurd (untold tt)
+untold_history text (Err (Syntax of line)) untold = absurd (untold tt)
+untold_history text (Err Device) untold = tt
+untold_history text (Err Memory) untold = tt

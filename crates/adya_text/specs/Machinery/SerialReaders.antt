@@ -1,0 +1,75 @@
+-- What a reader of certificate lines holds of the lines that it was fed with.
+use Rattle.std.specs.Prelude.{◌≡◌, ℕ, suc, ◌≤◌, Bool, true, false, List, [], ◌∷◌, ◌++◌, length, Result, Ok, Err}
+use Rattle.std.specs.List.{filter_map}
+use Rattle.adya_values.specs.declared.serial.Serial.{Serial}
+use Rattle.adya_text.specs.Meaning.Texts.{IsSerial, serial_text, AreSerialLines}
+use Rattle.adya_text.specs.Meaning.Faults.{IsFirstFaulty, IsFaultLine}
+use Rattle.adya_text.specs.Meaning.Answers.{IsOfText}
+use Rattle.adya_text.specs.Computing.Runs.{HasRun}
+use Rattle.adya_line.specs.Meaning.SerialLines.{Line, IsLine, line_text, IsLineOf}
+use Rattle.adya_text.specs.Computing.SerialRuns.{allows, next_stage, stage_after, txn_in}
+use Rattle.adya_text.specs.declared.serial_reader.Stage.{Stage}
+use Rattle.adya_text.specs.declared.serial_reader.Stage.TheVariants.{Head, Txns, Done, Failed}
+use Rattle.adya_text.specs.declared.serial_reader.SerialReader.{SerialReader}
+use Rattle.adya_text.specs.declared.read_fault.ReadFault.{ReadFault}
+use Rattle.adya_text.specs.declared.read_fault.ReadFault.TheVariants.{Syntax, Device, Memory}
+use Rattle.adya_text.specs.declared.read_fault.Text.TheVariants as Of
+
+abbrev pub is_failed : Stage → Bool
+is_failed (Failed k) = true
+is_failed Head = false
+is_failed Txns = false
+is_failed Done = false
+
+abbrev pub is_done : Stage → Bool
+is_done Done = true
+is_done Head = false
+is_done Txns = false
+is_done (Failed k) = false
+
+-- each line may stand where it stands, and the reader holds what the lines hold
+pub record IsTaken (r : SerialReader) (lines : List (List ℕ)) : Type 0 where
+  pub run : HasRun allows next_stage line_text IsLine Head r.stage lines
+  pub txns : r.txns.items ≡ filter_map txn_in run.items
+  pub next : r.next ≡ suc (length lines)
+
+-- the reader was fed with these lines: it has taken them, or one of them is faulty
+pub record IsFed (r : SerialReader) (lines : List (List ℕ)) : Type 0 where
+  pub taken : is_failed r.stage ≡ false → IsTaken r lines
+  pub faulty : (k : ℕ) → r.stage ≡ Failed k → (k ≤ length lines) × IsFirstFaulty AreSerialLines lines k
+
+-- no line of this text may come in the stage
+abbrev pub IsRefused : Stage → List ℕ → Type 0
+IsRefused s text = (x : Line) → IsLineOf x text → allows s x ≡ true → ⊥
+
+-- the line of this text may come in the stage
+abbrev pub IsAllowed : Stage → List ℕ → Line → Type 0
+IsAllowed s text x = IsLineOf x text × (allows s x ≡ true)
+
+-- the new reader is the old one with what the line holds
+pub record Takes (old new : SerialReader) (x : Line) : Type 0 where
+  pub stage : new.stage ≡ stage_after x
+  pub next : new.next ≡ suc old.next
+  pub txns : new.txns.items ≡ old.txns.items ++ filter_map txn_in (x ∷ [])
+
+-- the two hold the same
+pub record IsKept (old new : SerialReader) : Type 0 where
+  pub stage : new.stage ≡ old.stage
+  pub next : new.next ≡ old.next
+  pub txns : new.txns.items ≡ old.txns.items
+
+-- what was read of the text: the certificate whose text it is, or the line of its fault
+abbrev pub ReadsSerial : List ℕ → Result Serial ReadFault → Type 0
+ReadsSerial text (Ok s) = IsSerial s.txns.items × (text ≡ serial_text s.txns.items)
+ReadsSerial text (Err (Syntax Of.Serial k)) = IsFaultLine AreSerialLines text k
+ReadsSerial text (Err (Syntax Of.History k)) = ⊥
+ReadsSerial text (Err Device) = Unit {0}
+ReadsSerial text (Err Memory) = Unit {0}
+
+-- an answer that is not of the text says nothing of it
+pub untold_serial : (text : List ℕ) (result : Result Serial ReadFault) → (IsOfText result → ⊥)
+    → ReadsSerial text result
+untold_serial text (Ok v) untold = absurd (untold tt)
+untold_serial text (Err (Syntax of line)) untold = absurd (untold tt)
+untold_serial text (Err Device) untold = tt
+untold_serial text (Err Memory) untold = tt

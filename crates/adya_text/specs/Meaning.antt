@@ -1,0 +1,6 @@
+-- What the promises mean.
+pub mod Texts
+pub mod Faults
+pub mod Streams
+pub mod Answers
+pub mod Laws

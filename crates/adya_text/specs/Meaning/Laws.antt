@@ -1,0 +1,35 @@
+-- What holds of texts.
+use Rattle.std.specs.Prelude.{◌≡◌, ℕ, List, [], ◌++◌}
+use Rattle.adya_values.specs.Meaning.Histories.{History}
+use Rattle.adya_text.specs.Meaning.Texts.{IsHistory, IsSerial, with_ends, history_text, serial_text}
+use Rattle.adya_text.specs.Meaning.Faults.{IsFaultLine}
+
+-- histories of one text are one history
+abbrev pub HistoriesDiffer : Type 0
+HistoriesDiffer = (g h : History) → IsHistory g → IsHistory h → history_text g ≡ history_text h → g ≡ h
+
+-- a history text that begins with another is that other
+abbrev pub NoHistoryBegins : Type 0
+NoHistoryBegins =
+    (g h : History) → IsHistory g → IsHistory h → (more : List ℕ) → history_text h ≡ history_text g ++ more
+    → more ≡ []
+
+-- certificates of one text are one certificate
+abbrev pub SerialsDiffer : Type 0
+SerialsDiffer = (ts us : List ℕ) → IsSerial ts → IsSerial us → serial_text ts ≡ serial_text us → ts ≡ us
+
+-- a certificate text that begins with another is that other
+abbrev pub NoSerialBegins : Type 0
+NoSerialBegins =
+    (ts us : List ℕ) → IsSerial ts → IsSerial us → (more : List ℕ) → serial_text us ≡ serial_text ts ++ more
+    → more ≡ []
+
+-- a text has one fault line at most
+abbrev pub HasOneFaultLine : (List (List ℕ) → Type 0) → Type 0
+HasOneFaultLine grammar =
+    (text : List ℕ) (j k : ℕ) → IsFaultLine grammar text j → IsFaultLine grammar text k → j ≡ k
+
+-- the text of lines of the grammar has no fault line
+abbrev pub HasNoFaultWithin : (List (List ℕ) → Type 0) → Type 0
+HasNoFaultWithin grammar =
+    (lines : List (List ℕ)) (k : ℕ) → grammar lines → IsFaultLine grammar (with_ends lines) k → ⊥

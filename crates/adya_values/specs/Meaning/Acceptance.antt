@@ -1,0 +1,24 @@
+-- When a history and a certificate are accepted, as values.
+use Rattle.std.specs.Prelude.{◌≡◌, ℕ, ◌==◌, ◌<◌, cond, List, count_by}
+use Rattle.adya_values.specs.Meaning.Histories.{History}
+use Rattle.adya_values.specs.Meaning.Events.{is_committed}
+use Rattle.adya_values.specs.Meaning.Orders.{place}
+use Rattle.adya_values.specs.Meaning.Edges.{Edge, IsEdge}
+use Rattle.adya_values.specs.Meaning.Rules.{IsWellFormed}
+use Rattle.adya_values.specs.Meaning.Phenomena.{HasG1a, HasG1b}
+
+-- a history that is well-formed without aborted and intermediate reads
+pub record IsChecked (h : History) : Type 0 where
+  pub well_formed : IsWellFormed h
+  pub no_aborted_read : HasG1a h → ⊥
+  pub no_intermediate_read : HasG1b h → ⊥
+
+abbrev pub IsBefore : List ℕ → ℕ → ℕ → Type 0
+IsBefore ts a b = place ts a < place ts b
+
+pub record IsAccepted (h : History) (ts : List ℕ) : Type 0 where
+  pub checked : IsChecked h
+  -- each committed transaction once, and no other
+  pub committed_once : (t : ℕ) → count_by (λ u. u == t) ts ≡ cond (is_committed h.events t) 1 0
+  -- each edge goes forward
+  pub forward : (e : Edge) → IsEdge h e → IsBefore ts e.from e.to

@@ -1,0 +1,66 @@
+-- The dependencies of a history: the edges of its direct serialization graph (Adya 1999, section 3.1.4),
+-- and cycles of them.
+use Rattle.std.specs.Prelude.{◌≡◌, ◌≢◌, ℕ, suc, true, List, [], ◌∷◌, Some, Contains}
+use Rattle.std.specs.List.{AllByRecursion}
+use Rattle.adya_values.specs.Meaning.Histories.{Event, History}
+use Rattle.adya_values.specs.Meaning.Events.{txn_of, is_committed}
+use Rattle.adya_values.specs.Meaning.Orders.{installer}
+use Rattle.adya_values.specs.Meaning.Selections.{selected, reads_from, overwritten_by}
+
+-- write dependency, read dependency, anti-dependency
+pub data Kind : Type 0 where
+  Ww : Kind
+  Wr : Kind
+  Rw : Kind
+
+pub record Edge : Type 0 where
+  pub from : ℕ
+  pub kind : Kind
+  pub key : List ℕ
+  pub to : ℕ
+
+-- from installed the version before that of to
+abbrev pub DependsByWrite : History → List ℕ → ℕ → ℕ → Type 0
+DependsByWrite h k from to = (q : ℕ) × (installer h k q ≡ Some from) × (installer h k (suc q) ≡ Some to)
+
+-- to reads, or selects by a scan, what from installed
+pub record DependsByRead (h : History) (k : List ℕ) (from to : ℕ) : Type 0 where
+  pub event : Event
+  pub place : ℕ
+  pub source : ℕ
+  pub occurs : Contains h.events event
+  pub reader : txn_of event ≡ to
+  pub committed : is_committed h.events to ≡ true
+  pub selects : selected h event k ≡ Some place
+  pub from_source : reads_from h event k place source ≡ true
+  pub installs : installer h k source ≡ Some from
+
+-- from reads, or selects by a scan, what to overwrites
+pub record DependsByOverwrite (h : History) (k : List ℕ) (from to : ℕ) : Type 0 where
+  pub event : Event
+  pub place : ℕ
+  pub next : ℕ
+  pub occurs : Contains h.events event
+  pub reader : txn_of event ≡ from
+  pub committed : is_committed h.events from ≡ true
+  pub selects : selected h event k ≡ Some place
+  pub overwritten : overwritten_by h event k place next ≡ true
+  pub installs : installer h k next ≡ Some to
+
+abbrev pub Depends : History → Kind → List ℕ → ℕ → ℕ → Type 0
+Depends h Ww k from to = DependsByWrite h k from to
+Depends h Wr k from to = DependsByRead h k from to
+Depends h Rw k from to = DependsByOverwrite h k from to
+
+-- an edge of the direct serialization graph
+abbrev pub IsEdge : History → Edge → Type 0
+IsEdge h e = (e.from ≢ e.to) × Depends h e.kind e.key e.from e.to
+
+abbrev pub IsPath : ℕ → List Edge → ℕ → Type 0
+IsPath a [] b = a ≡ b
+IsPath a (e ∷ es) b = (e.from ≡ a) × IsPath e.to es b
+
+-- a nonempty list of edges, each starting where the one before ends, the last ending where the first starts
+abbrev pub IsCycle : History → List Edge → Type 0
+IsCycle h [] = ⊥
+IsCycle h (e ∷ es) = AllByRecursion (IsEdge h) (e ∷ es) × IsPath e.from (e ∷ es) e.from

@@ -1,0 +1,96 @@
+-- What the events of a history write and read, and how its transactions end.
+use Rattle.std.specs.Prelude.{ℕ, ◌==◌, Bool, false, ◌&&◌, ◌||◌, if◌then◌else◌, List, [], ◌∷◌, Option, Some, None, filter, filter_map}
+use Rattle.std.specs.List.{list_any}
+use Rattle.adya_values.specs.declared.event.Version.{Version}
+use Rattle.adya_values.specs.Meaning.Keys.{key_eq}
+use Rattle.adya_values.specs.Meaning.Histories.{Content, Live, Dead, Entry, Event, Write, Delete, Read, Scan, Commit, Abort, History}
+
+-- whose event it is
+abbrev pub txn_of : Event → ℕ
+txn_of (Write t k m v) = t
+txn_of (Delete t k m) = t
+txn_of (Read t r v) = t
+txn_of (Scan t low high es) = t
+txn_of (Commit t) = t
+txn_of (Abort t) = t
+
+abbrev pub version : List ℕ → ℕ → ℕ → Version
+version k t m = record { key = k; txn = t; m = m }
+
+abbrev pub entry : Version → Content → Entry
+entry r c = record { version = r; content = c }
+
+-- the version that an event writes, with its content
+abbrev pub written : Event → Option Entry
+written (Write t k m v) = Some (entry (version k t m) (Live v))
+written (Delete t k m) = Some (entry (version k t m) Dead)
+written (Read t r v) = None
+written (Scan t low high es) = None
+written (Commit t) = None
+written (Abort t) = None
+
+-- the versions that an event reads or lists, with their contents
+abbrev pub observed : Event → List Entry
+observed (Write t k m v) = []
+observed (Delete t k m) = []
+observed (Read t r v) = entry r (Live v) ∷ []
+observed (Scan t low high es) = es
+observed (Commit t) = []
+observed (Abort t) = []
+
+-- the transaction's writes of the key, in order
+abbrev pub writes_of : ℕ → List ℕ → List Event → List Entry
+writes_of t k events = filter (λ w. w.version.txn == t && key_eq w.version.key k) (filter_map written events)
+
+abbrev pub last : {X : Type 0} → List X → Option X
+last [] = None
+last (x ∷ []) = Some x
+last (x ∷ y ∷ ys) = last (y ∷ ys)
+
+-- the transaction's last write of the key
+abbrev pub last_write : ℕ → List ℕ → List Event → Option Entry
+last_write t k events = last (writes_of t k events)
+
+abbrev pub commits : ℕ → Event → Bool
+commits t (Write u k m v) = false
+commits t (Delete u k m) = false
+commits t (Read u r v) = false
+commits t (Scan u low high es) = false
+commits t (Commit u) = u == t
+commits t (Abort u) = false
+
+abbrev pub aborts : ℕ → Event → Bool
+aborts t (Write u k m v) = false
+aborts t (Delete u k m) = false
+aborts t (Read u r v) = false
+aborts t (Scan u low high es) = false
+aborts t (Commit u) = false
+aborts t (Abort u) = u == t
+
+abbrev pub is_committed : List Event → ℕ → Bool
+is_committed events t = list_any (commits t) events
+
+-- the events have a commit or an abort of the transaction
+abbrev pub has_ended : List Event → ℕ → Bool
+has_ended events t = is_committed events t || list_any (aborts t) events
+
+abbrev pub is_unfinished : History → ℕ → Bool
+is_unfinished h t = list_any (λ u. u == t) h.unfinished
+
+-- an unfinished transaction counts as aborted
+abbrev pub is_aborted : History → ℕ → Bool
+is_aborted h t = list_any (aborts t) h.events || is_unfinished h t
+
+-- the entry of the key in a scan's list
+abbrev pub listed : List ℕ → List Entry → Option Entry
+listed k [] = None
+listed k (w ∷ ws) = if key_eq w.version.key k then Some w else listed k ws
+
+-- what is visible of a version: its value, or nothing where it is dead or unborn
+abbrev pub visible : Content → Option (List ℕ)
+visible (Live v) = Some v
+visible Dead = None
+
+abbrev pub shown : Option Entry → Option (List ℕ)
+shown None = None
+shown (Some w) = visible w.content

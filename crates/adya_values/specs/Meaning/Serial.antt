@@ -1,0 +1,67 @@
+-- The transactions run one at a time over one map, and what it is for a history to agree with that.
+use Rattle.std.specs.Prelude.{◌≡◌, ℕ, ◌==◌, true, if◌then◌else◌, ◌↔◌, List, [], ◌∷◌, Option, Some, None, filter, flat_map, Contains}
+use Rattle.std.specs.List.{filter_map}
+use Rattle.adya_values.specs.Meaning.Keys.{key_eq, lies_in}
+use Rattle.adya_values.specs.Meaning.Histories.{Entry, Event, Write, Delete, Read, Scan, Commit, Abort, FinalPair, History}
+use Rattle.adya_values.specs.Meaning.Events.{txn_of, visible}
+
+-- what each key holds
+abbrev pub Contents : Type 0
+Contents = List ℕ → Option (List ℕ)
+
+abbrev pub empty : Contents
+empty k = None
+
+abbrev pub put : Contents → List ℕ → Option (List ℕ) → Contents
+put m k v j = if key_eq k j then v else m j
+
+-- a write sets its key, and a delete removes it
+abbrev pub after : Contents → Event → Contents
+after m (Write t k n v) = put m k (Some v)
+after m (Delete t k n) = put m k None
+after m (Read t r v) = m
+after m (Scan t low high es) = m
+after m (Commit t) = m
+after m (Abort t) = m
+
+abbrev pub run : Contents → List Event → Contents
+run m [] = m
+run m (e ∷ es) = run (after m e) es
+
+-- the events of the transaction, in order
+abbrev pub events_of : List Event → ℕ → List Event
+events_of events t = filter (λ e. txn_of e == t) events
+
+-- the events of the transactions, one transaction after the other
+abbrev pub serial_events : History → List ℕ → List Event
+serial_events h ts = flat_map (events_of h.events) ts
+
+abbrev pub pair : List ℕ → List ℕ → FinalPair
+pair k v = record { key = k; value = v }
+
+abbrev pub visible_pair_of : List ℕ → Option (List ℕ) → Option FinalPair
+visible_pair_of k None = None
+visible_pair_of k (Some v) = Some (pair k v)
+
+-- the visible pairs of a scan's list
+abbrev pub visible_pairs : List Entry → List FinalPair
+visible_pairs es = filter_map (λ w. visible_pair_of w.version.key (visible w.content)) es
+
+-- a read finds its value; at a scan the pairs of the map within the range are exactly the visible pairs of its list
+abbrev pub Sees : Contents → Event → Type 0
+Sees m (Read t r v) = m r.key ≡ Some v
+Sees m (Scan t low high es) = (k v : List ℕ) → ((lies_in low high k ≡ true) × (m k ≡ Some v)) ↔ Contains (visible_pairs es) (pair k v)
+Sees m (Write t k n v) = Unit {0}
+Sees m (Delete t k n) = Unit {0}
+Sees m (Commit t) = Unit {0}
+Sees m (Abort t) = Unit {0}
+
+-- each event sees the map as it then is
+abbrev pub AllSee : Contents → List Event → Type 0
+AllSee m [] = Unit {0}
+AllSee m (e ∷ es) = Sees m e × AllSee (after m e) es
+
+-- the transactions, run one at a time in this order, give every read, every scan and the final contents
+pub record Agrees (h : History) (ts : List ℕ) : Type 0 where
+  pub sees : AllSee empty (serial_events h ts)
+  pub finals : (k v : List ℕ) → (run empty (serial_events h ts) k ≡ Some v) ↔ Contains h.finals (pair k v)

@@ -1,0 +1,209 @@
+//! Histories.
+
+ghost use Rattle.std.specs.Prelude.{◌≡◌, ◌↔◌, true, length, map, IsOk, IfOk, IfErr, ◌==◌, ◌&&◌, not, [], nat_lt, ◌∷◌};
+ghost use Rattle.std.specs.List.{list_all};
+ghost use Rattle.adya_values.specs.Meaning.Keys.{key_lt, keys_rise};
+ghost use Rattle.adya_values.specs.Meaning.Histories.{order_of, final_of};
+ghost use Rattle.adya_values.specs.Meaning.Shapes.{is_shape, numbers_rise, fits_edition};
+
+use crate::order::{FinalPair, Order};
+use crate::{Edition, Event, Key, Txn};
+
+/// A history has no such lists: an order names no writer, or the keys of the orders, those of the finals or the
+/// unfinished transactions don't rise strictly. It gives the lists back.
+#[derive(Drop)]
+pub struct BadShape {
+    /// The events, as given.
+    pub events: Vec<Event>,
+    /// The unfinished transactions, as given; empty where the history was to be of the first edition.
+    pub unfinished: Vec<Txn>,
+    /// The orders, as given.
+    pub orders: Vec<Order>,
+    /// The finals, as given.
+    pub finals: Vec<FinalPair>,
+}
+
+/// A history (Adya 1999, section 3.1): events in one list, the version orders of the keys, and what the keys hold
+/// after all. The keys of the orders rise strictly, as do those of the finals. In the second edition transactions
+/// may be unfinished: they count as aborted.
+#[derive(Drop)]
+pub struct History {
+    edition: Edition,
+    events: Vec<Event>,
+    unfinished: Vec<Txn>,
+    orders: Vec<Order>,
+    finals: Vec<FinalPair>,
+    pub ghost edited: { fits_edition edition unfinished.items ≡ true },
+    pub ghost shape: { is_shape (map order_of orders.items) (map final_of finals.items) ≡ true },
+}
+
+impl History {
+    /// The history of the first edition with these lists; `BadShape` with the lists where an order names no writer,
+    /// or the keys of the orders or of the finals don't rise strictly.
+    pub fn new(
+        events: Vec<Event>,
+        orders: Vec<Order>,
+        finals: Vec<FinalPair>,
+    ) -> Result<History, BadShape>
+        ensures limits { IsOk result ↔ (is_shape (map order_of orders.items) (map final_of finals.items) ≡ true) }
+        ensures edition { IfOk result (λ h. (h.edition ≡ Edition.One) × (h.unfinished.items ≡ [])) }
+        ensures same { IfOk result (λ h. (h.events ≡ events) × (h.orders ≡ orders) × (h.finals ≡ finals)) }
+        ensures back { IfErr result (λ b. (b.events ≡ events) × (b.orders ≡ orders) × (b.finals ≡ finals)) }
+    {
+        let unfinished = Vec::new(*events.allocator());
+        if !is_shape(&orders, &finals) {
+            return Err(BadShape {
+                events,
+                unfinished,
+                orders,
+                finals,
+            });
+        }
+        Ok(History {
+            edition: Edition::One,
+            events,
+            unfinished,
+            orders,
+            finals,
+        })
+    }
+
+    /// The history of the second edition with these lists; `BadShape` with the lists where an order names no writer,
+    /// or the unfinished transactions, the keys of the orders or those of the finals don't rise strictly.
+    pub fn new_two(
+        events: Vec<Event>,
+        unfinished: Vec<Txn>,
+        orders: Vec<Order>,
+        finals: Vec<FinalPair>,
+    ) -> Result<History, BadShape>
+        ensures limits { IsOk result
+            ↔ ((numbers_rise unfinished.items && is_shape (map order_of orders.items) (map final_of finals.items)) ≡ true) }
+        ensures edition { IfOk result (λ h. h.edition ≡ Edition.Two) }
+        ensures same { IfOk result (λ h. (h.events ≡ events) × (h.unfinished ≡ unfinished) × (h.orders ≡ orders) × (h.finals ≡ finals)) }
+        ensures back { IfErr result (λ b. (b.events ≡ events) × (b.unfinished ≡ unfinished) × (b.orders ≡ orders) × (b.finals ≡ finals)) }
+    {
+        if !numbers_rise(&unfinished) || !is_shape(&orders, &finals) {
+            return Err(BadShape {
+                events,
+                unfinished,
+                orders,
+                finals,
+            });
+        }
+        Ok(History {
+            edition: Edition::Two,
+            events,
+            unfinished,
+            orders,
+            finals,
+        })
+    }
+
+    /// The edition of the history's text.
+    pub fn edition(&self) -> Edition
+        ensures { result ≡ self.now.edition }
+    {
+        self.edition
+    }
+
+    /// The unfinished transactions, rising; none in the first edition.
+    pub fn unfinished(&self) -> &[Txn]
+        ensures value { result.now ≡ self.now.unfinished.items }
+        ensures edited { fits_edition self.now.edition self.now.unfinished.items ≡ true }
+    {
+        &self.unfinished
+    }
+
+    /// The events, in the order in which they happened.
+    pub fn events(&self) -> &[Event]
+        ensures { result.now ≡ self.now.events.items }
+    {
+        &self.events
+    }
+
+    /// The version orders, by rising key.
+    pub fn orders(&self) -> &[Order]
+        ensures value { result.now ≡ self.now.orders.items }
+        ensures shape { is_shape (map order_of self.now.orders.items) (map final_of self.now.finals.items) ≡ true }
+    {
+        &self.orders
+    }
+
+    /// What the keys hold after all, by rising key.
+    pub fn finals(&self) -> &[FinalPair]
+        ensures { result.now ≡ self.now.finals.items }
+    {
+        &self.finals
+    }
+}
+
+fn numbers_rise(txns: &[Txn]) -> bool
+    ensures { result ≡ numbers_rise txns.now }
+{
+    let [first, rest @ ..] = txns else {
+        return true;
+    };
+    let mut last = *first;
+    for t in rest {
+        if *t <= last {
+            return false;
+        }
+        last = *t;
+    }
+    true
+}
+
+fn is_shape(orders: &[Order], finals: &[FinalPair]) -> bool
+    ensures { result ≡ is_shape (map order_of orders.now) (map final_of finals.now) }
+{
+    all_have_writers(orders) && order_keys_rise(orders) && final_keys_rise(finals)
+}
+
+fn all_have_writers(orders: &[Order]) -> bool
+    ensures { result ≡ list_all (λ o. not (length o.writers == 0)) (map order_of orders.now) }
+{
+    for o in orders {
+        if o.writers.as_slice().is_empty() {
+            return false;
+        }
+    }
+    true
+}
+
+fn is_below(low: Key, high: Key) -> bool
+    ensures { result ≡ key_lt low high }
+{
+    low < high
+}
+
+fn order_keys_rise(orders: &[Order]) -> bool
+    ensures { result ≡ keys_rise (map (λ o. o.key) (map order_of orders.now)) }
+{
+    let [first, rest @ ..] = orders else {
+        return true;
+    };
+    let mut last = first.key;
+    for o in rest {
+        if !is_below(last, o.key) {
+            return false;
+        }
+        last = o.key;
+    }
+    true
+}
+
+fn final_keys_rise(finals: &[FinalPair]) -> bool
+    ensures { result ≡ keys_rise (map (λ f. f.key) (map final_of finals.now)) }
+{
+    let [first, rest @ ..] = finals else {
+        return true;
+    };
+    let mut last = first.key;
+    for f in rest {
+        if !is_below(last, f.key) {
+            return false;
+        }
+        last = f.key;
+    }
+    true
+}

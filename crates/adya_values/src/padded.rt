@@ -1,0 +1,14 @@
+//! A text at the front of an array.
+
+ghost use Rattle.std.specs.Prelude.{◌≡◌, ◌≤◌, length};
+ghost use Rattle.adya_values.specs.Machinery.Padded.{padded};
+
+/// The text, and zeros behind it.
+pub(crate) fn padded<const N: usize>(text: &[u8]) -> [u8; N]
+    requires { length text.now ≤ N }
+    ensures { result ≡ padded N text.now }
+{
+    let mut bytes = [0; N];
+    bytes[..text.len()].copy_from_slice(text);
+    bytes
+}

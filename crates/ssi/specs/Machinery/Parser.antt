@@ -1,0 +1,31 @@
+-- The command line as the parser knows it.
+use Rattle.std.specs.Prelude.{true, List, Option, Some, None, codes, unwrap_or, if◌then◌else◌}
+use Rattle.std.specs.Str.{bytes_eq}
+use Rattle.clap.specs.Words.{App, Row, Rule, Text, first_of, new_app, new_rule, with_rule, with_subcommand}
+use Rattle.ssi.specs.Meaning.Words.{Request, pipe, audit, order}
+
+-- a path that must be there
+abbrev pub file_rule : Text → Rule
+file_rule name = record (new_rule name) { required = true }
+
+abbrev pub audit_app : App
+audit_app =
+    with_rule (with_rule (new_app (codes "audit")) (file_rule (codes "HISTORY"))) (file_rule (codes "CERTIFICATE"))
+
+abbrev pub order_app : App
+order_app = with_rule (new_app (codes "order")) (file_rule (codes "HISTORY"))
+
+-- no paths of its own, and two commands
+abbrev pub ssi_app : App
+ssi_app = with_subcommand (with_subcommand (new_app (codes "ssi")) audit_app.top) order_app.top
+
+-- the path of this name in the matches of a command
+abbrev pub path_in : List Row → Text → Text
+path_in rows name = unwrap_or (first_of name rows) (codes "")
+
+-- the request in the name and the matches of the command that was met
+abbrev pub request_in : Option (Text × List Row) → Request
+request_in None = pipe
+request_in (Some (name, rows)) =
+    if bytes_eq name (codes "audit") then audit (path_in rows (codes "HISTORY")) (path_in rows (codes "CERTIFICATE"))
+    else order (path_in rows (codes "HISTORY"))
