@@ -10,7 +10,7 @@ use Rattle.adya_values.specs.Meaning.Edges.{Edge}
 use Rattle.adya_values.specs.Computing.Faults.{first_fault}
 use Rattle.adya_values.specs.Computing.Certificates.{lists_the_committed, first_backward}
 use Rattle.adya_values.specs.Meaning.Acceptance.{IsAccepted}
-use Rattle.adya_terms.specs.Meaning.Laws.{CheckedIfNoFault, CheckedWhereNoFault}
+use Rattle.adya_rules.specs.Meaning.Laws.{CheckedIfNoFault, CheckedWhereNoFault}
 use Rattle.adya_laws.specs.Meaning.Laws.{AcceptedWhereForward}
 use Rattle.adya_audit.specs.declared.verdict.Verdict.{Verdict as VerdictValue}
 use Rattle.adya_audit.specs.declared.verdict.Verdict.TheVariants as Said

@@ -13,17 +13,18 @@ use Rattle.adya_values.specs.Meaning.Events.{written, last_write, is_committed}
 use Rattle.adya_values.specs.Meaning.Rules.{installs}
 use Rattle.adya_values.specs.Computing.Faults.{lists_exactly, order_faults}
 use Rattle.adya_terms.specs.Machinery.Checks.{listed, listed_by, is_unlisted, belongs}
-use Rattle.adya_terms.proofs.Lists.{none_contained, all_pass, list_all_when, list_any_source, list_any_when, Contains-slice_get, Contains-cons}
-use Rattle.adya_terms.proofs.Counts.{count, count_place, exactly_from_test, test_from_exactly}
-use Rattle.adya_terms.proofs.Entries.{key_same, same_key, other_key, last_write_from, last_write_there, committed_source}
-use Rattle.adya_terms.proofs.Lines.{key_lt-apart, rises_below, keys_rise-tail}
-use Rattle.adya_terms.proofs.Checking.{some_of, each_passes}
-use Rattle.adya_terms.proofs.Converse.{or_unless, some_from_not_none}
-
-pub same_test : (a b : Bool) → (a ≡ true → b ≡ true) → (b ≡ true → a ≡ true) → a ≡ b
-same_test true b f g = sym (f refl)
-same_test false true f g = g refl
-same_test false false f g = refl
+use Rattle.lemmas.proofs.Booleans.{same_test}
+use Rattle.adya_values.proofs.Writes.{has_last_write}
+use Rattle.adya_values.proofs.Faults.{each_passes}
+use Rattle.adya_values.proofs.Keys.{rises_below, keys_rise-tail}
+use Rattle.adya_values.proofs.ListsExactly.{counts_from_test, test_from_counts}
+use Rattle.adya_values.proofs.Writes.{last_write_from, committed_source}
+use Rattle.lemmas.proofs.Booleans.{or_unless}
+use Rattle.lemmas.proofs.Counts.{count, count_place}
+use Rattle.lemmas.proofs.Members.{none_contained, Contains-slice_get, Contains-cons}
+use Rattle.lemmas.proofs.Options.{some_value}
+use Rattle.lemmas.proofs.Orderings.{bytes_eq-same, bytes_eq-from, bytes_eq-other, bytes_lt-apart}
+use Rattle.lemmas.proofs.Tests.{all_pass, list_all_when, list_any-source, list_any_when}
 
 listed_cons : (x : Order) (os : List Order) (t : ℕ) (k : List ℕ) → listed (x ∷ os) t k ≡ listed_by t k x + listed os t k
 listed_cons x os t k = sum_by-cons (listed_by t k) x os
@@ -32,7 +33,7 @@ none_listed : (os : List Order) (t : ℕ) (k : List ℕ) → ((o : Order) → Co
 none_listed [] t k apart = refl
 none_listed (x ∷ os) t k apart =
     let rest = none_listed os t k (λ o c. apart o (Contains-cons x os o c)) in
-    let here : listed_by t k x ≡ 0 = ap (λ b. cond b (count x.writers t) 0) (other_key x.key k (λ e. apart x (0, omega arith, refl) (sym e))) in
+    let here : listed_by t k x ≡ 0 = ap (λ b. cond b (count x.writers t) 0) (bytes_eq-other x.key k (λ e. apart x (0, omega arith, refl) (sym e))) in
     let cons = listed_cons x os t k in
     omega (arith, cons, here, rest)
 
@@ -41,16 +42,16 @@ pub listed_line : (os : List Order) (o : Order) (t : ℕ) → keys_rise (map (λ
 listed_line [] o t r c = absurd (none_contained o c)
 listed_line (x ∷ os) o t r (zero, l, e) =
     let k : x.key ≡ o.key = ap (λ (y : Order). y.key) e in
-    let rest = none_listed os t o.key (λ y c same. key_lt-apart x.key y.key (rises_below (λ (z : Order). z.key) x os y r c) (k ∙ same)) in
+    let rest = none_listed os t o.key (λ y c same. bytes_lt-apart x.key y.key (rises_below (λ (z : Order). z.key) x os y r c) (k ∙ same)) in
     let here : listed_by t o.key x ≡ count o.writers t =
-    ap (λ b. cond b (count x.writers t) 0) (same_key x.key o.key k) ∙ ap (λ (y : Order). count y.writers t) e in
+    ap (λ b. cond b (count x.writers t) 0) (bytes_eq-from x.key o.key k) ∙ ap (λ (y : Order). count y.writers t) e in
     let cons = listed_cons x os t o.key in
     omega (arith, cons, here, rest)
 listed_line (x ∷ os) o t r (suc i, l, e) =
     let c : Contains os o = (i, omega (arith, l), e) in
     let rest = listed_line os o t (keys_rise-tail x.key (map (λ y. y.key) os) r) c in
     let here : listed_by t o.key x ≡ 0 =
-    ap (λ b. cond b (count x.writers t) 0) (other_key x.key o.key (key_lt-apart _ _ (rises_below (λ (y : Order). y.key) x os o r c))) in
+    ap (λ b. cond b (count x.writers t) 0) (bytes_eq-other x.key o.key (bytes_lt-apart _ _ (rises_below (λ (y : Order). y.key) x os o r c))) in
     let cons = listed_cons x os t o.key in
     omega (arith, cons, here, rest)
 
@@ -59,26 +60,26 @@ left_out : (all : List Event) (os : List Order) (k : List ℕ) (t : ℕ) → ins
     → list_any (is_unlisted all os k) (filter_map written all) ≡ true
 left_out all os k t i none =
     let both = and_parts (is_committed all t) (is_some (last_write t k all)) i in
-    let last = some_of (last_write t k all) both.1 in
+    let last = some_value (last_write t k all) both.1 in
     let w = last_write_from t k all last.0 last.1 in
     let zero_is : listed os last.0.version.txn last.0.version.key ≡ 0 =
     ap (λ u. listed os u last.0.version.key) w.txn_is ∙ (ap (listed os t) w.key_is ∙ none) in
     list_any_when (is_unlisted all os k) (filter_map written all) last.0 w.there
-    (and_from _ _ (ap (is_committed all) w.txn_is ∙ both.0) (and_from _ _ (eq-eqb _ _ zero_is) (same_key last.0.version.key k w.key_is)))
+    (and_from _ _ (ap (is_committed all) w.txn_is ∙ both.0) (and_from _ _ (eq-eqb _ _ zero_is) (bytes_eq-from last.0.version.key k w.key_is)))
 
 -- where writers are counted right, none is left out
 none_out : (all : List Event) (os : List Order) (k : List ℕ) → ((t : ℕ) → listed os t k ≡ cond (installs all k t) 1 0)
     → list_any (is_unlisted all os k) (filter_map written all) ≡ true → ⊥
 none_out all os k right out =
-    let at = list_any_source (is_unlisted all os k) (filter_map written all) out in
+    let at = list_any-source (is_unlisted all os k) (filter_map written all) out in
     let w = at.0 in
     let both = and_parts _ _ at.2 in
     let rest = and_parts _ _ both.1 in
-    let j : w.version.key ≡ k = key_same w.version.key k rest.1 in
+    let j : w.version.key ≡ k = bytes_eq-same w.version.key k rest.1 in
     let none : listed os w.version.txn k ≡ 0 = ap (listed os w.version.txn) (sym j) ∙ eqb-true _ _ rest.0 in
     let last : is_some (last_write w.version.txn k all) ≡ true =
     ap (λ i. is_some (last_write w.version.txn i all)) (sym j) ∙
-    some_from_not_none (last_write w.version.txn w.version.key all) (last_write_there all w at.1) in
+    has_last_write all w at.1 in
     let one : listed os w.version.txn k ≡ 1 = right w.version.txn ∙ ap (λ b. cond b 1 0) (and_from _ _ both.0 last) in
     omega (arith, none, one)
 
@@ -92,7 +93,7 @@ exact_line all os o r c =
     same_test (list_all (belongs all os k) xs && not out) (lists_exactly (installs all k) xs all)
     (λ h.
     let both = and_parts (list_all (belongs all os k) xs) (not out) h in
-    test_from_exactly (installs all k) xs all
+    test_from_counts (installs all k) xs all
     (λ t. elim (cases_lt 0 (count xs t)) [
       | inl more ↦
           let at = count_place xs t more in
@@ -106,7 +107,7 @@ exact_line all os o r c =
     ]))
     (λ h.
     let right : (t : ℕ) → count xs t ≡ cond (installs all k t) 1 0 =
-    exactly_from_test (installs all k) xs all (λ t i. committed_source all t (and_parts (is_committed all t) (is_some (last_write t k all)) i).0) h in
+    counts_from_test (installs all k) xs all (λ t i. committed_source all t (and_parts (is_committed all t) (is_some (last_write t k all)) i).0) h in
     let counted : (t : ℕ) → listed os t k ≡ cond (installs all k t) 1 0 = λ t. line t ∙ right t in
     and_from _ _ (list_all_when (belongs all os k) xs (λ t d. eq-eqb _ _ (counted t)))
     (elim (cases_Bool out) [ inl t ↦ absurd (none_out all os k counted t) | inr f ↦ ap not f ]))
@@ -118,7 +119,7 @@ listed_has_line os t k some =
       | inl there ↦ there
       | inr none ↦
           absurd (some (none_listed os t k (λ o c same.
-          both_ways _ none (list_any_when (λ x. key_eq x.key k) os o c (same_key o.key k (sym same))))))
+          both_ways _ none (list_any_when (λ x. key_eq x.key k) os o c (bytes_eq-from o.key k (sym same))))))
     ]
 
 -- the key of the write has a line, if its transaction is committed
@@ -138,7 +139,7 @@ lines_where_none_out all os none =
     listed_has_line os t k
     (λ zero_is.
     both_ways _ (none k)
-    (list_any_when (is_unlisted all os k) (filter_map written all) w c (and_from _ _ done (and_from _ _ (eq-eqb _ _ zero_is) (same_key k k refl)))))))
+    (list_any_when (is_unlisted all os k) (filter_map written all) w c (and_from _ _ done (and_from _ _ (eq-eqb _ _ zero_is) (bytes_eq-from k k refl)))))))
 
 -- where the lines are right, a committed write that is left out has none of its key
 pub no_line_where_out : (all : List Event) (os : List Order) → keys_rise (map (λ x. x.key) os) ≡ true
@@ -146,16 +147,16 @@ pub no_line_where_out : (all : List Event) (os : List Order) → keys_rise (map 
     → (k : List ℕ) → list_any (is_unlisted all os k) (filter_map written all) ≡ true
     → list_all (has_line all os) (filter_map written all) ≡ false
 no_line_where_out all os rise right k out =
-    let at = list_any_source (is_unlisted all os k) (filter_map written all) out in
+    let at = list_any-source (is_unlisted all os k) (filter_map written all) out in
     let w = at.0 in
     let both = and_parts _ _ at.2 in
-    let j : w.version.key ≡ k = key_same w.version.key k (and_parts _ _ both.1).1 in
+    let j : w.version.key ≡ k = bytes_eq-same w.version.key k (and_parts _ _ both.1).1 in
     false_from_ne_true _ (λ lines.
     elim (or_cases _ _ (all_pass (has_line all os) (filter_map written all) w lines at.1)) [
       | inl undone ↦ both_ways _ (not-true _ undone) both.0
       | inr line ↦
-          let o = list_any_source (λ x. key_eq x.key w.version.key) os line in
-          let same : o.0.key ≡ k = key_same o.0.key w.version.key o.2 ∙ j in
+          let o = list_any-source (λ x. key_eq x.key w.version.key) os line in
+          let same : o.0.key ≡ k = bytes_eq-same o.0.key w.version.key o.2 ∙ j in
           let here : list_any (is_unlisted all os o.0.key) (filter_map written all) ≡ true =
           ap (λ i. list_any (is_unlisted all os i) (filter_map written all)) same ∙ out in
           let exact = exact_line all os o.0 rise o.1 ∙ right o.0 o.1 in
@@ -172,7 +173,7 @@ lines_right all line os none o c =
 pub none_in_set : (s : BTreeSet (List ℕ)) (k : List ℕ) → (0 < btree_set_len s → false ≡ true) → contains (slice_cmp nat_cmp) s k ≡ false
 none_in_set s k empty =
     false_from_ne_true _ (λ there.
-    let at = list_any_source (λ j. is_eq (slice_cmp nat_cmp k j)) s.keys there in
+    let at = list_any-source (λ j. is_eq (slice_cmp nat_cmp k j)) s.keys there in
     let l = at.1.1 in
     let more : 0 < length s.keys = omega (arith, l) in
     cc (empty more))

@@ -9,18 +9,12 @@ use Rattle.adya_values.specs.Meaning.Events.{has_ended}
 use Rattle.adya_values.specs.Meaning.Rules.{installs}
 use Rattle.adya_values.specs.Computing.Faults.{first, faults_at, event_faults, fault_unless, lists_exactly, order_faults, unfinished_faults}
 use Rattle.adya_terms.specs.Machinery.Checks.{Names}
-use Rattle.adya_values.proofs.Steps.{drop_step}
-use Rattle.adya_terms.proofs.Turns.{Turn}
-
-pub first_front : {X : Type 0} (xs ys : List X) (x : X) → first xs ≡ Some x → first (xs ++ ys) ≡ Some x
-first_front [] ys x e = absurd (cc (e))
-first_front (z ∷ xs) ys x e = e
-
-pub first_rest : {X : Type 0} (xs ys : List X) (x : X) → xs ≡ [] → first ys ≡ Some x → first (xs ++ ys) ≡ Some x
-first_rest xs ys x none e = subst (λ zs. first (zs ++ ys) ≡ Some x) (sym none) e
+use Rattle.lemmas.proofs.Steps.{drop_step}
+use Rattle.lemmas.proofs.Steps.{IsTurn}
+use Rattle.adya_values.proofs.Faults.{first_left}
 
 -- the faults from an event on
-faults_from : (all : List Event) (i : ℕ) (e : Event) → Turn all i e
+faults_from : (all : List Event) (i : ℕ) (e : Event) → IsTurn all i e
     → event_faults (take i all) (2 + i) (drop i all) ≡ faults_at (take i all) (2 + i) e ++ event_faults (take (i + 1) all) (2 + (i + 1)) (drop (i + 1) all)
 faults_from all i e t =
     let line : suc (2 + i) ≡ 2 + (i + 1) = omega arith in
@@ -28,12 +22,12 @@ faults_from all i e t =
     (ap (λ n. faults_at (take i all) (2 + i) e ++ event_faults (take i all ++ e ∷ []) n (drop (i + 1) all)) line ∙
     ap (λ b. faults_at (take i all) (2 + i) e ++ event_faults b (2 + (i + 1)) (drop (i + 1) all)) (sym t.front))
 
-pub fault_here : (all : List Event) (i : ℕ) (e : Event) → Turn all i e → (fault : CheckFault) → first (faults_at (take i all) (2 + i) e) ≡ Some fault
+pub fault_here : (all : List Event) (i : ℕ) (e : Event) → IsTurn all i e → (fault : CheckFault) → first (faults_at (take i all) (2 + i) e) ≡ Some fault
     → first (event_faults (take i all) (2 + i) (drop i all)) ≡ Some fault
 fault_here all i e t fault h =
-    ap first (faults_from all i e t) ∙ first_front (faults_at (take i all) (2 + i) e) (event_faults (take (i + 1) all) (2 + (i + 1)) (drop (i + 1) all)) fault h
+    ap first (faults_from all i e t) ∙ first_left (faults_at (take i all) (2 + i) e) (event_faults (take (i + 1) all) (2 + (i + 1)) (drop (i + 1) all)) fault h
 
-pub fault_later : (all : List Event) (i : ℕ) (e : Event) → Turn all i e → faults_at (take i all) (2 + i) e ≡ []
+pub fault_later : (all : List Event) (i : ℕ) (e : Event) → IsTurn all i e → faults_at (take i all) (2 + i) e ≡ []
     → event_faults (take i all) (2 + i) (drop i all) ≡ event_faults (take (i + 1) all) (2 + (i + 1)) (drop (i + 1) all)
 fault_later all i e t h =
     faults_from all i e t ∙ ap (λ fs. fs ++ event_faults (take (i + 1) all) (2 + (i + 1)) (drop (i + 1) all)) h
@@ -44,13 +38,13 @@ names_broken fs line rule r h (inl e) = subst (Names fs) (sym e) h
 names_broken fs line rule r h (inr e) = subst (Names fs) (sym e) tt
 
 -- the faults of lines, where the line of the element is broken or not
-pub order_here : (all : List Event) (line : ℕ) (os : List Order) (i : ℕ) (o : Order) → Turn os i o → lists_exactly (installs all o.key) o.writers all ≡ false
+pub order_here : (all : List Event) (line : ℕ) (os : List Order) (i : ℕ) (o : Order) → IsTurn os i o → lists_exactly (installs all o.key) o.writers all ≡ false
     → first (order_faults all line (drop i os)) ≡ Some (Malformed line M7)
 order_here all line os i o t e =
     ap (λ xs. first (order_faults all line xs)) t.rest ∙
     ap (λ b. first (fault_unless b line M7 ++ order_faults all (suc line) (drop (i + 1) os))) e
 
-pub order_later : (all : List Event) (line : ℕ) (os : List Order) (i : ℕ) (o : Order) → Turn os i o → lists_exactly (installs all o.key) o.writers all ≡ true
+pub order_later : (all : List Event) (line : ℕ) (os : List Order) (i : ℕ) (o : Order) → IsTurn os i o → lists_exactly (installs all o.key) o.writers all ≡ true
     → order_faults all (line + i) (drop i os) ≡ order_faults all (line + (i + 1)) (drop (i + 1) os)
 order_later all line os i o t e =
     let next : suc (line + i) ≡ line + (i + 1) = omega arith in
@@ -60,9 +54,9 @@ order_later all line os i o t e =
 
 -- what is found of a list, behind one with no fault or before any
 pub names_front : (xs ys : List CheckFault) (e : CheckFault) → Names xs e → Names (xs ++ ys) e
-names_front xs ys (Malformed line rule) h = first_front xs ys _ h
-names_front xs ys (AbortedRead line version) h = first_front xs ys _ h
-names_front xs ys (IntermediateRead line version) h = first_front xs ys _ h
+names_front xs ys (Malformed line rule) h = first_left xs ys _ h
+names_front xs ys (AbortedRead line version) h = first_left xs ys _ h
+names_front xs ys (IntermediateRead line version) h = first_left xs ys _ h
 names_front xs ys Memory h = tt
 
 pub found_behind : (r : Result (Unit {0}) CheckFault) (xs ys : List CheckFault) → xs ≡ [] → MatchResult r (λ u. ys ≡ []) (Names ys)

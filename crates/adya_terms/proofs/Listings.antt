@@ -2,7 +2,7 @@
 use Rattle.std.proofs.Common.{◌≡◌, ℕ, zero, suc, ◌+◌, ◌==◌, Bool, true, false, cond, not, is_some, ◌&&◌, ◌||◌, List, [], ◌∷◌, ◌++◌, Option, Some, None, refl, sym, ◌∙◌, ap, inl, inr, arith}
 use Rattle.std.specs.List.{cons_option, filter_map, list_any}
 use Rattle.std.proofs.lemmas.Bool.{cases_Bool, and_parts, eqb-true, ne_eqb}
-use Rattle.std.proofs.Math.Bool.{not-not, or-false, or-true}
+use Rattle.std.proofs.Math.Bool.{not-not, or-false}
 use Rattle.std.proofs.lemmas.List.Folds.{list_any-append}
 use Rattle.std.proofs.lemmas.List.Sums.{sum_by-append, sum_by-cons}
 use Rattle.adya_terms.specs.declared.tables.Own.{Own}
@@ -12,9 +12,9 @@ use Rattle.adya_terms.specs.Machinery.Tables.{own, own_eq}
 use Rattle.adya_values.specs.Meaning.Histories.{Entry, Event, Order}
 use Rattle.adya_values.specs.Meaning.Events.{written}
 use Rattle.adya_terms.specs.Machinery.Checks.{times, once_more, listed, listed_by, is_some_and}
-use Rattle.adya_terms.proofs.Counts.{count}
-use Rattle.adya_terms.proofs.Entries.{key_same}
 use Rattle.adya_terms.proofs.Tells.{written_more}
+use Rattle.lemmas.proofs.Counts.{count}
+use Rattle.lemmas.proofs.Orderings.{bytes_eq-same}
 
 times_more : (n : ℕ) → Some (once_more (times n)) ≡ times (n + 1)
 times_more zero = refl
@@ -50,7 +50,7 @@ list_next g g' u key xs n old new t k =
     elim (cases_Bool hit) [
       | inl h ↦
           let both = and_parts _ _ h in
-          let it : own u key ≡ own t k = ap (λ v. own v key) (eqb-true _ _ both.0) ∙ ap (own t) (key_same _ _ both.1) in
+          let it : own u key ≡ own t k = ap (λ v. own v key) (eqb-true _ _ both.0) ∙ ap (own t) (bytes_eq-same _ _ both.1) in
           ap (λ b. cond b (Some (once_more (g (own u key)))) (g (own t k))) h ∙
           (ap (λ q. Some (once_more (g q))) it ∙
           (ap (λ o. Some (once_more o)) (old t k) ∙
@@ -75,10 +75,6 @@ some_times (suc (suc n)) = ap not (sym (ne_eqb (suc (suc n)) 0 (λ e. omega (ari
 -- whether a map that tells how often has the transaction
 pub not_listed : (n : ℕ) (b r : Bool) → b ≡ is_some (times n) → b ≡ r → (n == 0) ≡ not r
 not_listed n b r e f = sym (not-not (n == 0)) ∙ ap not (sym (some_times n) ∙ (sym e ∙ f))
-
-pub cond_or : (b x : Bool) → cond b true x ≡ (x || b)
-cond_or true x = sym (or-true x)
-cond_or false x = sym (or-false x)
 
 any_one : (test : Entry → Bool) (o : Option Entry) → list_any test (cons_option o []) ≡ is_some_and test o
 any_one test None = refl

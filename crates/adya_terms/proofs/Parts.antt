@@ -1,5 +1,5 @@
 -- What the parts of a check say, in the words of the whole.
-use Rattle.std.proofs.Common.{◌≡◌, ℕ, true, List, [], ◌++◌, Option, Some, None, is_none, refl, sym, ◌∙◌, ap, subst}
+use Rattle.std.proofs.Common.{◌≡◌, ℕ, List, [], ◌++◌, None, sym, ◌∙◌, ap, subst}
 use Rattle.adya_values.specs.declared.event.Event.{Event as EventValue}
 use Rattle.adya_values.specs.declared.order.Order.{Order as OrderValue}
 use Rattle.adya_values.specs.declared.order.FinalPair.{FinalPair as FinalValue}
@@ -11,8 +11,8 @@ use Rattle.adya_terms.specs.Machinery.Checks.{IsFault, Names, whole, final_value
 use Rattle.std.proofs.lemmas.List.{append_assoc}
 use Rattle.adya_values.specs.declared.fault.Rule.TheVariants.{M6, M7}
 use Rattle.adya_values.specs.declared.fault.CheckFault.{CheckFault}
-use Rattle.adya_terms.proofs.Converse.{both_nil}
 use Rattle.adya_terms.proofs.Firsts.{names_front, names_behind}
+use Rattle.lemmas.proofs.Lists.{both_nil}
 
 module _ (h : History) where
   abbrev behind_events : List CheckFault
@@ -54,10 +54,6 @@ module _ (h : History) where
           sym rules_joined ∙
           both_nil (event_faults [] 2 h.events) behind_events none
           (both_nil (unfinished_faults h.events (unfinished_line h) h.unfinished) (rule_faults h (orders_line h)) ended rules)
-
-pub none_from : {X : Type 0} (o : Option X) → is_none o ≡ true → o ≡ None
-none_from None e = refl
-none_from (Some x) e = absurd (cc (e))
 
 -- what is found of the lists of a history is found of it
 module _ (h : HistoryValue) (es : List EventValue) (us : List ℕ) (os : List OrderValue) (fs : List FinalValue)

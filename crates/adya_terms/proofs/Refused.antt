@@ -6,10 +6,10 @@ use Rattle.adya_values.specs.Meaning.Histories.{Entry, Event}
 use Rattle.adya_values.specs.Meaning.Events.{txn_of, observed, is_committed}
 use Rattle.adya_values.specs.Computing.Faults.{first, bad_reads}
 use Rattle.adya_terms.specs.Machinery.Checks.{IsFirst, refused}
-use Rattle.adya_values.proofs.Steps.{drop_step}
-use Rattle.adya_terms.proofs.Lists.{filter_nothing}
-use Rattle.adya_terms.proofs.Turns.{Turn}
-use Rattle.adya_terms.proofs.Firsts.{first_front}
+use Rattle.lemmas.proofs.Steps.{drop_step}
+use Rattle.adya_values.proofs.Faults.{first_left}
+use Rattle.lemmas.proofs.Filters.{filter_nothing}
+use Rattle.lemmas.proofs.Steps.{IsTurn}
 
 -- what is kept of a list from an element on, that is kept or not
 pub kept_here : {Y : Type 0} (test : Entry → Bool) (view : Y → Entry) (ys : List Y) (i : ℕ) (y : Y) → i < length ys → y ≡ get_or ys i y → test (view y) ≡ true
@@ -35,21 +35,21 @@ first_map : (f : Version → CheckFault) (es : List Entry) (v : Version) → fir
 first_map f [] v e = absurd (cc (e))
 first_map f (x ∷ es) v e = let same : x.version ≡ v = cc (e) in ap (λ w. Some (f w)) same
 
-bad_from : (good : Event → Entry → Bool) (fault : ℕ → Version → CheckFault) (all : List Event) (i : ℕ) (e : Event) → Turn all i e
+bad_from : (good : Event → Entry → Bool) (fault : ℕ → Version → CheckFault) (all : List Event) (i : ℕ) (e : Event) → IsTurn all i e
     → bad_reads good fault all (2 + i) (drop i all) ≡ map (λ (o : Entry). fault (2 + i) o.version) (refused good all e) ++ bad_reads good fault all (2 + (i + 1)) (drop (i + 1) all)
 bad_from good fault all i e t =
     let line : suc (2 + i) ≡ 2 + (i + 1) = omega arith in
     ap (bad_reads good fault all (2 + i)) t.rest ∙
     ap (λ n. map (λ (o : Entry). fault (2 + i) o.version) (refused good all e) ++ bad_reads good fault all n (drop (i + 1) all)) line
 
-pub bad_here : (good : Event → Entry → Bool) (fault : ℕ → Version → CheckFault) (all : List Event) (i : ℕ) (e : Event) → Turn all i e
+pub bad_here : (good : Event → Entry → Bool) (fault : ℕ → Version → CheckFault) (all : List Event) (i : ℕ) (e : Event) → IsTurn all i e
     → (v : Version) → IsFirst (refused good all e) (Some v) → first (bad_reads good fault all (2 + i) (drop i all)) ≡ Some (fault (2 + i) v)
 bad_here good fault all i e t v h =
     ap first (bad_from good fault all i e t) ∙
-    first_front (map (λ (o : Entry). fault (2 + i) o.version) (refused good all e)) (bad_reads good fault all (2 + (i + 1)) (drop (i + 1) all)) (fault (2 + i) v)
+    first_left (map (λ (o : Entry). fault (2 + i) o.version) (refused good all e)) (bad_reads good fault all (2 + (i + 1)) (drop (i + 1) all)) (fault (2 + i) v)
     (first_map (fault (2 + i)) (refused good all e) v h)
 
-pub bad_later : (good : Event → Entry → Bool) (fault : ℕ → Version → CheckFault) (all : List Event) (i : ℕ) (e : Event) → Turn all i e
+pub bad_later : (good : Event → Entry → Bool) (fault : ℕ → Version → CheckFault) (all : List Event) (i : ℕ) (e : Event) → IsTurn all i e
     → refused good all e ≡ [] → bad_reads good fault all (2 + i) (drop i all) ≡ bad_reads good fault all (2 + (i + 1)) (drop (i + 1) all)
 bad_later good fault all i e t h =
     bad_from good fault all i e t ∙ ap (λ es. map (λ (o : Entry). fault (2 + i) o.version) es ++ bad_reads good fault all (2 + (i + 1)) (drop (i + 1) all)) h

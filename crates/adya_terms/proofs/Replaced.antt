@@ -12,17 +12,18 @@ use Rattle.adya_values.specs.Meaning.Histories.{Entry, Event}
 use Rattle.adya_values.specs.Meaning.Events.{written, observed, last_write}
 use Rattle.adya_values.specs.Computing.Faults.{entry_eq, is_entry, was_written, faults_at, event_faults}
 use Rattle.adya_terms.specs.Machinery.Tables.{own, written_at, is_there, number_of, Tell}
-use Rattle.adya_terms.proofs.Lists.{all_pass, list_all_when}
-use Rattle.adya_terms.proofs.Entries.{entry_same, same_entry}
-use Rattle.adya_terms.proofs.Checking.{nil_left, nil_right, passes_all}
+use Rattle.adya_values.proofs.Entries.{entry_eq-same, entry_eq-from}
+use Rattle.adya_values.proofs.Faults.{passes_all}
+use Rattle.lemmas.proofs.Lists.{nil_left, nil_right}
+use Rattle.lemmas.proofs.Tests.{all_pass, list_all_when}
 
 there_is : (o : Entry) (q : Option Entry) → is_there o q ≡ true → is_entry q o ≡ true
 there_is o None e = absurd (cc (e))
-there_is o (Some w) e = same_entry w o (sym (entry_same o w e))
+there_is o (Some w) e = entry_eq-from w o (sym (entry_eq-same o w e))
 
 other_number : (o : Entry) (q : Option Entry) → number_of q ≢ o.version.m → is_entry q o ≡ false
 other_number o None apart = refl
-other_number o (Some w) apart = false_from_ne_true _ (λ hit. apart (ap (λ (x : Entry). x.version.m) (entry_same w o hit)))
+other_number o (Some w) apart = false_from_ne_true _ (λ hit. apart (ap (λ (x : Entry). x.version.m) (entry_eq-same w o hit)))
 
 pub last_unless_replaced : (c a : ℕ → Bool) (l : Own → Option ℕ) (v : Version → Option ℕ) (all before : List Event)
     → Tell c a l v all before → (o : Entry) → list_any (entry_eq o) (filter_map written before) ≡ true

@@ -12,7 +12,7 @@ use Rattle.std.proofs.lemmas.Cmp.{nat_cmp_total, nat_list_cmp_total, then_total,
 use Rattle.std.proofs.lemmas.Map.Lookups.{CmpEqualImpliesEq, exact_unsigned}
 use Rattle.std.proofs.lemmas.Map.Views.{btree_map_get_iff}
 use Rattle.std.specs.Cmp.Lexicographic.{slice_cmp}
-use Rattle.std.proofs.lemmas.Bool.{cases_Bool, and_parts, and_from, both_ways, eqb-true, not-true, or_cases, or_left, or_right}
+use Rattle.std.proofs.lemmas.Bool.{or_from, not_from_true, cases_Bool, and_parts, and_from, both_ways, eqb-true, not-true, or_cases, or_left, or_right}
 use Rattle.adya_values.specs.Meaning.Keys.{key_eq, key_le, key_lt, keys_rise, lies_in}
 use Rattle.adya_terms.specs.declared.tables.Own.{Own}
 use Rattle.adya_values.specs.Meaning.Histories.{Entry, Event}
@@ -20,21 +20,24 @@ use Rattle.adya_values.specs.Meaning.Events.{written, last_write}
 use Rattle.adya_values.specs.Computing.Faults.{entry_eq, lists_only, none_or_lists_only}
 use Rattle.adya_terms.specs.Machinery.Tables.{own, own_cmp, written_at}
 use Rattle.adya_terms.specs.Machinery.Checks.{is_of_key}
-use Rattle.adya_terms.proofs.Lists.{none_contained, Contains-filter, list_all_when, list_any_source, list_any_when, all_pass}
-use Rattle.adya_terms.proofs.Entries.{key_same, same_key, entry_same, same_entry, last_write_from}
-use Rattle.adya_terms.proofs.Lines.{key_lt-trans, key_lt-apart, rises_below, keys_rise-tail}
 use Rattle.adya_terms.proofs.Tells.{own_tied}
-use Rattle.adya_terms.proofs.Checking.{only_of_key}
-use Rattle.adya_terms.proofs.Searches.{tied_key}
+use Rattle.std.proofs.lemmas.List.Elements.{All-contains}
+use Rattle.adya_values.proofs.Entries.{entry_eq-same, entry_eq-from}
+use Rattle.adya_values.proofs.Keys.{rises_below, keys_rise-tail}
+use Rattle.adya_values.proofs.Writes.{last_write_from}
+use Rattle.lemmas.proofs.Filters.{Contains-filter}
+use Rattle.lemmas.proofs.Members.{none_contained}
+use Rattle.lemmas.proofs.Orderings.{bytes_eq-same, bytes_eq-from, bytes_lt-trans, bytes_lt-apart, tied_bytes}
+use Rattle.lemmas.proofs.Tests.{list_all_when, list_any-source, list_any_when, all_pass}
 
 -- of two that have the same key there is one
 pub rise_unique : {Y : Type 0} (key : Y → List ℕ) (ys : List Y) (x y : Y) → keys_rise (map key ys) ≡ true → Contains ys x → Contains ys y → key x ≡ key y → x ≡ y
 rise_unique key [] x y r c d same = absurd (none_contained x c)
 rise_unique key (z ∷ ys) x y r (zero, l, e) (zero, m, f) same = sym e ∙ f
 rise_unique key (z ∷ ys) x y r (zero, l, e) (suc j, m, f) same =
-    absurd (key_lt-apart (key z) (key y) (rises_below key z ys y r (j, omega (arith, m), f)) (ap key e ∙ same))
+    absurd (bytes_lt-apart (key z) (key y) (rises_below key z ys y r (j, omega (arith, m), f)) (ap key e ∙ same))
 rise_unique key (z ∷ ys) x y r (suc i, l, e) (zero, m, f) same =
-    absurd (key_lt-apart (key z) (key x) (rises_below key z ys x r (i, omega (arith, l), e)) (ap key f ∙ sym same))
+    absurd (bytes_lt-apart (key z) (key x) (rises_below key z ys x r (i, omega (arith, l), e)) (ap key f ∙ sym same))
 rise_unique key (z ∷ ys) x y r (suc i, l, e) (suc j, m, f) same =
     rise_unique key ys x y (keys_rise-tail (key z) (map key ys) r) (i, omega (arith, l), e) (j, omega (arith, m), f) same
 
@@ -44,7 +47,7 @@ key_of w = w.version.key
 one_of_key : (es : List Entry) (w y : Entry) → keys_rise (map key_of es) ≡ true → Contains es w → Contains es y → is_of_key w y ≡ true
 one_of_key es w y r c d =
     elim (cases_Bool (key_eq y.version.key w.version.key)) [
-      | inl same ↦ or_right _ _ (same_entry y w (rise_unique key_of es y w r d c (key_same _ _ same)))
+      | inl same ↦ or_right _ _ (entry_eq-from y w (rise_unique key_of es y w r d c (bytes_eq-same _ _ same)))
       | inr other ↦ or_left _ _ (ap not other)
     ]
 
@@ -53,16 +56,16 @@ pub found_only : (es : List Entry) (x w : Entry) → keys_rise (map (λ (v : Ent
 found_only es x w r c same =
     elim (cases_Bool (entry_eq x w)) [
       | inl t ↦
-          let here : Contains es w = subst (Contains es) (entry_same x w t) c in
+          let here : Contains es w = subst (Contains es) (entry_eq-same x w t) c in
           t ∙
           sym (and_from _ _
-          (list_any_when (entry_eq w) es x c (same_entry w x (sym (entry_same x w t))))
+          (list_any_when (entry_eq w) es x c (entry_eq-from w x (sym (entry_eq-same x w t))))
           (list_all_when (is_of_key w) es (λ y d. one_of_key es w y r here d)))
       | inr f ↦
           elim (cases_Bool (lists_only es w)) [
             | inl t ↦
                 let only = all_pass (is_of_key w) es x (and_parts _ _ t).1 c in
-                absurd (both_ways _ f (same_entry x w (only_of_key w x only (same_key _ _ same))))
+                absurd (both_ways _ (or_from _ _ (not_from_true _ (bytes_eq-from _ _ same)) f) only)
             | inr g ↦ f ∙ sym g
           ]
     ]
@@ -71,21 +74,21 @@ pub missed_only : (es : List Entry) (w : Entry) → list_any (λ (v : Entry). ke
 missed_only es w none =
     elim (cases_Bool (lists_only es w)) [
       | inl t ↦
-          let at = list_any_source (entry_eq w) es (and_parts _ _ t).0 in
-          let same : at.0.version.key ≡ w.version.key = sym (ap key_of (entry_same w at.0 at.2)) in
-          absurd (both_ways _ none (list_any_when (λ (v : Entry). key_eq v.version.key w.version.key) es at.0 at.1 (same_key _ _ same)))
+          let at = list_any-source (entry_eq w) es (and_parts _ _ t).0 in
+          let same : at.0.version.key ≡ w.version.key = sym (ap key_of (entry_eq-same w at.0 at.2)) in
+          absurd (both_ways _ none (list_any_when (λ (v : Entry). key_eq v.version.key w.version.key) es at.0 at.1 (bytes_eq-from _ _ same)))
       | inr f ↦ f
     ]
 
 le_cases : (a b : List ℕ) (o : Ordering) → slice_cmp nat_cmp a b ≡ o → is_le o ≡ true → (key_lt a b ≡ true) ⊎ (a ≡ b)
 le_cases a b Less e l = inl (ap is_lt e)
-le_cases a b Equal e l = inr (tied_key a b e)
+le_cases a b Equal e l = inr (tied_bytes a b e)
 le_cases a b Greater e l = absurd (cc (l))
 
 below_le : (a b c : List ℕ) → key_lt a b ≡ true → key_le b c ≡ true → key_lt a c ≡ true
 below_le a b c l e =
     elim (le_cases b c (slice_cmp nat_cmp b c) refl e) [
-      | inl m ↦ key_lt-trans a b c l m
+      | inl m ↦ bytes_lt-trans a b c l m
       | inr same ↦ subst (λ k. key_lt a k ≡ true) same l
     ]
 
@@ -95,12 +98,9 @@ nothing_between low high k back =
     elim (cases_Bool (lies_in low high k)) [
       | inl t ↦
           let both = and_parts _ _ t in
-          absurd (key_lt-apart high high (below_le high k high (below_le high low k back both.0) both.1) refl)
+          absurd (bytes_lt-apart high high (below_le high k high (below_le high low k back both.0) both.1) refl)
       | inr f ↦ f
     ]
-
-from_all : {X : Type 0} (P : X → Type 0) (xs : List X) → All P xs → (x : X) → Contains xs x → P x
-from_all P xs h x c = subst P c.2 (h c.0 x c.1)
 
 le_not_gt : (o : Ordering) → is_gt o ≡ false → is_le o ≡ true
 le_not_gt Less e = refl
@@ -137,7 +137,7 @@ own_total = then_total txn_total key_total
 pub own_exact : CmpEqualImpliesEq own_cmp
 own_exact x y e =
     let both = and_parts _ _ (own_tied x.txn x.key y.txn y.key ∙ ap is_eq e) in
-    ap (λ t. own t x.key) (eqb-true _ _ both.0) ∙ ap (own y.txn) (key_same _ _ both.1)
+    ap (λ t. own t x.key) (eqb-true _ _ both.0) ∙ ap (own y.txn) (bytes_eq-same _ _ both.1)
 
 same_txn : (t : ℕ) (a b : List ℕ) → own_cmp (own t a) (own t b) ≡ slice_cmp nat_cmp a b
 same_txn t a b = ap (λ o. ordering_then o (slice_cmp nat_cmp a b)) (tied_itself nat_cmp_total t)
@@ -211,7 +211,7 @@ module _ (m : BTreeMap Own ℕ) (t : ℕ) (low high : List ℕ) (items : List (O
         (ap (none_or_lists_only es) (last_is t k) ∙ last_shown pass k inside (last_write t k before) refl)
 
     items_shown : list_all test (filter_map written before) ≡ true → list_all shows items ≡ true
-    items_shown pass = list_all_when shows items (λ e c. one_shown pass e (from_all (IsEntryInRange own_cmp (Included (own t low)) (Included (own t high)) m) items in_range e c))
+    items_shown pass = list_all_when shows items (λ e c. one_shown pass e (All-contains (IsEntryInRange own_cmp (Included (own t low)) (Included (own t high)) m) items e in_range c))
 
     pub range_shows : list_all shows items ≡ list_all test (filter_map written before)
     range_shows =

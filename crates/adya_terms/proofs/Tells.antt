@@ -7,7 +7,7 @@ use Rattle.std.specs.Cmp.{both_tied, unsigned_tied}
 use Rattle.std.specs.Cmp.Lexicographic.{slice_cmp, texts_ties}
 use Rattle.std.proofs.lemmas.Cmp.{nat_list_eq_equiv, nat_eq_equiv}
 use Rattle.std.proofs.lemmas.Bool.{cases_Bool, and_parts, and_from, eqb-true, eq-eqb, both_ways, false_from_ne_true}
-use Rattle.std.proofs.Math.Bool.{or-false, or-true, or_comm}
+use Rattle.std.proofs.Math.Bool.{or-false, or_comm}
 use Rattle.std.proofs.lemmas.List.{append-nil, length-append}
 use Rattle.std.proofs.lemmas.List.Elements.{filter_map-append, filter-append}
 use Rattle.std.proofs.lemmas.List.Folds.{list_any-append}
@@ -17,8 +17,11 @@ use Rattle.adya_values.specs.Meaning.Keys.{key_eq}
 use Rattle.adya_values.specs.Meaning.Histories.{Entry, Event}
 use Rattle.adya_values.specs.Meaning.Events.{written, writes_of, last, last_write, is_committed, commits, aborts}
 use Rattle.adya_values.specs.Computing.Faults.{content_eq, version_eq, entry_eq}
+use Rattle.lemmas.proofs.Booleans.{cond_or}
 use Rattle.adya_terms.specs.Machinery.Tables.{own, own_eq, own_cmp, written_at, written_by, is_there, with_replaced, is_at, number_of, Tell}
-use Rattle.adya_terms.proofs.Entries.{key_same, same_key, version_same, last_write_from}
+use Rattle.adya_values.proofs.Entries.{version_eq-same}
+use Rattle.adya_values.proofs.Writes.{last_write_from}
+use Rattle.lemmas.proofs.Orderings.{bytes_eq-same, bytes_eq-from}
 
 pub own_tied : (t : ℕ) (k : List ℕ) (u : ℕ) (j : List ℕ) → ((t == u) && key_eq k j) ≡ is_eq (own_cmp (own t k) (own u j))
 own_tied t k u j = both_tied (t == u) (key_eq k j) (nat_cmp t u) (slice_cmp nat_cmp k j) (sym (unsigned_tied t u)) (texts_ties k j)
@@ -40,10 +43,6 @@ last_more (y ∷ z ∷ xs) x = last_more (z ∷ xs) x
 
 pub written_more : (before : List Event) (e : Event) → filter_map written (before ++ e ∷ []) ≡ filter_map written before ++ cons_option (written e) []
 written_more before e = filter_map-append written before (e ∷ [])
-
-cond_or : (b x : Bool) → cond b true x ≡ (x || b)
-cond_or true x = sym (or-true x)
-cond_or false x = sym (or-false x)
 
 -- a number added to a set
 pub added : (u t : ℕ) (x y : Bool) → y ≡ cond (u == t) true x → y ≡ (x || (u == t))
@@ -102,7 +101,7 @@ writes_miss before e w h t k miss =
 is_of_same : (t : ℕ) (k : List ℕ) (w : Entry) (es : List Event) → is_of t k w ≡ true → length (writes_of w.version.txn w.version.key es) ≡ length (writes_of t k es)
 is_of_same t k w es hit =
     let both = and_parts _ _ hit in
-    ap (λ u. length (writes_of u w.version.key es)) (eqb-true _ _ both.0) ∙ ap (λ j. length (writes_of t j es)) (key_same _ _ both.1)
+    ap (λ u. length (writes_of u w.version.key es)) (eqb-true _ _ both.0) ∙ ap (λ j. length (writes_of t j es)) (bytes_eq-same _ _ both.1)
 
 pub last_next : (all before : List Event) (n : ℕ) (e : Event) (w : Entry) → written e ≡ Some w → written_at all (Some n) ≡ Some w
     → (p : Option ℕ) (t : ℕ) (k : List ℕ) → written_at all p ≡ last_write t k before
@@ -153,11 +152,11 @@ module _ (before : List Event) (e : Event) (w : Entry) (wrote : written e ≡ So
       → (is_of r.txn r.key w ≡ true) × (r.m ≡ length (writes_of r.txn r.key before))
   replaced_is x at r hit =
       let from = last_write_from w.version.txn w.version.key before x at in
-      let same : x.version ≡ r = version_same x.version r hit in
+      let same : x.version ≡ r = version_eq-same x.version r hit in
       let t : w.version.txn ≡ r.txn = sym from.txn_is ∙ ap (λ (q : Version). q.txn) same in
       let k : w.version.key ≡ r.key = sym from.key_is ∙ ap (λ (q : Version). q.key) same in
       let m : x.version.m ≡ length (writes_of w.version.txn w.version.key before) = sym (ap number_of at) ∙ numbered in (
-        and_from _ _ (eq-eqb _ _ t) (same_key _ _ k),
+        and_from _ _ (eq-eqb _ _ t) (bytes_eq-from _ _ k),
         sym (ap (λ (q : Version). q.m) same) ∙ (m ∙ (ap (λ u. length (writes_of u w.version.key before)) t ∙ ap (λ j. length (writes_of r.txn j before)) k)),
       )
 
@@ -218,13 +217,13 @@ module _ (before : List Event) (e : Event) (w : Entry) (wrote : written e ≡ So
 own_same : (x w : Entry) → is_of x.version.txn x.version.key w ≡ true → own x.version.txn x.version.key ≡ own w.version.txn w.version.key
 own_same x w hit =
     let both = and_parts _ _ hit in
-    ap (λ t. own t x.version.key) (sym (eqb-true _ _ both.0)) ∙ ap (own w.version.txn) (sym (key_same _ _ both.1))
+    ap (λ t. own t x.version.key) (sym (eqb-true _ _ both.0)) ∙ ap (own w.version.txn) (sym (bytes_eq-same _ _ both.1))
 
 not_same : (x w : Entry) → is_of x.version.txn x.version.key w ≡ false → entry_eq x w ≡ false
 not_same x w miss =
     false_from_ne_true _ (λ hit.
-    let v = version_same x.version w.version (and_parts _ _ hit).0 in
-    both_ways _ miss (and_from _ _ (eq-eqb _ _ (sym (ap (λ (q : Version). q.txn) v))) (same_key _ _ (sym (ap (λ (q : Version). q.key) v)))))
+    let v = version_eq-same x.version w.version (and_parts _ _ hit).0 in
+    both_ways _ miss (and_from _ _ (eq-eqb _ _ (sym (ap (λ (q : Version). q.txn) v))) (bytes_eq-from _ _ (sym (ap (λ (q : Version). q.key) v)))))
 
 pub tell_write : (c a : ℕ → Bool) (l : Own → Option ℕ) (v : Version → Option ℕ) (all before : List Event) → Tell c a l v all before
     → (n : ℕ) (e : Event) (w : Entry) → Writes all n e w → w.version.m ≡ suc (length (writes_of w.version.txn w.version.key before))

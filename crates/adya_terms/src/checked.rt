@@ -12,6 +12,7 @@ ghost use Rattle.adya_terms.specs.Machinery.Tables.{Means};
 ghost use Rattle.adya_terms.specs.Machinery.Checks.{Names, IsFault, Holds, whole, rule_faults, read_faults};
 
 use crate::finals::check_finals;
+use crate::laws::checked_where_no_fault;
 use crate::listed::check_orders;
 use crate::reads::{all_end, check_aborted, check_intermediate, check_unfinished, set_of};
 use crate::rules::tables_of;
@@ -40,6 +41,7 @@ impl<'a> Checked<'a> {
         ensures checked { IfOk result (λ c. IsChecked (history_of c.history.now)) }
         ensures refused { IfErr result (λ e. e ≢ CheckFault.Memory → IsChecked (history_of history.now) → ⊥) }
     {
+        checked_where_no_fault();
         match check(
             alloc,
             history.events(),
@@ -58,6 +60,7 @@ impl<'a> Checked<'a> {
         ensures faultless { first_fault (history_of result.now) ≡ None }
         ensures checked { IsChecked (history_of result.now) }
     {
+        checked_where_no_fault();
         self.history
     }
 

@@ -3,7 +3,6 @@
 
 mod checked;
 mod finals;
-pub mod laws;
 mod listed;
 mod reads;
 mod rules;
@@ -12,6 +11,7 @@ mod tables;
 #[cfg(test)]
 mod tests;
 
+pub use adya_rules::laws;
 pub use adya_values::{
     BadKey, BadNumber, BadShape, BadValue, CheckFault, Content, Edition, Entry, Event, FinalPair,
     History, Key, MAX_KEY_LEN, MAX_VALUE_LEN, Mod, Order, Rule, Serial, Txn, Value, Version,

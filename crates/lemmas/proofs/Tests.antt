@@ -1,7 +1,7 @@
 -- Tests of all elements of a list, and of any.
 use Rattle.std.proofs.Common.{◌≡◌, Bool, true, false, ◌||◌, List, [], ◌∷◌, map, length, All, refl, sym, ◌∙◌, ap, arith, inl, inr}
 use Rattle.std.specs.List.{list_all, list_any, Contains}
-use Rattle.std.proofs.lemmas.Bool.{and_parts, and_from, or_cases, or_left, or_right}
+use Rattle.std.proofs.lemmas.Bool.{and_parts, and_from, and_cases, or_cases, or_left, or_right, both_ways, false_from_ne_true}
 use Rattle.std.proofs.lemmas.List.Elements.{All-contains}
 use Rattle.lemmas.proofs.Members.{none_contained, Contains-head, Contains-cons, Contains-cases, All-from_contained}
 
@@ -18,6 +18,20 @@ pub list_all_when : {X : Type 0} (f : X → Bool) (xs : List X) → ((x : X) →
 list_all_when f [] h = refl
 list_all_when f (x ∷ xs) h =
     and_from _ _ (h x (Contains-head x xs)) (list_all_when f xs (λ y c. h y (Contains-cons x xs y c)))
+
+-- an element that fails, and a list that has one
+pub list_all-failed : {X : Type 0} (f : X → Bool) (xs : List X) → list_all f xs ≡ false
+    → (x : X) × Contains xs x × (f x ≡ false)
+list_all-failed f [] e = absurd (cc (e))
+list_all-failed f (x ∷ xs) e =
+    elim (and_cases _ _ e) [
+      | inl n ↦ (x, Contains-head x xs, n)
+      | inr n ↦ let r = list_all-failed f xs n in (r.0, Contains-cons x xs r.0 r.1, r.2)
+    ]
+
+pub list_all_fails_at : {X : Type 0} (f : X → Bool) (xs : List X) (x : X) → Contains xs x → f x ≡ false
+    → list_all f xs ≡ false
+list_all_fails_at f xs x c e = false_from_ne_true _ (λ t. both_ways (f x) e (all_pass f xs x t c))
 
 -- the one that passes
 pub list_any-source : {X : Type 0} (f : X → Bool) (xs : List X) → list_any f xs ≡ true

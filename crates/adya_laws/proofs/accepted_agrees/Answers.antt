@@ -1,5 +1,5 @@
 use Rattle.std.proofs.lemmas.Bool.{and_parts}
-use Rattle.adya_laws.proofs.Whole.{agrees}
+use Rattle.adya_laws.proofs.AcceptedAgrees.{agrees}
 use Rattle.adya_laws.proofs.accepted_agrees.Goals as goal
 
 pub returns : goal.returns

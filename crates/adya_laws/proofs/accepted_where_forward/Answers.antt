@@ -1,4 +1,4 @@
-use Rattle.adya_laws.proofs.Judging.{accepted_from_test, test_from_accepted}
+use Rattle.adya_laws.proofs.AcceptedWhereForward.{accepted_from_test, test_from_accepted}
 use Rattle.adya_laws.proofs.accepted_where_forward.Goals as goal
 
 pub returns : goal.returns

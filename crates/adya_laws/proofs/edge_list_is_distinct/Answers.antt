@@ -1,4 +1,4 @@
-use Rattle.adya_laws.proofs.Distinct.{edges_distinct}
+use Rattle.adya_laws.proofs.EdgeList.{edges_distinct}
 use Rattle.adya_laws.proofs.edge_list_is_distinct.Goals as goal
 
 pub returns : goal.returns

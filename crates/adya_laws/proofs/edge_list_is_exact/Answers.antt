@@ -1,4 +1,4 @@
-use Rattle.adya_laws.proofs.Distinct.{edge_listed, listed_edge}
+use Rattle.adya_laws.proofs.EdgeList.{edge_listed, listed_edge}
 use Rattle.adya_laws.proofs.edge_list_is_exact.Goals as goal
 
 pub returns : goal.returns

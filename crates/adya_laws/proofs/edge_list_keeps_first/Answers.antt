@@ -1,4 +1,4 @@
-use Rattle.adya_laws.proofs.Distinct.{edges_found}
+use Rattle.adya_laws.proofs.EdgeList.{edges_found}
 use Rattle.adya_laws.proofs.edge_list_keeps_first.Goals as goal
 
 pub returns : goal.returns

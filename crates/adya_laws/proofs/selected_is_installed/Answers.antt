@@ -1,4 +1,4 @@
-use Rattle.adya_laws.proofs.Installed.{selected_installed}
+use Rattle.adya_laws.proofs.SelectedIsInstalled.{selected_installed}
 use Rattle.adya_laws.proofs.selected_is_installed.Goals as goal
 
 pub returns : goal.returns

@@ -21,27 +21,27 @@ EdgeListIsExact = (h : History) (e : Edge) → IsEdge h e ↔ Contains (edge_lis
 abbrev pub EdgeListIsDistinct : Type 0
 EdgeListIsDistinct = (h : History) → AllPairs (λ a b. a ≢ b) (edge_list h)
 
--- the first edge that passes a test is the first of the dependencies, repeats and all
+-- the first edge that passes a test is the first of all dependencies, repeats included, that does
 abbrev pub EdgeListKeepsFirst : Type 0
 EdgeListKeepsFirst = (h : History) (p : Edge → Bool) → find p (edge_list h) ≡ find p (dependencies h)
 
--- an accepted history shows neither G1 nor G2
+-- an accepted history has neither G1 nor G2
 abbrev pub AcceptedHasNoPhenomenon : Type 0
 AcceptedHasNoPhenomenon = (h : History) (ts : List ℕ) → IsAccepted h ts → (HasG1 h → ⊥) × (HasG2 h → ⊥)
 
--- of a checked history a certificate is accepted exactly where it lists the committed transactions and no edge
--- goes backward
+-- a checked history is accepted with a certificate exactly if this lists the committed transactions and no edge goes
+-- backward in it
 abbrev pub AcceptedWhereForward : Type 0
 AcceptedWhereForward = (h : History) (ts : List ℕ) → IsChecked h
     → ((lists_the_committed h ts ≡ true) × (first_backward h ts ≡ None)) ↔ IsAccepted h ts
 
--- the transactions of an accepted history, run one at a time in the certificate's order over one map that is empty
--- at first, give every read, every scan and the final contents
+-- running the transactions of an accepted history one after the other, in the certificate's order on an initially
+-- empty map, reproduces every read, every scan and the final contents
 abbrev pub AcceptedAgrees : Type 0
 AcceptedAgrees = (h : History) (ts : List ℕ) → is_shape h.orders h.finals ≡ true → IsAccepted h ts → Agrees h ts
 
--- what a committed transaction of a checked history reads or selects of a key is the unborn version, or stands in
--- the key's version order
+-- in a checked history a committed transaction selects of a key either the unborn version or one of the key's
+-- version order
 abbrev pub SelectedIsInstalled : Type 0
 SelectedIsInstalled = (h : History) (e : Event) (k : List ℕ) (p : ℕ) → IsChecked h → Contains h.events e
     → is_committed h.events (txn_of e) ≡ true → selected h e k ≡ Some p → 0 < p → (t : ℕ) × (installer h k p ≡ Some t)

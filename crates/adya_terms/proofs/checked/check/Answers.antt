@@ -3,11 +3,11 @@ use Rattle.std.proofs.lemmas.List.{length-map}
 use Rattle.adya_values.specs.Meaning.Histories.{event_of}
 use Rattle.adya_values.specs.Computing.Faults.{malformed, unfinished_faults, unfinished_line, orders_line}
 use Rattle.adya_terms.specs.Machinery.Checks.{Names, whole, rule_faults, read_faults}
-use Rattle.adya_terms.proofs.Converse.{both_nil}
 use Rattle.adya_terms.proofs.Firsts.{names_behind}
 use Rattle.adya_terms.proofs.Replaced.{all_were_written}
 use Rattle.adya_terms.proofs.Parts.{events_first, unfinished_first, rules_first, none_malformed}
 use Rattle.adya_terms.proofs.checked.check.Goals as goal
+use Rattle.lemmas.proofs.Lists.{both_nil}
 
 pub returns-in-Err-clause-faults : goal.returns-in-Err-clause-faults
 returns-in-Err-clause-faults c =

@@ -5,13 +5,14 @@ use Rattle.adya_values.specs.declared.fault.CheckFault.TheVariants.{Malformed}
 use Rattle.adya_values.specs.Meaning.Histories.{order_of}
 use Rattle.adya_values.specs.Computing.Faults.{first, fault_unless, all_end}
 use Rattle.adya_terms.specs.Machinery.Checks.{Names, whole, listing_faults, final_value_faults}
-use Rattle.adya_terms.proofs.Firsts.{first_front, found_behind, names_front, names_behind}
+use Rattle.adya_terms.proofs.Firsts.{found_behind, names_front, names_behind}
 use Rattle.adya_terms.proofs.checked.check_rules.Goals as goal
+use Rattle.adya_values.proofs.Faults.{first_left}
 
 pub returns-then-not-all_end : goal.returns-then-not-all_end
 returns-then-not-all_end c us holds =
     let h = whole c.args.events.now us c.args.orders.now c.args.finals.now in
-    first_front (fault_unless (all_end h) c.args.line M6) (listing_faults h c.args.line ++ final_value_faults h (c.args.line + length h.orders)) (Malformed c.args.line M6)
+    first_left (fault_unless (all_end h) c.args.line M6) (listing_faults h c.args.line ++ final_value_faults h (c.args.line + length h.orders)) (Malformed c.args.line M6)
     (ap (λ b. first (fault_unless b c.args.line M6)) (sym (c.all_end.ensures us holds) ∙ c.if-not-all_end.true))
 
 pub returns-in-Err : goal.returns-in-Err

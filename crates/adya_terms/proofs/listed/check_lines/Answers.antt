@@ -3,10 +3,10 @@ use Rattle.adya_values.specs.declared.fault.Rule.TheVariants.{M7}
 use Rattle.adya_values.specs.Meaning.Histories.{order_of}
 use Rattle.adya_values.specs.Meaning.Rules.{installs}
 use Rattle.adya_values.specs.Computing.Faults.{lists_exactly, order_faults, first}
-use Rattle.adya_terms.proofs.Lists.{Contains-slice_get}
-use Rattle.adya_terms.proofs.Turns.{turn}
 use Rattle.adya_terms.proofs.Firsts.{names_broken, order_here, order_later}
 use Rattle.adya_terms.proofs.listed.check_lines.Goals as goal
+use Rattle.lemmas.proofs.Members.{Contains-slice_get}
+use Rattle.lemmas.proofs.Steps.{turn}
 
 pub returns-then-not-is_exact : goal.returns-then-not-is_exact
 returns-then-not-is_exact c all m out =

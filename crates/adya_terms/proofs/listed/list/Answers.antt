@@ -6,9 +6,9 @@ use Rattle.adya_terms.specs.declared.listed.Times.{Times}
 use Rattle.adya_values.specs.Meaning.Keys.{key_eq}
 use Rattle.adya_terms.specs.Machinery.Tables.{own, own_eq}
 use Rattle.adya_terms.specs.Machinery.Checks.{times, once_more}
-use Rattle.adya_terms.proofs.Counts.{count}
 use Rattle.adya_terms.proofs.Listings.{list_next}
 use Rattle.adya_terms.proofs.listed.list.Goals as goal
+use Rattle.lemmas.proofs.Counts.{count}
 
 pub loop-txn-preserved : goal.loop-txn-preserved
 loop-txn-preserved c n start t k =

@@ -3,10 +3,10 @@ use Rattle.std.proofs.lemmas.List.{take_all, length-map}
 use Rattle.adya_values.specs.Meaning.Keys.{key_eq}
 use Rattle.adya_values.specs.Meaning.Histories.{order_of}
 use Rattle.adya_terms.specs.Machinery.Checks.{Lists, times, listed}
-use Rattle.adya_terms.proofs.Counts.{count}
-use Rattle.adya_terms.proofs.Turns.{turn}
 use Rattle.adya_terms.proofs.Listings.{listed_more}
 use Rattle.adya_terms.proofs.listed.listed.Goals as goal
+use Rattle.lemmas.proofs.Counts.{count}
+use Rattle.lemmas.proofs.Steps.{turn}
 
 pub loop-order-preserved : goal.loop-order-preserved
 loop-order-preserved c = λ t k.

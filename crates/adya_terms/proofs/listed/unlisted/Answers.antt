@@ -8,10 +8,11 @@ use Rattle.adya_values.specs.Meaning.Keys.{key_eq}
 use Rattle.adya_values.specs.Meaning.Histories.{event_of}
 use Rattle.adya_values.specs.Meaning.Events.{written}
 use Rattle.adya_terms.specs.Machinery.Checks.{is_unlisted, is_some_and, is_this}
-use Rattle.adya_terms.proofs.Turns.{turn}
-use Rattle.adya_terms.proofs.Listings.{any_written, cond_or}
+use Rattle.lemmas.proofs.Booleans.{cond_or}
+use Rattle.adya_terms.proofs.Listings.{any_written}
 use Rattle.adya_terms.proofs.listed.unlisted.Goals as goal
 use Rattle.adya_terms.proofs.listed.unlisted.Goals.{in-Some+in_ok-insert, in_default}
+use Rattle.lemmas.proofs.Steps.{turn}
 
 pub loop-event-preserved : goal.loop-event-preserved
 loop-event-preserved c all os m lists k =

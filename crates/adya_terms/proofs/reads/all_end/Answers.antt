@@ -3,9 +3,9 @@ use Rattle.std.specs.List.{list_any}
 use Rattle.adya_values.specs.Meaning.Histories.{event_of}
 use Rattle.adya_values.specs.Meaning.Events.{has_ended}
 use Rattle.adya_terms.specs.Machinery.Checks.{ends}
-use Rattle.adya_values.proofs.Steps.{list_all_fails}
-use Rattle.adya_terms.proofs.Turns.{list_all_goes}
+use Rattle.lemmas.proofs.Steps.{list_all_fails}
 use Rattle.adya_terms.proofs.reads.all_end.Goals as goal
+use Rattle.lemmas.proofs.Steps.{list_all_goes}
 
 pub returns-then-not-is_done : goal.returns-then-not-is_done
 returns-then-not-is_done c us holds =

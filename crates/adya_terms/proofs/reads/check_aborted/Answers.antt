@@ -3,9 +3,9 @@ use Rattle.adya_values.specs.declared.fault.CheckFault.TheVariants.{AbortedRead}
 use Rattle.adya_values.specs.Meaning.Histories.{event_of}
 use Rattle.adya_values.specs.Computing.Faults.{first}
 use Rattle.adya_terms.specs.Machinery.Checks.{is_not_aborted}
-use Rattle.adya_terms.proofs.Turns.{turn}
 use Rattle.adya_terms.proofs.Refused.{bad_here, bad_later}
 use Rattle.adya_terms.proofs.reads.check_aborted.Goals as goal
+use Rattle.lemmas.proofs.Steps.{turn}
 
 pub returns-in-Some : goal.returns-in-Some
 returns-in-Some c us holds =

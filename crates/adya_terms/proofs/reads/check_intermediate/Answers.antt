@@ -3,10 +3,11 @@ use Rattle.adya_values.specs.declared.fault.CheckFault.TheVariants.{Intermediate
 use Rattle.adya_values.specs.Meaning.Histories.{event_of}
 use Rattle.adya_values.specs.Computing.Faults.{first, was_written}
 use Rattle.adya_terms.specs.Machinery.Checks.{is_own_or_last}
-use Rattle.adya_terms.proofs.Lists.{Contains-slice_get, all_pass}
-use Rattle.adya_terms.proofs.Turns.{turn}
 use Rattle.adya_terms.proofs.Refused.{bad_here, bad_later}
 use Rattle.adya_terms.proofs.reads.check_intermediate.Goals as goal
+use Rattle.lemmas.proofs.Members.{Contains-slice_get}
+use Rattle.lemmas.proofs.Steps.{turn}
+use Rattle.lemmas.proofs.Tests.{all_pass}
 
 pub returns-in-Some : goal.returns-in-Some
 returns-in-Some c =

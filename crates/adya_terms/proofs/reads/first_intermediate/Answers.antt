@@ -4,10 +4,11 @@ use Rattle.adya_values.specs.Meaning.Histories.{Entry, entry_of}
 use Rattle.adya_values.specs.Meaning.Events.{written, last_write}
 use Rattle.adya_values.specs.Computing.Faults.{entry_eq, is_entry}
 use Rattle.adya_terms.specs.Machinery.Checks.{IsFirst, is_own_or_last}
-use Rattle.adya_terms.proofs.Lists.{Contains-slice_get, all_pass}
-use Rattle.adya_terms.proofs.Turns.{turn}
 use Rattle.adya_terms.proofs.Refused.{kept_here, kept_later}
 use Rattle.adya_terms.proofs.reads.first_intermediate.Goals as goal
+use Rattle.lemmas.proofs.Members.{Contains-slice_get}
+use Rattle.lemmas.proofs.Steps.{turn}
+use Rattle.lemmas.proofs.Tests.{all_pass}
 
 pub returns-then-not-is_own_or_last : goal.returns-then-not-is_own_or_last
 returns-then-not-is_own_or_last c all e own m was =

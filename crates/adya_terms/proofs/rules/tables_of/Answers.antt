@@ -3,10 +3,10 @@ use Rattle.adya_values.specs.declared.fault.CheckFault.TheVariants.{Malformed}
 use Rattle.adya_values.specs.Meaning.Histories.{event_of}
 use Rattle.adya_values.specs.Computing.Faults.{first}
 use Rattle.adya_terms.specs.Machinery.Tables.{Keeps, Means}
-use Rattle.adya_terms.proofs.Turns.{turn}
 use Rattle.adya_terms.proofs.Firsts.{fault_here, fault_later}
-use Rattle.adya_terms.proofs.Checking.{passes_all}
 use Rattle.adya_terms.proofs.rules.tables_of.Goals as goal
+use Rattle.adya_values.proofs.Faults.{passes_all}
+use Rattle.lemmas.proofs.Steps.{turn}
 
 pub returns-in-Some : goal.returns-in-Some
 returns-in-Some c =

@@ -3,9 +3,9 @@ use Rattle.std.specs.List.{filter_map, list_any}
 use Rattle.adya_values.specs.Meaning.Histories.{Entry, entry_of}
 use Rattle.adya_values.specs.Meaning.Events.{written}
 use Rattle.adya_values.specs.Computing.Faults.{entry_eq}
-use Rattle.adya_values.proofs.Steps.{list_all_fails}
-use Rattle.adya_terms.proofs.Turns.{list_all_goes}
+use Rattle.lemmas.proofs.Steps.{list_all_fails}
 use Rattle.adya_terms.proofs.scans.all_written.Goals as goal
+use Rattle.lemmas.proofs.Steps.{list_all_goes}
 
 pub returns-then-not-was_written : goal.returns-then-not-was_written
 returns-then-not-was_written c before m =

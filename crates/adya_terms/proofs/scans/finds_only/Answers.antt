@@ -6,11 +6,14 @@ use Rattle.std.proofs.lemmas.List.Sorted.{answers_always}
 use Rattle.adya_values.specs.declared.event.Entry.{Entry as EntryValue}
 use Rattle.adya_values.specs.Meaning.Keys.{key_eq, keys_rise}
 use Rattle.adya_values.specs.Meaning.Histories.{Entry, entry_of}
-use Rattle.adya_terms.proofs.Lists.{Contains-slice_get}
-use Rattle.adya_terms.proofs.Turns.{turn}
-use Rattle.adya_terms.proofs.Searches.{search_misses, tied_key, any_map}
+use Rattle.lemmas.proofs.Orderings.{search_misses_test}
+use Rattle.adya_values.proofs.Keys.{rises_pairs}
 use Rattle.adya_terms.proofs.Selected.{found_only, missed_only}
 use Rattle.adya_terms.proofs.scans.finds_only.Goals as goal
+use Rattle.lemmas.proofs.Members.{Contains-slice_get}
+use Rattle.lemmas.proofs.Orderings.{tied_bytes}
+use Rattle.lemmas.proofs.Steps.{turn}
+use Rattle.lemmas.proofs.Tests.{list_any-map}
 
 pub returns-in-Err : goal.returns-in-Err
 returns-in-Err c =
@@ -20,7 +23,7 @@ returns-in-Err c =
     let rise : keys_rise (map (λ (x : EntryValue). x.version.key) ys) ≡ true = ap keys_rise (sym (map-map (λ (x : Entry). x.version.key) entry_of ys)) ∙ c.requires in
     let by_key = c.in-Err.ensures.position (λ x. x.version.key) (answers_always _ _ _ (λ f a r g called. search rules)) in
     sym (missed_only (map entry_of ys) w
-    (any_map (λ (x : Entry). key_eq x.version.key k) entry_of ys ∙ search_misses (λ (x : EntryValue). x.version.key) ys k c.in-Err.field-0 rise by_key))
+    (list_any-map (λ (x : Entry). key_eq x.version.key k) entry_of ys ∙ search_misses_test (λ (x : EntryValue). x.version.key) ys k c.in-Err.field-0 (rises_pairs (λ (x : EntryValue). x.version.key) ys rise) by_key))
 
 pub returns-in-Ok : goal.returns-in-Ok
 returns-in-Ok c =
@@ -33,4 +36,4 @@ returns-in-Ok c =
     let tied : slice_cmp nat_cmp y.version.key w.version.key ≡ Equal = ap (λ (x : EntryValue). slice_cmp nat_cmp x.version.key w.version.key) at ∙ by_key y in
     let t = turn entry_of ys i y c.in-Ok.ensures.bound at in
     c.same.ensures ∙
-    found_only (map entry_of ys) (entry_of y) w c.requires (Contains-slice_get (map entry_of ys) i (entry_of y) t.found) (tied_key y.version.key w.version.key tied)
+    found_only (map entry_of ys) (entry_of y) w c.requires (Contains-slice_get (map entry_of ys) i (entry_of y) t.found) (tied_bytes y.version.key w.version.key tied)

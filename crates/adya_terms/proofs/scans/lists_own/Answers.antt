@@ -6,9 +6,9 @@ use Rattle.adya_values.specs.Meaning.Histories.{entry_of, event_of}
 use Rattle.adya_values.specs.Meaning.Events.{written}
 use Rattle.adya_values.specs.Computing.Faults.{none_or_lists_only}
 use Rattle.adya_terms.specs.Machinery.Tables.{written_at}
-use Rattle.adya_terms.proofs.Lists.{list_all_when}
 use Rattle.adya_terms.proofs.Selected.{nothing_between, scan_shows, runs_forward}
 use Rattle.adya_terms.proofs.scans.lists_own.Goals as goal
+use Rattle.lemmas.proofs.Tests.{list_all_when}
 
 pub returns-then-lt : goal.returns-then-lt
 returns-then-lt c before m =

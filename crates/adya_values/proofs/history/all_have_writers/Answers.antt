@@ -1,6 +1,6 @@
 use Rattle.std.proofs.Common.{ℕ, List, ◌==◌, not, length, sym, ◌∙◌, ap}
 use Rattle.adya_values.specs.Meaning.Histories.{Order, order_of}
-use Rattle.adya_values.proofs.Steps.{list_all_fails}
+use Rattle.lemmas.proofs.Steps.{list_all_fails}
 use Rattle.adya_values.proofs.history.all_have_writers.Goals as goal
 
 pub returns-then-is_empty : goal.returns-then-is_empty

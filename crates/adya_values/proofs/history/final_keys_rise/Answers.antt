@@ -1,6 +1,6 @@
 use Rattle.std.proofs.Common.{◌-◌, length, take, drop, sym, ◌∙◌}
 use Rattle.adya_values.specs.Meaning.Histories.{FinalPair, final_of}
-use Rattle.adya_values.proofs.Steps.{rise_fails}
+use Rattle.adya_values.proofs.Keys.{rise_fails}
 use Rattle.adya_values.proofs.history.final_keys_rise.Goals as goal
 
 pub returns-then-not-is_below : goal.returns-then-not-is_below

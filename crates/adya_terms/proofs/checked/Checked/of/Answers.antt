@@ -1,6 +1,5 @@
 use Rattle.std.proofs.Common.{ap, subst, map, is_none}
 use Rattle.adya_terms.proofs.Parts.{found_whole, faultless_whole}
-use Rattle.adya_terms.proofs.Checking.{checked_when_no_fault}
 use Rattle.adya_terms.proofs.Judged.{refused_when_found}
 use Rattle.adya_values.specs.Meaning.Histories.{event_of}
 use Rattle.adya_terms.specs.Machinery.Tables.{Means}
@@ -20,12 +19,12 @@ invariant_of-result c =
 
 pub returns-in-Ok-clause-checked : goal.returns-in-Ok-clause-checked
 returns-in-Ok-clause-checked c =
-    checked_when_no_fault (history_of c.args.history.now)
+    c.checked_where_no_fault.ensures.sound (history_of c.args.history.now)
     (faultless_whole c.args.history.now c.events.result.now c.unfinished.result.now c.orders.result.now c.finals.result.now
     c.events.ensures c.unfinished.ensures.value c.orders.ensures.value c.finals.ensures c.in-Ok.ensures.faults)
 
 pub returns-in-Err-clause-refused : goal.returns-in-Err-clause-refused
 returns-in-Err-clause-refused c =
-    refused_when_found (history_of c.args.history.now) c.args.history.now.shape c.in-Err.fault
+    refused_when_found c.checked_where_no_fault.ensures.exact (history_of c.args.history.now) c.args.history.now.shape c.in-Err.fault
     (found_whole c.args.history.now c.events.result.now c.unfinished.result.now c.orders.result.now c.finals.result.now
     c.events.ensures c.unfinished.ensures.value c.orders.ensures.value c.finals.ensures c.in-Err.fault c.in-Err.ensures.faults)

@@ -1,0 +1,9 @@
+pub mod Lines
+pub mod RuleTests
+pub mod FaultOrder
+pub mod BrokenRules
+pub mod FirstMalformed
+pub mod WellFormed
+pub mod BadReads
+pub mod FirstFault
+pub mod FirstBackward

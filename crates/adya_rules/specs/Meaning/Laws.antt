@@ -1,0 +1,14 @@
+-- The list of faults is empty exactly for checked histories.
+use Rattle.std.specs.Prelude.{◌≡◌, ◌↔◌, true, None}
+use Rattle.adya_values.specs.Meaning.Histories.{History}
+use Rattle.adya_values.specs.Meaning.Shapes.{is_shape}
+use Rattle.adya_values.specs.Meaning.Acceptance.{IsChecked}
+use Rattle.adya_values.specs.Computing.Faults.{first_fault}
+
+-- a history of which no fault is found is checked, whatever its shape
+abbrev pub CheckedIfNoFault : Type 0
+CheckedIfNoFault = (h : History) → first_fault h ≡ None → IsChecked h
+
+-- a history whose lines are in the order of their keys has no fault exactly if it is checked
+abbrev pub CheckedWhereNoFault : Type 0
+CheckedWhereNoFault = (h : History) → is_shape h.orders h.finals ≡ true → (first_fault h ≡ None) ↔ IsChecked h
