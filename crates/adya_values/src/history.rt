@@ -8,10 +8,13 @@ ghost use Rattle.adya_values.specs.Meaning.Shapes.{is_shape, numbers_rise, fits_
 
 use crate::order::{FinalPair, Order};
 use crate::{Edition, Event, Key, Txn};
+use std::fmt;
+use thiserror::Error;
 
 /// A history has no such lists: an order names no writer, or the keys of the orders, those of the finals or the
 /// unfinished transactions don't rise strictly. It gives the lists back.
-#[derive(Drop)]
+#[derive(Error, Drop)]
+#[error("4 bad shape")]
 pub struct BadShape {
     /// The events, as given.
     pub events: Vec<Event>,
@@ -21,6 +24,12 @@ pub struct BadShape {
     pub orders: Vec<Order>,
     /// The finals, as given.
     pub finals: Vec<FinalPair>,
+}
+
+impl fmt::Debug for BadShape {
+    fn fmt<W: fmt::Write>(&self, f: &mut fmt::Formatter<W>) -> fmt::Result {
+        f.debug_struct("BadShape").finish_non_exhaustive()
+    }
 }
 
 /// A history (Adya 1999, section 3.1): events in one list, the version orders of the keys, and what the keys hold
