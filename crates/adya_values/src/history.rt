@@ -169,50 +169,19 @@ fn is_shape(orders: &[Order], finals: &[FinalPair]) -> bool
 }
 
 fn all_have_writers(orders: &[Order]) -> bool
-    ensures { result ≡ list_all (λ o. not (length o.writers == 0)) (map order_of orders.now) }
+    ensures { result ≡ list_all (λ o. not (length o.writers.items == 0)) orders.now }
 {
-    for o in orders {
-        if o.writers.as_slice().is_empty() {
-            return false;
-        }
-    }
-    true
-}
-
-fn is_below(low: Key, high: Key) -> bool
-    ensures { result ≡ key_lt low high }
-{
-    low < high
+    orders.iter().all(|o| !o.writers.is_empty())
 }
 
 fn order_keys_rise(orders: &[Order]) -> bool
     ensures { result ≡ keys_rise (map (λ o. o.key) (map order_of orders.now)) }
 {
-    let [first, rest @ ..] = orders else {
-        return true;
-    };
-    let mut last = first.key;
-    for o in rest {
-        if !is_below(last, o.key) {
-            return false;
-        }
-        last = o.key;
-    }
-    true
+    orders.is_sorted_by(|a, b| a.key < b.key)
 }
 
 fn final_keys_rise(finals: &[FinalPair]) -> bool
     ensures { result ≡ keys_rise (map (λ f. f.key) (map final_of finals.now)) }
 {
-    let [first, rest @ ..] = finals else {
-        return true;
-    };
-    let mut last = first.key;
-    for f in rest {
-        if !is_below(last, f.key) {
-            return false;
-        }
-        last = f.key;
-    }
-    true
+    finals.is_sorted_by(|a, b| a.key < b.key)
 }
