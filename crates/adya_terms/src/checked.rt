@@ -1,6 +1,6 @@
 //! Checked histories.
 
-ghost use Rattle.std.specs.Prelude.{◌≡◌, ◌≢◌, ℕ, List, [], true, None, Some, map, option_map, is_none, IfOk, IfErr, MatchResult};
+ghost use Rattle.std.specs.Prelude.{◌≡◌, ◌≢◌, ◌^◌, ◌<◌, ℕ, List, [], true, None, Some, map, option_map, is_none, IfOk, IfErr, MatchResult};
 ghost use Rattle.std.specs.List.{list_all};
 ghost use Rattle.adya_values.specs.Meaning.Keys.{keys_rise};
 ghost use Rattle.adya_values.specs.Meaning.Histories.{entry_of, event_of, order_of, final_of};
@@ -101,10 +101,8 @@ fn check(
     if let Err(fault) = check_unfinished(&tables, events, unfinished, events.len() + 2) {
         return Err(fault);
     }
-    let Some(line) = (events.len() + 2).checked_add(unfinished.len()) else {
-        return Err(CheckFault::Memory);
-    };
-    if let Err(fault) = check_rules(alloc, &tables, events, &set, orders, finals, line) {
+    let orders_line = events.len() + 2 + unfinished.len();
+    if let Err(fault) = check_rules(alloc, &tables, events, &set, orders, finals, orders_line) {
         return Err(fault);
     }
     if let Err(fault) = check_reads(&tables, events, &set) {
@@ -142,6 +140,7 @@ fn check_rules(
     finals: &[FinalPair],
     line: usize,
 ) -> Result<(), CheckFault>
+    requires near { line < 2 ^ 62 }
     requires tell { Means tables.now (map event_of events.now) (map event_of events.now) }
     requires orders_rise { keys_rise (map (λ o. o.key) (map order_of orders.now)) ≡ true }
     requires finals_rise { keys_rise (map (λ f. f.key) (map final_of finals.now)) ≡ true }
@@ -159,8 +158,5 @@ fn check_rules(
     if let Err(fault) = check_orders(alloc, tables, events, orders, line) {
         return Err(fault);
     }
-    let Some(later) = line.checked_add(orders.len()) else {
-        return Err(CheckFault::Memory);
-    };
-    check_finals(tables, events, orders, finals, later)
+    check_finals(tables, events, orders, finals, line + orders.len())
 }

@@ -1,6 +1,6 @@
 //! M6, and aborted and intermediate reads (Adya 1999, G1a and G1b).
 
-ghost use Rattle.std.specs.Prelude.{◌≡◌, ◌||◌, ◌==◌, ℕ, List, [], true, not, map, filter, IfOk, MatchResult};
+ghost use Rattle.std.specs.Prelude.{◌≡◌, ◌^◌, ◌<◌, ◌||◌, ◌==◌, ℕ, List, [], true, not, map, filter, IfOk, MatchResult};
 ghost use Rattle.std.specs.List.{filter_map, list_all, list_any};
 ghost use Rattle.adya_values.specs.Meaning.Histories.{Event as EventValue, entry_of, event_of};
 ghost use Rattle.adya_values.specs.Meaning.Events.{txn_of, written, aborts, has_ended, last_write};
@@ -8,7 +8,6 @@ ghost use Rattle.adya_values.specs.Computing.Faults.{entry_eq, is_entry, was_wri
 ghost use Rattle.adya_terms.specs.Machinery.Tables.{Means};
 ghost use Rattle.adya_terms.specs.Machinery.Checks.{Names, Holds, IsFirst, ends, refused, is_not_aborted, are_written, is_own_or_last};
 
-use crate::listed::broken;
 use crate::tables::Tables;
 use crate::{CheckFault, Content, Entry, Event, Rule, Txn, Version};
 use std::alloc::{AllocError, Global};
@@ -32,13 +31,17 @@ pub(crate) fn check_unfinished(
     unfinished: &[Txn],
     first: usize,
 ) -> Result<(), CheckFault>
-    requires { Means tables.now (map event_of events.now) (map event_of events.now) }
+    requires near { first < 2 ^ 63 }
+    requires tell { Means tables.now (map event_of events.now) (map event_of events.now) }
     ensures { let found = unfinished_faults (map event_of events.now) first unfinished.now in
         MatchResult result (λ u. found ≡ []) (Names found) }
 {
     for (i, txn) in unfinished.iter().enumerate() {
         if tables.has_ended(*txn) {
-            return Err(broken(first, i, Rule::M6));
+            return Err(CheckFault::Malformed {
+                line: first + i,
+                rule: Rule::M6,
+            });
         }
     }
     Ok(())

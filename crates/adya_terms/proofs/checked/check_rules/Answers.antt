@@ -29,7 +29,7 @@ returns c us holds =
     let r = c.check_finals.result in
     let ends : fault_unless (all_end h) line M6 ≡ [] =
     ap (λ b. fault_unless b line M6) (sym (c.all_end.ensures us holds) ∙ c.if-not-all_end.false) in
-    let at : c.in-Some.later ≡ line + length h.orders = c.in-Some.ensures.1 ∙ ap (λ n. line + n) (sym (length-map c.args.orders.now order_of)) in
+    let at : line + length c.args.orders.now ≡ line + length h.orders = ap (λ n. line + n) (sym (length-map c.args.orders.now order_of)) in
     found_behind r (fault_unless (all_end h) line M6) _ ends
     (found_behind r (listing_faults h line) _ c.in_default.ensures
     (subst (λ n. MatchResult r (λ u. final_value_faults h n ≡ []) (Names (final_value_faults h n))) at c.check_finals.ensures))
