@@ -6,6 +6,7 @@ ghost use Rattle.adya_values.specs.Meaning.Histories.{Event as EventValue, entry
 ghost use Rattle.adya_values.specs.Meaning.Events.{txn_of, written, aborts, has_ended, last_write};
 ghost use Rattle.adya_values.specs.Computing.Faults.{entry_eq, is_entry, was_written, bad_reads, unfinished_faults};
 ghost use Rattle.adya_terms.specs.Machinery.Tables.{Means};
+ghost use Rattle.adya_terms.specs.Machinery.Checks as checks;
 ghost use Rattle.adya_terms.specs.Machinery.Checks.{Names, Holds, IsFirst, ends, refused, is_not_aborted, are_written, is_own_or_last};
 
 use crate::tables::Tables;
@@ -49,26 +50,16 @@ pub(crate) fn check_unfinished(
 
 /// Whether the transaction has ended or is unfinished.
 fn is_done(tables: &Tables, unfinished: &BTreeSet<Txn>, txn: Txn) -> bool
-    ensures { (all : List EventValue) (us : List ℕ)
-        → Means tables.now all all
-        → Holds unfinished.now us
-        → result ≡ (has_ended all txn || list_any (λ u. u == txn) us) }
+    ensures { result ≡ checks.is_done tables.now unfinished.now txn }
 {
     tables.has_ended(txn) || unfinished.contains(&txn)
 }
 
 /// Whether each event's transaction has ended or is unfinished.
 pub(crate) fn all_end(tables: &Tables, events: &[Event], unfinished: &BTreeSet<Txn>) -> bool
-    requires { Means tables.now (map event_of events.now) (map event_of events.now) }
-    ensures { let all = map event_of events.now in
-        (us : List ℕ) → Holds unfinished.now us → result ≡ list_all (ends all us) all }
+    ensures { result ≡ list_all (λ e. checks.is_done tables.now unfinished.now (txn_of (event_of e))) events.now }
 {
-    for event in events {
-        if !is_done(tables, unfinished, event.txn()) {
-            return false;
-        }
-    }
-    true
+    events.iter().all(|event| is_done(tables, unfinished, event.txn()))
 }
 
 /// Whether the transaction has aborted or is unfinished.
