@@ -6,7 +6,7 @@ use Rattle.adya_values.specs.Meaning.Histories.{History}
 use Rattle.adya_values.specs.Meaning.Shapes.{is_shape}
 use Rattle.adya_values.specs.Meaning.Acceptance.{IsChecked}
 use Rattle.adya_values.specs.Computing.Faults.{first_fault}
-use Rattle.adya_terms.specs.Machinery.Checks.{IsFault}
+use Rattle.adya_terms.specs.Meaning.Faults.{IsFault}
 use Rattle.adya_terms.proofs.Converse.{no_fault_when_checked}
 
 -- a fault that was found is there

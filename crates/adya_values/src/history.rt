@@ -47,6 +47,8 @@ pub struct History {
 }
 
 impl History {
+    ghost use Rattle.adya_values.specs.Meaning.Values.{history_of, edition_in, events_in, unfinished_in, orders_in, finals_in};
+
     /// The history of the first edition with these lists; `BadShape` with the lists where an order names no writer,
     /// or the keys of the orders or of the finals don't rise strictly.
     pub fn new(
@@ -55,7 +57,7 @@ impl History {
         finals: Vec<FinalPair>,
     ) -> Result<History, BadShape>
         ensures limits { IsOk result ↔ (is_shape (map order_of orders.items) (map final_of finals.items) ≡ true) }
-        ensures edition { IfOk result (λ h. (h.edition ≡ Edition.One) × (h.unfinished.items ≡ [])) }
+        ensures edition { IfOk result (λ h. (edition_in h ≡ Edition.One) × (unfinished_in h ≡ [])) }
         ensures same { IfOk result (λ h. (h.events ≡ events) × (h.orders ≡ orders) × (h.finals ≡ finals)) }
         ensures back { IfErr result (λ b. (b.events ≡ events) × (b.orders ≡ orders) × (b.finals ≡ finals)) }
     {
@@ -87,7 +89,7 @@ impl History {
     ) -> Result<History, BadShape>
         ensures limits { IsOk result
             ↔ ((numbers_rise unfinished.items && is_shape (map order_of orders.items) (map final_of finals.items)) ≡ true) }
-        ensures edition { IfOk result (λ h. h.edition ≡ Edition.Two) }
+        ensures edition { IfOk result (λ h. edition_in h ≡ Edition.Two) }
         ensures same { IfOk result (λ h. (h.events ≡ events) × (h.unfinished ≡ unfinished) × (h.orders ≡ orders) × (h.finals ≡ finals)) }
         ensures back { IfErr result (λ b. (b.events ≡ events) × (b.unfinished ≡ unfinished) × (b.orders ≡ orders) × (b.finals ≡ finals)) }
     {
@@ -110,37 +112,37 @@ impl History {
 
     /// The edition of the history's text.
     pub fn edition(&self) -> Edition
-        ensures { result ≡ self.now.edition }
+        ensures { result ≡ edition_in self.now }
     {
         self.edition
     }
 
     /// The unfinished transactions, rising; none in the first edition.
     pub fn unfinished(&self) -> &[Txn]
-        ensures value { result.now ≡ self.now.unfinished.items }
-        ensures edited { fits_edition self.now.edition self.now.unfinished.items ≡ true }
+        ensures value { result.now ≡ unfinished_in self.now }
+        ensures edited { fits_edition (edition_in self.now) (unfinished_in self.now) ≡ true }
     {
         &self.unfinished
     }
 
     /// The events, in the order in which they happened.
     pub fn events(&self) -> &[Event]
-        ensures { result.now ≡ self.now.events.items }
+        ensures { result.now ≡ events_in self.now }
     {
         &self.events
     }
 
     /// The version orders, by rising key.
     pub fn orders(&self) -> &[Order]
-        ensures value { result.now ≡ self.now.orders.items }
-        ensures shape { is_shape (map order_of self.now.orders.items) (map final_of self.now.finals.items) ≡ true }
+        ensures value { result.now ≡ orders_in self.now }
+        ensures shape { is_shape (history_of self.now).orders (history_of self.now).finals ≡ true }
     {
         &self.orders
     }
 
     /// What the keys hold after all, by rising key.
     pub fn finals(&self) -> &[FinalPair]
-        ensures { result.now ≡ self.now.finals.items }
+        ensures { result.now ≡ finals_in self.now }
     {
         &self.finals
     }

@@ -12,7 +12,6 @@ use Rattle.adya_values.specs.declared.order.Order.{Order as OrderValue}
 use Rattle.adya_values.specs.declared.order.FinalPair.{FinalPair as FinalValue}
 use Rattle.adya_values.specs.declared.fault.Rule.TheVariants.{M6, M7, M8}
 use Rattle.adya_values.specs.declared.fault.CheckFault.{CheckFault}
-use Rattle.adya_values.specs.declared.fault.CheckFault.TheVariants.{Malformed, AbortedRead, IntermediateRead, Memory}
 use Rattle.adya_terms.specs.declared.tables.Own.{Own}
 use Rattle.adya_terms.specs.declared.tables.Tables.{Tables}
 use Rattle.adya_terms.specs.declared.listed.Times.{Times}
@@ -23,14 +22,8 @@ use Rattle.adya_values.specs.declared.edition.Edition.TheVariants.{One, Two}
 use Rattle.adya_values.specs.Meaning.Events.{txn_of, written, observed, is_committed, has_ended, aborts, last_write}
 use Rattle.adya_values.specs.Meaning.Rules.{installs}
 use Rattle.adya_values.specs.Computing.Faults.{entry_eq, first, is_entry, fault_unless, aborted_reads, all_end, intermediate_reads, order_faults, has_lines, final_faults, has_finals}
+use Rattle.adya_terms.specs.Meaning.Faults.{IsFault}
 use Rattle.adya_terms.specs.Machinery.Tables.{own, own_eq}
-
--- it is this fault, or memory ran out
-abbrev pub IsFault : Option CheckFault → CheckFault → Type 0
-IsFault found (Malformed line rule) = found ≡ Some (Malformed line rule)
-IsFault found (AbortedRead line version) = found ≡ Some (AbortedRead line version)
-IsFault found (IntermediateRead line version) = found ≡ Some (IntermediateRead line version)
-IsFault found Memory = Unit {0}
 
 -- the fault is the first of the list, or memory ran out
 abbrev pub Names : List CheckFault → CheckFault → Type 0
