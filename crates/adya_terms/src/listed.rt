@@ -1,6 +1,6 @@
 //! M7: the order of a key lists its committed writers, once each.
 
-ghost use Rattle.std.specs.Prelude.{◌≡◌, ◌+◌, ◌==◌, ℕ, List, [], true, not, ◌&&◌, ◌||◌, ◌⊎◌, map, cond, count_by, option_copied, is_some, IfSome, IfOk, MatchOption, MatchResult, Contains};
+ghost use Rattle.std.specs.Prelude.{◌≡◌, ◌+◌, ◌^◌, ◌<◌, ◌==◌, ℕ, List, [], true, not, ◌&&◌, ◌||◌, map, cond, count_by, option_copied, is_some, IfSome, IfOk, MatchOption, MatchResult, Contains};
 ghost use Rattle.std.specs.List.{filter_map, list_all, list_any};
 ghost use Rattle.std.specs.HashMap.{get};
 ghost use Rattle.std.specs.BTreeSet.{contains};
@@ -181,6 +181,7 @@ fn check_lines(
     orders: &[Order],
     first: usize,
 ) -> Result<(), CheckFault>
+    requires near { first < 2 ^ 63 }
     requires lists { Lists listed.now (map order_of orders.now) }
     requires rise { keys_rise (map (λ o. o.key) (map order_of orders.now)) ≡ true }
     ensures { let os = map order_of orders.now in
@@ -192,7 +193,10 @@ fn check_lines(
 {
     for (i, order) in orders.iter().enumerate() {
         if !is_exact(tables, listed, unlisted, order) {
-            return Err(broken(first, i, Rule::M7));
+            return Err(CheckFault::Malformed {
+                line: first + i,
+                rule: Rule::M7,
+            });
         }
     }
     Ok(())
@@ -207,6 +211,7 @@ pub(crate) fn check_orders(
     orders: &[Order],
     first: usize,
 ) -> Result<(), CheckFault>
+    requires near { first < 2 ^ 63 }
     requires tell { Means tables.now (map event_of events.now) (map event_of events.now) }
     requires rise { keys_rise (map (λ o. o.key) (map order_of orders.now)) ≡ true }
     ensures { let found = listing_faults (parts events.now orders.now []) first in
@@ -224,17 +229,10 @@ pub(crate) fn check_orders(
     // no line is at fault, so what is left out has none
     match unlisted.first() {
         None => Ok(()),
-        Some(_) => Err(broken(first, orders.len(), Rule::M7)),
-    }
-}
-
-/// The rule is broken so many lines after the line; `Memory` where that line has no number.
-pub(crate) fn broken(line: usize, after: usize, rule: Rule) -> CheckFault
-    ensures { (result ≡ CheckFault.Malformed (line + after) rule) ⊎ (result ≡ CheckFault.Memory) }
-{
-    match line.checked_add(after) {
-        None => CheckFault::Memory,
-        Some(line) => CheckFault::Malformed { line, rule },
+        Some(_) => Err(CheckFault::Malformed {
+            line: first + orders.len(),
+            rule: Rule::M7,
+        }),
     }
 }
 

@@ -1,14 +1,14 @@
 //! M6, and aborted and intermediate reads (Adya 1999, G1a and G1b).
 
-ghost use Rattle.std.specs.Prelude.{◌≡◌, ◌||◌, ◌==◌, ℕ, List, [], true, not, map, filter, IfOk, MatchResult};
+ghost use Rattle.std.specs.Prelude.{◌≡◌, ◌^◌, ◌<◌, ◌||◌, ◌==◌, ℕ, List, [], true, not, map, filter, IfOk, MatchResult};
 ghost use Rattle.std.specs.List.{filter_map, list_all, list_any};
 ghost use Rattle.adya_values.specs.Meaning.Histories.{Event as EventValue, entry_of, event_of};
 ghost use Rattle.adya_values.specs.Meaning.Events.{txn_of, written, aborts, has_ended, last_write};
 ghost use Rattle.adya_values.specs.Computing.Faults.{entry_eq, is_entry, was_written, bad_reads, unfinished_faults};
 ghost use Rattle.adya_terms.specs.Machinery.Tables.{Means};
+ghost use Rattle.adya_terms.specs.Machinery.Checks as checks;
 ghost use Rattle.adya_terms.specs.Machinery.Checks.{Names, Holds, IsFirst, ends, refused, is_not_aborted, are_written, is_own_or_last};
 
-use crate::listed::broken;
 use crate::tables::Tables;
 use crate::{CheckFault, Content, Entry, Event, Rule, Txn, Version};
 use std::alloc::{AllocError, Global};
@@ -32,13 +32,17 @@ pub(crate) fn check_unfinished(
     unfinished: &[Txn],
     first: usize,
 ) -> Result<(), CheckFault>
-    requires { Means tables.now (map event_of events.now) (map event_of events.now) }
+    requires near { first < 2 ^ 63 }
+    requires tell { Means tables.now (map event_of events.now) (map event_of events.now) }
     ensures { let found = unfinished_faults (map event_of events.now) first unfinished.now in
         MatchResult result (λ u. found ≡ []) (Names found) }
 {
     for (i, txn) in unfinished.iter().enumerate() {
         if tables.has_ended(*txn) {
-            return Err(broken(first, i, Rule::M6));
+            return Err(CheckFault::Malformed {
+                line: first + i,
+                rule: Rule::M6,
+            });
         }
     }
     Ok(())
@@ -46,26 +50,16 @@ pub(crate) fn check_unfinished(
 
 /// Whether the transaction has ended or is unfinished.
 fn is_done(tables: &Tables, unfinished: &BTreeSet<Txn>, txn: Txn) -> bool
-    ensures { (all : List EventValue) (us : List ℕ)
-        → Means tables.now all all
-        → Holds unfinished.now us
-        → result ≡ (has_ended all txn || list_any (λ u. u == txn) us) }
+    ensures { result ≡ checks.is_done tables.now unfinished.now txn }
 {
     tables.has_ended(txn) || unfinished.contains(&txn)
 }
 
 /// Whether each event's transaction has ended or is unfinished.
 pub(crate) fn all_end(tables: &Tables, events: &[Event], unfinished: &BTreeSet<Txn>) -> bool
-    requires { Means tables.now (map event_of events.now) (map event_of events.now) }
-    ensures { let all = map event_of events.now in
-        (us : List ℕ) → Holds unfinished.now us → result ≡ list_all (ends all us) all }
+    ensures { result ≡ list_all (λ e. checks.is_done tables.now unfinished.now (txn_of (event_of e))) events.now }
 {
-    for event in events {
-        if !is_done(tables, unfinished, event.txn()) {
-            return false;
-        }
-    }
-    true
+    events.iter().all(|event| is_done(tables, unfinished, event.txn()))
 }
 
 /// Whether the transaction has aborted or is unfinished.

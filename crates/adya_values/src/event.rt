@@ -7,9 +7,10 @@ ghost use Rattle.adya_values.specs.Computing.Faults.{content_eq, entry_eq};
 
 use crate::{Key, Mod, Txn, Value};
 use std::alloc::{AllocError, Global};
+use std::fmt;
 
 /// What a transaction made of a key by one of its writes (Adya 1999, section 3.1: an object version).
-#[derive(Clone, Copy, PartialEq, Eq, PartialOrd, Ord, Hash)]
+#[derive(Clone, Copy, Debug, PartialEq, Eq, PartialOrd, Ord, Hash)]
 pub struct Version {
     /// The object.
     pub key: Key,
@@ -17,6 +18,12 @@ pub struct Version {
     pub txn: Txn,
     /// Which of the writes of this key by this transaction it was, counted from 1.
     pub m: Mod,
+}
+
+impl fmt::Display for Version {
+    fn fmt<W: fmt::Write>(&self, f: &mut fmt::Formatter<W>) -> fmt::Result {
+        write!(f, "{}.{}:{}", self.key, self.txn.get(), self.m.get())
+    }
 }
 
 /// What a write leaves of a key.

@@ -1,6 +1,7 @@
 //! Why a history is not checked.
 
 use crate::Version;
+use thiserror::Error;
 
 /// The rules of well-formed histories.
 #[derive(Clone, Copy, Debug, PartialEq, Eq, Drop)]
@@ -25,15 +26,19 @@ pub enum Rule {
 
 /// Why a history is not well-formed without aborted and intermediate reads, or was not checked. Lines are those of
 /// the history's text, from 1.
-#[derive(Clone, Copy, Drop)]
+#[derive(Clone, Copy, Debug, Error, Drop)]
 pub enum CheckFault {
     /// The rule is broken at the line.
+    #[error("line {line} breaks rule {rule:?}")]
     Malformed { line: usize, rule: Rule },
     /// At the line a committed transaction reads this version of an aborted one (Adya 1999, G1a).
+    #[error("line {line} reads {version}, a version of an aborted transaction")]
     AbortedRead { line: usize, version: Version },
     /// At the line a committed transaction reads this version of another, which isn't that one's last write of the
     /// key (Adya 1999, G1b).
+    #[error("line {line} reads {version}, which its writer replaced")]
     IntermediateRead { line: usize, version: Version },
     /// Memory ran out; nothing is said of the history.
+    #[error("out of memory")]
     Memory,
 }

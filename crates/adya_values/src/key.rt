@@ -12,6 +12,7 @@ ghost use Rattle.adya_values.specs.Meaning.Keys.{is_key, is_key_byte};
 
 use crate::padded::padded;
 use std::cmp::Ordering;
+use std::fmt;
 use std::hash::{Hash, Hasher};
 use std::marker::Model;
 use thiserror::Error;
@@ -92,6 +93,21 @@ fn all_key_bytes(text: &[u8]) -> bool
     ensures { result ≡ list_all is_key_byte text.now }
 {
     text.iter().all(|b| is_key_byte(*b))
+}
+
+impl fmt::Display for Key {
+    fn fmt<W: fmt::Write>(&self, f: &mut fmt::Formatter<W>) -> fmt::Result {
+        for b in self.bytes() {
+            f.write_char(char::from(*b))?;
+        }
+        Ok(())
+    }
+}
+
+impl fmt::Debug for Key {
+    fn fmt<W: fmt::Write>(&self, f: &mut fmt::Formatter<W>) -> fmt::Result {
+        fmt::Display::fmt(self, f)
+    }
 }
 
 impl PartialEq for Key {

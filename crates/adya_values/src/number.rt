@@ -12,7 +12,7 @@ use thiserror::Error;
 pub struct BadNumber;
 
 /// The number of a transaction, 1 to 4294967295.
-#[derive(Clone, Copy, PartialEq, Eq, PartialOrd, Ord, Hash)]
+#[derive(Clone, Copy, Debug, PartialEq, Eq, PartialOrd, Ord, Hash)]
 pub struct Txn {
     number: u32,
 }
@@ -53,7 +53,7 @@ impl Txn {
 }
 
 /// Which write or delete of a key by a transaction it is, 1 to 65535.
-#[derive(Clone, Copy, PartialEq, Eq, PartialOrd, Ord, Hash)]
+#[derive(Clone, Copy, Debug, PartialEq, Eq, PartialOrd, Ord, Hash)]
 pub struct Mod {
     number: u16,
 }

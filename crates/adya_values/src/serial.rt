@@ -1,6 +1,7 @@
 //! Certificates.
 
 ghost use Rattle.std.specs.Prelude.{◌≡◌};
+ghost use Rattle.adya_values.specs.Meaning.Values.{serial_txns};
 
 use crate::Txn;
 
@@ -20,7 +21,7 @@ impl Serial {
 
     /// The transactions, the first one first.
     pub fn txns(&self) -> &[Txn]
-        ensures { result.now ≡ self.now.txns.items }
+        ensures { result.now ≡ serial_txns self.now }
     {
         &self.txns
     }

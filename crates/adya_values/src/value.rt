@@ -26,10 +26,12 @@ pub struct Value {
 }
 
 impl Value {
+    ghost use Rattle.adya_values.specs.Meaning.Histories.{value_of};
+
     /// The value of these bytes; `BadValue` exactly where they are none.
     pub fn new(text: &[u8]) -> Result<Value, BadValue>
         ensures limits { IsOk result ↔ (is_value text.now ≡ true) }
-        ensures same { IfOk result (λ v. take v.len v.bytes ≡ text.now) }
+        ensures same { IfOk result (λ v. value_of v ≡ text.now) }
     {
         if !is_value(text) {
             return Err(BadValue);
@@ -42,7 +44,7 @@ impl Value {
 
     /// The bytes of the value.
     pub fn bytes(&self) -> &[u8]
-        ensures same { result.now ≡ take self.now.len self.now.bytes }
+        ensures same { result.now ≡ value_of self.now }
         ensures limits { is_value result.now ≡ true }
     {
         &self.bytes[..self.len as usize]
@@ -50,7 +52,7 @@ impl Value {
 
     /// Whether the two are the same bytes.
     pub fn same(&self, other: &Value) -> bool
-        ensures { result ≡ pointwise nat_eq (take self.now.len self.now.bytes) (take other.now.len other.now.bytes) }
+        ensures { result ≡ pointwise nat_eq (value_of self.now) (value_of other.now) }
     {
         self.bytes() == other.bytes()
     }
