@@ -4,7 +4,7 @@ ghost use Rattle.std.specs.Prelude.{◌≡◌, ◌↔◌, true, length, map, IsO
 ghost use Rattle.std.specs.List.{list_all};
 ghost use Rattle.adya_values.specs.Meaning.Keys.{key_lt, keys_rise};
 ghost use Rattle.adya_values.specs.Meaning.Histories.{order_of, final_of};
-ghost use Rattle.adya_values.specs.Computing.Shapes.{is_shape, numbers_rise, fits_edition};
+ghost use Rattle.adya_values.specs.Meaning.Shapes.{is_shape, numbers_rise, fits_edition};
 
 use crate::order::{FinalPair, Order};
 use crate::{Edition, Event, Key, Txn};
