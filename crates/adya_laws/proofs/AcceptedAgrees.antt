@@ -1,4 +1,4 @@
--- The whole serial run.
+-- The serial run of an accepted history reproduces its reads, its scans and its final contents.
 use Rattle.std.proofs.Common.{◌≡◌, ℕ, suc, ◌==◌, ◌<◌, true, cond, ◌↔◌, map, List, [], ◌∷◌, ◌++◌, length, Option, Some, refl, sym, ◌∙◌, ap, subst, arith, inl, inr, append_assoc, length-append, append-nil}
 use Rattle.std.specs.List.{flat_map, Contains}
 use Rattle.std.proofs.lemmas.Bool.{cases_Bool, cases_lt, eqb-true, and_parts, cond-true}
@@ -20,7 +20,7 @@ use Rattle.adya_values.proofs.Places.{place_in, installer_there}
 use Rattle.lemmas.proofs.Counts.{count}
 use Rattle.lemmas.proofs.Members.{Contains-head}
 
--- one transaction's events
+-- the run of one transaction's events
 module _ (h : History) (ts : List ℕ) (a : IsAccepted h ts) (front : List ℕ) (t : ℕ) (back : List ℕ)
     (split : ts ≡ front ++ t ∷ back) (m : Contents) (stands : (k : List ℕ) → HoldsVersion h ts k (length front) (m k)) where
   pub own_see : (before es : List Event) → h.events ≡ before ++ es → EachAfter WasWritten before es
@@ -61,7 +61,7 @@ module _ (h : History) (ts : List ℕ) (a : IsAccepted h ts) (front : List ℕ) 
       (holds-step h ts a front t back split k (m k) (stands k))
 
 module _ (h : History) (ts : List ℕ) (a : IsAccepted h ts) where
-  -- what is left of the certificate sees what was recorded, and leaves the last versions
+  -- running the rest of the certificate reproduces what was recorded, and leaves the last versions
   pub record Runs (back : List ℕ) (m : Contents) : Type 0 where
     pub see : AllSee m (flat_map (events_of h.events) back)
     pub stand : (k : List ℕ) → HoldsVersion h ts k (length ts) (run m (flat_map (events_of h.events) back) k)

@@ -1,4 +1,4 @@
--- Along a path of forward edges the place in the certificate rises, so there is no cycle.
+-- Along a path of forward edges the place in the certificate rises, so no path is a cycle.
 use Rattle.std.proofs.Common.{◌≡◌, ℕ, ◌≤◌, List, [], ◌∷◌, ap, arith, inl, inr}
 use Rattle.std.specs.List.{AllByRecursion}
 use Rattle.adya_values.specs.Meaning.Histories.{History}

@@ -1,4 +1,4 @@
--- What is tested of a certificate, and acceptance.
+-- The tests of a certificate pass exactly if the history is accepted with it.
 use Rattle.std.proofs.Common.{◌≡◌, ℕ, true, not, List, None}
 use Rattle.std.proofs.lemmas.Bool.{ltb-true, lt-ltb, not-false, not_from_true}
 use Rattle.adya_values.specs.Meaning.Histories.{History}

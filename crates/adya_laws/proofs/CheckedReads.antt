@@ -1,4 +1,4 @@
--- What a committed transaction reads or lists of another in a checked history.
+-- In a checked history, what a committed transaction reads or lists of another is this one's last write, and it is committed.
 use Rattle.std.proofs.Common.{◌≡◌, ◌≢◌, true, false, ◌||◌, Some, subst, inl, inr}
 use Rattle.std.specs.List.{Contains}
 use Rattle.std.proofs.lemmas.Bool.{cases_Bool, both_ways, false_from_ne_true}
@@ -24,7 +24,7 @@ module _ (h : History) (checked : IsChecked h) where
         | inr f ↦ absurd (checked.no_intermediate_read (e, o, r, ne, (λ s. both_ways _ f (is_entry-from found o s))))
       ]
 
-  -- the writer of what is read is committed, where it has an event at all
+  -- the writer of what is read is committed, if it has an event at all
   pub read_committed : (e : Event) (o : Entry) → ReadsCommitted h e o → (w : Event) → Contains h.events w
       → txn_of w ≡ o.version.txn → is_committed h.events o.version.txn ≡ true
   read_committed e o r w there same =

@@ -1,4 +1,4 @@
--- The dependencies, in one list, are exactly the edges.
+-- The list of dependencies has exactly the edges.
 use Rattle.std.proofs.Common.{◌≡◌, ◌≢◌, ℕ, suc, true, List, Option, Some, None, refl, sym, ap, subst, inl, inr}
 use Rattle.std.specs.List.{filter, flat_map, Contains}
 use Rattle.std.proofs.lemmas.Option.{same_Some}
@@ -16,7 +16,7 @@ use Rattle.lemmas.proofs.Members.{none_contained, Contains-flat_map, flat_map-so
 use Rattle.adya_values.proofs.EdgeList.{Joins, Contains-joined, joined-source}
 
 module _ (h : History) where
-  -- an edge between places of a key's order, of an event, is listed
+  -- the list has the edges that an event gives between places of a key's order
   pub Contains-event_edges : (event : Event) (k : List ℕ) (p : ℕ) (e : Edge)
       → (o : Order) × Contains h.orders o × (o.key ≡ k) → Contains h.events event
       → is_committed h.events (txn_of event) ≡ true → selected h event k ≡ Some p

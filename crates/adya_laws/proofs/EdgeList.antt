@@ -16,7 +16,7 @@ use Rattle.lemmas.proofs.Members.{none_contained, Contains-cons, Contains-cases}
 use Rattle.adya_values.proofs.EdgeList.{edge_eq-same, edge_eq-from}
 use Rattle.lemmas.proofs.Options.{option_or-none}
 
--- an edge that is not added stands there already
+-- an edge that isn't added is in the list already
 pub seen_already : (seen : List Edge) (e : Edge) → list_any (edge_eq e) seen ≡ true → Contains seen e
 seen_already seen e t = Contains-from_any edge_eq-same e seen t
 
@@ -89,7 +89,7 @@ pub fold-distinct : (seen es : List Edge) → AllPairs (λ a b. a ≢ b) seen
 fold-distinct seen [] apart = apart
 fold-distinct seen (e ∷ es) apart = fold-distinct (with_edge seen e) es (with_edge-distinct seen e apart)
 
--- what is found first
+-- what a search finds first
 pub find_there : {X : Type 0} (p : X → Bool) (xs : List X) (x : X) → Contains xs x → p x ≡ true → (o : Option X)
     → option_or (find p xs) o ≡ find p xs
 find_there p [] x c t o = absurd (none_contained x c)

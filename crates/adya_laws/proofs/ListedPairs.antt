@@ -1,4 +1,4 @@
--- Look-ups by key and the pairs of a list: where keys rise, the first of a key is the only one.
+-- Looking up each key gives the same as the list of pairs, if the keys rise.
 use Rattle.std.proofs.Common.{◌≡◌, ℕ, true, ◌↔◌, List, map, Option, Some, None, refl, sym, ◌∙◌, ap, subst, inl, inr}
 use Rattle.std.specs.List.{All, Contains}
 use Rattle.std.proofs.lemmas.Option.{none-some, same_Some}
@@ -44,7 +44,7 @@ shown_pair es k v (Some w) e s =
     Contains-filter_map (λ x. visible_pair_of x.version.key (visible x.content)) es w (pair k v) at.0
     (ap (λ j. visible_pair_of j (visible w.content)) at.1 ∙ visible_pair k v w.content s)
 
--- key by key, or by pairs, it is the same to see a scan's list
+-- a map that agrees with a scan's list key by key has exactly its visible pairs in the range
 pub pairs_from_keys : (low high : List ℕ) (es : List Entry) (m : List ℕ → Option (List ℕ))
     → keys_rise (map (λ w. w.version.key) es) ≡ true
     → All (λ w. lies_in low high w.version.key ≡ true) es

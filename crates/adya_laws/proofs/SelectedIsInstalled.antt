@@ -1,4 +1,4 @@
--- What a committed transaction of a checked history reads or selects of another stands in the version order.
+-- In a checked history, what a committed transaction selects of another transaction is in the version order.
 use Rattle.std.proofs.Common.{◌≡◌, ◌≢◌, ℕ, suc, ◌==◌, ◌<◌, true, cond, not, ◌&&◌, List, [], Option, Some, None, is_some, sym, ◌∙◌, ap, subst, arith, inl, inr, refl}
 use Rattle.std.specs.List.{filter_map, Contains}
 use Rattle.std.proofs.lemmas.Bool.{cases_Bool, cases_eq, eq-eqb, ne_eqb, and_parts, and_from, not-true, cond-true}
@@ -20,7 +20,7 @@ use Rattle.lemmas.proofs.Members.{Contains-head}
 use Rattle.lemmas.proofs.Orderings.{bytes_eq-same}
 
 module _ (h : History) (checked : IsChecked h) where
-  -- whose version is read or listed stands in the order of its key
+  -- the transaction whose version is read or listed is in the order of its key
   reads_installed : (e : Event) (o : Entry) → ReadsCommitted h e o → o.version.txn ≢ txn_of e
       → installer h o.version.key (suc (place (writers h o.version.key) o.version.txn)) ≡ Some o.version.txn
   reads_installed e o reads ne =

@@ -1,4 +1,4 @@
--- What a key holds between two transactions of the certificate.
+-- In the serial run each key holds, between two transactions, one version of its order.
 use Rattle.std.proofs.Common.{◌≡◌, ◌≢◌, ℕ, suc, ◌+◌, ◌<◌, ◌≤◌, true, false, List, ◌∷◌, ◌++◌, length, Option, Some, None, is_some, refl, sym, ◌∙◌, ap, subst, arith, inl, inr}
 use Rattle.std.proofs.lemmas.Bool.{cases_Bool, cases_lt, and_parts, and_cases, both_ways}
 use Rattle.std.proofs.lemmas.Option.{same_Some, none-some}
@@ -14,7 +14,7 @@ use Rattle.adya_values.proofs.Places.{place_at, place_before, installer_within}
 use Rattle.lemmas.proofs.Booleans.{cond-positive, cond-at_most_one}
 use Rattle.lemmas.proofs.Counts.{count, count_same, count-append}
 
--- after the first n transactions the key holds the version at some place; the versions up to it are
+-- after the first n transactions the key holds the version at the place `upto`. The versions up to that place are
 -- those whose writers are among the first n
 pub record HoldsVersion (h : History) (ts : List ℕ) (k : List ℕ) (n : ℕ) (v : Option (List ℕ)) : Type 0 where
   pub upto : ℕ

@@ -1,4 +1,4 @@
--- In the serial run each event of a committed transaction sees what was recorded.
+-- In the serial run each event of a committed transaction reads what was recorded.
 use Rattle.std.proofs.Common.{◌≡◌, ◌≢◌, ℕ, zero, suc, ◌+◌, ◌-◌, ◌==◌, ◌<◌, ◌≤◌, Bool, true, false, not, ◌&&◌, List, [], ◌∷◌, ◌++◌, length, map, Option, Some, None, is_some, IfSome, refl, sym, ◌∙◌, ap, subst, arith, inl, inr}
 use Rattle.std.specs.List.{filter_map, Contains}
 use Rattle.std.proofs.lemmas.Bool.{cases_Bool, cases_lt, and_from, eq-eqb, ne_eqb, lt-ltb, or_left, or_right, cond-true, cond-false, not_from_false}
@@ -49,7 +49,7 @@ scan_selects h t low high l k p inside e =
 
 module _ (h : History) (ts : List ℕ) (a : IsAccepted h ts) (front : List ℕ) (t : ℕ) (back : List ℕ)
     (split : ts ≡ front ++ t ∷ back) where
-  -- a version that t reads or lists of a key that it has not written is another's, and stands in the order
+  -- a version that t reads or lists of a key that it hasn't written is another's, and is in the version order
   pub record IsOthers (o : Entry) : Type 0 where
     pub not_own : o.version.txn ≢ t
     pub installs : installer h o.version.key (suc (place (writers h o.version.key) o.version.txn)) ≡ Some o.version.txn
@@ -143,7 +143,7 @@ module _ (h : History) (ts : List ℕ) (a : IsAccepted h ts) (front : List ℕ) 
       s.value ∙ (ap (value_at h k) same ∙
       (ap (value_by h k) other.installs ∙ (ap shown other.last ∙ ap (λ w. shown (Some w)) live)))
 
-  -- a scan's selected version is what the key holds before the transaction
+  -- the version that a scan selects is what the key holds before the transaction
   module _ (u : ℕ) (low high : List ℕ) (l : List Entry) (k : List ℕ) (p : ℕ) (m : Option (List ℕ))
       (occurs : Contains h.events (Scan u low high l)) (mine : u ≡ t)
       (selects : selected h (Scan u low high l) k ≡ Some p) (s : HoldsVersion h ts k (length front) m) where
@@ -184,7 +184,7 @@ module _ (h : History) (ts : List ℕ) (a : IsAccepted h ts) (front : List ℕ) 
           | inr more ↦ let same : s.upto ≡ p = omega (arith, least, more) in s.value ∙ ap (value_at h k) same
         ]
 
-  -- the event sees what was recorded, after the earlier events of its transaction
+  -- after the earlier events of its transaction, the event reads what was recorded
   module _ (m : Contents) (stands : (k : List ℕ) → HoldsVersion h ts k (length front) (m k)) (before : List Event)
       (within : (w : Event) → Contains before w → Contains h.events w) where
     pub read_sees : (u : ℕ) (r : Version) (v : List ℕ) → Contains h.events (Read u r v) → u ≡ t

@@ -1,4 +1,4 @@
--- What a run leaves at a key.
+-- What running a list of events leaves at a key.
 use Rattle.std.proofs.Common.{◌≡◌, ℕ, ◌==◌, ◌&&◌, true, false, cond, List, [], ◌∷◌, ◌++◌, Option, Some, None, refl, ◌∙◌}
 use Rattle.adya_values.specs.Meaning.Histories.{Entry}
 use Rattle.adya_values.specs.Meaning.Histories.{Live, Dead}
@@ -8,7 +8,7 @@ use Rattle.adya_values.specs.Meaning.Keys.{key_eq}
 use Rattle.adya_values.specs.Meaning.Events.{version, entry, writes_of, last, last_write, shown}
 use Rattle.adya_values.specs.Meaning.Serial.{Contents, after, run, events_of, AllSee}
 
--- what a key holds where these were its last write and what it held before
+-- what a key holds, given its last write if there is one, and what it held before
 abbrev pub over : Option Entry → Option (List ℕ) → Option (List ℕ)
 over None old = old
 over (Some w) old = shown (Some w)

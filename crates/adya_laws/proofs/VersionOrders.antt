@@ -1,4 +1,4 @@
--- The version order of an accepted history rises along the certificate.
+-- The writers of a version order come in the certificate in the order in which they stand there.
 use Rattle.std.proofs.Common.{◌≡◌, ◌≢◌, ℕ, zero, suc, ◌+◌, ◌-◌, ◌<◌, true, List, Some, slice_get, ◌∙◌, ap, subst, arith}
 use Rattle.std.proofs.lemmas.Bool.{cond-true}
 use Rattle.std.proofs.lemmas.Option.{none-some, slice_get_within}
@@ -19,7 +19,7 @@ module _ (h : History) (ts : List ℕ) (a : IsAccepted h ts) where
   installer_installs k (suc q) u e =
       cond-positive (installs h.events k u) _ (a.checked.well_formed.orders k u) (count_at (writers h k) q u e)
 
-  -- who is committed and wrote the key stands in its order
+  -- a committed writer of the key is in its order
   pub installs_installer : (k : List ℕ) (u : ℕ) → installs h.events k u ≡ true
       → installer h k (suc (place (writers h k) u)) ≡ Some u
   installs_installer k u e =

@@ -1,4 +1,4 @@
--- Worked histories and certificates, with what is said of them.
+-- Worked histories and certificates, with the verdict on each.
 use Rattle.std.proofs.Common.{◌≡◌, ℕ, true, false, List, [], ◌∷◌, Some, None, refl, codes}
 use Rattle.adya_values.specs.declared.fault.Rule.TheVariants.{M1, M2, M3, M4, M5, M6, M7, M8}
 use Rattle.adya_values.specs.declared.fault.CheckFault.{CheckFault}
@@ -44,7 +44,7 @@ abbrev pub history_two : List Event → List ℕ → History
 history_two events unfinished =
     record { edition = Two; events = events; unfinished = unfinished; orders = []; finals = [] }
 
--- the answers to a history and a certificate
+-- the verdicts
 abbrev pub Yes : History → List ℕ → Type 0
 Yes h ts = (first_fault h ≡ None) × (lists_the_committed h ts ≡ true) × (first_backward h ts ≡ None)
 

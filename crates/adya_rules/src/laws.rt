@@ -1,10 +1,10 @@
-//! Laws of the definitions, each the contract of a function that does nothing.
+//! The list of faults is empty exactly for checked histories. The law is the contract of a function that does nothing.
 
 ghost use Rattle.adya_rules.specs.Meaning.Laws.{CheckedIfNoFault, CheckedWhereNoFault};
 
-/// No fault is found of a history exactly where it is well-formed without aborted and intermediate reads (Adya 1999,
-/// G1a and G1b). That the keys of its orders and of its finals rise, as those of every [`History`](adya_values::History)
-/// do, is needed in one direction alone: where no fault is found, the history is checked.
+/// A history has no fault exactly if it is well-formed without aborted and intermediate reads (Adya 1999, G1a and
+/// G1b). That a history without faults is checked holds whatever its shape. The other direction needs that its orders
+/// and finals rise by key, as those of every [`History`](adya_values::History) do.
 pub fn checked_where_no_fault()
     ensures sound { CheckedIfNoFault }
     ensures exact { CheckedWhereNoFault }

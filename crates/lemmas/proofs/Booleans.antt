@@ -1,6 +1,6 @@
 -- Tests that are joined by and, or and not. More of them are in std (lemmas.Bool and Math.Bool).
 use Rattle.std.proofs.Common.{◌≡◌, ℕ, ◌<◌, ◌≤◌, Bool, true, false, cond, not, ◌&&◌, ◌||◌, refl, sym, arith}
-use Rattle.std.proofs.lemmas.Bool.{both_ways, not_from_true}
+use Rattle.std.proofs.lemmas.Bool.{both_ways}
 
 -- two tests that imply one another
 pub same_test : (b c : Bool) → (b ≡ true → c ≡ true) → (c ≡ true → b ≡ true) → b ≡ c
@@ -12,10 +12,6 @@ same_test false false up down = refl
 pub or_unless : (b c : Bool) → (b ≡ true → c ≡ true) → (not b || c) ≡ true
 or_unless true c h = h refl
 or_unless false c h = refl
-
-pub and_not-false : (b c : Bool) → (b ≡ true → c ≡ true) → (b && not c) ≡ false
-and_not-false true c h = not_from_true c (h refl)
-and_not-false false c h = refl
 
 pub cond_or : (b x : Bool) → cond b true x ≡ (x || b)
 cond_or true true = refl

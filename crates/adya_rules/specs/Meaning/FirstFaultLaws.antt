@@ -12,7 +12,7 @@ use Rattle.adya_values.specs.Computing.Faults.{first_fault}
 use Rattle.adya_values.specs.Computing.Certificates.{first_backward}
 use Rattle.adya_rules.specs.Meaning.FirstFaults.{BreaksRule, IsFirstMalformed, IsFirstAbortedRead, IsFirstIntermediateRead, IsFirstBackward}
 
--- a history whose lines are in the order of their keys is well-formed exactly if it breaks no rule at any line
+-- a history whose orders and finals rise by key is well-formed exactly if it breaks no rule at any line
 abbrev pub WellFormedWhereUnbroken : Type 0
 WellFormedWhereUnbroken = (h : History) → is_shape h.orders h.finals ≡ true
     → ((line : ℕ) (rule : Rule) → BreaksRule h line rule → ⊥) ↔ IsWellFormed h
@@ -27,7 +27,7 @@ abbrev pub NamedAbortedReadIsFirst : Type 0
 NamedAbortedReadIsFirst = (h : History) (line : ℕ) (v : Version) → first_fault h ≡ Some (AbortedRead line v)
     → IsWellFormed h × IsFirstAbortedRead h line v
 
--- if a history in shape is well-formed and has aborted reads, the first one is named
+-- if such a history is well-formed and has aborted reads, the first one is named
 abbrev pub FirstAbortedReadIsNamed : Type 0
 FirstAbortedReadIsNamed = (h : History) (line : ℕ) (v : Version) → is_shape h.orders h.finals ≡ true
     → IsWellFormed h → IsFirstAbortedRead h line v → first_fault h ≡ Some (AbortedRead line v)
@@ -37,7 +37,7 @@ abbrev pub NamedIntermediateReadIsFirst : Type 0
 NamedIntermediateReadIsFirst = (h : History) (line : ℕ) (v : Version) → first_fault h ≡ Some (IntermediateRead line v)
     → IsWellFormed h × (HasG1a h → ⊥) × IsFirstIntermediateRead h line v
 
--- if a history in shape is well-formed without aborted reads and has intermediate reads, the first one is named
+-- if such a history is well-formed without aborted reads and has intermediate reads, the first one is named
 abbrev pub FirstIntermediateReadIsNamed : Type 0
 FirstIntermediateReadIsNamed = (h : History) (line : ℕ) (v : Version) → is_shape h.orders h.finals ≡ true
     → IsWellFormed h → (HasG1a h → ⊥) → IsFirstIntermediateRead h line v

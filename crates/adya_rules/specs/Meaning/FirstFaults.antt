@@ -41,7 +41,7 @@ LeavesOpen h =
 abbrev pub ListsWriters : History → Order → Type 0
 ListsWriters h o = (t : ℕ) → count_by (λ u. u == t) o.writers ≡ cond (installs h.events o.key t) 1 0
 
--- a key with a committed writer has no order line
+-- there is no order line for a key that a committed transaction wrote
 abbrev pub LacksOrder : History → Type 0
 LacksOrder h =
     (k : List ℕ) × (t : ℕ) × (installs h.events k t ≡ true) × ((o : Order) → Contains h.orders o → o.key ≢ k)
@@ -50,7 +50,7 @@ LacksOrder h =
 abbrev pub ShowsLast : History → FinalPair → Type 0
 ShowsLast h f = last_value h f.key ≡ Some f.value
 
--- a key whose last version is visible has no final line
+-- there is no final line for a key with a visible last version
 abbrev pub LacksFinal : History → Type 0
 LacksFinal h =
     (k v : List ℕ) × (last_value h k ≡ Some v) × ((f : FinalPair) → Contains h.finals f → f.key ≢ k)

@@ -9,6 +9,6 @@ use Rattle.adya_values.specs.Computing.Faults.{first_fault}
 abbrev pub CheckedIfNoFault : Type 0
 CheckedIfNoFault = (h : History) → first_fault h ≡ None → IsChecked h
 
--- a history whose lines are in the order of their keys has no fault exactly if it is checked
+-- a history whose orders and finals rise by key has no fault exactly if it is checked
 abbrev pub CheckedWhereNoFault : Type 0
 CheckedWhereNoFault = (h : History) → is_shape h.orders h.finals ≡ true → (first_fault h ≡ None) ↔ IsChecked h
