@@ -2,7 +2,6 @@
 use Rattle.std.proofs.Common.{◌≡◌, ℕ, suc, ◌+◌, ◌<◌, Bool, false, ◌&&◌, List, ◌∷◌, sym, ◌∙◌, ap, arith, map, drop, get_or, length}
 use Rattle.std.proofs.Math.Seq.{drop-cons}
 use Rattle.std.specs.List.{list_all}
-use Rattle.adya_values.specs.Meaning.Keys.{key_lt, keys_rise}
 
 -- what is left of a list at an index, by its first element
 pub drop_step : {Y : Type 0} (ys : List Y) (i : ℕ) (y : Y) → i < length ys → y ≡ get_or ys i y → drop i ys ≡ y ∷ drop (i + 1) ys
@@ -13,8 +12,3 @@ drop_step ys i y l e =
 pub list_all_fails : {X Y : Type 0} (f : X → Bool) (view : Y → X) (ys : List Y) (i : ℕ) (y : Y) → i < length ys → y ≡ get_or ys i y → f (view y) ≡ false → list_all f (map view (drop i ys)) ≡ false
 list_all_fails f view ys i y l at e =
     ap (λ x. list_all f (map view x)) (drop_step ys i y l at) ∙ ap (λ b. b && list_all f (map view (drop (i + 1) ys))) e
-
-pub rise_fails : {X Y : Type 0} (key : X → List ℕ) (view : Y → X) (last : List ℕ) (ys : List Y) (i : ℕ) (y : Y) → i < length ys → y ≡ get_or ys i y → key_lt last (key (view y)) ≡ false
-    → keys_rise (last ∷ map key (map view (drop i ys))) ≡ false
-rise_fails key view last ys i y l at e =
-    ap (λ x. keys_rise (last ∷ map key (map view x))) (drop_step ys i y l at) ∙ ap (λ b. b && keys_rise (key (view y) ∷ map key (map view (drop (i + 1) ys)))) e
