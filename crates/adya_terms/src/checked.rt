@@ -1,4 +1,4 @@
-//! Checked histories.
+//! Histories that passed their check, and the check itself.
 
 ghost use Rattle.std.specs.Prelude.{◌≡◌, ◌≢◌, ◌^◌, ◌<◌, ℕ, List, [], true, None, Some, map, option_map, is_none, IfOk, IfErr, MatchResult};
 ghost use Rattle.std.specs.List.{list_all};
@@ -22,7 +22,8 @@ use crate::{CheckFault, Entry, Event, FinalPair, History, Key, Order, Rule, Txn}
 use std::alloc::Global;
 use std::collections::BTreeSet;
 
-/// A history that is well-formed without aborted and intermediate reads (Adya 1999, G1a and G1b).
+/// A history that passed its check: it is well-formed and has no aborted and no intermediate reads (Adya 1999, G1a and
+/// G1b).
 #[derive(Drop)]
 pub struct Checked<'a> {
     history: &'a History,
@@ -34,13 +35,15 @@ pub struct Checked<'a> {
 impl<'a> Checked<'a> {
     ghost use Rattle.adya_terms.specs.Meaning.Checked.{checked_history, history_in};
 
-    /// Checks the history: its first fault, in the order of kinds, lines and rules, or `CheckFault::Memory` where
-    /// memory runs out, which says nothing of the history.
+    /// Checks the history. Returns its first fault if it has one: broken rules come before aborted reads, and these
+    /// before intermediate reads; within a kind the first line decides, and then the first rule. Returns
+    /// `CheckFault::Memory` if memory runs out, which says nothing about the history.
     pub fn of(alloc: Global, history: &'a History) -> Result<Checked<'a>, CheckFault>
         ensures found { MatchResult result (λ c. first_fault (history_of history.now) ≡ None)
             (IsFault (first_fault (history_of history.now))) }
         ensures same { IfOk result (λ c. history_in c ≡ history.now) }
-        // It succeeds exactly where the history is well-formed without aborted and intermediate reads.
+        // It succeeds only if the history is well-formed without aborted and intermediate reads, and names a fault only
+        // if it isn't.
         ensures checked { IfOk result (λ c. IsChecked (checked_history c)) }
         ensures refused { IfErr result (λ e. e ≢ CheckFault.Memory → IsChecked (history_of history.now) → ⊥) }
     {
@@ -57,7 +60,7 @@ impl<'a> Checked<'a> {
         }
     }
 
-    /// The history.
+    /// Returns the history.
     pub fn history(&self) -> &History
         ensures same { result.now ≡ history_in self.now }
         ensures faultless { first_fault (history_of result.now) ≡ None }
@@ -67,15 +70,15 @@ impl<'a> Checked<'a> {
         self.history
     }
 
-    /// Whether the transaction has committed.
+    /// Returns whether the transaction has committed.
     pub fn is_committed(&self, txn: Txn) -> bool
         ensures { result ≡ is_committed (checked_history self.now).events txn }
     {
         self.tables.has_committed(txn)
     }
 
-    /// The transaction's last write of the key (Adya 1999, section 3.1), whether it has committed or not; `None`
-    /// where it has written none.
+    /// Returns the transaction's last write of the key (Adya 1999, section 3.1), whether or not the transaction has
+    /// committed; `None` if it has written none.
     pub fn last_write(&self, txn: Txn, key: Key) -> Option<Entry>
         ensures { option_map entry_of result ≡ last_write txn key (checked_history self.now).events }
     {
@@ -83,7 +86,7 @@ impl<'a> Checked<'a> {
     }
 }
 
-/// The tables of the events, where the lists have no fault.
+/// Makes the tables of the events, if the lists have no fault.
 fn check(
     alloc: Global,
     events: &[Event],
@@ -117,7 +120,7 @@ fn check(
     Ok(tables)
 }
 
-/// G1a and G1b.
+/// Looks for the first aborted read (G1a), and then for the first intermediate read (G1b).
 fn check_reads(
     tables: &Tables,
     events: &[Event],
@@ -136,7 +139,8 @@ fn check_reads(
     check_intermediate(tables, events)
 }
 
-/// That all transactions end or are unfinished, M7 and M8, where `line` is that of the first order.
+/// Looks for the first fault after the unfinished transactions: a transaction that doesn't end, M7 and M8. The line
+/// of the first order is `line`.
 fn check_rules(
     alloc: Global,
     tables: &Tables,

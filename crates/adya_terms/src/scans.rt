@@ -15,14 +15,16 @@ use crate::{Entry, Event, Key, Txn};
 use std::alloc::{AllocError, Global};
 use std::collections::BTreeMap;
 
-/// Whether each entry was written before.
+/// Returns whether each entry was written before.
 pub(crate) fn all_written(tables: &Tables, events: &[Event], entries: &[Entry]) -> bool
     ensures { let all = map event_of events.now in
         result
         ≡ list_all (λ w. is_at (get own_eq tables.now.last) (get version_eq tables.now.replaced) all (entry_of w))
         entries.now }
 {
-    entries.iter().all(|entry| tables.was_written(events, entry))
+    entries
+        .iter()
+        .all(|entry| tables.was_written(events, entry))
 }
 
 fn lies_in(lo: Key, hi: Key, key: Key) -> bool
@@ -31,49 +33,51 @@ fn lies_in(lo: Key, hi: Key, key: Key) -> bool
     lo <= key && key <= hi
 }
 
-/// Whether each key lies between the two, both included.
+/// Returns whether each key lies between the two, both included.
 pub(crate) fn all_lie_in(lo: Key, hi: Key, entries: &[Entry]) -> bool
     ensures { result ≡ list_all (λ w. keys.lies_in lo hi w.version.key) entries.now }
 {
-    entries.iter().all(|entry| lies_in(lo, hi, entry.version.key))
+    entries
+        .iter()
+        .all(|entry| lies_in(lo, hi, entry.version.key))
 }
 
-/// Whether each key is below the next.
+/// Returns whether each key is below the next.
 pub(crate) fn keys_rise(entries: &[Entry]) -> bool
     ensures { result ≡ keys.keys_rise (map (λ w. w.version.key) (map entry_of entries.now)) }
 {
     entries.is_sorted_by(|a, b| a.version.key < b.version.key)
 }
 
-/// Whether the write is listed.
+/// Returns whether the write is listed.
 fn lists(entries: &[Entry], write: &Entry) -> bool
     ensures { result ≡ list_any (λ w. entry_eq (entry_of write.now) (entry_of w)) entries.now }
 {
     entries.iter().any(|entry| write.same(entry))
 }
 
-/// Whether the entry is the write, or of another key.
+/// Returns whether the entry is the write, or of another key.
 fn is_of_key(write: &Entry, entry: &Entry) -> bool
     ensures { result ≡ checks.is_of_key (entry_of write.now) (entry_of entry.now) }
 {
     entry.version.key != write.version.key || entry.same(write)
 }
 
-/// Whether nothing else of the write's key is listed.
+/// Returns whether nothing else of the write's key is listed.
 fn lists_no_other(entries: &[Entry], write: &Entry) -> bool
     ensures { result ≡ list_all (λ w. checks.is_of_key (entry_of write.now) (entry_of w)) entries.now }
 {
     entries.iter().all(|entry| is_of_key(write, entry))
 }
 
-/// Whether the write is listed and nothing else of its key.
+/// Returns whether the write is listed and nothing else of its key.
 fn lists_only(entries: &[Entry], write: &Entry) -> bool
     ensures { result ≡ faults.lists_only (map entry_of entries.now) (entry_of write.now) }
 {
     lists(entries, write) && lists_no_other(entries, write)
 }
 
-/// The same by binary search, if the keys rise.
+/// Returns the same by binary search. The keys rise.
 fn finds_only(entries: &[Entry], write: &Entry) -> bool
     requires { keys.keys_rise (map (λ w. w.version.key) (map entry_of entries.now)) ≡ true }
     ensures { result ≡ faults.lists_only (map entry_of entries.now) (entry_of write.now) }
@@ -84,16 +88,16 @@ fn finds_only(entries: &[Entry], write: &Entry) -> bool
     }
 }
 
-/// What a scan lists, and whether its keys rise.
+/// What a scan lists, with whether its keys rise.
 #[derive(Clone, Copy)]
-struct Listed<'a> {
+struct ScanList<'a> {
     entries: &'a [Entry],
     rising: bool,
     ghost rise: { rising ≡ true → keys.keys_rise (map (λ w. w.version.key) (map entry_of entries.now)) ≡ true },
 }
 
-impl Listed<'_> {
-    /// Whether what the event at the place writes is listed and nothing else of its key.
+impl ScanList<'_> {
+    /// Returns whether what the event at the place writes is listed and nothing else of its key.
     fn has_write(&self, events: &[Event], at: usize) -> bool
         ensures { result
             ≡ none_or_lists_only (map entry_of self.now.entries.now) (written_at (map event_of events.now) (Some at)) }
@@ -108,7 +112,7 @@ impl Listed<'_> {
     }
 }
 
-/// Takes in what the event at the place writes.
+/// Records what the event at the place writes.
 pub(crate) fn keep(
     written: &mut BTreeMap<Own, usize>,
     at: usize,
@@ -132,7 +136,8 @@ pub(crate) fn keep(
     Ok(())
 }
 
-/// Of each key between the two that the transaction has written, its last write is listed and nothing else.
+/// Returns whether of each key between the two that the transaction has written its last write is listed, and nothing
+/// else of that key.
 pub(crate) fn lists_own(
     written: &BTreeMap<Own, usize>,
     events: &[Event],
@@ -148,7 +153,7 @@ pub(crate) fn lists_own(
     if hi < lo {
         return true;
     }
-    let listed = Listed {
+    let listed = ScanList {
         entries,
         rising: keys_rise(entries),
     };

@@ -4,21 +4,21 @@ ghost use Rattle.std.specs.Prelude.{◌≡◌, ◌↔◌, true, length, map, IsO
 ghost use Rattle.std.specs.List.{list_all};
 ghost use Rattle.adya_values.specs.Meaning.Keys.{key_lt, keys_rise};
 ghost use Rattle.adya_values.specs.Meaning.Histories.{order_of, final_of};
-ghost use Rattle.adya_values.specs.Meaning.Shapes.{is_shape, numbers_rise, fits_edition};
+ghost use Rattle.adya_values.specs.Computing.Shapes.{is_shape, numbers_rise, fits_edition};
 
 use crate::order::{FinalPair, Order};
 use crate::{Edition, Event, Key, Txn};
 use std::fmt;
 use thiserror::Error;
 
-/// A history has no such lists: an order names no writer, or the keys of the orders, those of the finals or the
-/// unfinished transactions don't rise strictly. It gives the lists back.
+/// The lists don't form a history: an order has no writer, or the unfinished transactions, the keys of the orders or
+/// the keys of the finals don't strictly rise. The lists are given back as they were given.
 #[derive(Error, Drop)]
 #[error("4 bad shape")]
 pub struct BadShape {
     /// The events, as given.
     pub events: Vec<Event>,
-    /// The unfinished transactions, as given; empty where the history was to be of the first edition.
+    /// The unfinished transactions, as given; empty if the history was to be of the first edition.
     pub unfinished: Vec<Txn>,
     /// The orders, as given.
     pub orders: Vec<Order>,
@@ -32,9 +32,9 @@ impl fmt::Debug for BadShape {
     }
 }
 
-/// A history (Adya 1999, section 3.1): events in one list, the version orders of the keys, and what the keys hold
-/// after all. The keys of the orders rise strictly, as do those of the finals. In the second edition transactions
-/// may be unfinished: they count as aborted.
+/// A history (Adya 1999, section 3.1): the events in the order in which they happened, the version order of each
+/// written key, and the final values. Orders and finals are sorted by key, and no key is there twice. A history of
+/// the second edition may have unfinished transactions, which count as aborted.
 #[derive(Drop)]
 pub struct History {
     edition: Edition,
@@ -49,8 +49,8 @@ pub struct History {
 impl History {
     ghost use Rattle.adya_values.specs.Meaning.Values.{history_of, edition_in, events_in, unfinished_in, orders_in, finals_in};
 
-    /// The history of the first edition with these lists; `BadShape` with the lists where an order names no writer,
-    /// or the keys of the orders or of the finals don't rise strictly.
+    /// Makes a history of the first edition. Returns `BadShape` with the lists if an order has no writer, or the
+    /// keys of the orders or of the finals don't strictly rise.
     pub fn new(
         events: Vec<Event>,
         orders: Vec<Order>,
@@ -79,8 +79,8 @@ impl History {
         })
     }
 
-    /// The history of the second edition with these lists; `BadShape` with the lists where an order names no writer,
-    /// or the unfinished transactions, the keys of the orders or those of the finals don't rise strictly.
+    /// Makes a history of the second edition. Returns `BadShape` with the lists if an order has no writer, or the
+    /// unfinished transactions, the keys of the orders or the keys of the finals don't strictly rise.
     pub fn new_two(
         events: Vec<Event>,
         unfinished: Vec<Txn>,
@@ -110,14 +110,14 @@ impl History {
         })
     }
 
-    /// The edition of the history's text.
+    /// Returns the edition of the history's text.
     pub fn edition(&self) -> Edition
         ensures { result ≡ edition_in self.now }
     {
         self.edition
     }
 
-    /// The unfinished transactions, rising; none in the first edition.
+    /// Returns the unfinished transactions, rising; none in the first edition.
     pub fn unfinished(&self) -> &[Txn]
         ensures value { result.now ≡ unfinished_in self.now }
         ensures edited { fits_edition (edition_in self.now) (unfinished_in self.now) ≡ true }
@@ -125,14 +125,14 @@ impl History {
         &self.unfinished
     }
 
-    /// The events, in the order in which they happened.
+    /// Returns the events, in the order in which they happened.
     pub fn events(&self) -> &[Event]
         ensures { result.now ≡ events_in self.now }
     {
         &self.events
     }
 
-    /// The version orders, by rising key.
+    /// Returns the version orders, by rising key.
     pub fn orders(&self) -> &[Order]
         ensures value { result.now ≡ orders_in self.now }
         ensures shape { is_shape (history_of self.now).orders (history_of self.now).finals ≡ true }
@@ -140,7 +140,7 @@ impl History {
         &self.orders
     }
 
-    /// What the keys hold after all, by rising key.
+    /// Returns the final values, by rising key.
     pub fn finals(&self) -> &[FinalPair]
         ensures { result.now ≡ finals_in self.now }
     {

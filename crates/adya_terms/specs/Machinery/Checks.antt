@@ -1,4 +1,4 @@
--- What the parts of a check answer.
+-- What the parts of the check return.
 use Rattle.std.specs.Prelude.{◌≡◌, ℕ, zero, suc, ◌+◌, ◌==◌, nat_eq, Bool, false, cond, not, ◌&&◌, ◌||◌, List, [], ◌++◌, length, Option, Some, None, map, filter, count_by, sum_by}
 use Rattle.std.specs.List.{filter_map, list_all, list_any}
 use Rattle.std.specs.Cmp.Lexicographic.{slice_cmp}
@@ -65,7 +65,7 @@ are_written events es = list_all (λ o. list_any (entry_eq o) (filter_map writte
 abbrev pub is_own_or_last : List Event → Event → Entry → Bool
 is_own_or_last all e o = (o.version.txn == txn_of e) || is_entry (last_write o.version.txn o.version.key all) o
 
--- what the event reads or lists and the test refuses, where its transaction is committed
+-- what the event sees and the test refuses, if the event's transaction is committed
 abbrev pub refused : (Event → Entry → Bool) → List Event → Event → List Entry
 refused good events e = filter (λ o. is_committed events (txn_of e) && not (good e o)) (observed e)
 
@@ -84,7 +84,7 @@ abbrev pub once_more : Option Times → Times
 once_more None = Once
 once_more (Some n) = More
 
--- once where it is wanted, and else not at all
+-- once if it is wanted, and else not at all
 abbrev pub fits : Option Times → Bool → Bool
 fits None wanted = not wanted
 fits (Some Once) wanted = wanted
@@ -120,7 +120,7 @@ abbrev pub is_this : Option (List ℕ) → List ℕ → Bool
 is_this None k = false
 is_this (Some j) k = key_eq j k
 
--- the key's lines list the transaction once where it is a committed writer of the key, and else not at all
+-- the key's lines list the transaction once if it is a committed writer of the key, and else not at all
 abbrev pub belongs : List Event → List Order → List ℕ → ℕ → Bool
 belongs events os k t = listed os t k == cond (installs events k t) 1 0
 

@@ -1,4 +1,4 @@
--- The history that was checked.
+-- The history that passed its check.
 use Rattle.adya_values.specs.declared.history.History.{History as HistoryValue}
 use Rattle.adya_values.specs.Meaning.Histories.{History}
 use Rattle.adya_values.specs.Meaning.Values.{history_of}
@@ -8,6 +8,6 @@ use Rattle.adya_terms.specs.declared.checked.Checked.{Checked}
 abbrev pub history_in : Checked → HistoryValue
 history_in c = c.history.now
 
--- the plain history that it stands for
+-- the plain history
 abbrev pub checked_history : Checked → History
 checked_history c = history_of (history_in c)

@@ -8,7 +8,7 @@ use Rattle.adya_values.specs.declared.history.History.{History as HistoryValue}
 use Rattle.adya_values.specs.declared.serial.Serial.{Serial as SerialValue}
 use Rattle.adya_values.specs.Meaning.Histories.{History, event_of, order_of, final_of}
 
--- the plain history that a history of the code stands for
+-- the plain history
 abbrev pub history_of : HistoryValue → History
 history_of h = record {
   edition = h.edition;

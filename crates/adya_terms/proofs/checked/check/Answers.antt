@@ -1,4 +1,4 @@
-use Rattle.std.proofs.Common.{◌≡◌, ◌+◌, ◌∙◌, ap, subst, length, map, [], arith}
+use Rattle.std.proofs.Common.{◌≡◌, ◌+◌, ap, subst, length, map, [], arith}
 use Rattle.std.proofs.lemmas.List.{length-map}
 use Rattle.adya_values.specs.Meaning.Histories.{event_of}
 use Rattle.adya_values.specs.Computing.Faults.{malformed, unfinished_faults, unfinished_line, orders_line}

@@ -13,7 +13,7 @@ use Rattle.adya_values.specs.Computing.Faults.{first, fault_unless, all_end}
 use Rattle.adya_terms.specs.Machinery.Tables.{Means}
 use Rattle.adya_terms.specs.Machinery.Checks.{Names, Holds, whole, is_done, ends, listing_faults, final_value_faults}
 use Rattle.adya_terms.proofs.Firsts.{found_behind, names_front, names_behind}
-use Rattle.adya_terms.proofs.Tests.{list_all-same}
+use Rattle.adya_terms.proofs.SameTests.{list_all-same}
 use Rattle.adya_terms.proofs.checked.check_rules.Goals as goal
 use Rattle.adya_values.proofs.Faults.{first_left}
 

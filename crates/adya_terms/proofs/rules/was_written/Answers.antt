@@ -8,7 +8,7 @@ use Rattle.adya_values.specs.Meaning.Histories.{Entry, Live, value_of, entry_of,
 use Rattle.adya_values.specs.Meaning.Events.{entry, written}
 use Rattle.adya_values.specs.Computing.Faults.{entry_eq, version_eq}
 use Rattle.adya_terms.specs.Machinery.Tables.{is_at, own_eq}
-use Rattle.adya_terms.proofs.Tests.{list_all-same}
+use Rattle.adya_terms.proofs.SameTests.{list_all-same}
 use Rattle.adya_terms.proofs.rules.was_written.Goals as goal
 
 pub returns-in-Read : goal.returns-in-Read

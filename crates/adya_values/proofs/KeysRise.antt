@@ -26,7 +26,7 @@ keys_rise-fails {Y} key (y ∷ z ∷ zs) (suc k) l h =
     ap (λ b. key_lt (key y) (key z) && b) (keys_rise-fails key (z ∷ zs) k (omega (arith, l)) next) ∙ and-false (key_lt (key y) (key z))
 
 -- the test of each element's key and the next one's
-pub rising_answer : {Y : Type 0} (key : Y → List ℕ) (ys : List Y) (r : Bool) → IsAllAdjacentAnswer (λ x y b. b ≡ key_lt (key x) (key y)) ys r
+pub keys_rise_is : {Y : Type 0} (key : Y → List ℕ) (ys : List Y) (r : Bool) → IsAllAdjacentAnswer (λ x y b. b ≡ key_lt (key x) (key y)) ys r
     → r ≡ keys_rise (map key ys)
-rising_answer key ys true a = sym (keys_rise-when key ys a)
-rising_answer key ys false a = sym (keys_rise-fails key ys a.0 a.1 a.2)
+keys_rise_is key ys true a = sym (keys_rise-when key ys a)
+keys_rise_is key ys false a = sym (keys_rise-fails key ys a.0 a.1 a.2)
