@@ -8,6 +8,7 @@ use Rattle.std.proofs.lemmas.List.{get_or_default}
 use Rattle.std.proofs.lemmas.List.Elements.{All-from_recursion}
 use Rattle.std.proofs.lemmas.List.Folds.{Any-from_list_any, list_any-from_Any}
 use Rattle.std.proofs.lemmas.Map.Views.{any-filter_same}
+use Rattle.lemmas.proofs.Booleans.{not_and}
 use Rattle.digraph.specs.declared.arc.Arc.{Arc}
 use Rattle.digraph.specs.Meaning.Graphs.{IsGraph, IsTopologicalOrder, IsPath, IsCycle}
 use Rattle.digraph.proofs.Orders.{Places, nothing_placed, one_placed, all_placed}
@@ -45,21 +46,17 @@ shorter t (x ∷ ts) e =
           omega (arith, rest, kept)
     ]
 
-unless : (b c : Bool) → (not b && c) ≡ cond b false c
-unless true c = refl
-unless false c = refl
-
 has_without : (t : ℕ) (ts : List ℕ) (q : ℕ) → has (without t ts) q ≡ cond (is_eq (nat_cmp t q)) false (has ts q)
 has_without t ts q =
     any-filter_same (λ u. u == q) (λ u. not (u == t)) (not (t == q))
     (λ u e. ap not (ap (λ x. x == t) (eqb-true u q e) ∙ nat_eq_equiv.symm q t)) ts ∙
-    (unless (t == q) (has ts q) ∙ ap (λ b. cond b false (has ts q)) (sym (is_eq_nat t q)))
+    (not_and (t == q) (has ts q) ∙ ap (λ b. cond b false (has ts q)) (sym (is_eq_nat t q)))
 
--- nothing that is remaining comes before the number
+-- no remaining node comes before this one
 abbrev IsStart : List Arc → (ℕ → Bool) → ℕ → Type 0
 IsStart arcs remaining t = (a : Arc) → Contains arcs a → a.to ≡ t → remaining a.from ≡ false
 
--- an arc to the number from one that is remaining
+-- an arc to the node from a remaining one
 record FromRemaining (arcs : List Arc) (remaining : ℕ → Bool) (t : ℕ) : Type 0 where
   pub arc : Arc
   pub there : Contains arcs arc
@@ -91,7 +88,7 @@ predecessor arcs remaining t =
 abbrev HasCycle : List Arc → Type 0
 HasCycle arcs = (path : List Arc) × IsCycle arcs path
 
--- a walk back over numbers that are remaining, each of which is unmet or has an arc of the trail to it
+-- a walk backward over remaining nodes, each of which is unmet or has an arc of the trail to it
 record IsTrail (arcs : List Arc) (remaining : ℕ → Bool) (unmet : List ℕ) (trail : List Arc) (from at : ℕ) : Type 0 where
   pub is_remaining : remaining at ≡ true
   pub path : IsPath at trail from

@@ -1,7 +1,7 @@
 -- Topological orders, made by placing one node after another.
 use Rattle.std.proofs.Common.{◌≡◌, ◌≢◌, ℕ, suc, ◌+◌, ◌==◌, ◌<◌, Bool, true, false, cond, List, [], ◌∷◌, ◌++◌, count_by, sym, ◌∙◌, ap, subst, arith, inl, inr}
 use Rattle.std.proofs.lemmas.Bool.{eq-eqb, ne_eqb, cases_eq, cond-true, cond-false}
-use Rattle.std.proofs.lemmas.List.Sums.{sum_by-append, sum_by-cons}
+use Rattle.lemmas.proofs.Counts.{count, count_same, count_other, count-append}
 use Rattle.std.proofs.Common.{Contains, true≢false}
 use Rattle.std.specs.List.{list_any}
 use Rattle.std.specs.Ordering.{nat_cmp, is_eq}
@@ -9,31 +9,13 @@ use Rattle.digraph.specs.declared.arc.Arc.{Arc}
 use Rattle.digraph.specs.Meaning.Graphs.{IsGraph, place, IsBefore, IsTopologicalOrder}
 use Rattle.digraph.proofs.Sets.{updated_here, updated_apart}
 
-abbrev pub count : List ℕ → ℕ → ℕ
-count xs t = count_by (λ u. u == t) xs
-
-pub count_same : (x : ℕ) (xs : List ℕ) (t : ℕ) → x ≡ t → count (x ∷ xs) t ≡ suc (count xs t)
-count_same x xs t e =
-    let cons = sum_by-cons (λ u. cond (u == t) 1 0) x xs in
-    let same = cond-true {A = ℕ} (x == t) 1 0 (eq-eqb x t e) in
-    omega (arith, cons, same)
-
-pub count_other : (x : ℕ) (xs : List ℕ) (t : ℕ) → x ≢ t → count (x ∷ xs) t ≡ count xs t
-count_other x xs t e =
-    let cons = sum_by-cons (λ u. cond (u == t) 1 0) x xs in
-    let other = cond-false {A = ℕ} (x == t) 1 0 (ne_eqb x t e) in
-    omega (arith, cons, other)
-
-pub count-append : (xs ys : List ℕ) (t : ℕ) → count (xs ++ ys) t ≡ count xs t + count ys t
-count-append xs ys t = sum_by-append (λ u. cond (u == t) 1 0) xs ys
-
-pub place_same : (x : ℕ) (xs : List ℕ) (t : ℕ) → x ≡ t → place (x ∷ xs) t ≡ 0
+place_same : (x : ℕ) (xs : List ℕ) (t : ℕ) → x ≡ t → place (x ∷ xs) t ≡ 0
 place_same x xs t e = cond-true {A = ℕ} (x == t) 0 (suc (place xs t)) (eq-eqb x t e)
 
-pub place_other : (x : ℕ) (xs : List ℕ) (t : ℕ) → x ≢ t → place (x ∷ xs) t ≡ suc (place xs t)
+place_other : (x : ℕ) (xs : List ℕ) (t : ℕ) → x ≢ t → place (x ∷ xs) t ≡ suc (place xs t)
 place_other x xs t e = cond-false {A = ℕ} (x == t) 0 (suc (place xs t)) (ne_eqb x t e)
 
-pub before_more : (xs ys : List ℕ) (a b : ℕ) → IsBefore xs a b → IsBefore (xs ++ ys) a b
+before_more : (xs ys : List ℕ) (a b : ℕ) → IsBefore xs a b → IsBefore (xs ++ ys) a b
 before_more [] ys a b h = absurd (omega arith)
 before_more (x ∷ xs) ys a b h =
     elim (cases_eq x b) [
@@ -51,7 +33,7 @@ before_more (x ∷ xs) ys a b h =
           ]
     ]
 
-pub before_new : (xs : List ℕ) (a t : ℕ) → 0 < count xs a → count xs t ≡ 0 → IsBefore (xs ++ t ∷ []) a t
+before_new : (xs : List ℕ) (a t : ℕ) → 0 < count xs a → count xs t ≡ 0 → IsBefore (xs ++ t ∷ []) a t
 before_new [] a t h none = absurd (omega arith)
 before_new (x ∷ xs) a t h none =
     elim (cases_eq x t) [

@@ -1,5 +1,5 @@
--- A set of numbers after one is added or removed.
-use Rattle.std.proofs.Common.{◌≡◌, ◌≢◌, ℕ, zero, suc, ◌==◌, ◌<◌, Bool, true, false, cond, ◌||◌, List, [], ◌∷◌, ◌++◌, length, refl, sym, ◌∙◌, arith, inl, inr}
+-- A set of nodes after one was added or removed.
+use Rattle.std.proofs.Common.{◌≡◌, ◌≢◌, ℕ, ◌==◌, Bool, true, false, cond, ◌||◌, List, [], ◌∷◌, ◌++◌, refl, sym, ◌∙◌, arith, inl, inr}
 use Rattle.std.specs.List.{list_any}
 use Rattle.std.proofs.lemmas.List.Folds.{list_any-append}
 use Rattle.digraph.specs.declared.arc.Arc.{Arc}
@@ -24,7 +24,7 @@ added k q now was h =
           (elim was as (λ w. w ≡ (w || (k == q))) [ true ↦ refl | false ↦ sym (ne_eqb k q ne) ])
     ]
 
--- where a number is removed when its arc comes to the end of the list, each that is removed has an arc to it
+-- if a node is removed whenever an arc to it is added to the list, each removed node has an arc to it
 pub met_more : (remaining was now : ℕ → Bool) (trail : List Arc) (a : Arc) (at : ℕ) → a.to ≡ at
     → ((q : ℕ) → now q ≡ cond (is_eq (nat_cmp at q)) false (was q))
     → ((q : ℕ) → remaining q ≡ true → was q ≡ false → list_any (λ x. x.to == q) trail ≡ true)
@@ -35,11 +35,3 @@ met_more remaining was now trail a at to up met q l n =
       | inl same ↦ or_right (list_any (λ x. x.to == q) trail) _ (or_left (a.to == q) false (eq-eqb a.to q (to ∙ same)))
       | inr apart ↦ or_left _ _ (met q l (sym (updated_apart at q (now q) (was q) false (up q) apart) ∙ n))
     ]
-
-pub none_in_empty : {A : Type 0} (p : A → Bool) (xs : List A) → length xs ≡ 0 → list_any p xs ≡ false
-none_in_empty p [] e = refl
-none_in_empty p (x ∷ xs) e = absurd (omega (arith, e))
-
-pub empty_if : (n : ℕ) → (0 < n → ⊥) → n ≡ 0
-empty_if zero h = refl
-empty_if (suc n) h = absurd (h (omega arith))

@@ -1,4 +1,4 @@
-use Rattle.std.proofs.Common.{◌==◌, ◌||◌, take, get_or, ap, ◌∙◌, sym}
+use Rattle.std.proofs.Common.{◌==◌, ◌||◌, get_or, ap, ◌∙◌, sym}
 use Rattle.std.specs.List.{list_any}
 use Rattle.std.proofs.lemmas.List.Folds.{list_any_more}
 use Rattle.std.proofs.lemmas.List.{take_all}

@@ -6,7 +6,8 @@ use Rattle.digraph.specs.Machinery.Traces.{IsTrace}
 use Rattle.digraph.specs.declared.arc.Arc.{Arc}
 use Rattle.digraph.proofs.Orders.{Places, nothing_placed, one_placed, all_placed}
 use Rattle.digraph.proofs.Cycles.{cycle_known}
-use Rattle.digraph.proofs.Sets.{none_in_empty, empty_if}
+use Rattle.lemmas.proofs.Lists.{zero_unless_positive}
+use Rattle.lemmas.proofs.Tests.{list_any_empty}
 use Rattle.digraph.proofs.order.topological_order.Goals as goal
 
 pub place-init : goal.place-init
@@ -19,7 +20,7 @@ pub trace_back-requires-clause-rises : goal.trace_back-requires-clause-rises
 trace_back-requires-clause-rises c =
     subst (IsNonDecreasingBy (λ a. a.to)) (sym c.deref-in-Some.ensures.value) c.in_ok-into.ensures.rises
 
--- the arcs that are walked are those that were given
+-- the arcs along which it walks are those that were given
 walked : (given out lent into gone : List Arc) → ((a : Arc) → Contains given a ↔ Contains out a) → lent ≡ out
     → ((a : Arc) → Contains lent a ↔ Contains into a) → gone ≡ into → (a : Arc) → Contains given a ↔ Contains gone a
 walked given out lent into gone first copied second taken a = (
@@ -51,5 +52,5 @@ pub returns : goal.returns
 returns c =
     all_placed c.args.nodes.now c.args.arcs.items c.requires
     (contains nat_cmp c.place.remaining) c.place.placed.items c.place.invariant
-    (λ q. none_in_empty _ c.place.remaining.keys
-    (empty_if _ (λ l. true≢false (sym (c.in_default.ensures.variant.1 l)))))
+    (λ q. list_any_empty _ c.place.remaining.keys
+    (zero_unless_positive _ (λ l. true≢false (sym (c.in_default.ensures.variant.1 l)))))
