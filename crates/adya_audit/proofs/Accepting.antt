@@ -5,7 +5,7 @@ use Rattle.std.specs.declared.alloc.AllocError.{AllocError}
 use Rattle.adya_values.specs.declared.fault.CheckFault.{CheckFault}
 use Rattle.adya_values.specs.declared.fault.CheckFault.TheVariants as Checked
 use Rattle.adya_values.specs.Meaning.Histories.{History}
-use Rattle.adya_values.specs.Meaning.Shapes.{is_shape}
+use Rattle.adya_values.specs.Computing.Shapes.{is_shape}
 use Rattle.adya_values.specs.Meaning.Edges.{Edge}
 use Rattle.adya_values.specs.Computing.Faults.{first_fault}
 use Rattle.adya_values.specs.Computing.Certificates.{lists_the_committed, first_backward}

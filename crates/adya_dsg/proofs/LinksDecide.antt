@@ -10,7 +10,7 @@ use Rattle.adya_values.specs.declared.order.Order.{Order as OrderValue}
 use Rattle.adya_values.specs.Meaning.Keys.{keys_rise}
 use Rattle.adya_values.specs.Meaning.Histories.{Event, Order, History, order_of, final_of}
 use Rattle.adya_values.specs.Meaning.Values.{history_of}
-use Rattle.adya_values.specs.Meaning.Shapes.{is_shape}
+use Rattle.adya_values.specs.Computing.Shapes.{is_shape}
 use Rattle.adya_values.specs.Meaning.Events.{txn_of, is_committed}
 use Rattle.adya_values.specs.Meaning.Orders.{place, installer}
 use Rattle.adya_values.specs.Meaning.Selections.{is_scan, changes_matches, selected, reads_from, overwritten_by}

@@ -7,7 +7,7 @@ use Rattle.adya_values.specs.declared.event.Version.{Version}
 use Rattle.adya_values.specs.declared.fault.Rule.{Rule}
 use Rattle.adya_values.specs.declared.fault.CheckFault.TheVariants.{Malformed, AbortedRead, IntermediateRead}
 use Rattle.adya_values.specs.Meaning.Histories.{Entry, Event, History}
-use Rattle.adya_values.specs.Meaning.Shapes.{is_shape}
+use Rattle.adya_values.specs.Computing.Shapes.{is_shape}
 use Rattle.adya_values.specs.Meaning.Events.{txn_of, observed, last_write, is_aborted}
 use Rattle.adya_values.specs.Meaning.Rules.{IsWellFormed}
 use Rattle.adya_values.specs.Meaning.Phenomena.{ReadsCommitted, HasG1a}

@@ -11,7 +11,7 @@ use Rattle.adya_values.specs.declared.fault.CheckFault.{CheckFault}
 use Rattle.adya_values.specs.declared.fault.CheckFault.TheVariants.{AbortedRead, IntermediateRead}
 use Rattle.adya_values.specs.Meaning.Keys.{key_eq, lies_in, keys_rise}
 use Rattle.adya_values.specs.Meaning.Histories.{Live, Entry, Event, Write, Delete, Read, Scan, Commit, Abort, Order, FinalPair, History}
-use Rattle.adya_values.specs.Meaning.Shapes.{is_shape}
+use Rattle.adya_values.specs.Computing.Shapes.{is_shape}
 use Rattle.adya_values.specs.Meaning.Events.{txn_of, entry, written, observed, writes_of, last_write, is_committed, has_ended, is_unfinished, is_aborted}
 use Rattle.adya_values.specs.Meaning.Rules.{EachAfter, IsOpen, IsNumbered, WasWritten, ListsOnly, SeesOwnWrites, IsRising, AllEnd, installs, OrdersList, final_value, FinalsShow, IsWellFormed}
 use Rattle.adya_values.specs.Meaning.Phenomena.{ReadsCommitted, HasG1a, HasG1b}

@@ -3,10 +3,10 @@ use Rattle.std.proofs.Common.{◌≡◌, ◌≢◌, true, Option, None, refl}
 use Rattle.adya_values.specs.declared.fault.CheckFault.{CheckFault}
 use Rattle.adya_values.specs.declared.fault.CheckFault.TheVariants.{Malformed, AbortedRead, IntermediateRead, Memory}
 use Rattle.adya_values.specs.Meaning.Histories.{History}
-use Rattle.adya_values.specs.Meaning.Shapes.{is_shape}
+use Rattle.adya_values.specs.Computing.Shapes.{is_shape}
 use Rattle.adya_values.specs.Meaning.Acceptance.{IsChecked}
 use Rattle.adya_values.specs.Computing.Faults.{first_fault}
-use Rattle.adya_terms.specs.Machinery.Checks.{IsFault}
+use Rattle.adya_terms.specs.Meaning.Faults.{IsFault}
 use Rattle.adya_terms.proofs.Converse.{no_fault_when_checked}
 
 -- a fault that was found is there

@@ -7,7 +7,8 @@ use Rattle.adya_values.specs.declared.history.History.{History as HistoryValue}
 use Rattle.adya_values.specs.Meaning.Values.{history_of}
 use Rattle.adya_values.specs.Meaning.Histories.{History}
 use Rattle.adya_values.specs.Computing.Faults.{first, first_fault, malformed, check_faults, event_faults, fault_unless, unfinished_faults, all_end, order_faults, has_lines, unfinished_line, orders_line, finals_line}
-use Rattle.adya_terms.specs.Machinery.Checks.{IsFault, Names, whole, final_value_faults, rule_faults, read_faults}
+use Rattle.adya_terms.specs.Meaning.Faults.{IsFault}
+use Rattle.adya_terms.specs.Machinery.Checks.{Names, whole, final_value_faults, rule_faults, read_faults}
 use Rattle.std.proofs.lemmas.List.{append_assoc}
 use Rattle.adya_values.specs.declared.fault.Rule.TheVariants.{M6, M7}
 use Rattle.adya_values.specs.declared.fault.CheckFault.{CheckFault}

@@ -1,3 +1,3 @@
--- What only this crate's loops and tables need.
+-- What only the loops and the tables of the check need.
 pub mod Tables
 pub mod Checks

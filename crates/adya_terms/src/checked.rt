@@ -1,6 +1,6 @@
-//! Checked histories.
+//! Histories that passed their check, and the check itself.
 
-ghost use Rattle.std.specs.Prelude.{◌≡◌, ◌≢◌, ℕ, List, [], true, None, Some, map, option_map, is_none, IfOk, IfErr, MatchResult};
+ghost use Rattle.std.specs.Prelude.{◌≡◌, ◌≢◌, ◌^◌, ◌<◌, ℕ, List, [], true, None, Some, map, option_map, is_none, IfOk, IfErr, MatchResult};
 ghost use Rattle.std.specs.List.{list_all};
 ghost use Rattle.adya_values.specs.Meaning.Keys.{keys_rise};
 ghost use Rattle.adya_values.specs.Meaning.Histories.{entry_of, event_of, order_of, final_of};
@@ -8,8 +8,9 @@ ghost use Rattle.adya_values.specs.Meaning.Events.{is_committed, last_write};
 ghost use Rattle.adya_values.specs.Meaning.Values.{history_of};
 ghost use Rattle.adya_values.specs.Computing.Faults.{was_written, first_fault, check_faults};
 ghost use Rattle.adya_values.specs.Meaning.Acceptance.{IsChecked};
+ghost use Rattle.adya_terms.specs.Meaning.Faults.{IsFault};
 ghost use Rattle.adya_terms.specs.Machinery.Tables.{Means};
-ghost use Rattle.adya_terms.specs.Machinery.Checks.{Names, IsFault, Holds, whole, rule_faults, read_faults};
+ghost use Rattle.adya_terms.specs.Machinery.Checks.{Names, Holds, whole, rule_faults, read_faults};
 
 use crate::finals::check_finals;
 use crate::listed::check_orders;
@@ -20,7 +21,8 @@ use crate::{CheckFault, Entry, Event, FinalPair, History, Key, Order, Rule, Txn}
 use std::alloc::Global;
 use std::collections::BTreeSet;
 
-/// A history that is well-formed without aborted and intermediate reads (Adya 1999, G1a and G1b).
+/// A history that passed its check: it is well-formed and has no aborted and no intermediate reads (Adya 1999, G1a and
+/// G1b).
 #[derive(Drop)]
 pub struct Checked<'a> {
     history: &'a History,
@@ -30,14 +32,18 @@ pub struct Checked<'a> {
 }
 
 impl<'a> Checked<'a> {
-    /// Checks the history: its first fault, in the order of kinds, lines and rules, or `CheckFault::Memory` where
-    /// memory runs out, which says nothing of the history.
+    ghost use Rattle.adya_terms.specs.Meaning.Checked.{checked_history, history_in};
+
+    /// Checks the history. Returns its first fault if it has one: broken rules come before aborted reads, and these
+    /// before intermediate reads; within a kind the first line decides, and then the first rule. Returns
+    /// `CheckFault::Memory` if memory runs out, which says nothing about the history.
     pub fn of(alloc: Global, history: &'a History) -> Result<Checked<'a>, CheckFault>
         ensures found { MatchResult result (λ c. first_fault (history_of history.now) ≡ None)
             (IsFault (first_fault (history_of history.now))) }
-        ensures same { IfOk result (λ c. c.history.now ≡ history.now) }
-        // It succeeds exactly where the history is well-formed without aborted and intermediate reads.
-        ensures checked { IfOk result (λ c. IsChecked (history_of c.history.now)) }
+        ensures same { IfOk result (λ c. history_in c ≡ history.now) }
+        // It succeeds only if the history is well-formed without aborted and intermediate reads, and names a fault only
+        // if it isn't.
+        ensures checked { IfOk result (λ c. IsChecked (checked_history c)) }
         ensures refused { IfErr result (λ e. e ≢ CheckFault.Memory → IsChecked (history_of history.now) → ⊥) }
     {
         match check(
@@ -52,32 +58,32 @@ impl<'a> Checked<'a> {
         }
     }
 
-    /// The history.
+    /// Returns the history.
     pub fn history(&self) -> &History
-        ensures same { result.now ≡ self.now.history.now }
+        ensures same { result.now ≡ history_in self.now }
         ensures faultless { first_fault (history_of result.now) ≡ None }
         ensures checked { IsChecked (history_of result.now) }
     {
         self.history
     }
 
-    /// Whether the transaction has committed.
+    /// Returns whether the transaction has committed.
     pub fn is_committed(&self, txn: Txn) -> bool
-        ensures { result ≡ is_committed (history_of self.now.history.now).events txn }
+        ensures { result ≡ is_committed (checked_history self.now).events txn }
     {
         self.tables.has_committed(txn)
     }
 
-    /// The transaction's last write of the key (Adya 1999, section 3.1), whether it has committed or not; `None`
-    /// where it has written none.
+    /// Returns the transaction's last write of the key (Adya 1999, section 3.1), whether or not the transaction has
+    /// committed; `None` if it has written none.
     pub fn last_write(&self, txn: Txn, key: Key) -> Option<Entry>
-        ensures { option_map entry_of result ≡ last_write txn key (history_of self.now.history.now).events }
+        ensures { option_map entry_of result ≡ last_write txn key (checked_history self.now).events }
     {
         self.tables.last_write(self.history.events(), txn, key)
     }
 }
 
-/// The tables of the events, where the lists have no fault.
+/// Makes the tables of the events, if the lists have no fault.
 fn check(
     alloc: Global,
     events: &[Event],
@@ -101,10 +107,8 @@ fn check(
     if let Err(fault) = check_unfinished(&tables, events, unfinished, events.len() + 2) {
         return Err(fault);
     }
-    let Some(line) = (events.len() + 2).checked_add(unfinished.len()) else {
-        return Err(CheckFault::Memory);
-    };
-    if let Err(fault) = check_rules(alloc, &tables, events, &set, orders, finals, line) {
+    let orders_line = events.len() + 2 + unfinished.len();
+    if let Err(fault) = check_rules(alloc, &tables, events, &set, orders, finals, orders_line) {
         return Err(fault);
     }
     if let Err(fault) = check_reads(&tables, events, &set) {
@@ -113,7 +117,7 @@ fn check(
     Ok(tables)
 }
 
-/// G1a and G1b.
+/// Looks for the first aborted read (G1a), and then for the first intermediate read (G1b).
 fn check_reads(
     tables: &Tables,
     events: &[Event],
@@ -132,7 +136,8 @@ fn check_reads(
     check_intermediate(tables, events)
 }
 
-/// That all transactions end or are unfinished, M7 and M8, where `line` is that of the first order.
+/// Looks for the first fault after the unfinished transactions: a transaction that doesn't end, M7 and M8. The line
+/// of the first order is `line`.
 fn check_rules(
     alloc: Global,
     tables: &Tables,
@@ -142,6 +147,7 @@ fn check_rules(
     finals: &[FinalPair],
     line: usize,
 ) -> Result<(), CheckFault>
+    requires near { line < 2 ^ 62 }
     requires tell { Means tables.now (map event_of events.now) (map event_of events.now) }
     requires orders_rise { keys_rise (map (λ o. o.key) (map order_of orders.now)) ≡ true }
     requires finals_rise { keys_rise (map (λ f. f.key) (map final_of finals.now)) ≡ true }
@@ -159,8 +165,5 @@ fn check_rules(
     if let Err(fault) = check_orders(alloc, tables, events, orders, line) {
         return Err(fault);
     }
-    let Some(later) = line.checked_add(orders.len()) else {
-        return Err(CheckFault::Memory);
-    };
-    check_finals(tables, events, orders, finals, later)
+    check_finals(tables, events, orders, finals, line + orders.len())
 }

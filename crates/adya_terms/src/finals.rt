@@ -1,6 +1,6 @@
-//! M8: the finals are the visible last versions of the keys.
+//! M8: the finals hold the values of the keys' last versions.
 
-ghost use Rattle.std.specs.Prelude.{◌≡◌, [], true, map, option_map, is_some, MatchResult};
+ghost use Rattle.std.specs.Prelude.{◌≡◌, ◌^◌, ◌<◌, [], true, map, option_map, is_some, MatchResult};
 ghost use Rattle.adya_values.specs.Meaning.Keys.{keys_rise};
 ghost use Rattle.adya_values.specs.Meaning.Histories.{event_of, order_of, final_of, value_of};
 ghost use Rattle.adya_values.specs.Meaning.Rules.{final_value};
@@ -8,11 +8,11 @@ ghost use Rattle.adya_values.specs.Computing.Faults as faults;
 ghost use Rattle.adya_terms.specs.Machinery.Tables.{Means};
 ghost use Rattle.adya_terms.specs.Machinery.Checks.{Names, final_value_faults, parts};
 
-use crate::listed::{broken, line_of};
+use crate::listed::line_of;
 use crate::tables::Tables;
 use crate::{CheckFault, Content, Event, FinalPair, Key, Order, Rule, Value};
 
-/// What is visible of the key's last version.
+/// Returns the value of the key's last version, if it has one.
 fn last_value(tables: &Tables, events: &[Event], orders: &[Order], key: Key) -> Option<Value>
     requires tell { Means tables.now (map event_of events.now) (map event_of events.now) }
     requires rise { keys_rise (map (λ o. o.key) (map order_of orders.now)) ≡ true }
@@ -42,7 +42,7 @@ fn is_value(last: Option<Value>, value: &Value) -> bool
     }
 }
 
-/// The first final line that isn't the last version of its key.
+/// Returns the first line of a final that isn't the value of its key's last version, if there is one.
 fn check_lines(
     tables: &Tables,
     events: &[Event],
@@ -50,6 +50,7 @@ fn check_lines(
     finals: &[FinalPair],
     first: usize,
 ) -> Result<(), CheckFault>
+    requires near { first < 2 ^ 63 }
     requires tell { Means tables.now (map event_of events.now) (map event_of events.now) }
     requires rise { keys_rise (map (λ o. o.key) (map order_of orders.now)) ≡ true }
     ensures { let found = faults.final_faults (parts events.now orders.now finals.now) first (map final_of finals.now) in
@@ -57,7 +58,10 @@ fn check_lines(
 {
     for (i, pair) in finals.iter().enumerate() {
         if !is_value(last_value(tables, events, orders, pair.key), &pair.value) {
-            return Err(broken(first, i, Rule::M8));
+            return Err(CheckFault::Malformed {
+                line: first + i,
+                rule: Rule::M8,
+            });
         }
     }
     Ok(())
@@ -73,7 +77,7 @@ fn has_final(finals: &[FinalPair], key: Key) -> bool
     }
 }
 
-/// Whether each key whose last version is visible has a final line.
+/// Returns whether each key whose last version has a value has a final line.
 fn has_finals(tables: &Tables, events: &[Event], orders: &[Order], finals: &[FinalPair]) -> bool
     requires tell { Means tables.now (map event_of events.now) (map event_of events.now) }
     requires orders_rise { keys_rise (map (λ o. o.key) (map order_of orders.now)) ≡ true }
@@ -90,8 +94,8 @@ fn has_finals(tables: &Tables, events: &[Event], orders: &[Order], finals: &[Fin
     true
 }
 
-/// The first final line that isn't the last version of its key, or else the one behind the finals where a key whose
-/// last version is visible has none; `first` is the line of the first final.
+/// Returns the first line of a final that isn't the value of its key's last version, or else the line after the
+/// finals if a key whose last version has a value has no final. The line of the first final is `first`.
 pub(crate) fn check_finals(
     tables: &Tables,
     events: &[Event],
@@ -99,6 +103,7 @@ pub(crate) fn check_finals(
     finals: &[FinalPair],
     first: usize,
 ) -> Result<(), CheckFault>
+    requires near { first < 2 ^ 63 }
     requires tell { Means tables.now (map event_of events.now) (map event_of events.now) }
     requires orders_rise { keys_rise (map (λ o. o.key) (map order_of orders.now)) ≡ true }
     requires finals_rise { keys_rise (map (λ f. f.key) (map final_of finals.now)) ≡ true }
@@ -109,7 +114,10 @@ pub(crate) fn check_finals(
         return Err(fault);
     }
     if !has_finals(tables, events, orders, finals) {
-        return Err(broken(first, finals.len(), Rule::M8));
+        return Err(CheckFault::Malformed {
+            line: first + finals.len(),
+            rule: Rule::M8,
+        });
     }
     Ok(())
 }

@@ -1,4 +1,5 @@
-//! The check of histories: well-formed, without aborted and intermediate reads.
+//! The check of histories: that a history is well-formed, without aborted and intermediate reads (Adya 1999, G1a and
+//! G1b). [`Checked::of`] makes it. The values of histories come from `adya_values`, and are exported again here.
 #![tactic(auto)]
 
 mod checked;

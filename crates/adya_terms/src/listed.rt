@@ -1,6 +1,6 @@
-//! M7: the order of a key lists its committed writers, once each.
+//! M7: the order line of a key names exactly its committed writers, without repeats.
 
-ghost use Rattle.std.specs.Prelude.{◌≡◌, ◌+◌, ◌==◌, ℕ, List, [], true, not, ◌&&◌, ◌||◌, ◌⊎◌, map, cond, count_by, option_copied, is_some, IfSome, IfOk, MatchOption, MatchResult, Contains};
+ghost use Rattle.std.specs.Prelude.{◌≡◌, ◌+◌, ◌^◌, ◌<◌, ◌==◌, ℕ, List, [], true, not, ◌&&◌, ◌||◌, map, cond, count_by, option_copied, is_some, IfSome, IfOk, MatchOption, MatchResult, Contains};
 ghost use Rattle.std.specs.List.{filter_map, list_all, list_any};
 ghost use Rattle.std.specs.HashMap.{get};
 ghost use Rattle.std.specs.BTreeSet.{contains};
@@ -21,14 +21,14 @@ use crate::{CheckFault, Entry, Event, Key, Order, Rule, Txn};
 use std::alloc::{AllocError, Global};
 use std::collections::{BTreeSet, HashMap};
 
-/// How often the lines of a key list a transaction, where they do.
+/// How often the lines of a key list a transaction that they list.
 #[derive(Clone, Copy)]
 pub(crate) enum Times {
     Once,
     More,
 }
 
-/// How often the lines of each key list each transaction.
+/// Counts how often the lines of each key list each transaction.
 fn listed(alloc: Global, orders: &[Order]) -> Result<HashMap<Own, Times>, AllocError>
     ensures { IfOk result (λ m. Lists m (map order_of orders.now)) }
 {
@@ -39,7 +39,7 @@ fn listed(alloc: Global, orders: &[Order]) -> Result<HashMap<Own, Times>, AllocE
     Ok(listed)
 }
 
-/// Adds the writers of a line of the key.
+/// Counts the writers of a line of the key.
 fn list(listed: &mut HashMap<Own, Times>, key: Key, writers: &[Txn]) -> Result<(), AllocError>
     ensures { IfOk result
         (λ u. (n : ℕ → List ℕ → ℕ)
@@ -65,7 +65,7 @@ fn once_more(times: Option<Times>) -> Times
     }
 }
 
-/// The keys of committed writes that no line of their key lists.
+/// Returns the keys of committed writes that no line of their key lists.
 fn unlisted(
     alloc: Global,
     tables: &Tables,
@@ -89,7 +89,7 @@ fn unlisted(
     Ok(keys)
 }
 
-/// The key of the event, where it is a committed write that no line of its key lists.
+/// Returns the key of the event, if this is a committed write that no line of its key lists.
 fn unlisted_key(tables: &Tables, listed: &HashMap<Own, Times>, event: &Event) -> Option<Key>
     ensures { (all : List EventValue) (os : List OrderValue)
         → Means tables.now all all
@@ -112,7 +112,7 @@ fn unlisted_key(tables: &Tables, listed: &HashMap<Own, Times>, event: &Event) ->
     Some(version.key)
 }
 
-/// Whether a transaction that is listed so often is listed right.
+/// Returns whether a transaction is listed as often as wanted: once, or not at all.
 fn fits(times: Option<Times>, wanted: bool) -> bool
     ensures { result ≡ checks.fits times wanted }
 {
@@ -123,7 +123,8 @@ fn fits(times: Option<Times>, wanted: bool) -> bool
     }
 }
 
-/// Whether the key's lines list the transaction once where it is a committed writer of the key, and else not at all.
+/// Returns whether the key's lines list the transaction as often as they should: once if it is a committed writer of
+/// the key, and else not at all.
 fn belongs(tables: &Tables, listed: &HashMap<Own, Times>, key: Key, txn: Txn) -> bool
     ensures { (all : List EventValue) (os : List OrderValue)
         → Means tables.now all all
@@ -136,7 +137,7 @@ fn belongs(tables: &Tables, listed: &HashMap<Own, Times>, key: Key, txn: Txn) ->
     )
 }
 
-/// Whether that holds of each transaction of the line.
+/// Returns whether that holds of each transaction of the line.
 fn all_belong(tables: &Tables, listed: &HashMap<Own, Times>, key: Key, writers: &[Txn]) -> bool
     ensures { (all : List EventValue) (os : List OrderValue)
         → Means tables.now all all
@@ -151,7 +152,7 @@ fn all_belong(tables: &Tables, listed: &HashMap<Own, Times>, key: Key, writers: 
     true
 }
 
-/// Whether the line lists the committed writers of its key, once each.
+/// Returns whether the line names exactly the committed writers of its key, without repeats.
 fn is_exact(
     tables: &Tables,
     listed: &HashMap<Own, Times>,
@@ -172,8 +173,7 @@ fn is_exact(
     all_belong(tables, listed, order.key, &order.writers)
 }
 
-/// The first line that doesn't list the committed writers of its key, once each, where `first` is the line of the
-/// first order.
+/// Returns the first order line that breaks M7, if there is one. The line of the first order is `first`.
 fn check_lines(
     tables: &Tables,
     listed: &HashMap<Own, Times>,
@@ -181,6 +181,7 @@ fn check_lines(
     orders: &[Order],
     first: usize,
 ) -> Result<(), CheckFault>
+    requires near { first < 2 ^ 63 }
     requires lists { Lists listed.now (map order_of orders.now) }
     requires rise { keys_rise (map (λ o. o.key) (map order_of orders.now)) ≡ true }
     ensures { let os = map order_of orders.now in
@@ -192,14 +193,17 @@ fn check_lines(
 {
     for (i, order) in orders.iter().enumerate() {
         if !is_exact(tables, listed, unlisted, order) {
-            return Err(broken(first, i, Rule::M7));
+            return Err(CheckFault::Malformed {
+                line: first + i,
+                rule: Rule::M7,
+            });
         }
     }
     Ok(())
 }
 
-/// The first line that doesn't list the committed writers of its key, once each, or else the one behind the orders
-/// where a key with a committed writer has none; `first` is the line of the first order.
+/// Returns the first order line that breaks M7, or else the line after the orders if a key with a committed writer has
+/// no line. The line of the first order is `first`.
 pub(crate) fn check_orders(
     alloc: Global,
     tables: &Tables,
@@ -207,6 +211,7 @@ pub(crate) fn check_orders(
     orders: &[Order],
     first: usize,
 ) -> Result<(), CheckFault>
+    requires near { first < 2 ^ 63 }
     requires tell { Means tables.now (map event_of events.now) (map event_of events.now) }
     requires rise { keys_rise (map (λ o. o.key) (map order_of orders.now)) ≡ true }
     ensures { let found = listing_faults (parts events.now orders.now []) first in
@@ -221,24 +226,17 @@ pub(crate) fn check_orders(
     if let Err(fault) = check_lines(tables, &listed, &unlisted, orders, first) {
         return Err(fault);
     }
-    // no line is at fault, so what is left out has none
+    // no line breaks the rule, so a key that is left out has no line
     match unlisted.first() {
         None => Ok(()),
-        Some(_) => Err(broken(first, orders.len(), Rule::M7)),
+        Some(_) => Err(CheckFault::Malformed {
+            line: first + orders.len(),
+            rule: Rule::M7,
+        }),
     }
 }
 
-/// The rule is broken so many lines after the line; `Memory` where that line has no number.
-pub(crate) fn broken(line: usize, after: usize, rule: Rule) -> CheckFault
-    ensures { (result ≡ CheckFault.Malformed (line + after) rule) ⊎ (result ≡ CheckFault.Memory) }
-{
-    match line.checked_add(after) {
-        None => CheckFault::Memory,
-        Some(line) => CheckFault::Malformed { line, rule },
-    }
-}
-
-/// The line of the key.
+/// Returns the order line of the key.
 pub(crate) fn line_of(orders: &[Order], key: Key) -> Option<&Order>
     requires { keys_rise (map (λ o. o.key) (map order_of orders.now)) ≡ true }
     ensures found { is_some result ≡ list_any (λ o. key_eq o.key key) (map order_of orders.now) }

@@ -1,20 +1,20 @@
-//! M6, and aborted and intermediate reads (Adya 1999, G1a and G1b).
+//! M6, aborted reads and intermediate reads (Adya 1999, G1a and G1b).
 
-ghost use Rattle.std.specs.Prelude.{◌≡◌, ◌||◌, ◌==◌, ℕ, List, [], true, not, map, filter, IfOk, MatchResult};
+ghost use Rattle.std.specs.Prelude.{◌≡◌, ◌^◌, ◌<◌, ◌||◌, ◌==◌, ℕ, List, [], true, not, map, filter, IfOk, MatchResult};
 ghost use Rattle.std.specs.List.{filter_map, list_all, list_any};
 ghost use Rattle.adya_values.specs.Meaning.Histories.{Event as EventValue, entry_of, event_of};
 ghost use Rattle.adya_values.specs.Meaning.Events.{txn_of, written, aborts, has_ended, last_write};
 ghost use Rattle.adya_values.specs.Computing.Faults.{entry_eq, is_entry, was_written, bad_reads, unfinished_faults};
 ghost use Rattle.adya_terms.specs.Machinery.Tables.{Means};
+ghost use Rattle.adya_terms.specs.Machinery.Checks as checks;
 ghost use Rattle.adya_terms.specs.Machinery.Checks.{Names, Holds, IsFirst, ends, refused, is_not_aborted, are_written, is_own_or_last};
 
-use crate::listed::broken;
 use crate::tables::Tables;
 use crate::{CheckFault, Content, Entry, Event, Rule, Txn, Version};
 use std::alloc::{AllocError, Global};
 use std::collections::BTreeSet;
 
-/// The set of the numbers.
+/// Makes the set of the transactions.
 pub(crate) fn set_of(alloc: Global, txns: &[Txn]) -> Result<BTreeSet<Txn>, AllocError>
     ensures { IfOk result (λ s. Holds s txns.now) }
 {
@@ -25,50 +25,47 @@ pub(crate) fn set_of(alloc: Global, txns: &[Txn]) -> Result<BTreeSet<Txn>, Alloc
     Ok(set)
 }
 
-/// The first unfinished transaction that has ended, where `first` is the line of the first one.
+/// Returns the line of the first unfinished transaction that has ended, if there is one. The line of the first
+/// unfinished transaction is `first`.
 pub(crate) fn check_unfinished(
     tables: &Tables,
     events: &[Event],
     unfinished: &[Txn],
     first: usize,
 ) -> Result<(), CheckFault>
-    requires { Means tables.now (map event_of events.now) (map event_of events.now) }
+    requires near { first < 2 ^ 63 }
+    requires tell { Means tables.now (map event_of events.now) (map event_of events.now) }
     ensures { let found = unfinished_faults (map event_of events.now) first unfinished.now in
         MatchResult result (λ u. found ≡ []) (Names found) }
 {
     for (i, txn) in unfinished.iter().enumerate() {
         if tables.has_ended(*txn) {
-            return Err(broken(first, i, Rule::M6));
+            return Err(CheckFault::Malformed {
+                line: first + i,
+                rule: Rule::M6,
+            });
         }
     }
     Ok(())
 }
 
-/// Whether the transaction has ended or is unfinished.
+/// Returns whether the transaction has ended or is unfinished.
 fn is_done(tables: &Tables, unfinished: &BTreeSet<Txn>, txn: Txn) -> bool
-    ensures { (all : List EventValue) (us : List ℕ)
-        → Means tables.now all all
-        → Holds unfinished.now us
-        → result ≡ (has_ended all txn || list_any (λ u. u == txn) us) }
+    ensures { result ≡ checks.is_done tables.now unfinished.now txn }
 {
     tables.has_ended(txn) || unfinished.contains(&txn)
 }
 
-/// Whether each event's transaction has ended or is unfinished.
+/// Returns whether each event's transaction has ended or is unfinished.
 pub(crate) fn all_end(tables: &Tables, events: &[Event], unfinished: &BTreeSet<Txn>) -> bool
-    requires { Means tables.now (map event_of events.now) (map event_of events.now) }
-    ensures { let all = map event_of events.now in
-        (us : List ℕ) → Holds unfinished.now us → result ≡ list_all (ends all us) all }
+    ensures { result ≡ list_all (λ e. checks.is_done tables.now unfinished.now (txn_of (event_of e))) events.now }
 {
-    for event in events {
-        if !is_done(tables, unfinished, event.txn()) {
-            return false;
-        }
-    }
-    true
+    events
+        .iter()
+        .all(|event| is_done(tables, unfinished, event.txn()))
 }
 
-/// Whether the transaction has aborted or is unfinished.
+/// Returns whether the transaction has aborted or is unfinished.
 fn is_aborted(tables: &Tables, unfinished: &BTreeSet<Txn>, txn: Txn) -> bool
     ensures { (all : List EventValue) (us : List ℕ)
         → Means tables.now all all
@@ -78,7 +75,7 @@ fn is_aborted(tables: &Tables, unfinished: &BTreeSet<Txn>, txn: Txn) -> bool
     tables.has_aborted(txn) || unfinished.contains(&txn)
 }
 
-/// The first version of an aborted or unfinished transaction that is listed.
+/// Returns the first listed version of an aborted or unfinished transaction.
 fn first_aborted(tables: &Tables, unfinished: &BTreeSet<Txn>, entries: &[Entry]) -> Option<Version>
     ensures { (all : List EventValue) (us : List ℕ) (e : EventValue)
         → Means tables.now all all
@@ -93,8 +90,8 @@ fn first_aborted(tables: &Tables, unfinished: &BTreeSet<Txn>, entries: &[Entry])
     None
 }
 
-/// The first version of an aborted or unfinished transaction that the event reads or lists, where its transaction is
-/// committed.
+/// Returns the first version of an aborted or unfinished transaction that the event sees, if the event's transaction
+/// is committed.
 fn aborted_read(tables: &Tables, unfinished: &BTreeSet<Txn>, event: &Event) -> Option<Version>
     ensures { (all : List EventValue) (us : List ℕ)
         → Means tables.now all all
@@ -120,7 +117,7 @@ fn aborted_read(tables: &Tables, unfinished: &BTreeSet<Txn>, event: &Event) -> O
     }
 }
 
-/// G1a: the first read of a version of an aborted or unfinished transaction by a committed one.
+/// Returns the first aborted read (G1a): a committed transaction sees a version of an aborted or unfinished one.
 pub(crate) fn check_aborted(
     tables: &Tables,
     events: &[Event],
@@ -144,7 +141,8 @@ pub(crate) fn check_aborted(
     Ok(())
 }
 
-/// Whether the transaction itself wrote the entry, or it is its writer's last write of the key, where it was written.
+/// Returns whether the transaction itself wrote the entry, or the entry is its writer's last of the key. The entry was
+/// written.
 fn is_own_or_last(tables: &Tables, txn: Txn, seen: &Entry) -> bool
     ensures { let o = entry_of seen.now in
         (all : List EventValue)
@@ -155,7 +153,7 @@ fn is_own_or_last(tables: &Tables, txn: Txn, seen: &Entry) -> bool
     seen.version.txn == txn || !tables.was_replaced(seen.version)
 }
 
-/// The first version that is listed and is neither the transaction's nor its writer's last of the key, where all that
+/// Returns the first listed version that is neither the transaction's own nor its writer's last of the key. All that
 /// is listed was written.
 fn first_intermediate(tables: &Tables, txn: Txn, entries: &[Entry]) -> Option<Version>
     ensures { let es = map entry_of entries.now in
@@ -173,8 +171,8 @@ fn first_intermediate(tables: &Tables, txn: Txn, entries: &[Entry]) -> Option<Ve
     None
 }
 
-/// The first version that the event reads or lists and that is not its writer's last of the key, where the event's
-/// transaction is committed and didn't write it.
+/// Returns the first version that the event sees and that another transaction wrote, and not last of that key, if the
+/// event's transaction is committed.
 fn intermediate_read(tables: &Tables, event: &Event) -> Option<Version>
     ensures { (all : List EventValue)
         → Means tables.now all all
@@ -204,7 +202,8 @@ fn intermediate_read(tables: &Tables, event: &Event) -> Option<Version>
     }
 }
 
-/// G1b: the first read of a version of another that isn't that one's last write of the key by a committed one.
+/// Returns the first intermediate read (G1b): a committed transaction sees a version that another one wrote, and not
+/// last of that key.
 pub(crate) fn check_intermediate(tables: &Tables, events: &[Event]) -> Result<(), CheckFault>
     requires tell { Means tables.now (map event_of events.now) (map event_of events.now) }
     requires written { let all = map event_of events.now in list_all (was_written all) all ≡ true }

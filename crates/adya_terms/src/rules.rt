@@ -13,14 +13,14 @@ use crate::{CheckFault, Content, Entry, Event, Rule};
 use std::alloc::Global;
 use std::collections::BTreeMap;
 
-/// M1: the event's transaction has not ended before.
+/// M1: returns whether the event's transaction is still open.
 fn is_open(tables: &Tables, event: &Event) -> bool
     ensures { (all before : List EventValue) → Means tables.now all before → result ≡ faults.is_open before (event_of event.now) }
 {
     !tables.has_ended(event.txn())
 }
 
-/// M2: the transaction's writes of a key are numbered from 1.
+/// M2: returns whether the event, if it writes, has the next number of its transaction's writes of the key.
 fn is_next(tables: &Tables, events: &[Event], event: &Event) -> bool
     ensures { (before : List EventValue)
         → Means tables.now (map event_of events.now) before
@@ -36,7 +36,7 @@ fn is_next(tables: &Tables, events: &[Event], event: &Event) -> bool
     }
 }
 
-/// M3: what is read was written before.
+/// M3: returns whether all that the event sees was written before.
 fn was_written(tables: &Tables, events: &[Event], event: &Event) -> bool
     ensures { (before : List EventValue)
         → Means tables.now (map event_of events.now) before
@@ -60,7 +60,8 @@ fn was_written(tables: &Tables, events: &[Event], event: &Event) -> bool
     }
 }
 
-/// M4: of a key that it has written a transaction reads and lists its own last write.
+/// M4: returns whether the event sees no other version than its transaction's latest of each key that this has
+/// written.
 fn sees_own(
     tables: &Tables,
     written: &BTreeMap<Own, usize>,
@@ -98,7 +99,7 @@ fn sees_own(
     }
 }
 
-/// M5: a scan lists keys of its range, rising.
+/// M5: returns whether the bounds of a scan are in order, and its list has rising keys within the bounds.
 fn is_rising(event: &Event) -> bool
     ensures { result ≡ faults.is_rising (event_of event.now) }
 {
@@ -117,7 +118,7 @@ fn is_rising(event: &Event) -> bool
     }
 }
 
-/// The first rule that the event breaks.
+/// Returns the first rule that the event breaks.
 fn broken_rule(
     tables: &Tables,
     written: &BTreeMap<Own, usize>,
@@ -150,7 +151,7 @@ fn broken_rule(
     None
 }
 
-/// The tables of the events, where none breaks a rule.
+/// Makes the tables of the events, if none of them breaks a rule.
 pub(crate) fn tables_of(alloc: Global, events: &[Event]) -> Result<Tables, CheckFault>
     ensures { let all = map event_of events.now in
         MatchResult result (λ t. Means t all all × (faults.event_faults [] 2 all ≡ [])) (Names (faults.event_faults [] 2 all)) }

@@ -1,32 +1,30 @@
 //! What a scan lists: M3, M4 and M5.
 
 ghost use Rattle.std.specs.Prelude.{◌≡◌, ◌&&◌, ◌++◌, [], ◌∷◌, List, true, Some, map, slice_get, IfOk};
-ghost use Rattle.std.specs.List.{filter_map, list_all, list_any};
+ghost use Rattle.std.specs.List.{list_all, list_any};
 ghost use Rattle.adya_values.specs.Meaning.Keys as keys;
 ghost use Rattle.adya_values.specs.Meaning.Histories.{Event as EventValue, entry_of, event_of, Scan};
-ghost use Rattle.adya_values.specs.Meaning.Events.{written};
 ghost use Rattle.adya_values.specs.Computing.Faults as faults;
-ghost use Rattle.adya_values.specs.Computing.Faults.{entry_eq, none_or_lists_only, sees_own};
+ghost use Rattle.adya_values.specs.Computing.Faults.{entry_eq, none_or_lists_only, sees_own, version_eq};
 ghost use Rattle.adya_terms.specs.Machinery.Checks as checks;
-ghost use Rattle.adya_terms.specs.Machinery.Tables.{written_at, Keeps, Means};
+ghost use Rattle.std.specs.HashMap.{get};
+ghost use Rattle.adya_terms.specs.Machinery.Tables.{is_at, own_eq, written_at, Keeps};
 
 use crate::tables::{Own, Tables, wrote, wrote_at};
 use crate::{Entry, Event, Key, Txn};
 use std::alloc::{AllocError, Global};
 use std::collections::BTreeMap;
 
-/// Whether each entry was written before.
+/// Returns whether each entry was written before.
 pub(crate) fn all_written(tables: &Tables, events: &[Event], entries: &[Entry]) -> bool
-    ensures { (before : List EventValue)
-        → Means tables.now (map event_of events.now) before
-        → result ≡ list_all (λ o. list_any (entry_eq o) (filter_map written before)) (map entry_of entries.now) }
+    ensures { let all = map event_of events.now in
+        result
+        ≡ list_all (λ w. is_at (get own_eq tables.now.last) (get version_eq tables.now.replaced) all (entry_of w))
+        entries.now }
 {
-    for entry in entries {
-        if !tables.was_written(events, entry) {
-            return false;
-        }
-    }
-    true
+    entries
+        .iter()
+        .all(|entry| tables.was_written(events, entry))
 }
 
 fn lies_in(lo: Key, hi: Key, key: Key) -> bool
@@ -35,80 +33,51 @@ fn lies_in(lo: Key, hi: Key, key: Key) -> bool
     lo <= key && key <= hi
 }
 
-/// Whether each key lies between the two, both included.
+/// Returns whether each key lies between the two, both included.
 pub(crate) fn all_lie_in(lo: Key, hi: Key, entries: &[Entry]) -> bool
-    ensures { result ≡ list_all (λ w. keys.lies_in lo hi w.version.key) (map entry_of entries.now) }
+    ensures { result ≡ list_all (λ w. keys.lies_in lo hi w.version.key) entries.now }
 {
-    for entry in entries {
-        if !lies_in(lo, hi, entry.version.key) {
-            return false;
-        }
-    }
-    true
+    entries
+        .iter()
+        .all(|entry| lies_in(lo, hi, entry.version.key))
 }
 
-fn is_below(low: Key, high: Key) -> bool
-    ensures { result ≡ keys.key_lt low high }
-{
-    low < high
-}
-
-/// Whether each key is below the next.
+/// Returns whether each key is below the next.
 pub(crate) fn keys_rise(entries: &[Entry]) -> bool
     ensures { result ≡ keys.keys_rise (map (λ w. w.version.key) (map entry_of entries.now)) }
 {
-    let [first, rest @ ..] = entries else {
-        return true;
-    };
-    let mut last = first.version.key;
-    for entry in rest {
-        if !is_below(last, entry.version.key) {
-            return false;
-        }
-        last = entry.version.key;
-    }
-    true
+    entries.is_sorted_by(|a, b| a.version.key < b.version.key)
 }
 
-/// Whether the write is listed.
+/// Returns whether the write is listed.
 fn lists(entries: &[Entry], write: &Entry) -> bool
-    ensures { result ≡ list_any (entry_eq (entry_of write.now)) (map entry_of entries.now) }
+    ensures { result ≡ list_any (λ w. entry_eq (entry_of write.now) (entry_of w)) entries.now }
 {
-    for entry in entries {
-        if write.same(entry) {
-            return true;
-        }
-    }
-    false
+    entries.iter().any(|entry| write.same(entry))
 }
 
-/// Whether the entry is the write, or of another key.
+/// Returns whether the entry is the write, or of another key.
 fn is_of_key(write: &Entry, entry: &Entry) -> bool
     ensures { result ≡ checks.is_of_key (entry_of write.now) (entry_of entry.now) }
 {
     entry.version.key != write.version.key || entry.same(write)
 }
 
-/// Whether nothing else of the write's key is listed.
+/// Returns whether nothing else of the write's key is listed.
 fn lists_no_other(entries: &[Entry], write: &Entry) -> bool
-    ensures { result ≡ list_all (checks.is_of_key (entry_of write.now)) (map entry_of entries.now) }
+    ensures { result ≡ list_all (λ w. checks.is_of_key (entry_of write.now) (entry_of w)) entries.now }
 {
-    for entry in entries {
-        if !is_of_key(write, entry) {
-            return false;
-        }
-    }
-    true
+    entries.iter().all(|entry| is_of_key(write, entry))
 }
 
-/// Whether the write is listed and nothing else of its key.
+/// Returns whether the write is listed and nothing else of its key.
 fn lists_only(entries: &[Entry], write: &Entry) -> bool
     ensures { result ≡ faults.lists_only (map entry_of entries.now) (entry_of write.now) }
 {
     lists(entries, write) && lists_no_other(entries, write)
 }
 
-/// The same by binary search, of a list that rises.
+/// Returns the same by binary search. The keys rise.
 fn finds_only(entries: &[Entry], write: &Entry) -> bool
     requires { keys.keys_rise (map (λ w. w.version.key) (map entry_of entries.now)) ≡ true }
     ensures { result ≡ faults.lists_only (map entry_of entries.now) (entry_of write.now) }
@@ -119,22 +88,31 @@ fn finds_only(entries: &[Entry], write: &Entry) -> bool
     }
 }
 
-/// Whether what the event at the place writes is listed and nothing else of its key, where `rising` says whether the
-/// list rises.
-fn lists_write(events: &[Event], at: usize, entries: &[Entry], rising: bool) -> bool
-    requires { rising ≡ true → keys.keys_rise (map (λ w. w.version.key) (map entry_of entries.now)) ≡ true }
-    ensures { result ≡ none_or_lists_only (map entry_of entries.now) (written_at (map event_of events.now) (Some at)) }
-{
-    let Some(write) = wrote_at(events, Some(at)) else {
-        return true;
-    };
-    if rising {
-        return finds_only(entries, &write);
-    }
-    lists_only(entries, &write)
+/// What a scan lists, with whether its keys rise.
+#[derive(Clone, Copy)]
+struct ScanList<'a> {
+    entries: &'a [Entry],
+    rising: bool,
+    ghost rise: { rising ≡ true → keys.keys_rise (map (λ w. w.version.key) (map entry_of entries.now)) ≡ true },
 }
 
-/// Takes in what the event at the place writes.
+impl ScanList<'_> {
+    /// Returns whether what the event at the place writes is listed and nothing else of its key.
+    fn has_write(&self, events: &[Event], at: usize) -> bool
+        ensures { result
+            ≡ none_or_lists_only (map entry_of self.now.entries.now) (written_at (map event_of events.now) (Some at)) }
+    {
+        let Some(write) = wrote_at(events, Some(at)) else {
+            return true;
+        };
+        if self.rising {
+            return finds_only(self.entries, &write);
+        }
+        lists_only(self.entries, &write)
+    }
+}
+
+/// Records what the event at the place writes.
 pub(crate) fn keep(
     written: &mut BTreeMap<Own, usize>,
     at: usize,
@@ -158,7 +136,8 @@ pub(crate) fn keep(
     Ok(())
 }
 
-/// Of each key between the two that the transaction has written, its last write is listed and nothing else.
+/// Returns whether of each key between the two that the transaction has written its last write is listed, and nothing
+/// else of that key.
 pub(crate) fn lists_own(
     written: &BTreeMap<Own, usize>,
     events: &[Event],
@@ -174,9 +153,12 @@ pub(crate) fn lists_own(
     if hi < lo {
         return true;
     }
-    let rising = keys_rise(entries);
+    let listed = ScanList {
+        entries,
+        rising: keys_rise(entries),
+    };
     for (_, at) in written.range(Own { txn, key: lo }..=Own { txn, key: hi }) {
-        if !lists_write(events, *at, entries, rising) {
+        if !listed.has_write(events, *at) {
             return false;
         }
     }

@@ -12,15 +12,15 @@ use crate::{Content, Entry, Event, Key, Txn, Version};
 use std::alloc::{AllocError, Global};
 use std::collections::{HashMap, HashSet};
 
-/// A transaction with a key of its own.
+/// A transaction and a key.
 #[derive(Clone, Copy, PartialEq, Eq, PartialOrd, Ord, Hash)]
 pub(crate) struct Own {
     pub txn: Txn,
     pub key: Key,
 }
 
-/// Which transactions have ended, and where in the list of events each transaction wrote each key last, and each
-/// version that a later write of the same transaction replaced.
+/// The transactions that have ended; the place in the list of events at which each transaction wrote each key last; and
+/// the place of each version that a later write of the same transaction replaced.
 #[derive(Drop)]
 pub(crate) struct Tables {
     pub committed: HashSet<Txn>,
@@ -29,7 +29,7 @@ pub(crate) struct Tables {
     pub replaced: HashMap<Version, usize>,
 }
 
-/// What the event writes.
+/// Returns what the event writes.
 pub(crate) fn wrote(event: &Event) -> Option<Entry>
     ensures { option_map entry_of result ≡ written (event_of event.now) }
 {
@@ -57,7 +57,7 @@ pub(crate) fn wrote(event: &Event) -> Option<Entry>
     }
 }
 
-/// What the event at the place writes.
+/// Returns what the event at the place writes.
 pub(crate) fn wrote_at(events: &[Event], at: Option<usize>) -> Option<Entry>
     ensures { option_map entry_of result ≡ written_at (map event_of events.now) at }
 {
@@ -70,7 +70,7 @@ pub(crate) fn wrote_at(events: &[Event], at: Option<usize>) -> Option<Entry>
     wrote(event)
 }
 
-/// Whether it is this entry.
+/// Returns whether it is this entry.
 fn is_there(seen: &Entry, wrote: Option<Entry>) -> bool
     ensures { result ≡ is_there (entry_of seen.now) (option_map entry_of wrote) }
 {
@@ -81,7 +81,7 @@ fn is_there(seen: &Entry, wrote: Option<Entry>) -> bool
 }
 
 impl Tables {
-    /// The tables of no events.
+    /// Makes the tables of no events.
     pub fn new(alloc: Global) -> Tables
         ensures { (all : List EventValue) → Means result all [] }
     {
@@ -93,28 +93,28 @@ impl Tables {
         }
     }
 
-    /// Whether the transaction has committed.
+    /// Returns whether the transaction has committed.
     pub fn has_committed(&self, txn: Txn) -> bool
         ensures { result ≡ contains nat_eq self.now.committed txn }
     {
         self.committed.contains(&txn)
     }
 
-    /// Whether the transaction has aborted.
+    /// Returns whether the transaction has aborted.
     pub fn has_aborted(&self, txn: Txn) -> bool
         ensures { result ≡ contains nat_eq self.now.aborted txn }
     {
         self.aborted.contains(&txn)
     }
 
-    /// Whether the transaction has committed or aborted.
+    /// Returns whether the transaction has committed or aborted.
     pub fn has_ended(&self, txn: Txn) -> bool
         ensures { result ≡ (contains nat_eq self.now.committed txn || contains nat_eq self.now.aborted txn) }
     {
         self.has_committed(txn) || self.has_aborted(txn)
     }
 
-    /// The transaction's last write of the key.
+    /// Returns the transaction's last write of the key.
     pub fn last_write(&self, events: &[Event], txn: Txn, key: Key) -> Option<Entry>
         ensures { option_map entry_of result
             ≡ written_at (map event_of events.now) (get own_eq self.now.last (own txn key)) }
@@ -122,7 +122,7 @@ impl Tables {
         wrote_at(events, self.last.get(&Own { txn, key }).copied())
     }
 
-    /// Whether the transaction is committed and wrote the key.
+    /// Returns whether the transaction is committed and wrote the key.
     pub fn installs(&self, txn: Txn, key: Key) -> bool
         ensures { result
             ≡ (contains nat_eq self.now.committed txn && is_some (get own_eq self.now.last (own txn key))) }
@@ -130,14 +130,14 @@ impl Tables {
         self.has_committed(txn) && self.last.contains_key(&Own { txn, key })
     }
 
-    /// Whether a later write of the same transaction replaced the version.
+    /// Returns whether a later write of the same transaction replaced the version.
     pub fn was_replaced(&self, version: Version) -> bool
         ensures { result ≡ is_some (get version_eq self.now.replaced version) }
     {
         self.replaced.contains_key(&version)
     }
 
-    /// Whether the version was written with the value.
+    /// Returns whether the version was written with this content.
     pub fn was_written(&self, events: &[Event], seen: &Entry) -> bool
         ensures { let all = map event_of events.now in
             let o = entry_of seen.now in
@@ -153,7 +153,7 @@ impl Tables {
             )
     }
 
-    /// Takes in the event at the place.
+    /// Records the event at the place.
     pub fn record(&mut self, events: &[Event], at: usize, event: &Event) -> Result<(), AllocError>
         ensures { let all = map event_of events.now in
             IfOk result
@@ -196,7 +196,7 @@ impl Tables {
         Ok(())
     }
 
-    /// The transaction's last write of the key is at the place, and the one before it is replaced.
+    /// Records that the transaction's last write of the key is at the place, and that it replaced the one before it.
     fn put(&mut self, events: &[Event], at: usize, own: Own) -> Result<(), AllocError>
         ensures last { IfOk result
             (λ u. (q : Own) → get own_eq self.new.last q ≡ cond (own_eq own q) (Some at) (get own_eq self.old.last q)) }

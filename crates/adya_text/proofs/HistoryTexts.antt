@@ -4,7 +4,7 @@ use Rattle.std.proofs.Common.{sym, ap, ◌∙◌}
 use Rattle.std.specs.List.{AllByRecursion}
 use Rattle.std.proofs.lemmas.Bool.{eqb-true, and_parts, and_from}
 use Rattle.adya_values.specs.Meaning.Keys.{keys_rise, key_lt, IsTxn}
-use Rattle.adya_values.specs.Meaning.Shapes.{numbers_rise, fits_edition}
+use Rattle.adya_values.specs.Computing.Shapes.{numbers_rise, fits_edition}
 use Rattle.adya_values.specs.declared.edition.Edition.{Edition}
 use Rattle.adya_values.specs.declared.edition.Edition.TheVariants.{One, Two}
 use Rattle.adya_values.specs.Meaning.Histories.{Event, Order, FinalPair, History}

@@ -3,7 +3,7 @@
 ghost use Rattle.std.specs.Prelude.{◌≡◌, ◌↔◌, ◌++◌, ◌∷◌, [], List, true, ℕ, IsTrue, IfOk, OnOk, OnErr, IsErr};
 ghost use Rattle.std.specs.Prelude.{MatchOption, IsOk, map};
 ghost use Rattle.std.specs.Bool.{OnTrue, OnFalse};
-ghost use Rattle.adya_values.specs.Meaning.Shapes.{fits_edition, is_shape};
+ghost use Rattle.adya_values.specs.Computing.Shapes.{fits_edition, is_shape};
 ghost use Rattle.adya_values.specs.Meaning.Histories.{order_of, final_of};
 ghost use Rattle.adya_line.specs.Meaning.HistoryLines.{line_of};
 ghost use Rattle.adya_text.specs.Computing.HistoryRuns.{allows, edition_at, stage_after};

@@ -1,2 +1,2 @@
--- What only this crate's loops and tables need.
+-- What only the code of this crate needs: texts in arrays of fixed size.
 pub mod Padded

@@ -1,13 +1,17 @@
--- What the promises mean.
+-- What the promises mean. A reading order:
+-- Keys and Histories: what histories are made of, as plain values, and Values: what the values of the code hold.
+-- Events and Orders: what events write and see, and the versions of a key in their order.
+-- Selections and Edges: which version of a key an event sees, and the dependencies between transactions.
+-- Rules and Phenomena: when a history is well-formed, and what isolation level PL-3 rules out.
+-- Serial and Acceptance: agreement with a serial run, and when a certificate is accepted.
 pub mod Keys
 pub mod Histories
 pub mod Values
-pub mod Shapes
 pub mod Events
 pub mod Orders
 pub mod Selections
 pub mod Edges
-pub mod Serial
 pub mod Rules
 pub mod Phenomena
+pub mod Serial
 pub mod Acceptance

@@ -1,4 +1,4 @@
-//! Events.
+//! Versions of keys, and the events that write and read them.
 
 ghost use Rattle.std.specs.Prelude.{◌≡◌, IfOk};
 ghost use Rattle.adya_values.specs.Meaning.Histories.{content_of, entry_of, event_of};
@@ -7,29 +7,36 @@ ghost use Rattle.adya_values.specs.Computing.Faults.{content_eq, entry_eq};
 
 use crate::{Key, Mod, Txn, Value};
 use std::alloc::{AllocError, Global};
+use std::fmt;
 
-/// What a transaction made of a key by one of its writes (Adya 1999, section 3.1: an object version).
-#[derive(Clone, Copy, PartialEq, Eq, PartialOrd, Ord, Hash)]
+/// A version of a key: the result of one write or delete by one transaction (Adya 1999, section 3.1).
+#[derive(Clone, Copy, Debug, PartialEq, Eq, PartialOrd, Ord, Hash)]
 pub struct Version {
-    /// The object.
+    /// The key.
     pub key: Key,
-    /// Who wrote it.
+    /// The transaction that wrote it.
     pub txn: Txn,
-    /// Which of the writes of this key by this transaction it was, counted from 1.
+    /// The number of the write among its transaction's writes and deletes of the key, counted from 1.
     pub m: Mod,
 }
 
-/// What a write leaves of a key.
+impl fmt::Display for Version {
+    fn fmt<W: fmt::Write>(&self, f: &mut fmt::Formatter<W>) -> fmt::Result {
+        write!(f, "{}.{}:{}", self.key, self.txn.get(), self.m.get())
+    }
+}
+
+/// What a version holds.
 #[derive(Clone, Copy)]
 pub enum Content {
     /// A value.
     Live(Value),
-    /// A dead version, which a delete leaves.
+    /// Nothing: the version was made by a delete.
     Dead,
 }
 
 impl Content {
-    /// Whether the two are the same value, or both dead.
+    /// Returns whether both are the same value or both are dead.
     pub fn same(&self, other: &Content) -> bool
         ensures { result ≡ content_eq (content_of self.now) (content_of other.now) }
     {
@@ -47,12 +54,12 @@ impl Content {
 pub struct Entry {
     /// The version.
     pub version: Version,
-    /// What it is.
+    /// What the version holds.
     pub content: Content,
 }
 
 impl Entry {
-    /// Whether the two are the same version with the same content.
+    /// Returns whether both are the same version with the same content.
     pub fn same(&self, other: &Entry) -> bool
         ensures { result ≡ entry_eq (entry_of self.now) (entry_of other.now) }
     {
@@ -76,14 +83,14 @@ pub enum Event {
         key: Key,
         m: Mod,
     },
-    /// The transaction reads a version and finds the value.
+    /// The transaction reads this version and gets the value.
     Read {
         txn: Txn,
         version: Version,
         value: Value,
     },
-    /// The transaction scans the keys from `lo` to `hi`, both included, and is shown these versions. A key that
-    /// isn't listed is unborn to it.
+    /// The transaction scans the keys from `lo` to `hi`, both included, and gets these versions. Of a key in the
+    /// range that isn't listed it sees the unborn version.
     Scan {
         txn: Txn,
         lo: Key,
@@ -101,7 +108,7 @@ pub enum Event {
 }
 
 impl Event {
-    /// Whose event it is.
+    /// Returns the transaction that the event belongs to.
     pub fn txn(&self) -> Txn
         ensures { result ≡ txn_of (event_of self.now) }
     {
@@ -115,7 +122,7 @@ impl Event {
         }
     }
 
-    /// An equal event; `AllocError` where there is no memory for a scan's list.
+    /// Returns an equal event; `AllocError` if there is no memory for a scan's list.
     pub fn copy(&self, alloc: Global) -> Result<Event, AllocError>
         ensures { IfOk result (λ e. event_of e ≡ event_of self.now) }
     {

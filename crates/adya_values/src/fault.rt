@@ -1,39 +1,43 @@
-//! Why a history is not checked.
+//! The rules of well-formed histories, and the faults that a check of a history reports.
 
 use crate::Version;
+use thiserror::Error;
 
 /// The rules of well-formed histories.
 #[derive(Clone, Copy, Debug, PartialEq, Eq, Drop)]
 pub enum Rule {
-    /// Nothing of a transaction comes after its commit or abort.
+    /// A transaction has no event after its commit or abort.
     M1,
-    /// A transaction's writes of a key are numbered 1, 2 and on.
+    /// The writes of one key by one transaction have the numbers 1, 2, 3 and so on.
     M2,
-    /// A version is read or listed after it was written, with the content that was written.
+    /// Each version that is read or listed exists by then, with the same content.
     M3,
-    /// Of a key that it has written a transaction reads and lists its own last write, and no other.
+    /// A transaction that has written a key sees only its own latest version of the key from then on.
     M4,
-    /// A scan's range doesn't begin above its end; the keys that it lists rise and lie in the range.
+    /// The bounds of a scan are in order, and its list has rising keys within the bounds.
     M5,
-    /// Every transaction commits or aborts, or is unfinished and does neither.
+    /// Each transaction either ends or is listed as unfinished, and never both.
     M6,
-    /// The order of a key lists its committed writers, once each.
+    /// The version order of each key names exactly the committed writers of the key, without repeats.
     M7,
-    /// The finals are the visible last versions of the keys.
+    /// The finals hold the value of each key's last version if it is visible, and nothing else.
     M8,
 }
 
-/// Why a history is not well-formed without aborted and intermediate reads, or was not checked. Lines are those of
-/// the history's text, from 1.
-#[derive(Clone, Copy, Drop)]
+/// Why a history doesn't pass its check. Lines are those of the history's text, counted from 1.
+#[derive(Clone, Copy, Debug, Error, Drop)]
 pub enum CheckFault {
-    /// The rule is broken at the line.
+    /// The line breaks the rule.
+    #[error("line {line} breaks rule {rule:?}")]
     Malformed { line: usize, rule: Rule },
-    /// At the line a committed transaction reads this version of an aborted one (Adya 1999, G1a).
+    /// At this line a committed transaction sees a version that an aborted one wrote (Adya 1999, G1a).
+    #[error("line {line} reads {version}, a version of an aborted transaction")]
     AbortedRead { line: usize, version: Version },
-    /// At the line a committed transaction reads this version of another, which isn't that one's last write of the
-    /// key (Adya 1999, G1b).
+    /// At this line a committed transaction sees a version of another transaction that this other one replaced
+    /// itself (Adya 1999, G1b).
+    #[error("line {line} reads {version}, which its writer replaced")]
     IntermediateRead { line: usize, version: Version },
-    /// Memory ran out; nothing is said of the history.
+    /// Memory ran out, so the history may or may not have a fault.
+    #[error("out of memory")]
     Memory,
 }

@@ -4,18 +4,21 @@ ghost use Rattle.std.specs.Prelude.{◌≡◌, ◌↔◌, true, length, map, IsO
 ghost use Rattle.std.specs.List.{list_all};
 ghost use Rattle.adya_values.specs.Meaning.Keys.{key_lt, keys_rise};
 ghost use Rattle.adya_values.specs.Meaning.Histories.{order_of, final_of};
-ghost use Rattle.adya_values.specs.Meaning.Shapes.{is_shape, numbers_rise, fits_edition};
+ghost use Rattle.adya_values.specs.Computing.Shapes.{is_shape, numbers_rise, fits_edition};
 
 use crate::order::{FinalPair, Order};
 use crate::{Edition, Event, Key, Txn};
+use std::fmt;
+use thiserror::Error;
 
-/// A history has no such lists: an order names no writer, or the keys of the orders, those of the finals or the
-/// unfinished transactions don't rise strictly. It gives the lists back.
-#[derive(Drop)]
+/// The lists don't form a history: an order has no writer, or the unfinished transactions, the keys of the orders or
+/// the keys of the finals don't strictly rise. The lists are given back as they were given.
+#[derive(Error, Drop)]
+#[error("4 bad shape")]
 pub struct BadShape {
     /// The events, as given.
     pub events: Vec<Event>,
-    /// The unfinished transactions, as given; empty where the history was to be of the first edition.
+    /// The unfinished transactions, as given; empty if the history was to be of the first edition.
     pub unfinished: Vec<Txn>,
     /// The orders, as given.
     pub orders: Vec<Order>,
@@ -23,9 +26,15 @@ pub struct BadShape {
     pub finals: Vec<FinalPair>,
 }
 
-/// A history (Adya 1999, section 3.1): events in one list, the version orders of the keys, and what the keys hold
-/// after all. The keys of the orders rise strictly, as do those of the finals. In the second edition transactions
-/// may be unfinished: they count as aborted.
+impl fmt::Debug for BadShape {
+    fn fmt<W: fmt::Write>(&self, f: &mut fmt::Formatter<W>) -> fmt::Result {
+        f.debug_struct("BadShape").finish_non_exhaustive()
+    }
+}
+
+/// A history (Adya 1999, section 3.1): the events in the order in which they happened, the version order of each
+/// written key, and the final values. Orders and finals are sorted by key, and no key is there twice. A history of
+/// the second edition may have unfinished transactions, which count as aborted.
 #[derive(Drop)]
 pub struct History {
     edition: Edition,
@@ -38,15 +47,17 @@ pub struct History {
 }
 
 impl History {
-    /// The history of the first edition with these lists; `BadShape` with the lists where an order names no writer,
-    /// or the keys of the orders or of the finals don't rise strictly.
+    ghost use Rattle.adya_values.specs.Meaning.Values.{history_of, edition_in, events_in, unfinished_in, orders_in, finals_in};
+
+    /// Makes a history of the first edition. Returns `BadShape` with the lists if an order has no writer, or the
+    /// keys of the orders or of the finals don't strictly rise.
     pub fn new(
         events: Vec<Event>,
         orders: Vec<Order>,
         finals: Vec<FinalPair>,
     ) -> Result<History, BadShape>
         ensures limits { IsOk result ↔ (is_shape (map order_of orders.items) (map final_of finals.items) ≡ true) }
-        ensures edition { IfOk result (λ h. (h.edition ≡ Edition.One) × (h.unfinished.items ≡ [])) }
+        ensures edition { IfOk result (λ h. (edition_in h ≡ Edition.One) × (unfinished_in h ≡ [])) }
         ensures same { IfOk result (λ h. (h.events ≡ events) × (h.orders ≡ orders) × (h.finals ≡ finals)) }
         ensures back { IfErr result (λ b. (b.events ≡ events) × (b.orders ≡ orders) × (b.finals ≡ finals)) }
     {
@@ -68,8 +79,8 @@ impl History {
         })
     }
 
-    /// The history of the second edition with these lists; `BadShape` with the lists where an order names no writer,
-    /// or the unfinished transactions, the keys of the orders or those of the finals don't rise strictly.
+    /// Makes a history of the second edition. Returns `BadShape` with the lists if an order has no writer, or the
+    /// unfinished transactions, the keys of the orders or the keys of the finals don't strictly rise.
     pub fn new_two(
         events: Vec<Event>,
         unfinished: Vec<Txn>,
@@ -78,7 +89,7 @@ impl History {
     ) -> Result<History, BadShape>
         ensures limits { IsOk result
             ↔ ((numbers_rise unfinished.items && is_shape (map order_of orders.items) (map final_of finals.items)) ≡ true) }
-        ensures edition { IfOk result (λ h. h.edition ≡ Edition.Two) }
+        ensures edition { IfOk result (λ h. edition_in h ≡ Edition.Two) }
         ensures same { IfOk result (λ h. (h.events ≡ events) × (h.unfinished ≡ unfinished) × (h.orders ≡ orders) × (h.finals ≡ finals)) }
         ensures back { IfErr result (λ b. (b.events ≡ events) × (b.unfinished ≡ unfinished) × (b.orders ≡ orders) × (b.finals ≡ finals)) }
     {
@@ -99,39 +110,39 @@ impl History {
         })
     }
 
-    /// The edition of the history's text.
+    /// Returns the edition of the history's text.
     pub fn edition(&self) -> Edition
-        ensures { result ≡ self.now.edition }
+        ensures { result ≡ edition_in self.now }
     {
         self.edition
     }
 
-    /// The unfinished transactions, rising; none in the first edition.
+    /// Returns the unfinished transactions, rising; none in the first edition.
     pub fn unfinished(&self) -> &[Txn]
-        ensures value { result.now ≡ self.now.unfinished.items }
-        ensures edited { fits_edition self.now.edition self.now.unfinished.items ≡ true }
+        ensures value { result.now ≡ unfinished_in self.now }
+        ensures edited { fits_edition (edition_in self.now) (unfinished_in self.now) ≡ true }
     {
         &self.unfinished
     }
 
-    /// The events, in the order in which they happened.
+    /// Returns the events, in the order in which they happened.
     pub fn events(&self) -> &[Event]
-        ensures { result.now ≡ self.now.events.items }
+        ensures { result.now ≡ events_in self.now }
     {
         &self.events
     }
 
-    /// The version orders, by rising key.
+    /// Returns the version orders, by rising key.
     pub fn orders(&self) -> &[Order]
-        ensures value { result.now ≡ self.now.orders.items }
-        ensures shape { is_shape (map order_of self.now.orders.items) (map final_of self.now.finals.items) ≡ true }
+        ensures value { result.now ≡ orders_in self.now }
+        ensures shape { is_shape (history_of self.now).orders (history_of self.now).finals ≡ true }
     {
         &self.orders
     }
 
-    /// What the keys hold after all, by rising key.
+    /// Returns the final values, by rising key.
     pub fn finals(&self) -> &[FinalPair]
-        ensures { result.now ≡ self.now.finals.items }
+        ensures { result.now ≡ finals_in self.now }
     {
         &self.finals
     }
@@ -160,50 +171,19 @@ fn is_shape(orders: &[Order], finals: &[FinalPair]) -> bool
 }
 
 fn all_have_writers(orders: &[Order]) -> bool
-    ensures { result ≡ list_all (λ o. not (length o.writers == 0)) (map order_of orders.now) }
+    ensures { result ≡ list_all (λ o. not (length o.writers.items == 0)) orders.now }
 {
-    for o in orders {
-        if o.writers.as_slice().is_empty() {
-            return false;
-        }
-    }
-    true
-}
-
-fn is_below(low: Key, high: Key) -> bool
-    ensures { result ≡ key_lt low high }
-{
-    low < high
+    orders.iter().all(|o| !o.writers.is_empty())
 }
 
 fn order_keys_rise(orders: &[Order]) -> bool
     ensures { result ≡ keys_rise (map (λ o. o.key) (map order_of orders.now)) }
 {
-    let [first, rest @ ..] = orders else {
-        return true;
-    };
-    let mut last = first.key;
-    for o in rest {
-        if !is_below(last, o.key) {
-            return false;
-        }
-        last = o.key;
-    }
-    true
+    orders.is_sorted_by(|a, b| a.key < b.key)
 }
 
 fn final_keys_rise(finals: &[FinalPair]) -> bool
     ensures { result ≡ keys_rise (map (λ f. f.key) (map final_of finals.now)) }
 {
-    let [first, rest @ ..] = finals else {
-        return true;
-    };
-    let mut last = first.key;
-    for f in rest {
-        if !is_below(last, f.key) {
-            return false;
-        }
-        last = f.key;
-    }
-    true
+    finals.is_sorted_by(|a, b| a.key < b.key)
 }

@@ -12,6 +12,7 @@ ghost use Rattle.adya_values.specs.Meaning.Keys.{is_key, is_key_byte};
 
 use crate::padded::padded;
 use std::cmp::Ordering;
+use std::fmt;
 use std::hash::{Hash, Hasher};
 use std::marker::Model;
 use thiserror::Error;
@@ -19,7 +20,7 @@ use thiserror::Error;
 /// The most bytes of a key.
 pub const MAX_KEY_LEN: usize = 32;
 
-/// The bytes are no key: there are none, more than [`MAX_KEY_LEN`], or one outside `a-z 0-9 _`.
+/// The bytes don't form a key: there are none, more than [`MAX_KEY_LEN`], or one outside `a-z 0-9 _`.
 #[derive(Clone, Copy, Debug, PartialEq, Eq, Error, Drop)]
 #[error("1 bad key")]
 pub struct BadKey;
@@ -51,7 +52,7 @@ impl Model for Key {
 }
 
 impl Key {
-    /// The key of these bytes; `BadKey` exactly where they are none.
+    /// Makes a key of these bytes; `BadKey` if and only if they don't form one.
     pub fn new(text: &[u8]) -> Result<Key, BadKey>
         ensures limits { IsOk result ↔ (is_key text.now ≡ true) }
         ensures same { IfOk result (λ k. k ≡ text.now) }
@@ -65,7 +66,7 @@ impl Key {
         })
     }
 
-    /// The bytes of the key.
+    /// Returns the bytes of the key.
     pub fn bytes(&self) -> &[u8]
         ensures same { result.now ≡ self.now }
         ensures limits { is_key self.now ≡ true }
@@ -74,7 +75,7 @@ impl Key {
     }
 }
 
-/// Whether a key may hold this byte.
+/// Returns whether a key may contain this byte.
 #[tactic(auto, unfolding(crate::specs::Meaning::Keys::is_key_byte))]
 pub fn is_key_byte(b: u8) -> bool
     ensures { result ≡ is_key_byte b }
@@ -92,6 +93,21 @@ fn all_key_bytes(text: &[u8]) -> bool
     ensures { result ≡ list_all is_key_byte text.now }
 {
     text.iter().all(|b| is_key_byte(*b))
+}
+
+impl fmt::Display for Key {
+    fn fmt<W: fmt::Write>(&self, f: &mut fmt::Formatter<W>) -> fmt::Result {
+        for b in self.bytes() {
+            f.write_char(char::from(*b))?;
+        }
+        Ok(())
+    }
+}
+
+impl fmt::Debug for Key {
+    fn fmt<W: fmt::Write>(&self, f: &mut fmt::Formatter<W>) -> fmt::Result {
+        fmt::Display::fmt(self, f)
+    }
 }
 
 impl PartialEq for Key {

@@ -1,5 +1,8 @@
-//! Transaction histories as values: keys, values, versions, events, histories and certificates (Adya 1999, section
-//! 3.1), with the definitions of dependencies, phenomena, well-formedness and acceptance in `specs/`.
+//! Transaction histories as values (Adya 1999, section 3.1): keys, values, versions, events, version orders, histories
+//! and certificates.
+//!
+//! The definitions that all promises of the repository are made of are in `specs/Meaning`: dependencies, phenomena,
+//! well-formedness, the serial run and acceptance. `specs/Computing` has the functions that compute them.
 #![tactic(auto)]
 
 mod edition;

@@ -1,4 +1,4 @@
-//! The numbers of transactions and of their modifications.
+//! Transactions by their numbers, and the numbers of a transaction's modifications of a key.
 
 ghost use Rattle.std.specs.Prelude.{◌≡◌, ◌<◌, ◌^◌, ◌↔◌, IsOk, IfOk};
 ghost use Rattle.adya_values.specs.Meaning.Keys.{IsTxn, IsMod};
@@ -12,7 +12,7 @@ use thiserror::Error;
 pub struct BadNumber;
 
 /// The number of a transaction, 1 to 4294967295.
-#[derive(Clone, Copy, PartialEq, Eq, PartialOrd, Ord, Hash)]
+#[derive(Clone, Copy, Debug, PartialEq, Eq, PartialOrd, Ord, Hash)]
 pub struct Txn {
     number: u32,
 }
@@ -30,7 +30,7 @@ impl Model for Txn {
 }
 
 impl Txn {
-    /// The transaction of this number; `BadNumber` exactly where it is 0 or above 4294967295.
+    /// Makes the transaction of this number; `BadNumber` if and only if it is 0 or above 4294967295.
     pub fn new(number: u64) -> Result<Txn, BadNumber>
         ensures limits { IsOk result ↔ IsTxn number }
         ensures same { IfOk result (λ t. t ≡ number) }
@@ -43,7 +43,7 @@ impl Txn {
         })
     }
 
-    /// The number of the transaction.
+    /// Returns the number of the transaction.
     pub fn get(&self) -> u32
         ensures same { result ≡ self.now }
         ensures limits { IsTxn self.now }
@@ -52,8 +52,8 @@ impl Txn {
     }
 }
 
-/// Which write or delete of a key by a transaction it is, 1 to 65535.
-#[derive(Clone, Copy, PartialEq, Eq, PartialOrd, Ord, Hash)]
+/// The number of a write or delete among those of one key by one transaction, 1 to 65535.
+#[derive(Clone, Copy, Debug, PartialEq, Eq, PartialOrd, Ord, Hash)]
 pub struct Mod {
     number: u16,
 }
@@ -71,7 +71,7 @@ impl Model for Mod {
 }
 
 impl Mod {
-    /// The modification of this number; `BadNumber` exactly where it is 0 or above 65535.
+    /// Makes a modification of this number; `BadNumber` if and only if it is 0 or above 65535.
     pub fn new(number: u64) -> Result<Mod, BadNumber>
         ensures limits { IsOk result ↔ IsMod number }
         ensures same { IfOk result (λ m. m ≡ number) }
@@ -84,7 +84,7 @@ impl Mod {
         })
     }
 
-    /// The number of the modification.
+    /// Returns the number of the modification.
     pub fn get(&self) -> u16
         ensures same { result ≡ self.now }
         ensures limits { IsMod self.now }

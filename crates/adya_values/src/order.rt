@@ -1,21 +1,21 @@
-//! Version orders and final contents.
+//! Version orders and final values.
 
 use crate::{Key, Txn, Value};
 
-/// The version order of a key: its committed writers, the first one first (Adya 1999, section 3.1.2).
+/// The version order of a key: the committed transactions that wrote it, first to last (Adya 1999, section 3.1.2).
 #[derive(Drop)]
 pub struct Order {
-    /// The object.
+    /// The key.
     pub key: Key,
-    /// Its committed writers, in the order of their versions.
+    /// The committed writers of the key, in the order of their versions.
     pub writers: Vec<Txn>,
 }
 
-/// What a key holds after all.
+/// The final value of a key.
 #[derive(Clone, Copy)]
 pub struct FinalPair {
-    /// The object.
+    /// The key.
     pub key: Key,
-    /// The value of its last version.
+    /// The value of the key's last version.
     pub value: Value,
 }

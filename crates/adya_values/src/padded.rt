@@ -1,9 +1,9 @@
-//! A text at the front of an array.
+//! Texts at the front of arrays of fixed size.
 
 ghost use Rattle.std.specs.Prelude.{◌≡◌, ◌≤◌, length};
 ghost use Rattle.adya_values.specs.Machinery.Padded.{padded};
 
-/// The text, and zeros behind it.
+/// Returns the text, followed by zeros.
 pub(crate) fn padded<const N: usize>(text: &[u8]) -> [u8; N]
     requires { length text.now ≤ N }
     ensures { result ≡ padded N text.now }

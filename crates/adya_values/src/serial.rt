@@ -1,26 +1,27 @@
 //! Certificates.
 
 ghost use Rattle.std.specs.Prelude.{◌≡◌};
+ghost use Rattle.adya_values.specs.Meaning.Values.{serial_txns};
 
 use crate::Txn;
 
-/// An order in which transactions may run one at a time.
+/// A certificate: an order in which the transactions of a history are said to have run, one at a time.
 #[derive(Drop)]
 pub struct Serial {
     txns: Vec<Txn>,
 }
 
 impl Serial {
-    /// The certificate of these transactions, the first one first.
+    /// Makes the certificate of these transactions, first to last.
     pub fn new(txns: Vec<Txn>) -> Serial
         ensures { result.txns ≡ txns }
     {
         Serial { txns }
     }
 
-    /// The transactions, the first one first.
+    /// Returns the transactions, first to last.
     pub fn txns(&self) -> &[Txn]
-        ensures { result.now ≡ self.now.txns.items }
+        ensures { result.now ≡ serial_txns self.now }
     {
         &self.txns
     }

@@ -11,7 +11,7 @@ use thiserror::Error;
 /// The most bytes of a value.
 pub const MAX_VALUE_LEN: usize = 64;
 
-/// The bytes are no value: there are none, more than [`MAX_VALUE_LEN`], or one outside `A-Z a-z 0-9 _ . + -`.
+/// The bytes don't form a value: there are none, more than [`MAX_VALUE_LEN`], or one outside `A-Z a-z 0-9 _ . + -`.
 #[derive(Clone, Copy, Debug, PartialEq, Eq, Error, Drop)]
 #[error("2 bad value")]
 pub struct BadValue;
@@ -26,10 +26,12 @@ pub struct Value {
 }
 
 impl Value {
-    /// The value of these bytes; `BadValue` exactly where they are none.
+    ghost use Rattle.adya_values.specs.Meaning.Histories.{value_of};
+
+    /// Makes a value of these bytes; `BadValue` if and only if they don't form one.
     pub fn new(text: &[u8]) -> Result<Value, BadValue>
         ensures limits { IsOk result ↔ (is_value text.now ≡ true) }
-        ensures same { IfOk result (λ v. take v.len v.bytes ≡ text.now) }
+        ensures same { IfOk result (λ v. value_of v ≡ text.now) }
     {
         if !is_value(text) {
             return Err(BadValue);
@@ -40,23 +42,23 @@ impl Value {
         })
     }
 
-    /// The bytes of the value.
+    /// Returns the bytes of the value.
     pub fn bytes(&self) -> &[u8]
-        ensures same { result.now ≡ take self.now.len self.now.bytes }
+        ensures same { result.now ≡ value_of self.now }
         ensures limits { is_value result.now ≡ true }
     {
         &self.bytes[..self.len as usize]
     }
 
-    /// Whether the two are the same bytes.
+    /// Returns whether both are the same bytes.
     pub fn same(&self, other: &Value) -> bool
-        ensures { result ≡ pointwise nat_eq (take self.now.len self.now.bytes) (take other.now.len other.now.bytes) }
+        ensures { result ≡ pointwise nat_eq (value_of self.now) (value_of other.now) }
     {
         self.bytes() == other.bytes()
     }
 }
 
-/// Whether a value may hold this byte.
+/// Returns whether a value may contain this byte.
 #[tactic(auto, unfolding(crate::specs::Meaning::Keys::is_value_byte))]
 pub fn is_value_byte(b: u8) -> bool
     ensures { result ≡ is_value_byte b }

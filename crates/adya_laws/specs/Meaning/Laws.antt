@@ -5,7 +5,7 @@ use Rattle.adya_values.specs.Meaning.Histories.{Event, History}
 use Rattle.adya_values.specs.Meaning.Events.{txn_of, is_committed}
 use Rattle.adya_values.specs.Meaning.Orders.{installer}
 use Rattle.adya_values.specs.Meaning.Selections.{selected}
-use Rattle.adya_values.specs.Meaning.Shapes.{is_shape}
+use Rattle.adya_values.specs.Computing.Shapes.{is_shape}
 use Rattle.adya_values.specs.Meaning.Edges.{Edge, IsEdge}
 use Rattle.adya_values.specs.Computing.EdgeList.{dependencies, edge_list}
 use Rattle.adya_values.specs.Meaning.Phenomena.{HasG1, HasG2}

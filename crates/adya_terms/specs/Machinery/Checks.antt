@@ -1,9 +1,10 @@
--- What the parts of a check answer.
-use Rattle.std.specs.Prelude.{◌≡◌, ℕ, zero, suc, ◌+◌, ◌==◌, Bool, false, cond, not, ◌&&◌, ◌||◌, List, [], ◌++◌, length, Option, Some, None, map, filter, count_by, sum_by}
+-- What the parts of the check return.
+use Rattle.std.specs.Prelude.{◌≡◌, ℕ, zero, suc, ◌+◌, ◌==◌, nat_eq, Bool, false, cond, not, ◌&&◌, ◌||◌, List, [], ◌++◌, length, Option, Some, None, map, filter, count_by, sum_by}
 use Rattle.std.specs.List.{filter_map, list_all, list_any}
 use Rattle.std.specs.Cmp.Lexicographic.{slice_cmp}
 use Rattle.std.specs.HashMap.{HashMap, get}
 use Rattle.std.specs.BTreeSet.{BTreeSet, contains}
+use Rattle.std.specs.HashSet as hashed
 use Rattle.std.specs.Ordering.{nat_cmp}
 use Rattle.adya_values.specs.declared.event.Version.{Version}
 use Rattle.adya_values.specs.declared.event.Event.{Event as EventValue}
@@ -11,8 +12,8 @@ use Rattle.adya_values.specs.declared.order.Order.{Order as OrderValue}
 use Rattle.adya_values.specs.declared.order.FinalPair.{FinalPair as FinalValue}
 use Rattle.adya_values.specs.declared.fault.Rule.TheVariants.{M6, M7, M8}
 use Rattle.adya_values.specs.declared.fault.CheckFault.{CheckFault}
-use Rattle.adya_values.specs.declared.fault.CheckFault.TheVariants.{Malformed, AbortedRead, IntermediateRead, Memory}
 use Rattle.adya_terms.specs.declared.tables.Own.{Own}
+use Rattle.adya_terms.specs.declared.tables.Tables.{Tables}
 use Rattle.adya_terms.specs.declared.listed.Times.{Times}
 use Rattle.adya_terms.specs.declared.listed.Times.TheVariants.{Once, More}
 use Rattle.adya_values.specs.Meaning.Keys.{key_eq}
@@ -21,14 +22,8 @@ use Rattle.adya_values.specs.declared.edition.Edition.TheVariants.{One, Two}
 use Rattle.adya_values.specs.Meaning.Events.{txn_of, written, observed, is_committed, has_ended, aborts, last_write}
 use Rattle.adya_values.specs.Meaning.Rules.{installs}
 use Rattle.adya_values.specs.Computing.Faults.{entry_eq, first, is_entry, fault_unless, aborted_reads, all_end, intermediate_reads, order_faults, has_lines, final_faults, has_finals}
+use Rattle.adya_terms.specs.Meaning.Faults.{IsFault}
 use Rattle.adya_terms.specs.Machinery.Tables.{own, own_eq}
-
--- it is this fault, or memory ran out
-abbrev pub IsFault : Option CheckFault → CheckFault → Type 0
-IsFault found (Malformed line rule) = found ≡ Some (Malformed line rule)
-IsFault found (AbortedRead line version) = found ≡ Some (AbortedRead line version)
-IsFault found (IntermediateRead line version) = found ≡ Some (IntermediateRead line version)
-IsFault found Memory = Unit {0}
 
 -- the fault is the first of the list, or memory ran out
 abbrev pub Names : List CheckFault → CheckFault → Type 0
@@ -70,7 +65,7 @@ are_written events es = list_all (λ o. list_any (entry_eq o) (filter_map writte
 abbrev pub is_own_or_last : List Event → Event → Entry → Bool
 is_own_or_last all e o = (o.version.txn == txn_of e) || is_entry (last_write o.version.txn o.version.key all) o
 
--- what the event reads or lists and the test refuses, where its transaction is committed
+-- what the event sees and the test refuses, if the event's transaction is committed
 abbrev pub refused : (Event → Entry → Bool) → List Event → Event → List Entry
 refused good events e = filter (λ o. is_committed events (txn_of e) && not (good e o)) (observed e)
 
@@ -89,7 +84,7 @@ abbrev pub once_more : Option Times → Times
 once_more None = Once
 once_more (Some n) = More
 
--- once where it is wanted, and else not at all
+-- once if it is wanted, and else not at all
 abbrev pub fits : Option Times → Bool → Bool
 fits None wanted = not wanted
 fits (Some Once) wanted = wanted
@@ -125,7 +120,7 @@ abbrev pub is_this : Option (List ℕ) → List ℕ → Bool
 is_this None k = false
 is_this (Some j) k = key_eq j k
 
--- the key's lines list the transaction once where it is a committed writer of the key, and else not at all
+-- the key's lines list the transaction once if it is a committed writer of the key, and else not at all
 abbrev pub belongs : List Event → List Order → List ℕ → ℕ → Bool
 belongs events os k t = listed os t k == cond (installs events k t) 1 0
 
@@ -151,6 +146,10 @@ read_faults h = aborted_reads h ++ intermediate_reads h
 -- the entry is this write, or of another key
 abbrev pub is_of_key : Entry → Entry → Bool
 is_of_key w x = not (key_eq x.version.key w.version.key) || entry_eq x w
+
+-- the tables or the set of unfinished transactions have it
+abbrev pub is_done : Tables → BTreeSet ℕ → ℕ → Bool
+is_done t s u = (hashed.contains nat_eq t.committed u || hashed.contains nat_eq t.aborted u) || contains nat_cmp s u
 
 -- the event's transaction has ended or is unfinished
 abbrev pub ends : List Event → List ℕ → Event → Bool

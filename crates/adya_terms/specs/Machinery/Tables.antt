@@ -1,4 +1,4 @@
--- What the tables of a check mean, given the events that they were made of.
+-- What the tables of the check say about the events that they were made of.
 use Rattle.std.specs.Prelude.{◌≡◌, ℕ, ◌<◌, ◌==◌, nat_eq, Bool, false, ◌&&◌, ◌||◌, cond, List, length, Option, Some, None, is_some, IsSome, slice_get}
 use Rattle.std.specs.List.{filter_map, list_any}
 use Rattle.std.specs.Ordering.{nat_cmp, ordering_then}
@@ -43,7 +43,7 @@ abbrev pub number_of : Option Entry → ℕ
 number_of None = 0
 number_of (Some w) = w.version.m
 
--- the places of versions with that of this write, where there is one
+-- the places of versions with that of this write, if there is one
 abbrev pub with_replaced : Option Entry → Option ℕ → (Version → Option ℕ) → Version → Option ℕ
 with_replaced None place places r = places r
 with_replaced (Some w) place places r = cond (version_eq w.version r) place (places r)
@@ -53,8 +53,8 @@ abbrev pub is_at : (Own → Option ℕ) → (Version → Option ℕ) → List Ev
 is_at last replaced all o =
     is_there o (written_at all (last (own o.version.txn o.version.key))) || is_there o (written_at all (replaced o.version))
 
--- the functions tell of the events before: which transactions have ended, and the places of last writes and of the
--- versions that these replaced
+-- the functions are right about the events before: which transactions have ended, and the places of last writes and of
+-- the versions that these replaced
 pub record Tell (committed aborted : ℕ → Bool) (last : Own → Option ℕ) (replaced : Version → Option ℕ) (all before : List Event) : Type 0 where
   pub committed_is : (t : ℕ) → committed t ≡ is_committed before t
   pub aborted_is : (t : ℕ) → aborted t ≡ list_any (aborts t) before
@@ -64,7 +64,7 @@ pub record Tell (committed aborted : ℕ → Bool) (last : Own → Option ℕ) (
   pub number_is : (t : ℕ) (k : List ℕ) → number_of (last_write t k before) ≡ length (writes_of t k before)
   pub later : (r : Version) → IsSome (replaced r) → r.m < length (writes_of r.txn r.key before)
 
--- the tables tell of the events before, by places in all of them
+-- the tables are right about the events before, by places in all of them
 abbrev pub Means : Tables → List Event → List Event → Type 0
 Means t all before = Tell (contains nat_eq t.committed) (contains nat_eq t.aborted) (get own_eq t.last) (get version_eq t.replaced) all before
 

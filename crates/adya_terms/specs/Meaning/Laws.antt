@@ -1,7 +1,7 @@
 -- What ties the computing twins to the definitions.
 use Rattle.std.specs.Prelude.{◌≡◌, ◌↔◌, true, None}
 use Rattle.adya_values.specs.Meaning.Histories.{History}
-use Rattle.adya_values.specs.Meaning.Shapes.{is_shape}
+use Rattle.adya_values.specs.Computing.Shapes.{is_shape}
 use Rattle.adya_values.specs.Meaning.Acceptance.{IsChecked}
 use Rattle.adya_values.specs.Computing.Faults.{first_fault}
 

@@ -2,7 +2,7 @@
 use Rattle.std.specs.Prelude.{◌≡◌, ℕ, true, List, [], ◌∷◌, ◌++◌, map}
 use Rattle.std.specs.List.{AllByRecursion}
 use Rattle.adya_values.specs.Meaning.Keys.{IsTxn, keys_rise}
-use Rattle.adya_values.specs.Meaning.Shapes.{fits_edition}
+use Rattle.adya_values.specs.Computing.Shapes.{fits_edition}
 use Rattle.adya_values.specs.Meaning.Histories.{History}
 use Rattle.adya_line.specs.Meaning.Spelling.{head_text, serial_head, tail}
 use Rattle.adya_line.specs.Meaning.Spelling.{event_text, unfinished_text, order_text, final_text, txn_text}

@@ -1,4 +1,4 @@
--- What is tested of a certificate: the computing twin of `IsAccepted` for a checked history.
+-- The tests of a certificate: they compute `IsAccepted` for a history that passed its check.
 use Rattle.std.specs.Prelude.{ℕ, Bool, not, nat_lt, List, Option}
 use Rattle.std.specs.List.{find}
 use Rattle.adya_values.specs.Meaning.Histories.{History}

@@ -1,4 +1,4 @@
--- The edges of a history as one list: the computing twin of `IsEdge`.
+-- The edges of a history as one list, which computes `IsEdge`.
 use Rattle.std.specs.Prelude.{ℕ, zero, suc, ◌==◌, Bool, true, false, ◌&&◌, if◌then◌else◌, List, [], ◌∷◌, ◌++◌, length, Option, Some, None, filter, flat_map, fold}
 use Rattle.std.specs.List.{list_any}
 use Rattle.adya_values.specs.Meaning.Keys.{key_eq}
@@ -26,7 +26,7 @@ joined kind k (Some a) (Some b) = if a == b then [] else record { from = a; kind
 abbrev pub write_edges : History → List ℕ → List Edge
 write_edges h k = flat_map (λ q. joined Ww k (installer h k q) (installer h k (suc q))) (places h k)
 
--- the edges of an event on the key, where it selects the version at place p
+-- the edges of an event on the key, if it sees the version at place p
 abbrev pub read_edges : History → Event → List ℕ → ℕ → List Edge
 read_edges h e k p = flat_map (λ q. joined Wr k (installer h k q) (Some (txn_of e))) (filter (reads_from h e k p) (places h k))
 
@@ -60,10 +60,10 @@ kind_eq Rw Rw = true
 abbrev pub edge_eq : Edge → Edge → Bool
 edge_eq a b = (a.from == b.from) && kind_eq a.kind b.kind && key_eq a.key b.key && (a.to == b.to)
 
--- the list with the edge behind it, unless it is there already
+-- the list with the edge at its end, unless it has the edge already
 abbrev pub with_edge : List Edge → Edge → List Edge
 with_edge seen e = if list_any (edge_eq e) seen then seen else seen ++ e ∷ []
 
--- each edge where it first stands
+-- each edge once, in the order of their first occurrences
 abbrev pub edge_list : History → List Edge
 edge_list h = fold with_edge [] (dependencies h)

@@ -1,5 +1,5 @@
--- The faults of a history, in the order in which they are named: the computing twin of `IsChecked`.
--- The head of the text is line 1, and each event, order and final has a line.
+-- The faults of a history, in the order in which they are reported; there are none if and only if it `IsChecked`.
+-- Lines are those of the history's text: its head is line 1, and each event, order and final has a line.
 use Rattle.std.specs.Prelude.{ℕ, suc, ◌+◌, ◌==◌, Bool, true, false, cond, not, ◌&&◌, ◌||◌, List, [], ◌∷◌, ◌++◌, length, Option, Some, None, is_some, is_none, map, filter, count_by}
 use Rattle.std.specs.List.{filter_map, list_any, list_all}
 use Rattle.adya_values.specs.declared.event.Version.{Version}
@@ -53,7 +53,7 @@ is_next before (Some w) = w.version.m == suc (length (writes_of w.version.txn w.
 abbrev pub was_written : List Event → Event → Bool
 was_written before e = list_all (λ o. list_any (entry_eq o) (filter_map written before)) (observed e)
 
--- M4: of the keys that it has written, the event reads or lists the transaction's own last write
+-- M4 of the event
 abbrev pub sees_own : List Event → Event → Bool
 sees_own before (Read t r v) = is_none_or (last_write t r.key before) (entry r (Live v))
 sees_own before (Scan t low high es) =
@@ -72,7 +72,7 @@ is_rising (Delete t k m) = true
 is_rising (Commit t) = true
 is_rising (Abort t) = true
 
--- one fault, where the test fails
+-- one fault if the test fails, and else none
 abbrev pub fault_unless : Bool → ℕ → Rule → List CheckFault
 fault_unless true line rule = []
 fault_unless false line rule = Malformed line rule ∷ []
@@ -97,8 +97,8 @@ unfinished_faults events line (t ∷ ts) = fault_unless (not (has_ended events t
 abbrev pub all_end : History → Bool
 all_end h = list_all (λ e. has_ended h.events (txn_of e) || is_unfinished h (txn_of e)) h.events
 
--- the numbers that pass the test stand in the list once, and no others; only numbers of the list and of the
--- events' transactions can pass
+-- the list has each number that passes the test once, and no others; only numbers of the list and transactions of
+-- the events can pass
 abbrev pub lists_exactly : (ℕ → Bool) → List ℕ → List Event → Bool
 lists_exactly test xs events =
     list_all (λ t. count_by (λ u. u == t) xs == cond (test t) 1 0) xs &&
@@ -112,7 +112,7 @@ order_faults events line (o ∷ os) = fault_unless (lists_exactly (installs even
 abbrev pub has_lines : History → Bool
 has_lines h = list_all (λ w. not (is_committed h.events w.version.txn) || list_any (λ o. key_eq o.key w.version.key) h.orders) (filter_map written h.events)
 
--- what is visible of the key's last version
+-- the value of the key's last version, if it has one
 abbrev pub last_value : History → List ℕ → Option (List ℕ)
 last_value h k = value_at h k (length (writers h k))
 
@@ -124,11 +124,11 @@ abbrev pub final_faults : History → ℕ → List FinalPair → List CheckFault
 final_faults h line [] = []
 final_faults h line (f ∷ fs) = fault_unless (is_value (last_value h f.key) f.value) line M8 ++ final_faults h (suc line) fs
 
--- each key whose last version is visible has a final line
+-- each key whose last version has a value has a final line
 abbrev pub has_finals : History → Bool
 has_finals h = list_all (λ o. is_none (last_value h o.key) || is_some (final_value h.finals o.key)) h.orders
 
--- where the parts of the text begin
+-- the first lines of the parts of the text
 abbrev pub unfinished_line : History → ℕ
 unfinished_line h = 2 + length h.events
 
@@ -172,7 +172,7 @@ abbrev pub first : {X : Type 0} → List X → Option X
 first [] = None
 first (x ∷ xs) = Some x
 
--- all faults of a history, the first one first
+-- all faults of a history, in order
 abbrev pub check_faults : History → List CheckFault
 check_faults h = malformed h ++ (aborted_reads h ++ intermediate_reads h)
 

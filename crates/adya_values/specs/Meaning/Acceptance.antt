@@ -1,4 +1,4 @@
--- When a history and a certificate are accepted, as values.
+-- When a history passes its check, and when a certificate of it is accepted.
 use Rattle.std.specs.Prelude.{◌≡◌, ℕ, ◌==◌, ◌<◌, cond, List, count_by}
 use Rattle.adya_values.specs.Meaning.Histories.{History}
 use Rattle.adya_values.specs.Meaning.Events.{is_committed}
@@ -7,12 +7,13 @@ use Rattle.adya_values.specs.Meaning.Edges.{Edge, IsEdge}
 use Rattle.adya_values.specs.Meaning.Rules.{IsWellFormed}
 use Rattle.adya_values.specs.Meaning.Phenomena.{HasG1a, HasG1b}
 
--- a history that is well-formed without aborted and intermediate reads
+-- the history is well-formed and has no aborted and no intermediate reads
 pub record IsChecked (h : History) : Type 0 where
   pub well_formed : IsWellFormed h
   pub no_aborted_read : HasG1a h → ⊥
   pub no_intermediate_read : HasG1b h → ⊥
 
+-- a comes before b in the list
 abbrev pub IsBefore : List ℕ → ℕ → ℕ → Type 0
 IsBefore ts a b = place ts a < place ts b
 

@@ -1,5 +1,5 @@
--- The dependencies of a history: the edges of its direct serialization graph (Adya 1999, section 3.1.4),
--- and cycles of them.
+-- The dependencies between the transactions of a history, which are the edges of its direct serialization graph
+-- (Adya 1999, section 3.1.4), and the cycles of that graph.
 use Rattle.std.specs.Prelude.{◌≡◌, ◌≢◌, ℕ, suc, true, List, [], ◌∷◌, Some, Contains}
 use Rattle.std.specs.List.{AllByRecursion}
 use Rattle.adya_values.specs.Meaning.Histories.{Event, History}
@@ -19,11 +19,11 @@ pub record Edge : Type 0 where
   pub key : List ℕ
   pub to : ℕ
 
--- from installed the version before that of to
+-- in the version order of the key, to comes right after from
 abbrev pub DependsByWrite : History → List ℕ → ℕ → ℕ → Type 0
 DependsByWrite h k from to = (q : ℕ) × (installer h k q ≡ Some from) × (installer h k (suc q) ≡ Some to)
 
--- to reads, or selects by a scan, what from installed
+-- an event of to, which is committed, sees or depends on what from installed
 pub record DependsByRead (h : History) (k : List ℕ) (from to : ℕ) : Type 0 where
   pub event : Event
   pub place : ℕ
@@ -35,7 +35,7 @@ pub record DependsByRead (h : History) (k : List ℕ) (from to : ℕ) : Type 0 w
   pub from_source : reads_from h event k place source ≡ true
   pub installs : installer h k source ≡ Some from
 
--- from reads, or selects by a scan, what to overwrites
+-- an event of from, which is committed, sees what a version of to overwrites
 pub record DependsByOverwrite (h : History) (k : List ℕ) (from to : ℕ) : Type 0 where
   pub event : Event
   pub place : ℕ
@@ -52,15 +52,16 @@ Depends h Ww k from to = DependsByWrite h k from to
 Depends h Wr k from to = DependsByRead h k from to
 Depends h Rw k from to = DependsByOverwrite h k from to
 
--- an edge of the direct serialization graph
+-- an edge of the graph: a dependency between two different transactions
 abbrev pub IsEdge : History → Edge → Type 0
 IsEdge h e = (e.from ≢ e.to) × Depends h e.kind e.key e.from e.to
 
+-- the edges lead from a to b, one after the other
 abbrev pub IsPath : ℕ → List Edge → ℕ → Type 0
 IsPath a [] b = a ≡ b
 IsPath a (e ∷ es) b = (e.from ≡ a) × IsPath e.to es b
 
--- a nonempty list of edges, each starting where the one before ends, the last ending where the first starts
+-- one edge or more that lead from a transaction back to itself
 abbrev pub IsCycle : History → List Edge → Type 0
 IsCycle h [] = ⊥
 IsCycle h (e ∷ es) = AllByRecursion (IsEdge h) (e ∷ es) × IsPath e.from (e ∷ es) e.from

@@ -1,11 +1,11 @@
--- What the events of a history write and read, and how its transactions end.
+-- What the events of a history write and see, and how its transactions end.
 use Rattle.std.specs.Prelude.{ℕ, ◌==◌, Bool, false, ◌&&◌, ◌||◌, if◌then◌else◌, List, [], ◌∷◌, Option, Some, None, filter, filter_map}
 use Rattle.std.specs.List.{list_any}
 use Rattle.adya_values.specs.declared.event.Version.{Version}
 use Rattle.adya_values.specs.Meaning.Keys.{key_eq}
 use Rattle.adya_values.specs.Meaning.Histories.{Content, Live, Dead, Entry, Event, Write, Delete, Read, Scan, Commit, Abort, History}
 
--- whose event it is
+-- the transaction that the event belongs to
 abbrev pub txn_of : Event → ℕ
 txn_of (Write t k m v) = t
 txn_of (Delete t k m) = t
@@ -20,7 +20,7 @@ version k t m = record { key = k; txn = t; m = m }
 abbrev pub entry : Version → Content → Entry
 entry r c = record { version = r; content = c }
 
--- the version that an event writes, with its content
+-- what the event writes
 abbrev pub written : Event → Option Entry
 written (Write t k m v) = Some (entry (version k t m) (Live v))
 written (Delete t k m) = Some (entry (version k t m) Dead)
@@ -29,7 +29,7 @@ written (Scan t low high es) = None
 written (Commit t) = None
 written (Abort t) = None
 
--- the versions that an event reads or lists, with their contents
+-- what the event reads or lists
 abbrev pub observed : Event → List Entry
 observed (Write t k m v) = []
 observed (Delete t k m) = []
@@ -38,7 +38,7 @@ observed (Scan t low high es) = es
 observed (Commit t) = []
 observed (Abort t) = []
 
--- the transaction's writes of the key, in order
+-- what the transaction wrote of the key, in order
 abbrev pub writes_of : ℕ → List ℕ → List Event → List Entry
 writes_of t k events = filter (λ w. w.version.txn == t && key_eq w.version.key k) (filter_map written events)
 
@@ -70,7 +70,7 @@ aborts t (Abort u) = u == t
 abbrev pub is_committed : List Event → ℕ → Bool
 is_committed events t = list_any (commits t) events
 
--- the events have a commit or an abort of the transaction
+-- the transaction commits or aborts
 abbrev pub has_ended : List Event → ℕ → Bool
 has_ended events t = is_committed events t || list_any (aborts t) events
 
@@ -81,16 +81,17 @@ is_unfinished h t = list_any (λ u. u == t) h.unfinished
 abbrev pub is_aborted : History → ℕ → Bool
 is_aborted h t = list_any (aborts t) h.events || is_unfinished h t
 
--- the entry of the key in a scan's list
+-- what the list of a scan has of the key
 abbrev pub listed : List ℕ → List Entry → Option Entry
 listed k [] = None
 listed k (w ∷ ws) = if key_eq w.version.key k then Some w else listed k ws
 
--- what is visible of a version: its value, or nothing where it is dead or unborn
+-- the value that a reader gets of a version; none of a dead one
 abbrev pub visible : Content → Option (List ℕ)
 visible (Live v) = Some v
 visible Dead = None
 
+-- the same of a version that may be unborn, which has no entry
 abbrev pub shown : Option Entry → Option (List ℕ)
 shown None = None
 shown (Some w) = visible w.content

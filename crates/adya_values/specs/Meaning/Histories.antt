@@ -1,5 +1,5 @@
--- Histories as plain values (Adya 1999, section 3.1): what the Rust types hold, with lists for
--- vectors, and keys and values as their bytes.
+-- Histories as plain values (Adya 1999, section 3.1), with lists for vectors, and keys and values as lists of their
+-- bytes; and the plain value that each type of the code holds.
 use Rattle.std.specs.Prelude.{ℕ, List, map, take}
 use Rattle.adya_values.specs.declared.value.Value.{Value}
 use Rattle.adya_values.specs.declared.event.Version.{Version}
@@ -12,7 +12,7 @@ use Rattle.adya_values.specs.declared.event.Event.TheVariants as In
 use Rattle.adya_values.specs.declared.order.Order.{Order as OrderValue}
 use Rattle.adya_values.specs.declared.order.FinalPair.{FinalPair as FinalValue}
 
--- what a write leaves: a value, or a dead version, which a delete leaves
+-- what a version holds: a value, or nothing if a delete made it
 pub data Content : Type 0 where
   Live : (value : List ℕ) → Content
   Dead : Content
@@ -35,12 +35,12 @@ pub record Order : Type 0 where
   pub key : List ℕ
   pub writers : List ℕ
 
--- what a key holds after all
+-- the final value of a key
 pub record FinalPair : Type 0 where
   pub key : List ℕ
   pub value : List ℕ
 
--- unfinished transactions are those that may still go on; a history of edition One has none
+-- the unfinished transactions may still go on; a history of edition One has none
 pub record History : Type 0 where
   pub edition : Edition
   pub events : List Event

@@ -15,7 +15,7 @@ is_key_byte b = is_within 97 122 b || is_within 48 57 b || b == 95
 unfoldable pub is_value_byte : ℕ → Bool
 is_value_byte b = is_within 97 122 b || is_within 65 90 b || is_within 48 57 b || b == 95 || b == 46 || b == 43 || b == 45
 
--- 1 to limit bytes, each of which may stand there
+-- 1 to limit bytes, each of them allowed
 abbrev pub is_text : ℕ → (ℕ → Bool) → List ℕ → Bool
 is_text limit may bytes = nat_lt 0 (length bytes) && nat_le (length bytes) limit && list_all may bytes
 

@@ -1,17 +1,18 @@
--- Which place of a key's version order an event reads or selects, and on which places that depends
--- (Adya 1999, section 3.1.3; the only predicate is that the key lies in a range and the version is visible).
+-- The place in a key's version order that an event sees, and the places that what it sees depends on (Adya 1999,
+-- section 3.1.3). A scan is a predicate read: a version matches if its key is within the bounds and it has a value.
 use Rattle.std.specs.Prelude.{ℕ, zero, suc, ◌==◌, Bool, true, false, not, ◌&&◌, ◌||◌, nat_lt, if◌then◌else◌, List, Option, Some, None}
 use Rattle.adya_values.specs.Meaning.Keys.{key_eq, lies_in}
 use Rattle.adya_values.specs.Meaning.Histories.{Entry, Event, Write, Delete, Read, Scan, Commit, Abort, History}
 use Rattle.adya_values.specs.Meaning.Events.{listed}
 use Rattle.adya_values.specs.Meaning.Orders.{writers, is_visible_at, place}
 
--- the place of a listed version, the unborn one where none is listed, unless it is the transaction's own
+-- the place that a scan sees of a key in its range: 0 if the key isn't listed, and none if the listed version is of
+-- the scanning transaction itself
 abbrev pub place_of : History → ℕ → List ℕ → Option Entry → Option ℕ
 place_of h t k None = Some 0
 place_of h t k (Some w) = if w.version.txn == t then None else Some (suc (place (writers h k) w.version.txn))
 
--- the place of the version of the key that the event reads or selects, unless it is its own
+-- the place that the event sees of the key, if it sees one that its own transaction hasn't written
 abbrev pub selected : History → Event → List ℕ → Option ℕ
 selected h (Read t r v) k = if key_eq r.key k && not (r.txn == t) then Some (suc (place (writers h k) r.txn)) else None
 selected h (Scan t low high es) k = if lies_in low high k then place_of h t k (listed k es) else None
@@ -25,7 +26,7 @@ abbrev pub differ : Bool → Bool → Bool
 differ true b = not b
 differ false b = b
 
--- exactly one of the versions at the place and at the one before is visible
+-- with the version at the place, the key begins or ceases to have a value
 abbrev pub changes_matches : History → List ℕ → ℕ → Bool
 changes_matches h k zero = false
 changes_matches h k (suc q) = differ (is_visible_at h k (suc q)) (is_visible_at h k q)
@@ -38,10 +39,12 @@ is_scan (Delete t j m) = false
 is_scan (Commit t) = false
 is_scan (Abort t) = false
 
--- what is selected at place p depends on the version at place q
+-- what the event sees at place p depends on the version at place q: on the version seen and, at a scan, on each
+-- earlier one with which the key began or ceased to match
 abbrev pub reads_from : History → Event → List ℕ → ℕ → ℕ → Bool
 reads_from h e k p q = (q == p) || (is_scan e && (nat_lt q p && changes_matches h k q))
 
--- what is selected at place p would be another with the version at place q
+-- the version at place q overwrites what the event sees at place p: the next version does or, at a scan, each later
+-- one with which the key begins or ceases to match, and the next one also if it replaces a visible version
 abbrev pub overwritten_by : History → Event → List ℕ → ℕ → ℕ → Bool
 overwritten_by h e k p q = if is_scan e then nat_lt p q && (changes_matches h k q || ((q == suc p) && is_visible_at h k p)) else q == suc p

@@ -1,4 +1,4 @@
--- The transactions run one at a time over one map, and what it is for a history to agree with that.
+-- The serial run of transactions, one at a time, on one map of keys; and what it means that a history agrees with it.
 use Rattle.std.specs.Prelude.{◌≡◌, ℕ, ◌==◌, true, if◌then◌else◌, ◌↔◌, List, [], ◌∷◌, Option, Some, None, filter, flat_map, Contains}
 use Rattle.std.specs.List.{filter_map}
 use Rattle.adya_values.specs.Meaning.Keys.{key_eq, lies_in}
@@ -15,7 +15,7 @@ empty k = None
 abbrev pub put : Contents → List ℕ → Option (List ℕ) → Contents
 put m k v j = if key_eq k j then v else m j
 
--- a write sets its key, and a delete removes it
+-- the map after an event: only writes and deletes change it
 abbrev pub after : Contents → Event → Contents
 after m (Write t k n v) = put m k (Some v)
 after m (Delete t k n) = put m k None
@@ -32,7 +32,7 @@ run m (e ∷ es) = run (after m e) es
 abbrev pub events_of : List Event → ℕ → List Event
 events_of events t = filter (λ e. txn_of e == t) events
 
--- the events of the transactions, one transaction after the other
+-- the events of one transaction after those of another
 abbrev pub serial_events : History → List ℕ → List Event
 serial_events h ts = flat_map (events_of h.events) ts
 
@@ -43,11 +43,11 @@ abbrev pub visible_pair_of : List ℕ → Option (List ℕ) → Option FinalPair
 visible_pair_of k None = None
 visible_pair_of k (Some v) = Some (pair k v)
 
--- the visible pairs of a scan's list
+-- the keys and values of a scan's list, without the dead versions
 abbrev pub visible_pairs : List Entry → List FinalPair
 visible_pairs es = filter_map (λ w. visible_pair_of w.version.key (visible w.content)) es
 
--- a read finds its value; at a scan the pairs of the map within the range are exactly the visible pairs of its list
+-- on this map a read returns the same value, and a scan lists the same keys and values
 abbrev pub Sees : Contents → Event → Type 0
 Sees m (Read t r v) = m r.key ≡ Some v
 Sees m (Scan t low high es) = (k v : List ℕ) → ((lies_in low high k ≡ true) × (m k ≡ Some v)) ↔ Contains (visible_pairs es) (pair k v)
@@ -56,12 +56,12 @@ Sees m (Delete t k n) = Unit {0}
 Sees m (Commit t) = Unit {0}
 Sees m (Abort t) = Unit {0}
 
--- each event sees the map as it then is
+-- each event sees the map as the events before it leave it
 abbrev pub AllSee : Contents → List Event → Type 0
 AllSee m [] = Unit {0}
 AllSee m (e ∷ es) = Sees m e × AllSee (after m e) es
 
--- the transactions, run one at a time in this order, give every read, every scan and the final contents
+-- the serial run in this order reproduces all reads and scans of the history, and ends with its finals
 pub record Agrees (h : History) (ts : List ℕ) : Type 0 where
   pub sees : AllSee empty (serial_events h ts)
   pub finals : (k v : List ℕ) → (run empty (serial_events h ts) k ≡ Some v) ↔ Contains h.finals (pair k v)

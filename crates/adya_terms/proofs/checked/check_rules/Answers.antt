@@ -1,24 +1,48 @@
-use Rattle.std.proofs.Common.{◌≡◌, ◌+◌, ◌++◌, ◌∙◌, sym, ap, subst, length, [], MatchResult}
+use Rattle.std.proofs.Common.{◌≡◌, ℕ, ◌+◌, ◌==◌, ◌||◌, List, ◌++◌, ◌∙◌, sym, ap, map, subst, length, [], MatchResult}
+use Rattle.std.specs.List.{list_all, list_any}
+use Rattle.std.specs.BTreeSet.{BTreeSet}
 use Rattle.std.proofs.lemmas.List.{length-map}
+use Rattle.std.proofs.lemmas.List.Folds.{list_all-map}
+use Rattle.adya_values.specs.declared.event.Event.{Event as EventValue}
+use Rattle.adya_terms.specs.declared.tables.Tables.{Tables}
 use Rattle.adya_values.specs.declared.fault.Rule.TheVariants.{M6}
 use Rattle.adya_values.specs.declared.fault.CheckFault.TheVariants.{Malformed}
-use Rattle.adya_values.specs.Meaning.Histories.{order_of}
+use Rattle.adya_values.specs.Meaning.Histories.{Event, event_of, order_of}
+use Rattle.adya_values.specs.Meaning.Events.{txn_of, has_ended}
 use Rattle.adya_values.specs.Computing.Faults.{first, fault_unless, all_end}
-use Rattle.adya_terms.specs.Machinery.Checks.{Names, whole, listing_faults, final_value_faults}
+use Rattle.adya_terms.specs.Machinery.Tables.{Means}
+use Rattle.adya_terms.specs.Machinery.Checks.{Names, Holds, whole, is_done, ends, listing_faults, final_value_faults}
 use Rattle.adya_terms.proofs.Firsts.{first_front, found_behind, names_front, names_behind}
+use Rattle.adya_terms.proofs.Tests.{list_all-same}
 use Rattle.adya_terms.proofs.checked.check_rules.Goals as goal
+
+ended : (t : Tables) (s : BTreeSet ℕ) (us : List ℕ) (all : List Event) → Means t all all → Holds s us
+    → (u : ℕ) → is_done t s u ≡ (has_ended all u || list_any (λ v. v == u) us)
+ended t s us all m holds u =
+    let committed = m.committed_is u in
+    let aborted = m.aborted_is u in
+    let unfinished = holds u in
+    cc
+
+-- what the tables say of each event is what its transaction's events and the unfinished ones say
+all_ended : (t : Tables) (s : BTreeSet ℕ) (us : List ℕ) (es : List EventValue) → let all = map event_of es in Means t all all → Holds s us
+    → list_all (λ e. is_done t s (txn_of (event_of e))) es ≡ list_all (ends all us) all
+all_ended t s us es m holds =
+    let all = map event_of es in
+    list_all-same (λ e. is_done t s (txn_of (event_of e))) (λ e. ends all us (event_of e)) (λ e. ended t s us all m holds (txn_of (event_of e))) es ∙
+    sym (list_all-map (ends all us) event_of es)
 
 pub returns-then-not-all_end : goal.returns-then-not-all_end
 returns-then-not-all_end c us holds =
     let h = whole c.args.events.now us c.args.orders.now c.args.finals.now in
     first_front (fault_unless (all_end h) c.args.line M6) (listing_faults h c.args.line ++ final_value_faults h (c.args.line + length h.orders)) (Malformed c.args.line M6)
-    (ap (λ b. first (fault_unless b c.args.line M6)) (sym (c.all_end.ensures us holds) ∙ c.if-not-all_end.true))
+    (ap (λ b. first (fault_unless b c.args.line M6)) (sym (c.all_end.ensures ∙ all_ended c.args.tables.now c.args.unfinished.now us c.args.events.now c.requires.tell holds) ∙ c.if-not-all_end.true))
 
 pub returns-in-Err : goal.returns-in-Err
 returns-in-Err c us holds =
     let h = whole c.args.events.now us c.args.orders.now c.args.finals.now in
     let line = c.args.line in
-    let ends : fault_unless (all_end h) line M6 ≡ [] = ap (λ b. fault_unless b line M6) (sym (c.all_end.ensures us holds) ∙ c.if-not-all_end.false) in
+    let ends : fault_unless (all_end h) line M6 ≡ [] = ap (λ b. fault_unless b line M6) (sym (c.all_end.ensures ∙ all_ended c.args.tables.now c.args.unfinished.now us c.args.events.now c.requires.tell holds) ∙ c.if-not-all_end.false) in
     names_behind (fault_unless (all_end h) line M6) _ c.in-Err.fault ends
     (names_front (listing_faults h line) (final_value_faults h (line + length h.orders)) c.in-Err.fault c.in-Err.ensures)
 
@@ -28,8 +52,8 @@ returns c us holds =
     let line = c.args.line in
     let r = c.check_finals.result in
     let ends : fault_unless (all_end h) line M6 ≡ [] =
-    ap (λ b. fault_unless b line M6) (sym (c.all_end.ensures us holds) ∙ c.if-not-all_end.false) in
-    let at : c.in-Some.later ≡ line + length h.orders = c.in-Some.ensures.1 ∙ ap (λ n. line + n) (sym (length-map c.args.orders.now order_of)) in
+    ap (λ b. fault_unless b line M6) (sym (c.all_end.ensures ∙ all_ended c.args.tables.now c.args.unfinished.now us c.args.events.now c.requires.tell holds) ∙ c.if-not-all_end.false) in
+    let at : line + length c.args.orders.now ≡ line + length h.orders = ap (λ n. line + n) (sym (length-map c.args.orders.now order_of)) in
     found_behind r (fault_unless (all_end h) line M6) _ ends
     (found_behind r (listing_faults h line) _ c.in_default.ensures
     (subst (λ n. MatchResult r (λ u. final_value_faults h n ≡ []) (Names (final_value_faults h n))) at c.check_finals.ensures))

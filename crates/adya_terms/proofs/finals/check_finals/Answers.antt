@@ -4,8 +4,8 @@ use Rattle.adya_values.specs.declared.fault.Rule.TheVariants.{M8}
 use Rattle.adya_values.specs.declared.fault.CheckFault.TheVariants.{Malformed}
 use Rattle.adya_values.specs.Meaning.Histories.{final_of}
 use Rattle.adya_values.specs.Computing.Faults.{first, fault_unless, has_finals, final_faults}
-use Rattle.adya_terms.specs.Machinery.Checks.{parts, final_value_faults}
-use Rattle.adya_terms.proofs.Firsts.{first_rest, names_broken}
+use Rattle.adya_terms.specs.Machinery.Checks.{parts}
+use Rattle.adya_terms.proofs.Firsts.{first_rest}
 use Rattle.adya_terms.proofs.finals.check_finals.Goals as goal
 
 pub returns-then-not-has_finals : goal.returns-then-not-has_finals
@@ -15,6 +15,4 @@ returns-then-not-has_finals c =
     let last : first (fault_unless (has_finals h) (line + length h.finals) M8) ≡ Some (Malformed (line + length c.args.finals.now) M8) =
     ap (λ b. first (fault_unless b (line + length h.finals) M8)) (sym c.has_finals.ensures ∙ c.if-not-has_finals.true) ∙
     ap (λ n. Some (Malformed (line + n) M8)) (length-map c.args.finals.now final_of) in
-    names_broken (final_value_faults h line) (line + length c.args.finals.now) M8 c.broken.result
-    (first_rest (final_faults h line h.finals) _ _ c.in_default.ensures last)
-    c.broken.ensures
+    first_rest (final_faults h line h.finals) _ _ c.in_default.ensures last

@@ -4,8 +4,8 @@ use Rattle.adya_values.specs.declared.fault.Rule.TheVariants.{M7}
 use Rattle.adya_values.specs.declared.fault.CheckFault.TheVariants.{Malformed}
 use Rattle.adya_values.specs.Meaning.Histories.{order_of}
 use Rattle.adya_values.specs.Computing.Faults.{first, fault_unless, has_lines, order_faults}
-use Rattle.adya_terms.specs.Machinery.Checks.{parts, listing_faults}
-use Rattle.adya_terms.proofs.Firsts.{first_rest, names_front, names_broken}
+use Rattle.adya_terms.specs.Machinery.Checks.{parts}
+use Rattle.adya_terms.proofs.Firsts.{first_rest, names_front}
 use Rattle.adya_terms.proofs.Converse.{both_nil}
 use Rattle.adya_terms.proofs.Exact.{lines_where_none_out, no_line_where_out, lines_right, none_in_set}
 use Rattle.adya_terms.proofs.listed.check_orders.Goals as goal
@@ -27,9 +27,7 @@ returns c =
     let last : first (fault_unless (has_lines h) (line + length h.orders) M7) ≡ Some (Malformed (line + length c.args.orders.now) M7) =
     ap (λ b. first (fault_unless b (line + length h.orders) M7)) none ∙
     ap (λ n. Some (Malformed (line + n) M7)) (length-map c.args.orders.now order_of) in
-    names_broken (listing_faults h line) (line + length c.args.orders.now) M7 c.broken.result
-    (first_rest (order_faults h.events line h.orders) _ _ (c.in_default-check_lines.ensures h.events c.requires.tell out) last)
-    c.broken.ensures
+    first_rest (order_faults h.events line h.orders) _ _ (c.in_default-check_lines.ensures h.events c.requires.tell out) last
 
 pub returns-in-None : goal.returns-in-None
 returns-in-None c =

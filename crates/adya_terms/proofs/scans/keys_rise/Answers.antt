@@ -1,10 +1,13 @@
-use Rattle.std.proofs.Common.{◌-◌, length, take, drop, sym, ◌∙◌}
-use Rattle.adya_values.specs.Meaning.Histories.{Entry, entry_of}
-use Rattle.adya_values.proofs.Steps.{rise_fails}
+use Rattle.std.proofs.Common.{rules}
+use Rattle.std.proofs.lemmas.List.Sorted.{answers_always}
+use Rattle.std.proofs.lemmas.Simd.{map-map}
+use Rattle.adya_values.specs.declared.event.Entry.{Entry}
+use Rattle.adya_values.specs.Meaning.Keys.{key_lt}
+use Rattle.adya_values.proofs.KeysRise.{keys_rise_is}
 use Rattle.adya_terms.proofs.scans.keys_rise.Goals as goal
 
-pub returns-then-not-is_below : goal.returns-then-not-is_below
-returns-then-not-is_below c =
-    let rest = take (length c.args.entries.now - 1) (drop 1 c.args.entries.now) in
-    sym (c.loop-entry.invariant ∙ rise_fails (λ (x : Entry). x.version.key) entry_of c.loop-entry.last rest c.loop-entry.entry-index c.entry-item.result c.loop-entry-test.true c.entry-item.is
-    (sym c.is_below.ensures ∙ c.if-not-is_below.true))
+pub returns : goal.returns
+returns c =
+    let key = λ (w : Entry). w.version.key in
+    let rising = c.is_sorted_by.ensures.cases (λ x y. key_lt (key x) (key y)) (answers_always _ _ _ (λ f a r g called. search rules)) in
+    rw map-map (keys_rise_is key c.args.entries.now c.is_sorted_by.result rising)

@@ -19,8 +19,8 @@ pub range-at-items-requires : goal.range-at-items-requires
 range-at-items-requires c =
     rw c.new.ensures.start (rw c.new.ensures.end (runs_forward c.args.txn c.args.lo c.args.hi (sym c.lt.ensures ∙ c.if-lt.false)))
 
-pub returns-then-not-lists_write : goal.returns-then-not-lists_write
-returns-then-not-lists_write c before m =
+pub returns-then-not-has_write : goal.returns-then-not-has_write
+returns-then-not-has_write c before m =
     let t = c.args.txn in
     let es = map entry_of c.args.entries.now in
     let all = map event_of c.args.events.now in
@@ -31,7 +31,7 @@ returns-then-not-lists_write c before m =
     all before es m in
     let same : list_all test items ≡ list_all test c.into_iter-at-iterator.result = ap (list_all test) (sym c.into_iter-at-iterator.ensures.into_iter_gives) in
     let fails : list_all test c.loop-at.at-iterator ≡ false =
-    ap (list_all test) c.in-Some.ensures.steps ∙ ap (λ b. b && list_all test c.next.new.self) (sym c.lists_write.ensures ∙ c.if-not-lists_write.true) in
+    ap (list_all test) c.in-Some.ensures.steps ∙ ap (λ b. b && list_all test c.next.new.self) (sym c.has_write.ensures ∙ c.if-not-has_write.true) in
     sym (sym shown ∙ (same ∙ (c.loop-at.invariant ∙ fails)))
 
 pub returns : goal.returns

@@ -1,10 +1,13 @@
-use Rattle.std.proofs.Common.{◌-◌, length, take, drop, sym, ◌∙◌}
-use Rattle.adya_values.specs.Meaning.Histories.{FinalPair, final_of}
-use Rattle.adya_values.proofs.Steps.{rise_fails}
+use Rattle.std.proofs.Common.{rules}
+use Rattle.std.proofs.lemmas.List.Sorted.{answers_always}
+use Rattle.std.proofs.lemmas.Simd.{map-map}
+use Rattle.adya_values.specs.declared.order.FinalPair.{FinalPair}
+use Rattle.adya_values.specs.Meaning.Keys.{key_lt}
+use Rattle.adya_values.proofs.KeysRise.{keys_rise_is}
 use Rattle.adya_values.proofs.history.final_keys_rise.Goals as goal
 
-pub returns-then-not-is_below : goal.returns-then-not-is_below
-returns-then-not-is_below c =
-    let rest = take (length c.args.finals.now - 1) (drop 1 c.args.finals.now) in
-    sym (c.loop-f.invariant ∙ rise_fails (λ (x : FinalPair). x.key) final_of c.loop-f.last rest c.loop-f.f-index c.f-item.result c.loop-f-test.true c.f-item.is
-    (sym c.is_below.ensures ∙ c.if-not-is_below.true))
+pub returns : goal.returns
+returns c =
+    let key = λ (f : FinalPair). f.key in
+    let rising = c.is_sorted_by.ensures.cases (λ x y. key_lt (key x) (key y)) (answers_always _ _ _ (λ f a r g called. search rules)) in
+    rw map-map (keys_rise_is key c.args.finals.now c.is_sorted_by.result rising)

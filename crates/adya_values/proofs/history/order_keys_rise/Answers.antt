@@ -1,10 +1,13 @@
-use Rattle.std.proofs.Common.{◌-◌, length, take, drop, sym, ◌∙◌}
-use Rattle.adya_values.specs.Meaning.Histories.{Order, order_of}
-use Rattle.adya_values.proofs.Steps.{rise_fails}
+use Rattle.std.proofs.Common.{rules}
+use Rattle.std.proofs.lemmas.List.Sorted.{answers_always}
+use Rattle.std.proofs.lemmas.Simd.{map-map}
+use Rattle.adya_values.specs.declared.order.Order.{Order}
+use Rattle.adya_values.specs.Meaning.Keys.{key_lt}
+use Rattle.adya_values.proofs.KeysRise.{keys_rise_is}
 use Rattle.adya_values.proofs.history.order_keys_rise.Goals as goal
 
-pub returns-then-not-is_below : goal.returns-then-not-is_below
-returns-then-not-is_below c =
-    let rest = take (length c.args.orders.now - 1) (drop 1 c.args.orders.now) in
-    sym (c.loop-o.invariant ∙ rise_fails (λ (x : Order). x.key) order_of c.loop-o.last rest c.loop-o.o-index c.o-item.result c.loop-o-test.true c.o-item.is
-    (sym c.is_below.ensures ∙ c.if-not-is_below.true))
+pub returns : goal.returns
+returns c =
+    let key = λ (o : Order). o.key in
+    let rising = c.is_sorted_by.ensures.cases (λ x y. key_lt (key x) (key y)) (answers_always _ _ _ (λ f a r g called. search rules)) in
+    rw map-map (keys_rise_is key c.args.orders.now c.is_sorted_by.result rising)

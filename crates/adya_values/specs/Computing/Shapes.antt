@@ -1,5 +1,5 @@
--- What every history has from its constructor on: each order names a writer, the keys of the orders
--- and those of the finals rise, and so do its unfinished transactions, of which edition One has none.
+-- The tests that the constructors of histories make: no order is empty, orders and finals are sorted by key, and no
+-- key is there twice. Edition One has no unfinished transactions; those of edition Two rise.
 use Rattle.std.specs.Prelude.{ℕ, Bool, true, ◌&&◌, ◌==◌, not, nat_lt, List, [], ◌∷◌, map, length}
 use Rattle.std.specs.List.{list_all}
 use Rattle.adya_values.specs.Meaning.Keys.{keys_rise}
