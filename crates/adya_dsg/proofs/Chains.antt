@@ -10,9 +10,8 @@ use Rattle.adya_values.specs.Meaning.Orders.{writers, line_of, installer}
 use Rattle.adya_values.specs.Meaning.Edges.{Kind, Ww, Edge}
 use Rattle.adya_values.specs.Computing.EdgeList.{numbers, places, joined, write_edges}
 use Rattle.adya_values.specs.Meaning.Acceptance.{IsBefore}
-use Rattle.adya_dsg.specs.Computing.Dependencies.{line_edges}
-use Rattle.adya_dsg.proofs.Keys.{line_of-at}
-use Rattle.adya_dsg.proofs.Containing.{none_contained, Contains-cons, Contains-flat_map}
+use Rattle.adya_dsg.specs.Machinery.PartEdges.{line_edges}
+use Rattle.lemmas.proofs.Members.{none_contained, Contains-cons, Contains-flat_map}
 
 pub Contains-joined : (kind : Kind) (k : List ℕ) (x y : Option ℕ) (a b : ℕ) → x ≡ Some a → y ≡ Some b → a ≢ b
     → Contains (joined kind k x y) (record { from = a; kind = kind; key = k; to = b })
@@ -60,7 +59,7 @@ Contains-numbers from (suc n) q l m =
           (Contains-numbers (suc from) n q (omega (arith, l, e)) (omega (arith, m)))
     ]
 
--- the first of the numbers that passes, where this one does
+-- the first of the numbers that passes, if this one does
 pub record FirstOf (test : ℕ → Bool) (from n q : ℕ) : Type 0 where
   pub first : ℕ
   pub found : find test (numbers from n) ≡ Some first
@@ -135,7 +134,7 @@ module _ (h : History) (k : List ℕ) where
         both a next.0 b (step q a next.0 e next.1) (reach_by d (suc q) p next.0 b (omega (arith, s)) next.1 f)
 
     -- who installed the version at a place, and who that at a place no earlier
-    pub reach : (q p a b : ℕ) → q ≤ p → installer h k q ≡ Some a → installer h k p ≡ Some b
+    reach : (q p a b : ℕ) → q ≤ p → installer h k q ≡ Some a → installer h k p ≡ Some b
         → (a ≡ b) ⊎ IsBefore ts a b
     reach q p a b l e f = reach_by (p - q) q p a b (omega (arith, l)) e f
 
@@ -174,47 +173,3 @@ module _ (h : History) (k : List ℕ) where
                 | inr r ↦ omega (arith, r, last)
               ])
         ]
-
--- the write dependencies of a key are those of its line
-from_numbers : (k : List ℕ) (f : ℕ → Option ℕ) (ws : List ℕ) (a : ℕ)
-    → ((j q : ℕ) → q ≡ j + a → f q ≡ slice_get ws j)
-    → flat_map (λ q. joined Ww k (f q) (f (suc q))) (numbers a (length ws)) ≡ line_edges k ws
-from_numbers k f [] a h = refl
-from_numbers k f (x ∷ ws) a h =
-    let here : f a ≡ Some x = h 0 a (omega arith) in
-    let next : f (suc a) ≡ slice_get ws 0 = h 1 (suc a) (omega arith) in
-    ap (λ o. joined Ww k o (f (suc a)) ++ flat_map (λ q. joined Ww k (f q) (f (suc q)))
-    (numbers (suc a) (length ws))) here ∙
-    (ap (λ o. joined Ww k (Some x) o ++ flat_map (λ q. joined Ww k (f q) (f (suc q)))
-    (numbers (suc a) (length ws))) next ∙
-    ap (λ es. joined Ww k (Some x) (slice_get ws 0) ++ es)
-    (from_numbers k f ws (suc a) (λ j q e. h (suc j) q (omega (arith, e)))))
-
-installs_at : (h : History) (k : List ℕ) (j q : ℕ) → q ≡ j + 1 → installer h k q ≡ slice_get (writers h k) j
-installs_at h k j zero e = absurd (omega (arith, e))
-installs_at h k j (suc q) e = let same : q ≡ j = omega (arith, e) in ap (slice_get (writers h k)) same
-
-of_line : (h : History) (k : List ℕ) → write_edges h k ≡ line_edges k (writers h k)
-of_line h k = from_numbers k (installer h k) (writers h k) 1 (installs_at h k)
-
-of_lines : (h : History) (os : List OrderValue)
-    → ((i : ℕ) (o : OrderValue) → i < length os → o ≡ get_or os i o
-    → writers h o.key ≡ o.writers.items)
-    → flat_map (λ (o : Order). write_edges h o.key) (map order_of os)
-    ≡ flat_map (λ (o : Order). line_edges o.key o.writers) (map order_of os)
-of_lines h [] same = refl
-of_lines h (o ∷ os) same =
-    ap (λ es. es ++ flat_map (λ (x : Order). write_edges h x.key) (map order_of os))
-    (of_line h o.key ∙ ap (line_edges o.key) (same 0 o (omega arith) refl)) ∙
-    ap (λ es. line_edges o.key o.writers.items ++ es)
-    (of_lines h os (λ i x l e. same (suc i) x (omega (arith, l)) e))
-
--- the write dependencies of a history are those of its lines
-pub write_edges_are : (h : History) (os : List OrderValue) → h.orders ≡ map order_of os
-    → keys_rise (map (λ (o : Order). o.key) (map order_of os)) ≡ true
-    → flat_map (λ (o : Order). write_edges h o.key) h.orders
-    ≡ flat_map (λ (o : Order). line_edges o.key o.writers) (map order_of os)
-write_edges_are h os same rise =
-    ap (flat_map (λ (o : Order). write_edges h o.key)) same ∙
-    of_lines h os
-    (λ i o l e. ap (λ zs. line_of zs o.key) same ∙ line_of-at order_of os i o rise l e)

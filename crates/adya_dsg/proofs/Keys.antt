@@ -1,35 +1,17 @@
--- How keys compare, and what keys that rise say of order lines.
-use Rattle.std.proofs.Common.{◌≡◌, ℕ, zero, suc, ◌<◌, true, false, cond, List, [], ◌∷◌, map, length, get_or, is_lt, Ordering, Less, Equal, Greater, refl, sym, ◌∙◌, ap, subst, arith}
-use Rattle.std.specs.Cmp.{unsigned_Decides}
-use Rattle.std.specs.Cmp.Lexicographic.{pointwise_decides, nat_list_cmp_total}
-use Rattle.std.proofs.lemmas.Bool.{and_parts, and_from, false_from_ne_true, true≢false}
-use Rattle.std.proofs.lemmas.Cmp.{tied_itself}
+-- What keys that rise say of order lines and of searches.
+use Rattle.std.proofs.Common.{◌≡◌, ℕ, zero, suc, ◌<◌, ◌≤◌, true, false, cond, List, [], ◌∷◌, map, length, get_or, refl, sym, ◌∙◌, ap, subst, inl, inr, arith}
+use Rattle.std.specs.List.Sorted.{IsPartitionedBy}
+use Rattle.std.proofs.lemmas.Bool.{cases_lt, and_parts, and_from}
+use Rattle.lemmas.proofs.Orderings.{bytes_eq-itself, bytes_eq-other, bytes_lt-trans, bytes_lt-apart}
 use Rattle.adya_values.specs.Meaning.Keys.{key_eq, key_lt, keys_rise}
 use Rattle.adya_values.specs.Meaning.Histories.{Order}
 use Rattle.adya_values.specs.Meaning.Orders.{line_of}
 
-pub key_eq-true : (a b : List ℕ) → key_eq a b ≡ true → a ≡ b
-key_eq-true a b h = (pointwise_decides unsigned_Decides a b).0 h
-
-pub key_eq-refl : (a : List ℕ) → key_eq a a ≡ true
-key_eq-refl a = (pointwise_decides unsigned_Decides a a).1 refl
-
-pub less_from_is_lt : (o : Ordering) → is_lt o ≡ true → o ≡ Less
-less_from_is_lt Less h = refl
-less_from_is_lt Equal h = absurd (true≢false (sym h))
-less_from_is_lt Greater h = absurd (true≢false (sym h))
-
-pub key_lt-trans : (a b c : List ℕ) → key_lt a b ≡ true → key_lt b c ≡ true → key_lt a c ≡ true
-key_lt-trans a b c h j = ap is_lt (nat_list_cmp_total.trans a b c (less_from_is_lt _ h) (less_from_is_lt _ j))
-
-pub key_lt-irrefl : (a : List ℕ) → key_lt a a ≡ true → ⊥
-key_lt-irrefl a h = true≢false (sym h ∙ ap is_lt (tied_itself nat_list_cmp_total a))
-
 pub key_eq-lt : (a b : List ℕ) → key_lt a b ≡ true → key_eq a b ≡ false
-key_eq-lt a b h = false_from_ne_true _ (λ e. key_lt-irrefl b (subst (λ x. key_lt x b ≡ true) (key_eq-true a b e) h))
+key_eq-lt a b h = bytes_eq-other a b (bytes_lt-apart a b h)
 
 pub key_eq-gt : (a b : List ℕ) → key_lt b a ≡ true → key_eq a b ≡ false
-key_eq-gt a b h = false_from_ne_true _ (λ e. key_lt-irrefl b (subst (λ x. key_lt b x ≡ true) (key_eq-true a b e) h))
+key_eq-gt a b h = bytes_eq-other a b (λ e. bytes_lt-apart b a h (sym e))
 
 pub rise_tail : (k : List ℕ) (ks : List (List ℕ)) → keys_rise (k ∷ ks) ≡ true → keys_rise ks ≡ true
 rise_tail k [] h = refl
@@ -40,7 +22,7 @@ rise_skip k j [] h = refl
 rise_skip k j (l ∷ ks) h =
     let p = and_parts _ _ h in
     let q = and_parts _ _ p.1 in
-    and_from _ _ (key_lt-trans k j l p.0 q.0) q.1
+    and_from _ _ (bytes_lt-trans k j l p.0 q.0) q.1
 
 -- a key below those of the lines has no line
 pub line_of-above : (k : List ℕ) (os : List Order) → keys_rise (k ∷ map (λ o. o.key) os) ≡ true → line_of os k ≡ []
@@ -64,8 +46,35 @@ pub line_of-at : {Y : Type 0} (view : Y → Order) (ys : List Y) (i : ℕ) (y : 
 line_of-at view [] i y h l e = absurd (omega arith)
 line_of-at view (x ∷ ys) zero y h l e =
     ap (λ b. cond b (view x).writers (line_of (map view ys) (view y).key))
-    (ap (λ z. key_eq (view x).key (view z).key) e ∙ key_eq-refl (view x).key) ∙ ap (λ z. (view z).writers) (sym e)
+    (ap (λ z. key_eq (view x).key (view z).key) e ∙ bytes_eq-itself (view x).key) ∙ ap (λ z. (view z).writers) (sym e)
 line_of-at view (x ∷ ys) (suc i) y h l e =
     let below = rise_at view (view x).key ys i y h (omega (arith, l)) e in
     ap (λ b. cond b (view x).writers (line_of (map view ys) (view y).key)) (key_eq-lt (view x).key (view y).key below) ∙
     line_of-at view ys i y (rise_tail (view x).key (map (λ o. o.key) (map view ys)) h) (omega (arith, l)) e
+
+module _ {Y : Type 0} (key : Y → List ℕ) where
+  first_below : (y : Y) (ys : List Y) (j : ℕ) (d : Y) → keys_rise (key y ∷ map key ys) ≡ true → j < length ys
+      → key_lt (key y) (key (get_or ys j d)) ≡ true
+  first_below y [] j d r l = absurd (omega arith)
+  first_below y (z ∷ ys) zero d r l = (and_parts _ _ r).0
+  first_below y (z ∷ ys) (suc j) d r l =
+      first_below y ys j d (rise_skip (key y) (key z) (map key ys) r) (omega (arith, l))
+
+  pub rises_at : (ys : List Y) (i j : ℕ) (d : Y) → keys_rise (map key ys) ≡ true → i < j → j < length ys
+      → key_lt (key (get_or ys i d)) (key (get_or ys j d)) ≡ true
+  rises_at [] i j d r l m = absurd (omega (arith, m))
+  rises_at (y ∷ ys) i zero d r l m = absurd (omega (arith, l))
+  rises_at (y ∷ ys) zero (suc j) d r l m = first_below y ys j d r (omega (arith, m))
+  rises_at (y ∷ ys) (suc i) (suc j) d r l m =
+      rises_at ys i j d (rise_tail (key y) (map key ys) r) (omega (arith, l)) (omega (arith, m))
+
+  -- those with keys below k come first
+  pub below_in_front : (ys : List Y) (k : List ℕ) → keys_rise (map key ys) ≡ true
+      → IsPartitionedBy (λ y. key_lt (key y) k) ys
+  below_in_front ys k r i j d l m t =
+      elim (cases_lt i j) [
+        | inl less ↦ bytes_lt-trans _ _ k (rises_at ys i j d r less m) t
+        | inr more ↦
+            let same : j ≡ i = omega (arith, l, more) in
+            subst (λ n. key_lt (key (get_or ys n d)) k ≡ true) same t
+      ]

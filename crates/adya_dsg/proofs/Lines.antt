@@ -1,20 +1,37 @@
--- Order lines by their places in the list of lines.
+-- Order lines by their indexes in the list of lines.
 use Rattle.std.proofs.Common.{◌≡◌, ℕ, zero, suc, ◌<◌, ◌≤◌, Bool, true, false, cond, List, [], ◌∷◌, map, length, get_or, IfSome, IfNone, slice_get, option_map, refl, sym, ◌∙◌, ap, subst, arith, inl, inr}
 use Rattle.std.proofs.Common.{Result, Ok, Err, Equal, nat_cmp}
 use Rattle.std.specs.List.{HoldsAt}
 use Rattle.std.specs.List.Sorted.{IsBinarySearchResult, IsSearchInRange, IsPartitionPoint}
 use Rattle.std.specs.Cmp.Lexicographic.{slice_cmp}
 use Rattle.std.specs.Result.{result_ok}
-use Rattle.std.proofs.lemmas.Bool.{cases_eq, eq-eqb, ne_eqb}
+use Rattle.std.proofs.lemmas.Bool.{cases_eq, eq-eqb, ne_eqb, and_parts}
 use Rattle.std.proofs.lemmas.Option.{slice_get-map, slice_get_read, slice_get-get_or}
 use Rattle.std.proofs.lemmas.Simd.{map-map}
 use Rattle.adya_values.specs.declared.order.Order.{Order as OrderValue}
 use Rattle.adya_values.specs.Meaning.Keys.{key_lt, keys_rise}
-use Rattle.adya_values.specs.Meaning.Histories.{Order, order_of}
+use Rattle.adya_values.specs.declared.history.History.{History as HistoryValue}
+use Rattle.adya_values.specs.Meaning.Values.{history_of}
+use Rattle.adya_values.specs.Computing.Shapes.{is_shape}
+use Rattle.adya_values.specs.Meaning.Histories.{History, Order, order_of, final_of}
 use Rattle.adya_values.specs.Meaning.Orders.{place, line_of}
-use Rattle.adya_dsg.specs.Computing.Choices.{key_of}
-use Rattle.adya_dsg.proofs.Keys.{line_of-at}
-use Rattle.adya_dsg.proofs.Searches.{tied_key, search_misses}
+use Rattle.adya_dsg.specs.Machinery.Choices.{key_of}
+use Rattle.lemmas.proofs.Orderings.{tied_bytes, search_misses}
+use Rattle.adya_dsg.proofs.Keys.{line_of-at, rises_at}
+
+-- the orders that a checked history gives out are its lines
+pub record Lends (h : History) (os : List OrderValue) : Type 0 where
+  pub lines : h.orders ≡ map order_of os
+  pub rise : keys_rise (map (λ (o : Order). o.key) (map order_of os)) ≡ true
+
+pub lends : (x y : HistoryValue) (os : List OrderValue) → y ≡ x → os ≡ y.orders.items
+    → is_shape (map order_of y.orders.items) (map final_of y.finals.items) ≡ true → Lends (history_of x) os
+lends x y os same value shape = record {
+  lines = ap (λ (z : HistoryValue). map order_of z.orders.items) (sym same) ∙ ap (map order_of) (sym value);
+  rise =
+      ap (λ (zs : List OrderValue). keys_rise (map (λ (o : Order). o.key) (map order_of zs))) value ∙
+      (and_parts _ _ (and_parts _ _ shape).0).1;
+}
 
 pub rise_of_values : (os : List OrderValue) → keys_rise (map (λ (o : Order). o.key) (map order_of os)) ≡ true
     → keys_rise (map (λ (o : OrderValue). o.key) os) ≡ true
@@ -55,7 +72,7 @@ at_key : (os : List OrderValue) (i : ℕ) (k : List ℕ) → i < length os
     → ((d : OrderValue) → slice_cmp nat_cmp (get_or os i d).key k ≡ Equal)
     → key_of (slice_get (map order_of os) i) ≡ k
 at_key [] i k l h = absurd (omega (arith, l))
-at_key (o ∷ os) i k l h = key_there (o ∷ os) i o l ∙ tied_key _ k (h o)
+at_key (o ∷ os) i k l h = key_there (o ∷ os) i o l ∙ tied_bytes _ k (h o)
 
 tested_at : (os : List OrderValue) (k : List ℕ) (b : Bool) (i : ℕ) → i < length os
     → ((d : OrderValue) → key_lt (get_or os i d).key k ≡ b)
@@ -68,9 +85,10 @@ nowhere : (os : List OrderValue) (k : List ℕ) (n : ℕ) → keys_rise (map (λ
     → key_of (slice_get (map order_of os) i) ≡ k → ⊥
 nowhere [] k n rise found i l e = omega (arith, l)
 nowhere (o ∷ os) k n rise found i l e =
-    search_misses (λ (x : OrderValue). x.key) (o ∷ os) k n rise found i o l (sym (key_there (o ∷ os) i o l) ∙ e)
+    search_misses (λ (x : OrderValue). x.key) (o ∷ os) k n
+    (λ a b d less m. rises_at (λ (x : OrderValue). x.key) (o ∷ os) a b d rise less m) found i o l (sym (key_there (o ∷ os) i o l) ∙ e)
 
--- what is noted of each line, at one of them
+-- what is kept of each line, at one of them
 pub mapped_at : {X Y : Type 0} (f : List ℕ → Y) (view : X → Y) (xs : List X) (os : List OrderValue) (i : ℕ) (x : X)
     → map view xs ≡ map (λ (o : Order). f o.key) (map order_of os) → i < length os → x ≡ get_or xs i x
     → view x ≡ f (key_of (slice_get (map order_of os) i))
@@ -81,7 +99,7 @@ mapped_at f view (y ∷ xs) (o ∷ os) zero x same l e = ap view e ∙ cc (same)
 mapped_at f view (y ∷ xs) (o ∷ os) (suc i) x same l e =
     mapped_at f view xs os i x (cc (same)) (omega (arith, l)) e
 
--- what a binary search by keys answers, where it answers
+-- what a binary search by keys finds
 pub found_at : (os orders : List OrderValue) → orders ≡ os → (k : List ℕ) (r : Result ℕ ℕ) → IsSearchInRange r (length orders)
     → IsBinarySearchResult (λ (o : OrderValue). slice_cmp nat_cmp o.key k) orders r
     → IfSome (result_ok r) (λ i. key_of (slice_get (map order_of os) i) ≡ k)
@@ -90,7 +108,7 @@ found_at os orders same k (Ok i) within found =
     at_key os i k l (subst (λ zs. HoldsAt (λ (o : OrderValue). slice_cmp nat_cmp o.key k ≡ Equal) zs i) same found)
 found_at os orders same k (Err i) within found = tt
 
--- where it answers nothing, no line has the key
+-- if it finds nothing, no line has the key
 pub found_nowhere : (os orders : List OrderValue) → orders ≡ os
     → keys_rise (map (λ (o : Order). o.key) (map order_of os)) ≡ true → (k : List ℕ) (r : Result ℕ ℕ)
     → IsBinarySearchResult (λ (o : OrderValue). slice_cmp nat_cmp o.key k) orders r
@@ -109,7 +127,7 @@ keys_below os orders same k n within point i l =
     tested_at os k true i (omega (arith, l, within))
     (λ d. subst (λ zs. (j : ℕ) (x : OrderValue) → 0 ≤ j → j < n → key_lt (get_or zs j x).key k ≡ true) same point.0 i d (omega arith) l)
 
--- and those behind it aren't
+-- and those after it aren't
 pub keys_from : (os orders : List OrderValue) → orders ≡ os → (k : List ℕ) (n : ℕ)
     → IsPartitionPoint (λ (o : OrderValue). key_lt o.key k ≡ true) (λ o. key_lt o.key k ≡ false) orders n → (i : ℕ)
     → n ≤ i → i < length os → key_lt (key_of (slice_get (map order_of os) i)) k ≡ false

@@ -1,5 +1,6 @@
 -- Numbers in a row, and those of them that pass a test.
-use Rattle.std.proofs.Common.{◌≡◌, ℕ, zero, suc, ◌<◌, ◌≤◌, Bool, true, false, cond, nat_lt, leb, List, [], ◌∷◌, length, get_or, Some, slice_get, filter, find, refl, ◌∙◌, ap, arith}
+use Rattle.std.proofs.Common.{◌≡◌, ℕ, zero, suc, ◌<◌, ◌≤◌, Bool, true, false, cond, nat_lt, leb, List, [], ◌∷◌, length, get_or, Option, Some, None, is_some, IfSome, Bor, option_copied, slice_get, filter, find, refl, sym, ◌∙◌, ap, arith, ltb-true, ltb-false}
+use Rattle.std.proofs.lemmas.Option.{slice_get_past, slice_get_read}
 use Rattle.std.specs.List.Sorted.{IsNonDecreasingBy, IsPartitionPoint}
 use Rattle.std.proofs.lemmas.Bool.{leb-true, leb-false, le-ltb, lt-ltb}
 use Rattle.adya_values.specs.Computing.EdgeList.{numbers}
@@ -40,23 +41,29 @@ passing_rise test a (suc n) =
       | false ↦ rest
     ]
 
--- the first that passes, where those that fail stand in front
-pub find_behind : {X : Type 0} (test : X → Bool) (xs : List X) (i : ℕ)
+-- the first that passes, if those that fail come before it
+find_after : {X : Type 0} (test : X → Bool) (xs : List X) (i : ℕ)
     → ((j : ℕ) (d : X) → j < i → j < length xs → test (get_or xs j d) ≡ false)
     → ((j : ℕ) (d : X) → i ≤ j → j < length xs → test (get_or xs j d) ≡ true) → find test xs ≡ slice_get xs i
-find_behind test [] zero below above = refl
-find_behind test [] (suc i) below above = refl
-find_behind test (x ∷ xs) zero below above =
+find_after test [] zero below above = refl
+find_after test [] (suc i) below above = refl
+find_after test (x ∷ xs) zero below above =
     ap (λ b. cond b (Some x) (find test xs)) (above 0 x (omega arith) (omega arith))
-find_behind test (x ∷ xs) (suc i) below above =
+find_after test (x ∷ xs) (suc i) below above =
     ap (λ b. cond b (Some x) (find test xs)) (below 0 x (omega arith) (omega arith)) ∙
-    find_behind test xs i (λ j d l m. below (suc j) d (omega (arith, l)) (omega (arith, m)))
+    find_after test xs i (λ j d l m. below (suc j) d (omega (arith, l)) (omega (arith, m)))
     (λ j d l m. above (suc j) d (omega (arith, l)) (omega (arith, m)))
 
--- the first number above p, where a search found the first one that isn't at most p
+-- the first number above p, if a search found the first one that isn't at most p
 pub first_above : (qs : List ℕ) (p i : ℕ) → IsPartitionPoint (λ q. leb q p ≡ true) (λ q. leb q p ≡ false) qs i
     → find (λ q. nat_lt p q) qs ≡ slice_get qs i
 first_above qs p i point =
-    find_behind (λ q. nat_lt p q) qs i
+    find_after (λ q. nat_lt p q) qs i
     (λ j d l m. le-ltb p (get_or qs j d) (leb-true _ p (point.0 j d (omega arith) l)))
     (λ j d l m. lt-ltb p (get_or qs j d) (leb-false _ p (point.1 j d l m)))
+
+-- what a look-up by an index found
+pub got : {X : Type 0} (xs : List X) (i : ℕ) (r : Option (Bor X)) → is_some r ≡ nat_lt i (length xs)
+    → IfSome r (λ x. x.now ≡ get_or xs i x.now) → option_copied r ≡ slice_get xs i
+got xs i None s v = sym (slice_get_past xs i (ltb-false i (length xs) (sym s)))
+got xs i (Some x) s v = sym (slice_get_read xs (length xs) i x.now refl (ltb-true i (length xs) (sym s)) v)

@@ -1,81 +1,25 @@
 -- The places that a selection depends on, by the places where the matches change.
 use Rattle.std.proofs.Common.{◌≡◌, ℕ, zero, suc, ◌+◌, ◌==◌, ◌<◌, ◌≤◌, Bool, true, false, cond, ◌&&◌, ◌||◌, nat_lt, List, [], ◌∷◌, ◌++◌, Some, None, filter, find, flat_map, refl, sym, ◌∙◌, ap, arith, inl, inr, append-nil, append_assoc}
 use Rattle.std.proofs.lemmas.Bool.{cases_Bool, cases_eq, eq-eqb, ne_eqb, lt-ltb, le-ltb}
+use Rattle.std.proofs.Math.Bool.{or-true, or-false}
+use Rattle.lemmas.proofs.Filters.{filter_both}
 use Rattle.adya_values.specs.Computing.EdgeList.{numbers}
 
-and_true : (b : Bool) → (b && true) ≡ b
-and_true true = refl
-and_true false = refl
-
-and_false : (b : Bool) → (b && false) ≡ false
-and_false true = refl
-and_false false = refl
-
-or_true : (b : Bool) → (b || true) ≡ true
-or_true true = refl
-or_true false = refl
-
-or_false : (b : Bool) → (b || false) ≡ b
-or_false true = refl
-or_false false = refl
-
-pub filter_same : (f g : ℕ → Bool) (xs : List ℕ) → ((q : ℕ) → f q ≡ g q) → filter f xs ≡ filter g xs
-filter_same f g [] same = refl
-filter_same f g (x ∷ xs) same =
-    ap (λ b. cond b (x ∷ filter f xs) (filter f xs)) (same x) ∙
-    ap (λ zs. cond (g x) (x ∷ zs) zs) (filter_same f g xs same)
-
--- the same, where the tests agree on the numbers
-pub filter_same_from : (f g : ℕ → Bool) (a n : ℕ) → ((q : ℕ) → a ≤ q → f q ≡ g q)
+-- two tests that agree on the numbers keep the same
+filter_same_from : (f g : ℕ → Bool) (a n : ℕ) → ((q : ℕ) → a ≤ q → f q ≡ g q)
     → filter f (numbers a n) ≡ filter g (numbers a n)
 filter_same_from f g a zero same = refl
 filter_same_from f g a (suc n) same =
     ap (λ b. cond b (a ∷ filter f (numbers (suc a) n)) (filter f (numbers (suc a) n))) (same a (omega arith)) ∙
     ap (λ zs. cond (g a) (a ∷ zs) zs) (filter_same_from f g (suc a) n (λ q l. same q (omega (arith, l))))
 
--- what fails is left out, where it stands there
+-- what fails is left out
 left_out : (f : ℕ → Bool) (b : Bool) (a : ℕ) (xs : List ℕ) → f a ≡ false
     → filter f (cond b (a ∷ xs) xs) ≡ filter f xs
 left_out f true a xs e = ap (λ z. cond z (a ∷ filter f xs) (filter f xs)) e
 left_out f false a xs e = refl
 
-pub find_same : (f g : ℕ → Bool) (xs : List ℕ) → ((q : ℕ) → f q ≡ g q) → find f xs ≡ find g xs
-find_same f g [] same = refl
-find_same f g (x ∷ xs) same =
-    ap (λ b. cond b (Some x) (find f xs)) (same x) ∙ ap (λ o. cond (g x) (Some x) o) (find_same f g xs same)
-
--- both tests, one after the other
-pub filter_both : (f g : ℕ → Bool) (xs : List ℕ) → filter (λ q. f q && g q) xs ≡ filter f (filter g xs)
-filter_both f g [] = refl
-filter_both f g (x ∷ xs) =
-    elim (cases_Bool (g x)) [
-      | inl t ↦
-          ap (λ b. cond (f x && b) (x ∷ filter (λ q. f q && g q) xs) (filter (λ q. f q && g q) xs)) t ∙
-          (ap (λ b. cond b (x ∷ filter (λ q. f q && g q) xs) (filter (λ q. f q && g q) xs)) (and_true (f x)) ∙
-          (ap (λ zs. cond (f x) (x ∷ zs) zs) (filter_both f g xs) ∙
-          sym (ap (λ b. filter f (cond b (x ∷ filter g xs) (filter g xs))) t)))
-      | inr t ↦
-          ap (λ b. cond (f x && b) (x ∷ filter (λ q. f q && g q) xs) (filter (λ q. f q && g q) xs)) t ∙
-          (ap (λ b. cond b (x ∷ filter (λ q. f q && g q) xs) (filter (λ q. f q && g q) xs)) (and_false (f x)) ∙
-          (filter_both f g xs ∙ sym (ap (λ b. filter f (cond b (x ∷ filter g xs) (filter g xs))) t)))
-    ]
-
-pub find_both : (f g : ℕ → Bool) (xs : List ℕ) → find (λ q. f q && g q) xs ≡ find f (filter g xs)
-find_both f g [] = refl
-find_both f g (x ∷ xs) =
-    elim (cases_Bool (g x)) [
-      | inl t ↦
-          ap (λ b. cond (f x && b) (Some x) (find (λ q. f q && g q) xs)) t ∙
-          (ap (λ b. cond b (Some x) (find (λ q. f q && g q) xs)) (and_true (f x)) ∙
-          (ap (λ o. cond (f x) (Some x) o) (find_both f g xs) ∙
-          sym (ap (λ b. find f (cond b (x ∷ filter g xs) (filter g xs))) t)))
-      | inr t ↦
-          ap (λ b. cond (f x && b) (Some x) (find (λ q. f q && g q) xs)) t ∙
-          (ap (λ b. cond b (Some x) (find (λ q. f q && g q) xs)) (and_false (f x)) ∙
-          (find_both f g xs ∙ sym (ap (λ b. find f (cond b (x ∷ filter g xs) (filter g xs))) t)))
-    ]
-
--- the first number that passes is p, where those before it fail
+-- the first number that passes is p, if those before it fail
 pub find_at_place : (test : ℕ → Bool) (p a n : ℕ) → a ≤ p → p < a + n → ((q : ℕ) → q < p → test q ≡ false)
     → test p ≡ true → find test (numbers a n) ≡ Some p
 find_at_place test p a zero l m before here = absurd (omega (arith, l, m))
@@ -146,9 +90,9 @@ module _ {X : Type 0} (g : ℕ → List X) (c : ℕ → Bool) (p : ℕ) where
       elim (cases_eq a p) [
         | inl e ↦
             let here : up_to a ≡ true = ap (λ b. b || (nat_lt a p && c a)) (eq-eqb a p e) in
-            let behind : rest ≡ [] = none_pass up_to (suc a) n (λ q m. past q (omega (arith, m, e))) in
+            let after : rest ≡ [] = none_pass up_to (suc a) n (λ q m. past q (omega (arith, m, e))) in
             ap (λ b. flat_map g (cond b (a ∷ rest) rest)) here ∙
-            (ap (λ zs. g a ++ flat_map g zs) behind ∙
+            (ap (λ zs. g a ++ flat_map g zs) after ∙
             (append-nil (g a) ∙
             (ap g e ∙ ap (λ zs. zs ++ g p) (sym (nothing_before a (suc n) (omega (arith, e)))))))
         | inr ne ↦
@@ -168,21 +112,21 @@ module _ {X : Type 0} (g : ℕ → List X) (c : ℕ → Bool) (p : ℕ) where
           ap (λ z. flat_map g (cond z (a ∷ kept) kept) ++ g p) (sym less))
       by_case a false rest cs less more = more
 
-  -- the next place, and what passes behind it
+  -- the next place, and what passes after it
   abbrev next_and_on : ℕ → Bool
   next_and_on q = nat_lt p q && (c q || (q == suc p))
 
-  abbrev behind : ℕ → ℕ → List X
-  behind a n = flat_map g (filter (λ q. nat_lt (suc p) q) (filter c (numbers a n)))
+  abbrev after : ℕ → ℕ → List X
+  after a n = flat_map g (filter (λ q. nat_lt (suc p) q) (filter c (numbers a n)))
 
   on : (q : ℕ) → suc p < q → next_and_on q ≡ (nat_lt (suc p) q && c q)
   on q l =
       ap (λ b. b && (c q || (q == suc p))) (lt-ltb p q (omega (arith, l))) ∙
       (ap (λ b. c q || b) (ne_eqb q (suc p) (λ e. omega (arith, l, e))) ∙
-      (or_false (c q) ∙ ap (λ b. b && c q) (sym (lt-ltb (suc p) q l))))
+      (or-false (c q) ∙ ap (λ b. b && c q) (sym (lt-ltb (suc p) q l))))
 
   pub overwriters_from : (a n : ℕ) → a ≤ suc p → (a + n ≤ suc p → g (suc p) ≡ [])
-      → flat_map g (filter next_and_on (numbers a n)) ≡ g (suc p) ++ behind a n
+      → flat_map g (filter next_and_on (numbers a n)) ≡ g (suc p) ++ after a n
   overwriters_from a zero l none = sym (append-nil (g (suc p)) ∙ none (omega (arith, l)))
   overwriters_from a (suc n) l none =
       let rest = filter next_and_on (numbers (suc a) n) in
@@ -193,7 +137,7 @@ module _ {X : Type 0} (g : ℕ → List X) (c : ℕ → Bool) (p : ℕ) where
         | inl e ↦
             let here : next_and_on a ≡ true =
             ap (λ b. b && (c a || (a == suc p))) (lt-ltb p a (omega (arith, e))) ∙
-            (ap (λ b. c a || b) (eq-eqb a (suc p) e) ∙ or_true (c a)) in
+            (ap (λ b. c a || b) (eq-eqb a (suc p) e) ∙ or-true (c a)) in
             let same : rest ≡ filter (λ q. nat_lt (suc p) q) cs =
             filter_same_from next_and_on (λ q. nat_lt (suc p) q && c q) (suc a) n (λ q m. on q (omega (arith, m, e))) ∙
             filter_both (λ q. nat_lt (suc p) q) c (numbers (suc a) n) in

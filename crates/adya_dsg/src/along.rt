@@ -1,4 +1,4 @@
-//! The edges of a cycle of arcs.
+//! The edges along a cycle of arcs.
 
 ghost use Rattle.std.specs.Prelude.{◌≡◌, ◌==◌, ◌&&◌, ℕ, Some, map, IfOk};
 ghost use Rattle.std.specs.List.{list_any};
@@ -8,35 +8,35 @@ ghost use Rattle.adya_dsg.specs.Machinery.Arcs.{AreEnds};
 ghost use Rattle.adya_dsg.specs.Machinery.Along.{HasFirst, first_along, ends_cmp};
 
 use crate::Edge;
-use crate::arc::Arc;
-use adya_values::Txn;
+use digraph::Arc;
 use std::alloc::{AllocError, Global};
 use std::collections::{BTreeMap, BTreeSet};
 
 // The ends of the arcs.
-fn ends_of(alloc: Global, way: &[Arc]) -> Result<BTreeSet<(Txn, Txn)>, AllocError>
+fn ends_of(alloc: Global, cycle: &[Arc]) -> Result<BTreeSet<(u32, u32)>, AllocError>
     ensures { IfOk result (λ s. (q : ℕ × ℕ)
-        → contains ends_cmp s q ≡ list_any (λ a. (a.from == q.0) && (a.to == q.1)) way.now) }
+        → contains ends_cmp s q ≡ list_any (λ a. (a.from == q.0) && (a.to == q.1)) cycle.now) }
 {
     let mut ends = BTreeSet::new(alloc);
-    for a in way {
+    for a in cycle {
         ends.insert((a.from, a.to))?;
     }
     Ok(ends)
 }
 
-// For each arc of the way the first of the edges with its ends, in one pass over the edges.
+// The first of the edges with the ends of each arc, in one pass over the edges.
 fn first_edges(
     alloc: Global,
-    way: &[Arc],
+    cycle: &[Arc],
     edges: &[Edge],
-) -> Result<BTreeMap<(Txn, Txn), Edge>, AllocError>
-    ensures { IfOk result (λ m. HasFirst m way.now edges.now) }
+) -> Result<BTreeMap<(u32, u32), Edge>, AllocError>
+    ensures { IfOk result (λ m. HasFirst m cycle.now edges.now) }
 {
-    let wanted = ends_of(alloc, way)?;
+    let wanted = ends_of(alloc, cycle)?;
     let mut first = BTreeMap::new(alloc);
     for e in edges {
-        let ends = (e.from, e.to);
+        let arc = e.arc();
+        let ends = (arc.from, arc.to);
         if wanted.contains(&ends) && !first.contains_key(&ends) {
             first.insert(ends, *e)?;
         }
@@ -44,18 +44,18 @@ fn first_edges(
     Ok(first)
 }
 
-/// For each arc of the way the first of the edges with its ends; `AllocError` where memory is refused.
+/// Returns for each arc the first of the edges with its ends; `AllocError` if memory is refused.
 pub(crate) fn edges_along(
     alloc: Global,
-    way: &[Arc],
+    cycle: &[Arc],
     edges: &[Edge],
 ) -> Result<Vec<Edge>, AllocError>
-    requires { AreEnds (map edge_of edges.now) way.now }
-    ensures { IfOk result (λ v. map Some v.items ≡ map (first_along edges.now) way.now) }
+    requires { AreEnds (map edge_of edges.now) cycle.now }
+    ensures { IfOk result (λ v. map Some v.items ≡ map (first_along edges.now) cycle.now) }
 {
-    let first = first_edges(alloc, way, edges)?;
+    let first = first_edges(alloc, cycle, edges)?;
     let mut along = Vec::new(alloc);
-    for a in way {
+    for a in cycle {
         along.push(first[&(a.from, a.to)])?;
     }
     Ok(along)

@@ -9,20 +9,21 @@ ghost use Rattle.adya_values.specs.Computing.EdgeList.{write_edges, event_edges}
 ghost use Rattle.adya_values.specs.Computing.Certificates.{first_backward};
 ghost use Rattle.adya_values.specs.Meaning.Acceptance.{IsChecked};
 ghost use Rattle.adya_dsg.specs.Meaning.Values.{edge_of};
-ghost use Rattle.adya_dsg.specs.Computing.Dependencies.{line_edges, is_backward};
+ghost use Rattle.adya_dsg.specs.Machinery.PartEdges.{line_edges, is_backward};
 
 use crate::Edge;
-use crate::certificate::Certificate;
-use crate::dependencies::{push_event_edges, push_write_edges};
+use crate::certificate_places::CertificatePlaces;
+use crate::event_edges::push_event_edges;
 use crate::event_links::push_event_links;
-use crate::graph::Graph;
+use crate::version_orders::VersionOrders;
+use crate::write_edges::push_write_edges;
 use adya_laws::{edge_list_keeps_first, selected_is_installed};
 use adya_terms::Checked;
 use adya_values::{Event, Order, Serial};
 use std::alloc::{AllocError, Global};
 
-/// The first of the [`edges`](crate::edges) that doesn't go forward in the certificate, if there is one: whose `to`
-/// doesn't stand behind its `from` there. `AllocError` where memory is refused.
+/// Returns the first of the [`edges`](crate::edges) that doesn't go forward in the certificate, if there is one: its `to`
+/// doesn't come after its `from` there. `AllocError` if memory is refused.
 ///
 /// It takes O(n log n) steps, where n counts the events, the entries that scans list, the keys of their ranges and the
 /// transactions of the orders and the certificate.
@@ -35,19 +36,19 @@ pub fn first_backward(
         ≡ first_backward (history_of checked.now.history.now) serial.now.txns.items) }
 {
     edge_list_keeps_first();
-    let certificate = Certificate::of(alloc, serial.txns())?;
+    let certificate = CertificatePlaces::of(alloc, serial.txns())?;
     let found = first_write(alloc, &certificate, checked.history().orders())?;
     if found.is_some() {
         return Ok(found);
     }
-    let graph = Graph::of(alloc, checked)?;
-    first_read(alloc, &certificate, &graph)
+    let versions = VersionOrders::of(alloc, checked)?;
+    first_read(alloc, &certificate, &versions)
 }
 
-/// The first write dependency that doesn't go forward.
+/// Returns the first write dependency that doesn't go forward.
 fn first_write(
     alloc: Global,
-    certificate: &Certificate,
+    certificate: &CertificatePlaces,
     orders: &[Order],
 ) -> Result<Option<Edge>, AllocError>
     ensures { IfOk result (λ o. option_map edge_of o ≡ find (is_backward certificate.now.txns.now)
@@ -64,24 +65,24 @@ fn first_write(
     Ok(None)
 }
 
-/// The first dependency of a committed transaction's event that doesn't go forward, where all write dependencies do.
+/// Returns the first edge of a committed transaction's event that doesn't go forward, if all write dependencies do.
 fn first_read(
     alloc: Global,
-    certificate: &Certificate,
-    graph: &Graph,
+    certificate: &CertificatePlaces,
+    versions: &VersionOrders,
 ) -> Result<Option<Edge>, AllocError>
-    requires checked { IsChecked (history_of graph.now.checked.now.history.now) }
-    requires writes { let h = history_of graph.now.checked.now.history.now in
+    requires checked { IsChecked (history_of versions.now.checked.now.history.now) }
+    requires writes { let h = history_of versions.now.checked.now.history.now in
         find (is_backward certificate.now.txns.now) (flat_map (λ o. write_edges h o.key) h.orders) ≡ None }
-    ensures { let h = history_of graph.now.checked.now.history.now in
+    ensures { let h = history_of versions.now.checked.now.history.now in
         IfOk result (λ o. option_map edge_of o ≡ find (is_backward certificate.now.txns.now)
         (flat_map (event_edges h) (filter (λ e. is_committed h.events (txn_of e)) h.events))) }
 {
     let mut edges = Vec::new(alloc);
-    let events = graph.events();
+    let events = versions.events();
     for event in events {
-        if graph.is_committed(event) {
-            if let Some(found) = first_of_event(alloc, certificate, graph, event, &mut edges)? {
+        if versions.is_committed(event) {
+            if let Some(found) = first_of_event(alloc, certificate, versions, event, &mut edges)? {
                 return Ok(Some(found));
             }
         }
@@ -89,32 +90,32 @@ fn first_read(
     Ok(None)
 }
 
-/// The first of the event's edges that doesn't go forward, where all write dependencies do. Where its links go
-/// forward, so do all of its edges; so the whole list is made only where a link goes backward.
+/// Returns the first of the event's edges that doesn't go forward, if all write dependencies do. If its links go
+/// forward, so do all of its edges, so its edges are listed only if a link goes backward.
 fn first_of_event(
     alloc: Global,
-    certificate: &Certificate,
-    graph: &Graph,
+    certificate: &CertificatePlaces,
+    versions: &VersionOrders,
     event: &Event,
     edges: &mut Vec<Edge>,
 ) -> Result<Option<Edge>, AllocError>
-    requires checked { IsChecked (history_of graph.now.checked.now.history.now) }
-    requires writes { let h = history_of graph.now.checked.now.history.now in
+    requires checked { IsChecked (history_of versions.now.checked.now.history.now) }
+    requires writes { let h = history_of versions.now.checked.now.history.now in
         find (is_backward certificate.now.txns.now) (flat_map (λ o. write_edges h o.key) h.orders) ≡ None }
-    requires occurs { Contains (history_of graph.now.checked.now.history.now).events (event_of event.now) }
-    requires committed { is_committed (history_of graph.now.checked.now.history.now).events (txn_of (event_of event.now))
+    requires occurs { Contains (history_of versions.now.checked.now.history.now).events (event_of event.now) }
+    requires committed { is_committed (history_of versions.now.checked.now.history.now).events (txn_of (event_of event.now))
         ≡ true }
-    ensures { let h = history_of graph.now.checked.now.history.now in
+    ensures { let h = history_of versions.now.checked.now.history.now in
         IfOk result (λ o. option_map edge_of o
         ≡ find (is_backward certificate.now.txns.now) (event_edges h (event_of event.now))) }
 {
     selected_is_installed();
     edges.clear();
-    push_event_links(alloc, edges, graph, event)?;
+    push_event_links(alloc, edges, versions, event)?;
     if certificate.first_backward(edges).is_none() {
         return Ok(None);
     }
     edges.clear();
-    push_event_edges(alloc, edges, graph, event)?;
+    push_event_edges(alloc, edges, versions, event)?;
     Ok(certificate.first_backward(edges))
 }

@@ -5,9 +5,8 @@ ghost use Rattle.adya_values.specs.Meaning.Histories.{order_of};
 ghost use Rattle.adya_values.specs.Meaning.Values.{history_of};
 ghost use Rattle.adya_values.specs.Meaning.Events.{last_write, shown};
 ghost use Rattle.adya_values.specs.Meaning.Orders.{writers};
-ghost use Rattle.adya_dsg.specs.Computing.Links.{changed_places};
+ghost use Rattle.adya_dsg.specs.Machinery.Links.{changed_places};
 
-use crate::parts::orders_of;
 use adya_terms::Checked;
 use adya_values::{Content, Entry, Key, Order, Txn};
 use std::alloc::{AllocError, Global};
@@ -27,12 +26,12 @@ pub(crate) fn shows(checked: &Checked, txn: Txn, key: Key) -> bool
     }
 }
 
-/// For each order line the places whose versions change the matches.
+/// Returns for each order line the places whose versions change the matches.
 pub(crate) fn line_changes(alloc: Global, checked: &Checked) -> Result<Vec<Vec<usize>>, AllocError>
     ensures { let h = history_of checked.now.history.now in
         IfOk result (λ v. map (λ line. line.items) v.items ≡ map (λ o. changed_places h o.key) h.orders) }
 {
-    let orders = orders_of(checked);
+    let orders = checked.history().orders();
     let mut lines = Vec::new(alloc);
     for order in orders {
         lines.push(changed_places(alloc, checked, order)?)?;

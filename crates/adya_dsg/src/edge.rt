@@ -1,6 +1,13 @@
 //! Edges of the direct serialization graph (Adya 1999, section 3.1.4).
 
+ghost use Rattle.std.specs.Prelude.{◌≡◌, ◌++◌, OnOk, map};
+ghost use Rattle.adya_values.specs.Computing.EdgeList.{joined};
+ghost use Rattle.adya_dsg.specs.Meaning.Values.{kind_of, edge_of};
+ghost use Rattle.adya_dsg.specs.Machinery.Arcs.{ends};
+
 use adya_values::{Key, Txn};
+use digraph::Arc;
+use std::alloc::AllocError;
 
 /// What joins two transactions.
 #[derive(Clone, Copy, PartialEq, Eq, Hash)]
@@ -24,4 +31,41 @@ pub struct Edge {
     pub key: Key,
     /// The transaction that has to come later.
     pub to: Txn,
+}
+
+impl Edge {
+    /// Returns the two ends of the edge.
+    pub(crate) fn arc(&self) -> Arc
+        ensures { result ≡ ends (edge_of self.now) }
+    {
+        Arc {
+            from: self.from.get(),
+            to: self.to.get(),
+        }
+    }
+}
+
+/// Adds the edge between the two transactions, if both are given and differ.
+pub(crate) fn push_edge(
+    edges: &mut Vec<Edge>,
+    from: Option<Txn>,
+    kind: Kind,
+    key: Key,
+    to: Option<Txn>,
+) -> Result<(), AllocError>
+    ensures { OnOk result (map edge_of edges.new.items
+        ≡ map edge_of edges.old.items ++ joined (kind_of kind) key from to) }
+{
+    let (Some(from), Some(to)) = (from, to) else {
+        return Ok(());
+    };
+    if from != to {
+        edges.push(Edge {
+            from,
+            kind,
+            key,
+            to,
+        })?;
+    }
+    Ok(())
 }

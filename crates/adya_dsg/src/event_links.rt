@@ -5,12 +5,12 @@ ghost use Rattle.adya_values.specs.Meaning.Histories.{event_of};
 ghost use Rattle.adya_values.specs.Meaning.Values.{history_of};
 ghost use Rattle.adya_values.specs.Meaning.Selections.{is_scan};
 ghost use Rattle.adya_dsg.specs.Meaning.Values.{edge_of};
-ghost use Rattle.adya_dsg.specs.Computing.Choices.{choice_of, key_at};
-ghost use Rattle.adya_dsg.specs.Computing.Links.{overwriter, choice_links, event_links};
+ghost use Rattle.adya_dsg.specs.Machinery.Choices.{choice_of, key_at};
+ghost use Rattle.adya_dsg.specs.Machinery.Links.{overwriter, choice_links, event_links};
 
-use crate::graph::Graph;
-use crate::joined::push_joined;
+use crate::edge::push_edge;
 use crate::selection::{Selection, selections};
+use crate::version_orders::VersionOrders;
 use crate::{Edge, Kind};
 use adya_values::{Event, Txn};
 use std::alloc::{AllocError, Global};
@@ -19,53 +19,53 @@ use std::alloc::{AllocError, Global};
 pub(crate) fn push_event_links(
     alloc: Global,
     edges: &mut Vec<Edge>,
-    graph: &Graph,
+    versions: &VersionOrders,
     event: &Event,
 ) -> Result<(), AllocError>
-    requires { Contains (history_of graph.now.checked.now.history.now).events (event_of event.now) }
-    ensures { let h = history_of graph.now.checked.now.history.now in
+    requires { Contains (history_of versions.now.checked.now.history.now).events (event_of event.now) }
+    ensures { let h = history_of versions.now.checked.now.history.now in
         OnOk result (map edge_of edges.new.items ≡ map edge_of edges.old.items ++ event_links h (event_of event.now)) }
 {
-    let selections = selections(alloc, graph, event)?;
+    let selections = selections(alloc, versions, event)?;
     for at in &selections {
-        push_links_at(edges, graph, event, *at)?;
+        push_links_at(edges, versions, event, *at)?;
     }
     Ok(())
 }
 
-/// Adds the read dependency on who installed what the event reads or selects, and the anti-dependency on who
+/// Adds the read dependency on whoever installed what the event reads or selects, and the anti-dependency on whoever
 /// overwrites it first.
 pub(crate) fn push_links_at(
     edges: &mut Vec<Edge>,
-    graph: &Graph,
+    versions: &VersionOrders,
     event: &Event,
     at: Selection,
 ) -> Result<(), AllocError>
-    requires { at.line < length graph.now.checked.now.history.now.orders.items }
-    ensures { let h = history_of graph.now.checked.now.history.now in
+    requires { at.line < length versions.now.checked.now.history.now.orders.items }
+    ensures { let h = history_of versions.now.checked.now.history.now in
         OnOk result (map edge_of edges.new.items
         ≡ map edge_of edges.old.items ++ choice_links h (event_of event.now) (choice_of h at)) }
 {
-    let key = graph.order(at.line).key;
+    let key = versions.order(at.line).key;
     let txn = event.txn();
-    let from = graph.installer(at.line, at.place);
-    push_joined(edges, from, Kind::Wr, key, Some(txn))?;
-    let to = overwriter(graph, event, at);
-    push_joined(edges, Some(txn), Kind::Rw, key, to)
+    let from = versions.installer(at.line, at.place);
+    push_edge(edges, from, Kind::Wr, key, Some(txn))?;
+    let to = overwriter(versions, event, at);
+    push_edge(edges, Some(txn), Kind::Rw, key, to)
 }
 
-/// Who installed the first version that overwrites what the event reads or selects: the next one, or, where a scan
+/// Returns who installed the first version that overwrites what the event reads or selects: the next one, or, if a scan
 /// selects a version that isn't visible, the next visible one.
-fn overwriter(graph: &Graph, event: &Event, at: Selection) -> Option<Txn>
-    requires { at.line < length graph.now.checked.now.history.now.orders.items }
-    ensures { let h = history_of graph.now.checked.now.history.now in
+fn overwriter(versions: &VersionOrders, event: &Event, at: Selection) -> Option<Txn>
+    requires { at.line < length versions.now.checked.now.history.now.orders.items }
+    ensures { let h = history_of versions.now.checked.now.history.now in
         result ≡ overwriter h (event_of event.now) (key_at h at.line) at.place }
 {
-    if is_scan(event) && !graph.is_visible(at.line, at.place) {
-        let place = graph.next_change(at.line, at.place)?;
-        return graph.installer(at.line, place);
+    if is_scan(event) && !versions.is_visible(at.line, at.place) {
+        let place = versions.next_change(at.line, at.place)?;
+        return versions.installer(at.line, place);
     }
-    graph.order(at.line).writers.get(at.place).copied()
+    versions.order(at.line).writers.get(at.place).copied()
 }
 
 /// Whether the event is a scan.

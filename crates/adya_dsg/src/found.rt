@@ -8,7 +8,6 @@ use adya_values::Serial;
 pub enum Found {
     /// The certificate: each committed transaction once, and each edge forward.
     Serial(Serial),
-    /// At least one edge of the graph: each starts where the one before ends, and the last ends where the first
-    /// starts.
+    /// A cycle of the graph: at least one edge, in a path from a transaction back to itself.
     Cycle(Vec<Edge>),
 }

@@ -1,32 +1,32 @@
-//! The direct serialization graph of a history (Adya 1999, section 3.1.4): its edges, the first that goes backward in a
-//! certificate, and an order of its nodes in which each edge goes forward, or a cycle.
+//! The direct serialization graph of a history (Adya 1999, section 3.1.4): its edges, the first of them that goes
+//! backward in a certificate, and a certificate or a cycle.
+//!
+//! An *edge* says which of two transactions has to come first, by which key, and whether it is a write dependency, a
+//! read dependency or an anti-dependency. An *arc* (of the crate `digraph`) is the two ends of an edge, which is all that
+//! an order of the transactions has to respect. The *links* are few of the edges, and enough: in an order in which
+//! each link goes forward, so does each edge. An order is therefore made from the arcs of the links, and the full
+//! list of edges is made only to report one of them.
 #![tactic(auto)]
 
 mod along;
-mod arc;
-mod back;
 mod backward;
-mod certificate;
+mod certificate_places;
 mod changes;
-mod choice;
-mod dependencies;
 mod edge;
+mod event_edges;
 mod event_links;
 mod found;
-mod graph;
-mod incoming;
-mod joined;
 mod laws;
 mod links;
 mod listing;
 mod nodes;
 mod ordering;
-mod parts;
 mod places;
-mod ready;
 mod selection;
 #[cfg(test)]
 mod tests;
+mod version_orders;
+mod write_edges;
 
 pub use backward::first_backward;
 pub use edge::{Edge, Kind};

@@ -1,21 +1,38 @@
 //! The nodes of a history's graph.
 
-ghost use Rattle.std.specs.Prelude.{◌≡◌, map, IfOk};
+ghost use Rattle.std.specs.Prelude.{◌≡◌, map, All, IfOk};
+ghost use Rattle.adya_values.specs.Meaning.Keys.{IsTxn};
 ghost use Rattle.adya_values.specs.Meaning.Histories.{event_of};
 ghost use Rattle.adya_dsg.specs.Machinery.Nodes.{committed};
 
-use adya_values::{Event, Txn};
+use adya_values::{Event, Serial, Txn};
 use std::alloc::{AllocError, Global};
 
-/// The committed transactions, in the order of their commits; `AllocError` where memory is refused.
-pub(crate) fn committed(alloc: Global, events: &[Event]) -> Result<Vec<Txn>, AllocError>
-    ensures { IfOk result (λ v. v.items ≡ committed (map event_of events.now)) }
+/// Returns the numbers of the committed transactions, in the order of their commits; `AllocError` if memory is refused.
+pub(crate) fn committed(alloc: Global, events: &[Event]) -> Result<Vec<u32>, AllocError>
+    ensures value { IfOk result (λ v. v.items ≡ committed (map event_of events.now)) }
+    ensures numbers { IfOk result (λ v. All IsTxn v.items) }
 {
-    let mut txns = Vec::new(alloc);
+    let mut nodes = Vec::new(alloc);
     for e in events {
         if let Event::Commit { txn } = e {
-            txns.push(*txn)?;
+            nodes.push(txn.get())?;
         }
     }
-    Ok(txns)
+    Ok(nodes)
+}
+
+/// Returns the certificate of the transactions with these numbers; `AllocError` if memory is refused.
+pub(crate) fn serial_of(alloc: Global, nodes: &[u32]) -> Result<Serial, AllocError>
+    requires { All IsTxn nodes.now }
+    ensures { IfOk result (λ s. s.txns.items ≡ nodes.now) }
+{
+    let mut txns = Vec::new(alloc);
+    for n in nodes {
+        let Ok(txn) = Txn::new(u64::from(*n)) else {
+            unreachable!()
+        };
+        txns.push(txn)?;
+    }
+    Ok(Serial::new(txns))
 }

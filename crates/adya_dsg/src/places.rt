@@ -1,21 +1,21 @@
-//! Where the writers of order lines stand, and the transactions of a certificate.
+//! A table of the places in order lines.
 
 ghost use Rattle.std.specs.Prelude.{◌≡◌, ◌≢◌, ℕ, None, IfOk, OnOk, length};
 ghost use Rattle.std.specs.HashMap.{get};
-ghost use Rattle.adya_dsg.specs.Machinery.Places.{slot, slot_eq, HasLine, HasLines, HasPlaces};
+ghost use Rattle.adya_dsg.specs.Machinery.Places.{slot, slot_eq, HasLine, HasLines};
 
 use adya_values::{Order, Txn};
 use std::alloc::{AllocError, Global};
 use std::collections::HashMap;
 
-/// A transaction in an order line, which goes by its place in the list of lines.
+/// A transaction in an order line, which is named by its index in the list of lines.
 #[derive(Clone, Copy, PartialEq, Eq, Hash)]
 pub(crate) struct Slot {
     pub line: usize,
     pub txn: Txn,
 }
 
-/// For each writer of each line how many stand before it there.
+/// Returns for each writer of each line how many come before it there.
 pub(crate) fn line_places(
     alloc: Global,
     orders: &[Order],
@@ -46,17 +46,4 @@ fn add_line(
         places.insert(Slot { line, txn }, i)?;
     }
     Ok(())
-}
-
-/// For each transaction of the certificate how many stand before it.
-pub(crate) fn places(alloc: Global, txns: &[Txn]) -> Result<HashMap<Txn, usize>, AllocError>
-    ensures { IfOk result (λ m. HasPlaces m txns.now) }
-{
-    let mut places = HashMap::new(alloc);
-    let mut i = txns.len();
-    while i > 0 {
-        i -= 1;
-        places.insert(txns[i], i)?;
-    }
-    Ok(places)
 }

@@ -6,9 +6,9 @@ ghost use Rattle.adya_values.specs.Meaning.Histories.{event_of, entry_of, Read, 
 ghost use Rattle.adya_values.specs.Meaning.Events.{listed};
 ghost use Rattle.adya_values.specs.Meaning.Values.{history_of};
 ghost use Rattle.adya_values.specs.Meaning.Selections.{place_of};
-ghost use Rattle.adya_dsg.specs.Computing.Choices.{choices, choice_of, key_at};
+ghost use Rattle.adya_dsg.specs.Machinery.Choices.{choices, choice_of, key_at};
 
-use crate::graph::{Graph, is_below};
+use crate::version_orders::{VersionOrders, is_below};
 use adya_terms::laws::checked_where_no_fault;
 use adya_values::{Entry, Event, Key, Txn, Version};
 use std::alloc::{AllocError, Global};
@@ -20,22 +20,22 @@ pub(crate) struct Selection {
     pub place: usize,
 }
 
-/// What the event reads or selects of others, by rising keys.
+/// Returns what the event reads or selects of others, by rising keys.
 pub(crate) fn selections(
     alloc: Global,
-    graph: &Graph,
+    versions: &VersionOrders,
     event: &Event,
 ) -> Result<Vec<Selection>, AllocError>
-    requires { Contains (history_of graph.now.checked.now.history.now).events (event_of event.now) }
-    ensures within { IfOk result (λ v. All (λ s. s.line < length graph.now.checked.now.history.now.orders.items) v.items) }
-    ensures choices { let h = history_of graph.now.checked.now.history.now in
+    requires { Contains (history_of versions.now.checked.now.history.now).events (event_of event.now) }
+    ensures within { IfOk result (λ v. All (λ s. s.line < length versions.now.checked.now.history.now.orders.items) v.items) }
+    ensures choices { let h = history_of versions.now.checked.now.history.now in
         IfOk result (λ v. map (choice_of h) v.items ≡ choices h (event_of event.now)) }
 {
     checked_where_no_fault();
     match event {
         Event::Read { txn, version, .. } => {
             let mut selections = Vec::new(alloc);
-            if let Some(selection) = of_read(graph, *txn, *version) {
+            if let Some(selection) = of_read(versions, *txn, *version) {
                 selections.push(selection)?;
             }
             Ok(selections)
@@ -45,53 +45,53 @@ pub(crate) fn selections(
             lo,
             hi,
             entries,
-        } => of_scan(alloc, graph, *txn, *lo, *hi, entries),
+        } => of_scan(alloc, versions, *txn, *lo, *hi, entries),
         _ => Ok(Vec::new(alloc)),
     }
 }
 
-fn of_read(graph: &Graph, txn: Txn, version: Version) -> Option<Selection>
-    ensures within { IfSome result (λ s. s.line < length graph.now.checked.now.history.now.orders.items) }
-    ensures choice { let h = history_of graph.now.checked.now.history.now in
+fn of_read(versions: &VersionOrders, txn: Txn, version: Version) -> Option<Selection>
+    ensures within { IfSome result (λ s. s.line < length versions.now.checked.now.history.now.orders.items) }
+    ensures choice { let h = history_of versions.now.checked.now.history.now in
         (value : List ℕ) → option_to_list (option_map (choice_of h) result) ≡ choices h (Read txn version value) }
 {
     if version.txn == txn {
         return None;
     }
-    let line = graph.line_of(version.key)?;
+    let line = versions.line_of(version.key)?;
     Some(Selection {
         line,
-        place: graph.place(line, version.txn),
+        place: versions.place(line, version.txn),
     })
 }
 
 fn of_scan(
     alloc: Global,
-    graph: &Graph,
+    versions: &VersionOrders,
     txn: Txn,
     lo: Key,
     hi: Key,
     entries: &[Entry],
 ) -> Result<Vec<Selection>, AllocError>
     requires { keys_rise (map (λ w. w.version.key) (map entry_of entries.now)) ≡ true }
-    ensures within { IfOk result (λ v. All (λ s. s.line < length graph.now.checked.now.history.now.orders.items) v.items) }
-    ensures choices { let h = history_of graph.now.checked.now.history.now in
+    ensures within { IfOk result (λ v. All (λ s. s.line < length versions.now.checked.now.history.now.orders.items) v.items) }
+    ensures choices { let h = history_of versions.now.checked.now.history.now in
         IfOk result (λ v. map (choice_of h) v.items ≡ choices h (Scan txn lo hi (map entry_of entries.now))) }
 {
     let mut selections = Vec::new(alloc);
-    for line in graph.lines_below(lo)..graph.orders().len() {
-        let key = graph.order(line).key;
+    for line in versions.lines_below(lo)..versions.orders().len() {
+        let key = versions.order(line).key;
         if is_below(hi, key) {
             return Ok(selections);
         }
-        if let Some(place) = selected(graph, txn, line, listed(entries, key)) {
+        if let Some(place) = selected(versions, txn, line, listed(entries, key)) {
             selections.push(Selection { line, place })?;
         }
     }
     Ok(selections)
 }
 
-/// The entry of the key.
+/// Returns the entry of the key.
 fn listed(entries: &[Entry], key: Key) -> Option<Entry>
     requires { keys_rise (map (λ w. w.version.key) (map entry_of entries.now)) ≡ true }
     ensures { option_map entry_of result ≡ listed key (map entry_of entries.now) }
@@ -102,10 +102,10 @@ fn listed(entries: &[Entry], key: Key) -> Option<Entry>
     }
 }
 
-/// The place of the line that a scan of the transaction selects, where this is listed of its key.
-fn selected(graph: &Graph, txn: Txn, line: usize, listed: Option<Entry>) -> Option<usize>
-    requires { line < length graph.now.checked.now.history.now.orders.items }
-    ensures { let h = history_of graph.now.checked.now.history.now in
+/// Returns the place of the line that a scan of the transaction selects, if it lists this entry of the line's key.
+fn selected(versions: &VersionOrders, txn: Txn, line: usize, listed: Option<Entry>) -> Option<usize>
+    requires { line < length versions.now.checked.now.history.now.orders.items }
+    ensures { let h = history_of versions.now.checked.now.history.now in
         result ≡ place_of h txn (key_at h line) (option_map entry_of listed) }
 {
     let Some(entry) = listed else {
@@ -114,5 +114,5 @@ fn selected(graph: &Graph, txn: Txn, line: usize, listed: Option<Entry>) -> Opti
     if entry.version.txn == txn {
         return None;
     }
-    Some(graph.place(line, entry.version.txn))
+    Some(versions.place(line, entry.version.txn))
 }

@@ -4,7 +4,7 @@ use Rattle.std.specs.List.{find}
 use Rattle.std.specs.BTreeMap.{BTreeMap, get}
 use Rattle.std.specs.Ordering.{nat_cmp, ordering_then}
 use Rattle.std.specs.declared.cmp.Ordering.{Ordering}
-use Rattle.adya_dsg.specs.declared.arc.Arc.{Arc}
+use Rattle.digraph.specs.declared.arc.Arc.{Arc}
 use Rattle.adya_dsg.specs.declared.edge.Edge.{Edge}
 
 -- the edge has the ends of the arc
@@ -19,6 +19,6 @@ first_along es a = find (joins a) es
 abbrev pub ends_cmp : ℕ × ℕ → ℕ × ℕ → Ordering
 ends_cmp p q = ordering_then (nat_cmp p.0 q.0) (nat_cmp p.1 q.1)
 
--- for each arc of the way the map has the first edge with its ends
+-- for each arc of the cycle the map has the first edge with its ends
 abbrev pub HasFirst : BTreeMap (ℕ × ℕ) Edge → List Arc → List Edge → Type 0
-HasFirst m way es = (a : Arc) → Contains way a → get ends_cmp m (a.from, a.to) ≡ first_along es a
+HasFirst m cycle es = (a : Arc) → Contains cycle a → get ends_cmp m (a.from, a.to) ≡ first_along es a

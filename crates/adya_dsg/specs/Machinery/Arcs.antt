@@ -2,7 +2,7 @@
 use Rattle.std.specs.Prelude.{◌≡◌, ℕ, List, Contains}
 use Rattle.adya_values.specs.Meaning.Edges.{Edge}
 use Rattle.adya_values.specs.Meaning.Acceptance.{IsBefore}
-use Rattle.adya_dsg.specs.declared.arc.Arc.{Arc}
+use Rattle.digraph.specs.declared.arc.Arc.{Arc}
 
 -- the ends of the edge
 abbrev pub ends : Edge → Arc

@@ -8,7 +8,7 @@ use Rattle.adya_values.specs.Meaning.Phenomena.{HasG1, HasG1a, HasG1b, HasG2}
 use Rattle.adya_values.specs.Meaning.Acceptance.{IsBefore, IsChecked}
 use Rattle.adya_dsg.specs.Meaning.Found.{HasCertificate}
 
--- where there is a cycle, each edge goes forward in no list of transactions
+-- if there is a cycle, each edge goes forward in no list of transactions
 abbrev pub CycleExcludesCertificates : Type 0
 CycleExcludesCertificates = (h : History) (es : List Edge) → IsCycle h es
     → (ts : List ℕ) → ((e : Edge) → IsEdge h e → IsBefore ts e.from e.to) → ⊥
@@ -18,7 +18,7 @@ abbrev pub EdgesJoinCommitted : Type 0
 EdgesJoinCommitted = (h : History) → IsChecked h → (e : Edge) → IsEdge h e
     → (is_committed h.events e.from ≡ true) × (is_committed h.events e.to ≡ true)
 
--- a well-formed history is accepted with some certificate exactly where it shows neither G1 nor G2
+-- a well-formed history is accepted with some certificate if and only if it shows neither G1 nor G2
 abbrev pub CertifiedWhereNoPhenomenon : Type 0
 CertifiedWhereNoPhenomenon = (h : History) → IsWellFormed h
     → HasCertificate h ↔ ((HasG1 h → ⊥) × (HasG2 h → ⊥))

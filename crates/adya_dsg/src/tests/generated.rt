@@ -4,11 +4,11 @@ ghost use Rattle.std.specs.Prelude.{◌<◌};
 
 use super::choosing::{choice_of, cycle_text, order_text};
 use super::histories::*;
-use crate::arc::Arc;
 use crate::links::links;
 use crate::nodes::committed;
 use crate::*;
 use adya_terms::*;
+use digraph::Arc;
 use std::alloc::Global;
 use std::test::Fail;
 
@@ -176,8 +176,8 @@ fn arcs_of(alloc: Global, edges: &[Edge]) -> Result<Vec<Arc>, Fail> {
     let mut arcs = Vec::new(alloc);
     for e in edges {
         arcs.push(Arc {
-            from: e.from,
-            to: e.to,
+            from: e.from.get(),
+            to: e.to.get(),
         })?;
     }
     Ok(arcs)
@@ -193,7 +193,13 @@ struct Answers {
 
 fn found_text(alloc: Global, found: &Found) -> Result<String, Fail> {
     match found {
-        Found::Serial(list) => Ok(order_text(alloc, list.txns())?),
+        Found::Serial(list) => {
+            let mut numbers = Vec::new(alloc);
+            for txn in list.txns() {
+                numbers.push(txn.get())?;
+            }
+            Ok(order_text(alloc, &numbers)?)
+        }
         Found::Cycle(way) => Ok(cycle_text(alloc, &arcs_of(alloc, way)?)?),
     }
 }

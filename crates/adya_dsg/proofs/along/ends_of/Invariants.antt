@@ -6,4 +6,4 @@ use Rattle.adya_dsg.proofs.along.ends_of.Given as goal
 
 abbrev pub invariant-loop-a : goal.invariant-loop-a
 invariant-loop-a l = (q : ℕ × ℕ)
-    → contains ends_cmp l.ends q ≡ list_any (λ a. (a.from == q.0) && (a.to == q.1)) (take l.a-index l.way)
+    → contains ends_cmp l.ends q ≡ list_any (λ a. (a.from == q.0) && (a.to == q.1)) (take l.a-index l.cycle)

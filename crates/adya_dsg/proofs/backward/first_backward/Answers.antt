@@ -7,8 +7,9 @@ use Rattle.adya_values.specs.Computing.EdgeList.{event_edges}
 use Rattle.adya_values.specs.Computing.Certificates.{first_backward}
 use Rattle.adya_dsg.specs.declared.edge.Edge.{Edge}
 use Rattle.adya_dsg.specs.Meaning.Values.{edge_of}
-use Rattle.adya_dsg.specs.Computing.Dependencies.{is_backward}
-use Rattle.adya_dsg.proofs.Forward.{all_writes, readers, lends, no_backward_write, first_is_of_writes, first_is_of_reads}
+use Rattle.adya_dsg.specs.Machinery.PartEdges.{is_backward}
+use Rattle.adya_dsg.proofs.Lines.{lends}
+use Rattle.adya_dsg.proofs.LinksDecide.{all_writes, readers, no_backward_write, first_is_of_writes, first_is_of_reads}
 use Rattle.adya_dsg.proofs.backward.first_backward.Goals as goal
 
 pub returns-then-is_some : goal.returns-then-is_some
@@ -28,7 +29,7 @@ first_read-requires-clause-writes c =
     let os = c.orders.result.now in
     let ts = c.in_ok-certificate.certificate.txns.now in
     subst (λ (x : HistoryValue). find (is_backward ts) (all_writes (history_of x)) ≡ None)
-    (sym c.in_ok-graph.ensures.same)
+    (sym c.in_ok-versions.ensures.same)
     (no_backward_write (history_of history) os
     (lends history c.history.result.now os c.history.ensures.same c.orders.ensures.value c.orders.ensures.shape)
     ts c.in_ok-found.found c.in_ok-found.ensures (sym c.is_some.ensures ∙ c.if-is_some.false))
@@ -46,8 +47,8 @@ returns c =
     ts c.in_ok-found.found c.in_ok-found.ensures c.edge_list_keeps_first.ensures
     (sym c.is_some.ensures ∙ c.if-is_some.false) in
     IfOk-weaker c.first_read.result
-    (λ (o : Option Edge). option_map edge_of o ≡ of_reads c.in_ok-graph.graph.checked.now.history.now)
+    (λ (o : Option Edge). option_map edge_of o ≡ of_reads c.in_ok-versions.versions.checked.now.history.now)
     (λ (o : Option Edge). option_map edge_of o ≡ first_backward h c.args.serial.now.txns.items)
     (λ o e. e ∙
-    (ap of_reads c.in_ok-graph.ensures.same ∙
+    (ap of_reads c.in_ok-versions.ensures.same ∙
     (none ∙ ap (first_backward h) (c.in_ok-certificate.ensures ∙ c.txns.ensures)))) c.first_read.ensures

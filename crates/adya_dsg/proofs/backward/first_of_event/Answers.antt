@@ -1,22 +1,23 @@
-use Rattle.std.proofs.Common.{◌++◌, not, map, sym, ◌∙◌, ap}
+use Rattle.std.proofs.Common.{◌++◌, not, map, option_map, sym, ◌∙◌, ap}
 use Rattle.std.specs.List.{find}
 use Rattle.adya_values.specs.Meaning.Histories.{event_of}
 use Rattle.adya_values.specs.Meaning.Values.{history_of}
 use Rattle.adya_dsg.specs.Meaning.Values.{edge_of}
-use Rattle.adya_dsg.specs.Computing.Dependencies.{is_backward}
-use Rattle.adya_dsg.specs.Computing.Links.{event_links}
-use Rattle.adya_dsg.proofs.Forward.{none_mapped, none_of_event}
+use Rattle.adya_dsg.specs.Machinery.PartEdges.{is_backward}
+use Rattle.adya_dsg.specs.Machinery.Links.{event_links}
+use Rattle.lemmas.proofs.Options.{none_unless_some}
+use Rattle.adya_dsg.proofs.LinksDecide.{none_of_event}
 use Rattle.adya_dsg.proofs.backward.first_of_event.Goals as goal
 
 pub returns-then-is_none : goal.returns-then-is_none
 returns-then-is_none c =
-    let h = history_of c.args.graph.now.checked.now.history.now in
+    let h = history_of c.args.versions.now.checked.now.history.now in
     let ts = c.args.certificate.now.txns.now in
     let e = event_of c.args.event.now in
     let given = ap (map edge_of) c.deref.ensures.value ∙
     (c.in_ok-push_event_links.ensures ∙ ap (λ es. map edge_of es ++ event_links h e) c.clear.ensures.items) in
     let none = ap (find (is_backward ts)) (sym given) ∙
     (sym c.first_backward.ensures ∙
-    none_mapped edge_of c.first_backward.result (c.is_none.ensures ∙ ap not c.if-is_none.true)) in
+    ap (option_map edge_of) (none_unless_some c.first_backward.result (c.is_none.ensures ∙ ap not c.if-is_none.true))) in
     sym (none_of_event c.selected_is_installed.ensures h c.requires.checked e c.requires.occurs c.requires.committed ts
     c.requires.writes none)

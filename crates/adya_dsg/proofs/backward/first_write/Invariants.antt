@@ -1,7 +1,7 @@
 use Rattle.std.proofs.Common.{◌≡◌, map, drop, flat_map}
 use Rattle.std.specs.List.{find}
 use Rattle.adya_values.specs.Meaning.Histories.{order_of}
-use Rattle.adya_dsg.specs.Computing.Dependencies.{line_edges, is_backward}
+use Rattle.adya_dsg.specs.Machinery.PartEdges.{line_edges, is_backward}
 use Rattle.adya_dsg.proofs.backward.first_write.Given as goal
 
 abbrev pub invariant-loop-order : goal.invariant-loop-order

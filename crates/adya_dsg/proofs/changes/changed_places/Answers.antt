@@ -2,7 +2,7 @@ use Rattle.std.proofs.Common.{◌≡◌, ◌+◌, ◌<◌, ◌++◌, ℕ, suc, L
 use Rattle.adya_values.specs.Meaning.Values.{history_of}
 use Rattle.adya_values.specs.Meaning.Selections.{changes_matches}
 use Rattle.adya_values.specs.Computing.EdgeList.{numbers}
-use Rattle.adya_dsg.proofs.Changing.{visible_next, change_noted, change_passed}
+use Rattle.adya_dsg.proofs.ChangedPlaces.{visible_next, change_noted, change_passed}
 use Rattle.adya_dsg.proofs.changes.changed_places.Goals as goal
 use Rattle.adya_dsg.proofs.changes.changed_places.Goals.{then-now-was+in_ok-push, else-now-was}
 

@@ -3,7 +3,7 @@ use Rattle.adya_values.specs.Meaning.Values.{history_of}
 use Rattle.adya_values.specs.Meaning.Orders.{is_visible_at}
 use Rattle.adya_values.specs.Meaning.Selections.{changes_matches}
 use Rattle.adya_values.specs.Computing.EdgeList.{numbers}
-use Rattle.adya_dsg.specs.Computing.Links.{changed_places}
+use Rattle.adya_dsg.specs.Machinery.Links.{changed_places}
 use Rattle.adya_dsg.proofs.changes.changed_places.Given as goal
 
 abbrev pub invariant-loop-i : goal.invariant-loop-i

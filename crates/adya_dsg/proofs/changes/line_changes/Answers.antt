@@ -2,26 +2,28 @@ use Rattle.std.proofs.Common.{◌+◌, ◌<◌, ◌++◌, [], ◌∷◌, ℕ, Li
 use Rattle.std.proofs.lemmas.List.{map-append}
 use Rattle.adya_values.specs.declared.order.Order.{Order as OrderValue}
 use Rattle.adya_values.specs.Meaning.Histories.{Order, order_of}
+use Rattle.adya_values.specs.Meaning.Orders.{line_of}
 use Rattle.adya_values.specs.Meaning.Values.{history_of}
-use Rattle.adya_dsg.specs.Computing.Links.{changed_places}
+use Rattle.adya_dsg.specs.Machinery.Links.{changed_places}
 use Rattle.adya_dsg.proofs.Keys.{line_of-at}
-use Rattle.adya_dsg.proofs.Steps.{map_step}
+use Rattle.lemmas.proofs.Steps.{map_step}
+use Rattle.adya_dsg.proofs.Lines.{lends}
 use Rattle.adya_dsg.proofs.changes.line_changes.Goals as goal
 
 pub changed_places-requires : goal.changed_places-requires
 changed_places-requires c =
-    let os = c.args.checked.now.history.now.orders.items in
+    let history = c.args.checked.now.history.now in
+    let os = c.orders-orders.result.now in
     let i = c.loop-order.order-index in
     let o = c.order-item.result in
-    let same = c.orders_of-orders.ensures.value in
-    line_of-at order_of os i o c.orders_of-orders.ensures.rise
-    (subst (λ (zs : List OrderValue). i < length zs) same c.loop-order-test.true)
-    (c.order-item.is ∙ ap (λ zs. get_or zs i o) same)
+    let lent = lends history c.history.result.now os c.history.ensures.same c.orders-orders.ensures.value c.orders-orders.ensures.shape in
+    ap (λ (zs : List Order). line_of zs o.key) lent.lines ∙
+    line_of-at order_of os i o lent.rise c.loop-order-test.true c.order-item.is
 
 pub loop-order-preserved : goal.loop-order-preserved
 loop-order-preserved c =
     let h = history_of c.args.checked.now.history.now in
-    let os = c.orders_of-orders.result.now in
+    let os = c.orders-orders.result.now in
     let i = c.loop-order.order-index in
     let o = c.order-item.result in
     let line = λ (v : Vec ℕ Global). v.items in

@@ -1,7 +1,7 @@
 use Rattle.std.proofs.Common.{◌≡◌, ◌++◌, map, drop}
 use Rattle.adya_values.specs.Meaning.Histories.{order_of}
 use Rattle.adya_values.specs.Meaning.Values.{history_of}
-use Rattle.adya_dsg.specs.Computing.Links.{changed_places}
+use Rattle.adya_dsg.specs.Machinery.Links.{changed_places}
 use Rattle.adya_dsg.proofs.changes.line_changes.Given as goal
 
 abbrev pub invariant-loop-order : goal.invariant-loop-order

@@ -1,5 +1,5 @@
-use Rattle.adya_dsg.proofs.Cycles.{no_cycle}
+use Rattle.adya_dsg.proofs.Certificates.{no_cycle}
 use Rattle.adya_dsg.proofs.laws.cycle_excludes_certificates.Goals as goal
 
 pub returns : goal.returns
-returns c h es cycle ts forward = no_cycle h ts forward es cycle
+returns c = no_cycle c.cycle_excludes_order.ensures

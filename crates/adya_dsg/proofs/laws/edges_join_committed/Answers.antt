@@ -1,4 +1,4 @@
-use Rattle.adya_dsg.proofs.Committing.{ends_commit}
+use Rattle.adya_dsg.proofs.CommittedEnds.{ends_commit}
 use Rattle.adya_dsg.proofs.laws.edges_join_committed.Goals as goal
 
 pub returns : goal.returns

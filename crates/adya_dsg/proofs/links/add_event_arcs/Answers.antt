@@ -2,17 +2,17 @@ use Rattle.std.proofs.Common.{◌+◌, ◌++◌, List, Vec, Global, map, drop, f
 use Rattle.adya_values.specs.Meaning.Histories.{Event, event_of}
 use Rattle.adya_values.specs.Meaning.Values.{history_of}
 use Rattle.adya_values.specs.Meaning.Events.{txn_of, is_committed}
-use Rattle.adya_dsg.specs.declared.arc.Arc.{Arc}
+use Rattle.digraph.specs.declared.arc.Arc.{Arc}
 use Rattle.adya_dsg.specs.Meaning.Values.{edge_of}
 use Rattle.adya_dsg.specs.Machinery.Arcs.{ends}
-use Rattle.adya_dsg.specs.Computing.Links.{event_links}
-use Rattle.adya_dsg.proofs.Finding.{from_kept, from_left_out, added_front}
+use Rattle.adya_dsg.specs.Machinery.Links.{event_links}
+use Rattle.adya_dsg.proofs.FlatMaps.{from_kept, from_left_out, added_front}
 use Rattle.adya_dsg.proofs.links.add_event_arcs.Goals as goal
-use Rattle.adya_dsg.proofs.links.add_event_arcs.Goals.{then-is_committed+in_ok-push_event_links+in_ok-add_ends, else-is_committed}
+use Rattle.adya_dsg.proofs.links.add_event_arcs.Goals.{then-is_committed+in_ok-push_event_links+in_ok-add_arcs, else-is_committed}
 
 pub loop-event-preserved : goal.loop-event-preserved
 loop-event-preserved c =
-    let h = history_of c.args.graph.now.checked.now.history.now in
+    let h = history_of c.args.versions.now.checked.now.history.now in
     let events = c.events-events.result.now in
     let i = c.loop-event.event-index in
     let e = c.event-item.result in
@@ -21,13 +21,13 @@ loop-event-preserved c =
     let rest = flat_map (event_links h) (filter keep (map event_of (drop (i + 1) events))) in
     let done = c.loop-event.arcs.items in
     elim c.if-is_committed.branch [
-      | then-is_committed+in_ok-push_event_links+in_ok-add_ends w ↦
+      | then-is_committed+in_ok-push_event_links+in_ok-add_arcs w ↦
           let given = ap (map edge_of) w.deref.ensures.value ∙
           (w.in_ok-push_event_links.ensures ∙
           ap (λ es. map edge_of es ++ event_links h (event_of e)) w.clear.ensures.items) in
           ap (λ (v : Vec Arc Global). v.items ++ map ends rest) w.arcs-is ∙
           (ap (λ (zs : List Arc). zs ++ map ends rest)
-          (w.in_ok-add_ends.ensures ∙ ap (λ es. done ++ map ends es) given) ∙
+          (w.in_ok-add_arcs.ensures ∙ ap (λ es. done ++ map ends es) given) ∙
           added_front ends done _ here (event_links h (event_of e)) rest
           (from_kept (event_links h) event_of events i e c.loop-event-test.true c.event-item.is keep
           (sym c.is_committed.ensures ∙ w.if-is_committed.true))

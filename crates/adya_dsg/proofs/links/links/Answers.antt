@@ -3,15 +3,16 @@ use Rattle.adya_values.specs.declared.history.History.{History as HistoryValue}
 use Rattle.adya_values.specs.Meaning.Histories.{Order, History, order_of}
 use Rattle.adya_values.specs.Meaning.Values.{history_of}
 use Rattle.adya_values.specs.Meaning.Acceptance.{IsChecked}
-use Rattle.adya_dsg.specs.declared.arc.Arc.{Arc}
+use Rattle.digraph.specs.declared.arc.Arc.{Arc}
 use Rattle.adya_dsg.specs.Machinery.Arcs.{ends}
-use Rattle.adya_dsg.specs.Computing.Dependencies.{line_edges}
-use Rattle.adya_dsg.specs.Computing.Links.{event_links, links}
-use Rattle.adya_dsg.proofs.Forward.{readers, lends, ends_by_parts, links_are_ends, links_decide}
+use Rattle.adya_dsg.specs.Machinery.PartEdges.{line_edges}
+use Rattle.adya_dsg.specs.Machinery.Links.{event_links, links}
+use Rattle.adya_dsg.proofs.Lines.{lends}
+use Rattle.adya_dsg.proofs.LinksDecide.{readers, ends_by_parts, links_are_ends, links_decide}
 use Rattle.adya_dsg.proofs.links.links.Goals as goal
 
 -- the arcs are the ends of the links
-are_ends : (c : goal.After-drop-graph-3)
+are_ends : (c : goal.After-drop-versions-3)
     → c.add_event_arcs.new.arcs.items ≡ map ends (links (history_of c.args.checked.now.history.now))
 are_ends c =
     let history = c.args.checked.now.history.now in
@@ -20,7 +21,7 @@ are_ends c =
     let of_lines = map ends (flat_map (λ (o : Order). line_edges o.key o.writers) (map order_of os)) in
     let of_events = λ (x : History). map ends (flat_map (event_links x) (readers x)) in
     c.in_ok-add_event_arcs.ensures ∙
-    (ap (λ (x : HistoryValue). c.add_write_arcs.new.arcs.items ++ of_events (history_of x)) c.in_ok-graph.ensures.same ∙
+    (ap (λ (x : HistoryValue). c.add_write_arcs.new.arcs.items ++ of_events (history_of x)) c.in_ok-versions.ensures.same ∙
     (ap (λ (zs : List Arc). zs ++ of_events h)
     (c.in_ok-add_write_arcs.ensures ∙ ap (λ (zs : List Arc). zs ++ of_lines) c.new-arcs.ensures.items) ∙
     ends_by_parts h os

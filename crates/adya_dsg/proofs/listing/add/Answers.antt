@@ -3,8 +3,8 @@ use Rattle.adya_values.specs.Meaning.Edges.{Edge}
 use Rattle.adya_values.specs.Computing.EdgeList.{with_edge}
 use Rattle.adya_dsg.specs.Meaning.Values.{edge_of}
 use Rattle.adya_dsg.specs.declared.edge.Edge.{Edge as EdgeValue}
-use Rattle.adya_dsg.proofs.Steps.{drop_step}
-use Rattle.adya_dsg.proofs.Repeats.{inserted}
+use Rattle.lemmas.proofs.Steps.{drop_step}
+use Rattle.adya_dsg.proofs.DistinctEdges.{inserted}
 use Rattle.adya_dsg.proofs.listing.add.Goals as goal
 
 pub loop-edge-preserved : goal.loop-edge-preserved

@@ -5,13 +5,13 @@ use Rattle.adya_values.specs.Meaning.Events.{txn_of, is_committed}
 use Rattle.adya_values.specs.Computing.EdgeList.{with_edge, event_edges}
 use Rattle.adya_dsg.specs.Meaning.Values.{edge_of}
 use Rattle.adya_dsg.specs.declared.edge.Edge.{Edge as EdgeValue}
-use Rattle.adya_dsg.proofs.Repeats.{fold_kept, fold_passed}
+use Rattle.adya_dsg.proofs.DistinctEdges.{fold_kept, fold_passed}
 use Rattle.adya_dsg.proofs.listing.add_event_edges.Goals as goal
 use Rattle.adya_dsg.proofs.listing.add_event_edges.Goals.{then-is_committed+in_ok-push_event_edges+in_ok-add, else-is_committed}
 
 pub loop-event-preserved : goal.loop-event-preserved
 loop-event-preserved c =
-    let h = history_of c.args.graph.now.checked.now.history.now in
+    let h = history_of c.args.versions.now.checked.now.history.now in
     let es = c.events-events.result.now in
     let i = c.loop-event.event-index in
     let e = c.event-item.result in

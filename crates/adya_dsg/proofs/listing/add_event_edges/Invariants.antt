@@ -8,7 +8,7 @@ use Rattle.adya_dsg.proofs.listing.add_event_edges.Given as goal
 
 abbrev pub invariant-loop-event : goal.invariant-loop-event
 invariant-loop-event l =
-    let h = history_of l.graph.checked.now.history.now in
+    let h = history_of l.versions.checked.now.history.now in
     let counts : Event → Bool = λ e. is_committed h.events (txn_of e) in
     fold with_edge (map edge_of l.set.keys)
     (flat_map (event_edges h) (filter counts (map event_of (drop l.event-index l.events))))

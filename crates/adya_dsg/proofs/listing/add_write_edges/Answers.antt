@@ -4,16 +4,16 @@ use Rattle.adya_values.specs.Meaning.Histories.{Order, order_of}
 use Rattle.adya_values.specs.Meaning.Values.{history_of}
 use Rattle.adya_values.specs.Computing.EdgeList.{with_edge, write_edges}
 use Rattle.adya_dsg.specs.Meaning.Values.{edge_of}
-use Rattle.adya_dsg.specs.Computing.Dependencies.{line_edges}
+use Rattle.adya_dsg.specs.Machinery.PartEdges.{line_edges}
 use Rattle.adya_dsg.specs.declared.edge.Edge.{Edge as EdgeValue}
 use Rattle.adya_dsg.proofs.LineEdges.{line_edges-at}
-use Rattle.adya_dsg.proofs.Repeats.{fold_each}
+use Rattle.adya_dsg.proofs.DistinctEdges.{fold_each}
 use Rattle.adya_dsg.proofs.listing.add_write_edges.Goals as goal
 
 pub loop-order-preserved : goal.loop-order-preserved
 loop-order-preserved c =
-    let h = history_of c.args.graph.now.checked.now.history.now in
-    let all = c.args.graph.now.checked.now.history.now.orders.items in
+    let h = history_of c.args.versions.now.checked.now.history.now in
+    let all = c.args.versions.now.checked.now.history.now.orders.items in
     let os = c.orders-orders.result.now in
     let i = c.loop-order.order-index in
     let o = c.order-item.result in

@@ -7,7 +7,7 @@ use Rattle.adya_dsg.proofs.listing.add_write_edges.Given as goal
 
 abbrev pub invariant-loop-order : goal.invariant-loop-order
 invariant-loop-order l =
-    let h = history_of l.graph.checked.now.history.now in
+    let h = history_of l.versions.checked.now.history.now in
     fold with_edge (map edge_of l.set.keys)
     (flat_map (λ o. write_edges h o.key) (map order_of (drop l.order-index l.orders)))
     ≡ fold with_edge (map edge_of l.fn.set.keys) (flat_map (λ o. write_edges h o.key) h.orders)

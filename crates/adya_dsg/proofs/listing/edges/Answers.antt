@@ -7,16 +7,15 @@ use Rattle.adya_values.specs.Meaning.Values.{history_of}
 use Rattle.adya_values.specs.Meaning.Events.{txn_of, is_committed}
 use Rattle.adya_values.specs.Meaning.Edges.{Edge}
 use Rattle.adya_values.specs.Computing.EdgeList.{with_edge, write_edges, event_edges, edge_list}
-use Rattle.adya_dsg.specs.Meaning.Values.{edge_of}
-use Rattle.adya_dsg.specs.Computing.Dependencies.{AreEdges}
+use Rattle.adya_dsg.specs.Meaning.Values.{edge_of, AreEdges}
 use Rattle.adya_dsg.specs.declared.edge.Edge.{Edge as EdgeValue}
-use Rattle.adya_dsg.proofs.Repeats.{copied}
+use Rattle.adya_dsg.proofs.DistinctEdges.{copied}
 use Rattle.adya_dsg.proofs.listing.edges.Goals as goal
 
-listed : (c : goal.After-drop-graph-3)
+listed : (c : goal.After-drop-versions-3)
     → map edge_of c.as_slice.result.now ≡ edge_list (history_of c.args.checked.now.history.now)
 listed c =
-    let h = history_of c.in_ok-graph.graph.checked.now.history.now in
+    let h = history_of c.in_ok-versions.versions.checked.now.history.now in
     let writes = flat_map (λ (o : Order). write_edges h o.key) h.orders in
     let events = flat_map (event_edges h) (filter (λ (e : Event). is_committed h.events (txn_of e)) h.events) in
     ap (λ (zs : List EdgeValue). map edge_of zs) c.as_slice.ensures.keys ∙
@@ -25,7 +24,7 @@ listed c =
     (c.in_ok-add_write_edges.ensures ∙
     ap (λ (zs : List EdgeValue). fold with_edge (map edge_of zs) writes) c.new-set.ensures.empty) ∙
     (sym (fold-append with_edge [] writes events) ∙
-    ap (λ (g : HistoryValue). edge_list (history_of g)) c.in_ok-graph.ensures.same)))
+    ap (λ (g : HistoryValue). edge_list (history_of g)) c.in_ok-versions.ensures.same)))
 
 pub returns-clause-exact : goal.returns-clause-exact
 returns-clause-exact c =

@@ -1,7 +1,11 @@
-use Rattle.std.proofs.Common.{◌≡◌, map, take}
+use Rattle.std.proofs.Common.{◌≡◌, All, map, take}
+use Rattle.adya_values.specs.Meaning.Keys.{IsTxn}
 use Rattle.adya_values.specs.Meaning.Histories.{event_of}
 use Rattle.adya_dsg.specs.Machinery.Nodes.{committed}
 use Rattle.adya_dsg.proofs.nodes.committed.Given as goal
 
 abbrev pub invariant-loop-e : goal.invariant-loop-e
-invariant-loop-e l = l.txns.items ≡ committed (map event_of (take l.e-index l.events))
+invariant-loop-e l = record {
+  value : l.nodes.items ≡ committed (map event_of (take l.e-index l.events));
+  numbers : All IsTxn l.nodes.items;
+}

@@ -5,7 +5,7 @@ use Rattle.adya_values.specs.Meaning.Phenomena.{HasG1, HasG2}
 use Rattle.adya_values.specs.Meaning.Acceptance.{IsChecked}
 use Rattle.adya_dsg.specs.Meaning.Found.{HasCertificate}
 use Rattle.adya_dsg.specs.Meaning.Laws.{CertifiedWhereNoPhenomenon}
-use Rattle.adya_dsg.proofs.Certifying.{none_beside_result}
+use Rattle.adya_dsg.proofs.Certificates.{none_beside_result}
 use Rattle.adya_dsg.proofs.ordering.order.Goals as goal
 
 decided : CertifiedWhereNoPhenomenon → (own lent : HistoryValue) → lent ≡ own → IsChecked (history_of lent)

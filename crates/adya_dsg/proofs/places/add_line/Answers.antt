@@ -3,8 +3,8 @@ use Rattle.std.specs.Option.{unwrap_or}
 use Rattle.std.specs.HashMap.{get}
 use Rattle.adya_values.specs.Meaning.Orders.{place}
 use Rattle.adya_dsg.specs.Machinery.Places.{slot, slot_eq}
-use Rattle.adya_dsg.proofs.Steps.{drop_back}
-use Rattle.adya_dsg.proofs.Slots.{same_line, other_line, placed_step}
+use Rattle.lemmas.proofs.Steps.{drop_back}
+use Rattle.adya_dsg.proofs.LinePlaces.{same_line, other_line, placed_step}
 use Rattle.adya_dsg.proofs.places.add_line.Goals as goal
 
 pub loop-i-preserved : goal.loop-i-preserved

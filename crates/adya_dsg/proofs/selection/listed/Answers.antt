@@ -1,7 +1,7 @@
 use Rattle.std.proofs.Common.{rules}
 use Rattle.std.proofs.lemmas.List.Sorted.{answers_always}
 use Rattle.adya_values.specs.declared.event.Entry.{Entry as EntryValue}
-use Rattle.adya_dsg.proofs.Listed.{listed_found, listed_missed}
+use Rattle.adya_dsg.proofs.EntrySearch.{listed_found, listed_missed}
 use Rattle.adya_dsg.proofs.selection.listed.Goals as goal
 
 pub returns-in-Err : goal.returns-in-Err

@@ -7,14 +7,15 @@ use Rattle.adya_values.specs.Meaning.Values.{history_of}
 use Rattle.adya_values.specs.Computing.Faults.{first_fault}
 use Rattle.adya_values.specs.Meaning.Rules.{IsRising}
 use Rattle.adya_dsg.specs.declared.selection.Selection.{Selection}
-use Rattle.adya_dsg.specs.Computing.Choices.{choice_of}
-use Rattle.adya_dsg.proofs.Checking.{none_from, rising_at}
-use Rattle.adya_dsg.proofs.Selecting.{nothing_chosen}
+use Rattle.adya_dsg.specs.Machinery.Choices.{choice_of}
+use Rattle.lemmas.proofs.Options.{none_from}
+use Rattle.adya_dsg.proofs.RisingEntries.{rising_at}
+use Rattle.adya_dsg.proofs.Selections.{nothing_chosen}
 use Rattle.adya_dsg.proofs.selection.selections.Goals as goal
 
 pub of_scan-requires : goal.of_scan-requires
 of_scan-requires c =
-    let checked = c.args.graph.now.checked.now in
+    let checked = c.args.versions.now.checked.now in
     let h = history_of checked.history.now in
     let is_checked = c.checked_where_no_fault.ensures.sound h (none_from (first_fault h) checked.checked) in
     let rising = subst IsRising (ap event_of c.in-Scan.is) (rising_at h is_checked (event_of c.args.event.now) c.requires) in
@@ -23,8 +24,8 @@ of_scan-requires c =
 
 pub returns-in_default : goal.returns-in_default
 returns-in_default c =
-    let h = history_of c.args.graph.now.checked.now.history.now in
-    let os = c.args.graph.now.checked.now.history.now.orders.items in record {
+    let h = history_of c.args.versions.now.checked.now.history.now in
+    let os = c.args.versions.now.checked.now.history.now.orders.items in record {
       within = subst (λ zs. (k : ℕ) (d : Selection) → k < length zs → (get_or zs k d).line < length os)
           (sym c.new.ensures.items)
           (All-nil (λ (s : Selection). s.line < length os));

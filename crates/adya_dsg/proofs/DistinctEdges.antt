@@ -1,0 +1,105 @@
+-- The edges that a set keeps in the order in which they came, as the list without repeats.
+use Rattle.std.proofs.Common.{◌≡◌, ◌==◌, ◌+◌, ◌<◌, ◌&&◌, ◌||◌, ℕ, Bool, true, false, cond, List, [], ◌∷◌, ◌++◌, map, filter, flat_map, fold, get_or, length, drop, refl, sym, ◌∙◌, ap, subst, Result, Ok, Err, IfOk, Vec, Global}
+use Rattle.std.specs.List.{list_any}
+use Rattle.std.proofs.lemmas.List.{map-append}
+use Rattle.std.proofs.lemmas.List.Sums.{fold-append}
+use Rattle.lemmas.proofs.Booleans.{and_regroup}
+use Rattle.indexmap.specs.IndexSet.{insert_key}
+use Rattle.adya_values.specs.Meaning.Keys.{key_eq}
+use Rattle.adya_values.specs.Meaning.Edges.{Edge}
+use Rattle.adya_values.specs.Computing.EdgeList.{kind_eq, edge_eq, with_edge}
+use Rattle.adya_dsg.specs.Meaning.Values.{kind_of, edge_of}
+use Rattle.adya_dsg.specs.contracts.edge.EdgePartialEq.TheImpl as edges
+use Rattle.adya_dsg.specs.contracts.edge.KindPartialEq.TheImpl as kinds
+use Rattle.adya_dsg.specs.declared.edge.Kind.{Kind as KindValue}
+use Rattle.adya_dsg.specs.declared.edge.Kind.TheVariants as In
+use Rattle.adya_dsg.specs.declared.edge.Edge.{Edge as EdgeValue}
+use Rattle.lemmas.proofs.Steps.{drop_step}
+
+abbrev same_kind : KindValue → KindValue → Bool
+same_kind = (kinds.ghosts).eq
+
+abbrev same : EdgeValue → EdgeValue → Bool
+same = (edges.ghosts).eq
+
+-- kinds are told apart as the plain ones are
+same_kind-plain : (a b : KindValue) → same_kind a b ≡ kind_eq (kind_of a) (kind_of b)
+same_kind-plain In.Ww In.Ww = refl
+same_kind-plain In.Ww In.Wr = refl
+same_kind-plain In.Ww In.Rw = refl
+same_kind-plain In.Wr In.Ww = refl
+same_kind-plain In.Wr In.Wr = refl
+same_kind-plain In.Wr In.Rw = refl
+same_kind-plain In.Rw In.Ww = refl
+same_kind-plain In.Rw In.Wr = refl
+same_kind-plain In.Rw In.Rw = refl
+
+-- and so are edges
+same-plain : (a b : EdgeValue) → same a b ≡ edge_eq (edge_of a) (edge_of b)
+same-plain a b =
+    ap (λ k. (a.from == b.from) && (k && (key_eq a.key b.key && (a.to == b.to)))) (same_kind-plain a.kind b.kind) ∙
+    and_regroup (a.from == b.from) (kind_eq (kind_of a.kind) (kind_of b.kind)) (key_eq a.key b.key) (a.to == b.to)
+
+any_same-plain : (e : EdgeValue) (ks : List EdgeValue)
+    → list_any (same e) ks ≡ list_any (edge_eq (edge_of e)) (map edge_of ks)
+any_same-plain e [] = refl
+any_same-plain e (k ∷ ks) =
+    ap (λ b. b || list_any (same e) ks) (same-plain e k) ∙
+    ap (λ b. edge_eq (edge_of e) (edge_of k) || b) (any_same-plain e ks)
+
+push_unless-plain : (b : Bool) (ks : List EdgeValue) (e : EdgeValue)
+    → map edge_of (cond b ks (ks ++ e ∷ [])) ≡ cond b (map edge_of ks) (map edge_of ks ++ edge_of e ∷ [])
+push_unless-plain true ks e = refl
+push_unless-plain false ks e = map-append edge_of ks (e ∷ [])
+
+-- an insertion adds the edge at the end of the list, unless it is there already
+pub inserted : (ks : List EdgeValue) (e : EdgeValue)
+    → map edge_of (insert_key same ks e) ≡ with_edge (map edge_of ks) (edge_of e)
+inserted ks e =
+    push_unless-plain (list_any (same e) ks) ks e ∙
+    ap (λ b. cond b (map edge_of ks) (map edge_of ks ++ edge_of e ∷ [])) (any_same-plain e ks)
+
+-- what holds of a list of edges holds of its copy
+pub copied : {E : Type 0} (r : Result (Vec EdgeValue Global) E) (ks : List EdgeValue) (es : List Edge)
+    (holds : List Edge → Type 0) → IfOk r (λ v. v.items ≡ ks) → map edge_of ks ≡ es → holds es
+    → IfOk r (λ v. holds (map edge_of v.items))
+copied (Ok v) ks es holds same plain held = subst holds (sym (ap (map edge_of) same ∙ plain)) held
+copied (Err e) ks es holds same plain held = tt
+
+-- loops that add the edges of each item: what one turn adds comes off what is left to add
+module _ {X Y : Type 0} (view : Y → X) (ys : List Y) (i : ℕ) (y : Y) (l : i < length ys) (at : y ≡ get_or ys i y)
+    (done now all : List Edge) where
+  fold_step : (left : List X → List Edge) (part : List Edge)
+      → left (view y ∷ map view (drop (i + 1) ys)) ≡ part ++ left (map view (drop (i + 1) ys))
+      → now ≡ fold with_edge done part → fold with_edge done (left (map view (drop i ys))) ≡ all
+      → fold with_edge now (left (map view (drop (i + 1) ys))) ≡ all
+  fold_step left part first adds before =
+      let rest = left (map view (drop (i + 1) ys)) in
+      ap (λ zs. fold with_edge zs rest) adds ∙
+      (sym (fold-append with_edge done part rest) ∙
+      (ap (fold with_edge done) (sym first) ∙
+      (ap (λ zs. fold with_edge done (left (map view zs))) (sym (drop_step ys i y l at)) ∙ before)))
+
+  module _ (f : X → List Edge) where
+    pub fold_each : now ≡ fold with_edge done (f (view y))
+        → fold with_edge done (flat_map f (map view (drop i ys))) ≡ all
+        → fold with_edge now (flat_map f (map view (drop (i + 1) ys))) ≡ all
+    fold_each = fold_step (flat_map f) (f (view y)) refl
+
+    -- if only the items that pass the test count
+    module _ (p : X → Bool) where
+      pub fold_kept : p (view y) ≡ true → now ≡ fold with_edge done (f (view y))
+          → fold with_edge done (flat_map f (filter p (map view (drop i ys)))) ≡ all
+          → fold with_edge now (flat_map f (filter p (map view (drop (i + 1) ys)))) ≡ all
+      fold_kept t =
+          let rest = filter p (map view (drop (i + 1) ys)) in
+          fold_step (λ xs. flat_map f (filter p xs)) (f (view y))
+          (ap (λ b. flat_map f (cond b (view y ∷ rest) rest)) t)
+
+      pub fold_passed : p (view y) ≡ false → now ≡ done
+          → fold with_edge done (flat_map f (filter p (map view (drop i ys)))) ≡ all
+          → fold with_edge now (flat_map f (filter p (map view (drop (i + 1) ys)))) ≡ all
+      fold_passed t =
+          let rest = filter p (map view (drop (i + 1) ys)) in
+          fold_step (λ xs. flat_map f (filter p xs)) []
+          (ap (λ b. flat_map f (cond b (view y ∷ rest) rest)) t)

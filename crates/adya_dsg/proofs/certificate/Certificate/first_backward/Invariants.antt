@@ -1,9 +1,0 @@
-use Rattle.std.proofs.Common.{◌≡◌, map, drop, find}
-use Rattle.adya_dsg.specs.Meaning.Values.{edge_of}
-use Rattle.adya_dsg.specs.Computing.Dependencies.{is_backward}
-use Rattle.adya_dsg.proofs.certificate.Certificate.first_backward.Given as goal
-
-abbrev pub invariant-loop-edge : goal.invariant-loop-edge
-invariant-loop-edge l =
-    find (is_backward l.self.txns.now) (map edge_of l.edges) ≡
-    find (is_backward l.self.txns.now) (map edge_of (drop l.edge-index l.edges))

@@ -1,0 +1,42 @@
+use Rattle.std.proofs.Common.{◌<◌, ◌+◌, ◌++◌, List, map, drop, flat_map, length, get_or, sym, ◌∙◌, ap, subst}
+use Rattle.adya_values.specs.Meaning.Histories.{event_of}
+use Rattle.adya_values.specs.Meaning.Values.{history_of}
+use Rattle.adya_dsg.specs.declared.selection.Selection.{Selection}
+use Rattle.adya_dsg.specs.Meaning.Values.{edge_of}
+use Rattle.adya_dsg.specs.Machinery.Choices.{choice_of}
+use Rattle.adya_dsg.specs.Machinery.PartEdges.{choice_edges}
+use Rattle.lemmas.proofs.Steps.{flat_map_step}
+use Rattle.adya_dsg.proofs.FlatMaps.{drop_at}
+use Rattle.adya_dsg.proofs.EventEdges.{event_edges_are}
+use Rattle.adya_dsg.proofs.event_edges.push_event_edges.Goals as goal
+
+pub loop-at-init : goal.loop-at-init
+loop-at-init c =
+    let h = history_of c.args.versions.now.checked.now.history.now in
+    let e = event_of c.args.event.now in
+    let old = map edge_of c.args.edges.now.items in
+    ap (λ zs. old ++ flat_map (choice_edges h e) (map (choice_of h) zs)) c.deref-at-items.ensures.value ∙
+    (ap (λ cs. old ++ flat_map (choice_edges h e) cs) c.in_ok-selections.ensures.choices ∙
+    ap (λ es. old ++ es) (sym (event_edges_are h e)))
+
+pub push_edges_at-requires : goal.push_edges_at-requires
+push_edges_at-requires c =
+    let i = c.loop-at.at-index in
+    let os = c.args.versions.now.checked.now.history.now.orders.items in
+    let none : Selection = record { line = 0; place = 0 } in
+    subst (λ (zs : List Selection). (get_or zs i none).line < length os) (sym c.deref-at-items.ensures.value)
+    (c.in_ok-selections.ensures.within i none
+    (subst (λ (zs : List Selection). i < length zs) c.deref-at-items.ensures.value c.loop-at-test.true))
+
+pub loop-at-preserved : goal.loop-at-preserved
+loop-at-preserved c =
+    let h = history_of c.args.versions.now.checked.now.history.now in
+    let e = event_of c.args.event.now in
+    let ss = c.deref-at-items.result.now in
+    let i = c.loop-at.at-index in
+    let s = get_or ss i (record { line = 0; place = 0 }) in
+    let rest = map (choice_of h) (drop (i + 1) ss) in
+    ap (λ es. es ++ flat_map (choice_edges h e) rest) c.in_ok-push_edges_at.ensures ∙
+    flat_map_step (choice_edges h e) (map (choice_of h) (drop i ss)) rest (choice_of h s)
+    (ap (map (choice_of h)) (drop_at ss i (record { line = 0; place = 0 }) c.loop-at-test.true))
+    (map edge_of c.loop-at.edges.items) _ c.loop-at.invariant

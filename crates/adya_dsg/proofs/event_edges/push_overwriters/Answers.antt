@@ -1,0 +1,84 @@
+use Rattle.std.proofs.Common.{◌+◌, ◌++◌, ℕ, suc, Vec, Global, Some, map, drop, filter, flat_map, get_or, slice_get, nat_lt, sym, ◌∙◌, ap, append_assoc, add-one}
+use Rattle.std.proofs.lemmas.Bool.{lt-ltb, le-ltb}
+use Rattle.adya_values.specs.Meaning.Histories.{event_of}
+use Rattle.adya_values.specs.Meaning.Events.{txn_of}
+use Rattle.adya_values.specs.Meaning.Values.{history_of}
+use Rattle.adya_values.specs.Meaning.Orders.{installer}
+use Rattle.adya_values.specs.Meaning.Edges.{Rw}
+use Rattle.adya_values.specs.Computing.EdgeList.{joined}
+use Rattle.adya_dsg.specs.declared.edge.Edge.{Edge as EdgeValue}
+use Rattle.adya_dsg.specs.Meaning.Values.{edge_of}
+use Rattle.adya_dsg.specs.Machinery.Choices.{key_at}
+use Rattle.adya_dsg.proofs.FlatMaps.{kept_step, passed_step, at_end, drop_at}
+use Rattle.adya_dsg.proofs.Numbers.{got}
+use Rattle.adya_dsg.proofs.ChoiceEdges.{overwrite_edges_visible, overwrite_edges_hidden}
+use Rattle.adya_dsg.proofs.event_edges.push_overwriters.Goals as goal
+use Rattle.adya_dsg.proofs.event_edges.push_overwriters.Goals.{then-is_visible+in_ok-push_edge, else-is_visible, then-seen-place+in_ok-push_edge-2, else-seen-place}
+
+pub loop-place-preserved : goal.loop-place-preserved
+loop-place-preserved c =
+    let h = history_of c.args.versions.now.checked.now.history.now in
+    let k = key_at h c.args.at.line in
+    let t = c.txn-txn.result in
+    let seen = c.if-is_visible.seen in
+    let gives = λ (q : ℕ). joined Rw k (Some t) (installer h k q) in
+    let test = λ (q : ℕ). nat_lt seen q in
+    let qs = c.changes-changes.result.now in
+    let i = c.loop-place.place-index in
+    let q = get_or qs i 0 in
+    let rest = flat_map gives (filter test (drop (i + 1) qs)) in
+    let done = map edge_of c.loop-place.edges.items in
+    let splits = drop_at qs i 0 c.loop-place-test.true in
+    elim c.if-seen-place.branch [
+      | then-seen-place+in_ok-push_edge-2 w ↦
+          ap (λ (v : Vec EdgeValue Global). map edge_of v.items ++ rest) w.edges-is ∙
+          (ap (λ es. es ++ rest) w.in_ok-push_edge-2.ensures ∙
+          (ap (λ j. (done ++ joined Rw j (Some t) w.installer-to.result) ++ rest) c.order.ensures.key ∙
+          (ap (λ o. (done ++ joined Rw k (Some t) o) ++ rest) w.installer-to.ensures ∙
+          kept_step test gives (drop i qs) (drop (i + 1) qs) q splits done _ (lt-ltb seen q w.if-seen-place.true)
+          c.loop-place.invariant)))
+      | else-seen-place w ↦
+          ap (λ (v : Vec EdgeValue Global). map edge_of v.items ++ rest) w.edges-is ∙
+          passed_step test gives (drop i qs) (drop (i + 1) qs) q splits done _ (le-ltb seen q w.if-seen-place.false)
+          c.loop-place.invariant
+    ]
+
+pub returns : goal.returns
+returns c =
+    let h = history_of c.args.versions.now.checked.now.history.now in
+    let e = event_of c.args.event.now in
+    let k = key_at h c.args.at.line in
+    let p = c.args.at.place in
+    let t = c.txn-txn.result in
+    let seen = c.if-is_visible.seen in
+    let after = λ (s q : ℕ). nat_lt s q in
+    let gives = λ (u q : ℕ). joined Rw k (Some u) (installer h k q) in
+    let qs = c.changes-changes.result.now in
+    let old = map edge_of c.args.edges.now.items in
+    let behind = λ (s : ℕ). flat_map (gives t) (filter (after s) qs) in
+    let done = at_end (after seen) (gives t) qs c.loop-place.place-index (map edge_of c.loop-place.edges.items)
+    (map edge_of c.if-is_visible.edges.items ++ behind seen) c.loop-place-test.false c.loop-place.invariant in
+    done ∙
+    elim c.if-is_visible.branch [
+      | then-is_visible+in_ok-push_edge w ↦
+          let to = w.copied-to.ensures ∙
+          (got w.deref.result.now p w.get.result w.get.ensures.lookup.0 w.get.ensures.lookup.1 ∙
+          ap (λ xs. slice_get xs p) (w.deref.ensures.value ∙ w.order-then-is_visible.ensures.writers)) in
+          ap (λ (v : Vec EdgeValue Global). map edge_of v.items ++ behind seen) w.edges-is ∙
+          (ap (λ es. es ++ behind seen) w.in_ok-push_edge.ensures ∙
+          (ap (λ j. (old ++ joined Rw j (Some t) w.copied-to.result) ++ behind seen) c.order.ensures.key ∙
+          (ap (λ o. (old ++ joined Rw k (Some t) o) ++ behind seen) to ∙
+          (ap (λ s. (old ++ gives t (suc p)) ++ behind s) (w.seen-is ∙ add-one p) ∙
+          (append_assoc old (gives t (suc p)) (behind (suc p)) ∙
+          (ap (λ u. old ++ (gives u (suc p) ++ flat_map (gives u) (filter (after (suc p)) qs))) c.txn-txn.ensures ∙
+          (ap (λ zs. old ++ (gives (txn_of e) (suc p) ++ flat_map (gives (txn_of e)) (filter (after (suc p)) zs))) c.changes-changes.ensures ∙
+          ap (λ es. old ++ es)
+          (sym (overwrite_edges_visible h e k p c.requires.scan (sym c.is_visible.ensures ∙ w.if-is_visible.true))))))))))
+      | else-is_visible w ↦
+          ap (λ (v : Vec EdgeValue Global). map edge_of v.items ++ behind seen) w.edges-is ∙
+          (ap (λ s. old ++ behind s) w.seen-is ∙
+          (ap (λ u. old ++ flat_map (gives u) (filter (after p) qs)) c.txn-txn.ensures ∙
+          (ap (λ zs. old ++ flat_map (gives (txn_of e)) (filter (after p) zs)) c.changes-changes.ensures ∙
+          ap (λ es. old ++ es)
+          (sym (overwrite_edges_hidden h e k p c.requires.scan (sym c.is_visible.ensures ∙ w.if-is_visible.false))))))
+    ]

@@ -1,0 +1,67 @@
+use Rattle.std.proofs.Common.{◌≡◌, ◌+◌, ◌++◌, ℕ, Vec, Global, Some, map, drop, filter, flat_map, get_or, nat_lt, sym, ◌∙◌, ap, append_assoc}
+use Rattle.std.proofs.lemmas.Bool.{lt-ltb, le-ltb}
+use Rattle.std.proofs.lemmas.Result.{on_ok_weaker}
+use Rattle.adya_values.specs.Meaning.Histories.{event_of}
+use Rattle.adya_values.specs.Meaning.Values.{history_of}
+use Rattle.adya_values.specs.Meaning.Orders.{installer}
+use Rattle.adya_values.specs.Meaning.Edges.{Wr}
+use Rattle.adya_values.specs.Computing.EdgeList.{joined, read_edges}
+use Rattle.adya_dsg.specs.declared.edge.Edge.{Edge as EdgeValue}
+use Rattle.adya_dsg.specs.Meaning.Values.{edge_of}
+use Rattle.adya_dsg.specs.Machinery.Choices.{key_at}
+use Rattle.adya_dsg.specs.Machinery.Links.{changed_places}
+use Rattle.adya_dsg.proofs.FlatMaps.{kept_step, passed_step, at_end, drop_at}
+use Rattle.adya_dsg.proofs.ChoiceEdges.{read_edges_are}
+use Rattle.adya_dsg.proofs.event_edges.push_sources.Goals as goal
+use Rattle.adya_dsg.proofs.event_edges.push_sources.Goals.{then-place-at+in_ok-push_edge, else-place-at}
+
+pub loop-place-preserved : goal.loop-place-preserved
+loop-place-preserved c =
+    let h = history_of c.args.versions.now.checked.now.history.now in
+    let k = key_at h c.args.at.line in
+    let gives = λ (q : ℕ). joined Wr k (installer h k q) (Some c.txn-txn.result) in
+    let test = λ (q : ℕ). nat_lt q c.args.at.place in
+    let qs = c.changes-changes.result.now in
+    let i = c.loop-place.place-index in
+    let q = get_or qs i 0 in
+    let rest = flat_map gives (filter test (drop (i + 1) qs)) in
+    let done = map edge_of c.loop-place.edges.items in
+    let splits = drop_at qs i 0 c.loop-place-test.true in
+    elim c.if-place-at.branch [
+      | then-place-at+in_ok-push_edge w ↦
+          ap (λ (v : Vec EdgeValue Global). map edge_of v.items ++ rest) w.edges-is ∙
+          (ap (λ es. es ++ rest) w.in_ok-push_edge.ensures ∙
+          (ap (λ j. (done ++ joined Wr j w.installer-from.result (Some c.txn-txn.result)) ++ rest) c.order.ensures.key ∙
+          (ap (λ o. (done ++ joined Wr k o (Some c.txn-txn.result)) ++ rest) w.installer-from.ensures ∙
+          kept_step test gives (drop i qs) (drop (i + 1) qs) q splits done _ (lt-ltb q c.args.at.place w.if-place-at.true)
+          c.loop-place.invariant)))
+      | else-place-at w ↦
+          ap (λ (v : Vec EdgeValue Global). map edge_of v.items ++ rest) w.edges-is ∙
+          passed_step test gives (drop i qs) (drop (i + 1) qs) q splits done _ (le-ltb q c.args.at.place w.if-place-at.false)
+          c.loop-place.invariant
+    ]
+
+pub returns : goal.returns
+returns c =
+    let h = history_of c.args.versions.now.checked.now.history.now in
+    let e = event_of c.args.event.now in
+    let k = key_at h c.args.at.line in
+    let p = c.args.at.place in
+    let t = c.txn-txn.result in
+    let test = λ (q : ℕ). nat_lt q p in
+    let gives = λ (u q : ℕ). joined Wr k (installer h k q) (Some u) in
+    let qs = c.changes-changes.result.now in
+    let old = map edge_of c.args.edges.now.items in
+    let front = flat_map (gives t) (filter test qs) in
+    let done = at_end test (gives t) qs c.loop-place.place-index (map edge_of c.loop-place.edges.items) (old ++ front)
+    c.loop-place-test.false c.loop-place.invariant in
+    let all : old ++ (front ++ gives t p) ≡ old ++ read_edges h e k p =
+    ap (λ zs. old ++ (flat_map (gives t) (filter test zs) ++ gives t p)) c.changes-changes.ensures ∙
+    (ap (λ u. old ++ (flat_map (gives u) (filter test (changed_places h k)) ++ gives u p)) c.txn-txn.ensures ∙
+    ap (λ es. old ++ es) (sym (read_edges_are h e k p c.requires.scan))) in
+    on_ok_weaker c.push_edge-2.result
+    (λ is. is ∙
+    (ap (λ j. map edge_of c.loop-place.edges.items ++ joined Wr j c.installer-from-2.result (Some t)) c.order.ensures.key ∙
+    (ap (λ o. map edge_of c.loop-place.edges.items ++ joined Wr k o (Some t)) c.installer-from-2.ensures ∙
+    (ap (λ es. es ++ gives t p) done ∙ (append_assoc old front (gives t p) ∙ all)))))
+    c.push_edge-2.ensures

@@ -1,0 +1,113 @@
+//! The edges of an event.
+
+ghost use Rattle.std.specs.Prelude.{◌≡◌, ◌<◌, ◌++◌, length, map, true, OnOk, Contains};
+ghost use Rattle.adya_values.specs.Meaning.Histories.{event_of};
+ghost use Rattle.adya_values.specs.Meaning.Values.{history_of};
+ghost use Rattle.adya_values.specs.Meaning.Selections.{is_scan};
+ghost use Rattle.adya_values.specs.Computing.EdgeList.{event_edges, read_edges, overwrite_edges};
+ghost use Rattle.adya_dsg.specs.Meaning.Values.{edge_of};
+ghost use Rattle.adya_dsg.specs.Machinery.Choices.{choice_of, key_at};
+ghost use Rattle.adya_dsg.specs.Machinery.PartEdges.{choice_edges};
+
+use crate::edge::push_edge;
+use crate::event_links::{is_scan, push_links_at};
+use crate::selection::{Selection, selections};
+use crate::version_orders::VersionOrders;
+use crate::{Edge, Kind};
+use adya_values::Event;
+use std::alloc::{AllocError, Global};
+
+/// Adds the edges of the event.
+pub(crate) fn push_event_edges(
+    alloc: Global,
+    edges: &mut Vec<Edge>,
+    versions: &VersionOrders,
+    event: &Event,
+) -> Result<(), AllocError>
+    requires { Contains (history_of versions.now.checked.now.history.now).events (event_of event.now) }
+    ensures { let h = history_of versions.now.checked.now.history.now in
+        OnOk result (map edge_of edges.new.items ≡ map edge_of edges.old.items ++ event_edges h (event_of event.now)) }
+{
+    let selections = selections(alloc, versions, event)?;
+    for at in &selections {
+        push_edges_at(edges, versions, event, *at)?;
+    }
+    Ok(())
+}
+
+fn push_edges_at(
+    edges: &mut Vec<Edge>,
+    versions: &VersionOrders,
+    event: &Event,
+    at: Selection,
+) -> Result<(), AllocError>
+    requires { at.line < length versions.now.checked.now.history.now.orders.items }
+    ensures { let h = history_of versions.now.checked.now.history.now in
+        OnOk result (map edge_of edges.new.items
+        ≡ map edge_of edges.old.items ++ choice_edges h (event_of event.now) (choice_of h at)) }
+{
+    if !is_scan(event) {
+        return push_links_at(edges, versions, event, at);
+    }
+    push_sources(edges, versions, event, at)?;
+    push_overwriters(edges, versions, event, at)
+}
+
+/// Adds the read dependencies of a scan: on whoever installed the version that it selects, and on those before who
+/// changed the matches.
+fn push_sources(
+    edges: &mut Vec<Edge>,
+    versions: &VersionOrders,
+    event: &Event,
+    at: Selection,
+) -> Result<(), AllocError>
+    requires scan { is_scan (event_of event.now) ≡ true }
+    requires within { at.line < length versions.now.checked.now.history.now.orders.items }
+    ensures { let h = history_of versions.now.checked.now.history.now in
+        OnOk result (map edge_of edges.new.items
+        ≡ map edge_of edges.old.items ++ read_edges h (event_of event.now) (key_at h at.line) at.place) }
+{
+    let key = versions.order(at.line).key;
+    let txn = event.txn();
+    let changes = versions.changes(at.line);
+    for place in changes {
+        if *place < at.place {
+            let from = versions.installer(at.line, *place);
+            push_edge(edges, from, Kind::Wr, key, Some(txn))?;
+        }
+    }
+    let from = versions.installer(at.line, at.place);
+    push_edge(edges, from, Kind::Wr, key, Some(txn))
+}
+
+/// Adds the anti-dependencies of a scan: on whoever overwrites the visible version that it selects, and on those after
+/// it who change the matches.
+fn push_overwriters(
+    edges: &mut Vec<Edge>,
+    versions: &VersionOrders,
+    event: &Event,
+    at: Selection,
+) -> Result<(), AllocError>
+    requires scan { is_scan (event_of event.now) ≡ true }
+    requires within { at.line < length versions.now.checked.now.history.now.orders.items }
+    ensures { let h = history_of versions.now.checked.now.history.now in
+        OnOk result (map edge_of edges.new.items
+        ≡ map edge_of edges.old.items ++ overwrite_edges h (event_of event.now) (key_at h at.line) at.place) }
+{
+    let key = versions.order(at.line).key;
+    let txn = event.txn();
+    let mut seen = at.place;
+    if versions.is_visible(at.line, at.place) {
+        let to = versions.order(at.line).writers.get(at.place).copied();
+        push_edge(edges, Some(txn), Kind::Rw, key, to)?;
+        seen = at.place + 1;
+    }
+    let changes = versions.changes(at.line);
+    for place in changes {
+        if seen < *place {
+            let to = versions.installer(at.line, *place);
+            push_edge(edges, Some(txn), Kind::Rw, key, to)?;
+        }
+    }
+    Ok(())
+}

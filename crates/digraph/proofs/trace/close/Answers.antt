@@ -1,0 +1,13 @@
+use Rattle.std.proofs.Common.{◌≡◌, ◌<◌, List, length, slice_index_or, subst}
+use Rattle.digraph.specs.declared.arc.Arc.{Arc}
+use Rattle.digraph.proofs.Cycles.{cycle_cut}
+use Rattle.digraph.proofs.trace.close.Goals as goal
+
+pub returns : goal.returns
+returns c =
+    cycle_cut c.args.graph.now c.args.path.now.items _ _ c.args.at c.first_to.result c.least_start.result
+    c.requires.path c.requires.known
+    (subst (λ (xs : List Arc). c.first_to.result < length xs) c.deref.ensures.value c.first_to.ensures.within)
+    (subst (λ (xs : List Arc). (d : Arc)
+    → (slice_index_or xs c.first_to.result d).to ≡ c.args.at) c.deref.ensures.value c.first_to.ensures.returns)
+    c.truncate.ensures.items c.rotate_left.ensures.items

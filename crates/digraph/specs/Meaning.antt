@@ -1,0 +1,3 @@
+-- What the promises mean.
+pub mod Graphs
+pub mod Laws

@@ -1,0 +1,42 @@
+-- Directed graphs as lists of nodes and arcs, their topological orders and their cycles.
+use Rattle.std.specs.Prelude.{◌≡◌, ℕ, suc, ◌==◌, ◌<◌, true, cond, List, [], ◌∷◌, Contains, count_by}
+use Rattle.std.specs.List.{list_any, AllByRecursion}
+use Rattle.digraph.specs.declared.arc.Arc.{Arc}
+use Rattle.digraph.specs.declared.order.Outcome.{Outcome}
+use Rattle.digraph.specs.declared.order.Outcome.TheVariants.{Order, Cycle}
+
+-- the ends of each arc are nodes
+abbrev pub IsGraph : List ℕ → List Arc → Type 0
+IsGraph nodes arcs = (a : Arc) → Contains arcs a
+    → (list_any (λ u. u == a.from) nodes ≡ true) × (list_any (λ u. u == a.to) nodes ≡ true)
+
+-- how many nodes stand in the list before this one; all of them, if it isn't there
+abbrev pub place : List ℕ → ℕ → ℕ
+place [] t = 0
+place (x ∷ ts) t = cond (x == t) 0 (suc (place ts t))
+
+abbrev pub IsBefore : List ℕ → ℕ → ℕ → Type 0
+IsBefore ts a b = place ts a < place ts b
+
+-- each arc goes forward in the list
+abbrev pub AreForward : List ℕ → List Arc → Type 0
+AreForward ts arcs = (a : Arc) → Contains arcs a → IsBefore ts a.from a.to
+
+-- each node once and no other, and each arc forward
+pub record IsTopologicalOrder (nodes : List ℕ) (arcs : List Arc) (ts : List ℕ) : Type 0 where
+  pub nodes_once : (t : ℕ) → count_by (λ u. u == t) ts ≡ cond (list_any (λ u. u == t) nodes) 1 0
+  pub forward : AreForward ts arcs
+
+-- a path from one node to another: each arc leaves the node that the one before enters
+abbrev pub IsPath : ℕ → List Arc → ℕ → Type 0
+IsPath s [] t = s ≡ t
+IsPath s (a ∷ path) t = (a.from ≡ s) × IsPath a.to path t
+
+-- at least one of the arcs, in a path from a node to itself
+abbrev pub IsCycle : List Arc → List Arc → Type 0
+IsCycle arcs [] = ⊥
+IsCycle arcs (a ∷ path) = AllByRecursion (Contains arcs) (a ∷ path) × IsPath a.from (a ∷ path) a.from
+
+abbrev pub IsOrderOrCycle : List ℕ → List Arc → Outcome → Type 0
+IsOrderOrCycle nodes arcs (Order ts) = IsTopologicalOrder nodes arcs ts.items
+IsOrderOrCycle nodes arcs (Cycle path) = IsCycle arcs path.items

@@ -1,0 +1,17 @@
+//! Orders of the nodes of a directed graph: [`topological_order`] returns one in which each arc goes forward, or a cycle.
+//!
+//! A node is a number, and a graph is a list of its nodes with a list of its arcs.
+#![tactic(auto)]
+
+mod arc;
+mod incoming;
+mod laws;
+mod order;
+mod ready;
+#[cfg(test)]
+mod tests;
+mod trace;
+
+pub use arc::Arc;
+pub use laws::{cycle_excludes_order, order_or_cycle_exists};
+pub use order::{Outcome, topological_order};

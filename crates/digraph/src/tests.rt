@@ -1,0 +1,146 @@
+//! Which order and which cycle are returned, in worked examples.
+
+ghost use Rattle.std.specs.Prelude.{◌≡◌, ◌==◌, ◌&&◌};
+ghost use Rattle.std.specs.List.{list_any, list_all};
+
+use crate::*;
+use std::alloc::Global;
+use std::test::Fail;
+
+fn graph(alloc: Global, lines: &[(u32, u32)]) -> Result<Vec<Arc>, Fail> {
+    let mut arcs = Vec::new(alloc);
+    for (from, to) in lines {
+        arcs.push(Arc {
+            from: *from,
+            to: *to,
+        })?;
+    }
+    Ok(arcs)
+}
+
+fn is_node(nodes: &[u32], t: u32) -> bool
+    ensures { result ≡ list_any (λ u. u == t) nodes.now }
+{
+    nodes.iter().any(|u| *u == t)
+}
+
+fn is_graph(nodes: &[u32], arcs: &[Arc]) -> bool
+    ensures { result
+        ≡ list_all (λ a. list_any (λ u. u == a.from) nodes.now && list_any (λ u. u == a.to) nodes.now) arcs.now }
+{
+    arcs.iter()
+        .all(|a| is_node(nodes, a.from) && is_node(nodes, a.to))
+}
+
+/// The order or the cycle of the graph, and nothing if an end of an arc is no node.
+fn outcome(alloc: Global, nodes: &[u32], lines: &[(u32, u32)]) -> Result<String, Fail> {
+    let arcs = graph(alloc, lines)?;
+    if !is_graph(nodes, &arcs) {
+        return Ok(String::new(alloc));
+    }
+    match topological_order(alloc, nodes, arcs)? {
+        Outcome::Order(order) => {
+            let mut text = String::from_str(alloc, "order")?;
+            for t in &order {
+                text.push_str(&format!(in alloc; " {t}")?)?;
+            }
+            Ok(text)
+        }
+        Outcome::Cycle(cycle) => {
+            let mut text = String::from_str(alloc, "cycle")?;
+            for a in &cycle {
+                let (from, to) = (a.from, a.to);
+                text.push_str(&format!(in alloc; " {from}-{to}")?)?;
+            }
+            Ok(text)
+        }
+    }
+}
+
+#[test]
+fn empty(rt: HostRuntime) -> Result<(), Fail> {
+    assert_eq!(rt; outcome(rt.alloc(), &[], &[])?.as_str(), "order");
+    Ok(())
+}
+
+#[test]
+fn node_before_a_cycle_with_arcs_repeated(rt: HostRuntime) -> Result<(), Fail> {
+    let lines = [
+        (1, 2),
+        (1, 3),
+        (1, 2),
+        (1, 2),
+        (2, 3),
+        (1, 3),
+        (3, 2),
+        (1, 3),
+    ];
+    assert_eq!(rt;
+        outcome(rt.alloc(), &[1, 2, 3], &lines)?.as_str(),
+        "cycle 2-3 3-2"
+    );
+    Ok(())
+}
+
+#[test]
+fn cycle_of_two(rt: HostRuntime) -> Result<(), Fail> {
+    let lines = [(1, 2), (2, 1)];
+    assert_eq!(rt;
+        outcome(rt.alloc(), &[2, 1], &lines)?.as_str(),
+        "cycle 1-2 2-1"
+    );
+    Ok(())
+}
+
+#[test]
+fn node_before_a_cycle(rt: HostRuntime) -> Result<(), Fail> {
+    let lines = [(1, 2), (2, 3), (1, 2), (3, 2)];
+    assert_eq!(rt;
+        outcome(rt.alloc(), &[1, 3, 2], &lines)?.as_str(),
+        "cycle 2-3 3-2"
+    );
+    Ok(())
+}
+
+#[test]
+fn smallest_ready_number_at_each_place(rt: HostRuntime) -> Result<(), Fail> {
+    let lines = [(5, 1), (5, 1), (5, 1), (4, 2), (2, 3)];
+    assert_eq!(rt;
+        outcome(rt.alloc(), &[3, 1, 5, 2, 4], &lines)?.as_str(),
+        "order 4 2 3 5 1"
+    );
+    Ok(())
+}
+
+// 1 is placed. From 2, which is on a cycle with 5, the walk goes back to 4, its smaller predecessor, and on to 6 and 3,
+// from which it returns to 6. The smaller predecessor 1 of 6 no longer remains.
+#[test]
+fn cycle_before_the_smallest_remaining(rt: HostRuntime) -> Result<(), Fail> {
+    let lines = [
+        (1, 6),
+        (5, 2),
+        (4, 2),
+        (3, 6),
+        (6, 3),
+        (6, 3),
+        (2, 5),
+        (3, 6),
+        (6, 4),
+    ];
+    assert_eq!(rt;
+        outcome(rt.alloc(), &[1, 2, 3, 4, 5, 6], &lines)?.as_str(),
+        "cycle 3-6 6-3"
+    );
+    Ok(())
+}
+
+// The walk back from 1 goes to 4, 2, 3 and 1 again: the cycle goes the other way.
+#[test]
+fn cycle_along_the_arcs(rt: HostRuntime) -> Result<(), Fail> {
+    let lines = [(4, 1), (2, 4), (3, 2), (1, 3)];
+    assert_eq!(rt;
+        outcome(rt.alloc(), &[1, 2, 3, 4], &lines)?.as_str(),
+        "cycle 1-3 3-2 2-4 4-1"
+    );
+    Ok(())
+}
