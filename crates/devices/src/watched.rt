@@ -74,6 +74,7 @@ impl<D: Read> Read for Watched<D> {
         ensures counted { has_failed self.old ≡ false → 0 < reads_left self.old → reads_left self.new + 1 ≡ reads_left self.old }
         ensures no_more { reads_left self.new ≤ reads_left self.old }
         ensures met { reads_left self.old ≡ 0 → IsErr result }
+        ensures untouched { reads_left self.old ≡ 0 → device_of self.new ≡ device_of self.old }
         ensures kept { has_failed self.old ≡ true → self.new ≡ self.old }
         ensures bound_kind { reads_left self.old ≡ 0 → IfErr result (λ e. error_kind e ≢ ErrorKind.Interrupted) }
         ensures held { (has_failed self.old ≡ true) → IfErr result (λ e. error_kind e ≢ ErrorKind.Interrupted) }
@@ -104,6 +105,7 @@ impl<D: Write> Write for Watched<D> {
         ensures bytes { WriteAppends (watched_contents D.contents self.old) (watched_contents D.contents self.new) result buf.now }
         ensures fault { IsErr result → has_failed self.new ≡ true }
         ensures nothing { 0 < length buf.now → result ≡ Ok 0 → has_failed self.new ≡ true }
+        ensures empty { length buf.now ≡ 0 → result ≡ Ok 0 → has_failed self.new ≡ has_failed self.old }
         ensures something { IfOk result (λ n. 0 < n → (has_failed self.old ≡ false) × (has_failed self.new ≡ false)) }
         ensures kept { has_failed self.old ≡ true → self.new ≡ self.old }
         ensures held { (has_failed self.old ≡ true) → IsErrAnd result (λ e. error_kind e ≢ ErrorKind.Interrupted) }
