@@ -60,6 +60,7 @@ txn_plain : (t : ℕ) → IsTxn t → Plain (decimal t)
 txn_plain t is = decimal_plain t (omega (arith, is.1))
 
 version_plain : (v : Version) → IsVersion v → Plain (version_text v)
+unfolding version_text
 version_plain v is =
     with_text (with_text (with_text (with_text (key_plain v.key is.key) (fixed (codes ".") refl))
     (txn_plain v.txn is.txn)) (fixed (codes ":") refl)) (decimal_plain v.m (omega (arith, is.m.1)))

@@ -8,4 +8,3 @@ pub mod Feeds
 pub mod Readers
 pub mod HistoryKinds
 pub mod SerialKinds
-pub mod Growth

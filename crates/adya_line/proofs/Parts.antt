@@ -167,6 +167,7 @@ abbrev pub version_then : Version → List ℕ → List ℕ
 version_then v rest = v.key ++ (46 ∷ (decimal v.txn ++ (58 ∷ (decimal v.m ++ rest))))
 
 pub version_then-is : (v : Version) (rest : List ℕ) → version_text v ++ rest ≡ version_then v rest
+unfolding version_text
 version_then-is v rest = simp append_assoc
 
 pub version_takes : (bytes : List ℕ) → Only (version_at bytes) (λ x. (bytes ≡ version_then x.0 x.1) × IsVersion x.0)
