@@ -9,5 +9,5 @@ pub mod HistoryFed
 pub mod SerialTexts
 pub mod SerialFed
 pub mod TextLaws
-pub mod Written
+pub mod WrittenTexts
 pub mod BufferLemmas
