@@ -19,7 +19,8 @@ use Rattle.adya_line.specs.Meaning.HistoryLines.{Line, HeadLine, EventLine, Unfi
 use Rattle.adya_line.specs.Meaning.HistoryLines.{IsLine, line_text, IsOnlyLineOf}
 use Rattle.adya_text.specs.Computing.HistoryRuns.{allows, edition_at, stage_after}
 use Rattle.adya_text.specs.Computing.HistoryRuns.{event_in, unfinished_in, order_in, final_in}
-use Rattle.adya_text.specs.Machinery.HistoryReaders.{IsTaken, IsFed, IsRefused, IsAllowed, Takes, IsKept, ReadsHistory}
+use Rattle.adya_text.specs.Machinery.HistoryReaders.{IsTaken, IsFed, IsRefused, IsAllowed, Takes, IsKept}
+use Rattle.adya_text.specs.Meaning.Reading.{ReadsHistory}
 use Rattle.adya_text.specs.Machinery.HistoryReaders.{is_failed, is_done}
 use Rattle.adya_values.specs.declared.edition.Edition.{Edition}
 use Rattle.adya_values.specs.declared.edition.Edition.TheVariants.{One}

@@ -12,7 +12,8 @@ use Rattle.adya_text.specs.Meaning.Faults.{Begins, IsFaultLine, IsCut}
 use Rattle.adya_line.specs.Meaning.SerialLines.{Line, HeadLine, TxnLine, TailLine}
 use Rattle.adya_line.specs.Meaning.SerialLines.{IsLine, line_text, IsOnlyLineOf}
 use Rattle.adya_text.specs.Computing.SerialRuns.{allows, next_stage, stage_after, txn_in}
-use Rattle.adya_text.specs.Machinery.SerialReaders.{IsFed, IsRefused, IsAllowed, Takes, IsKept, ReadsSerial, is_failed, is_done}
+use Rattle.adya_text.specs.Machinery.SerialReaders.{IsFed, IsRefused, IsAllowed, Takes, IsKept, is_failed, is_done}
+use Rattle.adya_text.specs.Meaning.Reading.{ReadsSerial}
 use Rattle.adya_text.specs.declared.serial_reader.Stage.{Stage}
 use Rattle.adya_text.specs.declared.serial_reader.Stage.TheVariants.{Head, Txns, Done, Failed}
 use Rattle.adya_text.specs.declared.serial_reader.SerialReader.{SerialReader}

@@ -16,8 +16,8 @@ use Rattle.adya_line.specs.Meaning.HistoryLines as H
 use Rattle.adya_line.specs.Meaning.SerialLines as S
 use Rattle.adya_text.specs.Computing.HistoryRuns as HR
 use Rattle.adya_text.specs.Computing.SerialRuns as SR
-use Rattle.adya_text.specs.Machinery.HistoryReaders.{ReadsHistory}
-use Rattle.adya_text.specs.Machinery.SerialReaders.{ReadsSerial}
+use Rattle.adya_text.specs.Meaning.Reading.{ReadsHistory}
+use Rattle.adya_text.specs.Meaning.Reading.{ReadsSerial}
 use Rattle.adya_text.specs.declared.read_fault.ReadFault.{ReadFault}
 use Rattle.adya_text.specs.declared.read_fault.ReadFault.TheVariants.{Syntax, Device, Memory}
 use Rattle.adya_text.specs.declared.read_fault.Text.TheVariants as Of

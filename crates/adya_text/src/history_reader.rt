@@ -9,9 +9,9 @@ ghost use Rattle.adya_line.specs.Meaning.HistoryLines.{line_of};
 ghost use Rattle.adya_text.specs.Computing.HistoryRuns.{allows, edition_at, stage_after};
 ghost use Rattle.adya_text.specs.Meaning.Texts.{AreHistoryLines};
 ghost use Rattle.adya_text.specs.Meaning.Faults.{Begins, HasFront, IsCut};
-ghost use Rattle.adya_text.specs.Meaning.Answers.{IsOfText};
+ghost use Rattle.adya_text.specs.Meaning.Reading.{IsOfText, ReadsHistory};
 ghost use Rattle.adya_text.specs.Machinery.HistoryReaders.{IsFed, IsRefused, IsAllowed, Takes, IsKept, is_done, is_failed};
-ghost use Rattle.adya_text.specs.Machinery.HistoryReaders.{ReadsHistory, untold_history};
+ghost use Rattle.adya_text.specs.Machinery.HistoryReaders.{untold_history};
 
 use crate::line_reader::LineReader;
 use crate::read_fault::{ReadFault, Text};

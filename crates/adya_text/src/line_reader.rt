@@ -2,7 +2,7 @@
 
 ghost use Rattle.std.specs.Prelude.{List, ℕ, Result, [], ◌∷◌, ◌++◌, OnOk, IsErr};
 ghost use Rattle.std.specs.Bool.{OnTrue};
-ghost use Rattle.adya_text.specs.Meaning.Answers.{IsOfText};
+ghost use Rattle.adya_text.specs.Meaning.Reading.{IsOfText};
 ghost use Rattle.adya_text.specs.Meaning.Faults.{Begins, HasFront, IsCut};
 ghost use Rattle.adya_text.specs.declared.read_fault.ReadFault.{ReadFault as Fault};
 

@@ -4,8 +4,7 @@ ghost use Rattle.std.specs.Prelude.{◌≡◌, List, [], ℕ, MatchResult, IsErr
 ghost use Rattle.adya_values.specs.Meaning.Histories.{History as Plain};
 ghost use Rattle.adya_values.specs.Meaning.Values.{history_of};
 ghost use Rattle.adya_text.specs.Meaning.Texts.{IsHistory, IsSerial, history_text, serial_text};
-ghost use Rattle.adya_text.specs.Machinery.HistoryReaders.{ReadsHistory};
-ghost use Rattle.adya_text.specs.Machinery.SerialReaders.{ReadsSerial};
+ghost use Rattle.adya_text.specs.Meaning.Reading.{ReadsHistory, ReadsSerial};
 
 use crate::history_reader::HistoryReader;
 use crate::line_reader::LineReader;

@@ -5,9 +5,7 @@ ghost use Rattle.std.specs.Io.KnownBytes.{IsAtEnd, prepend_known};
 ghost use Rattle.adya_values.specs.Meaning.Histories.{History as Plain};
 ghost use Rattle.adya_values.specs.Meaning.Values.{history_of};
 ghost use Rattle.adya_text.specs.Meaning.Texts.{IsHistory, IsSerial, history_text, serial_text};
-ghost use Rattle.adya_text.specs.Meaning.Answers.{IsOfText};
-ghost use Rattle.adya_text.specs.Machinery.HistoryReaders.{ReadsHistory};
-ghost use Rattle.adya_text.specs.Machinery.SerialReaders.{ReadsSerial};
+ghost use Rattle.adya_text.specs.Meaning.Reading.{IsOfText, ReadsHistory, ReadsSerial, ReadsTexts};
 ghost use Rattle.adya_text.specs.Meaning.Streams.{history_part, serial_part};
 
 use crate::LineBuffer;
@@ -57,6 +55,28 @@ pub fn read_serial_from<S: Source>(alloc: Global, source: &mut S) -> Result<Seri
     serial_lines();
     let mut buffer = LineBuffer::new();
     read_rest(alloc, SerialReader::new(alloc), &mut buffer, source)
+}
+
+/// Reads the two texts of one stream: a history's, up to and with the first line `end`, and then a certificate's, to
+/// the end of the input. If there is no line `end`, all of the stream is the history's. It keeps one line and what the
+/// lines before it say, and stops before the end of the input only after a line that is a syntax fault. `Syntax` is as
+/// [`read_history_from`] returns it for the first text, or else as [`read_serial_from`] does for the second; `Device`
+/// if the source failed, `Memory` if memory ran out.
+pub fn read_texts_from<S: Source>(
+    alloc: Global,
+    source: &mut S,
+) -> Result<(History, Serial), ReadFault>
+    ensures answer { IfSome (S.remaining source.old) (λ stream. ReadsTexts stream result) }
+    ensures ended { OnOk result (IsAtEnd (S.remaining source.new)) }
+    ensures fault { IsErrOf result ReadFault.Device → S.is_failed source.new ≡ true }
+    ensures unfailed { (IsErrOf result ReadFault.Device → ⊥) → S.is_failed source.new ≡ S.is_failed source.old }
+    ensures works { IsOfText result → S.is_failed source.new ≡ false }
+    ensures stream { S.same source.old source.new }
+{
+    let mut buffer = LineBuffer::new();
+    let history = read_history_part(alloc, &mut buffer, source)?;
+    let serial = read_serial_rest(alloc, &mut buffer, source)?;
+    Ok((history, serial))
 }
 
 /// The history whose text stands at the front of a stream of two texts: up to and with the first line `end`, or all of

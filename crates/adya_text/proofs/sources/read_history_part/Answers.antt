@@ -3,7 +3,8 @@ use Rattle.std.specs.Io.KnownBytes.{prepend_known}
 use Rattle.std.proofs.lemmas.Bool.{false≢true}
 use Rattle.adya_line.specs.Meaning.Spelling.{tail}
 use Rattle.adya_text.specs.Meaning.Faults.{IsCut}
-use Rattle.adya_text.specs.Machinery.HistoryReaders.{IsFed, ReadsHistory}
+use Rattle.adya_text.specs.Machinery.HistoryReaders.{IsFed}
+use Rattle.adya_text.specs.Meaning.Reading.{ReadsHistory}
 use Rattle.adya_text.specs.Meaning.Streams.{history_part, serial_part}
 use Rattle.adya_text.proofs.LineLists.{all_behind}
 use Rattle.adya_text.proofs.Gone.{line_gone, left_gone, front_gone, all_gone, on_ok}
