@@ -67,15 +67,6 @@ pub record Takes (old new : HistoryReader) (x : Line) : Type 0 where
   pub orders : map order_of new.orders.items ≡ map order_of old.orders.items ++ filter_map order_in (x ∷ [])
   pub finals : map final_of new.finals.items ≡ map final_of old.finals.items ++ filter_map final_in (x ∷ [])
 
--- the two hold the same
-pub record IsKept (old new : HistoryReader) : Type 0 where
-  pub stage : new.stage ≡ old.stage
-  pub next : new.next ≡ old.next
-  pub events : new.events.items ≡ old.events.items
-  pub unfinished : new.unfinished.items ≡ old.unfinished.items
-  pub orders : new.orders.items ≡ old.orders.items
-  pub finals : new.finals.items ≡ old.finals.items
-
 -- a result that says nothing of the text fits every text
 pub untold_history : (text : List ℕ) (result : Result HistoryValue ReadFault) → (IsOfText result → ⊥)
     → ReadsHistory text result

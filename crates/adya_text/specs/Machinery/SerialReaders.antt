@@ -52,12 +52,6 @@ pub record Takes (old new : SerialReader) (x : Line) : Type 0 where
   pub next : new.next ≡ suc old.next
   pub txns : new.txns.items ≡ old.txns.items ++ filter_map txn_in (x ∷ [])
 
--- the two hold the same
-pub record IsKept (old new : SerialReader) : Type 0 where
-  pub stage : new.stage ≡ old.stage
-  pub next : new.next ≡ old.next
-  pub txns : new.txns.items ≡ old.txns.items
-
 -- a result that says nothing of the text fits every text
 pub untold_serial : (text : List ℕ) (result : Result Serial ReadFault) → (IsOfText result → ⊥)
     → ReadsSerial text result

@@ -6,7 +6,7 @@ use Rattle.adya_text.specs.Meaning.Texts.{AreHistoryLines}
 use Rattle.adya_text.proofs.Fronts.{front_fault}
 use Rattle.adya_text.proofs.HistoryFed.{fed_begins, failed_fault, missing_fault, fed_fits, fed_shape, fed_history}
 use Rattle.adya_text.proofs.HistoryFed.{fault_is, unfailed}
-use Rattle.adya_text.proofs.history_reader.HistoryReader.finish.Goals as goal
+use Rattle.adya_text.proofs.history_reader.HistoryReaderLineReader.finish.Goals as goal
 
 pub returns-in-Failed-clause-answer : goal.returns-in-Failed-clause-answer
 returns-in-Failed-clause-answer c = λ past fed text cut.

@@ -5,7 +5,7 @@ use Rattle.adya_text.specs.Machinery.SerialReaders.{is_failed, is_done}
 use Rattle.adya_text.specs.Meaning.Texts.{AreSerialLines}
 use Rattle.adya_text.proofs.Fronts.{front_fault}
 use Rattle.adya_text.proofs.SerialFed.{fed_begins, failed_fault, missing_fault, fed_serial, fault_is, unfailed}
-use Rattle.adya_text.proofs.serial_reader.SerialReader.finish.Goals as goal
+use Rattle.adya_text.proofs.serial_reader.SerialReaderLineReader.finish.Goals as goal
 
 pub returns-in-Failed-clause-answer : goal.returns-in-Failed-clause-answer
 returns-in-Failed-clause-answer c = λ past fed text cut.
