@@ -11,8 +11,8 @@ use Rattle.adya_values.specs.Meaning.Histories.{Order}
 use Rattle.adya_line.specs.Meaning.Spelling.{later_text, writers_text, order_text}
 use Rattle.adya_line.specs.Meaning.Limits.{IsOrder}
 use Rattle.adya_line.specs.Computing.Reading.{◌>>=◌, after, writer_at, later_at, writers_at, order_at, behind}
-use Rattle.adya_line.proofs.Parts.{Only, found, then, weaken, ended, if_then, if_after, after_takes, txn_takes}
-use Rattle.adya_line.proofs.Parts.{txn_again, key_between_takes, key_between_again}
+use Rattle.adya_line.proofs.LineParts.{Only, found, then, weaken, ended, if_then, if_after, after_takes, txn_takes}
+use Rattle.adya_line.proofs.LineParts.{txn_again, key_between_takes, key_between_again}
 
 -- ---- what is read is shorter
 

@@ -3,7 +3,7 @@ use Rattle.std.proofs.Common.{◌≡◌, ℕ, zero, suc, ◌<◌, ◌≤◌, fal
 use Rattle.std.proofs.Common.{Some, None, refl, sym, ap, ◌∙◌, append_assoc, arith, inl, inr}
 use Rattle.std.specs.Prelude.{decimal, codes, ◌&&◌}
 use Rattle.std.specs.List.{flat_map, list_all, AllByRecursion}
-use Rattle.std.proofs.lemmas.Bool.{both_ways}
+use Rattle.std.proofs.lemmas.Bool.{both_ways, and_parts}
 use Rattle.std.proofs.lemmas.Bool.Decides.{eqb_tells}
 use Rattle.std.proofs.lemmas.List.Concat.{flat_map-cons}
 use Rattle.std.proofs.lemmas.List.{length-append}
@@ -14,9 +14,9 @@ use Rattle.adya_line.specs.Meaning.Spelling.{version_text, content_text, entry_t
 use Rattle.adya_line.specs.Meaning.Limits.{IsContent, IsEntry, IsEvent}
 use Rattle.adya_line.specs.Computing.Reading.{◌>>=◌, after, none_or, content_at, entry_at, behind_entry, entries_at, entries_of}
 use Rattle.adya_line.specs.Computing.Reading.{after_entries, whole, scan_at}
-use Rattle.adya_line.proofs.Parts.{Only, found, then, if_then, if_after, ended, both_parts, after_takes, text_takes}
-use Rattle.adya_line.proofs.Parts.{text_again, txn_takes, txn_again, version_then, version_then-is, version_takes}
-use Rattle.adya_line.proofs.Parts.{version_again}
+use Rattle.adya_line.proofs.LineParts.{Only, found, then, if_then, if_after, ended, after_takes, text_takes}
+use Rattle.adya_line.proofs.LineParts.{text_again, txn_takes, txn_again, version_then, version_then-is, version_takes}
+use Rattle.adya_line.proofs.LineParts.{version_again}
 
 -- ---- the texts, nested to the right
 
@@ -203,8 +203,8 @@ value_head [] rest good = absurd cc
 value_head (c ∷ cs) rest good =
     elim (eqb_tells c 33) [
       | inl p ↦
-          let bytes = both_parts _ (is_value_byte c && list_all is_value_byte cs) good in
-          let head = both_parts (is_value_byte c) (list_all is_value_byte cs) bytes.1 in
+          let bytes = and_parts _ (is_value_byte c && list_all is_value_byte cs) good in
+          let head = and_parts (is_value_byte c) (list_all is_value_byte cs) bytes.1 in
           absurd (both_ways (is_value_byte c) (rw p.1 refl) head.0)
       | inr p ↦ rw p.0 refl
     ]

@@ -19,7 +19,7 @@ use Rattle.adya_text.specs.Computing.HistoryRuns.{allows, edition_at, stage_afte
 use Rattle.adya_text.specs.Machinery.HistoryReaders.{is_done}
 use Rattle.adya_text.specs.declared.history_reader.Stage.{Stage}
 use Rattle.adya_text.specs.declared.history_reader.Stage.TheVariants.{Head, Events, Unfinished, Orders, Finals, Done}
-use Rattle.adya_text.proofs.RunLemmas.{all_append, all_map}
+use Rattle.adya_text.proofs.Runs.{all_append, all_map}
 
 abbrev pub Run : Stage → List Line → Type 0
 Run s xs = IsRun allows stage_after s xs

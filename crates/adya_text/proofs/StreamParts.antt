@@ -3,17 +3,16 @@ use Rattle.std.proofs.Common.{◌≡◌, ◌≢◌, ◌==◌, ℕ, suc, ◌+◌,
 use Rattle.std.proofs.Common.{◌++◌, All, length, take, drop, refl, sym, ap, ◌∙◌, arith, append_assoc}
 use Rattle.std.proofs.Common.{append-nil}
 use Rattle.std.specs.Prelude.{codes}
-use Rattle.std.proofs.lemmas.Bool.{eqb-true, ne_eqb, and_parts}
+use Rattle.std.proofs.lemmas.Bool.{eqb-true, ne_eqb, and_parts, false_from_ne_true}
 use Rattle.std.proofs.lemmas.List.{length-append}
+use Rattle.std.proofs.lemmas.List.Elements.{All-tail}
 use Rattle.std.proofs.Math.Seq.{take-append-add, drop-append-add, take-length, drop-length}
 use Rattle.adya_line.specs.Meaning.Spelling.{tail}
 use Rattle.adya_text.specs.Meaning.Texts.{with_ends}
-use Rattle.adya_text.specs.Meaning.Faults.{IsPlain, IsCut, HasFront}
+use Rattle.adya_line.specs.Meaning.Laws.{IsPlain}
+use Rattle.adya_text.specs.Meaning.Faults.{IsCut, HasFront}
 use Rattle.adya_text.specs.Meaning.Streams.{begins_with, end_of_history, history_part, serial_part}
 use Rattle.adya_text.proofs.LineLists.{ends_append}
-
-later : (b : ℕ) (l : List ℕ) → IsPlain (b ∷ l) → IsPlain l
-later b l plain = λ k d below. plain (suc k) d (omega arith)
 
 no_feed : (b : ℕ) (l : List ℕ) → IsPlain (b ∷ l) → (b == 10) ≡ false
 no_feed b l plain = ne_eqb b 10 (plain 0 b (omega arith))
@@ -24,12 +23,12 @@ on_to_feed : (line rest : List ℕ) → IsPlain line
 on_to_feed [] rest plain = omega arith
 on_to_feed (b ∷ l) rest plain =
     let here = ap (λ t. end_of_history t (l ++ 10 ∷ rest)) (no_feed b l plain) in
-    omega (arith, here, on_to_feed l rest (later b l plain))
+    omega (arith, here, on_to_feed l rest (All-tail (λ x. x ≢ 10) b l plain))
 
 on_to_end : (line : List ℕ) → IsPlain line → end_of_history false line ≡ length line
 on_to_end [] plain = refl
 on_to_end (b ∷ l) plain =
-    ap (λ t. suc (end_of_history t l)) (no_feed b l plain) ∙ ap (λ (n : ℕ). suc n) (on_to_end l (later b l plain))
+    ap (λ t. suc (end_of_history t l)) (no_feed b l plain) ∙ ap (λ (n : ℕ). suc n) (on_to_end l (All-tail (λ x. x ≢ 10) b l plain))
 
 -- a line with its line feed is the line `end`
 is_end_line : (line rest : List ℕ) → IsPlain line → begins_with (codes "end\n") (line ++ 10 ∷ rest) ≡ true
@@ -62,24 +61,20 @@ no_end_line (a ∷ b ∷ d ∷ e ∷ l) plain is =
     let fourth = and_parts (10 == e) _ third.1 in
     plain 3 e (omega arith) (sym (eqb-true 10 e fourth.0))
 
-untrue : (t : Bool) → (t ≡ true → ⊥) → t ≡ false
-untrue true never = absurd (never refl)
-untrue false never = refl
-
 -- past a line that is not `end`
 past_line : (line rest : List ℕ) → IsPlain line → line ≢ tail
     → end_of_history true (line ++ 10 ∷ rest) ≡ length (line ++ 10 ∷ []) + end_of_history true rest
 past_line [] rest plain other = omega arith
 past_line (b ∷ l) rest plain other =
     let goes_on : begins_with (codes "end\n") ((b ∷ l) ++ 10 ∷ rest) ≡ false =
-    untrue _ (λ is. other (is_end_line (b ∷ l) rest plain is)) in
+    false_from_ne_true _ (λ is. other (is_end_line (b ∷ l) rest plain is)) in
     ap (λ t. if t then 4 else suc (end_of_history (b == 10) (l ++ 10 ∷ rest))) goes_on
     ∙ on_to_feed (b ∷ l) rest plain
 
 at_last : (line : List ℕ) → IsPlain line → end_of_history true line ≡ length line
 at_last [] plain = refl
 at_last (b ∷ l) plain =
-    ap (λ t. if t then 4 else suc (end_of_history (b == 10) l)) (untrue _ (no_end_line (b ∷ l) plain))
+    ap (λ t. if t then 4 else suc (end_of_history (b == 10) l)) (false_from_ne_true _ (no_end_line (b ∷ l) plain))
     ∙ on_to_end (b ∷ l) plain
 
 past_lines : (past : List (List ℕ)) (rest : List ℕ) → All IsPlain past → All (λ l. l ≢ tail) past

@@ -10,7 +10,7 @@ ghost use Rattle.adya_text.specs.Computing.HistoryRuns.{allows, edition_at, stag
 ghost use Rattle.adya_text.specs.Meaning.Texts.{AreHistoryLines};
 ghost use Rattle.adya_text.specs.Meaning.Faults.{Begins, HasFront, IsCut};
 ghost use Rattle.adya_text.specs.Meaning.Reading.{IsOfText, ReadsHistory};
-ghost use Rattle.adya_text.specs.Machinery.HistoryReaders.{IsFed, IsRefused, IsAllowed, Takes, IsKept, is_done, is_failed};
+ghost use Rattle.adya_text.specs.Machinery.HistoryReaders.{IsFed, IsRefused, IsAllowed, Takes, is_done, is_failed};
 ghost use Rattle.adya_text.specs.Machinery.HistoryReaders.{untold_history};
 
 use crate::line_reader::LineReader;

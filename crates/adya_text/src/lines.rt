@@ -16,7 +16,7 @@ const ROOM: usize = 8192;
 
 /// Why no line came.
 #[derive(Clone, Copy, Debug, PartialEq, Eq, Error, Drop)]
-pub enum LineFault {
+pub(crate) enum LineFault {
     /// The source failed.
     #[error("read fault")]
     Device,
@@ -27,7 +27,7 @@ pub enum LineFault {
 
 /// The bytes that were read from a source, and not yet taken as lines. One buffer belongs to one source.
 #[derive(Drop)]
-pub struct LineBuffer {
+pub(crate) struct LineBuffer {
     bytes: [u8; ROOM],
     start: usize,
     end: usize,
@@ -45,7 +45,7 @@ impl Model for LineBuffer {
 
 impl LineBuffer {
     /// A buffer for a source of which nothing was read.
-    pub fn new() -> LineBuffer
+    pub(crate) fn new() -> LineBuffer
         ensures { result ≡ [] }
     {
         LineBuffer {
@@ -105,7 +105,7 @@ impl LineBuffer {
     /// The next line, without its line feed, in place of what `line` held; a line may have any length. False where the
     /// input ended before a line feed, and then `line` holds what stands behind the last one. `Device` where the source
     /// failed, `Memory` where `line` could not grow. `work_left` falls with each line.
-    pub fn next_line<S: Source>(
+    pub(crate) fn next_line<S: Source>(
         &mut self,
         source: &mut S,
         line: &mut Vec<u8>,

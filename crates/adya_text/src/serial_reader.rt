@@ -7,7 +7,7 @@ ghost use Rattle.adya_text.specs.Computing.SerialRuns.{allows, stage_after};
 ghost use Rattle.adya_text.specs.Meaning.Texts.{AreSerialLines};
 ghost use Rattle.adya_text.specs.Meaning.Faults.{Begins, HasFront, IsCut};
 ghost use Rattle.adya_text.specs.Meaning.Reading.{IsOfText, ReadsSerial};
-ghost use Rattle.adya_text.specs.Machinery.SerialReaders.{IsFed, IsRefused, IsAllowed, Takes, IsKept, is_done, is_failed};
+ghost use Rattle.adya_text.specs.Machinery.SerialReaders.{IsFed, IsRefused, IsAllowed, Takes, is_done, is_failed};
 ghost use Rattle.adya_text.specs.Machinery.SerialReaders.{untold_serial};
 
 use crate::line_reader::LineReader;

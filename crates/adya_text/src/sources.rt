@@ -8,9 +8,9 @@ ghost use Rattle.adya_text.specs.Meaning.Texts.{IsHistory, IsSerial, history_tex
 ghost use Rattle.adya_text.specs.Meaning.Reading.{IsOfText, ReadsHistory, ReadsSerial, ReadsTexts};
 ghost use Rattle.adya_text.specs.Meaning.Streams.{history_part, serial_part};
 
-use crate::LineBuffer;
 use crate::history_reader::HistoryReader;
 use crate::line_reader::LineReader;
+use crate::lines::LineBuffer;
 use crate::read_fault::ReadFault;
 use crate::serial_reader::SerialReader;
 use adya_line::is_tail;
@@ -84,7 +84,7 @@ pub fn read_texts_from<S: Source>(
 /// they hold what stands behind. After a fault nothing is said of what they hold. It keeps one line and the history
 /// so far, and stops before the line `end` only behind a line that is a syntax fault. Faults are those of
 /// [`read_history_from`].
-pub fn read_history_part<S: Source>(
+fn read_history_part<S: Source>(
     alloc: Global,
     buffer: &mut LineBuffer,
     source: &mut S,
@@ -114,7 +114,7 @@ pub fn read_history_part<S: Source>(
 
 /// The certificate whose text is what `buffer` holds and then all that the source has left: the second text of a
 /// stream, behind [`read_history_part`]. Otherwise as [`read_serial_from`].
-pub fn read_serial_rest<S: Source>(
+fn read_serial_rest<S: Source>(
     alloc: Global,
     buffer: &mut LineBuffer,
     source: &mut S,

@@ -3,9 +3,9 @@ use Rattle.std.proofs.lemmas.Bool.{eqb-true, eq-eqb}
 use Rattle.std.proofs.lemmas.List.{nil_from_length}
 use Rattle.adya_text.specs.Machinery.HistoryReaders.{is_failed, is_done}
 use Rattle.adya_text.specs.Meaning.Texts.{AreHistoryLines}
-use Rattle.adya_text.proofs.Fronts.{front_fault}
-use Rattle.adya_text.proofs.HistoryFed.{fed_begins, failed_fault, missing_fault, fed_fits, fed_shape, fed_history}
-use Rattle.adya_text.proofs.HistoryFed.{fault_is, unfailed}
+use Rattle.adya_text.proofs.PrefixFaults.{front_fault}
+use Rattle.adya_text.proofs.HistoryReaders.{fed_begins, failed_fault, missing_fault, fed_fits, fed_shape, fed_history}
+use Rattle.adya_text.proofs.HistoryReaders.{fault_is, unfailed}
 use Rattle.adya_text.proofs.history_reader.HistoryReaderLineReader.finish.Goals as goal
 
 pub returns-in-Failed-clause-answer : goal.returns-in-Failed-clause-answer

@@ -1,4 +1,4 @@
-use Rattle.adya_text.proofs.HistoryFed.{stops_if}
+use Rattle.adya_text.proofs.HistoryReaders.{stops_if}
 use Rattle.adya_text.proofs.history_reader.HistoryReaderLineReader.has_failed.Goals as goal
 
 pub returns : goal.returns

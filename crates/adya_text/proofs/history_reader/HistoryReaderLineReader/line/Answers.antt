@@ -1,6 +1,6 @@
 use Rattle.std.proofs.Common.{sym, ◌∙◌, refl, rules}
 use Rattle.adya_line.specs.Meaning.HistoryLines.{line_of}
-use Rattle.adya_text.proofs.HistoryFed.{fed_taken, fed_refused, fed_failed}
+use Rattle.adya_text.proofs.HistoryReaders.{fed_taken, fed_refused, fed_failed}
 use Rattle.adya_text.proofs.history_reader.HistoryReaderLineReader.line.Goals as goal
 
 pub returns-then-has_failed : goal.returns-then-has_failed

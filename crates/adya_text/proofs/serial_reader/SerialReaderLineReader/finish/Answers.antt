@@ -3,8 +3,8 @@ use Rattle.std.proofs.lemmas.Bool.{eqb-true, eq-eqb}
 use Rattle.std.proofs.lemmas.List.{nil_from_length}
 use Rattle.adya_text.specs.Machinery.SerialReaders.{is_failed, is_done}
 use Rattle.adya_text.specs.Meaning.Texts.{AreSerialLines}
-use Rattle.adya_text.proofs.Fronts.{front_fault}
-use Rattle.adya_text.proofs.SerialFed.{fed_begins, failed_fault, missing_fault, fed_serial, fault_is, unfailed}
+use Rattle.adya_text.proofs.PrefixFaults.{front_fault}
+use Rattle.adya_text.proofs.SerialReaders.{fed_begins, failed_fault, missing_fault, fed_serial, fault_is, unfailed}
 use Rattle.adya_text.proofs.serial_reader.SerialReaderLineReader.finish.Goals as goal
 
 pub returns-in-Failed-clause-answer : goal.returns-in-Failed-clause-answer

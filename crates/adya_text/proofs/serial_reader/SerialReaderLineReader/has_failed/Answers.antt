@@ -1,4 +1,4 @@
-use Rattle.adya_text.proofs.SerialFed.{stops_if}
+use Rattle.adya_text.proofs.SerialReaders.{stops_if}
 use Rattle.adya_text.proofs.serial_reader.SerialReaderLineReader.has_failed.Goals as goal
 
 pub returns : goal.returns

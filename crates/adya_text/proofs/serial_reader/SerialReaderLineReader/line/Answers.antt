@@ -1,6 +1,6 @@
 use Rattle.std.proofs.Common.{sym, ◌∙◌, refl, rules}
 use Rattle.adya_line.specs.Meaning.SerialLines.{line_of}
-use Rattle.adya_text.proofs.SerialFed.{fed_taken, fed_refused, fed_failed}
+use Rattle.adya_text.proofs.SerialReaders.{fed_taken, fed_refused, fed_failed}
 use Rattle.adya_text.proofs.serial_reader.SerialReaderLineReader.line.Goals as goal
 
 pub returns-then-has_failed : goal.returns-then-has_failed

@@ -2,44 +2,46 @@
 use Rattle.std.proofs.Common.{◌≡◌, ℕ, List, [], ◌∷◌, ◌++◌, Bool, true, false, All, Option, None, Some, IfSome, Result}
 use Rattle.std.proofs.Common.{Ok, Err, refl, sym, ap, subst, ◌∙◌, append-nil, arith}
 use Rattle.std.specs.Prelude.{OnOk}
+use Rattle.std.proofs.lemmas.List.Elements.{All-push}
 use Rattle.std.specs.Io.KnownBytes.{Consumes, IsAtEnd, prepend_known}
 use Rattle.std.proofs.KnownBytes.{Consumes-nil, Consumes-trans, prepend_known-nil}
 use Rattle.adya_text.specs.Meaning.Texts.{with_ends}
-use Rattle.adya_text.specs.Meaning.Faults.{IsPlain, IsCut, HasFront}
+use Rattle.adya_line.specs.Meaning.Laws.{IsPlain}
+use Rattle.adya_text.specs.Meaning.Faults.{IsCut, HasFront}
 use Rattle.adya_text.specs.Machinery.Buffers.{line_end}
-use Rattle.adya_text.proofs.LineLists.{ends_append, all_behind}
+use Rattle.adya_text.proofs.LineLists.{ends_append}
 
 -- the known bytes began with these lines, and these are left
-pub record Gone (old : Option (List ℕ)) (lines : List (List ℕ)) (new : Option (List ℕ)) : Type 0 where
+pub record WereRead (old : Option (List ℕ)) (lines : List (List ℕ)) (new : Option (List ℕ)) : Type 0 where
   pub plain : All IsPlain lines
   pub consumed : Consumes old new (with_ends lines)
 
-pub none_gone : {a : Option (List ℕ)} → Gone a [] a
-none_gone {a = a} = record { plain = λ k d below. absurd (omega arith); consumed = Consumes-nil a }
+pub none_read : {a : Option (List ℕ)} → WereRead a [] a
+none_read {a = a} = record { plain = λ k d below. absurd (omega arith); consumed = Consumes-nil a }
 
 -- one line more
-pub line_gone : {a b : Option (List ℕ)} (c : Option (List ℕ)) {lines : List (List ℕ)} (line : List ℕ) {ended : Bool}
-    → Gone a lines b → ended ≡ true → IsPlain line → Consumes b c (line ++ line_end ended)
-    → Gone a (lines ++ line ∷ []) c
-line_gone {a = a} {b = b} c {lines = lines} line before is plain now =
+pub line_read : {a b : Option (List ℕ)} (c : Option (List ℕ)) {lines : List (List ℕ)} (line : List ℕ) {ended : Bool}
+    → WereRead a lines b → ended ≡ true → IsPlain line → Consumes b c (line ++ line_end ended)
+    → WereRead a (lines ++ line ∷ []) c
+line_read {a = a} {b = b} c {lines = lines} line before is plain now =
     let whole : Consumes b c (line ++ 10 ∷ []) = subst (λ e. Consumes b c (line ++ line_end e)) is now in
     record {
-      plain = all_behind IsPlain lines line before.plain plain;
+      plain = All-push IsPlain lines line before.plain plain;
       consumed = subst (Consumes a c) (sym (ends_append lines (line ∷ [])))
           (Consumes-trans a b c (with_ends lines) (line ++ 10 ∷ []) before.consumed whole);
     }
 
 -- the lines are a front of all the bytes, and what is left stands behind them
-pub left_gone : {a b : Option (List ℕ)} {lines : List (List ℕ)} (P : List ℕ → Type 0) → Gone a lines b
+pub rest_unread : {a b : Option (List ℕ)} {lines : List (List ℕ)} (P : List ℕ → Type 0) → WereRead a lines b
     → ((rest : List ℕ) → b ≡ Some rest → P (with_ends lines ++ rest)) → IfSome a P
-left_gone {a = None} P gone all = tt
-left_gone {a = Some text} {b = None} P gone all = absurd gone.consumed
-left_gone {a = Some text} {b = Some rest} P gone all = subst P (sym gone.consumed) (all rest refl)
+rest_unread {a = None} P read all = tt
+rest_unread {a = Some text} {b = None} P read all = absurd read.consumed
+rest_unread {a = Some text} {b = Some rest} P read all = subst P (sym read.consumed) (all rest refl)
 
-pub front_gone : {a b : Option (List ℕ)} {lines : List (List ℕ)} (P : List ℕ → Type 0) → Gone a lines b
+pub prefix_read : {a b : Option (List ℕ)} {lines : List (List ℕ)} (P : List ℕ → Type 0) → WereRead a lines b
     → ((text : List ℕ) → HasFront text lines → P text) → IfSome a P
-front_gone {lines = lines} P gone all = left_gone P gone
-    (λ rest left. all (with_ends lines ++ rest) (record { plain = gone.plain; rest = rest; whole = refl }))
+prefix_read {lines = lines} P read all = rest_unread P read
+    (λ rest left. all (with_ends lines ++ rest) (record { plain = read.plain; rest = rest; whole = refl }))
 
 ended : (buffer : List ℕ) (a : Option (List ℕ)) (front rest : List ℕ)
     → Consumes (Some rest) (prepend_known buffer a) front → buffer ≡ [] → IsAtEnd a
@@ -50,18 +52,18 @@ ended buffer (Some more) front rest eaten none end =
     (ap (λ (l : List ℕ). Some l) nothing, eaten ∙ ap (λ (l : List ℕ). front ++ l) nothing ∙ append-nil front)
 
 -- behind the lines stands what has no line feed, and nothing behind it
-pub all_gone : {a b : Option (List ℕ)} {lines : List (List ℕ)} (buffer : List ℕ) (c : Option (List ℕ)) (line : List ℕ)
-    {ended : Bool} (P : List ℕ → Type 0) → Gone a lines b → ended ≡ false → IsPlain line
+pub all_read : {a b : Option (List ℕ)} {lines : List (List ℕ)} (buffer : List ℕ) (c : Option (List ℕ)) (line : List ℕ)
+    {ended : Bool} (P : List ℕ → Type 0) → WereRead a lines b → ended ≡ false → IsPlain line
     → Consumes b (prepend_known buffer c) (line ++ line_end ended) → (buffer ≡ []) × IsAtEnd c
     → ((text : List ℕ) → IsCut text lines line → prepend_known buffer c ≡ Some [] → P text) → IfSome a P
-all_gone {b = b} {lines = lines} buffer c line P gone is plain eaten end all =
-    left_gone P gone (λ rest left.
+all_read {b = b} {lines = lines} buffer c line P read is plain eaten end all =
+    rest_unread P read (λ rest left.
     let last : Consumes (Some rest) (prepend_known buffer c) (line ++ []) =
     subst (λ o. Consumes o (prepend_known buffer c) (line ++ [])) left
     (subst (λ e. Consumes b (prepend_known buffer c) (line ++ line_end e)) is eaten) in
     let whole = ended buffer c (line ++ []) rest last end.0 end.1 in
     all (with_ends lines ++ rest) (record {
-      plain = gone.plain;
+      plain = read.plain;
       plain_rest = plain;
       whole = ap (λ (l : List ℕ). with_ends lines ++ l) (whole.1 ∙ append-nil line);
     }) whole.0)

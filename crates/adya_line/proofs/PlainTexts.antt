@@ -4,7 +4,7 @@ use Rattle.std.proofs.Common.{arith}
 use Rattle.std.specs.Prelude.{decimal, codes, nat_lt, nat_le, ◌&&◌, not, ◌==◌}
 use Rattle.std.specs.List.{list_all, flat_map, AllByRecursion}
 use Rattle.std.specs.Char.{is_ascii_digit}
-use Rattle.std.proofs.lemmas.Bool.{both_ways}
+use Rattle.std.proofs.lemmas.Bool.{both_ways, and_parts}
 use Rattle.std.proofs.lemmas.List.Elements.{All-append, All-from_recursion}
 use Rattle.std.proofs.lemmas.List.Concat.{flat_map-cons}
 use Rattle.std.proofs.lemmas.Fmt.{digits_decimal}
@@ -16,7 +16,6 @@ use Rattle.adya_line.specs.Meaning.Spelling.{entry_text, event_text, unfinished_
 use Rattle.adya_line.specs.Meaning.Spelling.{final_text}
 use Rattle.adya_line.specs.Meaning.Limits.{IsVersion, IsContent, IsEntry, IsEvent, IsOrder, IsFinal}
 use Rattle.adya_line.specs.Meaning.Laws.{IsPlain, HasPlainTexts}
-use Rattle.adya_line.proofs.Parts.{both_parts}
 use Rattle.adya_line.proofs.Digits.{model, list_all-is}
 
 -- a record, so that antt finds the bytes
@@ -28,7 +27,7 @@ passed : (may : ℕ → Bool) → may 10 ≡ false → (bytes : List ℕ) → li
     → AllByRecursion (λ b. b ≢ 10) bytes
 passed may stop [] all = tt
 passed may stop (b ∷ bytes) all =
-    let g = both_parts (may b) (list_all may bytes) all in
+    let g = and_parts (may b) (list_all may bytes) all in
     (λ e. both_ways (may b) (ap may e ∙ stop) g.0, passed may stop bytes g.1)
 
 by_test : (may : ℕ → Bool) → may 10 ≡ false → (bytes : List ℕ) → list_all may bytes ≡ true → Plain bytes
@@ -45,12 +44,12 @@ with_text {x = x} {y = y} p q = record { holds = All-append (λ b. b ≢ 10) x y
 
 key_plain : (k : List ℕ) → is_key k ≡ true → Plain k
 unfolding is_key_byte
-key_plain k good = by_test is_key_byte refl k (both_parts (nat_lt 0 (length k) && nat_le (length k) 32)
+key_plain k good = by_test is_key_byte refl k (and_parts (nat_lt 0 (length k) && nat_le (length k) 32)
     (list_all is_key_byte k) good).1
 
 value_plain : (v : List ℕ) → is_value v ≡ true → Plain v
 unfolding is_value_byte
-value_plain v good = by_test is_value_byte refl v (both_parts (nat_lt 0 (length v) && nat_le (length v) 64)
+value_plain v good = by_test is_value_byte refl v (and_parts (nat_lt 0 (length v) && nat_le (length v) 64)
     (list_all is_value_byte v) good).1
 
 decimal_plain : (n : ℕ) → n < 2 ^ 64 → Plain (decimal n)

@@ -19,7 +19,7 @@ use Rattle.adya_line.specs.Meaning.HistoryLines.{Line, HeadLine, EventLine, Unfi
 use Rattle.adya_line.specs.Meaning.HistoryLines.{IsLine, line_text, IsOnlyLineOf}
 use Rattle.adya_text.specs.Computing.HistoryRuns.{allows, edition_at, stage_after}
 use Rattle.adya_text.specs.Computing.HistoryRuns.{event_in, unfinished_in, order_in, final_in}
-use Rattle.adya_text.specs.Machinery.HistoryReaders.{IsTaken, IsFed, IsRefused, IsAllowed, Takes, IsKept}
+use Rattle.adya_text.specs.Machinery.HistoryReaders.{IsTaken, IsFed, IsRefused, IsAllowed, Takes}
 use Rattle.adya_text.specs.Meaning.Reading.{ReadsHistory}
 use Rattle.adya_text.specs.Machinery.HistoryReaders.{is_failed, is_done}
 use Rattle.adya_values.specs.declared.edition.Edition.{Edition}
@@ -31,8 +31,8 @@ use Rattle.adya_text.specs.declared.history_reader.HistoryReader.{HistoryReader}
 use Rattle.adya_text.specs.declared.read_fault.ReadFault.{ReadFault}
 use Rattle.adya_text.specs.declared.read_fault.ReadFault.TheVariants.{Syntax}
 use Rattle.adya_text.specs.declared.read_fault.Text.TheVariants as Of
-use Rattle.adya_text.proofs.RunLemmas.{run_join, refused, taken, one_end}
-use Rattle.adya_text.proofs.FaultLemmas.{fault_at, fault_missing, fault_stays, fault_stops, whole_begins}
+use Rattle.adya_text.proofs.Runs.{run_join, refused, taken, one_end}
+use Rattle.adya_text.proofs.FaultLines.{fault_at, fault_missing, fault_stays, fault_stops, whole_begins}
 use Rattle.adya_text.proofs.HistoryTexts.{LinesTell, HasLines, Run, end, run_of, are_lines, items_of, event_items}
 use Rattle.adya_text.proofs.HistoryTexts.{unfinished_items, order_items, final_items, held_by, items_texts}
 
@@ -183,28 +183,6 @@ fed_failed r past text fed failed = record {
   faulty = λ k is.
       let (within, fault) = fed.faulty k is in
       (omega (arith, length-append past (text ∷ [])), fault_stays AreHistoryLines past (text ∷ []) k within fault);
-}
-
-pub fed_kept : (old new : HistoryReader) (past : List (List ℕ)) → IsFed old past → IsKept old new → IsFed new past
-fed_kept old new past fed kept = record {
-  taken = λ still.
-      let t = fed.taken (ap is_failed (sym kept.stage) ∙ still) in
-      record {
-        run = record {
-          items = t.run.items;
-          goods = t.run.goods;
-          runs = t.run.runs;
-          ends = t.run.ends
-              ∙ sym kept.stage;
-          same = t.run.same;
-        };
-        events = ap (map event_of) kept.events ∙ t.events;
-        unfinished = kept.unfinished ∙ t.unfinished;
-        orders = ap (map order_of) kept.orders ∙ t.orders;
-        finals = ap (map final_of) kept.finals ∙ t.finals;
-        next = kept.next ∙ t.next;
-      };
-  faulty = λ k is. fed.faulty k (sym kept.stage ∙ is);
 }
 
 -- ---- at the end
@@ -393,20 +371,10 @@ fed_history r past text rest v fed done empty cut e ts es os fs =
 
 -- ---- the answers of the reader
 
-pub begins_unless : (r : HistoryReader) (b : Bool) → b ≡ is_failed r.stage
-    → OnFalse b ((past : List (List ℕ)) → IsFed r past → Begins AreHistoryLines past)
-begins_unless r true is = tt
-begins_unless r false is = λ past fed. fed_begins r past fed (sym is)
-
 pub stops_if : (r : HistoryReader) (b : Bool) → b ≡ is_failed r.stage
     → OnTrue b ((past : List (List ℕ)) → IsFed r past → Begins AreHistoryLines past → ⊥)
 stops_if r true is = λ past fed. fed_stops r past fed (sym is)
 stops_if r false is = tt
-
-pub done_iff : LinesTell → (r : HistoryReader) (b : Bool) → b ≡ is_done r.stage → (past : List (List ℕ)) → IsFed r past
-    → IsTrue b ↔ AreHistoryLines past
-done_iff tell r true is past fed = (λ t. fed_done r past fed (sym is), λ are. refl)
-done_iff tell r false is past fed = (λ t. absurd cc, λ are. absurd (fed_undone tell r past fed (sym is) are))
 
 pub refused_by : (s : Stage) (text : List ℕ) (y : Line) → IsOnlyLineOf y text → allows s y ≡ false → IsRefused s text
 refused_by s text y here never x there ok =
@@ -425,11 +393,6 @@ unfailed (Unfinished last) none = refl
 unfailed (Orders e last) none = refl
 unfailed (Finals e last) none = refl
 unfailed (Done e) none = refl
-
-pub kept_on_err : {T E : Type 0} (result : Result T E) (old new : HistoryReader) → IsKept old new
-    → OnErr result ((past : List (List ℕ)) → IsFed old past → IsFed new past)
-kept_on_err (Ok x) old new kept = tt
-kept_on_err (Err e) old new kept = λ past fed. fed_kept old new past fed kept
 
 pub fed_none : (r : HistoryReader) → r.stage ≡ Head → r.next ≡ 1 → r.events.items ≡ []
     → r.unfinished.items ≡ [] → r.orders.items ≡ [] → r.finals.items ≡ [] → IsFed r []

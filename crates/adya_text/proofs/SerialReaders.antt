@@ -12,7 +12,7 @@ use Rattle.adya_text.specs.Meaning.Faults.{Begins, IsFaultLine, IsCut}
 use Rattle.adya_line.specs.Meaning.SerialLines.{Line, HeadLine, TxnLine, TailLine}
 use Rattle.adya_line.specs.Meaning.SerialLines.{IsLine, line_text, IsOnlyLineOf}
 use Rattle.adya_text.specs.Computing.SerialRuns.{allows, next_stage, stage_after, txn_in}
-use Rattle.adya_text.specs.Machinery.SerialReaders.{IsFed, IsRefused, IsAllowed, Takes, IsKept, is_failed, is_done}
+use Rattle.adya_text.specs.Machinery.SerialReaders.{IsFed, IsRefused, IsAllowed, Takes, is_failed, is_done}
 use Rattle.adya_text.specs.Meaning.Reading.{ReadsSerial}
 use Rattle.adya_text.specs.declared.serial_reader.Stage.{Stage}
 use Rattle.adya_text.specs.declared.serial_reader.Stage.TheVariants.{Head, Txns, Done, Failed}
@@ -20,8 +20,8 @@ use Rattle.adya_text.specs.declared.serial_reader.SerialReader.{SerialReader}
 use Rattle.adya_text.specs.declared.read_fault.ReadFault.{ReadFault}
 use Rattle.adya_text.specs.declared.read_fault.ReadFault.TheVariants.{Syntax}
 use Rattle.adya_text.specs.declared.read_fault.Text.TheVariants as Of
-use Rattle.adya_text.proofs.RunLemmas.{run_join, refused, taken, one_end}
-use Rattle.adya_text.proofs.FaultLemmas.{fault_at, fault_missing, fault_stays, fault_stops, whole_begins}
+use Rattle.adya_text.proofs.Runs.{run_join, refused, taken, one_end}
+use Rattle.adya_text.proofs.FaultLines.{fault_at, fault_missing, fault_stays, fault_stops, whole_begins}
 use Rattle.adya_text.proofs.SerialTexts.{LinesTell, HasLines, Run, end, run_of, are_lines, items_of, txn_items, held_by}
 use Rattle.adya_text.proofs.SerialTexts.{items_texts}
 
@@ -151,25 +151,6 @@ fed_failed r past text fed failed = record {
       (omega (arith, length-append past (text ∷ [])), fault_stays AreSerialLines past (text ∷ []) k within fault);
 }
 
-pub fed_kept : (old new : SerialReader) (past : List (List ℕ)) → IsFed old past → IsKept old new → IsFed new past
-fed_kept old new past fed kept = record {
-  taken = λ still.
-      let t = fed.taken (ap is_failed (sym kept.stage) ∙ still) in
-      record {
-        run = record {
-          items = t.run.items;
-          goods = t.run.goods;
-          runs = t.run.runs;
-          ends = t.run.ends
-              ∙ sym kept.stage;
-          same = t.run.same;
-        };
-        txns = kept.txns ∙ t.txns;
-        next = kept.next ∙ t.next;
-      };
-  faulty = λ k is. fed.faulty k (sym kept.stage ∙ is);
-}
-
 -- ---- at the end
 
 pub failed_fault : (r : SerialReader) (past : List (List ℕ)) (text rest : List ℕ) (k : ℕ) → IsFed r past
@@ -222,20 +203,10 @@ fed_serial r past text rest v fed done empty cut same =
 
 -- ---- the answers of the reader
 
-pub begins_unless : (r : SerialReader) (b : Bool) → b ≡ is_failed r.stage
-    → OnFalse b ((past : List (List ℕ)) → IsFed r past → Begins AreSerialLines past)
-begins_unless r true is = tt
-begins_unless r false is = λ past fed. fed_begins r past fed (sym is)
-
 pub stops_if : (r : SerialReader) (b : Bool) → b ≡ is_failed r.stage
     → OnTrue b ((past : List (List ℕ)) → IsFed r past → Begins AreSerialLines past → ⊥)
 stops_if r true is = λ past fed. fed_stops r past fed (sym is)
 stops_if r false is = tt
-
-pub done_iff : LinesTell → (r : SerialReader) (b : Bool) → b ≡ is_done r.stage → (past : List (List ℕ)) → IsFed r past
-    → IsTrue b ↔ AreSerialLines past
-done_iff tell r true is past fed = (λ t. fed_done r past fed (sym is), λ are. refl)
-done_iff tell r false is past fed = (λ t. absurd cc, λ are. absurd (fed_undone tell r past fed (sym is) are))
 
 pub refused_by : (s : Stage) (text : List ℕ) (y : Line) → IsOnlyLineOf y text → allows s y ≡ false → IsRefused s text
 refused_by s text y here never x there ok =
@@ -251,11 +222,6 @@ unfailed (Failed k) none = absurd (none k refl)
 unfailed Head none = refl
 unfailed Txns none = refl
 unfailed Done none = refl
-
-pub kept_on_err : {T E : Type 0} (result : Result T E) (old new : SerialReader) → IsKept old new
-    → OnErr result ((past : List (List ℕ)) → IsFed old past → IsFed new past)
-kept_on_err (Ok x) old new kept = tt
-kept_on_err (Err e) old new kept = λ past fed. fed_kept old new past fed kept
 
 pub fed_none : (r : SerialReader) → r.stage ≡ Head → r.next ≡ 1 → r.txns.items ≡ [] → IsFed r []
 fed_none r stage next txns = record {

@@ -6,10 +6,10 @@ use Rattle.adya_line.specs.Meaning.Spelling.{serial_head, tail}
 use Rattle.adya_line.specs.Computing.Reading.{txn_at, txn_at_line}
 use Rattle.adya_line.specs.Meaning.Laws.{IsOneText, HasPlainTexts}
 use Rattle.adya_line.specs.Meaning.SerialLines.{Line, HeadLine, TxnLine, TailLine, IsLine, line_text, IsNoLine, IsOnlyLineOf}
-use Rattle.adya_line.proofs.Parts as parts
-use Rattle.adya_line.proofs.Readers.{one, txns_read}
-use Rattle.adya_line.proofs.HistoryKinds.{kind_or, of_kind}
-use Rattle.adya_line.proofs.Feeds.{txns_plain, serial_head_plain, tail_plain}
+use Rattle.adya_line.proofs.LineParts as parts
+use Rattle.adya_line.proofs.LineReaders.{one, txns_read}
+use Rattle.adya_line.proofs.HistoryLines.{kind_or, of_kind}
+use Rattle.adya_line.proofs.PlainTexts.{txns_plain, serial_head_plain, tail_plain}
 
 abbrev fixed_at : List ℕ → Option Line
 fixed_at text =

@@ -15,9 +15,9 @@ use Rattle.adya_line.specs.Meaning.HistoryLines.{IsLine, line_text, IsNoLine, Is
 use Rattle.adya_line.proofs.Events.{event_again, unfinished_again}
 use Rattle.adya_line.proofs.Orders.{order_again}
 use Rattle.adya_line.proofs.Finals.{final_again}
-use Rattle.adya_line.proofs.Readers.{one, events_read, unfinished_read, orders_read, finals_read}
-use Rattle.adya_line.proofs.Feeds.{events_plain, unfinished_plain, orders_plain, finals_plain}
-use Rattle.adya_line.proofs.Feeds.{history_head_plain, second_head_plain, tail_plain}
+use Rattle.adya_line.proofs.LineReaders.{one, events_read, unfinished_read, orders_read, finals_read}
+use Rattle.adya_line.proofs.PlainTexts.{events_plain, unfinished_plain, orders_plain, finals_plain}
+use Rattle.adya_line.proofs.PlainTexts.{history_head_plain, second_head_plain, tail_plain}
 
 -- ---- kinds apart
 

@@ -7,7 +7,7 @@ use Rattle.std.specs.Char.{is_ascii_digit}
 use Rattle.std.specs.Str.{all_ascii_digits}
 use Rattle.std.specs.Str.Parse.{digits_value}
 use Rattle.std.specs.Cmp.Derive.{both_true}
-use Rattle.std.proofs.lemmas.Bool.{eqb-true, eq-eqb, ltb-true, lt-ltb, le-leb}
+use Rattle.std.proofs.lemmas.Bool.{eqb-true, eq-eqb, ltb-true, lt-ltb, le-leb, and_parts, not-true}
 use Rattle.std.proofs.lemmas.Bool.Decides.{eqb_tells}
 use Rattle.std.proofs.lemmas.List.{take_at, drop_at, take-append-drop, append-nil, nil_from_length}
 use Rattle.std.proofs.lemmas.List.{get_or_append_left, get_or-take}
@@ -47,16 +47,8 @@ pub if_then : {A : Type 0} (b : Bool) (x : A) {Q : A → Type 0} → (b ≡ true
 if_then true x h = record { holds = h refl }
 if_then false x h = record { holds = tt }
 
-pub both_parts : (a b : Bool) → (a && b) ≡ true → (a ≡ true) × (b ≡ true)
-both_parts true b e = (refl, e)
-both_parts false b e = absurd cc
-
 eqb_above : (a b : ℕ) → b < a → eqb a b ≡ false
 eqb_above a b above = elim (eqb_tells a b) [ inl p ↦ absurd (omega (arith, p.1)) | inr p ↦ p.0 ]
-
-pub not_true : (b : Bool) → not b ≡ true → b ≡ false
-not_true true e = cc
-not_true false e = refl
 
 -- ---- a byte
 
@@ -72,7 +64,7 @@ pub front_len : (p : ℕ → Bool) (text rest : List ℕ) → list_all p text �
 front_len p [] [] all stop = refl
 front_len p [] (r ∷ rest) all stop = rw stop refl
 front_len p (c ∷ cs) rest all stop =
-    let g = both_parts (p c) (list_all p cs) all in
+    let g = and_parts (p c) (list_all p cs) all in
     let more = front_len p cs rest g.1 stop in
     rw g.0 (omega arith)
 
@@ -96,7 +88,7 @@ pub text_again : (limit : ℕ) (may : ℕ → Bool) (text rest : List ℕ) → i
     → may (get_or rest 0 0) ≡ false → text_at limit may (text ++ rest) ≡ Some (text, rest)
 unfolding text_at
 text_again limit may text rest good stop =
-    let g = both_parts (nat_lt 0 (length text) && nat_le (length text) limit) (list_all may text) good in
+    let g = and_parts (nat_lt 0 (length text) && nat_le (length text) limit) (list_all may text) good in
     let n : prefix_len may (text ++ rest) ≡ length text = front_len may text rest g.1 stop in
     rw (n, g.0, take_at text rest (length text) refl, drop_at text rest (length text) refl) refl
 
@@ -115,10 +107,10 @@ pub txn_takes : (bytes : List ℕ) → Only (txn_at bytes) (λ x. (bytes ≡ dec
 unfolding txn_at
 txn_takes bytes =
     if_then _ _ (λ e.
-    let tests = both_parts (nat_lt 0 (prefix_len is_ascii_digit bytes) && not (eqb (get_or bytes 0 0) 48)) _ e in
-    let first = both_parts (nat_lt 0 (prefix_len is_ascii_digit bytes)) (not (eqb (get_or bytes 0 0) 48)) tests.0 in
+    let tests = and_parts (nat_lt 0 (prefix_len is_ascii_digit bytes) && not (eqb (get_or bytes 0 0) 48)) _ e in
+    let first = and_parts (nat_lt 0 (prefix_len is_ascii_digit bytes)) (not (eqb (get_or bytes 0 0) 48)) tests.0 in
     let some : 0 < prefix_len is_ascii_digit bytes = ltb-true 0 (prefix_len is_ascii_digit bytes) first.0 in
-    let nonzero : get_or bytes 0 0 ≢ 48 = λ h. cc (not_true _ first.1, eq-eqb _ _ h) in
+    let nonzero : get_or bytes 0 0 ≢ 48 = λ h. cc (not-true _ first.1, eq-eqb _ _ h) in
     let fits : digits_value 10 (take_while is_ascii_digit bytes) < 2 ^ 32 = ltb-true _ (2 ^ 32) tests.1 in (
       rw (number_spelled bytes some nonzero fits) (sym (take-append-drop (prefix_len is_ascii_digit bytes) bytes)),
       (positive_front bytes some nonzero fits, fits),

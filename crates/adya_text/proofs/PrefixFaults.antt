@@ -2,20 +2,18 @@
 use Rattle.std.proofs.Common.{◌≡◌, ◌≢◌, ◌==◌, ℕ, suc, ◌≤◌, Bool, true, false, List, [], ◌∷◌, ◌++◌, All, length}
 use Rattle.std.proofs.Common.{refl, sym, ap, ◌∙◌, arith, append_assoc}
 use Rattle.std.proofs.lemmas.Bool.{eqb-true}
-use Rattle.std.proofs.lemmas.List.Elements.{All-cons, All-append}
+use Rattle.std.proofs.lemmas.List.Elements.{All-nil, All-cons, All-append}
 use Rattle.adya_text.specs.Meaning.Texts.{with_ends}
-use Rattle.adya_text.specs.Meaning.Faults.{IsPlain, IsCut, HasFront, IsFirstFaulty, IsFaultLine}
+use Rattle.adya_line.specs.Meaning.Laws.{IsPlain}
+use Rattle.adya_text.specs.Meaning.Faults.{IsCut, HasFront, IsFirstFaulty, IsFaultLine}
 use Rattle.adya_text.proofs.LineLists.{ends_append}
-use Rattle.adya_text.proofs.FaultLemmas.{Grammar, front_begins, whole_begins, fault_stays, fault_stops}
+use Rattle.adya_text.proofs.FaultLines.{Grammar, front_begins, whole_begins, fault_stays, fault_stops}
 
 -- the complete lines of a text, and its rest
 record Cut (text : List ℕ) : Type 0 where
   lines : List (List ℕ)
   rest : List ℕ
   cut : IsCut text lines rest
-
-none_plain : {X : Type 0} (P : X → Type 0) → All P []
-none_plain P = λ k d below. absurd (omega arith)
 
 -- a byte more in front, which is no line feed
 with_byte : (b : ℕ) (text : List ℕ) → b ≢ 10 → (lines : List (List ℕ)) (rest : List ℕ) → IsCut text lines rest
@@ -45,7 +43,7 @@ with_feed b text is c = record {
   lines = [] ∷ c.lines;
   rest = c.rest;
   cut = record {
-    plain = All-cons IsPlain [] c.lines (none_plain (λ x. x ≢ 10)) c.cut.plain;
+    plain = All-cons IsPlain [] c.lines (All-nil (λ x. x ≢ 10)) c.cut.plain;
     plain_rest = c.cut.plain_rest;
     whole = cc (is, c.cut.whole);
   };
@@ -55,7 +53,7 @@ cut_of : (text : List ℕ) → Cut text
 cut_of [] = record {
   lines = [];
   rest = [];
-  cut = record { plain = none_plain IsPlain; plain_rest = none_plain (λ x. x ≢ 10); whole = refl };
+  cut = record { plain = All-nil IsPlain; plain_rest = All-nil (λ x. x ≢ 10); whole = refl };
 }
 cut_of (b ∷ text) = by_byte (b == 10) refl (cut_of text)
   where
