@@ -1,4 +1,4 @@
--- The lines of a history tell what they hold, and have no line feed.
+-- Each line of a history has a text of its own, without a line feed.
 use Rattle.std.proofs.Common.{◌≡◌, ℕ, List, Option, Some, None, if◌then◌else◌, refl, sym, ap, ◌∙◌}
 use Rattle.std.specs.Str.{bytes_eq}
 use Rattle.std.proofs.lemmas.Option.{none-some}

@@ -1,4 +1,4 @@
--- Each part of a line that is read is spelled so, and what is spelled so is read.
+-- Each part of a line: what is read is spelled so, and what is spelled so is read.
 use Rattle.std.proofs.Common.{◌≡◌, ℕ, ◌<◌, ◌≤◌, ◌^◌, ◌≢◌, Bool, true, false, cond, eqb, List, [], ◌∷◌, ◌++◌, length}
 use Rattle.std.proofs.Common.{get_or, Option, Some, None, refl, sym, ap, ◌∙◌, append_assoc, arith, inl, inr}
 use Rattle.std.specs.Prelude.{decimal, IfSome, ◌&&◌, not, nat_lt, nat_le}

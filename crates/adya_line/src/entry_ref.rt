@@ -36,7 +36,7 @@ impl EntryRef<'_> {
     ghost use Rattle.adya_values.specs.Meaning.Histories.{entry_of};
     ghost use Rattle.adya_line.specs.Meaning.Views.{view_entry};
 
-    /// The entry by itself.
+    /// Returns the entry by itself.
     pub(crate) fn to_entry(&self) -> Entry
         ensures { entry_of result ≡ view_entry self.now }
     {

@@ -61,7 +61,7 @@ pub struct ScanRef<'a> {
     pub lo: &'a [u8],
     /// The bytes of the last key of the range, 1 to 32; the range has both.
     pub hi: &'a [u8],
-    /// The line from the first entry's `;` on, or from the closing bracket on where there is no entry.
+    /// The line from the first entry's `;` on, or from the closing bracket on if there is no entry.
     pub listed: &'a [u8],
     pub ghost is_txn: { IsTxn txn },
     pub ghost is_lo: { is_key lo.now ≡ true },
@@ -152,7 +152,7 @@ impl<'a> ScanRef<'a> {
     ghost use Rattle.adya_line.specs.Computing.Reading.{entries_of};
     ghost use Rattle.adya_line.specs.Meaning.Views.{entries_left};
 
-    /// The entries, in the order of the line.
+    /// Walks the entries, in the order of the line.
     pub fn entries(&self) -> Entries<'a>
         ensures { entries_left result ≡ entries_of self.now.listed.now }
     {

@@ -14,7 +14,7 @@ pub take_begins : (grammar : Grammar) (lines : List (List ℕ)) (j : ℕ) → Be
     → Begins grammar (take j lines)
 take_begins grammar lines j b = front_begins grammar (take j lines) (drop j lines) (rw (take-append-drop j lines) b)
 
--- where the lines begin a text, each that is there is right
+-- if the lines begin a text, none of them is faulty
 not_faulty : (grammar : Grammar) (lines : List (List ℕ)) (j : ℕ) → Begins grammar lines → j ≤ length lines
     → IsFaulty grammar lines j → ⊥
 not_faulty grammar lines j b within (inl missing) = omega arith
@@ -34,16 +34,16 @@ fault_in_front : (grammar : Grammar) (lines more : List (List ℕ)) (j : ℕ) �
 fault_in_front grammar lines more j within (inl missing) = absurd (omega (arith, length-append lines more))
 fault_in_front grammar lines more j within (inr stops) = inr (λ b. stops (rw (take-append-le j lines more within) b))
 
-fault_behind : (grammar : Grammar) (lines more : List (List ℕ)) (j : ℕ) → j ≤ length lines → IsFaulty grammar lines j
+fault_after : (grammar : Grammar) (lines more : List (List ℕ)) (j : ℕ) → j ≤ length lines → IsFaulty grammar lines j
     → IsFaulty grammar (lines ++ more) j
-fault_behind grammar lines more j within (inl missing) = absurd (omega arith)
-fault_behind grammar lines more j within (inr stops) = inr (λ b. stops (rw (take-append-le j lines more within) at b))
+fault_after grammar lines more j within (inl missing) = absurd (omega arith)
+fault_after grammar lines more j within (inr stops) = inr (λ b. stops (rw (take-append-le j lines more within) at b))
 
 pub fault_stays : (grammar : Grammar) (lines more : List (List ℕ)) (k : ℕ) → k ≤ length lines
     → IsFirstFaulty grammar lines k → IsFirstFaulty grammar (lines ++ more) k
 fault_stays grammar lines more k within fault = record {
   counted = fault.counted;
-  faulty = fault_behind grammar lines more k within fault.faulty;
+  faulty = fault_after grammar lines more k within fault.faulty;
   first = λ j low high f. fault.first j low high (fault_in_front grammar lines more j (omega arith) f);
 }
 

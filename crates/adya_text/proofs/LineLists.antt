@@ -17,7 +17,7 @@ ends_append (x ∷ xs) ys = ap (λ (r : List ℕ). x ++ (10 ∷ r)) (ends_append
 
 -- ---- one text has one cut
 
--- no line feed stands in bytes without one
+-- bytes without a line feed are not two parts with one between them
 no_feed : (bytes front back : List ℕ) → IsPlain bytes → bytes ≡ front ++ 10 ∷ back → ⊥
 no_feed [] [] back plain e = cc
 no_feed [] (f ∷ front) back plain e = cc
@@ -50,7 +50,7 @@ one_cut (x ∷ xs) (y ∷ ys) r s ax ay pr ps e =
     let later = one_cut xs ys r s (All-tail IsPlain x xs ax) (All-tail IsPlain y ys ay) pr ps first.1 in
     (cc (first.0, later.0), later.1)
 
--- where lines begin a text of lines, they are its first lines
+-- if lines begin a text of lines, they are its first lines
 pub first_lines : (xs ys : List (List ℕ)) (more : List ℕ) → All IsPlain xs → All IsPlain ys
     → with_ends ys ≡ with_ends xs ++ more → (zs : List (List ℕ)) × (ys ≡ xs ++ zs) × (more ≡ with_ends zs)
 first_lines [] ys more ax ay e = (ys, refl, sym e)

@@ -31,7 +31,7 @@ line_read {a = a} {b = b} c {lines = lines} line before is plain now =
           (Consumes-trans a b c (with_ends lines) (line ++ 10 ∷ []) before.consumed whole);
     }
 
--- the lines are a front of all the bytes, and what is left stands behind them
+-- all the bytes are the lines and then what is left
 pub rest_unread : {a b : Option (List ℕ)} {lines : List (List ℕ)} (P : List ℕ → Type 0) → WereRead a lines b
     → ((rest : List ℕ) → b ≡ Some rest → P (with_ends lines ++ rest)) → IfSome a P
 rest_unread {a = None} P read all = tt
@@ -51,7 +51,7 @@ ended buffer (Some more) front rest eaten none end =
     let nothing : buffer ++ more ≡ [] = ap (λ (l : List ℕ). l ++ more) none ∙ end in
     (ap (λ (l : List ℕ). Some l) nothing, eaten ∙ ap (λ (l : List ℕ). front ++ l) nothing ∙ append-nil front)
 
--- behind the lines stands what has no line feed, and nothing behind it
+-- after the lines there is what has no line feed, and nothing more
 pub all_read : {a b : Option (List ℕ)} {lines : List (List ℕ)} (buffer : List ℕ) (c : Option (List ℕ)) (line : List ℕ)
     {ended : Bool} (P : List ℕ → Type 0) → WereRead a lines b → ended ≡ false → IsPlain line
     → Consumes b (prepend_known buffer c) (line ++ line_end ended) → (buffer ≡ []) × IsAtEnd c

@@ -1,4 +1,4 @@
--- Runs of lines, and how the texts of their lines tell them.
+-- Runs of lines, which the texts of their lines determine.
 use Rattle.std.proofs.Common.{◌≡◌, ℕ, Bool, true, List, [], ◌∷◌, ◌++◌, map, refl, sym, ap, ◌∙◌}
 use Rattle.std.proofs.lemmas.List.{map_push, map-append}
 use Rattle.std.specs.List.{AllByRecursion}
@@ -15,7 +15,7 @@ pub end_push : {S L : Type 0} (after : S → L → S) (s : S) (xs : List L) (x :
 end_push after s [] x = refl
 end_push after s (y ∷ ys) x = end_push after (after s y) ys x
 
--- what stands behind a front was allowed there
+-- what follows a front was allowed there
 pub run_next : {S L : Type 0} (allows : S → L → Bool) (after : S → L → S) (s : S) (xs : List L) (x : L) (ys : List L)
     → IsRun allows after s (xs ++ x ∷ ys) → allows (end_of after s xs) x ≡ true
 run_next allows after s [] x ys run = run.0
@@ -36,7 +36,7 @@ pub all_map : {K L : Type 0} (P : L → Type 0) (Q : K → Type 0) (f : K → L)
 all_map P Q f each [] all = tt
 all_map P Q f each (k ∷ ks) all = (each k all.0, all_map P Q f each ks all.1)
 
--- the line whose text stands behind the texts of a front
+-- the line whose text follows the texts of a front
 pub record Split {L : Type 0} (text : L → List ℕ) (good : L → Type 0) (all front : List L) (l : List ℕ)
     (more : List (List ℕ)) : Type 0 where
   pub line : L
@@ -79,7 +79,7 @@ texts_tell text good tells (a ∷ more_a) (b ∷ more_b) ga gb e =
     let later : map text more_a ≡ map text more_b = cc in
     cc (tells a b ga.0 gb.0 here, texts_tell text good tells more_a more_b ga.1 gb.1 later)
 
--- the text of no line that is allowed behind the run goes on with it
+-- the text of a line that is not allowed after the run doesn't go on with it
 pub refused : {S L : Type 0} (allows : S → L → Bool) (after : S → L → S) (text : L → List ℕ) (good : L → Type 0)
     → IsOneText good text → (start here done : S) (lines : List (List ℕ)) (l : List ℕ) (more : List (List ℕ))
     → HasRun allows after text good start here lines → HasRun allows after text good start done (lines ++ l ∷ more)
@@ -90,7 +90,7 @@ refused allows after text good tells start here done lines l more front whole no
     let allowed = run_next allows after start front.items s.line s.rest (rw s.whole at whole.runs) in
     none s.line s.is s.same (rw front.ends at allowed)
 
--- a run goes on with a line that is allowed behind it
+-- a run goes on with a line that is allowed after it
 unfoldable pub taken : {S L : Type 0} (allows : S → L → Bool) (after : S → L → S) (text : L → List ℕ)
     (good : L → Type 0) (start here : S) (lines : List (List ℕ)) (x : L)
     → HasRun allows after text good start here lines → good x → allows here x ≡ true
@@ -113,7 +113,7 @@ end_append : {S L : Type 0} (after : S → L → S) (s : S) (xs ys : List L)
 end_append after s [] ys = refl
 end_append after s (x ∷ xs) ys = end_append after (after s x) xs ys
 
--- a run goes on with a run from where it ends
+-- a run goes on with a run from its end
 pub run_join : {S L : Type 0} (allows : S → L → Bool) (after : S → L → S) (text : L → List ℕ) (good : L → Type 0)
     (start here end : S) (lines : List (List ℕ)) (ys : List L)
     → HasRun allows after text good start here lines → AllByRecursion good ys → IsRun allows after here ys

@@ -1,5 +1,5 @@
 -- Different values have different texts, and no text begins another.
-use Rattle.std.proofs.Common.{◌≡◌, ℕ, ◌<◌, ◌⊎◌, inl, inr, List, [], ◌∷◌, ◌++◌, All, map, Result, Ok, Err, refl, sym}
+use Rattle.std.proofs.Common.{◌≢◌, ◌≡◌, ℕ, ◌<◌, ◌⊎◌, inl, inr, List, [], ◌∷◌, ◌++◌, All, map, Result, Ok, Err, refl, sym}
 use Rattle.std.proofs.Common.{ap, subst, ◌∙◌, append-nil, arith}
 use Rattle.std.specs.Prelude.{MatchResult, IsErrOf}
 use Rattle.std.specs.List.{AllByRecursion, filter_map}

@@ -35,7 +35,7 @@ enum Stage {
     Finals { edition: Edition, last: Key },
     /// None.
     Done { edition: Edition },
-    /// None: this line could not stand where it stood.
+    /// None: this line is not allowed where it comes.
     Failed { line: usize },
 }
 
@@ -83,7 +83,7 @@ impl Stage {
         }
     }
 
-    /// The edition of the head; the first before it.
+    /// Returns the edition of the head; the first one before it.
     fn edition(&self) -> Edition
         ensures { result ≡ edition_at self.now }
     {
@@ -97,7 +97,7 @@ impl Stage {
         }
     }
 
-    /// The stage behind a line.
+    /// Returns the stage after a line.
     fn after(&self, line: &HistoryLine) -> Stage
         ensures { result ≡ stage_after self.now (line_of line.now) }
     {
@@ -119,7 +119,7 @@ impl Stage {
     }
 }
 
-/// Reads a history text that comes line by line. Its answer to the first line that cannot stand there is final.
+/// Reads a history text that comes line by line. Its result at the first line that cannot come there is final.
 #[derive(Drop)]
 pub(crate) struct HistoryReader {
     alloc: Global,
@@ -147,7 +147,7 @@ impl HistoryReader {
         }
     }
 
-    /// The line by its kind, if it may come next.
+    /// Returns the line by its kind, if it may come next.
     fn allowed(&self, line: &[u8]) -> Result<Option<HistoryLine>, AllocError>
         ensures { IfOk result
             (λ o. MatchOption o (IsRefused self.now.stage line.now)
@@ -234,7 +234,7 @@ impl LineReader for HistoryReader {
     }
 }
 
-/// The history of the edition with these lists.
+/// Makes a history of the edition from these lists.
 fn of_edition(
     edition: Edition,
     events: Vec<Event>,

@@ -26,7 +26,7 @@ enum Stage {
     Txns,
     /// None.
     Done,
-    /// None: this line could not stand where it stood.
+    /// None: this line is not allowed where it comes.
     Failed { line: usize },
 }
 
@@ -52,7 +52,7 @@ impl Stage {
         }
     }
 
-    /// The stage behind a line.
+    /// Returns the stage after a line.
     fn after(line: &SerialLine) -> Stage
         ensures { result ≡ stage_after (line_of line.now) }
     {
@@ -63,7 +63,7 @@ impl Stage {
     }
 }
 
-/// Reads a certificate text that comes line by line. Its answer to the first line that cannot stand there is final.
+/// Reads a certificate text that comes line by line. Its result at the first line that cannot come there is final.
 #[derive(Drop)]
 pub(crate) struct SerialReader {
     stage: Stage,
@@ -83,7 +83,7 @@ impl SerialReader {
         }
     }
 
-    /// The line by its kind, if it may come next.
+    /// Returns the line by its kind, if it may come next.
     fn allowed(&self, line: &[u8]) -> Option<SerialLine>
         ensures { MatchOption result (IsRefused self.now.stage line.now)
             (λ x. IsAllowed self.now.stage line.now (line_of x)) }

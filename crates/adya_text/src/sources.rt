@@ -19,10 +19,10 @@ use adya_values::{History, Serial};
 use devices::Source;
 use std::alloc::Global;
 
-/// The history whose text all that the source has left is. It keeps one line and the history so far, reads to the end
-/// of the input, and stops earlier only behind a line that is a syntax fault. `Syntax` exactly where the bytes are
-/// the text of no history, with the line of the fault as [`read_history`](crate::read_history) gives it; `Device` where
-/// the source failed, `Memory` where memory ran out.
+/// Reads the text of a history from all that the source has left. It keeps one line and the history so far. It reads to
+/// the end of the input, and stops earlier only after a line that is a syntax fault. Returns `Syntax` exactly if the
+/// bytes are the text of no history, with the line of the fault as [`read_history`](crate::read_history) returns it;
+/// `Device` if the source failed, `Memory` if memory ran out.
 pub fn read_history_from<S: Source>(alloc: Global, source: &mut S) -> Result<History, ReadFault>
     ensures answer { IfSome (S.remaining source.old) (λ text. ReadsHistory text result) }
     ensures only { (h : Plain) → IsHistory h → S.remaining source.old ≡ Some (history_text h) →
@@ -38,10 +38,10 @@ pub fn read_history_from<S: Source>(alloc: Global, source: &mut S) -> Result<His
     read_rest(alloc, HistoryReader::new(alloc), &mut buffer, source)
 }
 
-/// The certificate whose text all that the source has left is. It keeps one line and the certificate so far, reads to
-/// the end of the input, and stops earlier only behind a line that is a syntax fault. `Syntax` exactly where the bytes
-/// are the text of no certificate, with the line of the fault as [`read_serial`](crate::read_serial) gives it; `Device`
-/// where the source failed, `Memory` where memory ran out.
+/// Reads the text of a certificate from all that the source has left. It keeps one line and the certificate so far. It
+/// reads to the end of the input, and stops earlier only after a line that is a syntax fault. Returns `Syntax` exactly if
+/// the bytes are the text of no certificate, with the line of the fault as [`read_serial`](crate::read_serial) returns
+/// it; `Device` if the source failed, `Memory` if memory ran out.
 pub fn read_serial_from<S: Source>(alloc: Global, source: &mut S) -> Result<Serial, ReadFault>
     ensures answer { IfSome (S.remaining source.old) (λ text. ReadsSerial text result) }
     ensures only { (ts : List ℕ) → IsSerial ts → S.remaining source.old ≡ Some (serial_text ts) →
@@ -59,9 +59,9 @@ pub fn read_serial_from<S: Source>(alloc: Global, source: &mut S) -> Result<Seri
 
 /// Reads the two texts of one stream: a history's, up to and with the first line `end`, and then a certificate's, to
 /// the end of the input. If there is no line `end`, all of the stream is the history's. It keeps one line and what the
-/// lines before it say, and stops before the end of the input only after a line that is a syntax fault. `Syntax` is as
-/// [`read_history_from`] returns it for the first text, or else as [`read_serial_from`] does for the second; `Device`
-/// if the source failed, `Memory` if memory ran out.
+/// lines before it say, and stops before the end of the input only after a line that is a syntax fault. Returns `Syntax`
+/// for the first text as [`read_history_from`] does, or else for the second as [`read_serial_from`] does; `Device` if
+/// the source failed, `Memory` if memory ran out.
 pub fn read_texts_from<S: Source>(
     alloc: Global,
     source: &mut S,
@@ -79,11 +79,9 @@ pub fn read_texts_from<S: Source>(
     Ok((history, serial))
 }
 
-/// The history whose text stands at the front of a stream of two texts: up to and with the first line `end`, or all of
-/// the stream where it has no such line. The stream is what `buffer` holds and then what the source has left; on `Ok`
-/// they hold what stands behind. After a fault nothing is said of what they hold. It keeps one line and the history
-/// so far, and stops before the line `end` only behind a line that is a syntax fault. Faults are those of
-/// [`read_history_from`].
+/// Reads the first text of a stream: the history's, up to and with the first line `end`, or all if there is no such line.
+/// The stream is what `buffer` holds and then what the source has left; on `Ok` they hold what follows. After a fault
+/// nothing is said of what they hold. Faults are those of [`read_history_from`].
 fn read_history_part<S: Source>(
     alloc: Global,
     buffer: &mut LineBuffer,
@@ -112,8 +110,8 @@ fn read_history_part<S: Source>(
     reader.finish(&line)
 }
 
-/// The certificate whose text is what `buffer` holds and then all that the source has left: the second text of a
-/// stream, behind [`read_history_part`]. Otherwise as [`read_serial_from`].
+/// Reads the text of a certificate from what `buffer` holds and then all that the source has left: the second text of a
+/// stream, after [`read_history_part`]. Otherwise it does as [`read_serial_from`].
 fn read_serial_rest<S: Source>(
     alloc: Global,
     buffer: &mut LineBuffer,

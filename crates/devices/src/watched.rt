@@ -9,9 +9,9 @@ ghost use Rattle.devices.specs.Meaning.Watched.{has_failed, reads_left, device_o
 use std::io;
 use std::io::{Error, ErrorKind, Read, Write};
 
-/// A reader or writer whose first fault is kept, with a bound on its read calls. Once it failed, or its bound was
-/// met, no call is passed on to the device any more, and each answers a fault that isn't `Interrupted`. An
-/// interrupted call is a failed one.
+/// A reader or writer that remembers whether a call of it failed, with a bound on its read calls. Once it has failed or
+/// met its bound, it passes no more calls on to the device: each call returns an error that isn't `Interrupted`. An
+/// interrupted call counts as a failed one.
 #[derive(Drop)]
 pub struct Watched<D> {
     device: D,
@@ -20,7 +20,7 @@ pub struct Watched<D> {
 }
 
 impl<D> Watched<D> {
-    /// The device, watched, with a bound of 4294967295 read calls.
+    /// Watches the device, with a bound of 4294967295 read calls.
     pub fn new(device: D) -> Watched<D>
         ensures device { device_of result ≡ device }
         ensures left { reads_left result ≡ 4294967295 }
@@ -29,7 +29,7 @@ impl<D> Watched<D> {
         Watched::with_bound(device, u32::MAX)
     }
 
-    /// The device, watched, with a bound of `most_reads` read calls: a later one isn't passed on, and is a fault.
+    /// Watches the device, with a bound of `most_reads` read calls: a later one isn't passed on, and fails.
     pub fn with_bound(device: D, most_reads: u32) -> Watched<D>
         ensures device { device_of result ≡ device }
         ensures left { reads_left result ≡ most_reads }
@@ -42,14 +42,15 @@ impl<D> Watched<D> {
         }
     }
 
-    /// Whether a call failed, wrote nothing of a nonempty slice, or met the bound: true from the first such call on.
+    /// Returns true from the first call on that returned an error, met the bound, or wrote 0 bytes of a slice that isn't
+    /// empty.
     pub fn failed(&self) -> bool
         ensures { result ≡ has_failed self.now }
     {
         self.is_failed
     }
 
-    /// The device.
+    /// Returns the device.
     pub fn into_inner(self) -> D
         ensures { result ≡ device_of self }
     {

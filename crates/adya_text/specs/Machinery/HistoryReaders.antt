@@ -36,7 +36,7 @@ is_done (Orders e last) = false
 is_done (Finals e last) = false
 is_done (Failed k) = false
 
--- each line may stand where it stands, and the reader holds what the lines hold; the stage tells their edition
+-- each line is allowed where it comes, and the reader holds what the lines hold; the stage has their edition
 pub record IsTaken (r : HistoryReader) (lines : List (List ℕ)) : Type 0 where
   pub run : HasRun allows stage_after line_text IsLine Head r.stage lines
   pub events : map event_of r.events.items ≡ filter_map event_in run.items

@@ -27,7 +27,7 @@ is_done Head = false
 is_done Txns = false
 is_done (Failed k) = false
 
--- each line may stand where it stands, and the reader holds what the lines hold
+-- each line is allowed where it comes, and the reader holds what the lines hold
 pub record IsTaken (r : SerialReader) (lines : List (List ℕ)) : Type 0 where
   pub run : HasRun allows next_stage line_text IsLine Head r.stage lines
   pub txns : r.txns.items ≡ filter_map txn_in run.items

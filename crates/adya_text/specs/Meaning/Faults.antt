@@ -20,7 +20,7 @@ pub record Begins (grammar : List (List ℕ) → Type 0) (lines : List (List ℕ
   pub more : List (List ℕ)
   pub within : grammar (lines ++ more)
 
--- there is no line k, or the first k lines begin no text of the grammar
+-- line k is missing, or no text of the grammar begins with the lines up to k
 abbrev pub IsFaulty : (List (List ℕ) → Type 0) → List (List ℕ) → ℕ → Type 0
 IsFaulty grammar lines k = (length lines < k) ⊎ (Begins grammar (take k lines) → ⊥)
 

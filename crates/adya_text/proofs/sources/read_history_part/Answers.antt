@@ -8,7 +8,8 @@ use Rattle.adya_text.specs.Meaning.Reading.{ReadsHistory}
 use Rattle.adya_text.specs.Meaning.Streams.{history_part, serial_part}
 use Rattle.std.proofs.lemmas.List.Elements.{All-push}
 use Rattle.adya_text.proofs.LinesRead.{line_read, rest_unread, prefix_read, all_read, on_ok}
-use Rattle.adya_text.proofs.StreamParts.{HasNoEnd, part_front, part_at_end, part_of_all}
+use Rattle.adya_text.specs.Meaning.Laws.{HasNoEnd}
+use Rattle.adya_text.proofs.StreamParts.{part_front, part_at_end, part_of_all}
 use Rattle.adya_text.proofs.sources.read_history_part.Goals as goal
 
 pub returns-then-is_tail-clause-answer : goal.returns-then-is_tail-clause-answer
