@@ -1,8 +1,7 @@
 -- From an order or a cycle of arcs to a certificate or a cycle of the history.
-use Rattle.std.proofs.Common.{◌≡◌, ◌≢◌, ◌⊎◌, ◌==◌, ◌<◌, ℕ, zero, suc, true, cond, List, [], ◌∷◌, map, Contains, Any, refl, sym, ◌∙◌, ap, subst, inl, inr, arith, Some, Result, Ok, Err, IfOk}
+use Rattle.std.proofs.Common.{◌≡◌, ◌≢◌, ◌⊎◌, ◌==◌, ℕ, suc, true, cond, List, [], ◌∷◌, map, Contains, Any, refl, sym, ◌∙◌, ap, subst, inl, inr, arith, Some, Result, Ok, Err, IfOk}
 use Rattle.std.specs.declared.alloc.AllocError.{AllocError}
 use Rattle.std.specs.List.{list_any, AllByRecursion}
-use Rattle.std.proofs.lemmas.List.{get_or-map, length-map}
 use Rattle.std.proofs.lemmas.List.Elements.{All-from_recursion, All-contains}
 use Rattle.adya_values.specs.Meaning.Histories.{History}
 use Rattle.adya_values.specs.Meaning.Events.{is_committed}

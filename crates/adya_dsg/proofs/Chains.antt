@@ -1,16 +1,13 @@
 -- Along an order line whose write dependencies go forward, a later writer is the same or comes later.
-use Rattle.std.proofs.Common.{◌≡◌, ◌≢◌, ℕ, zero, suc, ◌+◌, ◌-◌, ◌<◌, ◌≤◌, ◌==◌, ◌⊎◌, Bool, true, false, cond, List, [], ◌∷◌, ◌++◌, map, length, get_or, slice_get, Option, Some, None, refl, sym, ◌∙◌, ap, subst, arith, inl, inr}
-use Rattle.std.specs.List.{find, flat_map, Contains}
+use Rattle.std.proofs.Common.{◌≡◌, ◌≢◌, ℕ, zero, suc, ◌+◌, ◌-◌, ◌<◌, ◌≤◌, ◌==◌, ◌⊎◌, Bool, true, false, cond, List, [], ◌∷◌, length, get_or, Option, Some, None, sym, ◌∙◌, ap, subst, arith, inl, inr}
+use Rattle.std.specs.List.{find, Contains}
 use Rattle.std.proofs.lemmas.Bool.{cases_Bool, cases_eq, eq-eqb, ne_eqb, both_ways}
 use Rattle.std.proofs.lemmas.Option.{none-some, same_Some, slice_get_within, slice_get-get_or}
-use Rattle.adya_values.specs.declared.order.Order.{Order as OrderValue}
-use Rattle.adya_values.specs.Meaning.Keys.{keys_rise}
-use Rattle.adya_values.specs.Meaning.Histories.{Order, History, order_of}
-use Rattle.adya_values.specs.Meaning.Orders.{writers, line_of, installer}
+use Rattle.adya_values.specs.Meaning.Histories.{History}
+use Rattle.adya_values.specs.Meaning.Orders.{writers, installer}
 use Rattle.adya_values.specs.Meaning.Edges.{Kind, Ww, Edge}
 use Rattle.adya_values.specs.Computing.EdgeList.{numbers, places, joined, write_edges}
 use Rattle.adya_values.specs.Meaning.Acceptance.{IsBefore}
-use Rattle.adya_dsg.specs.Machinery.PartEdges.{line_edges}
 use Rattle.lemmas.proofs.Members.{none_contained, Contains-cons, Contains-flat_map}
 
 pub Contains-joined : (kind : Kind) (k : List ℕ) (x y : Option ℕ) (a b : ℕ) → x ≡ Some a → y ≡ Some b → a ≢ b

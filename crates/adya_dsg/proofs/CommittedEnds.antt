@@ -1,6 +1,5 @@
 -- The ends of edges are committed transactions.
-use Rattle.std.proofs.Common.{◌≡◌, ℕ, zero, suc, ◌==◌, ◌<◌, true, cond, ◌||◌, List, [], ◌∷◌, Some, is_some, refl, ap, arith, inl, inr}
-use Rattle.std.specs.List.{list_any, slice_get}
+use Rattle.std.proofs.Common.{◌≡◌, ℕ, zero, suc, true, List, Some, is_some, arith, inl, inr}
 use Rattle.std.proofs.lemmas.Bool.{cases_Bool, and_parts, cond-false}
 use Rattle.lemmas.proofs.Counts.{count_at}
 use Rattle.adya_values.specs.Meaning.Histories.{History}

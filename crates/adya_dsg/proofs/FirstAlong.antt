@@ -1,12 +1,12 @@
 -- The first edges along arcs: one more edge in a pass, and what the edges of a cycle are.
-use Rattle.std.proofs.Common.{◌≡◌, ℕ, zero, suc, ◌+◌, ◌<◌, ◌==◌, true, false, ◌&&◌, cond, List, [], ◌∷◌, ◌++◌, map, take, get_or, length, Contains, Option, Some, None, is_some, IsSome, refl, sym, ◌∙◌, ap, arith, inl, inr, Ordering, Less, Equal, Greater}
+use Rattle.std.proofs.Common.{◌≡◌, ℕ, ◌+◌, ◌<◌, ◌==◌, true, false, ◌&&◌, cond, List, [], ◌∷◌, ◌++◌, map, take, get_or, length, Contains, Option, Some, None, is_some, IsSome, refl, sym, ◌∙◌, ap, inl, inr, Ordering, Less, Equal, Greater}
 use Rattle.std.specs.List.{list_any, AllByRecursion}
 use Rattle.std.specs.Option.{option_or}
 use Rattle.std.specs.BTreeMap.{BTreeMap, get}
 use Rattle.std.specs.Ordering.{is_eq, nat_cmp, ordering_then}
 use Rattle.std.proofs.lemmas.Bool.{cases_Bool, and_parts, and_from, eq-eqb, eqb-true, both_ways}
 use Rattle.std.proofs.lemmas.List.{take_more, map-append}
-use Rattle.std.proofs.lemmas.List.Folds.{find-append, list_any-from_Any}
+use Rattle.std.proofs.lemmas.List.Folds.{find-append}
 use Rattle.std.specs.Cmp.{unsigned_ties}
 use Rattle.lemmas.proofs.Members.{map-source}
 use Rattle.lemmas.proofs.Options.{none_unless_some, option_or-none, option_or-some}

@@ -5,12 +5,8 @@ use Rattle.std.proofs.lemmas.Bool.{eq-eqb, eqb-true, lt-ltb, and_parts, and_from
 use Rattle.std.proofs.lemmas.Option.{none-some, same_Some}
 use Rattle.std.proofs.lemmas.List.{map-append}
 use Rattle.std.proofs.lemmas.List.Elements.{Contains-append_left, Contains-append_right, Contains-append_cases}
-use Rattle.adya_values.specs.declared.history.History.{History as HistoryValue}
 use Rattle.adya_values.specs.declared.order.Order.{Order as OrderValue}
-use Rattle.adya_values.specs.Meaning.Keys.{keys_rise}
-use Rattle.adya_values.specs.Meaning.Histories.{Event, Order, History, order_of, final_of}
-use Rattle.adya_values.specs.Meaning.Values.{history_of}
-use Rattle.adya_values.specs.Computing.Shapes.{is_shape}
+use Rattle.adya_values.specs.Meaning.Histories.{Event, Order, History, order_of}
 use Rattle.adya_values.specs.Meaning.Events.{txn_of, is_committed}
 use Rattle.adya_values.specs.Meaning.Orders.{place, installer}
 use Rattle.adya_values.specs.Meaning.Selections.{is_scan, changes_matches, selected, reads_from, overwritten_by}

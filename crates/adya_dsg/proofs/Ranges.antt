@@ -1,6 +1,6 @@
 -- The places that a selection depends on, by the places where the matches change.
 use Rattle.std.proofs.Common.{◌≡◌, ℕ, zero, suc, ◌+◌, ◌==◌, ◌<◌, ◌≤◌, Bool, true, false, cond, ◌&&◌, ◌||◌, nat_lt, List, [], ◌∷◌, ◌++◌, Some, None, filter, find, flat_map, refl, sym, ◌∙◌, ap, arith, inl, inr, append-nil, append_assoc}
-use Rattle.std.proofs.lemmas.Bool.{cases_Bool, cases_eq, eq-eqb, ne_eqb, lt-ltb, le-ltb}
+use Rattle.std.proofs.lemmas.Bool.{cases_eq, eq-eqb, ne_eqb, lt-ltb, le-ltb}
 use Rattle.std.proofs.Math.Bool.{or-true, or-false}
 use Rattle.lemmas.proofs.Filters.{filter_both}
 use Rattle.adya_values.specs.Computing.EdgeList.{numbers}

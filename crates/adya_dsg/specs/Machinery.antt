@@ -6,3 +6,4 @@ pub mod Links
 pub mod Nodes
 pub mod PartEdges
 pub mod Places
+pub mod VersionOrders

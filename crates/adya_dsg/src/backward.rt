@@ -3,11 +3,13 @@
 ghost use Rattle.std.specs.Prelude.{◌≡◌, None, true, IfOk, map, option_map, filter, flat_map, Contains};
 ghost use Rattle.std.specs.List.{find};
 ghost use Rattle.adya_values.specs.Meaning.Histories.{event_of, order_of};
-ghost use Rattle.adya_values.specs.Meaning.Values.{history_of};
+ghost use Rattle.adya_values.specs.Meaning.Values.{serial_txns};
 ghost use Rattle.adya_values.specs.Meaning.Events.{txn_of, is_committed};
 ghost use Rattle.adya_values.specs.Computing.EdgeList.{write_edges, event_edges};
 ghost use Rattle.adya_values.specs.Computing.Certificates.{first_backward};
 ghost use Rattle.adya_values.specs.Meaning.Acceptance.{IsChecked};
+ghost use Rattle.adya_terms.specs.Meaning.Checked.{checked_history};
+ghost use Rattle.adya_dsg.specs.Machinery.VersionOrders.{ordered_history};
 ghost use Rattle.adya_dsg.specs.Meaning.Values.{edge_of};
 ghost use Rattle.adya_dsg.specs.Machinery.PartEdges.{line_edges, is_backward};
 
@@ -33,7 +35,7 @@ pub fn first_backward(
     serial: &Serial,
 ) -> Result<Option<Edge>, AllocError>
     ensures { IfOk result (λ o. option_map edge_of o
-        ≡ first_backward (history_of checked.now.history.now) serial.now.txns.items) }
+        ≡ first_backward (checked_history checked.now) (serial_txns serial.now)) }
 {
     edge_list_keeps_first();
     let certificate = CertificatePlaces::of(alloc, serial.txns())?;
@@ -71,10 +73,10 @@ fn first_read(
     certificate: &CertificatePlaces,
     versions: &VersionOrders,
 ) -> Result<Option<Edge>, AllocError>
-    requires checked { IsChecked (history_of versions.now.checked.now.history.now) }
-    requires writes { let h = history_of versions.now.checked.now.history.now in
+    requires checked { IsChecked (ordered_history versions.now) }
+    requires writes { let h = ordered_history versions.now in
         find (is_backward certificate.now.txns.now) (flat_map (λ o. write_edges h o.key) h.orders) ≡ None }
-    ensures { let h = history_of versions.now.checked.now.history.now in
+    ensures { let h = ordered_history versions.now in
         IfOk result (λ o. option_map edge_of o ≡ find (is_backward certificate.now.txns.now)
         (flat_map (event_edges h) (filter (λ e. is_committed h.events (txn_of e)) h.events))) }
 {
@@ -99,13 +101,13 @@ fn first_of_event(
     event: &Event,
     edges: &mut Vec<Edge>,
 ) -> Result<Option<Edge>, AllocError>
-    requires checked { IsChecked (history_of versions.now.checked.now.history.now) }
-    requires writes { let h = history_of versions.now.checked.now.history.now in
+    requires checked { IsChecked (ordered_history versions.now) }
+    requires writes { let h = ordered_history versions.now in
         find (is_backward certificate.now.txns.now) (flat_map (λ o. write_edges h o.key) h.orders) ≡ None }
-    requires occurs { Contains (history_of versions.now.checked.now.history.now).events (event_of event.now) }
-    requires committed { is_committed (history_of versions.now.checked.now.history.now).events (txn_of (event_of event.now))
+    requires occurs { Contains (ordered_history versions.now).events (event_of event.now) }
+    requires committed { is_committed (ordered_history versions.now).events (txn_of (event_of event.now))
         ≡ true }
-    ensures { let h = history_of versions.now.checked.now.history.now in
+    ensures { let h = ordered_history versions.now in
         IfOk result (λ o. option_map edge_of o
         ≡ find (is_backward certificate.now.txns.now) (event_edges h (event_of event.now))) }
 {

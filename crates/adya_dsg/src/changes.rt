@@ -2,9 +2,9 @@
 
 ghost use Rattle.std.specs.Prelude.{◌≡◌, IfOk, map, is_some};
 ghost use Rattle.adya_values.specs.Meaning.Histories.{order_of};
-ghost use Rattle.adya_values.specs.Meaning.Values.{history_of};
 ghost use Rattle.adya_values.specs.Meaning.Events.{last_write, shown};
 ghost use Rattle.adya_values.specs.Meaning.Orders.{writers};
+ghost use Rattle.adya_terms.specs.Meaning.Checked.{checked_history};
 ghost use Rattle.adya_dsg.specs.Machinery.Links.{changed_places};
 
 use adya_terms::Checked;
@@ -13,7 +13,7 @@ use std::alloc::{AllocError, Global};
 
 /// Whether the transaction's last write of the key leaves a value.
 pub(crate) fn shows(checked: &Checked, txn: Txn, key: Key) -> bool
-    ensures { result ≡ is_some (shown (last_write txn key (history_of checked.now.history.now).events)) }
+    ensures { result ≡ is_some (shown (last_write txn key (checked_history checked.now).events)) }
 {
     match checked.last_write(txn, key) {
         Some(
@@ -28,7 +28,7 @@ pub(crate) fn shows(checked: &Checked, txn: Txn, key: Key) -> bool
 
 /// Returns for each order line the places whose versions change the matches.
 pub(crate) fn line_changes(alloc: Global, checked: &Checked) -> Result<Vec<Vec<usize>>, AllocError>
-    ensures { let h = history_of checked.now.history.now in
+    ensures { let h = checked_history checked.now in
         IfOk result (λ v. map (λ line. line.items) v.items ≡ map (λ o. changed_places h o.key) h.orders) }
 {
     let orders = checked.history().orders();
@@ -40,8 +40,8 @@ pub(crate) fn line_changes(alloc: Global, checked: &Checked) -> Result<Vec<Vec<u
 }
 
 fn changed_places(alloc: Global, checked: &Checked, order: &Order) -> Result<Vec<usize>, AllocError>
-    requires { writers (history_of checked.now.history.now) order.now.key ≡ order.now.writers.items }
-    ensures { IfOk result (λ v. v.items ≡ changed_places (history_of checked.now.history.now) order.now.key) }
+    requires { writers (checked_history checked.now) order.now.key ≡ order.now.writers.items }
+    ensures { IfOk result (λ v. v.items ≡ changed_places (checked_history checked.now) order.now.key) }
 {
     let mut places = Vec::new(alloc);
     let mut was = false;

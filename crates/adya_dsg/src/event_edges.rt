@@ -2,9 +2,9 @@
 
 ghost use Rattle.std.specs.Prelude.{◌≡◌, ◌<◌, ◌++◌, length, map, true, OnOk, Contains};
 ghost use Rattle.adya_values.specs.Meaning.Histories.{event_of};
-ghost use Rattle.adya_values.specs.Meaning.Values.{history_of};
 ghost use Rattle.adya_values.specs.Meaning.Selections.{is_scan};
 ghost use Rattle.adya_values.specs.Computing.EdgeList.{event_edges, read_edges, overwrite_edges};
+ghost use Rattle.adya_dsg.specs.Machinery.VersionOrders.{ordered_history, order_lines};
 ghost use Rattle.adya_dsg.specs.Meaning.Values.{edge_of};
 ghost use Rattle.adya_dsg.specs.Machinery.Choices.{choice_of, key_at};
 ghost use Rattle.adya_dsg.specs.Machinery.PartEdges.{choice_edges};
@@ -24,8 +24,8 @@ pub(crate) fn push_event_edges(
     versions: &VersionOrders,
     event: &Event,
 ) -> Result<(), AllocError>
-    requires { Contains (history_of versions.now.checked.now.history.now).events (event_of event.now) }
-    ensures { let h = history_of versions.now.checked.now.history.now in
+    requires { Contains (ordered_history versions.now).events (event_of event.now) }
+    ensures { let h = ordered_history versions.now in
         OnOk result (map edge_of edges.new.items ≡ map edge_of edges.old.items ++ event_edges h (event_of event.now)) }
 {
     let selections = selections(alloc, versions, event)?;
@@ -41,8 +41,8 @@ fn push_edges_at(
     event: &Event,
     at: Selection,
 ) -> Result<(), AllocError>
-    requires { at.line < length versions.now.checked.now.history.now.orders.items }
-    ensures { let h = history_of versions.now.checked.now.history.now in
+    requires { at.line < length (order_lines versions.now) }
+    ensures { let h = ordered_history versions.now in
         OnOk result (map edge_of edges.new.items
         ≡ map edge_of edges.old.items ++ choice_edges h (event_of event.now) (choice_of h at)) }
 {
@@ -62,8 +62,8 @@ fn push_sources(
     at: Selection,
 ) -> Result<(), AllocError>
     requires scan { is_scan (event_of event.now) ≡ true }
-    requires within { at.line < length versions.now.checked.now.history.now.orders.items }
-    ensures { let h = history_of versions.now.checked.now.history.now in
+    requires within { at.line < length (order_lines versions.now) }
+    ensures { let h = ordered_history versions.now in
         OnOk result (map edge_of edges.new.items
         ≡ map edge_of edges.old.items ++ read_edges h (event_of event.now) (key_at h at.line) at.place) }
 {
@@ -89,8 +89,8 @@ fn push_overwriters(
     at: Selection,
 ) -> Result<(), AllocError>
     requires scan { is_scan (event_of event.now) ≡ true }
-    requires within { at.line < length versions.now.checked.now.history.now.orders.items }
-    ensures { let h = history_of versions.now.checked.now.history.now in
+    requires within { at.line < length (order_lines versions.now) }
+    ensures { let h = ordered_history versions.now in
         OnOk result (map edge_of edges.new.items
         ≡ map edge_of edges.old.items ++ overwrite_edges h (event_of event.now) (key_at h at.line) at.place) }
 {

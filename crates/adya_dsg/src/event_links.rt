@@ -2,8 +2,8 @@
 
 ghost use Rattle.std.specs.Prelude.{◌≡◌, ◌<◌, ◌++◌, length, map, OnOk, Contains};
 ghost use Rattle.adya_values.specs.Meaning.Histories.{event_of};
-ghost use Rattle.adya_values.specs.Meaning.Values.{history_of};
 ghost use Rattle.adya_values.specs.Meaning.Selections.{is_scan};
+ghost use Rattle.adya_dsg.specs.Machinery.VersionOrders.{ordered_history, order_lines};
 ghost use Rattle.adya_dsg.specs.Meaning.Values.{edge_of};
 ghost use Rattle.adya_dsg.specs.Machinery.Choices.{choice_of, key_at};
 ghost use Rattle.adya_dsg.specs.Machinery.Links.{overwriter, choice_links, event_links};
@@ -22,8 +22,8 @@ pub(crate) fn push_event_links(
     versions: &VersionOrders,
     event: &Event,
 ) -> Result<(), AllocError>
-    requires { Contains (history_of versions.now.checked.now.history.now).events (event_of event.now) }
-    ensures { let h = history_of versions.now.checked.now.history.now in
+    requires { Contains (ordered_history versions.now).events (event_of event.now) }
+    ensures { let h = ordered_history versions.now in
         OnOk result (map edge_of edges.new.items ≡ map edge_of edges.old.items ++ event_links h (event_of event.now)) }
 {
     let selections = selections(alloc, versions, event)?;
@@ -41,8 +41,8 @@ pub(crate) fn push_links_at(
     event: &Event,
     at: Selection,
 ) -> Result<(), AllocError>
-    requires { at.line < length versions.now.checked.now.history.now.orders.items }
-    ensures { let h = history_of versions.now.checked.now.history.now in
+    requires { at.line < length (order_lines versions.now) }
+    ensures { let h = ordered_history versions.now in
         OnOk result (map edge_of edges.new.items
         ≡ map edge_of edges.old.items ++ choice_links h (event_of event.now) (choice_of h at)) }
 {
@@ -57,8 +57,8 @@ pub(crate) fn push_links_at(
 /// Returns who installed the first version that overwrites what the event reads or selects: the next one, or, if a scan
 /// selects a version that isn't visible, the next visible one.
 fn overwriter(versions: &VersionOrders, event: &Event, at: Selection) -> Option<Txn>
-    requires { at.line < length versions.now.checked.now.history.now.orders.items }
-    ensures { let h = history_of versions.now.checked.now.history.now in
+    requires { at.line < length (order_lines versions.now) }
+    ensures { let h = ordered_history versions.now in
         result ≡ overwriter h (event_of event.now) (key_at h at.line) at.place }
 {
     if is_scan(event) && !versions.is_visible(at.line, at.place) {

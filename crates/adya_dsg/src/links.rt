@@ -2,9 +2,10 @@
 
 ghost use Rattle.std.specs.Prelude.{◌≡◌, ◌++◌, IfOk, OnOk, map, filter, flat_map};
 ghost use Rattle.adya_values.specs.Meaning.Histories.{order_of};
-ghost use Rattle.adya_values.specs.Meaning.Values.{history_of};
 ghost use Rattle.adya_values.specs.Meaning.Events.{txn_of, is_committed};
 ghost use Rattle.adya_values.specs.Computing.EdgeList.{edge_list};
+ghost use Rattle.adya_terms.specs.Meaning.Checked.{checked_history};
+ghost use Rattle.adya_dsg.specs.Machinery.VersionOrders.{ordered_history};
 ghost use Rattle.adya_dsg.specs.Meaning.Values.{edge_of};
 ghost use Rattle.adya_dsg.specs.Machinery.Arcs.{AreEnds, Decide, ends};
 ghost use Rattle.adya_dsg.specs.Machinery.PartEdges.{line_edges};
@@ -23,8 +24,8 @@ use std::alloc::{AllocError, Global};
 /// Returns the arcs of the links, which decide for each order of the transactions whether all edges go forward in it;
 /// `AllocError` if memory is refused.
 pub(crate) fn links(alloc: Global, checked: &Checked) -> Result<Vec<Arc>, AllocError>
-    ensures sound { IfOk result (λ v. AreEnds (edge_list (history_of checked.now.history.now)) v.items) }
-    ensures enough { IfOk result (λ v. Decide (edge_list (history_of checked.now.history.now)) v.items) }
+    ensures sound { IfOk result (λ v. AreEnds (edge_list (checked_history checked.now)) v.items) }
+    ensures enough { IfOk result (λ v. Decide (edge_list (checked_history checked.now)) v.items) }
 {
     edge_list_keeps_first();
     selected_is_installed();
@@ -53,7 +54,7 @@ fn add_event_arcs(
     versions: &VersionOrders,
     arcs: &mut Vec<Arc>,
 ) -> Result<(), AllocError>
-    ensures { let h = history_of versions.now.checked.now.history.now in
+    ensures { let h = ordered_history versions.now in
         OnOk result (arcs.new.items ≡ arcs.old.items
         ++ map ends (flat_map (event_links h) (filter (λ e. is_committed h.events (txn_of e)) h.events))) }
 {

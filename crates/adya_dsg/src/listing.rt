@@ -2,9 +2,10 @@
 
 ghost use Rattle.std.specs.Prelude.{◌≡◌, ◌≢◌, IfOk, OnOk, map, filter, flat_map, fold};
 ghost use Rattle.std.specs.List.{AllPairs};
-ghost use Rattle.adya_values.specs.Meaning.Values.{history_of};
 ghost use Rattle.adya_values.specs.Meaning.Events.{txn_of, is_committed};
 ghost use Rattle.adya_values.specs.Computing.EdgeList.{with_edge, edge_list, write_edges, event_edges};
+ghost use Rattle.adya_terms.specs.Meaning.Checked.{checked_history};
+ghost use Rattle.adya_dsg.specs.Machinery.VersionOrders.{ordered_history};
 ghost use Rattle.adya_dsg.specs.Meaning.Values.{edge_of, AreEdges};
 
 use crate::Edge;
@@ -27,9 +28,9 @@ use std::alloc::{AllocError, Global};
 /// It takes O((n + e) log n) steps for e edges with repeats, where n counts the events, the entries that scans list,
 /// the keys of their ranges and the transactions of the orders.
 pub fn edges(alloc: Global, checked: &Checked) -> Result<Vec<Edge>, AllocError>
-    ensures exact { IfOk result (λ v. map edge_of v.items ≡ edge_list (history_of checked.now.history.now)) }
+    ensures exact { IfOk result (λ v. map edge_of v.items ≡ edge_list (checked_history checked.now)) }
     // The edges of the graph and no other, none twice.
-    ensures edges { IfOk result (λ v. AreEdges (history_of checked.now.history.now) (map edge_of v.items)) }
+    ensures edges { IfOk result (λ v. AreEdges (checked_history checked.now) (map edge_of v.items)) }
     ensures once { IfOk result (λ v. AllPairs (λ a b. a ≢ b) (map edge_of v.items)) }
 {
     edge_list_is_exact();
@@ -46,7 +47,7 @@ fn add_write_edges(
     versions: &VersionOrders,
     set: &mut IndexSet<Edge>,
 ) -> Result<(), AllocError>
-    ensures { let h = history_of versions.now.checked.now.history.now in
+    ensures { let h = ordered_history versions.now in
         OnOk result (map edge_of set.new.keys
         ≡ fold with_edge (map edge_of set.old.keys) (flat_map (λ o. write_edges h o.key) h.orders)) }
 {
@@ -65,7 +66,7 @@ fn add_event_edges(
     versions: &VersionOrders,
     set: &mut IndexSet<Edge>,
 ) -> Result<(), AllocError>
-    ensures { let h = history_of versions.now.checked.now.history.now in
+    ensures { let h = ordered_history versions.now in
         OnOk result (map edge_of set.new.keys ≡ fold with_edge (map edge_of set.old.keys)
         (flat_map (event_edges h) (filter (λ e. is_committed h.events (txn_of e)) h.events))) }
 {

@@ -3,6 +3,7 @@
 ghost use Rattle.std.specs.Prelude.{◌≡◌, map, All, IfOk};
 ghost use Rattle.adya_values.specs.Meaning.Keys.{IsTxn};
 ghost use Rattle.adya_values.specs.Meaning.Histories.{event_of};
+ghost use Rattle.adya_values.specs.Meaning.Values.{serial_txns};
 ghost use Rattle.adya_dsg.specs.Machinery.Nodes.{committed};
 
 use adya_values::{Event, Serial, Txn};
@@ -25,7 +26,7 @@ pub(crate) fn committed(alloc: Global, events: &[Event]) -> Result<Vec<u32>, All
 /// Returns the certificate of the transactions with these numbers; `AllocError` if memory is refused.
 pub(crate) fn serial_of(alloc: Global, nodes: &[u32]) -> Result<Serial, AllocError>
     requires { All IsTxn nodes.now }
-    ensures { IfOk result (λ s. s.txns.items ≡ nodes.now) }
+    ensures { IfOk result (λ s. serial_txns s ≡ nodes.now) }
 {
     let mut txns = Vec::new(alloc);
     for n in nodes {

@@ -2,9 +2,9 @@
 
 ghost use Rattle.std.specs.Prelude.{◌≡◌, ◌↔◌, All, IfOk, map};
 ghost use Rattle.adya_values.specs.Meaning.Keys.{IsTxn};
-ghost use Rattle.adya_values.specs.Meaning.Values.{history_of};
 ghost use Rattle.adya_values.specs.Meaning.Acceptance.{IsChecked};
 ghost use Rattle.adya_values.specs.Meaning.Phenomena.{HasG1, HasG2};
+ghost use Rattle.adya_terms.specs.Meaning.Checked.{checked_history};
 ghost use Rattle.adya_dsg.specs.Machinery.Arcs.{ends};
 ghost use Rattle.adya_dsg.specs.Meaning.Values.{edge_of};
 ghost use Rattle.adya_dsg.specs.Machinery.Nodes.{committed};
@@ -29,9 +29,9 @@ use std::alloc::{AllocError, Global};
 /// the edges of the graph. So in the certificate the smallest transaction that no other has to precede any more always
 /// comes next. If several edges join two neighbours on the cycle, the one that comes first in [`edges`] is taken.
 pub fn order(alloc: Global, checked: &Checked) -> Result<Found, AllocError>
-    ensures found { IfOk result (IsFound (history_of checked.now.history.now)) }
-    ensures refused { IfOk result (NoneBesideCycle (history_of checked.now.history.now)) }
-    ensures decided { let h = history_of checked.now.history.now in
+    ensures found { IfOk result (IsFound (checked_history checked.now)) }
+    ensures refused { IfOk result (NoneBesideCycle (checked_history checked.now)) }
+    ensures decided { let h = checked_history checked.now in
         HasCertificate h ↔ ((HasG1 h → ⊥) × (HasG2 h → ⊥)) }
 {
     certified_where_no_phenomenon();
@@ -42,10 +42,10 @@ pub fn order(alloc: Global, checked: &Checked) -> Result<Found, AllocError>
 
 // By the links, which are few. If they have a cycle, by all edges.
 fn by_links(alloc: Global, checked: &Checked, nodes: &[u32]) -> Result<Found, AllocError>
-    requires checked { IsChecked (history_of checked.now.history.now) }
-    requires nodes { nodes.now ≡ committed (history_of checked.now.history.now).events }
+    requires checked { IsChecked (checked_history checked.now) }
+    requires nodes { nodes.now ≡ committed (checked_history checked.now).events }
     requires numbers { All IsTxn nodes.now }
-    ensures { IfOk result (IsFound (history_of checked.now.history.now)) }
+    ensures { IfOk result (IsFound (checked_history checked.now)) }
 {
     edge_list_is_exact();
     edges_join_committed();
@@ -57,10 +57,10 @@ fn by_links(alloc: Global, checked: &Checked, nodes: &[u32]) -> Result<Found, Al
 
 // By all edges.
 fn by_edges(alloc: Global, checked: &Checked, nodes: &[u32]) -> Result<Found, AllocError>
-    requires checked { IsChecked (history_of checked.now.history.now) }
-    requires nodes { nodes.now ≡ committed (history_of checked.now.history.now).events }
+    requires checked { IsChecked (checked_history checked.now) }
+    requires nodes { nodes.now ≡ committed (checked_history checked.now).events }
     requires numbers { All IsTxn nodes.now }
-    ensures { IfOk result (IsFound (history_of checked.now.history.now)) }
+    ensures { IfOk result (IsFound (checked_history checked.now)) }
 {
     edge_list_is_exact();
     edges_join_committed();

@@ -4,8 +4,8 @@ ghost use Rattle.std.specs.Prelude.{◌≡◌, ◌<◌, ℕ, List, length, map, 
 ghost use Rattle.adya_values.specs.Meaning.Keys.{keys_rise};
 ghost use Rattle.adya_values.specs.Meaning.Histories.{event_of, entry_of, Read, Scan};
 ghost use Rattle.adya_values.specs.Meaning.Events.{listed};
-ghost use Rattle.adya_values.specs.Meaning.Values.{history_of};
 ghost use Rattle.adya_values.specs.Meaning.Selections.{place_of};
+ghost use Rattle.adya_dsg.specs.Machinery.VersionOrders.{ordered_history, order_lines};
 ghost use Rattle.adya_dsg.specs.Machinery.Choices.{choices, choice_of, key_at};
 
 use crate::version_orders::{VersionOrders, is_below};
@@ -26,9 +26,9 @@ pub(crate) fn selections(
     versions: &VersionOrders,
     event: &Event,
 ) -> Result<Vec<Selection>, AllocError>
-    requires { Contains (history_of versions.now.checked.now.history.now).events (event_of event.now) }
-    ensures within { IfOk result (λ v. All (λ s. s.line < length versions.now.checked.now.history.now.orders.items) v.items) }
-    ensures choices { let h = history_of versions.now.checked.now.history.now in
+    requires { Contains (ordered_history versions.now).events (event_of event.now) }
+    ensures within { IfOk result (λ v. All (λ s. s.line < length (order_lines versions.now)) v.items) }
+    ensures choices { let h = ordered_history versions.now in
         IfOk result (λ v. map (choice_of h) v.items ≡ choices h (event_of event.now)) }
 {
     checked_where_no_fault();
@@ -51,8 +51,8 @@ pub(crate) fn selections(
 }
 
 fn of_read(versions: &VersionOrders, txn: Txn, version: Version) -> Option<Selection>
-    ensures within { IfSome result (λ s. s.line < length versions.now.checked.now.history.now.orders.items) }
-    ensures choice { let h = history_of versions.now.checked.now.history.now in
+    ensures within { IfSome result (λ s. s.line < length (order_lines versions.now)) }
+    ensures choice { let h = ordered_history versions.now in
         (value : List ℕ) → option_to_list (option_map (choice_of h) result) ≡ choices h (Read txn version value) }
 {
     if version.txn == txn {
@@ -74,8 +74,8 @@ fn of_scan(
     entries: &[Entry],
 ) -> Result<Vec<Selection>, AllocError>
     requires { keys_rise (map (λ w. w.version.key) (map entry_of entries.now)) ≡ true }
-    ensures within { IfOk result (λ v. All (λ s. s.line < length versions.now.checked.now.history.now.orders.items) v.items) }
-    ensures choices { let h = history_of versions.now.checked.now.history.now in
+    ensures within { IfOk result (λ v. All (λ s. s.line < length (order_lines versions.now)) v.items) }
+    ensures choices { let h = ordered_history versions.now in
         IfOk result (λ v. map (choice_of h) v.items ≡ choices h (Scan txn lo hi (map entry_of entries.now))) }
 {
     let mut selections = Vec::new(alloc);
@@ -104,8 +104,8 @@ fn listed(entries: &[Entry], key: Key) -> Option<Entry>
 
 /// Returns the place of the line that a scan of the transaction selects, if it lists this entry of the line's key.
 fn selected(versions: &VersionOrders, txn: Txn, line: usize, listed: Option<Entry>) -> Option<usize>
-    requires { line < length versions.now.checked.now.history.now.orders.items }
-    ensures { let h = history_of versions.now.checked.now.history.now in
+    requires { line < length (order_lines versions.now) }
+    ensures { let h = ordered_history versions.now in
         result ≡ place_of h txn (key_at h line) (option_map entry_of listed) }
 {
     let Some(entry) = listed else {

@@ -5,8 +5,9 @@ ghost use Rattle.std.specs.List.{find, list_all};
 ghost use Rattle.adya_values.specs.Meaning.Keys.{key_lt, keys_rise};
 ghost use Rattle.adya_values.specs.Meaning.Histories.{event_of, order_of};
 ghost use Rattle.adya_values.specs.Meaning.Events.{txn_of, is_committed};
-ghost use Rattle.adya_values.specs.Meaning.Values.{history_of};
+ghost use Rattle.adya_values.specs.Meaning.Values.{events_in, orders_in};
 ghost use Rattle.adya_values.specs.Meaning.Orders.{writers, place, installer, is_visible_at};
+ghost use Rattle.adya_terms.specs.Meaning.Checked.{checked_history, history_in};
 ghost use Rattle.adya_dsg.specs.Machinery.Places.{HasLines};
 ghost use Rattle.adya_dsg.specs.Machinery.Choices.{key_at};
 ghost use Rattle.adya_dsg.specs.Machinery.Links.{changed_places};
@@ -25,15 +26,17 @@ pub(crate) struct VersionOrders<'a> {
     checked: &'a Checked<'a>,
     places: HashMap<Slot, usize>,
     changes: Vec<Vec<usize>>,
-    ghost placed: { HasLines places checked.now.history.now.orders.items },
-    ghost changed: { let h = history_of checked.now.history.now in
+    ghost placed: { HasLines places (orders_in (history_in checked.now)) },
+    ghost changed: { let h = checked_history checked.now in
         map (λ line. line.items) changes.items ≡ map (λ o. changed_places h o.key) h.orders },
 }
 
 impl<'a> VersionOrders<'a> {
+    ghost use Rattle.adya_dsg.specs.Machinery.VersionOrders.{ordered_history, order_lines};
+
     /// Takes the orders of the history and makes their tables; `AllocError` if memory is refused.
     pub fn of(alloc: Global, checked: &'a Checked<'a>) -> Result<VersionOrders<'a>, AllocError>
-        ensures same { IfOk result (λ g. g.checked.now.history.now ≡ checked.now.history.now) }
+        ensures same { IfOk result (λ g. history_in g.checked.now ≡ history_in checked.now) }
     {
         let places = line_places(alloc, checked.history().orders())?;
         let changes = line_changes(alloc, checked)?;
@@ -46,14 +49,14 @@ impl<'a> VersionOrders<'a> {
 
     /// Returns the events of the history.
     pub fn events(&self) -> &[Event]
-        ensures { result.now ≡ self.now.checked.now.history.now.events.items }
+        ensures { result.now ≡ events_in (history_in self.now.checked.now) }
     {
         self.checked.history().events()
     }
 
     /// Returns whether the event's transaction has committed.
     pub fn is_committed(&self, event: &Event) -> bool
-        ensures { let h = history_of self.now.checked.now.history.now in
+        ensures { let h = ordered_history self.now in
             result ≡ is_committed h.events (txn_of (event_of event.now)) }
     {
         self.checked.is_committed(event.txn())
@@ -61,18 +64,18 @@ impl<'a> VersionOrders<'a> {
 
     /// Returns the order lines.
     pub fn orders(&self) -> &[Order]
-        ensures value { result.now ≡ self.now.checked.now.history.now.orders.items }
-        ensures rise { keys_rise (map (λ o. o.key) (map order_of self.now.checked.now.history.now.orders.items)) ≡ true }
+        ensures value { result.now ≡ order_lines self.now }
+        ensures rise { keys_rise (map (λ o. o.key) (map order_of (order_lines self.now))) ≡ true }
     {
         self.checked.history().orders()
     }
 
     /// Returns the order line.
     pub fn order(&self, line: usize) -> &Order
-        requires { line < length self.now.checked.now.history.now.orders.items }
-        ensures line { slice_get self.now.checked.now.history.now.orders.items line ≡ Some result.now }
-        ensures key { result.now.key ≡ key_at (history_of self.now.checked.now.history.now) line }
-        ensures writers { let h = history_of self.now.checked.now.history.now in
+        requires { line < length (order_lines self.now) }
+        ensures line { slice_get (order_lines self.now) line ≡ Some result.now }
+        ensures key { result.now.key ≡ key_at (ordered_history self.now) line }
+        ensures writers { let h = ordered_history self.now in
             result.now.writers.items ≡ writers h (key_at h line) }
     {
         &self.orders()[line]
@@ -80,8 +83,8 @@ impl<'a> VersionOrders<'a> {
 
     /// Returns the place of the transaction in the line, or the place after the last one if it isn't there.
     pub fn place(&self, line: usize, txn: Txn) -> usize
-        requires { line < length self.now.checked.now.history.now.orders.items }
-        ensures { let h = history_of self.now.checked.now.history.now in
+        requires { line < length (order_lines self.now) }
+        ensures { let h = ordered_history self.now in
             result ≡ suc (place (writers h (key_at h line)) txn) }
     {
         let len = self.order(line).writers.len();
@@ -91,8 +94,8 @@ impl<'a> VersionOrders<'a> {
 
     /// Returns who installed the version at the place of the line.
     pub fn installer(&self, line: usize, place: usize) -> Option<Txn>
-        requires { line < length self.now.checked.now.history.now.orders.items }
-        ensures { let h = history_of self.now.checked.now.history.now in
+        requires { line < length (order_lines self.now) }
+        ensures { let h = ordered_history self.now in
             result ≡ installer h (key_at h line) place }
     {
         if place == 0 {
@@ -103,8 +106,8 @@ impl<'a> VersionOrders<'a> {
 
     /// Returns whether the version at the place of the line is neither unborn nor dead.
     pub fn is_visible(&self, line: usize, place: usize) -> bool
-        requires { line < length self.now.checked.now.history.now.orders.items }
-        ensures { let h = history_of self.now.checked.now.history.now in
+        requires { line < length (order_lines self.now) }
+        ensures { let h = ordered_history self.now in
             result ≡ is_visible_at h (key_at h line) place }
     {
         match self.installer(line, place) {
@@ -115,8 +118,8 @@ impl<'a> VersionOrders<'a> {
 
     /// Returns the places of the line where the version is visible and the one before isn't, or the other way round.
     pub fn changes(&self, line: usize) -> &[usize]
-        requires { line < length self.now.checked.now.history.now.orders.items }
-        ensures { let h = history_of self.now.checked.now.history.now in
+        requires { line < length (order_lines self.now) }
+        ensures { let h = ordered_history self.now in
             result.now ≡ changed_places h (key_at h line) }
     {
         &self.changes[line]
@@ -124,8 +127,8 @@ impl<'a> VersionOrders<'a> {
 
     /// Returns the first such place after this one.
     pub fn next_change(&self, line: usize, place: usize) -> Option<usize>
-        requires { line < length self.now.checked.now.history.now.orders.items }
-        ensures { let h = history_of self.now.checked.now.history.now in
+        requires { line < length (order_lines self.now) }
+        ensures { let h = ordered_history self.now in
             result ≡ find (λ q. nat_lt place q) (changed_places h (key_at h line)) }
     {
         let changes = self.changes(line);
@@ -135,21 +138,21 @@ impl<'a> VersionOrders<'a> {
 
     /// Returns the line of the key.
     pub fn line_of(&self, key: Key) -> Option<usize>
-        ensures within { IfSome result (λ i. i < length self.now.checked.now.history.now.orders.items) }
-        ensures found { IfSome result (λ i. key_at (history_of self.now.checked.now.history.now) i ≡ key) }
-        ensures none { IfNone result ((i : ℕ) → i < length self.now.checked.now.history.now.orders.items
-            → key_at (history_of self.now.checked.now.history.now) i ≡ key → ⊥) }
+        ensures within { IfSome result (λ i. i < length (order_lines self.now)) }
+        ensures found { IfSome result (λ i. key_at (ordered_history self.now) i ≡ key) }
+        ensures none { IfNone result ((i : ℕ) → i < length (order_lines self.now)
+            → key_at (ordered_history self.now) i ≡ key → ⊥) }
     {
         self.orders().binary_search_by_key(&key, |o| o.key).ok()
     }
 
     /// Returns how many lines have smaller keys.
     pub fn lines_below(&self, key: Key) -> usize
-        ensures within { result ≤ length self.now.checked.now.history.now.orders.items }
+        ensures within { result ≤ length (order_lines self.now) }
         ensures below { (i : ℕ) → i < result
-            → key_lt (key_at (history_of self.now.checked.now.history.now) i) key ≡ true }
-        ensures others { (i : ℕ) → result ≤ i → i < length self.now.checked.now.history.now.orders.items
-            → key_lt (key_at (history_of self.now.checked.now.history.now) i) key ≡ false }
+            → key_lt (key_at (ordered_history self.now) i) key ≡ true }
+        ensures others { (i : ℕ) → result ≤ i → i < length (order_lines self.now)
+            → key_lt (key_at (ordered_history self.now) i) key ≡ false }
     {
         self.orders().partition_point(|o| is_below(o.key, key))
     }

@@ -3,6 +3,7 @@ use Rattle.std.specs.Prelude.{ℕ, List, map}
 use Rattle.adya_values.specs.Meaning.Histories.{History}
 use Rattle.adya_values.specs.Meaning.Edges.{IsCycle}
 use Rattle.adya_values.specs.Meaning.Acceptance.{IsAccepted}
+use Rattle.adya_values.specs.Meaning.Values.{serial_txns}
 use Rattle.adya_dsg.specs.Meaning.Values.{edge_of}
 use Rattle.adya_dsg.specs.declared.found.Found.{Found}
 use Rattle.adya_dsg.specs.declared.found.Found.TheVariants.{Serial, Cycle}
@@ -13,7 +14,7 @@ HasCertificate h = (ts : List ℕ) × IsAccepted h ts
 
 -- the history is accepted with the certificate, or its graph has the cycle
 abbrev pub IsFound : History → Found → Type 0
-IsFound h (Serial s) = IsAccepted h s.txns.items
+IsFound h (Serial s) = IsAccepted h (serial_txns s)
 IsFound h (Cycle es) = IsCycle h (map edge_of es.items)
 
 -- beside a cycle there is no certificate with which the history is accepted

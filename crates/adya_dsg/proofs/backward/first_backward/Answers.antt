@@ -2,9 +2,10 @@ use Rattle.std.proofs.Common.{◌≡◌, Option, None, option_map, flat_map, ◌
 use Rattle.std.specs.List.{find}
 use Rattle.std.proofs.lemmas.Result.{IfOk-weaker}
 use Rattle.adya_values.specs.declared.history.History.{History as HistoryValue}
-use Rattle.adya_values.specs.Meaning.Values.{history_of}
+use Rattle.adya_values.specs.Meaning.Values.{history_of, serial_txns}
 use Rattle.adya_values.specs.Computing.EdgeList.{event_edges}
 use Rattle.adya_values.specs.Computing.Certificates.{first_backward}
+use Rattle.adya_terms.specs.Meaning.Checked.{history_in}
 use Rattle.adya_dsg.specs.declared.edge.Edge.{Edge}
 use Rattle.adya_dsg.specs.Meaning.Values.{edge_of}
 use Rattle.adya_dsg.specs.Machinery.PartEdges.{is_backward}
@@ -14,7 +15,7 @@ use Rattle.adya_dsg.proofs.backward.first_backward.Goals as goal
 
 pub returns-then-is_some : goal.returns-then-is_some
 returns-then-is_some c =
-    let history = c.args.checked.now.history.now in
+    let history = history_in c.args.checked.now in
     let os = c.orders.result.now in
     let h = history_of history in
     first_is_of_writes h os
@@ -25,7 +26,7 @@ returns-then-is_some c =
 
 pub first_read-requires-clause-writes : goal.first_read-requires-clause-writes
 first_read-requires-clause-writes c =
-    let history = c.args.checked.now.history.now in
+    let history = history_in c.args.checked.now in
     let os = c.orders.result.now in
     let ts = c.in_ok-certificate.certificate.txns.now in
     subst (λ (x : HistoryValue). find (is_backward ts) (all_writes (history_of x)) ≡ None)
@@ -36,7 +37,7 @@ first_read-requires-clause-writes c =
 
 pub returns : goal.returns
 returns c =
-    let history = c.args.checked.now.history.now in
+    let history = history_in c.args.checked.now in
     let os = c.orders.result.now in
     let h = history_of history in
     let ts = c.in_ok-certificate.certificate.txns.now in
@@ -47,8 +48,8 @@ returns c =
     ts c.in_ok-found.found c.in_ok-found.ensures c.edge_list_keeps_first.ensures
     (sym c.is_some.ensures ∙ c.if-is_some.false) in
     IfOk-weaker c.first_read.result
-    (λ (o : Option Edge). option_map edge_of o ≡ of_reads c.in_ok-versions.versions.checked.now.history.now)
-    (λ (o : Option Edge). option_map edge_of o ≡ first_backward h c.args.serial.now.txns.items)
+    (λ (o : Option Edge). option_map edge_of o ≡ of_reads (history_in c.in_ok-versions.versions.checked.now))
+    (λ (o : Option Edge). option_map edge_of o ≡ first_backward h (serial_txns c.args.serial.now))
     (λ o e. e ∙
     (ap of_reads c.in_ok-versions.ensures.same ∙
     (none ∙ ap (first_backward h) (c.in_ok-certificate.ensures ∙ c.txns.ensures)))) c.first_read.ensures

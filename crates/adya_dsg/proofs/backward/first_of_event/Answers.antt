@@ -1,7 +1,7 @@
 use Rattle.std.proofs.Common.{◌++◌, not, map, option_map, sym, ◌∙◌, ap}
 use Rattle.std.specs.List.{find}
 use Rattle.adya_values.specs.Meaning.Histories.{event_of}
-use Rattle.adya_values.specs.Meaning.Values.{history_of}
+use Rattle.adya_dsg.specs.Machinery.VersionOrders.{ordered_history}
 use Rattle.adya_dsg.specs.Meaning.Values.{edge_of}
 use Rattle.adya_dsg.specs.Machinery.PartEdges.{is_backward}
 use Rattle.adya_dsg.specs.Machinery.Links.{event_links}
@@ -11,7 +11,7 @@ use Rattle.adya_dsg.proofs.backward.first_of_event.Goals as goal
 
 pub returns-then-is_none : goal.returns-then-is_none
 returns-then-is_none c =
-    let h = history_of c.args.versions.now.checked.now.history.now in
+    let h = ordered_history c.args.versions.now in
     let ts = c.args.certificate.now.txns.now in
     let e = event_of c.args.event.now in
     let given = ap (map edge_of) c.deref.ensures.value ∙

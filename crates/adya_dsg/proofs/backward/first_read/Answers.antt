@@ -1,9 +1,9 @@
 use Rattle.std.proofs.Common.{◌+◌, map, option_map, drop, filter, flat_map, sym, ◌∙◌, ap}
 use Rattle.std.specs.List.{find}
 use Rattle.adya_values.specs.Meaning.Histories.{Event, event_of}
-use Rattle.adya_values.specs.Meaning.Values.{history_of}
 use Rattle.adya_values.specs.Meaning.Events.{txn_of, is_committed}
 use Rattle.adya_values.specs.Computing.EdgeList.{event_edges}
+use Rattle.adya_dsg.specs.Machinery.VersionOrders.{ordered_history}
 use Rattle.adya_dsg.specs.Meaning.Values.{edge_of}
 use Rattle.adya_dsg.specs.Machinery.PartEdges.{is_backward}
 use Rattle.adya_dsg.proofs.FlatMaps.{from_kept, from_left_out, found_in_front, none_in_front}
@@ -12,7 +12,7 @@ use Rattle.adya_dsg.proofs.backward.first_read.Goals.{then-is_committed+in_ok-fo
 
 pub returns-in-Some : goal.returns-in-Some
 returns-in-Some c =
-    let h = history_of c.args.versions.now.checked.now.history.now in
+    let h = ordered_history c.args.versions.now in
     let events = c.events-events.result.now in
     let i = c.loop-event.event-index in
     let e = c.event-item.result in
@@ -27,7 +27,7 @@ returns-in-Some c =
 
 pub loop-event-preserved : goal.loop-event-preserved
 loop-event-preserved c =
-    let h = history_of c.args.versions.now.checked.now.history.now in
+    let h = ordered_history c.args.versions.now in
     let p = is_backward c.args.certificate.now.txns.now in
     let events = c.events-events.result.now in
     let i = c.loop-event.event-index in

@@ -1,14 +1,14 @@
 use Rattle.std.proofs.Common.{◌≡◌, ◌+◌, ◌<◌, ◌++◌, ℕ, suc, List, Vec, Global, filter, length, drop, get_or, ◌∙◌, ap, subst}
-use Rattle.adya_values.specs.Meaning.Values.{history_of}
 use Rattle.adya_values.specs.Meaning.Selections.{changes_matches}
 use Rattle.adya_values.specs.Computing.EdgeList.{numbers}
+use Rattle.adya_terms.specs.Meaning.Checked.{checked_history}
 use Rattle.adya_dsg.proofs.ChangedPlaces.{visible_next, change_noted, change_passed}
 use Rattle.adya_dsg.proofs.changes.changed_places.Goals as goal
 use Rattle.adya_dsg.proofs.changes.changed_places.Goals.{then-now-was+in_ok-push, else-now-was}
 
 pub loop-i-preserved : goal.loop-i-preserved
 loop-i-preserved c =
-    let h = history_of c.args.checked.now.history.now in
+    let h = checked_history c.args.checked.now in
     let k = c.args.order.now.key in
     let ws = c.args.order.now.writers.items in
     let i = c.loop-i.i in

@@ -1,9 +1,8 @@
-use Rattle.std.proofs.Common.{◌+◌, ◌<◌, ◌++◌, [], ◌∷◌, ℕ, List, Vec, Global, map, length, drop, get_or, ◌∙◌, ap, subst}
+use Rattle.std.proofs.Common.{◌+◌, ◌++◌, [], ◌∷◌, ℕ, List, Vec, Global, map, drop, ◌∙◌, ap}
 use Rattle.std.proofs.lemmas.List.{map-append}
-use Rattle.adya_values.specs.declared.order.Order.{Order as OrderValue}
 use Rattle.adya_values.specs.Meaning.Histories.{Order, order_of}
 use Rattle.adya_values.specs.Meaning.Orders.{line_of}
-use Rattle.adya_values.specs.Meaning.Values.{history_of}
+use Rattle.adya_terms.specs.Meaning.Checked.{checked_history, history_in}
 use Rattle.adya_dsg.specs.Machinery.Links.{changed_places}
 use Rattle.adya_dsg.proofs.Keys.{line_of-at}
 use Rattle.lemmas.proofs.Steps.{map_step}
@@ -12,7 +11,7 @@ use Rattle.adya_dsg.proofs.changes.line_changes.Goals as goal
 
 pub changed_places-requires : goal.changed_places-requires
 changed_places-requires c =
-    let history = c.args.checked.now.history.now in
+    let history = history_in c.args.checked.now in
     let os = c.orders-orders.result.now in
     let i = c.loop-order.order-index in
     let o = c.order-item.result in
@@ -22,7 +21,7 @@ changed_places-requires c =
 
 pub loop-order-preserved : goal.loop-order-preserved
 loop-order-preserved c =
-    let h = history_of c.args.checked.now.history.now in
+    let h = checked_history c.args.checked.now in
     let os = c.orders-orders.result.now in
     let i = c.loop-order.order-index in
     let o = c.order-item.result in

@@ -2,10 +2,10 @@ use Rattle.std.proofs.Common.{◌+◌, ◌++◌, ℕ, suc, Vec, Global, Some, ma
 use Rattle.std.proofs.lemmas.Bool.{lt-ltb, le-ltb}
 use Rattle.adya_values.specs.Meaning.Histories.{event_of}
 use Rattle.adya_values.specs.Meaning.Events.{txn_of}
-use Rattle.adya_values.specs.Meaning.Values.{history_of}
 use Rattle.adya_values.specs.Meaning.Orders.{installer}
 use Rattle.adya_values.specs.Meaning.Edges.{Rw}
 use Rattle.adya_values.specs.Computing.EdgeList.{joined}
+use Rattle.adya_dsg.specs.Machinery.VersionOrders.{ordered_history}
 use Rattle.adya_dsg.specs.declared.edge.Edge.{Edge as EdgeValue}
 use Rattle.adya_dsg.specs.Meaning.Values.{edge_of}
 use Rattle.adya_dsg.specs.Machinery.Choices.{key_at}
@@ -17,7 +17,7 @@ use Rattle.adya_dsg.proofs.event_edges.push_overwriters.Goals.{then-is_visible+i
 
 pub loop-place-preserved : goal.loop-place-preserved
 loop-place-preserved c =
-    let h = history_of c.args.versions.now.checked.now.history.now in
+    let h = ordered_history c.args.versions.now in
     let k = key_at h c.args.at.line in
     let t = c.txn-txn.result in
     let seen = c.if-is_visible.seen in
@@ -45,7 +45,7 @@ loop-place-preserved c =
 
 pub returns : goal.returns
 returns c =
-    let h = history_of c.args.versions.now.checked.now.history.now in
+    let h = ordered_history c.args.versions.now in
     let e = event_of c.args.event.now in
     let k = key_at h c.args.at.line in
     let p = c.args.at.place in

@@ -1,6 +1,6 @@
 use Rattle.std.proofs.Common.{◌<◌, ◌+◌, ◌++◌, List, map, drop, flat_map, length, get_or, sym, ◌∙◌, ap, subst}
 use Rattle.adya_values.specs.Meaning.Histories.{event_of}
-use Rattle.adya_values.specs.Meaning.Values.{history_of}
+use Rattle.adya_dsg.specs.Machinery.VersionOrders.{ordered_history, order_lines}
 use Rattle.adya_dsg.specs.declared.selection.Selection.{Selection}
 use Rattle.adya_dsg.specs.Meaning.Values.{edge_of}
 use Rattle.adya_dsg.specs.Machinery.Choices.{choice_of}
@@ -11,7 +11,7 @@ use Rattle.adya_dsg.proofs.event_links.push_event_links.Goals as goal
 
 pub loop-at-init : goal.loop-at-init
 loop-at-init c =
-    let h = history_of c.args.versions.now.checked.now.history.now in
+    let h = ordered_history c.args.versions.now in
     let e = event_of c.args.event.now in
     let old = map edge_of c.args.edges.now.items in
     ap (λ zs. old ++ flat_map (choice_links h e) (map (choice_of h) zs)) c.deref-at-items.ensures.value ∙
@@ -20,7 +20,7 @@ loop-at-init c =
 pub push_links_at-requires : goal.push_links_at-requires
 push_links_at-requires c =
     let i = c.loop-at.at-index in
-    let os = c.args.versions.now.checked.now.history.now.orders.items in
+    let os = order_lines c.args.versions.now in
     let none : Selection = record { line = 0; place = 0 } in
     subst (λ (zs : List Selection). (get_or zs i none).line < length os) (sym c.deref-at-items.ensures.value)
     (c.in_ok-selections.ensures.within i none
@@ -28,7 +28,7 @@ push_links_at-requires c =
 
 pub loop-at-preserved : goal.loop-at-preserved
 loop-at-preserved c =
-    let h = history_of c.args.versions.now.checked.now.history.now in
+    let h = ordered_history c.args.versions.now in
     let e = event_of c.args.event.now in
     let ss = c.deref-at-items.result.now in
     let i = c.loop-at.at-index in

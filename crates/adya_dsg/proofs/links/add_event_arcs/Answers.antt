@@ -1,8 +1,8 @@
 use Rattle.std.proofs.Common.{◌+◌, ◌++◌, List, Vec, Global, map, drop, filter, flat_map, sym, ◌∙◌, ap}
 use Rattle.adya_values.specs.Meaning.Histories.{Event, event_of}
-use Rattle.adya_values.specs.Meaning.Values.{history_of}
 use Rattle.adya_values.specs.Meaning.Events.{txn_of, is_committed}
 use Rattle.digraph.specs.declared.arc.Arc.{Arc}
+use Rattle.adya_dsg.specs.Machinery.VersionOrders.{ordered_history}
 use Rattle.adya_dsg.specs.Meaning.Values.{edge_of}
 use Rattle.adya_dsg.specs.Machinery.Arcs.{ends}
 use Rattle.adya_dsg.specs.Machinery.Links.{event_links}
@@ -12,7 +12,7 @@ use Rattle.adya_dsg.proofs.links.add_event_arcs.Goals.{then-is_committed+in_ok-p
 
 pub loop-event-preserved : goal.loop-event-preserved
 loop-event-preserved c =
-    let h = history_of c.args.versions.now.checked.now.history.now in
+    let h = ordered_history c.args.versions.now in
     let events = c.events-events.result.now in
     let i = c.loop-event.event-index in
     let e = c.event-item.result in

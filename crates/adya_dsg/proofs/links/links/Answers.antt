@@ -4,6 +4,7 @@ use Rattle.adya_values.specs.Meaning.Histories.{Order, History, order_of}
 use Rattle.adya_values.specs.Meaning.Values.{history_of}
 use Rattle.adya_values.specs.Meaning.Acceptance.{IsChecked}
 use Rattle.digraph.specs.declared.arc.Arc.{Arc}
+use Rattle.adya_terms.specs.Meaning.Checked.{checked_history, history_in}
 use Rattle.adya_dsg.specs.Machinery.Arcs.{ends}
 use Rattle.adya_dsg.specs.Machinery.PartEdges.{line_edges}
 use Rattle.adya_dsg.specs.Machinery.Links.{event_links, links}
@@ -13,9 +14,9 @@ use Rattle.adya_dsg.proofs.links.links.Goals as goal
 
 -- the arcs are the ends of the links
 are_ends : (c : goal.After-drop-versions-3)
-    → c.add_event_arcs.new.arcs.items ≡ map ends (links (history_of c.args.checked.now.history.now))
+    → c.add_event_arcs.new.arcs.items ≡ map ends (links (checked_history c.args.checked.now))
 are_ends c =
-    let history = c.args.checked.now.history.now in
+    let history = history_in c.args.checked.now in
     let h = history_of history in
     let os = c.orders.result.now in
     let of_lines = map ends (flat_map (λ (o : Order). line_edges o.key o.writers) (map order_of os)) in
@@ -29,11 +30,11 @@ are_ends c =
 
 pub returns-clause-sound : goal.returns-clause-sound
 returns-clause-sound c =
-    links_are_ends c.edge_list_keeps_first.ensures (history_of c.args.checked.now.history.now)
+    links_are_ends c.edge_list_keeps_first.ensures (checked_history c.args.checked.now)
     c.add_event_arcs.new.arcs.items (are_ends c)
 
 pub returns-clause-enough : goal.returns-clause-enough
 returns-clause-enough c =
-    links_decide c.edge_list_keeps_first.ensures (history_of c.args.checked.now.history.now)
+    links_decide c.edge_list_keeps_first.ensures (checked_history c.args.checked.now)
     c.add_event_arcs.new.arcs.items (are_ends c) c.selected_is_installed.ensures
     (subst (λ (x : HistoryValue). IsChecked (history_of x)) c.history.ensures.same c.history.ensures.checked)

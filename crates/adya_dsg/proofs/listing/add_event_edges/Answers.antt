@@ -1,8 +1,8 @@
 use Rattle.std.proofs.Common.{◌++◌, List, Bool, map, fold, sym, ◌∙◌, ap}
 use Rattle.adya_values.specs.Meaning.Histories.{Event, event_of}
-use Rattle.adya_values.specs.Meaning.Values.{history_of}
 use Rattle.adya_values.specs.Meaning.Events.{txn_of, is_committed}
 use Rattle.adya_values.specs.Computing.EdgeList.{with_edge, event_edges}
+use Rattle.adya_dsg.specs.Machinery.VersionOrders.{ordered_history}
 use Rattle.adya_dsg.specs.Meaning.Values.{edge_of}
 use Rattle.adya_dsg.specs.declared.edge.Edge.{Edge as EdgeValue}
 use Rattle.adya_dsg.proofs.DistinctEdges.{fold_kept, fold_passed}
@@ -11,7 +11,7 @@ use Rattle.adya_dsg.proofs.listing.add_event_edges.Goals.{then-is_committed+in_o
 
 pub loop-event-preserved : goal.loop-event-preserved
 loop-event-preserved c =
-    let h = history_of c.args.versions.now.checked.now.history.now in
+    let h = ordered_history c.args.versions.now in
     let es = c.events-events.result.now in
     let i = c.loop-event.event-index in
     let e = c.event-item.result in

@@ -1,8 +1,8 @@
 use Rattle.std.proofs.Common.{◌<◌, ◌++◌, List, map, fold, length, get_or, refl, ◌∙◌, ap, subst}
 use Rattle.adya_values.specs.declared.order.Order.{Order as OrderValue}
 use Rattle.adya_values.specs.Meaning.Histories.{Order, order_of}
-use Rattle.adya_values.specs.Meaning.Values.{history_of}
 use Rattle.adya_values.specs.Computing.EdgeList.{with_edge, write_edges}
+use Rattle.adya_dsg.specs.Machinery.VersionOrders.{ordered_history, order_lines}
 use Rattle.adya_dsg.specs.Meaning.Values.{edge_of}
 use Rattle.adya_dsg.specs.Machinery.PartEdges.{line_edges}
 use Rattle.adya_dsg.specs.declared.edge.Edge.{Edge as EdgeValue}
@@ -12,8 +12,8 @@ use Rattle.adya_dsg.proofs.listing.add_write_edges.Goals as goal
 
 pub loop-order-preserved : goal.loop-order-preserved
 loop-order-preserved c =
-    let h = history_of c.args.versions.now.checked.now.history.now in
-    let all = c.args.versions.now.checked.now.history.now.orders.items in
+    let h = ordered_history c.args.versions.now in
+    let all = order_lines c.args.versions.now in
     let os = c.orders-orders.result.now in
     let i = c.loop-order.order-index in
     let o = c.order-item.result in

@@ -7,15 +7,17 @@ use Rattle.adya_values.specs.Meaning.Values.{history_of}
 use Rattle.adya_values.specs.Meaning.Events.{txn_of, is_committed}
 use Rattle.adya_values.specs.Meaning.Edges.{Edge}
 use Rattle.adya_values.specs.Computing.EdgeList.{with_edge, write_edges, event_edges, edge_list}
+use Rattle.adya_terms.specs.Meaning.Checked.{checked_history}
+use Rattle.adya_dsg.specs.Machinery.VersionOrders.{ordered_history}
 use Rattle.adya_dsg.specs.Meaning.Values.{edge_of, AreEdges}
 use Rattle.adya_dsg.specs.declared.edge.Edge.{Edge as EdgeValue}
 use Rattle.adya_dsg.proofs.DistinctEdges.{copied}
 use Rattle.adya_dsg.proofs.listing.edges.Goals as goal
 
 listed : (c : goal.After-drop-versions-3)
-    → map edge_of c.as_slice.result.now ≡ edge_list (history_of c.args.checked.now.history.now)
+    → map edge_of c.as_slice.result.now ≡ edge_list (checked_history c.args.checked.now)
 listed c =
-    let h = history_of c.in_ok-versions.versions.checked.now.history.now in
+    let h = ordered_history c.in_ok-versions.versions in
     let writes = flat_map (λ (o : Order). write_edges h o.key) h.orders in
     let events = flat_map (event_edges h) (filter (λ (e : Event). is_committed h.events (txn_of e)) h.events) in
     ap (λ (zs : List EdgeValue). map edge_of zs) c.as_slice.ensures.keys ∙
@@ -28,17 +30,17 @@ listed c =
 
 pub returns-clause-exact : goal.returns-clause-exact
 returns-clause-exact c =
-    let all = edge_list (history_of c.args.checked.now.history.now) in
+    let all = edge_list (checked_history c.args.checked.now) in
     copied c.from_slice.result c.as_slice.result.now all (λ es. es ≡ all) c.from_slice.ensures.items (listed c) refl
 
 pub returns-clause-edges : goal.returns-clause-edges
 returns-clause-edges c =
-    let h = history_of c.args.checked.now.history.now in
+    let h = checked_history c.args.checked.now in
     copied c.from_slice.result c.as_slice.result.now (edge_list h) (AreEdges h) c.from_slice.ensures.items (listed c)
     (c.edge_list_is_exact.ensures h)
 
 pub returns-clause-once : goal.returns-clause-once
 returns-clause-once c =
-    let h = history_of c.args.checked.now.history.now in
+    let h = checked_history c.args.checked.now in
     copied c.from_slice.result c.as_slice.result.now (edge_list h) (AllPairs (λ (a b : Edge). a ≢ b))
     c.from_slice.ensures.items (listed c) (c.edge_list_is_distinct.ensures h)

@@ -1,4 +1,4 @@
-use Rattle.std.proofs.Common.{◌∙◌, All, List, Vec, Global, ℕ, ◌++◌, ◌∷◌, [], ap, sym, subst}
+use Rattle.std.proofs.Common.{◌∙◌, All, Vec, Global, ℕ, ◌++◌, ◌∷◌, [], ap, sym, subst}
 use Rattle.std.proofs.lemmas.List.Elements.{All-push}
 use Rattle.adya_values.specs.Meaning.Keys.{IsTxn}
 use Rattle.adya_dsg.proofs.CommittedNodes.{noted_commit, noted_other}

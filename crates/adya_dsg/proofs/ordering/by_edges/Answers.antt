@@ -2,9 +2,9 @@ use Rattle.std.proofs.Common.{◌≡◌, ◌++◌, All, List, [], map, sym, subs
 use Rattle.digraph.specs.declared.arc.Arc.{Arc}
 use Rattle.digraph.specs.Meaning.Graphs.{IsCycle as IsArcCycle, IsOrderOrCycle}
 use Rattle.adya_values.specs.Meaning.Keys.{IsTxn}
-use Rattle.adya_values.specs.Meaning.Values.{history_of}
 use Rattle.adya_values.specs.Computing.EdgeList.{edge_list}
 use Rattle.adya_values.specs.Meaning.Acceptance.{IsAccepted}
+use Rattle.adya_terms.specs.Meaning.Checked.{checked_history}
 use Rattle.adya_dsg.specs.declared.edge.Edge.{Edge}
 use Rattle.adya_dsg.specs.Machinery.Arcs.{ends, AreEnds, Decide}
 use Rattle.adya_dsg.specs.Meaning.Values.{edge_of}
@@ -18,14 +18,14 @@ added : (arcs none : List Arc) (lent edges : List Edge) → arcs ≡ none ++ map
 added arcs none lent edges adds empty same =
     adds ∙ (ap (λ xs. xs ++ map ends (map edge_of lent)) empty ∙ ap (λ xs. map ends (map edge_of xs)) same)
 
-are_ends : (c : goal.In_ok-add_arcs) → c.add_arcs.new.arcs.items ≡ map ends (edge_list (history_of c.args.checked.now.history.now))
+are_ends : (c : goal.In_ok-add_arcs) → c.add_arcs.new.arcs.items ≡ map ends (edge_list (checked_history c.args.checked.now))
 are_ends c =
     added _ _ _ _ c.in_ok-add_arcs.ensures c.in_ok-arcs.ensures.items c.deref.ensures.value ∙
     ap (map ends) c.in_ok-edges.ensures.exact
 
 pub topological_order-requires : goal.topological_order-requires
 topological_order-requires c =
-    let h = history_of c.args.checked.now.history.now in
+    let h = checked_history c.args.checked.now in
     ends_are_nodes h c.requires.checked c.edge_list_is_exact.ensures c.args.nodes.now c.requires.nodes c.add_arcs.new.arcs.items
     c.edges_join_committed.ensures (subst (AreEnds (edge_list h)) (sym (are_ends c)) (all_are_ends (edge_list h)))
 
@@ -38,7 +38,7 @@ serial_of-requires c =
 
 pub returns-in-Order : goal.returns-in-Order
 returns-in-Order c =
-    let h = history_of c.args.checked.now.history.now in
+    let h = checked_history c.args.checked.now in
     let nodes = c.args.nodes.now in
     let arcs = c.add_arcs.new.arcs.items in
     let are = added _ _ _ _ c.in_ok-add_arcs.ensures c.in_ok-arcs.ensures.items c.deref.ensures.value ∙
@@ -60,7 +60,7 @@ edges_along-requires c =
 
 pub returns : goal.returns
 returns c =
-    let h = history_of c.args.checked.now.history.now in
+    let h = checked_history c.args.checked.now in
     let arcs = c.add_arcs.new.arcs.items in
     let lent = c.deref-in-Cycle-2.result.now in
     let cyclic = subst (IsOrderOrCycle c.args.nodes.now arcs) c.in-Cycle.is c.in_ok-order.ensures in

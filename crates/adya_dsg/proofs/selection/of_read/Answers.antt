@@ -3,26 +3,28 @@ use Rattle.std.proofs.lemmas.Bool.{and_parts}
 use Rattle.std.proofs.lemmas.List.{length-map}
 use Rattle.adya_values.specs.Meaning.Histories.{order_of}
 use Rattle.adya_values.specs.Meaning.Values.{history_of}
+use Rattle.adya_terms.specs.Meaning.Checked.{history_in}
+use Rattle.adya_dsg.specs.Machinery.VersionOrders.{ordered_history, order_lines}
 use Rattle.adya_dsg.specs.Machinery.Choices.{choice, choice_of, key_at}
 use Rattle.adya_dsg.proofs.Selections.{read_own, read_nowhere, read_found}
 use Rattle.adya_dsg.proofs.selection.of_read.Goals as goal
 
 pub returns-then-eq-clause-choice : goal.returns-then-eq-clause-choice
 returns-then-eq-clause-choice c = λ v.
-    read_own (history_of c.args.versions.now.checked.now.history.now) c.args.txn c.args.version v
+    read_own (ordered_history c.args.versions.now) c.args.txn c.args.version v
     (sym c.eq.ensures ∙ c.if-eq.true)
 
 pub returns-in_err-line-clause-choice : goal.returns-in_err-line-clause-choice
 returns-in_err-line-clause-choice c = λ v.
-    let h = history_of c.args.versions.now.checked.now.history.now in
-    let os = c.args.versions.now.checked.now.history.now.orders.items in
+    let h = ordered_history c.args.versions.now in
+    let os = order_lines c.args.versions.now in
     ap (λ o. option_to_list (option_map (choice_of h) o)) c.from_residual.ensures ∙
     read_nowhere h c.args.txn c.args.version v
     (λ i l. c.in_err-line.ensures.none i (subst (λ (n : ℕ). i < n) (length-map os order_of) l))
 
 pub returns-clause-choice : goal.returns-clause-choice
 returns-clause-choice c = λ v.
-    let history = c.args.versions.now.checked.now.history.now in
+    let history = history_in c.args.versions.now.checked.now in
     let h = history_of history in
     let os = history.orders.items in
     let i = c.in_ok-line.line in

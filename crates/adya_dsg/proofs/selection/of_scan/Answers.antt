@@ -9,6 +9,8 @@ use Rattle.adya_values.specs.Meaning.Histories.{Scan, order_of, entry_of}
 use Rattle.adya_values.specs.Meaning.Events.{listed}
 use Rattle.adya_values.specs.Meaning.Values.{history_of}
 use Rattle.adya_values.specs.Meaning.Selections.{selected, place_of}
+use Rattle.adya_terms.specs.Meaning.Checked.{history_in}
+use Rattle.adya_dsg.specs.Machinery.VersionOrders.{ordered_history, order_lines}
 use Rattle.adya_dsg.specs.declared.selection.Selection.{Selection}
 use Rattle.adya_dsg.specs.Machinery.Choices.{choice_of, key_at}
 use Rattle.adya_dsg.proofs.Selections.{chosen_in, scan_starts, scan_ends, inside, chosen_step, passed_step}
@@ -17,8 +19,8 @@ use Rattle.adya_dsg.proofs.selection.of_scan.Goals.{in-Some+in_ok-push, in_defau
 
 pub loop-line-init : goal.loop-line-init
 loop-line-init c =
-    let h = history_of c.args.versions.now.checked.now.history.now in
-    let os = c.args.versions.now.checked.now.history.now.orders.items in
+    let h = ordered_history c.args.versions.now in
+    let os = order_lines c.args.versions.now in
     let e = Scan c.args.txn c.args.lo c.args.hi (map entry_of c.args.entries.now) in
     let n = c.lines_below-line.result in
     let none = c.new-selections.ensures.items in record {
@@ -31,7 +33,7 @@ loop-line-init c =
 
 pub returns-then-is_below-clause-choices : goal.returns-then-is_below-clause-choices
 returns-then-is_below-clause-choices c =
-    let history = c.args.versions.now.checked.now.history.now in
+    let history = history_in c.args.versions.now.checked.now in
     let h = history_of history in
     let rise = (and_parts _ _ (and_parts _ _ history.shape).0).1 in
     let done = map (choice_of h) c.loop-line.selections.items in
@@ -43,7 +45,7 @@ returns-then-is_below-clause-choices c =
 
 pub loop-line-preserved : goal.loop-line-preserved
 loop-line-preserved c =
-    let history = c.args.versions.now.checked.now.history.now in
+    let history = history_in c.args.versions.now.checked.now in
     let h = history_of history in
     let os = history.orders.items in
     let es = map entry_of c.args.entries.now in

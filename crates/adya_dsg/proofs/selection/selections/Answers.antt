@@ -3,9 +3,10 @@ use Rattle.std.proofs.lemmas.List.Elements.{All-nil}
 use Rattle.adya_values.specs.declared.event.Entry.{Entry as EntryValue}
 use Rattle.adya_values.specs.Meaning.Keys.{keys_rise}
 use Rattle.adya_values.specs.Meaning.Histories.{Entry, event_of, entry_of}
-use Rattle.adya_values.specs.Meaning.Values.{history_of}
 use Rattle.adya_values.specs.Computing.Faults.{first_fault}
 use Rattle.adya_values.specs.Meaning.Rules.{IsRising}
+use Rattle.adya_terms.specs.Meaning.Checked.{checked_history}
+use Rattle.adya_dsg.specs.Machinery.VersionOrders.{ordered_history, order_lines}
 use Rattle.adya_dsg.specs.declared.selection.Selection.{Selection}
 use Rattle.adya_dsg.specs.Machinery.Choices.{choice_of}
 use Rattle.lemmas.proofs.Options.{none_from}
@@ -16,7 +17,7 @@ use Rattle.adya_dsg.proofs.selection.selections.Goals as goal
 pub of_scan-requires : goal.of_scan-requires
 of_scan-requires c =
     let checked = c.args.versions.now.checked.now in
-    let h = history_of checked.history.now in
+    let h = checked_history checked in
     let is_checked = c.checked_where_no_fault.ensures.sound h (none_from (first_fault h) checked.checked) in
     let rising = subst IsRising (ap event_of c.in-Scan.is) (rising_at h is_checked (event_of c.args.event.now) c.requires) in
     ap (λ (ws : List EntryValue). keys_rise (map (λ (w : Entry). w.version.key) (map entry_of ws))) c.deref.ensures.value ∙
@@ -24,8 +25,8 @@ of_scan-requires c =
 
 pub returns-in_default : goal.returns-in_default
 returns-in_default c =
-    let h = history_of c.args.versions.now.checked.now.history.now in
-    let os = c.args.versions.now.checked.now.history.now.orders.items in record {
+    let h = ordered_history c.args.versions.now in
+    let os = order_lines c.args.versions.now in record {
       within = subst (λ zs. (k : ℕ) (d : Selection) → k < length zs → (get_or zs k d).line < length os)
           (sym c.new.ensures.items)
           (All-nil (λ (s : Selection). s.line < length os));

@@ -3,6 +3,7 @@ use Rattle.std.specs.List.Sorted.{IsPartitionPoint}
 use Rattle.std.proofs.lemmas.List.Sorted.{IsPartitionPoint-from_clause}
 use Rattle.adya_values.specs.Meaning.Keys.{key_lt, keys_rise}
 use Rattle.adya_values.specs.declared.order.Order.{Order as OrderValue}
+use Rattle.adya_dsg.specs.Machinery.VersionOrders.{order_lines}
 use Rattle.adya_dsg.proofs.Lines.{rise_of_values, keys_below, keys_from}
 use Rattle.adya_dsg.proofs.Keys.{below_in_front}
 use Rattle.adya_dsg.proofs.version_orders.VersionOrders.lines_below.Goals as goal
@@ -10,7 +11,7 @@ use Rattle.adya_dsg.proofs.version_orders.VersionOrders.lines_below.Goals as goa
 parted : (c : goal.After-partition_point) → IsPartitionPoint (λ (o : OrderValue). key_lt o.key c.args.key ≡ true) (λ o. key_lt o.key c.args.key ≡ false)
     c.orders.result.now c.partition_point.result
 parted c =
-    let os = c.args.self.now.checked.now.history.now.orders.items in
+    let os = order_lines c.args.self.now in
     let rise = ap (λ (zs : List OrderValue). keys_rise (map (λ o. o.key) zs)) c.orders.ensures.value ∙
     rise_of_values os c.orders.ensures.rise in
     IsPartitionPoint-from_clause (λ (o : OrderValue). key_lt o.key c.args.key) _ _ c.partition_point.ensures.partitioned
@@ -18,12 +19,12 @@ parted c =
 
 pub returns-clause-below : goal.returns-clause-below
 returns-clause-below c =
-    let os = c.args.self.now.checked.now.history.now.orders.items in
+    let os = order_lines c.args.self.now in
     let same = c.orders.ensures.value in
     let within = subst (λ (zs : List OrderValue). c.partition_point.result ≤ length zs) same c.partition_point.ensures.bound in
     keys_below os c.orders.result.now same c.args.key c.partition_point.result within (parted c)
 
 pub returns-clause-others : goal.returns-clause-others
 returns-clause-others c =
-    keys_from c.args.self.now.checked.now.history.now.orders.items c.orders.result.now c.orders.ensures.value c.args.key
+    keys_from (order_lines c.args.self.now) c.orders.result.now c.orders.ensures.value c.args.key
     c.partition_point.result (parted c)

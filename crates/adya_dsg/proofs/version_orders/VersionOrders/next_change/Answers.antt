@@ -2,9 +2,9 @@ use Rattle.std.proofs.Common.{◌∙◌, ℕ, List, length, nat_lt, sym, ap, sub
 use Rattle.std.specs.List.{find}
 use Rattle.std.specs.List.Sorted.{IsNonDecreasingBy}
 use Rattle.std.proofs.lemmas.List.Sorted.{IsPartitionPoint-from_clause, IsPartitionedBy-leb}
-use Rattle.adya_values.specs.Meaning.Values.{history_of}
 use Rattle.adya_values.specs.Meaning.Orders.{writers}
 use Rattle.adya_values.specs.Meaning.Selections.{changes_matches}
+use Rattle.adya_dsg.specs.Machinery.VersionOrders.{ordered_history}
 use Rattle.adya_dsg.specs.Machinery.Choices.{key_at}
 use Rattle.adya_dsg.proofs.Numbers.{got}
 use Rattle.adya_dsg.proofs.Numbers.{passing_rise, first_above}
@@ -12,7 +12,7 @@ use Rattle.adya_dsg.proofs.version_orders.VersionOrders.next_change.Goals as goa
 
 pub returns : goal.returns
 returns c =
-    let h = history_of c.args.self.now.checked.now.history.now in
+    let h = ordered_history c.args.self.now in
     let k = key_at h c.args.line in
     let qs = c.changes-changes.result.now in
     let p = c.args.place in

@@ -1,10 +1,11 @@
 use Rattle.std.proofs.Common.{◌∙◌, get_or, ap}
+use Rattle.adya_dsg.specs.Machinery.VersionOrders.{order_lines}
 use Rattle.adya_dsg.proofs.Lines.{writers_are}
 use Rattle.adya_dsg.proofs.version_orders.VersionOrders.order.Goals as goal
 
 pub returns-clause-writers : goal.returns-clause-writers
 returns-clause-writers c =
-    let os = c.args.self.now.checked.now.history.now.orders.items in
+    let os = order_lines c.args.self.now in
     let i = c.args.line in
     let o = c.index-orders-line.result in
     writers_are os i o c.orders.ensures.rise c.requires
