@@ -25,8 +25,6 @@ mod parts;
 mod places;
 mod ready;
 mod selection;
-#[cfg(test)]
-mod tests;
 
 pub use backward::first_backward;
 pub use edge::{Edge, Kind};

@@ -28,6 +28,3 @@ pub use serial_lines::{SerialLine, serial_line};
 pub use txn_line::txn;
 pub use unfinished_line::unfinished;
 pub use writing::{write_event, write_final, write_order, write_txn, write_unfinished};
-
-#[cfg(test)]
-mod tests;

@@ -22,6 +22,3 @@ pub use reading::{read_history, read_serial};
 pub use serial_reader::SerialReader;
 pub use sources::{read_history_from, read_history_part, read_serial_from, read_serial_rest};
 pub use writing::{WriteFault, write_history, write_serial};
-
-#[cfg(test)]
-mod tests;
