@@ -12,8 +12,6 @@ mod ordering;
 mod pair;
 mod pipe;
 mod run_fault;
-#[cfg(test)]
-mod tests;
 mod verdict;
 mod writing;
 

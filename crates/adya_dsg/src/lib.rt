@@ -23,8 +23,6 @@ mod nodes;
 mod ordering;
 mod places;
 mod selection;
-#[cfg(test)]
-mod tests;
 mod version_orders;
 mod write_edges;
 

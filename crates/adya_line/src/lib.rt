@@ -30,6 +30,3 @@ pub use unfinished_line::unfinished;
 pub use writing::{
     write_event, write_final, write_order, write_txn, write_unfinished, write_version,
 };
-
-#[cfg(test)]
-mod tests;

@@ -9,8 +9,6 @@ mod reads;
 mod rules;
 mod scans;
 mod tables;
-#[cfg(test)]
-mod tests;
 
 pub use adya_rules::laws;
 pub use adya_values::{

@@ -1,71 +1,69 @@
-//! What the auditor writes for two texts, in a stream each and in one stream.
+//! The line that the auditor writes for a history and a certificate.
 
-use adya_audit::{run_audit, run_pipe};
+ghost use Rattle.std.specs.Prelude.{◌<◌};
+
+use adya_audit::{audit, run_audit, run_pipe, write_verdict};
 use adya_testing::Pieces;
+use adya_values::{History, Serial};
 use devices::Watched;
 use std::alloc::{AllocError, Global};
 
-/// The line for the texts in a stream each, given in pieces of at most `most` bytes; empty where `most` is 0.
-pub(crate) fn line_of_two(
-    alloc: Global,
-    history: &[u8],
-    certificate: &[u8],
-    most: usize,
-) -> Vec<u8> {
+/// Returns the line for the two values, or none if memory runs out.
+pub(crate) fn of_values(alloc: Global, history: &History, certificate: &Serial) -> Option<Vec<u8>> {
+    let verdict = audit(alloc, history, certificate).ok()?;
     let mut out = Watched::new(Vec::new(alloc));
-    if most > 0 {
-        let mut history = Watched::new(Pieces::new(history, most));
-        let mut certificate = Watched::new(Pieces::new(certificate, most));
-        let _ = run_audit(alloc, &mut history, &mut certificate, &mut out);
-    }
+    write_verdict(&verdict, &mut out).ok()?;
+    Some(out.into_inner())
+}
+
+/// Returns the line for the texts, each a stream that gives at most `most` bytes a call.
+fn of_two_in_pieces(alloc: Global, history: &[u8], certificate: &[u8], most: usize) -> Vec<u8>
+    requires { 0 < most }
+{
+    let mut history = Watched::new(Pieces::new(history, most));
+    let mut certificate = Watched::new(Pieces::new(certificate, most));
+    let mut out = Watched::new(Vec::new(alloc));
+    let _ = run_audit(alloc, &mut history, &mut certificate, &mut out);
     out.into_inner()
 }
 
-/// The line for the texts in one stream, given in pieces of at most `most` bytes; empty where `most` is 0.
-pub(crate) fn line_of_one(alloc: Global, stream: &[u8], most: usize) -> Vec<u8> {
-    let mut out = Watched::new(Vec::new(alloc));
-    if most > 0 {
-        let mut input = Watched::new(Pieces::new(stream, most));
-        let _ = run_pipe(alloc, &mut input, &mut out);
+/// Returns the line for the texts, each a stream; if it isn't the same in pieces of any size, nothing.
+pub(crate) fn of_two_streams(alloc: Global, history: &[u8], certificate: &[u8]) -> Vec<u8> {
+    let whole = of_two_in_pieces(alloc, history, certificate, usize::MAX);
+    let by_one = of_two_in_pieces(alloc, history, certificate, 1);
+    let by_three = of_two_in_pieces(alloc, history, certificate, 3);
+    if whole == by_one && whole == by_three {
+        whole
+    } else {
+        Vec::new(alloc)
     }
+}
+
+/// Returns the line for one stream of both texts that gives at most `most` bytes a call.
+fn of_one_in_pieces(alloc: Global, stream: &[u8], most: usize) -> Vec<u8>
+    requires { 0 < most }
+{
+    let mut input = Watched::new(Pieces::new(stream, most));
+    let mut out = Watched::new(Vec::new(alloc));
+    let _ = run_pipe(alloc, &mut input, &mut out);
     out.into_inner()
 }
 
-/// The line for the texts in a stream each; empty where pieces make a difference.
-pub(crate) fn of_two(alloc: Global, history: &[u8], certificate: &[u8]) -> Vec<u8> {
-    let whole = line_of_two(alloc, history, certificate, usize::MAX);
-    for most in [1, 3] {
-        let line = line_of_two(alloc, history, certificate, most);
-        if line.as_slice() != whole.as_slice() {
-            return Vec::new(alloc);
-        }
-    }
-    whole
-}
-
-/// The texts, one behind the other.
-pub(crate) fn stream(
+/// Returns the line for one stream, the certificate after the history; if it isn't the same in pieces of any size,
+/// nothing.
+pub(crate) fn of_one_stream(
     alloc: Global,
     history: &[u8],
     certificate: &[u8],
 ) -> Result<Vec<u8>, AllocError> {
     let mut stream = Vec::from_slice(alloc, history)?;
     stream.extend_from_slice(certificate)?;
-    Ok(stream)
-}
-
-/// The line for the texts in one stream; empty where pieces make a difference.
-pub(crate) fn of_one(
-    alloc: Global,
-    history: &[u8],
-    certificate: &[u8],
-) -> Result<Vec<u8>, AllocError> {
-    let stream = stream(alloc, history, certificate)?;
-    let whole = line_of_one(alloc, &stream, usize::MAX);
-    for most in [1, 3] {
-        if line_of_one(alloc, &stream, most).as_slice() != whole.as_slice() {
-            return Ok(Vec::new(alloc));
-        }
+    let whole = of_one_in_pieces(alloc, &stream, usize::MAX);
+    let by_one = of_one_in_pieces(alloc, &stream, 1);
+    let by_three = of_one_in_pieces(alloc, &stream, 3);
+    if whole == by_one && whole == by_three {
+        Ok(whole)
+    } else {
+        Ok(Vec::new(alloc))
     }
-    Ok(whole)
 }

@@ -1,9 +1,10 @@
-//! The edges of a history.
+//! The edges of a history, a line each.
 
 use adya_audit::{Edge, Kind};
 use adya_dsg::edges;
 use adya_terms::Checked;
 use adya_text::read_history;
+use adya_values::History;
 use std::alloc::{AllocError, Global};
 
 fn name(kind: Kind) -> &'static str {
@@ -14,24 +15,30 @@ fn name(kind: Kind) -> &'static str {
     }
 }
 
-fn line(alloc: Global, edge: &Edge) -> Result<String, AllocError> {
-    let kind = name(edge.kind);
-    let key = String::from_utf8_lossy(alloc, edge.key.bytes())?;
-    let (from, to) = (edge.from.get(), edge.to.get());
-    format!(in alloc; "{kind} {key} {from} {to}\n")
+/// Returns a line for each edge: its kind, its key, and the transactions that it goes from and to.
+pub(crate) fn lines(alloc: Global, edges: &[Edge]) -> Result<String, AllocError> {
+    let mut text = String::new(alloc);
+    for edge in edges {
+        let kind = name(edge.kind);
+        let key = String::from_utf8_lossy(alloc, edge.key.bytes())?;
+        let (from, to) = (edge.from.get(), edge.to.get());
+        text.push_str(&format!(in alloc; "{kind} {key} {from} {to}\n")?)?;
+    }
+    Ok(text)
 }
 
-/// The edges of the history, a line each; empty where there is no checked history.
-pub(crate) fn of_text(alloc: Global, text: &[u8]) -> Result<Vec<u8>, AllocError> {
-    let mut lines = Vec::new(alloc);
-    let Ok(history) = read_history(alloc, text) else {
-        return Ok(lines);
-    };
-    let Ok(checked) = Checked::of(alloc, &history) else {
-        return Ok(lines);
-    };
-    for edge in &edges(alloc, &checked)? {
-        lines.extend_from_slice(line(alloc, edge)?.as_bytes())?;
+/// Returns the edges of the history; if it isn't checked, none.
+pub(crate) fn of_history(alloc: Global, history: &History) -> Result<String, AllocError> {
+    match Checked::of(alloc, history) {
+        Ok(checked) => lines(alloc, &edges(alloc, &checked)?),
+        Err(_) => Ok(String::new(alloc)),
     }
-    Ok(lines)
+}
+
+/// Returns the edges of the history of this text; if there is none, or it isn't checked, none.
+pub(crate) fn of_text(alloc: Global, text: &[u8]) -> Result<String, AllocError> {
+    match read_history(alloc, text) {
+        Ok(history) => of_history(alloc, &history),
+        Err(_) => Ok(String::new(alloc)),
+    }
 }

@@ -1,29 +1,63 @@
-//! The runs of the auditor on failing devices and on endless streams.
+//! Tests of the public functions of all crates: each at work with ample memory, what no contract says, and runs on
+//! devices that fail.
 
 mod audit;
+mod check;
+mod edges;
+mod lines;
 mod order;
-mod pipe;
+mod random_histories;
+mod run_audit;
+mod run_order;
+mod run_pipe;
+mod texts;
 mod texts_from_sources;
+mod values;
 
+use adya_testing::histories::{
+    self, BadHistory, commit, final_pair, read, version, version_order, write,
+};
 use adya_testing::{FailsAt, Narrow, Pieces};
+use adya_values::History;
 use devices::Watched;
 use std::alloc::Global;
 use std::io::ErrorKind;
 
-/// Transaction 2 reads what 1 wrote.
+/// The history in which transaction 2 reads what transaction 1 wrote.
 const HISTORY: &[u8] = b"adya 1\nw1(x.1:1,5)\nc1\nr2(x.1:1,5)\nc2\n[x:1]\n{x,5}\nend\n";
 
+/// The certificate that runs transaction 1 before 2.
 const CERTIFICATE: &[u8] = b"serial 1\n1\n2\nend\n";
+
+/// Both texts in one stream.
+const STREAM: &[u8] =
+    b"adya 1\nw1(x.1:1,5)\nc1\nr2(x.1:1,5)\nc2\n[x:1]\n{x,5}\nend\nserial 1\n1\n2\nend\n";
 
 /// How failing devices fail. An interrupted call is a failed one.
 const KINDS: [ErrorKind; 2] = [ErrorKind::Interrupted, ErrorKind::TimedOut];
 
-/// A reader of the text in pieces of 7 bytes, whose k-th call fails; none where k is 0.
-fn reader(text: &[u8], k: u64, kind: ErrorKind) -> Watched<FailsAt<Pieces<'_>>> {
+/// Makes the history in which transaction 2 reads what transaction 1 wrote, as a value.
+fn write_then_read(alloc: Global) -> Result<History, BadHistory> {
+    let events = vec![in alloc;
+        write(1, "x", 1, "5")?,
+        commit(1)?,
+        read(2, version("x", 1, 1)?, "5")?,
+        commit(2)?,
+    ]?;
+    let orders = vec![in alloc; version_order(alloc, "x", &[1])?]?;
+    let finals = vec![in alloc; final_pair("x", "5")?]?;
+    histories::history(events, orders, finals)
+}
+
+/// A reader that fails once.
+type Reader<'a> = Watched<FailsAt<Pieces<'a>>>;
+
+/// Makes a reader of the text in pieces of 7 bytes whose k-th call fails; if k is 0, none does.
+fn reader(text: &[u8], k: u64, kind: ErrorKind) -> Reader<'_> {
     Watched::new(FailsAt::new(Pieces::new(text, 7), k, kind))
 }
 
-/// A writer that takes a byte a call, and whose k-th call fails; none where k is 0.
+/// Makes a writer that takes a byte a call and whose k-th call fails; if k is 0, none does.
 fn writer(alloc: Global, k: u64, kind: ErrorKind) -> Watched<FailsAt<Narrow>> {
     let narrow = Narrow {
         bytes: Vec::new(alloc),
@@ -32,7 +66,7 @@ fn writer(alloc: Global, k: u64, kind: ErrorKind) -> Watched<FailsAt<Narrow>> {
     Watched::new(FailsAt::new(narrow, k, kind))
 }
 
-/// A writer that takes nothing.
+/// Makes a writer that takes nothing.
 fn full(alloc: Global) -> Watched<Narrow> {
     Watched::new(Narrow {
         bytes: Vec::new(alloc),

@@ -19,6 +19,3 @@ pub use read_fault::{ReadFault, Text};
 pub use reading::{read_history, read_serial};
 pub use sources::{read_history_from, read_serial_from, read_texts_from};
 pub use writing::{WriteFault, write_history, write_serial};
-
-#[cfg(test)]
-mod tests;

@@ -1,119 +1,132 @@
-//! Orders of a history's transactions.
+//! Which certificate or cycle is found of a history.
 
-use super::{HISTORY, KINDS, full, reader, writer};
-use adya_audit::{Ordered, RunFault, run_order};
-use adya_testing::Endless;
-use devices::Watched;
-use std::io::ErrorKind;
+use crate::edge_lists;
+use adya_dsg::{Found, order};
+use adya_terms::Checked;
+use adya_testing::histories::{
+    BadHistory, commit, final_pair, history, live, read, scan, version, version_order, write,
+};
+use adya_values::History;
+use std::alloc::{AllocError, Global};
 use std::test::Fail;
 
-/// Transaction 2 scans what 3 deletes, and deletes it itself before 3.
-const CYCLE: &[u8] =
-    b"adya 1\nw1(x.1:1,5)\nc1\nd3(x.3:1)\ns2(x,x;x.3:1,!)\nd2(x.2:1)\nc3\nc2\n[x:1<<2<<3]\nend\n";
-
-#[test]
-fn order_kth_read_fails(rt: HostRuntime) -> Result<(), Fail> {
-    for kind in KINDS {
-        let mut ended = false;
-        for k in 1..100 {
-            if !ended {
-                let mut history = reader(HISTORY, k, kind);
-                let mut out = Watched::new(Vec::new(rt.alloc()));
-                match run_order(rt.alloc(), &mut history, &mut out) {
-                    Ok(told) => {
-                        assert!(rt; matches!(told, Ordered::Serial));
-                        assert!(rt; !history.failed());
-                        ended = true;
-                    }
-                    Err(fault) => {
-                        assert_eq!(rt; fault, RunFault::ReadHistory, "at {k}");
-                        assert!(rt; history.failed());
-                        assert!(rt; out.into_inner().is_empty());
-                        assert_eq!(rt; history.into_inner().calls(), k);
-                    }
-                }
+/// Returns the transactions of the certificate, or the edges of the cycle, a line each.
+pub(crate) fn lines(alloc: Global, found: &Found) -> Result<String, AllocError> {
+    match found {
+        Found::Serial(serial) => {
+            let mut text = String::from_str(alloc, "serial\n")?;
+            for txn in serial.txns() {
+                let n = txn.get();
+                text.push_str(&format!(in alloc; "{n}\n")?)?;
             }
+            Ok(text)
         }
-        assert!(rt; ended);
+        Found::Cycle(edges) => {
+            let edges = edge_lists::lines(alloc, edges)?;
+            format!(in alloc; "cycle\n{edges}")
+        }
     }
-    Ok(())
+}
+
+/// Returns what is found of the history, in lines.
+pub(crate) fn found(alloc: Global, history: &History) -> Result<String, Fail> {
+    match Checked::of(alloc, history) {
+        Ok(checked) => Ok(lines(alloc, &order(alloc, &checked)?)?),
+        Err(_) => Err(Fail::new("the history is not checked")),
+    }
 }
 
 #[test]
-fn order_kth_write_fails(rt: HostRuntime) -> Result<(), Fail> {
-    let rows: [(&[u8], &[u8]); 3] = [
-        (HISTORY, b"serial 1\n1\n2\nend\n"),
-        (CYCLE, b"cycle 2\nww x 2 3\nwr x 3 2\n"),
-        (b"adya 1\nend\nx", b"no 1 syntax history 3\n"),
+fn a_scan_comes_before_a_later_write(rt: HostRuntime) -> Result<(), Fail> {
+    let alloc = rt.alloc();
+    let entries = vec![in alloc; live(version("b", 1, 1)?, "5")?]?;
+    let events = vec![in alloc;
+        write(1, "b", 1, "5")?,
+        commit(1)?,
+        scan(2, "a", "m", entries)?,
+        write(3, "b", 1, "6")?,
+        commit(3)?,
+        commit(2)?,
+    ]?;
+    let orders = vec![in alloc; version_order(alloc, "b", &[1, 3])?]?;
+    let finals = vec![in alloc; final_pair("b", "6")?]?;
+    let given = history(events, orders, finals)?;
+    assert_eq!(rt; found(alloc, &given)?.as_str(), "serial\n1\n2\n3\n");
+    Ok(())
+}
+
+/// Makes the history with these committed transactions in which of each pair the second reads a key that the first
+/// wrote: the keys are `a`, `b` and on. Its graph has an edge for each pair and no other.
+fn history_with_edges(
+    alloc: Global,
+    txns: &[u64],
+    pairs: &[(&str, u64, u64)],
+) -> Result<History, BadHistory> {
+    let mut events = Vec::new(alloc);
+    let mut orders = Vec::new(alloc);
+    let mut finals = Vec::new(alloc);
+    for (key, from, _) in pairs {
+        events.push(write(*from, key, 1, "0")?)?;
+        orders.push(version_order(alloc, key, &[*from])?)?;
+        finals.push(final_pair(key, "0")?)?;
+    }
+    for (key, from, to) in pairs {
+        events.push(read(*to, version(key, *from, 1)?, "0")?)?;
+    }
+    for txn in txns {
+        events.push(commit(*txn)?)?;
+    }
+    history(events, orders, finals)
+}
+
+#[test]
+fn the_smallest_ready_transaction_comes_next(rt: HostRuntime) -> Result<(), Fail> {
+    let pairs = [
+        ("a", 5, 1),
+        ("b", 5, 1),
+        ("c", 5, 1),
+        ("d", 4, 2),
+        ("e", 2, 3),
     ];
-    for (text, answer) in rows {
-        let mut ended = false;
-        for k in 1..100 {
-            if !ended {
-                let mut history = reader(text, 0, ErrorKind::Other);
-                let mut out = writer(rt.alloc(), k, ErrorKind::Interrupted);
-                match run_order(rt.alloc(), &mut history, &mut out) {
-                    Ok(_) => {
-                        assert_eq!(rt; out.into_inner().get_ref().bytes.as_slice(), answer);
-                        ended = true;
-                    }
-                    Err(fault) => {
-                        assert_eq!(rt; fault, RunFault::Write, "at {k}");
-                        assert!(rt; out.failed());
-                        assert_eq!(rt; out.into_inner().calls(), k);
-                    }
-                }
-            }
-        }
-        assert!(rt; ended);
-    }
-    Ok(())
-}
-
-#[test]
-fn order_writer_takes_nothing(rt: HostRuntime) -> Result<(), Fail> {
-    let mut history = reader(CYCLE, 0, ErrorKind::Other);
-    let mut out = full(rt.alloc());
-    let told = run_order(rt.alloc(), &mut history, &mut out);
-    assert!(rt; matches!(told, Err(RunFault::Write)));
-    assert!(rt; out.failed());
-    Ok(())
-}
-
-#[test]
-fn order_endless_line(rt: HostRuntime) -> Result<(), Fail> {
-    let mut history = Watched::with_bound(Endless(b'a'), 10);
-    let mut out = Watched::new(Vec::new(rt.alloc()));
-    let told = run_order(rt.alloc(), &mut history, &mut out);
-    assert!(rt; matches!(told, Err(RunFault::ReadHistory)));
-    assert!(rt; history.failed());
-    assert!(rt; out.into_inner().is_empty());
-    Ok(())
-}
-
-#[test]
-fn order_tells_what_it_wrote(rt: HostRuntime) -> Result<(), Fail> {
-    let mut out = Watched::new(Vec::new(rt.alloc()));
-    let mut history = reader(HISTORY, 0, ErrorKind::Other);
-    assert!(rt;
-        matches!(
-            run_order(rt.alloc(), &mut history, &mut out),
-            Ok(Ordered::Serial)
-        )
+    let given = history_with_edges(rt.alloc(), &[3, 1, 5, 2, 4], &pairs)?;
+    assert_eq!(rt;
+        found(rt.alloc(), &given)?.as_str(),
+        "serial\n4\n2\n3\n5\n1\n"
     );
-    let mut history = reader(CYCLE, 0, ErrorKind::Other);
-    assert!(rt;
-        matches!(
-            run_order(rt.alloc(), &mut history, &mut out),
-            Ok(Ordered::Cycle)
-        )
+    Ok(())
+}
+
+// Transaction 1 is placed. From 2, which is on a cycle with 5, the way back goes to 4, the smaller predecessor, and
+// then to 6 and 3, whose predecessor 6 is met again. The smaller predecessor 1 of 6 isn't left.
+#[test]
+fn a_cycle_may_lie_before_the_smallest_left(rt: HostRuntime) -> Result<(), Fail> {
+    let pairs = [
+        ("a", 1, 6),
+        ("b", 5, 2),
+        ("c", 4, 2),
+        ("d", 3, 6),
+        ("e", 6, 3),
+        ("f", 6, 3),
+        ("g", 2, 5),
+        ("h", 3, 6),
+        ("i", 6, 4),
+    ];
+    let given = history_with_edges(rt.alloc(), &[1, 2, 3, 4, 5, 6], &pairs)?;
+    assert_eq!(rt;
+        found(rt.alloc(), &given)?.as_str(),
+        "cycle\nwr d 3 6\nwr e 6 3\n"
     );
-    let mut history = reader(b"", 0, ErrorKind::Other);
-    assert!(rt;
-        matches!(
-            run_order(rt.alloc(), &mut history, &mut out),
-            Ok(Ordered::No(_))
-        )
+    Ok(())
+}
+
+// The way back from 1 goes to 4, 2, 3 and 1 again. The cycle is written along the edges, the other way.
+#[test]
+fn a_cycle_goes_along_the_edges(rt: HostRuntime) -> Result<(), Fail> {
+    let pairs = [("a", 4, 1), ("b", 2, 4), ("c", 3, 2), ("d", 1, 3)];
+    let given = history_with_edges(rt.alloc(), &[1, 2, 3, 4], &pairs)?;
+    assert_eq!(rt;
+        found(rt.alloc(), &given)?.as_str(),
+        "cycle\nwr d 1 3\nwr c 3 2\nwr b 2 4\nwr a 4 1\n"
     );
     Ok(())
 }

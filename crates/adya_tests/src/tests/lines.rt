@@ -1,10 +1,14 @@
-use super::*;
-use adya_values::Event;
+//! Single lines: read, and written again.
+
+use adya_line::{
+    ContentRef, EventRef, event, final_pair, order, read_event, txn, unfinished, write_event,
+    write_final, write_order, write_txn, write_unfinished,
+};
 use devices::Watched;
 use std::test::Fail;
 
 #[test]
-fn event_lines_are_taken_and_written_again(rt: HostRuntime) -> Result<(), Fail> {
+fn event_lines_are_read_and_written_again(rt: HostRuntime) -> Result<(), Fail> {
     for line in [
         b"w7(x.7:1,ab+)".as_slice(),
         b"w4294967295(k_9.4294967295:65535,V.1-0)",
@@ -17,11 +21,10 @@ fn event_lines_are_taken_and_written_again(rt: HostRuntime) -> Result<(), Fail> 
         b"c1",
         b"a4294967295",
     ] {
-        let mut out = Watched::new(Vec::new(rt.alloc()));
-        let Some(found) = read_event(line) else {
+        let Some(event) = event(rt.alloc(), line)? else {
             return Err(Fail::new("the line is refused"));
         };
-        let event = found.to_event(rt.alloc())?;
+        let mut out = Watched::new(Vec::new(rt.alloc()));
         write_event(&event, &mut out)?;
         assert_eq!(rt; out.into_inner().as_slice(), line);
     }
@@ -76,8 +79,7 @@ fn other_lines_are_no_events(rt: HostRuntime) -> Result<(), Fail> {
 
 #[test]
 fn entries_come_in_the_order_of_the_line(rt: HostRuntime) -> Result<(), Fail> {
-    let line = b"s1(a,c;b.2:1,7;a.3:4,!)";
-    let Some(EventRef::Scan(scan)) = read_event(line) else {
+    let Some(EventRef::Scan(scan)) = read_event(b"s1(a,c;b.2:1,7;a.3:4,!)") else {
         return Err(Fail::new("the line is no scan"));
     };
     assert_eq!(rt; scan.txn, 1);
@@ -103,33 +105,12 @@ fn entries_come_in_the_order_of_the_line(rt: HostRuntime) -> Result<(), Fail> {
 }
 
 #[test]
-fn long_scans_are_taken_and_written_again(rt: HostRuntime) -> Result<(), Fail> {
-    let mut line = Vec::new(rt.alloc());
-    line.extend_from_slice(b"s1(a,c")?;
-    for _ in 0..5000 {
-        line.extend_from_slice(b";b.2:1,7")?;
-    }
-    line.extend_from_slice(b")")?;
-    let Some(found) = event(rt.alloc(), &line)? else {
-        return Err(Fail::new("the line is refused"));
-    };
-    let Event::Scan { entries, .. } = &found else {
-        return Err(Fail::new("the line is no scan"));
-    };
-    assert_eq!(rt; entries.len(), 5000);
-    let mut out = Watched::new(Vec::new(rt.alloc()));
-    write_event(&found, &mut out)?;
-    assert_eq!(rt; out.into_inner().as_slice(), line.as_slice());
-    Ok(())
-}
-
-#[test]
-fn unfinished_lines_are_taken_and_written_again(rt: HostRuntime) -> Result<(), Fail> {
+fn unfinished_lines_are_read_and_written_again(rt: HostRuntime) -> Result<(), Fail> {
     for line in [b"u1".as_slice(), b"u4294967295"] {
-        let mut out = Watched::new(Vec::new(rt.alloc()));
         let Some(found) = unfinished(line) else {
             return Err(Fail::new("the line is refused"));
         };
+        let mut out = Watched::new(Vec::new(rt.alloc()));
         write_unfinished(found, &mut out)?;
         assert_eq!(rt; out.into_inner().as_slice(), line);
     }
@@ -152,12 +133,12 @@ fn unfinished_lines_are_taken_and_written_again(rt: HostRuntime) -> Result<(), F
 }
 
 #[test]
-fn order_lines_are_taken_and_written_again(rt: HostRuntime) -> Result<(), Fail> {
+fn order_lines_are_read_and_written_again(rt: HostRuntime) -> Result<(), Fail> {
     for line in [b"[x:1]".as_slice(), b"[k_9:3<<1<<4294967295]", b"[x:1<<1]"] {
-        let mut out = Watched::new(Vec::new(rt.alloc()));
         let Some(found) = order(rt.alloc(), line)? else {
             return Err(Fail::new("the line is refused"));
         };
+        let mut out = Watched::new(Vec::new(rt.alloc()));
         write_order(&found, &mut out)?;
         assert_eq!(rt; out.into_inner().as_slice(), line);
     }
@@ -179,12 +160,12 @@ fn order_lines_are_taken_and_written_again(rt: HostRuntime) -> Result<(), Fail> 
 }
 
 #[test]
-fn final_lines_are_taken_and_written_again(rt: HostRuntime) -> Result<(), Fail> {
+fn final_lines_are_read_and_written_again(rt: HostRuntime) -> Result<(), Fail> {
     for line in [b"{x,1}".as_slice(), b"{k_9,V.1-0}"] {
-        let mut out = Watched::new(Vec::new(rt.alloc()));
         let Some(found) = final_pair(line) else {
             return Err(Fail::new("the line is refused"));
         };
+        let mut out = Watched::new(Vec::new(rt.alloc()));
         write_final(&found, &mut out)?;
         assert_eq!(rt; out.into_inner().as_slice(), line);
     }
@@ -204,12 +185,12 @@ fn final_lines_are_taken_and_written_again(rt: HostRuntime) -> Result<(), Fail> 
 }
 
 #[test]
-fn certificate_lines_are_taken_and_written_again(rt: HostRuntime) -> Result<(), Fail> {
+fn certificate_lines_are_read_and_written_again(rt: HostRuntime) -> Result<(), Fail> {
     for line in [b"1".as_slice(), b"4294967295"] {
-        let mut out = Watched::new(Vec::new(rt.alloc()));
         let Some(found) = txn(line) else {
             return Err(Fail::new("the line is refused"));
         };
+        let mut out = Watched::new(Vec::new(rt.alloc()));
         write_txn(found, &mut out)?;
         assert_eq!(rt; out.into_inner().as_slice(), line);
     }

@@ -1,7 +1,0 @@
-//! Tests.
-
-mod choosing;
-mod generated;
-mod histories;
-mod listing;
-mod ordering;
