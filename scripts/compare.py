@@ -4,7 +4,7 @@
     scripts/compare.py [--cases 2000] [--seed 1] [PROGRAM]
 
 Some histories break a rule, some texts are damaged. Build the program first: cd crates/ssi && rt run < stdin. The last
-line is `N passed, 0 failed`; where an answer differs, the texts are printed, and it ends with status 1.
+line is `N passed, 0 failed`. If an answer differs, the texts are printed, and it ends with status 1.
 """
 import argparse
 import collections
@@ -37,7 +37,7 @@ class Maker:
     def history(self):
         self.keys, self.events = self.random.choice(KEYS), []
         self.slip = self.random.choice([0, 0, 0, 0.02])  # how likely a step is wrong
-        self.is_tame = self.happens(0.6)  # whether it reads what is committed, and of that the newest
+        self.is_tame = self.happens(0.6)  # whether it reads only what is committed, and the newest of that
         kinds, running = self.random.choice(KINDS), list(range(1, self.random.randint(1, 6) + 1))
         steps = {txn: self.random.randint(1, 5) for txn in running}
         while running:

@@ -1,6 +1,7 @@
 #!/usr/bin/env bash
 # Runs the built program on every example, by `audit`, by `order` and by one stream, and compares what it writes and its
-# status. Build it first: (cd crates/ssi && rt run < stdin). Takes the program's path, crates/ssi/out/ssi where none is given.
+# status. Build it first: (cd crates/ssi && rt run < stdin). The argument is the program's path; the default is
+# crates/ssi/out/ssi.
 set -u
 top=$(realpath "$(dirname "$0")/..")
 ssi=$(realpath "${1:-$top/crates/ssi/out/ssi}")
@@ -8,7 +9,7 @@ cd "$top" || exit 2
 [ -x "$ssi" ] || { echo "no program at $ssi"; exit 2; }
 passed=0 failed=0
 
-check() { # what it is, file of the wanted output, first line for status 0, output, status
+check() { # name, file with the wanted output, first line that goes with status 0, output, status
     local status=1
     [ "$(head -n 1 "$2")" = "$3" ] && status=0
     if [ "$(cat "$2")" = "$4" ] && [ "$status" = "$5" ]; then

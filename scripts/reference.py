@@ -1,5 +1,5 @@
 #!/usr/bin/env python3
-"""What the program `ssi` has to answer, by a second implementation of docs/histories.md and docs/formats.md.
+"""The expected answers of the program `ssi`: a second implementation of docs/histories.md and docs/formats.md.
 
     scripts/reference.py audit H C
     scripts/reference.py order H
@@ -14,7 +14,7 @@ KEY = r"[a-z0-9_]{1,32}"
 VALUE = r"[A-Za-z0-9_.+\-]{1,64}"
 
 
-# Texts. A reader answers the value, or the line of the fault.
+# Texts. A reader returns the value, or the line of the fault.
 
 
 def number(text, most):
@@ -26,14 +26,14 @@ def transaction(text):
 
 
 def version(text):
-    """A key, who wrote it, and which of its writes of the key it was."""
+    """A key, the transaction that wrote it, and which of its writes of the key it was."""
     m = re.fullmatch(r"(%s)\.([0-9]+):([0-9]+)" % KEY, text)
     parts = m and (m[1], transaction(m[2]), number(m[3], 2**16 - 1))
     return parts if parts and None not in parts else None
 
 
 def entry(text, may_be_dead):
-    """A version and its value, None where it is dead."""
+    """A version and its value, or None if it is dead."""
     parts = text.split(",")
     if len(parts) != 2 or not version(parts[0]):
         return None
@@ -81,7 +81,7 @@ class History:
         self.is_second, self.events, self.unfinished, self.orders, self.finals = False, [], [], [], []
 
     def take(self, line):
-        """Takes the line in, where it may stand here."""
+        """Adds what the line holds; returns whether the line may come here."""
         one = event(line)
         if one:
             self.events.append(one)
@@ -106,7 +106,7 @@ def rise(pairs):
 
 
 def read(text, heads, value, take):
-    """The value of which each line but the head and the tail is taken in, or the line of the fault."""
+    """The value, after `take` was given each line except the head and the tail; or the line of the fault."""
     *lines, rest = text.decode("latin-1").split("\n")
     for at, line in enumerate(lines, 1):
         if at > 1 and lines[at - 2] == "end":
@@ -213,7 +213,7 @@ def bad_read(h, is_bad):
 
 
 def fault(h):
-    """The line of the verdict on the history by itself, if it has a fault."""
+    """The line of the verdict if the history has a fault of its own, whatever the certificate."""
     found = malformed(h)
     if found:
         return "no 2 malformed %d M%d" % found
@@ -230,7 +230,7 @@ def fault(h):
 
 
 def selections(h, e):
-    """What the event reads or selects of others: each key that has an order, and the place there."""
+    """What the event reads or selects of other transactions: each key that has an order, and the place there."""
     for key, txns in h.orders:
         listed = [seen[0][1] for seen in e.seen if seen[0][0] == key]
         if listed and listed[0] != e.txn:
