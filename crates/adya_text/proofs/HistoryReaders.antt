@@ -1,8 +1,8 @@
 -- What a reader of history lines knows of the lines that it was fed with.
-use Rattle.std.proofs.Common.{◌≡◌, ℕ, suc, ◌<◌, Bool, true, false, List, [], ◌∷◌, ◌++◌, length, map, Option, Result}
+use Rattle.std.proofs.Common.{◌≡◌, ℕ, suc, ◌<◌, Bool, true, false, List, [], ◌∷◌, ◌++◌, length, map, Option}
 use Rattle.std.proofs.Common.{Ok, Err, refl, sym, ap, subst, ◌∙◌, arith, append_assoc, append-nil}
-use Rattle.std.specs.Prelude.{not, ◌==◌, ◌↔◌, IsTrue, OnErr}
-use Rattle.std.specs.Bool.{OnTrue, OnFalse}
+use Rattle.std.specs.Prelude.{not, ◌==◌}
+use Rattle.std.specs.Bool.{OnTrue}
 use Rattle.std.specs.List.{AllByRecursion, filter_map, list_all}
 use Rattle.std.specs.Cmp.Derive.{both_true}
 use Rattle.std.proofs.lemmas.Bool.Decides.{nat_tests}
@@ -32,7 +32,8 @@ use Rattle.adya_text.specs.declared.read_fault.ReadFault.{ReadFault}
 use Rattle.adya_text.specs.declared.read_fault.ReadFault.TheVariants.{Syntax}
 use Rattle.adya_text.specs.declared.read_fault.Text.TheVariants as Of
 use Rattle.adya_text.proofs.Runs.{run_join, refused, taken, one_end}
-use Rattle.adya_text.proofs.FaultLines.{fault_at, fault_missing, fault_stays, fault_stops, whole_begins}
+use Rattle.adya_text.proofs.FaultLines.{fault_at, fault_stays, fault_stops, whole_begins}
+use Rattle.adya_text.proofs.PrefixFaults.{fault_within, fault_after}
 use Rattle.adya_text.proofs.HistoryTexts.{LinesTell, HasLines, Run, end, run_of, are_lines, items_of, event_items}
 use Rattle.adya_text.proofs.HistoryTexts.{unfinished_items, order_items, final_items, held_by, items_texts}
 
@@ -190,25 +191,15 @@ fed_failed r past text fed failed = record {
 pub failed_fault : (r : HistoryReader) (past : List (List ℕ)) (text rest : List ℕ) (k : ℕ) → IsFed r past
     → r.stage ≡ Failed k → IsCut text past rest → IsFaultLine AreHistoryLines text k
 failed_fault r past text rest k fed is cut =
-    let (within, fault) = fed.faulty k is in
-    record {
-      lines = past;
-      rest = rest;
-      cut = cut;
-      outside = λ are none. fault_stops AreHistoryLines past k within fault (whole_begins AreHistoryLines past are);
-      first = fault;
-    }
+    let (within, fault) = fed.faulty k is in fault_within AreHistoryLines text past rest k within fault cut
 
 pub missing_fault : LinesTell → (r : HistoryReader) (past : List (List ℕ)) (text rest : List ℕ) → IsFed r past
     → is_failed r.stage ≡ false → (is_done r.stage ≡ true → rest ≡ [] → ⊥) → IsCut text past rest
     → IsFaultLine AreHistoryLines text r.next
-missing_fault tell r past text rest fed going none cut = record {
-  lines = past;
-  rest = rest;
-  cut = cut;
-  outside = λ are empty. by_done (is_done r.stage) refl are empty;
-  first = let t = fed.taken going in rw t.next (fault_missing AreHistoryLines past (fed_begins r past fed going));
-}
+missing_fault tell r past text rest fed going none cut =
+    let t = fed.taken going in
+    rw t.next (fault_after AreHistoryLines text past rest (fed_begins r past fed going)
+    (λ are empty. by_done (is_done r.stage) refl are empty) cut)
   where
     by_done : (b : Bool) → is_done r.stage ≡ b → AreHistoryLines past → rest ≡ [] → ⊥
     by_done true done are empty = none done empty

@@ -1,7 +1,6 @@
 -- Texts cut into lines.
-use Rattle.std.proofs.Common.{◌≡◌, ◌≢◌, ◌==◌, ℕ, suc, ◌+◌, ◌<◌, ◌≤◌, List, [], ◌∷◌, ◌++◌, All, length, take, drop}
-use Rattle.std.proofs.Common.{slice_index, refl, sym, ap, subst, ◌∙◌, arith, append_assoc, take-append-drop}
-use Rattle.std.proofs.Common.{length-take-le, zero-le}
+use Rattle.std.proofs.Common.{◌≡◌, ◌≢◌, ℕ, suc, ◌+◌, ◌<◌, List, [], ◌∷◌, ◌++◌, All, length, take, drop}
+use Rattle.std.proofs.Common.{slice_index, refl, sym, ap, ◌∙◌, arith, append_assoc, take-append-drop}
 use Rattle.std.proofs.lemmas.List.Elements.{All-head, All-tail, All-push}
 use Rattle.std.proofs.Math.Seq.{take-suc}
 use Rattle.memchr.specs.Find.{Nowhere, Passes, is_byte}

@@ -1,13 +1,13 @@
--- Texts that begin with given lines.
+-- Faults of texts that begin with given lines, or are cut into them.
 use Rattle.std.proofs.Common.{◌≡◌, ◌≢◌, ◌==◌, ℕ, suc, ◌≤◌, Bool, true, false, List, [], ◌∷◌, ◌++◌, All, length}
 use Rattle.std.proofs.Common.{refl, sym, ap, ◌∙◌, arith, append_assoc}
 use Rattle.std.proofs.lemmas.Bool.{eqb-true}
 use Rattle.std.proofs.lemmas.List.Elements.{All-nil, All-cons, All-append}
 use Rattle.adya_text.specs.Meaning.Texts.{with_ends}
 use Rattle.adya_line.specs.Meaning.Laws.{IsPlain}
-use Rattle.adya_text.specs.Meaning.Faults.{IsCut, HasFront, IsFirstFaulty, IsFaultLine}
+use Rattle.adya_text.specs.Meaning.Faults.{IsCut, HasFront, Begins, IsFirstFaulty, IsFaultLine}
 use Rattle.adya_text.proofs.LineLists.{ends_append}
-use Rattle.adya_text.proofs.FaultLines.{Grammar, front_begins, whole_begins, fault_stays, fault_stops}
+use Rattle.adya_text.proofs.FaultLines.{Grammar, front_begins, whole_begins, fault_stays, fault_stops, fault_missing}
 
 -- the complete lines of a text, and its rest
 record Cut (text : List ℕ) : Type 0 where
@@ -86,3 +86,27 @@ front_fault grammar text past k within fault front =
           (front_begins grammar past back.lines (whole_begins grammar (past ++ back.lines) are));
       first = fault_stays grammar past back.lines k within fault;
     }
+
+-- ---- the fault of a text that is cut into its lines
+
+-- one of the lines is faulty
+pub fault_within : (grammar : Grammar) (text : List ℕ) (past : List (List ℕ)) (rest : List ℕ) (k : ℕ) → k ≤ length past
+    → IsFirstFaulty grammar past k → IsCut text past rest → IsFaultLine grammar text k
+fault_within grammar text past rest k within fault cut = record {
+  lines = past;
+  rest = rest;
+  cut = cut;
+  outside = λ are none. fault_stops grammar past k within fault (whole_begins grammar past are);
+  first = fault;
+}
+
+-- the lines begin a text and are none, or more follows them
+pub fault_after : (grammar : Grammar) (text : List ℕ) (past : List (List ℕ)) (rest : List ℕ) → Begins grammar past
+    → (grammar past → rest ≡ [] → ⊥) → IsCut text past rest → IsFaultLine grammar text (suc (length past))
+fault_after grammar text past rest begins outside cut = record {
+  lines = past;
+  rest = rest;
+  cut = cut;
+  outside = outside;
+  first = fault_missing grammar past begins;
+}

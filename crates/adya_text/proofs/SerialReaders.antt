@@ -1,8 +1,7 @@
 -- What a reader of certificate lines knows of the lines that it was fed with.
-use Rattle.std.proofs.Common.{◌≡◌, ℕ, suc, Bool, true, false, List, [], ◌∷◌, ◌++◌, length, map, Result, Ok, Err, refl}
+use Rattle.std.proofs.Common.{◌≡◌, ℕ, suc, Bool, true, false, List, [], ◌∷◌, ◌++◌, length, map, Ok, Err, refl}
 use Rattle.std.proofs.Common.{sym, ap, subst, ◌∙◌, arith, append_assoc, append-nil}
-use Rattle.std.specs.Prelude.{◌↔◌, IsTrue, OnErr}
-use Rattle.std.specs.Bool.{OnTrue, OnFalse}
+use Rattle.std.specs.Bool.{OnTrue}
 use Rattle.std.specs.List.{AllByRecursion, filter_map}
 use Rattle.std.proofs.lemmas.List.{length-append}
 use Rattle.std.proofs.lemmas.List.Elements.{filter_map-append}
@@ -21,7 +20,8 @@ use Rattle.adya_text.specs.declared.read_fault.ReadFault.{ReadFault}
 use Rattle.adya_text.specs.declared.read_fault.ReadFault.TheVariants.{Syntax}
 use Rattle.adya_text.specs.declared.read_fault.Text.TheVariants as Of
 use Rattle.adya_text.proofs.Runs.{run_join, refused, taken, one_end}
-use Rattle.adya_text.proofs.FaultLines.{fault_at, fault_missing, fault_stays, fault_stops, whole_begins}
+use Rattle.adya_text.proofs.FaultLines.{fault_at, fault_stays, fault_stops, whole_begins}
+use Rattle.adya_text.proofs.PrefixFaults.{fault_within, fault_after}
 use Rattle.adya_text.proofs.SerialTexts.{LinesTell, HasLines, Run, end, run_of, are_lines, items_of, txn_items, held_by}
 use Rattle.adya_text.proofs.SerialTexts.{items_texts}
 
@@ -156,25 +156,15 @@ fed_failed r past text fed failed = record {
 pub failed_fault : (r : SerialReader) (past : List (List ℕ)) (text rest : List ℕ) (k : ℕ) → IsFed r past
     → r.stage ≡ Failed k → IsCut text past rest → IsFaultLine AreSerialLines text k
 failed_fault r past text rest k fed is cut =
-    let (within, fault) = fed.faulty k is in
-    record {
-      lines = past;
-      rest = rest;
-      cut = cut;
-      outside = λ are none. fault_stops AreSerialLines past k within fault (whole_begins AreSerialLines past are);
-      first = fault;
-    }
+    let (within, fault) = fed.faulty k is in fault_within AreSerialLines text past rest k within fault cut
 
 pub missing_fault : LinesTell → (r : SerialReader) (past : List (List ℕ)) (text rest : List ℕ) → IsFed r past
     → is_failed r.stage ≡ false → (is_done r.stage ≡ true → rest ≡ [] → ⊥) → IsCut text past rest
     → IsFaultLine AreSerialLines text r.next
-missing_fault tell r past text rest fed going none cut = record {
-  lines = past;
-  rest = rest;
-  cut = cut;
-  outside = λ are empty. by_done (is_done r.stage) refl are empty;
-  first = let t = fed.taken going in rw t.next (fault_missing AreSerialLines past (fed_begins r past fed going));
-}
+missing_fault tell r past text rest fed going none cut =
+    let t = fed.taken going in
+    rw t.next (fault_after AreSerialLines text past rest (fed_begins r past fed going)
+    (λ are empty. by_done (is_done r.stage) refl are empty) cut)
   where
     by_done : (b : Bool) → is_done r.stage ≡ b → AreSerialLines past → rest ≡ [] → ⊥
     by_done true done are empty = none done empty

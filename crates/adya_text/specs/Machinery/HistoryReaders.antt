@@ -2,10 +2,9 @@
 use Rattle.std.specs.Prelude.{◌≡◌, ℕ, suc, ◌≤◌, Bool, true, false, List, [], ◌∷◌, ◌++◌, length, map, Result, Ok, Err}
 use Rattle.std.specs.List.{filter_map}
 use Rattle.adya_values.specs.Meaning.Histories.{event_of, order_of, final_of}
-use Rattle.adya_values.specs.Meaning.Values.{history_of}
 use Rattle.adya_values.specs.declared.history.History.{History as HistoryValue}
-use Rattle.adya_text.specs.Meaning.Texts.{IsHistory, history_text, AreHistoryLines}
-use Rattle.adya_text.specs.Meaning.Faults.{IsFirstFaulty, IsFaultLine}
+use Rattle.adya_text.specs.Meaning.Texts.{AreHistoryLines}
+use Rattle.adya_text.specs.Meaning.Faults.{IsFirstFaulty}
 use Rattle.adya_text.specs.Meaning.Reading.{IsOfText, ReadsHistory}
 use Rattle.adya_text.specs.Computing.Runs.{HasRun}
 use Rattle.adya_line.specs.Meaning.HistoryLines.{Line, IsLine, line_text, IsLineOf}
@@ -16,7 +15,6 @@ use Rattle.adya_text.specs.declared.history_reader.Stage.TheVariants.{Done, Fail
 use Rattle.adya_text.specs.declared.history_reader.HistoryReader.{HistoryReader}
 use Rattle.adya_text.specs.declared.read_fault.ReadFault.{ReadFault}
 use Rattle.adya_text.specs.declared.read_fault.ReadFault.TheVariants.{Syntax, Device, Memory}
-use Rattle.adya_text.specs.declared.read_fault.Text.TheVariants as Of
 
 abbrev pub is_failed : Stage → Bool
 is_failed (Failed k) = true

@@ -2,8 +2,8 @@
 use Rattle.std.specs.Prelude.{◌≡◌, ℕ, suc, ◌≤◌, Bool, true, false, List, [], ◌∷◌, ◌++◌, length, Result, Ok, Err}
 use Rattle.std.specs.List.{filter_map}
 use Rattle.adya_values.specs.declared.serial.Serial.{Serial}
-use Rattle.adya_text.specs.Meaning.Texts.{IsSerial, serial_text, AreSerialLines}
-use Rattle.adya_text.specs.Meaning.Faults.{IsFirstFaulty, IsFaultLine}
+use Rattle.adya_text.specs.Meaning.Texts.{AreSerialLines}
+use Rattle.adya_text.specs.Meaning.Faults.{IsFirstFaulty}
 use Rattle.adya_text.specs.Meaning.Reading.{IsOfText, ReadsSerial}
 use Rattle.adya_text.specs.Computing.Runs.{HasRun}
 use Rattle.adya_line.specs.Meaning.SerialLines.{Line, IsLine, line_text, IsLineOf}
@@ -13,7 +13,6 @@ use Rattle.adya_text.specs.declared.serial_reader.Stage.TheVariants.{Head, Txns,
 use Rattle.adya_text.specs.declared.serial_reader.SerialReader.{SerialReader}
 use Rattle.adya_text.specs.declared.read_fault.ReadFault.{ReadFault}
 use Rattle.adya_text.specs.declared.read_fault.ReadFault.TheVariants.{Syntax, Device, Memory}
-use Rattle.adya_text.specs.declared.read_fault.Text.TheVariants as Of
 
 abbrev pub is_failed : Stage → Bool
 is_failed (Failed k) = true
