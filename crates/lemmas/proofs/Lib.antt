@@ -1,0 +1,10 @@
+pub mod Booleans
+pub mod Options
+pub mod Lists
+pub mod Members
+pub mod Filters
+pub mod Tests
+pub mod Finds
+pub mod Counts
+pub mod Steps
+pub mod Orderings
