@@ -3,6 +3,8 @@
 
 mod source;
 mod watched;
+mod writing;
 
 pub use source::Source;
 pub use watched::Watched;
+pub use writing::{put, put_line, put_number};
