@@ -1,4 +1,4 @@
-use Rattle.adya_audit.proofs.TextsRead.{verdict_on_both}
+use Rattle.adya_audit.proofs.TextVerdicts.{verdict_on_both}
 use Rattle.adya_audit.proofs.pipe.verdict_on_stream.Goals as goal
 
 pub returns-clause-verdict : goal.returns-clause-verdict
