@@ -10,7 +10,7 @@ use Rattle.adya_text.specs.declared.read_fault.Text.TheVariants as Of
 use Rattle.adya_text.specs.Meaning.Texts.{AreHistoryLines}
 use Rattle.adya_text.specs.Meaning.Faults.{IsFaultLine}
 use Rattle.adya_text.specs.Meaning.Laws.{HasOneFaultLine, HasNoFaultWithin}
-use Rattle.adya_text.specs.Machinery.HistoryReaders.{ReadsHistory}
+use Rattle.adya_text.specs.Meaning.Reading.{ReadsHistory}
 use Rattle.adya_audit.specs.Meaning.Verdicts.{Verdict, verdict_of}
 use Rattle.adya_audit.specs.Meaning.Verdicts as Said
 use Rattle.adya_audit.specs.Meaning.TextVerdicts.{NamesHistoryFault}

@@ -1,6 +1,5 @@
 -- The answer to a history text.
-use Rattle.std.proofs.Common.{◌≡◌, ℕ, zero, suc, true, List, [], ◌∷◌, Option, Some, None, IfSome, Ok, refl, subst}
-use Rattle.std.proofs.Common.{arith}
+use Rattle.std.proofs.Common.{◌≡◌, ℕ, true, List, Option, Some, None, IfSome, Ok, refl, subst}
 use Rattle.std.proofs.lemmas.List.Elements.{All-contains, All-from_recursion}
 use Rattle.adya_values.specs.declared.history.History.{History as HistoryValue}
 use Rattle.adya_values.specs.Meaning.Keys.{IsTxn}
@@ -11,7 +10,7 @@ use Rattle.adya_values.specs.Meaning.Acceptance.{IsAccepted}
 use Rattle.adya_line.specs.Meaning.Limits.{IsEvent}
 use Rattle.adya_text.specs.Meaning.Texts.{IsHistory, IsSerial, serial_text}
 use Rattle.adya_text.specs.Meaning.Laws.{HistoriesDiffer}
-use Rattle.adya_text.specs.Machinery.HistoryReaders.{ReadsHistory}
+use Rattle.adya_text.specs.Meaning.Reading.{ReadsHistory}
 use Rattle.adya_audit.specs.Meaning.TextVerdicts.{IsTextOf, AreAccepted}
 use Rattle.adya_audit.specs.Meaning.TextLaws.{AcceptedTextsAreSerializable}
 use Rattle.adya_audit.specs.Meaning.Answers.{Answer, Certificate, Cycle, Refusal, IsAnswerOn, IsAnswer}

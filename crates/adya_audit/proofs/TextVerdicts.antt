@@ -1,7 +1,6 @@
 -- The verdict on what was read of two texts.
-use Rattle.std.proofs.Common.{◌≡◌, ℕ, Bool, true, false, cond, List, [], ◌++◌, Option, Some, None, IfSome, Ok}
-use Rattle.std.proofs.Common.{Err, subst}
-use Rattle.std.specs.Io.KnownBytes.{prepend_known}
+use Rattle.std.proofs.Common.{◌≡◌, ℕ, Bool, true, false, cond, List, Option, Some, None, IfSome, Ok}
+use Rattle.std.proofs.Common.{Err}
 use Rattle.adya_values.specs.declared.fault.CheckFault.{CheckFault}
 use Rattle.adya_values.specs.declared.fault.CheckFault.TheVariants as Checked
 use Rattle.adya_values.specs.declared.history.History.{History}
@@ -17,8 +16,8 @@ use Rattle.adya_text.specs.declared.read_fault.Text.TheVariants as Of
 use Rattle.adya_text.specs.Meaning.Texts.{AreHistoryLines}
 use Rattle.adya_text.specs.Meaning.Faults.{IsFaultLine}
 use Rattle.adya_text.specs.Meaning.Streams.{history_part, serial_part}
-use Rattle.adya_text.specs.Machinery.HistoryReaders.{ReadsHistory}
-use Rattle.adya_text.specs.Machinery.SerialReaders.{ReadsSerial}
+use Rattle.adya_text.specs.Meaning.Reading.{ReadsHistory}
+use Rattle.adya_text.specs.Meaning.Reading.{ReadsSerial, ReadsTexts}
 use Rattle.adya_audit.specs.Meaning.Verdicts.{Verdict, Yes, Malformed, AbortedRead, IntermediateRead, NotTheCommitted, Backward}
 use Rattle.adya_audit.specs.Meaning.Verdicts.{edge_verdict, fault_verdict, verdict_of}
 use Rattle.adya_audit.specs.Meaning.Verdicts as Said
@@ -75,17 +74,18 @@ verdict_on_two None second x s v r t e = tt
 verdict_on_two (Some h) None x s v r t e = tt
 verdict_on_two (Some h) (Some c) x s v r t e = verdict_read h c x s r t v e
 
--- the same of the two texts of a stream of which nothing was read before
-pub verdict_on_both : (known rest : Option (List ℕ)) (buffered : List ℕ) (x : History) (s : Serial) (v : Verdict)
-    → buffered ≡ []
-    → IfSome (prepend_known buffered known) (λ stream. ReadsHistory (history_part stream) (Ok x))
-    → IfSome (prepend_known buffered known) (λ stream. rest ≡ Some (serial_part stream))
-    → IfSome rest (λ text. ReadsSerial text (Ok s)) → v ≡ verdict_of (history_of x) s.txns.items
+-- the same of the two texts of one known stream
+pub verdict_on_one : (known : Option (List ℕ)) (texts : History × Serial) (v : Verdict)
+    → IfSome known (λ stream. ReadsTexts stream (Ok texts)) → v ≡ verdict_of (history_of texts.0) texts.1.txns.items
     → IfSome known (λ stream. IsVerdictOnStream stream v)
-verdict_on_both None rest buffered x s v none r b t e = tt
-verdict_on_both (Some stream) rest buffered x s v none r b t e =
-    let start = λ (bs : List ℕ). bs ++ stream in
-    let history = subst (λ (bs : List ℕ). ReadsHistory (history_part (start bs)) (Ok x)) none r in
-    let behind = subst (λ (bs : List ℕ). rest ≡ Some (serial_part (start bs))) none b in
-    let serial = subst (λ (o : Option (List ℕ)). IfSome o (λ text. ReadsSerial text (Ok s))) behind t in
-    verdict_read (history_part stream) (serial_part stream) x s history serial v e
+verdict_on_one None texts v r e = tt
+verdict_on_one (Some stream) texts v r e =
+    verdict_read (history_part stream) (serial_part stream) texts.0 texts.1 r.0 r.1 v e
+
+-- a syntax fault of one of them is the verdict
+pub fault_on_one : (known : Option (List ℕ)) (text : Text) (line : ℕ)
+    → IfSome known (λ stream. ReadsTexts stream (Err (Syntax text line)))
+    → IfSome known (λ stream. IsVerdictOnStream stream (Said.Syntax text line))
+fault_on_one None text line r = tt
+fault_on_one (Some stream) Of.History line r = r
+fault_on_one (Some stream) Of.Serial line r = ((r.0.0, record { is_history = r.0.1; same = r.0.2 }), r.1)

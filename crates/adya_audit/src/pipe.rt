@@ -8,8 +8,8 @@ ghost use Rattle.adya_audit.specs.Meaning.Output.{verdict_line};
 ghost use Rattle.adya_audit.specs.Meaning.TextVerdicts.{IsVerdictOnStream, IsAcceptedStream, IsSerializableStream};
 
 use crate::laws::{accepted_texts_are_serializable, yes_where_texts_accepted};
-use crate::{RunFault, Text, Verdict, audit, write_verdict};
-use adya_text::{LineBuffer, ReadFault, read_history_part, read_serial_rest};
+use crate::{RunFault, Verdict, audit, write_verdict};
+use adya_text::{ReadFault, read_texts_from};
 use devices::Watched;
 use std::alloc::Global;
 use std::io::{Read, Write};
@@ -54,26 +54,9 @@ fn verdict_on_stream<R: Read>(alloc: Global, input: &mut Watched<R>) -> Result<V
     ensures no_serial { IsErrOf result RunFault.ReadSerial → ⊥ }
     ensures no_write { IsErrOf result RunFault.Write → ⊥ }
 {
-    let mut buffer = LineBuffer::new();
-    let history = match read_history_part(alloc, &mut buffer, input) {
-        Ok(history) => history,
-        Err(ReadFault::Syntax { line, .. }) => {
-            return Ok(Verdict::Syntax {
-                text: Text::History,
-                line,
-            });
-        }
-        Err(ReadFault::Device) => return Err(RunFault::ReadHistory),
-        Err(ReadFault::Memory) => return Err(RunFault::Memory),
-    };
-    let serial = match read_serial_rest(alloc, &mut buffer, input) {
-        Ok(serial) => serial,
-        Err(ReadFault::Syntax { line, .. }) => {
-            return Ok(Verdict::Syntax {
-                text: Text::Serial,
-                line,
-            });
-        }
+    let (history, serial) = match read_texts_from(alloc, input) {
+        Ok(texts) => texts,
+        Err(ReadFault::Syntax { text, line }) => return Ok(Verdict::Syntax { text, line }),
         Err(ReadFault::Device) => return Err(RunFault::ReadHistory),
         Err(ReadFault::Memory) => return Err(RunFault::Memory),
     };

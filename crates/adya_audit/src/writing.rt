@@ -10,6 +10,7 @@ ghost use Rattle.adya_audit.specs.Meaning.Verdicts.{plain_verdict};
 ghost use Rattle.adya_audit.specs.Meaning.Output.{text_name, rule_name, kind_name, edge_text, verdict_text, verdict_line};
 
 use crate::{Edge, Kind, Text, Verdict, WriteFault};
+use adya_line::write_version;
 use adya_values::{Rule, Version};
 use devices::{Watched, put, put_number};
 use std::io;
@@ -97,17 +98,7 @@ fn put_read<W: Write>(
     put(kind, out)?;
     put_number(line as u64, out)?;
     put(b" ", out)?;
-    put_version(version, out)
-}
-
-fn put_version<W: Write>(version: &Version, out: &mut Watched<W>) -> io::Result<()>
-    ensures { Wrote W.contents out.old out.new (version_text version.now) result }
-{
-    put(version.key.bytes(), out)?;
-    put(b".", out)?;
-    put_number(u64::from(version.txn.get()), out)?;
-    put(b":", out)?;
-    put_number(u64::from(version.m.get()), out)
+    write_version(version, out)
 }
 
 fn put_backward<W: Write>(edge: &Edge, out: &mut Watched<W>) -> io::Result<()>

@@ -2,7 +2,7 @@
 use Rattle.std.proofs.Common.{◌≡◌, ℕ, true, eqb, List, [], ◌∷◌, ◌++◌, length, Option, Some, None, refl, sym, ap, ◌∙◌}
 use Rattle.std.proofs.Common.{append_assoc}
 use Rattle.std.specs.Prelude.{decimal, IfSome, MatchOption, codes}
-use Rattle.std.proofs.lemmas.Bool.{eqb-true, eq-eqb}
+use Rattle.std.proofs.lemmas.Bool.{eqb-true, eq-eqb, and_parts}
 use Rattle.std.proofs.lemmas.Option.{none-some, same_Some}
 use Rattle.adya_values.specs.declared.event.Version.{Version}
 use Rattle.adya_values.specs.Meaning.Histories.{Event, Write, Delete, Read, Scan, Commit, Abort}
@@ -13,9 +13,9 @@ use Rattle.adya_line.specs.Computing.Reading.{Gives, ◌>>=◌, after, txn_at_li
 use Rattle.adya_line.specs.Computing.Reading.{unfinished_at}
 use Rattle.adya_line.specs.Meaning.Views.{view}
 use Rattle.adya_line.specs.declared.event_ref.EventRef.{EventRef}
-use Rattle.adya_line.proofs.Parts.{Only, found, then, weaken, if_then, by_byte, nothing, ended, both_parts}
-use Rattle.adya_line.proofs.Parts.{after_takes, text_takes, text_again, txn_takes, txn_again, line_takes, line_again}
-use Rattle.adya_line.proofs.Parts.{version_then, version_then-is, version_takes, version_again}
+use Rattle.adya_line.proofs.LineParts.{Only, found, then, weaken, if_then, by_byte, nothing, ended}
+use Rattle.adya_line.proofs.LineParts.{after_takes, text_takes, text_again, txn_takes, txn_again, line_takes, line_again}
+use Rattle.adya_line.proofs.LineParts.{version_then, version_then-is, version_takes, version_again}
 use Rattle.adya_line.proofs.Scans.{scan_is, scan_takes, scan_again}
 
 -- ---- the texts, nested to the right
@@ -72,7 +72,7 @@ write_takes bytes =
     then (text_takes 64 is_value_byte comma) (λ (value : List ℕ × List ℕ) l.
     then (after_takes 41 value.1) (λ (end : List ℕ) n.
     if_then _ _ (λ e.
-    let both = both_parts (eqb version.0.txn txn.0) (eqb (length end) 0) e in
+    let both = and_parts (eqb version.0.txn txn.0) (eqb (length end) 0) e in
     let same : txn.0 ≡ version.0.txn = sym (eqb-true version.0.txn txn.0 both.0) in
     let whole : 119 ∷ bytes ≡ 119 ∷ parts_then version.0.txn version.0 value.0 =
     rw (t.0, same, o, v.0, c, l.0, n, ended end both.1) refl in
@@ -86,7 +86,7 @@ delete_takes bytes =
     then (version_takes inner) (λ (version : Version × List ℕ) v.
     then (after_takes 41 version.1) (λ (end : List ℕ) n.
     if_then _ _ (λ e.
-    let both = both_parts (eqb version.0.txn txn.0) (eqb (length end) 0) e in
+    let both = and_parts (eqb version.0.txn txn.0) (eqb (length end) 0) e in
     let same : txn.0 ≡ version.0.txn = sym (eqb-true version.0.txn txn.0 both.0) in
     let whole : 100 ∷ bytes ≡ 100 ∷ delete_then version.0 = rw (t.0, same, o, v.0, n, ended end both.1) refl in
     rw same (whole ∙ sym (delete_is version.0), v.1))))))

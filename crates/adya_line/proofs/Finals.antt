@@ -6,8 +6,8 @@ use Rattle.adya_values.specs.Meaning.Histories.{FinalPair}
 use Rattle.adya_line.specs.Meaning.Spelling.{final_text}
 use Rattle.adya_line.specs.Meaning.Limits.{IsFinal}
 use Rattle.adya_line.specs.Computing.Reading.{after, final_at}
-use Rattle.adya_line.proofs.Parts.{Only, then, if_then, ended, after_takes, text_takes, text_again, key_between_takes}
-use Rattle.adya_line.proofs.Parts.{key_between_again}
+use Rattle.adya_line.proofs.LineParts.{Only, then, if_then, ended, after_takes, text_takes, text_again, key_between_takes}
+use Rattle.adya_line.proofs.LineParts.{key_between_again}
 
 final_then : FinalPair → List ℕ
 final_then f = 123 ∷ (f.key ++ (44 ∷ (f.value ++ (125 ∷ []))))

@@ -1,11 +1,10 @@
 pub mod Digits
-pub mod Parts
+pub mod LineParts
 pub mod Scans
 pub mod Events
 pub mod Orders
 pub mod Finals
-pub mod Feeds
-pub mod Readers
-pub mod HistoryKinds
-pub mod SerialKinds
-pub mod Growth
+pub mod PlainTexts
+pub mod LineReaders
+pub mod HistoryLines
+pub mod SerialLines

@@ -10,9 +10,9 @@ use Rattle.adya_values.specs.Meaning.Keys.{is_key_byte, IsTxn}
 use Rattle.adya_values.specs.Meaning.Histories.{Order}
 use Rattle.adya_line.specs.Meaning.Spelling.{later_text, writers_text, order_text}
 use Rattle.adya_line.specs.Meaning.Limits.{IsOrder}
-use Rattle.adya_line.specs.Computing.Reading.{◌>>=◌, after, writer_at, later_at, writers_at, order_at, behind}
-use Rattle.adya_line.proofs.Parts.{Only, found, then, weaken, ended, if_then, if_after, after_takes, txn_takes}
-use Rattle.adya_line.proofs.Parts.{txn_again, key_between_takes, key_between_again}
+use Rattle.adya_line.specs.Computing.Reading.{◌>>=◌, after, writer_at, later_at, writers_at, order_at, with_front}
+use Rattle.adya_line.proofs.LineParts.{Only, found, then, weaken, ended, if_then, if_after, after_takes, txn_takes}
+use Rattle.adya_line.proofs.LineParts.{txn_again, key_between_takes, key_between_again}
 
 -- ---- what is read is shorter
 
@@ -40,16 +40,16 @@ after_shorter byte bytes rest is =
 pub record IsOn (front : List ℕ) (bytes : List ℕ) (total : Option (List ℕ × List ℕ)) : Type 0 where
   pub fuel : ℕ
   pub enough : length bytes ≤ fuel
-  pub so_far : behind front (later_at fuel bytes) ≡ total
+  pub so_far : with_front front (later_at fuel bytes) ≡ total
 
 regroup : (front : List ℕ) (t : ℕ) (read : Option (List ℕ × List ℕ))
-    → behind front (read >>= λ x. Some (t ∷ x.0, x.1)) ≡ behind (front ++ t ∷ []) read
+    → with_front front (read >>= λ x. Some (t ∷ x.0, x.1)) ≡ with_front (front ++ t ∷ []) read
 regroup front t (Some x) = ap (λ (ts : List ℕ). Some (ts, x.1)) (sym (append_assoc front (t ∷ []) x.0))
 regroup front t None = refl
 
 goes_on_at : (front : List ℕ) (bytes rest after_t : List ℕ) (t : ℕ) (total : Option (List ℕ × List ℕ)) (k : ℕ)
     → after 60 bytes ≡ Some rest → writer_at rest ≡ Some (t, after_t)
-    → length bytes ≤ k → behind front (later_at k bytes) ≡ total → IsOn (front ++ t ∷ []) after_t total
+    → length bytes ≤ k → with_front front (later_at k bytes) ≡ total → IsOn (front ++ t ∷ []) after_t total
 unfolding later_at
 goes_on_at front bytes rest after_t t total zero mark one enough so_far =
     absurd (omega (arith, after_shorter 60 bytes rest mark))
@@ -58,25 +58,25 @@ goes_on_at front bytes rest after_t t total (suc k) mark one enough so_far =
     record {
       fuel = k;
       enough = omega (arith, after_shorter 60 bytes rest mark, writer_shorter rest after_t t one);
-      so_far = sym (regroup front t (later_at k after_t)) ∙ sym (ap (behind front) step) ∙ so_far;
+      so_far = sym (regroup front t (later_at k after_t)) ∙ sym (ap (with_front front) step) ∙ so_far;
     }
 
 fails_at : (front : List ℕ) (bytes rest : List ℕ) (total : Option (List ℕ × List ℕ)) (k : ℕ)
     → after 60 bytes ≡ Some rest → writer_at rest ≡ None → length bytes ≤ k
-    → behind front (later_at k bytes) ≡ total → total ≡ None
+    → with_front front (later_at k bytes) ≡ total → total ≡ None
 unfolding later_at
 fails_at front bytes rest total zero mark none enough so_far = absurd (omega (arith, after_shorter 60 bytes rest mark))
 fails_at front bytes rest total (suc k) mark none enough so_far =
     let step : later_at (suc k) bytes ≡ None = rw (mark, none) refl in
-    sym so_far ∙ ap (behind front) step
+    sym so_far ∙ ap (with_front front) step
 
 is_done_at : (front : List ℕ) (bytes : List ℕ) (total : Option (List ℕ × List ℕ)) (k : ℕ) → after 60 bytes ≡ None
-    → behind front (later_at k bytes) ≡ total → total ≡ Some (front, bytes)
+    → with_front front (later_at k bytes) ≡ total → total ≡ Some (front, bytes)
 unfolding later_at
 is_done_at front bytes total zero none so_far = sym so_far ∙ ap (λ (ts : List ℕ). Some (ts, bytes)) (append-nil front)
 is_done_at front bytes total (suc k) none so_far =
     let step : later_at (suc k) bytes ≡ Some ([], bytes) = rw none refl in
-    sym so_far ∙ ap (behind front) step ∙ ap (λ (ts : List ℕ). Some (ts, bytes)) (append-nil front)
+    sym so_far ∙ ap (with_front front) step ∙ ap (λ (ts : List ℕ). Some (ts, bytes)) (append-nil front)
 
 pub goes_on : (front : List ℕ) (bytes rest after_t : List ℕ) (t : ℕ) (total : Option (List ℕ × List ℕ))
     → after 60 bytes ≡ Some rest → writer_at rest ≡ Some (t, after_t)

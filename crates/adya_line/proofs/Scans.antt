@@ -3,7 +3,7 @@ use Rattle.std.proofs.Common.{◌≡◌, ℕ, zero, suc, ◌<◌, ◌≤◌, fal
 use Rattle.std.proofs.Common.{Some, None, refl, sym, ap, ◌∙◌, append_assoc, arith, inl, inr}
 use Rattle.std.specs.Prelude.{decimal, codes, ◌&&◌}
 use Rattle.std.specs.List.{flat_map, list_all, AllByRecursion}
-use Rattle.std.proofs.lemmas.Bool.{both_ways}
+use Rattle.std.proofs.lemmas.Bool.{both_ways, and_parts}
 use Rattle.std.proofs.lemmas.Bool.Decides.{eqb_tells}
 use Rattle.std.proofs.lemmas.List.Concat.{flat_map-cons}
 use Rattle.std.proofs.lemmas.List.{length-append}
@@ -12,11 +12,11 @@ use Rattle.adya_values.specs.Meaning.Keys.{is_key, is_value, is_key_byte, is_val
 use Rattle.adya_values.specs.Meaning.Histories.{Content, Live, Dead, Entry, Scan}
 use Rattle.adya_line.specs.Meaning.Spelling.{version_text, content_text, entry_text, event_text}
 use Rattle.adya_line.specs.Meaning.Limits.{IsContent, IsEntry, IsEvent}
-use Rattle.adya_line.specs.Computing.Reading.{◌>>=◌, after, none_or, content_at, entry_at, behind_entry, entries_at, entries_of}
+use Rattle.adya_line.specs.Computing.Reading.{◌>>=◌, after, none_or, content_at, entry_at, entry_before, entries_at, entries_of}
 use Rattle.adya_line.specs.Computing.Reading.{after_entries, whole, scan_at}
-use Rattle.adya_line.proofs.Parts.{Only, found, then, if_then, if_after, ended, both_parts, after_takes, text_takes}
-use Rattle.adya_line.proofs.Parts.{text_again, txn_takes, txn_again, version_then, version_then-is, version_takes}
-use Rattle.adya_line.proofs.Parts.{version_again}
+use Rattle.adya_line.proofs.LineParts.{Only, found, then, if_then, if_after, ended, after_takes, text_takes}
+use Rattle.adya_line.proofs.LineParts.{text_again, txn_takes, txn_again, version_then, version_then-is, version_takes}
+use Rattle.adya_line.proofs.LineParts.{version_again}
 
 -- ---- the texts, nested to the right
 
@@ -95,7 +95,7 @@ Spelled bytes x = (bytes ≡ entries_then x.0 x.1) × AreEntries x.0
 one_takes : (bytes : List ℕ) (n : ℕ) (o : Option (Entry × List ℕ))
     → Only o (λ x. (bytes ≡ entry_then x.0 x.1) × IsEntry x.0)
     → ((rest : List ℕ) → Spelled rest (entries_at n rest))
-    → Spelled bytes (none_or o ([], bytes) (λ e. behind_entry e.0 (entries_at n e.1)))
+    → Spelled bytes (none_or o ([], bytes) (λ e. entry_before e.0 (entries_at n e.1)))
 one_takes bytes n None is more = (refl, tt)
 one_takes bytes n (Some e) is more =
     (is.holds.0 ∙ ap (λ (x : List ℕ). entry_then e.0 x) (more e.1).0, (is.holds.1, (more e.1).1))
@@ -161,7 +161,7 @@ stops_at zero bytes is = refl
 stops_at (suc n) bytes is = rw is refl
 
 goes_on_at : (n : ℕ) (bytes rest : List ℕ) (e : Entry) → entry_at bytes ≡ Some (e, rest)
-    → entries_at (suc n) bytes ≡ behind_entry e (entries_at n rest)
+    → entries_at (suc n) bytes ≡ entry_before e (entries_at n rest)
 unfolding entries_at
 goes_on_at n bytes rest e is = rw is refl
 
@@ -173,22 +173,22 @@ enough_at zero m bytes (Some e) is low high = absurd (omega (arith, entry_shorte
 enough_at (suc n) zero bytes (Some e) is low high = absurd (omega (arith, entry_shorter bytes e.1 e.0 is))
 enough_at (suc n) (suc m) bytes (Some e) is low high =
     let less = entry_shorter bytes e.1 e.0 is in
-    goes_on_at n bytes e.1 e.0 is ∙ (ap (behind_entry e.0)
+    goes_on_at n bytes e.1 e.0 is ∙ (ap (entry_before e.0)
     (enough_at n m e.1 (entry_at e.1) refl (omega (arith, less)) (omega (arith, less))) ∙
     sym (goes_on_at m bytes e.1 e.0 is))
 
 one_more_at : (n : ℕ) (bytes rest : List ℕ) (e : Entry) → entry_at bytes ≡ Some (e, rest) → length bytes ≤ n
-    → entries_at n bytes ≡ behind_entry e (entries_at (length rest) rest)
+    → entries_at n bytes ≡ entry_before e (entries_at (length rest) rest)
 one_more_at zero bytes rest e is enough = absurd (omega (arith, entry_shorter bytes rest e is))
 one_more_at (suc n) bytes rest e is enough =
-    goes_on_at n bytes rest e is ∙ ap (behind_entry e)
+    goes_on_at n bytes rest e is ∙ ap (entry_before e)
     (enough_at n (length rest) rest (entry_at rest) refl (omega (arith, entry_shorter bytes rest e is)) (omega arith))
 
--- where no entry stands
+-- if no entry stands there
 pub none_more : (bytes : List ℕ) → entry_at bytes ≡ None → (entries_of bytes ≡ []) × (after_entries bytes ≡ bytes)
 none_more bytes is = let e = stops_at (length bytes) bytes is in (ap (λ x. x.0) e, ap (λ x. x.1) e)
 
--- where one stands
+-- if one stands there
 pub one_more : (bytes rest : List ℕ) (e : Entry) → entry_at bytes ≡ Some (e, rest)
     → (entries_of bytes ≡ e ∷ entries_of rest) × (after_entries bytes ≡ after_entries rest)
 one_more bytes rest e is =
@@ -203,8 +203,8 @@ value_head [] rest good = absurd cc
 value_head (c ∷ cs) rest good =
     elim (eqb_tells c 33) [
       | inl p ↦
-          let bytes = both_parts _ (is_value_byte c && list_all is_value_byte cs) good in
-          let head = both_parts (is_value_byte c) (list_all is_value_byte cs) bytes.1 in
+          let bytes = and_parts _ (is_value_byte c && list_all is_value_byte cs) good in
+          let head = and_parts (is_value_byte c) (list_all is_value_byte cs) bytes.1 in
           absurd (both_ways (is_value_byte c) (rw p.1 refl) head.0)
       | inr p ↦ rw p.0 refl
     ]
@@ -238,7 +238,7 @@ entries_again (e ∷ es) (suc n) rest is none stop enough =
     let more = entries_then es rest in
     let one = entry_again e more is.0 (no_value es rest stop) in
     goes_on_at n (entry_then e more) more e one ∙
-    ap (behind_entry e) (entries_again es n rest is.1 none stop (omega (arith, length-entry_then e more)))
+    ap (entry_before e) (entries_again es n rest is.1 none stop (omega (arith, length-entry_then e more)))
 
 no_key : (es : List Entry) → is_key_byte (get_or (entries_then es (41 ∷ [])) 0 0) ≡ false
 unfolding is_key_byte

@@ -7,7 +7,7 @@ ghost use Rattle.adya_line.specs.Meaning.Views.{view_content, view_entry, entrie
 use crate::entry_ref::{ContentRef, EntryRef, ValueRef};
 use crate::fields::{after, value_at, version_at};
 
-/// The entries of a scan, in the order of the line. They are read where they lie, and take no memory.
+/// The entries of a scan, in the order of the line. They are read from the line one by one, and take no memory.
 #[derive(Clone, Copy)]
 pub struct Entries<'a> {
     rest: &'a [u8],
@@ -38,7 +38,7 @@ impl<'a> Iterator for Entries<'a> {
     }
 }
 
-/// The content at the front, and what follows.
+/// Reads the content at the front; returns it and what follows.
 #[tactic(auto, unfolding(crate::specs::Computing::Reading::content_at))]
 fn content_at(bytes: &[u8]) -> Option<(ContentRef<'_>, &[u8])>
     ensures { Gives (λ x. (view_content x.0, x.1.now)) result (content_at bytes.now) }
@@ -50,7 +50,7 @@ fn content_at(bytes: &[u8]) -> Option<(ContentRef<'_>, &[u8])>
     Some((ContentRef::Live(ValueRef { bytes: value }), rest))
 }
 
-/// The entry at the front, behind its `;`, and what follows.
+/// Reads the entry at the front, with its `;`; returns it and what follows.
 #[tactic(auto, unfolding(crate::specs::Computing::Reading::entry_at))]
 fn entry_at(bytes: &[u8]) -> Option<(EntryRef<'_>, &[u8])>
     ensures { Gives (λ x. (view_entry x.0, x.1.now)) result (entry_at bytes.now) }
@@ -62,7 +62,7 @@ fn entry_at(bytes: &[u8]) -> Option<(EntryRef<'_>, &[u8])>
     Some((EntryRef { version, content }, rest))
 }
 
-/// What follows the entries at the front.
+/// Returns what follows the entries at the front.
 pub(crate) fn after_entries(bytes: &[u8]) -> &[u8]
     ensures { result.now ≡ after_entries bytes.now }
 {

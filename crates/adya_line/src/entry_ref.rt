@@ -3,8 +3,8 @@
 ghost use Rattle.std.specs.Prelude.{◌≡◌, true};
 ghost use Rattle.adya_values.specs.Meaning.Keys.{is_value};
 
-use crate::event_ref::VersionRef;
-use adya_values::{Content, Entry, Value};
+use crate::event_ref::{VersionRef, value_of};
+use adya_values::{Content, Entry};
 
 /// A value that is a slice of the line.
 #[derive(Clone, Copy)]
@@ -36,7 +36,7 @@ impl EntryRef<'_> {
     ghost use Rattle.adya_values.specs.Meaning.Histories.{entry_of};
     ghost use Rattle.adya_line.specs.Meaning.Views.{view_entry};
 
-    /// The entry by itself.
+    /// Returns the entry by itself.
     pub(crate) fn to_entry(&self) -> Entry
         ensures { entry_of result ≡ view_entry self.now }
     {
@@ -55,7 +55,7 @@ impl ContentRef<'_> {
         ensures { content_of result ≡ view_content self.now }
     {
         match self {
-            ContentRef::Live(v) => Content::Live(Value::new(v.bytes).unwrap()),
+            ContentRef::Live(v) => Content::Live(value_of(v.bytes)),
             ContentRef::Dead => Content::Dead,
         }
     }

@@ -14,7 +14,7 @@ use crate::txn_line::txn_at_line;
 use adya_values::Event;
 use std::alloc::{AllocError, Global};
 
-/// A write behind its letter.
+/// Reads a write after its letter.
 #[tactic(auto, unfolding(crate::specs::Computing::Reading::write_at))]
 fn write_at(bytes: &[u8]) -> Option<EventRef<'_>>
     ensures { Gives view result (write_at bytes.now) }
@@ -31,7 +31,7 @@ fn write_at(bytes: &[u8]) -> Option<EventRef<'_>>
     Some(EventRef::Write(WriteRef { version, value }))
 }
 
-/// A delete behind its letter.
+/// Reads a delete after its letter.
 #[tactic(auto, unfolding(crate::specs::Computing::Reading::delete_at))]
 fn delete_at(bytes: &[u8]) -> Option<EventRef<'_>>
     ensures { Gives view result (delete_at bytes.now) }
@@ -46,7 +46,7 @@ fn delete_at(bytes: &[u8]) -> Option<EventRef<'_>>
     Some(EventRef::Delete(DeleteRef { version }))
 }
 
-/// A read behind its letter.
+/// Reads a read after its letter.
 #[tactic(auto, unfolding(crate::specs::Computing::Reading::read_at))]
 fn read_at(bytes: &[u8]) -> Option<EventRef<'_>>
     ensures { Gives view result (read_at bytes.now) }
@@ -67,7 +67,7 @@ fn read_at(bytes: &[u8]) -> Option<EventRef<'_>>
     }))
 }
 
-/// A scan behind its letter.
+/// Reads a scan after its letter.
 #[tactic(auto, unfolding(crate::specs::Computing::Reading::scan_at))]
 fn scan_at(bytes: &[u8]) -> Option<EventRef<'_>>
     ensures { Gives view result (scan_at bytes.now) }
@@ -108,8 +108,9 @@ fn event_at(line: &[u8]) -> Option<EventRef<'_>>
     }
 }
 
-/// The event whose line this is, without its line feed: `wT(K.T:M,V)`, `dT(K.T:M)`, `rT(K.T:M,V)`,
-/// `sT(K,K;K.T:M,V;..)`, `cT` or `aT`. None on every other text. A scan's entries are read as they are asked for.
+/// Reads the line of an event, without its line feed: `wT(K.T:M,V)`, `dT(K.T:M)`, `rT(K.T:M,V)`,
+/// `sT(K,K;K.T:M,V;..)`, `cT` or `aT`. Returns `None` for every other text. It takes no memory: keys and values stay
+/// slices of the line, and a scan's entries are read while they are walked.
 pub fn read_event(line: &[u8]) -> Option<EventRef<'_>>
     ensures found { IfSome result (λ e. (line.now ≡ event_text (view e)) × IsEvent (view e)) }
     ensures exact { Gives view result (event_at line.now) }
@@ -118,8 +119,8 @@ pub fn read_event(line: &[u8]) -> Option<EventRef<'_>>
     event_at(line)
 }
 
-/// The event whose line this is, by itself. None where [`read_event`] gives none; `AllocError` where there is no
-/// memory for a scan's list.
+/// Reads the line of an event into an event of its own. Returns `None` if [`read_event`] does, and `AllocError` if there
+/// is no memory for a scan's entries.
 pub fn event(alloc: Global, line: &[u8]) -> Result<Option<Event>, AllocError>
     ensures { IfOk result (λ r. Gives event_of r (event_at line.now)) }
 {

@@ -2,6 +2,7 @@
 
 ghost use Rattle.std.specs.Prelude.{◌≡◌, true};
 ghost use Rattle.adya_values.specs.Meaning.Keys.{is_key, is_value, IsTxn, IsMod};
+ghost use Rattle.adya_values.specs.Meaning.Histories.{value_of};
 
 use crate::entries::Entries;
 use adya_values::{Entry, Event, Key, Mod, Txn, Value, Version};
@@ -60,7 +61,7 @@ pub struct ScanRef<'a> {
     pub lo: &'a [u8],
     /// The bytes of the last key of the range, 1 to 32; the range has both.
     pub hi: &'a [u8],
-    /// The line from the first entry's `;` on, or from the closing bracket on where there is no entry.
+    /// The line from the first entry's `;` on, or from the closing bracket on if there is no entry.
     pub listed: &'a [u8],
     pub ghost is_txn: { IsTxn txn },
     pub ghost is_lo: { is_key lo.now ≡ true },
@@ -93,44 +94,54 @@ pub enum EventRef<'a> {
     Abort(EndRef),
 }
 
-impl EventRef<'_> {
+impl<'a> EventRef<'a> {
     ghost use Rattle.std.specs.Prelude.{IfOk};
     ghost use Rattle.adya_values.specs.Meaning.Histories.{event_of};
-    ghost use Rattle.adya_line.specs.Meaning.Views.{view};
+    ghost use Rattle.adya_line.specs.Meaning.Views.{view, entries_in, entries_left};
 
-    /// The event by itself; `AllocError` where there is no memory for a scan's list.
+    /// Walks the entries of a scan, in the order of the line; their keys and values are slices of the line. Other
+    /// events have none.
+    #[tactic(auto, unfolding(crate::specs::Computing::Reading::entries_at))]
+    pub fn entries(&self) -> Entries<'a>
+        ensures { entries_left result ≡ entries_in (view self.now) }
+    {
+        match self {
+            EventRef::Scan(scan) => scan.entries(),
+            _ => Entries::new(&[]),
+        }
+    }
+
+    /// Returns the event by itself; `AllocError` if there is no memory for a scan's entries.
     pub fn to_event(&self, alloc: Global) -> Result<Event, AllocError>
         ensures { IfOk result (λ e. event_of e ≡ view self.now) }
     {
         Ok(match self {
-            EventRef::Write(w) => Event::Write {
-                txn: Txn::new(u64::from(w.version.txn)).unwrap(),
-                key: Key::new(w.version.key).unwrap(),
-                m: Mod::new(u64::from(w.version.m)).unwrap(),
-                value: Value::new(w.value).unwrap(),
-            },
-            EventRef::Delete(d) => Event::Delete {
-                txn: Txn::new(u64::from(d.version.txn)).unwrap(),
-                key: Key::new(d.version.key).unwrap(),
-                m: Mod::new(u64::from(d.version.m)).unwrap(),
-            },
+            EventRef::Write(w) => {
+                let Version { key, txn, m } = w.version.version();
+                Event::Write {
+                    txn,
+                    key,
+                    m,
+                    value: value_of(w.value),
+                }
+            }
+            EventRef::Delete(d) => {
+                let Version { key, txn, m } = d.version.version();
+                Event::Delete { txn, key, m }
+            }
             EventRef::Read(r) => Event::Read {
-                txn: Txn::new(u64::from(r.txn)).unwrap(),
+                txn: txn_of(r.txn),
                 version: r.version.version(),
-                value: Value::new(r.value).unwrap(),
+                value: value_of(r.value),
             },
             EventRef::Scan(s) => Event::Scan {
-                txn: Txn::new(u64::from(s.txn)).unwrap(),
-                lo: Key::new(s.lo).unwrap(),
-                hi: Key::new(s.hi).unwrap(),
+                txn: txn_of(s.txn),
+                lo: key_of(s.lo),
+                hi: key_of(s.hi),
                 entries: s.to_entries(alloc)?,
             },
-            EventRef::Commit(e) => Event::Commit {
-                txn: Txn::new(u64::from(e.txn)).unwrap(),
-            },
-            EventRef::Abort(e) => Event::Abort {
-                txn: Txn::new(u64::from(e.txn)).unwrap(),
-            },
+            EventRef::Commit(e) => Event::Commit { txn: txn_of(e.txn) },
+            EventRef::Abort(e) => Event::Abort { txn: txn_of(e.txn) },
         })
     }
 }
@@ -141,7 +152,7 @@ impl<'a> ScanRef<'a> {
     ghost use Rattle.adya_line.specs.Computing.Reading.{entries_of};
     ghost use Rattle.adya_line.specs.Meaning.Views.{entries_left};
 
-    /// The entries, in the order of the line.
+    /// Walks the entries, in the order of the line.
     pub fn entries(&self) -> Entries<'a>
         ensures { entries_left result ≡ entries_of self.now.listed.now }
     {
@@ -167,9 +178,30 @@ impl VersionRef<'_> {
         ensures { result ≡ view_version self.now }
     {
         Version {
-            key: Key::new(self.key).unwrap(),
-            txn: Txn::new(u64::from(self.txn)).unwrap(),
+            key: key_of(self.key),
+            txn: txn_of(self.txn),
             m: Mod::new(u64::from(self.m)).unwrap(),
         }
     }
+}
+
+fn txn_of(number: u32) -> Txn
+    requires { IsTxn number }
+    ensures { result ≡ number }
+{
+    Txn::new(u64::from(number)).unwrap()
+}
+
+fn key_of(bytes: &[u8]) -> Key
+    requires { is_key bytes.now ≡ true }
+    ensures { result ≡ bytes.now }
+{
+    Key::new(bytes).unwrap()
+}
+
+pub(crate) fn value_of(bytes: &[u8]) -> Value
+    requires { is_value bytes.now ≡ true }
+    ensures { value_of result ≡ bytes.now }
+{
+    Value::new(bytes).unwrap()
 }

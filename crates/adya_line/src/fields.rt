@@ -13,7 +13,7 @@ use crate::event_ref::VersionRef;
 use adya_values::{MAX_KEY_LEN, MAX_VALUE_LEN, is_key_byte, is_value_byte};
 use std::str;
 
-/// What follows the byte at the front.
+/// Returns what follows the byte, if it stands at the front.
 #[tactic(auto, unfolding(crate::specs::Computing::Reading::after))]
 pub(crate) fn after(byte: u8, bytes: &[u8]) -> Option<&[u8]>
     ensures { Gives (λ x. x.now) result (after byte bytes.now) }
@@ -45,7 +45,7 @@ fn digits_len(bytes: &[u8]) -> usize
     bytes.iter().take_while(|b| b.is_ascii_digit()).count()
 }
 
-/// The key at the front, and what follows.
+/// Reads the key at the front; returns it and what follows.
 #[tactic(auto, unfolding(crate::specs::Computing::Reading::text_at))]
 pub(crate) fn key_at(bytes: &[u8]) -> Option<(&[u8], &[u8])>
     ensures exact { Gives (λ x. (x.0.now, x.1.now)) result (text_at 32 is_key_byte bytes.now) }
@@ -58,7 +58,7 @@ pub(crate) fn key_at(bytes: &[u8]) -> Option<(&[u8], &[u8])>
     Some(bytes.split_at(len))
 }
 
-/// The value at the front, and what follows.
+/// Reads the value at the front; returns it and what follows.
 #[tactic(auto, unfolding(crate::specs::Computing::Reading::text_at))]
 pub(crate) fn value_at(bytes: &[u8]) -> Option<(&[u8], &[u8])>
     ensures exact { Gives (λ x. (x.0.now, x.1.now)) result (text_at 64 is_value_byte bytes.now) }
@@ -71,7 +71,7 @@ pub(crate) fn value_at(bytes: &[u8]) -> Option<(&[u8], &[u8])>
     Some(bytes.split_at(len))
 }
 
-/// The number at the front, which is not 0 and has no leading zero, and what follows.
+/// Reads the number at the front, which is not 0 and has no leading zero; returns it and what follows.
 #[tactic(auto, using(crate::proofs::Digits::digits_front), unfolding(crate::specs::Computing::Reading::txn_at))]
 pub(crate) fn txn_at(bytes: &[u8]) -> Option<(u32, &[u8])>
     ensures exact { Gives (λ x. (x.0, x.1.now)) result (txn_at bytes.now) }
@@ -85,7 +85,7 @@ pub(crate) fn txn_at(bytes: &[u8]) -> Option<(u32, &[u8])>
     Some((value_of(digits)?, rest))
 }
 
-/// The number of these digits.
+/// Returns the number of these digits, if it fits.
 fn value_of(digits: &[u8]) -> Option<u32>
     requires digits { all_ascii_digits digits.now ≡ true }
     requires some { 0 < length digits.now }
@@ -94,7 +94,7 @@ fn value_of(digits: &[u8]) -> Option<u32>
     str::from_utf8(digits).ok()?.parse().ok()
 }
 
-/// The number of a modification at the front, and what follows.
+/// Reads the number of a modification at the front; returns it and what follows.
 #[tactic(auto, unfolding(crate::specs::Computing::Reading::mod_at))]
 pub(crate) fn mod_at(bytes: &[u8]) -> Option<(u16, &[u8])>
     ensures exact { Gives (λ x. (x.0, x.1.now)) result (mod_at bytes.now) }
@@ -104,7 +104,7 @@ pub(crate) fn mod_at(bytes: &[u8]) -> Option<(u16, &[u8])>
     Some((u16::try_from(number).ok()?, rest))
 }
 
-/// The version at the front, and what follows.
+/// Reads the version at the front; returns it and what follows.
 #[tactic(auto, unfolding(crate::specs::Computing::Reading::version_at))]
 pub(crate) fn version_at(bytes: &[u8]) -> Option<(VersionRef<'_>, &[u8])>
     ensures { Gives (λ x. (view_version x.0, x.1.now)) result (version_at bytes.now) }
@@ -117,7 +117,7 @@ pub(crate) fn version_at(bytes: &[u8]) -> Option<(VersionRef<'_>, &[u8])>
     Some((VersionRef { key, txn, m }, rest))
 }
 
-/// The key between the two bytes, the first of which is at the front, and what follows.
+/// Reads the key between the two bytes, the first of which is at the front; returns it and what follows.
 #[tactic(auto, unfolding(crate::specs::Computing::Reading::key_between))]
 pub(crate) fn key_between(opening: u8, closing: u8, bytes: &[u8]) -> Option<(&[u8], &[u8])>
     ensures exact { Gives (λ x. (x.0.now, x.1.now)) result (key_between opening closing bytes.now) }

@@ -6,7 +6,7 @@ ghost use Rattle.adya_line.specs.Computing.Reading.{Gives, final_at};
 use crate::fields::{after, key_between, value_at};
 use adya_values::{FinalPair, Key, Value};
 
-/// The final whose line this is, without its line feed: `{K,V}`. None on every other text.
+/// Reads the line of a final, without its line feed: `{K,V}`. Returns `None` for every other text.
 #[tactic(auto, unfolding(crate::specs::Computing::Reading::final_at))]
 pub fn final_pair(line: &[u8]) -> Option<FinalPair>
     ensures { Gives final_of result (final_at line.now) }

@@ -28,8 +28,8 @@ pub enum HistoryLine {
     Tail,
 }
 
-/// The line of this text, which has no line feed. None where it is the text of no line; `AllocError` where there is no
-/// memory for a list of entries or of writers.
+/// Reads a line of a history text, without its line feed. Returns `None` if the text is that of no line, and
+/// `AllocError` if there is no memory for a list of entries or of writers.
 pub fn history_line(alloc: Global, text: &[u8]) -> Result<Option<HistoryLine>, AllocError>
     ensures { IfOk result (λ o. MatchOption o (IsNoLine text.now) (λ x. IsOnlyLineOf (line_of x) text.now)) }
 {

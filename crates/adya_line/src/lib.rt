@@ -27,7 +27,9 @@ pub use order_line::order;
 pub use serial_lines::{SerialLine, serial_line};
 pub use txn_line::txn;
 pub use unfinished_line::unfinished;
-pub use writing::{write_event, write_final, write_order, write_txn, write_unfinished};
+pub use writing::{
+    write_event, write_final, write_order, write_txn, write_unfinished, write_version,
+};
 
 #[cfg(test)]
 mod tests;

@@ -2,7 +2,7 @@
 
 ghost use Rattle.std.specs.Prelude.{◌≡◌, List, [], ◌∷◌, length, IfOk};
 ghost use Rattle.adya_values.specs.Meaning.Histories.{order_of};
-ghost use Rattle.adya_line.specs.Computing.Reading.{Gives, Steps, behind, txn_at, writer_at, later_at, writers_at, order_at};
+ghost use Rattle.adya_line.specs.Computing.Reading.{Gives, Steps, with_front, txn_at, writer_at, later_at, writers_at, order_at};
 
 use crate::fields::{after, key_between, txn_at};
 use adya_values::{Key, Order, Txn};
@@ -33,10 +33,10 @@ impl Cursor<'_> {
         self.txn()
     }
 
-    /// Goes past `<<T<<..`, and gives the numbers behind the first writer.
+    /// Goes past `<<T<<..`, and returns `first` and the numbers after it.
     fn later(&mut self, alloc: Global, first: Txn) -> Result<Option<Vec<Txn>>, AllocError>
         ensures { IfOk result (λ r. Steps (λ w. w.items) r self.new.rest.now
-            (behind (first ∷ []) (later_at (length self.old.rest.now) self.old.rest.now))) }
+            (with_front (first ∷ []) (later_at (length self.old.rest.now) self.old.rest.now))) }
     {
         let mut writers = Vec::new(alloc);
         writers.push(first)?;
@@ -62,8 +62,8 @@ impl Cursor<'_> {
     }
 }
 
-/// The order whose line this is, without its line feed: `[K:T<<T<<..]`, with at least one writer. None on every
-/// other text.
+/// Reads the line of an order, without its line feed: `[K:T<<T<<..]`, with at least one writer. Returns `None` for every
+/// other text, and `AllocError` if there is no memory for the writers.
 #[tactic(auto, unfolding(crate::specs::Computing::Reading::order_at))]
 pub fn order(alloc: Global, line: &[u8]) -> Result<Option<Order>, AllocError>
     ensures { IfOk result (λ r. Gives order_of r (order_at line.now)) }

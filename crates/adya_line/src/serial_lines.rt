@@ -18,7 +18,7 @@ pub enum SerialLine {
     Tail,
 }
 
-/// The line of this text, which has no line feed. None where it is the text of no line.
+/// Reads a line of a certificate text, without its line feed. Returns `None` if the text is that of no line.
 pub fn serial_line(text: &[u8]) -> Option<SerialLine>
     ensures { MatchOption result (IsNoLine text.now) (λ x. IsOnlyLineOf (line_of x) text.now) }
 {

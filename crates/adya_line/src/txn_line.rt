@@ -7,7 +7,7 @@ ghost use Rattle.adya_line.specs.Computing.Reading.{Gives, txn_at_line};
 use crate::fields::txn_at;
 use adya_values::Txn;
 
-/// The number that is all of the line.
+/// Reads the number that is all of the line.
 #[tactic(auto, unfolding(crate::specs::Computing::Reading::txn_at_line))]
 pub(crate) fn txn_at_line(bytes: &[u8]) -> Option<u32>
     ensures exact { Gives (λ x. x) result (txn_at_line bytes.now) }
@@ -17,7 +17,8 @@ pub(crate) fn txn_at_line(bytes: &[u8]) -> Option<u32>
     rest.is_empty().then_some(txn)
 }
 
-/// The transaction whose number this line is, without its line feed: `T`. None on every other text.
+/// Reads a line of a certificate, without its line feed: `T`, the number of a transaction. Returns `None` for every
+/// other text.
 pub fn txn(line: &[u8]) -> Option<Txn>
     ensures { Gives (λ t. t) result (txn_at_line line.now) }
 {

@@ -6,7 +6,7 @@ use crate::fields::after;
 use crate::txn_line::txn;
 use adya_values::Txn;
 
-/// The unfinished transaction whose line this is, without its line feed: `uT`. None on every other text.
+/// Reads the line of an unfinished transaction, without its line feed: `uT`. Returns `None` for every other text.
 #[tactic(auto, unfolding(crate::specs::Computing::Reading::unfinished_at))]
 pub fn unfinished(line: &[u8]) -> Option<Txn>
     ensures { Gives (λ t. t) result (unfinished_at line.now) }

@@ -19,7 +19,7 @@ use Rattle.adya_text.specs.Computing.HistoryRuns.{allows, edition_at, stage_afte
 use Rattle.adya_text.specs.Machinery.HistoryReaders.{is_done}
 use Rattle.adya_text.specs.declared.history_reader.Stage.{Stage}
 use Rattle.adya_text.specs.declared.history_reader.Stage.TheVariants.{Head, Events, Unfinished, Orders, Finals, Done}
-use Rattle.adya_text.proofs.RunLemmas.{all_append, all_map}
+use Rattle.adya_text.proofs.Runs.{all_append, all_map}
 
 abbrev pub Run : Stage → List Line → Type 0
 Run s xs = IsRun allows stage_after s xs
@@ -84,59 +84,59 @@ finals_run e last (f ∷ fs) rise =
     let parts = and_parts (key_lt last f.key) (keys_rise (map (λ f. f.key) (f ∷ fs))) rise in
     (parts.0, finals_run e f.key fs parts.1)
 
-finals_behind_order : (e : Edition) (last : List ℕ) (fs : List FinalPair) → keys_rise (map (λ f. f.key) fs) ≡ true
+finals_after_order : (e : Edition) (last : List ℕ) (fs : List FinalPair) → keys_rise (map (λ f. f.key) fs) ≡ true
     → Run (Orders e last) (final_items fs)
-finals_behind_order e last [] rise = (refl, tt)
-finals_behind_order e last (f ∷ fs) rise = (refl, finals_run e f.key fs rise)
+finals_after_order e last [] rise = (refl, tt)
+finals_after_order e last (f ∷ fs) rise = (refl, finals_run e f.key fs rise)
 
-finals_behind_unfinished : (last : ℕ) (fs : List FinalPair) → keys_rise (map (λ f. f.key) fs) ≡ true
+finals_after_unfinished : (last : ℕ) (fs : List FinalPair) → keys_rise (map (λ f. f.key) fs) ≡ true
     → Run (Unfinished last) (final_items fs)
-finals_behind_unfinished last [] rise = (refl, tt)
-finals_behind_unfinished last (f ∷ fs) rise = (refl, finals_run Two f.key fs rise)
+finals_after_unfinished last [] rise = (refl, tt)
+finals_after_unfinished last (f ∷ fs) rise = (refl, finals_run Two f.key fs rise)
 
-finals_behind_event : (e : Edition) (fs : List FinalPair) → keys_rise (map (λ f. f.key) fs) ≡ true
+finals_after_event : (e : Edition) (fs : List FinalPair) → keys_rise (map (λ f. f.key) fs) ≡ true
     → Run (Events e) (final_items fs)
-finals_behind_event e [] rise = (refl, tt)
-finals_behind_event e (f ∷ fs) rise = (refl, finals_run e f.key fs rise)
+finals_after_event e [] rise = (refl, tt)
+finals_after_event e (f ∷ fs) rise = (refl, finals_run e f.key fs rise)
 
 orders_run : (e : Edition) (last : List ℕ) (os : List Order) (fs : List FinalPair)
     → keys_rise (last ∷ map (λ o. o.key) os) ≡ true → keys_rise (map (λ f. f.key) fs) ≡ true
     → Run (Orders e last) (order_items os fs)
-orders_run e last [] fs rise finals = finals_behind_order e last fs finals
+orders_run e last [] fs rise finals = finals_after_order e last fs finals
 orders_run e last (o ∷ os) fs rise finals =
     let parts = and_parts (key_lt last o.key) (keys_rise (map (λ o. o.key) (o ∷ os))) rise in
     (parts.0, orders_run e o.key os fs parts.1 finals)
 
-orders_behind_unfinished : (last : ℕ) (os : List Order) (fs : List FinalPair) → keys_rise (map (λ o. o.key) os) ≡ true
+orders_after_unfinished : (last : ℕ) (os : List Order) (fs : List FinalPair) → keys_rise (map (λ o. o.key) os) ≡ true
     → keys_rise (map (λ f. f.key) fs) ≡ true → Run (Unfinished last) (order_items os fs)
-orders_behind_unfinished last [] fs rise finals = finals_behind_unfinished last fs finals
-orders_behind_unfinished last (o ∷ os) fs rise finals = (refl, orders_run Two o.key os fs rise finals)
+orders_after_unfinished last [] fs rise finals = finals_after_unfinished last fs finals
+orders_after_unfinished last (o ∷ os) fs rise finals = (refl, orders_run Two o.key os fs rise finals)
 
-orders_behind_event : (e : Edition) (os : List Order) (fs : List FinalPair) → keys_rise (map (λ o. o.key) os) ≡ true
+orders_after_event : (e : Edition) (os : List Order) (fs : List FinalPair) → keys_rise (map (λ o. o.key) os) ≡ true
     → keys_rise (map (λ f. f.key) fs) ≡ true → Run (Events e) (order_items os fs)
-orders_behind_event e [] fs rise finals = finals_behind_event e fs finals
-orders_behind_event e (o ∷ os) fs rise finals = (refl, orders_run e o.key os fs rise finals)
+orders_after_event e [] fs rise finals = finals_after_event e fs finals
+orders_after_event e (o ∷ os) fs rise finals = (refl, orders_run e o.key os fs rise finals)
 
 unfinished_run : (last : ℕ) (ts : List ℕ) (os : List Order) (fs : List FinalPair) → numbers_rise (last ∷ ts) ≡ true
     → keys_rise (map (λ o. o.key) os) ≡ true → keys_rise (map (λ f. f.key) fs) ≡ true
     → Run (Unfinished last) (unfinished_items ts os fs)
-unfinished_run last [] os fs rise orders finals = orders_behind_unfinished last os fs orders finals
+unfinished_run last [] os fs rise orders finals = orders_after_unfinished last os fs orders finals
 unfinished_run last (t ∷ ts) os fs rise orders finals =
     let parts = and_parts (nat_lt last t) (numbers_rise (t ∷ ts)) rise in
     (parts.0, unfinished_run t ts os fs parts.1 orders finals)
 
-unfinished_behind_event : (e : Edition) (ts : List ℕ) (os : List Order) (fs : List FinalPair)
+unfinished_after_event : (e : Edition) (ts : List ℕ) (os : List Order) (fs : List FinalPair)
     → fits_edition e ts ≡ true → keys_rise (map (λ o. o.key) os) ≡ true → keys_rise (map (λ f. f.key) fs) ≡ true
     → Run (Events e) (unfinished_items ts os fs)
-unfinished_behind_event e [] os fs fits orders finals = orders_behind_event e os fs orders finals
-unfinished_behind_event One (t ∷ ts) os fs fits orders finals =
+unfinished_after_event e [] os fs fits orders finals = orders_after_event e os fs orders finals
+unfinished_after_event One (t ∷ ts) os fs fits orders finals =
     let none : suc (length ts) ≡ 0 = eqb-true (suc (length ts)) 0 fits in absurd cc
-unfinished_behind_event Two (t ∷ ts) os fs fits orders finals = (refl, unfinished_run t ts os fs fits orders finals)
+unfinished_after_event Two (t ∷ ts) os fs fits orders finals = (refl, unfinished_run t ts os fs fits orders finals)
 
 events_run : (e : Edition) (es : List Event) (ts : List ℕ) (os : List Order) (fs : List FinalPair)
     → fits_edition e ts ≡ true → keys_rise (map (λ o. o.key) os) ≡ true → keys_rise (map (λ f. f.key) fs) ≡ true
     → Run (Events e) (event_items es ts os fs)
-events_run e [] ts os fs fits orders finals = unfinished_behind_event e ts os fs fits orders finals
+events_run e [] ts os fs fits orders finals = unfinished_after_event e ts os fs fits orders finals
 events_run e (v ∷ es) ts os fs fits orders finals = (refl, events_run e es ts os fs fits orders finals)
 
 finals_end : (s : Stage) (fs : List FinalPair) → end s (final_items fs) ≡ Done (edition_at s)
@@ -222,7 +222,7 @@ record OrderPart (front : List (List ℕ)) (xs : List Line) : Type 0 where
   finals_rise : keys_rise (map (λ f. f.key) finals) ≡ true
   whole : xs ≡ order_items orders finals
 
--- the finals behind a stage in which any may come
+-- the finals after a stage in which any may come
 finals_first : (front : List (List ℕ)) → keys_rise (front ++ []) ≡ true → (f : FinalPair) (xs : List Line) → IsFinal f
     → FinalPart (f.key ∷ []) xs → OrderPart front (FinalLine f ∷ xs)
 finals_first front alone f xs is part = record {
@@ -261,7 +261,7 @@ order_part e last (OrderLine o ∷ xs) goods runs ends =
       whole = ap (λ (r : List Line). OrderLine o ∷ r) part.whole;
     }
 
--- the orders behind a stage in which any may come
+-- the orders after a stage in which any may come
 order_first : (o : Order) (xs : List Line) → IsOrder o → OrderPart (o.key ∷ []) xs → OrderPart [] (OrderLine o ∷ xs)
 order_first o xs is p = record {
   orders = o ∷ p.orders;

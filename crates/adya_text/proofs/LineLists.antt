@@ -2,47 +2,37 @@
 use Rattle.std.proofs.Common.{◌≡◌, ◌≢◌, ◌==◌, ℕ, suc, ◌+◌, ◌<◌, ◌≤◌, List, [], ◌∷◌, ◌++◌, All, length, take, drop}
 use Rattle.std.proofs.Common.{slice_index, refl, sym, ap, subst, ◌∙◌, arith, append_assoc, take-append-drop}
 use Rattle.std.proofs.Common.{length-take-le, zero-le}
-use Rattle.std.proofs.lemmas.List.{get_or-take, get_or_default}
-use Rattle.std.proofs.lemmas.List.Elements.{All-cons}
+use Rattle.std.proofs.lemmas.List.Elements.{All-head, All-tail, All-push}
 use Rattle.std.proofs.Math.Seq.{take-suc}
 use Rattle.memchr.specs.Find.{Nowhere, Passes, is_byte}
 use Rattle.adya_text.specs.Meaning.Texts.{with_ends}
-use Rattle.adya_text.specs.Meaning.Faults.{IsPlain, IsCut}
+use Rattle.adya_text.proofs.Buffers.{plain_all, plain_before}
+use Rattle.adya_line.specs.Meaning.Laws.{IsPlain}
+use Rattle.adya_text.specs.Meaning.Faults.{IsCut}
 
 pub ends_append : (xs ys : List (List ℕ)) → with_ends (xs ++ ys) ≡ with_ends xs ++ with_ends ys
 ends_append [] ys = refl
 ends_append (x ∷ xs) ys = ap (λ (r : List ℕ). x ++ (10 ∷ r)) (ends_append xs ys)
     ∙ sym (append_assoc x (10 ∷ with_ends xs) (with_ends ys))
 
-all_tail : {X : Type 0} (P : X → Type 0) (x : X) (xs : List X) → All P (x ∷ xs) → All P xs
-all_tail P x xs all = λ k d below. all (suc k) d (omega arith)
-
-all_head : {X : Type 0} (P : X → Type 0) (x : X) (xs : List X) → All P (x ∷ xs) → P x
-all_head P x xs all = all 0 x (omega arith)
-
-pub all_behind : {X : Type 0} (P : X → Type 0) (xs : List X) (x : X) → All P xs → P x → All P (xs ++ x ∷ [])
-all_behind P [] x all is = All-cons P x [] is all
-all_behind P (y ∷ ys) x all is =
-    All-cons P y (ys ++ x ∷ []) (all_head P y ys all) (all_behind P ys x (all_tail P y ys all) is)
-
 -- ---- one text has one cut
 
--- no line feed stands in bytes without one
+-- bytes without a line feed are not two parts with one between them
 no_feed : (bytes front back : List ℕ) → IsPlain bytes → bytes ≡ front ++ 10 ∷ back → ⊥
 no_feed [] [] back plain e = cc
 no_feed [] (f ∷ front) back plain e = cc
-no_feed (b ∷ bytes) [] back plain e = let here : b ≡ 10 = cc in all_head (λ x. x ≢ 10) b bytes plain here
+no_feed (b ∷ bytes) [] back plain e = let here : b ≡ 10 = cc in All-head (λ x. x ≢ 10) b bytes plain here
 no_feed (b ∷ bytes) (f ∷ front) back plain e = let later : bytes ≡ front ++ 10 ∷ back = cc in
-    no_feed bytes front back (all_tail (λ x. x ≢ 10) b bytes plain) later
+    no_feed bytes front back (All-tail (λ x. x ≢ 10) b bytes plain) later
 
 -- two lines with a line feed each at the front of one text are one line
 first_line : (x y a b : List ℕ) → IsPlain x → IsPlain y → x ++ 10 ∷ a ≡ y ++ 10 ∷ b → (x ≡ y) × (a ≡ b)
 first_line [] [] a b px py e = (refl, cc)
-first_line [] (c ∷ y) a b px py e = let here : c ≡ 10 = cc in absurd (all_head (λ x. x ≢ 10) c y py here)
-first_line (c ∷ x) [] a b px py e = let here : c ≡ 10 = cc in absurd (all_head (λ x. x ≢ 10) c x px here)
+first_line [] (c ∷ y) a b px py e = let here : c ≡ 10 = cc in absurd (All-head (λ x. x ≢ 10) c y py here)
+first_line (c ∷ x) [] a b px py e = let here : c ≡ 10 = cc in absurd (All-head (λ x. x ≢ 10) c x px here)
 first_line (c ∷ x) (d ∷ y) a b px py e =
     let later : x ++ 10 ∷ a ≡ y ++ 10 ∷ b = cc in
-    let rest = first_line x y a b (all_tail (λ x. x ≢ 10) c x px) (all_tail (λ x. x ≢ 10) d y py) later in
+    let rest = first_line x y a b (All-tail (λ x. x ≢ 10) c x px) (All-tail (λ x. x ≢ 10) d y py) later in
     (cc (rest.0), rest.1)
 
 pub one_cut : (xs ys : List (List ℕ)) (r s : List ℕ) → All IsPlain xs → All IsPlain ys → IsPlain r → IsPlain s
@@ -56,11 +46,11 @@ one_cut (x ∷ xs) (y ∷ ys) r s ax ay pr ps e =
     let whole : x ++ 10 ∷ (with_ends xs ++ r) ≡ y ++ 10 ∷ (with_ends ys ++ s) =
     sym (append_assoc x (10 ∷ with_ends xs) r) ∙ e ∙ append_assoc y (10 ∷ with_ends ys) s in
     let first = first_line x y (with_ends xs ++ r) (with_ends ys
-    ++ s) (all_head IsPlain x xs ax) (all_head IsPlain y ys ay) whole in
-    let later = one_cut xs ys r s (all_tail IsPlain x xs ax) (all_tail IsPlain y ys ay) pr ps first.1 in
+    ++ s) (All-head IsPlain x xs ax) (All-head IsPlain y ys ay) whole in
+    let later = one_cut xs ys r s (All-tail IsPlain x xs ax) (All-tail IsPlain y ys ay) pr ps first.1 in
     (cc (first.0, later.0), later.1)
 
--- where lines begin a text of lines, they are its first lines
+-- if lines begin a text of lines, they are its first lines
 pub first_lines : (xs ys : List (List ℕ)) (more : List ℕ) → All IsPlain xs → All IsPlain ys
     → with_ends ys ≡ with_ends xs ++ more → (zs : List (List ℕ)) × (ys ≡ xs ++ zs) × (more ≡ with_ends zs)
 first_lines [] ys more ax ay e = (ys, refl, sym e)
@@ -73,8 +63,8 @@ first_lines (x ∷ xs) (y ∷ ys) more ax ay e =
     let whole : y ++ 10 ∷ with_ends ys ≡ x ++ 10 ∷ (with_ends xs ++ more) = e
     ∙ append_assoc x (10 ∷ with_ends xs) more in
     let first = first_line y x (with_ends ys) (with_ends xs
-    ++ more) (all_head IsPlain y ys ay) (all_head IsPlain x xs ax) whole in
-    let (zs, same, rest) = first_lines xs ys more (all_tail IsPlain x xs ax) (all_tail IsPlain y ys ay) first.1 in
+    ++ more) (All-head IsPlain y ys ay) (All-head IsPlain x xs ax) whole in
+    let (zs, same, rest) = first_lines xs ys more (All-tail IsPlain x xs ax) (All-tail IsPlain y ys ay) first.1 in
     (zs, cc (first.0, same), rest)
 
 -- ---- cutting line after line
@@ -83,14 +73,6 @@ first_lines (x ∷ xs) (y ∷ ys) more ax ay e =
 pub record IsAt (text : List ℕ) (past : List (List ℕ)) (rest : List ℕ) : Type 0 where
   pub plain : All IsPlain past
   pub whole : text ≡ with_ends past ++ rest
-
-plain_before : (hay : List ℕ) (at : ℕ) → at ≤ length hay → Nowhere (Passes (is_byte 10) hay) 0 at
-    → IsPlain (take at hay)
-plain_before hay at fits none = λ k d below e.
-    let under : k < at = subst (λ n. k < n) (length-take-le at hay fits) below in
-    let within : k < length hay = omega arith in
-    none k zero-le under (ap (λ x. x == 10)
-    (get_or_default hay k 0 d within ∙ sym (get_or-take at hay k d under) ∙ e))
 
 pub at_line : (text : List ℕ) (past : List (List ℕ)) (rest : List ℕ) (at : ℕ) → IsAt text past rest → at < length rest
     → slice_index rest at ≡ 10 → Nowhere (Passes (is_byte 10) rest) 0 at
@@ -103,7 +85,7 @@ at_line text past rest at is within feed none =
     let front : rest ≡ (take at rest ++ 10 ∷ []) ++ back =
     sym (take-append-drop (at + 1) rest) ∙ ap (λ (l : List ℕ). l ++ drop (at + 1) rest) one in
     record {
-      plain = all_behind IsPlain past (take at rest) is.plain (plain_before rest at (omega arith) none);
+      plain = All-push IsPlain past (take at rest) is.plain (plain_before rest at (omega arith) none);
       whole =
           is.whole ∙ ap (λ (l : List ℕ). with_ends past ++ l) front
           ∙ sym (append_assoc (with_ends past) (take at rest ++ 10 ∷ []) back)
@@ -114,6 +96,6 @@ pub at_end : (text : List ℕ) (past : List (List ℕ)) (rest : List ℕ) → Is
     → Nowhere (Passes (is_byte 10) rest) 0 (length rest) → IsCut text past rest
 at_end text past rest is none = record {
   plain = is.plain;
-  plain_rest = λ k d below e. none k zero-le below (ap (λ x. x == 10) (get_or_default rest k 0 d below ∙ e));
+  plain_rest = plain_all rest none;
   whole = is.whole;
 }

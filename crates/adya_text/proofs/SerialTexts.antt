@@ -10,7 +10,7 @@ use Rattle.adya_line.specs.Meaning.SerialLines.{Line, HeadLine, TxnLine, TailLin
 use Rattle.adya_text.specs.Computing.SerialRuns.{allows, next_stage}
 use Rattle.adya_text.specs.declared.serial_reader.Stage.{Stage}
 use Rattle.adya_text.specs.declared.serial_reader.Stage.TheVariants.{Head, Txns, Done}
-use Rattle.adya_text.proofs.RunLemmas.{all_append, all_map}
+use Rattle.adya_text.proofs.Runs.{all_append, all_map}
 
 -- each line has a text of its own
 abbrev pub LinesTell : Type 0

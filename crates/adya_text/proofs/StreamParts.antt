@@ -1,19 +1,20 @@
--- Where the history text of a stream ends, by the lines of the stream.
+-- The place at which the history text of a stream ends, by the lines of the stream.
 use Rattle.std.proofs.Common.{◌≡◌, ◌≢◌, ◌==◌, ℕ, suc, ◌+◌, Bool, true, false, if◌then◌else◌, List, [], ◌∷◌}
 use Rattle.std.proofs.Common.{◌++◌, All, length, take, drop, refl, sym, ap, ◌∙◌, arith, append_assoc}
 use Rattle.std.proofs.Common.{append-nil}
 use Rattle.std.specs.Prelude.{codes}
-use Rattle.std.proofs.lemmas.Bool.{eqb-true, ne_eqb, and_parts}
+use Rattle.std.proofs.lemmas.Bool.{eqb-true, ne_eqb, and_parts, false_from_ne_true}
 use Rattle.std.proofs.lemmas.List.{length-append}
+use Rattle.std.proofs.lemmas.List.Elements.{All-tail}
 use Rattle.std.proofs.Math.Seq.{take-append-add, drop-append-add, take-length, drop-length}
 use Rattle.adya_line.specs.Meaning.Spelling.{tail}
 use Rattle.adya_text.specs.Meaning.Texts.{with_ends}
-use Rattle.adya_text.specs.Meaning.Faults.{IsPlain, IsCut, HasFront}
-use Rattle.adya_text.specs.Meaning.Streams.{begins_with, end_of_history, history_part, serial_part}
+use Rattle.adya_line.specs.Meaning.Laws.{IsPlain}
+use Rattle.adya_text.specs.Meaning.Faults.{IsCut, HasFront}
+use Rattle.adya_text.specs.Meaning.Streams.{history_part, serial_part}
+use Rattle.adya_text.specs.Meaning.Laws.{HasNoEnd, IsCutAfterEnd, IsWholeWithoutEnd}
+use Rattle.adya_text.specs.Computing.Streams.{begins_with, end_of_history}
 use Rattle.adya_text.proofs.LineLists.{ends_append}
-
-later : (b : ℕ) (l : List ℕ) → IsPlain (b ∷ l) → IsPlain l
-later b l plain = λ k d below. plain (suc k) d (omega arith)
 
 no_feed : (b : ℕ) (l : List ℕ) → IsPlain (b ∷ l) → (b == 10) ≡ false
 no_feed b l plain = ne_eqb b 10 (plain 0 b (omega arith))
@@ -24,12 +25,12 @@ on_to_feed : (line rest : List ℕ) → IsPlain line
 on_to_feed [] rest plain = omega arith
 on_to_feed (b ∷ l) rest plain =
     let here = ap (λ t. end_of_history t (l ++ 10 ∷ rest)) (no_feed b l plain) in
-    omega (arith, here, on_to_feed l rest (later b l plain))
+    omega (arith, here, on_to_feed l rest (All-tail (λ x. x ≢ 10) b l plain))
 
 on_to_end : (line : List ℕ) → IsPlain line → end_of_history false line ≡ length line
 on_to_end [] plain = refl
 on_to_end (b ∷ l) plain =
-    ap (λ t. suc (end_of_history t l)) (no_feed b l plain) ∙ ap (λ (n : ℕ). suc n) (on_to_end l (later b l plain))
+    ap (λ t. suc (end_of_history t l)) (no_feed b l plain) ∙ ap (λ (n : ℕ). suc n) (on_to_end l (All-tail (λ x. x ≢ 10) b l plain))
 
 -- a line with its line feed is the line `end`
 is_end_line : (line rest : List ℕ) → IsPlain line → begins_with (codes "end\n") (line ++ 10 ∷ rest) ≡ true
@@ -62,24 +63,20 @@ no_end_line (a ∷ b ∷ d ∷ e ∷ l) plain is =
     let fourth = and_parts (10 == e) _ third.1 in
     plain 3 e (omega arith) (sym (eqb-true 10 e fourth.0))
 
-untrue : (t : Bool) → (t ≡ true → ⊥) → t ≡ false
-untrue true never = absurd (never refl)
-untrue false never = refl
-
 -- past a line that is not `end`
 past_line : (line rest : List ℕ) → IsPlain line → line ≢ tail
     → end_of_history true (line ++ 10 ∷ rest) ≡ length (line ++ 10 ∷ []) + end_of_history true rest
 past_line [] rest plain other = omega arith
 past_line (b ∷ l) rest plain other =
     let goes_on : begins_with (codes "end\n") ((b ∷ l) ++ 10 ∷ rest) ≡ false =
-    untrue _ (λ is. other (is_end_line (b ∷ l) rest plain is)) in
+    false_from_ne_true _ (λ is. other (is_end_line (b ∷ l) rest plain is)) in
     ap (λ t. if t then 4 else suc (end_of_history (b == 10) (l ++ 10 ∷ rest))) goes_on
     ∙ on_to_feed (b ∷ l) rest plain
 
 at_last : (line : List ℕ) → IsPlain line → end_of_history true line ≡ length line
 at_last [] plain = refl
 at_last (b ∷ l) plain =
-    ap (λ t. if t then 4 else suc (end_of_history (b == 10) l)) (untrue _ (no_end_line (b ∷ l) plain))
+    ap (λ t. if t then 4 else suc (end_of_history (b == 10) l)) (false_from_ne_true _ (no_end_line (b ∷ l) plain))
     ∙ on_to_end (b ∷ l) plain
 
 past_lines : (past : List (List ℕ)) (rest : List ℕ) → All IsPlain past → All (λ l. l ≢ tail) past
@@ -88,24 +85,21 @@ past_lines [] rest plain other = omega arith
 past_lines (l ∷ ls) rest plain other =
     let whole = ap (end_of_history true) (append_assoc l (10 ∷ with_ends ls) rest) in
     let first = past_line l (with_ends ls ++ rest) (plain 0 l (omega arith)) (other 0 l (omega arith)) in
-    let behind = past_lines ls rest (λ k d below. plain (suc k) d (omega arith))
+    let later = past_lines ls rest (λ k d below. plain (suc k) d (omega arith))
     (λ k d below. other (suc k) d (omega arith)) in
-    omega (arith, whole, first, behind, length-append l (10 ∷ []), length-append l (10 ∷ with_ends ls))
+    omega (arith, whole, first, later, length-append l (10 ∷ []), length-append l (10 ∷ with_ends ls))
 
 -- ---- the two parts
 
-abbrev pub HasNoEnd : List (List ℕ) → Type 0
-HasNoEnd lines = All (λ l. l ≢ tail) lines
-
-history_behind : (past : List (List ℕ)) (rest : List ℕ) → All IsPlain past → HasNoEnd past
+history_after : (past : List (List ℕ)) (rest : List ℕ) → All IsPlain past → HasNoEnd past
     → history_part (with_ends past ++ rest) ≡ with_ends past ++ history_part rest
-history_behind past rest plain other =
+history_after past rest plain other =
     ap (λ n. take n (with_ends past ++ rest)) (past_lines past rest plain other)
     ∙ take-append-add (with_ends past) rest (end_of_history true rest)
 
-serial_behind : (past : List (List ℕ)) (rest : List ℕ) → All IsPlain past → HasNoEnd past
+serial_after : (past : List (List ℕ)) (rest : List ℕ) → All IsPlain past → HasNoEnd past
     → serial_part (with_ends past ++ rest) ≡ serial_part rest
-serial_behind past rest plain other =
+serial_after past rest plain other =
     ap (λ n. drop n (with_ends past ++ rest)) (past_lines past rest plain other)
     ∙ drop-append-add (with_ends past) rest (end_of_history true rest)
 
@@ -115,35 +109,43 @@ pub part_front : (stream : List ℕ) (lines : List (List ℕ)) → HasNoEnd line
 part_front stream lines other front = record {
   plain = front.plain;
   rest = history_part front.rest;
-  whole = ap history_part front.whole ∙ history_behind lines front.rest front.plain other;
+  whole = ap history_part front.whole ∙ history_after lines front.rest front.plain other;
 }
 
 -- the first line `end` ends the history's part
+pub cut_after_end : IsCutAfterEnd
+cut_after_end before rest plain other =
+    let lines : with_ends (before ++ tail ∷ []) ≡ with_ends before ++ (tail ++ 10 ∷ []) =
+    ends_append before (tail ∷ []) in
+    let stream : with_ends (before ++ tail ∷ []) ++ rest ≡ with_ends before ++ (tail ++ 10 ∷ rest) =
+    ap (λ (l : List ℕ). l ++ rest) lines ∙ append_assoc (with_ends before) (tail ++ 10 ∷ []) rest in (
+      ap history_part stream ∙ history_after before (tail ++ 10 ∷ rest) plain other ∙ sym lines,
+      ap serial_part stream ∙ serial_after before (tail ++ 10 ∷ rest) plain other,
+    )
+
+-- the same of a line that is `end`
 pub part_at_end : (past : List (List ℕ)) (line rest : List ℕ) → HasNoEnd past → line ≡ tail
     → All IsPlain (past ++ line ∷ []) → All IsPlain past
     → IsCut (history_part (with_ends (past ++ line ∷ []) ++ rest)) (past ++ line ∷ []) []
     × (serial_part (with_ends (past ++ line ∷ []) ++ rest) ≡ rest)
 part_at_end past line rest other is plain before =
-    let lines : with_ends (past ++ line ∷ []) ≡ with_ends past ++ (tail ++ 10 ∷ []) =
-    ends_append past (line ∷ []) ∙ ap (λ (l : List ℕ). with_ends past ++ (l ++ 10 ∷ [])) is in
-    let stream : with_ends (past ++ line ∷ []) ++ rest ≡ with_ends past ++ (tail ++ 10 ∷ rest) =
-    ap (λ (l : List ℕ). l ++ rest) lines ∙ append_assoc (with_ends past) (tail ++ 10 ∷ []) rest in (
+    let parts = cut_after_end past rest before other in (
       record {
         plain = plain;
         plain_rest = λ k d below. absurd (omega arith);
-        whole = ap history_part stream ∙ history_behind past (tail ++ 10 ∷ rest) before other ∙ sym lines
+        whole = ap (λ l. history_part (with_ends (past ++ l ∷ []) ++ rest)) is ∙ parts.0
+            ∙ ap (λ (l : List ℕ). with_ends (past ++ l ∷ [])) (sym is)
             ∙ sym (append-nil (with_ends (past ++ line ∷ [])));
       },
-      ap serial_part stream ∙ serial_behind past (tail ++ 10 ∷ rest) before other,
+      ap (λ l. serial_part (with_ends (past ++ l ∷ []) ++ rest)) is ∙ parts.1,
     )
 
--- where no line is `end`, all is the history's
-pub part_of_all : (stream : List ℕ) (past : List (List ℕ)) (line : List ℕ) → HasNoEnd past → IsCut stream past line
-    → (history_part stream ≡ stream) × (serial_part stream ≡ [])
+-- if no line is `end`, all is the history's
+pub part_of_all : IsWholeWithoutEnd
 part_of_all stream past line other cut = (
-  ap history_part cut.whole ∙ history_behind past line cut.plain other
+  ap history_part cut.whole ∙ history_after past line cut.plain other
       ∙ ap (λ (l : List ℕ). with_ends past ++ l)
       (ap (λ n. take n line) (at_last line cut.plain_rest) ∙ take-length line) ∙ sym cut.whole,
-  ap serial_part cut.whole ∙ serial_behind past line cut.plain other
+  ap serial_part cut.whole ∙ serial_after past line cut.plain other
       ∙ ap (λ n. drop n line) (at_last line cut.plain_rest) ∙ drop-length line,
 )

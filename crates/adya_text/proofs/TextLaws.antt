@@ -1,34 +1,35 @@
 -- Different values have different texts, and no text begins another.
-use Rattle.std.proofs.Common.{◌≡◌, ℕ, ◌<◌, ◌⊎◌, inl, inr, List, [], ◌∷◌, ◌++◌, All, map, Result, Ok, Err, refl, sym}
+use Rattle.std.proofs.Common.{◌≢◌, ◌≡◌, ℕ, ◌<◌, ◌⊎◌, inl, inr, List, [], ◌∷◌, ◌++◌, All, map, Result, Ok, Err, refl, sym}
 use Rattle.std.proofs.Common.{ap, subst, ◌∙◌, append-nil, arith}
 use Rattle.std.specs.Prelude.{MatchResult, IsErrOf}
 use Rattle.std.specs.List.{AllByRecursion, filter_map}
-use Rattle.std.proofs.lemmas.List.Elements.{All-cons}
+use Rattle.std.proofs.lemmas.List.Elements.{All-nil, All-cons}
 use Rattle.adya_values.specs.Meaning.Histories.{History}
 use Rattle.adya_values.specs.Meaning.Values.{history_of}
 use Rattle.adya_values.specs.declared.history.History.{History as HistoryValue}
 use Rattle.adya_values.specs.declared.serial.Serial.{Serial}
 use Rattle.adya_text.specs.Meaning.Texts.{IsHistory, IsSerial, history_lines, serial_lines, history_text, serial_text}
 use Rattle.adya_text.specs.Meaning.Texts.{with_ends, AreHistoryLines, AreSerialLines}
-use Rattle.adya_text.specs.Meaning.Faults.{IsPlain, IsFaultLine, IsFirstFaulty}
+use Rattle.adya_line.specs.Meaning.Laws.{IsPlain}
+use Rattle.adya_text.specs.Meaning.Faults.{IsFaultLine, IsFirstFaulty}
 use Rattle.adya_line.specs.Meaning.Laws.{HasPlainTexts}
 use Rattle.adya_line.specs.Meaning.HistoryLines as H
 use Rattle.adya_line.specs.Meaning.SerialLines as S
 use Rattle.adya_text.specs.Computing.HistoryRuns as HR
 use Rattle.adya_text.specs.Computing.SerialRuns as SR
-use Rattle.adya_text.specs.Machinery.HistoryReaders.{ReadsHistory}
-use Rattle.adya_text.specs.Machinery.SerialReaders.{ReadsSerial}
+use Rattle.adya_text.specs.Meaning.Reading.{ReadsHistory}
+use Rattle.adya_text.specs.Meaning.Reading.{ReadsSerial}
 use Rattle.adya_text.specs.declared.read_fault.ReadFault.{ReadFault}
 use Rattle.adya_text.specs.declared.read_fault.ReadFault.TheVariants.{Syntax, Device, Memory}
 use Rattle.adya_text.specs.declared.read_fault.Text.TheVariants as Of
 use Rattle.adya_text.specs.declared.history_reader.Stage.TheVariants as HistoryStage
 use Rattle.adya_text.specs.declared.serial_reader.Stage.TheVariants as SerialStage
-use Rattle.adya_text.proofs.RunLemmas.{texts_tell, refused}
+use Rattle.adya_text.proofs.Runs.{texts_tell, refused}
 use Rattle.adya_text.proofs.LineLists.{one_cut, first_lines}
 use Rattle.adya_text.proofs.HistoryTexts as HT
-use Rattle.adya_text.proofs.HistoryFed.{in_events, in_unfinished, in_orders, in_finals}
+use Rattle.adya_text.proofs.HistoryReaders.{in_events, in_unfinished, in_orders, in_finals}
 use Rattle.adya_text.proofs.SerialTexts as ST
-use Rattle.adya_text.proofs.SerialFed.{in_txns}
+use Rattle.adya_text.proofs.SerialReaders.{in_txns}
 
 -- ---- lines without line feeds
 
@@ -46,11 +47,8 @@ pub serial_plain : ST.LinesPlain → (ts : List ℕ) → IsSerial ts → All IsP
 serial_plain plain ts is = subst (All IsPlain) (ST.items_texts ts)
     (plain_lines S.line_text S.IsLine plain (ST.items_of ts) (ST.items_goods ts is))
 
-nothing_plain : IsPlain []
-nothing_plain = λ k d below. absurd (omega arith)
-
 same_ends : (xs ys : List (List ℕ)) → All IsPlain xs → All IsPlain ys → with_ends xs ≡ with_ends ys → xs ≡ ys
-same_ends xs ys px py e = (one_cut xs ys [] [] px py nothing_plain nothing_plain (ap (λ (l : List ℕ). l ++ []) e)).0
+same_ends xs ys px py e = (one_cut xs ys [] [] px py (All-nil (λ b. b ≢ 10)) (All-nil (λ b. b ≢ 10)) (ap (λ (l : List ℕ). l ++ []) e)).0
 
 -- ---- one text, one value
 
@@ -134,7 +132,7 @@ no_longer_serial tell plain ts us is_ts is_us more e =
 no_fault : (grammar : List (List ℕ) → Type 0) (text : List ℕ) (lines : List (List ℕ)) (k : ℕ) → All IsPlain lines
     → grammar lines → text ≡ with_ends lines → IsFaultLine grammar text k → ⊥
 no_fault grammar text lines k plain is same fault =
-    let cut = one_cut fault.lines lines fault.rest [] fault.cut.plain plain fault.cut.plain_rest nothing_plain
+    let cut = one_cut fault.lines lines fault.rest [] fault.cut.plain plain fault.cut.plain_rest (All-nil (λ b. b ≢ 10))
     (sym fault.cut.whole ∙ same ∙ sym (append-nil (with_ends lines))) in
     fault.outside (subst grammar (sym cut.0) is) cut.1
 

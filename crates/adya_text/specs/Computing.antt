@@ -2,3 +2,4 @@
 pub mod Runs
 pub mod HistoryRuns
 pub mod SerialRuns
+pub mod Streams

@@ -2,3 +2,4 @@
 pub mod Buffers
 pub mod HistoryReaders
 pub mod SerialReaders
+pub mod TextParts

@@ -2,5 +2,5 @@
 pub mod Texts
 pub mod Faults
 pub mod Streams
-pub mod Answers
+pub mod Reading
 pub mod Laws

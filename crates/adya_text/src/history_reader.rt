@@ -9,9 +9,9 @@ ghost use Rattle.adya_line.specs.Meaning.HistoryLines.{line_of};
 ghost use Rattle.adya_text.specs.Computing.HistoryRuns.{allows, edition_at, stage_after};
 ghost use Rattle.adya_text.specs.Meaning.Texts.{AreHistoryLines};
 ghost use Rattle.adya_text.specs.Meaning.Faults.{Begins, HasFront, IsCut};
-ghost use Rattle.adya_text.specs.Meaning.Answers.{IsOfText};
-ghost use Rattle.adya_text.specs.Machinery.HistoryReaders.{IsFed, IsRefused, IsAllowed, Takes, IsKept, is_done, is_failed};
-ghost use Rattle.adya_text.specs.Machinery.HistoryReaders.{ReadsHistory, untold_history};
+ghost use Rattle.adya_text.specs.Meaning.Reading.{IsOfText, ReadsHistory};
+ghost use Rattle.adya_text.specs.Machinery.HistoryReaders.{IsFed, IsRefused, IsAllowed, Takes, is_done, is_failed};
+ghost use Rattle.adya_text.specs.Machinery.HistoryReaders.{untold_history};
 
 use crate::line_reader::LineReader;
 use crate::read_fault::{ReadFault, Text};
@@ -35,7 +35,7 @@ enum Stage {
     Finals { edition: Edition, last: Key },
     /// None.
     Done { edition: Edition },
-    /// None: this line could not stand where it stood.
+    /// None: this line is not allowed where it comes.
     Failed { line: usize },
 }
 
@@ -83,7 +83,7 @@ impl Stage {
         }
     }
 
-    /// The edition of the head; the first before it.
+    /// Returns the edition of the head; the first one before it.
     fn edition(&self) -> Edition
         ensures { result ≡ edition_at self.now }
     {
@@ -97,7 +97,7 @@ impl Stage {
         }
     }
 
-    /// The stage behind a line.
+    /// Returns the stage after a line.
     fn after(&self, line: &HistoryLine) -> Stage
         ensures { result ≡ stage_after self.now (line_of line.now) }
     {
@@ -119,9 +119,9 @@ impl Stage {
     }
 }
 
-/// Reads a history text that comes line by line. Its answer to the first line that cannot stand there is final.
+/// Reads a history text that comes line by line. Its result at the first line that cannot come there is final.
 #[derive(Drop)]
-pub struct HistoryReader {
+pub(crate) struct HistoryReader {
     alloc: Global,
     stage: Stage,
     next: usize,
@@ -133,7 +133,7 @@ pub struct HistoryReader {
 
 impl HistoryReader {
     /// A reader that was fed with no line.
-    pub fn new(alloc: Global) -> HistoryReader
+    pub(crate) fn new(alloc: Global) -> HistoryReader
         ensures { IsFed result [] }
     {
         HistoryReader {
@@ -147,41 +147,7 @@ impl HistoryReader {
         }
     }
 
-    /// Whether the lines so far are those of a history text.
-    pub fn is_done(&self) -> bool
-        ensures { (past : List (List ℕ)) → IsFed self.now past → IsTrue result ↔ AreHistoryLines past }
-    {
-        history_lines();
-        self.stage.is_done()
-    }
-
-    /// Whether the lines so far begin no history text.
-    pub fn has_failed(&self) -> bool
-        ensures begins { OnFalse result ((past : List (List ℕ)) → IsFed self.now past → Begins AreHistoryLines past) }
-        ensures stops { OnTrue result ((past : List (List ℕ)) → IsFed self.now past → Begins AreHistoryLines past
-            → ⊥) }
-    {
-        self.stage.has_failed()
-    }
-
-    /// Feeds the reader with the next line, without its line feed. Where memory runs out, the reader stays as it was.
-    pub fn line(&mut self, line: &[u8]) -> Result<(), AllocError>
-        ensures ok { OnOk result ((past : List (List ℕ)) → IsFed self.old past
-            → IsFed self.new (past ++ line.now ∷ [])) }
-        ensures err { OnErr result ((past : List (List ℕ)) → IsFed self.old past → IsFed self.new past) }
-    {
-        history_lines();
-        if self.stage.has_failed() {
-            return Ok(());
-        }
-        match self.allowed(line)? {
-            Some(line) => self.take(line)?,
-            None => self.stage = Stage::Failed { line: self.next },
-        }
-        Ok(())
-    }
-
-    /// The line by its kind, if it may come next.
+    /// Returns the line by its kind, if it may come next.
     fn allowed(&self, line: &[u8]) -> Result<Option<HistoryLine>, AllocError>
         ensures { IfOk result
             (λ o. MatchOption o (IsRefused self.now.stage line.now)
@@ -197,8 +163,7 @@ impl HistoryReader {
     }
 
     fn take(&mut self, line: HistoryLine) -> Result<(), AllocError>
-        ensures ok { OnOk result (Takes self.old self.new (line_of line)) }
-        ensures err { OnErr result (IsKept self.old self.new) }
+        ensures { OnOk result (Takes self.old self.new (line_of line)) }
     {
         let stage = self.stage.after(&line);
         let next = self.next.checked_add(1).ok_or(AllocError)?;
@@ -213,17 +178,36 @@ impl HistoryReader {
         self.next = next;
         Ok(())
     }
+}
 
-    /// The history whose lines were fed, where nothing stands behind its tail. `rest` is what stands behind the last
-    /// line feed of the text. `Syntax` with the line of the fault where the text is that of no history.
-    pub fn finish(self, rest: &[u8]) -> Result<History, ReadFault>
-        ensures answer { (past : List (List ℕ)) → IsFed self past → (text : List ℕ) → IsCut text past rest.now
-            → ReadsHistory text result }
-        ensures early { (past : List (List ℕ)) → IsFed self past → (Begins AreHistoryLines past → ⊥)
-            → (text : List ℕ) → HasFront text past → ReadsHistory text result }
-        ensures refused { (past : List (List ℕ)) → IsFed self past → (Begins AreHistoryLines past → ⊥) → IsErr result }
-        ensures of_text { IsOfText result }
-    {
+impl LineReader for HistoryReader {
+    type Value = History;
+
+    ghost grammar = { AreHistoryLines };
+
+    ghost is_fed = { IsFed };
+
+    ghost reads = { ReadsHistory };
+
+    ghost untold = { untold_history };
+
+    fn has_failed(&self) -> bool {
+        self.stage.has_failed()
+    }
+
+    fn line(&mut self, line: &[u8]) -> Result<(), AllocError> {
+        history_lines();
+        if self.stage.has_failed() {
+            return Ok(());
+        }
+        match self.allowed(line)? {
+            Some(line) => self.take(line)?,
+            None => self.stage = Stage::Failed { line: self.next },
+        }
+        Ok(())
+    }
+
+    fn finish(self, rest: &[u8]) -> Result<History, ReadFault> {
         history_lines();
         if let Stage::Failed { line } = self.stage {
             return Err(fault_at(line));
@@ -250,31 +234,7 @@ impl HistoryReader {
     }
 }
 
-impl LineReader for HistoryReader {
-    type Value = History;
-
-    ghost grammar = { AreHistoryLines };
-
-    ghost is_fed = { IsFed };
-
-    ghost reads = { ReadsHistory };
-
-    ghost untold = { untold_history };
-
-    fn has_failed(&self) -> bool {
-        HistoryReader::has_failed(self)
-    }
-
-    fn line(&mut self, line: &[u8]) -> Result<(), AllocError> {
-        HistoryReader::line(self, line)
-    }
-
-    fn finish(self, rest: &[u8]) -> Result<History, ReadFault> {
-        HistoryReader::finish(self, rest)
-    }
-}
-
-/// The history of the edition with these lists.
+/// Makes a history of the edition from these lists.
 fn of_edition(
     edition: Edition,
     events: Vec<Event>,

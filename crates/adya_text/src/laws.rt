@@ -1,12 +1,12 @@
-//! What holds of texts: the calls change nothing, and their contracts are the laws.
+//! The laws of texts. The calls do nothing: each contract is a law.
 
 ghost use Rattle.adya_text.specs.Meaning.Texts.{AreHistoryLines, AreSerialLines};
 ghost use Rattle.adya_text.specs.Meaning.Laws.{HistoriesDiffer, SerialsDiffer, NoHistoryBegins, NoSerialBegins};
-ghost use Rattle.adya_text.specs.Meaning.Laws.{HasOneFaultLine, HasNoFaultWithin};
+ghost use Rattle.adya_text.specs.Meaning.Laws.{HasOneFaultLine, HasNoFaultWithin, IsCutAfterEnd, IsWholeWithoutEnd};
 
 use adya_line::laws::{history_lines, serial_lines};
 
-/// Each history has a text of its own, and no history text is the front of another.
+/// Each history has a text of its own, and no history text begins with another.
 pub fn history_texts()
     ensures one_text { HistoriesDiffer }
     ensures no_proper_prefix { NoHistoryBegins }
@@ -14,7 +14,7 @@ pub fn history_texts()
     history_lines();
 }
 
-/// Each certificate has a text of its own, and no certificate text is the front of another.
+/// Each certificate has a text of its own, and no certificate text begins with another.
 pub fn serial_texts()
     ensures one_text { SerialsDiffer }
     ensures no_proper_prefix { NoSerialBegins }
@@ -32,3 +32,9 @@ pub fn fault_lines()
     history_lines();
     serial_lines();
 }
+
+/// A stream of two texts is cut after its first line `end`; without such a line, all of it is the history's.
+pub fn stream_parts()
+    ensures cut { IsCutAfterEnd }
+    ensures whole { IsWholeWithoutEnd }
+{}

@@ -15,12 +15,9 @@ pub use adya_line::{
     ContentRef, DeleteRef, EndRef, Entries, EntryRef, EventRef, ReadRef, ScanRef, ValueRef,
     VersionRef, WriteRef, read_event,
 };
-pub use history_reader::HistoryReader;
-pub use lines::{LineBuffer, LineFault};
 pub use read_fault::{ReadFault, Text};
 pub use reading::{read_history, read_serial};
-pub use serial_reader::SerialReader;
-pub use sources::{read_history_from, read_history_part, read_serial_from, read_serial_rest};
+pub use sources::{read_history_from, read_serial_from, read_texts_from};
 pub use writing::{WriteFault, write_history, write_serial};
 
 #[cfg(test)]

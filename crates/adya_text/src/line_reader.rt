@@ -1,18 +1,18 @@
-//! What reads a text line by line.
+//! Readers that are fed with the lines of a text.
 
 ghost use Rattle.std.specs.Prelude.{List, ℕ, Result, [], ◌∷◌, ◌++◌, OnOk, IsErr};
 ghost use Rattle.std.specs.Bool.{OnTrue};
-ghost use Rattle.adya_text.specs.Meaning.Answers.{IsOfText};
+ghost use Rattle.adya_text.specs.Meaning.Reading.{IsOfText};
 ghost use Rattle.adya_text.specs.Meaning.Faults.{Begins, HasFront, IsCut};
 ghost use Rattle.adya_text.specs.declared.read_fault.ReadFault.{ReadFault as Fault};
 
 use crate::read_fault::ReadFault;
 use std::alloc::AllocError;
 
-/// A reader of one kind of text, which is fed with line after line. Once the lines begin no text of its kind, its
-/// answer is final.
+/// A reader of one kind of text, which is fed line by line. Once the lines begin no text of its kind, its result is
+/// final.
 pub(crate) trait LineReader: Drop {
-    /// What a text holds.
+    /// The value of a text.
     type Value;
 
     // the lines of a text
@@ -24,7 +24,7 @@ pub(crate) trait LineReader: Drop {
     // what was read of the text
     ghost reads: { List ℕ → Result Self.Value Fault → Type 0 };
 
-    /// Whether the lines so far begin no text.
+    /// Returns whether the lines so far begin no text.
     fn has_failed(&self) -> bool
         ensures { OnTrue result ((past : List (List ℕ)) → is_fed self.now past → Begins grammar past → ⊥) };
 
@@ -33,7 +33,8 @@ pub(crate) trait LineReader: Drop {
         ensures { OnOk result ((past : List (List ℕ)) → is_fed self.old past
             → is_fed self.new (past ++ line.now ∷ [])) };
 
-    /// What the text holds whose lines were fed; `rest` is what stands behind its last line feed.
+    /// Returns the value of the text whose lines were fed; `rest` is what follows its last line feed. `Syntax` with the
+    /// line of the fault if there is no such value.
     fn finish(self, rest: &[u8]) -> Result<Self::Value, ReadFault>
         ensures of_text { IsOfText result }
         ensures answer { (past : List (List ℕ)) → is_fed self past → (text : List ℕ) → IsCut text past rest.now

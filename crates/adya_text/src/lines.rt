@@ -1,4 +1,4 @@
-//! Lines of any length out of a source.
+//! Lines of any length, read from a source.
 
 ghost use Rattle.std.specs.Prelude.{◌≡◌, ◌≢◌, ◌↔◌, ℕ, ◌+◌, ◌*◌, ◌<◌, ◌≤◌, List, [], ◌∷◌, ◌++◌, length, All, true};
 ghost use Rattle.std.specs.Prelude.{false, if◌then◌else◌, IfOk, OnOk, IsErrOf, slice_range};
@@ -16,7 +16,7 @@ const ROOM: usize = 8192;
 
 /// Why no line came.
 #[derive(Clone, Copy, Debug, PartialEq, Eq, Error, Drop)]
-pub enum LineFault {
+pub(crate) enum LineFault {
     /// The source failed.
     #[error("read fault")]
     Device,
@@ -27,7 +27,7 @@ pub enum LineFault {
 
 /// The bytes that were read from a source, and not yet taken as lines. One buffer belongs to one source.
 #[derive(Drop)]
-pub struct LineBuffer {
+pub(crate) struct LineBuffer {
     bytes: [u8; ROOM],
     start: usize,
     end: usize,
@@ -45,7 +45,7 @@ impl Model for LineBuffer {
 
 impl LineBuffer {
     /// A buffer for a source of which nothing was read.
-    pub fn new() -> LineBuffer
+    pub(crate) fn new() -> LineBuffer
         ensures { result ≡ [] }
     {
         LineBuffer {
@@ -55,7 +55,8 @@ impl LineBuffer {
         }
     }
 
-    /// Moves the bytes up to the next LF to the end of `line`, and drops the LF. Says whether there was one.
+    /// Moves the bytes up to the next line feed to the end of `line`, and drops the line feed. Returns whether there was
+    /// one.
     fn take_line(&mut self, line: &mut Vec<u8>) -> Result<bool, AllocError>
         ensures moved { IfOk result (λ ended. (taken : List ℕ) × (line.new.items ≡ line.old.items ++ taken)
             × All (λ x. x ≢ 10) taken × (self.old ≡ taken ++ line_end ended ++ self.new)) }
@@ -77,7 +78,7 @@ impl LineBuffer {
         }
     }
 
-    /// Reads where nothing is pending. Says whether a byte came.
+    /// Reads more bytes after all were taken. Returns whether any came.
     fn fill<S: Source>(&mut self, source: &mut S) -> Result<bool, LineFault>
         requires { self.old ≡ [] }
         ensures bytes { OnOk result (Consumes (S.remaining source.old) (S.remaining source.new) self.new) }
@@ -102,10 +103,10 @@ impl LineBuffer {
         }
     }
 
-    /// The next line, without its line feed, in place of what `line` held; a line may have any length. False where the
-    /// input ended before a line feed, and then `line` holds what stands behind the last one. `Device` where the source
-    /// failed, `Memory` where `line` could not grow. `work_left` falls with each line.
-    pub fn next_line<S: Source>(
+    /// Reads the next line, without its line feed, in place of what `line` held; a line may have any length. Returns
+    /// false if the input ended before a line feed; `line` then holds what follows the last one. `Device` if the source
+    /// failed, `Memory` if `line` could not grow. `work_left` falls with each line.
+    pub(crate) fn next_line<S: Source>(
         &mut self,
         source: &mut S,
         line: &mut Vec<u8>,

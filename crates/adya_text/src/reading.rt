@@ -4,8 +4,7 @@ ghost use Rattle.std.specs.Prelude.{◌≡◌, List, [], ℕ, MatchResult, IsErr
 ghost use Rattle.adya_values.specs.Meaning.Histories.{History as Plain};
 ghost use Rattle.adya_values.specs.Meaning.Values.{history_of};
 ghost use Rattle.adya_text.specs.Meaning.Texts.{IsHistory, IsSerial, history_text, serial_text};
-ghost use Rattle.adya_text.specs.Machinery.HistoryReaders.{ReadsHistory};
-ghost use Rattle.adya_text.specs.Machinery.SerialReaders.{ReadsSerial};
+ghost use Rattle.adya_text.specs.Meaning.Reading.{ReadsHistory, ReadsSerial};
 
 use crate::history_reader::HistoryReader;
 use crate::line_reader::LineReader;
@@ -16,9 +15,8 @@ use adya_values::{History, Serial};
 use memchr::memchr;
 use std::alloc::Global;
 
-/// The history whose text this is. `Syntax` exactly where the text is that of no history, with the line of the fault:
-/// the first that the text lacks, or with which the lines so far begin no history text. `Memory` where memory ran
-/// out.
+/// Reads the text of a history. Returns `Syntax` exactly if the text is that of no history, with the line of the fault:
+/// the first one that is missing, or with which the lines so far begin no history text. `Memory` if memory ran out.
 pub fn read_history(alloc: Global, text: &[u8]) -> Result<History, ReadFault>
     ensures answer { ReadsHistory text.now result }
     ensures no_device { IsErrOf result ReadFault.Device → ⊥ }
@@ -29,9 +27,9 @@ pub fn read_history(alloc: Global, text: &[u8]) -> Result<History, ReadFault>
     read_lines(HistoryReader::new(alloc), text)
 }
 
-/// The certificate whose text this is. `Syntax` exactly where the text is that of no certificate, with the line of
-/// the fault: the first that the text lacks, or with which the lines so far begin no certificate text. `Memory` where
-/// memory ran out.
+/// Reads the text of a certificate. Returns `Syntax` exactly if the text is that of no certificate, with the line of the
+/// fault: the first one that is missing, or with which the lines so far begin no certificate text. `Memory` if memory
+/// ran out.
 pub fn read_serial(alloc: Global, text: &[u8]) -> Result<Serial, ReadFault>
     ensures answer { ReadsSerial text.now result }
     ensures no_device { IsErrOf result ReadFault.Device → ⊥ }

@@ -6,9 +6,9 @@ ghost use Rattle.adya_line.specs.Meaning.SerialLines.{line_of};
 ghost use Rattle.adya_text.specs.Computing.SerialRuns.{allows, stage_after};
 ghost use Rattle.adya_text.specs.Meaning.Texts.{AreSerialLines};
 ghost use Rattle.adya_text.specs.Meaning.Faults.{Begins, HasFront, IsCut};
-ghost use Rattle.adya_text.specs.Meaning.Answers.{IsOfText};
-ghost use Rattle.adya_text.specs.Machinery.SerialReaders.{IsFed, IsRefused, IsAllowed, Takes, IsKept, is_done, is_failed};
-ghost use Rattle.adya_text.specs.Machinery.SerialReaders.{ReadsSerial, untold_serial};
+ghost use Rattle.adya_text.specs.Meaning.Reading.{IsOfText, ReadsSerial};
+ghost use Rattle.adya_text.specs.Machinery.SerialReaders.{IsFed, IsRefused, IsAllowed, Takes, is_done, is_failed};
+ghost use Rattle.adya_text.specs.Machinery.SerialReaders.{untold_serial};
 
 use crate::line_reader::LineReader;
 use crate::read_fault::{ReadFault, Text};
@@ -26,7 +26,7 @@ enum Stage {
     Txns,
     /// None.
     Done,
-    /// None: this line could not stand where it stood.
+    /// None: this line is not allowed where it comes.
     Failed { line: usize },
 }
 
@@ -52,7 +52,7 @@ impl Stage {
         }
     }
 
-    /// The stage behind a line.
+    /// Returns the stage after a line.
     fn after(line: &SerialLine) -> Stage
         ensures { result ≡ stage_after (line_of line.now) }
     {
@@ -63,9 +63,9 @@ impl Stage {
     }
 }
 
-/// Reads a certificate text that comes line by line. Its answer to the first line that cannot stand there is final.
+/// Reads a certificate text that comes line by line. Its result at the first line that cannot come there is final.
 #[derive(Drop)]
-pub struct SerialReader {
+pub(crate) struct SerialReader {
     stage: Stage,
     next: usize,
     txns: Vec<Txn>,
@@ -73,7 +73,7 @@ pub struct SerialReader {
 
 impl SerialReader {
     /// A reader that was fed with no line.
-    pub fn new(alloc: Global) -> SerialReader
+    pub(crate) fn new(alloc: Global) -> SerialReader
         ensures { IsFed result [] }
     {
         SerialReader {
@@ -83,41 +83,7 @@ impl SerialReader {
         }
     }
 
-    /// Whether the lines so far are those of a certificate text.
-    pub fn is_done(&self) -> bool
-        ensures { (past : List (List ℕ)) → IsFed self.now past → IsTrue result ↔ AreSerialLines past }
-    {
-        serial_lines();
-        self.stage.is_done()
-    }
-
-    /// Whether the lines so far begin no certificate text.
-    pub fn has_failed(&self) -> bool
-        ensures begins { OnFalse result ((past : List (List ℕ)) → IsFed self.now past → Begins AreSerialLines past) }
-        ensures stops { OnTrue result ((past : List (List ℕ)) → IsFed self.now past → Begins AreSerialLines past
-            → ⊥) }
-    {
-        self.stage.has_failed()
-    }
-
-    /// Feeds the reader with the next line, without its line feed. Where memory runs out, the reader stays as it was.
-    pub fn line(&mut self, line: &[u8]) -> Result<(), AllocError>
-        ensures ok { OnOk result ((past : List (List ℕ)) → IsFed self.old past
-            → IsFed self.new (past ++ line.now ∷ [])) }
-        ensures err { OnErr result ((past : List (List ℕ)) → IsFed self.old past → IsFed self.new past) }
-    {
-        serial_lines();
-        if self.stage.has_failed() {
-            return Ok(());
-        }
-        match self.allowed(line) {
-            Some(line) => self.take(line)?,
-            None => self.stage = Stage::Failed { line: self.next },
-        }
-        Ok(())
-    }
-
-    /// The line by its kind, if it may come next.
+    /// Returns the line by its kind, if it may come next.
     fn allowed(&self, line: &[u8]) -> Option<SerialLine>
         ensures { MatchOption result (IsRefused self.now.stage line.now)
             (λ x. IsAllowed self.now.stage line.now (line_of x)) }
@@ -132,8 +98,7 @@ impl SerialReader {
     }
 
     fn take(&mut self, line: SerialLine) -> Result<(), AllocError>
-        ensures ok { OnOk result (Takes self.old self.new (line_of line)) }
-        ensures err { OnErr result (IsKept self.old self.new) }
+        ensures { OnOk result (Takes self.old self.new (line_of line)) }
     {
         let stage = Stage::after(&line);
         let next = self.next.checked_add(1).ok_or(AllocError)?;
@@ -143,29 +108,6 @@ impl SerialReader {
         self.stage = stage;
         self.next = next;
         Ok(())
-    }
-
-    /// The certificate whose lines were fed, where nothing stands behind its tail. `rest` is what stands behind the
-    /// last line feed of the text. `Syntax` with the line of the fault where the text is that of no certificate.
-    pub fn finish(self, rest: &[u8]) -> Result<Serial, ReadFault>
-        ensures answer { (past : List (List ℕ)) → IsFed self past → (text : List ℕ) → IsCut text past rest.now
-            → ReadsSerial text result }
-        ensures early { (past : List (List ℕ)) → IsFed self past → (Begins AreSerialLines past → ⊥)
-            → (text : List ℕ) → HasFront text past → ReadsSerial text result }
-        ensures refused { (past : List (List ℕ)) → IsFed self past → (Begins AreSerialLines past → ⊥) → IsErr result }
-        ensures of_text { IsOfText result }
-    {
-        serial_lines();
-        if let Stage::Failed { line } = self.stage {
-            return Err(fault_at(line));
-        }
-        if !self.stage.is_done() {
-            return Err(fault_at(self.next));
-        }
-        if !rest.is_empty() {
-            return Err(fault_at(self.next));
-        }
-        Ok(Serial::new(self.txns))
     }
 }
 
@@ -181,15 +123,33 @@ impl LineReader for SerialReader {
     ghost untold = { untold_serial };
 
     fn has_failed(&self) -> bool {
-        SerialReader::has_failed(self)
+        self.stage.has_failed()
     }
 
     fn line(&mut self, line: &[u8]) -> Result<(), AllocError> {
-        SerialReader::line(self, line)
+        serial_lines();
+        if self.stage.has_failed() {
+            return Ok(());
+        }
+        match self.allowed(line) {
+            Some(line) => self.take(line)?,
+            None => self.stage = Stage::Failed { line: self.next },
+        }
+        Ok(())
     }
 
     fn finish(self, rest: &[u8]) -> Result<Serial, ReadFault> {
-        SerialReader::finish(self, rest)
+        serial_lines();
+        if let Stage::Failed { line } = self.stage {
+            return Err(fault_at(line));
+        }
+        if !self.stage.is_done() {
+            return Err(fault_at(self.next));
+        }
+        if !rest.is_empty() {
+            return Err(fault_at(self.next));
+        }
+        Ok(Serial::new(self.txns))
     }
 }
 

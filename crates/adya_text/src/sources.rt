@@ -5,14 +5,12 @@ ghost use Rattle.std.specs.Io.KnownBytes.{IsAtEnd, prepend_known};
 ghost use Rattle.adya_values.specs.Meaning.Histories.{History as Plain};
 ghost use Rattle.adya_values.specs.Meaning.Values.{history_of};
 ghost use Rattle.adya_text.specs.Meaning.Texts.{IsHistory, IsSerial, history_text, serial_text};
-ghost use Rattle.adya_text.specs.Meaning.Answers.{IsOfText};
-ghost use Rattle.adya_text.specs.Machinery.HistoryReaders.{ReadsHistory};
-ghost use Rattle.adya_text.specs.Machinery.SerialReaders.{ReadsSerial};
+ghost use Rattle.adya_text.specs.Meaning.Reading.{IsOfText, ReadsHistory, ReadsSerial, ReadsTexts};
 ghost use Rattle.adya_text.specs.Meaning.Streams.{history_part, serial_part};
 
-use crate::LineBuffer;
 use crate::history_reader::HistoryReader;
 use crate::line_reader::LineReader;
+use crate::lines::LineBuffer;
 use crate::read_fault::ReadFault;
 use crate::serial_reader::SerialReader;
 use adya_line::is_tail;
@@ -21,10 +19,10 @@ use adya_values::{History, Serial};
 use devices::Source;
 use std::alloc::Global;
 
-/// The history whose text all that the source has left is. It keeps one line and the history so far, reads to the end
-/// of the input, and stops earlier only behind a line that is a syntax fault. `Syntax` exactly where the bytes are
-/// the text of no history, with the line of the fault as [`read_history`](crate::read_history) gives it; `Device` where
-/// the source failed, `Memory` where memory ran out.
+/// Reads the text of a history from all that the source has left. It keeps one line and the history so far. It reads to
+/// the end of the input, and stops earlier only after a line that is a syntax fault. Returns `Syntax` exactly if the
+/// bytes are the text of no history, with the line of the fault as [`read_history`](crate::read_history) returns it;
+/// `Device` if the source failed, `Memory` if memory ran out.
 pub fn read_history_from<S: Source>(alloc: Global, source: &mut S) -> Result<History, ReadFault>
     ensures answer { IfSome (S.remaining source.old) (λ text. ReadsHistory text result) }
     ensures only { (h : Plain) → IsHistory h → S.remaining source.old ≡ Some (history_text h) →
@@ -40,10 +38,10 @@ pub fn read_history_from<S: Source>(alloc: Global, source: &mut S) -> Result<His
     read_rest(alloc, HistoryReader::new(alloc), &mut buffer, source)
 }
 
-/// The certificate whose text all that the source has left is. It keeps one line and the certificate so far, reads to
-/// the end of the input, and stops earlier only behind a line that is a syntax fault. `Syntax` exactly where the bytes
-/// are the text of no certificate, with the line of the fault as [`read_serial`](crate::read_serial) gives it; `Device`
-/// where the source failed, `Memory` where memory ran out.
+/// Reads the text of a certificate from all that the source has left. It keeps one line and the certificate so far. It
+/// reads to the end of the input, and stops earlier only after a line that is a syntax fault. Returns `Syntax` exactly if
+/// the bytes are the text of no certificate, with the line of the fault as [`read_serial`](crate::read_serial) returns
+/// it; `Device` if the source failed, `Memory` if memory ran out.
 pub fn read_serial_from<S: Source>(alloc: Global, source: &mut S) -> Result<Serial, ReadFault>
     ensures answer { IfSome (S.remaining source.old) (λ text. ReadsSerial text result) }
     ensures only { (ts : List ℕ) → IsSerial ts → S.remaining source.old ≡ Some (serial_text ts) →
@@ -59,12 +57,32 @@ pub fn read_serial_from<S: Source>(alloc: Global, source: &mut S) -> Result<Seri
     read_rest(alloc, SerialReader::new(alloc), &mut buffer, source)
 }
 
-/// The history whose text stands at the front of a stream of two texts: up to and with the first line `end`, or all of
-/// the stream where it has no such line. The stream is what `buffer` holds and then what the source has left; on `Ok`
-/// they hold what stands behind. After a fault nothing is said of what they hold. It keeps one line and the history
-/// so far, and stops before the line `end` only behind a line that is a syntax fault. Faults are those of
-/// [`read_history_from`].
-pub fn read_history_part<S: Source>(
+/// Reads the two texts of one stream: a history's, up to and with the first line `end`, and then a certificate's, to
+/// the end of the input. If there is no line `end`, all of the stream is the history's. It keeps one line and what the
+/// lines before it say, and stops before the end of the input only after a line that is a syntax fault. Returns `Syntax`
+/// for the first text as [`read_history_from`] does, or else for the second as [`read_serial_from`] does; `Device` if
+/// the source failed, `Memory` if memory ran out.
+pub fn read_texts_from<S: Source>(
+    alloc: Global,
+    source: &mut S,
+) -> Result<(History, Serial), ReadFault>
+    ensures answer { IfSome (S.remaining source.old) (λ stream. ReadsTexts stream result) }
+    ensures ended { OnOk result (IsAtEnd (S.remaining source.new)) }
+    ensures fault { IsErrOf result ReadFault.Device → S.is_failed source.new ≡ true }
+    ensures unfailed { (IsErrOf result ReadFault.Device → ⊥) → S.is_failed source.new ≡ S.is_failed source.old }
+    ensures works { IsOfText result → S.is_failed source.new ≡ false }
+    ensures stream { S.same source.old source.new }
+{
+    let mut buffer = LineBuffer::new();
+    let history = read_history_part(alloc, &mut buffer, source)?;
+    let serial = read_serial_rest(alloc, &mut buffer, source)?;
+    Ok((history, serial))
+}
+
+/// Reads the first text of a stream: the history's, up to and with the first line `end`, or all if there is no such line.
+/// The stream is what `buffer` holds and then what the source has left; on `Ok` they hold what follows. After a fault
+/// nothing is said of what they hold. Faults are those of [`read_history_from`].
+fn read_history_part<S: Source>(
     alloc: Global,
     buffer: &mut LineBuffer,
     source: &mut S,
@@ -92,9 +110,9 @@ pub fn read_history_part<S: Source>(
     reader.finish(&line)
 }
 
-/// The certificate whose text is what `buffer` holds and then all that the source has left: the second text of a
-/// stream, behind [`read_history_part`]. Otherwise as [`read_serial_from`].
-pub fn read_serial_rest<S: Source>(
+/// Reads the text of a certificate from what `buffer` holds and then all that the source has left: the second text of a
+/// stream, after [`read_history_part`]. Otherwise it does as [`read_serial_from`].
+fn read_serial_rest<S: Source>(
     alloc: Global,
     buffer: &mut LineBuffer,
     source: &mut S,

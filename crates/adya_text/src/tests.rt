@@ -142,20 +142,9 @@ fn certificates(rt: HostRuntime) -> Result<(), Fail> {
 
 #[test]
 fn two_texts_of_one_stream(rt: HostRuntime) -> Result<(), Fail> {
-    let stream = b"adya 1\nc1\nend\nserial 1\n1\nend\n".as_slice();
-    let mut source = Watched::new(stream);
-    let mut buffer = LineBuffer::new();
-    let mut line = Vec::new(rt.alloc());
-    let mut history = HistoryReader::new(rt.alloc());
-    let mut serial = SerialReader::new(rt.alloc());
-    while buffer.next_line(&mut source, &mut line)? {
-        if history.is_done() {
-            serial.line(&line)?;
-        } else {
-            history.line(&line)?;
-        }
-    }
-    assert_eq!(rt; history.finish(b"")?.events().len(), 1);
-    assert_eq!(rt; serial.finish(&line)?.txns().len(), 1);
+    let mut source = Watched::new(b"adya 1\nc1\nend\nserial 1\n1\nend\n".as_slice());
+    let (history, serial) = read_texts_from(rt.alloc(), &mut source)?;
+    assert_eq!(rt; history.events().len(), 1);
+    assert_eq!(rt; serial.txns().len(), 1);
     Ok(())
 }

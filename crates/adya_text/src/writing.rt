@@ -1,81 +1,69 @@
 //! Writing whole texts.
 
-ghost use Rattle.std.specs.Prelude.{◌≡◌, ◌++◌, ◌∷◌, [], true, map, IsErr, OnOk};
-ghost use Rattle.std.specs.Io.KnownBytes.{Appends};
+ghost use Rattle.std.specs.Prelude.{map};
 ghost use Rattle.adya_values.specs.Meaning.Histories.{event_of, order_of, final_of};
 ghost use Rattle.adya_values.specs.Meaning.Values.{history_of};
-ghost use Rattle.devices.specs.Meaning.Watched.{has_failed, watched_contents};
-ghost use Rattle.adya_line.specs.Machinery.Growing.{Grows};
-ghost use Rattle.adya_line.specs.Meaning.Spelling.{head_text};
+ghost use Rattle.devices.specs.Meaning.Writing.{Wrote};
+ghost use Rattle.adya_line.specs.Meaning.Spelling.{head_text, tail};
 ghost use Rattle.adya_line.specs.Meaning.Spelling.{event_text, unfinished_text, order_text, final_text, txn_text};
-ghost use Rattle.adya_text.specs.Meaning.Texts.{with_ends, history_text, serial_text};
+ghost use Rattle.adya_text.specs.Meaning.Texts.{history_text, serial_text};
+ghost use Rattle.adya_text.specs.Machinery.TextParts.{ended, lines_of, history_parts, serial_parts};
 
 use adya_line::{
     history_head, second_head, serial_head, tail, write_event, write_final, write_order, write_txn,
     write_unfinished,
 };
 use adya_values::{Edition, Event, FinalPair, History, Order, Serial, Txn};
-use devices::Watched;
+use devices::{Watched, put, put_line};
 use std::io;
 use std::io::Write;
 use thiserror::Error;
 
-/// The device failed; nothing is said of how much was written.
+/// The device failed; how much was written is not said.
 #[derive(Clone, Copy, Debug, PartialEq, Eq, Error, Drop)]
 #[error("write fault")]
 pub struct WriteFault;
 
-/// Writes the history's text. `WriteFault` where the device failed, and then nothing is said of how much was written.
+/// Writes the history's text. Returns `WriteFault` only if the device has failed; how much it took is then not said.
+#[tactic(auto, using(crate::proofs::WrittenTexts::written_history))]
 pub fn write_history<W: Write>(history: &History, out: &mut Watched<W>) -> Result<(), WriteFault>
-    ensures ok { OnOk result
-        (Appends (watched_contents W.contents out.old) (watched_contents W.contents out.new)
-        (history_text (history_of history.now))) }
-    ensures fault { IsErr result → has_failed out.new ≡ true }
+    ensures { Wrote W.contents out.old out.new (history_text (history_of history.now)) result }
 {
     put_history(history, out).map_err(|_| WriteFault)
 }
 
-/// Writes the certificate's text. `WriteFault` where the device failed, and then nothing is said of how much was
-/// written.
+/// Writes the certificate's text. Returns `WriteFault` only if the device has failed; how much it took is then not
+/// said.
+#[tactic(auto, using(crate::proofs::WrittenTexts::written_serial))]
 pub fn write_serial<W: Write>(serial: &Serial, out: &mut Watched<W>) -> Result<(), WriteFault>
-    ensures ok { OnOk result
-        (Appends (watched_contents W.contents out.old) (watched_contents W.contents out.new)
-        (serial_text serial.now.txns.items)) }
-    ensures fault { IsErr result → has_failed out.new ≡ true }
+    ensures { Wrote W.contents out.old out.new (serial_text serial.now.txns.items) result }
 {
     put_serial(serial, out).map_err(|_| WriteFault)
 }
 
+#[tactic(auto, unfolding(crate::specs::Machinery::TextParts::history_parts))]
 fn put_history<W: Write>(history: &History, out: &mut Watched<W>) -> io::Result<()>
-    ensures ok { OnOk result
-        (Grows (watched_contents W.contents out.old) (history_text (history_of history.now))
-        (watched_contents W.contents out.new)) }
-    ensures fault { IsErr result → has_failed out.new ≡ true }
+    ensures { Wrote W.contents out.old out.new (history_parts (history_of history.now)) result }
 {
     put_head(history.edition(), out)?;
     put_events(history.events(), out)?;
     put_unfinished(history.unfinished(), out)?;
     put_orders(history.orders(), out)?;
     put_finals(history.finals(), out)?;
-    put_line(tail(), out)
+    put_tail(out)
 }
 
+#[tactic(auto, unfolding(crate::specs::Machinery::TextParts::serial_parts))]
 fn put_serial<W: Write>(serial: &Serial, out: &mut Watched<W>) -> io::Result<()>
-    ensures ok { OnOk result
-        (Grows (watched_contents W.contents out.old) (serial_text serial.now.txns.items)
-        (watched_contents W.contents out.new)) }
-    ensures fault { IsErr result → has_failed out.new ≡ true }
+    ensures { Wrote W.contents out.old out.new (serial_parts serial.now.txns.items) result }
 {
     put_line(serial_head(), out)?;
     put_txns(serial.txns(), out)?;
-    put_line(tail(), out)
+    put_tail(out)
 }
 
 fn put_head<W: Write>(edition: Edition, out: &mut Watched<W>) -> io::Result<()>
-    ensures ok { OnOk result
-        (Grows (watched_contents W.contents out.old) (head_text edition ++ 10 ∷ [])
-        (watched_contents W.contents out.new)) }
-    ensures fault { IsErr result → has_failed out.new ≡ true }
+    ensures { Wrote W.contents out.old out.new (ended (head_text edition)) result }
 {
     match edition {
         Edition::One => put_line(history_head(), out),
@@ -83,77 +71,58 @@ fn put_head<W: Write>(edition: Edition, out: &mut Watched<W>) -> io::Result<()>
     }
 }
 
-/// Writes the line with its line feed.
-fn put_line<W: Write>(line: &[u8], out: &mut Watched<W>) -> io::Result<()>
-    ensures ok { OnOk result
-        (Grows (watched_contents W.contents out.old) (line.now ++ 10 ∷ []) (watched_contents W.contents out.new)) }
-    ensures fault { IsErr result → has_failed out.new ≡ true }
+fn put_tail<W: Write>(out: &mut Watched<W>) -> io::Result<()>
+    ensures { Wrote W.contents out.old out.new (ended tail) result }
 {
-    out.write_all(line)?;
-    out.write_all(b"\n")
+    put_line(tail(), out)
 }
 
 fn put_events<W: Write>(events: &[Event], out: &mut Watched<W>) -> io::Result<()>
-    ensures ok { OnOk result
-        (Grows (watched_contents W.contents out.old) (with_ends (map event_text (map event_of events.now)))
-        (watched_contents W.contents out.new)) }
-    ensures fault { IsErr result → has_failed out.new ≡ true }
+    ensures { Wrote W.contents out.old out.new (lines_of event_text (map event_of events.now)) result }
 {
     for event in events {
         write_event(event, out)?;
-        out.write_all(b"\n")?;
+        put(b"\n", out)?;
     }
     Ok(())
 }
 
 fn put_unfinished<W: Write>(txns: &[Txn], out: &mut Watched<W>) -> io::Result<()>
-    ensures ok { OnOk result
-        (Grows (watched_contents W.contents out.old) (with_ends (map unfinished_text txns.now))
-        (watched_contents W.contents out.new)) }
-    ensures fault { IsErr result → has_failed out.new ≡ true }
+    ensures { Wrote W.contents out.old out.new (lines_of unfinished_text txns.now) result }
 {
     for txn in txns {
         write_unfinished(*txn, out)?;
-        out.write_all(b"\n")?;
+        put(b"\n", out)?;
     }
     Ok(())
 }
 
 fn put_orders<W: Write>(orders: &[Order], out: &mut Watched<W>) -> io::Result<()>
-    ensures ok { OnOk result
-        (Grows (watched_contents W.contents out.old) (with_ends (map order_text (map order_of orders.now)))
-        (watched_contents W.contents out.new)) }
-    ensures fault { IsErr result → has_failed out.new ≡ true }
+    ensures { Wrote W.contents out.old out.new (lines_of order_text (map order_of orders.now)) result }
 {
     for order in orders {
         write_order(order, out)?;
-        out.write_all(b"\n")?;
+        put(b"\n", out)?;
     }
     Ok(())
 }
 
 fn put_finals<W: Write>(finals: &[FinalPair], out: &mut Watched<W>) -> io::Result<()>
-    ensures ok { OnOk result
-        (Grows (watched_contents W.contents out.old) (with_ends (map final_text (map final_of finals.now)))
-        (watched_contents W.contents out.new)) }
-    ensures fault { IsErr result → has_failed out.new ≡ true }
+    ensures { Wrote W.contents out.old out.new (lines_of final_text (map final_of finals.now)) result }
 {
     for pair in finals {
         write_final(pair, out)?;
-        out.write_all(b"\n")?;
+        put(b"\n", out)?;
     }
     Ok(())
 }
 
 fn put_txns<W: Write>(txns: &[Txn], out: &mut Watched<W>) -> io::Result<()>
-    ensures ok { OnOk result
-        (Grows (watched_contents W.contents out.old) (with_ends (map txn_text txns.now))
-        (watched_contents W.contents out.new)) }
-    ensures fault { IsErr result → has_failed out.new ≡ true }
+    ensures { Wrote W.contents out.old out.new (lines_of txn_text txns.now) result }
 {
     for txn in txns {
         write_txn(*txn, out)?;
-        out.write_all(b"\n")?;
+        put(b"\n", out)?;
     }
     Ok(())
 }

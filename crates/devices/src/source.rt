@@ -1,4 +1,4 @@
-//! What lines are read from.
+//! Sources of bytes.
 ghost use Rattle.std.specs.Prelude.{◌≡◌, ◌↔◌, ℕ, ◌+◌, ◌<◌, ◌≤◌, Bool, true, IsErr, IfOk, OnOk};
 ghost use Rattle.std.specs.Io.{ReadsAtMost};
 ghost use Rattle.std.specs.Io.KnownBytes.{ReadConsumes};
@@ -8,8 +8,8 @@ use crate::Watched;
 use std::io;
 use std::io::Read;
 
-/// A reader that tells whether it failed, and gives bytes only so many times. A read fails only where `failed()` is
-/// true afterwards, and once it is true every read fails.
+/// A reader that reports whether it has failed, and that gives bytes only so many times. A read returns an error only
+/// if `failed()` is true afterwards, and once it is true every read fails.
 pub trait Source: Read {
     // `failed()`
     ghost is_failed: { Self → Bool };
@@ -20,7 +20,7 @@ pub trait Source: Read {
     // how many reads can still give a byte
     ghost left: { Self → ℕ };
 
-    /// Whether a read failed, or met the bound on read calls.
+    /// Returns whether a read failed, or met the bound on read calls.
     fn failed(&self) -> bool
         ensures { result ≡ is_failed self.now };
 

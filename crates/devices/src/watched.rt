@@ -9,9 +9,9 @@ ghost use Rattle.devices.specs.Meaning.Watched.{has_failed, reads_left, device_o
 use std::io;
 use std::io::{Error, ErrorKind, Read, Write};
 
-/// A reader or writer whose first fault is kept, with a bound on its read calls. Once it failed, or its bound was
-/// met, no call is passed on to the device any more, and each answers a fault that isn't `Interrupted`. An
-/// interrupted call is a failed one.
+/// A reader or writer that remembers whether a call of it failed, with a bound on its read calls. Once it has failed or
+/// met its bound, it passes no more calls on to the device: each call returns an error that isn't `Interrupted`. An
+/// interrupted call counts as a failed one.
 #[derive(Drop)]
 pub struct Watched<D> {
     device: D,
@@ -20,7 +20,7 @@ pub struct Watched<D> {
 }
 
 impl<D> Watched<D> {
-    /// The device, watched, with a bound of 4294967295 read calls.
+    /// Watches the device, with a bound of 4294967295 read calls.
     pub fn new(device: D) -> Watched<D>
         ensures device { device_of result ≡ device }
         ensures left { reads_left result ≡ 4294967295 }
@@ -29,7 +29,7 @@ impl<D> Watched<D> {
         Watched::with_bound(device, u32::MAX)
     }
 
-    /// The device, watched, with a bound of `most_reads` read calls: a later one isn't passed on, and is a fault.
+    /// Watches the device, with a bound of `most_reads` read calls: a later one isn't passed on, and fails.
     pub fn with_bound(device: D, most_reads: u32) -> Watched<D>
         ensures device { device_of result ≡ device }
         ensures left { reads_left result ≡ most_reads }
@@ -42,14 +42,15 @@ impl<D> Watched<D> {
         }
     }
 
-    /// Whether a call failed, wrote nothing of a nonempty slice, or met the bound: true from the first such call on.
+    /// Returns true from the first call on that returned an error, met the bound, or wrote 0 bytes of a slice that isn't
+    /// empty.
     pub fn failed(&self) -> bool
         ensures { result ≡ has_failed self.now }
     {
         self.is_failed
     }
 
-    /// The device.
+    /// Returns the device.
     pub fn into_inner(self) -> D
         ensures { result ≡ device_of self }
     {
@@ -74,6 +75,7 @@ impl<D: Read> Read for Watched<D> {
         ensures counted { has_failed self.old ≡ false → 0 < reads_left self.old → reads_left self.new + 1 ≡ reads_left self.old }
         ensures no_more { reads_left self.new ≤ reads_left self.old }
         ensures met { reads_left self.old ≡ 0 → IsErr result }
+        ensures untouched { reads_left self.old ≡ 0 → device_of self.new ≡ device_of self.old }
         ensures kept { has_failed self.old ≡ true → self.new ≡ self.old }
         ensures bound_kind { reads_left self.old ≡ 0 → IfErr result (λ e. error_kind e ≢ ErrorKind.Interrupted) }
         ensures held { (has_failed self.old ≡ true) → IfErr result (λ e. error_kind e ≢ ErrorKind.Interrupted) }
@@ -104,6 +106,7 @@ impl<D: Write> Write for Watched<D> {
         ensures bytes { WriteAppends (watched_contents D.contents self.old) (watched_contents D.contents self.new) result buf.now }
         ensures fault { IsErr result → has_failed self.new ≡ true }
         ensures nothing { 0 < length buf.now → result ≡ Ok 0 → has_failed self.new ≡ true }
+        ensures empty { length buf.now ≡ 0 → result ≡ Ok 0 → has_failed self.new ≡ has_failed self.old }
         ensures something { IfOk result (λ n. 0 < n → (has_failed self.old ≡ false) × (has_failed self.new ≡ false)) }
         ensures kept { has_failed self.old ≡ true → self.new ≡ self.old }
         ensures held { (has_failed self.old ≡ true) → IsErrAnd result (λ e. error_kind e ≢ ErrorKind.Interrupted) }

@@ -119,13 +119,13 @@ entry_at bytes = do
   Some (record { version = version.0; content = content.0 }, content.1)
 
 -- an entry before those that were read
-abbrev pub behind_entry : Entry → List Entry × List ℕ → List Entry × List ℕ
-behind_entry e read = (e ∷ read.0, read.1)
+abbrev pub entry_before : Entry → List Entry × List ℕ → List Entry × List ℕ
+entry_before e read = (e ∷ read.0, read.1)
 
 -- the entries at the front, at most n of them, and what follows
 unfoldable pub entries_at : ℕ → List ℕ → List Entry × List ℕ
 entries_at zero bytes = ([], bytes)
-entries_at (suc n) bytes = none_or (entry_at bytes) ([], bytes) (λ e. behind_entry e.0 (entries_at n e.1))
+entries_at (suc n) bytes = none_or (entry_at bytes) ([], bytes) (λ e. entry_before e.0 (entries_at n e.1))
 
 -- all the entries at the front
 abbrev pub entries_of : List ℕ → List Entry
@@ -170,22 +170,22 @@ unfinished_at line = after 117 line >>= txn_at_line
 unfoldable pub writer_at : List ℕ → Option (ℕ × List ℕ)
 writer_at bytes = after 60 bytes >>= txn_at
 
--- the numbers, each behind <<, at most n of them, and what follows
+-- the numbers, each after <<, at most n of them, and what follows
 unfoldable pub later_at : ℕ → List ℕ → Option (List ℕ × List ℕ)
 later_at zero bytes = Some ([], bytes)
 later_at (suc n) bytes =
     none_or (after 60 bytes) (Some ([], bytes)) (λ mark.
     writer_at mark >>= λ t. later_at n t.1 >>= λ ts. Some (t.0 ∷ ts.0, ts.1))
 
--- what was read, behind other numbers
-abbrev pub behind : List ℕ → Option (List ℕ × List ℕ) → Option (List ℕ × List ℕ)
-behind front read = read >>= λ x. Some (front ++ x.0, x.1)
+-- what was read, after other numbers
+abbrev pub with_front : List ℕ → Option (List ℕ × List ℕ) → Option (List ℕ × List ℕ)
+with_front front read = read >>= λ x. Some (front ++ x.0, x.1)
 
 -- T<<T<<.., and what follows
 unfoldable pub writers_at : List ℕ → Option (List ℕ × List ℕ)
 writers_at bytes = do
   first ← txn_at bytes
-  behind (first.0 ∷ []) (later_at (length first.1) first.1)
+  with_front (first.0 ∷ []) (later_at (length first.1) first.1)
 
 -- the key between the two bytes, the first of which is at the front, and what follows
 unfoldable pub key_between : ℕ → ℕ → List ℕ → Option (List ℕ × List ℕ)

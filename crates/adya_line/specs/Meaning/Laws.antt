@@ -2,7 +2,7 @@
 use Rattle.std.specs.Prelude.{◌≡◌, ◌≢◌, ◌↔◌, ℕ, List, Option, Some}
 use Rattle.std.specs.List.{All}
 
--- reading gives x exactly where x is within its limits and the line is its text
+-- reading gives x exactly if x is within its limits and the line is its text
 abbrev pub IsReaderOf : {X : Type 0} → (List ℕ → Option X) → (X → Type 0) → (X → List ℕ) → Type 0
 IsReaderOf {X} read Is text = (line : List ℕ) (x : X) → (read line ≡ Some x) ↔ (Is x × (line ≡ text x))
 

@@ -26,7 +26,7 @@ abbrev pub tail : List ℕ
 tail = codes "end"
 
 -- K.T:M
-abbrev pub version_text : Version → List ℕ
+unfoldable pub version_text : Version → List ℕ
 version_text v = v.key ++ codes "." ++ decimal v.txn ++ codes ":" ++ decimal v.m
 
 -- V or !

@@ -30,6 +30,15 @@ view (Scan s) = plain.Scan s.txn s.lo.now s.hi.now (entries_of s.listed.now)
 view (Commit e) = plain.Commit e.txn
 view (Abort e) = plain.Abort e.txn
 
+-- what a scan is shown; other events are shown no list
+abbrev pub entries_in : Event → List Entry
+entries_in (plain.Write t k m v) = []
+entries_in (plain.Delete t k m) = []
+entries_in (plain.Read t r v) = []
+entries_in (plain.Scan t low high es) = es
+entries_in (plain.Commit t) = []
+entries_in (plain.Abort t) = []
+
 -- the entries that are still to come
 abbrev pub entries_left : Entries → List Entry
 entries_left it = entries_of it.rest.now

@@ -4,8 +4,8 @@ use crate::texts::{Told, told_of_history, told_of_serial};
 use adya_testing::{Endless, FailsAt, Pieces};
 use devices::Watched;
 use adya_text::{
-    LineBuffer, ReadFault, Text, read_history, read_history_from, read_history_part, read_serial,
-    read_serial_from, read_serial_rest,
+    ReadFault, Text, read_history, read_history_from, read_serial, read_serial_from,
+    read_texts_from,
 };
 use std::io::ErrorKind;
 use std::test::Fail;
@@ -28,10 +28,7 @@ fn endless_source(rt: HostRuntime) -> Result<(), Fail> {
     assert!(rt; matches!(read, Err(ReadFault::Device)));
     assert!(rt; source.failed());
     let mut source = Watched::with_bound(Endless(b'a'), 10);
-    let mut buffer = LineBuffer::new();
-    let read = read_history_part(rt.alloc(), &mut buffer, &mut source);
-    assert!(rt; matches!(read, Err(ReadFault::Device)));
-    let read = read_serial_rest(rt.alloc(), &mut buffer, &mut source);
+    let read = read_texts_from(rt.alloc(), &mut source);
     assert!(rt; matches!(read, Err(ReadFault::Device)));
     assert!(rt; source.failed());
     Ok(())
@@ -98,15 +95,14 @@ fn kth_read_of_two_texts_fails(rt: HostRuntime) -> Result<(), Fail> {
         if !ended {
             let device = FailsAt::new(Pieces::new(STREAM, 7), k, ErrorKind::Interrupted);
             let mut source = Watched::new(device);
-            let mut buffer = LineBuffer::new();
-            let history = read_history_part(rt.alloc(), &mut buffer, &mut source);
-            let serial = read_serial_rest(rt.alloc(), &mut buffer, &mut source);
+            let read = read_texts_from(rt.alloc(), &mut source);
             if source.failed() {
-                assert!(rt; matches!(serial, Err(ReadFault::Device)), "at {k}");
+                assert!(rt; matches!(read, Err(ReadFault::Device)), "at {k}");
                 assert_eq!(rt; source.into_inner().calls(), k);
             } else {
-                assert_eq!(rt; history?.events().len(), 4);
-                assert_eq!(rt; serial?.txns().len(), 2);
+                let (history, serial) = read?;
+                assert_eq!(rt; history.events().len(), 4);
+                assert_eq!(rt; serial.txns().len(), 2);
                 ended = true;
             }
         }
@@ -120,13 +116,11 @@ fn two_texts_in_pieces(rt: HostRuntime) -> Result<(), Fail> {
     for most in [1, 3, 8192] {
         if most > 0 {
             let mut source = Watched::new(Pieces::new(STREAM, most));
-            let mut buffer = LineBuffer::new();
-            let history = read_history_part(rt.alloc(), &mut buffer, &mut source);
-            let serial = read_serial_rest(rt.alloc(), &mut buffer, &mut source);
+            let (history, serial) = read_texts_from(rt.alloc(), &mut source)?;
             let whole = told_of_history(rt.alloc(), read_history(rt.alloc(), HISTORY));
-            assert!(rt; told_of_history(rt.alloc(), history) == whole);
+            assert!(rt; told_of_history(rt.alloc(), Ok(history)) == whole);
             let whole = told_of_serial(rt.alloc(), read_serial(rt.alloc(), SERIAL));
-            assert!(rt; told_of_serial(rt.alloc(), serial) == whole);
+            assert!(rt; told_of_serial(rt.alloc(), Ok(serial)) == whole);
         }
     }
     Ok(())
@@ -135,15 +129,14 @@ fn two_texts_in_pieces(rt: HostRuntime) -> Result<(), Fail> {
 #[test]
 fn history_without_end_line_is_all_of_the_stream(rt: HostRuntime) -> Result<(), Fail> {
     let mut source = Watched::new(b"adya 1\nc1\nendx\nend".as_slice());
-    let mut buffer = LineBuffer::new();
-    let history = read_history_part(rt.alloc(), &mut buffer, &mut source);
-    assert!(rt; history.is_err_and(|fault| fault == fault_of(Text::History, 3)));
+    let read = read_texts_from(rt.alloc(), &mut source);
+    assert!(rt; read.is_err_and(|fault| fault == fault_of(Text::History, 3)));
     let mut source = Watched::new(b"adya 1\nc1\n".as_slice());
-    let mut buffer = LineBuffer::new();
-    let history = read_history_part(rt.alloc(), &mut buffer, &mut source);
-    assert!(rt; history.is_err_and(|fault| fault == fault_of(Text::History, 3)));
-    let serial = read_serial_rest(rt.alloc(), &mut buffer, &mut source);
-    assert!(rt; serial.is_err_and(|fault| fault == fault_of(Text::Serial, 1)));
+    let read = read_texts_from(rt.alloc(), &mut source);
+    assert!(rt; read.is_err_and(|fault| fault == fault_of(Text::History, 3)));
+    let mut source = Watched::new(b"adya 1\nc1\nend\n".as_slice());
+    let read = read_texts_from(rt.alloc(), &mut source);
+    assert!(rt; read.is_err_and(|fault| fault == fault_of(Text::Serial, 1)));
     Ok(())
 }
 

@@ -59,7 +59,7 @@ edition_at (Done e) = e
 edition_at Head = One
 edition_at (Failed k) = One
 
--- the stage behind a line
+-- the stage after a line
 abbrev pub stage_after : Stage → Line → Stage
 stage_after s (HeadLine e) = Events e
 stage_after s (EventLine v) = Events (edition_at s)

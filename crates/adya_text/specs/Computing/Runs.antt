@@ -2,12 +2,12 @@
 use Rattle.std.specs.Prelude.{◌≡◌, ℕ, Bool, true, List, [], ◌∷◌, map}
 use Rattle.std.specs.List.{AllByRecursion}
 
--- each line may come where it stands
+-- each line is allowed where it comes
 abbrev pub IsRun : {S L : Type 0} → (S → L → Bool) → (S → L → S) → S → List L → Type 0
 IsRun allows after s [] = Unit {0}
 IsRun allows after s (x ∷ xs) = (allows s x ≡ true) × IsRun allows after (after s x) xs
 
--- the stage behind the lines
+-- the stage after the lines
 abbrev pub end_of : {S L : Type 0} → (S → L → S) → S → List L → S
 end_of after s [] = s
 end_of after s (x ∷ xs) = end_of after (after s x) xs

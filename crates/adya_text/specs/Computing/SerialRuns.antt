@@ -15,7 +15,7 @@ allows Txns TailLine = true
 allows Done x = false
 allows (Failed k) x = false
 
--- the stage behind a line
+-- the stage after a line
 abbrev pub stage_after : Line → Stage
 stage_after HeadLine = Txns
 stage_after (TxnLine t) = Txns

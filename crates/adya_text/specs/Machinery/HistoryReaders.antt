@@ -6,7 +6,7 @@ use Rattle.adya_values.specs.Meaning.Values.{history_of}
 use Rattle.adya_values.specs.declared.history.History.{History as HistoryValue}
 use Rattle.adya_text.specs.Meaning.Texts.{IsHistory, history_text, AreHistoryLines}
 use Rattle.adya_text.specs.Meaning.Faults.{IsFirstFaulty, IsFaultLine}
-use Rattle.adya_text.specs.Meaning.Answers.{IsOfText}
+use Rattle.adya_text.specs.Meaning.Reading.{IsOfText, ReadsHistory}
 use Rattle.adya_text.specs.Computing.Runs.{HasRun}
 use Rattle.adya_line.specs.Meaning.HistoryLines.{Line, IsLine, line_text, IsLineOf}
 use Rattle.adya_text.specs.Computing.HistoryRuns.{allows, stage_after, event_in, unfinished_in, order_in, final_in}
@@ -36,7 +36,7 @@ is_done (Orders e last) = false
 is_done (Finals e last) = false
 is_done (Failed k) = false
 
--- each line may stand where it stands, and the reader holds what the lines hold; the stage tells their edition
+-- each line is allowed where it comes, and the reader holds what the lines hold; the stage has their edition
 pub record IsTaken (r : HistoryReader) (lines : List (List ℕ)) : Type 0 where
   pub run : HasRun allows stage_after line_text IsLine Head r.stage lines
   pub events : map event_of r.events.items ≡ filter_map event_in run.items
@@ -67,24 +67,7 @@ pub record Takes (old new : HistoryReader) (x : Line) : Type 0 where
   pub orders : map order_of new.orders.items ≡ map order_of old.orders.items ++ filter_map order_in (x ∷ [])
   pub finals : map final_of new.finals.items ≡ map final_of old.finals.items ++ filter_map final_in (x ∷ [])
 
--- the two hold the same
-pub record IsKept (old new : HistoryReader) : Type 0 where
-  pub stage : new.stage ≡ old.stage
-  pub next : new.next ≡ old.next
-  pub events : new.events.items ≡ old.events.items
-  pub unfinished : new.unfinished.items ≡ old.unfinished.items
-  pub orders : new.orders.items ≡ old.orders.items
-  pub finals : new.finals.items ≡ old.finals.items
-
--- what was read of the text: the history whose text it is, or the line of its fault
-abbrev pub ReadsHistory : List ℕ → Result HistoryValue ReadFault → Type 0
-ReadsHistory text (Ok h) = IsHistory (history_of h) × (text ≡ history_text (history_of h))
-ReadsHistory text (Err (Syntax Of.History k)) = IsFaultLine AreHistoryLines text k
-ReadsHistory text (Err (Syntax Of.Serial k)) = ⊥
-ReadsHistory text (Err Device) = Unit {0}
-ReadsHistory text (Err Memory) = Unit {0}
-
--- an answer that is not of the text says nothing of it
+-- a result that says nothing of the text fits every text
 pub untold_history : (text : List ℕ) (result : Result HistoryValue ReadFault) → (IsOfText result → ⊥)
     → ReadsHistory text result
 untold_history text (Ok v) untold = absurd (untold tt)

@@ -4,7 +4,7 @@ use Rattle.std.specs.List.{filter_map}
 use Rattle.adya_values.specs.declared.serial.Serial.{Serial}
 use Rattle.adya_text.specs.Meaning.Texts.{IsSerial, serial_text, AreSerialLines}
 use Rattle.adya_text.specs.Meaning.Faults.{IsFirstFaulty, IsFaultLine}
-use Rattle.adya_text.specs.Meaning.Answers.{IsOfText}
+use Rattle.adya_text.specs.Meaning.Reading.{IsOfText, ReadsSerial}
 use Rattle.adya_text.specs.Computing.Runs.{HasRun}
 use Rattle.adya_line.specs.Meaning.SerialLines.{Line, IsLine, line_text, IsLineOf}
 use Rattle.adya_text.specs.Computing.SerialRuns.{allows, next_stage, stage_after, txn_in}
@@ -27,7 +27,7 @@ is_done Head = false
 is_done Txns = false
 is_done (Failed k) = false
 
--- each line may stand where it stands, and the reader holds what the lines hold
+-- each line is allowed where it comes, and the reader holds what the lines hold
 pub record IsTaken (r : SerialReader) (lines : List (List ℕ)) : Type 0 where
   pub run : HasRun allows next_stage line_text IsLine Head r.stage lines
   pub txns : r.txns.items ≡ filter_map txn_in run.items
@@ -52,21 +52,7 @@ pub record Takes (old new : SerialReader) (x : Line) : Type 0 where
   pub next : new.next ≡ suc old.next
   pub txns : new.txns.items ≡ old.txns.items ++ filter_map txn_in (x ∷ [])
 
--- the two hold the same
-pub record IsKept (old new : SerialReader) : Type 0 where
-  pub stage : new.stage ≡ old.stage
-  pub next : new.next ≡ old.next
-  pub txns : new.txns.items ≡ old.txns.items
-
--- what was read of the text: the certificate whose text it is, or the line of its fault
-abbrev pub ReadsSerial : List ℕ → Result Serial ReadFault → Type 0
-ReadsSerial text (Ok s) = IsSerial s.txns.items × (text ≡ serial_text s.txns.items)
-ReadsSerial text (Err (Syntax Of.Serial k)) = IsFaultLine AreSerialLines text k
-ReadsSerial text (Err (Syntax Of.History k)) = ⊥
-ReadsSerial text (Err Device) = Unit {0}
-ReadsSerial text (Err Memory) = Unit {0}
-
--- an answer that is not of the text says nothing of it
+-- a result that says nothing of the text fits every text
 pub untold_serial : (text : List ℕ) (result : Result Serial ReadFault) → (IsOfText result → ⊥)
     → ReadsSerial text result
 untold_serial text (Ok v) untold = absurd (untold tt)

@@ -1,9 +1,7 @@
 -- The line at which a text leaves a grammar. A grammar is given by the lists of lines that its texts have.
-use Rattle.std.specs.Prelude.{◌≡◌, ◌≢◌, ℕ, ◌<◌, ◌⊎◌, List, [], ◌++◌, length, take, All}
+use Rattle.std.specs.Prelude.{◌≡◌, ℕ, ◌<◌, ◌⊎◌, List, [], ◌++◌, length, take, All}
+use Rattle.adya_line.specs.Meaning.Laws.{IsPlain}
 use Rattle.adya_text.specs.Meaning.Texts.{with_ends}
-
-abbrev pub IsPlain : List ℕ → Type 0
-IsPlain bytes = All (λ b. b ≢ 10) bytes
 
 -- the text has these complete lines, and then this rest without a line feed
 pub record IsCut (text : List ℕ) (lines : List (List ℕ)) (rest : List ℕ) : Type 0 where
@@ -22,7 +20,7 @@ pub record Begins (grammar : List (List ℕ) → Type 0) (lines : List (List ℕ
   pub more : List (List ℕ)
   pub within : grammar (lines ++ more)
 
--- there is no line k, or the first k lines begin no text of the grammar
+-- line k is missing, or no text of the grammar begins with the lines up to k
 abbrev pub IsFaulty : (List (List ℕ) → Type 0) → List (List ℕ) → ℕ → Type 0
 IsFaulty grammar lines k = (length lines < k) ⊎ (Begins grammar (take k lines) → ⊥)
 

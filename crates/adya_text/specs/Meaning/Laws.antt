@@ -1,8 +1,11 @@
 -- What holds of texts.
-use Rattle.std.specs.Prelude.{◌≡◌, ℕ, List, [], ◌++◌}
+use Rattle.std.specs.Prelude.{◌≡◌, ◌≢◌, ℕ, List, [], ◌∷◌, ◌++◌, All}
+use Rattle.adya_line.specs.Meaning.Spelling.{tail}
+use Rattle.adya_line.specs.Meaning.Laws.{IsPlain}
 use Rattle.adya_values.specs.Meaning.Histories.{History}
 use Rattle.adya_text.specs.Meaning.Texts.{IsHistory, IsSerial, with_ends, history_text, serial_text}
-use Rattle.adya_text.specs.Meaning.Faults.{IsFaultLine}
+use Rattle.adya_text.specs.Meaning.Faults.{IsCut, IsFaultLine}
+use Rattle.adya_text.specs.Meaning.Streams.{history_part, serial_part}
 
 -- histories of one text are one history
 abbrev pub HistoriesDiffer : Type 0
@@ -33,3 +36,20 @@ HasOneFaultLine grammar =
 abbrev pub HasNoFaultWithin : (List (List ℕ) → Type 0) → Type 0
 HasNoFaultWithin grammar =
     (lines : List (List ℕ)) (k : ℕ) → grammar lines → IsFaultLine grammar (with_ends lines) k → ⊥
+
+-- none of the lines is `end`
+abbrev pub HasNoEnd : List (List ℕ) → Type 0
+HasNoEnd lines = All (λ l. l ≢ tail) lines
+
+-- a stream is cut after its first line `end`
+abbrev pub IsCutAfterEnd : Type 0
+IsCutAfterEnd =
+    (before : List (List ℕ)) (rest : List ℕ) → All IsPlain before → HasNoEnd before
+    → (history_part (with_ends (before ++ tail ∷ []) ++ rest) ≡ with_ends (before ++ tail ∷ []))
+    × (serial_part (with_ends (before ++ tail ∷ []) ++ rest) ≡ rest)
+
+-- a stream without such a line is the history's as a whole
+abbrev pub IsWholeWithoutEnd : Type 0
+IsWholeWithoutEnd =
+    (stream : List ℕ) (lines : List (List ℕ)) (rest : List ℕ) → HasNoEnd lines → IsCut stream lines rest
+    → (history_part stream ≡ stream) × (serial_part stream ≡ [])

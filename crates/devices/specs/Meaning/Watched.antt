@@ -14,10 +14,10 @@ reads_left w = w.left
 abbrev pub device_of : {D : Type 0} → Watched D → D
 device_of w = w.device
 
--- the bytes that the device has left, where they are known
+-- the bytes that the device has left, if they are known
 abbrev pub watched_remaining : {D : Type 0} → (D → Option (List ℕ)) → Watched D → Option (List ℕ)
 watched_remaining remaining w = remaining w.device
 
--- the bytes that the device holds, where they are known
+-- the bytes that the device holds, if they are known
 abbrev pub watched_contents : {D : Type 0} → (D → Option (List ℕ)) → Watched D → Option (List ℕ)
 watched_contents contents w = contents w.device

@@ -1,4 +1,4 @@
-use Rattle.adya_line.proofs.Readers.{events_read, one_event}
+use Rattle.adya_line.proofs.LineReaders.{events_read, one_event}
 use Rattle.adya_line.proofs.laws.event_lines.Goals as goal
 
 pub returns-clause-reading : goal.returns-clause-reading

@@ -1,4 +1,4 @@
-use Rattle.adya_line.proofs.Readers.{finals_read, one_final}
+use Rattle.adya_line.proofs.LineReaders.{finals_read, one_final}
 use Rattle.adya_line.proofs.laws.final_lines.Goals as goal
 
 pub returns-clause-reading : goal.returns-clause-reading

@@ -1,4 +1,4 @@
-use Rattle.adya_line.proofs.HistoryKinds.{one_history_line, history_lines_plain}
+use Rattle.adya_line.proofs.HistoryLines.{one_history_line, history_lines_plain}
 use Rattle.adya_line.proofs.laws.history_lines.Goals as goal
 
 pub returns-clause-one_text : goal.returns-clause-one_text

@@ -1,4 +1,4 @@
-use Rattle.adya_line.proofs.Readers.{orders_read, one_order}
+use Rattle.adya_line.proofs.LineReaders.{orders_read, one_order}
 use Rattle.adya_line.proofs.laws.order_lines.Goals as goal
 
 pub returns-clause-reading : goal.returns-clause-reading

@@ -1,4 +1,4 @@
-use Rattle.adya_line.proofs.SerialKinds.{one_serial_line, serial_lines_plain}
+use Rattle.adya_line.proofs.SerialLines.{one_serial_line, serial_lines_plain}
 use Rattle.adya_line.proofs.laws.serial_lines.Goals as goal
 
 pub returns-clause-one_text : goal.returns-clause-one_text

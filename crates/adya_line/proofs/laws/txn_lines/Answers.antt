@@ -1,4 +1,4 @@
-use Rattle.adya_line.proofs.Readers.{txns_read, one_txn}
+use Rattle.adya_line.proofs.LineReaders.{txns_read, one_txn}
 use Rattle.adya_line.proofs.laws.txn_lines.Goals as goal
 
 pub returns-clause-reading : goal.returns-clause-reading

@@ -1,4 +1,4 @@
-use Rattle.adya_line.proofs.Readers.{unfinished_read, one_unfinished}
+use Rattle.adya_line.proofs.LineReaders.{unfinished_read, one_unfinished}
 use Rattle.adya_line.proofs.laws.unfinished_lines.Goals as goal
 
 pub returns-clause-reading : goal.returns-clause-reading

@@ -1,6 +1,6 @@
 use Rattle.std.proofs.Common.{rules, refl}
 use Rattle.adya_line.specs.Meaning.SerialLines.{HeadLine, TailLine}
-use Rattle.adya_line.proofs.SerialKinds.{only_line, txn_line, no_line}
+use Rattle.adya_line.proofs.SerialLines.{only_line, txn_line, no_line}
 use Rattle.adya_line.proofs.serial_lines.serial_line.Goals as goal
 
 pub returns-in-Some : goal.returns-in-Some

@@ -1,8 +1,8 @@
 use Rattle.std.proofs.Common.{refl}
 use Rattle.adya_text.specs.Meaning.Texts.{history_text}
-use Rattle.adya_text.specs.Machinery.HistoryReaders.{ReadsHistory}
+use Rattle.adya_text.specs.Meaning.Reading.{ReadsHistory}
 use Rattle.adya_text.proofs.TextLaws.{only_history}
-use Rattle.adya_text.proofs.Gone.{of_known}
+use Rattle.adya_text.proofs.LinesRead.{of_known}
 use Rattle.adya_text.proofs.sources.read_history_from.Goals as goal
 
 pub returns-clause-only : goal.returns-clause-only

@@ -3,57 +3,59 @@ use Rattle.std.specs.Io.KnownBytes.{prepend_known}
 use Rattle.std.proofs.lemmas.Bool.{false≢true}
 use Rattle.adya_line.specs.Meaning.Spelling.{tail}
 use Rattle.adya_text.specs.Meaning.Faults.{IsCut}
-use Rattle.adya_text.specs.Machinery.HistoryReaders.{IsFed, ReadsHistory}
+use Rattle.adya_text.specs.Machinery.HistoryReaders.{IsFed}
+use Rattle.adya_text.specs.Meaning.Reading.{ReadsHistory}
 use Rattle.adya_text.specs.Meaning.Streams.{history_part, serial_part}
-use Rattle.adya_text.proofs.LineLists.{all_behind}
-use Rattle.adya_text.proofs.Gone.{line_gone, left_gone, front_gone, all_gone, on_ok}
-use Rattle.adya_text.proofs.StreamParts.{HasNoEnd, part_front, part_at_end, part_of_all}
+use Rattle.std.proofs.lemmas.List.Elements.{All-push}
+use Rattle.adya_text.proofs.LinesRead.{line_read, rest_unread, prefix_read, all_read, on_ok}
+use Rattle.adya_text.specs.Meaning.Laws.{HasNoEnd}
+use Rattle.adya_text.proofs.StreamParts.{part_front, part_at_end, part_of_all}
 use Rattle.adya_text.proofs.sources.read_history_part.Goals as goal
 
 pub returns-then-is_tail-clause-answer : goal.returns-then-is_tail-clause-answer
 returns-then-is_tail-clause-answer g c =
-    let (stream, same, works, (past, fed, other, gone)) = c.loop-line.invariant in
+    let (stream, same, works, (past, fed, other, read)) = c.loop-line.invariant in
     let line = c.next_line.new.line.items in
     let next = c.in_ok-next_line.ensures in
     let more : IsFed c.line.new.self (past ++ line ∷ []) =
-    subst (λ l. IsFed c.line.new.self (past ++ l ∷ [])) c.deref.ensures.value (c.in_ok-line.ensures.ok past fed) in
-    let after = line_gone _ line gone c.if-branch.true next.plain next.bytes in
+    subst (λ l. IsFed c.line.new.self (past ++ l ∷ [])) c.deref.ensures.value (c.in_ok-line.ensures past fed) in
+    let after = line_read _ line read c.if-branch.true next.plain next.bytes in
     let is_end : line ≡ tail = sym c.deref-in-loop-line.ensures.value ∙ c.if-is_tail.ensures.0 refl in
-    left_gone (λ stream. ReadsHistory (history_part stream) c.finish.result) after
+    rest_unread (λ stream. ReadsHistory (history_part stream) c.finish.result) after
     (λ rest left. c.finish.ensures.answer (past ++ line ∷ []) more _
-    (part_at_end past line rest other is_end after.plain gone.plain).0)
+    (part_at_end past line rest other is_end after.plain read.plain).0)
 
 pub returns-then-is_tail-clause-rest : goal.returns-then-is_tail-clause-rest
 returns-then-is_tail-clause-rest g c =
-    let (stream, same, works, (past, fed, other, gone)) = c.loop-line.invariant in
+    let (stream, same, works, (past, fed, other, read)) = c.loop-line.invariant in
     let line = c.next_line.new.line.items in
     let next = c.in_ok-next_line.ensures in
-    let after = line_gone _ line gone c.if-branch.true next.plain next.bytes in
+    let after = line_read _ line read c.if-branch.true next.plain next.bytes in
     let is_end : line ≡ tail = sym c.deref-in-loop-line.ensures.value ∙ c.if-is_tail.ensures.0 refl in
     let left = prepend_known c.next_line.new.self (g.S.Read.remaining c.next_line.new.source) in
     on_ok c.finish.result
-    (left_gone (λ stream. left ≡ Some (serial_part stream)) after
+    (rest_unread (λ stream. left ≡ Some (serial_part stream)) after
     (λ rest is. is ∙ ap (λ (l : List ℕ). Some l)
-    (sym (part_at_end past line rest other is_end after.plain gone.plain).1)))
+    (sym (part_at_end past line rest other is_end after.plain read.plain).1)))
 
 pub returns-then-has_failed-clause-answer : goal.returns-then-has_failed-clause-answer
 returns-then-has_failed-clause-answer g c =
-    let (stream, same, works, (past, fed, other, gone)) = c.loop-line.invariant in
+    let (stream, same, works, (past, fed, other, read)) = c.loop-line.invariant in
     let line = c.next_line.new.line.items in
     let next = c.in_ok-next_line.ensures in
     let more : IsFed c.line.new.self (past ++ line ∷ []) =
-    subst (λ l. IsFed c.line.new.self (past ++ l ∷ [])) c.deref.ensures.value (c.in_ok-line.ensures.ok past fed) in
-    let no_end : HasNoEnd (past ++ line ∷ []) = all_behind (λ l. l ≢ tail) past line other
+    subst (λ l. IsFed c.line.new.self (past ++ l ∷ [])) c.deref.ensures.value (c.in_ok-line.ensures past fed) in
+    let no_end : HasNoEnd (past ++ line ∷ []) = All-push (λ l. l ≢ tail) past line other
     (λ is. false≢true (c.if-is_tail.ensures.1 (c.deref-in-loop-line.ensures.value ∙ is))) in
-    front_gone (λ stream. ReadsHistory (history_part stream) c.finish-then-has_failed.result)
-    (line_gone _ line gone c.if-branch.true next.plain next.bytes)
+    prefix_read (λ stream. ReadsHistory (history_part stream) c.finish-then-has_failed.result)
+    (line_read _ line read c.if-branch.true next.plain next.bytes)
     (λ stream front. c.finish-then-has_failed.ensures.early (past ++ line ∷ []) more
-    (c.if-has_failed.ensures.stops (past ++ line ∷ []) more) (history_part stream)
+    (c.if-has_failed.ensures (past ++ line ∷ []) more) (history_part stream)
     (part_front stream (past ++ line ∷ []) no_end front))
 
 pub loop-line-preserved : goal.loop-line-preserved
 loop-line-preserved g c =
-    let (stream, same, works, (past, fed, other, gone)) = c.loop-line.invariant in
+    let (stream, same, works, (past, fed, other, read)) = c.loop-line.invariant in
     let line = c.next_line.new.line.items in
     let next = c.in_ok-next_line.ensures in (
       search rules,
@@ -61,19 +63,19 @@ loop-line-preserved g c =
       search rules,
       (
         past ++ line ∷ [],
-        subst (λ l. IsFed c.line.new.self (past ++ l ∷ [])) c.deref.ensures.value (c.in_ok-line.ensures.ok past fed),
-        all_behind (λ l. l ≢ tail) past line other
+        subst (λ l. IsFed c.line.new.self (past ++ l ∷ [])) c.deref.ensures.value (c.in_ok-line.ensures past fed),
+        All-push (λ l. l ≢ tail) past line other
             (λ is. false≢true (c.if-is_tail.ensures.1 (c.deref-in-loop-line.ensures.value ∙ is))),
-        line_gone _ line gone c.if-branch.true next.plain next.bytes,
+        line_read _ line read c.if-branch.true next.plain next.bytes,
       ),
     )
 
 pub returns-clause-answer : goal.returns-clause-answer
 returns-clause-answer g c =
-    let (stream, same, works, (past, fed, other, gone)) = c.loop-line.invariant in
+    let (stream, same, works, (past, fed, other, read)) = c.loop-line.invariant in
     let line = c.next_line.new.line.items in
     let next = c.in_ok-next_line.ensures in
-    all_gone _ _ line (λ stream. ReadsHistory (history_part stream) c.finish-2.result) gone c.if-branch.false next.plain
+    all_read _ _ line (λ stream. ReadsHistory (history_part stream) c.finish-2.result) read c.if-branch.false next.plain
     next.bytes (next.end c.if-branch.false)
     (λ stream cut left.
     let here : IsCut (history_part stream) past line =
@@ -83,11 +85,11 @@ returns-clause-answer g c =
 
 pub returns-clause-rest : goal.returns-clause-rest
 returns-clause-rest g c =
-    let (stream, same, works, (past, fed, other, gone)) = c.loop-line.invariant in
+    let (stream, same, works, (past, fed, other, read)) = c.loop-line.invariant in
     let line = c.next_line.new.line.items in
     let next = c.in_ok-next_line.ensures in
     let left = prepend_known c.next_line.new.self (g.S.Read.remaining c.next_line.new.source) in
     on_ok c.finish-2.result
-    (all_gone _ _ line (λ stream. left ≡ Some (serial_part stream)) gone c.if-branch.false next.plain next.bytes
+    (all_read _ _ line (λ stream. left ≡ Some (serial_part stream)) read c.if-branch.false next.plain next.bytes
     (next.end c.if-branch.false)
     (λ stream cut is. is ∙ ap (λ (l : List ℕ). Some l) (sym (part_of_all stream past line other cut).1)))

@@ -1,10 +1,10 @@
--- The reader was fed with the lines that are gone, and none of them is `end`.
+-- The reader was fed with the lines that are read, and none of them is `end`.
 use Rattle.std.proofs.Common.{◌≡◌, ◌≢◌, ◌⊎◌, ℕ, List, [], All, false}
 use Rattle.std.specs.Io.KnownBytes.{prepend_known}
 use Rattle.adya_line.specs.Meaning.Spelling.{tail}
 use Rattle.adya_text.specs.Machinery.HistoryReaders.{IsFed}
 use Rattle.adya_text.specs.Machinery.Buffers.{work_left}
-use Rattle.adya_text.proofs.Gone.{Gone}
+use Rattle.adya_text.proofs.LinesRead.{WereRead}
 use Rattle.adya_text.proofs.sources.read_history_part.Given as goal
 
 abbrev pub invariant-loop-line : goal.invariant-loop-line
@@ -13,7 +13,7 @@ invariant-loop-line g l =
     × (g.S.Source.is_failed l.source ≡ g.S.Source.is_failed l.fn.source)
     × (l.fn.buffer ≡ [] → (l.buffer ≡ []) ⊎ (g.S.Source.is_failed l.source ≡ false))
     × ((past : List (List ℕ)) × IsFed l.reader past × All (λ line. line ≢ tail) past
-    × Gone (prepend_known l.fn.buffer (g.S.Read.remaining l.fn.source)) past
+    × WereRead (prepend_known l.fn.buffer (g.S.Read.remaining l.fn.source)) past
     (prepend_known l.buffer (g.S.Read.remaining l.source)))
 
 abbrev pub decreases-loop-line : goal.decreases-loop-line

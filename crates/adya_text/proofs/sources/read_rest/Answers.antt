@@ -1,26 +1,26 @@
 use Rattle.std.proofs.Common.{rules, [], ◌∷◌, ◌++◌, sym, subst}
 use Rattle.adya_text.specs.Meaning.Faults.{IsCut}
-use Rattle.adya_text.proofs.Gone.{none_gone, line_gone, front_gone, all_gone}
+use Rattle.adya_text.proofs.LinesRead.{none_read, line_read, prefix_read, all_read}
 use Rattle.adya_text.proofs.sources.read_rest.Goals as goal
 
 pub loop-line-init : goal.loop-line-init
-loop-line-init g c = (search rules, search rules, search rules, ([], c.requires, none_gone))
+loop-line-init g c = (search rules, search rules, search rules, ([], c.requires, none_read))
 
 pub returns-then-has_failed-clause-answer : goal.returns-then-has_failed-clause-answer
 returns-then-has_failed-clause-answer g c =
-    let (stream, same, works, (past, fed, gone)) = c.loop-line.invariant in
+    let (stream, same, works, (past, fed, read)) = c.loop-line.invariant in
     let line = c.next_line.new.line.items in
     let next = c.in_ok-next_line.ensures in
     let more : g.R.LineReader.is_fed c.line.new.self (past ++ line ∷ []) =
     subst (λ l. g.R.LineReader.is_fed c.line.new.self (past ++ l ∷ [])) c.deref.ensures.value
     (c.in_ok-line.ensures past fed) in
-    front_gone (λ text. g.R.LineReader.reads text c.finish.result)
-    (line_gone _ line gone c.if-branch.true next.plain next.bytes)
+    prefix_read (λ text. g.R.LineReader.reads text c.finish.result)
+    (line_read _ line read c.if-branch.true next.plain next.bytes)
     (c.finish.ensures.early (past ++ line ∷ []) more (c.if-has_failed.ensures (past ++ line ∷ []) more))
 
 pub loop-line-preserved : goal.loop-line-preserved
 loop-line-preserved g c =
-    let (stream, same, works, (past, fed, gone)) = c.loop-line.invariant in
+    let (stream, same, works, (past, fed, read)) = c.loop-line.invariant in
     let line = c.next_line.new.line.items in
     let next = c.in_ok-next_line.ensures in (
       search rules,
@@ -30,16 +30,16 @@ loop-line-preserved g c =
         past ++ line ∷ [],
         subst (λ l. g.R.LineReader.is_fed c.line.new.self (past ++ l ∷ [])) c.deref.ensures.value
             (c.in_ok-line.ensures past fed),
-        line_gone _ line gone c.if-branch.true next.plain next.bytes,
+        line_read _ line read c.if-branch.true next.plain next.bytes,
       ),
     )
 
 pub returns-clause-answer : goal.returns-clause-answer
 returns-clause-answer g c =
-    let (stream, same, works, (past, fed, gone)) = c.loop-line.invariant in
+    let (stream, same, works, (past, fed, read)) = c.loop-line.invariant in
     let line = c.next_line.new.line.items in
     let next = c.in_ok-next_line.ensures in
-    all_gone _ _ line (λ text. g.R.LineReader.reads text c.finish-2.result) gone c.if-branch.false next.plain next.bytes
+    all_read _ _ line (λ text. g.R.LineReader.reads text c.finish-2.result) read c.if-branch.false next.plain next.bytes
     (next.end c.if-branch.false)
     (λ text cut left. c.finish-2.ensures.answer past fed text
     (subst (IsCut text past) (sym c.deref-2.ensures.value) cut))

@@ -1,8 +1,8 @@
--- The reader was fed with the lines that are gone.
+-- The reader was fed with the lines that are read.
 use Rattle.std.proofs.Common.{◌≡◌, ◌⊎◌, ℕ, List, [], false}
 use Rattle.std.specs.Io.KnownBytes.{prepend_known}
 use Rattle.adya_text.specs.Machinery.Buffers.{work_left}
-use Rattle.adya_text.proofs.Gone.{Gone}
+use Rattle.adya_text.proofs.LinesRead.{WereRead}
 use Rattle.adya_text.proofs.sources.read_rest.Given as goal
 
 abbrev pub invariant-loop-line : goal.invariant-loop-line
@@ -11,7 +11,7 @@ invariant-loop-line g l =
     × (g.S.Source.is_failed l.source ≡ g.S.Source.is_failed l.fn.source)
     × (l.fn.buffer ≡ [] → (l.buffer ≡ []) ⊎ (g.S.Source.is_failed l.source ≡ false))
     × ((past : List (List ℕ)) × g.R.LineReader.is_fed l.reader past
-    × Gone (prepend_known l.fn.buffer (g.S.Read.remaining l.fn.source)) past
+    × WereRead (prepend_known l.fn.buffer (g.S.Read.remaining l.fn.source)) past
     (prepend_known l.buffer (g.S.Read.remaining l.source)))
 
 abbrev pub decreases-loop-line : goal.decreases-loop-line

@@ -1,12 +1,12 @@
 use Rattle.std.proofs.Common.{[], ◌∷◌, length, arith}
-use Rattle.adya_line.specs.Computing.Reading.{behind, later_at}
+use Rattle.adya_line.specs.Computing.Reading.{with_front, later_at}
 use Rattle.adya_line.proofs.Orders.{goes_on, fails, is_done, after_shorter, writer_shorter}
 use Rattle.adya_line.proofs.order_line.Cursor.later.Goals as goal
 
 pub returns-in_default-writer : goal.returns-in_default-writer
 returns-in_default-writer c =
     let bytes = c.args.self.now.rest.now in
-    let total = behind (c.args.first ∷ []) (later_at (length bytes) bytes) in
+    let total = with_front (c.args.first ∷ []) (later_at (length bytes) bytes) in
     let on = c.later.invariant in
     fails c.later.writers.items c.later.self.rest.now c.in-Some.rest.now total c.in-Some.ensures
     c.in_default-writer.ensures on
@@ -22,7 +22,7 @@ later-smaller c =
 pub later-preserved : goal.later-preserved
 later-preserved c =
     let bytes = c.args.self.now.rest.now in
-    let total = behind (c.args.first ∷ []) (later_at (length bytes) bytes) in
+    let total = with_front (c.args.first ∷ []) (later_at (length bytes) bytes) in
     let one = c.in-Some-writer in
     let after_t = c.writer.new.self.rest.now in
     let on = c.later.invariant in
@@ -33,5 +33,5 @@ later-preserved c =
 pub returns : goal.returns
 returns c =
     let bytes = c.args.self.now.rest.now in
-    let total = behind (c.args.first ∷ []) (later_at (length bytes) bytes) in
+    let total = with_front (c.args.first ∷ []) (later_at (length bytes) bytes) in
     is_done c.later.writers.items c.later.self.rest.now total c.in_default.ensures c.later.invariant

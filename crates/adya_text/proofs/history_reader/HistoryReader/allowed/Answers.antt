@@ -1,6 +1,6 @@
 use Rattle.std.proofs.Common.{sym, ◌∙◌, rules}
 use Rattle.adya_line.specs.Meaning.HistoryLines.{line_of}
-use Rattle.adya_text.proofs.HistoryFed.{refused_by}
+use Rattle.adya_text.proofs.HistoryReaders.{refused_by}
 use Rattle.adya_text.proofs.history_reader.HistoryReader.allowed.Goals as goal
 
 pub returns-then-not-allows : goal.returns-then-not-allows

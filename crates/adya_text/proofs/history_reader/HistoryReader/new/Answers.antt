@@ -1,5 +1,5 @@
 use Rattle.std.proofs.Common.{refl}
-use Rattle.adya_text.proofs.HistoryFed.{fed_none}
+use Rattle.adya_text.proofs.HistoryReaders.{fed_none}
 use Rattle.adya_text.proofs.history_reader.HistoryReader.new.Goals as goal
 
 pub returns : goal.returns

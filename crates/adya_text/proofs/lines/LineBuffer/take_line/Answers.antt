@@ -1,6 +1,7 @@
+use Rattle.std.proofs.lemmas.Bool.{eqb-true}
 use Rattle.std.proofs.Common.{◌+◌, ◌-◌, ◌<◌, ◌≤◌, ◌++◌, [], rules, arith, take, slice_range, length, sym, ap, ◌∙◌}
 use Rattle.std.proofs.Common.{append-nil}
-use Rattle.adya_text.proofs.BufferLemmas.{range_split, plain_before, plain_all, length_range, byte_is, empty_range}
+use Rattle.adya_text.proofs.Buffers.{range_split, plain_before, plain_all, length_range, empty_range}
 use Rattle.adya_text.proofs.lines.LineBuffer.take_line.Goals as goal
 
 pub returns-in_ok-extend_from_slice-in-Some-clause-moved : goal.returns-in_ok-extend_from_slice-in-Some-clause-moved
@@ -16,7 +17,7 @@ returns-in_ok-extend_from_slice-in-Some-clause-moved c =
       search rules,
       plain_before pending at low c.in-Some.ensures.0.before,
       sym c.self.view_is
-          ∙ range_split b.bytes b.start b.end at within fits (byte_is _ c.in-Some.ensures.1),
+          ∙ range_split b.bytes b.start b.end at within fits (eqb-true _ 10 c.in-Some.ensures.1),
     )
 
 pub returns-in_ok-extend_from_slice-in-None-clause-moved : goal.returns-in_ok-extend_from_slice-in-None-clause-moved

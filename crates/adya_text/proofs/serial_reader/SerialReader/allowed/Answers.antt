@@ -1,6 +1,6 @@
 use Rattle.std.proofs.Common.{sym, ◌∙◌, rules}
 use Rattle.adya_line.specs.Meaning.SerialLines.{line_of}
-use Rattle.adya_text.proofs.SerialFed.{refused_by}
+use Rattle.adya_text.proofs.SerialReaders.{refused_by}
 use Rattle.adya_text.proofs.serial_reader.SerialReader.allowed.Goals as goal
 
 pub returns-then-not-allows : goal.returns-then-not-allows

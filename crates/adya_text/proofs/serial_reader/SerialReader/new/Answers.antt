@@ -1,5 +1,5 @@
 use Rattle.std.proofs.Common.{refl}
-use Rattle.adya_text.proofs.SerialFed.{fed_none}
+use Rattle.adya_text.proofs.SerialReaders.{fed_none}
 use Rattle.adya_text.proofs.serial_reader.SerialReader.new.Goals as goal
 
 pub returns : goal.returns

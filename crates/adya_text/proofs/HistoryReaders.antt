@@ -1,0 +1,409 @@
+-- What a reader of history lines knows of the lines that it was fed with.
+use Rattle.std.proofs.Common.{◌≡◌, ℕ, suc, ◌<◌, Bool, true, false, List, [], ◌∷◌, ◌++◌, length, map, Option, Result}
+use Rattle.std.proofs.Common.{Ok, Err, refl, sym, ap, subst, ◌∙◌, arith, append_assoc, append-nil}
+use Rattle.std.specs.Prelude.{not, ◌==◌, ◌↔◌, IsTrue, OnErr}
+use Rattle.std.specs.Bool.{OnTrue, OnFalse}
+use Rattle.std.specs.List.{AllByRecursion, filter_map, list_all}
+use Rattle.std.specs.Cmp.Derive.{both_true}
+use Rattle.std.proofs.lemmas.Bool.Decides.{nat_tests}
+use Rattle.std.proofs.lemmas.List.{length-append}
+use Rattle.std.proofs.lemmas.List.Elements.{filter_map-append}
+use Rattle.adya_values.specs.Meaning.Shapes.{is_shape, fits_edition}
+use Rattle.adya_values.specs.Meaning.Values.{history_of}
+use Rattle.adya_values.specs.Meaning.Histories.{Event, Order, FinalPair, History, event_of, order_of, final_of}
+use Rattle.adya_values.specs.declared.history.History.{History as HistoryValue}
+use Rattle.adya_line.specs.Meaning.Limits.{IsOrder}
+use Rattle.adya_text.specs.Meaning.Texts.{IsHistory, history_lines, AreHistoryLines, with_ends, history_text}
+use Rattle.adya_text.specs.Meaning.Faults.{Begins, IsFaultLine, IsCut}
+use Rattle.adya_line.specs.Meaning.HistoryLines.{Line, HeadLine, EventLine, UnfinishedLine, OrderLine, FinalLine, TailLine}
+use Rattle.adya_line.specs.Meaning.HistoryLines.{IsLine, line_text, IsOnlyLineOf}
+use Rattle.adya_text.specs.Computing.HistoryRuns.{allows, edition_at, stage_after}
+use Rattle.adya_text.specs.Computing.HistoryRuns.{event_in, unfinished_in, order_in, final_in}
+use Rattle.adya_text.specs.Machinery.HistoryReaders.{IsTaken, IsFed, IsRefused, IsAllowed, Takes}
+use Rattle.adya_text.specs.Meaning.Reading.{ReadsHistory}
+use Rattle.adya_text.specs.Machinery.HistoryReaders.{is_failed, is_done}
+use Rattle.adya_values.specs.declared.edition.Edition.{Edition}
+use Rattle.adya_values.specs.declared.edition.Edition.TheVariants.{One}
+use Rattle.adya_text.specs.declared.history_reader.Stage.{Stage}
+use Rattle.adya_text.specs.declared.history_reader.Stage.TheVariants.{Head, Events, Unfinished, Orders, Finals, Done}
+use Rattle.adya_text.specs.declared.history_reader.Stage.TheVariants.{Failed}
+use Rattle.adya_text.specs.declared.history_reader.HistoryReader.{HistoryReader}
+use Rattle.adya_text.specs.declared.read_fault.ReadFault.{ReadFault}
+use Rattle.adya_text.specs.declared.read_fault.ReadFault.TheVariants.{Syntax}
+use Rattle.adya_text.specs.declared.read_fault.Text.TheVariants as Of
+use Rattle.adya_text.proofs.Runs.{run_join, refused, taken, one_end}
+use Rattle.adya_text.proofs.FaultLines.{fault_at, fault_missing, fault_stays, fault_stops, whole_begins}
+use Rattle.adya_text.proofs.HistoryTexts.{LinesTell, HasLines, Run, end, run_of, are_lines, items_of, event_items}
+use Rattle.adya_text.proofs.HistoryTexts.{unfinished_items, order_items, final_items, held_by, items_texts}
+
+-- ---- stages
+
+failed_at : (s : Stage) → is_failed s ≡ true → (k : ℕ) × (s ≡ Failed k)
+failed_at (Failed k) is = (k, refl)
+failed_at Head is = absurd cc
+failed_at (Events e) is = absurd cc
+failed_at (Unfinished last) is = absurd cc
+failed_at (Orders e last) is = absurd cc
+failed_at (Finals e last) is = absurd cc
+failed_at (Done e) is = absurd cc
+
+done_going : (s : Stage) → is_done s ≡ true → is_failed s ≡ false
+done_going (Done e) is = refl
+done_going (Failed k) is = absurd cc
+done_going Head is = absurd cc
+done_going (Events e) is = absurd cc
+done_going (Unfinished last) is = absurd cc
+done_going (Orders e last) is = absurd cc
+done_going (Finals e last) is = absurd cc
+
+after_unfailed : (s : Stage) (x : Line) → is_failed (stage_after s x) ≡ false
+after_unfailed s (HeadLine e) = refl
+after_unfailed s (EventLine v) = refl
+after_unfailed s (UnfinishedLine t) = refl
+after_unfailed s (OrderLine o) = refl
+after_unfailed s (FinalLine f) = refl
+after_unfailed s TailLine = refl
+
+-- ---- what the lines begin
+
+joined : (s : Stage) (lines : List (List ℕ)) (ys : List Line) → HasLines s lines → AllByRecursion IsLine ys → Run s ys
+    → is_done (end s ys) ≡ true → Begins AreHistoryLines lines
+joined s lines ys front goods runs done = record {
+  more = map line_text ys;
+  within = are_lines (end s ys) _ done
+      (run_join allows stage_after line_text IsLine Head s (end s ys) lines ys front goods runs refl);
+}
+
+run_begins : (s : Stage) (lines : List (List ℕ)) → is_failed s ≡ false → HasLines s lines
+    → Begins AreHistoryLines lines
+run_begins Head lines is front =
+    joined Head lines (HeadLine One ∷ TailLine ∷ []) front (tt, (tt, tt)) (refl, (refl, tt)) refl
+run_begins (Events e) lines is front = joined (Events e) lines (TailLine ∷ []) front (tt, tt) (refl, tt) refl
+run_begins (Unfinished last) lines is front =
+    joined (Unfinished last) lines (TailLine ∷ []) front (tt, tt) (refl, tt) refl
+run_begins (Orders e last) lines is front =
+    joined (Orders e last) lines (TailLine ∷ []) front (tt, tt) (refl, tt) refl
+run_begins (Finals e last) lines is front =
+    joined (Finals e last) lines (TailLine ∷ []) front (tt, tt) (refl, tt) refl
+run_begins (Done e) lines is front = joined (Done e) lines [] front tt tt refl
+run_begins (Failed k) lines is front = absurd cc
+
+run_stops : LinesTell → (s : Stage) (lines : List (List ℕ)) (l : List ℕ) → HasLines s lines → IsRefused s l
+    → Begins AreHistoryLines (lines ++ l ∷ []) → ⊥
+run_stops tell s lines l front none b =
+    let (h, is, whole) = b.within in
+    let longer : lines ++ l ∷ b.more ≡ history_lines h = sym (append_assoc lines (l ∷ []) b.more) ∙ whole in
+    let run : HasLines (Done h.edition) (lines ++ l ∷ b.more) = rw longer (run_of h is) in
+    refused allows stage_after line_text IsLine tell Head s (Done h.edition) lines l b.more front run
+    (λ x good same ok. none x (record { good = good; same = sym same }) ok)
+
+pub fed_begins : (r : HistoryReader) (past : List (List ℕ)) → IsFed r past → is_failed r.stage ≡ false
+    → Begins AreHistoryLines past
+fed_begins r past fed going = run_begins r.stage past going (fed.taken going).run
+
+pub fed_stops : (r : HistoryReader) (past : List (List ℕ)) → IsFed r past → is_failed r.stage ≡ true
+    → Begins AreHistoryLines past → ⊥
+fed_stops r past fed failed b =
+    let (k, is) = failed_at r.stage failed in
+    let (within, fault) = fed.faulty k is in
+    fault_stops AreHistoryLines past k within fault b
+
+pub fed_done : (r : HistoryReader) (past : List (List ℕ)) → IsFed r past → is_done r.stage ≡ true
+    → AreHistoryLines past
+fed_done r past fed done = are_lines r.stage past done (fed.taken (done_going r.stage done)).run
+
+pub fed_undone : LinesTell → (r : HistoryReader) (past : List (List ℕ)) → IsFed r past → is_done r.stage ≡ false
+    → AreHistoryLines past → ⊥
+fed_undone tell r past fed undone (h, is, whole) = by_failed (is_failed r.stage) refl
+  where
+    by_failed : (b : Bool) → is_failed r.stage ≡ b → ⊥
+    by_failed true failed = fed_stops r past fed failed (whole_begins AreHistoryLines past (h, is, whole))
+    by_failed false going =
+        let run : HasLines (Done h.edition) past = rw whole (run_of h is) in
+        let same : r.stage ≡ Done h.edition =
+        one_end allows stage_after line_text IsLine tell Head r.stage (Done h.edition) past
+        (fed.taken going).run run in
+        let done : is_done r.stage ≡ true = ap is_done same in
+        absurd cc
+
+-- ---- one line more
+
+more_in : {Y : Type 0} (h : Line → Option Y) (old new : List Y) (items : List Line) (x : Line)
+    → old ≡ filter_map h items → new ≡ old ++ filter_map h (x ∷ [])
+    → new ≡ filter_map h (items ++ x ∷ [])
+more_in h old new items x before step = step ∙ ap (λ r. r ++ filter_map h (x ∷ [])) before
+    ∙ sym (filter_map-append h items (x ∷ []))
+
+pub fed_taken : (old new : HistoryReader) (past : List (List ℕ)) (text : List ℕ) (x : Line) → IsFed old past
+    → is_failed old.stage ≡ false → IsAllowed old.stage text x → Takes old new x → IsFed new (past ++ text ∷ [])
+unfolding taken
+fed_taken old new past text x fed going allowed takes = record {
+  taken = λ still.
+      let t = fed.taken going in
+      let run = taken allows stage_after line_text IsLine Head old.stage past x t.run allowed.0.good allowed.1 in
+      record {
+        run = record {
+          items = t.run.items ++ x ∷ [];
+          goods = run.goods;
+          runs = run.runs;
+          ends = run.ends ∙ sym takes.stage;
+          same = ap (λ (l : List ℕ). past ++ l ∷ []) allowed.0.same ∙ run.same;
+        };
+        events = more_in event_in _ _ t.run.items x t.events takes.events;
+        unfinished = more_in unfinished_in _ _ t.run.items x t.unfinished takes.unfinished;
+        orders = more_in order_in _ _ t.run.items x t.orders takes.orders;
+        finals = more_in final_in _ _ t.run.items x t.finals takes.finals;
+        next = takes.next ∙ ap (λ (n : ℕ). suc n) t.next ∙ omega (arith, length-append past (text ∷ []));
+      };
+  faulty = λ k is.
+      let failed : is_failed new.stage ≡ true = ap is_failed is in
+      let unfailed : is_failed new.stage ≡ false = ap is_failed takes.stage ∙ after_unfailed old.stage x in
+      absurd cc;
+}
+
+pub fed_refused : LinesTell → (old new : HistoryReader) (past : List (List ℕ)) (text : List ℕ) → IsFed old past
+    → is_failed old.stage ≡ false → IsRefused old.stage text → new.stage ≡ Failed old.next
+    → IsFed new (past ++ text ∷ [])
+fed_refused tell old new past text fed going none is = record {
+  taken = λ still. let failed : is_failed new.stage ≡ true = ap is_failed is in absurd cc;
+  faulty = λ k at.
+      let t = fed.taken going in
+      let run = t.run in
+      let here : Failed k ≡ Failed old.next = sym at ∙ is in
+      let line : k ≡ suc (length past) = cc in
+      let fault = fault_at AreHistoryLines past text (run_begins old.stage past going run)
+      (run_stops tell old.stage past text run none) in
+      (omega (arith, length-append past (text ∷ [])), rw line fault);
+}
+
+pub fed_failed : (r : HistoryReader) (past : List (List ℕ)) (text : List ℕ) → IsFed r past → is_failed r.stage ≡ true
+    → IsFed r (past ++ text ∷ [])
+fed_failed r past text fed failed = record {
+  taken = λ still. absurd cc;
+  faulty = λ k is.
+      let (within, fault) = fed.faulty k is in
+      (omega (arith, length-append past (text ∷ [])), fault_stays AreHistoryLines past (text ∷ []) k within fault);
+}
+
+-- ---- at the end
+
+pub failed_fault : (r : HistoryReader) (past : List (List ℕ)) (text rest : List ℕ) (k : ℕ) → IsFed r past
+    → r.stage ≡ Failed k → IsCut text past rest → IsFaultLine AreHistoryLines text k
+failed_fault r past text rest k fed is cut =
+    let (within, fault) = fed.faulty k is in
+    record {
+      lines = past;
+      rest = rest;
+      cut = cut;
+      outside = λ are none. fault_stops AreHistoryLines past k within fault (whole_begins AreHistoryLines past are);
+      first = fault;
+    }
+
+pub missing_fault : LinesTell → (r : HistoryReader) (past : List (List ℕ)) (text rest : List ℕ) → IsFed r past
+    → is_failed r.stage ≡ false → (is_done r.stage ≡ true → rest ≡ [] → ⊥) → IsCut text past rest
+    → IsFaultLine AreHistoryLines text r.next
+missing_fault tell r past text rest fed going none cut = record {
+  lines = past;
+  rest = rest;
+  cut = cut;
+  outside = λ are empty. by_done (is_done r.stage) refl are empty;
+  first = let t = fed.taken going in rw t.next (fault_missing AreHistoryLines past (fed_begins r past fed going));
+}
+  where
+    by_done : (b : Bool) → is_done r.stage ≡ b → AreHistoryLines past → rest ≡ [] → ⊥
+    by_done true done are empty = none done empty
+    by_done false undone are empty = fed_undone tell r past fed undone are
+
+pub in_events : (h : History) → filter_map event_in (items_of h) ≡ h.events
+in_events h = of_events h.events h.unfinished h.orders h.finals
+  where
+    of_finals : (fs : List FinalPair) → filter_map event_in (final_items fs) ≡ []
+    of_finals [] = refl
+    of_finals (f ∷ fs) = of_finals fs
+
+    of_orders : (os : List Order) (fs : List FinalPair) → filter_map event_in (order_items os fs) ≡ []
+    of_orders [] fs = of_finals fs
+    of_orders (o ∷ os) fs = of_orders os fs
+
+    of_unfinished : (ts : List ℕ) (os : List Order) (fs : List FinalPair)
+        → filter_map event_in (unfinished_items ts os fs) ≡ []
+    of_unfinished [] os fs = of_orders os fs
+    of_unfinished (t ∷ ts) os fs = of_unfinished ts os fs
+
+    of_events : (es : List Event) (ts : List ℕ) (os : List Order) (fs : List FinalPair)
+        → filter_map event_in (event_items es ts os fs) ≡ es
+    of_events [] ts os fs = of_unfinished ts os fs
+    of_events (e ∷ es) ts os fs = ap (λ (r : List Event). e ∷ r) (of_events es ts os fs)
+
+pub in_unfinished : (h : History) → filter_map unfinished_in (items_of h) ≡ h.unfinished
+in_unfinished h = of_events h.events h.unfinished h.orders h.finals
+  where
+    of_finals : (fs : List FinalPair) → filter_map unfinished_in (final_items fs) ≡ []
+    of_finals [] = refl
+    of_finals (f ∷ fs) = of_finals fs
+
+    of_orders : (os : List Order) (fs : List FinalPair) → filter_map unfinished_in (order_items os fs) ≡ []
+    of_orders [] fs = of_finals fs
+    of_orders (o ∷ os) fs = of_orders os fs
+
+    of_unfinished : (ts : List ℕ) (os : List Order) (fs : List FinalPair)
+        → filter_map unfinished_in (unfinished_items ts os fs) ≡ ts
+    of_unfinished [] os fs = of_orders os fs
+    of_unfinished (t ∷ ts) os fs = ap (λ (r : List ℕ). t ∷ r) (of_unfinished ts os fs)
+
+    of_events : (es : List Event) (ts : List ℕ) (os : List Order) (fs : List FinalPair)
+        → filter_map unfinished_in (event_items es ts os fs) ≡ ts
+    of_events [] ts os fs = of_unfinished ts os fs
+    of_events (e ∷ es) ts os fs = of_events es ts os fs
+
+pub in_orders : (h : History) → filter_map order_in (items_of h) ≡ h.orders
+in_orders h = of_events h.events h.unfinished h.orders h.finals
+  where
+    of_finals : (fs : List FinalPair) → filter_map order_in (final_items fs) ≡ []
+    of_finals [] = refl
+    of_finals (f ∷ fs) = of_finals fs
+
+    of_orders : (os : List Order) (fs : List FinalPair) → filter_map order_in (order_items os fs) ≡ os
+    of_orders [] fs = of_finals fs
+    of_orders (o ∷ os) fs = ap (λ (r : List Order). o ∷ r) (of_orders os fs)
+
+    of_unfinished : (ts : List ℕ) (os : List Order) (fs : List FinalPair)
+        → filter_map order_in (unfinished_items ts os fs) ≡ os
+    of_unfinished [] os fs = of_orders os fs
+    of_unfinished (t ∷ ts) os fs = of_unfinished ts os fs
+
+    of_events : (es : List Event) (ts : List ℕ) (os : List Order) (fs : List FinalPair)
+        → filter_map order_in (event_items es ts os fs) ≡ os
+    of_events [] ts os fs = of_unfinished ts os fs
+    of_events (e ∷ es) ts os fs = of_events es ts os fs
+
+pub in_finals : (h : History) → filter_map final_in (items_of h) ≡ h.finals
+in_finals h = of_events h.events h.unfinished h.orders h.finals
+  where
+    of_finals : (fs : List FinalPair) → filter_map final_in (final_items fs) ≡ fs
+    of_finals [] = refl
+    of_finals (f ∷ fs) = ap (λ (r : List FinalPair). f ∷ r) (of_finals fs)
+
+    of_orders : (os : List Order) (fs : List FinalPair) → filter_map final_in (order_items os fs) ≡ fs
+    of_orders [] fs = of_finals fs
+    of_orders (o ∷ os) fs = of_orders os fs
+
+    of_unfinished : (ts : List ℕ) (os : List Order) (fs : List FinalPair)
+        → filter_map final_in (unfinished_items ts os fs) ≡ fs
+    of_unfinished [] os fs = of_orders os fs
+    of_unfinished (t ∷ ts) os fs = of_unfinished ts os fs
+
+    of_events : (es : List Event) (ts : List ℕ) (os : List Order) (fs : List FinalPair)
+        → filter_map final_in (event_items es ts os fs) ≡ fs
+    of_events [] ts os fs = of_unfinished ts os fs
+    of_events (e ∷ es) ts os fs = of_events es ts os fs
+
+-- the history in a reader that has taken the lines of one
+record IsHeld (r : HistoryReader) (past : List (List ℕ)) (h : History) : Type 0 where
+  is : IsHistory h
+  lines : past ≡ history_lines h
+  edition : edition_at r.stage ≡ h.edition
+  events : map event_of r.events.items ≡ h.events
+  unfinished : r.unfinished.items ≡ h.unfinished
+  orders : map order_of r.orders.items ≡ h.orders
+  finals : map final_of r.finals.items ≡ h.finals
+
+held_in : (r : HistoryReader) (past : List (List ℕ)) → IsTaken r past → is_done r.stage ≡ true
+    → (h : History) × IsHeld r past h
+held_in r past t done =
+    let held = held_by t.run.items t.run.goods t.run.runs (ap is_done t.run.ends ∙ done) in
+    let h = held.history in (
+      h,
+      record {
+        is = held.is;
+        lines = t.run.same ∙ ap (map line_text) held.whole ∙ items_texts h;
+        edition = ap edition_at (sym t.run.ends ∙ held.ends);
+        events = t.events ∙ ap (filter_map event_in) held.whole ∙ in_events h;
+        unfinished = t.unfinished ∙ ap (filter_map unfinished_in) held.whole ∙ in_unfinished h;
+        orders = t.orders ∙ ap (filter_map order_in) held.whole ∙ in_orders h;
+        finals = t.finals ∙ ap (filter_map final_in) held.whole ∙ in_finals h;
+      },
+    )
+
+pub fed_fits : (r : HistoryReader) (past : List (List ℕ)) → IsFed r past → is_done r.stage ≡ true
+    → fits_edition (edition_at r.stage) r.unfinished.items ≡ true
+fed_fits r past fed done =
+    let (h, held) = held_in r past (fed.taken (done_going r.stage done)) done in
+    ap (λ (ts : List ℕ). fits_edition (edition_at r.stage) ts) held.unfinished
+    ∙ ap (λ (e : Edition). fits_edition e h.unfinished) held.edition ∙ held.is.edition
+
+some_writers : (os : List Order) → AllByRecursion IsOrder os → list_all (λ o. not (length o.writers == 0)) os ≡ true
+some_writers [] goods = refl
+some_writers (o ∷ os) goods = both_true (some o goods.0.some) (some_writers os goods.1)
+  where
+    some : (o : Order) → 0 < length o.writers → not (length o.writers == 0) ≡ true
+    some o more = grind (arith, nat_tests)
+
+pub fed_shape : (r : HistoryReader) (past : List (List ℕ)) → IsFed r past → is_done r.stage ≡ true
+    → is_shape (map order_of r.orders.items) (map final_of r.finals.items) ≡ true
+fed_shape r past fed done =
+    let (h, held) = held_in r past (fed.taken (done_going r.stage done)) done in
+    rw (held.orders, held.finals)
+    (both_true (both_true (some_writers h.orders held.is.orders) held.is.orders_rise) held.is.finals_rise)
+
+pub fed_history : (r : HistoryReader) (past : List (List ℕ)) (text rest : List ℕ) (v : HistoryValue) → IsFed r past
+    → is_done r.stage ≡ true → rest ≡ [] → IsCut text past rest
+    → v.edition ≡ edition_at r.stage → v.unfinished.items ≡ r.unfinished.items
+    → v.events ≡ r.events → v.orders ≡ r.orders → v.finals ≡ r.finals → ReadsHistory text (Ok v)
+fed_history r past text rest v fed done empty cut e ts es os fs =
+    let (h, held) = held_in r past (fed.taken (done_going r.stage done)) done in
+    let same_edition : v.edition ≡ h.edition = e ∙ held.edition in
+    let same_unfinished : v.unfinished.items ≡ h.unfinished = ts ∙ held.unfinished in
+    let same_events : map event_of v.events.items ≡ h.events = ap (λ vs. map event_of vs.items) es ∙ held.events in
+    let same_orders : map order_of v.orders.items ≡ h.orders = ap (λ vs. map order_of vs.items) os ∙ held.orders in
+    let same_finals : map final_of v.finals.items ≡ h.finals = ap (λ vs. map final_of vs.items) fs ∙ held.finals in
+    let same : history_of v ≡ h =
+    λ i. record {
+      edition = same_edition i;
+      events = same_events i;
+      unfinished = same_unfinished i;
+      orders = same_orders i;
+      finals = same_finals i;
+    } in
+    let whole : text ≡ history_text h = cut.whole ∙ ap (λ (l : List ℕ). with_ends past ++ l) empty
+    ∙ append-nil (with_ends past) ∙ ap with_ends held.lines in
+    (subst IsHistory (sym same) held.is, whole ∙ ap history_text (sym same))
+
+-- ---- the answers of the reader
+
+pub stops_if : (r : HistoryReader) (b : Bool) → b ≡ is_failed r.stage
+    → OnTrue b ((past : List (List ℕ)) → IsFed r past → Begins AreHistoryLines past → ⊥)
+stops_if r true is = λ past fed. fed_stops r past fed (sym is)
+stops_if r false is = tt
+
+pub refused_by : (s : Stage) (text : List ℕ) (y : Line) → IsOnlyLineOf y text → allows s y ≡ false → IsRefused s text
+refused_by s text y here never x there ok =
+    let allowed : allows s y ≡ true = ap (allows s) (sym (here.only x there)) ∙ ok in
+    absurd cc
+
+pub fault_is : (text : List ℕ) (k : ℕ) (fault : ReadFault) → fault ≡ Syntax Of.History k
+    → IsFaultLine AreHistoryLines text k → ReadsHistory text (Err fault)
+fault_is text k fault is line = subst (λ (f : ReadFault). ReadsHistory text (Err f)) (sym is) line
+
+pub unfailed : (s : Stage) → ((k : ℕ) → s ≡ Failed k → ⊥) → is_failed s ≡ false
+unfailed (Failed k) none = absurd (none k refl)
+unfailed Head none = refl
+unfailed (Events e) none = refl
+unfailed (Unfinished last) none = refl
+unfailed (Orders e last) none = refl
+unfailed (Finals e last) none = refl
+unfailed (Done e) none = refl
+
+pub fed_none : (r : HistoryReader) → r.stage ≡ Head → r.next ≡ 1 → r.events.items ≡ []
+    → r.unfinished.items ≡ [] → r.orders.items ≡ [] → r.finals.items ≡ [] → IsFed r []
+fed_none r stage next events unfinished orders finals = record {
+  taken = λ going. record {
+    run = record { items = []; goods = tt; runs = tt; ends = sym stage; same = refl };
+    events = ap (map event_of) events;
+    unfinished = unfinished;
+    orders = ap (map order_of) orders;
+    finals = ap (map final_of) finals;
+    next = next;
+  };
+  faulty = λ k is. let head : Failed k ≡ Head = sym is ∙ stage in absurd cc;
+}

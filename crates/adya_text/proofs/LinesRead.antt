@@ -1,0 +1,80 @@
+-- Lines that were read of known bytes.
+use Rattle.std.proofs.Common.{◌≡◌, ℕ, List, [], ◌∷◌, ◌++◌, Bool, true, false, All, Option, None, Some, IfSome, Result}
+use Rattle.std.proofs.Common.{Ok, Err, refl, sym, ap, subst, ◌∙◌, append-nil, arith}
+use Rattle.std.specs.Prelude.{OnOk}
+use Rattle.std.proofs.lemmas.List.Elements.{All-push}
+use Rattle.std.specs.Io.KnownBytes.{Consumes, IsAtEnd, prepend_known}
+use Rattle.std.proofs.KnownBytes.{Consumes-nil, Consumes-trans, prepend_known-nil}
+use Rattle.adya_text.specs.Meaning.Texts.{with_ends}
+use Rattle.adya_line.specs.Meaning.Laws.{IsPlain}
+use Rattle.adya_text.specs.Meaning.Faults.{IsCut, HasFront}
+use Rattle.adya_text.specs.Machinery.Buffers.{line_end}
+use Rattle.adya_text.proofs.LineLists.{ends_append}
+
+-- the known bytes began with these lines, and these are left
+pub record WereRead (old : Option (List ℕ)) (lines : List (List ℕ)) (new : Option (List ℕ)) : Type 0 where
+  pub plain : All IsPlain lines
+  pub consumed : Consumes old new (with_ends lines)
+
+pub none_read : {a : Option (List ℕ)} → WereRead a [] a
+none_read {a = a} = record { plain = λ k d below. absurd (omega arith); consumed = Consumes-nil a }
+
+-- one line more
+pub line_read : {a b : Option (List ℕ)} (c : Option (List ℕ)) {lines : List (List ℕ)} (line : List ℕ) {ended : Bool}
+    → WereRead a lines b → ended ≡ true → IsPlain line → Consumes b c (line ++ line_end ended)
+    → WereRead a (lines ++ line ∷ []) c
+line_read {a = a} {b = b} c {lines = lines} line before is plain now =
+    let whole : Consumes b c (line ++ 10 ∷ []) = subst (λ e. Consumes b c (line ++ line_end e)) is now in
+    record {
+      plain = All-push IsPlain lines line before.plain plain;
+      consumed = subst (Consumes a c) (sym (ends_append lines (line ∷ [])))
+          (Consumes-trans a b c (with_ends lines) (line ++ 10 ∷ []) before.consumed whole);
+    }
+
+-- all the bytes are the lines and then what is left
+pub rest_unread : {a b : Option (List ℕ)} {lines : List (List ℕ)} (P : List ℕ → Type 0) → WereRead a lines b
+    → ((rest : List ℕ) → b ≡ Some rest → P (with_ends lines ++ rest)) → IfSome a P
+rest_unread {a = None} P read all = tt
+rest_unread {a = Some text} {b = None} P read all = absurd read.consumed
+rest_unread {a = Some text} {b = Some rest} P read all = subst P (sym read.consumed) (all rest refl)
+
+pub prefix_read : {a b : Option (List ℕ)} {lines : List (List ℕ)} (P : List ℕ → Type 0) → WereRead a lines b
+    → ((text : List ℕ) → HasFront text lines → P text) → IfSome a P
+prefix_read {lines = lines} P read all = rest_unread P read
+    (λ rest left. all (with_ends lines ++ rest) (record { plain = read.plain; rest = rest; whole = refl }))
+
+ended : (buffer : List ℕ) (a : Option (List ℕ)) (front rest : List ℕ)
+    → Consumes (Some rest) (prepend_known buffer a) front → buffer ≡ [] → IsAtEnd a
+    → (prepend_known buffer a ≡ Some []) × (rest ≡ front)
+ended buffer None front rest eaten none end = absurd eaten
+ended buffer (Some more) front rest eaten none end =
+    let nothing : buffer ++ more ≡ [] = ap (λ (l : List ℕ). l ++ more) none ∙ end in
+    (ap (λ (l : List ℕ). Some l) nothing, eaten ∙ ap (λ (l : List ℕ). front ++ l) nothing ∙ append-nil front)
+
+-- after the lines there is what has no line feed, and nothing more
+pub all_read : {a b : Option (List ℕ)} {lines : List (List ℕ)} (buffer : List ℕ) (c : Option (List ℕ)) (line : List ℕ)
+    {ended : Bool} (P : List ℕ → Type 0) → WereRead a lines b → ended ≡ false → IsPlain line
+    → Consumes b (prepend_known buffer c) (line ++ line_end ended) → (buffer ≡ []) × IsAtEnd c
+    → ((text : List ℕ) → IsCut text lines line → prepend_known buffer c ≡ Some [] → P text) → IfSome a P
+all_read {b = b} {lines = lines} buffer c line P read is plain eaten end all =
+    rest_unread P read (λ rest left.
+    let last : Consumes (Some rest) (prepend_known buffer c) (line ++ []) =
+    subst (λ o. Consumes o (prepend_known buffer c) (line ++ [])) left
+    (subst (λ e. Consumes b (prepend_known buffer c) (line ++ line_end e)) is eaten) in
+    let whole = ended buffer c (line ++ []) rest last end.0 end.1 in
+    all (with_ends lines ++ rest) (record {
+      plain = read.plain;
+      plain_rest = plain;
+      whole = ap (λ (l : List ℕ). with_ends lines ++ l) (whole.1 ∙ append-nil line);
+    }) whole.0)
+
+-- what holds of all the known bytes
+pub of_known : (buffer : List ℕ) (a : Option (List ℕ)) (text : List ℕ) (P : List ℕ → Type 0) → buffer ≡ []
+    → a ≡ Some text → IfSome (prepend_known buffer a) P → P text
+of_known buffer a text P none known all =
+    let same : prepend_known buffer a ≡ Some text = ap (λ l. prepend_known l a) none ∙ prepend_known-nil a ∙ known in
+    subst (λ o. IfSome o P) same all
+
+pub on_ok : {T E : Type 0} {P : Type 0} (result : Result T E) → P → OnOk result P
+on_ok (Ok x) p = p
+on_ok (Err e) p = tt

@@ -1,0 +1,88 @@
+-- Texts that begin with given lines.
+use Rattle.std.proofs.Common.{◌≡◌, ◌≢◌, ◌==◌, ℕ, suc, ◌≤◌, Bool, true, false, List, [], ◌∷◌, ◌++◌, All, length}
+use Rattle.std.proofs.Common.{refl, sym, ap, ◌∙◌, arith, append_assoc}
+use Rattle.std.proofs.lemmas.Bool.{eqb-true}
+use Rattle.std.proofs.lemmas.List.Elements.{All-nil, All-cons, All-append}
+use Rattle.adya_text.specs.Meaning.Texts.{with_ends}
+use Rattle.adya_line.specs.Meaning.Laws.{IsPlain}
+use Rattle.adya_text.specs.Meaning.Faults.{IsCut, HasFront, IsFirstFaulty, IsFaultLine}
+use Rattle.adya_text.proofs.LineLists.{ends_append}
+use Rattle.adya_text.proofs.FaultLines.{Grammar, front_begins, whole_begins, fault_stays, fault_stops}
+
+-- the complete lines of a text, and its rest
+record Cut (text : List ℕ) : Type 0 where
+  lines : List (List ℕ)
+  rest : List ℕ
+  cut : IsCut text lines rest
+
+-- a byte more in front, which is no line feed
+with_byte : (b : ℕ) (text : List ℕ) → b ≢ 10 → (lines : List (List ℕ)) (rest : List ℕ) → IsCut text lines rest
+    → Cut (b ∷ text)
+with_byte b text other [] rest c = record {
+  lines = [];
+  rest = b ∷ rest;
+  cut = record {
+    plain = c.plain;
+    plain_rest = All-cons (λ x. x ≢ 10) b rest other c.plain_rest;
+    whole = ap (λ (l : List ℕ). b ∷ l) c.whole;
+  };
+}
+with_byte b text other (l ∷ ls) rest c = record {
+  lines = (b ∷ l) ∷ ls;
+  rest = rest;
+  cut = record {
+    plain = All-cons IsPlain (b ∷ l) ls (All-cons (λ x. x ≢ 10) b l other (c.plain 0 l (omega arith)))
+        (λ k d below. c.plain (suc k) d (omega arith));
+    plain_rest = c.plain_rest;
+    whole = ap (λ (l : List ℕ). b ∷ l) c.whole;
+  };
+}
+
+with_feed : (b : ℕ) (text : List ℕ) → b ≡ 10 → Cut text → Cut (b ∷ text)
+with_feed b text is c = record {
+  lines = [] ∷ c.lines;
+  rest = c.rest;
+  cut = record {
+    plain = All-cons IsPlain [] c.lines (All-nil (λ x. x ≢ 10)) c.cut.plain;
+    plain_rest = c.cut.plain_rest;
+    whole = cc (is, c.cut.whole);
+  };
+}
+
+cut_of : (text : List ℕ) → Cut text
+cut_of [] = record {
+  lines = [];
+  rest = [];
+  cut = record { plain = All-nil IsPlain; plain_rest = All-nil (λ x. x ≢ 10); whole = refl };
+}
+cut_of (b ∷ text) = by_byte (b == 10) refl (cut_of text)
+  where
+    by_byte : (t : Bool) → (b == 10) ≡ t → Cut text → Cut (b ∷ text)
+    by_byte true is c = with_feed b text (eqb-true b 10 is) c
+    by_byte false is c = with_byte b text (λ same. let feed : (b == 10) ≡ true = ap (λ x. x == 10) same in absurd cc)
+        c.lines c.rest c.cut
+
+-- the front's lines are the first of the text's
+pub front_cut : (text : List ℕ) (past : List (List ℕ)) (rest : List ℕ) (lines : List (List ℕ)) (back : List ℕ)
+    → All IsPlain past → text ≡ with_ends past ++ rest → IsCut rest lines back → IsCut text (past ++ lines) back
+front_cut text past rest lines back plain whole c = record {
+  plain = All-append IsPlain past lines plain c.plain;
+  plain_rest = c.plain_rest;
+  whole = whole ∙ ap (λ (l : List ℕ). with_ends past ++ l) c.whole
+      ∙ sym (append_assoc (with_ends past) (with_ends lines) back)
+      ∙ ap (λ (l : List ℕ). l ++ back) (sym (ends_append past lines));
+}
+
+-- a fault in the front is that of the text
+pub front_fault : (grammar : Grammar) (text : List ℕ) (past : List (List ℕ)) (k : ℕ) → k ≤ length past
+    → IsFirstFaulty grammar past k → HasFront text past → IsFaultLine grammar text k
+front_fault grammar text past k within fault front =
+    let back = cut_of front.rest in
+    record {
+      lines = past ++ back.lines;
+      rest = back.rest;
+      cut = front_cut text past front.rest back.lines back.rest front.plain front.whole back.cut;
+      outside = λ are none. fault_stops grammar past k within fault
+          (front_begins grammar past back.lines (whole_begins grammar (past ++ back.lines) are));
+      first = fault_stays grammar past back.lines k within fault;
+    }

@@ -1,0 +1,18 @@
+use Rattle.std.proofs.Common.{sym, ◌∙◌, refl, rules}
+use Rattle.adya_line.specs.Meaning.HistoryLines.{line_of}
+use Rattle.adya_text.proofs.HistoryReaders.{fed_taken, fed_refused, fed_failed}
+use Rattle.adya_text.proofs.history_reader.HistoryReaderLineReader.line.Goals as goal
+
+pub returns-then-has_failed : goal.returns-then-has_failed
+returns-then-has_failed c =
+    λ past fed. fed_failed c.args.self.now past c.args.line.now fed (sym c.has_failed.ensures ∙ c.if-has_failed.true)
+
+pub returns-in_ok-take-in-Some : goal.returns-in_ok-take-in-Some
+returns-in_ok-take-in-Some c =
+    λ past fed. fed_taken c.args.self.now c.take.new.self past c.args.line.now (line_of c.in-Some.line) fed
+    (sym c.has_failed.ensures ∙ c.if-has_failed.false) (search rules) (search rules)
+
+pub returns-in-None : goal.returns-in-None
+returns-in-None c =
+    λ past fed. fed_refused c.history_lines.ensures.one_text c.args.self.now _ past c.args.line.now fed
+    (sym c.has_failed.ensures ∙ c.if-has_failed.false) (search rules) refl
