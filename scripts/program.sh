@@ -1,13 +1,13 @@
 #!/usr/bin/env bash
-# Runs the built program on every worked history, on wrong words, on help, and on files and streams that fail, and
-# compares what it writes, where, and its status. Build it first: (cd crates/ssi && rt run < stdin). Takes the program's
-# path, crates/ssi/out/ssi where none is given.
+# Runs the built program on every worked example, with wrong arguments, for help, and on files and streams that fail.
+# Compares its standard output, its standard error and its exit status with what is wanted. Build it first:
+# (cd crates/ssi && rt run < stdin). Usage: program.sh [PROGRAM], by default crates/ssi/out/ssi.
 set -u
 top=$(realpath "$(dirname "$0")/..")
 ssi=$(realpath "${1:-$top/crates/ssi/out/ssi}")
 cd "$top" || exit
 [ -x "$ssi" ] || { echo "no program at $ssi"; exit 2; }
-rows=$PWD/crates/adya_tests/data
+examples=$PWD/crates/adya_tests/data
 sample=$PWD/crates/ssi/stdin
 passed=0 failed=0
 work=$(mktemp -d)
@@ -15,7 +15,7 @@ trap 'rm -rf "$work"' EXIT
 cd "$work" || exit
 mkdir folder
 
-check() { # what it is; what is wanted; what came
+check() { # the name of the case; the wanted text; the actual text
     if [ "$2" = "$3" ]; then
         passed=$((passed + 1))
     else
@@ -24,7 +24,7 @@ check() { # what it is; what is wanted; what came
     fi
 }
 
-told() { # the words: the lines of standard output, those of standard error, the status
+run() { # the arguments; prints the lines of standard output, those of standard error, and the status
     "$ssi" "$@" >out 2>err
     local status=$?
     sed 's/^/out: /' out
@@ -32,51 +32,60 @@ told() { # the words: the lines of standard output, those of standard error, the
     echo "status $status"
 }
 
-kind() { # the words: where there is a text, and the status
-    told "$@" | sed -E 's/^(out|err): .*/\1/' | uniq
+streams() { # the arguments; prints which of the two streams were written to, and the status
+    run "$@" | sed -E 's/^(out|err): .*/\1/' | uniq
 }
 
-answer() { # a file, and a status: the file on standard output, and the status
+answer() { # a file and a status; prints what `run` does if the file is the standard output
     sed 's/^/out: /' "$1"
     echo "status $2"
 }
 
-# Worked histories. Whatever stands behind the first line `end` belongs to the certificate in one stream alone.
-for row in "$rows"/audit/*/; do
-    [ "$(cat "$row/verdict")" = yes ] && status=0 || status=1
-    wanted=$(answer "$row/verdict" "$status")
-    check "audit $row" "$wanted" "$(told audit "$row/history" "$row/certificate")"
-    if [ -z "$(sed '1,/^end$/d' "$row/history")" ]; then
-        check "$row" "$wanted" "$(cat "$row/history" "$row/certificate" | told)"
+# Worked examples. A history with text after its first line `end` can't be given in one stream: there that text would
+# belong to the certificate.
+for example in "$examples"/audit/*/; do
+    [ "$(cat "$example/verdict")" = yes ] && status=0 || status=1
+    wanted=$(answer "$example/verdict" "$status")
+    check "audit $example" "$wanted" "$(run audit "$example/history" "$example/certificate")"
+    if [ -z "$(sed '1,/^end$/d' "$example/history")" ]; then
+        check "$example" "$wanted" "$(cat "$example/history" "$example/certificate" | run)"
     fi
 done
-for row in "$rows"/order/*/; do
-    [ "$(head -n 1 "$row/answer")" = 'serial 1' ] && status=0 || status=1
-    check "order $row" "$(answer "$row/answer" "$status")" "$(told order "$row/history")"
+for example in "$examples"/order/*/; do
+    [ "$(head -n 1 "$example/answer")" = 'serial 1' ] && status=0 || status=1
+    check "order $example" "$(answer "$example/answer" "$status")" "$(run order "$example/history")"
 done
 
-# Words.
+# Arguments.
 wrong=$'err\nstatus 2'
-check 'audit' "$wrong" "$(kind audit)"
-check 'audit and one file' "$wrong" "$(kind audit h)"
-check 'audit and three files' "$wrong" "$(kind audit h c d)"
-check 'order' "$wrong" "$(kind order)"
-check 'order and two files' "$wrong" "$(kind order h c)"
-check 'script' "$wrong" "$(kind script h c <"$sample")"
-check 'serve' "$wrong" "$(kind serve s h c <"$sample")"
-check 'a word that is none' "$wrong" "$(kind foo <"$sample")"
-check 'an empty word' "$wrong" "$(kind '' <"$sample")"
-check 'an option that is none' "$wrong" "$(kind --foo <"$sample")"
-check 'a word that is not UTF-8' "$wrong" "$(kind $'\xff' <"$sample")"
-check 'a path that is not UTF-8' "$wrong" "$(kind order $'\xff')"
+check 'audit' "$wrong" "$(streams audit)"
+check 'audit and one file' "$wrong" "$(streams audit h)"
+check 'audit and three files' "$wrong" "$(streams audit h c d)"
+check 'order' "$wrong" "$(streams order)"
+check 'order and two files' "$wrong" "$(streams order h c)"
+check 'script' "$wrong" "$(streams script h c <"$sample")"
+check 'serve' "$wrong" "$(streams serve s h c <"$sample")"
+check 'an unknown command' "$wrong" "$(streams foo <"$sample")"
+check 'an empty argument' "$wrong" "$(streams '' <"$sample")"
+check 'an unknown option' "$wrong" "$(streams --foo <"$sample")"
+check 'an argument that is not UTF-8' "$wrong" "$(streams $'\xff' <"$sample")"
+check 'a path that is not UTF-8' "$wrong" "$(streams order $'\xff')"
 help=$'out\nstatus 0'
-check '--help' "$help" "$(kind --help)"
-check 'help' "$help" "$(kind help)"
-check 'audit --help' "$help" "$(kind audit --help)"
-check 'help order' "$help" "$(kind help order)"
+check '--help' "$help" "$(streams --help)"
+check 'help' "$help" "$(streams help)"
+check 'audit --help' "$help" "$(streams audit --help)"
+check 'help order' "$help" "$(streams help order)"
 "$ssi" --help >text
-for word in audit order 'adya 1' 'serial 1' 'Exit status'; do
-    check "help tells of $word" told "$(grep -q "$word" text && echo told)"
+for text in audit order 'adya 1' 'serial 1' 'Exit status'; do
+    check "--help mentions $text" found "$(grep -q -e "$text" text && echo found)"
+done
+"$ssi" audit --help >text
+for text in 'begins with a hyphen' 'ssi audit -- -x -y' 'ssi audit ./-x ./-y'; do
+    check "audit --help mentions $text" found "$(grep -q -e "$text" text && echo found)"
+done
+"$ssi" order --help >text
+for text in 'begins with a hyphen' 'ssi order -- -x' 'ssi order ./-x'; do
+    check "order --help mentions $text" found "$(grep -q -e "$text" text && echo found)"
 done
 
 # Files.
@@ -86,31 +95,38 @@ cp h ./-h
 cp c ./-c
 mkfifo pipe
 answer=$'out: yes\nstatus 0'
-check 'two files' "$answer" "$(told audit h c)"
-check 'paths that begin with a hyphen' "$answer" "$(told audit -- -h -c)"
-check 'a pipe as a file' "$answer" "$(cat c >pipe & told audit h pipe)"
+check 'two files' "$answer" "$(run audit h c)"
+check 'paths that begin with a hyphen, after --' "$answer" "$(run audit -- -h -c)"
+check 'paths that begin with a hyphen, by their folder' "$answer" "$(run audit ./-h ./-c)"
+check 'a path that is taken for options' "$wrong" "$(streams order -x)"
+cp h ./-x
+check 'a file does not change that' "$wrong" "$(streams order -x)"
+ordered=$(run order h)
+check 'a history to order that begins with a hyphen, after --' "$ordered" "$(run order -- -x)"
+check 'a history to order that begins with a hyphen, by its folder' "$ordered" "$(run order ./-x)"
+check 'a pipe as a file' "$answer" "$(cat c >pipe & run audit h pipe)"
 printf x >>h
-check 'a byte behind the history' $'out: no 1 syntax history 9\nstatus 1' "$(told audit h c)"
-check 'a byte behind the history, in one stream' $'out: no 1 syntax serial 1\nstatus 1' "$(cat h c | told)"
+check 'a byte after the history' $'out: no 1 syntax history 9\nstatus 1' "$(run audit h c)"
+check 'a byte after the history, in one stream' $'out: no 1 syntax serial 1\nstatus 1' "$(cat h c | run)"
 nowhere=$'err: ssi: read fault: nowhere\nstatus 3'
-check 'no history' "$nowhere" "$(told audit nowhere c)"
-check 'no certificate' "$nowhere" "$(told audit h nowhere)"
-check 'neither: the history is opened first' "$nowhere" "$(told audit nowhere neither)"
-check 'no history to order' "$nowhere" "$(told order nowhere)"
-check 'an empty path' $'err: ssi: read fault: \nstatus 3' "$(told order '')"
+check 'no history' "$nowhere" "$(run audit nowhere c)"
+check 'no certificate' "$nowhere" "$(run audit h nowhere)"
+check 'neither file: the history is opened first' "$nowhere" "$(run audit nowhere neither)"
+check 'no history to order' "$nowhere" "$(run order nowhere)"
+check 'an empty path' $'err: ssi: read fault: \nstatus 3' "$(run order '')"
 folder=$'err: ssi: read fault: folder\nstatus 3'
-check 'a folder as history' "$folder" "$(told audit folder c)"
-check 'a folder as certificate' "$folder" "$(told audit -- -h folder)"
-check 'a folder to order' "$folder" "$(told order folder)"
+check 'a folder as history' "$folder" "$(run audit folder c)"
+check 'a folder as certificate' "$folder" "$(run audit -- -h folder)"
+check 'a folder to order' "$folder" "$(run order folder)"
 
 # Standard input and output.
-check 'empty input' $'out: no 1 syntax history 1\nstatus 1' "$(told </dev/null)"
-check 'a folder as standard input' $'err: ssi: read fault: stdin\nstatus 3' "$(told <folder)"
-check 'closed standard input' $'err: ssi: read fault: stdin\nstatus 3' "$(told <&-)"
+check 'empty input' $'out: no 1 syntax history 1\nstatus 1' "$(run </dev/null)"
+check 'a folder as standard input' $'err: ssi: read fault: stdin\nstatus 3' "$(run <folder)"
+check 'closed standard input' $'err: ssi: read fault: stdin\nstatus 3' "$(run <&-)"
 full=$'ssi: write fault: stdout\nstatus 3'
-check 'a full device, no words' "$full" "$("$ssi" <"$sample" 2>&1 >/dev/full; echo "status $?")"
+check 'a full device, no arguments' "$full" "$("$ssi" <"$sample" 2>&1 >/dev/full; echo "status $?")"
 check 'a full device, audit' "$full" "$("$ssi" audit -- -h -c 2>&1 >/dev/full; echo "status $?")"
-check 'a full device, order' "$full" "$("$ssi" order "$rows/order/empty/history" 2>&1 >/dev/full; echo "status $?")"
+check 'a full device, order' "$full" "$("$ssi" order "$examples/order/empty/history" 2>&1 >/dev/full; echo "status $?")"
 check 'a full device, help' "$full" "$("$ssi" --help 2>&1 >/dev/full; echo "status $?")"
 check 'closed standard output' "$full" "$("$ssi" <"$sample" 2>&1 >&-; echo "status $?")"
 check 'closed standard output, files' "$full" "$("$ssi" audit -- -h -c 2>&1 >&-; echo "status $?")"

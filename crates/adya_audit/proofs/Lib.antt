@@ -1,7 +1,7 @@
-pub mod Counts
-pub mod Listing
-pub mod Growth
-pub mod Accepting
-pub mod TextAccepting
-pub mod TextsRead
-pub mod Answering
+pub mod Distinct
+pub mod ExactlyTheCommitted
+pub mod YesWhereAccepted
+pub mod YesWhereTextsAccepted
+pub mod NamesHistoryFault
+pub mod TextVerdicts
+pub mod TextAnswers

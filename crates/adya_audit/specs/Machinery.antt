@@ -1,2 +1,2 @@
 -- What only this crate's loops and tables need.
-pub mod Listed
+pub mod ExactlyTheCommitted

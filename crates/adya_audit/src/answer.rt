@@ -1,4 +1,4 @@
-//! What is written where an order of a history's transactions is asked for.
+//! A certificate of a history, a cycle, or the verdict on it: finding it and writing it.
 
 ghost use Rattle.std.specs.Prelude.{◌≡◌, true, IfOk, OnOk, IsErr};
 ghost use Rattle.std.specs.Io.KnownBytes.{Appends};
@@ -11,24 +11,24 @@ use crate::cycle::write_cycle;
 use crate::{Edge, Ordered, Verdict, WriteFault, write_verdict};
 use adya_dsg::{Found, order};
 use adya_terms::Checked;
+use adya_text::write_serial;
 use adya_values::{History, Serial};
 use devices::Watched;
-use adya_text::write_serial;
 use std::alloc::{AllocError, Global};
 use std::io::Write;
 
-/// An order of a history's transactions, or why there is none.
+/// A certificate of a history, or why it has none.
 #[derive(Drop)]
 pub(crate) enum Answer {
     /// A certificate with which the history is accepted.
     Certificate(Serial),
-    /// A cycle of the history's graph.
+    /// A cycle of the history's edges. No certificate is accepted.
     Cycle(Vec<Edge>),
-    /// The verdict on the history.
+    /// The verdict on the history, whatever the certificate.
     Refusal(Verdict),
 }
 
-/// The answer on a history. `AllocError` where memory ran out.
+/// Finds a certificate of the history, a cycle, or its fault. `AllocError` if memory runs out.
 pub(crate) fn answer_on(alloc: Global, history: &History) -> Result<Answer, AllocError>
     ensures { IfOk result (λ a. IsAnswerOn (history_of history.now) (answer_of a)) }
 {
@@ -42,8 +42,8 @@ pub(crate) fn answer_on(alloc: Global, history: &History) -> Result<Answer, Allo
     }
 }
 
-/// Writes the answer, and tells of which kind it is. `WriteFault` only where the writer failed, now or before; nothing
-/// is said of how much went out then.
+/// Writes the answer and returns its kind. `WriteFault` only if the writer fails or had failed before. How much of the
+/// answer went out is unknown then.
 pub(crate) fn write_answer<W: Write>(
     answer: &Answer,
     out: &mut Watched<W>,

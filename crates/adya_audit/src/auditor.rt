@@ -13,9 +13,9 @@ use adya_terms::Checked;
 use adya_values::{CheckFault, History, Serial};
 use std::alloc::{AllocError, Global};
 
-/// The verdict on a history and a certificate: the first fault of the history, in the order of the kinds, else that
-/// the certificate doesn't list the committed transactions, else the first edge that goes backward, else yes.
-/// `AllocError` where memory ran out, and then nothing is said of either.
+/// Returns the verdict on a history and a certificate. It is the first of these that applies: the first fault of the
+/// history, by kind; a certificate that doesn't list exactly the committed transactions; the first edge that goes
+/// backward in the certificate; yes. `AllocError` if memory runs out, which says nothing of either.
 pub fn audit(alloc: Global, history: &History, serial: &Serial) -> Result<Verdict, AllocError>
     ensures verdict { IfOk result (λ v. plain_verdict v ≡ verdict_of (history_of history.now) serial.now.txns.items) }
     ensures yes { IfOk result (λ v. (v ≡ Verdict.Yes) ↔ IsAccepted (history_of history.now) serial.now.txns.items) }
@@ -36,7 +36,7 @@ fn verdict(alloc: Global, history: &History, serial: &Serial) -> Result<Verdict,
     }
 }
 
-/// The verdict that names the fault of a history. `AllocError` where it was want of memory.
+/// Returns the verdict that names the fault of a history. `AllocError` if the check ran out of memory.
 pub(crate) fn refusal(fault: CheckFault) -> Result<Verdict, AllocError>
     ensures { IfOk result (λ v. Refuses fault (plain_verdict v)) }
 {

@@ -1,21 +1,20 @@
 //! Writing cycles.
 
-ghost use Rattle.std.specs.Prelude.{◌≡◌, ◌++◌, OnOk, IsErr, map, true};
+ghost use Rattle.std.specs.Prelude.{◌≡◌, OnOk, IsErr, map, true, flat_map};
 ghost use Rattle.std.specs.Io.KnownBytes.{Appends};
 ghost use Rattle.devices.specs.Meaning.Watched.{has_failed, watched_contents};
-ghost use Rattle.adya_line.specs.Machinery.Growing.{Grows};
-ghost use Rattle.adya_text.specs.Meaning.Texts.{with_ends};
+ghost use Rattle.devices.specs.Meaning.Writing.{Wrote};
 ghost use Rattle.adya_dsg.specs.Meaning.Values.{edge_of};
-ghost use Rattle.adya_audit.specs.Meaning.Output.{edge_text, cycle_text};
+ghost use Rattle.adya_audit.specs.Meaning.Output.{edge_line, cycle_text};
 
-use crate::writing::{put, put_edge, put_number};
+use crate::writing::put_edge;
 use crate::{Edge, WriteFault};
-use devices::Watched;
+use devices::{Watched, put, put_number};
 use std::io;
 use std::io::Write;
 
-/// Writes the line with the number of the edges, and the line of each edge. `WriteFault` only where the writer failed,
-/// now or before; nothing is said of how much went out then.
+/// Writes a line with the number of edges, and then a line for each edge. `WriteFault` only if the writer fails or had
+/// failed before. How much of the cycle went out is unknown then.
 pub(crate) fn write_cycle<W: Write>(edges: &[Edge], out: &mut Watched<W>) -> Result<(), WriteFault>
     ensures written { OnOk result (Appends (watched_contents W.contents out.old) (watched_contents W.contents out.new)
         (cycle_text (map edge_of edges.now))) }
@@ -25,9 +24,7 @@ pub(crate) fn write_cycle<W: Write>(edges: &[Edge], out: &mut Watched<W>) -> Res
 }
 
 fn put_cycle<W: Write>(edges: &[Edge], out: &mut Watched<W>) -> io::Result<()>
-    ensures written { OnOk result (Grows (watched_contents W.contents out.old) (cycle_text (map edge_of edges.now))
-        (watched_contents W.contents out.new)) }
-    ensures fault { IsErr result → has_failed out.new ≡ true }
+    ensures { Wrote W.contents out.old out.new (cycle_text (map edge_of edges.now)) result }
 {
     put(b"cycle ", out)?;
     put_number(edges.len() as u64, out)?;
@@ -36,14 +33,17 @@ fn put_cycle<W: Write>(edges: &[Edge], out: &mut Watched<W>) -> io::Result<()>
 }
 
 fn put_edges<W: Write>(edges: &[Edge], out: &mut Watched<W>) -> io::Result<()>
-    ensures written { OnOk result (Grows (watched_contents W.contents out.old)
-        (with_ends (map edge_text (map edge_of edges.now)))
-        (watched_contents W.contents out.new)) }
-    ensures fault { IsErr result → has_failed out.new ≡ true }
+    ensures { Wrote W.contents out.old out.new (flat_map edge_line (map edge_of edges.now)) result }
 {
     for edge in edges {
-        put_edge(edge, out)?;
-        put(b"\n", out)?;
+        put_edge_line(edge, out)?;
     }
     Ok(())
+}
+
+fn put_edge_line<W: Write>(edge: &Edge, out: &mut Watched<W>) -> io::Result<()>
+    ensures { Wrote W.contents out.old out.new (edge_line (edge_of edge.now)) result }
+{
+    put_edge(edge, out)?;
+    put(b"\n", out)
 }

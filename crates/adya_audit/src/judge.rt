@@ -1,18 +1,18 @@
-//! The verdict on a certificate.
+//! The verdict on a certificate of a checked history.
 
 ghost use Rattle.std.specs.Prelude.{◌≡◌, IfOk};
 ghost use Rattle.adya_values.specs.Meaning.Values.{history_of};
 ghost use Rattle.adya_audit.specs.Meaning.Verdicts.{plain_verdict, certificate_verdict};
 
 use crate::Verdict;
-use crate::certificate::lists_the_committed;
+use crate::exactly_the_committed::lists_the_committed;
 use adya_dsg::first_backward;
 use adya_terms::Checked;
 use adya_values::Serial;
 use std::alloc::{AllocError, Global};
 
-/// The verdict on a certificate of a checked history: yes, not the committed, or the first edge that goes backward.
-/// `AllocError` where memory ran out.
+/// Returns the verdict on a certificate of a checked history: yes, that it doesn't list exactly the committed
+/// transactions, or the first edge that goes backward in it. `AllocError` if memory runs out.
 pub(crate) fn judge(
     alloc: Global,
     checked: &Checked,

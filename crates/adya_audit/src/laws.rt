@@ -1,4 +1,4 @@
-//! What a yes says: laws of the definitions, each the contract of a function that does nothing.
+//! What a yes implies. Each law is the contract of a function that does nothing.
 
 ghost use Rattle.adya_audit.specs.Meaning.Laws.{YesWhereAccepted, AcceptedIsSerializable};
 ghost use Rattle.adya_audit.specs.Meaning.TextLaws.{YesWhereTextsAccepted, AcceptedTextsAreSerializable};
@@ -7,7 +7,7 @@ use adya_laws::{accepted_agrees, accepted_has_no_phenomenon, accepted_where_forw
 use adya_terms::laws::checked_where_no_fault;
 use adya_text::laws::{fault_lines, history_texts, serial_texts};
 
-/// The verdict on a history and a certificate is yes exactly where they are accepted.
+/// The verdict on a history and a certificate is yes if and only if they are accepted.
 pub fn yes_where_accepted()
     ensures { YesWhereAccepted }
 {
@@ -15,8 +15,8 @@ pub fn yes_where_accepted()
     accepted_where_forward();
 }
 
-/// An accepted history shows neither G1 nor G2 (Adya 1999, section 3.2), and its committed transactions, run one at a
-/// time in the certificate's order, give every recorded read, every scan and the final contents.
+/// An accepted history has neither G1 nor G2 (Adya 1999, section 3.2). Its committed transactions, run serially in the
+/// certificate's order, give all reads and scans that it records, and its final contents.
 pub fn accepted_is_serializable()
     ensures { AcceptedIsSerializable }
 {
@@ -24,7 +24,7 @@ pub fn accepted_is_serializable()
     accepted_agrees();
 }
 
-/// The verdict on two texts is yes exactly where they are those of a history and a certificate that are accepted.
+/// The verdict on two texts is yes if and only if they are the texts of an accepted history and certificate.
 pub fn yes_where_texts_accepted()
     ensures { YesWhereTextsAccepted }
 {
@@ -34,7 +34,7 @@ pub fn yes_where_texts_accepted()
     fault_lines();
 }
 
-/// Accepted texts are those of a history that is serializable by the certificate.
+/// If texts are accepted, the history is serializable in the order of the certificate.
 pub fn accepted_texts_are_serializable()
     ensures { AcceptedTextsAreSerializable }
 {

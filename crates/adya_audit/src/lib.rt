@@ -1,10 +1,10 @@
-//! Verdicts on a history and a certificate.
+//! Verdicts on a history and a certificate, and the search for a certificate or a cycle.
 #![tactic(auto)]
 
 mod answer;
 mod auditor;
-mod certificate;
 mod cycle;
+mod exactly_the_committed;
 mod judge;
 pub mod laws;
 mod ordered;

@@ -1,14 +1,14 @@
-//! What is told where an order of a history's transactions is asked for.
+//! What the search for a certificate came to.
 
 use crate::Verdict;
 
-/// Of which kind the answer is that was written.
+/// The kind of answer that was written.
 #[derive(Clone, Copy)]
 pub enum Ordered {
     /// A certificate with which the history is accepted.
     Serial,
-    /// A cycle of the history's graph: it is accepted with no certificate.
+    /// A cycle of the history's edges: no certificate is accepted.
     Cycle,
-    /// The verdict of kinds 1 to 4 on the history, which is the same with every certificate.
+    /// A verdict of kinds 1 to 4, which is that on the history with any certificate.
     No(Verdict),
 }

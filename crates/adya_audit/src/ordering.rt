@@ -8,19 +8,19 @@ ghost use Rattle.adya_audit.specs.Meaning.Answers.{Answer as Plain, Tells, IsAns
 use crate::answer::{Answer, answer_on, write_answer};
 use crate::laws::accepted_texts_are_serializable;
 use crate::{Ordered, RunFault, Text, Verdict};
-use devices::Watched;
 use adya_text::laws::history_texts;
 use adya_text::{ReadFault, read_history_from};
+use devices::Watched;
 use std::alloc::Global;
 use std::io::{Read, Write};
 
-/// Reads a history text to the stream's end and writes a certificate with which the history is accepted, or a cycle of
-/// its graph where there is no such certificate, or the line of the verdict where it is of kinds 1 to 4, and tells
-/// which of the three it was. It keeps one line and what the lines before it say, may leave unread what stands behind
-/// a syntax fault, and has the whole answer before it writes.
+/// Reads a history text to the end of the stream and writes one of three answers: a certificate that is accepted with
+/// it; a cycle, if there is no such certificate; the line of a verdict of kinds 1 to 4, if the history itself has a
+/// fault. Returns which of them it wrote. It holds one line and what it has read from the lines before, and finds the
+/// whole answer before it writes. It may not read what follows a syntax fault.
 ///
-/// `ReadHistory` where reading failed, `Write` where writing failed, `Memory` where memory ran out; in the first and
-/// the last case nothing was written. `ReadSerial` never comes.
+/// `ReadHistory` if reading fails, `Write` if writing fails, `Memory` if memory runs out. Nothing has been written
+/// unless it is `Write`. It never returns `ReadSerial`.
 pub fn run_order<H: Read, W: Write>(
     alloc: Global,
     history: &mut Watched<H>,

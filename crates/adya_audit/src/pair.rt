@@ -1,25 +1,26 @@
-//! The verdict on a history text and a certificate text in a stream each.
+//! The verdict on a history text and a certificate text in two streams.
 
 ghost use Rattle.std.specs.Prelude.{◌≡◌, ◌≢◌, ◌↔◌, ◌⊎◌, ℕ, false, true, IfOk, IfErr, IfSome, OnOk, IsErrOf};
 ghost use Rattle.std.specs.Io.KnownBytes.{Appends};
 ghost use Rattle.devices.specs.Meaning.Watched.{has_failed, watched_remaining, watched_contents};
 ghost use Rattle.adya_audit.specs.Meaning.Verdicts.{plain_verdict};
 ghost use Rattle.adya_audit.specs.Meaning.Output.{verdict_line};
-ghost use Rattle.adya_audit.specs.Meaning.TextVerdicts.{IsVerdictOn, AreAccepted, AreSerializable};
+ghost use Rattle.adya_audit.specs.Meaning.TextVerdicts.{IsVerdictOn, NamesHistoryFault, AreAccepted, AreSerializable};
 
 use crate::laws::{accepted_texts_are_serializable, yes_where_texts_accepted};
 use crate::{RunFault, Text, Verdict, audit, write_verdict};
-use devices::Watched;
+use adya_text::laws::fault_lines;
 use adya_text::{ReadFault, read_history_from, read_serial_from};
+use devices::Watched;
 use std::alloc::Global;
 use std::io::{Read, Write};
 
-/// Reads a history text from the one stream and then a certificate text from the other, each to the stream's end,
-/// writes the line of the verdict, and answers the verdict. It keeps one line and what the lines before it say. It may
-/// leave unread what stands behind a syntax fault, and the certificate where the history has one.
+/// Reads a history text from one stream and then a certificate text from another, each to the end of its stream.
+/// Writes the line of the verdict and returns the verdict. It holds one line and what it has read from the lines
+/// before. It may not read what follows a syntax fault, nor the certificate if the history has one.
 ///
-/// `ReadHistory` and `ReadSerial` where reading the history or the certificate failed, `Write` where writing failed,
-/// `Memory` where memory ran out; in all cases but `Write` nothing was written.
+/// `ReadHistory` or `ReadSerial` if reading the history or the certificate fails, `Write` if writing fails, `Memory` if
+/// memory runs out. Nothing has been written unless it is `Write`.
 pub fn run_audit<H: Read, C: Read, W: Write>(
     alloc: Global,
     history: &mut Watched<H>,
@@ -28,6 +29,9 @@ pub fn run_audit<H: Read, C: Read, W: Write>(
 ) -> Result<Verdict, RunFault>
     ensures verdict { IfOk result (λ v. IfSome (watched_remaining H.remaining history.old)
         (λ h. IfSome (watched_remaining C.remaining certificate.old) (λ c. IsVerdictOn h c (plain_verdict v)))) }
+    // A syntax fault of the history is the verdict even if nothing is known of the certificate's bytes.
+    ensures history_syntax { IfOk result (λ v. IfSome (watched_remaining H.remaining history.old)
+        (λ h. NamesHistoryFault h (plain_verdict v))) }
     ensures yes { IfOk result (λ v. IfSome (watched_remaining H.remaining history.old)
         (λ h. IfSome (watched_remaining C.remaining certificate.old) (λ c. (v ≡ Verdict.Yes) ↔ AreAccepted h c))) }
     ensures promise { IfOk result (λ v. IfSome (watched_remaining H.remaining history.old)
@@ -35,7 +39,7 @@ pub fn run_audit<H: Read, C: Read, W: Write>(
     ensures written { IfOk result (λ v. Appends (watched_contents W.contents out.old)
         (watched_contents W.contents out.new) (verdict_line (plain_verdict v))) }
     ensures history_ended { OnOk result (has_failed history.new ≡ false) }
-    // The certificate isn't needed where the history has a syntax fault.
+    // The certificate isn't needed if the history has a syntax fault.
     ensures certificate_ended { IfOk result
         (λ v. ((k : ℕ) × (v ≡ Verdict.Syntax Text.History k)) ⊎ (has_failed certificate.new ≡ false)) }
     ensures history_fault { IsErrOf result RunFault.ReadHistory → has_failed history.new ≡ true }
@@ -57,6 +61,8 @@ fn verdict_on_streams<H: Read, C: Read>(
 ) -> Result<Verdict, RunFault>
     ensures verdict { IfOk result (λ v. IfSome (watched_remaining H.remaining history.old)
         (λ h. IfSome (watched_remaining C.remaining certificate.old) (λ c. IsVerdictOn h c (plain_verdict v)))) }
+    ensures history_syntax { IfOk result (λ v. IfSome (watched_remaining H.remaining history.old)
+        (λ h. NamesHistoryFault h (plain_verdict v))) }
     ensures history_ended { OnOk result (has_failed history.new ≡ false) }
     ensures certificate_ended { IfOk result
         (λ v. ((k : ℕ) × (v ≡ Verdict.Syntax Text.History k)) ⊎ (has_failed certificate.new ≡ false)) }
@@ -64,6 +70,7 @@ fn verdict_on_streams<H: Read, C: Read>(
     ensures certificate_fault { IsErrOf result RunFault.ReadSerial → has_failed certificate.new ≡ true }
     ensures no_write { IsErrOf result RunFault.Write → ⊥ }
 {
+    fault_lines();
     let history = match read_history_from(alloc, history) {
         Ok(history) => history,
         Err(ReadFault::Syntax { line, .. }) => {

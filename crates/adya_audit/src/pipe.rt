@@ -9,17 +9,17 @@ ghost use Rattle.adya_audit.specs.Meaning.TextVerdicts.{IsVerdictOnStream, IsAcc
 
 use crate::laws::{accepted_texts_are_serializable, yes_where_texts_accepted};
 use crate::{RunFault, Verdict, audit, write_verdict};
-use devices::Watched;
 use adya_text::{ReadFault, read_texts_from};
+use devices::Watched;
 use std::alloc::Global;
 use std::io::{Read, Write};
 
-/// Reads a history text and behind it a certificate text from one stream, which is cut behind its first line `end`
-/// (all of it is the history where it has no such line), writes the line of the verdict, and answers the verdict. It
-/// keeps one line and what the lines before it say, and may leave unread what stands behind a syntax fault.
+/// Reads a history text and then a certificate text from one stream. The history ends with the first line `end`; if
+/// there is no such line, the history is the whole stream. Writes the line of the verdict and returns the verdict. It
+/// holds one line and what it has read from the lines before, and may not read what follows a syntax fault.
 ///
-/// `ReadHistory` where reading failed in either text, `Write` where writing failed, `Memory` where memory ran out; in
-/// the first and the last case nothing was written.
+/// `ReadHistory` if reading either text fails, `Write` if writing fails, `Memory` if memory runs out. Nothing has been
+/// written unless it is `Write`. It never returns `ReadSerial`.
 pub fn run_pipe<R: Read, W: Write>(
     alloc: Global,
     input: &mut Watched<R>,

@@ -1,53 +1,44 @@
-//! Writing verdicts.
+//! Writing verdicts and edges.
 
 ghost use Rattle.std.specs.Prelude.{◌≡◌, ◌++◌, OnOk, IsErr, codes, decimal, true};
 ghost use Rattle.std.specs.Io.KnownBytes.{Appends};
 ghost use Rattle.devices.specs.Meaning.Watched.{has_failed, watched_contents};
+ghost use Rattle.devices.specs.Meaning.Writing.{Wrote};
+ghost use Rattle.adya_line.specs.Meaning.Spelling.{version_text};
 ghost use Rattle.adya_dsg.specs.Meaning.Values.{kind_of, edge_of};
 ghost use Rattle.adya_audit.specs.Meaning.Verdicts.{plain_verdict};
-ghost use Rattle.adya_line.specs.Machinery.Growing.{Grows};
-ghost use Rattle.adya_line.specs.Meaning.Spelling.{version_text};
 ghost use Rattle.adya_audit.specs.Meaning.Output.{text_name, rule_name, kind_name, edge_text, verdict_text, verdict_line};
 
 use crate::{Edge, Kind, Text, Verdict, WriteFault};
+use adya_line::write_version;
 use adya_values::{Rule, Version};
-use devices::Watched;
-use itoa::Buffer;
+use devices::{Watched, put, put_number};
 use std::io;
 use std::io::Write;
 
-/// Writes the one line of the verdict. `WriteFault` only where the writer failed, now or before.
+/// Writes the line of the verdict. `WriteFault` only if the writer fails or had failed before.
 pub fn write_verdict<W: Write>(verdict: &Verdict, out: &mut Watched<W>) -> Result<(), WriteFault>
     ensures written { OnOk result (Appends (watched_contents W.contents out.old) (watched_contents W.contents out.new)
         (verdict_line (plain_verdict verdict.now))) }
     ensures fault { IsErr result → has_failed out.new ≡ true }
 {
-    match put_line(verdict, out) {
-        Ok(()) => Ok(()),
-        Err(_) => Err(WriteFault),
-    }
+    put_verdict_line(verdict, out).map_err(|_| WriteFault)
 }
 
-fn put_line<W: Write>(verdict: &Verdict, out: &mut Watched<W>) -> io::Result<()>
-    ensures written { OnOk result (Grows (watched_contents W.contents out.old)
-        (verdict_line (plain_verdict verdict.now))
-        (watched_contents W.contents out.new)) }
-    ensures fault { IsErr result → has_failed out.new ≡ true }
+fn put_verdict_line<W: Write>(verdict: &Verdict, out: &mut Watched<W>) -> io::Result<()>
+    ensures { Wrote W.contents out.old out.new (verdict_line (plain_verdict verdict.now)) result }
 {
     put_verdict(verdict, out)?;
     put(b"\n", out)
 }
 
 fn put_verdict<W: Write>(verdict: &Verdict, out: &mut Watched<W>) -> io::Result<()>
-    ensures written { OnOk result (Grows (watched_contents W.contents out.old)
-        (verdict_text (plain_verdict verdict.now))
-        (watched_contents W.contents out.new)) }
-    ensures fault { IsErr result → has_failed out.new ≡ true }
+    ensures { Wrote W.contents out.old out.new (verdict_text (plain_verdict verdict.now)) result }
 {
     match verdict {
         Verdict::Yes => put(b"yes", out),
-        Verdict::Syntax { text, line } => put_syntax(*text, *line, out),
-        Verdict::Malformed { line, rule } => put_malformed(*line, *rule, out),
+        Verdict::Syntax { text, line } => put_syntax(b"no 1 syntax ", *text, *line, out),
+        Verdict::Malformed { line, rule } => put_malformed(b"no 2 malformed ", *line, *rule, out),
         Verdict::AbortedRead { line, version } => put_read(
             b"no 3 aborted-read ",
             *line,
@@ -65,77 +56,64 @@ fn put_verdict<W: Write>(verdict: &Verdict, out: &mut Watched<W>) -> io::Result<
     }
 }
 
-fn put_syntax<W: Write>(text: Text, line: usize, out: &mut Watched<W>) -> io::Result<()>
-    ensures written { OnOk result (Grows (watched_contents W.contents out.old)
-        (codes "no 1 syntax " ++ text_name text ++ codes " " ++ decimal line)
-        (watched_contents W.contents out.new)) }
-    ensures fault { IsErr result → has_failed out.new ≡ true }
+fn put_syntax<W: Write>(
+    kind: &[u8],
+    text: Text,
+    line: usize,
+    out: &mut Watched<W>,
+) -> io::Result<()>
+    ensures { Wrote W.contents out.old out.new
+        (kind.now ++ text_name text ++ codes " " ++ decimal line) result }
 {
-    put(b"no 1 syntax ", out)?;
-    put(text_bytes(text), out)?;
+    put(kind, out)?;
+    put_text_name(text, out)?;
     put(b" ", out)?;
     put_number(line as u64, out)
 }
 
-fn put_malformed<W: Write>(line: usize, rule: Rule, out: &mut Watched<W>) -> io::Result<()>
-    ensures written { OnOk result (Grows (watched_contents W.contents out.old)
-        (codes "no 2 malformed " ++ decimal line ++ codes " " ++ rule_name rule)
-        (watched_contents W.contents out.new)) }
-    ensures fault { IsErr result → has_failed out.new ≡ true }
+fn put_malformed<W: Write>(
+    kind: &[u8],
+    line: usize,
+    rule: Rule,
+    out: &mut Watched<W>,
+) -> io::Result<()>
+    ensures { Wrote W.contents out.old out.new
+        (kind.now ++ decimal line ++ codes " " ++ rule_name rule) result }
 {
-    put(b"no 2 malformed ", out)?;
+    put(kind, out)?;
     put_number(line as u64, out)?;
     put(b" ", out)?;
-    put(rule_bytes(rule), out)
+    put_rule(rule, out)
 }
 
 fn put_read<W: Write>(
-    words: &[u8],
+    kind: &[u8],
     line: usize,
     version: &Version,
     out: &mut Watched<W>,
 ) -> io::Result<()>
-    ensures written { OnOk result (Grows (watched_contents W.contents out.old)
-        (words.now ++ decimal line ++ codes " " ++ version_text version.now)
-        (watched_contents W.contents out.new)) }
-    ensures fault { IsErr result → has_failed out.new ≡ true }
+    ensures { Wrote W.contents out.old out.new
+        (kind.now ++ decimal line ++ codes " " ++ version_text version.now) result }
 {
-    put(words, out)?;
+    put(kind, out)?;
     put_number(line as u64, out)?;
     put(b" ", out)?;
-    put_version(version, out)
-}
-
-fn put_version<W: Write>(version: &Version, out: &mut Watched<W>) -> io::Result<()>
-    ensures written { OnOk result (Grows (watched_contents W.contents out.old)
-        (version_text version.now)
-        (watched_contents W.contents out.new)) }
-    ensures fault { IsErr result → has_failed out.new ≡ true }
-{
-    put(version.key.bytes(), out)?;
-    put(b".", out)?;
-    put_number(u64::from(version.txn.get()), out)?;
-    put(b":", out)?;
-    put_number(u64::from(version.m.get()), out)
+    write_version(version, out)
 }
 
 fn put_backward<W: Write>(edge: &Edge, out: &mut Watched<W>) -> io::Result<()>
-    ensures written { OnOk result (Grows (watched_contents W.contents out.old)
-        (codes "no 6 backward " ++ edge_text (edge_of edge.now))
-        (watched_contents W.contents out.new)) }
-    ensures fault { IsErr result → has_failed out.new ≡ true }
+    ensures { Wrote W.contents out.old out.new (codes "no 6 backward " ++ edge_text (edge_of edge.now)) result }
 {
     put(b"no 6 backward ", out)?;
     put_edge(edge, out)
 }
 
 /// Writes the edge as `KIND K FROM TO`.
+#[tactic(auto, unfolding(crate::specs::Meaning::Output::edge_text))]
 pub(crate) fn put_edge<W: Write>(edge: &Edge, out: &mut Watched<W>) -> io::Result<()>
-    ensures written { OnOk result (Grows (watched_contents W.contents out.old) (edge_text (edge_of edge.now))
-        (watched_contents W.contents out.new)) }
-    ensures fault { IsErr result → has_failed out.new ≡ true }
+    ensures { Wrote W.contents out.old out.new (edge_text (edge_of edge.now)) result }
 {
-    put(kind_bytes(edge.kind), out)?;
+    put_kind(edge.kind, out)?;
     put(b" ", out)?;
     put(edge.key.bytes(), out)?;
     put(b" ", out)?;
@@ -144,54 +122,36 @@ pub(crate) fn put_edge<W: Write>(edge: &Edge, out: &mut Watched<W>) -> io::Resul
     put_number(u64::from(edge.to.get()), out)
 }
 
-pub(crate) fn put_number<W: Write>(number: u64, out: &mut Watched<W>) -> io::Result<()>
-    ensures written { OnOk result (Grows (watched_contents W.contents out.old)
-        (decimal number)
-        (watched_contents W.contents out.new)) }
-    ensures fault { IsErr result → has_failed out.new ≡ true }
-{
-    put(Buffer::new().format(number).as_bytes(), out)
-}
-
-pub(crate) fn put<W: Write>(bytes: &[u8], out: &mut Watched<W>) -> io::Result<()>
-    ensures written { OnOk result (Grows (watched_contents W.contents out.old)
-        bytes.now
-        (watched_contents W.contents out.new)) }
-    ensures fault { IsErr result → has_failed out.new ≡ true }
-{
-    out.write_all(bytes)
-}
-
-fn text_bytes(text: Text) -> &'static [u8]
-    ensures { result.now ≡ text_name text }
+fn put_text_name<W: Write>(text: Text, out: &mut Watched<W>) -> io::Result<()>
+    ensures { Wrote W.contents out.old out.new (text_name text) result }
 {
     match text {
-        Text::History => b"history",
-        Text::Serial => b"serial",
+        Text::History => put(b"history", out),
+        Text::Serial => put(b"serial", out),
     }
 }
 
-fn kind_bytes(kind: Kind) -> &'static [u8]
-    ensures { result.now ≡ kind_name (kind_of kind) }
+fn put_kind<W: Write>(kind: Kind, out: &mut Watched<W>) -> io::Result<()>
+    ensures { Wrote W.contents out.old out.new (kind_name (kind_of kind)) result }
 {
     match kind {
-        Kind::Ww => b"ww",
-        Kind::Wr => b"wr",
-        Kind::Rw => b"rw",
+        Kind::Ww => put(b"ww", out),
+        Kind::Wr => put(b"wr", out),
+        Kind::Rw => put(b"rw", out),
     }
 }
 
-fn rule_bytes(rule: Rule) -> &'static [u8]
-    ensures { result.now ≡ rule_name rule }
+fn put_rule<W: Write>(rule: Rule, out: &mut Watched<W>) -> io::Result<()>
+    ensures { Wrote W.contents out.old out.new (rule_name rule) result }
 {
     match rule {
-        Rule::M1 => b"M1",
-        Rule::M2 => b"M2",
-        Rule::M3 => b"M3",
-        Rule::M4 => b"M4",
-        Rule::M5 => b"M5",
-        Rule::M6 => b"M6",
-        Rule::M7 => b"M7",
-        Rule::M8 => b"M8",
+        Rule::M1 => put(b"M1", out),
+        Rule::M2 => put(b"M2", out),
+        Rule::M3 => put(b"M3", out),
+        Rule::M4 => put(b"M4", out),
+        Rule::M5 => put(b"M5", out),
+        Rule::M6 => put(b"M6", out),
+        Rule::M7 => put(b"M7", out),
+        Rule::M8 => put(b"M8", out),
     }
 }

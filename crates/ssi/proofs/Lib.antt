@@ -1,5 +1,5 @@
-pub mod Commands
-pub mod Plain
-pub mod Refusing
+pub mod CommandWalks
+pub mod PlainArguments
+pub mod NoOtherRequests
 pub mod Subcommands
-pub mod Taking
+pub mod TakesRequests

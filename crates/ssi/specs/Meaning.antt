@@ -1,4 +1,4 @@
 -- What the promises mean.
 pub mod Status
-pub mod Words
+pub mod Arguments
 pub mod Fault

@@ -1,18 +1,18 @@
 //! Why the program has no answer.
 
 ghost use Rattle.std.specs.Prelude.{◌≡◌, Some, codes};
-ghost use Rattle.ssi.specs.Meaning.Fault.{line_of, read_fault, write_fault, want_of_memory};
+ghost use Rattle.ssi.specs.Meaning.Fault.{line_of, read_fault, write_fault, out_of_memory};
 
 use adya_audit::RunFault;
 use std::fmt;
 
-/// Why the program has no answer. It prints as the line on standard error, which names a path as it was given, and the
-/// standard streams as `stdin` and `stdout`.
+/// Why the program has no answer. It prints as the line on standard error. That line names a path as it was given, and
+/// the standard streams as `stdin` and `stdout`.
 #[derive(Debug, Drop)]
 pub enum Fault<'a> {
-    /// What stands here can't be opened to be read, or reading it failed.
+    /// The file at this path can't be opened, or reading it failed.
     Read(&'a str),
-    /// Writing here failed.
+    /// Writing to this stream failed.
     Write(&'a str),
     /// Memory ran out.
     Memory,
@@ -24,7 +24,7 @@ impl<'a> Fault<'a> {
         ensures history { fault ≡ RunFault.ReadHistory → line_of result ≡ read_fault history.entry.now }
         ensures certificate { fault ≡ RunFault.ReadSerial → line_of result ≡ read_fault certificate.entry.now }
         ensures write { fault ≡ RunFault.Write → line_of result ≡ write_fault (codes "stdout") }
-        ensures memory { fault ≡ RunFault.Memory → line_of result ≡ want_of_memory }
+        ensures memory { fault ≡ RunFault.Memory → line_of result ≡ out_of_memory }
     {
         match fault {
             RunFault::ReadHistory => Fault::Read(history),

@@ -1,13 +1,13 @@
 //! The program `ssi`: audits histories by certificates, and finds certificates or cycles.
 #![tactic(auto)]
 
+mod arguments;
 mod command_line;
 mod fault;
 mod help;
 mod runs;
 mod status;
 mod tasks;
-mod words;
 
 use std::process::ExitCode;
 

@@ -1,4 +1,4 @@
-//! Runs over any readers and writers, and the status that each ends with.
+//! Runs over any readers and writers, and their exit status.
 
 ghost use Rattle.std.specs.Prelude.{◌≡◌, ◌↔◌, true, List, ℕ, IfOk, IfSome, IsErrOf};
 ghost use Rattle.std.specs.Io.KnownBytes.{Appends};
@@ -12,7 +12,7 @@ use devices::Watched;
 use std::alloc::Global;
 use std::io::{Read, Write};
 
-/// Judges the history and the certificate that stand one behind the other in the input, and writes the verdict.
+/// Audits the history and the certificate that follow one another in the input, and writes the verdict.
 pub fn judge_stream<R: Read, W: Write>(
     alloc: Global,
     input: &mut Watched<R>,
@@ -30,7 +30,7 @@ pub fn judge_stream<R: Read, W: Write>(
     Ok(Status::of_verdict(&verdict))
 }
 
-/// Judges the history by the certificate, and writes the verdict.
+/// Audits the history by the certificate, and writes the verdict.
 pub fn judge_texts<H: Read, C: Read, W: Write>(
     alloc: Global,
     history: &mut Watched<H>,

@@ -14,14 +14,14 @@ pub enum Status {
     Fine,
     /// 1: the answer is no or a cycle.
     Refused,
-    /// 2: the words ask for nothing that the program does.
-    WrongWords,
+    /// 2: the arguments ask for nothing that the program does.
+    WrongArguments,
     /// 3: reading or writing failed, or memory ran out.
     Failed,
 }
 
 impl Status {
-    /// Of an audit: fine at yes, refused at each no.
+    /// The status of an audit: `Fine` for yes, `Refused` for each no.
     pub fn of_verdict(verdict: &Verdict) -> Status
         ensures fine { (result ≡ Status.Fine) ↔ (verdict.now ≡ Verdict.Yes) }
         ensures refused { (result ≡ Status.Refused) ↔ (verdict.now ≢ Verdict.Yes) }
@@ -32,7 +32,7 @@ impl Status {
         }
     }
 
-    /// Of the search for a certificate: fine at a certificate, refused at a cycle and at each no.
+    /// The status of the search for a certificate: `Fine` for a certificate, `Refused` for a cycle and for each no.
     pub fn of_ordered(ordered: &Ordered) -> Status
         ensures fine { (result ≡ Status.Fine) ↔ (ordered.now ≡ Ordered.Serial) }
         ensures refused { (result ≡ Status.Refused) ↔ (ordered.now ≢ Ordered.Serial) }
@@ -51,7 +51,7 @@ impl From<Status> for ExitCode {
         match status {
             Status::Fine => ExitCode::from(0),
             Status::Refused => ExitCode::from(1),
-            Status::WrongWords => ExitCode::from(2),
+            Status::WrongArguments => ExitCode::from(2),
             Status::Failed => ExitCode::from(3),
         }
     }

@@ -4,25 +4,25 @@ ghost use Rattle.std.specs.Prelude.{◌≡◌, ◌≢◌, ◌⊎◌};
 ghost use Rattle.clap.specs.Words.{kind_of};
 ghost use Rattle.clap.specs.declared.error.kind.ErrorKind.TheVariants.{DisplayHelp, DisplayVersion};
 
+use crate::arguments::{NoTask, Task, given_arguments, task_of};
 use crate::fault::Fault;
 use crate::runs::{judge_stream, judge_texts, order_text};
 use crate::status::Status;
-use crate::words::{NoTask, Task, given_words, task_of};
-use devices::Watched;
 use clap::Error;
+use devices::Watched;
 use std::fs::Files;
 use std::rt::Runtime;
 use std::{fs, io};
 
-/// Does what the words ask for, and tells a fault on standard error.
+/// Does what the arguments ask for, and prints a fault on standard error.
 pub fn run<R: Runtime + AllocGlobal>(rt: &R) -> Status {
-    let words = match given_words(rt) {
-        Ok(words) => words,
-        Err(none) => return told(rt, none),
+    let arguments = match given_arguments(rt) {
+        Ok(arguments) => arguments,
+        Err(none) => return without_task(rt, none),
     };
-    let task = match task_of(rt.alloc(), &words) {
+    let task = match task_of(rt.alloc(), &arguments) {
         Ok(task) => task,
-        Err(none) => return told(rt, none),
+        Err(none) => return without_task(rt, none),
     };
     match carry_out(rt, task) {
         Ok(status) => status,
@@ -81,37 +81,38 @@ fn opened<'a, R: Files>(rt: &R, path: &'a str) -> Result<Watched<R::File>, Fault
     }
 }
 
-fn told<R: Print + Eprint>(rt: &R, none: NoTask) -> Status
-    ensures not_utf8 { none ≡ NoTask.NotUtf8 → result ≡ Status.WrongWords }
+/// Prints why there is no task.
+fn without_task<R: Print + Eprint>(rt: &R, none: NoTask) -> Status
+    ensures not_utf8 { none ≡ NoTask.NotUtf8 → result ≡ Status.WrongArguments }
     ensures memory { none ≡ NoTask.Memory → result ≡ Status.Failed }
 {
     match none {
-        NoTask::Text(text) => shown(rt, &text),
+        NoTask::Text(text) => printed(rt, &text),
         NoTask::NotUtf8 => {
-            let _ = eprintln!(rt; "ssi: the words are not UTF-8");
-            Status::WrongWords
+            let _ = eprintln!(rt; "ssi: the arguments are not UTF-8");
+            Status::WrongArguments
         }
         NoTask::Memory => failed(rt, Fault::Memory),
     }
 }
 
-// Help is an answer. All else that the parser has to say is of wrong words.
-fn shown<R: Print + Eprint>(rt: &R, text: &Error) -> Status
+// Help is an answer. Whatever else the parser prints is about wrong arguments.
+fn printed<R: Print + Eprint>(rt: &R, text: &Error) -> Status
     ensures help { kind_of text.now ≡ DisplayHelp → (result ≡ Status.Fine) ⊎ (result ≡ Status.Failed) }
     ensures wrong { kind_of text.now ≢ DisplayHelp → kind_of text.now ≢ DisplayVersion
-        → result ≡ Status.WrongWords }
+        → result ≡ Status.WrongArguments }
 {
-    let printed = text.print(rt);
+    let done = text.print(rt);
     if text.use_stderr() {
-        return Status::WrongWords;
+        return Status::WrongArguments;
     }
-    match printed {
+    match done {
         Ok(()) => Status::Fine,
         Err(_) => failed(rt, Fault::Write("stdout")),
     }
 }
 
-// Where standard error fails too, the status alone tells.
+// If standard error fails too, only the status shows the fault.
 fn failed<R: Eprint>(rt: &R, fault: Fault<'_>) -> Status
     ensures { result ≡ Status.Failed }
 {

@@ -1,4 +1,4 @@
--- What is answered where an order of a history's transactions is asked for.
+-- The answers of a search for a certificate.
 use Rattle.std.specs.Prelude.{◌≡◌, ℕ, List, map}
 use Rattle.adya_values.specs.Meaning.Histories.{History}
 use Rattle.adya_values.specs.Meaning.Edges.{Edge, IsCycle}
@@ -33,7 +33,7 @@ answer_text (Certificate ts) = serial_text ts
 answer_text (Cycle es) = cycle_text es
 answer_text (Refusal v) = verdict_line v
 
--- what is told is the kind of the answer
+-- the kind that is returned is that of the answer
 abbrev pub Tells : Ordered → Answer → Type 0
 Tells Said.Serial a = (ts : List ℕ) × (a ≡ Certificate ts)
 Tells Said.Cycle a = (es : List Edge) × (a ≡ Cycle es)
@@ -62,8 +62,8 @@ pub record HasCycle (text : List ℕ) (es : List Edge) : Type 0 where
   pub history_read : IsTextOf text history
   pub cycle : IsCycle history es
 
--- the answer to a history text: a certificate with which the history is accepted and by which it is serializable, or
--- a cycle of its edges, where no certificate is accepted, or the verdict on it, which every certificate gets
+-- the answer to a history text: a certificate that is accepted with it, in whose order it is serializable; a cycle of
+-- its edges, if no certificate is accepted; or the verdict on it, which is the same for all certificates
 abbrev pub IsAnswer : List ℕ → Answer → Type 0
 IsAnswer text (Certificate ts) = AreAccepted text (serial_text ts) × AreSerializable text (serial_text ts)
 IsAnswer text (Cycle es) = HasCycle text es × ((certificate : List ℕ) → AreAccepted text certificate → ⊥)

@@ -1,4 +1,4 @@
--- What a yes says.
+-- What a yes implies.
 use Rattle.std.specs.Prelude.{◌≡◌, ◌↔◌, ℕ, true, List}
 use Rattle.adya_values.specs.Meaning.Histories.{History}
 use Rattle.adya_values.specs.Computing.Shapes.{is_shape}
@@ -7,14 +7,14 @@ use Rattle.adya_values.specs.Meaning.Serial.{Agrees}
 use Rattle.adya_values.specs.Meaning.Acceptance.{IsAccepted}
 use Rattle.adya_audit.specs.Meaning.Verdicts.{Yes, verdict_of}
 
--- the history shows neither G1 nor G2, and its committed transactions, run one at a time in this order, give every
--- recorded read, every scan and the final contents
+-- the history has neither G1 nor G2, and its committed transactions, run serially in this order, give all reads and
+-- scans that it records, and its final contents
 pub record IsSerializableBy (h : History) (ts : List ℕ) : Type 0 where
   pub no_g1 : HasG1 h → ⊥
   pub no_g2 : HasG2 h → ⊥
   pub agrees : Agrees h ts
 
--- the verdict is yes exactly where the history and the certificate are accepted
+-- the verdict is yes if and only if the history and the certificate are accepted
 abbrev pub YesWhereAccepted : Type 0
 YesWhereAccepted = (h : History) (ts : List ℕ) → is_shape h.orders h.finals ≡ true
     → (verdict_of h ts ≡ Yes) ↔ IsAccepted h ts

@@ -1,12 +1,11 @@
 -- The lines of verdicts and of cycles.
-use Rattle.std.specs.Prelude.{ℕ, List, ◌∷◌, ◌++◌, length, map, decimal, codes}
+use Rattle.std.specs.Prelude.{ℕ, List, ◌++◌, length, flat_map, decimal, codes}
 use Rattle.adya_values.specs.declared.fault.Rule.{Rule}
 use Rattle.adya_values.specs.declared.fault.Rule.TheVariants.{M1, M2, M3, M4, M5, M6, M7, M8}
 use Rattle.adya_values.specs.Meaning.Edges.{Kind, Ww, Wr, Rw, Edge}
 use Rattle.adya_line.specs.Meaning.Spelling.{version_text}
 use Rattle.adya_text.specs.declared.read_fault.Text.{Text}
 use Rattle.adya_text.specs.declared.read_fault.Text.TheVariants as In
-use Rattle.adya_text.specs.Meaning.Texts.{with_ends}
 use Rattle.adya_audit.specs.Meaning.Verdicts.{Verdict, Yes, Syntax, Malformed, AbortedRead, IntermediateRead, NotTheCommitted}
 use Rattle.adya_audit.specs.Meaning.Verdicts.{Backward}
 
@@ -29,8 +28,8 @@ kind_name Ww = codes "ww"
 kind_name Wr = codes "wr"
 kind_name Rw = codes "rw"
 
--- KIND K FROM TO
-abbrev pub edge_text : Edge → List ℕ
+-- KIND K FROM TO: the kind, the key and the two transactions
+unfoldable pub edge_text : Edge → List ℕ
 edge_text e = kind_name e.kind ++ codes " " ++ e.key ++ codes " " ++ decimal e.from ++ codes " " ++ decimal e.to
 
 abbrev pub verdict_text : Verdict → List ℕ
@@ -48,6 +47,10 @@ verdict_text (Backward e) = codes "no 6 backward " ++ edge_text e
 abbrev pub verdict_line : Verdict → List ℕ
 verdict_line v = verdict_text v ++ codes "\n"
 
+-- the text of the edge, and a line feed
+abbrev pub edge_line : Edge → List ℕ
+edge_line e = edge_text e ++ codes "\n"
+
 -- the line `cycle N`, and a line for each of the N edges
 abbrev pub cycle_text : List Edge → List ℕ
-cycle_text es = with_ends ((codes "cycle " ++ decimal (length es)) ∷ map edge_text es)
+cycle_text es = codes "cycle " ++ decimal (length es) ++ codes "\n" ++ flat_map edge_line es

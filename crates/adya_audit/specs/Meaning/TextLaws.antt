@@ -1,9 +1,9 @@
--- What a yes says of texts.
+-- What a yes on texts implies.
 use Rattle.std.specs.Prelude.{◌≡◌, ◌↔◌, ℕ, List}
 use Rattle.adya_audit.specs.Meaning.Verdicts.{Verdict, Yes}
 use Rattle.adya_audit.specs.Meaning.TextVerdicts.{IsVerdictOn, AreAccepted, AreSerializable}
 
--- the verdict on texts is yes exactly where they are accepted
+-- the verdict on texts is yes if and only if they are accepted
 abbrev pub YesWhereTextsAccepted : Type 0
 YesWhereTextsAccepted = (h c : List ℕ) (v : Verdict) → IsVerdictOn h c v → (v ≡ Yes) ↔ AreAccepted h c
 

@@ -1,5 +1,5 @@
 -- The verdict on a history text and a certificate text.
-use Rattle.std.specs.Prelude.{◌≡◌, ℕ, List}
+use Rattle.std.specs.Prelude.{◌≡◌, ◌↔◌, ℕ, List}
 use Rattle.adya_values.specs.Meaning.Histories.{History}
 use Rattle.adya_values.specs.Meaning.Acceptance.{IsAccepted}
 use Rattle.adya_text.specs.declared.read_fault.Text.TheVariants as Of
@@ -39,6 +39,10 @@ IsVerdictOn h c (IntermediateRead line version) = HaveVerdict h c (IntermediateR
 IsVerdictOn h c NotTheCommitted = HaveVerdict h c NotTheCommitted
 IsVerdictOn h c (Backward edge) = HaveVerdict h c (Backward edge)
 
+-- the verdict names a syntax fault of the history text, with its line, exactly if the text has one
+abbrev pub NamesHistoryFault : List ℕ → Verdict → Type 0
+NamesHistoryFault h v = (k : ℕ) → (v ≡ Syntax Of.History k) ↔ IsFaultLine AreHistoryLines h k
+
 -- the texts are those of a history and a certificate that are accepted
 pub record AreAccepted (history_bytes serial_bytes : List ℕ) : Type 0 where
   pub history : History
@@ -55,7 +59,7 @@ pub record AreSerializable (history_bytes serial_bytes : List ℕ) : Type 0 wher
   pub certificate_read : IsSerialTextOf serial_bytes certificate
   pub serializable : IsSerializableBy history certificate
 
--- the same of one stream, cut behind its first line `end`
+-- the same of one stream, which is cut after its first line `end`
 abbrev pub IsVerdictOnStream : List ℕ → Verdict → Type 0
 IsVerdictOnStream stream v = IsVerdictOn (history_part stream) (serial_part stream) v
 

@@ -36,7 +36,7 @@ abbrev pub edge_verdict : Option Edge → Verdict
 edge_verdict None = Yes
 edge_verdict (Some e) = Backward e
 
--- the verdict on a certificate of a history that is taken as checked
+-- the verdict on a certificate of a history that has no fault
 abbrev pub certificate_verdict : History → List ℕ → Verdict
 certificate_verdict h ts = if lists_the_committed h ts then edge_verdict (first_backward h ts) else NotTheCommitted
 
@@ -47,7 +47,7 @@ Refuses (Checked.AbortedRead line version) v = v ≡ AbortedRead line version
 Refuses (Checked.IntermediateRead line version) v = v ≡ IntermediateRead line version
 Refuses Checked.Memory v = ⊥
 
--- the fault of a history, else what is said of the certificate; `Memory` is no fault of any history, and so never met
+-- the verdict on the fault of a history, else that on the certificate; no history has the fault `Memory`
 abbrev pub fault_verdict : Option CheckFault → Verdict → Verdict
 fault_verdict None v = v
 fault_verdict (Some (Checked.Malformed line rule)) v = Malformed line rule

@@ -3,18 +3,19 @@ use Rattle.std.specs.Prelude.{ℕ, List, ◌++◌, codes}
 use Rattle.ssi.specs.declared.fault.Fault.{Fault}
 use Rattle.ssi.specs.declared.fault.Fault.TheVariants.{Read, Write, Memory}
 
--- what reading at a place failed with
+-- reading at this place failed
 abbrev pub read_fault : List ℕ → List ℕ
 read_fault place = codes "ssi: read fault: " ++ place
 
+-- writing to this place failed
 abbrev pub write_fault : List ℕ → List ℕ
 write_fault place = codes "ssi: write fault: " ++ place
 
-abbrev pub want_of_memory : List ℕ
-want_of_memory = codes "ssi: memory"
+abbrev pub out_of_memory : List ℕ
+out_of_memory = codes "ssi: memory"
 
--- the line that tells the fault, without its line feed
+-- the line of the fault, without its line feed
 abbrev pub line_of : Fault → List ℕ
 line_of (Read place) = read_fault place.now
 line_of (Write place) = write_fault place.now
-line_of Memory = want_of_memory
+line_of Memory = out_of_memory

@@ -1,5 +1,5 @@
 use Rattle.adya_values.specs.Meaning.Values.{history_of}
-use Rattle.adya_audit.proofs.Accepting.{result_yes, result_promise}
+use Rattle.adya_audit.proofs.YesWhereAccepted.{result_yes, result_promise}
 use Rattle.adya_audit.proofs.auditor.audit.Goals as goal
 
 pub returns-clause-yes : goal.returns-clause-yes

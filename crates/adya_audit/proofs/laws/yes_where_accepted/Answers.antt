@@ -1,4 +1,4 @@
-use Rattle.adya_audit.proofs.Accepting.{yes_accepted}
+use Rattle.adya_audit.proofs.YesWhereAccepted.{yes_accepted}
 use Rattle.adya_audit.proofs.laws.yes_where_accepted.Goals as goal
 
 pub returns : goal.returns

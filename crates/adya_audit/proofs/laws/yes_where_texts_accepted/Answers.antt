@@ -1,4 +1,4 @@
-use Rattle.adya_audit.proofs.TextAccepting.{yes_texts}
+use Rattle.adya_audit.proofs.YesWhereTextsAccepted.{yes_texts}
 use Rattle.adya_audit.proofs.laws.yes_where_texts_accepted.Goals as goal
 
 pub returns : goal.returns

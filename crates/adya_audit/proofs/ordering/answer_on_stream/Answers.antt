@@ -1,4 +1,4 @@
-use Rattle.adya_audit.proofs.Answering.{answer_to_text}
+use Rattle.adya_audit.proofs.TextAnswers.{answer_to_text}
 use Rattle.adya_audit.proofs.ordering.answer_on_stream.Goals as goal
 
 pub returns-in_ok-answer_on-in-Ok-clause-answer : goal.returns-in_ok-answer_on-in-Ok-clause-answer

@@ -1,4 +1,4 @@
-use Rattle.adya_audit.proofs.TextAccepting.{yes_on_two}
+use Rattle.adya_audit.proofs.YesWhereTextsAccepted.{yes_on_two}
 use Rattle.adya_audit.proofs.pair.run_audit.Goals as goal
 
 pub returns-clause-yes : goal.returns-clause-yes

@@ -1,7 +1,11 @@
-use Rattle.adya_audit.proofs.TextsRead.{verdict_on_both}
+use Rattle.adya_audit.proofs.TextVerdicts.{verdict_on_one, fault_on_one}
 use Rattle.adya_audit.proofs.pipe.verdict_on_stream.Goals as goal
 
+pub returns-in-Err-Syntax-clause-verdict : goal.returns-in-Err-Syntax-clause-verdict
+returns-in-Err-Syntax-clause-verdict g c =
+    rw (c.in-Err-Syntax.text-is, c.in-Err-Syntax.line-is)
+    (fault_on_one _ c.in-Err-Syntax.text c.in-Err-Syntax.line
+    (rw c.in-Err-Syntax.field-0-is at c.in-Err-Syntax.ensures.answer))
+
 pub returns-clause-verdict : goal.returns-clause-verdict
-returns-clause-verdict g c =
-    verdict_on_both _ _ _ c.in-Ok.history c.in-Ok-read_serial_rest.serial _ c.new-buffer.ensures
-    c.in-Ok.ensures.answer c.in-Ok.ensures.rest c.in-Ok-read_serial_rest.ensures.answer c.in_ok-audit.ensures.verdict
+returns-clause-verdict g c = verdict_on_one _ c.in-Ok.texts _ c.in-Ok.ensures.answer c.in_ok-audit.ensures.verdict

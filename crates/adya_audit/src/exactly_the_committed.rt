@@ -1,0 +1,67 @@
+//! Whether a certificate lists exactly the committed transactions.
+
+ghost use Rattle.std.specs.Prelude.{◌≡◌, ◌<◌, ◌==◌, ℕ, IfOk, MatchOption, count_by};
+ghost use Rattle.std.specs.List.{list_all};
+ghost use Rattle.std.specs.Ordering.{nat_cmp};
+ghost use Rattle.std.specs.BTreeSet.{contains};
+ghost use Rattle.adya_values.specs.Meaning.Histories.{event_of};
+ghost use Rattle.adya_values.specs.Meaning.Events.{is_committed};
+ghost use Rattle.adya_values.specs.Meaning.Values.{history_of};
+ghost use Rattle.adya_values.specs.Computing.Certificates.{lists_the_committed};
+ghost use Rattle.adya_audit.specs.Machinery.ExactlyTheCommitted.{HoldsEachOnce, commit_passes};
+
+use adya_terms::Checked;
+use adya_values::{Event, Txn};
+use std::alloc::{AllocError, Global};
+use std::collections::BTreeSet;
+
+/// Whether the list has each committed transaction once, and no other. `AllocError` if memory runs out.
+pub(crate) fn lists_the_committed(
+    alloc: Global,
+    checked: &Checked,
+    txns: &[Txn],
+) -> Result<bool, AllocError>
+    ensures { IfOk result (λ b. b ≡ lists_the_committed (history_of checked.now.history.now) txns.now) }
+{
+    let Some(listed) = distinct(alloc, txns)? else {
+        return Ok(false);
+    };
+    let events = checked.history().events();
+    Ok(all_committed(checked, txns) && all_listed(&listed, events))
+}
+
+/// The set of the numbers, or `None` if one of them repeats. `AllocError` if memory runs out.
+fn distinct(alloc: Global, txns: &[Txn]) -> Result<Option<BTreeSet<Txn>>, AllocError>
+    ensures { IfOk result
+        (λ o. MatchOption o ((t : ℕ) × (1 < count_by (λ u. u == t) txns.now)) (λ s. HoldsEachOnce s txns.now)) }
+{
+    let mut numbers = BTreeSet::new(alloc);
+    for txn in txns {
+        if !numbers.insert(*txn)? {
+            return Ok(None);
+        }
+    }
+    Ok(Some(numbers))
+}
+
+fn all_committed(checked: &Checked, txns: &[Txn]) -> bool
+    ensures { result ≡ list_all (is_committed (history_of checked.now.history.now).events) txns.now }
+{
+    txns.iter().all(|t| checked.is_committed(*t))
+}
+
+fn all_listed(listed: &BTreeSet<Txn>, events: &[Event]) -> bool
+    ensures { result ≡ list_all (λ e. commit_passes (λ t. contains nat_cmp listed.now t) (event_of e)) events.now }
+{
+    events.iter().all(|event| is_listed(listed, event))
+}
+
+/// Whether the event isn't the commit of a transaction that the set lacks.
+fn is_listed(listed: &BTreeSet<Txn>, event: &Event) -> bool
+    ensures { result ≡ commit_passes (λ t. contains nat_cmp listed.now t) (event_of event.now) }
+{
+    match event {
+        Event::Commit { txn } => listed.contains(txn),
+        _ => true,
+    }
+}
