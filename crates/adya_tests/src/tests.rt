@@ -4,6 +4,7 @@
 mod audit;
 mod check;
 mod edges;
+mod graphs;
 mod lines;
 mod order;
 mod random_histories;

@@ -8,8 +8,6 @@ mod incoming;
 mod laws;
 mod order;
 mod ready;
-#[cfg(test)]
-mod tests;
 mod trace;
 
 pub use arc::Arc;

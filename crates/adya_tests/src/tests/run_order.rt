@@ -46,7 +46,7 @@ fn order_kth_write_fails(rt: HostRuntime) -> Result<(), Fail> {
     for (text, expected) in cases {
         let mut history = reader(text, 0, ErrorKind::Other);
         let mut out = writer(rt.alloc(), 0, ErrorKind::Interrupted);
-        let _ = run_order(rt.alloc(), &mut history, &mut out)?;
+        assert!(rt; run_order(rt.alloc(), &mut history, &mut out).is_ok());
         let device = out.into_inner();
         assert_eq!(rt; device.get_ref().bytes.as_slice(), expected);
         for k in 1..=device.calls() {

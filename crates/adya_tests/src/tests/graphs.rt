@@ -1,9 +1,9 @@
-//! Which order and which cycle are returned, in worked examples.
+//! Which topological order and which cycle are returned, in worked examples.
 
 ghost use Rattle.std.specs.Prelude.{◌≡◌, ◌==◌, ◌&&◌};
 ghost use Rattle.std.specs.List.{list_any, list_all};
 
-use crate::*;
+use digraph::{Arc, Outcome, topological_order};
 use std::alloc::Global;
 use std::test::Fail;
 

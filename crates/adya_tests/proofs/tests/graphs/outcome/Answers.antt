@@ -4,7 +4,7 @@ use Rattle.std.proofs.lemmas.Bool.{and_parts}
 use Rattle.lemmas.proofs.Tests.{all_pass}
 use Rattle.digraph.specs.Meaning.Graphs.{IsGraph}
 use Rattle.digraph.specs.declared.arc.Arc.{Arc}
-use Rattle.digraph.proofs.tests.outcome.Goals as goal
+use Rattle.adya_tests.proofs.tests.graphs.outcome.Goals as goal
 
 is_graph : (nodes : List ℕ) (arcs : List Arc)
     → list_all (λ a. list_any (λ u. u == a.from) nodes && list_any (λ u. u == a.to) nodes) arcs ≡ true
