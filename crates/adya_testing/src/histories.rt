@@ -1,9 +1,8 @@
 //! Small histories and certificates from short arguments.
 
 ghost use Rattle.std.specs.Prelude.{◌≡◌, IfOk, map};
-ghost use Rattle.adya_values.specs.Meaning.Histories.{Write, Delete, Read, Scan, Commit, Abort, event_of, entry_of, order_of, final_of, value_of};
+ghost use Rattle.adya_values.specs.Meaning.Histories.{Write, Delete, Read, Scan, Commit, Abort, event_of, entry_of, order_of, final_of};
 ghost use Rattle.adya_values.specs.Meaning.Histories.{Live, Dead};
-ghost use Rattle.adya_values.specs.Meaning.Values.{history_of};
 
 use adya_values::{
     BadKey, BadNumber, BadShape, BadValue, Content, Entry, Event, FinalPair, History, Key, Mod,
