@@ -8,15 +8,8 @@ use Rattle.adya_values.specs.Computing.Faults.{lists_exactly}
 use Rattle.lemmas.proofs.Booleans.{same_test, cond-at_most_one, cond-positive, positive-cond}
 use Rattle.lemmas.proofs.Counts.{count, Contains-counted, count_contained}
 use Rattle.lemmas.proofs.Tests.{all_pass, list_all_when, list_any-source, list_any_when}
+use Rattle.adya_values.proofs.Writes.{commits_txn}
 use Rattle.adya_audit.specs.Machinery.ExactlyTheCommitted.{commit_passes}
-
-pub commits_txn : (t : ℕ) (e : Event) → commits t e ≡ true → txn_of e ≡ t
-commits_txn t (Write u k n v) c = absurd (cc (c))
-commits_txn t (Delete u k n) c = absurd (cc (c))
-commits_txn t (Read u r v) c = absurd (cc (c))
-commits_txn t (Scan u low high es) c = absurd (cc (c))
-commits_txn t (Commit u) c = eqb-true _ _ c
-commits_txn t (Abort u) c = absurd (cc (c))
 
 commit_listed : (test : ℕ → Bool) (t : ℕ) (e : Event) → commits t e ≡ true → commit_passes test e ≡ true → test t ≡ true
 commit_listed test t (Write u k n v) c p = absurd (cc (c))

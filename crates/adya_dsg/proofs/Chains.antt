@@ -8,53 +8,8 @@ use Rattle.adya_values.specs.Meaning.Orders.{writers, installer}
 use Rattle.adya_values.specs.Meaning.Edges.{Kind, Ww, Edge}
 use Rattle.adya_values.specs.Computing.EdgeList.{numbers, places, joined, write_edges}
 use Rattle.adya_values.specs.Meaning.Acceptance.{IsBefore}
+use Rattle.adya_values.proofs.EdgeList.{Contains-joined, Contains-numbers, Contains-places}
 use Rattle.lemmas.proofs.Members.{none_contained, Contains-cons, Contains-flat_map}
-
-pub Contains-joined : (kind : Kind) (k : List ℕ) (x y : Option ℕ) (a b : ℕ) → x ≡ Some a → y ≡ Some b → a ≢ b
-    → Contains (joined kind k x y) (record { from = a; kind = kind; key = k; to = b })
-Contains-joined kind k None y a b e f ne = absurd (none-some a e)
-Contains-joined kind k (Some x) None a b e f ne = absurd (none-some b f)
-Contains-joined kind k (Some x) (Some y) a b e f ne =
-    let p : x ≡ a = same_Some x a e in
-    let q : y ≡ b = same_Some y b f in
-    let edge : Edge = record { from = x; kind = kind; key = k; to = y } in
-    let other : (x == y) ≡ false = ne_eqb x y (λ s. ne (sym p ∙ (s ∙ q))) in
-    subst (λ c. Contains (cond c [] (edge ∷ [])) (record { from = a; kind = kind; key = k; to = b })) (sym other)
-    (0, omega arith, cc (p, q))
-
--- what the ends of a listed edge are
-pub record Joins (x y : Option ℕ) (e : Edge) : Type 0 where
-  pub from_is : x ≡ Some e.from
-  pub to_is : y ≡ Some e.to
-  pub apart : e.from ≢ e.to
-
-joined_one : (a b : ℕ) (kind : Kind) (k : List ℕ) (e : Edge) → a ≢ b
-    → Contains (record { from = a; kind = kind; key = k; to = b } ∷ []) e → Joins (Some a) (Some b) e
-joined_one a b kind k e ne (zero, l, f) = record {
-  from_is = ap (λ x. Some x.from) f;
-  to_is = ap (λ x. Some x.to) f;
-  apart = λ s. ne (ap (λ x. x.from) f ∙ (s ∙ ap (λ x. x.to) (sym f)));
-}
-joined_one a b kind k e ne (suc i, l, f) = absurd (omega (arith, l))
-
-pub joined_ends : (kind : Kind) (k : List ℕ) (x y : Option ℕ) (e : Edge) → Contains (joined kind k x y) e → Joins x y e
-joined_ends kind k None y e c = absurd (none_contained e c)
-joined_ends kind k (Some a) None e c = absurd (none_contained e c)
-joined_ends kind k (Some a) (Some b) e c =
-    let edge : Edge = record { from = a; kind = kind; key = k; to = b } in
-    elim (cases_eq a b) [
-      | inl s ↦ absurd (none_contained e (subst (λ t. Contains (cond t [] (edge ∷ [])) e) (eq-eqb a b s) c))
-      | inr ne ↦ joined_one a b kind k e ne (subst (λ t. Contains (cond t [] (edge ∷ [])) e) (ne_eqb a b ne) c)
-    ]
-
-Contains-numbers : (from n q : ℕ) → from ≤ q → q < from + n → Contains (numbers from n) q
-Contains-numbers from zero q l m = absurd (omega (arith, l, m))
-Contains-numbers from (suc n) q l m =
-    elim (cases_eq from q) [
-      | inl e ↦ (0, omega arith, e)
-      | inr e ↦ Contains-cons from (numbers (suc from) n) q
-          (Contains-numbers (suc from) n q (omega (arith, l, e)) (omega (arith, m)))
-    ]
 
 -- the first of the numbers that passes, if this one does
 pub record FirstOf (test : ℕ → Bool) (from n q : ℕ) : Type 0 where
@@ -95,13 +50,6 @@ module _ (h : History) (k : List ℕ) where
   installer_there zero l m = absurd (omega (arith, l))
   installer_there (suc q) l m = (get_or (writers h k) q 0, slice_get-get_or (writers h k) q 0 (omega (arith, m)))
 
-  pub Contains-places : (q u : ℕ) → installer h k q ≡ Some u → Contains (places h k) q
-  Contains-places q u e =
-      let within = installer_within q u e in
-      let low = within.0 in
-      let high = within.1 in
-      Contains-numbers 1 (length (writers h k)) q low (omega (arith, high))
-
   module _ (ts : List ℕ) (forward : (x : Edge) → Contains (write_edges h k) x → IsBefore ts x.from x.to) where
     step : (q a b : ℕ) → installer h k q ≡ Some a → installer h k (suc q) ≡ Some b → (a ≡ b) ⊎ IsBefore ts a b
     step q a b e f =
@@ -111,7 +59,7 @@ module _ (h : History) (k : List ℕ) where
               let x : Edge = record { from = a; kind = Ww; key = k; to = b } in
               inr (forward x
               (Contains-flat_map (λ j. joined Ww k (installer h k j) (installer h k (suc j))) (places h k) q x
-              (Contains-places q a e) (Contains-joined Ww k _ _ a b e f ne)))
+              (Contains-places h k q a e) (Contains-joined Ww k _ _ a b e f ne)))
         ]
 
     both : (a u b : ℕ) → (a ≡ u) ⊎ IsBefore ts a u → (u ≡ b) ⊎ IsBefore ts u b → (a ≡ b) ⊎ IsBefore ts a b

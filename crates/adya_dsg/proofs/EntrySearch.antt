@@ -10,7 +10,8 @@ use Rattle.adya_values.specs.Meaning.Keys.{key_eq, key_lt, keys_rise}
 use Rattle.adya_values.specs.Meaning.Histories.{Entry, entry_of}
 use Rattle.adya_values.specs.Meaning.Events.{listed}
 use Rattle.lemmas.proofs.Orderings.{bytes_eq-same, bytes_eq-itself, tied_bytes, search_misses}
-use Rattle.adya_dsg.proofs.Keys.{key_eq-lt, rise_tail, rises_at}
+use Rattle.adya_dsg.proofs.Keys.{key_eq-lt, rises_at}
+use Rattle.adya_values.proofs.Keys.{keys_rise-tail}
 
 abbrev key : EntryValue → List ℕ
 key w = w.version.key
@@ -28,7 +29,7 @@ found (x ∷ ws) k zero w r l e s =
 found (x ∷ ws) k (suc i) w r l e s =
     let below : key_lt (key x) k ≡ true =
     subst (λ j. key_lt (key x) j ≡ true) (sym (ap key e) ∙ s) (rises_at key (x ∷ ws) 0 (suc i) w r (omega arith) l) in
-    found ws k i w (rise_tail (key x) (map key ws) r) (omega (arith, l)) e s ∙
+    found ws k i w (keys_rise-tail (key x) (map key ws) r) (omega (arith, l)) e s ∙
     sym (ap (λ b. cond b (Some (entry_of x)) (listed k (map entry_of ws))) (key_eq-lt (key x) k below))
 
 missed : (ws : List EntryValue) (k : List ℕ) → ((i : ℕ) (d : EntryValue) → i < length ws → key (get_or ws i d) ≡ k → ⊥)

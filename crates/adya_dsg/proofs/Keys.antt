@@ -3,6 +3,7 @@ use Rattle.std.proofs.Common.{◌≡◌, ℕ, zero, suc, ◌<◌, true, false, c
 use Rattle.std.specs.List.Sorted.{IsPartitionedBy}
 use Rattle.std.proofs.lemmas.Bool.{cases_lt, and_parts, and_from}
 use Rattle.lemmas.proofs.Orderings.{bytes_eq-itself, bytes_eq-other, bytes_lt-trans, bytes_lt-apart}
+use Rattle.adya_values.proofs.Keys.{keys_rise-tail}
 use Rattle.adya_values.specs.Meaning.Keys.{key_eq, key_lt, keys_rise}
 use Rattle.adya_values.specs.Meaning.Histories.{Order}
 use Rattle.adya_values.specs.Meaning.Orders.{line_of}
@@ -12,10 +13,6 @@ key_eq-lt a b h = bytes_eq-other a b (bytes_lt-apart a b h)
 
 pub key_eq-gt : (a b : List ℕ) → key_lt b a ≡ true → key_eq a b ≡ false
 key_eq-gt a b h = bytes_eq-other a b (λ e. bytes_lt-apart b a h (sym e))
-
-pub rise_tail : (k : List ℕ) (ks : List (List ℕ)) → keys_rise (k ∷ ks) ≡ true → keys_rise ks ≡ true
-rise_tail k [] h = refl
-rise_tail k (j ∷ ks) h = (and_parts _ _ h).1
 
 pub rise_skip : (k j : List ℕ) (ks : List (List ℕ)) → keys_rise (k ∷ j ∷ ks) ≡ true → keys_rise (k ∷ ks) ≡ true
 rise_skip k j [] h = refl
@@ -50,7 +47,7 @@ line_of-at view (x ∷ ys) zero y h l e =
 line_of-at view (x ∷ ys) (suc i) y h l e =
     let below = rise_at view (view x).key ys i y h (omega (arith, l)) e in
     ap (λ b. cond b (view x).writers (line_of (map view ys) (view y).key)) (key_eq-lt (view x).key (view y).key below) ∙
-    line_of-at view ys i y (rise_tail (view x).key (map (λ o. o.key) (map view ys)) h) (omega (arith, l)) e
+    line_of-at view ys i y (keys_rise-tail (view x).key (map (λ o. o.key) (map view ys)) h) (omega (arith, l)) e
 
 module _ {Y : Type 0} (key : Y → List ℕ) where
   first_below : (y : Y) (ys : List Y) (j : ℕ) (d : Y) → keys_rise (key y ∷ map key ys) ≡ true → j < length ys
@@ -66,7 +63,7 @@ module _ {Y : Type 0} (key : Y → List ℕ) where
   rises_at (y ∷ ys) i zero d r l m = absurd (omega (arith, l))
   rises_at (y ∷ ys) zero (suc j) d r l m = first_below y ys j d r (omega (arith, m))
   rises_at (y ∷ ys) (suc i) (suc j) d r l m =
-      rises_at ys i j d (rise_tail (key y) (map key ys) r) (omega (arith, l)) (omega (arith, m))
+      rises_at ys i j d (keys_rise-tail (key y) (map key ys) r) (omega (arith, l)) (omega (arith, m))
 
   -- those with keys below k come first
   pub below_in_front : (ys : List Y) (k : List ℕ) → keys_rise (map key ys) ≡ true

@@ -27,7 +27,8 @@ use Rattle.lemmas.proofs.Members.{none_contained, Contains-map, map-source, Cont
 use Rattle.lemmas.proofs.Filters.{Contains-filter, filter-source, Contains-filter_map, filter_map-source}
 use Rattle.lemmas.proofs.Finds.{find_none, none_found, find-source, find_when}
 use Rattle.adya_dsg.proofs.FlatMaps.{found_in_front, none_in_front}
-use Rattle.adya_dsg.proofs.Chains.{Contains-joined, joined_ends, first_of, installer_within, installer_there, Contains-places, before_later, earlier_before}
+use Rattle.adya_dsg.proofs.Chains.{first_of, installer_within, installer_there, before_later, earlier_before}
+use Rattle.adya_values.proofs.EdgeList.{Contains-joined, joined-source, Contains-places}
 use Rattle.adya_dsg.proofs.Lines.{Lends}
 use Rattle.adya_dsg.proofs.LineEdges.{write_edges_are}
 
@@ -69,7 +70,7 @@ module _ (h : History) (e : Event) (k : List ℕ) (p : ℕ) where
   of_source : (x : Edge) → Contains (joined Wr k (installer h k p) (Some (txn_of e))) x
       → Contains (read_edges h e k p) x
   of_source x c =
-      let j = joined_ends Wr k (installer h k p) (Some (txn_of e)) x c in
+      let j = joined-source Wr k (installer h k p) (Some (txn_of e)) x c in
       Contains-flat_map source_links (filter (reads_from h e k p) (places h k)) p x
       (Contains-filter (reads_from h e k p) (places h k) p (Contains-places h k p x.from j.from_is)
       (or_left _ _ (eq-eqb p p refl))) c
@@ -77,7 +78,7 @@ module _ (h : History) (e : Event) (k : List ℕ) (p : ℕ) where
   of_overwriter : (x : Edge) (o : Option ℕ) → find (overwritten_by h e k p) (places h k) ≡ o
       → Contains (joined Rw k (Some (txn_of e)) (installer_at h k o)) x → Contains (overwrite_edges h e k p) x
   of_overwriter x None found c =
-      let j = joined_ends Rw k (Some (txn_of e)) None x c in
+      let j = joined-source Rw k (Some (txn_of e)) None x c in
       absurd (none-some x.to j.to_is)
   of_overwriter x (Some q) found c =
       let at = find-source (overwritten_by h e k p) (places h k) q found in
@@ -127,14 +128,14 @@ module _ (h : History) (e : Event) (k : List ℕ) (p : ℕ) where
           | inl d ↦
               let at = flat_map-source source_links (filter (reads_from h e k p) (places h k)) x d in
               let test = filter-source (reads_from h e k p) (places h k) at.0 at.1 in
-              let j = joined_ends Wr k (installer h k at.0) (Some (txn_of e)) x at.2 in
+              let j = joined-source Wr k (installer h k at.0) (Some (txn_of e)) x at.2 in
               let to = same_Some (txn_of e) x.to j.to_is in
               subst (IsBefore ts x.from) to
               (source_before at.0 x.from test.1 j.from_is (λ s. j.apart (s ∙ to)))
           | inr d ↦
               let at = flat_map-source overwriter_links (filter (overwritten_by h e k p) (places h k)) x d in
               let test = filter-source (overwritten_by h e k p) (places h k) at.0 at.1 in
-              let j = joined_ends Rw k (Some (txn_of e)) (installer h k at.0) x at.2 in
+              let j = joined-source Rw k (Some (txn_of e)) (installer h k at.0) x at.2 in
               let from = same_Some (txn_of e) x.from j.from_is in
               subst (λ t. IsBefore ts t x.to) from
               (overwriter_after at.0 x.to test.1 j.to_is (λ s. j.apart (sym from ∙ s)))

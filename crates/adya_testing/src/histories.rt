@@ -24,17 +24,11 @@ pub enum BadHistory {
     #[error(transparent)]
     Number(#[from] BadNumber),
     /// The keys of the orders or of the finals don't rise, or an order has no writer.
-    #[error("bad shape")]
-    Shape,
+    #[error(transparent)]
+    Shape(#[from] BadShape),
     /// Out of memory.
     #[error(transparent)]
     Memory(#[from(alloc)] AllocError),
-}
-
-impl From<BadShape> for BadHistory {
-    fn from(_: BadShape) -> BadHistory {
-        BadHistory::Shape
-    }
 }
 
 /// Makes the version of the key that the transaction wrote as its m-th.

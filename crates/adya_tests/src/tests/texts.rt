@@ -1,10 +1,7 @@
-//! Whole texts: read out of a slice or line by line, and written again.
+//! Whole texts: read out of a slice, and written again.
 
 use super::HISTORY;
-use adya_text::{
-    HistoryReader, LineBuffer, ReadFault, SerialReader, Text, read_history, read_serial,
-    write_history, write_serial,
-};
+use adya_text::{ReadFault, Text, read_history, read_serial, write_history, write_serial};
 use adya_values::{Edition, History};
 use devices::Watched;
 use std::alloc::Global;
@@ -94,39 +91,5 @@ fn faults_name_their_line(rt: HostRuntime) -> Result<(), Fail> {
     ] {
         assert_eq!(rt; serial_fault(rt.alloc(), text), Some(line));
     }
-    Ok(())
-}
-
-#[test]
-fn lines_are_cut_out_of_a_source(rt: HostRuntime) -> Result<(), Fail> {
-    let mut source = Watched::new(b"c1\n\nend".as_slice());
-    let mut buffer = LineBuffer::new();
-    for line in [b"c1".as_slice(), b""] {
-        let mut found = Vec::new(rt.alloc());
-        assert!(rt; buffer.next_line(&mut source, &mut found)?);
-        assert_eq!(rt; found.as_slice(), line);
-    }
-    let mut rest = Vec::new(rt.alloc());
-    assert!(rt; !buffer.next_line(&mut source, &mut rest)?);
-    assert_eq!(rt; rest.as_slice(), b"end".as_slice());
-    Ok(())
-}
-
-#[test]
-fn readers_take_a_line_at_a_time(rt: HostRuntime) -> Result<(), Fail> {
-    let mut history = HistoryReader::new(rt.alloc());
-    for line in [b"adya 1".as_slice(), b"c1"] {
-        history.line(line)?;
-    }
-    assert!(rt; !history.is_done());
-    history.line(b"end")?;
-    assert!(rt; history.is_done() && !history.has_failed());
-    assert_eq!(rt; history.finish(b"")?.events().len(), 1);
-    let mut serial = SerialReader::new(rt.alloc());
-    for line in [b"serial 1".as_slice(), b"1", b"end"] {
-        serial.line(line)?;
-    }
-    assert!(rt; serial.is_done() && !serial.has_failed());
-    assert_eq!(rt; serial.finish(b"")?.txns().len(), 1);
     Ok(())
 }
