@@ -2,7 +2,7 @@
 use Rattle.std.proofs.Common.{◌≡◌, ℕ, suc, ◌<◌, Bool, true, false, List, [], ◌∷◌, ◌++◌, length, map, Option}
 use Rattle.std.proofs.Common.{Ok, Err, refl, sym, ap, subst, ◌∙◌, arith, append_assoc, append-nil}
 use Rattle.std.specs.Prelude.{not, ◌==◌}
-use Rattle.std.specs.Bool.{OnTrue}
+use Rattle.std.specs.Bool.{OnTrue, OnFalse}
 use Rattle.std.specs.List.{AllByRecursion, filter_map, list_all}
 use Rattle.std.specs.Cmp.Derive.{both_true}
 use Rattle.std.proofs.lemmas.Bool.Decides.{nat_tests}
@@ -361,6 +361,11 @@ fed_history r past text rest v fed done empty cut e ts es os fs =
     (subst IsHistory (sym same) held.is, whole ∙ ap history_text (sym same))
 
 -- ---- the answers of the reader
+
+pub begins_unless : (r : HistoryReader) (b : Bool) → b ≡ is_failed r.stage
+    → OnFalse b ((past : List (List ℕ)) → IsFed r past → Begins AreHistoryLines past)
+begins_unless r true is = tt
+begins_unless r false is = λ past fed. fed_begins r past fed (sym is)
 
 pub stops_if : (r : HistoryReader) (b : Bool) → b ≡ is_failed r.stage
     → OnTrue b ((past : List (List ℕ)) → IsFed r past → Begins AreHistoryLines past → ⊥)

@@ -1,7 +1,7 @@
 -- What a reader of certificate lines knows of the lines that it was fed with.
 use Rattle.std.proofs.Common.{◌≡◌, ℕ, suc, Bool, true, false, List, [], ◌∷◌, ◌++◌, length, map, Ok, Err, refl}
 use Rattle.std.proofs.Common.{sym, ap, subst, ◌∙◌, arith, append_assoc, append-nil}
-use Rattle.std.specs.Bool.{OnTrue}
+use Rattle.std.specs.Bool.{OnTrue, OnFalse}
 use Rattle.std.specs.List.{AllByRecursion, filter_map}
 use Rattle.std.proofs.lemmas.List.{length-append}
 use Rattle.std.proofs.lemmas.List.Elements.{filter_map-append}
@@ -192,6 +192,11 @@ fed_serial r past text rest v fed done empty cut same =
     (subst IsSerial (sym txns) held.is, whole ∙ ap serial_text (sym txns))
 
 -- ---- the answers of the reader
+
+pub begins_unless : (r : SerialReader) (b : Bool) → b ≡ is_failed r.stage
+    → OnFalse b ((past : List (List ℕ)) → IsFed r past → Begins AreSerialLines past)
+begins_unless r true is = tt
+begins_unless r false is = λ past fed. fed_begins r past fed (sym is)
 
 pub stops_if : (r : SerialReader) (b : Bool) → b ≡ is_failed r.stage
     → OnTrue b ((past : List (List ℕ)) → IsFed r past → Begins AreSerialLines past → ⊥)

@@ -1,7 +1,7 @@
 //! Readers that are fed with the lines of a text.
 
 ghost use Rattle.std.specs.Prelude.{List, ℕ, Result, [], ◌∷◌, ◌++◌, OnOk, IsErr};
-ghost use Rattle.std.specs.Bool.{OnTrue};
+ghost use Rattle.std.specs.Bool.{OnTrue, OnFalse};
 ghost use Rattle.adya_text.specs.Meaning.Reading.{IsOfText};
 ghost use Rattle.adya_text.specs.Meaning.Faults.{Begins, HasFront, IsCut};
 ghost use Rattle.adya_text.specs.declared.read_fault.ReadFault.{ReadFault as Fault};
@@ -26,7 +26,8 @@ pub(crate) trait LineReader: Drop {
 
     /// Returns whether the lines so far begin no text.
     fn has_failed(&self) -> bool
-        ensures { OnTrue result ((past : List (List ℕ)) → is_fed self.now past → Begins grammar past → ⊥) };
+        ensures begins { OnFalse result ((past : List (List ℕ)) → is_fed self.now past → Begins grammar past) }
+        ensures stops { OnTrue result ((past : List (List ℕ)) → is_fed self.now past → Begins grammar past → ⊥) };
 
     /// Feeds the reader with the next line, without its line feed.
     fn line(&mut self, line: &[u8]) -> Result<(), AllocError>

@@ -50,7 +50,7 @@ returns-then-has_failed-clause-answer g c =
     prefix_read (λ stream. ReadsHistory (history_part stream) c.finish-then-has_failed.result)
     (line_read _ line read c.if-branch.true next.plain next.bytes)
     (λ stream front. c.finish-then-has_failed.ensures.early (past ++ line ∷ []) more
-    (c.if-has_failed.ensures (past ++ line ∷ []) more) (history_part stream)
+    (c.if-has_failed.ensures.stops (past ++ line ∷ []) more) (history_part stream)
     (part_front stream (past ++ line ∷ []) no_end front))
 
 pub loop-line-preserved : goal.loop-line-preserved

@@ -16,7 +16,7 @@ returns-then-has_failed-clause-answer g c =
     (c.in_ok-line.ensures past fed) in
     prefix_read (λ text. g.R.LineReader.reads text c.finish.result)
     (line_read _ line read c.if-branch.true next.plain next.bytes)
-    (c.finish.ensures.early (past ++ line ∷ []) more (c.if-has_failed.ensures (past ++ line ∷ []) more))
+    (c.finish.ensures.early (past ++ line ∷ []) more (c.if-has_failed.ensures.stops (past ++ line ∷ []) more))
 
 pub loop-line-preserved : goal.loop-line-preserved
 loop-line-preserved g c =
