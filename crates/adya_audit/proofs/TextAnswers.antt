@@ -18,7 +18,7 @@ use Rattle.lemmas.proofs.Booleans.{cond-positive}
 use Rattle.lemmas.proofs.Counts.{count, count_contained}
 use Rattle.lemmas.proofs.Members.{recursion-from_contained}
 use Rattle.lemmas.proofs.Tests.{list_any-source}
-use Rattle.adya_audit.proofs.ExactlyTheCommitted.{commits_txn}
+use Rattle.adya_values.proofs.Writes.{commits_txn}
 use Rattle.adya_audit.proofs.YesWhereTextsAccepted.{one_history}
 use Rattle.adya_audit.proofs.TextVerdicts.{text_read, verdict_on_texts}
 

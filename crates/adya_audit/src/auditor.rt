@@ -1,7 +1,7 @@
 //! The verdict on a history and a certificate.
 
 ghost use Rattle.std.specs.Prelude.{◌≡◌, ◌↔◌, IfOk};
-ghost use Rattle.adya_values.specs.Meaning.Values.{history_of};
+ghost use Rattle.adya_values.specs.Meaning.Values.{history_of, serial_txns};
 ghost use Rattle.adya_values.specs.Meaning.Acceptance.{IsAccepted};
 ghost use Rattle.adya_audit.specs.Meaning.Verdicts.{plain_verdict, Refuses, verdict_of};
 ghost use Rattle.adya_audit.specs.Meaning.Laws.{IsSerializableBy};
@@ -17,10 +17,10 @@ use std::alloc::{AllocError, Global};
 /// history, by kind; a certificate that doesn't list exactly the committed transactions; the first edge that goes
 /// backward in the certificate; yes. `AllocError` if memory runs out, which says nothing of either.
 pub fn audit(alloc: Global, history: &History, serial: &Serial) -> Result<Verdict, AllocError>
-    ensures verdict { IfOk result (λ v. plain_verdict v ≡ verdict_of (history_of history.now) serial.now.txns.items) }
-    ensures yes { IfOk result (λ v. (v ≡ Verdict.Yes) ↔ IsAccepted (history_of history.now) serial.now.txns.items) }
+    ensures verdict { IfOk result (λ v. plain_verdict v ≡ verdict_of (history_of history.now) (serial_txns serial.now)) }
+    ensures yes { IfOk result (λ v. (v ≡ Verdict.Yes) ↔ IsAccepted (history_of history.now) (serial_txns serial.now)) }
     ensures promise { IfOk result (λ v. v ≡ Verdict.Yes
-        → IsSerializableBy (history_of history.now) serial.now.txns.items) }
+        → IsSerializableBy (history_of history.now) (serial_txns serial.now)) }
 {
     yes_where_accepted();
     accepted_is_serializable();
@@ -28,7 +28,7 @@ pub fn audit(alloc: Global, history: &History, serial: &Serial) -> Result<Verdic
 }
 
 fn verdict(alloc: Global, history: &History, serial: &Serial) -> Result<Verdict, AllocError>
-    ensures { IfOk result (λ v. plain_verdict v ≡ verdict_of (history_of history.now) serial.now.txns.items) }
+    ensures { IfOk result (λ v. plain_verdict v ≡ verdict_of (history_of history.now) (serial_txns serial.now)) }
 {
     match Checked::of(alloc, history) {
         Ok(checked) => judge(alloc, &checked, serial),

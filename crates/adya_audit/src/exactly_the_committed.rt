@@ -4,9 +4,9 @@ ghost use Rattle.std.specs.Prelude.{◌≡◌, ◌<◌, ◌==◌, ℕ, IfOk, Mat
 ghost use Rattle.std.specs.List.{list_all};
 ghost use Rattle.std.specs.Ordering.{nat_cmp};
 ghost use Rattle.std.specs.BTreeSet.{contains};
+ghost use Rattle.adya_terms.specs.Meaning.Checked.{checked_history};
 ghost use Rattle.adya_values.specs.Meaning.Histories.{event_of};
 ghost use Rattle.adya_values.specs.Meaning.Events.{is_committed};
-ghost use Rattle.adya_values.specs.Meaning.Values.{history_of};
 ghost use Rattle.adya_values.specs.Computing.Certificates.{lists_the_committed};
 ghost use Rattle.adya_audit.specs.Machinery.ExactlyTheCommitted.{HoldsEachOnce, commit_passes};
 
@@ -21,7 +21,7 @@ pub(crate) fn lists_the_committed(
     checked: &Checked,
     txns: &[Txn],
 ) -> Result<bool, AllocError>
-    ensures { IfOk result (λ b. b ≡ lists_the_committed (history_of checked.now.history.now) txns.now) }
+    ensures { IfOk result (λ b. b ≡ lists_the_committed (checked_history checked.now) txns.now) }
 {
     let Some(listed) = distinct(alloc, txns)? else {
         return Ok(false);
@@ -45,7 +45,7 @@ fn distinct(alloc: Global, txns: &[Txn]) -> Result<Option<BTreeSet<Txn>>, AllocE
 }
 
 fn all_committed(checked: &Checked, txns: &[Txn]) -> bool
-    ensures { result ≡ list_all (is_committed (history_of checked.now.history.now).events) txns.now }
+    ensures { result ≡ list_all (is_committed (checked_history checked.now).events) txns.now }
 {
     txns.iter().all(|t| checked.is_committed(*t))
 }

@@ -1,7 +1,8 @@
 //! The verdict on a certificate of a checked history.
 
 ghost use Rattle.std.specs.Prelude.{◌≡◌, IfOk};
-ghost use Rattle.adya_values.specs.Meaning.Values.{history_of};
+ghost use Rattle.adya_terms.specs.Meaning.Checked.{checked_history};
+ghost use Rattle.adya_values.specs.Meaning.Values.{serial_txns};
 ghost use Rattle.adya_audit.specs.Meaning.Verdicts.{plain_verdict, certificate_verdict};
 
 use crate::Verdict;
@@ -19,7 +20,7 @@ pub(crate) fn judge(
     serial: &Serial,
 ) -> Result<Verdict, AllocError>
     ensures { IfOk result (λ v. plain_verdict v
-        ≡ certificate_verdict (history_of checked.now.history.now) serial.now.txns.items) }
+        ≡ certificate_verdict (checked_history checked.now) (serial_txns serial.now)) }
 {
     if !lists_the_committed(alloc, checked, serial.txns())? {
         return Ok(Verdict::NotTheCommitted);

@@ -2,7 +2,7 @@
 
 ghost use Rattle.std.specs.Prelude.{map};
 ghost use Rattle.adya_values.specs.Meaning.Histories.{event_of, order_of, final_of};
-ghost use Rattle.adya_values.specs.Meaning.Values.{history_of};
+ghost use Rattle.adya_values.specs.Meaning.Values.{history_of, serial_txns};
 ghost use Rattle.devices.specs.Meaning.Writing.{Wrote};
 ghost use Rattle.adya_line.specs.Meaning.Spelling.{head_text, tail};
 ghost use Rattle.adya_line.specs.Meaning.Spelling.{event_text, unfinished_text, order_text, final_text, txn_text};
@@ -36,7 +36,7 @@ pub fn write_history<W: Write>(history: &History, out: &mut Watched<W>) -> Resul
 /// said.
 #[tactic(auto, using(crate::proofs::WrittenTexts::written_serial))]
 pub fn write_serial<W: Write>(serial: &Serial, out: &mut Watched<W>) -> Result<(), WriteFault>
-    ensures { Wrote W.contents out.old out.new (serial_text serial.now.txns.items) result }
+    ensures { Wrote W.contents out.old out.new (serial_text (serial_txns serial.now)) result }
 {
     put_serial(serial, out).map_err(|_| WriteFault)
 }
@@ -55,7 +55,7 @@ fn put_history<W: Write>(history: &History, out: &mut Watched<W>) -> io::Result<
 
 #[tactic(auto, unfolding(crate::specs::Machinery::TextParts::serial_parts))]
 fn put_serial<W: Write>(serial: &Serial, out: &mut Watched<W>) -> io::Result<()>
-    ensures { Wrote W.contents out.old out.new (serial_parts serial.now.txns.items) result }
+    ensures { Wrote W.contents out.old out.new (serial_parts (serial_txns serial.now)) result }
 {
     put_line(serial_head(), out)?;
     put_txns(serial.txns(), out)?;

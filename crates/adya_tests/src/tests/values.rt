@@ -1,6 +1,6 @@
 //! Values, and what their errors print.
 
-use adya_testing::histories::{dead, live, scan, version};
+use adya_testing::histories::{dead, final_pair, history, live, scan, version};
 use adya_values::{BadKey, BadNumber, BadValue, Event, Value};
 use std::test::Fail;
 
@@ -33,5 +33,10 @@ fn errors_print_their_numbers(rt: HostRuntime) -> Result<(), Fail> {
     assert_eq!(rt; format!(in alloc; "{BadKey}")?.as_str(), "1 bad key");
     assert_eq!(rt; format!(in alloc; "{BadValue}")?.as_str(), "2 bad value");
     assert_eq!(rt; format!(in alloc; "{BadNumber}")?.as_str(), "3 bad number");
+    let finals = vec![in alloc; final_pair("y", "1")?, final_pair("x", "1")?]?;
+    let Err(bad_shape) = history(Vec::new(alloc), Vec::new(alloc), finals) else {
+        return Err(Fail::new("the keys of the finals fall"));
+    };
+    assert_eq!(rt; format!(in alloc; "{bad_shape}")?.as_str(), "4 bad shape");
     Ok(())
 }
