@@ -1,4 +1,4 @@
--- The steps of the loop that notes where the matches change.
+-- The loop that collects the places whose versions change the matches.
 use Rattle.std.proofs.Common.{◌≡◌, ℕ, suc, ◌+◌, ◌<◌, Bool, true, false, cond, not, List, [], ◌∷◌, ◌++◌, length, get_or, drop, Some, is_some, filter, slice_get, refl, sym, ◌∙◌, ap, arith, append_assoc}
 use Rattle.std.proofs.lemmas.Option.{slice_get_read}
 use mathlib.Core.Bool.{beq}

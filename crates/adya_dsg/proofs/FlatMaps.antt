@@ -35,7 +35,7 @@ pub at_end : {X A : Type 0} (test : X → Bool) (f : X → List A) (xs : List X)
 at_end test f xs i done all l s =
     sym (append-nil done) ∙ (ap (λ zs. done ++ flat_map f (filter test zs)) (sym (drop_all i xs l)) ∙ s)
 
--- what is left of a list at an index, by its element, whatever stands past the end
+-- what is left of a list at an index, by its element, whatever the default past the end
 pub drop_at : {X : Type 0} (xs : List X) (i : ℕ) (d : X) → i < length xs → drop i xs ≡ get_or xs i d ∷ drop (i + 1) xs
 drop_at xs i d l =
     let next : suc i ≡ i + 1 = omega arith in
@@ -60,7 +60,7 @@ module _ {X Y A : Type 0} (f : X → List A) (view : Y → X) (ys : List Y) (i :
         → flat_map f (filter keep (map view (drop i ys))) ≡ flat_map f (filter keep (map view (drop (i + 1) ys)))
     from_left_out t = filtered keep f (map view (drop i ys)) (map view (drop (i + 1) ys)) (view y) from false t
 
--- what is added of the front stands for it
+-- a front that has been added, taken off what is left to add
 pub added_front : {A B : Type 0} (g : A → B) (done all : List B) (here front rest : List A) → here ≡ front ++ rest
     → done ++ map g here ≡ all → (done ++ map g front) ++ map g rest ≡ all
 added_front g done all here front rest splits s =

@@ -1,4 +1,4 @@
--- Which slots are the same, and the steps of the loops that note places.
+-- Which slots are the same, and one more writer in a table of places.
 use Rattle.std.proofs.Common.{◌≡◌, ◌≢◌, ℕ, suc, ◌+◌, ◌==◌, false, cond, ◌&&◌, List, ◌∷◌, Option, Some, refl, sym, ◌∙◌, ap, arith, inl, inr}
 use Rattle.std.specs.Option.{unwrap_or}
 use Rattle.std.proofs.lemmas.Bool.{cases_eq, eq-eqb, ne_eqb}
@@ -11,7 +11,7 @@ same_line i t u = ap (λ b. b && (t == u)) (eq-eqb i i refl)
 pub other_line : (i j t u : ℕ) → j ≢ i → slot_eq (slot i t) (slot j u) ≡ false
 other_line i j t u ne = ap (λ b. b && (t == u)) (ne_eqb i j (λ e. ne (sym e)))
 
--- one more writer, in front of those that are noted
+-- one more writer, before those that the table has
 pub placed_step : (before n : ℕ) (rest : List ℕ) (x t : ℕ) (f g : Option ℕ) → g ≡ cond (x == t) (Some before) f
     → unwrap_or f n ≡ suc before + place rest t → unwrap_or g n ≡ before + place (x ∷ rest) t
 placed_step before n rest x t f g u s =

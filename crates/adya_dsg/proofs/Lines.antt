@@ -67,7 +67,7 @@ place-le (x ∷ ws) t =
           omega (arith, there, rest)
     ]
 
--- a fact of the line of an index, whatever stands for a line past the end
+-- a fact of the line at an index, whatever the default past the end
 at_key : (os : List OrderValue) (i : ℕ) (k : List ℕ) → i < length os
     → ((d : OrderValue) → slice_cmp nat_cmp (get_or os i d).key k ≡ Equal)
     → key_of (slice_get (map order_of os) i) ≡ k

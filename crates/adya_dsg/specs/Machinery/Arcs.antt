@@ -19,7 +19,7 @@ pub record HasEdge (es : List Edge) (a : Arc) : Type 0 where
 abbrev pub AreEnds : List Edge → List Arc → Type 0
 AreEnds es arcs = (a : Arc) → Contains arcs a → HasEdge es a
 
--- each edge of the list goes forward in the order where each arc does
+-- if each arc goes forward in an order, so does each edge of the list
 abbrev pub Decide : List Edge → List Arc → Type 0
 Decide es arcs = (ts : List ℕ) → ((a : Arc) → Contains arcs a → IsBefore ts a.from a.to)
     → (e : Edge) → Contains es e → IsBefore ts e.from e.to

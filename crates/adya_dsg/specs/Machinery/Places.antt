@@ -13,13 +13,13 @@ slot i t = record { line = i; txn = t }
 abbrev pub slot_eq : Slot → Slot → Bool
 slot_eq a b = (a.line == b.line) && (a.txn == b.txn)
 
--- the map has how many writers of the line stand before the transaction, where it stands there
+-- the map has how many writers of the line come before the transaction, if it is one of them
 abbrev pub HasLine : {S : Type 0} → HashMap Slot ℕ S → ℕ → List ℕ → Type 0
 HasLine m i ws = (t : ℕ) → unwrap_or (get slot_eq m (slot i t)) (length ws) ≡ place ws t
 
 abbrev pub HasLines : {S : Type 0} → HashMap Slot ℕ S → List Order → Type 0
 HasLines m os = (i : ℕ) (o : Order) → slice_get os i ≡ Some o → HasLine m i o.writers.items
 
--- the map has how many transactions of the certificate stand before the transaction, where it stands there
+-- the map has how many transactions of the certificate come before the transaction, if it is one of them
 abbrev pub HasPlaces : {S : Type 0} → HashMap ℕ ℕ S → List ℕ → Type 0
 HasPlaces m ts = (t : ℕ) → unwrap_or (get nat_eq m t) (length ts) ≡ place ts t
