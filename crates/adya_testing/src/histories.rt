@@ -1,6 +1,7 @@
 //! Small histories and certificates from short arguments.
 
 ghost use Rattle.std.specs.Prelude.{◌≡◌, IfOk, map};
+ghost use Rattle.adya_values.specs.Meaning.Values.{events_in, orders_in, finals_in, serial_txns};
 ghost use Rattle.adya_values.specs.Meaning.Histories.{Write, Delete, Read, Scan, Commit, Abort, event_of, entry_of, order_of, final_of};
 ghost use Rattle.adya_values.specs.Meaning.Histories.{Live, Dead};
 
@@ -163,14 +164,14 @@ pub fn history(
     orders: Vec<Order>,
     finals: Vec<FinalPair>,
 ) -> Result<History, BadHistory>
-    ensures { IfOk result (λ h. (h.events ≡ events) × (h.orders ≡ orders) × (h.finals ≡ finals)) }
+    ensures { IfOk result (λ h. (events_in h ≡ events.items) × (orders_in h ≡ orders.items) × (finals_in h ≡ finals.items)) }
 {
     Ok(History::new(events, orders, finals)?)
 }
 
 /// Makes the certificate with these transactions.
 pub fn certificate(alloc: Global, numbers: &[u64]) -> Result<Serial, BadHistory>
-    ensures { IfOk result (λ s. s.txns.items ≡ numbers.now) }
+    ensures { IfOk result (λ s. serial_txns s ≡ numbers.now) }
 {
     Ok(Serial::new(txns(alloc, numbers)?))
 }

@@ -2,7 +2,7 @@
 
 ghost use Rattle.std.specs.Prelude.{◌≡◌, List, [], ℕ, MatchResult, IsErrOf};
 ghost use Rattle.adya_values.specs.Meaning.Histories.{History as Plain};
-ghost use Rattle.adya_values.specs.Meaning.Values.{history_of};
+ghost use Rattle.adya_values.specs.Meaning.Values.{history_of, serial_txns};
 ghost use Rattle.adya_text.specs.Meaning.Texts.{IsHistory, IsSerial, history_text, serial_text};
 ghost use Rattle.adya_text.specs.Meaning.Reading.{ReadsHistory, ReadsSerial};
 
@@ -34,7 +34,7 @@ pub fn read_serial(alloc: Global, text: &[u8]) -> Result<Serial, ReadFault>
     ensures answer { ReadsSerial text.now result }
     ensures no_device { IsErrOf result ReadFault.Device → ⊥ }
     ensures only { (ts : List ℕ) → IsSerial ts → text.now ≡ serial_text ts →
-        MatchResult result (λ v. v.txns.items ≡ ts) (λ e. e ≡ ReadFault.Memory) }
+        MatchResult result (λ v. serial_txns v ≡ ts) (λ e. e ≡ ReadFault.Memory) }
 {
     serial_lines();
     read_lines(SerialReader::new(alloc), text)

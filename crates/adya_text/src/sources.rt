@@ -3,7 +3,7 @@
 ghost use Rattle.std.specs.Prelude.{◌≡◌, ◌⊎◌, List, [], ℕ, Some, true, false, IfSome, OnOk, IsErrOf, MatchResult};
 ghost use Rattle.std.specs.Io.KnownBytes.{IsAtEnd, prepend_known};
 ghost use Rattle.adya_values.specs.Meaning.Histories.{History as Plain};
-ghost use Rattle.adya_values.specs.Meaning.Values.{history_of};
+ghost use Rattle.adya_values.specs.Meaning.Values.{history_of, serial_txns};
 ghost use Rattle.adya_text.specs.Meaning.Texts.{IsHistory, IsSerial, history_text, serial_text};
 ghost use Rattle.adya_text.specs.Meaning.Reading.{IsOfText, ReadsHistory, ReadsSerial, ReadsTexts};
 ghost use Rattle.adya_text.specs.Meaning.Streams.{history_part, serial_part};
@@ -45,7 +45,7 @@ pub fn read_history_from<S: Source>(alloc: Global, source: &mut S) -> Result<His
 pub fn read_serial_from<S: Source>(alloc: Global, source: &mut S) -> Result<Serial, ReadFault>
     ensures answer { IfSome (S.remaining source.old) (λ text. ReadsSerial text result) }
     ensures only { (ts : List ℕ) → IsSerial ts → S.remaining source.old ≡ Some (serial_text ts) →
-        MatchResult result (λ v. v.txns.items ≡ ts) (λ e. (e ≡ ReadFault.Device) ⊎ (e ≡ ReadFault.Memory)) }
+        MatchResult result (λ v. serial_txns v ≡ ts) (λ e. (e ≡ ReadFault.Device) ⊎ (e ≡ ReadFault.Memory)) }
     ensures ended { OnOk result (IsAtEnd (S.remaining source.new)) }
     ensures fault { IsErrOf result ReadFault.Device → S.is_failed source.new ≡ true }
     ensures unfailed { (IsErrOf result ReadFault.Device → ⊥) → S.is_failed source.new ≡ S.is_failed source.old }

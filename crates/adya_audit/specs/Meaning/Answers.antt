@@ -1,5 +1,6 @@
 -- The answers of a search for a certificate.
 use Rattle.std.specs.Prelude.{◌≡◌, ℕ, List, map}
+use Rattle.adya_values.specs.Meaning.Values.{serial_txns}
 use Rattle.adya_values.specs.Meaning.Histories.{History}
 use Rattle.adya_values.specs.Meaning.Edges.{Edge, IsCycle}
 use Rattle.adya_values.specs.Meaning.Acceptance.{IsAccepted}
@@ -24,7 +25,7 @@ pub data Answer : Type 0 where
 
 -- the plain answer that an answer holds
 abbrev pub answer_of : AnswerValue → Answer
-answer_of (Holds.Certificate s) = Certificate s.txns.items
+answer_of (Holds.Certificate s) = Certificate (serial_txns s)
 answer_of (Holds.Cycle es) = Cycle (map edge_of es.items)
 answer_of (Holds.Refusal v) = Refusal (plain_verdict v)
 

@@ -1,7 +1,7 @@
 -- What a call that reads a text returns.
 use Rattle.std.specs.Prelude.{◌≡◌, List, ℕ, Result, Ok, Err}
 use Rattle.adya_values.specs.Meaning.Histories.{History}
-use Rattle.adya_values.specs.Meaning.Values.{history_of}
+use Rattle.adya_values.specs.Meaning.Values.{history_of, serial_txns}
 use Rattle.adya_values.specs.declared.history.History.{History as HistoryValue}
 use Rattle.adya_values.specs.declared.serial.Serial.{Serial}
 use Rattle.adya_text.specs.Meaning.Texts.{IsHistory, IsSerial, history_text, serial_text, AreHistoryLines, AreSerialLines}
@@ -28,7 +28,7 @@ ReadsHistory text (Err Memory) = Unit {0}
 
 -- the certificate whose text it is, or the line of its fault
 abbrev pub ReadsSerial : List ℕ → Result Serial ReadFault → Type 0
-ReadsSerial text (Ok s) = IsSerial s.txns.items × (text ≡ serial_text s.txns.items)
+ReadsSerial text (Ok s) = IsSerial (serial_txns s) × (text ≡ serial_text (serial_txns s))
 ReadsSerial text (Err (Syntax Of.Serial k)) = IsFaultLine AreSerialLines text k
 ReadsSerial text (Err (Syntax Of.History k)) = ⊥
 ReadsSerial text (Err Device) = Unit {0}
