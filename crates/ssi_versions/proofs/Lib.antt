@@ -8,3 +8,5 @@ pub mod Collected
 pub mod InRange
 pub mod Searched
 pub mod Holding
+pub mod InstalledKeys
+pub mod Counting

@@ -5,6 +5,7 @@ mod between;
 mod chains;
 mod held;
 mod keyed;
+pub mod laws;
 mod place;
 mod plain;
 
