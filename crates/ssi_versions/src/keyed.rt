@@ -1,4 +1,4 @@
-//! Versions in chains by key.
+//! Versions in chains by key: the fast way to keep them.
 
 ghost use Rattle.std.specs.Prelude.{◌≡◌, [], ◌∷◌, ◌++◌, ◌≤◌, ◌<◌, ◌+◌, ◌^◌, List, ℕ, true, false, if◌then◌else◌, length, take, drop, map, option_map, OnOk, OnErr, IfOk};
 ghost use Rattle.std.specs.List.{All};
@@ -22,7 +22,11 @@ use smallvec::SmallVec;
 use std::alloc::{AllocError, Global};
 use std::collections::BTreeMap;
 
-/// An ordered map of chains, each with its newest version last.
+/// An ordered map from each key to the chain of its held versions, the newest last.
+///
+/// For n the number of keys and held versions, `at` and `last` take O(log n), `range_at` takes that and what it passes,
+/// and `held` and `keys` take constant time. `collect` passes each held version once. It searches the snapshots for it
+/// in O(log s), for s the number of snapshots, if these stand in rising order, else in O(s).
 #[derive(Drop)]
 pub struct KeyChains {
     alloc: Global,
