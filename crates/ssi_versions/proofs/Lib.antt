@@ -1,0 +1,12 @@
+pub mod Lists
+pub mod ByKey
+pub mod Rising
+pub mod Keeping
+pub mod Ranges
+pub mod Entries
+pub mod Collected
+pub mod InRange
+pub mod Searched
+pub mod Holding
+pub mod InstalledKeys
+pub mod Counting

@@ -1,0 +1,2 @@
+-- What a collection keeps, told from the front.
+pub mod Kept

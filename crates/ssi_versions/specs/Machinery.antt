@@ -1,0 +1,4 @@
+-- What only this crate's loops and tables need.
+pub mod Snapshots
+pub mod Plain
+pub mod Keyed

@@ -1,0 +1,126 @@
+-- What a store of versions is told: what each commit installs, and collections with the snapshots that were open at the
+-- time. The newest change stands first. Everything here looks back over all installs; only `held` depends on collections.
+use Rattle.std.specs.Prelude.{◌≡◌, ℕ, ◌==◌, ◌<◌, ◌≤◌, ◌⊎◌, Bool, false, not, ◌&&◌, ◌||◌, nat_lt, nat_le, if◌then◌else◌, List, [], ◌∷◌, ◌++◌, length, Option, Some, None, is_some, filter, flat_map, Contains}
+use Rattle.std.specs.List.{list_any, AllPairs}
+use Rattle.adya_values.specs.Meaning.Keys.{key_eq}
+use Rattle.adya_values.specs.Meaning.Histories.{Entry}
+use Rattle.adya_values.specs.Meaning.Events.{listed}
+use Rattle.ssi_versions.specs.Meaning.KeySets.{insert}
+
+-- a commit installs versions with its stamp; a collection names the open snapshots
+pub data Change : Type 0 where
+  Installs : (stamp : ℕ) (writes : List Entry) → Change
+  Collects : (snapshots : List ℕ) → Change
+
+-- an installed version with its content and its stamp
+pub record Held : Type 0 where
+  pub entry : Entry
+  pub stamp : ℕ
+
+-- the version with this stamp, if there is one
+abbrev pub stamped : ℕ → Option Entry → Option Held
+stamped n None = None
+stamped n (Some w) = Some (record { entry = w; stamp = n })
+
+-- the version without its stamp
+abbrev pub entry_in : Option Held → Option Entry
+entry_in None = None
+entry_in (Some h) = Some h.entry
+
+-- the first if there is one, else the second
+abbrev pub otherwise : {X : Type 0} → Option X → Option X → Option X
+otherwise (Some x) o = Some x
+otherwise None o = o
+
+-- the key's contents after the first s commits: the newest version whose stamp is not above s
+abbrev pub contents : List ℕ → ℕ → List Change → Option Held
+contents k s [] = None
+contents k s (Installs n ws ∷ changes) = if nat_le n s then otherwise (stamped n (listed k ws)) (contents k s changes) else contents k s changes
+contents k s (Collects ss ∷ changes) = contents k s changes
+
+-- the version of the key that was installed last
+abbrev pub last_version : List ℕ → List Change → Option Held
+last_version k [] = None
+last_version k (Installs n ws ∷ changes) = otherwise (stamped n (listed k ws)) (last_version k changes)
+last_version k (Collects ss ∷ changes) = last_version k changes
+
+-- a version of the key with a stamp above s was installed
+abbrev pub is_installed_above : List ℕ → ℕ → List Change → Bool
+is_installed_above k s [] = false
+is_installed_above k s (Installs n ws ∷ changes) = (nat_lt s n && is_some (listed k ws)) || is_installed_above k s changes
+is_installed_above k s (Collects ss ∷ changes) = is_installed_above k s changes
+
+-- there is a version, and it has this stamp
+abbrev pub has_stamp : ℕ → Option Held → Bool
+has_stamp n None = false
+has_stamp n (Some h) = h.stamp == n
+
+-- the version of the key is its last one, or one of the snapshots sees it
+abbrev pub is_needed : List ℕ → List ℕ → List Change → Held → Bool
+is_needed k ss changes h = has_stamp h.stamp (last_version k changes) || list_any (λ s. has_stamp h.stamp (contents k s changes)) ss
+
+-- a list of one version, or of none
+abbrev pub listing : Option Held → List Held
+listing None = []
+listing (Some h) = h ∷ []
+
+-- the held versions of the key, by stamp: those that were needed at every collection since they were installed
+abbrev pub held : List ℕ → List Change → List Held
+held k [] = []
+held k (Installs n ws ∷ changes) = held k changes ++ listing (stamped n (listed k ws))
+held k (Collects ss ∷ changes) = filter (is_needed k ss changes) (held k changes)
+
+-- the keys of these versions among rising keys
+abbrev pub insert_keys : List Entry → List (List ℕ) → List (List ℕ)
+insert_keys [] ks = ks
+insert_keys (w ∷ ws) ks = insert w.version.key (insert_keys ws ks)
+
+-- all keys of which a version was installed, rising
+abbrev pub installed_keys : List Change → List (List ℕ)
+installed_keys [] = []
+installed_keys (Installs n ws ∷ changes) = insert_keys ws (installed_keys changes)
+installed_keys (Collects ss ∷ changes) = installed_keys changes
+
+-- how many versions are held
+abbrev pub held_count : List Change → ℕ
+held_count changes = length (flat_map (λ k. held k changes) (installed_keys changes))
+
+-- how many keys have a held version
+abbrev pub key_count : List Change → ℕ
+key_count changes = length (filter (λ k. not (length (held k changes) == 0)) (installed_keys changes))
+
+-- of versions in the order of their stamps, the newest one whose stamp is not above s
+abbrev pub newest_within : ℕ → List Held → Option Held
+newest_within s [] = None
+newest_within s (h ∷ hs) = otherwise (newest_within s hs) (if nat_le h.stamp s then Some h else None)
+
+-- of versions in the order of their stamps, the last one
+abbrev pub newest : List Held → Option Held
+newest [] = None
+newest (h ∷ hs) = otherwise (newest hs) (Some h)
+
+-- each has a greater stamp than those before it
+abbrev pub IsByStamp : List Held → Type 0
+IsByStamp hs = AllPairs (λ g h. g.stamp < h.stamp) hs
+
+-- the greatest stamp so far
+abbrev pub last_installed : List Change → ℕ
+last_installed [] = 0
+last_installed (Installs n ws ∷ changes) = n
+last_installed (Collects ss ∷ changes) = last_installed changes
+
+-- no two writes are of one key
+abbrev pub AreApart : List Entry → Type 0
+AreApart ws = AllPairs (λ v w. key_eq v.version.key w.version.key ≡ false) ws
+
+-- the conditions on the caller: each install has a stamp above all earlier ones, and at most one version of each key
+abbrev pub AreInstallable : List Change → Type 0
+AreInstallable [] = Unit {0}
+AreInstallable (Installs n ws ∷ changes) = (last_installed changes < n) × AreApart ws × AreInstallable changes
+AreInstallable (Collects ss ∷ changes) = AreInstallable changes
+
+-- each collection was told of the snapshot, or came before any stamp above it
+abbrev pub IsProtected : ℕ → List Change → Type 0
+IsProtected s [] = Unit {0}
+IsProtected s (Installs n ws ∷ changes) = IsProtected s changes
+IsProtected s (Collects ss ∷ changes) = (Contains ss s ⊎ (last_installed changes ≤ s)) × IsProtected s changes
