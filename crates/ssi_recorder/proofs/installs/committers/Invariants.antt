@@ -1,0 +1,9 @@
+use Rattle.std.proofs.Common.{◌≡◌, map, drop, fold}
+use Rattle.std.specs.List.{filter_map}
+use Rattle.adya_values.specs.Meaning.Histories.{event_of}
+use Rattle.ssi_recorder.specs.Meaning.Recorded.{commit_of, with_number, by_commit}
+use Rattle.ssi_recorder.proofs.installs.committers.Given as goal
+
+abbrev pub invariant-events : goal.invariant-events
+invariant-events l =
+    fold with_number l.committed.keys (filter_map commit_of (map event_of (drop l.event-index l.events))) ≡ by_commit (map event_of l.events)

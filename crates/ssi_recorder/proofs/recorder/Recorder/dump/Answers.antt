@@ -1,0 +1,18 @@
+use Rattle.std.proofs.Common.{rules, ◌≡◌, map}
+use Rattle.adya_values.specs.declared.edition.Edition.TheVariants as Edition
+use Rattle.adya_values.specs.Meaning.Histories.{event_of, order_of, final_of}
+use Rattle.ssi_recorder.specs.Meaning.Recorded.{orders_of_events, finals_of_events}
+use Rattle.ssi_recorder.specs.Meaning.Recorder.{events_of}
+use Rattle.ssi_recorder.proofs.Ended.{same_history}
+use Rattle.ssi_recorder.proofs.recorder.Recorder.dump.Goals as goal
+
+pub returns : goal.returns
+returns c =
+    let made = c.unwrap-history.result in
+    let events = events_of c.args.self.now in
+    let is_two : made.edition ≡ Edition.Two = Prim.search rules in
+    let has_events : map event_of made.events.items ≡ events = Prim.search rules in
+    let names_unfinished : made.unfinished.items ≡ c.args.active.now = Prim.search rules in
+    let orders : map order_of made.orders.items ≡ orders_of_events events = Prim.search rules in
+    let finals : map final_of made.finals.items ≡ finals_of_events events = Prim.search rules in
+    same_history is_two has_events names_unfinished orders finals

@@ -1,0 +1,19 @@
+use Rattle.std.proofs.Common.{rules, ◌≡◌, [], ◌++◌, map, ◌∙◌}
+use Rattle.adya_values.specs.declared.edition.Edition.TheVariants as Edition
+use Rattle.adya_values.specs.Meaning.Histories.{event_of, order_of, final_of, Abort}
+use Rattle.ssi_recorder.specs.Meaning.Recorded.{orders_of_events, finals_of_events}
+use Rattle.ssi_recorder.specs.Meaning.Recorder.{events_of}
+use Rattle.ssi_recorder.proofs.Ended.{orders_ended, finals_ended, same_history}
+use Rattle.ssi_recorder.proofs.recorder.Recorder.finish.Goals as goal
+
+pub returns-clause-history : goal.returns-clause-history
+returns-clause-history c =
+    let made = c.unwrap.result in
+    let events = events_of c.args.self in
+    let is_one : made.edition ≡ Edition.One = Prim.search rules in
+    let has_events : map event_of made.events.items ≡ events ++ map Abort c.args.active.now = Prim.search rules in
+    let none_unfinished : made.unfinished.items ≡ [] = Prim.search rules in
+    let orders : map order_of made.orders.items ≡ orders_of_events events = Prim.search rules in
+    let finals : map final_of made.finals.items ≡ finals_of_events events = Prim.search rules in
+    same_history is_one has_events none_unfinished (orders ∙ orders_ended events c.args.active.now)
+    (finals ∙ finals_ended events c.args.active.now)

@@ -1,0 +1,66 @@
+-- The history that a list of events makes: of each key the version order is the order in which its writers committed
+-- (Adya 1999, section 3.1.2), and the final value is that of the last version, if that is visible.
+use Rattle.std.specs.Prelude.{ℕ, nat_eq, if◌then◌else◌, List, [], ◌∷◌, ◌++◌, Option, Some, None, is_some, filter, fold}
+use Rattle.std.specs.List.{filter_map, list_any}
+use Rattle.adya_values.specs.declared.edition.Edition.{Edition}
+use Rattle.adya_values.specs.Meaning.Histories.{Event, Write, Delete, Read, Scan, Commit, Abort, Order, FinalPair, History}
+use Rattle.adya_values.specs.Meaning.Events.{written, last, last_write, shown}
+use Rattle.adya_values.specs.Meaning.Serial.{visible_pair_of}
+use Rattle.ssi_recorder.specs.Meaning.KeySets.{insert}
+
+-- the transaction that the event commits, if it is a commit
+abbrev pub commit_of : Event → Option ℕ
+commit_of (Commit t) = Some t
+commit_of (Write t k m v) = None
+commit_of (Delete t k m) = None
+commit_of (Read t r v) = None
+commit_of (Scan t low high es) = None
+commit_of (Abort t) = None
+
+-- the list with the number at its end, unless it has the number already
+abbrev pub with_number : List ℕ → ℕ → List ℕ
+with_number seen t = if list_any (nat_eq t) seen then seen else seen ++ t ∷ []
+
+-- the committed transactions in the order of their commits, each once
+abbrev pub by_commit : List Event → List ℕ
+by_commit events = fold with_number [] (filter_map commit_of events)
+
+-- those of them that wrote the key
+abbrev pub writers_by_commit : List ℕ → List Event → List ℕ
+writers_by_commit k events = filter (λ t. is_some (last_write t k events)) (by_commit events)
+
+-- the value that a reader gets of the transaction's last write of the key
+abbrev pub shown_by : List ℕ → List Event → Option ℕ → Option (List ℕ)
+shown_by k events None = None
+shown_by k events (Some t) = shown (last_write t k events)
+
+-- the value that the key has after all commits
+abbrev pub last_shown : List ℕ → List Event → Option (List ℕ)
+last_shown k events = shown_by k events (last (writers_by_commit k events))
+
+-- all keys that were written, rising
+abbrev pub written_keys : List Event → List (List ℕ)
+written_keys events = fold (λ ks w. insert w.version.key ks) [] (filter_map written events)
+
+-- the order line of a key with these writers; none if there is no writer
+abbrev pub order_line : List ℕ → List ℕ → Option Order
+order_line k [] = None
+order_line k (t ∷ ts) = Some (record { key = k; writers = t ∷ ts })
+
+-- the version order of each key with a committed writer, by rising key
+abbrev pub orders_of_events : List Event → List Order
+orders_of_events events = filter_map (λ k. order_line k (writers_by_commit k events)) (written_keys events)
+
+-- the final value of each key that has one, by rising key
+abbrev pub finals_of_events : List Event → List FinalPair
+finals_of_events events = filter_map (λ k. visible_pair_of k (last_shown k events)) (written_keys events)
+
+-- the history of these events, with these unfinished transactions
+abbrev pub history_of_events : Edition → List ℕ → List Event → History
+history_of_events edition unfinished events = record {
+  edition = edition;
+  events = events;
+  unfinished = unfinished;
+  orders = orders_of_events events;
+  finals = finals_of_events events;
+}

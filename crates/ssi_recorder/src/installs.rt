@@ -1,0 +1,206 @@
+//! What events install: the version order of each key, and its final value.
+
+ghost use Rattle.std.specs.Prelude.{◌≡◌, ℕ, List, [], ◌∷◌, Some, true, ◌&&◌, if◌then◌else◌, map, option_map, slice_get, length, OnOk, IfOk, nat_eq};
+ghost use Rattle.std.specs.List.{filter_map, IsDistinct};
+ghost use Rattle.std.specs.BTreeMap.{is_at, keys, values, IsOrdered};
+ghost use Rattle.std.specs.Ordering.{nat_cmp};
+ghost use Rattle.std.specs.Cmp.Lexicographic.{slice_cmp};
+ghost use Rattle.adya_values.specs.Meaning.Keys.{key_eq};
+ghost use Rattle.adya_values.specs.Meaning.Histories.{entry_of, event_of, order_of, final_of, value_of};
+ghost use Rattle.adya_values.specs.Meaning.Events.{written, visible};
+ghost use Rattle.adya_values.specs.Computing.Shapes.{is_shape};
+ghost use Rattle.ssi_recorder.specs.Meaning.Recorded.{commit_of, by_commit, orders_of_events, finals_of_events};
+ghost use Rattle.ssi_recorder.specs.Machinery.Lines.{put_at, write_by, AreLines, order_in, final_in};
+
+use adya_values::{Content, Entry, Event, FinalPair, Key, Order, Txn, Value, Version};
+use indexmap::IndexSet;
+use std::alloc::{AllocError, Global};
+use std::collections::BTreeMap;
+
+/// The version orders and the final values, both by rising key.
+#[derive(Drop)]
+pub(crate) struct Lists {
+    pub orders: Vec<Order>,
+    pub finals: Vec<FinalPair>,
+}
+
+/// Returns the transaction that the event commits, if it is a commit.
+fn commit_of(event: &Event) -> Option<Txn>
+    ensures { result ≡ commit_of (event_of event.now) }
+{
+    match event {
+        Event::Write { .. } => None,
+        Event::Delete { .. } => None,
+        Event::Read { .. } => None,
+        Event::Scan { .. } => None,
+        Event::Commit { txn } => Some(*txn),
+        Event::Abort { .. } => None,
+    }
+}
+
+/// Returns the version that the event writes, if it writes one.
+fn wrote(event: &Event) -> Option<Entry>
+    ensures { option_map entry_of result ≡ written (event_of event.now) }
+{
+    match event {
+        Event::Write { txn, key, m, value } => Some(Entry {
+            version: Version {
+                key: *key,
+                txn: *txn,
+                m: *m,
+            },
+            content: Content::Live(*value),
+        }),
+        Event::Delete { txn, key, m } => Some(Entry {
+            version: Version {
+                key: *key,
+                txn: *txn,
+                m: *m,
+            },
+            content: Content::Dead,
+        }),
+        Event::Read { .. } => None,
+        Event::Scan { .. } => None,
+        Event::Commit { .. } => None,
+        Event::Abort { .. } => None,
+    }
+}
+
+/// Returns the committed transactions in the order of their commits.
+fn committers(alloc: Global, events: &[Event]) -> Result<IndexSet<Txn>, AllocError>
+    ensures { IfOk result (λ s. s.keys ≡ by_commit (map event_of events.now)) }
+{
+    let mut committed = IndexSet::new(alloc);
+    'events: for event in events {
+        if let Some(txn) = commit_of(event) {
+            committed.insert(txn)?;
+        }
+    }
+    Ok(committed)
+}
+
+/// Puts the version into the line of its key, at this place; a later version at the same place replaces it.
+fn put(
+    alloc: Global,
+    lines: &mut BTreeMap<Key, BTreeMap<usize, Entry>>,
+    place: usize,
+    entry: &Entry,
+) -> Result<(), AllocError>
+    ensures put { OnOk result ((q : List ℕ) (r : ℕ) → put_at q r lines.new.entries
+        ≡ if key_eq entry.now.version.key q && is_at (nat_cmp place) r then Some (entry_of entry.now) else put_at q r lines.old.entries) }
+    ensures lines { OnOk result (AreLines lines.old.entries → AreLines lines.new.entries) }
+{
+    let key = entry.version.key;
+    if let Some(line) = lines.get_mut(&key) {
+        line.insert(place, *entry)?;
+        return Ok(());
+    }
+    let mut line = BTreeMap::new(alloc);
+    line.insert(place, *entry)?;
+    lines.insert(key, line)?;
+    Ok(())
+}
+
+/// Returns the last writes of the committed transactions, by key and by the place of their commit.
+fn lines(
+    alloc: Global,
+    events: &[Event],
+    committed: &IndexSet<Txn>,
+) -> Result<BTreeMap<Key, BTreeMap<usize, Entry>>, AllocError>
+    ensures lines { IfOk result (λ m. (q : List ℕ) (r : ℕ) → put_at q r m.entries ≡ write_by (slice_get committed.now.keys r) q (map event_of events.now)) }
+    ensures good { IfOk result (λ m. AreLines m.entries) }
+    ensures distinct { IsDistinct nat_eq committed.now.keys }
+{
+    let _unique = committed.len();
+    let mut lines = BTreeMap::new(alloc);
+    'events: for event in events {
+        if let Some(entry) = wrote(event) {
+            if let Some(place) = committed.get_index_of(&entry.version.txn) {
+                put(alloc, &mut lines, place, &entry)?;
+            }
+        }
+    }
+    Ok(lines)
+}
+
+/// Returns the versions of a line, in order.
+fn versions(alloc: Global, line: &BTreeMap<usize, Entry>) -> Result<Vec<Entry>, AllocError>
+    ensures { IfOk result (λ v. v.items ≡ values line.now) }
+{
+    line.values().copied().collect(alloc)
+}
+
+/// Returns the writers of the versions.
+fn writers_of(alloc: Global, versions: &[Entry]) -> Result<Vec<Txn>, AllocError>
+    ensures { IfOk result (λ v. v.items ≡ map (λ w. w.version.txn) versions.now) }
+{
+    versions.iter().map(|w| w.version.txn).collect(alloc)
+}
+
+/// Returns the order line of a key.
+fn order(alloc: Global, key: Key, line: &BTreeMap<usize, Entry>) -> Result<Order, AllocError>
+    ensures { IfOk result (λ o. order_of o ≡ order_in (key, line.now)) }
+{
+    let versions = versions(alloc, line)?;
+    let writers = writers_of(alloc, versions.as_slice())?;
+    let order = Order { key, writers };
+    Ok(order)
+}
+
+/// Returns the order lines of the keys.
+fn orders(
+    alloc: Global,
+    lines: &BTreeMap<Key, BTreeMap<usize, Entry>>,
+) -> Result<Vec<Order>, AllocError>
+    ensures orders { IfOk result (λ v. map order_of v.items ≡ map order_in lines.now.entries) }
+    ensures ordered { IsOrdered (slice_cmp nat_cmp) lines.now }
+{
+    let _ordered = lines.len();
+    let mut orders = Vec::new(alloc);
+    'lines: for (key, line) in lines.iter() {
+        let order = order(alloc, *key, line)?;
+        orders.push(order)?;
+    }
+    Ok(orders)
+}
+
+/// Returns the final value of a key, if its last version is visible.
+fn final_pair(key: Key, line: &BTreeMap<usize, Entry>) -> Option<FinalPair>
+    ensures { option_map final_of result ≡ final_in (key, line.now) }
+{
+    let (_, last) = line.last_key_value()?;
+    match last.content {
+        Content::Live(value) => Some(FinalPair { key, value }),
+        Content::Dead => None,
+    }
+}
+
+/// Returns the final values of the keys.
+fn finals(
+    alloc: Global,
+    lines: &BTreeMap<Key, BTreeMap<usize, Entry>>,
+) -> Result<Vec<FinalPair>, AllocError>
+    ensures { IfOk result (λ v. map final_of v.items ≡ filter_map final_in lines.now.entries) }
+{
+    let mut finals = Vec::new(alloc);
+    'lines: for (key, line) in lines.iter() {
+        if let Some(pair) = final_pair(*key, line) {
+            finals.push(pair)?;
+        }
+    }
+    Ok(finals)
+}
+
+/// Returns the version orders and the final values that the events make.
+pub(crate) fn installed(alloc: Global, events: &[Event]) -> Result<Lists, AllocError>
+    ensures shape { IfOk result (λ i. is_shape (map order_of i.orders.items) (map final_of i.finals.items) ≡ true) }
+    ensures orders { IfOk result (λ i. map order_of i.orders.items ≡ orders_of_events (map event_of events.now)) }
+    ensures finals { IfOk result (λ i. map final_of i.finals.items ≡ finals_of_events (map event_of events.now)) }
+{
+    let committed = committers(alloc, events)?;
+    let by_key = lines(alloc, events, &committed)?;
+    let orders = orders(alloc, &by_key)?;
+    let finals = finals(alloc, &by_key)?;
+    let lists = Lists { orders, finals };
+    Ok(lists)
+}

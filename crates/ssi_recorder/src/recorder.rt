@@ -1,0 +1,133 @@
+//! The recorder: the events so far, with room for the ends of open transactions.
+
+ghost use Rattle.std.specs.Prelude.{◌≡◌, [], ◌∷◌, ◌++◌, ◌+◌, ◌<◌, ◌≤◌, map, OnOk, OnErr, IfOk, IfErr, vec_len, vec_capacity, length, true};
+ghost use Rattle.adya_values.specs.Meaning.Histories.{event_of, Abort};
+ghost use Rattle.adya_values.specs.Meaning.Values.{history_of};
+ghost use Rattle.adya_values.specs.Computing.Shapes.{numbers_rise};
+ghost use Rattle.adya_values.specs.declared.edition.Edition.TheVariants as Edition;
+ghost use Rattle.ssi_recorder.specs.Meaning.Recorded.{history_of_events};
+
+use crate::installs::installed;
+use adya_values::{Event, History, Txn};
+use std::alloc::{AllocError, Global};
+
+/// The events so far, in the order in which they happened, with a place kept for the end of each open transaction.
+#[derive(Drop)]
+pub struct Recorder {
+    alloc: Global,
+    events: Vec<Event>,
+    places: usize,
+    ghost kept: { vec_len events + places ≤ vec_capacity events },
+}
+
+impl Recorder {
+    ghost use Rattle.ssi_recorder.specs.Meaning.Recorder.{events_of, places_of, HasRoom, IsAsBefore};
+
+    /// Makes a recorder with no events and no kept places. It takes no memory.
+    pub fn new(alloc: Global) -> Self
+        ensures events { events_of result ≡ [] }
+        ensures places { places_of result ≡ 0 }
+    {
+        Recorder {
+            alloc,
+            events: Vec::new(alloc),
+            places: 0,
+        }
+    }
+
+    /// Keeps a place for the end of one more transaction. Returns `AllocError` if memory runs out; the recorder is then
+    /// as it was.
+    pub fn open(&mut self) -> Result<(), AllocError>
+        ensures events { events_of self.new ≡ events_of self.old }
+        ensures places { OnOk result (places_of self.new ≡ places_of self.old + 1) }
+        ensures err { OnErr result (places_of self.new ≡ places_of self.old) }
+    {
+        self.room()?;
+        self.places += 1;
+        Ok(())
+    }
+
+    /// Makes room for one event, which the next call of [`Recorder::event`] needs. Returns `AllocError` if memory runs
+    /// out. Either way the events and the kept places are as before.
+    pub fn room(&mut self) -> Result<(), AllocError>
+        ensures same { IsAsBefore self.old self.new }
+        ensures room { OnOk result (HasRoom self.new) }
+    {
+        if self.events.capacity() - self.events.len() > self.places {
+            return Ok(());
+        }
+        self.events.reserve(self.places + 1)
+    }
+
+    /// Records an event in the room that [`Recorder::room`] made. It takes no memory.
+    pub fn event(&mut self, event: Event)
+        requires { HasRoom self.old }
+        ensures events { events_of self.new ≡ events_of self.old ++ event_of event ∷ [] }
+        ensures places { places_of self.new ≡ places_of self.old }
+    {
+        self.events.push_reserved(event);
+    }
+
+    /// Records a commit or an abort in a kept place. It takes no memory.
+    pub fn end(&mut self, end: Event)
+        requires { 0 < places_of self.old }
+        ensures events { events_of self.new ≡ events_of self.old ++ event_of end ∷ [] }
+        ensures places { places_of self.new + 1 ≡ places_of self.old }
+    {
+        self.places -= 1;
+        self.events.push_reserved(end);
+    }
+
+    /// Returns the history of the first edition that these events make, with an abort at the end for each of the
+    /// active transactions. Hands the recorder back as it was if memory runs out.
+    pub fn finish(mut self, active: &[Txn]) -> Result<History, (Recorder, AllocError)>
+        ensures history { IfOk result (λ h. history_of h ≡ history_of_events Edition.One [] (events_of self ++ map Abort active.now)) }
+        ensures err { IfErr result (λ e. IsAsBefore self e.0) }
+    {
+        let lists = match installed(self.alloc, self.events.as_slice()) {
+            Ok(lists) => lists,
+            Err(e) => return Err((self, e)),
+        };
+        if let Err(e) = self.events.reserve(active.len()) {
+            return Err((self, e));
+        }
+        let events = with_aborts(self.events, active);
+        Ok(History::new(events, lists.orders, lists.finals).unwrap())
+    }
+
+    /// Returns the history of the second edition that these events make, with the active transactions, which have to
+    /// rise, as the unfinished ones. Returns `AllocError` if memory runs out. The recorder stays as it is.
+    pub fn dump(&self, active: &[Txn]) -> Result<History, AllocError>
+        requires { numbers_rise active.now ≡ true }
+        ensures { IfOk result (λ h. history_of h ≡ history_of_events Edition.Two active.now (events_of self.now)) }
+    {
+        let lists = installed(self.alloc, self.events.as_slice())?;
+        let events = copies(self.alloc, self.events.as_slice())?;
+        let unfinished = Vec::from_slice(self.alloc, active)?;
+        let history = History::new_two(events, unfinished, lists.orders, lists.finals).unwrap();
+        Ok(history)
+    }
+}
+
+/// Adds an abort for each of the transactions, in reserved room.
+fn with_aborts(mut events: Vec<Event>, active: &[Txn]) -> Vec<Event>
+    requires { vec_len events + length active.now ≤ vec_capacity events }
+    ensures { map event_of result.items ≡ map event_of events.items ++ map Abort active.now }
+{
+    'active: for txn in active {
+        events.push_reserved(Event::Abort { txn: *txn });
+    }
+    events
+}
+
+/// Returns equal events.
+fn copies(alloc: Global, events: &[Event]) -> Result<Vec<Event>, AllocError>
+    ensures { IfOk result (λ v. map event_of v.items ≡ map event_of events.now) }
+{
+    let mut copies = Vec::new(alloc);
+    'events: for event in events {
+        let copy = event.copy(alloc)?;
+        copies.push(copy)?;
+    }
+    Ok(copies)
+}
