@@ -3,7 +3,7 @@ use Rattle.std.proofs.Common.{◌≡◌, ℕ, ◌==◌, Bool, true, false, true�
 use Rattle.std.specs.List.{IsDistinct}
 use Rattle.std.specs.Ordering.{nat_cmp, is_eq}
 use Rattle.std.specs.Cmp.{nat_cmp_total, eq_by_cmp_equiv}
-use Rattle.std.specs.BTreeMap.{is_at}
+use Rattle.std.specs.BTreeMap.{BTreeMap, get, is_at}
 use Rattle.std.specs.Map.{lookup, keys_of}
 use Rattle.std.specs.Global.{Vec}
 use Rattle.std.proofs.lemmas.Bool.{cases_Bool}
@@ -12,8 +12,9 @@ use Rattle.std.proofs.lemmas.Map.Keys.{IsDistinct-tail}
 use Rattle.std.proofs.lemmas.Map.Entries.{none_past_head}
 use Rattle.adya_values.specs.Meaning.Keys.{lies_in}
 use Rattle.ssi_reads.specs.declared.span.Span.{Span}
-use Rattle.ssi_reads.specs.Machinery.Indexed.{any_covers, covered_in, ranged_by}
-use Rattle.ssi_reads.proofs.Numbers.{cond_or, txn_at, is_eq-nat_cmp}
+use Rattle.ssi_reads.specs.Machinery.Indexed.{any_covers, covered_in, ranged, ranged_by}
+use Rattle.ssi_reads.proofs.Numbers.{cond_or, txn_at, is_eq-nat_cmp, same_txn}
+use Rattle.ssi_reads.proofs.Maps.{has_more, has_same}
 
 pub covers_pushed : (ss : List Span) (s : Span) (k : List ℕ)
     → any_covers (ss ++ s ∷ []) k ≡ (lies_in s.low s.high k || any_covers ss k)
@@ -69,10 +70,18 @@ entry_passed a true rest found whole c inv = absurd (true≢false c)
 entry_passed true false rest found whole c inv = inv
 entry_passed false false rest found whole c inv = inv
 
--- a set of ranges that takes a range, as a set of marks
-pub range_marked : (t u : ℕ) (within old new : Bool) → new ≡ ((is_eq (nat_cmp t u) && within) || old)
-    → new ≡ (((u == t) && within) || old)
-range_marked t u within old new e = e ∙ ap (λ b. (b && within) || old) (txn_at t u)
+-- the ranges under one transaction change
+module _ (t : ℕ) (m n : BTreeMap ℕ (Vec Span)) (old new : Option (Vec Span)) (was : get nat_cmp m t ≡ old)
+    (put : (u : ℕ) → get nat_cmp n u ≡ cond (is_eq (nat_cmp t u)) new (get nat_cmp m u)) where
+  pub ranged_more : (s : Span) → ((k : List ℕ) → covered_in new k ≡ (lies_in s.low s.high k || covered_in old k))
+      → (u : ℕ) (k : List ℕ) → ranged n u k ≡ (((u == t) && lies_in s.low s.high k) || ranged m u k)
+  ranged_more s more u k =
+      has_more covered_in (λ q. is_eq (nat_cmp t q)) t (same_txn t) (get nat_cmp m) (get nat_cmp n) old new was put
+      (λ j. lies_in s.low s.high j) more u k ∙
+      ap (λ b. (b && lies_in s.low s.high k) || ranged m u k) (txn_at t u)
+
+  pub ranged_same : (k : List ℕ) → covered_in new k ≡ covered_in old k → (u : ℕ) → ranged n u k ≡ ranged m u k
+  ranged_same = has_same covered_in (λ q. is_eq (nat_cmp t q)) t (same_txn t) (get nat_cmp m) (get nat_cmp n) old new was put
 
 pub ranges_dropped : (t u : ℕ) (k : List ℕ) (o : Option (Vec Span))
     → covered_in (cond (is_eq (nat_cmp t u)) None o) k ≡ (not (u == t) && covered_in o k)

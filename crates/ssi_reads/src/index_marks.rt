@@ -12,8 +12,8 @@ use adya_values::{Key, Txn};
 use std::alloc::{AllocError, Global};
 use std::collections::BTreeSet;
 
-/// Marks of keys by key, and marks of ranges by transaction. Marks and `forget` take logarithmic time for each mark
-/// that is made or removed; `readers_of` walks the readers of the key and all marked ranges.
+/// Marks of keys by key, and marks of ranges by transaction. A mark takes logarithmic time, and `forget` takes it for
+/// each key that the transaction has marked; `readers_of` walks the readers of the key, and all marked ranges.
 #[derive(Drop)]
 pub struct IndexMarks {
     alloc: Global,
