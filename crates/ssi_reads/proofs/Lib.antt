@@ -1,0 +1,5 @@
+pub mod Numbers
+pub mod ListedMarks
+pub mod Maps
+pub mod KeyedMarks
+pub mod RangedMarks

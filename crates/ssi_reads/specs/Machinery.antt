@@ -1,0 +1,3 @@
+-- What only this crate's loops and tables need.
+pub mod Listed
+pub mod Indexed

@@ -1,0 +1,59 @@
+//! Marks of keys in an index, and marks of ranges by transaction.
+
+ghost use Rattle.std.specs.Prelude.{◌||◌};
+ghost use Rattle.ssi_reads.specs.Meaning.Marks.{IsEmpty};
+ghost use Rattle.ssi_reads.specs.Machinery.Indexed.{key_marked, ranged};
+
+use crate::key_marks::KeyMarks;
+use crate::marks::Marks;
+use crate::members::by_number;
+use crate::range_marks::RangeMarks;
+use adya_values::{Key, Txn};
+use std::alloc::{AllocError, Global};
+use std::collections::BTreeSet;
+
+/// Marks of keys by key, and marks of ranges by transaction. A mark takes logarithmic time, and `forget` takes it for
+/// each key that the transaction has marked; `readers_of` walks the readers of the key, and all marked ranges.
+#[derive(Drop)]
+pub struct IndexMarks {
+    alloc: Global,
+    keys: KeyMarks,
+    ranges: RangeMarks,
+}
+
+impl IndexMarks {
+    /// Returns a set without marks, and takes no memory. The allocator is kept for the marks.
+    pub fn new(alloc: Global) -> IndexMarks
+        ensures { IsEmpty (⟦<IndexMarks as Marks>⟧.marked result) }
+    {
+        IndexMarks {
+            alloc,
+            keys: KeyMarks::new(alloc),
+            ranges: RangeMarks::new(alloc),
+        }
+    }
+}
+
+impl Marks for IndexMarks {
+    ghost marked = { λ m u k. key_marked m.keys u k || ranged m.ranges.spans u k };
+
+    fn mark_key(&mut self, txn: Txn, key: Key) -> Result<(), AllocError> {
+        self.keys.mark(txn, key)
+    }
+
+    fn mark_range(&mut self, txn: Txn, lo: Key, hi: Key) -> Result<(), AllocError> {
+        self.ranges.mark(txn, lo, hi)
+    }
+
+    fn readers_of(&self, key: Key) -> Result<Vec<Txn>, AllocError> {
+        let mut found = BTreeSet::new(self.alloc);
+        self.ranges.add_readers(&mut found, key)?;
+        self.keys.add_readers(&mut found, key)?;
+        by_number(self.alloc, &found)
+    }
+
+    fn forget(&mut self, txn: Txn) {
+        self.keys.forget(txn);
+        self.ranges.forget(txn);
+    }
+}

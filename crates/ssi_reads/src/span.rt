@@ -1,0 +1,21 @@
+//! Ranges of keys.
+
+ghost use Rattle.std.specs.Prelude.{◌≡◌};
+ghost use Rattle.adya_values.specs.Meaning.Keys.{lies_in};
+
+use adya_values::Key;
+
+/// The keys from `low` to `high`, both included; none if `high` is below `low`.
+#[derive(Clone, Copy)]
+pub(crate) struct Span {
+    pub(crate) low: Key,
+    pub(crate) high: Key,
+}
+
+impl Span {
+    pub(crate) fn covers(&self, key: Key) -> bool
+        ensures { result ≡ lies_in self.now.low self.now.high key }
+    {
+        self.low <= key && key <= self.high
+    }
+}
