@@ -3,6 +3,7 @@
 -- Events and Orders: what events write and see, and the versions of a key in their order.
 -- Selections and Edges: which version of a key an event sees, and the dependencies between transactions.
 -- Rules and Phenomena: when a history is well-formed, and what isolation level PL-3 rules out.
+-- KeySets: rising lists of keys.
 -- Serial and Acceptance: agreement with a serial run, and when a certificate is accepted.
 pub mod Keys
 pub mod Histories
@@ -11,6 +12,7 @@ pub mod Events
 pub mod Orders
 pub mod Selections
 pub mod Edges
+pub mod KeySets
 pub mod Rules
 pub mod Phenomena
 pub mod Serial

@@ -7,7 +7,7 @@ use Rattle.adya_values.specs.Meaning.Keys.{key_eq}
 use Rattle.adya_values.specs.Meaning.Histories.{Entry, Event, Abort, Order, FinalPair, History}
 use Rattle.adya_values.specs.Meaning.Events.{written, last, shown}
 use Rattle.adya_values.specs.Meaning.Serial.{visible_pair_of}
-use Rattle.ssi_recorder.specs.Meaning.KeySets.{insert}
+use Rattle.adya_values.specs.Meaning.KeySets.{insert}
 use Rattle.ssi_recorder.specs.Meaning.Recorded.{commit_of, with_number, order_line, orders_of_events, finals_of_events}
 
 abbrev with_aborts : List Event → List ℕ → List Event

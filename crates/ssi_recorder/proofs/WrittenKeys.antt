@@ -11,7 +11,7 @@ use Rattle.lemmas.proofs.Orderings.{bytes_eq-same, bytes_eq-from, bytes_lt-trans
 use Rattle.adya_values.specs.Meaning.Keys.{key_eq, key_lt, keys_rise}
 use Rattle.adya_values.specs.Meaning.Histories.{Entry}
 use Rattle.adya_values.proofs.Keys.{keys_rise-tail}
-use Rattle.ssi_recorder.specs.Meaning.KeySets.{insert}
+use Rattle.adya_values.specs.Meaning.KeySets.{insert}
 
 -- ---- rising keys
 

@@ -1,7 +1,6 @@
 -- What a recorder holds and what it returns. A reading order:
--- KeySets: rising lists of keys. Recorded: the history that a list of events makes. Recorder: what is seen of a
+-- Recorded: the history that a list of events makes. Recorder: what is seen of a
 -- recorder. Laws: what follows from the definitions.
-pub mod KeySets
 pub mod Recorded
 pub mod Recorder
 pub mod Laws

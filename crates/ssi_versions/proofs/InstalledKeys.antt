@@ -13,7 +13,7 @@ use Rattle.adya_values.specs.Meaning.Keys.{key_eq, key_lt, keys_rise}
 use Rattle.adya_values.specs.Meaning.Histories.{Entry}
 use Rattle.adya_values.specs.Meaning.Events.{listed}
 use Rattle.adya_values.proofs.Keys.{keys_rise-tail, rises_below, rises_other}
-use Rattle.ssi_versions.specs.Meaning.KeySets.{insert}
+use Rattle.adya_values.specs.Meaning.KeySets.{insert}
 use Rattle.ssi_versions.specs.Meaning.Changes.{Change, Installs, Collects, held, insert_keys, installed_keys, is_needed, listing, stamped}
 
 -- no key stands twice

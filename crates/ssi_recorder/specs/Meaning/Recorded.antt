@@ -6,7 +6,7 @@ use Rattle.adya_values.specs.declared.edition.Edition.{Edition}
 use Rattle.adya_values.specs.Meaning.Histories.{Event, Write, Delete, Read, Scan, Commit, Abort, Order, FinalPair, History}
 use Rattle.adya_values.specs.Meaning.Events.{written, last, last_write, shown}
 use Rattle.adya_values.specs.Meaning.Serial.{visible_pair_of}
-use Rattle.ssi_recorder.specs.Meaning.KeySets.{insert}
+use Rattle.adya_values.specs.Meaning.KeySets.{insert}
 
 -- the transaction that the event commits, if it is a commit
 abbrev pub commit_of : Event → Option ℕ

@@ -5,7 +5,7 @@ use Rattle.std.specs.List.{list_any, AllPairs}
 use Rattle.adya_values.specs.Meaning.Keys.{key_eq}
 use Rattle.adya_values.specs.Meaning.Histories.{Entry}
 use Rattle.adya_values.specs.Meaning.Events.{listed}
-use Rattle.ssi_versions.specs.Meaning.KeySets.{insert}
+use Rattle.adya_values.specs.Meaning.KeySets.{insert}
 
 -- a commit installs versions with its stamp; a collection names the open snapshots
 pub data Change : Type 0 where
