@@ -6,6 +6,7 @@ mod check;
 mod edges;
 mod graphs;
 mod lines;
+mod marks;
 mod order;
 mod random_histories;
 mod run_audit;
