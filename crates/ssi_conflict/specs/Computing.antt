@@ -1,0 +1,2 @@
+-- Pairs and pivots call by call.
+pub mod Steps
