@@ -1,0 +1,5 @@
+mod Writing
+mod Storing
+mod Merging
+mod Cutting
+mod Unique

@@ -1,0 +1,19 @@
+//! Laws of lists of writes and of what a scan lists, each proved as the contract of a function that does nothing.
+
+ghost use Rattle.ssi_snapshot.specs.Meaning.Laws.{PutIsFound, PutKeepsOrder, ListingIsUnique};
+
+/// After a write the list has this write of its key, and of every other key what it had.
+pub fn put_is_found()
+    ensures { PutIsFound }
+{}
+
+/// A write of a key that was written before leaves the keys of the list as they are. A write of another key adds its key
+/// at the end.
+pub fn put_keeps_order()
+    ensures { PutKeepsOrder }
+{}
+
+/// Only one list by rising key has a given entry, or none, of each key.
+pub fn listing_is_unique()
+    ensures { ListingIsUnique }
+{}
