@@ -3,3 +3,5 @@ mod Storing
 mod Merging
 mod Cutting
 mod Unique
+mod ByKeys
+mod Limiting

@@ -8,8 +8,6 @@ use Rattle.std.specs.Cmp.Lexicographic.{slice_cmp, texts_ties, nat_list_eq_equiv
 use Rattle.std.proofs.lemmas.Bool.{and_parts, and_from}
 use Rattle.lemmas.proofs.Steps.{drop_step}
 use Rattle.lemmas.proofs.Orderings.{bytes_eq-same, bytes_eq-itself}
-use Rattle.adya_values.specs.declared.event.Version.{Version}
-use Rattle.adya_values.specs.declared.event.Content.{Content}
 use Rattle.adya_values.specs.declared.event.Entry.{Entry as EntryValue}
 use Rattle.adya_values.specs.Meaning.Keys.{key_eq, key_lt, keys_rise, lies_in}
 use Rattle.adya_values.specs.Meaning.Histories.{Entry, content_of, entry_of}

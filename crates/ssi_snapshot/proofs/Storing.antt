@@ -1,7 +1,7 @@
 -- Writes in an index map, each under its own key.
-use Rattle.std.proofs.Common.{◌≡◌, ℕ, ◌<◌, true, false, cond, if◌then◌else◌, List, [], ◌∷◌, map, length, get_or, Some, is_some, refl, ◌∙◌, ap, sym, subst, nat_eq, Option, None, option_map, arith}
+use Rattle.std.proofs.Common.{◌≡◌, ℕ, ◌<◌, true, false, cond, if◌then◌else◌, List, [], ◌∷◌, get_or, Some, is_some, refl, ◌∙◌, ap, sym, subst, nat_eq, Option, None, option_map, arith}
 use Rattle.std.specs.List.{IsDistinct}
-use Rattle.std.specs.Map.{lookup, keys_of, values_of}
+use Rattle.std.specs.Map.{lookup, keys_of}
 use Rattle.std.specs.Cmp.Lexicographic.{pointwise, nat_list_eq_equiv}
 use Rattle.std.proofs.lemmas.Bool.{and_parts, and_from}
 use Rattle.std.proofs.lemmas.List.{length-map, get_or-map}

@@ -1,4 +1,4 @@
-use Rattle.std.proofs.Common.{◌≡◌, ◌∙◌, ◌-◌, ◌+◌, rules, arith, ap, sym, subst, true, length, drop}
+use Rattle.std.proofs.Common.{◌≡◌, ◌∙◌, ◌-◌, ◌+◌, rules, arith, ap, length, drop}
 use Rattle.ssi_versions.specs.Meaning.Changes.{otherwise}
 use Rattle.ssi_snapshot.specs.Machinery.Stored.{are_keyed, entry_key, stored_at}
 use Rattle.ssi_snapshot.proofs.Merging.{own_in, own_more, own_less}

@@ -1,4 +1,4 @@
-use Rattle.std.proofs.Common.{◌∙◌, ap, sym, option_map}
+use Rattle.std.proofs.Common.{◌∙◌, ap, option_map}
 use Rattle.ssi_versions.specs.Meaning.Chains.{write_of}
 use Rattle.ssi_snapshot.proofs.Storing.{stored_found}
 use Rattle.ssi_snapshot.proofs.view.View.own_write.Goals as goal

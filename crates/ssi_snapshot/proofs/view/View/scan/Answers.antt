@@ -1,6 +1,6 @@
 use Rattle.std.proofs.Common.{◌≡◌, ◌∙◌, ap, map, if◌then◌else◌, None, true}
 use Rattle.adya_values.specs.Meaning.Keys.{keys_rise, lies_in}
-use Rattle.adya_values.specs.Meaning.Histories.{Entry, entry_of}
+use Rattle.adya_values.specs.Meaning.Histories.{entry_of}
 use Rattle.adya_values.specs.Meaning.Events.{listed}
 use Rattle.ssi_versions.specs.Meaning.Changes.{otherwise, entry_in, newest_within}
 use Rattle.ssi_versions.specs.Meaning.Chains.{held_of, found_in, chain_of}
