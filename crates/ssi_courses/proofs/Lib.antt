@@ -29,3 +29,4 @@ pub mod Records
 pub mod Keeping
 pub mod Collecting
 pub mod Judging
+pub mod WorkedCases
