@@ -3,40 +3,53 @@ use Rattle.std.specs.Prelude.{ℕ, suc, Bool, true, false, nat_lt, if◌then◌e
 use Rattle.adya_values.specs.Meaning.Keys.{key_eq}
 use Rattle.adya_values.specs.Meaning.Histories.{FinalPair}
 
--- sessions, keys and values as their bytes; a limited scan gives the first rows, as many as its limit
+-- what a session, or an operator, asks of a store; sessions, keys and values are lists of bytes
 pub data Command : Type 0 where
   Begin : (session : List ℕ) → Command
   Get : (session key : List ℕ) → Command
   Put : (session key value : List ℕ) → Command
   Del : (session key : List ℕ) → Command
+  -- all visible pairs of the range
   Scan : (session low high : List ℕ) → Command
+  -- the first of them, at most as many as the limit
   ScanFirst : (session low high : List ℕ) (limit : ℕ) → Command
   Commit : (session : List ℕ) → Command
   Abort : (session : List ℕ) → Command
+  -- drop the versions that nobody can see any more
   Collect : Command
+  -- count transactions, versions and keys
   Stat : Command
 
--- the session has a transaction; it has none; the range runs downward; its transaction has done as many operations as
--- it may; the last transaction number was given; memory ran out
+-- why a command is refused; a refusal changes nothing
 pub data Refusal : Type 0 where
+  -- the session has a transaction already
   Busy : Refusal
+  -- the session has no transaction
   Idle : Refusal
+  -- the range runs downward
   Range : Refusal
+  -- the transaction has done as many operations as it may
   Long : Refusal
+  -- the last transaction number was given
   Spent : Refusal
+  -- memory ran out
   Memory : Refusal
 
--- a row is a visible pair, as a final line has it
+-- what a store answers; a row is a visible pair, as a history's final values are
 pub data Answer : Type 0 where
   Begun : (txn : ℕ) → Answer
   Value : (value : List ℕ) → Answer
   Absent : Answer
+  -- the write is carried out
   Done : Answer
   Rows : (rows : List FinalPair) → Answer
   Committed : Answer
   Aborted : Answer
+  -- the transaction is aborted: another one has committed a write of the key since it began
   Conflict : (key : List ℕ) (writer : ℕ) → Answer
+  -- the transaction is aborted: this pivot would stand
   Unsafe : (pivot : ℕ) → Answer
+  -- how many versions a collection has kept
   Kept : (versions : ℕ) → Answer
   Counts : (active kept versions keys : ℕ) → Answer
   Refused : (refusal : Refusal) → Answer
@@ -79,7 +92,7 @@ abbrev pub txn_in : List ℕ → Course → Option ℕ
 txn_in s (New first) = None
 txn_in s (Then c command answer) = if is_of s command then txn_after (txn_in s c) answer else txn_in s c
 
--- the open transaction of the session of the command
+-- the open transaction of the session that gives the command
 abbrev pub txn_for : Command → Course → Option ℕ
 txn_for (Begin s) c = txn_in s c
 txn_for (Get s k) c = txn_in s c

@@ -20,7 +20,7 @@ use Rattle.snapshot_histories.specs.Meaning.Snapshots.{AreConcurrent, IsSafe}
 abbrev pub start_of : Course → ℕ → ℕ
 start_of c t = start_in (starts c) t
 
--- what holds of a history of the course, if these pivots never stand
+-- what a history of the course is, by a rule whose pivots never stand
 pub record IsCovered (IsStanding : ℕ → List Call → Type 0) (c : Course) (h : History) : Type 0 where
   -- the history is checked, a snapshot history, and without a dangerous structure
   pub safe : IsSafe h (start_of c)

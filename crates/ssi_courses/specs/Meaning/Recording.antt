@@ -58,7 +58,7 @@ dumped c = history_of_events Two (open_txns (acts c)) (events (acts c))
 abbrev pub starts : Course → List (ℕ × ℕ)
 starts c = map (λ t. (t, snapshot t (acts c))) (started (acts c))
 
--- the snapshot of the transaction in such a list, 0 where it isn't there
+-- the snapshot of the transaction in such a list, 0 if it isn't there
 abbrev pub start_in : List (ℕ × ℕ) → ℕ → ℕ
 start_in [] t = 0
 start_in (s ∷ ss) t = if s.0 == t then s.1 else start_in ss t

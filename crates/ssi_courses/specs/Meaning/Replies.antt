@@ -1,5 +1,6 @@
 -- The answer to each command, by all that was before. `pivot` names the pivot that stands after a list of calls, if one
--- does: `smallest_pivot` by the two-pair rule, `smallest_ordered_pivot` by the commit-order rule.
+-- does: `smallest_pivot` by the two-pair rule (Cahill, Röhm and Fekete 2008), `smallest_ordered_pivot` by the commit-order
+-- rule (Ports and Grittner 2012, section 3.3).
 use Rattle.std.specs.Prelude.{◌≡◌, ◌⊎◌, ℕ, Bool, true, false, ◌&&◌, nat_lt, nat_le, if◌then◌else◌, List, ◌∷◌, take, Option, Some, None}
 use Rattle.std.specs.List.{find}
 use Rattle.adya_values.specs.Meaning.Keys.{key_lt}
@@ -14,7 +15,7 @@ use Rattle.ssi_courses.specs.Meaning.Acts.{Act, Gets, Scans, Commits, Collects, 
 use Rattle.ssi_courses.specs.Meaning.Seeing.{snapshot, wrote, sees, keys, scanned, changed}
 use Rattle.ssi_courses.specs.Meaning.Tracked.{tracked}
 
--- t wrote the key, and a version of it with a stamp above t's snapshot is installed
+-- t wrote the key, and a version of it was committed after t started; the first committer wins
 abbrev pub is_overtaken : ℕ → List Act → List ℕ → Bool
 is_overtaken t log k = wrote t k log && is_installed_above k (snapshot t log) (changed log)
 
@@ -27,7 +28,7 @@ abbrev pub writer_in : Option Held → ℕ
 writer_in None = 0
 writer_in (Some h) = h.entry.version.txn
 
--- the key's last writer, 0 where it has none
+-- the key's last writer, 0 if it has none
 abbrev pub last_writer : List ℕ → List Act → ℕ
 last_writer k log = writer_in (last_version k (changed log))
 
@@ -50,7 +51,8 @@ abbrev pub unless_conflict : Option (List ℕ) → List Act → Answer → Answe
 unless_conflict None log answer = answer
 unless_conflict (Some k) log answer = Conflict k (last_writer k log)
 
--- the answer, if the transaction may do one more operation
+-- the answer, if the transaction may do one more operation; it may do 65535 of them, so that all of its modifications have
+-- numbers
 abbrev pub unless_long : ℕ → List Act → Answer → Answer
 unless_long t log answer = if nat_le 65535 (operations t log) then Refused Long else answer
 
@@ -89,7 +91,8 @@ reply_in pivot t log (Do.Abort s) = Aborted
 reply_in pivot t log Do.Collect = kept_answer log
 reply_in pivot t log Do.Stat = counts_answer log
 
--- the answer to a command of a session without a transaction, or of no session
+-- the answer to a command of a session without a transaction, or of no session; the greatest transaction number is
+-- 4294967295
 abbrev pub reply_idle : Course → Command → Answer
 reply_idle c (Do.Begin s) = if nat_lt 4294967295 (next_txn c) then Refused Spent else Begun (next_txn c)
 reply_idle c (Do.Get s k) = Refused Idle
