@@ -18,7 +18,7 @@ unaborted_before r u (Aborts t ∷ calls) e = unaborted_before r u calls (or_par
 unaborted_before r u (Commits t n ks ∷ calls) e =
     elim (cases_Bool (t == u)) [ inl same ↦ rw same e | inr other ↦ rw other (unaborted_before r u calls e) ]
 
-pub begun_there : (t : ℕ) (calls : List Call) → has_begun t calls ≡ true → Contains (begun calls) t
+begun_there : (t : ℕ) (calls : List Call) → has_begun t calls ≡ true → Contains (begun calls) t
 begun_there t [] e = absurd (cc (e))
 begun_there t (Reads u low high ∷ calls) e = begun_there t calls e
 begun_there t (Commits u n ks ∷ calls) e = begun_there t calls e

@@ -16,7 +16,7 @@ use Rattle.ssi_courses.proofs.Sound.{Sound, open_from, started_there}
 use Rattle.ssi_courses.proofs.Telling.{own_keys_apart}
 use Rattle.ssi_courses.proofs.Writing.{own_write_is}
 
-pub last_installed_is : (log : List Act) → last_installed (changed log) ≡ commit_count log
+last_installed_is : (log : List Act) → last_installed (changed log) ≡ commit_count log
 last_installed_is [] = refl
 last_installed_is (Starts u ∷ log) = last_installed_is log
 last_installed_is (Writes u k c ∷ log) = last_installed_is log
@@ -27,7 +27,7 @@ last_installed_is (Aborts u ∷ log) = last_installed_is log
 last_installed_is (Collects ∷ log) = last_installed_is log
 
 -- what is made of keys that differ, each of its own key, differs in keys
-pub made_apart : (f : List ℕ → Option Entry) → ((j : List ℕ) (w : Entry) → f j ≡ Some w → w.version.key ≡ j)
+made_apart : (f : List ℕ → Option Entry) → ((j : List ℕ) (w : Entry) → f j ≡ Some w → w.version.key ≡ j)
     → (ks : List (List ℕ)) → AllPairs (λ j k. key_eq j k ≡ false) ks
     → AllPairs (λ v w. key_eq v.version.key w.version.key ≡ false) (filter_map f ks)
 made_apart f own [] a = λ i j d l m. absurd (omega (arith, m))
@@ -61,7 +61,7 @@ changed_installable (Commits u ∷ log) = (
 )
 
 -- a snapshot at or above all stamps so far was left out by no collection
-pub late_protected : (s : ℕ) (log : List Act) → commit_count log ≤ s → IsProtected s (changed log)
+late_protected : (s : ℕ) (log : List Act) → commit_count log ≤ s → IsProtected s (changed log)
 late_protected s [] l = tt
 late_protected s (Starts u ∷ log) l = late_protected s log l
 late_protected s (Writes u k c ∷ log) l = late_protected s log l

@@ -11,7 +11,7 @@ use Rattle.ssi_courses.proofs.Sound.{Open, Safe, Sound, open_from, started_there
 pub open_to : (t : ℕ) (log : List Act) → Open t log → is_open t log ≡ true
 open_to t log o = and_from _ _ o.begun (not_from_false _ (or_from _ _ o.uncommitted o.unaborted))
 
-pub open_before : (t u : ℕ) (log : List Act) → is_open t (Aborts u ∷ log) ≡ true
+open_before : (t u : ℕ) (log : List Act) → is_open t (Aborts u ∷ log) ≡ true
     → (is_open t log ≡ true) × ((u ≡ t) → ⊥)
 open_before t u log e =
     let o = open_from t (Aborts u ∷ log) e in
@@ -21,7 +21,7 @@ open_before t u log e =
           both.0 (eq-eqb u t s),
     )
 
-pub close_sound : (ts : List ℕ) (log : List Act) → Sound log → Sound (close ts log)
+close_sound : (ts : List ℕ) (log : List Act) → Sound log → Sound (close ts log)
 close_sound [] log s = s
 close_sound (t ∷ ts) log s =
     elim (cases_Bool (is_open t log)) [
@@ -41,7 +41,7 @@ close_safe pivot (t ∷ ts) log s =
           (close_safe pivot ts log s)
     ]
 
-pub close_opens : (t : ℕ) (ts : List ℕ) (log : List Act) → is_open t (close ts log) ≡ true → is_open t log ≡ true
+close_opens : (t : ℕ) (ts : List ℕ) (log : List Act) → is_open t (close ts log) ≡ true → is_open t log ≡ true
 close_opens t [] log e = e
 close_opens t (u ∷ ts) log e =
     elim (cases_Bool (is_open u log)) [
@@ -52,7 +52,7 @@ close_opens t (u ∷ ts) log e =
           (subst (λ b. is_open t (close ts (cond b (Aborts u ∷ log) log)) ≡ true) fails e)
     ]
 
-pub close_ends : (t : ℕ) (ts : List ℕ) (log : List Act) → Contains ts t → is_open t (close ts log) ≡ true → ⊥
+close_ends : (t : ℕ) (ts : List ℕ) (log : List Act) → Contains ts t → is_open t (close ts log) ≡ true → ⊥
 close_ends t [] log c e = none_contained t c
 close_ends t (u ∷ ts) log (zero, l, f) e =
     elim (cases_Bool (is_open u log)) [

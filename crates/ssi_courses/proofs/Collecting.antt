@@ -16,7 +16,7 @@ use Rattle.ssi_courses.specs.Meaning.Seeing.{changed, commit_count, keys, last_w
 use Rattle.ssi_courses.specs.Meaning.Tracked.{tracked}
 use Rattle.ssi_courses.proofs.Lists.{filter_map_same}
 
-pub operations_same : (t : ℕ) (log : List Act) → operations t (uncollected log) ≡ operations t log
+operations_same : (t : ℕ) (log : List Act) → operations t (uncollected log) ≡ operations t log
 operations_same t [] = refl
 operations_same t (Starts u ∷ log) = operations_same t log
 operations_same t (Writes u j c ∷ log) = ap (λ n. cond (u == t) (suc n) n) (operations_same t log)
@@ -36,7 +36,7 @@ commits_same (Commits u ∷ log) = ap suc (commits_same log)
 commits_same (Aborts u ∷ log) = commits_same log
 commits_same (Collects ∷ log) = commits_same log
 
-pub snapshot_same : (t : ℕ) (log : List Act) → snapshot t (uncollected log) ≡ snapshot t log
+snapshot_same : (t : ℕ) (log : List Act) → snapshot t (uncollected log) ≡ snapshot t log
 snapshot_same t [] = refl
 snapshot_same t (Starts u ∷ log) = ap (λ n. cond (u == t) n (snapshot t (uncollected log))) (commits_same log)
     ∙ ap (cond (u == t) (commit_count log)) (snapshot_same t log)
@@ -47,7 +47,7 @@ snapshot_same t (Commits u ∷ log) = snapshot_same t log
 snapshot_same t (Aborts u ∷ log) = snapshot_same t log
 snapshot_same t (Collects ∷ log) = snapshot_same t log
 
-pub count_same_writes : (t : ℕ) (k : List ℕ) (log : List Act)
+count_same_writes : (t : ℕ) (k : List ℕ) (log : List Act)
     → write_count t k (uncollected log) ≡ write_count t k log
 count_same_writes t k [] = refl
 count_same_writes t k (Starts u ∷ log) = count_same_writes t k log
@@ -59,7 +59,7 @@ count_same_writes t k (Commits u ∷ log) = count_same_writes t k log
 count_same_writes t k (Aborts u ∷ log) = count_same_writes t k log
 count_same_writes t k (Collects ∷ log) = count_same_writes t k log
 
-pub own_same : (t : ℕ) (k : List ℕ) (log : List Act) → own_write t k (uncollected log) ≡ own_write t k log
+own_same : (t : ℕ) (k : List ℕ) (log : List Act) → own_write t k (uncollected log) ≡ own_write t k log
 own_same t k [] = refl
 own_same t k (Starts u ∷ log) = own_same t k log
 own_same t k (Writes u j c ∷ log) = ap
@@ -72,7 +72,7 @@ own_same t k (Commits u ∷ log) = own_same t k log
 own_same t k (Aborts u ∷ log) = own_same t k log
 own_same t k (Collects ∷ log) = own_same t k log
 
-pub own_keys_same : (t : ℕ) (log : List Act) → own_keys t (uncollected log) ≡ own_keys t log
+own_keys_same : (t : ℕ) (log : List Act) → own_keys t (uncollected log) ≡ own_keys t log
 own_keys_same t [] = refl
 own_keys_same t (Starts u ∷ log) = own_keys_same t log
 own_keys_same t (Writes u j c ∷ log) = ap
@@ -84,7 +84,7 @@ own_keys_same t (Commits u ∷ log) = own_keys_same t log
 own_keys_same t (Aborts u ∷ log) = own_keys_same t log
 own_keys_same t (Collects ∷ log) = own_keys_same t log
 
-pub keys_same : (log : List Act) → keys (uncollected log) ≡ keys log
+keys_same : (log : List Act) → keys (uncollected log) ≡ keys log
 keys_same [] = refl
 keys_same (Starts u ∷ log) = keys_same log
 keys_same (Writes u j c ∷ log) = ap (insert j) (keys_same log)
@@ -94,17 +94,17 @@ keys_same (Commits u ∷ log) = keys_same log
 keys_same (Aborts u ∷ log) = keys_same log
 keys_same (Collects ∷ log) = keys_same log
 
-pub last_writes_same : (t : ℕ) (log : List Act) → last_writes t (uncollected log) ≡ last_writes t log
+last_writes_same : (t : ℕ) (log : List Act) → last_writes t (uncollected log) ≡ last_writes t log
 last_writes_same t log =
     ap (filter_map (λ k. own_write t k (uncollected log))) (own_keys_same t log) ∙
     filter_map_same (λ k. own_write t k (uncollected log)) (λ k. own_write t k log) (own_keys t log)
     (λ k. own_same t k log)
 
-pub three : {X Y Z W : Type 0} (f : X → Y → Z → W) {x x2 : X} {y y2 : Y} {z z2 : Z} → x ≡ x2 → y ≡ y2 → z ≡ z2
+three : {X Y Z W : Type 0} (f : X → Y → Z → W) {x x2 : X} {y y2 : Y} {z z2 : Z} → x ≡ x2 → y ≡ y2 → z ≡ z2
     → f x y z ≡ f x2 y2 z2
 three f {x} {x2} {y} {y2} {z} {z2} e g h = ap (λ a. f a y z) e ∙ (ap (λ b. f x2 b z) g ∙ ap (f x2 y2) h)
 
-pub contents_same : (k : List ℕ) (s : ℕ) (log : List Act)
+contents_same : (k : List ℕ) (s : ℕ) (log : List Act)
     → contents k s (changed (uncollected log)) ≡ contents k s (changed log)
 contents_same k s [] = refl
 contents_same k s (Starts u ∷ log) = contents_same k s log
@@ -117,7 +117,7 @@ contents_same k s (Commits u ∷ log) = three
 contents_same k s (Aborts u ∷ log) = contents_same k s log
 contents_same k s (Collects ∷ log) = contents_same k s log
 
-pub last_same : (k : List ℕ) (log : List Act)
+last_same : (k : List ℕ) (log : List Act)
     → last_version k (changed (uncollected log)) ≡ last_version k (changed log)
 last_same k [] = refl
 last_same k (Starts u ∷ log) = last_same k log
@@ -129,7 +129,7 @@ last_same k (Commits u ∷ log) = three (λ n ws x. otherwise (stamped (suc n) (
 last_same k (Aborts u ∷ log) = last_same k log
 last_same k (Collects ∷ log) = last_same k log
 
-pub above_same : (k : List ℕ) (s : ℕ) (log : List Act)
+above_same : (k : List ℕ) (s : ℕ) (log : List Act)
     → is_installed_above k s (changed (uncollected log)) ≡ is_installed_above k s (changed log)
 above_same k s [] = refl
 above_same k s (Starts u ∷ log) = above_same k s log
@@ -141,7 +141,7 @@ above_same k s (Commits u ∷ log) = three (λ n ws x. (nat_lt s (suc n) && is_s
 above_same k s (Aborts u ∷ log) = above_same k s log
 above_same k s (Collects ∷ log) = above_same k s log
 
-pub tracked_same : (log : List Act) → tracked (uncollected log) ≡ tracked log
+tracked_same : (log : List Act) → tracked (uncollected log) ≡ tracked log
 tracked_same [] = refl
 tracked_same (Starts u ∷ log) = ap (λ n. Begins u n ∷ tracked (uncollected log)) (commits_same log)
     ∙ ap (λ l. Begins u (commit_count log) ∷ l) (tracked_same log)
@@ -155,7 +155,7 @@ tracked_same (Commits u ∷ log) = three (λ n ks l. Ends u (suc n) ks ∷ l) (c
 tracked_same (Aborts u ∷ log) = ap (λ l. Drops u ∷ l) (tracked_same log)
 tracked_same (Collects ∷ log) = tracked_same log
 
-pub sees_same : (t : ℕ) (k : List ℕ) (log : List Act) → sees t k (uncollected log) ≡ sees t k log
+sees_same : (t : ℕ) (k : List ℕ) (log : List Act) → sees t k (uncollected log) ≡ sees t k log
 sees_same t k log =
     ap (λ o. otherwise o (entry_in (contents k (snapshot t (uncollected log)) (changed (uncollected log)))))
     (own_same t k log) ∙
@@ -163,7 +163,7 @@ sees_same t k log =
     (snapshot_same t log) ∙
     ap (λ o. otherwise (own_write t k log) (entry_in o)) (contents_same k (snapshot t log) log))
 
-pub rows_same : (t : ℕ) (low high : List ℕ) (log : List Act) → rows t low high (uncollected log) ≡ rows t low high log
+rows_same : (t : ℕ) (low high : List ℕ) (log : List Act) → rows t low high (uncollected log) ≡ rows t low high log
 rows_same t low high log =
     ap (λ ks. visible_pairs (filter_map (λ k. if lies_in low high k then sees t k (uncollected log) else None) ks))
     (keys_same log) ∙
@@ -171,12 +171,12 @@ rows_same t low high log =
     (λ k. if lies_in low high k then sees t k log else None) (keys log)
     (λ k. ap (λ o. cond (lies_in low high k) o None) (sees_same t k log)))
 
-pub find_same : {X : Type 0} (f g : X → Bool) (xs : List X) → ((x : X) → f x ≡ g x) → find f xs ≡ find g xs
+find_same : {X : Type 0} (f g : X → Bool) (xs : List X) → ((x : X) → f x ≡ g x) → find f xs ≡ find g xs
 find_same f g [] h = refl
 find_same {X} f g (x ∷ xs) h = ap (λ b. cond {A = Option X} b (Some x) (find f xs)) (h x)
     ∙ ap (cond {A = Option X} (g x) (Some x)) (find_same f g xs h)
 
-pub conflict_same : (t : ℕ) (log : List Act) → conflict t (uncollected log) ≡ conflict t log
+conflict_same : (t : ℕ) (log : List Act) → conflict t (uncollected log) ≡ conflict t log
 conflict_same t log =
     ap (find (is_overtaken t (uncollected log))) (keys_same log) ∙
     find_same (is_overtaken t (uncollected log)) (is_overtaken t log) (keys log) (λ k.
@@ -185,17 +185,17 @@ conflict_same t log =
     (ap (λ n. wrote t k log && is_installed_above k n (changed (uncollected log))) (snapshot_same t log) ∙
     ap (λ b. wrote t k log && b) (above_same k (snapshot t log) log)))
 
-pub long_same : (t : ℕ) (log : List Act) (a b : Answer) → a ≡ b
+long_same : (t : ℕ) (log : List Act) (a b : Answer) → a ≡ b
     → unless_long t (uncollected log) a ≡ unless_long t log b
 long_same t log a b e = ap (λ n. cond (nat_le 65535 n) (Refused Long) a) (operations_same t log)
     ∙ ap (unless_long t log) e
 
-pub scan_same : (pivot : List Call → Option ℕ) (t : ℕ) (log : List Act) (low high : List ℕ) (found : List FinalPair)
+scan_same : (pivot : List Call → Option ℕ) (t : ℕ) (log : List Act) (low high : List ℕ) (found : List FinalPair)
     → scan_answer pivot t (uncollected log) low high found ≡ scan_answer pivot t log low high found
 scan_same pivot t log low high found = ap (λ l. unless_pivot (pivot (Reads t low high ∷ l)) (Rows found))
     (tracked_same log)
 
-pub conflict_answer_same : (k : Option (List ℕ)) (log : List Act) (a : Answer)
+conflict_answer_same : (k : Option (List ℕ)) (log : List Act) (a : Answer)
     → unless_conflict k (uncollected log) a ≡ unless_conflict k log a
 conflict_answer_same None log a = refl
 conflict_answer_same (Some k) log a = ap (λ o. Answer.Conflict k (writer_in o)) (last_same k log)

@@ -1,4 +1,4 @@
--- The recorded history is a snapshot history whose rw edges between concurrent transactions are pairs.
+-- The recorded history is a snapshot history, and its anti-dependencies between concurrent transactions are pairs.
 use Rattle.std.specs.List.{Contains}
 use Rattle.std.proofs.Common.{List, None, Option, Some, ap, arith, false, inl, inr, not, slice_get, subst, suc, sym, true, zero, ℕ, ◌&&◌, ◌<◌, ◌==◌, ◌∙◌, ◌≡◌, ◌≢◌, ◌≤◌}
 use Rattle.std.proofs.lemmas.Bool.{and_from, and_parts, cases_Bool, cond-false, cond-true, eq-eqb, leb-true, lt-leb, ne_eqb, not-true, not_from_false}
@@ -31,7 +31,7 @@ use Rattle.ssi_courses.proofs.Stamps.{IsInstaller, NewestOf, contents_newest, in
 use Rattle.ssi_courses.proofs.Telling.{aborted_told, is_committed_told, keys_told, read_told, snapshot_told, stamp_told}
 
 -- what an event selects it shows
-pub selected_shows : (h : History) (e : Event) (k : List ℕ) (p : ℕ) → selected h e k ≡ Some p
+selected_shows : (h : History) (e : Event) (k : List ℕ) (p : ℕ) → selected h e k ≡ Some p
     → (o : Option Entry) × (shows e k ≡ Some o) × (place_of h (txn_of e) k o ≡ Some p)
 selected_shows h (Write t j n v) k p e = absurd (none-some p e)
 selected_shows h (Delete t j n) k p e = absurd (none-some p e)
@@ -57,7 +57,7 @@ selected_shows h (Scan t low high es) k p e =
       | inr out ↦ absurd (let nothing : None ≡ Some p = rw out at e in none-some p nothing)
     ]
 
-pub not_own : (h : History) (t : ℕ) (k : List ℕ) (p : ℕ) (o : Option Entry) → place_of h t k o ≡ Some p
+not_own : (h : History) (t : ℕ) (k : List ℕ) (p : ℕ) (o : Option Entry) → place_of h t k o ≡ Some p
     → IsOwnEntry t o → ⊥
 not_own h t k p o e (w, same, mine) =
     let none : None ≡ Some p =
@@ -67,27 +67,27 @@ not_own h t k p o e (w, same, mine) =
     none-some p none
 
 module _ (edition : Edition) (unfinished : List ℕ) (log : List Act) (sound : Sound log) where
-  pub installed_in : (k : List ℕ) (p u : ℕ) → installer (history_of_log edition unfinished log) k (suc p) ≡ Some u
+  installed_in : (k : List ℕ) (p u : ℕ) → installer (history_of_log edition unfinished log) k (suc p) ≡ Some u
       → slice_get (installers k log) p ≡ Some u
   installed_in k p u e = ap (λ l. slice_get l p) (sym (writers_are edition unfinished k log)) ∙ e
 
-  pub stamp_there : (k : List ℕ) (p u : ℕ) → slice_get (installers k log) p ≡ Some u
+  stamp_there : (k : List ℕ) (p u : ℕ) → slice_get (installers k log) p ≡ Some u
       → (n : ℕ) × (stamp u log ≡ Some n) × (stamp_in (history_of_log edition unfinished log) u ≡ n)
   stamp_there k p u e =
       let n = committed_stamp u log (installer_is k p u log e).committed in
       (n.0, n.1, stamp_in_log edition unfinished u n.0 log sound n.1)
 
-  pub committed_in : (t : ℕ) → is_committed (events log) t ≡ true → has_committed t log ≡ true
+  committed_in : (t : ℕ) → is_committed (events log) t ≡ true → has_committed t log ≡ true
   committed_in t e = sym (committed_events t log) ∙ e
 
-  pub committed_has_stamp : (t : ℕ) → is_committed (events log) t ≡ true
+  committed_has_stamp : (t : ℕ) → is_committed (events log) t ≡ true
       → (n : ℕ) × (stamp t log ≡ Some n) × (stamp_in (history_of_log edition unfinished log) t ≡ n)
   committed_has_stamp t e =
       let n = committed_stamp t log (committed_in t e) in
       (n.0, n.1, stamp_in_log edition unfinished t n.0 log sound n.1)
 
   -- what is selected by a committed transaction is its snapshot's, by a recorded read
-  pub selected_right : (e : Event) (k : List ℕ) (p : ℕ) → Contains (events log) e
+  selected_right : (e : Event) (k : List ℕ) (p : ℕ) → Contains (events log) e
       → selected (history_of_log edition unfinished log) e k ≡ Some p
       → (place_of (history_of_log edition unfinished log) (txn_of e) k
       (committed k (snapshot (txn_of e) log) log) ≡ Some p) × (has_read (txn_of e) k log ≡ true)
@@ -103,7 +103,7 @@ module _ (edition : Edition) (unfinished : List ℕ) (log : List Act) (sound : S
         )
       ]
 
-  pub newest_place : (t : ℕ) (k : List ℕ) (s p : ℕ) (o : Option Entry) → NewestOf k s log o
+  newest_place : (t : ℕ) (k : List ℕ) (s p : ℕ) (o : Option Entry) → NewestOf k s log o
       → place_of (history_of_log edition unfinished log) t k o ≡ Some p
       → IsNewestWithin (history_of_log edition unfinished log) k s p
   newest_place t k s zero None n e = λ q u i. nothing q u i
@@ -156,14 +156,14 @@ module _ (edition : Edition) (unfinished : List ℕ) (log : List Act) (sound : S
           let mine = stamp_in_log edition unfinished w.version.txn n.number log sound n.stamped in
           omega (arith, same, most, mine)
 
-  pub snapshots_seen : (e : Event) (k : List ℕ) (p : ℕ) → Contains (events log) e
+  snapshots_seen : (e : Event) (k : List ℕ) (p : ℕ) → Contains (events log) e
       → selected (history_of_log edition unfinished log) e k ≡ Some p
       → IsNewestWithin (history_of_log edition unfinished log) k (snapshot (txn_of e) log) p
   snapshots_seen e k p c sel =
       newest_place (txn_of e) k (snapshot (txn_of e) log) p (committed k (snapshot (txn_of e) log) log)
       (contents_newest k (snapshot (txn_of e) log) log sound) (selected_right e k p c sel).0
 
-  pub stamps_rise : (k : List ℕ) (p q t u : ℕ) → installer (history_of_log edition unfinished log) k p ≡ Some t
+  stamps_rise : (k : List ℕ) (p q t u : ℕ) → installer (history_of_log edition unfinished log) k p ≡ Some t
       → installer (history_of_log edition unfinished log) k q ≡ Some u → p < q
       → stamp_in (history_of_log edition unfinished log) t < stamp_in (history_of_log edition unfinished log) u
   stamps_rise k zero q t u e f l = absurd (none-some t e)
@@ -179,10 +179,10 @@ module _ (edition : Edition) (unfinished : List ℕ) (log : List Act) (sound : S
       omega (arith, rises, one, two)
 
   -- the precedence of the course, in stamps of the history
-  pub before_in : (t u n : ℕ) → stamp t log ≡ Some n → is_before t u log ≡ true → n ≤ snapshot u log
+  before_in : (t u n : ℕ) → stamp t log ≡ Some n → is_before t u log ≡ true → n ≤ snapshot u log
   before_in t u n e p = leb-true n (snapshot u log) (sym (ap (λ o. is_upto o (snapshot u log)) e) ∙ p)
 
-  pub first_commits : (k : List ℕ) (p q t u : ℕ) → installer (history_of_log edition unfinished log) k p ≡ Some t
+  first_commits : (k : List ℕ) (p q t u : ℕ) → installer (history_of_log edition unfinished log) k p ≡ Some t
       → installer (history_of_log edition unfinished log) k q ≡ Some u
       → AreConcurrent (history_of_log edition unfinished log) (λ x. snapshot x log) t u → ⊥
   first_commits k zero q t u e f c = none-some t e
@@ -211,14 +211,14 @@ module _ (edition : Edition) (unfinished : List ℕ) (log : List Act) (sound : S
   }
 
   -- who hasn't committed at or below the snapshot doesn't precede
-  pub not_preceding : (t u n : ℕ) → stamp t log ≡ Some n → has_started u log ≡ true → snapshot u log < n
+  not_preceding : (t u n : ℕ) → stamp t log ≡ Some n → has_started u log ≡ true → snapshot u log < n
       → precedes t u (tracked log) ≡ false
   not_preceding t u n e b l =
       ap (λ o. is_at_or_below o (snapshot_of u (tracked log))) (stamp_told t log ∙ e) ∙
       (ap (λ o. is_at_or_below (Some n) o) (snapshot_told u log b) ∙ lt-leb n (snapshot u log) l)
 
   -- an anti-dependency between concurrent transactions is a pair of what the tracker was told
-  pub edge_is_pair : (k : List ℕ) (a b : ℕ) → a ≢ b
+  edge_is_pair : (k : List ℕ) (a b : ℕ) → a ≢ b
       → DependsByOverwrite (history_of_log edition unfinished log) k a b
       → AreConcurrent (history_of_log edition unfinished log) (λ x. snapshot x log) a b → IsPair a b (tracked log)
   edge_is_pair k a b ne d c =
@@ -262,13 +262,13 @@ module _ (edition : Edition) (unfinished : List ℕ) (log : List Act) (sound : S
       not_rw h = cc
   edge_pair_by Rw k a b e ne d c = edge_is_pair k a b ne d c
 
-  pub danger_into : (into out : Edge)
+  danger_into : (into out : Edge)
       → IsDangerous (history_of_log edition unfinished log) (λ x. snapshot x log) into out
       → IsPair into.from out.from (tracked log)
   danger_into into out d = subst (λ t. IsPair into.from t (tracked log)) d.joined
       (edge_pair_by into.kind into.key into.from into.to d.into_rw d.into_edge.0 d.into_edge.1 d.into_concurrent)
 
-  pub danger_out : (into out : Edge)
+  danger_out : (into out : Edge)
       → IsDangerous (history_of_log edition unfinished log) (λ x. snapshot x log) into out
       → IsPair out.from out.to (tracked log)
   danger_out into out d = edge_pair_by out.kind out.key out.from out.to d.out_rw d.out_edge.0 d.out_edge.1

@@ -42,7 +42,7 @@ use Rattle.ssi_courses.proofs.Starts.{concurrent_same, danger_same, snapshots_sa
 use Rattle.ssi_courses.proofs.Whole.{is_checked}
 use Rattle.ssi_courses.proofs.Writing.{keys_of_log_rise}
 
-pub close_pair : AbortsMakeNoPair → (r u : ℕ) (ts : List ℕ) (log : List Act) → IsPair r u (tracked (close ts log))
+close_pair : AbortsMakeNoPair → (r u : ℕ) (ts : List ℕ) (log : List Act) → IsPair r u (tracked (close ts log))
     → IsPair r u (tracked log)
 close_pair aborts r u [] log p = p
 close_pair aborts r u (t ∷ ts) log p =
@@ -52,7 +52,7 @@ close_pair aborts r u (t ∷ ts) log p =
     one true p = aborts t (tracked log) r u p
     one false p = p
 
-pub close_snapshot : (x : ℕ) (ts : List ℕ) (log : List Act) → snapshot x (close ts log) ≡ snapshot x log
+close_snapshot : (x : ℕ) (ts : List ℕ) (log : List Act) → snapshot x (close ts log) ≡ snapshot x log
 close_snapshot x [] log = refl
 close_snapshot x (t ∷ ts) log = close_snapshot x ts (cond (is_open t log) (Aborts t ∷ log) log) ∙ one (is_open t log)
   where
@@ -60,7 +60,7 @@ close_snapshot x (t ∷ ts) log = close_snapshot x ts (cond (is_open t log) (Abo
     one true = refl
     one false = refl
 
-pub order_is : (k : List ℕ) (l : List ℕ) (o : Order) → order_line k l ≡ Some o
+order_is : (k : List ℕ) (l : List ℕ) (o : Order) → order_line k l ≡ Some o
     → (o.key ≡ k) × (not (length o.writers == 0) ≡ true)
 order_is k [] o e = absurd (none-some o e)
 order_is k (t ∷ ts) o e = (
@@ -69,7 +69,7 @@ order_is k (t ∷ ts) o e = (
       (sym (same_Some _ o e)) ∙ not_from_false _ (ne_eqb (suc (length ts)) 0 (λ z. omega (arith, z))),
 )
 
-pub is_shaped : (edition : Edition) (unfinished : List ℕ) (log : List Act)
+is_shaped : (edition : Edition) (unfinished : List ℕ) (log : List Act)
     → is_shape (history_of_log edition unfinished log).orders (history_of_log edition unfinished log).finals ≡ true
 is_shaped edition unfinished log =
     and_from _ _
@@ -84,16 +84,18 @@ is_shaped edition unfinished log =
     (λ j f e. row_key j (shown (committed j (commit_count log) log)) f e) (keys log) (keys_of_log_rise log))
 
 -- wherever the history of a log has a dangerous structure, a pivot stands
-abbrev pub Endangers : (ℕ → List Call → Type 0) → Type 0
+abbrev Endangers : (ℕ → List Call → Type 0) → Type 0
 Endangers IsStanding = (edition : Edition) (unfinished : List ℕ) (log : List Act) → Sound log
     → IsChecked (history_of_log edition unfinished log) → (into out : Edge)
-    → IsDangerous (history_of_log edition unfinished log) (λ x. snapshot x log) into out → IsStanding out.from (tracked log)
+    → IsDangerous (history_of_log edition unfinished log) (λ x. snapshot x log) into out
+    → IsStanding out.from (tracked log)
 
 pub pivot_endangers : Endangers IsPivot
 pivot_endangers edition unfinished log s checked into out d = danger_is_pivot edition unfinished log s into out d
 
 pub ordered_endangers : Endangers IsOrderedPivot
-ordered_endangers edition unfinished log s checked into out d = danger_is_ordered edition unfinished log s checked into out d
+ordered_endangers edition unfinished log s checked into out d =
+    danger_is_ordered edition unfinished log s checked into out d
 
 module _ (listed : CommitsAreListed) (aborts : AbortsMakeNoPair) (IsStanding : ℕ → List Call → Type 0)
     (pivot : List Call → Option ℕ) (rule : IsRule IsStanding pivot) (dangers : Endangers IsStanding)

@@ -24,26 +24,26 @@ use Rattle.ssi_courses.proofs.Recorded.{versions}
 use Rattle.ssi_courses.proofs.RisingNumbers.{number_below, numbers_rise-tail}
 use Rattle.ssi_courses.proofs.Seen.{sees_is}
 
-pub write_face : (t : ℕ) (k : List ℕ) (n : ℕ) (c : Content) → face_of (write_event t k n c) ≡ Seen.Wrote t k c
+write_face : (t : ℕ) (k : List ℕ) (n : ℕ) (c : Content) → face_of (write_event t k n c) ≡ Seen.Wrote t k c
 write_face t k n (Live v) = refl
 write_face t k n Dead = refl
 
 -- what is recorded of the acts of one step shows the face of the step
-abbrev pub Shows : Option ℕ → Command → Answer → List Act → Type 0
+abbrev Shows : Option ℕ → Command → Answer → List Act → Type 0
 Shows o m a log = map face_of (events (act_by o m a ++ log)) ≡ map face_of (events log) ++ face_by o m a
 
-pub one_more : (a : Act) (log : List Act) (e : Event) (f : Face) → recorded a log ≡ e ∷ [] → face_of e ≡ f
+one_more : (a : Act) (log : List Act) (e : Event) (f : Face) → recorded a log ≡ e ∷ [] → face_of e ≡ f
     → map face_of (events (a ∷ log)) ≡ map face_of (events log) ++ f ∷ []
 one_more a log e f r g =
     ap (λ l. map face_of (events log ++ l)) r
     ∙ (map-append face_of (events log) (e ∷ []) ∙ ap (λ x. map face_of (events log) ++ x ∷ []) g)
 
-pub nothing_more : (o : Option ℕ) (m : Command) (a : Answer) (log : List Act) → act_by o m a ≡ []
+nothing_more : (o : Option ℕ) (m : Command) (a : Answer) (log : List Act) → act_by o m a ≡ []
     → face_by o m a ≡ [] → Shows o m a log
 nothing_more o m a log e f = ap (λ l. map face_of (events (l ++ log))) e
     ∙ sym (ap (λ l. map face_of (events log) ++ l) f ∙ append-nil (map face_of (events log)))
 
-pub get_face : (t : ℕ) (s k : List ℕ) (log : List Act) (v : Option Entry)
+get_face : (t : ℕ) (s k : List ℕ) (log : List Act) (v : Option Entry)
     → ((w : Entry) → v ≡ Some w → w.version.key ≡ k) → sees t k log ≡ v
     → Shows (Some t) (Go.Get s k) (got (shown v)) log
 get_face t s k log None key e = one_more (Do.Gets t k) log _ (Seen.Listed t k k [])
@@ -60,31 +60,31 @@ get_face t s k log (Some w) key e = by_content w.content refl
         dead : visible_pairs (w ∷ []) ≡ []
         dead = ap (λ c. cons_option (visible_pair_of w.version.key (visible c)) []) f
 
-pub shows_end : (t : ℕ) (m : Command) (a : Answer) (log : List Act) → act_by (Some t) m a ≡ Do.Aborts t ∷ []
+shows_end : (t : ℕ) (m : Command) (a : Answer) (log : List Act) → act_by (Some t) m a ≡ Do.Aborts t ∷ []
     → face_by (Some t) m a ≡ Seen.Aborts t ∷ [] → Shows (Some t) m a log
 shows_end t m a log e f =
     ap (λ l. map face_of (events (l ++ log))) e
     ∙ (one_more (Do.Aborts t) log (Event.Abort t) (Seen.Aborts t) refl refl
     ∙ ap (λ l. map face_of (events log) ++ l) (sym f))
 
-pub shows_either : (o : Option ℕ) (m : Command) (b : Bool) (x y : Answer) (log : List Act) → Shows o m x log
+shows_either : (o : Option ℕ) (m : Command) (b : Bool) (x y : Answer) (log : List Act) → Shows o m x log
     → Shows o m y log → Shows o m (cond b x y) log
 shows_either o m true x y log h i = h
 shows_either o m false x y log h i = i
 
-pub shows_judged : (t : ℕ) (m : Command) (p : Option ℕ) (a : Answer) (log : List Act) → Shows (Some t) m a log
+shows_judged : (t : ℕ) (m : Command) (p : Option ℕ) (a : Answer) (log : List Act) → Shows (Some t) m a log
     → ((q : ℕ) → Shows (Some t) m (Unsafe q) log) → Shows (Some t) m (unless_pivot p a) log
 shows_judged t m None a log h i = h
 shows_judged t m (Some q) a log h i = i q
 
-pub shows_commit : (t : ℕ) (s : List ℕ) (k : Option (List ℕ)) (p : Option ℕ) (log : List Act)
+shows_commit : (t : ℕ) (s : List ℕ) (k : Option (List ℕ)) (p : Option ℕ) (log : List Act)
     → Shows (Some t) (Go.Commit s) (unless_conflict k log (unless_pivot p Committed)) log
 shows_commit t s (Some k) p log = shows_end t (Go.Commit s) (Conflict k (last_writer k log)) log refl refl
 shows_commit t s None (Some p) log = shows_end t (Go.Commit s) (Unsafe p) log refl refl
 shows_commit t s None None log = one_more (Do.Commits t) log (Event.Commit t) (Seen.Commits t) refl refl
 
 -- a refused command shows nothing
-pub shows_refused : (o : Option ℕ) (m : Command) (x : Refusal) (log : List Act) → Shows o m (Refused x) log
+shows_refused : (o : Option ℕ) (m : Command) (x : Refusal) (log : List Act) → Shows o m (Refused x) log
 shows_refused None m x log = nothing_more None m (Refused x) log refl refl
 shows_refused (Some t) (Go.Begin s) x log = nothing_more (Some t) (Go.Begin s) (Refused x) log refl refl
 shows_refused (Some t) (Go.Get s k) x log = nothing_more (Some t) (Go.Get s k) (Refused x) log refl refl
@@ -100,19 +100,19 @@ shows_refused (Some t) Go.Collect x log = nothing_more (Some t) Go.Collect (Refu
 shows_refused (Some t) Go.Stat x log = nothing_more (Some t) Go.Stat (Refused x) log refl refl
 
 -- so do a collection and a count
-pub shows_collected : (o : Option ℕ) (n : ℕ) (log : List Act) → Shows o Go.Collect (Kept n) log
+shows_collected : (o : Option ℕ) (n : ℕ) (log : List Act) → Shows o Go.Collect (Kept n) log
 shows_collected None n log = ap (map face_of) (append-nil (events log)) ∙ sym (append-nil (map face_of (events log)))
 shows_collected (Some t) n log = ap (map face_of) (append-nil (events log))
     ∙ sym (append-nil (map face_of (events log)))
 
-pub shows_counted : (o : Option ℕ) (active kept versions keys : ℕ) (log : List Act)
+shows_counted : (o : Option ℕ) (active kept versions keys : ℕ) (log : List Act)
     → Shows o Go.Stat (Counts active kept versions keys) log
 shows_counted None active kept versions keys log = nothing_more None Go.Stat
     (Counts active kept versions keys) log refl refl
 shows_counted (Some t) active kept versions keys log = nothing_more (Some t) Go.Stat
     (Counts active kept versions keys) log refl refl
 
-pub shows_idle : (c : Course) (m : Command) → Shows None m (reply_idle c m) (acts c)
+shows_idle : (c : Course) (m : Command) → Shows None m (reply_idle c m) (acts c)
 shows_idle c (Go.Begin s) =
     shows_either None (Go.Begin s) (nat_lt 4294967295 (next_txn c)) (Refused Spent) (Begun (next_txn c)) (acts c)
     (shows_refused None (Go.Begin s) Spent (acts c))
@@ -139,7 +139,7 @@ module _ (pivot : List Call → Option ℕ) where
   shows_downward t low high m a log h = shows_either (Some t) m (key_lt high low) (Refused Range) a log
       (shows_refused (Some t) m Range log) h
 
-  pub shows_in : (t : ℕ) (m : Command) (log : List Act) → is_proper m ≡ true
+  shows_in : (t : ℕ) (m : Command) (log : List Act) → is_proper m ≡ true
       → Shows (Some t) m (reply_in pivot t log m) log
   shows_in t (Go.Begin s) log p = shows_refused (Some t) (Go.Begin s) Busy log
   shows_in t (Go.Get s k) log p =
@@ -176,7 +176,7 @@ module _ (pivot : List Call → Option ℕ) where
   shows_in t Go.Stat log p = shows_counted (Some t) (open_count (tracked log)) (kept_count (tracked log))
       (held_count (changed log)) (key_count (changed log)) log
 
-  pub shows_reply : (c : Course) (m : Command) (o : Option ℕ) → is_proper m ≡ true
+  shows_reply : (c : Course) (m : Command) (o : Option ℕ) → is_proper m ≡ true
       → Shows o m (reply_for pivot o c m) (acts c)
   shows_reply c m None p = shows_idle c m
   shows_reply c m (Some t) p = shows_in t m (acts c) p
@@ -191,7 +191,7 @@ module _ (pivot : List Call → Option ℕ) where
       ]) ∙
       ap (λ l. l ++ face_by (txn_for m c) m a) (faces_are c f.2)
 
-pub filter_same : (f g : ℕ → Bool) (xs : List ℕ) → ((x : ℕ) → Contains xs x → f x ≡ g x) → filter f xs ≡ filter g xs
+filter_same : (f g : ℕ → Bool) (xs : List ℕ) → ((x : ℕ) → Contains xs x → f x ≡ g x) → filter f xs ≡ filter g xs
 filter_same f g [] h = refl
 filter_same f g (x ∷ xs) h =
     ap (λ b. cond b (x ∷ filter f xs) (filter f xs)) (h x (Contains-head x xs)) ∙

@@ -15,7 +15,7 @@ use Rattle.ssi_courses.proofs.Logged.{history_of_log, installers}
 use Rattle.ssi_courses.proofs.RisingKeys.{Contains-inserted}
 use Rattle.ssi_courses.proofs.Writing.{wrote_key}
 
-pub line_step : (f : List ℕ → List ℕ) (j k : List ℕ) (os : List Order) (l : List ℕ) → f j ≡ l
+line_step : (f : List ℕ → List ℕ) (j k : List ℕ) (os : List Order) (l : List ℕ) → f j ≡ l
     → ((j ≡ k → f k ≡ []) → line_of os k ≡ f k) → line_of (cons_option (order_line j l) os) k ≡ f k
 line_step f j k os [] e rest = rest (λ s. ap f (sym s) ∙ e)
 line_step f j k os (t ∷ ts) e rest =
@@ -26,7 +26,7 @@ line_step f j k os (t ∷ ts) e rest =
           ∙ rest (λ s. absurd (both_ways _ other (bytes_eq-from j k s)))
     ]
 
-pub line_made : (f : List ℕ → List ℕ) (js : List (List ℕ)) (k : List ℕ) → (Contains js k ⊎ (f k ≡ []))
+line_made : (f : List ℕ → List ℕ) (js : List (List ℕ)) (k : List ℕ) → (Contains js k ⊎ (f k ≡ []))
     → line_of (filter_map (λ j. order_line j (f j)) js) k ≡ f k
 line_made f [] k (inl c) = absurd (none_contained k c)
 line_made f [] k (inr e) = sym e
@@ -36,7 +36,7 @@ line_made f (j ∷ js) k (inl (suc i, l, s)) = line_step f j k _ (f j) refl
     (λ h. line_made f js k (inl (i, omega (arith, l), s)))
 
 -- a key without writes has no installers
-pub installers_key : (k : List ℕ) (log : List Act) → Contains (keys log) k ⊎ (installers k log ≡ [])
+installers_key : (k : List ℕ) (log : List Act) → Contains (keys log) k ⊎ (installers k log ≡ [])
 installers_key k [] = inr refl
 installers_key k (Starts u ∷ log) = installers_key k log
 installers_key k (Gets u j ∷ log) = installers_key k log

@@ -1,5 +1,5 @@
--- What is answered Unsafe: an act was judged, and its pivot is the smallest that would stand. Whatever else names a pivot
--- after that act answers Unsafe too.
+-- What is answered Unsafe: an act was judged, and its pivot is the smallest that would stand. Whatever else names a
+-- pivot after that act answers Unsafe too.
 use Rattle.std.proofs.Common.{Bool, List, None, Option, Some, ap, cond, false, nat_le, refl, subst, take, true, ◌≡◌, ◌∷◌, ◌∙◌, nat_lt, ℕ}
 use Rattle.std.proofs.lemmas.Option.{none-some}
 use Rattle.adya_values.specs.Meaning.Events.{shown}
@@ -86,8 +86,10 @@ pub record IsJudged (pivot : List Call → Option ℕ) (t : ℕ) (log : List Act
 
 module _ (pivot : List Call → Option ℕ) (t : ℕ) (log : List Act) (live : is_open t log ≡ true) (sound : Sound log) where
   read_judged : (m : Command) (act : Act) (a : Answer) → judged t log m ≡ Some act → Sound (act ∷ log)
-      → ((x : ℕ) → a ≡ Unsafe x → ⊥) → (p : ℕ) → unless_long t log (unless_pivot (pivot (tracked (act ∷ log))) a) ≡ Unsafe p
-      → ((other : List Call → Option ℕ) → reply_in other t log m ≡ unless_long t log (unless_pivot (other (tracked (act ∷ log))) a))
+      → ((x : ℕ) → a ≡ Unsafe x → ⊥) → (p : ℕ)
+      → unless_long t log (unless_pivot (pivot (tracked (act ∷ log))) a) ≡ Unsafe p
+      → ((other : List Call → Option ℕ)
+      → reply_in other t log m ≡ unless_long t log (unless_pivot (other (tracked (act ∷ log))) a))
       → IsJudged pivot t log m p
   read_judged m act a judges s never p e is =
       let after : List Call = tracked (act ∷ log) in
@@ -108,12 +110,13 @@ module _ (pivot : List Call → Option ℕ) (t : ℕ) (log : List Act) (live : i
       ≡ unless_downward low high (unless_long t log (scan_answer other t log low up found)))
       → IsJudged pivot t log m p
   scan_judged m low high up found judges bounds p e is =
-      let range = refusal_through (key_lt high low) Range (unless_long t log (scan_answer pivot t log low up found)) p e in
+      let looked : (List Call → Option ℕ) → Answer = λ other. unless_long t log (scan_answer other t log low up found) in
+      let range = refusal_through (key_lt high low) Range (looked pivot) p e in
       read_judged m (Scans t low up) (Rows found) judges ((live, bounds (key_le-from_not low high range.0)), sound)
       (λ x h. cc) p range.1
-      (λ other. is other ∙ ap (λ b. cond b (Refused Range) (unless_long t log (scan_answer other t log low up found))) range.0)
+      (λ other. is other ∙ ap (λ b. cond b (Refused Range) (looked other)) range.0)
 
-  pub judged_in : (m : Command) (p : ℕ) → reply_in pivot t log m ≡ Unsafe p → IsJudged pivot t log m p
+  judged_in : (m : Command) (p : ℕ) → reply_in pivot t log m ≡ Unsafe p → IsJudged pivot t log m p
   judged_in (Do.Begin s) p e = absurd (cc (e))
   judged_in (Do.Put s k v) p e = absurd (done_is_safe t log p e)
   judged_in (Do.Del s k) p e = absurd (done_is_safe t log p e)
@@ -148,7 +151,7 @@ pub record IsRefused (pivot : List Call → Option ℕ) (c : Course) (m : Comman
   pub judging : IsJudged pivot txn (acts c) m p
 
 -- pivots may be named by another rule than the one that the course follows
-pub refused_by : (followed pivot : List Call → Option ℕ) (c : Course) → Follows followed c → (m : Command) (p : ℕ)
+refused_by : (followed pivot : List Call → Option ℕ) (c : Course) → Follows followed c → (m : Command) (p : ℕ)
     → reply pivot c m ≡ Unsafe p → IsRefused pivot c m p
 refused_by followed pivot c f m p e = by_txn (txn_for m c) refl e
   where

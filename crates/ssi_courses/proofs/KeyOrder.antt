@@ -11,7 +11,7 @@ use Rattle.lemmas.proofs.Orderings.{bytes_eq-from, bytes_lt-trans, less_from_is_
 use Rattle.adya_values.specs.Meaning.Keys.{key_eq, key_le, key_lt, lies_in}
 
 -- of two keys one is below the other, or they are equal
-pub key_cases : (a b : List ℕ) → (key_lt a b ≡ true) ⊎ ((a ≡ b) ⊎ (key_lt b a ≡ true))
+key_cases : (a b : List ℕ) → (key_lt a b ≡ true) ⊎ ((a ≡ b) ⊎ (key_lt b a ≡ true))
 key_cases a b = by_order (slice_cmp nat_cmp a b) refl
   where
     by_order : (o : Ordering) → slice_cmp nat_cmp a b ≡ o → (key_lt a b ≡ true) ⊎ ((a ≡ b) ⊎ (key_lt b a ≡ true))
@@ -31,18 +31,7 @@ key_le-from_lt a b e = ap is_le (less_from_is_lt (slice_cmp nat_cmp a b) e)
 pub key_le-from_eq : (a b : List ℕ) → a ≡ b → key_le a b ≡ true
 key_le-from_eq a b e = subst (λ x. key_le a x ≡ true) e (key_le-itself a)
 
--- at or below, or above
-pub key_lt-above : (a b : List ℕ) → key_le a b ≡ false → key_lt b a ≡ true
-key_lt-above a b e =
-    elim (key_cases a b) [
-      | inl less ↦ absurd (both_ways (key_le a b) e (key_le-from_lt a b less))
-      | inr rest ↦ elim rest [
-        | inl same ↦ absurd (both_ways (key_le a b) e (key_le-from_eq a b same))
-        | inr more ↦ more
-      ]
-    ]
-
-pub key_le-cases : (a b : List ℕ) → key_le a b ≡ true → (key_lt a b ≡ true) ⊎ (a ≡ b)
+key_le-cases : (a b : List ℕ) → key_le a b ≡ true → (key_lt a b ≡ true) ⊎ (a ≡ b)
 key_le-cases a b e =
     elim (key_cases a b) [
       | inl less ↦ inl less
@@ -80,7 +69,7 @@ key_lt-from_not a b e f =
       ]
     ]
 
-pub key_le-anti : (a b : List ℕ) → key_le a b ≡ true → key_le b a ≡ true → a ≡ b
+key_le-anti : (a b : List ℕ) → key_le a b ≡ true → key_le b a ≡ true → a ≡ b
 key_le-anti a b e f =
     elim (key_le-cases a b e) [
       | inl less ↦ elim (key_le-cases b a f) [

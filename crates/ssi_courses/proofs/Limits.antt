@@ -27,14 +27,14 @@ row_key k None p e = absurd (none-some p e)
 row_key k (Some v) p e = sym (ap (λ x. x.key) (same_Some _ p e))
 
 -- the rows of a scan lie in its range
-pub row_within : (t : ℕ) (low high : List ℕ) (log : List Act) (p : FinalPair) → Contains (rows t low high log) p
+row_within : (t : ℕ) (low high : List ℕ) (log : List Act) (p : FinalPair) → Contains (rows t low high log) p
     → lies_in low high p.key ≡ true
 row_within t low high log p c =
     let w = filter_map-source (λ x. visible_pair_of x.version.key (visible x.content)) (scanned t low high log) p c in
     subst (λ x. lies_in low high x ≡ true) (sym (row_key w.0.version.key (visible w.0.content) p w.2))
     (scanned_source t low high log w.0 w.1).0
 
-pub reached_within : (low high : List ℕ) (n : ℕ) (rs : List FinalPair) → key_le low high ≡ true
+reached_within : (low high : List ℕ) (n : ℕ) (rs : List FinalPair) → key_le low high ≡ true
     → ((p : FinalPair) → Contains rs p → lies_in low high p.key ≡ true) → lies_in low high (reached high n rs) ≡ true
 reached_within low high n rs up each =
     elim (cases_Bool (length rs == n)) [
@@ -55,11 +55,11 @@ reached_upward t low high n log up =
     (λ p c. row_within t low high log p (Contains-take n (rows t low high log) p c)))).0
 
 -- what an entry shows as a row
-abbrev pub row_in : Option Entry → Option FinalPair
+abbrev row_in : Option Entry → Option FinalPair
 row_in None = None
 row_in (Some w) = visible_pair_of w.version.key (visible w.content)
 
-pub pairs_of_made : (f : List ℕ → Option Entry) (js : List (List ℕ))
+pairs_of_made : (f : List ℕ → Option Entry) (js : List (List ℕ))
     → visible_pairs (filter_map f js) ≡ filter_map (λ j. row_in (f j)) js
 pairs_of_made f [] = refl
 pairs_of_made f (j ∷ js) = one (f j) (filter_map f js) ∙ ap (cons_option (row_in (f j))) (pairs_of_made f js)
@@ -74,7 +74,7 @@ module _ (low : List ℕ) (r : List ℕ → Option FinalPair)
   abbrev pub within : List ℕ → List ℕ → Option FinalPair
   within high j = cond (lies_in low high j) (r j) None
 
-  pub within_some : (high j : List ℕ) (p : FinalPair) → within high j ≡ Some p
+  within_some : (high j : List ℕ) (p : FinalPair) → within high j ≡ Some p
       → (lies_in low high j ≡ true) × (r j ≡ Some p)
   within_some high j p e =
       elim (cases_Bool (lies_in low high j)) [
@@ -83,7 +83,7 @@ module _ (low : List ℕ) (r : List ℕ → Option FinalPair)
       ]
 
   -- the row of a list made so is of a key of it, inside the range
-  pub within_source : (high : List ℕ) (js : List (List ℕ)) (p : FinalPair) → Contains (filter_map (within high) js) p
+  within_source : (high : List ℕ) (js : List (List ℕ)) (p : FinalPair) → Contains (filter_map (within high) js) p
       → (lies_in low high p.key ≡ true) × Contains js p.key
   within_source high js p c =
       let j = filter_map-source (within high) js p c in
@@ -92,7 +92,7 @@ module _ (low : List ℕ) (r : List ℕ → Option FinalPair)
       (subst (λ x. lies_in low high x ≡ true) (sym at) both.0, subst (Contains js) (sym at) j.1)
 
   -- no row where all keys lie above
-  pub none_above : (high : List ℕ) (js : List (List ℕ)) → ((y : List ℕ) → Contains js y → key_lt high y ≡ true)
+  none_above : (high : List ℕ) (js : List (List ℕ)) → ((y : List ℕ) → Contains js y → key_lt high y ≡ true)
       → filter_map (within high) js ≡ []
   none_above high [] h = refl
   none_above high (j ∷ js) h =
@@ -103,7 +103,7 @@ module _ (low : List ℕ) (r : List ℕ → Option FinalPair)
       ∙ none_above high js (λ y c. h y (Contains-cons j js y c))
 
   -- a key that makes no row below one bound makes none below a smaller one
-  pub none_lower : (high lower j : List ℕ) → key_le lower high ≡ true → within high j ≡ None → within lower j ≡ None
+  none_lower : (high lower j : List ℕ) → key_le lower high ≡ true → within high j ≡ None → within lower j ≡ None
   none_lower high lower j le e =
       elim (cases_Bool (lies_in low lower j)) [
         | inl inside ↦
@@ -163,7 +163,7 @@ module _ (low : List ℕ) (r : List ℕ → Option FinalPair)
       cut_some high j js rise q e m p (rest m) (take m (filter_map (within high) js)) refl l (omega (arith, len))
 
   -- where as many rows as the limit were found, a scan up to the last of them gives just these
-  pub cut : (high : List ℕ) (js : List (List ℕ)) → keys_rise js ≡ true → (n : ℕ) (p : FinalPair)
+  cut : (high : List ℕ) (js : List (List ℕ)) → keys_rise js ≡ true → (n : ℕ) (p : FinalPair)
       → last (take n (filter_map (within high) js)) ≡ Some p → length (take n (filter_map (within high) js)) ≡ n
       → filter_map (within p.key) js ≡ take n (filter_map (within high) js)
   cut high [] rise zero p l len = absurd (none-some p l)
@@ -171,7 +171,7 @@ module _ (low : List ℕ) (r : List ℕ → Option FinalPair)
   cut high (j ∷ js) rise n p l len =
       cut_step high j js rise (within high j) refl n p (λ m e f. cut high js (keys_rise-tail j js rise) m p e f) l len
 
-pub rows_are : (t : ℕ) (low high : List ℕ) (log : List Act)
+rows_are : (t : ℕ) (low high : List ℕ) (log : List Act)
     → rows t low high log ≡ filter_map (λ j. cond (lies_in low high j) (row_in (sees t j log)) None) (keys log)
 rows_are t low high log =
     pairs_of_made (λ k. if lies_in low high k then sees t k log else None) (keys log) ∙
@@ -183,7 +183,7 @@ rows_are t low high log =
     by_test true o = refl
     by_test false o = refl
 
-pub seen_key : (t : ℕ) (log : List Act) (j : List ℕ) (p : FinalPair) → row_in (sees t j log) ≡ Some p → p.key ≡ j
+seen_key : (t : ℕ) (log : List Act) (j : List ℕ) (p : FinalPair) → row_in (sees t j log) ≡ Some p → p.key ≡ j
 seen_key t log j p e = by_seen (sees t j log) refl e
   where
     by_seen : (o : Option Entry) → sees t j log ≡ o → row_in o ≡ Some p → p.key ≡ j

@@ -34,7 +34,7 @@ take_all (suc n) [] e = refl
 take_all (suc n) (x ∷ xs) e = ap (λ l. x ∷ l) (take_all n xs (false_from_ne_true (length (take n xs) == n) (λ same.
     both_ways _ e (eq-eqb (suc (length (take n xs))) (suc n) (ap suc (eqb-true (length (take n xs)) n same))))))
 
-pub last_there : {X : Type 0} (x : X) (xs : List X) → (y : X) × (last (x ∷ xs) ≡ Some y)
+last_there : {X : Type 0} (x : X) (xs : List X) → (y : X) × (last (x ∷ xs) ≡ Some y)
 last_there x [] = (x, refl)
 last_there x (y ∷ ys) = last_there y ys
 

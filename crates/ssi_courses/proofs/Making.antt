@@ -28,7 +28,7 @@ use Rattle.ssi_courses.proofs.Sound.{Sound}
 use Rattle.ssi_courses.proofs.Stamps.{committers_count, contents_newest}
 use Rattle.ssi_courses.proofs.Whole.{last_value}
 
-pub keys_of_versions : (log : List Act) → fold (λ ks w. insert w.version.key ks) [] (versions log) ≡ keys log
+keys_of_versions : (log : List Act) → fold (λ ks w. insert w.version.key ks) [] (versions log) ≡ keys log
 keys_of_versions [] = refl
 keys_of_versions (Starts u ∷ log) = keys_of_versions log
 keys_of_versions (Gets u k ∷ log) = keys_of_versions log
@@ -40,11 +40,11 @@ keys_of_versions (Writes u k c ∷ log) =
     fold-append (λ ks w. insert w.version.key ks) [] (versions log) (made u k c log ∷ [])
     ∙ ap (insert k) (keys_of_versions log)
 
-pub written_keys_are : (log : List Act) → written_keys (events log) ≡ keys log
+written_keys_are : (log : List Act) → written_keys (events log) ≡ keys log
 written_keys_are log = ap (λ ws. fold (λ ks w. insert w.version.key ks) [] ws) (versions_of_events log)
     ∙ keys_of_versions log
 
-pub committer_committed : (t : ℕ) (log : List Act) → Contains (committers log) t → has_committed t log ≡ true
+committer_committed : (t : ℕ) (log : List Act) → Contains (committers log) t → has_committed t log ≡ true
 committer_committed t [] c = absurd (none_contained t c)
 committer_committed t (Starts u ∷ log) c = committer_committed t log c
 committer_committed t (Writes u k d ∷ log) c = committer_committed t log c
@@ -58,7 +58,7 @@ committer_committed t (Commits u ∷ log) c =
       | inr new ↦ or_left (u == t) (has_committed t log) (eq-eqb u t (only_one u t new))
     ]
 
-pub writers_of_committers : (k : List ℕ) (log : List Act) → Sound log
+writers_of_committers : (k : List ℕ) (log : List Act) → Sound log
     → filter (λ t. wrote t k log) (committers log) ≡ installers k log
 writers_of_committers k [] s = refl
 writers_of_committers k (Starts u ∷ log) s = writers_of_committers k log s.1
@@ -98,11 +98,11 @@ committers_distinct log s = distinct_when (committers log) (λ t.
     let at_most = cond-at_most_one (has_committed t log) in
     omega (arith, is, at_most))
 
-pub last_slice : (x : ℕ) (xs : List ℕ) → slice_get (x ∷ xs) (length xs) ≡ last (x ∷ xs)
+last_slice : (x : ℕ) (xs : List ℕ) → slice_get (x ∷ xs) (length xs) ≡ last (x ∷ xs)
 last_slice x [] = refl
 last_slice x (y ∷ ys) = last_slice y ys
 
-pub shown_is : (h : History) (k : List ℕ) (ws : List ℕ) → writers h k ≡ ws
+shown_is : (h : History) (k : List ℕ) (ws : List ℕ) → writers h k ≡ ws
     → shown_by k h.events (last ws) ≡ value_at h k (length ws)
 shown_is h k [] e = refl
 shown_is h k (x ∷ xs) e =

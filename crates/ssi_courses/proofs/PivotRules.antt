@@ -28,8 +28,8 @@ ordered_names_less named ordered pivots calls a p e =
 pub record IsRule (IsStanding : ℕ → List Call → Type 0) (pivot : List Call → Option ℕ) : Type 0 where
   pub names : (calls : List Call) → AreAllowed calls → IsSmallest IsStanding calls (pivot calls)
   pub none_first : (t : ℕ) → IsStanding t [] → ⊥
-  pub before_begin : (t s p : ℕ) (calls : List Call) → AreAllowed (Begins t s ∷ calls) → IsStanding p (Begins t s ∷ calls)
-      → IsStanding p calls
+  pub before_begin : (t s p : ℕ) (calls : List Call) → AreAllowed (Begins t s ∷ calls)
+      → IsStanding p (Begins t s ∷ calls) → IsStanding p calls
   pub before_abort : (t p : ℕ) (calls : List Call) → IsStanding p (Aborts t ∷ calls) → IsStanding p calls
 
 module _ (begins : BeginsMakeNoPair) (aborts : AbortsMakeNoPair) where

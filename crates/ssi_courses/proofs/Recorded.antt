@@ -15,13 +15,13 @@ use Rattle.ssi_courses.specs.Meaning.Acts.{Aborts, Act, Collects, Commits, Gets,
 use Rattle.ssi_courses.specs.Meaning.Recording.{events, get_event, get_found, write_event}
 use Rattle.ssi_courses.specs.Meaning.Seeing.{own_write, sees, write_count}
 
-pub or_swap : (c b : Bool) → (c || b) ≡ (b || (c || false))
+or_swap : (c b : Bool) → (c || b) ≡ (b || (c || false))
 or_swap true true = refl
 or_swap true false = refl
 or_swap false true = refl
 or_swap false false = refl
 
-pub or_nothing : (b : Bool) → (b || (false || false)) ≡ b
+or_nothing : (b : Bool) → (b || (false || false)) ≡ b
 or_nothing true = refl
 or_nothing false = refl
 
@@ -43,12 +43,12 @@ pub of_write : {Y : Type 0} (f : Event → Y) (y : Y)
 of_write f y write delete t k n (Live v) = write t k n v
 of_write f y write delete t k n Dead = delete t k n
 
-pub any_more : (f : Event → Bool) (xs : List Event) (e : Event) (b c : Bool) → f e ≡ c → list_any f xs ≡ b
+any_more : (f : Event → Bool) (xs : List Event) (e : Event) (b c : Bool) → f e ≡ c → list_any f xs ≡ b
     → list_any f (xs ++ e ∷ []) ≡ (b || (c || false))
 any_more f xs e b c h i = list_any-append f xs (e ∷ [])
     ∙ (ap (λ x. x || (f e || false)) i ∙ ap (λ x. b || (x || false)) h)
 
-pub any_quiet : (f : Event → Bool) (xs : List Event) (e : Event) (b : Bool) → f e ≡ false → list_any f xs ≡ b
+any_quiet : (f : Event → Bool) (xs : List Event) (e : Event) (b : Bool) → f e ≡ false → list_any f xs ≡ b
     → list_any f (xs ++ e ∷ []) ≡ b
 any_quiet f xs e b h i = any_more f xs e b false h i ∙ or_nothing b
 
@@ -78,12 +78,12 @@ aborted_events t (Aborts u ∷ log) = any_more (aborts t) (events log) (Abort u)
     ∙ sym (or_swap (u == t) (has_aborted t log))
 aborted_events t (Collects ∷ log) = ap (list_any (aborts t)) (append-nil (events log)) ∙ aborted_events t log
 
-pub map_quiet : {X : Type 0} (f : Event → Option X) (xs : List Event) (e : Event) (ys : List X) → f e ≡ None
+map_quiet : {X : Type 0} (f : Event → Option X) (xs : List Event) (e : Event) (ys : List X) → f e ≡ None
     → filter_map f xs ≡ ys → filter_map f (xs ++ e ∷ []) ≡ ys
 map_quiet f xs e ys h i = filter_map-append f xs (e ∷ [])
     ∙ (ap (λ o. filter_map f xs ++ cons_option o []) h ∙ (append-nil (filter_map f xs) ∙ i))
 
-pub map_more : {X : Type 0} (f : Event → Option X) (xs : List Event) (e : Event) (ys : List X) (y : X) → f e ≡ Some y
+map_more : {X : Type 0} (f : Event → Option X) (xs : List Event) (e : Event) (ys : List X) (y : X) → f e ≡ Some y
     → filter_map f xs ≡ ys → filter_map f (xs ++ e ∷ []) ≡ ys ++ y ∷ []
 map_more f xs e ys y h i = filter_map-append f xs (e ∷ [])
     ∙ (ap (λ o. filter_map f xs ++ cons_option o []) h ∙ ap (λ l. l ++ y ∷ []) i)
@@ -133,7 +133,7 @@ versions_of_events (Aborts u ∷ log) = map_quiet written (events log) _ _ refl 
 versions_of_events (Commits u ∷ log) = map_quiet written (events log) _ _ refl (versions_of_events log)
 versions_of_events (Collects ∷ log) = ap (filter_map written) (append-nil (events log)) ∙ versions_of_events log
 
-pub last_more : {X : Type 0} (xs : List X) (x : X) → last (xs ++ x ∷ []) ≡ Some x
+last_more : {X : Type 0} (xs : List X) (x : X) → last (xs ++ x ∷ []) ≡ Some x
 last_more [] x = refl
 last_more (y ∷ []) x = refl
 last_more (y ∷ z ∷ zs) x = last_more (z ∷ zs) x
@@ -142,10 +142,10 @@ pub length_more : {X : Type 0} (xs : List X) (x : X) → length (xs ++ x ∷ [])
 length_more [] x = refl
 length_more (y ∷ ys) x = ap suc (length_more ys x)
 
-abbrev pub is_own : ℕ → List ℕ → Entry → Bool
+abbrev is_own : ℕ → List ℕ → Entry → Bool
 is_own t k w = w.version.txn == t && key_eq w.version.key k
 
-pub writes_more : (t : ℕ) (k : List ℕ) (xs : List Entry) (x : Entry)
+writes_more : (t : ℕ) (k : List ℕ) (xs : List Entry) (x : Entry)
     → filter (is_own t k) (xs ++ x ∷ []) ≡ filter (is_own t k) xs ++ cond (is_own t k x) (x ∷ []) []
 writes_more t k xs x = filter-append (is_own t k) xs (x ∷ [])
 
@@ -154,7 +154,7 @@ pub record IsOwn (t : ℕ) (k : List ℕ) (log : List Act) : Type 0 where
   pub last_is : last (filter (is_own t k) (versions log)) ≡ own_write t k log
   pub count_is : length (filter (is_own t k) (versions log)) ≡ write_count t k log
 
-pub own_of_versions : (t : ℕ) (k : List ℕ) (log : List Act) → IsOwn t k log
+own_of_versions : (t : ℕ) (k : List ℕ) (log : List Act) → IsOwn t k log
 own_of_versions t k [] = record { last_is = refl; count_is = refl }
 own_of_versions t k (Starts u ∷ log) = let r = own_of_versions t k log in record
     { last_is = r.last_is; count_is = r.count_is }

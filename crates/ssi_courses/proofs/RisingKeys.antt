@@ -12,7 +12,7 @@ use Rattle.adya_values.specs.Meaning.Keys.{key_eq, key_lt, keys_rise}
 use Rattle.adya_values.proofs.Keys.{keys_rise-tail}
 use Rattle.ssi_courses.proofs.KeyOrder.{key_lt-from_not}
 
-pub keys_rise-from_head : (x : List ℕ) (ys : List (List ℕ)) → ((y : List ℕ) → Contains ys y → key_lt x y ≡ true)
+keys_rise-from_head : (x : List ℕ) (ys : List (List ℕ)) → ((y : List ℕ) → Contains ys y → key_lt x y ≡ true)
     → keys_rise ys ≡ true → keys_rise (x ∷ ys) ≡ true
 keys_rise-from_head x [] h r = refl
 keys_rise-from_head x (y ∷ ys) h r = and_from (key_lt x y) (keys_rise (y ∷ ys)) (h y (Contains-head y ys)) r
@@ -40,7 +40,7 @@ Contains-insert k (j ∷ js) =
           ])
     ]
 
-pub past_head : (j : List ℕ) (xs ys : List (List ℕ)) (i : List ℕ) → (Contains xs i → Contains ys i)
+past_head : (j : List ℕ) (xs ys : List (List ℕ)) (i : List ℕ) → (Contains xs i → Contains ys i)
     → Contains (j ∷ xs) i → Contains (j ∷ ys) i
 past_head j xs ys i rest (zero, l, f) = (zero, omega arith, f)
 past_head j xs ys i rest (suc n, l, f) = Contains-cons j ys i (rest (n, omega (arith, l), f))
@@ -57,7 +57,7 @@ Contains-inserted k (j ∷ js) i c =
           ])
     ]
 
-pub insert_source : (k : List ℕ) (js : List (List ℕ)) (y : List ℕ) → Contains (insert k js) y
+insert_source : (k : List ℕ) (js : List (List ℕ)) (y : List ℕ) → Contains (insert k js) y
     → (k ≡ y) ⊎ Contains js y
 insert_source k [] y (zero, l, f) = inl f
 insert_source k [] y (suc i, l, f) = absurd (omega (arith, l))
@@ -91,7 +91,7 @@ insert_rises k (j ∷ js) r =
       ])
     ]
 
-pub rises_step : {Y : Type 0} (key : Y → List ℕ) (f : List ℕ → Option Y)
+rises_step : {Y : Type 0} (key : Y → List ℕ) (f : List ℕ → Option Y)
     → ((j : List ℕ) (y : Y) → f j ≡ Some y → key y ≡ j) → (j : List ℕ) (js : List (List ℕ))
     → keys_rise (j ∷ js) ≡ true → keys_rise (map key (filter_map f js)) ≡ true → (l : Option Y) → f j ≡ l
     → keys_rise (map key (cons_option l (filter_map f js))) ≡ true
@@ -114,7 +114,7 @@ made_rises key f own (j ∷ js) r = rises_step key f own j js r (made_rises key 
     (f j) refl
 
 -- what a list made from keys lists of a key
-pub listed_step : (f : List ℕ → Option Entry) (j k : List ℕ) (es : List Entry) (l : Option Entry) → f j ≡ l
+listed_step : (f : List ℕ → Option Entry) (j k : List ℕ) (es : List Entry) (l : Option Entry) → f j ≡ l
     → ((w : Entry) → f j ≡ Some w → w.version.key ≡ j) → ((j ≡ k → f k ≡ None) → listed k es ≡ f k)
     → listed k (cons_option l es) ≡ f k
 listed_step f j k es None e key rest = rest (λ s. ap f (sym s) ∙ e)

@@ -22,7 +22,7 @@ number_below x (z ∷ xs) y r c =
       | inr d ↦ (let rest = number_below z xs y both.1 d in omega (arith, less, rest))
     ]
 
-pub numbers_rise-from_head : (x : ℕ) (xs : List ℕ) → ((y : ℕ) → Contains xs y → x < y) → numbers_rise xs ≡ true
+numbers_rise-from_head : (x : ℕ) (xs : List ℕ) → ((y : ℕ) → Contains xs y → x < y) → numbers_rise xs ≡ true
     → numbers_rise (x ∷ xs) ≡ true
 numbers_rise-from_head x [] h r = refl
 numbers_rise-from_head x (y ∷ ys) h r = and_from (nat_lt x y) (numbers_rise (y ∷ ys))
@@ -39,7 +39,7 @@ numbers_rise-more (x ∷ xs) t r h =
     ])
     (numbers_rise-more xs t (numbers_rise-tail x xs r) (λ u c. h u (Contains-cons x xs u c)))
 
-pub filter_there : (p : ℕ → Bool) (xs : List ℕ) (y : ℕ) → Contains (filter p xs) y → Contains xs y
+filter_there : (p : ℕ → Bool) (xs : List ℕ) (y : ℕ) → Contains (filter p xs) y → Contains xs y
 filter_there p xs y c = (filter-source p xs y c).0
 
 pub numbers_rise-filter : (p : ℕ → Bool) (xs : List ℕ) → numbers_rise xs ≡ true → numbers_rise (filter p xs) ≡ true

@@ -26,7 +26,7 @@ use Rattle.ssi_courses.proofs.Sound.{Open, Sound, not_open, open_from}
 use Rattle.ssi_courses.proofs.Stamps.{committed_stays}
 use Rattle.ssi_courses.proofs.Writing.{committed_step, keys_of_log_rise, own_write_is}
 
-pub each_more : (P : List Event → Event → Type 0) (before es : List Event) (e : Event) → EachAfter P before es
+each_more : (P : List Event → Event → Type 0) (before es : List Event) (e : Event) → EachAfter P before es
     → P (before ++ es) e → EachAfter P before (es ++ e ∷ [])
 each_more P before [] e each p = (subst (λ l. P l e) (append-nil before) p, tt)
 each_more P before (x ∷ xs) e each p = (
@@ -56,7 +56,7 @@ each_recorded P h (Collects ∷ log) s = subst (EachAfter P []) (sym (append-nil
     (each_recorded P h log s.1)
 
 -- a fact of single events holds of all recorded ones
-pub all_recorded : (P : Event → Type 0)
+all_recorded : (P : Event → Type 0)
     → ((a : Act) (log : List Act) → Sound (a ∷ log) → (e : Event) → Contains (recorded a log) e → P e)
     → (log : List Act) → Sound log → (e : Event) → Contains (events log) e → P e
 all_recorded P h [] s e c = absurd (none_contained e c)
@@ -64,12 +64,12 @@ all_recorded P h (a ∷ log) s e c =
     elim (Contains-append_cases (events log) (recorded a log) e c)
     [ inl old ↦ all_recorded P h log s.1 e old | inr new ↦ h a log s e new ]
 
-pub write_txn : (t : ℕ) (k : List ℕ) (n : ℕ) (c : Content) → txn_of (write_event t k n c) ≡ t
+write_txn : (t : ℕ) (k : List ℕ) (n : ℕ) (c : Content) → txn_of (write_event t k n c) ≡ t
 write_txn t k n (Live v) = refl
 write_txn t k n Dead = refl
 
 -- M1
-pub recorded_open : (a : Act) (log : List Act) → Sound (a ∷ log) → (e : Event) → Contains (recorded a log) e
+recorded_open : (a : Act) (log : List Act) → Sound (a ∷ log) → (e : Event) → Contains (recorded a log) e
     → Open (txn_of e) log
 recorded_open (Starts t) log s e c = absurd (none_contained e c)
 recorded_open (Writes t k d) log s e c = subst (λ x. Open (txn_of x) log) (only_one _ e c)
@@ -88,10 +88,10 @@ open_until a log s e c =
     or_from _ _ (committed_events (txn_of e) log ∙ o.uncommitted) (aborted_events (txn_of e) log ∙ o.unaborted)
 
 -- M2
-pub if_none : {X : Type 0} (P : X → Type 0) (o : Option X) → o ≡ None → IfSome o P
+if_none : {X : Type 0} (P : X → Type 0) (o : Option X) → o ≡ None → IfSome o P
 if_none P o e = subst (λ x. IfSome x P) (sym e) tt
 
-pub if_some : {X : Type 0} (P : X → Type 0) (o : Option X) (x : X) → o ≡ Some x → P x → IfSome o P
+if_some : {X : Type 0} (P : X → Type 0) (o : Option X) (x : X) → o ≡ Some x → P x → IfSome o P
 if_some P o x e p = subst (λ y. IfSome y P) (sym e) p
 
 pub numbered : (a : Act) (log : List Act) → Sound (a ∷ log) → (e : Event) → Contains (recorded a log) e
@@ -111,7 +111,7 @@ numbered (Aborts t) log s e c = subst (IsNumbered (events log)) (only_one _ e c)
 numbered Collects log s e c = absurd (none_contained e c)
 
 -- what a new event shows of a key is what its transaction sees of it
-pub new_shows : (a : Act) (log : List Act) → Sound (a ∷ log) → (e : Event) → Contains (recorded a log) e
+new_shows : (a : Act) (log : List Act) → Sound (a ∷ log) → (e : Event) → Contains (recorded a log) e
     → (k : List ℕ) (o : Option Entry) → shows e k ≡ Some o → sees (txn_of e) k log ≡ o
 new_shows (Starts t) log s e c k o f = absurd (none_contained e c)
 new_shows (Commits t) log s e c k o f = absurd (none-some o (ap (λ x. shows x k) (only_one _ e c) ∙ f))
@@ -131,7 +131,7 @@ new_shows (Scans t low high) log s e c k o f =
 new_shows Collects log s e c k o f = absurd (none_contained e c)
 
 -- what an event reads or lists it shows
-pub get_observed : (t : ℕ) (j : List ℕ) (v : Option Entry) → ((w : Entry) → v ≡ Some w → w.version.key ≡ j)
+get_observed : (t : ℕ) (j : List ℕ) (v : Option Entry) → ((w : Entry) → v ≡ Some w → w.version.key ≡ j)
     → (o : Entry) → Contains (observed (get_event t j v)) o → shows (get_event t j v) o.version.key ≡ Some (Some o)
 get_observed t j None key o c = absurd (none_contained o c)
 get_observed t j (Some w) key o c = by_content w.content refl c
@@ -166,7 +166,7 @@ scanned_source t low high log o c =
       | inr out ↦ absurd (let nothing : None ≡ Some o = rw out at x.2 in none-some o nothing)
     ]
 
-pub observed_shows : (a : Act) (log : List Act) → Sound (a ∷ log) → (e : Event) → Contains (recorded a log) e
+observed_shows : (a : Act) (log : List Act) → Sound (a ∷ log) → (e : Event) → Contains (recorded a log) e
     → (o : Entry) → Contains (observed e) o → shows e o.version.key ≡ Some (Some o)
 observed_shows (Starts t) log s e c o d = absurd (none_contained e c)
 observed_shows (Commits t) log s e c o d = absurd
@@ -192,7 +192,7 @@ observed_shows (Scans t low high) log s e c o d =
 observed_shows Collects log s e c o d = absurd (none_contained e c)
 
 -- M3
-pub own_written : (t : ℕ) (k : List ℕ) (log : List Act) (w : Entry) → own_write t k log ≡ Some w
+own_written : (t : ℕ) (k : List ℕ) (log : List Act) (w : Entry) → own_write t k log ≡ Some w
     → Contains (versions log) w
 own_written t k [] w e = absurd (none-some w e)
 own_written t k (Starts u ∷ log) w e = own_written t k log w e
@@ -216,7 +216,7 @@ own_written t k (Writes u j c ∷ log) w e =
     ]
 own_written t k (Collects ∷ log) w e = own_written t k log w e
 
-pub versions_stay : (a : Act) (log : List Act) (w : Entry) → Contains (versions log) w
+versions_stay : (a : Act) (log : List Act) (w : Entry) → Contains (versions log) w
     → Contains (versions (a ∷ log)) w
 versions_stay (Starts u) log w c = c
 versions_stay (Gets u j) log w c = c
@@ -242,11 +242,11 @@ own_stays t k (Writes u j d) log s c = cond-false {A = Option Entry} (u == t && 
     (own_write t k log) (and_left _ _ (not_open u t log s.0 c))
 own_stays t k Collects log s c = refl
 
-pub committed_more : (t : ℕ) (a : Act) (log : List Act) → has_committed t log ≡ true
+committed_more : (t : ℕ) (a : Act) (log : List Act) → has_committed t log ≡ true
     → has_committed t (a ∷ log) ≡ true
 committed_more = committed_stays
 
-pub write_stays : (k : List ℕ) (a : Act) (log : List Act) (w : Entry) → Sound (a ∷ log) → IsCommittedWrite k log w
+write_stays : (k : List ℕ) (a : Act) (log : List Act) (w : Entry) → Sound (a ∷ log) → IsCommittedWrite k log w
     → IsCommittedWrite k (a ∷ log) w
 write_stays k a log w s i = record {
   committed = committed_more w.version.txn a log i.committed;
@@ -278,7 +278,7 @@ contents_own k s (Commits u ∷ log) w sound e =
     ]
 contents_own k s (Collects ∷ log) w sound e = write_stays k Collects log w sound (contents_own k s log w sound.1 e)
 
-pub sees_written : (t : ℕ) (k : List ℕ) (log : List Act) (w : Entry) → Sound log → sees t k log ≡ Some w
+sees_written : (t : ℕ) (k : List ℕ) (log : List Act) (w : Entry) → Sound log → sees t k log ≡ Some w
     → Contains (versions log) w
 sees_written t k log w s e =
     elim (otherwise_cases (own_write t k log) (committed k (snapshot t log) log)) [
@@ -296,7 +296,7 @@ was_written a log s e c =
     (new_shows a log s e c o.version.key (Some o) (observed_shows a log s e c o d))))
 
 -- M4
-pub own_first : (t : ℕ) (k : List ℕ) (log : List Act) (o : Option Entry) → sees t k log ≡ o
+own_first : (t : ℕ) (k : List ℕ) (log : List Act) (o : Option Entry) → sees t k log ≡ o
     → IfSome (last_write t k (events log)) (λ w. o ≡ Some w)
 own_first t k log o e =
     elim (option_cases (own_write t k log)) [
@@ -307,7 +307,7 @@ own_first t k log o e =
     ]
 
 -- the list has what it shows of a key, and nothing else of it
-pub lists_only : (t : ℕ) (low high k : List ℕ) (es : List Entry) → lies_in low high k ≡ true
+lists_only : (t : ℕ) (low high k : List ℕ) (es : List Entry) → lies_in low high k ≡ true
     → ((o : Entry) → Contains es o → shows (Scan t low high es) o.version.key ≡ Some (Some o)) → (w : Entry)
     → listed k es ≡ Some w → ListsOnly es w
 lists_only t low high k es inside each w at =
@@ -322,7 +322,7 @@ lists_only t low high k es inside each w at =
           same_Some x w (sym (same_Some _ _ is) ∙ at)),
     )
 
-pub own_from_shows : (before : List Event) (e : Event)
+own_from_shows : (before : List Event) (e : Event)
     → ((o : Entry) → Contains (observed e) o → shows e o.version.key ≡ Some (Some o))
     → ((k : List ℕ) (o : Option Entry) → shows e k ≡ Some o
     → IfSome (last_write (txn_of e) k before) (λ w. o ≡ Some w)) → SeesOwnWrites before e
@@ -355,7 +355,7 @@ own_writes a log s e c = own_from_shows (events log) e (λ o d. observed_shows a
     (λ k o f. own_first (txn_of e) k log o (new_shows a log s e c k o f))
 
 -- M5
-pub get_rising : (t : ℕ) (j : List ℕ) (v : Option Entry) → ((w : Entry) → v ≡ Some w → w.version.key ≡ j)
+get_rising : (t : ℕ) (j : List ℕ) (v : Option Entry) → ((w : Entry) → v ≡ Some w → w.version.key ≡ j)
     → IsRising (get_event t j v)
 get_rising t j None key = (key_le-itself j, refl, All-from_contained _ [] (λ o c. absurd (none_contained o c)))
 get_rising t j (Some w) key = by_content w.content
@@ -371,11 +371,11 @@ get_rising t j (Some w) key = by_content w.content
               (lies_in-itself j w.version.key (sym at))),
         )
 
-pub write_rising : (t : ℕ) (k : List ℕ) (n : ℕ) (c : Content) → IsRising (write_event t k n c)
+write_rising : (t : ℕ) (k : List ℕ) (n : ℕ) (c : Content) → IsRising (write_event t k n c)
 write_rising t k n (Live v) = tt
 write_rising t k n Dead = tt
 
-pub scan_rising : (t : ℕ) (low high : List ℕ) (log : List Act) → key_le low high ≡ true
+scan_rising : (t : ℕ) (low high : List ℕ) (log : List Act) → key_le low high ≡ true
     → IsRising (Scan t low high (scanned t low high log))
 scan_rising t low high log le = (
   le,

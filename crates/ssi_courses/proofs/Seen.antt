@@ -36,7 +36,7 @@ pub record IsSnapshots (t : ℕ) (k : List ℕ) (o : Option Entry) (log : List A
 abbrev pub IsOwnEntry : ℕ → Option Entry → Type 0
 IsOwnEntry t o = (w : Entry) × (o ≡ Some w) × (w.version.txn ≡ t)
 
-abbrev pub SeenRight : ℕ → List ℕ → Option Entry → List Act → Type 0
+abbrev SeenRight : ℕ → List ℕ → Option Entry → List Act → Type 0
 SeenRight t k o log = IsOwnEntry t o ⊎ IsSnapshots t k o log
 
 -- the contents of a key are someone's last write of it
@@ -76,7 +76,7 @@ sees_is t k log w e =
     ]
 
 -- what is seen now is own, or the snapshot's if that is read
-pub seen_now : (t : ℕ) (k : List ℕ) (a : Act) (log : List Act) → snapshot t (a ∷ log) ≡ snapshot t log
+seen_now : (t : ℕ) (k : List ℕ) (a : Act) (log : List Act) → snapshot t (a ∷ log) ≡ snapshot t log
     → committed k (snapshot t log) (a ∷ log) ≡ committed k (snapshot t log) log
     → (own_write t k log ≡ None → has_read t k (a ∷ log) ≡ true) → SeenRight t k (sees t k log) (a ∷ log)
 seen_now t k a log snap same read =
@@ -134,7 +134,7 @@ scanned_is t low high k log inside =
       | inr some ↦ inl (sees_is t k log some.0 some.1).1
     ]) ∙ at
 
-pub read_stays : (t : ℕ) (k : List ℕ) (a : Act) (log : List Act) → has_read t k log ≡ true
+read_stays : (t : ℕ) (k : List ℕ) (a : Act) (log : List Act) → has_read t k log ≡ true
     → has_read t k (a ∷ log) ≡ true
 read_stays t k (Starts u) log e = e
 read_stays t k (Writes u j c) log e = e
@@ -144,7 +144,7 @@ read_stays t k (Gets u j) log e = or_right ((u == t) && key_eq j k && not (wrote
 read_stays t k (Scans u low high) log e = or_right ((u == t) && lies_in low high k) (has_read t k log) e
 read_stays t k Collects log e = e
 
-pub contents_stay : (k : List ℕ) (s : ℕ) (a : Act) (log : List Act) → s ≤ commit_count log
+contents_stay : (k : List ℕ) (s : ℕ) (a : Act) (log : List Act) → s ≤ commit_count log
     → committed k s (a ∷ log) ≡ committed k s log
 contents_stay k s (Starts u) log l = refl
 contents_stay k s (Writes u j c) log l = refl
@@ -169,7 +169,7 @@ snapshot_stays t (Commits u) log s b = refl
 snapshot_stays t (Aborts u) log s b = refl
 snapshot_stays t Collects log s b = refl
 
-pub seen_stays : (t : ℕ) (k : List ℕ) (o : Option Entry) (a : Act) (log : List Act) → Sound (a ∷ log)
+seen_stays : (t : ℕ) (k : List ℕ) (o : Option Entry) (a : Act) (log : List Act) → Sound (a ∷ log)
     → has_started t log ≡ true → SeenRight t k o log → SeenRight t k o (a ∷ log)
 seen_stays t k o a log s b (inl own) = inl own
 seen_stays t k o a log s b (inr snap) = inr (record {
@@ -191,7 +191,7 @@ pub record SeenBy (e : Event) (k : List ℕ) (o : Option Entry) (log : List Act)
   pub begun : has_started (txn_of e) log ≡ true
   pub right : SeenRight (txn_of e) k o log
 
-pub new_get : (t : ℕ) (j : List ℕ) (log : List Act) → Sound (Gets t j ∷ log) → (k : List ℕ) (o : Option Entry)
+new_get : (t : ℕ) (j : List ℕ) (log : List Act) → Sound (Gets t j ∷ log) → (k : List ℕ) (o : Option Entry)
     → shows (get_event t j (sees t j log)) k ≡ Some o → SeenBy (get_event t j (sees t j log)) k o (Gets t j ∷ log)
 new_get t j log s k o e =
     let parts = get_shows t j (sees t j log) (λ w f. (sees_is t j log w f).0) k o e in
@@ -207,7 +207,7 @@ new_get t j log s k o e =
           (subst (λ x. SeenRight t j x (Gets t j ∷ log)) parts.1 now));
     }
 
-pub new_scan : (t : ℕ) (low high : List ℕ) (log : List Act) → Sound (Scans t low high ∷ log)
+new_scan : (t : ℕ) (low high : List ℕ) (log : List Act) → Sound (Scans t low high ∷ log)
     → (k : List ℕ) (o : Option Entry) → shows (Scan t low high (scanned t low high log)) k ≡ Some o
     → SeenBy (Scan t low high (scanned t low high log)) k o (Scans t low high ∷ log)
 new_scan t low high log s k o e =
@@ -221,7 +221,7 @@ new_scan t low high log s k o e =
           (sym (scanned_is t low high k log parts.0) ∙ parts.1) now;
     }
 
-pub new_seen : (a : Act) (log : List Act) → Sound (a ∷ log) → (e : Event) → Contains (recorded a log) e
+new_seen : (a : Act) (log : List Act) → Sound (a ∷ log) → (e : Event) → Contains (recorded a log) e
     → (k : List ℕ) (o : Option Entry) → shows e k ≡ Some o → SeenBy e k o (a ∷ log)
 new_seen (Starts t) log s e c k o f = absurd (none_contained e c)
 new_seen (Commits t) log s e c k o f = absurd (none-some o (ap (λ x. shows x k) (only_one _ e c) ∙ f))

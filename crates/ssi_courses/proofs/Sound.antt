@@ -105,7 +105,7 @@ aborted_started t (Aborts u ∷ log) s e =
     ]
 aborted_started t (Collects ∷ log) s e = aborted_started t log s.1 e
 
-pub read_started : (t : ℕ) (k : List ℕ) (log : List Act) → Sound log → has_read t k log ≡ true
+read_started : (t : ℕ) (k : List ℕ) (log : List Act) → Sound log → has_read t k log ≡ true
     → has_started t log ≡ true
 read_started t k [] s e = absurd (cc (e))
 read_started t k (Starts u ∷ log) s e = or_right (u == t) (has_started t log) (read_started t k log s.1 e)
@@ -127,7 +127,7 @@ read_started t k (Scans u low high ∷ log) s e =
     ]
 read_started t k (Collects ∷ log) s e = read_started t k log s.1 e
 
-pub wrote_started : (t : ℕ) (k : List ℕ) (log : List Act) → Sound log → wrote t k log ≡ true
+wrote_started : (t : ℕ) (k : List ℕ) (log : List Act) → Sound log → wrote t k log ≡ true
     → has_started t log ≡ true
 wrote_started t k [] s e = absurd (cc (e))
 wrote_started t k (Starts u ∷ log) s e = or_right (u == t) (has_started t log) (wrote_started t k log s.1 e)

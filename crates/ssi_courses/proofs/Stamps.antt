@@ -21,7 +21,7 @@ use Rattle.ssi_courses.proofs.Seen.{snapshot_stays}
 use Rattle.ssi_courses.proofs.Sound.{Allowed, Sound, committed_stamp, committed_started, is_before, is_upto, not_open, open_from, stamp, stamp_above, stamp_committed}
 use Rattle.ssi_courses.proofs.Writing.{committed_step, last_writes_of, own_write_is, wrote_key}
 
-pub committers_length : (log : List Act) → length (committers log) ≡ commit_count log
+committers_length : (log : List Act) → length (committers log) ≡ commit_count log
 committers_length [] = refl
 committers_length (Starts u ∷ log) = committers_length log
 committers_length (Writes u k c ∷ log) = committers_length log
@@ -59,7 +59,7 @@ committers_count t (Commits u ∷ log) s =
     ]
 committers_count t (Collects ∷ log) s = committers_count t log s.1
 
-pub place_front : (xs ys : List ℕ) (t : ℕ) → 0 < count xs t → place (xs ++ ys) t ≡ place xs t
+place_front : (xs ys : List ℕ) (t : ℕ) → 0 < count xs t → place (xs ++ ys) t ≡ place xs t
 place_front [] ys t l = absurd (omega (arith, l))
 place_front (x ∷ xs) ys t l =
     elim (cases_Bool (x == t)) [
@@ -71,7 +71,7 @@ place_front (x ∷ xs) ys t l =
           (ap suc (place_front xs ys t (omega (arith, l, rest))) ∙ sym (place_other x xs t ne))
     ]
 
-pub stamp_is : (t n : ℕ) (log : List Act) → Sound log → stamp t log ≡ Some n → suc (place (committers log) t) ≡ n
+stamp_is : (t n : ℕ) (log : List Act) → Sound log → stamp t log ≡ Some n → suc (place (committers log) t) ≡ n
 stamp_is t n [] s e = absurd (none-some n e)
 stamp_is t n (Starts u ∷ log) s e = stamp_is t n log s.1 e
 stamp_is t n (Writes u k c ∷ log) s e = stamp_is t n log s.1 e
@@ -100,7 +100,7 @@ pub stamp_in_log : (edition : Edition) (unfinished : List ℕ) (t n : ℕ) (log 
 stamp_in_log edition unfinished t n log s e = ap (λ l. suc (place l t)) (commits_of_events log) ∙ stamp_is t n log s e
 
 -- who has committed keeps its stamp
-pub stamp_stays : (t : ℕ) (a : Act) (log : List Act) → Sound (a ∷ log) → has_committed t log ≡ true
+stamp_stays : (t : ℕ) (a : Act) (log : List Act) → Sound (a ∷ log) → has_committed t log ≡ true
     → stamp t (a ∷ log) ≡ stamp t log
 stamp_stays t (Starts u) log s c = refl
 stamp_stays t (Writes u j d) log s c = refl
@@ -111,7 +111,7 @@ stamp_stays t (Commits u) log s c = cond-false {A = Option ℕ} (u == t) (Some (
     (not_open u t log s.0.opened c)
 stamp_stays t Collects log s c = refl
 
-pub slice_more : (xs : List ℕ) (y p t : ℕ) → slice_get (xs ++ y ∷ []) p ≡ Some t
+slice_more : (xs : List ℕ) (y p t : ℕ) → slice_get (xs ++ y ∷ []) p ≡ Some t
     → (slice_get xs p ≡ Some t) ⊎ ((p ≡ length xs) × (y ≡ t))
 slice_more [] y zero t e = inr (refl, same_Some y t e)
 slice_more [] y (suc p) t e = absurd (none-some t e)
@@ -119,7 +119,7 @@ slice_more (x ∷ xs) y zero t e = inl e
 slice_more (x ∷ xs) y (suc p) t e =
     elim (slice_more xs y p t e) [ inl old ↦ inl old | inr new ↦ inr (ap suc new.0, new.1) ]
 
-pub wrote_stays : (t : ℕ) (k : List ℕ) (a : Act) (log : List Act) → wrote t k log ≡ true → wrote t k (a ∷ log) ≡ true
+wrote_stays : (t : ℕ) (k : List ℕ) (a : Act) (log : List Act) → wrote t k log ≡ true → wrote t k (a ∷ log) ≡ true
 wrote_stays t k (Starts u) log e = e
 wrote_stays t k (Gets u j) log e = e
 wrote_stays t k (Scans u low high) log e = e
@@ -144,7 +144,7 @@ pub record IsInstaller (k : List ℕ) (t : ℕ) (log : List Act) : Type 0 where
   pub wrote_it : wrote t k log ≡ true
 
 -- an installer after one more act is an old one, or commits just now
-pub installed_cases : (k : List ℕ) (p t : ℕ) (a : Act) (log : List Act)
+installed_cases : (k : List ℕ) (p t : ℕ) (a : Act) (log : List Act)
     → slice_get (installers k (a ∷ log)) p ≡ Some t
     → (slice_get (installers k log) p ≡ Some t) ⊎
     ((p ≡ length (installers k log)) × (a ≡ Commits t) × (wrote t k log ≡ true))
@@ -177,7 +177,7 @@ installer_is k p t (a ∷ log) e =
       }
     ]
 
-pub new_stamp : (t : ℕ) (a : Act) (log : List Act) → a ≡ Commits t → stamp t (a ∷ log) ≡ Some (suc (commit_count log))
+new_stamp : (t : ℕ) (a : Act) (log : List Act) → a ≡ Commits t → stamp t (a ∷ log) ≡ Some (suc (commit_count log))
 new_stamp t a log e = subst (λ x. stamp t (x ∷ log) ≡ Some (suc (commit_count log))) (sym e)
     (cond-true {A = Option ℕ} (t == t) (Some (suc (commit_count log))) (stamp t log) (eq-eqb t t refl))
 
@@ -206,13 +206,13 @@ installers_rise k p q t u m n (a ∷ log) s e f g i l =
           ]
     ]
 
-pub before_stays : (t u : ℕ) (a : Act) (log : List Act) → Sound (a ∷ log) → has_committed t log ≡ true
+before_stays : (t u : ℕ) (a : Act) (log : List Act) → Sound (a ∷ log) → has_committed t log ≡ true
     → has_started u log ≡ true → is_before t u log ≡ true → is_before t u (a ∷ log) ≡ true
 before_stays t u a log s c b e =
     ap (λ o. is_upto o (snapshot u (a ∷ log))) (stamp_stays t a log s c)
     ∙ (ap (λ n. is_upto (stamp t log) n) (snapshot_stays u a log s b) ∙ e)
 
-pub above_stays : (k : List ℕ) (s : ℕ) (a : Act) (log : List Act) → is_installed_above k s (changed log) ≡ true
+above_stays : (k : List ℕ) (s : ℕ) (a : Act) (log : List Act) → is_installed_above k s (changed log) ≡ true
     → is_installed_above k s (changed (a ∷ log)) ≡ true
 above_stays k s (Starts u) log e = e
 above_stays k s (Writes u j c) log e = e
@@ -225,7 +225,7 @@ above_stays k s (Commits u) log e = or_right
     (is_installed_above k s (changed log)) e
 
 -- an installer with a stamp above s has installed a version above s
-pub installed_above : (k : List ℕ) (p t n s : ℕ) (log : List Act) → Sound log
+installed_above : (k : List ℕ) (p t n s : ℕ) (log : List Act) → Sound log
     → slice_get (installers k log) p ≡ Some t → stamp t log ≡ Some n → s < n
     → is_installed_above k s (changed log) ≡ true
 installed_above k p t n s [] sound e f l = absurd (none-some t e)
@@ -245,7 +245,7 @@ installed_above k p t n s (a ∷ log) sound e f l =
     ]
 
 -- who commits was overtaken by no writer of its keys
-pub not_overtaken : (k : List ℕ) (p t u : ℕ) (log : List Act) → Sound log → Allowed (Commits u) log
+not_overtaken : (k : List ℕ) (p t u : ℕ) (log : List Act) → Sound log → Allowed (Commits u) log
     → wrote u k log ≡ true → slice_get (installers k log) p ≡ Some t → is_before t u log ≡ true
 not_overtaken k p t u log sound a w e =
     let clear = find_none (is_overtaken u log) (keys log) k a.no_conflict (wrote_key u k log w) in
@@ -307,7 +307,7 @@ NewestOf k s log None = (q u m : ℕ) → slice_get (installers k log) q ≡ Som
 NewestOf k s log (Some w) = IsNewest k s log w
 
 -- after an act that installs nothing
-pub newest_keeps : (k : List ℕ) (s : ℕ) (a : Act) (log : List Act) → Sound (a ∷ log)
+newest_keeps : (k : List ℕ) (s : ℕ) (a : Act) (log : List Act) → Sound (a ∷ log)
     → installers k (a ∷ log) ≡ installers k log → (o : Option Entry) → NewestOf k s log o → NewestOf k s (a ∷ log) o
 newest_keeps k s a log sound same None n =
     λ q u m e f. let old : slice_get (installers k log) q ≡ Some u = ap (λ l. slice_get l q) (sym same) ∙ e in
@@ -323,17 +323,17 @@ newest_keeps k s a log sound same (Some w) n = record {
       n.newest q u m old (sym (stamp_stays u a log sound (installer_is k q u log old).committed) ∙ f);
 }
 
-pub slice_end : (xs : List ℕ) (y : ℕ) → slice_get (xs ++ y ∷ []) (length xs) ≡ Some y
+slice_end : (xs : List ℕ) (y : ℕ) → slice_get (xs ++ y ∷ []) (length xs) ≡ Some y
 slice_end [] y = refl
 slice_end (x ∷ xs) y = slice_end xs y
 
-pub slice_front : (xs : List ℕ) (y p t : ℕ) → slice_get xs p ≡ Some t → slice_get (xs ++ y ∷ []) p ≡ Some t
+slice_front : (xs : List ℕ) (y p t : ℕ) → slice_get xs p ≡ Some t → slice_get (xs ++ y ∷ []) p ≡ Some t
 slice_front [] y p t e = absurd (none-some t e)
 slice_front (x ∷ xs) y zero t e = e
 slice_front (x ∷ xs) y (suc p) t e = slice_front xs y p t e
 
 -- after the commit of a writer whose stamp is above s
-pub newest_above : (k : List ℕ) (s u : ℕ) (log : List Act) → Sound (Commits u ∷ log) → s ≤ commit_count log
+newest_above : (k : List ℕ) (s u : ℕ) (log : List Act) → Sound (Commits u ∷ log) → s ≤ commit_count log
     → (o : Option Entry) → NewestOf k s log o → NewestOf k s (Commits u ∷ log) o
 newest_above k s u log sound high None n =
     λ q t m e f. elim (installed_cases k q t (Commits u) log e) [
@@ -359,7 +359,7 @@ newest_above k s u log sound high (Some w) n = record {
 }
 
 -- after the commit of a writer whose stamp is within s
-pub newest_now : (k : List ℕ) (s u : ℕ) (log : List Act) → Sound (Commits u ∷ log) → commit_count log < s
+newest_now : (k : List ℕ) (s u : ℕ) (log : List Act) → Sound (Commits u ∷ log) → commit_count log < s
     → wrote u k log ≡ true → (o : Option Entry) → own_write u k log ≡ o → NewestOf k s (Commits u ∷ log) o
 newest_now k s u log sound low holds None e = absurd (let no : false ≡ true = ap is_some (sym e) ∙ holds in cc)
 newest_now k s u log sound low holds (Some w) e =

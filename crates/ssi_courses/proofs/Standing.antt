@@ -60,7 +60,7 @@ module _ (pivot : List Call → Option ℕ) where
     pub still : (u : ℕ) → (t ≡ u → ⊥) → is_open u (acts c) ≡ true → is_open u (act ∷ acts c) ≡ true
     pub starts : (u : ℕ) → has_started u (act ∷ acts c) ≡ has_started u (acts c)
 
-  pub txn_kept : (c : Course) (m : Command) (a : Answer) → ((x : Option ℕ) → txn_after x a ≡ x) → (r : List ℕ)
+  txn_kept : (c : Course) (m : Command) (a : Answer) → ((x : Option ℕ) → txn_after x a ≡ x) → (r : List ℕ)
       → txn_in r (Then c m a) ≡ txn_in r c
   txn_kept c m a keeps r =
       elim (cases_Bool (is_of r m)) [
@@ -69,7 +69,7 @@ module _ (pivot : List Call → Option ℕ) where
         | inr other ↦ cond-false {A = Option ℕ} (is_of r m) (txn_after (txn_in r c) a) (txn_in r c) other
       ]
 
-  pub txn_dropped : (s : List ℕ) (c : Course) (m : Command) (a : Answer) → IsOf s c m
+  txn_dropped : (s : List ℕ) (c : Course) (m : Command) (a : Answer) → IsOf s c m
       → ((x : Option ℕ) → txn_after x a ≡ None) → (r : List ℕ) (t : ℕ) → txn_in r (Then c m a) ≡ Some t
       → (s ≡ r → ⊥) × (txn_in r c ≡ Some t)
   txn_dropped s c m a of drops r t e =
@@ -84,7 +84,7 @@ module _ (pivot : List Call → Option ℕ) where
         )
       ]
 
-  pub after_quiet : (o : Option ℕ) (c : Course) (m : Command) (a : Answer) → txn_for m c ≡ o → Stands c
+  after_quiet : (o : Option ℕ) (c : Course) (m : Command) (a : Answer) → txn_for m c ≡ o → Stands c
       → Quiet o c m a → Stands (Then c m a)
   after_quiet o c m a e s q =
       let same : acts (Then c m a) ≡ acts c = ap (λ x. act_by x m a ++ acts c) e ∙ ap (λ l. l ++ acts c) q.acts_are in
@@ -97,7 +97,7 @@ module _ (pivot : List Call → Option ℕ) where
         below = λ u f. subst (λ n. u < n) (sym q.next_is) (s.below u (subst (λ l. has_started u l ≡ true) same f));
       }
 
-  pub after_work : (o : Option ℕ) (c : Course) (m : Command) (a : Answer) → txn_for m c ≡ o → Stands c
+  after_work : (o : Option ℕ) (c : Course) (m : Command) (a : Answer) → txn_for m c ≡ o → Stands c
       → Works o c m a → Stands (Then c m a)
   after_work o c m a e s q =
       let same : acts (Then c m a) ≡ q.act ∷ acts c = ap (λ x. act_by x m a ++ acts c) e
@@ -112,7 +112,7 @@ module _ (pivot : List Call → Option ℕ) where
             (s.below u (sym (q.starts u) ∙ subst (λ l. has_started u l ≡ true) same f));
       }
 
-  pub after_end : (t : ℕ) (s : List ℕ) (c : Course) (m : Command) (a : Answer) → IsOf s c m → txn_in s c ≡ Some t
+  after_end : (t : ℕ) (s : List ℕ) (c : Course) (m : Command) (a : Answer) → IsOf s c m → txn_in s c ≡ Some t
       → Stands c → Ends t c m a → Stands (Then c m a)
   after_end t v c m a of e s q =
       let same : acts (Then c m a) ≡ q.act ∷ acts c = ap (λ x. act_by x m a ++ acts c) (of.txn ∙ e)
@@ -152,7 +152,7 @@ module _ (pivot : List Call → Option ℕ) where
       none (Some t) m = none_of t m
 
   -- an abort, for whatever reason
-  pub aborted : (t : ℕ) (s : List ℕ) (c : Course) (m : Command) (a : Answer) → IsOf s c m → txn_in s c ≡ Some t
+  aborted : (t : ℕ) (s : List ℕ) (c : Course) (m : Command) (a : Answer) → IsOf s c m → txn_in s c ≡ Some t
       → Stands c → act_by (Some t) m a ≡ Aborts t ∷ [] → ((x : Option ℕ) → txn_after x a ≡ None)
       → next_txn (Then c m a) ≡ next_txn c → Stands (Then c m a)
   aborted t v c m a of e s f drops next = after_end t v c m a of e s (record {
@@ -174,7 +174,7 @@ module _ (pivot : List Call → Option ℕ) where
   })
 
   -- a read or a write, after which no pivot would stand
-  pub work_done : (t : ℕ) (c : Course) (m : Command) (a : Answer) (x : Act) → txn_for m c ≡ Some t → Stands c
+  work_done : (t : ℕ) (c : Course) (m : Command) (a : Answer) (x : Act) → txn_for m c ≡ Some t → Stands c
       → act_by (Some t) m a ≡ x ∷ [] → Allowed x (acts c) → SafeAct pivot x (acts c)
       → ((y : Option ℕ) → txn_after y a ≡ y) → next_txn (Then c m a) ≡ next_txn c
       → ((u : ℕ) → is_open u (acts c) ≡ true → is_open u (x ∷ acts c) ≡ true)
@@ -190,7 +190,7 @@ module _ (pivot : List Call → Option ℕ) where
     starts = starts;
   })
 
-  pub get_judged : (t : ℕ) (s k : List ℕ) (c : Course) → txn_in s c ≡ Some t → Stands c → (p : Option ℕ)
+  get_judged : (t : ℕ) (s k : List ℕ) (c : Course) → txn_in s c ≡ Some t → Stands c → (p : Option ℕ)
       → pivot (tracked (Gets t k ∷ acts c)) ≡ p → (v : Option (List ℕ))
       → Stands (Then c (Do.Get s k) (unless_pivot p (got v)))
   get_judged t s k c e st (Some p) f v = aborted t s c (Do.Get s k) (Unsafe p)
@@ -208,7 +208,7 @@ module _ (pivot : List Call → Option ℕ) where
   scan_judged t s low high c le e st None f found = work_done t c (Do.Scan s low high) (Rows found)
       (Scans t low high) e st refl (st.opened s t e, le) f (λ x. refl) refl (λ u g. g) (λ u. refl)
 
-  pub limited_judged : (t : ℕ) (s low high : List ℕ) (n : ℕ) (c : Course) (found : List FinalPair)
+  limited_judged : (t : ℕ) (s low high : List ℕ) (n : ℕ) (c : Course) (found : List FinalPair)
       → key_le low (reached high n found) ≡ true → txn_in s c ≡ Some t → Stands c → (p : Option ℕ)
       → pivot (tracked (Scans t low (reached high n found) ∷ acts c)) ≡ p
       → Stands (Then c (Do.ScanFirst s low high n) (unless_pivot p (Rows found)))
@@ -217,7 +217,7 @@ module _ (pivot : List Call → Option ℕ) where
   limited_judged t s low high n c found le e st None f = work_done t c (Do.ScanFirst s low high n) (Rows found)
       (Scans t low (reached high n found)) e st refl (st.opened s t e, le) f (λ x. refl) refl (λ u g. g) (λ u. refl)
 
-  pub commit_judged : (t : ℕ) (s : List ℕ) (c : Course) → txn_in s c ≡ Some t → Stands c → (k : Option (List ℕ))
+  commit_judged : (t : ℕ) (s : List ℕ) (c : Course) → txn_in s c ≡ Some t → Stands c → (k : Option (List ℕ))
       → conflict t (acts c) ≡ k → (p : Option ℕ) → pivot (tracked (Commits t ∷ acts c)) ≡ p
       → Stands (Then c (Do.Commit s) (unless_conflict k (acts c) (unless_pivot p Committed)))
   commit_judged t s c e st (Some k) f p g = aborted t s c (Do.Commit s) (Conflict k (last_writer k (acts c)))
@@ -245,22 +245,22 @@ module _ (pivot : List Call → Option ℕ) where
       })
 
   -- whether the test holds or not
-  pub either_way : (c : Course) (m : Command) (b : Bool) (x y : Answer) → (b ≡ true → Stands (Then c m x))
+  either_way : (c : Course) (m : Command) (b : Bool) (x y : Answer) → (b ≡ true → Stands (Then c m x))
       → (b ≡ false → Stands (Then c m y)) → Stands (Then c m (cond b x y))
   either_way c m true x y h i = h refl
   either_way c m false x y h i = i refl
 
-  pub long_stands : (t : ℕ) (c : Course) (m : Command) (a : Answer) → Stands c → Stands (Then c m a)
+  long_stands : (t : ℕ) (c : Course) (m : Command) (a : Answer) → Stands c → Stands (Then c m a)
       → Stands (Then c m (unless_long t (acts c) a))
   long_stands t c m a s after = either_way c m (nat_le 65535 (operations t (acts c))) (Refused Long) a
       (λ long. refused c m (Refused Long) Long refl s) (λ short. after)
 
-  pub downward_stands : (low high : List ℕ) (c : Course) (m : Command) (a : Answer) → Stands c
+  downward_stands : (low high : List ℕ) (c : Course) (m : Command) (a : Answer) → Stands c
       → (key_le low high ≡ true → Stands (Then c m a)) → Stands (Then c m (unless_downward low high a))
   downward_stands low high c m a s after = either_way c m (key_lt high low) (Refused Range) a
       (λ f. refused c m (Refused Range) Range refl s) (λ f. after (key_le-from_not low high f))
 
-  pub txn_now : (s : List ℕ) (c : Course) (n : ℕ) (r : List ℕ) (t : ℕ)
+  txn_now : (s : List ℕ) (c : Course) (n : ℕ) (r : List ℕ) (t : ℕ)
       → txn_in r (Then c (Do.Begin s) (Begun n)) ≡ Some t → ((s ≡ r) × (n ≡ t)) ⊎ (txn_in r c ≡ Some t)
   txn_now s c n r t e =
       elim (cases_Bool (key_eq s r)) [
@@ -329,7 +329,7 @@ module _ (pivot : List Call → Option ℕ) where
       })
 
   -- a collection, and a count
-  pub collected : (c : Course) (n : ℕ) → Stands c → Stands (Then c Do.Collect (Kept n))
+  collected : (c : Course) (n : ℕ) → Stands c → Stands (Then c Do.Collect (Kept n))
   collected c n st = after_work None c Do.Collect (Kept n) refl st (record {
     act = Collects;
     acts_are = refl;
@@ -346,7 +346,7 @@ module _ (pivot : List Call → Option ℕ) where
   counted c active kept versions keys st = after_quiet None c Do.Stat (Counts active kept versions keys) refl st
       (record { acts_are = refl; keeps = λ x. refl; next_is = refl })
 
-  pub idle_stands : (c : Course) (m : Command) → txn_for m c ≡ None → Stands c → Stands (Then c m (reply_idle c m))
+  idle_stands : (c : Course) (m : Command) → txn_for m c ≡ None → Stands c → Stands (Then c m (reply_idle c m))
   idle_stands c (Do.Begin s) e st = either_way c (Do.Begin s) (nat_lt 4294967295 (next_txn c)) (Refused Spent)
       (Begun (next_txn c)) (λ f. refused c (Do.Begin s) (Refused Spent) Spent refl st) (λ f. begun s c e st)
   idle_stands c (Do.Get s k) e st = refused c (Do.Get s k) (Refused Idle) Idle refl st
@@ -359,7 +359,7 @@ module _ (pivot : List Call → Option ℕ) where
   idle_stands c Do.Collect e st = collected c _ st
   idle_stands c Do.Stat e st = counted c _ _ _ _ st
 
-  pub busy_stands : (t : ℕ) (c : Course) (m : Command) → txn_for m c ≡ Some t → Stands c
+  busy_stands : (t : ℕ) (c : Course) (m : Command) → txn_for m c ≡ Some t → Stands c
       → Stands (Then c m (reply_in pivot t (acts c) m))
   busy_stands t c (Do.Begin s) e st = refused c (Do.Begin s) (Refused Busy) Busy refl st
   busy_stands t c (Do.Get s k) e st = long_stands t c (Do.Get s k) _ st
@@ -389,7 +389,7 @@ module _ (pivot : List Call → Option ℕ) where
   busy_stands t c Do.Collect e st = collected c _ st
   busy_stands t c Do.Stat e st = counted c _ _ _ _ st
 
-  pub step_stands : (c : Course) (m : Command) (o : Option ℕ) → txn_for m c ≡ o → Stands c
+  step_stands : (c : Course) (m : Command) (o : Option ℕ) → txn_for m c ≡ o → Stands c
       → Stands (Then c m (reply_for pivot o c m))
   step_stands c m None e st = idle_stands c m e st
   step_stands c m (Some t) e st = busy_stands t c m e st

@@ -23,7 +23,7 @@ started_rise log s = subst (λ l. numbers_rise l ≡ true) (begun_are log)
     (begun_rise (tracked log) (tracked_allowed log s))
 
 -- the snapshots in the list are those of the log
-pub start_found : (f : ℕ → ℕ) (ts : List ℕ) (t : ℕ) → Contains ts t → start_in (map (λ u. (u, f u)) ts) t ≡ f t
+start_found : (f : ℕ → ℕ) (ts : List ℕ) (t : ℕ) → Contains ts t → start_in (map (λ u. (u, f u)) ts) t ≡ f t
 start_found f [] t c = absurd (none_contained t c)
 start_found f (u ∷ ts) t c =
     elim (cases_Bool (u == t)) [
@@ -36,18 +36,18 @@ start_found f (u ∷ ts) t c =
     behind : Contains (u ∷ ts) t → (u == t) ≡ false → Contains ts t
     behind d ne = elim (Contains-cases u ts t d) [ inl e ↦ absurd (both_ways _ ne (eq-eqb u t e)) | inr r ↦ r ]
 
-pub start_missing : (f : ℕ → ℕ) (ts : List ℕ) (t : ℕ) → (Contains ts t → ⊥) → start_in (map (λ u. (u, f u)) ts) t ≡ 0
+start_missing : (f : ℕ → ℕ) (ts : List ℕ) (t : ℕ) → (Contains ts t → ⊥) → start_in (map (λ u. (u, f u)) ts) t ≡ 0
 start_missing f [] t h = refl
 start_missing f (u ∷ ts) t h =
     cond-false {A = ℕ} (u == t) (f u) (start_in (map (λ x. (x, f x)) ts) t)
     (ne_eqb u t (λ e. h (subst (Contains (u ∷ ts)) e (Contains-head u ts)))) ∙
     start_missing f ts t (λ c. h (Contains-cons u ts t c))
 
-pub there_started : (t : ℕ) (log : List Act) → Contains (started log) t → has_started t log ≡ true
+there_started : (t : ℕ) (log : List Act) → Contains (started log) t → has_started t log ≡ true
 there_started t log c = sym (begun_told t log)
     ∙ there_begun t (tracked log) (subst (λ l. Contains l t) (sym (begun_are log)) c)
 
-pub unstarted : (t : ℕ) (log : List Act) → has_started t log ≡ false → snapshot t log ≡ 0
+unstarted : (t : ℕ) (log : List Act) → has_started t log ≡ false → snapshot t log ≡ 0
 unstarted t [] e = refl
 unstarted t (Act.Writes u k c ∷ log) e = unstarted t log e
 unstarted t (Gets u k ∷ log) e = unstarted t log e

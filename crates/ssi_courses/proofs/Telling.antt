@@ -14,7 +14,7 @@ use Rattle.ssi_courses.proofs.KeyOrder.{key_le-itself, lies_in-itself, lies_in-o
 use Rattle.ssi_courses.proofs.Sound.{Sound, has_read, not_open, stamp}
 use Rattle.ssi_courses.proofs.Writing.{own_key_there, own_key_written}
 
-pub lies_in-is : (j k : List ℕ) → lies_in j j k ≡ key_eq j k
+lies_in-is : (j k : List ℕ) → lies_in j j k ≡ key_eq j k
 lies_in-is j k =
     elim (cases_Bool (lies_in j j k)) [
       | inl holds ↦ holds ∙ sym (bytes_eq-from j k (lies_in-one j k holds))
@@ -33,7 +33,7 @@ stamp_told t (Commits u ∷ log) = ap (λ o. cond (u == t) (Some (suc (commit_co
 stamp_told t (Aborts u ∷ log) = stamp_told t log
 stamp_told t (Collects ∷ log) = stamp_told t log
 
-pub committed_is_stamped : (t : ℕ) (log : List Act) → is_some (stamp t log) ≡ has_committed t log
+committed_is_stamped : (t : ℕ) (log : List Act) → is_some (stamp t log) ≡ has_committed t log
 committed_is_stamped t [] = refl
 committed_is_stamped t (Starts u ∷ log) = committed_is_stamped t log
 committed_is_stamped t (Writes u k c ∷ log) = committed_is_stamped t log
@@ -70,7 +70,7 @@ begun_told t (Commits u ∷ log) = begun_told t log
 begun_told t (Aborts u ∷ log) = begun_told t log
 begun_told t (Collects ∷ log) = begun_told t log
 
-pub is_open_told : (t : ℕ) (log : List Act) → open_told t (tracked log) ≡ is_open t log
+is_open_told : (t : ℕ) (log : List Act) → open_told t (tracked log) ≡ is_open t log
 is_open_told t log =
     ap (λ b. b && not (committed_told t (tracked log) || is_aborted t (tracked log))) (begun_told t log) ∙
     (ap (λ b. has_started t log && not (b || is_aborted t (tracked log))) (is_committed_told t log) ∙
@@ -142,7 +142,7 @@ keys_told u (Commits t ∷ log) s c k w =
       | inr other ↦ rw other (keys_told u log s.1 (rw other at c) k w)
     ]
 
-pub last_stamp_told : (log : List Act) → last_stamp (tracked log) ≡ commit_count log
+last_stamp_told : (log : List Act) → last_stamp (tracked log) ≡ commit_count log
 last_stamp_told [] = refl
 last_stamp_told (Starts u ∷ log) = last_stamp_told log
 last_stamp_told (Writes u k c ∷ log) = last_stamp_told log

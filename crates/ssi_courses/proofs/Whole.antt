@@ -1,4 +1,4 @@
--- The history of a sound log, all of whose transactions have ended, is checked; so it has no cycle.
+-- The history of a sound log is checked: it is well-formed, without aborted and intermediate reads.
 use Rattle.std.specs.List.{Contains, cons_option, filter_map, list_any}
 use Rattle.std.proofs.Common.{List, None, Option, Some, [], ap, arith, cond, false, inl, inr, is_some, length, not, refl, slice_get, subst, suc, sym, true, zero, ℕ, ◌&&◌, ◌++◌, ◌+◌, ◌<◌, ◌==◌, ◌||◌, ◌∙◌, ◌∷◌, ◌≡◌, ◌⊎◌}
 use Rattle.std.proofs.lemmas.Bool.{and_cases, and_left, both_ways, cases_Bool, cases_lt, cond-false, cond-true, eq-eqb, eqb-true, not-false, or_cases, or_from, or_left, or_right}
@@ -29,7 +29,7 @@ use Rattle.ssi_courses.proofs.Sound.{Sound, committed_stamp, not_both, not_open,
 use Rattle.ssi_courses.proofs.Stamps.{NewestOf, contents_newest, installer_is, installers_rise}
 
 -- M7
-pub installed_once : (k : List ℕ) (t : ℕ) (log : List Act) → Sound log
+installed_once : (k : List ℕ) (t : ℕ) (log : List Act) → Sound log
     → count (installers k log) t ≡ cond (has_committed t log && wrote t k log) 1 0
 installed_once k t [] s = refl
 installed_once k t (Starts u ∷ log) s = installed_once k t log s.1
@@ -83,7 +83,7 @@ installed_once k t (Commits u ∷ log) s =
 installed_once k t (Collects ∷ log) s = installed_once k t log s.1
 
 -- M8
-pub final_step : (f : List ℕ → Option (List ℕ)) (j k : List ℕ) (fs : List FinalPair) (l : Option (List ℕ)) → f j ≡ l
+final_step : (f : List ℕ → Option (List ℕ)) (j k : List ℕ) (fs : List FinalPair) (l : Option (List ℕ)) → f j ≡ l
     → ((j ≡ k → f k ≡ None) → final_value fs k ≡ f k) → final_value (cons_option (visible_pair_of j l) fs) k ≡ f k
 final_step f j k fs None e rest = rest (λ s. ap f (sym s) ∙ e)
 final_step f j k fs (Some v) e rest =
@@ -94,7 +94,7 @@ final_step f j k fs (Some v) e rest =
           ∙ rest (λ s. absurd (both_ways _ other (bytes_eq-from j k s)))
     ]
 
-pub final_made : (f : List ℕ → Option (List ℕ)) (js : List (List ℕ)) (k : List ℕ) → (Contains js k ⊎ (f k ≡ None))
+final_made : (f : List ℕ → Option (List ℕ)) (js : List (List ℕ)) (k : List ℕ) → (Contains js k ⊎ (f k ≡ None))
     → final_value (filter_map (λ j. visible_pair_of j (f j)) js) k ≡ f k
 final_made f [] k (inl c) = absurd (none_contained k c)
 final_made f [] k (inr e) = sym e
@@ -103,7 +103,7 @@ final_made f (j ∷ js) k (inl (zero, l, s)) = final_step f j k _ (f j) refl (λ
 final_made f (j ∷ js) k (inl (suc i, l, s)) = final_step f j k _ (f j) refl
     (λ h. final_made f js k (inl (i, omega (arith, l), s)))
 
-pub slice_some : (xs : List ℕ) (p : ℕ) → p < length xs → (u : ℕ) × (slice_get xs p ≡ Some u)
+slice_some : (xs : List ℕ) (p : ℕ) → p < length xs → (u : ℕ) × (slice_get xs p ≡ Some u)
 slice_some [] p l = absurd (omega (arith, l))
 slice_some (x ∷ xs) zero l = (x, refl)
 slice_some (x ∷ xs) (suc p) l = slice_some xs p (omega (arith, l))
@@ -139,7 +139,7 @@ last_value edition unfinished k log s (Some w) e newest (suc n) l =
     ap (value_by (history_of_log edition unfinished log) k) who
     ∙ ap shown (own_of_events w.version.txn k log ∙ (contents_own k (commit_count log) log w s e).own)
 
-pub ended : (t : ℕ) (log : List Act) → has_started t log ≡ true → is_open t log ≡ false
+ended : (t : ℕ) (log : List Act) → has_started t log ≡ true → is_open t log ≡ false
     → (has_committed t log || has_aborted t log) ≡ true
 ended t log b e = elim (and_cases (has_started t log) (not (has_committed t log || has_aborted t log)) e) [
   | inl never ↦ absurd (both_ways _ never b)
@@ -165,7 +165,7 @@ module _ (edition : Edition) (unfinished : List ℕ) (log : List Act) (sound : S
   no_end : (t : ℕ) → Contains unfinished t → has_ended (events log) t ≡ false
   no_end t c = let o = open_from t log (only t c) in has_ended_is t ∙ or_from _ _ o.uncommitted o.unaborted
 
-  pub is_well_formed : IsWellFormed (history_of_log edition unfinished log)
+  is_well_formed : IsWellFormed (history_of_log edition unfinished log)
   is_well_formed = record {
     open_until_end = each_recorded _ open_until log sound;
     numbered = each_recorded _ numbered log sound;

@@ -1,5 +1,5 @@
--- Worked courses, checked by computing them: what is answered to the commands, the history that records them, and a serial
--- order that its certificate may have.
+-- Worked courses, checked by computing them: what is answered to the commands, the history that records them, and a
+-- serial order that its certificate may have.
 use Rattle.std.proofs.Common.{◌≡◌, ℕ, true, List, [], ◌∷◌, Option, None, refl, codes}
 use Prim.Native.String.{String}
 use Rattle.adya_values.specs.declared.edition.Edition.TheVariants.{One, Two}

@@ -49,17 +49,17 @@ wrote_key t k (Writes u j c ∷ log) e =
     ]
 
 -- a write adds its key to the own keys of its transaction, unless it is there
-pub wrote_now : (t : ℕ) (j : List ℕ) (c : Content) (log : List Act) → wrote t j (Writes t j c ∷ log) ≡ true
+wrote_now : (t : ℕ) (j : List ℕ) (c : Content) (log : List Act) → wrote t j (Writes t j c ∷ log) ≡ true
 wrote_now t j c log = ap is_some
     (cond-true {A = Option Entry} (t == t && key_eq j j) (Some (entry (version j t (suc (write_count t j log))) c))
     (own_write t j log) (and_from (t == t) (key_eq j j) (eq-eqb t t refl) (bytes_eq-itself j)))
 
-pub wrote_still : (t : ℕ) (k : List ℕ) (u : ℕ) (j : List ℕ) (c : Content) (log : List Act) → wrote t k log ≡ true
+wrote_still : (t : ℕ) (k : List ℕ) (u : ℕ) (j : List ℕ) (c : Content) (log : List Act) → wrote t k log ≡ true
     → wrote t k (Writes u j c ∷ log) ≡ true
 wrote_still t k u j c log e =
     elim (cases_Bool (u == t && key_eq j k)) [ inl same ↦ rw same refl | inr other ↦ rw other e ]
 
-pub wrote_before : (t : ℕ) (k : List ℕ) (u : ℕ) (j : List ℕ) (c : Content) (log : List Act)
+wrote_before : (t : ℕ) (k : List ℕ) (u : ℕ) (j : List ℕ) (c : Content) (log : List Act)
     → wrote t k (Writes u j c ∷ log) ≡ true → ((u ≡ t) × (j ≡ k)) ⊎ (wrote t k log ≡ true)
 wrote_before t k u j c log e =
     elim (cases_Bool (u == t && key_eq j k)) [

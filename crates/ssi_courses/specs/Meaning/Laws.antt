@@ -72,7 +72,8 @@ abbrev pub OpenSnapshotsAreHeld : Type 0
 OpenSnapshotsAreHeld = (pivot : List Call → Option ℕ) (c : Course) → Follows pivot c → (t : ℕ)
     → is_open t (acts c) ≡ true → IsStillSeen t c
 
--- on one course, what the commit-order rule answers Unsafe the two-pair rule does too, with the same pivot or a smaller one
+-- on one course, what the commit-order rule answers Unsafe the two-pair rule does too, with the same pivot or a smaller
+-- one
 abbrev pub OrderedRefusesNoMore : Type 0
 OrderedRefusesNoMore = (pivot : List Call → Option ℕ) (c : Course) → Follows pivot c → (command : Command) (p : ℕ)
     → reply smallest_ordered_pivot c command ≡ Unsafe p

@@ -1,6 +1,6 @@
 -- The answer to each command, by all that was before. `pivot` names the pivot that stands after a list of calls, if one
--- does: `smallest_pivot` by the two-pair rule (Cahill, Röhm and Fekete 2008), `smallest_ordered_pivot` by the commit-order
--- rule (Ports and Grittner 2012, section 3.3).
+-- does. By the two-pair rule that is `smallest_pivot` (Cahill, Röhm and Fekete 2008), by the commit-order rule
+-- `smallest_ordered_pivot` (Ports and Grittner 2012, section 3.3).
 use Rattle.std.specs.Prelude.{◌≡◌, ◌⊎◌, ℕ, Bool, true, false, ◌&&◌, nat_lt, nat_le, if◌then◌else◌, List, ◌∷◌, take, Option, Some, None}
 use Rattle.std.specs.List.{find}
 use Rattle.adya_values.specs.Meaning.Keys.{key_lt}
@@ -51,8 +51,8 @@ abbrev pub unless_conflict : Option (List ℕ) → List Act → Answer → Answe
 unless_conflict None log answer = answer
 unless_conflict (Some k) log answer = Conflict k (last_writer k log)
 
--- the answer, if the transaction may do one more operation; it may do 65535 of them, so that all of its modifications have
--- numbers
+-- the answer, if the transaction may do one more operation; it may do 65535 of them, so that each of its modifications
+-- has a number
 abbrev pub unless_long : ℕ → List Act → Answer → Answer
 unless_long t log answer = if nat_le 65535 (operations t log) then Refused Long else answer
 
