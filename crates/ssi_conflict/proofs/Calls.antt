@@ -85,7 +85,7 @@ begun_there t (Begins u s ∷ calls) e =
       | inr other ↦ Contains-append_left (begun calls) (u ∷ []) t (begun_there t calls (rw other at e))
     ]
 
-pub there_begun : (t : ℕ) (calls : List Call) → Contains (begun calls) t → has_begun t calls ≡ true
+there_begun : (t : ℕ) (calls : List Call) → Contains (begun calls) t → has_begun t calls ≡ true
 there_begun t [] c = absurd (none_contained t c)
 there_begun t (Reads u low high ∷ calls) c = there_begun t calls c
 there_begun t (Commits u n ks ∷ calls) c = there_begun t calls c
@@ -119,7 +119,7 @@ stamp_upto t n (Commits u m ks ∷ calls) a e =
           (arith, rest, next))
     ]
 
-pub snapshot_upto : (t s : ℕ) (calls : List Call) → AreAllowed calls → snapshot_of t calls ≡ Some s
+snapshot_upto : (t s : ℕ) (calls : List Call) → AreAllowed calls → snapshot_of t calls ≡ Some s
     → s ≤ last_stamp calls
 snapshot_upto t s [] a e = absurd (none-some s e)
 snapshot_upto t s (Reads u low high ∷ calls) a e = snapshot_upto t s calls a.1 e

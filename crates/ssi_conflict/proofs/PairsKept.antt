@@ -21,7 +21,7 @@ concurrent_kept t x calls c o e =
     (begun_there x calls (live_from x calls o).begun) (and_from (is_open x calls) _ o (not_from_false _ e))))
 
 -- a commit joins its transaction, which was open, with a reader that is kept
-pub commit_pair_kept : (t n : ℕ) (ks : List (List ℕ)) (r u : ℕ) (calls : List Call)
+commit_pair_kept : (t n : ℕ) (ks : List (List ℕ)) (r u : ℕ) (calls : List Call)
     → AreAllowed (Commits t n ks ∷ calls) → (t == u) ≡ true → IsPair r u (Commits t n ks ∷ calls)
     → (is_kept r calls ≡ true) × (is_kept u calls ≡ true)
 commit_pair_kept t n ks r u calls a same p =
