@@ -2,4 +2,13 @@
 //! as in Ports and Grittner 2012).
 #![tactic(auto)]
 
+mod answer;
 pub mod laws;
+mod pending;
+mod record;
+mod scan;
+mod table;
+mod tracker;
+
+pub use answer::Answer;
+pub use tracker::Tracker;

@@ -1,0 +1,167 @@
+//! The tracker.
+
+ghost use Rattle.std.specs.Prelude.{◌≡◌, ◌≢◌, ◌==◌, ◌||◌, ◌&&◌, ◌∷◌, [], ℕ, List, true, false, Some, None, IfOk, OnOk, OnErr, option_map};
+ghost use Rattle.std.specs.List.{list_any};
+ghost use Rattle.ssi_reads.specs.Meaning.Marks.{with_mark, IsSame, IsEmpty};
+ghost use Rattle.ssi_conflict.specs.Meaning.Calls.{Call, Begins, Reads, Commits, Aborts, IsAllowed};
+ghost use Rattle.ssi_conflict.specs.Meaning.Pairs.{IsOrderedPivot, IsSmallest};
+ghost use Rattle.ssi_conflict.specs.Machinery.Tables.{row_at, met_if, pivots, Keeps};
+ghost use Rattle.ssi_conflict.specs.Meaning.Kept.{kept_count};
+ghost use Rattle.ssi_conflict.specs.Meaning.Standing.{Holds, Stands, IsReady, pivot_of, carried};
+
+use crate::answer::Answer;
+use crate::pending::Pending;
+use crate::scan::Reading;
+use crate::table::{Table, Writer};
+use adya_values::{Key, Txn};
+use ssi_reads::Marks;
+use std::alloc::{AllocError, Global};
+
+/// Keeps the conflicts of concurrent transactions.
+#[derive(Drop)]
+pub struct Tracker<M> {
+    alloc: Global,
+    table: Table,
+    marks: M,
+    pending: Pending,
+}
+
+fn mark<M: Marks>(marks: &mut M, txn: Txn, lo: Key, hi: Key) -> Result<(), AllocError>
+    ensures marks { OnOk result (IsSame (M.marked marks.new) (with_mark txn lo hi (M.marked marks.old))) }
+    ensures refused { OnErr result (IsSame (M.marked marks.new) (M.marked marks.old)) }
+{
+    if lo == hi {
+        marks.mark_key(txn, lo)
+    } else {
+        marks.mark_range(txn, lo, hi)
+    }
+}
+
+/// The readers get their pairs to the writer.
+fn meet_all(table: &mut Table, writer: &Writer, stamp: u64, readers: &[Txn])
+    ensures keeps { Keeps table.old table.new }
+    ensures rows { (r : ℕ) → row_at table.new r ≡ option_map (met_if writer.now.txn writer.now.snapshot stamp readers.now r) (row_at table.old r) }
+{
+    for reader in readers {
+        table.meet(writer, stamp, *reader);
+    }
+}
+
+fn any_pivot(table: &Table, writer: &Writer, first_out: Option<u64>, readers: &[Txn]) -> bool
+    ensures { result ≡ list_any (pivots (row_at table.now) writer.now.txn writer.now.snapshot first_out) readers.now }
+{
+    for reader in readers {
+        if table.pivots(writer, first_out, *reader) {
+            return true;
+        }
+    }
+    false
+}
+
+impl<M: Marks> Tracker<M> {
+    /// A tracker of no transactions, over marks that are empty.
+    pub fn new(alloc: Global, marks: M) -> Tracker<M>
+        ensures { IsEmpty (M.marked marks) → Stands M.marked result [] }
+    {
+        Tracker {
+            alloc,
+            table: Table::new(alloc),
+            marks,
+            pending: Pending::new(alloc),
+        }
+    }
+
+    /// Begins a transaction.
+    pub fn on_begin(&mut self, txn: Txn, snapshot: u64) -> Result<(), AllocError>
+        ensures begun { (calls : List Call) → Stands M.marked self.old calls → IsAllowed (Begins txn snapshot) calls → OnOk result (Stands M.marked self.new (Begins txn snapshot ∷ calls)) }
+        ensures refused { (calls : List Call) → Stands M.marked self.old calls → IsAllowed (Begins txn snapshot) calls → OnErr result (Stands M.marked self.new calls) }
+    {
+        self.table.open(self.alloc, txn, snapshot)
+    }
+
+    /// Records a read of the keys from `lo` to `hi`, unless a pivot would stand.
+    pub fn on_read(&mut self, txn: Txn, lo: Key, hi: Key) -> Result<Answer, AllocError>
+        ensures stands { (calls : List Call) → Stands M.marked self.old calls → IsAllowed (Reads txn lo hi) calls → Stands M.marked self.new (carried (Reads txn lo hi) calls result) }
+        ensures answer { (calls : List Call) → Stands M.marked self.old calls → IsAllowed (Reads txn lo hi) calls → IfOk result (λ a. IsSmallest IsOrderedPivot (Reads txn lo hi ∷ calls) (pivot_of a)) }
+    {
+        let Some(kept) = self.table.get(txn) else {
+            return Ok(Answer::Safe);
+        };
+        let reading = Reading {
+            snapshot: kept.snapshot,
+            low: lo,
+            high: hi,
+        };
+        if let Some(pivot) = self.table.smallest_pivot(&reading) {
+            return Ok(Answer::Unsafe { pivot });
+        }
+        let first = self.table.least_met(&reading);
+        mark(&mut self.marks, txn, lo, hi)?;
+        self.table.add_out(txn, first);
+        Ok(Answer::Safe)
+    }
+
+    /// What a commit with these written keys would give. After `Safe` the tracker is ready for it.
+    pub fn judge(&mut self, txn: Txn, keys: &[Key]) -> Result<Answer, AllocError>
+        ensures stands { (calls : List Call) → Stands M.marked self.old calls → Stands M.marked self.new calls }
+        ensures answer { (calls : List Call) (n : ℕ) → Stands M.marked self.old calls → IsAllowed (Commits txn n keys.now) calls → IfOk result (λ a. IsSmallest IsOrderedPivot (Commits txn n keys.now ∷ calls) (pivot_of a)) }
+        ensures ready { IfOk result (λ a. a ≡ Answer.Safe → IsReady M.marked self.new txn keys.now) }
+    {
+        self.table.make_room()?;
+        self.pending.fill(&self.marks, keys)?;
+        let Some(kept) = self.table.get(txn) else {
+            return Ok(Answer::Safe);
+        };
+        let writer = Writer {
+            txn,
+            snapshot: kept.snapshot,
+        };
+        let first_out = kept.first_out;
+        if any_pivot(&self.table, &writer, first_out, &self.pending.readers) {
+            return Ok(Answer::Unsafe { pivot: txn });
+        }
+        Ok(Answer::Safe)
+    }
+
+    /// Commits a transaction with the keys that were judged last, and were safe, with no call between.
+    pub fn on_commit(&mut self, txn: Txn, stamp: u64, keys: &[Key])
+        ensures { (calls : List Call) → Stands M.marked self.old calls → IsAllowed (Commits txn stamp keys.now) calls → IsReady M.marked self.old txn keys.now → Stands M.marked self.new (Commits txn stamp keys.now ∷ calls) }
+    {
+        let Some(kept) = self.table.get(txn) else {
+            return;
+        };
+        let writer = Writer {
+            txn,
+            snapshot: kept.snapshot,
+        };
+        meet_all(&mut self.table, &writer, stamp, &self.pending.readers);
+        self.table.close(txn, stamp, &mut self.pending.keys);
+        self.retire();
+    }
+
+    /// Aborts a transaction. The pairs that it has stay.
+    pub fn on_abort(&mut self, txn: Txn)
+        ensures { (calls : List Call) → Stands M.marked self.old calls → IsAllowed (Aborts txn) calls → Stands M.marked self.new (Aborts txn ∷ calls) }
+    {
+        self.table.remove(txn);
+        self.marks.forget(txn);
+        self.retire();
+    }
+
+    /// How many transactions are kept: those that are open or committed after the snapshot of an open one.
+    pub fn kept(&self) -> usize
+        ensures { (calls : List Call) → Stands M.marked self.now calls → result ≡ kept_count calls }
+    {
+        self.table.len()
+    }
+
+    /// Drops the transactions that are not kept. No later answer changes.
+    fn retire(&mut self)
+        ensures { (calls : List Call) → Holds M.marked self.old calls → Stands M.marked self.new calls }
+    {
+        let oldest = self.table.oldest();
+        while let Some(txn) = self.table.pop_before(oldest) {
+            self.marks.forget(txn);
+        }
+    }
+}
