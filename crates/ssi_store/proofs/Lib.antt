@@ -30,3 +30,10 @@ pub mod Keeping
 pub mod Collecting
 pub mod Judging
 pub mod WorkedCases
+pub mod Rosters
+pub mod Opens
+pub mod Steps
+pub mod Begins
+pub mod Ends
+pub mod PutsAndDels
+pub mod Gets

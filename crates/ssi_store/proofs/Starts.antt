@@ -43,7 +43,7 @@ start_missing f (u ∷ ts) t h =
     (ne_eqb u t (λ e. h (subst (Contains (u ∷ ts)) e (Contains-head u ts)))) ∙
     start_missing f ts t (λ c. h (Contains-cons u ts t c))
 
-there_started : (t : ℕ) (log : List Act) → Contains (started log) t → has_started t log ≡ true
+pub there_started : (t : ℕ) (log : List Act) → Contains (started log) t → has_started t log ≡ true
 there_started t log c = sym (begun_told t log)
     ∙ there_begun t (tracked log) (subst (λ l. Contains l t) (sym (begun_are log)) c)
 

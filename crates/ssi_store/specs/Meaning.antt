@@ -7,6 +7,9 @@
 -- Recording: what is recorded of each act, and the history of a course.
 -- Faces: when a history records a course.
 -- Laws: what holds of every course whose answers are the replies.
+-- Sessions: the names of sessions.
+-- Commands: the commands and answers of the code, as those of a course.
+-- Standing: when a store stands for a course.
 pub mod Courses
 pub mod Acts
 pub mod Seeing
@@ -15,3 +18,6 @@ pub mod Replies
 pub mod Recording
 pub mod Faces
 pub mod Laws
+pub mod Sessions
+pub mod Commands
+pub mod Standing

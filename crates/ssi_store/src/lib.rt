@@ -1,10 +1,26 @@
-//! What a transaction store answers to each command, and what its history is. It holds definitions and laws of them, and
-//! no code that runs.
+//! A transaction store under serializable snapshot isolation (Cahill, Roehm and Fekete 2008; the commit order as in
+//! Ports and Grittner 2012): what it answers to each command, and what its history is.
 //!
-//! A *course* is a list of commands with their answers. Its transactions' *acts* are told to three parts that know nothing
-//! of each other: the versions (ssi_versions), the conflicts (ssi_conflict) and the record (ssi_recorder). The laws say that
-//! together they do what serializable snapshot isolation promises (Cahill, Roehm and Fekete 2008; the commit order as in
-//! Ports and Grittner 2012): each history of a course is a snapshot history without a dangerous structure.
+//! A *course* is a list of commands with their answers. Its transactions' *acts* are told to three parts that know
+//! nothing of each other: the versions (ssi_versions), the conflicts (ssi_conflict) and the record (ssi_recorder). The
+//! laws say that together they do what serializable snapshot isolation promises: each history of a course is a snapshot
+//! history without a dangerous structure. The store stands for a course, and each command leads to the course with that
+//! command and its answer.
 #![tactic(auto)]
 
+mod abort;
+mod begin;
+mod below;
+mod command;
+mod get;
 pub mod laws;
+mod open;
+mod roster;
+mod session;
+mod sessions;
+mod store;
+mod write;
+
+pub use command::{Command, Refusal, Reply};
+pub use session::{MAX_SESSION_LEN, Session};
+pub use store::Store;

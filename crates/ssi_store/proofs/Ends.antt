@@ -1,0 +1,53 @@
+-- Abort, and the ends of transactions by an abort.
+use Rattle.std.proofs.Common.{List, None, Option, Some, ap, cond, inl, nat_eq, refl, sym, ◌≡◌, ◌∷◌, ◌++◌, ◌∙◌, ℕ, []}
+use Rattle.indexmap.specs.IndexMap.{shift_remove_entry}
+use Rattle.adya_values.specs.Meaning.Keys.{key_eq}
+use Rattle.adya_values.specs.Meaning.Histories.{Event, Abort as Ended}
+use Rattle.ssi_conflict.specs.Computing.Steps.{smallest_ordered_pivot}
+use Rattle.ssi_conflict.specs.Meaning.Calls.{Call, IsAllowed, Aborts as Drops}
+use Rattle.ssi_store.specs.Meaning.Acts.{Aborts, acts}
+use Rattle.ssi_store.specs.Meaning.Courses.{Command, Command as Do, Answer, Aborted, Refused, Idle, Course, Then}
+use Rattle.ssi_store.specs.Meaning.Replies.{reply_for}
+use Rattle.ssi_store.specs.Meaning.Standing.{Parts, StandsFor}
+use Rattle.ssi_store.specs.Meaning.Tracked.{tracked}
+use Rattle.ssi_store.specs.Machinery.Ends.{IsEnd}
+use Rattle.ssi_store.specs.Machinery.Opens.{Sessions, open_at, number_of}
+use Rattle.ssi_store.specs.declared.open.Open.{Open}
+use Rattle.ssi_store.proofs.Rosters.{after_abort}
+use Rattle.ssi_store.proofs.Steps.{settled, opened, idle, refused_same, ended}
+use Rattle.ssi_store.proofs.Telling.{tracked_allowed}
+
+module _ {p : Parts} {next : ℕ} {es : Sessions} {c : Course} (st : StandsFor p next es c) (s : List ℕ) where
+  pub abort_idle : open_at s es ≡ None → StandsFor p next es (Then c (Do.Abort s) (Refused Idle))
+  abort_idle at = refused_same st (Do.Abort s) Idle refl
+      (inl (sym (ap (λ (x : Option ℕ). reply_for smallest_ordered_pivot x c (Do.Abort s)) (idle st s at))))
+
+  pub abort_ends : (o : Open) → open_at s es ≡ Some o → IsEnd s (number_of o) c (Do.Abort s) Aborted
+  abort_ends o at = record {
+    session = λ r. refl;
+    txn = refl;
+    here = opened st s o at;
+    does = refl;
+    drops = λ x. refl;
+    next = refl;
+    proper = refl;
+    answers = inl (sym (ap (λ (x : Option ℕ). reply_for smallest_ordered_pivot x c (Do.Abort s)) (opened st s o at)));
+  }
+
+  pub dropped : (told' : List Call → Type 0) (recorded' : List Event) (opened' began' : List (ℕ × ℕ)) (fs : Sessions) (t : ℕ)
+      (m : Command) (a : Answer) → IsEnd s t c m a → ((q : List ℕ) → open_at q fs ≡ cond (key_eq s q) None (open_at q es))
+      → recorded' ≡ p.recorded ++ Ended t ∷ [] → opened' ≡ shift_remove_entry (nat_eq t) p.opened → began' ≡ p.began
+      → ((calls : List Call) → p.told calls → IsAllowed (Drops t) calls → told' (Drops t ∷ calls))
+      → StandsFor (record p { told = told'; recorded = recorded'; opened = opened'; began = began' }) next fs (Then c m a)
+  dropped told' recorded' opened' began' fs t m a end gives now_events now_opened now_began tells =
+      ended st (record p { told = told'; recorded = recorded'; opened = opened'; began = began' }) fs s t (Aborts t) m a
+      end.here gives refl end.does end.txn end.session end.drops end.next
+      (record {
+        commits = st.log.commits;
+        chains = st.log.chains;
+        tracker = tells (tracked (acts c)) st.log.tracker
+            (tracked_allowed (Aborts t ∷ acts c) ((settled st).opened s t end.here, (settled st).sound)).0;
+        events = now_events ∙ ap (λ l. l ++ Ended t ∷ []) st.log.events;
+        opened = now_opened ∙ ap (shift_remove_entry (nat_eq t)) st.log.opened ∙ after_abort t (acts c) (settled st).sound;
+        began = now_began ∙ st.log.began;
+      }) end.proper end.answers

@@ -1,0 +1,9 @@
+-- What only the code of the store needs.
+-- Below: the laws of the parts, in one record.
+-- Opens: the open transactions of the sessions, and when one is that of a log.
+-- Ends: commands that abort a transaction.
+-- Rosters: the room of a roster.
+pub mod Below
+pub mod Opens
+pub mod Ends
+pub mod Rosters

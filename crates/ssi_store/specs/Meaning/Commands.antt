@@ -1,0 +1,48 @@
+-- The commands and answers of the code, as those of a course.
+use Rattle.std.specs.Prelude.{ℕ, List, map, Result, Ok, Err}
+use Rattle.adya_values.specs.Meaning.Histories.{Content, Live, Dead, value_of, final_of}
+use Rattle.ssi_store.specs.Meaning.Courses.{Command, Command as Do, Answer, Answer as Is, Refusal, Refusal as Why}
+use Rattle.ssi_store.specs.declared.command.Command.{Command as CommandValue}
+use Rattle.ssi_store.specs.declared.command.Command.TheVariants as Given
+use Rattle.ssi_store.specs.declared.command.Reply.{Reply}
+use Rattle.ssi_store.specs.declared.command.Reply.TheVariants as Gives
+use Rattle.ssi_store.specs.declared.command.Refusal.{Refusal as RefusalValue}
+use Rattle.ssi_store.specs.declared.command.Refusal.TheVariants as For
+
+abbrev pub command_of : CommandValue → Command
+command_of (Given.Begin s) = Do.Begin s
+command_of (Given.Get s k) = Do.Get s k
+command_of (Given.Put s k v) = Do.Put s k (value_of v)
+command_of (Given.Del s k) = Do.Del s k
+command_of (Given.Abort s) = Do.Abort s
+
+abbrev pub refusal_of : RefusalValue → Refusal
+refusal_of For.Busy = Why.Busy
+refusal_of For.Idle = Why.Idle
+refusal_of For.Range = Why.Range
+refusal_of For.Long = Why.Long
+refusal_of For.Spent = Why.Spent
+refusal_of For.Memory = Why.Memory
+
+abbrev pub reply_of : Reply → Answer
+reply_of (Gives.Begun t) = Is.Begun t
+reply_of (Gives.Value v) = Is.Value (value_of v)
+reply_of Gives.Absent = Is.Absent
+reply_of Gives.Done = Is.Done
+reply_of (Gives.Rows rows) = Is.Rows (map final_of rows.items)
+reply_of Gives.Committed = Is.Committed
+reply_of Gives.Aborted = Is.Aborted
+reply_of (Gives.Conflict k t) = Is.Conflict k t
+reply_of (Gives.Unsafe p) = Is.Unsafe p
+reply_of (Gives.Kept n) = Is.Kept n
+reply_of (Gives.Stat active kept versions keys) = Is.Counts active kept versions keys
+
+-- what was answered: a reply or a refusal
+abbrev pub answer_of : Result Reply RefusalValue → Answer
+answer_of (Ok reply) = reply_of reply
+answer_of (Err refusal) = Is.Refused (refusal_of refusal)
+
+-- the command that writes this
+abbrev pub written : List ℕ → List ℕ → Content → Command
+written s k (Live v) = Do.Put s k v
+written s k Dead = Do.Del s k

@@ -1,0 +1,79 @@
+-- When a store stands for a course: the course is one of replies, each part of the store was told of the acts of the
+-- course, and each session has the transaction that it has in the course.
+use Rattle.std.specs.Prelude.{◌≡◌, ℕ, Bool, List, map, Option, option_map, IfSome}
+use Rattle.adya_values.specs.Meaning.Histories.{Event}
+use Rattle.ssi_versions.specs.Meaning.Changes.{Held, held}
+use Rattle.ssi_versions.specs.Meaning.Chains.{chain_of}
+use Rattle.ssi_versions.specs.declared.chains.Chains.{Ghosts as HeldBy}
+use Rattle.ssi_reads.specs.declared.marks.Marks.{Ghosts as MarkedBy}
+use Rattle.ssi_conflict.specs.Meaning.Calls.{Call}
+use Rattle.ssi_conflict.specs.Meaning.Standing.{Stands}
+use Rattle.ssi_conflict.specs.Computing.Steps.{smallest_ordered_pivot}
+use Rattle.ssi_recorder.specs.Meaning.Recorder.{events_of}
+use Rattle.ssi_store.specs.Meaning.Courses.{Course, txn_in, next_txn}
+use Rattle.ssi_store.specs.Meaning.Acts.{Act, acts, started, open_txns}
+use Rattle.ssi_store.specs.Meaning.Seeing.{commit_count, snapshot, changed}
+use Rattle.ssi_store.specs.Meaning.Tracked.{tracked}
+use Rattle.ssi_store.specs.Meaning.Replies.{Follows}
+use Rattle.ssi_store.specs.Meaning.Recording.{events}
+use Rattle.ssi_store.specs.Machinery.Opens.{Sessions, open_at, number_of, IsOpen}
+use Rattle.ssi_store.specs.declared.roster.Roster.{Roster}
+use Rattle.ssi_store.specs.declared.store.Store.{Store}
+
+-- each of these transactions with its snapshot
+abbrev pub with_snapshots : List ℕ → List Act → List (ℕ × ℕ)
+with_snapshots ts log = map (λ t. (t, snapshot t log)) ts
+
+-- what is seen of the parts of a store
+pub record Parts : Type 1 where
+  -- the held versions
+  pub holds : List Held
+  -- the lists of calls that the tracker stands for
+  pub told : List Call → Type 0
+  pub recorded : List Event
+  pub commits : ℕ
+  -- the open transactions and all transactions, with their snapshots
+  pub opened : List (ℕ × ℕ)
+  pub began : List (ℕ × ℕ)
+
+-- each part was told of these acts
+pub record IsLog (p : Parts) (log : List Act) : Type 0 where
+  pub commits : p.commits ≡ commit_count log
+  pub chains : (k : List ℕ) → chain_of k p.holds ≡ held k (changed log)
+  pub tracker : p.told (tracked log)
+  pub events : p.recorded ≡ events log
+  pub opened : p.opened ≡ with_snapshots (open_txns log) log
+  pub began : p.began ≡ with_snapshots (started log) log
+
+-- parts, the next transaction number and sessions stand for the course
+pub record StandsFor (p : Parts) (next : ℕ) (es : Sessions) (c : Course) : Type 0 where
+  -- each answer of the course is the reply to its command, by the commit-order rule, or that memory ran out
+  pub follows : Follows smallest_ordered_pivot c
+  pub log : IsLog p (acts c)
+  pub next_is : next ≡ next_txn c
+  -- each session has the transaction that it has in the course
+  pub txns : (s : List ℕ) → option_map number_of (open_at s es) ≡ txn_in s c
+  pub views : (s : List ℕ) → IfSome (open_at s es) (IsOpen (acts c))
+
+-- the open transactions of a roster with their snapshots, in the order in which they began
+abbrev pub opened_of : Roster → List (ℕ × ℕ)
+opened_of r = r.open.entries
+
+-- all its transactions with their snapshots
+abbrev pub began_of : Roster → List (ℕ × ℕ)
+began_of r = r.starts.items
+
+module _ {C M : Type 0} {g : HeldBy C} {h : MarkedBy M} (holds : C → List Held) (marked : M → ℕ → List ℕ → Bool) where
+  abbrev pub parts_of : Store C M g h → Parts
+  parts_of s = record {
+    holds = holds s.chains;
+    told = Stands marked s.tracker;
+    recorded = events_of s.recorder;
+    commits = s.commits;
+    opened = opened_of s.roster;
+    began = began_of s.roster;
+  }
+
+  -- the store stands for the course
+  abbrev pub IsAt : Store C M g h → Course → Type 0
+  IsAt s c = StandsFor (parts_of s) s.next s.sessions.entries c

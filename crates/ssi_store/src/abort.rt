@@ -1,0 +1,37 @@
+//! Abort, and the ends of transactions by an abort.
+
+use crate::{Refusal, Reply, Session, Store};
+use adya_values::{Event, Txn};
+use ssi_reads::Marks;
+use ssi_versions::Chains;
+
+impl<C: Chains + Drop, M: Marks + Drop> Store<C, M> {
+    ghost use Rattle.ssi_store.specs.Meaning.Courses.{Course, Then, Command as Do, Answer as Is};
+    ghost use Rattle.ssi_store.specs.Meaning.Commands.{answer_of};
+    ghost use Rattle.ssi_store.specs.Meaning.Standing.{IsAt};
+    ghost use Rattle.ssi_store.specs.Machinery.Ends.{IsEnd};
+
+    /// Aborts the session's transaction. Takes no memory.
+    pub(crate) fn abort(&mut self, session: Session) -> Result<Reply, Refusal>
+        ensures stands { (c : Course) → IsAt C.held M.marked self.old c → IsAt C.held M.marked self.new (Then c (Do.Abort session) (answer_of result)) }
+    {
+        let Some(open) = self.sessions.get(&session) else {
+            return Err(Refusal::Idle);
+        };
+        let txn = open.view.txn();
+        self.drop_txn(session, txn);
+        Ok(Reply::Aborted)
+    }
+
+    /// Ends the session's transaction by an abort, for whatever reason. Takes no memory.
+    pub(crate) fn drop_txn(&mut self, session: Session, txn: Txn)
+        ensures stands { (c : Course) (m : Do) (a : Is) → IsAt C.held M.marked self.old c → IsEnd session txn c m a → IsAt C.held M.marked self.new (Then c m a) }
+    {
+        let Some(_open) = self.sessions.swap_remove(&session) else {
+            return;
+        };
+        self.roster.end(txn);
+        self.recorder.end(Event::Abort { txn });
+        self.tracker.on_abort(txn);
+    }
+}

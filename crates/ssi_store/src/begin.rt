@@ -1,0 +1,46 @@
+//! Begin.
+
+use crate::open::Open;
+use crate::{Refusal, Reply, Session, Store};
+use adya_values::Txn;
+use ssi_reads::Marks;
+use ssi_versions::Chains;
+
+impl<C: Chains + Drop, M: Marks + Drop> Store<C, M> {
+    ghost use Rattle.ssi_store.specs.Meaning.Courses.{Course, Then, Command as Do};
+    ghost use Rattle.ssi_store.specs.Meaning.Commands.{answer_of};
+    ghost use Rattle.ssi_store.specs.Meaning.Standing.{IsAt};
+
+    /// Opens a transaction. All growths come before the first change.
+    pub(crate) fn begin(&mut self, session: Session) -> Result<Reply, Refusal>
+        ensures stands { (c : Course) → IsAt C.held M.marked self.old c → IsAt C.held M.marked self.new (Then c (Do.Begin session) (answer_of result)) }
+    {
+        if self.sessions.contains_key(&session) {
+            return Err(Refusal::Busy);
+        }
+        let Ok(txn) = Txn::new(self.next) else {
+            return Err(Refusal::Spent);
+        };
+        let Ok(()) = self.sessions.reserve(1) else {
+            return Err(Refusal::Memory);
+        };
+        let Ok(()) = self.roster.room() else {
+            return Err(Refusal::Memory);
+        };
+        let Ok(()) = self.recorder.open() else {
+            return Err(Refusal::Memory);
+        };
+        let Ok(()) = self.tracker.on_begin(txn, self.commits) else {
+            return Err(Refusal::Memory);
+        };
+        let open = Open::new(self.alloc, txn, self.commits);
+        match self.sessions.insert(session, open) {
+            Ok(_) => {
+                self.roster.begin(txn, self.commits);
+                self.next += 1;
+                Ok(Reply::Begun { txn })
+            }
+            Err(_) => Err(Refusal::Memory),
+        }
+    }
+}

@@ -1,0 +1,74 @@
+//! Commit.
+
+ghost use Rattle.std.specs.Prelude.{◌≡◌, ℕ, map, option_map, IfOk, IfSome};
+ghost use Rattle.ssi_versions.specs.Meaning.Chains.{write_of};
+ghost use Rattle.ssi_snapshot.specs.Meaning.Listings.{keys};
+ghost use Rattle.ssi_store.specs.Machinery.Overtaken.{overtaken, least_overtaken};
+
+use crate::below::laws_below;
+use crate::{Refusal, Reply, Session, Store};
+use adya_values::{Content, Event, Key, Txn, Version};
+use ssi_conflict::Answer;
+use ssi_reads::Marks;
+use ssi_versions::Chains;
+use std::alloc::{AllocError, Global};
+
+/// A key that another transaction has written and committed, and who wrote it last.
+#[derive(Clone, Copy)]
+struct Overtaken {
+    key: Key,
+    writer: Txn,
+}
+
+impl<C: Chains + Drop, M: Marks + Drop> Store<C, M> {
+    ghost use Rattle.ssi_store.specs.Meaning.Courses.{Course, Then, Command as Do};
+    ghost use Rattle.ssi_store.specs.Meaning.Commands.{answer_of};
+    ghost use Rattle.ssi_store.specs.Meaning.Standing.{IsAt};
+
+    /// Commits the session's transaction. All growths come before the first change.
+    pub(crate) fn commit(&mut self, session: Session) -> Result<Reply, Refusal>
+        ensures stands { (c : Course) → IsAt C.held M.marked self.old c → IsAt C.held M.marked self.new (Then c (Do.Commit session) (answer_of result)) }
+    {
+        laws_below();
+        let Some(open) = self.sessions.get(&session) else {
+            return Err(Refusal::Idle);
+        };
+        let txn = open.view.txn();
+        let writes = open.view.writes();
+        if let Some(least) = least_overtaken(&self.chains, open.view.stamp(), writes) {
+            self.drop_txn(session, txn);
+            return Ok(Reply::Conflict {
+                key: least.key,
+                writer: least.writer,
+            });
+        }
+        let Ok(keys) = keys_in(self.alloc, writes) else {
+            return Err(Refusal::Memory);
+        };
+        let Ok(answer) = self.tracker.judge(txn, keys.as_slice()) else {
+            return Err(Refusal::Memory);
+        };
+        if let Answer::Unsafe { pivot } = answer {
+            self.drop_txn(session, txn);
+            return Ok(Reply::Unsafe { pivot });
+        }
+        let Ok(()) = self.chains.install(self.commits + 1, writes) else {
+            return Err(Refusal::Memory);
+        };
+        self.tracker.on_commit(txn, self.commits + 1, keys.as_slice());
+        let Some(_open) = self.sessions.swap_remove(&session) else {
+            return Err(Refusal::Idle);
+        };
+        self.roster.end(txn);
+        self.recorder.end(Event::Commit { txn });
+        self.commits += 1;
+        Ok(Reply::Committed)
+    }
+}
+
+/// Returns the keys of these writes, in their order.
+fn keys_in(alloc: Global, writes: &[(Version, Content)]) -> Result<Vec<Key>, AllocError>
+    ensures { IfOk result (λ v. v.items ≡ keys (map write_of writes.now)) }
+{
+    writes.iter().map(|write| write.0.key).collect(alloc)
+}

@@ -1,0 +1,55 @@
+//! Put and del.
+
+ghost use Rattle.std.specs.Prelude.{◌≡◌};
+ghost use Rattle.adya_values.specs.Meaning.Histories.{event_of, content_of};
+ghost use Rattle.ssi_store.specs.Meaning.Recording.{write_event as recorded_write};
+
+use crate::below::laws_below;
+use crate::open::MAX_OPERATIONS;
+use crate::{Refusal, Reply, Session, Store};
+use adya_values::{Content, Event, Key, Mod, Txn};
+use ssi_reads::Marks;
+use ssi_versions::Chains;
+
+impl<C: Chains + Drop, M: Marks + Drop> Store<C, M> {
+    ghost use Rattle.ssi_store.specs.Meaning.Courses.{Course, Then};
+    ghost use Rattle.ssi_store.specs.Meaning.Commands.{answer_of, written};
+    ghost use Rattle.ssi_store.specs.Meaning.Standing.{IsAt};
+
+    /// Writes the key; dead content deletes it.
+    pub(crate) fn write(
+        &mut self,
+        session: Session,
+        key: Key,
+        content: Content,
+    ) -> Result<Reply, Refusal>
+        ensures stands { (c : Course) → IsAt C.held M.marked self.old c → IsAt C.held M.marked self.new (Then c (written session key (content_of content)) (answer_of result)) }
+    {
+        laws_below();
+        let Some(open) = self.sessions.get_mut(&session) else {
+            return Err(Refusal::Idle);
+        };
+        if open.operations >= MAX_OPERATIONS {
+            return Err(Refusal::Long);
+        }
+        let Ok(()) = self.recorder.room() else {
+            return Err(Refusal::Memory);
+        };
+        let Ok(m) = open.write(key, content) else {
+            return Err(Refusal::Memory);
+        };
+        let txn = open.view.txn();
+        self.recorder.event(write_event(txn, key, m, content));
+        Ok(Reply::Done)
+    }
+}
+
+/// Returns the event of a write.
+fn write_event(txn: Txn, key: Key, m: Mod, content: Content) -> Event
+    ensures { event_of result ≡ recorded_write txn key m (content_of content) }
+{
+    match content {
+        Content::Live(value) => Event::Write { txn, key, m, value },
+        Content::Dead => Event::Delete { txn, key, m },
+    }
+}
