@@ -37,3 +37,5 @@ pub mod Begins
 pub mod Ends
 pub mod PutsAndDels
 pub mod Gets
+pub mod Overtaking
+pub mod Commits

@@ -3,7 +3,9 @@
 -- Opens: the open transactions of the sessions, and when one is that of a log.
 -- Ends: commands that abort a transaction.
 -- Rosters: the room of a roster.
+-- Overtaken: the keys by which a commit is refused.
 pub mod Below
 pub mod Opens
 pub mod Ends
 pub mod Rosters
+pub mod Overtaken

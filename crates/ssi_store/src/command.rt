@@ -26,6 +26,10 @@ pub enum Command {
         session: Session,
         key: Key,
     },
+    /// Commits the transaction.
+    Commit {
+        session: Session,
+    },
     /// Aborts the transaction.
     Abort {
         session: Session,

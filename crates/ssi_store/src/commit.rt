@@ -1,24 +1,16 @@
 //! Commit.
 
-ghost use Rattle.std.specs.Prelude.{◌≡◌, ℕ, map, option_map, IfOk, IfSome};
-ghost use Rattle.ssi_versions.specs.Meaning.Chains.{write_of};
-ghost use Rattle.ssi_snapshot.specs.Meaning.Listings.{keys};
-ghost use Rattle.ssi_store.specs.Machinery.Overtaken.{overtaken, least_overtaken};
+ghost use Rattle.std.specs.Prelude.{◌≡◌, map, IfOk};
+ghost use Rattle.ssi_store.specs.Machinery.Overtaken.{written_key};
 
 use crate::below::laws_below;
+use crate::overtaken::least_overtaken;
 use crate::{Refusal, Reply, Session, Store};
-use adya_values::{Content, Event, Key, Txn, Version};
+use adya_values::{Content, Event, Key, Version};
 use ssi_conflict::Answer;
 use ssi_reads::Marks;
 use ssi_versions::Chains;
 use std::alloc::{AllocError, Global};
-
-/// A key that another transaction has written and committed, and who wrote it last.
-#[derive(Clone, Copy)]
-struct Overtaken {
-    key: Key,
-    writer: Txn,
-}
 
 impl<C: Chains + Drop, M: Marks + Drop> Store<C, M> {
     ghost use Rattle.ssi_store.specs.Meaning.Courses.{Course, Then, Command as Do};
@@ -42,10 +34,11 @@ impl<C: Chains + Drop, M: Marks + Drop> Store<C, M> {
                 writer: least.writer,
             });
         }
-        let Ok(keys) = keys_in(self.alloc, writes) else {
+        let Ok(listed) = keys_in(self.alloc, writes) else {
             return Err(Refusal::Memory);
         };
-        let Ok(answer) = self.tracker.judge(txn, keys.as_slice()) else {
+        let keys = listed.as_slice();
+        let Ok(answer) = self.tracker.judge(txn, keys) else {
             return Err(Refusal::Memory);
         };
         if let Answer::Unsafe { pivot } = answer {
@@ -55,7 +48,7 @@ impl<C: Chains + Drop, M: Marks + Drop> Store<C, M> {
         let Ok(()) = self.chains.install(self.commits + 1, writes) else {
             return Err(Refusal::Memory);
         };
-        self.tracker.on_commit(txn, self.commits + 1, keys.as_slice());
+        self.tracker.on_commit(txn, self.commits + 1, keys);
         let Some(_open) = self.sessions.swap_remove(&session) else {
             return Err(Refusal::Idle);
         };
@@ -68,7 +61,7 @@ impl<C: Chains + Drop, M: Marks + Drop> Store<C, M> {
 
 /// Returns the keys of these writes, in their order.
 fn keys_in(alloc: Global, writes: &[(Version, Content)]) -> Result<Vec<Key>, AllocError>
-    ensures { IfOk result (λ v. v.items ≡ keys (map write_of writes.now)) }
+    ensures { IfOk result (λ v. v.items ≡ map written_key writes.now) }
 {
     writes.iter().map(|write| write.0.key).collect(alloc)
 }

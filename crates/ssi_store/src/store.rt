@@ -87,6 +87,7 @@ impl<C: Chains + Drop, M: Marks + Drop> Store<C, M> {
                 value,
             } => self.write(session, key, Content::Live(value)),
             Command::Del { session, key } => self.write(session, key, Content::Dead),
+            Command::Commit { session } => self.commit(session),
             Command::Abort { session } => self.abort(session),
         }
     }

@@ -1,0 +1,10 @@
+use Rattle.std.proofs.Common.{◌≡◌, map, option_map, take, IfSome, ℕ}
+use Rattle.ssi_versions.specs.Meaning.Chains.{write_of}
+use Rattle.ssi_snapshot.specs.Meaning.Listings.{keys}
+use Rattle.ssi_store.specs.Machinery.Overtaken.{is_passed, passed_by, key_of, IsLeast}
+use Rattle.ssi_store.proofs.overtaken.least_overtaken.Given as goal
+
+abbrev pub invariant-writes : goal.invariant-writes
+invariant-writes g l =
+    IsLeast (is_passed l.stamp (g.C.Chains.held l.chains)) (keys (map write_of (take l.write-index l.writes))) (option_map key_of l.least) ×
+    IfSome l.least (λ o. o.writer ≡ passed_by o.key (g.C.Chains.held l.chains))
