@@ -39,3 +39,6 @@ pub mod PutsAndDels
 pub mod Gets
 pub mod Overtaking
 pub mod Commits
+pub mod Collects
+pub mod Finishes
+pub mod RisingOpens

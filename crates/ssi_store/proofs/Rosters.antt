@@ -22,7 +22,7 @@ map_within f g (x ∷ xs) h =
     ap (λ y. y ∷ map f xs) (h x (Contains-head x xs))
     ∙ ap (λ ys. g x ∷ ys) (map_within f g xs (λ y c. h y (Contains-cons x xs y c)))
 
-filter_all : (p : ℕ → Bool) (xs : List ℕ) → ((x : ℕ) → Contains xs x → p x ≡ true) → filter p xs ≡ xs
+pub filter_all : (p : ℕ → Bool) (xs : List ℕ) → ((x : ℕ) → Contains xs x → p x ≡ true) → filter p xs ≡ xs
 filter_all p [] h = refl
 filter_all p (x ∷ xs) h =
     cond-true {A = List ℕ} (p x) (x ∷ filter p xs) (filter p xs) (h x (Contains-head x xs))

@@ -2,10 +2,12 @@
 -- Below: the laws of the parts, in one record.
 -- Opens: the open transactions of the sessions, and when one is that of a log.
 -- Ends: commands that abort a transaction.
--- Rosters: the room of a roster.
+-- Rosters: the numbers of open transactions.
+-- RosterRoom: the room of a roster.
 -- Overtaken: the keys by which a commit is refused.
 pub mod Below
 pub mod Opens
 pub mod Ends
 pub mod Rosters
+pub mod RosterRoom
 pub mod Overtaken

@@ -10,6 +10,7 @@
 -- Sessions: the names of sessions.
 -- Commands: the commands and answers of the code, as those of a course.
 -- Standing: when a store stands for a course.
+-- Finished: what is seen of a finished store.
 pub mod Courses
 pub mod Acts
 pub mod Seeing
@@ -21,3 +22,4 @@ pub mod Laws
 pub mod Sessions
 pub mod Commands
 pub mod Standing
+pub mod Finished

@@ -34,6 +34,10 @@ pub enum Command {
     Abort {
         session: Session,
     },
+    /// Drops the versions that nobody can see any more.
+    Collect,
+    /// Counts transactions, versions and keys.
+    Stat,
 }
 
 /// The answer to a command that was not refused.

@@ -11,8 +11,10 @@
 mod abort;
 mod begin;
 mod below;
+mod collect;
 mod command;
 mod commit;
+mod finish;
 mod get;
 pub mod laws;
 mod open;
@@ -24,5 +26,6 @@ mod store;
 mod write;
 
 pub use command::{Command, Refusal, Reply};
+pub use finish::Finished;
 pub use session::{MAX_SESSION_LEN, Session};
 pub use store::Store;

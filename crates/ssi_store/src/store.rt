@@ -6,6 +6,8 @@ ghost use Rattle.ssi_versions.specs.Meaning.Chains.{IsAbove};
 ghost use Rattle.ssi_reads.specs.Meaning.Marks.{IsEmpty};
 ghost use Rattle.ssi_recorder.specs.Meaning.Recorder.{places_of};
 ghost use Rattle.ssi_conflict.specs.Computing.Steps.{smallest_ordered_pivot};
+ghost use Rattle.ssi_store.specs.Machinery.Rosters.{AreBelow};
+ghost use Rattle.ssi_store.specs.Machinery.RosterRoom.{opened_in};
 
 use crate::open::Open;
 use crate::roster::Roster;
@@ -36,6 +38,7 @@ pub struct Store<C: Chains + Drop, M: Marks + Drop> {
     pub(crate) ghost room: { commits + index_map_len sessions < next },
     pub(crate) ghost few: { next ≤ 4294967296 },
     pub(crate) ghost above: { IsAbove (commits + 1) (C.held chains) },
+    pub(crate) ghost early: { AreBelow next (opened_in roster) },
     pub(crate) ghost places: { index_map_len sessions ≤ places_of recorder },
 }
 
@@ -89,6 +92,8 @@ impl<C: Chains + Drop, M: Marks + Drop> Store<C, M> {
             Command::Del { session, key } => self.write(session, key, Content::Dead),
             Command::Commit { session } => self.commit(session),
             Command::Abort { session } => self.abort(session),
+            Command::Collect => self.collect(),
+            Command::Stat => self.stat(),
         }
     }
 }

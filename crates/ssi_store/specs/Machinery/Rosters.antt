@@ -1,8 +1,10 @@
--- The room of a roster.
-use Rattle.std.specs.Prelude.{◌<◌, vec_len, vec_capacity}
-use Rattle.indexmap.specs.IndexMap.{spare}
-use Rattle.ssi_store.specs.declared.roster.Roster.{Roster}
+-- Open transactions with their snapshots.
+use Rattle.std.specs.Prelude.{ℕ, ◌<◌, List, map, Contains}
 
--- one more transaction fits
-abbrev pub HasRoom : Roster → Type 0
-HasRoom r = (vec_len r.starts < vec_capacity r.starts) × (0 < spare r.open)
+-- their numbers
+abbrev pub txns_in : List (ℕ × ℕ) → List ℕ
+txns_in es = map (λ e. e.0) es
+
+-- all of them are below this number
+abbrev pub AreBelow : ℕ → List (ℕ × ℕ) → Type 0
+AreBelow n es = (u : ℕ) → Contains (txns_in es) u → u < n

@@ -16,6 +16,8 @@ command_of (Given.Put s k v) = Do.Put s k (value_of v)
 command_of (Given.Del s k) = Do.Del s k
 command_of (Given.Commit s) = Do.Commit s
 command_of (Given.Abort s) = Do.Abort s
+command_of Given.Collect = Do.Collect
+command_of Given.Stat = Do.Stat
 
 abbrev pub refusal_of : RefusalValue → Refusal
 refusal_of For.Busy = Why.Busy

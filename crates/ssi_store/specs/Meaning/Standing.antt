@@ -57,7 +57,7 @@ pub record StandsFor (p : Parts) (next : ℕ) (es : Sessions) (c : Course) : Typ
 
 -- the open transactions of a roster with their snapshots, in the order in which they began
 abbrev pub opened_of : Roster → List (ℕ × ℕ)
-opened_of r = r.open.entries
+opened_of r = r.active.entries
 
 -- all its transactions with their snapshots
 abbrev pub began_of : Roster → List (ℕ × ℕ)

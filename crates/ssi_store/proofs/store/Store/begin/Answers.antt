@@ -1,6 +1,7 @@
 use Rattle.std.proofs.Common.{rules, arith, ap, sym, refl, ◌∙◌, cond, Some}
 use Rattle.adya_values.specs.Meaning.Keys.{key_eq}
 use Rattle.ssi_store.specs.Machinery.Opens.{open_at}
+use Rattle.ssi_store.proofs.RisingOpens.{below_same, below_next, below_begun}
 use Rattle.ssi_store.proofs.Begins.{begin_busy, begin_spent, begin_memory, begun}
 use Rattle.ssi_store.proofs.store.Store.begin.Goals as goal
 
@@ -22,3 +23,24 @@ returns-in-Ok-insert g c = record {
       c.open.ensures.events (Prim.search rules) (Prim.search rules) c.in-Ok-on_begin.ensures.begun c.new-open.ensures.txn
       c.new-open.ensures.stamp c.new-open.ensures.count c.new-open.ensures.written;
 }
+
+pub invariant_of-self-in_default-room-clause-early : goal.invariant_of-self-in_default-room-clause-early
+invariant_of-self-in_default-room-clause-early g c =
+    below_same c.args.self.now.next _ _ c.args.self.now.early c.room.ensures.opened
+
+pub invariant_of-self-in_default-open-clause-early : goal.invariant_of-self-in_default-open-clause-early
+invariant_of-self-in_default-open-clause-early g c =
+    below_same c.args.self.now.next _ _ c.args.self.now.early c.room.ensures.opened
+
+pub invariant_of-self-in_default-on_begin-clause-early : goal.invariant_of-self-in_default-on_begin-clause-early
+invariant_of-self-in_default-on_begin-clause-early g c =
+    below_same c.args.self.now.next _ _ c.args.self.now.early c.room.ensures.opened
+
+pub begin-requires-clause-above : goal.begin-requires-clause-above
+begin-requires-clause-above g c =
+    below_next c.args.self.now.next c.in-Ok.txn _ _ c.args.self.now.early c.in-Ok.ensures.same c.room.ensures.opened
+
+pub invariant_of-self-in-Ok-insert-clause-early : goal.invariant_of-self-in-Ok-insert-clause-early
+invariant_of-self-in-Ok-insert-clause-early g c =
+    below_begun c.args.self.now.next c.in-Ok.txn c.args.self.now.commits _ _ _ c.args.self.now.early c.in-Ok.ensures.same
+    c.room.ensures.opened c.begin.ensures.opened

@@ -11,6 +11,7 @@ use Rattle.ssi_store.specs.Machinery.Overtaken.{key_of}
 use Rattle.ssi_store.proofs.Commits.{commit_idle, commit_memory, found_conflict, conflict_ends, may_commit, commit_ends, committed, above_installed}
 use Rattle.ssi_store.proofs.Gets.{safe_of}
 use Rattle.ssi_store.proofs.Overtaking.{written_keys}
+use Rattle.ssi_store.proofs.RisingOpens.{below_without}
 use Rattle.ssi_store.proofs.Steps.{same_course}
 use Rattle.ssi_store.proofs.store.Store.commit.Goals as goal
 
@@ -88,3 +89,7 @@ returns g c = record {
       (c.in-Ok-judge.ensures.ready safe))
       c.end-2.ensures.events c.end.ensures.opened c.end.ensures.began c.swap_remove.ensures.updates.0;
 }
+
+pub invariant_of-self-2-clause-early : goal.invariant_of-self-2-clause-early
+invariant_of-self-2-clause-early g c =
+    below_without _ _ c.txn-txn.result c.args.self.now.next c.args.self.now.roster.rising c.args.self.now.early c.end.ensures.opened

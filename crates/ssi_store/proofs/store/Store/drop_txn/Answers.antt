@@ -1,5 +1,6 @@
 use Rattle.std.proofs.Common.{rules, ap, sym, ◌∙◌}
 use Rattle.ssi_store.proofs.Ends.{dropped}
+use Rattle.ssi_store.proofs.RisingOpens.{below_without}
 use Rattle.ssi_store.proofs.store.Store.drop_txn.Goals as goal
 
 pub returns : goal.returns
@@ -7,3 +8,7 @@ returns g c = record {
   stands = λ course m a st end. dropped st c.args.session _ _ _ _ _ c.args.txn m a end
       c.swap_remove.ensures.updates.0 c.end-2.ensures.events c.end.ensures.opened c.end.ensures.began c.on_abort.ensures;
 }
+
+pub invariant_of-self-2-clause-early : goal.invariant_of-self-2-clause-early
+invariant_of-self-2-clause-early g c =
+    below_without _ _ c.args.txn c.args.self.now.next c.args.self.now.roster.rising c.args.self.now.early c.end.ensures.opened

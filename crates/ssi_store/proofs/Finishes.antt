@@ -1,0 +1,70 @@
+-- The events of a course that is over.
+use Rattle.std.proofs.Common.{List, [], ap, arith, cond, filter, inl, inr, map, refl, sym, true, ℕ, ◌++◌, ◌==◌, ◌∙◌, ◌∷◌, ◌≡◌}
+use Rattle.std.proofs.lemmas.Bool.{cases_Bool, ne_eqb}
+use Rattle.std.proofs.lemmas.List.{append-nil, append_assoc}
+use Rattle.adya_values.specs.Computing.Shapes.{numbers_rise}
+use Rattle.adya_values.specs.Meaning.Histories.{Event, History, Abort as Ended}
+use Rattle.adya_values.specs.declared.edition.Edition.TheVariants.{One, Two}
+use Rattle.ssi_recorder.specs.Meaning.Recorded.{history_of_events}
+use Rattle.ssi_store.specs.Meaning.Acts.{Aborts, Act, acts, is_open, open_txns, started}
+use Rattle.ssi_store.specs.Meaning.Courses.{Course}
+use Rattle.ssi_store.specs.Meaning.Recording.{close, closed, dumped, events, finished, starts}
+use Rattle.ssi_store.specs.Meaning.Seeing.{snapshot}
+use Rattle.ssi_store.specs.Meaning.Standing.{Parts, StandsFor}
+use Rattle.ssi_store.specs.Machinery.Opens.{Sessions}
+use Rattle.ssi_store.proofs.Collects.{first_halves}
+use Rattle.ssi_store.proofs.Lists.{filter_within}
+use Rattle.ssi_store.proofs.RisingNumbers.{number_below, numbers_rise-tail}
+use Rattle.ssi_store.proofs.Starts.{started_rise}
+use Rattle.ssi_store.proofs.Steps.{settled, same_course}
+
+close_events : (ts : List ℕ) (log : List Act) → numbers_rise ts ≡ true
+    → events (close ts log) ≡ events log ++ map Ended (filter (λ t. is_open t log) ts)
+close_events [] log r = sym (append-nil (events log))
+close_events (t ∷ ts) log r = elim (cases_Bool (is_open t log)) [
+  | inl holds ↦
+      let others = filter_within (λ u. is_open u (Aborts t ∷ log)) (λ u. is_open u log) ts
+          (λ u c. rw (ne_eqb t u (λ s. let less = number_below t ts u r c in omega (arith, s, less))) refl) in
+      ap (λ b. events (close ts (cond b (Aborts t ∷ log) log))) holds
+      ∙ close_events ts (Aborts t ∷ log) (numbers_rise-tail t ts r)
+      ∙ append_assoc (events log) (Ended t ∷ []) (map Ended (filter (λ u. is_open u (Aborts t ∷ log)) ts))
+      ∙ ap (λ l. events log ++ Ended t ∷ map Ended l) others
+      ∙ ap (λ b. events log ++ map Ended (cond b (t ∷ filter (λ u. is_open u log) ts) (filter (λ u. is_open u log) ts)))
+        (sym holds)
+  | inr fails ↦
+      ap (λ b. events (close ts (cond b (Aborts t ∷ log) log))) fails
+      ∙ close_events ts log (numbers_rise-tail t ts r)
+      ∙ ap (λ b. events log ++ map Ended (cond b (t ∷ filter (λ u. is_open u log) ts) (filter (λ u. is_open u log) ts)))
+        (sym fails)
+]
+
+module _ {p : Parts} {next : ℕ} {es : Sessions} {c : Course} (st : StandsFor p next es c) where
+  active_are : (active : List ℕ) → active ≡ map (λ (e : ℕ × ℕ). e.0) p.opened → active ≡ open_txns (acts c)
+  active_are active are = are ∙ ap (map (λ (e : ℕ × ℕ). e.0)) st.log.opened
+      ∙ first_halves (λ t. snapshot t (acts c)) (open_txns (acts c))
+
+  pub finishes : (active : List ℕ) (h : History) → active ≡ map (λ (e : ℕ × ℕ). e.0) p.opened
+      → h ≡ history_of_events One [] (p.recorded ++ map Ended active) → h ≡ finished c
+  finishes active h are is = is
+      ∙ ap (λ l. history_of_events One [] (l ++ map Ended active)) st.log.events
+      ∙ ap (λ l. history_of_events One [] (events (acts c) ++ map Ended l)) (active_are active are)
+      ∙ ap (history_of_events One [])
+        (sym (close_events (started (acts c)) (acts c) (started_rise (acts c) (settled st).sound)))
+
+  pub dumps : (active : List ℕ) (h : History) → active ≡ map (λ (e : ℕ × ℕ). e.0) p.opened
+      → h ≡ history_of_events Two active p.recorded → h ≡ dumped c
+  dumps active h are is = is
+      ∙ ap (history_of_events Two active) st.log.events
+      ∙ ap (λ l. history_of_events Two l (events (acts c))) (active_are active are)
+
+  -- the store that is handed back stands for the same course
+  pub handed_back : (recorded' : List Event) → recorded' ≡ p.recorded
+      → StandsFor (record p { recorded = recorded' }) next es c
+  handed_back recorded' same = same_course st (record p { recorded = recorded' }) (record {
+    commits = st.log.commits;
+    chains = st.log.chains;
+    tracker = st.log.tracker;
+    events = same ∙ st.log.events;
+    opened = st.log.opened;
+    began = st.log.began;
+  })

@@ -1,0 +1,13 @@
+-- What is seen of a finished store.
+use Rattle.std.specs.Prelude.{ℕ, List}
+use Rattle.adya_values.specs.Meaning.Histories.{History}
+use Rattle.adya_values.specs.Meaning.Values.{history_of}
+use Rattle.ssi_store.specs.declared.finish.Finished.{Finished}
+
+-- its history
+abbrev pub recorded_in : Finished → History
+recorded_in f = history_of f.history
+
+-- its transactions with their snapshots
+abbrev pub began_in : Finished → List (ℕ × ℕ)
+began_in f = f.starts.items

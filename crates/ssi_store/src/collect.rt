@@ -1,0 +1,34 @@
+//! Collect and stat, the commands of an operator.
+
+use crate::below::laws_below;
+use crate::{Refusal, Reply, Store};
+use ssi_reads::Marks;
+use ssi_versions::Chains;
+
+impl<C: Chains + Drop, M: Marks + Drop> Store<C, M> {
+    ghost use Rattle.ssi_store.specs.Meaning.Courses.{Course, Then, Command as Do};
+    ghost use Rattle.ssi_store.specs.Meaning.Commands.{answer_of};
+    ghost use Rattle.ssi_store.specs.Meaning.Standing.{IsAt};
+
+    /// Drops the versions that are neither the last of their key nor seen by an open transaction. Takes no memory.
+    pub(crate) fn collect(&mut self) -> Result<Reply, Refusal>
+        ensures stands { (c : Course) → IsAt C.held M.marked self.old c → IsAt C.held M.marked self.new (Then c Do.Collect (answer_of result)) }
+    {
+        laws_below();
+        let versions = self.chains.collect(self.roster.open_snapshots());
+        Ok(Reply::Kept { versions })
+    }
+
+    /// Counts transactions, versions and keys. Takes no memory.
+    pub(crate) fn stat(&self) -> Result<Reply, Refusal>
+        ensures stands { (c : Course) → IsAt C.held M.marked self.now c → IsAt C.held M.marked self.now (Then c Do.Stat (answer_of result)) }
+    {
+        laws_below();
+        Ok(Reply::Stat {
+            active: self.roster.open_count() as u64,
+            kept: self.tracker.kept() as u64,
+            versions: self.chains.held(),
+            keys: self.chains.keys(),
+        })
+    }
+}

@@ -1,0 +1,89 @@
+//! What remains of a store: its history, and the snapshots of its transactions.
+
+ghost use Rattle.std.specs.Prelude.{◌≡◌, IfOk, IfErr};
+ghost use Rattle.adya_values.specs.Meaning.Values.{history_of};
+ghost use Rattle.ssi_conflict.specs.Meaning.Pairs.{IsOrderedPivot};
+ghost use Rattle.ssi_store.specs.Meaning.Recording.{finished, dumped, starts};
+ghost use Rattle.ssi_store.specs.Meaning.Faces.{Records, RecordsSoFar};
+ghost use Rattle.ssi_store.specs.Meaning.Laws.{IsCovered};
+
+use crate::Store;
+use crate::laws::{courses_are_recorded, dumped_are_covered, finished_are_covered};
+use adya_values::{History, Txn};
+use ssi_reads::Marks;
+use ssi_versions::Chains;
+use std::alloc::AllocError;
+
+/// The history of a store, and each of its transactions with its snapshot, by rising number.
+#[derive(Drop)]
+pub struct Finished {
+    pub(crate) history: History,
+    pub(crate) starts: Vec<(Txn, u64)>,
+}
+
+impl Finished {
+    ghost use Rattle.ssi_store.specs.Meaning.Finished.{recorded_in, began_in};
+
+    /// Returns the history.
+    pub fn history(&self) -> &History
+        ensures { history_of result.now ≡ recorded_in self.now }
+    {
+        &self.history
+    }
+
+    /// Returns each transaction with its snapshot: the stamp of the last commit before it began.
+    pub fn starts(&self) -> &[(Txn, u64)]
+        ensures { result.now ≡ began_in self.now }
+    {
+        self.starts.as_slice()
+    }
+}
+
+impl<C: Chains + Drop, M: Marks + Drop> Store<C, M> {
+    ghost use Rattle.ssi_store.specs.Meaning.Courses.{Course};
+    ghost use Rattle.ssi_store.specs.Meaning.Standing.{IsAt};
+    ghost use Rattle.ssi_store.specs.Meaning.Finished.{recorded_in, began_in};
+
+    /// Ends the store. Its history has an abort of each open transaction at its end, by rising number.
+    ///
+    /// The history records the course of the store. It is a checked snapshot history by these starts, without a dangerous
+    /// structure. Hands the store back as it was if memory runs out.
+    pub fn finish(mut self) -> Result<Finished, (Store<C, M>, AllocError)>
+        ensures history { IfOk result (λ f. (c : Course) → IsAt C.held M.marked self c → recorded_in f ≡ finished c) }
+        ensures starts { IfOk result (λ f. (c : Course) → IsAt C.held M.marked self c → began_in f ≡ starts c) }
+        ensures records { IfOk result (λ f. (c : Course) → IsAt C.held M.marked self c → Records (recorded_in f) c) }
+        ensures covered { IfOk result (λ f. (c : Course) → IsAt C.held M.marked self c → IsCovered IsOrderedPivot c (recorded_in f)) }
+        ensures err { IfErr result (λ e. (c : Course) → IsAt C.held M.marked self c → IsAt C.held M.marked e.0 c) }
+    {
+        finished_are_covered();
+        courses_are_recorded();
+        match self.recorder.finish(self.roster.open_txns()) {
+            Ok(history) => Ok(Finished {
+                history,
+                starts: self.roster.into_starts(),
+            }),
+            Err((recorder, e)) => {
+                self.recorder = recorder;
+                Err((self, e))
+            }
+        }
+    }
+
+    /// Returns the history so far. Its open transactions are unfinished. The store stays as it is.
+    ///
+    /// The history records the course of the store. It is a checked snapshot history by these starts, without a dangerous
+    /// structure. Returns `AllocError` if memory runs out.
+    pub fn dump(&self) -> Result<Finished, AllocError>
+        ensures history { IfOk result (λ f. (c : Course) → IsAt C.held M.marked self.now c → recorded_in f ≡ dumped c) }
+        ensures starts { IfOk result (λ f. (c : Course) → IsAt C.held M.marked self.now c → began_in f ≡ starts c) }
+        ensures records { IfOk result (λ f. (c : Course) → IsAt C.held M.marked self.now c → RecordsSoFar (recorded_in f) c) }
+        ensures covered { IfOk result (λ f. (c : Course) → IsAt C.held M.marked self.now c → IsCovered IsOrderedPivot c (recorded_in f)) }
+    {
+        dumped_are_covered();
+        courses_are_recorded();
+        let history = self.recorder.dump(self.roster.open_txns())?;
+        let starts = self.roster.copy_starts(self.alloc)?;
+        let finished = Finished { history, starts };
+        Ok(finished)
+    }
+}
