@@ -67,9 +67,9 @@ module _ {p : Parts} {next : ℕ} {es : Sessions} {c : Course} (st : StandsFor p
   collected holds' n ss are many kept =
       let log : List Act = acts c in
       let chains : (k : List ℕ) → chain_of k holds' ≡ held k (changed (Collects ∷ log)) =
-          λ k. kept k ∙ ap (λ l. filter (is_wanted l (chain_of k p.holds)) (chain_of k p.holds)) (are ∙ snapshots_are)
-          ∙ ap (λ hs. filter (is_wanted (open_snapshots log) hs) hs) (st.log.chains k)
-          ∙ sym (b.collects (changed log) (changed_installable log) (open_snapshots log) protected k) in
+      λ k. kept k ∙ ap (λ l. filter (is_wanted l (chain_of k p.holds)) (chain_of k p.holds)) (are ∙ snapshots_are)
+      ∙ ap (λ hs. filter (is_wanted (open_snapshots log) hs) hs) (st.log.chains k)
+      ∙ sym (b.collects (changed log) (changed_installable log) (open_snapshots log) protected k) in
       record {
         follows = (refl, inl (ap Kept (many ∙ b.counts_held holds' (changed (Collects ∷ log)) chains)), st.follows);
         log = record {
@@ -92,19 +92,19 @@ module _ {p : Parts} {next : ℕ} {es : Sessions} {c : Course} (st : StandsFor p
   counted active kept versions keys are_active are_kept are_versions are_keys =
       let log : List Act = acts c in
       let opened : active ≡ open_count (tracked log) = are_active ∙ ap length st.log.opened
-          ∙ as_many (open_txns log) log
-          ∙ sym (ap (λ ts. length (filter (λ t. is_open_told t (tracked log)) ts)) (begun_are log)
-          ∙ ap length (filter_within (λ t. is_open_told t (tracked log)) (λ t. is_open t log) (started log)
-          (λ t d. open_told t log))) in
+      ∙ as_many (open_txns log) log
+      ∙ sym (ap (λ ts. length (filter (λ t. is_open_told t (tracked log)) ts)) (begun_are log)
+      ∙ ap length (filter_within (λ t. is_open_told t (tracked log)) (λ t. is_open t log) (started log)
+      (λ t d. open_told t log))) in
       record {
         follows = (
           refl,
           inl (ap (λ x. Counts x kept versions keys) opened
-          ∙ ap (λ x. Counts (open_count (tracked log)) x versions keys) are_kept
-          ∙ ap (λ x. Counts (open_count (tracked log)) (kept_count (tracked log)) x keys)
-            (are_versions ∙ b.counts_held p.holds (changed log) st.log.chains)
-          ∙ ap (Counts (open_count (tracked log)) (kept_count (tracked log)) (held_count (changed log)))
-            (are_keys ∙ b.counts_keys p.holds (changed log) st.log.chains)),
+              ∙ ap (λ x. Counts (open_count (tracked log)) x versions keys) are_kept
+              ∙ ap (λ x. Counts (open_count (tracked log)) (kept_count (tracked log)) x keys)
+              (are_versions ∙ b.counts_held p.holds (changed log) st.log.chains)
+              ∙ ap (Counts (open_count (tracked log)) (kept_count (tracked log)) (held_count (changed log)))
+              (are_keys ∙ b.counts_keys p.holds (changed log) st.log.chains)),
           st.follows,
         );
         log = st.log;

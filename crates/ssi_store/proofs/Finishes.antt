@@ -24,18 +24,18 @@ close_events [] log r = sym (append-nil (events log))
 close_events (t ∷ ts) log r = elim (cases_Bool (is_open t log)) [
   | inl holds ↦
       let others = filter_within (λ u. is_open u (Aborts t ∷ log)) (λ u. is_open u log) ts
-          (λ u c. rw (ne_eqb t u (λ s. let less = number_below t ts u r c in omega (arith, s, less))) refl) in
+      (λ u c. rw (ne_eqb t u (λ s. let less = number_below t ts u r c in omega (arith, s, less))) refl) in
       ap (λ b. events (close ts (cond b (Aborts t ∷ log) log))) holds
       ∙ close_events ts (Aborts t ∷ log) (numbers_rise-tail t ts r)
       ∙ append_assoc (events log) (Ended t ∷ []) (map Ended (filter (λ u. is_open u (Aborts t ∷ log)) ts))
       ∙ ap (λ l. events log ++ Ended t ∷ map Ended l) others
       ∙ ap (λ b. events log ++ map Ended (cond b (t ∷ filter (λ u. is_open u log) ts) (filter (λ u. is_open u log) ts)))
-        (sym holds)
+      (sym holds)
   | inr fails ↦
       ap (λ b. events (close ts (cond b (Aborts t ∷ log) log))) fails
       ∙ close_events ts log (numbers_rise-tail t ts r)
       ∙ ap (λ b. events log ++ map Ended (cond b (t ∷ filter (λ u. is_open u log) ts) (filter (λ u. is_open u log) ts)))
-        (sym fails)
+      (sym fails)
 ]
 
 module _ {p : Parts} {next : ℕ} {es : Sessions} {c : Course} (st : StandsFor p next es c) where
@@ -49,7 +49,7 @@ module _ {p : Parts} {next : ℕ} {es : Sessions} {c : Course} (st : StandsFor p
       ∙ ap (λ l. history_of_events One [] (l ++ map Ended active)) st.log.events
       ∙ ap (λ l. history_of_events One [] (events (acts c) ++ map Ended l)) (active_are active are)
       ∙ ap (history_of_events One [])
-        (sym (close_events (started (acts c)) (acts c) (started_rise (acts c) (settled st).sound)))
+      (sym (close_events (started (acts c)) (acts c) (started_rise (acts c) (settled st).sound)))
 
   pub dumps : (active : List ℕ) (h : History) → active ≡ map (λ (e : ℕ × ℕ). e.0) p.opened
       → h ≡ history_of_events Two active p.recorded → h ≡ dumped c

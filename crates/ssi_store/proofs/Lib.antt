@@ -42,3 +42,4 @@ pub mod Commits
 pub mod Collects
 pub mod Finishes
 pub mod RisingOpens
+pub mod Scans

@@ -45,15 +45,15 @@ txns_without (e ∷ es) t rise = elim (cases_Bool (t == e.0)) [
   | inl same ↦
       ap txns_in (cond-true {A = List (ℕ × ℕ)} (t == e.0) es (e ∷ shift_remove_entry (nat_eq t) es) same)
       ∙ sym (cond-false {A = List ℕ} (not (t == e.0)) (e.0 ∷ filter (λ u. not (t == u)) (txns_in es))
-        (filter (λ u. not (t == u)) (txns_in es)) (ap not same)
+      (filter (λ u. not (t == u)) (txns_in es)) (ap not same)
       ∙ filter_all (λ u. not (t == u)) (txns_in es) (λ x c. ap not (false_from_ne_true (t == x)
-        (λ y. (let less = number_below e.0 (txns_in es) x rise c in let a = eqb-true t e.0 same in
-        let b = eqb-true t x y in omega (arith, less, a, b))))))
+      (λ y. (let less = number_below e.0 (txns_in es) x rise c in let a = eqb-true t e.0 same in
+      let b = eqb-true t x y in omega (arith, less, a, b))))))
   | inr other ↦
       ap txns_in (cond-false {A = List (ℕ × ℕ)} (t == e.0) es (e ∷ shift_remove_entry (nat_eq t) es) other)
       ∙ ap (λ l. e.0 ∷ l) (txns_without es t (numbers_rise-tail e.0 (txns_in es) rise))
       ∙ sym (cond-true {A = List ℕ} (not (t == e.0)) (e.0 ∷ filter (λ u. not (t == u)) (txns_in es))
-        (filter (λ u. not (t == u)) (txns_in es)) (ap not other))
+      (filter (λ u. not (t == u)) (txns_in es)) (ap not other))
 ]
 
 pub rise_without : (es : List (ℕ × ℕ)) (t : ℕ) → numbers_rise (txns_in es) ≡ true

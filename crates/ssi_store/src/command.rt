@@ -26,6 +26,12 @@ pub enum Command {
         session: Session,
         key: Key,
     },
+    /// Reads the keys from `lo` to `hi`, both included.
+    Scan {
+        session: Session,
+        lo: Key,
+        hi: Key,
+    },
     /// Commits the transaction.
     Commit {
         session: Session,

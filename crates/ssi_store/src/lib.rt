@@ -20,6 +20,7 @@ pub mod laws;
 mod open;
 mod overtaken;
 mod roster;
+mod scan;
 mod session;
 mod sessions;
 mod store;

@@ -90,6 +90,7 @@ impl<C: Chains + Drop, M: Marks + Drop> Store<C, M> {
                 value,
             } => self.write(session, key, Content::Live(value)),
             Command::Del { session, key } => self.write(session, key, Content::Dead),
+            Command::Scan { session, lo, hi } => self.scan(session, lo, hi),
             Command::Commit { session } => self.commit(session),
             Command::Abort { session } => self.abort(session),
             Command::Collect => self.collect(),

@@ -14,6 +14,7 @@ command_of (Given.Begin s) = Do.Begin s
 command_of (Given.Get s k) = Do.Get s k
 command_of (Given.Put s k v) = Do.Put s k (value_of v)
 command_of (Given.Del s k) = Do.Del s k
+command_of (Given.Scan s low high) = Do.Scan s low high
 command_of (Given.Commit s) = Do.Commit s
 command_of (Given.Abort s) = Do.Abort s
 command_of Given.Collect = Do.Collect

@@ -3,8 +3,10 @@ use Rattle.ssi_store.proofs.Collects.{above_kept, collected}
 use Rattle.ssi_store.proofs.store.Store.collect.Goals as goal
 
 pub returns : goal.returns
-returns g c = record { stands = λ course st. collected st c.laws_below.ensures _ c.collect-versions.result
-    c.open_snapshots.result.now c.open_snapshots.ensures c.collect-versions.ensures.count c.collect-versions.ensures.kept }
+returns g c = record {
+  stands = λ course st. collected st c.laws_below.ensures _ c.collect-versions.result
+      c.open_snapshots.result.now c.open_snapshots.ensures c.collect-versions.ensures.count c.collect-versions.ensures.kept;
+}
 
 pub invariant_of-self-clause-above : goal.invariant_of-self-clause-above
 invariant_of-self-clause-above g c =

@@ -1,0 +1,112 @@
+//! Scan and limited scan.
+
+ghost use Rattle.std.specs.Prelude.{◌≡◌, ◌++◌, ◌∷◌, [], ◌<◌, map, IfSome, IfOk, OnOk};
+ghost use Rattle.adya_values.specs.Meaning.Histories.{entry_of, final_of};
+ghost use Rattle.adya_values.specs.Meaning.Serial.{visible_pairs};
+ghost use Rattle.ssi_store.specs.Meaning.Acts.{reached};
+
+use crate::below::laws_below;
+use crate::open::MAX_OPERATIONS;
+use crate::sessions::count_at;
+use crate::{Refusal, Reply, Session, Store};
+use adya_values::{Content, Entry, Event, FinalPair, Key, Txn};
+use ssi_conflict::Answer;
+use ssi_reads::Marks;
+use ssi_versions::Chains;
+use std::alloc::{AllocError, Global};
+use std::num::NonZeroU16;
+
+impl<C: Chains + Drop, M: Marks + Drop> Store<C, M> {
+    ghost use Rattle.ssi_store.specs.Meaning.Courses.{Course, Then, Command as Do};
+    ghost use Rattle.ssi_store.specs.Meaning.Commands.{answer_of};
+    ghost use Rattle.ssi_store.specs.Meaning.Standing.{IsAt};
+    ghost use Rattle.ssi_store.specs.Machinery.Opens.{open_at};
+    ghost use Rattle.ssi_store.specs.Machinery.Scans.{IsScan};
+
+    /// Reads the keys from `lo` to `hi`, both included.
+    pub(crate) fn scan(&mut self, session: Session, lo: Key, hi: Key) -> Result<Reply, Refusal>
+        ensures stands { (c : Course) → IsAt C.held M.marked self.old c → IsAt C.held M.marked self.new (Then c (Do.Scan session lo hi) (answer_of result)) }
+    {
+        laws_below();
+        let Some(open) = self.sessions.get(&session) else {
+            return Err(Refusal::Idle);
+        };
+        if hi < lo {
+            return Err(Refusal::Range);
+        }
+        if open.operations >= MAX_OPERATIONS {
+            return Err(Refusal::Long);
+        }
+        let txn = open.view.txn();
+        let Ok(entries) = open.view.scan(&self.chains, lo, hi) else {
+            return Err(Refusal::Memory);
+        };
+        let Ok(rows) = rows_of(self.alloc, entries.as_slice()) else {
+            return Err(Refusal::Memory);
+        };
+        self.show(session, txn, lo, hi, entries, rows)
+    }
+
+    /// Records a scan, and counts it, unless a pivot would stand.
+    fn show(
+        &mut self,
+        session: Session,
+        txn: Txn,
+        lo: Key,
+        hi: Key,
+        entries: Vec<Entry>,
+        rows: Vec<FinalPair>,
+    ) -> Result<Reply, Refusal>
+        requires { IfSome (open_at session self.old.sessions.entries) (λ o. o.operations < 65535) }
+        ensures stands { (c : Course) (m : Do) → IsAt C.held M.marked self.old c
+            → IsScan session txn lo hi (map entry_of entries.items) (map final_of rows.items) c m
+            → IsAt C.held M.marked self.new (Then c m (answer_of result)) }
+    {
+        laws_below();
+        let Ok(()) = self.recorder.room() else {
+            return Err(Refusal::Memory);
+        };
+        let Ok(answer) = self.tracker.on_read(txn, lo, hi) else {
+            return Err(Refusal::Memory);
+        };
+        if let Answer::Unsafe { pivot } = answer {
+            self.drop_txn(session, txn);
+            return Ok(Reply::Unsafe { pivot });
+        }
+        self.recorder.event(Event::Scan {
+            txn,
+            lo,
+            hi,
+            entries,
+        });
+        count_at(&mut self.sessions, session);
+        Ok(Reply::Rows { rows })
+    }
+}
+
+/// Adds the key and value of an entry that is visible.
+fn push_row(rows: &mut Vec<FinalPair>, entry: &Entry) -> Result<(), AllocError>
+    ensures { OnOk result (map final_of rows.new.items ≡ map final_of rows.old.items ++ visible_pairs (entry_of entry.now ∷ [])) }
+{
+    match entry.content {
+        Content::Live(value) => {
+            rows.push(FinalPair {
+                key: entry.version.key,
+                value,
+            })?;
+            Ok(())
+        }
+        Content::Dead => Ok(()),
+    }
+}
+
+/// Returns the keys and values of the entries that are visible.
+fn rows_of(alloc: Global, entries: &[Entry]) -> Result<Vec<FinalPair>, AllocError>
+    ensures { IfOk result (λ v. map final_of v.items ≡ visible_pairs (map entry_of entries.now)) }
+{
+    let mut rows = Vec::new(alloc);
+    'entries: for entry in entries {
+        push_row(&mut rows, entry)?;
+    }
+    Ok(rows)
+}
