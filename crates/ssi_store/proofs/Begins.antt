@@ -1,5 +1,5 @@
 -- Begin.
-use Rattle.std.proofs.Common.{List, None, Option, Some, ap, arith, cond, false, true, inl, inr, is_some, nat_lt, refl, subst, suc, sym, ◌≡◌, ◌∷◌, ◌++◌, ◌+◌, ◌<◌, ◌∙◌, ℕ, [], IfSome, add-one, nat_eq}
+use Rattle.std.proofs.Common.{List, None, Option, Some, ap, arith, cond, false, true, inl, inr, is_some, nat_lt, refl, subst, sym, ◌≡◌, ◌∷◌, ◌++◌, ◌+◌, ◌<◌, ◌∙◌, ℕ, [], IfSome, add-one, nat_eq}
 use Rattle.std.specs.Option.{option_map}
 use Rattle.std.proofs.lemmas.Bool.{cases_Bool, cond-false, cond-true, false_from_ne_true, le-ltb, lt-ltb}
 use Rattle.std.proofs.lemmas.List.{append-nil}
@@ -15,14 +15,14 @@ use Rattle.ssi_store.specs.Meaning.Courses.{Command as Do, Answer, Begun, Refuse
 use Rattle.ssi_store.specs.Meaning.Replies.{reply, reply_for}
 use Rattle.ssi_store.specs.Meaning.Recording.{events}
 use Rattle.ssi_store.specs.Meaning.Seeing.{commit_count}
-use Rattle.ssi_store.specs.Meaning.Standing.{Parts, IsLog, StandsFor, with_snapshots}
+use Rattle.ssi_store.specs.Meaning.Standing.{Parts, IsLog, StandsFor}
 use Rattle.ssi_store.specs.Meaning.Tracked.{tracked}
 use Rattle.ssi_store.specs.Machinery.Opens.{Sessions, open_at, number_of, IsOpen, IsReplaced}
 use Rattle.ssi_store.specs.declared.open.Open.{Open}
 use Rattle.ssi_store.proofs.Opens.{other_open, open_begun}
 use Rattle.ssi_store.proofs.Rosters.{began_then, opened_then}
 use Rattle.ssi_store.proofs.Sound.{open_from}
-use Rattle.ssi_store.proofs.Steps.{both, settled, opened, idle, open_of, unchanged, answer_memory, refused, refused_same}
+use Rattle.ssi_store.proofs.Steps.{both, settled, opened, idle, unchanged, answer_memory, refused, refused_same}
 use Rattle.ssi_store.proofs.Telling.{tracked_allowed}
 
 begin_idle : (c : Course) (s : List ℕ) → txn_in s c ≡ None

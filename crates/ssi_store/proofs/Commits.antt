@@ -1,5 +1,5 @@
 -- Commit.
-use Rattle.std.proofs.Common.{Bool, List, None, Option, Some, ap, arith, cond, true, inl, nat_eq, refl, subst, suc, sym, ◌≡◌, ◌∷◌, ◌++◌, ◌+◌, ◌<◌, ◌∙◌, ℕ, [], add-one}
+use Rattle.std.proofs.Common.{List, None, Option, Some, ap, arith, cond, true, inl, nat_eq, refl, subst, suc, sym, ◌≡◌, ◌∷◌, ◌++◌, ◌+◌, ◌<◌, ◌∙◌, ℕ, [], add-one}
 use Rattle.std.specs.List.{All}
 use Rattle.std.proofs.lemmas.List.Elements.{All-append, All-cons, All-nil}
 use Rattle.indexmap.specs.IndexMap.{shift_remove_entry}
@@ -14,11 +14,11 @@ use Rattle.ssi_conflict.specs.Meaning.Pairs.{IsOrderedPivot, IsSmallest}
 use Rattle.ssi_snapshot.specs.Meaning.Listings.{keys}
 use Rattle.ssi_snapshot.specs.Meaning.Views.{stamp_of, written}
 use Rattle.ssi_store.specs.Meaning.Acts.{Act, Commits, acts}
-use Rattle.ssi_store.specs.Meaning.Courses.{Command as Do, Answer, Committed, Conflict, Unsafe, Refused, Idle, Memory, Course, Then}
-use Rattle.ssi_store.specs.Meaning.Replies.{conflict, last_writer, may_want_memory, reply, reply_for, unless_conflict, unless_pivot}
+use Rattle.ssi_store.specs.Meaning.Courses.{Command as Do, Committed, Conflict, Unsafe, Refused, Idle, Memory, Course, Then}
+use Rattle.ssi_store.specs.Meaning.Replies.{conflict, may_want_memory, reply, reply_for, unless_conflict, unless_pivot}
 use Rattle.ssi_store.specs.Meaning.Recording.{events}
 use Rattle.ssi_store.specs.Meaning.Seeing.{changed, commit_count, own_keys, snapshot}
-use Rattle.ssi_store.specs.Meaning.Standing.{Parts, IsLog, StandsFor}
+use Rattle.ssi_store.specs.Meaning.Standing.{Parts, StandsFor}
 use Rattle.ssi_store.specs.Meaning.Tracked.{tracked}
 use Rattle.ssi_store.specs.Machinery.Below.{Below}
 use Rattle.ssi_store.specs.Machinery.Ends.{IsEnd}

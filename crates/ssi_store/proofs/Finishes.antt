@@ -1,5 +1,5 @@
 -- The events of a course that is over.
-use Rattle.std.proofs.Common.{List, [], ap, arith, cond, filter, inl, inr, map, refl, sym, true, ℕ, ◌++◌, ◌==◌, ◌∙◌, ◌∷◌, ◌≡◌}
+use Rattle.std.proofs.Common.{List, [], ap, arith, cond, filter, inl, inr, map, refl, sym, true, ℕ, ◌++◌, ◌∙◌, ◌∷◌, ◌≡◌}
 use Rattle.std.proofs.lemmas.Bool.{cases_Bool, ne_eqb}
 use Rattle.std.proofs.lemmas.List.{append-nil, append_assoc}
 use Rattle.adya_values.specs.Computing.Shapes.{numbers_rise}
@@ -8,7 +8,7 @@ use Rattle.adya_values.specs.declared.edition.Edition.TheVariants.{One, Two}
 use Rattle.ssi_recorder.specs.Meaning.Recorded.{history_of_events}
 use Rattle.ssi_store.specs.Meaning.Acts.{Aborts, Act, acts, is_open, open_txns, started}
 use Rattle.ssi_store.specs.Meaning.Courses.{Course}
-use Rattle.ssi_store.specs.Meaning.Recording.{close, closed, dumped, events, finished, starts}
+use Rattle.ssi_store.specs.Meaning.Recording.{close, dumped, events, finished}
 use Rattle.ssi_store.specs.Meaning.Seeing.{snapshot}
 use Rattle.ssi_store.specs.Meaning.Standing.{Parts, StandsFor}
 use Rattle.ssi_store.specs.Machinery.Opens.{Sessions}

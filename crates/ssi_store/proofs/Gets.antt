@@ -1,7 +1,6 @@
 -- Get.
-use Rattle.std.proofs.Common.{Bool, List, None, Option, Some, ap, cond, false, true, inl, is_some, nat_le, refl, subst, suc, sym, ◌≡◌, ◌∷◌, ◌++◌, ◌<◌, ◌≤◌, ◌∙◌, ℕ, []}
+use Rattle.std.proofs.Common.{List, None, Option, Some, ap, false, true, inl, is_some, nat_le, refl, subst, sym, ◌≡◌, ◌∷◌, ◌++◌, ◌<◌, ◌≤◌, ◌∙◌, ℕ, []}
 use Rattle.std.proofs.lemmas.Bool.{cond-false, cond-true, le-leb, lt-leb}
-use Rattle.std.proofs.lemmas.Option.{same_Some}
 use Rattle.adya_values.specs.Meaning.Histories.{Event}
 use Rattle.adya_values.specs.Meaning.Events.{shown}
 use Rattle.ssi_versions.specs.Meaning.Chains.{chain_of}

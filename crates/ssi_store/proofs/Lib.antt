@@ -43,3 +43,5 @@ pub mod Collects
 pub mod Finishes
 pub mod RisingOpens
 pub mod Scans
+pub mod LimitedScans
+pub mod LastRows

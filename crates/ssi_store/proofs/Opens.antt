@@ -1,5 +1,5 @@
 -- Open transactions over the log, act by act.
-use Rattle.std.proofs.Common.{Bool, List, None, Option, Some, ap, cond, false, true, inl, inr, is_some, not, refl, subst, suc, sym, ◌≡◌, ◌≢◌, ◌∷◌, ◌++◌, ◌==◌, ◌&&◌, ◌∙◌, ℕ, [], if◌then◌else◌}
+use Rattle.std.proofs.Common.{Bool, List, None, Option, Some, ap, cond, false, true, inl, inr, is_some, not, refl, subst, suc, sym, ◌≡◌, ◌∷◌, ◌++◌, ◌==◌, ◌&&◌, ◌∙◌, ℕ, [], if◌then◌else◌}
 use Rattle.std.proofs.lemmas.Bool.{and_left, both_ways, cases_Bool, cond-false, cond-true, eq-eqb, eqb-true, false_from_ne_true, ne_eqb, or_parts}
 use Rattle.lemmas.proofs.Orderings.{bytes_eq-same}
 use Rattle.adya_values.specs.Meaning.Keys.{key_eq}

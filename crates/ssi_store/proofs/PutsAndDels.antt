@@ -8,7 +8,7 @@ use Rattle.ssi_snapshot.specs.Meaning.Views as View
 use Rattle.ssi_snapshot.specs.Meaning.Writes.{next_mod, next_write, put_write}
 use Rattle.ssi_store.specs.Meaning.Acts.{Writes, acts, act_by}
 use Rattle.ssi_store.specs.Meaning.Commands.{written}
-use Rattle.ssi_store.specs.Meaning.Courses.{Command, Answer, Done, Refused, Idle, Long, Memory, Course, Then, is_proper, txn_in, txn_for, next_txn}
+use Rattle.ssi_store.specs.Meaning.Courses.{Answer, Done, Refused, Idle, Long, Memory, Course, Then, is_proper, txn_in, txn_for, next_txn}
 use Rattle.ssi_store.specs.Meaning.Replies.{reply, reply_for, unless_long, may_want_memory}
 use Rattle.ssi_store.specs.Meaning.Recording.{events, write_event}
 use Rattle.ssi_store.specs.Meaning.Standing.{Parts, StandsFor}

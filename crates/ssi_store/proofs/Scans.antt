@@ -1,9 +1,9 @@
 -- Scan and limited scan.
-use Rattle.std.specs.List.{Contains, filter_map}
-use Rattle.std.proofs.Common.{Bool, List, None, Option, Some, ap, cond, false, true, if◌then◌else◌, inl, inr, nat_le, option_map, refl, subst, suc, sym, ◌≡◌, ◌⊎◌, ◌∷◌, ◌++◌, ◌<◌, ◌≤◌, ◌∙◌, ℕ, []}
+use Rattle.std.specs.List.{Contains}
+use Rattle.std.proofs.Common.{List, None, Option, Some, ap, false, true, if◌then◌else◌, inl, inr, nat_le, option_map, refl, subst, sym, ◌≡◌, ◌⊎◌, ◌∷◌, ◌++◌, ◌<◌, ◌≤◌, ◌∙◌, ℕ, []}
 use Rattle.std.proofs.lemmas.Bool.{cases_Bool, cond-false, cond-true, le-leb, lt-leb}
 use Rattle.std.proofs.lemmas.Option.{none-some, same_Some}
-use Rattle.adya_values.specs.Meaning.Keys.{key_lt, key_le, lies_in}
+use Rattle.adya_values.specs.Meaning.Keys.{key_lt, lies_in}
 use Rattle.adya_values.specs.Meaning.Histories.{Entry, Event, FinalPair, Scan as Listed}
 use Rattle.adya_values.specs.Meaning.Serial.{visible_pairs}
 use Rattle.ssi_conflict.specs.Computing.Steps.{smallest_ordered_pivot}

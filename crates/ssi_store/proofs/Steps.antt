@@ -1,5 +1,5 @@
 -- From a course to the course with one more command, for a store's parts and sessions.
-use Rattle.std.proofs.Common.{Bool, List, None, Option, Some, ap, cond, false, true, inl, inr, refl, subst, suc, sym, ◌≡◌, ◌∷◌, ◌++◌, ◌∙◌, ℕ, [], IfSome}
+use Rattle.std.proofs.Common.{Bool, List, None, Option, Some, ap, cond, false, true, inl, inr, refl, subst, sym, ◌≡◌, ◌∷◌, ◌++◌, ◌∙◌, ℕ, [], IfSome}
 use Rattle.std.specs.Option.{option_map}
 use Rattle.std.proofs.lemmas.Bool.{both_ways, cases_Bool, cond-false, cond-true}
 use Rattle.std.proofs.lemmas.Option.{same_Some}
@@ -13,7 +13,6 @@ use Rattle.ssi_store.specs.Meaning.Standing.{Parts, IsLog, StandsFor}
 use Rattle.ssi_store.specs.Machinery.Opens.{Sessions, open_at, number_of, IsOpen, IsSameOpen, IsCounted, IsReplaced}
 use Rattle.ssi_store.specs.declared.open.Open.{Open}
 use Rattle.ssi_store.proofs.Opens.{IsBy, same_open, other_open}
-use Rattle.ssi_store.proofs.Sound.{Sound, Safe}
 use Rattle.ssi_store.proofs.Standing.{Stands as Settled, course_stands}
 
 pub both : {X : Type 0} (P Q : X → Type 0) (o : Option X) → ((x : X) → o ≡ Some x → P x → Q x) → IfSome o P → IfSome o Q

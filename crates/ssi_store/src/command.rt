@@ -2,6 +2,7 @@
 
 use crate::Session;
 use adya_values::{FinalPair, Key, Txn, Value};
+use std::num::NonZeroU16;
 
 /// What a session, or an operator, asks of a store.
 #[derive(Clone, Copy)]
@@ -31,6 +32,13 @@ pub enum Command {
         session: Session,
         lo: Key,
         hi: Key,
+    },
+    /// Reads the keys from `lo` to `hi`, both included, up to so many keys and values that are seen.
+    ScanFirst {
+        session: Session,
+        lo: Key,
+        hi: Key,
+        limit: NonZeroU16,
     },
     /// Commits the transaction.
     Commit {

@@ -3,6 +3,7 @@
 ghost use Rattle.std.specs.Prelude.{◌≡◌, ◌++◌, ◌∷◌, [], ◌<◌, map, IfSome, IfOk, OnOk};
 ghost use Rattle.adya_values.specs.Meaning.Histories.{entry_of, final_of};
 ghost use Rattle.adya_values.specs.Meaning.Serial.{visible_pairs};
+ghost use Rattle.std.specs.Int.NonZero.{non_zero_u16_get};
 ghost use Rattle.ssi_store.specs.Meaning.Acts.{reached};
 
 use crate::below::laws_below;
@@ -45,6 +46,39 @@ impl<C: Chains + Drop, M: Marks + Drop> Store<C, M> {
             return Err(Refusal::Memory);
         };
         self.show(session, txn, lo, hi, entries, rows)
+    }
+
+    /// Reads the keys from `lo` to `hi` up to a number of visible ones. If so many are found, the scan looked only as far
+    /// as the last of them.
+    pub(crate) fn scan_first(
+        &mut self,
+        session: Session,
+        lo: Key,
+        hi: Key,
+        limit: NonZeroU16,
+    ) -> Result<Reply, Refusal>
+        ensures stands { (c : Course) → IsAt C.held M.marked self.old c → IsAt C.held M.marked self.new (Then c (Do.ScanFirst session lo hi (non_zero_u16_get limit)) (answer_of result)) }
+    {
+        laws_below();
+        let n = limit.get();
+        let Some(open) = self.sessions.get(&session) else {
+            return Err(Refusal::Idle);
+        };
+        if hi < lo {
+            return Err(Refusal::Range);
+        }
+        if open.operations >= MAX_OPERATIONS {
+            return Err(Refusal::Long);
+        }
+        let txn = open.view.txn();
+        let Ok(entries) = open.view.scan_first(&self.chains, lo, hi, n) else {
+            return Err(Refusal::Memory);
+        };
+        let Ok(rows) = rows_of(self.alloc, entries.as_slice()) else {
+            return Err(Refusal::Memory);
+        };
+        let last = reached(hi, n, rows.as_slice());
+        self.show(session, txn, lo, last, entries, rows)
     }
 
     /// Records a scan, and counts it, unless a pivot would stand.
@@ -109,4 +143,17 @@ fn rows_of(alloc: Global, entries: &[Entry]) -> Result<Vec<FinalPair>, AllocErro
         push_row(&mut rows, entry)?;
     }
     Ok(rows)
+}
+
+/// Returns how far a limited scan looked that found these rows.
+fn reached(hi: Key, n: u16, rows: &[FinalPair]) -> Key
+    ensures { result ≡ reached hi n (map final_of rows.now) }
+{
+    if rows.len() != usize::from(n) {
+        return hi;
+    }
+    match rows.last() {
+        Some(row) => row.key,
+        None => hi,
+    }
 }

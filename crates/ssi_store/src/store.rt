@@ -91,6 +91,12 @@ impl<C: Chains + Drop, M: Marks + Drop> Store<C, M> {
             } => self.write(session, key, Content::Live(value)),
             Command::Del { session, key } => self.write(session, key, Content::Dead),
             Command::Scan { session, lo, hi } => self.scan(session, lo, hi),
+            Command::ScanFirst {
+                session,
+                lo,
+                hi,
+                limit,
+            } => self.scan_first(session, lo, hi, limit),
             Command::Commit { session } => self.commit(session),
             Command::Abort { session } => self.abort(session),
             Command::Collect => self.collect(),

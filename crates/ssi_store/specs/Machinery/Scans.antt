@@ -1,5 +1,5 @@
 -- What a scan has found, for the part that both kinds of scans share.
-use Rattle.std.specs.Prelude.{◌≡◌, ℕ, ◌<◌, true, List, [], ◌∷◌, Option, Some}
+use Rattle.std.specs.Prelude.{◌≡◌, ℕ, true, List, [], ◌∷◌, Option, Some}
 use Rattle.adya_values.specs.Meaning.Keys.{key_eq, key_le}
 use Rattle.adya_values.specs.Meaning.Histories.{Entry, FinalPair}
 use Rattle.ssi_conflict.specs.Computing.Steps.{smallest_ordered_pivot}

@@ -1,5 +1,6 @@
 -- The commands and answers of the code, as those of a course.
 use Rattle.std.specs.Prelude.{ℕ, List, map, Result, Ok, Err}
+use Rattle.std.specs.Int.NonZero.{non_zero_u16_get}
 use Rattle.adya_values.specs.Meaning.Histories.{Content, Live, Dead, value_of, final_of}
 use Rattle.ssi_store.specs.Meaning.Courses.{Command, Command as Do, Answer, Answer as Is, Refusal, Refusal as Why}
 use Rattle.ssi_store.specs.declared.command.Command.{Command as CommandValue}
@@ -15,6 +16,7 @@ command_of (Given.Get s k) = Do.Get s k
 command_of (Given.Put s k v) = Do.Put s k (value_of v)
 command_of (Given.Del s k) = Do.Del s k
 command_of (Given.Scan s low high) = Do.Scan s low high
+command_of (Given.ScanFirst s low high n) = Do.ScanFirst s low high (non_zero_u16_get n)
 command_of (Given.Commit s) = Do.Commit s
 command_of (Given.Abort s) = Do.Abort s
 command_of Given.Collect = Do.Collect

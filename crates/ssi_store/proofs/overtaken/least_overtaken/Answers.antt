@@ -1,4 +1,4 @@
-use Rattle.std.proofs.Common.{arith, ◌≡◌, ◌+◌, List, map, option_map, take, ◌++◌, ◌∷◌, [], sym, subst, ap, ◌∙◌, IfSome}
+use Rattle.std.proofs.Common.{arith, ◌≡◌, ◌+◌, map, option_map, take, ◌++◌, ◌∷◌, [], sym, subst, ap, ◌∙◌, IfSome}
 use Rattle.std.proofs.lemmas.Grind.{common_steps}
 use Rattle.ssi_versions.specs.Meaning.Chains.{write_of}
 use Rattle.ssi_snapshot.specs.Meaning.Listings.{keys}

@@ -1,4 +1,4 @@
-use Rattle.std.proofs.Common.{rules, ap, sym, ◌∙◌}
+use Rattle.std.proofs.Common.{rules, sym}
 use Rattle.ssi_store.proofs.Steps.{counted_at}
 use Rattle.ssi_store.proofs.sessions.count_at.Goals as goal
 

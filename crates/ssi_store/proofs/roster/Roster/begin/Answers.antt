@@ -1,4 +1,4 @@
-use Rattle.std.proofs.Common.{rules, ap, sym, ◌∙◌}
+use Rattle.std.proofs.Common.{rules}
 use Rattle.ssi_store.proofs.RisingOpens.{rise_after_begin}
 use Rattle.ssi_store.proofs.roster.Roster.begin.Goals as goal
 

@@ -1,4 +1,4 @@
-use Rattle.std.proofs.Common.{rules, ap, sym, subst, ◌∙◌}
+use Rattle.std.proofs.Common.{rules, sym, subst}
 use Rattle.ssi_store.specs.Meaning.Courses.{Abort as DoAbort, Aborted}
 use Rattle.ssi_store.specs.Machinery.Ends.{IsEnd}
 use Rattle.ssi_store.proofs.Ends.{abort_idle, abort_ends}

@@ -1,14 +1,13 @@
-use Rattle.std.proofs.Common.{rules, arith, ap, sym, refl, subst, ◌+◌, ◌∙◌, ◌++◌, ◌∷◌, [], map, option_map, Ok, Some, None}
+use Rattle.std.proofs.Common.{rules, ap, sym, subst, ◌+◌, ◌∙◌, ◌∷◌, map, Some, None}
 use Rattle.ssi_versions.specs.Meaning.Chains.{write_of}
 use Rattle.ssi_snapshot.specs.Meaning.Listings.{keys}
 use Rattle.ssi_conflict.specs.Meaning.Calls.{Commits as Ends}
 use Rattle.ssi_conflict.specs.Meaning.Pairs.{IsOrderedPivot, IsSmallest}
-use Rattle.ssi_conflict.specs.Meaning.Standing.{Stands, pivot_of}
+use Rattle.ssi_conflict.specs.Meaning.Standing.{pivot_of}
 use Rattle.ssi_store.specs.Meaning.Acts.{acts}
 use Rattle.ssi_store.specs.Meaning.Courses.{Commit, Conflict, Unsafe}
 use Rattle.ssi_store.specs.Meaning.Tracked.{tracked}
-use Rattle.ssi_store.specs.Machinery.Overtaken.{key_of}
-use Rattle.ssi_store.proofs.Commits.{commit_idle, commit_memory, found_conflict, conflict_ends, may_commit, commit_ends, committed, above_installed}
+use Rattle.ssi_store.proofs.Commits.{commit_idle, found_conflict, conflict_ends, may_commit, commit_ends, committed, above_installed}
 use Rattle.ssi_store.proofs.Gets.{safe_of}
 use Rattle.ssi_store.proofs.Overtaking.{written_keys}
 use Rattle.ssi_store.proofs.RisingOpens.{below_without}

@@ -1,4 +1,3 @@
-use Rattle.std.proofs.Common.{rules, ap, sym, ◌∙◌}
 use Rattle.ssi_store.proofs.Ends.{dropped}
 use Rattle.ssi_store.proofs.RisingOpens.{below_without}
 use Rattle.ssi_store.proofs.store.Store.drop_txn.Goals as goal

@@ -1,5 +1,5 @@
 use Rattle.std.proofs.Common.{ap, subst, ◌∙◌, ◌++◌, ◌∷◌, [], map, Ok}
-use Rattle.adya_values.specs.Meaning.Histories.{entry_of, event_of, final_of, Scan as Listed}
+use Rattle.adya_values.specs.Meaning.Histories.{entry_of, final_of, Scan as Listed}
 use Rattle.ssi_conflict.specs.Meaning.Calls.{Reads}
 use Rattle.ssi_conflict.specs.Meaning.Pairs.{IsOrderedPivot, IsSmallest}
 use Rattle.ssi_conflict.specs.Meaning.Standing.{Stands, carried, pivot_of}

@@ -1,0 +1,35 @@
+use Rattle.std.proofs.Common.{rules, arith, ap, subst, sym, ◌<◌, ◌∙◌, map}
+use Rattle.std.specs.Int.NonZero.{non_zero_u16_get}
+use Rattle.adya_values.specs.Meaning.Histories.{entry_of, final_of}
+use Rattle.adya_values.specs.Meaning.Serial.{visible_pairs}
+use Rattle.ssi_snapshot.specs.Meaning.Listings.{up_to}
+use Rattle.ssi_store.specs.Meaning.Acts.{reached}
+use Rattle.ssi_store.specs.Meaning.Courses.{ScanFirst}
+use Rattle.ssi_store.proofs.KeyOrder.{key_le-from_not}
+use Rattle.ssi_store.proofs.LimitedScans.{first_idle, first_is}
+use Rattle.ssi_store.proofs.store.Store.scan_first.Goals as goal
+
+pub returns-in_default : goal.returns-in_default
+returns-in_default g c = record {
+  stands = λ course st.
+      first_idle st c.args.session c.args.lo c.args.hi (non_zero_u16_get c.args.limit)
+      (subst (λ x. 0 < x) c.get-n.ensures.value c.get-n.ensures.nonzero) (Prim.search rules);
+}
+
+pub scan_first-requires-clause-range : goal.scan_first-requires-clause-range
+scan_first-requires-clause-range g c = key_le-from_not c.args.lo c.args.hi (Prim.search rules)
+
+pub returns : goal.returns
+returns g c = record {
+  stands = λ course st.
+      let n = non_zero_u16_get c.args.limit in
+      let same = c.get-n.ensures.value in
+      c.show.ensures.stands course (ScanFirst c.args.session c.args.lo c.args.hi n) st
+      (first_is st c.args.session c.args.lo c.args.hi n (subst (λ x. 0 < x) same c.get-n.ensures.nonzero) c.in-Some.open.now
+      (sym c.in-Some.ensures.value) (Prim.search rules) (omega arith) c.laws_below.ensures c.txn-txn.result c.reached-last.result
+      (map entry_of c.in-Ok.entries.items) (map final_of c.in-Ok-rows_of.rows.items) c.txn-txn.ensures
+      (c.in-Ok.ensures.0, c.in-Ok.ensures.1, c.in-Ok.ensures.2 ∙ ap (λ x. up_to x c.in-Ok.ensures.0) same)
+      (c.in-Ok-rows_of.ensures ∙ ap (λ ws. visible_pairs (map entry_of ws)) c.as_slice.ensures.value)
+      (c.reached-last.ensures ∙ ap (λ rs. reached c.args.hi c.get-n.result (map final_of rs)) c.as_slice-2.ensures.value
+      ∙ ap (λ x. reached c.args.hi x (map final_of c.in-Ok-rows_of.rows.items)) same));
+}
