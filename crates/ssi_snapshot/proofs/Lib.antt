@@ -1,0 +1,7 @@
+mod Writing
+mod Storing
+mod Merging
+mod Cutting
+mod Unique
+mod ByKeys
+mod Limiting

@@ -1,0 +1,20 @@
+-- What a scan lists: entries by rising key.
+use Rattle.std.specs.Prelude.{◌≡◌, ℕ, zero, suc, true, if◌then◌else◌, List, [], ◌∷◌, map, Option, is_some}
+use Rattle.adya_values.specs.Meaning.Keys.{keys_rise}
+use Rattle.adya_values.specs.Meaning.Histories.{Entry}
+use Rattle.adya_values.specs.Meaning.Events.{listed, visible}
+
+-- the keys of the entries
+abbrev pub keys : List Entry → List (List ℕ)
+keys ws = map (λ w. w.version.key) ws
+
+-- the list has exactly what is shown of each key, by rising key
+pub record IsListing (shows : List ℕ → Option Entry) (ws : List Entry) : Type 0 where
+  pub rising : keys_rise (keys ws) ≡ true
+  pub each : (key : List ℕ) → listed key ws ≡ shows key
+
+-- the entries up to the nth visible one and with it, or all if fewer are visible
+abbrev pub up_to : ℕ → List Entry → List Entry
+up_to zero ws = []
+up_to (suc n) [] = []
+up_to (suc n) (w ∷ ws) = w ∷ (if is_some (visible w.content) then up_to n ws else up_to (suc n) ws)
