@@ -9,18 +9,17 @@ use ssi_versions::Chains;
 
 const READS: u64 = 4;
 
-const COLLECTED_AFTER: u64 = 1000;
-
-/// Installs a version by each transaction, reads before it, and collects after each thousand. Returns how many versions
-/// were seen and are held at the end.
+/// Installs a version by each transaction, reads before it, and collects after each tenth of them. Returns how many
+/// versions were seen and are held at the end.
 pub(crate) fn run<C: Chains>(chains: &mut C, work: &Work) -> Option<u64>
     requires { C.held chains.old ≡ [] }
 {
+    let tenth = (work.transactions as u64 / 10).max(1);
     let mut seen = 0u64;
     for stamp in 1..work.transactions as u64 + 1 {
         seen = seen.wrapping_add(read(chains, work, stamp)?);
         install(chains, work, stamp)?;
-        if stamp % COLLECTED_AFTER == 0 {
+        if stamp % tenth == 0 {
             collect(chains, work, stamp);
         }
     }

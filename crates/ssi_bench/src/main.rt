@@ -1,5 +1,5 @@
-//! Work for measuring the layers of the store by themselves: `ssi_bench chains|marks|tracker TRANSACTIONS KEYS [open]`.
-//! It prints one line with a sum over what the calls returned. `bench/layers` runs it and measures.
+//! Work for measuring the layers of the store by themselves: `ssi_bench chains|marks|tracker TRANSACTIONS KEYS
+//! ROUNDS [open]`. It prints one line with a sum over what the calls returned. `bench/layers` runs it and measures.
 #![tactic(auto)]
 
 mod chain_work;
@@ -10,6 +10,7 @@ mod work;
 use crate::work::Work;
 use ssi_reads::IndexMarks;
 use ssi_versions::KeyChains;
+use std::alloc::Global;
 use std::env;
 use std::io::Write;
 use std::process::ExitCode;
@@ -24,21 +25,32 @@ fn main(rt: HostRuntime) -> ExitCode {
     }
 }
 
-/// Returns the sum of the run that the arguments ask for; nothing if they ask for none or memory runs out.
+/// Returns the sum over the rounds that the arguments ask for; nothing if they ask for none or memory runs out.
 fn run(rt: &HostRuntime) -> Option<u64> {
     let alloc = rt.alloc();
     let mut arguments = env::args(rt).ok()?;
     let _program = arguments.next();
     let part = arguments.next()?;
+    let transactions = arguments.next()?.parse().ok()?;
+    let keys = arguments.next()?.parse().ok()?;
+    let rounds: u32 = arguments.next()?.parse().ok()?;
     let work = Work {
-        transactions: arguments.next()?.parse().ok()?,
-        keys: arguments.next()?.parse().ok()?,
+        transactions,
+        keys,
         is_open: arguments.next().is_some(),
     };
-    match part.as_str() {
-        "chains" => chain_work::run(&mut KeyChains::new(alloc), &work),
-        "marks" => mark_work::run(&mut IndexMarks::new(alloc), &work),
+    let mut sum = 0u64;
+    for _ in 0..rounds {
+        sum = sum.wrapping_add(round(alloc, part.as_str(), &work)?);
+    }
+    Some(sum)
+}
 
+/// Does the work once, over an empty part.
+fn round(alloc: Global, part: &str, work: &Work) -> Option<u64> {
+    match part {
+        "chains" => chain_work::run(&mut KeyChains::new(alloc), work),
+        "marks" => mark_work::run(&mut IndexMarks::new(alloc), work),
         _ => None,
     }
 }
