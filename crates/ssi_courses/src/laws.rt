@@ -10,8 +10,8 @@ use ssi_recorder::laws::commits_are_listed;
 use ssi_versions::laws::held_shows;
 
 /// The history of a course that is over is a checked snapshot history without a dangerous structure, by either rule, and
-/// each of its anti-dependencies between concurrent transactions is a pair. So the conflicts that a tracker meets are all
-/// that there are (Cahill, Roehm and Fekete 2008, section 3), and the history is serializable.
+/// each of its anti-dependencies between concurrent transactions is a pair. So a tracker meets all conflicts that there
+/// are (Cahill, Roehm and Fekete 2008, section 3), and the history is serializable.
 pub fn finished_are_covered()
     ensures two_pair { FinishedAreCovered }
     ensures commit_order { OrderedFinishedAreCovered }
@@ -45,8 +45,8 @@ pub fn calls_are_allowed()
     ensures { CallsAreAllowed }
 {}
 
-/// What the snapshot of an open transaction sees is held, whatever was collected. So a collection never takes away a version
-/// that a transaction may still read.
+/// What the snapshot of an open transaction sees is held, whatever was collected. So a collection never takes away a
+/// version that a transaction may still read.
 pub fn open_snapshots_are_held()
     ensures { OpenSnapshotsAreHeld }
 {
@@ -69,8 +69,8 @@ pub fn unsafe_names_smallest()
     quiet_calls_make_no_pair();
 }
 
-/// What the commit-order rule answers Unsafe the two-pair rule does too, with the same pivot or a smaller one. So the order
-/// of the commits only saves transactions (Ports and Grittner 2012, section 3.3).
+/// What the commit-order rule answers Unsafe the two-pair rule does too, with the same pivot or a smaller one. So to look
+/// at the order of the commits only saves transactions (Ports and Grittner 2012, section 3.3).
 pub fn ordered_refuses_no_more()
     ensures { OrderedRefusesNoMore }
 {
