@@ -31,8 +31,7 @@ each_more : (P : List Event → Event → Type 0) (before es : List Event) (e : 
 each_more P before [] e each p = (subst (λ l. P l e) (append-nil before) p, tt)
 each_more P before (x ∷ xs) e each p = (
   each.0,
-  each_more P (before ++ x ∷ []) xs e each.1
-      (subst (λ l. P l e) (sym (append_assoc before (x ∷ []) xs)) p),
+  each_more P (before ++ x ∷ []) xs e each.1 (subst (λ l. P l e) (sym (append_assoc before (x ∷ []) xs)) p),
 )
 
 -- a rule holds of all recorded events if it holds of each new one

@@ -247,8 +247,7 @@ all_seen (a ∷ log) s e c k o f =
           let r = all_seen log s.1 e old k o f in
           record {
             begun = started_stays (txn_of e) a log r.begun;
-            right = seen_stays
-                (txn_of e) k o a log s r.begun r.right;
+            right = seen_stays (txn_of e) k o a log s r.begun r.right;
           }
       | inr new ↦ new_seen a log s e new k o f
     ]

@@ -74,13 +74,11 @@ module _ (pivot : List Call → Option ℕ) where
       → (s ≡ r → ⊥) × (txn_in r c ≡ Some t)
   txn_dropped s c m a of drops r t e =
       elim (cases_Bool (is_of r m)) [
-        | inl same ↦ absurd (none-some t
-            (sym (drops (txn_in r c)) ∙ (sym
+        | inl same ↦ absurd (none-some t (sym (drops (txn_in r c)) ∙ (sym
             (cond-true {A = Option ℕ} (is_of r m) (txn_after (txn_in r c) a) (txn_in r c) same) ∙ e)))
         | inr other ↦ (
           (λ same. both_ways _ other (of.session r ∙ bytes_eq-from s r same)),
-          sym
-              (cond-false {A = Option ℕ} (is_of r m) (txn_after (txn_in r c) a) (txn_in r c) other) ∙ e,
+          sym (cond-false {A = Option ℕ} (is_of r m) (txn_after (txn_in r c) a) (txn_in r c) other) ∙ e,
         )
       ]
 
@@ -131,8 +129,7 @@ module _ (pivot : List Call → Option ℕ) where
       }
 
   pub refused : (c : Course) (m : Command) (r : Answer) (x : Refusal) → r ≡ Refused x → Stands c → Stands (Then c m r)
-  refused c m r x e s = subst (λ a. Stands (Then c m a)) (sym e)
-      (after_quiet (txn_for m c) c m (Refused x) refl s
+  refused c m r x e s = subst (λ a. Stands (Then c m a)) (sym e) (after_quiet (txn_for m c) c m (Refused x) refl s
       (record { acts_are = none (txn_for m c) m; keeps = λ y. refl; next_is = refl }))
     where
       none_of : (t : ℕ) (m : Command) → act_of t m (Refused x) ≡ []
@@ -167,8 +164,7 @@ module _ (pivot : List Call → Option ℕ) where
         open_to u (Aborts t ∷ acts c) (record {
           begun = o.begun;
           uncommitted = o.uncommitted;
-          unaborted = or_from (t == u) (has_aborted u (acts c))
-              (ne_eqb t u ne) o.unaborted;
+          unaborted = or_from (t == u) (has_aborted u (acts c)) (ne_eqb t u ne) o.unaborted;
         });
     starts = λ u. refl;
   })
@@ -237,8 +233,7 @@ module _ (pivot : List Call → Option ℕ) where
             open_to u (Commits t ∷ acts c)
             (record {
               begun = o.begun;
-              uncommitted = or_from (t == u) (has_committed u (acts c))
-                  (ne_eqb t u ne) o.uncommitted;
+              uncommitted = or_from (t == u) (has_committed u (acts c)) (ne_eqb t u ne) o.uncommitted;
               unaborted = o.unaborted;
             });
         starts = λ u. refl;
@@ -266,8 +261,7 @@ module _ (pivot : List Call → Option ℕ) where
       elim (cases_Bool (key_eq s r)) [
         | inl same ↦ inl (
           bytes_eq-same s r same,
-          same_Some n t
-              (sym (cond-true {A = Option ℕ} (key_eq s r) (Some n) (txn_in r c) same) ∙ e),
+          same_Some n t (sym (cond-true {A = Option ℕ} (key_eq s r) (Some n) (txn_in r c) same) ∙ e),
         )
         | inr other ↦ inr (sym (cond-false {A = Option ℕ} (key_eq s r) (Some n) (txn_in r c) other) ∙ e)
       ]
@@ -287,8 +281,7 @@ module _ (pivot : List Call → Option ℕ) where
                   let o = open_from t (acts c) (st.opened r t old) in
                   open_to t (Starts (next_txn c) ∷ acts c)
                   (record {
-                    begun = or_right (next_txn c == t)
-                        (has_started t (acts c)) o.begun;
+                    begun = or_right (next_txn c == t) (has_started t (acts c)) o.begun;
                     uncommitted = o.uncommitted;
                     unaborted = o.unaborted;
                   })
