@@ -1,6 +1,6 @@
 -- Collections change no reply but those of collect and stat.
 use Rattle.std.specs.List.{filter_map, find}
-use Rattle.std.proofs.Common.{Bool, List, None, Option, Some, [], ap, cond, false, if◌then◌else◌, is_some, nat_le, nat_lt, not, refl, suc, take, ℕ, ◌&&◌, ◌++◌, ◌==◌, ◌||◌, ◌∙◌, ◌∷◌, ◌≡◌}
+use Rattle.std.proofs.Common.{List, None, Option, Some, [], ap, cond, false, if◌then◌else◌, is_some, nat_le, nat_lt, not, refl, suc, take, ℕ, ◌&&◌, ◌++◌, ◌==◌, ◌||◌, ◌∙◌, ◌∷◌, ◌≡◌}
 use Rattle.lemmas.proofs.Finds.{find_agree}
 use Rattle.adya_values.specs.Meaning.Events.{entry, listed, shown, version}
 use Rattle.adya_values.specs.Meaning.Histories.{FinalPair}

@@ -325,8 +325,11 @@ module _ (pivot : List Call → Option ℕ) where
         held = λ u f.
             let o = open_from u (Starts (next_txn c) ∷ acts c) (subst (λ l. is_open u l ≡ true) same f) in
             elim (or_cases (next_txn c == u) (has_started u (acts c)) o.begun) [
-              | inl new ↦ (s, cond-true {A = Option ℕ} (key_eq s s) (Some (next_txn c)) (txn_in s c) (bytes_eq-itself s)
-                  ∙ ap Some (eqb-true (next_txn c) u new))
+              | inl new ↦ (
+                s,
+                cond-true {A = Option ℕ} (key_eq s s) (Some (next_txn c)) (txn_in s c) (bytes_eq-itself s)
+                    ∙ ap Some (eqb-true (next_txn c) u new),
+              )
               | inr old ↦
                   let h = st.held u (open_to u (acts c)
                   (record { begun = old; uncommitted = o.uncommitted; unaborted = o.unaborted })) in

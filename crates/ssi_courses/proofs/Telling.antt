@@ -6,7 +6,7 @@ use Rattle.std.proofs.lemmas.List.Elements.{Contains-get_or}
 use Rattle.std.proofs.lemmas.List.Quantifiers.{all_pairs_push}
 use Rattle.lemmas.proofs.Orderings.{bytes_eq-from, bytes_eq-other, bytes_eq-same}
 use Rattle.adya_values.specs.Meaning.Keys.{key_eq, lies_in}
-use Rattle.ssi_conflict.specs.Meaning.Calls.{AreAllowed, begun, has_begun, is_aborted, is_committed as committed_told, is_open as open_told, keys_of, last_stamp, meets, snapshot_of, stamp_of}
+use Rattle.ssi_conflict.specs.Meaning.Calls.{AreAllowed, MayCommit, begun, has_begun, is_aborted, is_committed as committed_told, is_open as open_told, keys_of, last_stamp, meets, snapshot_of, stamp_of}
 use Rattle.ssi_courses.specs.Meaning.Acts.{Aborts, Act, Collects, Commits, Gets, Scans, Starts, Writes, has_aborted, has_committed, has_started, is_open, started}
 use Rattle.ssi_courses.specs.Meaning.Seeing.{commit_count, own_keys, snapshot, wrote}
 use Rattle.ssi_courses.specs.Meaning.Tracked.{tracked}
@@ -70,7 +70,7 @@ begun_told t (Commits u ∷ log) = begun_told t log
 begun_told t (Aborts u ∷ log) = begun_told t log
 begun_told t (Collects ∷ log) = begun_told t log
 
-is_open_told : (t : ℕ) (log : List Act) → open_told t (tracked log) ≡ is_open t log
+pub is_open_told : (t : ℕ) (log : List Act) → open_told t (tracked log) ≡ is_open t log
 is_open_told t log =
     ap (λ b. b && not (committed_told t (tracked log) || is_aborted t (tracked log))) (begun_told t log) ∙
     (ap (λ b. has_started t log && not (b || is_aborted t (tracked log))) (is_committed_told t log) ∙
@@ -183,6 +183,15 @@ own_keys_apart t (Writes u k c ∷ log) =
       | inr old ↦ rw old (own_keys_apart t log)
     ]
 
+-- an open transaction may commit with the keys that it has written
+pub may_commit : (t : ℕ) (log : List Act) → is_open t log ≡ true
+    → MayCommit t (suc (commit_count log)) (own_keys t log) (tracked log)
+may_commit t log live = record {
+  opened = is_open_told t log ∙ live;
+  next = ap suc (sym (last_stamp_told log));
+  apart = own_keys_apart t log;
+}
+
 -- the store keeps to the conditions of the tracker
 pub tracked_allowed : (log : List Act) → Sound log → AreAllowed (tracked log)
 tracked_allowed [] s = tt
@@ -201,14 +210,6 @@ tracked_allowed (Gets t k ∷ log) s =
     ]
 tracked_allowed (Scans t low high ∷ log) s =
     (record { opened = is_open_told t log ∙ s.0.0; upward = s.0.1 }, tracked_allowed log s.1)
-tracked_allowed (Commits t ∷ log) s = (
-  record {
-    opened = is_open_told t log
-        ∙ s.0.opened;
-    next = ap suc (sym (last_stamp_told log));
-    apart = own_keys_apart t log;
-  },
-  tracked_allowed log s.1,
-)
+tracked_allowed (Commits t ∷ log) s = (may_commit t log s.0.opened, tracked_allowed log s.1)
 tracked_allowed (Aborts t ∷ log) s = (is_open_told t log ∙ s.0, tracked_allowed log s.1)
 tracked_allowed (Collects ∷ log) s = tracked_allowed log s.1
