@@ -1,5 +1,0 @@
-use Rattle.ssi_courses.proofs.Keeping.{calls_are_allowed}
-use Rattle.ssi_courses.proofs.laws.calls_are_allowed.Goals as goal
-
-pub returns : goal.returns
-returns c pivot d f = calls_are_allowed pivot d f

@@ -1,5 +1,0 @@
-use Rattle.ssi_courses.proofs.Collecting.{reply_same}
-use Rattle.ssi_courses.proofs.laws.collections_change_no_reply.Goals as goal
-
-pub returns : goal.returns
-returns c pivot t log m e = reply_same pivot t log m e

@@ -1,6 +1,0 @@
-use Rattle.ssi_courses.proofs.Seen.{scanned_lists, scanned_rises}
-use Rattle.ssi_courses.proofs.steps.scans_list_seen.Goals as goal
-
-pub returns : goal.returns
-returns c t low high log =
-    record { rising = scanned_rises t low high log; each = λ k. scanned_lists t low high k log }
