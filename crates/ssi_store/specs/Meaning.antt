@@ -7,7 +7,6 @@
 -- Recording: what is recorded of each act, and the history of a course.
 -- Faces: when a history records a course.
 -- Laws: what holds of every course whose answers are the replies.
--- StepLaws: what a store can rely on while it carries out a command.
 pub mod Courses
 pub mod Acts
 pub mod Seeing
@@ -16,4 +15,3 @@ pub mod Replies
 pub mod Recording
 pub mod Faces
 pub mod Laws
-pub mod StepLaws

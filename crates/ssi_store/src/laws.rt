@@ -1,7 +1,7 @@
 //! Laws of courses whose answers are the replies, each proved as the contract of a function whose body does nothing but
 //! call the laws of the store's parts.
 
-ghost use Rattle.ssi_store.specs.Meaning.Laws.{FinishedAreCovered, OrderedFinishedAreCovered, DumpedAreCovered, OrderedDumpedAreCovered, FinishedRecord, DumpedRecord, CallsAreAllowed, OpenSnapshotsAreHeld, OrderedRefusesNoMore, CollectionsChangeNoReply, UnsafeNamesSmallest, OrderedUnsafeNamesSmallest};
+ghost use Rattle.ssi_store.specs.Meaning.Laws.{FinishedAreCovered, OrderedFinishedAreCovered, DumpedAreCovered, OrderedDumpedAreCovered, FinishedRecord, DumpedRecord, CallsAreAllowed, OpenSnapshotsAreHeld, OrderedRefusesNoMore, CollectionsChangeNoReply, UnsafeNamesSmallest, OrderedUnsafeNamesSmallest, SessionsAreInOrder, NoPivotStands, NoOrderedPivotStands, ConflictIsLeast, ScansListSeen, OpenAreCounted};
 
 use ssi_conflict::laws::{
     ordered_pivots_are_named, ordered_pivots_are_pivots, pivots_are_named, quiet_calls_make_no_pair,
@@ -78,3 +78,36 @@ pub fn ordered_refuses_no_more()
     ordered_pivots_are_named();
     ordered_pivots_are_pivots();
 }
+
+/// After each command no pivot stands, by either rule. So a command that makes no pair is never Unsafe.
+pub fn no_pivot_stands()
+    ensures two_pair { NoPivotStands }
+    ensures commit_order { NoOrderedPivotStands }
+{
+    pivots_are_named();
+    ordered_pivots_are_named();
+    quiet_calls_make_no_pair();
+}
+
+/// Each open transaction is that of exactly one session, and no other transaction is a session's. The next transaction
+/// number is above all earlier ones. So what is known of a transaction can be kept with its session.
+pub fn sessions_are_in_order()
+    ensures { SessionsAreInOrder }
+{}
+
+/// The key of a conflict is the smallest one that the transaction wrote and another one has committed since it started. So
+/// only the keys of the transaction itself can be in conflict.
+pub fn conflict_is_least()
+    ensures { ConflictIsLeast }
+{}
+
+/// A scan lists of each key of its range what its transaction sees of it, by rising key. So it misses no key (Adya 1999,
+/// section 3.1.3).
+pub fn scans_list_seen()
+    ensures { ScansListSeen }
+{}
+
+/// The tracker counts as many open transactions as the course has. So stat counts the transactions of the sessions.
+pub fn open_are_counted()
+    ensures { OpenAreCounted }
+{}

@@ -8,4 +8,3 @@
 #![tactic(auto)]
 
 pub mod laws;
-pub mod steps;

@@ -1,5 +1,5 @@
 use Rattle.ssi_store.proofs.Seen.{scanned_lists, scanned_rises}
-use Rattle.ssi_store.proofs.steps.scans_list_seen.Goals as goal
+use Rattle.ssi_store.proofs.laws.scans_list_seen.Goals as goal
 
 pub returns : goal.returns
 returns c t low high log =

@@ -1,7 +1,7 @@
 use Rattle.ssi_store.specs.Meaning.Acts.{acts}
 use Rattle.ssi_store.proofs.Standing.{course_stands}
 use Rattle.ssi_store.proofs.Starts.{started_rise}
-use Rattle.ssi_store.proofs.steps.sessions_are_in_order.Goals as goal
+use Rattle.ssi_store.proofs.laws.sessions_are_in_order.Goals as goal
 
 pub returns : goal.returns
 returns c pivot d f =

@@ -3,7 +3,7 @@ use Rattle.ssi_conflict.specs.Meaning.Pairs.{IsOrderedPivot, IsPivot}
 use Rattle.ssi_store.proofs.NoPivot.{nothing_named}
 use Rattle.ssi_store.proofs.PivotRules.{commit_order_rule, two_pair_rule}
 use Rattle.ssi_store.proofs.Standing.{course_stands}
-use Rattle.ssi_store.proofs.steps.no_pivot_stands.Goals as goal
+use Rattle.ssi_store.proofs.laws.no_pivot_stands.Goals as goal
 
 pub returns-clause-two_pair : goal.returns-clause-two_pair
 returns-clause-two_pair c d f =

@@ -5,7 +5,7 @@ use Rattle.ssi_conflict.specs.Meaning.Calls.{begun, is_open as open_told}
 use Rattle.ssi_store.specs.Meaning.Acts.{is_open}
 use Rattle.ssi_store.specs.Meaning.Tracked.{tracked}
 use Rattle.ssi_store.proofs.Telling.{begun_are, is_open_told}
-use Rattle.ssi_store.proofs.steps.open_are_counted.Goals as goal
+use Rattle.ssi_store.proofs.laws.open_are_counted.Goals as goal
 
 pub returns : goal.returns
 returns c log = ap length
