@@ -42,8 +42,7 @@ not_new t s u calls m b = false_from_ne_true (t == u)
 
 -- whoever has committed is not one that is open
 pub not_live : (t u : ℕ) (calls : List Call) → is_open t calls ≡ true → is_committed u calls ≡ true → (t == u) ≡ false
-not_live t u calls o c = false_from_ne_true (t == u)
-    (λ same. both_ways _ (live_from t calls o).uncommitted
+not_live t u calls o c = false_from_ne_true (t == u) (λ same. both_ways _ (live_from t calls o).uncommitted
     (subst (λ x. is_committed x calls ≡ true) (sym (eqb-true t u same)) c))
 
 pub committed_begun : (t : ℕ) (calls : List Call) → AreAllowed calls → is_committed t calls ≡ true

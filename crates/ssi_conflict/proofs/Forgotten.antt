@@ -16,13 +16,11 @@ was_live : (t : ℕ) (c : Call) (calls : List Call) → has_begun t calls ≡ tr
 was_live t (Reads u low high) calls b e = e
 was_live t (Begins u s) calls b e = let o = live_from t (Begins u s ∷ calls) e in live_to t calls
     (record { begun = b; uncommitted = o.uncommitted; unaborted = o.unaborted })
-was_live t (Aborts u) calls b e = let o = live_from t (Aborts u ∷ calls) e in live_to t calls
-    (record {
-      begun = b;
-      uncommitted = o.uncommitted;
-      unaborted =
-          (or_parts (u == t) (is_aborted t calls) o.unaborted).1;
-    })
+was_live t (Aborts u) calls b e = let o = live_from t (Aborts u ∷ calls) e in live_to t calls (record {
+  begun = b;
+  uncommitted = o.uncommitted;
+  unaborted = (or_parts (u == t) (is_aborted t calls) o.unaborted).1;
+})
 was_live t (Commits u n ks) calls b e =
     let o = live_from t (Commits u n ks ∷ calls) e in
     live_to t calls (record { begun = b; uncommitted = by_stamp (u == t) o.uncommitted; unaborted = o.unaborted })

@@ -111,8 +111,7 @@ read_makes t low high calls a p pivot new =
         from = pivot.from;
         into = old;
         to = pivot.to;
-        out = read_out t low high calls a
-            p pivot.to pivot.committed pivot.out;
+        out = read_out t low high calls a p pivot.to pivot.committed pivot.out;
       }))
       | inr now ↦ now
     ]

@@ -34,8 +34,7 @@ pair_before_begin t s r u calls a p =
     record {
       key = p.key;
       committed = p.committed;
-      concurrent = rw
-          (not_u, not_r) at p.concurrent;
+      concurrent = rw (not_u, not_r) at p.concurrent;
       met = p.met;
       written = p.written;
       unaborted = p.unaborted;

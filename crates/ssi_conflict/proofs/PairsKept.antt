@@ -34,12 +34,11 @@ commit_pair_kept t n ks r u calls a same p =
         | inl done ↦ concurrent_kept r u calls done live
             (ap (λ o. is_at_or_below o (snapshot_of u calls)) (sym (stamp_keeps r (Commits t n ks) calls a done))
             ∙ apart.not_before)
-        | inr still ↦ live_kept r calls
-            (live_to r calls (record {
-              begun = met_begun r p.key calls a.1 p.met;
-              uncommitted = still;
-              unaborted = whole;
-            }))
+        | inr still ↦ live_kept r calls (live_to r calls (record {
+          begun = met_begun r p.key calls a.1 p.met;
+          uncommitted = still;
+          unaborted = whole;
+        }))
       ],
       live_kept u calls live,
     )
@@ -54,8 +53,7 @@ new_pair_kept (Reads t low high) calls a r u p new =
           let live : is_open r calls ≡ true = subst (λ x. is_open x calls ≡ true)
           (eqb-true t r (and_parts (t == r) (lies_in low high p.key) now).0) a.0.opened in (
             live_kept r calls live,
-            concurrent_kept u r calls p.committed live
-                (apart_from r u calls p.concurrent).not_after,
+            concurrent_kept u r calls p.committed live (apart_from r u calls p.concurrent).not_after,
           )
       | inr before ↦ absurd (new (pair_before_read t low high r u calls p before))
     ]

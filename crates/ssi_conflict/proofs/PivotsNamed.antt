@@ -35,8 +35,7 @@ module _ (calls : List Call) (allowed : AreAllowed calls) where
         from = a.0;
         into = into;
         to = b.0;
-        out = found_back calls allowed t b.0
-            b.2;
+        out = found_back calls allowed t b.0 b.2;
       }
 
   pivot_begun : (t : ℕ) → is_committed t calls ≡ true → Contains (begun calls) t
