@@ -42,8 +42,7 @@ not_new t s u calls m b = false_from_ne_true (t == u)
 
 -- whoever has committed is not one that is open
 pub not_live : (t u : ℕ) (calls : List Call) → is_open t calls ≡ true → is_committed u calls ≡ true → (t == u) ≡ false
-not_live t u calls o c = false_from_ne_true (t == u)
-    (λ same. both_ways _ (live_from t calls o).uncommitted
+not_live t u calls o c = false_from_ne_true (t == u) (λ same. both_ways _ (live_from t calls o).uncommitted
     (subst (λ x. is_committed x calls ≡ true) (sym (eqb-true t u same)) c))
 
 pub committed_begun : (t : ℕ) (calls : List Call) → AreAllowed calls → is_committed t calls ≡ true
@@ -85,7 +84,7 @@ begun_there t (Begins u s ∷ calls) e =
       | inr other ↦ Contains-append_left (begun calls) (u ∷ []) t (begun_there t calls (rw other at e))
     ]
 
-pub there_begun : (t : ℕ) (calls : List Call) → Contains (begun calls) t → has_begun t calls ≡ true
+there_begun : (t : ℕ) (calls : List Call) → Contains (begun calls) t → has_begun t calls ≡ true
 there_begun t [] c = absurd (none_contained t c)
 there_begun t (Reads u low high ∷ calls) c = there_begun t calls c
 there_begun t (Commits u n ks ∷ calls) c = there_begun t calls c
@@ -119,7 +118,7 @@ stamp_upto t n (Commits u m ks ∷ calls) a e =
           (arith, rest, next))
     ]
 
-pub snapshot_upto : (t s : ℕ) (calls : List Call) → AreAllowed calls → snapshot_of t calls ≡ Some s
+snapshot_upto : (t s : ℕ) (calls : List Call) → AreAllowed calls → snapshot_of t calls ≡ Some s
     → s ≤ last_stamp calls
 snapshot_upto t s [] a e = absurd (none-some s e)
 snapshot_upto t s (Reads u low high ∷ calls) a e = snapshot_upto t s calls a.1 e

@@ -11,18 +11,16 @@ use Rattle.ssi_conflict.proofs.Calls.{live_from, live_to, snapshot_keeps, stamp_
 use Rattle.ssi_conflict.proofs.PairsKept.{concurrent_kept, live_kept}
 
 -- who is open after a call, and had begun before it, was open before it
-pub was_live : (t : ℕ) (c : Call) (calls : List Call) → has_begun t calls ≡ true → is_open t (c ∷ calls) ≡ true
+was_live : (t : ℕ) (c : Call) (calls : List Call) → has_begun t calls ≡ true → is_open t (c ∷ calls) ≡ true
     → is_open t calls ≡ true
 was_live t (Reads u low high) calls b e = e
 was_live t (Begins u s) calls b e = let o = live_from t (Begins u s ∷ calls) e in live_to t calls
     (record { begun = b; uncommitted = o.uncommitted; unaborted = o.unaborted })
-was_live t (Aborts u) calls b e = let o = live_from t (Aborts u ∷ calls) e in live_to t calls
-    (record {
-      begun = b;
-      uncommitted = o.uncommitted;
-      unaborted =
-          (or_parts (u == t) (is_aborted t calls) o.unaborted).1;
-    })
+was_live t (Aborts u) calls b e = let o = live_from t (Aborts u ∷ calls) e in live_to t calls (record {
+  begun = b;
+  uncommitted = o.uncommitted;
+  unaborted = (or_parts (u == t) (is_aborted t calls) o.unaborted).1;
+})
 was_live t (Commits u n ks) calls b e =
     let o = live_from t (Commits u n ks ∷ calls) e in
     live_to t calls (record { begun = b; uncommitted = by_stamp (u == t) o.uncommitted; unaborted = o.unaborted })
@@ -32,7 +30,7 @@ was_live t (Commits u n ks) calls b e =
     by_stamp false f = f
 
 -- a committed transaction that is kept by x after a call was kept by x before it
-pub was_kept_by : (t x : ℕ) (c : Call) (calls : List Call) → AreAllowed (c ∷ calls) → is_committed t calls ≡ true
+was_kept_by : (t x : ℕ) (c : Call) (calls : List Call) → AreAllowed (c ∷ calls) → is_committed t calls ≡ true
     → is_open x (c ∷ calls) ≡ true → precedes t x (c ∷ calls) ≡ false → is_kept t calls ≡ true
 was_kept_by t x c calls a done o e =
     elim (cases_Bool (has_begun x calls)) [

@@ -25,7 +25,7 @@ new_pivot_kept c calls a t p new =
     ]
 
 -- who counted as later than all, or had a stamp at least this one, does so before the call
-pub at_most_before : (n t : ℕ) (c : Call) (calls : List Call) → AreAllowed (c ∷ calls)
+at_most_before : (n t : ℕ) (c : Call) (calls : List Call) → AreAllowed (c ∷ calls)
     → IsAtMost n (stamp_of t (c ∷ calls)) → IsAtMost n (stamp_of t calls)
 at_most_before n t c calls a l =
     elim (cases_Bool (is_committed t calls)) [
@@ -33,7 +33,7 @@ at_most_before n t c calls a l =
       | inr still ↦ subst (IsAtMost n) (sym (none_unless_some (stamp_of t calls) still)) tt
     ]
 
-pub old_ordered : (c : Call) (calls : List Call) → AreAllowed (c ∷ calls)
+old_ordered : (c : Call) (calls : List Call) → AreAllowed (c ∷ calls)
     → (t : ℕ) (p : IsOrderedPivot t (c ∷ calls)) → IsPair p.from t calls → IsPair t p.to calls
     → IsOrderedPivot t calls
 old_ordered c calls a t p into out = record {
@@ -82,7 +82,7 @@ commit_makes_own t n ks calls a x p new =
     ]
 
 -- after a read a pair into a committed transaction is an old one, or one that the read makes
-pub read_into : (t : ℕ) (low high : List ℕ) (calls : List Call) → AreAllowed (Reads t low high ∷ calls) → (a p : ℕ)
+read_into : (t : ℕ) (low high : List ℕ) (calls : List Call) → AreAllowed (Reads t low high ∷ calls) → (a p : ℕ)
     → IsPair a p (Reads t low high ∷ calls) → IsPair a p calls ⊎ (adds (Reads t low high) calls t p ≡ true)
 read_into t low high calls allowed a p pair =
     elim (or_cases ((t == a) && lies_in low high pair.key) (meets a pair.key calls) pair.met) [
@@ -93,7 +93,7 @@ read_into t low high calls allowed a p pair =
     ]
 
 -- a pair out of a committed transaction is an old one
-pub read_out : (t : ℕ) (low high : List ℕ) (calls : List Call) → AreAllowed (Reads t low high ∷ calls) → (p b : ℕ)
+read_out : (t : ℕ) (low high : List ℕ) (calls : List Call) → AreAllowed (Reads t low high ∷ calls) → (p b : ℕ)
     → is_committed p calls ≡ true → IsPair p b (Reads t low high ∷ calls) → IsPair p b calls
 read_out t low high calls allowed p b done pair =
     elim (or_cases ((t == p) && lies_in low high pair.key) (meets p pair.key calls) pair.met) [
@@ -111,8 +111,7 @@ read_makes t low high calls a p pivot new =
         from = pivot.from;
         into = old;
         to = pivot.to;
-        out = read_out t low high calls a
-            p pivot.to pivot.committed pivot.out;
+        out = read_out t low high calls a p pivot.to pivot.committed pivot.out;
       }))
       | inr now ↦ now
     ]

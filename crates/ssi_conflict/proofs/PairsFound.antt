@@ -34,8 +34,7 @@ pair_before_begin t s r u calls a p =
     record {
       key = p.key;
       committed = p.committed;
-      concurrent = rw
-          (not_u, not_r) at p.concurrent;
+      concurrent = rw (not_u, not_r) at p.concurrent;
       met = p.met;
       written = p.written;
       unaborted = p.unaborted;
@@ -89,7 +88,7 @@ pair_before_commit t n ks r u calls a other p =
       unaborted = ap (is_aborted r) (sym (before_keeps u (Commits t n ks) calls a committed)) ∙ p.unaborted;
     }
 
-pub added : (c : Call) (calls : List Call) → AreAllowed (c ∷ calls) → (r u : ℕ) → adds c calls r u ≡ true
+added : (c : Call) (calls : List Call) → AreAllowed (c ∷ calls) → (r u : ℕ) → adds c calls r u ≡ true
     → IsPair r u (c ∷ calls)
 added (Begins t s) calls a r u e = absurd (cc (e))
 added (Aborts t) calls a r u e = absurd (cc (e))
@@ -145,7 +144,7 @@ adds_read t low high calls r u p now =
     (and_from (are_concurrent r u calls) _ p.concurrent
     (list_any_when (lies_in low high) (keys_of u calls) p.key p.written both.1)))
 
-pub adds_commit : (t n : ℕ) (ks : List (List ℕ)) (calls : List Call) (r u : ℕ)
+adds_commit : (t n : ℕ) (ks : List (List ℕ)) (calls : List Call) (r u : ℕ)
     (p : IsPair r u (Commits t n ks ∷ calls)) → (t == u) ≡ true → adds (Commits t n ks) calls r u ≡ true
 adds_commit t n ks calls r u p same =
     and_from (t == u) _ same

@@ -21,7 +21,7 @@ concurrent_kept t x calls c o e =
     (begun_there x calls (live_from x calls o).begun) (and_from (is_open x calls) _ o (not_from_false _ e))))
 
 -- a commit joins its transaction, which was open, with a reader that is kept
-pub commit_pair_kept : (t n : ℕ) (ks : List (List ℕ)) (r u : ℕ) (calls : List Call)
+commit_pair_kept : (t n : ℕ) (ks : List (List ℕ)) (r u : ℕ) (calls : List Call)
     → AreAllowed (Commits t n ks ∷ calls) → (t == u) ≡ true → IsPair r u (Commits t n ks ∷ calls)
     → (is_kept r calls ≡ true) × (is_kept u calls ≡ true)
 commit_pair_kept t n ks r u calls a same p =
@@ -34,12 +34,11 @@ commit_pair_kept t n ks r u calls a same p =
         | inl done ↦ concurrent_kept r u calls done live
             (ap (λ o. is_at_or_below o (snapshot_of u calls)) (sym (stamp_keeps r (Commits t n ks) calls a done))
             ∙ apart.not_before)
-        | inr still ↦ live_kept r calls
-            (live_to r calls (record {
-              begun = met_begun r p.key calls a.1 p.met;
-              uncommitted = still;
-              unaborted = whole;
-            }))
+        | inr still ↦ live_kept r calls (live_to r calls (record {
+          begun = met_begun r p.key calls a.1 p.met;
+          uncommitted = still;
+          unaborted = whole;
+        }))
       ],
       live_kept u calls live,
     )
@@ -54,8 +53,7 @@ new_pair_kept (Reads t low high) calls a r u p new =
           let live : is_open r calls ≡ true = subst (λ x. is_open x calls ≡ true)
           (eqb-true t r (and_parts (t == r) (lies_in low high p.key) now).0) a.0.opened in (
             live_kept r calls live,
-            concurrent_kept u r calls p.committed live
-                (apart_from r u calls p.concurrent).not_after,
+            concurrent_kept u r calls p.committed live (apart_from r u calls p.concurrent).not_after,
           )
       | inr before ↦ absurd (new (pair_before_read t low high r u calls p before))
     ]

@@ -13,7 +13,7 @@ use Rattle.ssi_conflict.proofs.PairsFound.{found_back, found_step}
 use Rattle.ssi_conflict.proofs.Rising.{find_least}
 
 module _ (calls : List Call) (allowed : AreAllowed calls) where
-  pub pivot_to : (t : ℕ) → IsPivot t calls → is_pivot t calls ≡ true
+  pivot_to : (t : ℕ) → IsPivot t calls → is_pivot t calls ≡ true
   pivot_to t p =
       and_from (list_any (λ a. is_pair a t calls) (begun calls)) (list_any (λ b. is_pair t b calls) (begun calls))
       (list_any_when (λ a. is_pair a t calls) (begun calls) p.from
@@ -23,7 +23,7 @@ module _ (calls : List Call) (allowed : AreAllowed calls) where
       (begun_there p.to calls (committed_begun p.to calls allowed p.out.committed))
       (found_step calls allowed t p.to p.out))
 
-  pub pivot_from : (t : ℕ) → is_pivot t calls ≡ true → IsPivot t calls
+  pivot_from : (t : ℕ) → is_pivot t calls ≡ true → IsPivot t calls
   pivot_from t e =
       let both = and_parts (list_any (λ a. is_pair a t calls) (begun calls))
       (list_any (λ b. is_pair t b calls) (begun calls)) e in
@@ -35,15 +35,14 @@ module _ (calls : List Call) (allowed : AreAllowed calls) where
         from = a.0;
         into = into;
         to = b.0;
-        out = found_back calls allowed t b.0
-            b.2;
+        out = found_back calls allowed t b.0 b.2;
       }
 
-  pub pivot_begun : (t : ℕ) → is_committed t calls ≡ true → Contains (begun calls) t
+  pivot_begun : (t : ℕ) → is_committed t calls ≡ true → Contains (begun calls) t
   pivot_begun t c = begun_there t calls (committed_begun t calls allowed c)
 
   -- what is found first in the order of beginning is the smallest
-  pub smallest_found : (Holds : ℕ → List Call → Type 0) (test : ℕ → Bool)
+  smallest_found : (Holds : ℕ → List Call → Type 0) (test : ℕ → Bool)
       → ((t : ℕ) → Holds t calls → (test t ≡ true) × (is_committed t calls ≡ true))
       → ((t : ℕ) → test t ≡ true → Holds t calls) → (o : Option ℕ) → find test (begun calls) ≡ o
       → IsSmallest Holds calls o
@@ -77,7 +76,7 @@ module _ (calls : List Call) (allowed : AreAllowed calls) where
   at_most_to n None e = refl
   at_most_to n (Some a) e = le-leb n a e
 
-  pub ordered_from : (t : ℕ) → is_ordered_pivot t calls ≡ true → IsOrderedPivot t calls
+  ordered_from : (t : ℕ) → is_ordered_pivot t calls ≡ true → IsOrderedPivot t calls
   ordered_from t e =
       let b = list_any-source (λ b. (is_pair t b calls && is_earlier (stamp_of b calls) (stamp_of t calls)) &&
       list_any (λ a. is_pair a t calls && is_no_later (stamp_of b calls) (stamp_of a calls)) (begun calls))
@@ -103,7 +102,7 @@ module _ (calls : List Call) (allowed : AreAllowed calls) where
             (ap (λ o. is_no_later o (stamp_of a.0 calls)) (sym stamps.2) ∙ last.1);
       }
 
-  pub ordered_to : (t : ℕ) → IsOrderedPivot t calls → is_ordered_pivot t calls ≡ true
+  ordered_to : (t : ℕ) → IsOrderedPivot t calls → is_ordered_pivot t calls ≡ true
   ordered_to t p =
       list_any_when (λ b. (is_pair t b calls && is_earlier (stamp_of b calls) (stamp_of t calls)) && list_any
       (λ a. is_pair a t calls && is_no_later (stamp_of b calls) (stamp_of a calls)) (begun calls)) (begun calls) p.to
@@ -128,7 +127,7 @@ ordered_is_pivot calls t p = record
     { committed = ap is_some p.committed; from = p.from; into = p.into; to = p.to; out = p.out }
 
 -- two smallest ones are the same
-pub smallest_is_one : (Holds : ℕ → List Call → Type 0) (calls : List Call) (o p : Option ℕ) → IsSmallest Holds calls o
+smallest_is_one : (Holds : ℕ → List Call → Type 0) (calls : List Call) (o p : Option ℕ) → IsSmallest Holds calls o
     → IsSmallest Holds calls p → o ≡ p
 smallest_is_one Holds calls None None a b = refl
 smallest_is_one Holds calls None (Some q) a b = absurd (a q b.0)

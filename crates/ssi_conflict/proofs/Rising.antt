@@ -10,11 +10,11 @@ pub only_one : {X : Type 0} (y x : X) → Contains (y ∷ []) x → y ≡ x
 only_one y x (zero, l, f) = f
 only_one y x (suc i, l, f) = absurd (omega (arith, l))
 
-pub numbers_rise-tail : (x : ℕ) (xs : List ℕ) → numbers_rise (x ∷ xs) ≡ true → numbers_rise xs ≡ true
+numbers_rise-tail : (x : ℕ) (xs : List ℕ) → numbers_rise (x ∷ xs) ≡ true → numbers_rise xs ≡ true
 numbers_rise-tail x [] r = refl
 numbers_rise-tail x (y ∷ ys) r = (and_parts (nat_lt x y) (numbers_rise (y ∷ ys)) r).1
 
-pub number_below : (x : ℕ) (xs : List ℕ) (y : ℕ) → numbers_rise (x ∷ xs) ≡ true → Contains xs y → x < y
+number_below : (x : ℕ) (xs : List ℕ) (y : ℕ) → numbers_rise (x ∷ xs) ≡ true → Contains xs y → x < y
 number_below x [] y r c = absurd (none_contained y c)
 number_below x (z ∷ xs) y r c =
     let both = and_parts (nat_lt x z) (numbers_rise (z ∷ xs)) r in
@@ -24,7 +24,7 @@ number_below x (z ∷ xs) y r c =
       | inr d ↦ (let rest = number_below z xs y both.1 d in omega (arith, less, rest))
     ]
 
-pub numbers_rise-from_head : (x : ℕ) (xs : List ℕ) → ((y : ℕ) → Contains xs y → x < y) → numbers_rise xs ≡ true
+numbers_rise-from_head : (x : ℕ) (xs : List ℕ) → ((y : ℕ) → Contains xs y → x < y) → numbers_rise xs ≡ true
     → numbers_rise (x ∷ xs) ≡ true
 numbers_rise-from_head x [] h r = refl
 numbers_rise-from_head x (y ∷ ys) h r = and_from (nat_lt x y) (numbers_rise (y ∷ ys))

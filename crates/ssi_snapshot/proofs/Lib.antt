@@ -5,3 +5,4 @@ mod Cutting
 mod Unique
 mod ByKeys
 mod Limiting
+mod Reaching

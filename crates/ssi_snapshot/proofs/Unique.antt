@@ -12,13 +12,13 @@ use Rattle.adya_values.specs.Meaning.Events.{listed}
 use Rattle.adya_values.proofs.Keys.{keys_rise-tail}
 use Rattle.ssi_snapshot.specs.Meaning.Listings.{keys}
 
-skip : (k j : List ℕ) (ws : List Entry) → key_lt k j ≡ true → keys_rise (j ∷ keys ws) ≡ true → keys_rise (k ∷ keys ws) ≡ true
+pub skip : (k j : List ℕ) (ws : List Entry) → key_lt k j ≡ true → keys_rise (j ∷ keys ws) ≡ true → keys_rise (k ∷ keys ws) ≡ true
 skip k j [] lt rise = refl
 skip k j (w ∷ ws) lt rise =
     let r = and_parts (key_lt j w.version.key) (keys_rise (keys (w ∷ ws))) rise in
     and_from (key_lt k w.version.key) (keys_rise (keys (w ∷ ws))) (bytes_lt-trans k j w.version.key lt r.0) r.1
 
-below : (k : List ℕ) (ws : List Entry) → keys_rise (k ∷ keys ws) ≡ true → listed k ws ≡ None
+pub below : (k : List ℕ) (ws : List Entry) → keys_rise (k ∷ keys ws) ≡ true → listed k ws ≡ None
 below k [] rise = refl
 below k (w ∷ ws) rise =
     let r = and_parts (key_lt k w.version.key) (keys_rise (keys (w ∷ ws))) rise in

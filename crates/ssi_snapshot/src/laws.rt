@@ -1,6 +1,6 @@
 //! Laws of lists of writes and of what a scan lists, each proved as the contract of a function that does nothing.
 
-ghost use Rattle.ssi_snapshot.specs.Meaning.Laws.{PutIsFound, PutKeepsOrder, ListIsByKey, ListingIsUnique, LimitTakesFirst};
+ghost use Rattle.ssi_snapshot.specs.Meaning.Laws.{PutIsFound, PutKeepsOrder, ListIsByKey, ListingIsUnique, LimitTakesFirst, LimitListsItsRange};
 
 /// After a write the list has this write of its key, and of every other key what it had.
 pub fn put_is_found()
@@ -26,4 +26,10 @@ pub fn listing_is_unique()
 /// The keys and values that a limited scan shows are the first ones that the whole scan shows.
 pub fn limit_takes_first()
     ensures { LimitTakesFirst }
+{}
+
+/// A limited scan lists all that is seen of the keys as far as it looked: to the last visible key if it found as many as
+/// its limit, and else to the end of its range.
+pub fn limit_lists_its_range()
+    ensures { LimitListsItsRange }
 {}

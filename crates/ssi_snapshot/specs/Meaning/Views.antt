@@ -1,11 +1,11 @@
 -- What is said of a view, and what its transaction sees.
-use Rattle.std.specs.Prelude.{◌≡◌, ℕ, if◌then◌else◌, List, map, Option, None}
-use Rattle.adya_values.specs.Meaning.Keys.{lies_in}
+use Rattle.std.specs.Prelude.{◌≡◌, ℕ, List, map, Option}
 use Rattle.adya_values.specs.Meaning.Histories.{Entry}
 use Rattle.adya_values.specs.Meaning.Events.{listed}
 use Rattle.ssi_versions.specs.Meaning.Changes.{Held, otherwise, entry_in, newest_within}
 use Rattle.ssi_versions.specs.Meaning.Chains.{write_of, chain_of}
 use Rattle.indexmap.specs.IndexMap.{values}
+use Rattle.ssi_snapshot.specs.Meaning.Listings.{within}
 use Rattle.ssi_snapshot.specs.declared.view.View.{View}
 
 -- the transaction
@@ -34,8 +34,9 @@ sees key v held = otherwise (own key v) (entry_in (newest_within v.stamp (chain_
 
 -- the same of the keys of a range
 abbrev pub sees_between : List ℕ → List ℕ → View → List Held → List ℕ → Option Entry
-sees_between lo hi v held key = if lies_in lo hi key then sees key v held else None
+sees_between lo hi v held = within lo hi (λ key. sees key v held)
 
 -- the same transaction, snapshot and writes
 abbrev pub IsAsBefore : View → View → Type 0
-IsAsBefore old new = (txn_of new ≡ txn_of old) × (stamp_of new ≡ stamp_of old) × (count_of new ≡ count_of old) × (written new ≡ written old)
+IsAsBefore old new = (txn_of new ≡ txn_of old) × (stamp_of new ≡ stamp_of old) × (count_of new ≡ count_of old)
+    × (written new ≡ written old)
