@@ -3,11 +3,13 @@
 #![tactic(auto)]
 
 mod answer;
-mod pending;
+mod reading;
 mod record;
-mod scan;
+mod records;
+mod stamps;
 mod table;
 mod tracker;
+mod writes;
 
 pub use answer::Answer;
 pub use tracker::Tracker;

@@ -2,16 +2,15 @@
 
 ghost use Rattle.std.specs.Prelude.{◌≡◌, ◌≢◌, ◌==◌, ◌||◌, ◌&&◌, ◌∷◌, [], ℕ, List, true, false, Some, None, IfOk, OnOk, OnErr, option_map};
 ghost use Rattle.std.specs.List.{list_any};
-ghost use Rattle.ssi_reads.specs.Meaning.Marks.{with_mark, IsSame, IsEmpty};
+ghost use Rattle.ssi_reads.specs.Meaning.Marks.{has_txn, with_mark, IsEmpty, IsSame};
 ghost use Rattle.ssi_conflict.specs.Meaning.Calls.{Call, Begins, Reads, Commits, Aborts, IsAllowed};
 ghost use Rattle.ssi_conflict.specs.Meaning.Pairs.{IsOrderedPivot, IsSmallest};
-ghost use Rattle.ssi_conflict.specs.Machinery.Tables.{row_at, met_if, pivots, Keeps};
 ghost use Rattle.ssi_conflict.specs.Meaning.Kept.{kept_count};
 ghost use Rattle.ssi_conflict.specs.Meaning.Standing.{Holds, Stands, IsReady, pivot_of, carried};
+ghost use Rattle.ssi_conflict.specs.Machinery.Tables.{row_at, met_if, pivots, any_pivots};
 
 use crate::answer::Answer;
-use crate::pending::Pending;
-use crate::scan::Reading;
+use crate::reading::Reading;
 use crate::table::{Table, Writer};
 use adya_values::{Key, Txn};
 use ssi_reads::Marks;
@@ -23,7 +22,8 @@ pub struct Tracker<M> {
     alloc: Global,
     table: Table,
     marks: M,
-    pending: Pending,
+    // who has read the keys that were judged last
+    readers: Vec<Txn>,
 }
 
 fn mark<M: Marks>(marks: &mut M, txn: Txn, lo: Key, hi: Key) -> Result<(), AllocError>
@@ -37,29 +37,50 @@ fn mark<M: Marks>(marks: &mut M, txn: Txn, lo: Key, hi: Key) -> Result<(), Alloc
     }
 }
 
-/// The readers get their pairs to the writer.
-fn meet_all(table: &mut Table, writer: &Writer, stamp: u64, readers: &[Txn])
-    ensures keeps { Keeps table.old table.new }
-    ensures rows { (r : ℕ) → row_at table.new r ≡ option_map (met_if writer.now.txn writer.now.snapshot stamp readers.now r) (row_at table.old r) }
+/// Sets the list to the transactions that have read one of the keys.
+fn find_readers<M: Marks>(readers: &mut Vec<Txn>, marks: &M, keys: &[Key]) -> Result<(), AllocError>
+    ensures { OnOk result ((r : ℕ) → has_txn readers.new.items r ≡ list_any (M.marked marks.now r) keys.now) }
 {
-    for reader in readers {
-        table.meet(writer, stamp, *reader);
+    readers.clear();
+    for key in keys {
+        let found = marks.readers_of(*key)?;
+        readers.extend_from_slice(&found)?;
     }
+    Ok(())
 }
 
-fn any_pivot(table: &Table, writer: &Writer, first_out: Option<u64>, readers: &[Txn]) -> bool
-    ensures { result ≡ list_any (pivots (row_at table.now) writer.now.txn writer.now.snapshot first_out) readers.now }
+/// Returns whether the transaction would be a pivot with one of the readers.
+fn any_pivots_with(table: &Table, txn: Txn, readers: &[Txn]) -> bool
+    ensures { result ≡ any_pivots (row_at table.now) txn readers.now }
 {
+    let Some(kept) = table.get(txn) else {
+        return false;
+    };
+    let writer = Writer {
+        txn,
+        snapshot: kept.snapshot,
+    };
+    let first_out = kept.first_out;
     for reader in readers {
-        if table.pivots(writer, first_out, *reader) {
+        if table.pivots(&writer, first_out, *reader) {
             return true;
         }
     }
     false
 }
 
+/// The readers get their pairs to the writer.
+fn meet_all(table: &mut Table, writer: &Writer, stamp: u64, readers: &[Txn])
+    ensures rows { (r : ℕ) → row_at table.new r ≡ option_map (met_if writer.now.txn writer.now.snapshot stamp readers.now r) (row_at table.old r) }
+    ensures rest { table.new ≡ record table.old { records = table.new.records } }
+{
+    for reader in readers {
+        table.meet(writer, stamp, *reader);
+    }
+}
+
 impl<M: Marks> Tracker<M> {
-    /// A tracker of no transactions, over marks that are empty.
+    /// Returns a tracker of no transactions, over marks that are empty. It takes no memory.
     pub fn new(alloc: Global, marks: M) -> Tracker<M>
         ensures { IsEmpty (M.marked marks) → Stands M.marked result [] }
     {
@@ -67,7 +88,7 @@ impl<M: Marks> Tracker<M> {
             alloc,
             table: Table::new(alloc),
             marks,
-            pending: Pending::new(alloc),
+            readers: Vec::new(alloc),
         }
     }
 
@@ -92,34 +113,26 @@ impl<M: Marks> Tracker<M> {
             low: lo,
             high: hi,
         };
-        if let Some(pivot) = self.table.smallest_pivot(&reading) {
+        let met = self.table.met(&reading);
+        if let Some(pivot) = met.pivot {
             return Ok(Answer::Unsafe { pivot });
         }
-        let first = self.table.least_met(&reading);
         mark(&mut self.marks, txn, lo, hi)?;
-        self.table.add_out(txn, first);
+        self.table.add_out(txn, met.first);
         Ok(Answer::Safe)
     }
 
-    /// What a commit with these written keys would give. After `Safe` the tracker is ready for it.
+    /// Returns what a commit with these written keys would give. After `Safe` the tracker is ready for it.
     pub fn judge(&mut self, txn: Txn, keys: &[Key]) -> Result<Answer, AllocError>
         ensures stands { (calls : List Call) → Stands M.marked self.old calls → Stands M.marked self.new calls }
         ensures answer { (calls : List Call) (n : ℕ) → Stands M.marked self.old calls → IsAllowed (Commits txn n keys.now) calls → IfOk result (λ a. IsSmallest IsOrderedPivot (Commits txn n keys.now ∷ calls) (pivot_of a)) }
         ensures ready { IfOk result (λ a. a ≡ Answer.Safe → IsReady M.marked self.new txn keys.now) }
     {
-        self.table.make_room()?;
-        self.pending.fill(&self.marks, keys)?;
-        let Some(kept) = self.table.get(txn) else {
-            return Ok(Answer::Safe);
-        };
-        let writer = Writer {
-            txn,
-            snapshot: kept.snapshot,
-        };
-        let first_out = kept.first_out;
-        if any_pivot(&self.table, &writer, first_out, &self.pending.readers) {
+        find_readers(&mut self.readers, &self.marks, keys)?;
+        if any_pivots_with(&self.table, txn, &self.readers) {
             return Ok(Answer::Unsafe { pivot: txn });
         }
+        self.table.prepare(txn, keys)?;
         Ok(Answer::Safe)
     }
 
@@ -134,8 +147,8 @@ impl<M: Marks> Tracker<M> {
             txn,
             snapshot: kept.snapshot,
         };
-        meet_all(&mut self.table, &writer, stamp, &self.pending.readers);
-        self.table.close(txn, stamp, &mut self.pending.keys);
+        meet_all(&mut self.table, &writer, stamp, &self.readers);
+        self.table.close(txn, stamp);
         self.retire();
     }
 
@@ -148,7 +161,7 @@ impl<M: Marks> Tracker<M> {
         self.retire();
     }
 
-    /// How many transactions are kept: those that are open or committed after the snapshot of an open one.
+    /// Returns how many transactions are kept: those that are open or committed after the snapshot of an open one.
     pub fn kept(&self) -> usize
         ensures { (calls : List Call) → Stands M.marked self.now calls → result ≡ kept_count calls }
     {
