@@ -13,7 +13,7 @@ use Rattle.lemmas.proofs.Booleans.{same_test}
 use Rattle.ssi_conflict.specs.Meaning.Calls.{Call, Begins, Reads, Commits, Aborts, snapshot_of, has_begun, begun, AreAllowed}
 use Rattle.ssi_conflict.specs.Meaning.Kept.{is_kept}
 use Rattle.ssi_conflict.specs.Machinery.Rows.{Row, StandsFor}
-use Rattle.ssi_conflict.proofs.RowChanges.{is_eq-nat_cmp}
+use Rattle.ssi_conflict.proofs.RecordSlots.{is_eq-nat_cmp}
 use Rattle.ssi_conflict.proofs.AfterBegin.{unbegun}
 use Rattle.lemmas.proofs.Options.{some_value}
 

@@ -7,7 +7,7 @@ use Rattle.std.proofs.lemmas.Bool.{eq-eqb, eqb-true, cases_eq, cases_Bool, cond-
 use Rattle.std.proofs.lemmas.Cmp.{eq_by_cmp_equiv}
 use Rattle.std.proofs.lemmas.Map.Lookups.{exact_bytes}
 use Rattle.std.proofs.lemmas.Map.Views.{tells_apart}
-use Rattle.ssi_conflict.proofs.RowChanges.{is_eq-nat_cmp}
+use Rattle.ssi_conflict.proofs.RecordSlots.{is_eq-nat_cmp}
 use Rattle.lemmas.proofs.Members.{Contains-cons, none_contained}
 use Rattle.lemmas.proofs.Tests.{list_any-source, list_any_when}
 use Rattle.ssi_conflict.specs.Machinery.Index.{IsIndexed, Wrote, is_one_of, has_key}

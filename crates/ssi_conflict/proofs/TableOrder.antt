@@ -4,7 +4,7 @@ use Rattle.std.proofs.lemmas.Bool.{ltb-true, lt-ltb, eq-eqb, ne_eqb, cases_eq, c
 use Rattle.std.specs.Ordering.{nat_cmp, is_eq, is_gt}
 use Rattle.std.proofs.lemmas.Bool.Decides.{nat_tests}
 use Rattle.ssi_conflict.specs.Machinery.Rows.{Row, closed, with_sooner}
-use Rattle.ssi_conflict.proofs.RowChanges.{is_eq-nat_cmp}
+use Rattle.ssi_conflict.proofs.RecordSlots.{is_eq-nat_cmp}
 use Rattle.ssi_conflict.proofs.KeyIndex.{indexed_same, indexed_closed}
 use Rattle.lemmas.proofs.Members.{Contains-cases, Contains-head, Contains-cons, none_contained}
 use Rattle.lemmas.proofs.Options.{none_unless_some}
