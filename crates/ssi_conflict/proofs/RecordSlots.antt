@@ -29,7 +29,6 @@ module _ (f : ℕ → Option ℕ) (held held' : ℕ → Option Record) (apart : 
   elsewhere i same None away = refl
   elsewhere i same (Some j) away = same j (away j refl)
 
-
   -- the record of t changes in its place
   module _ (t i : ℕ) (at : f t ≡ Some i) (same : (j : ℕ) → j ≢ i → held' j ≡ held j) where
     pub others_stay : (x : ℕ) → x ≢ t → at_slot (f x) held' ≡ at_slot (f x) held

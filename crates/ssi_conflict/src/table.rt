@@ -27,11 +27,11 @@ pub(crate) struct Table {
     open: BTreeSet<Txn>,
     // the committed ones, by rising stamp
     closed: VecDeque<Txn>,
-    // what the committed ones wrote, and what the one that was judged last will write
+    // the writes of the committed ones, and those of the commit that was judged last
     writes: Writes,
     // the greatest stamp so far
     last: u64,
-    // the keys that the one that was judged last will write
+    // the keys of the commit that was judged last
     judged: Vec<Key>,
 }
 
@@ -114,7 +114,8 @@ impl Table {
         }
     }
 
-    /// Makes all that a commit of the transaction with these keys takes memory for.
+    /// Makes all that a commit of the transaction with these keys takes memory for: room in the list, and its writes.
+    /// Those of the commit that was judged before go.
     pub(crate) fn prepare(&mut self, txn: Txn, keys: &[Key]) -> Result<(), AllocError>
         ensures rows { (x : ℕ) → row_at self.new x ≡ row_at self.old x }
         ensures tidy { IsTidy self.old → IsTidy self.new }

@@ -16,16 +16,26 @@ use adya_values::{Key, Txn};
 use ssi_reads::Marks;
 use std::alloc::{AllocError, Global};
 
-/// Keeps the conflicts of concurrent transactions.
+/// The pairs of concurrent transactions of which one read what the other wrote, and the question that they are kept for:
+/// whether a read or a commit would leave a pivot of the commit-order rule (Cahill, Roehm and Fekete 2008, section 3;
+/// Ports and Grittner 2012).
+///
+/// The contracts speak of the list of all calls so far, the newest first. `Stands` says that the tracker stands for such
+/// a list, and each call takes a tracker that stands for the calls to one that stands for them and itself. What a caller
+/// has to keep is `IsAllowed`; nothing is said of a tracker after a call that was not allowed.
+///
+/// Kept are a record and the marks of each transaction that is open, or that committed after the snapshot of an open
+/// one. All others are dropped at the next commit or abort.
 #[derive(Drop)]
 pub struct Tracker<M> {
     alloc: Global,
     table: Table,
     marks: M,
-    // who has read the keys that were judged last
+    // the transactions that have read the keys that were judged last
     readers: Vec<Txn>,
 }
 
+/// Adds a mark over the keys from `lo` to `hi`.
 fn mark<M: Marks>(marks: &mut M, txn: Txn, lo: Key, hi: Key) -> Result<(), AllocError>
     ensures marks { OnOk result (IsSame (M.marked marks.new) (with_mark txn lo hi (M.marked marks.old))) }
     ensures refused { OnErr result (IsSame (M.marked marks.new) (M.marked marks.old)) }
@@ -80,7 +90,8 @@ fn meet_all(table: &mut Table, writer: &Writer, stamp: u64, readers: &[Txn])
 }
 
 impl<M: Marks> Tracker<M> {
-    /// Returns a tracker of no transactions, over marks that are empty. It takes no memory.
+    /// Returns a tracker for no calls, and takes no memory. The marks have to be empty. The allocator is kept for all
+    /// later calls.
     pub fn new(alloc: Global, marks: M) -> Tracker<M>
         ensures { IsEmpty (M.marked marks) → Stands M.marked result [] }
     {
@@ -92,7 +103,8 @@ impl<M: Marks> Tracker<M> {
         }
     }
 
-    /// Begins a transaction.
+    /// Begins a transaction, whose snapshot is the greatest stamp so far. Its number is above all earlier ones.
+    /// `AllocError` if out of memory: all is as before then.
     pub fn on_begin(&mut self, txn: Txn, snapshot: u64) -> Result<(), AllocError>
         ensures begun { (calls : List Call) → Stands M.marked self.old calls → IsAllowed (Begins txn snapshot) calls → OnOk result (Stands M.marked self.new (Begins txn snapshot ∷ calls)) }
         ensures refused { (calls : List Call) → Stands M.marked self.old calls → IsAllowed (Begins txn snapshot) calls → OnErr result (Stands M.marked self.new calls) }
@@ -100,7 +112,11 @@ impl<M: Marks> Tracker<M> {
         self.table.open(self.alloc, txn, snapshot)
     }
 
-    /// Records a read of the keys from `lo` to `hi`, unless a pivot would stand.
+    /// Records that an open transaction reads the keys from `lo` to `hi`, both included. Returns `Unsafe` with the
+    /// smallest pivot that would stand, and records nothing then. `AllocError` if out of memory: all is as before then.
+    ///
+    /// It walks the writes of kept transactions: of a single key only those that came after the snapshot, of a range
+    /// all. Each takes logarithmic time.
     pub fn on_read(&mut self, txn: Txn, lo: Key, hi: Key) -> Result<Answer, AllocError>
         ensures stands { (calls : List Call) → Stands M.marked self.old calls → IsAllowed (Reads txn lo hi) calls → Stands M.marked self.new (carried (Reads txn lo hi) calls result) }
         ensures answer { (calls : List Call) → Stands M.marked self.old calls → IsAllowed (Reads txn lo hi) calls → IfOk result (λ a. IsSmallest IsOrderedPivot (Reads txn lo hi ∷ calls) (pivot_of a)) }
@@ -122,7 +138,11 @@ impl<M: Marks> Tracker<M> {
         Ok(Answer::Safe)
     }
 
-    /// Returns what a commit with these written keys would give. After `Safe` the tracker is ready for it.
+    /// Returns whether an open transaction may commit with these written keys, which are distinct: `Unsafe` with its own
+    /// number if it would be a pivot. No other transaction becomes one by a commit. `AllocError` if out of memory.
+    ///
+    /// After `Safe` the tracker is ready for that commit, and all that it takes memory for is there. If the commit does
+    /// not follow, this memory is kept until the next call of `judge`, which takes it over.
     pub fn judge(&mut self, txn: Txn, keys: &[Key]) -> Result<Answer, AllocError>
         ensures stands { (calls : List Call) → Stands M.marked self.old calls → Stands M.marked self.new calls }
         ensures answer { (calls : List Call) (n : ℕ) → Stands M.marked self.old calls → IsAllowed (Commits txn n keys.now) calls → IfOk result (λ a. IsSmallest IsOrderedPivot (Commits txn n keys.now ∷ calls) (pivot_of a)) }
@@ -136,7 +156,9 @@ impl<M: Marks> Tracker<M> {
         Ok(Answer::Safe)
     }
 
-    /// Commits a transaction with the keys that were judged last, and were safe, with no call between.
+    /// Commits an open transaction with the next stamp and the keys for which the tracker is ready: `judge` was the last
+    /// call, with the same keys, and returned `Safe`. Adds the pairs with those who have read one of the keys, and takes
+    /// no memory.
     pub fn on_commit(&mut self, txn: Txn, stamp: u64, keys: &[Key])
         ensures { (calls : List Call) → Stands M.marked self.old calls → IsAllowed (Commits txn stamp keys.now) calls → IsReady M.marked self.old txn keys.now → Stands M.marked self.new (Commits txn stamp keys.now ∷ calls) }
     {
@@ -152,7 +174,7 @@ impl<M: Marks> Tracker<M> {
         self.retire();
     }
 
-    /// Aborts a transaction. The pairs that it has stay.
+    /// Aborts an open transaction, and takes no memory. Its pairs stay.
     pub fn on_abort(&mut self, txn: Txn)
         ensures { (calls : List Call) → Stands M.marked self.old calls → IsAllowed (Aborts txn) calls → Stands M.marked self.new (Aborts txn ∷ calls) }
     {
@@ -161,14 +183,14 @@ impl<M: Marks> Tracker<M> {
         self.retire();
     }
 
-    /// Returns how many transactions are kept: those that are open or committed after the snapshot of an open one.
+    /// Returns how many transactions are kept: those that are open, or that committed after the snapshot of an open one.
     pub fn kept(&self) -> usize
         ensures { (calls : List Call) → Stands M.marked self.now calls → result ≡ kept_count calls }
     {
         self.table.len()
     }
 
-    /// Drops the transactions that are not kept. No later answer changes.
+    /// Drops the transactions that are no longer kept. No later answer changes by that.
     fn retire(&mut self)
         ensures { (calls : List Call) → Holds M.marked self.old calls → Stands M.marked self.new calls }
     {
