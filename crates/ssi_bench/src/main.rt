@@ -4,7 +4,7 @@
 
 mod chain_work;
 mod mark_work;
-//mod tracker_work;
+mod tracker_work;
 mod work;
 
 use crate::work::Work;
@@ -51,6 +51,7 @@ fn round(alloc: Global, part: &str, work: &Work) -> Option<u64> {
     match part {
         "chains" => chain_work::run(&mut KeyChains::new(alloc), work),
         "marks" => mark_work::run(&mut IndexMarks::new(alloc), work),
+        "tracker" => tracker_work::run(alloc, IndexMarks::new(alloc), work),
         _ => None,
     }
 }
