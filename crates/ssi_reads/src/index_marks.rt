@@ -2,7 +2,8 @@
 
 ghost use Rattle.std.specs.Prelude.{◌||◌};
 ghost use Rattle.ssi_reads.specs.Meaning.Marks.{IsEmpty};
-ghost use Rattle.ssi_reads.specs.Machinery.Indexed.{key_marked, ranged};
+ghost use Rattle.ssi_reads.specs.Machinery.Indexed.{key_marked};
+ghost use Rattle.ssi_reads.specs.Machinery.Ranged.{ranged};
 
 use crate::key_marks::KeyMarks;
 use crate::marks::Marks;
@@ -35,7 +36,7 @@ impl IndexMarks {
 }
 
 impl Marks for IndexMarks {
-    ghost marked = { λ m u k. key_marked m.keys u k || ranged m.ranges.spans u k };
+    ghost marked = { λ m u k. key_marked m.keys u k || ranged m.ranges u k };
 
     fn mark_key(&mut self, txn: Txn, key: Key) -> Result<(), AllocError> {
         self.keys.mark(txn, key)
