@@ -1,4 +1,4 @@
-//! Marks of keys in an index, and marks of ranges by transaction.
+//! Marks of keys and of ranges, in indexes.
 
 ghost use Rattle.std.specs.Prelude.{◌||◌};
 ghost use Rattle.ssi_reads.specs.Meaning.Marks.{IsEmpty};
@@ -13,8 +13,11 @@ use adya_values::{Key, Txn};
 use std::alloc::{AllocError, Global};
 use std::collections::BTreeSet;
 
-/// Marks of keys by key, and marks of ranges by transaction. A mark takes logarithmic time, and `forget` takes it for
-/// each key that the transaction has marked; `readers_of` walks the readers of the key, and all marked ranges.
+/// Marks of keys by key, and marks of ranges by the longest prefix that the two ends of a range share. A mark takes
+/// logarithmic time, and `forget` takes it for each key and each range that the transaction has marked.
+///
+/// `readers_of` walks the readers of the key, and the ranges that stand under a prefix of the key. Many ranges may stand
+/// under a short prefix: each of them is looked at, even if it doesn't cover the key.
 #[derive(Drop)]
 pub struct IndexMarks {
     alloc: Global,

@@ -14,8 +14,11 @@ use adya_values::{Key, Txn};
 use std::alloc::{AllocError, Global};
 use std::collections::{BTreeMap, BTreeSet};
 
-/// The ranges of each transaction, and the marks of the ranges under each prefix. A range is marked if both maps say so:
-/// then no refusal between the two leaves half a mark, and to drop the ranges of a transaction unmarks them.
+/// The ranges of each transaction, and the marks of the ranges under each prefix. A key of a range begins with what both
+/// ends begin with, so the ranges over a key stand under the key's own prefixes.
+///
+/// A range is marked if both maps say so: then no refusal between the two leaves half a mark, and to drop the ranges of a
+/// transaction unmarks them.
 #[derive(Drop)]
 pub(crate) struct RangeMarks {
     alloc: Global,
