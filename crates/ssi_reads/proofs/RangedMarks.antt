@@ -183,6 +183,13 @@ mark_taken t u true rest found found' whole c e inv =
     moved false true c = refl
     moved false false c = refl
 
+-- the same if it doesn't count
+pub mark_passed : (a counts rest found whole : Bool) → counts ≡ false → (((a && counts) || rest) || found) ≡ whole
+    → (rest || found) ≡ whole
+mark_passed a true rest found whole c inv = absurd (true≢false c)
+mark_passed true false rest found whole c inv = inv
+mark_passed false false rest found whole c inv = inv
+
 module _ (m : RangeMarks) (k : List ℕ) (u : ℕ) where
   abbrev is_met : Bool
   is_met = met m k u (suc (length k))
