@@ -1,6 +1,5 @@
 -- A key between two others begins with what both begin with.
-use Rattle.std.proofs.Common.{◌≡◌, ℕ, zero, suc, ◌<◌, ◌≤◌, ◌==◌, Bool, true, false, true≢false, cond, ◌&&◌, List, [], ◌∷◌, length, take, drop, get_or, Option, refl, sym, ◌∙◌, ap, subst, arith, inl, inr}
-use Rattle.std.proofs.Math.Seq.{drop-cons}
+use Rattle.std.proofs.Common.{◌≡◌, ℕ, zero, suc, ◌<◌, ◌≤◌, ◌==◌, Bool, true, false, true≢false, cond, ◌&&◌, List, [], ◌∷◌, length, take, Option, refl, sym, ◌∙◌, ap, subst, arith, inl, inr}
 use Rattle.std.specs.List.{Contains}
 use Rattle.std.specs.Ordering.{nat_cmp, is_eq, is_le, ordering_then}
 use Rattle.std.specs.Cmp.Lexicographic.{slice_cmp}
@@ -14,25 +13,6 @@ use Rattle.lemmas.proofs.Members.{Contains-head, Contains-cons}
 use Rattle.lemmas.proofs.Tests.{list_any_when}
 use Rattle.ssi_reads.proofs.Compared.{prefix_itself}
 use Rattle.ssi_reads.specs.Machinery.Prefixes.{prefix_of, prefixes, shared, prefix_cmp, begins}
-
--- ---- the loop over both ends
-
-pub shared_more : (low high : List ℕ) (i : ℕ) → i < length low → i < length high
-    → (get_or low i 0 == get_or high i 0) ≡ true
-    → length (shared (drop i low) (drop i high)) ≡ suc (length (shared (drop (suc i) low) (drop (suc i) high)))
-shared_more low high i l m e =
-    ap (λ xs. length (shared xs (drop i high))) (drop-cons low i 0 l) ∙
-    (ap (λ ys. length (shared (get_or low i 0 ∷ drop (suc i) low) ys)) (drop-cons high i 0 m) ∙
-    ap length (cond-true _ (get_or low i 0 ∷ shared (drop (suc i) low) (drop (suc i) high)) [] e))
-
-pub shared_stops : (low high : List ℕ) (i : ℕ) → i < length low → i < length high
-    → (get_or low i 0 == get_or high i 0) ≡ false → length (shared (drop i low) (drop i high)) ≡ 0
-shared_stops low high i l m e =
-    ap (λ xs. length (shared xs (drop i high))) (drop-cons low i 0 l) ∙
-    (ap (λ ys. length (shared (get_or low i 0 ∷ drop (suc i) low) ys)) (drop-cons high i 0 m) ∙
-    ap length (cond-false _ (get_or low i 0 ∷ shared (drop (suc i) low) (drop (suc i) high)) [] e))
-
--- ---- the keys of a range
 
 abbrev Begins : List ℕ → List ℕ → List ℕ → Type 0
 Begins low high k = (length (shared low high) ≤ length k) × (take (length (shared low high)) k ≡ take (length (shared low high)) low)

@@ -149,9 +149,6 @@ module _ (m n : RangeMarks) (u : ℕ) (k : List ℕ) where
       (λ e. and_false (covers p k) _ (same p.prefix (mark_of p u) ∙ subst (λ x. filed m.marks p.prefix (mark_of p x) ≡ false) e absent))
       (λ q. ap (λ b. covers q k && b) (same q.prefix (mark_of q u)))
 
-  pub range_same : HasSamePlaces m.places n.places → HasSameMarks m.marks n.marks → ranged n u k ≡ ranged m u k
-  range_same places same = places u now ∙ alike (λ q. ap (λ b. covers q k && b) (same q.prefix (mark_of q u)))
-
   pub range_forgotten : (t : ℕ) → get nat_cmp n.places u ≡ cond (is_eq (nat_cmp t u)) None (get nat_cmp m.places u)
       → HasOthers t m.marks n.marks → ranged n u k ≡ (not (u == t) && ranged m u k)
   range_forgotten t gone others =
@@ -182,6 +179,13 @@ mark_taken t u true rest found found' whole c e inv =
     moved true false c = refl
     moved false true c = refl
     moved false false c = refl
+
+-- the same if it doesn't count
+pub mark_passed : (a counts rest found whole : Bool) → counts ≡ false → (((a && counts) || rest) || found) ≡ whole
+    → (rest || found) ≡ whole
+mark_passed a true rest found whole c inv = absurd (true≢false c)
+mark_passed true false rest found whole c inv = inv
+mark_passed false false rest found whole c inv = inv
 
 module _ (m : RangeMarks) (k : List ℕ) (u : ℕ) where
   abbrev is_met : Bool

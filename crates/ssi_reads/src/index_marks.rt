@@ -16,8 +16,8 @@ use std::collections::BTreeSet;
 /// Marks of keys by key, and marks of ranges by the longest prefix that the two ends of a range share. A mark takes
 /// logarithmic time, and `forget` takes it for each key and each range that the transaction has marked.
 ///
-/// `readers_of` walks the readers of the key, and the ranges that stand under a prefix of the key. Many ranges may stand
-/// under a short prefix: each of them is looked at, even if it doesn't cover the key.
+/// `readers_of` walks the readers of the key. It also walks the ranges under each prefix of the key that don't start
+/// above the key. Many ranges may stand under a short prefix: each of them is looked at, even if it ends below the key.
 #[derive(Drop)]
 pub struct IndexMarks {
     alloc: Global,

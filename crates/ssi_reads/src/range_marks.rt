@@ -47,7 +47,8 @@ impl RangeMarks {
         add_mark(self.alloc, &mut self.marks, &place, txn)
     }
 
-    /// Adds the transactions with a range over the key. It looks at each range that stands under a prefix of the key.
+    /// Adds the transactions with a range over the key. It looks at each range under a prefix of the key
+    /// that doesn't start above the key.
     pub(crate) fn add_readers(&self, found: &mut BTreeSet<Txn>, key: Key) -> Result<(), AllocError>
         ensures { OnOk result ((u : ℕ) → contains nat_cmp found.new u ≡ (ranged self.now u key || contains nat_cmp found.old u)) }
     {
@@ -147,7 +148,7 @@ fn counts(
     }
 }
 
-/// Adds the transactions of the marks that count.
+/// Adds the transactions of the marks that count. No mark counts after one whose range starts above the key.
 fn add_counted(
     found: &mut BTreeSet<Txn>,
     places: &BTreeMap<Txn, BTreeSet<Place>>,
@@ -158,6 +159,9 @@ fn add_counted(
     ensures { OnOk result ((u : ℕ) → contains nat_cmp found.new u ≡ (any_counts places.now prefix.now key u marks.now.keys || contains nat_cmp found.old u)) }
 {
     for mark in marks {
+        if key < mark.span.low {
+            return Ok(());
+        }
         if counts(places, mark, prefix, key) {
             found.insert(mark.txn)?;
         }

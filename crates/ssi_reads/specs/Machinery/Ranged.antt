@@ -43,25 +43,32 @@ ranged m u k = any_place m.places u (λ p. covers p k && filed m.marks p.prefix 
 
 -- ---- what changes
 
+-- the transaction has one more place
 abbrev pub HasMorePlaces : ℕ → Place → BTreeMap ℕ (BTreeSet Place) → BTreeMap ℕ (BTreeSet Place) → Type 0
-HasMorePlaces t p m n = (u : ℕ) (f : Place → Bool) → any_place n u f ≡ ((is_eq (nat_cmp t u) && f p) || any_place m u f)
+HasMorePlaces t p m n =
+    (u : ℕ) (f : Place → Bool) → any_place n u f ≡ ((is_eq (nat_cmp t u) && f p) || any_place m u f)
 
 abbrev pub HasSamePlaces : BTreeMap ℕ (BTreeSet Place) → BTreeMap ℕ (BTreeSet Place) → Type 0
 HasSamePlaces m n = (u : ℕ) (f : Place → Bool) → any_place n u f ≡ any_place m u f
 
-abbrev pub HasMoreMarks : Option (List ℕ) → Mark → BTreeMap (Option (List ℕ)) (BTreeSet Mark) → BTreeMap (Option (List ℕ)) (BTreeSet Mark) → Type 0
-HasMoreMarks r y m n = (q : Option (List ℕ)) (x : Mark) → filed n q x ≡ ((is_eq (prefix_cmp r q) && is_eq (mark_cmp y x)) || filed m q x)
+-- one more mark stands under the prefix
+abbrev pub HasMoreMarks : Option (List ℕ) → Mark → BTreeMap (Option (List ℕ)) (BTreeSet Mark)
+    → BTreeMap (Option (List ℕ)) (BTreeSet Mark) → Type 0
+HasMoreMarks r y m n =
+    (q : Option (List ℕ)) (x : Mark) → filed n q x ≡ ((is_eq (prefix_cmp r q) && is_eq (mark_cmp y x)) || filed m q x)
 
-abbrev pub HasSameMarks : BTreeMap (Option (List ℕ)) (BTreeSet Mark) → BTreeMap (Option (List ℕ)) (BTreeSet Mark) → Type 0
+abbrev pub HasSameMarks : BTreeMap (Option (List ℕ)) (BTreeSet Mark) → BTreeMap (Option (List ℕ)) (BTreeSet Mark)
+    → Type 0
 HasSameMarks m n = (q : Option (List ℕ)) (x : Mark) → filed n q x ≡ filed m q x
 
 -- the marks of other transactions stay
-abbrev pub HasOthers : ℕ → BTreeMap (Option (List ℕ)) (BTreeSet Mark) → BTreeMap (Option (List ℕ)) (BTreeSet Mark) → Type 0
+abbrev pub HasOthers : ℕ → BTreeMap (Option (List ℕ)) (BTreeSet Mark) → BTreeMap (Option (List ℕ)) (BTreeSet Mark)
+    → Type 0
 HasOthers t m n = (q : Option (List ℕ)) (x : Mark) → x.txn ≢ t → filed n q x ≡ filed m q x
 
 -- ---- the walk over the prefixes of a key
 
--- the mark is over the key, and its transaction has the place
+-- the mark is over the key, and its transaction has the range under this prefix
 abbrev pub counts : BTreeMap ℕ (BTreeSet Place) → Option (List ℕ) → List ℕ → Mark → Bool
 counts m q k x = lies_in x.span.low x.span.high k && place_in (get nat_cmp m x.txn) (record { prefix = q; span = x.span })
 
@@ -69,7 +76,8 @@ counts m q k x = lies_in x.span.low x.span.high k && place_in (get nat_cmp m x.t
 abbrev pub any_counts : BTreeMap ℕ (BTreeSet Place) → Option (List ℕ) → List ℕ → ℕ → List Mark → Bool
 any_counts m q k u xs = list_any (λ x. is_eq (nat_cmp u x.txn) && counts m q k x) xs
 
-abbrev pub any_counts_in : BTreeMap ℕ (BTreeSet Place) → Option (List ℕ) → List ℕ → ℕ → Option (BTreeSet Mark) → Bool
+abbrev pub any_counts_in : BTreeMap ℕ (BTreeSet Place) → Option (List ℕ) → List ℕ → ℕ → Option (BTreeSet Mark)
+    → Bool
 any_counts_in m q k u None = false
 any_counts_in m q k u (Some s) = any_counts m q k u s.keys
 
