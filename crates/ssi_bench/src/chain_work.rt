@@ -3,15 +3,15 @@
 ghost use Rattle.std.specs.Prelude.{◌≡◌, [], suc};
 ghost use Rattle.ssi_versions.specs.Meaning.Chains.{IsAbove};
 
-use crate::work::{Work, key_of, txn_of};
+use crate::work::{Done, Work, key_of, txn_of};
 use adya_values::{Content, Mod, Version};
 use ssi_versions::Chains;
 
 const READS: u64 = 4;
 
-/// Installs a version by each transaction, reads before it, and collects after each tenth of them. Returns how many
+/// Installs a version by each transaction, reads before it, and collects after each tenth of them. The sum is how many
 /// versions were seen and are held at the end.
-pub(crate) fn run<C: Chains>(chains: &mut C, work: &Work) -> Option<u64>
+pub(crate) fn run<C: Chains>(chains: &mut C, work: &Work) -> Option<Done>
     requires { C.held chains.old ≡ [] }
 {
     let tenth = (work.transactions as u64 / 10).max(1);
@@ -23,7 +23,10 @@ pub(crate) fn run<C: Chains>(chains: &mut C, work: &Work) -> Option<u64>
             collect(chains, work, stamp);
         }
     }
-    Some(seen.wrapping_add(chains.held()))
+    Some(Done {
+        sum: seen.wrapping_add(chains.held()),
+        met: 0,
+    })
 }
 
 /// Reads some keys at the snapshot before the stamp. Returns how many of them have a version.

@@ -1,5 +1,6 @@
 //! Work for measuring the layers of the store by themselves: `ssi_bench chains|marks|tracker TRANSACTIONS KEYS
-//! ROUNDS [open]`. It prints one line with a sum over what the calls returned. `bench/layers` runs it and measures.
+//! ROUNDS [open]`. It prints a sum over what the calls returned, and how many readers of written keys were met in
+//! all rounds. `bench/layers` runs it and measures.
 #![tactic(auto)]
 
 mod chain_work;
@@ -7,7 +8,7 @@ mod mark_work;
 mod tracker_work;
 mod work;
 
-use crate::work::Work;
+use crate::work::{Done, Work};
 use ssi_reads::IndexMarks;
 use ssi_versions::KeyChains;
 use std::alloc::Global;
@@ -16,17 +17,17 @@ use std::io::Write;
 use std::process::ExitCode;
 
 fn main(rt: HostRuntime) -> ExitCode {
-    let Some(sum) = run(&rt) else {
+    let Some(done) = run(&rt) else {
         return ExitCode::FAILURE;
     };
-    match writeln!(rt.stdout(), "{sum}") {
+    match writeln!(rt.stdout(), "{} {}", done.sum, done.met) {
         Ok(()) => ExitCode::SUCCESS,
         Err(_) => ExitCode::FAILURE,
     }
 }
 
-/// Returns the sum over the rounds that the arguments ask for; nothing if they ask for none or memory runs out.
-fn run(rt: &HostRuntime) -> Option<u64> {
+/// Returns what the rounds that the arguments ask for have done; nothing if they ask for none or memory runs out.
+fn run(rt: &HostRuntime) -> Option<Done> {
     let alloc = rt.alloc();
     let mut arguments = env::args(rt).ok()?;
     let _program = arguments.next();
@@ -39,15 +40,17 @@ fn run(rt: &HostRuntime) -> Option<u64> {
         keys,
         is_open: arguments.next().is_some(),
     };
-    let mut sum = 0u64;
+    let (mut sum, mut met) = (0u64, 0u64);
     for _ in 0..rounds {
-        sum = sum.wrapping_add(round(alloc, part.as_str(), &work)?);
+        let done = round(alloc, part.as_str(), &work)?;
+        sum = sum.wrapping_add(done.sum);
+        met = met.wrapping_add(done.met);
     }
-    Some(sum)
+    Some(Done { sum, met })
 }
 
 /// Does the work once, over an empty part.
-fn round(alloc: Global, part: &str, work: &Work) -> Option<u64> {
+fn round(alloc: Global, part: &str, work: &Work) -> Option<Done> {
     match part {
         "chains" => chain_work::run(&mut KeyChains::new(alloc), work),
         "marks" => mark_work::run(&mut IndexMarks::new(alloc), work),

@@ -1,22 +1,22 @@
 //! Reads and writes over marks: each transaction marks four keys and a range, and asks for the readers of two keys.
 
-use crate::work::{Work, key_of, txn_of};
+use crate::work::{Done, Work, key_of, txn_of};
 use ssi_reads::Marks;
 
 const OPEN_AT_ONCE: u64 = 8;
 
 /// Marks what each transaction reads, asks for the readers of what it writes, and forgets a transaction after eight
-/// others; none if one stays open over all of them. Returns how many readers there were.
-pub(crate) fn run<M: Marks>(marks: &mut M, work: &Work) -> Option<u64> {
-    let mut readers = 0u64;
+/// others; none if one stays open over all of them.
+pub(crate) fn run<M: Marks>(marks: &mut M, work: &Work) -> Option<Done> {
+    let mut met = 0u64;
     for number in 1..work.transactions as u64 + 1 {
         mark(marks, work, number)?;
-        readers = readers.wrapping_add(count(marks, work, number)?);
+        met = met.wrapping_add(count(marks, work, number)?);
         if !work.is_open && number > OPEN_AT_ONCE {
             marks.forget(txn_of(number - OPEN_AT_ONCE)?);
         }
     }
-    Some(readers)
+    Some(Done { sum: met, met })
 }
 
 fn mark<M: Marks>(marks: &mut M, work: &Work, number: u64) -> Option<()> {

@@ -2,6 +2,15 @@
 
 use adya_values::{Key, Txn};
 
+/// What a run has done, besides its transactions.
+#[derive(Clone, Copy)]
+pub(crate) struct Done {
+    /// A sum over what the calls returned.
+    pub(crate) sum: u64,
+    /// How many readers of written keys were met.
+    pub(crate) met: u64,
+}
+
 /// Transactions of some reads and writes over keys that are chosen as if by chance.
 #[derive(Clone, Copy)]
 pub(crate) struct Work {
