@@ -37,39 +37,48 @@ stamps_below (Reads u low high ∷ calls) ok t n h = stamps_below calls ok.1 t n
 stamps_below (Aborts u ∷ calls) ok t n h = stamps_below calls ok.1 t n h
 stamps_below (Commits u s ks ∷ calls) ok t n h =
     elim (cases_eq u t) [
-      | inl e ↦ let same = same_Some s n (sym (cond-true (u == t) (Some s) (stamp_of t calls) (eq-eqb u t e)) ∙ h) in omega (arith, same)
+      | inl e ↦ let same = same_Some s n (sym (cond-true (u == t) (Some s) (stamp_of t calls) (eq-eqb u t e)) ∙ h) in
+          omega (arith, same)
       | inr ne ↦
-          let rest = stamps_below calls ok.1 t n (sym (cond-false (u == t) (Some s) (stamp_of t calls) (ne_eqb u t ne)) ∙ h) in
+          let rest = stamps_below calls ok.1 t n (sym
+          (cond-false (u == t) (Some s) (stamp_of t calls) (ne_eqb u t ne)) ∙ h) in
           let next = ok.0.next in
           omega (arith, rest, next)
     ]
 
-pub snapshots_below : (calls : List Call) → AreAllowed calls → (t n : ℕ) → snapshot_of t calls ≡ Some n → n ≤ last_stamp calls
+pub snapshots_below : (calls : List Call) → AreAllowed calls → (t n : ℕ) → snapshot_of t calls ≡ Some n
+    → n ≤ last_stamp calls
 snapshots_below [] ok t n h = absurd (none-some n h)
 snapshots_below (Begins u s ∷ calls) ok t n h =
     elim (cases_eq u t) [
-      | inl e ↦ let same = same_Some s n (sym (cond-true (u == t) (Some s) (snapshot_of t calls) (eq-eqb u t e)) ∙ h) in let last = ok.0.current in omega (arith, same, last)
-      | inr ne ↦ snapshots_below calls ok.1 t n (sym (cond-false (u == t) (Some s) (snapshot_of t calls) (ne_eqb u t ne)) ∙ h)
+      | inl e ↦ let same = same_Some s n (sym (cond-true (u == t) (Some s) (snapshot_of t calls) (eq-eqb u t e)) ∙
+          h) in let last = ok.0.current in omega (arith, same, last)
+      | inr ne ↦ snapshots_below calls ok.1 t n (sym
+          (cond-false (u == t) (Some s) (snapshot_of t calls) (ne_eqb u t ne)) ∙ h)
     ]
 snapshots_below (Reads u low high ∷ calls) ok t n h = snapshots_below calls ok.1 t n h
 snapshots_below (Aborts u ∷ calls) ok t n h = snapshots_below calls ok.1 t n h
-snapshots_below (Commits u s ks ∷ calls) ok t n h = let rest = snapshots_below calls ok.1 t n h in let next = ok.0.next in omega (arith, rest, next)
+snapshots_below (Commits u s ks ∷ calls) ok t n h =
+    let rest = snapshots_below calls ok.1 t n h in let next = ok.0.next in omega (arith, rest, next)
 
 -- what reads, commits or aborts has begun
-pub reader_begun : (calls : List Call) → AreAllowed calls → (t : ℕ) (k : List ℕ) → meets t k calls ≡ true → has_begun t calls ≡ true
+pub reader_begun : (calls : List Call) → AreAllowed calls → (t : ℕ) (k : List ℕ) → meets t k calls ≡ true
+    → has_begun t calls ≡ true
 reader_begun [] ok t k h = absurd (true≢false (sym h))
 reader_begun (Begins u s ∷ calls) ok t k h =
     let before = reader_begun calls ok.1 t k h in
     elim (u == t) as (λ b. is_some (if b then Some s else snapshot_of t calls) ≡ true) [ true ↦ refl | false ↦ before ]
 reader_begun (Reads u low high ∷ calls) ok t k h =
     elim (or_cases ((u == t) && lies_in low high k) (meets t k calls) h) [
-      | inl now ↦ subst (λ x. has_begun x calls ≡ true) (eqb-true u t (and_parts (u == t) (lies_in low high k) now).0) (open_parts u calls ok.0.opened).is_begun
+      | inl now ↦ subst (λ x. has_begun x calls ≡ true) (eqb-true u t (and_parts (u == t) (lies_in low high k) now).0)
+          (open_parts u calls ok.0.opened).is_begun
       | inr was ↦ reader_begun calls ok.1 t k was
     ]
 reader_begun (Commits u s ks ∷ calls) ok t k h = reader_begun calls ok.1 t k h
 reader_begun (Aborts u ∷ calls) ok t k h = reader_begun calls ok.1 t k h
 
-pub committed_begun : (calls : List Call) → AreAllowed calls → (t : ℕ) → is_committed t calls ≡ true → has_begun t calls ≡ true
+pub committed_begun : (calls : List Call) → AreAllowed calls → (t : ℕ) → is_committed t calls ≡ true
+    → has_begun t calls ≡ true
 committed_begun [] ok t h = absurd (true≢false (sym h))
 committed_begun (Begins u s ∷ calls) ok t h =
     let before = committed_begun calls ok.1 t h in
@@ -79,10 +88,12 @@ committed_begun (Aborts u ∷ calls) ok t h = committed_begun calls ok.1 t h
 committed_begun (Commits u s ks ∷ calls) ok t h =
     elim (cases_eq u t) [
       | inl e ↦ subst (λ x. has_begun x calls ≡ true) e (open_parts u calls ok.0.opened).is_begun
-      | inr ne ↦ committed_begun calls ok.1 t (sym (ap is_some (cond-false (u == t) (Some s) (stamp_of t calls) (ne_eqb u t ne))) ∙ h)
+      | inr ne ↦ committed_begun calls ok.1 t (sym
+          (ap is_some (cond-false (u == t) (Some s) (stamp_of t calls) (ne_eqb u t ne))) ∙ h)
     ]
 
-pub aborted_begun : (calls : List Call) → AreAllowed calls → (t : ℕ) → is_aborted t calls ≡ true → has_begun t calls ≡ true
+pub aborted_begun : (calls : List Call) → AreAllowed calls → (t : ℕ) → is_aborted t calls ≡ true
+    → has_begun t calls ≡ true
 aborted_begun [] ok t h = absurd (true≢false (sym h))
 aborted_begun (Begins u s ∷ calls) ok t h =
     let before = aborted_begun calls ok.1 t h in
@@ -96,17 +107,20 @@ aborted_begun (Aborts u ∷ calls) ok t h =
     ]
 
 -- who hasn't aborted by now hadn't when another committed
-pub unaborted_before : (calls : List Call) (r u : ℕ) → is_aborted r calls ≡ false → is_aborted r (before_commit u calls) ≡ false
+pub unaborted_before : (calls : List Call) (r u : ℕ) → is_aborted r calls ≡ false
+    → is_aborted r (before_commit u calls) ≡ false
 unaborted_before [] r u h = refl
 unaborted_before (Begins t s ∷ calls) r u h = unaborted_before calls r u h
 unaborted_before (Reads t low high ∷ calls) r u h = unaborted_before calls r u h
 unaborted_before (Aborts t ∷ calls) r u h = unaborted_before calls r u (or_parts (t == r) (is_aborted r calls) h).1
 unaborted_before (Commits t n ks ∷ calls) r u h =
     let rest = unaborted_before calls r u h in
-    elim (t == u) as (λ b. is_aborted r (if b then calls else before_commit u calls) ≡ false) [ true ↦ h | false ↦ rest ]
+    elim (t == u) as (λ b. is_aborted r (if b then calls else before_commit u calls) ≡ false)
+    [ true ↦ h | false ↦ rest ]
 
 -- a test of some transaction that has begun
-pub any_begun : (p : ℕ → Bool) (calls : List Call) (x : ℕ) → has_begun x calls ≡ true → p x ≡ true → list_any p (begun calls) ≡ true
+pub any_begun : (p : ℕ → Bool) (calls : List Call) (x : ℕ) → has_begun x calls ≡ true → p x ≡ true
+    → list_any p (begun calls) ≡ true
 any_begun p [] x h e = absurd (true≢false (sym h))
 any_begun p (Reads u low high ∷ calls) x h e = any_begun p calls x h e
 any_begun p (Aborts u ∷ calls) x h e = any_begun p calls x h e
@@ -115,7 +129,8 @@ any_begun p (Begins u s ∷ calls) x h e =
     list_any-append p (begun calls) (u ∷ []) ∙
     elim (cases_eq u x) [
       | inl same ↦ or_right (list_any p (begun calls)) _ (or_left (p u) false (ap p same ∙ e))
-      | inr ne ↦ or_left _ (p u || false) (any_begun p calls x (sym (ap is_some (cond-false (u == x) (Some s) (snapshot_of x calls) (ne_eqb u x ne))) ∙ h) e)
+      | inr ne ↦ or_left _ (p u || false) (any_begun p calls x
+          (sym (ap is_some (cond-false (u == x) (Some s) (snapshot_of x calls) (ne_eqb u x ne))) ∙ h) e)
     ]
 
 -- open, or committed and concurrent with an open one
@@ -142,5 +157,6 @@ kept_open t calls o = or_left (is_open t calls) _ o
 pub kept_after : (t : ℕ) (calls : List Call) → AfterOpen t calls → is_kept t calls ≡ true
 kept_after t calls w =
     or_right (is_open t calls) _ (and_from (is_committed t calls) _ w.committed
-    (any_begun (λ x. is_open x calls && not (precedes t x calls)) calls w.other (open_parts w.other calls w.other_open).is_begun
+    (any_begun (λ x. is_open x calls && not (precedes t x calls)) calls w.other
+    (open_parts w.other calls w.other_open).is_begun
     (and_from (is_open w.other calls) _ w.other_open (not_from_false _ w.later))))

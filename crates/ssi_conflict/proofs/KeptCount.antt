@@ -28,7 +28,8 @@ or_false : (b : Bool) → (b || (false || false)) ≡ b
 or_false true = refl
 or_false false = refl
 
-one_more : (t u s : ℕ) (b : Bool) (o : Option ℕ) → b ≡ is_some o → (b || (same t u || false)) ≡ is_some (if u == t then Some s else o)
+one_more : (t u s : ℕ) (b : Bool) (o : Option ℕ) → b ≡ is_some o
+    → (b || (same t u || false)) ≡ is_some (if u == t then Some s else o)
 one_more t u s b o e =
     elim (cases_eq u t) [
       | inl f ↦
@@ -46,7 +47,8 @@ begun_member (Reads u low high ∷ calls) t = begun_member calls t
 begun_member (Aborts u ∷ calls) t = begun_member calls t
 begun_member (Commits u n ks ∷ calls) t = begun_member calls t
 begun_member (Begins u s ∷ calls) t =
-    list_any-append (same t) (begun calls) (u ∷ []) ∙ one_more t u s (is_member same (begun calls) t) (snapshot_of t calls) (begun_member calls t)
+    list_any-append (same t) (begun calls) (u ∷ []) ∙ one_more t u s (is_member same (begun calls) t)
+    (snapshot_of t calls) (begun_member calls t)
 
 pub begun_once : (calls : List Call) → AreAllowed calls → IsDistinct same (begun calls)
 unfolding IsDistinct
@@ -55,7 +57,8 @@ begun_once (Reads u low high ∷ calls) ok = begun_once calls ok.1
 begun_once (Aborts u ∷ calls) ok = begun_once calls ok.1
 begun_once (Commits u n ks ∷ calls) ok = begun_once calls ok.1
 begun_once (Begins u s ∷ calls) ok =
-    IsDistinct-push (eq_by_cmp_equiv nat_cmp_total) (begun calls) u (begun_once calls ok.1) (begun_member calls u ∙ unbegun u s calls ok)
+    IsDistinct-push (eq_by_cmp_equiv nat_cmp_total) (begun calls) u (begun_once calls ok.1)
+    (begun_member calls u ∙ unbegun u s calls ok)
 
 all_filtered : (P : ℕ → Type 0) (p : ℕ → Bool) (xs : List ℕ) → AllByRecursion P xs → AllByRecursion P (filter p xs)
 all_filtered P p [] h = h
@@ -70,7 +73,8 @@ filtered_once p [] d = d
 filtered_once p (x ∷ xs) d = pass (p x) (filtered_once p xs (IsDistinct-tail same x xs d))
   where
     pass : (b : Bool) → IsDistinct same (filter p xs) → IsDistinct same (cond b (x ∷ filter p xs) (filter p xs))
-    pass true r = IsDistinct-cons same x (filter p xs) (all_filtered (λ y. same x y ≡ false) p xs (IsDistinct-head same x xs d)) r
+    pass true r = IsDistinct-cons same x (filter p xs) (all_filtered (λ y. same x y ≡ false) p xs
+        (IsDistinct-head same x xs d)) r
     pass false r = r
 
 module _ (row : ℕ → Option Row) (marked : ℕ → List ℕ → Bool) (calls : List Call) (stands : StandsFor row marked calls)
@@ -80,7 +84,8 @@ module _ (row : ℕ → Option Row) (marked : ℕ → List ℕ → Bool) (calls 
 
   pub kept_member : (t : ℕ) → is_member same (filter (λ t. is_kept t calls) (begun calls)) t ≡ is_some (row t)
   kept_member t =
-      any-filter_same (same t) (λ t. is_kept t calls) (is_kept t calls) (λ k e. ap (λ u. is_kept u calls) (sym (tells_apart exact_unsigned t k e))) (begun calls) ∙
+      any-filter_same (same t) (λ t. is_kept t calls) (is_kept t calls)
+      (λ k e. ap (λ u. is_kept u calls) (sym (tells_apart exact_unsigned t k e))) (begun calls) ∙
       same_test _ _
       (λ h. stands.keeps t (and_parts (is_kept t calls) _ h).0)
       (λ h.

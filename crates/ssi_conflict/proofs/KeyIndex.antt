@@ -44,11 +44,16 @@ pub wrote_as : (commit commit' : ℕ → Option (ℕ × List (List ℕ))) (t n :
     → Wrote commit t n k → Wrote commit' t n k
 wrote_as commit commit' t n k e h = record { keys = h.keys; is = e ∙ h.is; written = h.written }
 
-pub indexed_same : (commit commit' : ℕ → Option (ℕ × List (List ℕ))) (writer : List ℕ → ℕ → Option ℕ) (last : ℕ) (ks : List (List ℕ))
+pub indexed_same : (commit commit' : ℕ → Option (ℕ × List (List ℕ))) (writer : List ℕ → ℕ → Option ℕ) (last : ℕ)
+    (ks : List (List ℕ))
     → ((t : ℕ) → commit' t ≡ commit t) → IsIndexed commit writer last ks → IsIndexed commit' writer last ks
 indexed_same commit commit' writer last ks same w = record {
   found = λ t a k h. w.found t a k (wrote_as commit' commit t (suc a) k (sym (same t)) h);
-  only = λ t a k e. elim (w.only t a k e) [ inl h ↦ inl (wrote_as commit commit' t (suc a) k (same t) h) | inr h ↦ inr h ];
+  only = λ t a k e. elim (w.only t a k e) [
+    | inl h ↦ inl (wrote_as commit commit' t (suc a) k (same t) h)
+    | inr h ↦ inr
+        h
+  ];
   past = λ t n js e. w.past t n js (sym (same t) ∙ e);
 }
 
@@ -112,7 +117,8 @@ module _ (commit : ℕ → Option (ℕ × List (List ℕ))) (writer writer' : Li
               | inl its ↦
                   let p = of_one js (n - 1) a k its in
                   let same : n ≡ suc a = (let e = p.0 in let f = first.next in omega (arith, e, f)) in
-                  let its' : Wrote commit t (suc a) k = record { keys = js; is = was ∙ ap (λ m. Some (m, js)) same; written = p.1 } in
+                  let its' : Wrote commit t (suc a) k = record
+                  { keys = js; is = was ∙ ap (λ m. Some (m, js)) same; written = p.1 } in
                   absurd (ne (same_Some x t (sym (w.found x a k old) ∙ w.found t a k its')))
               | inr left' ↦ cond-false _ None (writer k a) left' ∙ w.found x a k old
             ];
@@ -124,7 +130,8 @@ module _ (commit : ℕ → Option (ℕ × List (List ℕ))) (writer writer' : Li
                   | inl f ↦
                       let pair = same_Some (n, js) (suc a, h.keys) (sym was ∙ (ap commit (sym f) ∙ h.is)) in
                       let stamp = ap (λ (p : ℕ × List (List ℕ)). p.0) pair in
-                      let written : Contains js k = subst (λ is. Contains is k) (sym (ap (λ (p : ℕ × List (List ℕ)). p.1) pair)) h.written in
+                      let written : Contains js k = subst (λ is. Contains is k)
+                      (sym (ap (λ (p : ℕ × List (List ℕ)). p.1) pair)) h.written in
                       absurd (both_ways _ left' (one_of js (n - 1) a k (omega (arith, stamp)) written))
                   | inr ne ↦ wrote_as commit commit' x (suc a) k (others x ne) h
                 ])
@@ -145,7 +152,8 @@ indexed_closed commit commit' writer last ks later t was is others filed w = rec
         let pair = same_Some (suc last, ks) (suc a, h.keys) (sym is ∙ (ap commit' (sym e) ∙ h.is)) in
         let stamp = ap (λ (p : ℕ × List (List ℕ)). p.0) pair in
         let at : last ≡ a = omega (arith, stamp) in
-        let written : Contains ks k = subst (λ js. Contains js k) (sym (ap (λ (p : ℕ × List (List ℕ)). p.1) pair)) h.written in
+        let written : Contains ks k = subst (λ js. Contains js k) (sym (ap (λ (p : ℕ × List (List ℕ)). p.1) pair))
+        h.written in
         ap (writer k) (sym at) ∙ (filed k written ∙ ap Some (sym e))
     | inr ne ↦ w.found x a k (wrote_as commit' commit x (suc a) k (sym (others x ne)) h)
   ];
@@ -177,31 +185,37 @@ one_step true false false w v = refl
 one_step false r e w v = refl
 
 -- one more of the keys is put, and the rest is still to be put
-pub put_step : (x : List ℕ) (xs rest all : List (List ℕ)) (n : ℕ) (w : Option ℕ) (old now' new : List ℕ → ℕ → Option ℕ) → xs ≡ x ∷ rest
+pub put_step : (x : List ℕ) (xs rest all : List (List ℕ)) (n : ℕ) (w : Option ℕ)
+    (old now' new : List ℕ → ℕ → Option ℕ) → xs ≡ x ∷ rest
     → ((k : List ℕ) (a : ℕ) → new k a ≡ cond (is_eq (ordering_then (slice_cmp nat_cmp x k) (nat_cmp n a))) w (now' k a))
     → ((k : List ℕ) (a : ℕ) → cond (is_one_of xs n k a) w (now' k a) ≡ cond (is_one_of all n k a) w (old k a))
     → (k : List ℕ) (a : ℕ) → cond (is_one_of rest n k a) w (new k a) ≡ cond (is_one_of all n k a) w (old k a)
 put_step x xs rest all n w old now' new e put before k a =
-    ap (cond (is_one_of rest n k a) w) (put k a ∙ ap (λ b. cond b w (now' k a)) (sym (tied_then (slice_cmp nat_cmp x k) (nat_cmp n a)))) ∙
+    ap (cond (is_one_of rest n k a) w) (put k a ∙ ap (λ b. cond b w (now' k a))
+    (sym (tied_then (slice_cmp nat_cmp x k) (nat_cmp n a)))) ∙
     (one_step (is_eq (slice_cmp nat_cmp x k)) (has_key rest k) (is_eq (nat_cmp n a)) w (now' k a) ∙
     (ap (λ ks. cond (is_one_of ks n k a) w (now' k a)) (sym e) ∙ before k a))
 
 -- if the rest is none of them, a key that is none of all is as before
-pub others_kept : (rest all : List (List ℕ)) (n : ℕ) (w : Option ℕ) (old now' : List ℕ → ℕ → Option ℕ) (k : List ℕ) (a : ℕ) → ((j : List ℕ) → Contains rest j → Contains all j)
-    → cond (is_one_of rest n k a) w (now' k a) ≡ cond (is_one_of all n k a) w (old k a) → is_one_of all n k a ≡ false → now' k a ≡ old k a
+pub others_kept : (rest all : List (List ℕ)) (n : ℕ) (w : Option ℕ) (old now' : List ℕ → ℕ → Option ℕ) (k : List ℕ)
+    (a : ℕ) → ((j : List ℕ) → Contains rest j → Contains all j)
+    → cond (is_one_of rest n k a) w (now' k a) ≡ cond (is_one_of all n k a) w (old k a) → is_one_of all n k a ≡ false
+    → now' k a ≡ old k a
 others_kept rest all n w old now' k a within before none =
     let still : is_one_of rest n k a ≡ false = elim (cases_Bool (is_one_of rest n k a)) [
       | inl is ↦ (let p = of_one rest n a k is in absurd (both_ways _ none (one_of all n a k p.0 (within k p.1))))
       | inr is_not ↦ is_not
     ] in
-    sym (cond-false (is_one_of rest n k a) w (now' k a) still) ∙ (before ∙ cond-false (is_one_of all n k a) w (old k a) none)
+    sym (cond-false (is_one_of rest n k a) w (now' k a) still) ∙
+    (before ∙ cond-false (is_one_of all n k a) w (old k a) none)
 
 pub drop_within : (i : ℕ) (xs : List (List ℕ)) (x : List ℕ) → Contains (drop i xs) x → Contains xs x
 drop_within zero xs x c = c
 drop_within (suc i) [] x c = c
 drop_within (suc i) (y ∷ ys) x c = Contains-cons y ys x (drop_within i ys x c)
 
-pub indexed_judged : (commit : ℕ → Option (ℕ × List (List ℕ))) (writer : List ℕ → ℕ → Option ℕ) (last : ℕ) (ks js : List (List ℕ)) → js ≡ ks → IsIndexed commit writer last ks → IsIndexed commit writer last js
+pub indexed_judged : (commit : ℕ → Option (ℕ × List (List ℕ))) (writer : List ℕ → ℕ → Option ℕ) (last : ℕ)
+    (ks js : List (List ℕ)) → js ≡ ks → IsIndexed commit writer last ks → IsIndexed commit writer last js
 indexed_judged commit writer last ks js e w = subst (IsIndexed commit writer last) (sym e) w
 
 pub has_each : (js ks : List (List ℕ)) (k : List ℕ) → js ≡ ks → Contains ks k → has_key js k ≡ true

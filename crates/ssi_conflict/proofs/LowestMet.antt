@@ -19,6 +19,7 @@ use Rattle.adya_values.specs.Meaning.Keys.{lies_in, key_le}
 use Rattle.ssi_conflict.specs.Meaning.Pairs.{is_at_or_below}
 use Rattle.ssi_conflict.specs.Computing.Steps.{is_earlier}
 use Rattle.ssi_conflict.specs.Machinery.Rows.{Row, sooner, read_conflict, read_pivot, IsSmallestRow, IsLeastStamp}
+use Rattle.ssi_conflict.specs.declared.reading.Reading.{Reading}
 use Rattle.ssi_conflict.specs.declared.writes.Write.{Write}
 use Rattle.ssi_conflict.specs.declared.writes.Writes.{Writes}
 use Rattle.lemmas.proofs.Members.{Contains-cases, Contains-head, Contains-cons, none_contained}
@@ -39,8 +40,28 @@ pub record Sooner (a b : Option ℕ) (m : ℕ) : Type 0 where
 -- neither is there, or the earlier is
 pub sooner_cases : (a b : Option ℕ) → ((a ≡ None) × (b ≡ None)) ⊎ ((m : ℕ) × Sooner a b m)
 sooner_cases None None = inl (refl, refl)
-sooner_cases None (Some m) = inr (m, record { is = refl; comes = inr refl; left = λ n e. absurd (none-some n e); right = λ n e. let s = same_Some m n e in omega (arith, s) })
-sooner_cases (Some n) None = inr (n, record { is = refl; comes = inl refl; left = λ m e. let s = same_Some n m e in omega (arith, s); right = λ m e. absurd (none-some m e) })
+sooner_cases None (Some m) =
+    inr (
+      m,
+      record {
+        is = refl;
+        comes = inr refl;
+        left = λ n e. absurd (none-some n e);
+        right = λ n e. let s =
+            same_Some m n e in omega (arith, s);
+      },
+    )
+sooner_cases (Some n) None =
+    inr (
+      n,
+      record {
+        is = refl;
+        comes = inl refl;
+        left = λ m e. let s = same_Some n m e in omega (arith, s);
+        right =
+            λ m e. absurd (none-some m e);
+      },
+    )
 sooner_cases (Some n) (Some m) =
     elim (cases_Bool (nat_lt m n)) [
       | inl below ↦ inr (
@@ -68,15 +89,30 @@ pub record Found {A : Type 0} (f : A → Option ℕ) (least : Option ℕ) (xs : 
   pub first : (n : ℕ) → least ≡ Some n → m ≤ n
   pub rest : (x : A) (n : ℕ) → Contains xs x → f x ≡ Some n → m ≤ n
 
-pub found : {A : Type 0} (f : A → Option ℕ) (least : Option ℕ) (xs : List A) (m : ℕ) → lowest f least xs ≡ Some m → Found f least xs m
-found f least [] m h = record { comes = inl h; first = λ n e. let s = same_Some m n (sym h ∙ e) in omega (arith, s); rest = λ x n i. absurd (none_contained x i) }
+pub found : {A : Type 0} (f : A → Option ℕ) (least : Option ℕ) (xs : List A) (m : ℕ) → lowest f least xs ≡ Some m
+    → Found f least xs m
+found f least [] m h =
+    record {
+      comes = inl h;
+      first = λ n e. let s = same_Some m n (sym h ∙ e) in omega (arith, s);
+      rest = λ x n i.
+          absurd (none_contained x i);
+    }
 found {A} f least (y ∷ ys) m h =
     let w = found f (sooner least (f y)) ys m h in
     elim (sooner_cases least (f y)) [
       | inl none ↦ record {
-        comes = elim w.comes [ inl e ↦ absurd (none-some m (sym (ap (λ o. sooner o (f y)) none.0 ∙ none.1) ∙ e)) | inr x ↦ inr (x.0, Contains-cons y ys x.0 x.1, x.2) ];
+        comes = elim w.comes [
+          | inl e ↦ absurd (none-some m (sym (ap (λ o. sooner o (f y)) none.0 ∙ none.1) ∙ e))
+          | inr
+              x ↦ inr (x.0, Contains-cons y ys x.0 x.1, x.2)
+        ];
         first = λ n e. absurd (none-some n (sym none.0 ∙ e));
-        rest = λ x n i e. elim (Contains-cases y ys x i) [ inl same ↦ absurd (none-some n (sym none.1 ∙ (ap f same ∙ e))) | inr later ↦ w.rest x n later e ];
+        rest = λ x n i e. elim (Contains-cases y ys x i) [
+          | inl same ↦ absurd
+              (none-some n (sym none.1 ∙ (ap f same ∙ e)))
+          | inr later ↦ w.rest x n later e
+        ];
       }
       | inr s ↦
           let below = w.first s.0 s.1.is in
@@ -89,19 +125,29 @@ found {A} f least (y ∷ ys) m h =
               | inr x ↦ inr (x.0, Contains-cons y ys x.0 x.1, x.2)
             ];
             first = λ n e. (let l = s.1.left n e in omega (arith, l, below));
-            rest = λ x n i e. elim (Contains-cases y ys x i) [ inl same ↦ (let l = s.1.right n (ap f same ∙ e) in omega (arith, l, below)) | inr later ↦ w.rest x n later e ];
+            rest = λ x n i e. elim (Contains-cases y ys x i) [
+              | inl same ↦ (let l = s.1.right n (ap f same ∙ e) in omega (arith, l, below))
+              | inr later ↦ w.rest x n
+                  later e
+            ];
           }
     ]
 
-pub not_found : {A : Type 0} (f : A → Option ℕ) (least : Option ℕ) (xs : List A) → lowest f least xs ≡ None → (x : A) → Contains xs x → f x ≡ None
+pub not_found : {A : Type 0} (f : A → Option ℕ) (least : Option ℕ) (xs : List A) → lowest f least xs ≡ None → (x : A)
+    → Contains xs x → f x ≡ None
 not_found f least [] h = λ x i. absurd (none_contained x i)
 not_found f least (y ∷ ys) h = λ x i.
     elim (sooner_cases least (f y)) [
-      | inl none ↦ elim (Contains-cases y ys x i) [ inl same ↦ ap f (sym same) ∙ none.1 | inr later ↦ not_found f (sooner least (f y)) ys h x later ]
+      | inl none ↦ elim (Contains-cases y ys x i) [
+        | inl same ↦ ap f (sym same) ∙ none.1
+        | inr later ↦ not_found f
+            (sooner least (f y)) ys h x later
+      ]
       | inr s ↦ absurd (by_first s.0 s.1)
     ]
   where
-    first_stays : {A : Type 0} (f : A → Option ℕ) (m : ℕ) (xs : List A) (o : Option ℕ) → o ≡ Some m → lowest f o xs ≡ None → ⊥
+    first_stays : {A : Type 0} (f : A → Option ℕ) (m : ℕ) (xs : List A) (o : Option ℕ) → o ≡ Some m
+        → lowest f o xs ≡ None → ⊥
     first_stays f m [] o e h = none-some m (sym h ∙ e)
     first_stays f m (x ∷ xs) o e h = elim (sooner_cases o (f x)) [
       | inl none ↦ none-some m (sym none.0 ∙ e)
@@ -114,7 +160,8 @@ not_found f least (y ∷ ys) h = λ x i.
 -- ---- the order of the writes
 
 pub write_total : IsTotalOrder write_cmp
-write_total = then_total (on_total (λ (w : Write). w.key) nat_list_cmp_total) (on_total (λ (w : Write). w.before) nat_cmp_total)
+write_total =
+    then_total (on_total (λ (w : Write). w.key) nat_list_cmp_total) (on_total (λ (w : Write). w.before) nat_cmp_total)
 
 both_equal : (o p : Ordering) → ordering_then o p ≡ Equal → (o ≡ Equal) × (p ≡ Equal)
 both_equal Equal p e = (refl, e)
@@ -133,7 +180,8 @@ write_exact a b e =
 pub lowest_of : (m : Writes) (f : Write × ℕ → Option ℕ) → IsOrdered write_cmp m.writers → (o : Option ℕ)
     → o ≡ lowest f None m.writers.entries → IsLowest (writer_in m) f o
 lowest_of m f ordered None h = λ w t e.
-    not_found f None m.writers.entries (sym h) (w, t) (Contains-from_lookup (tells_apart write_exact) w t m.writers.entries e)
+    not_found f None m.writers.entries (sym h) (w, t) (Contains-from_lookup (tells_apart write_exact) w t
+    m.writers.entries e)
 lowest_of m f ordered (Some b) h =
     let w = found f None m.writers.entries b (sym h) in
     elim w.comes [
@@ -141,7 +189,8 @@ lowest_of m f ordered (Some b) h =
       | inr x ↦ record {
         write = x.0.0;
         txn = x.0.1;
-        is_write = lookup-from_Contains (eq_by_cmp_equiv write_total) x.0.0 x.0.1 m.writers.entries (IsDistinct-from_sorted write_cmp (keys_of m.writers.entries) ordered) x.1;
+        is_write = lookup-from_Contains (eq_by_cmp_equiv write_total) x.0.0 x.0.1 m.writers.entries
+            (IsDistinct-from_sorted write_cmp (keys_of m.writers.entries) ordered) x.1;
         gives = x.2;
         least = λ v t n e g. w.rest (v, t) n (Contains-from_lookup (tells_apart write_exact) v t m.writers.entries e) g;
       }
@@ -149,26 +198,28 @@ lowest_of m f ordered (Some b) h =
 
 -- ---- what a read meets lies in a range
 
-module _ (s last : ℕ) (low high : List ℕ) where
+module _ (reading : Reading) (last : ℕ) where
   abbrev pub from : Write
-  from = record { key = low; before = s }
+  from = record { key = reading.low; before = reading.snapshot }
 
   abbrev pub to : Write
-  to = record { key = high; before = last }
+  to = record { key = reading.high; before = last }
 
   below_first : (o : Ordering) (a b : ℕ) → is_le o ≡ true → a ≤ b → is_gt (ordering_then o (nat_cmp a b)) ≡ false
   below_first Less a b h l = refl
   below_first Equal a b h l = grind (arith, nat_tests, l)
   below_first Greater a b h l = absurd (true≢false (sym h))
 
-  pub met_inside : (w : Write) → is_met s last low high w ≡ true → (is_gt (write_cmp from w) ≡ false) × (is_gt (write_cmp w to) ≡ false)
+  pub met_inside : (w : Write) → is_met reading last w ≡ true
+      → (is_gt (write_cmp from w) ≡ false) × (is_gt (write_cmp w to) ≡ false)
   met_inside w h =
-      let a = and_parts (nat_le s w.before) _ h in
+      let a = and_parts (nat_le reading.snapshot w.before) _ h in
       let b = and_parts (nat_lt w.before last) _ a.1 in
-      let c = and_parts (key_le low w.key) _ b.1 in
+      let c = and_parts (key_le reading.low w.key) _ b.1 in
       let before' = ltb-true w.before last b.0 in (
-        below_first (slice_cmp nat_cmp low w.key) s w.before c.0 (leb-true s w.before a.0),
-        below_first (slice_cmp nat_cmp w.key high) w.before last c.1 (omega (arith, before')),
+        below_first (slice_cmp nat_cmp reading.low w.key) reading.snapshot w.before c.0
+            (leb-true reading.snapshot w.before a.0),
+        below_first (slice_cmp nat_cmp w.key reading.high) w.before last c.1 (omega (arith, before')),
       )
 
   crossed : (o p : Ordering) → o ≡ ordering_reverse p → is_lt p ≡ true → is_gt o ≡ true
@@ -185,11 +236,12 @@ module _ (s last : ℕ) (low high : List ℕ) where
       by_order o Greater e h = ap is_gt e
 
   -- nothing is met if the range runs downward
-  pub none_met : is_lt (write_cmp to from) ≡ true → (w : Write) → is_met s last low high w ≡ false
-  none_met h w = elim (cases_Bool (is_met s last low high w)) [
+  pub none_met : is_lt (write_cmp to from) ≡ true → (w : Write) → is_met reading last w ≡ false
+  none_met h w = elim (cases_Bool (is_met reading last w)) [
     | inl is ↦
         let i = met_inside w is in
-        absurd (both_ways _ (upto write_total from w to i.0 i.1) (crossed (write_cmp from to) (write_cmp to from) (write_total.antisymm from to) h))
+        absurd (both_ways _ (upto write_total from w to i.0 i.1)
+        (crossed (write_cmp from to) (write_cmp to from) (write_total.antisymm from to) h))
     | inr is_not ↦ is_not
   ]
 
@@ -203,11 +255,13 @@ module _ (s last : ℕ) (low high : List ℕ) where
   not_past o Equal e h = ap is_lt e
   not_past o Greater e h = absurd (true≢false h)
 
-  pub outside_unmet : (w : Write) → range_contains write_cmp (Included from) (Included to) w ≡ false → is_met s last low high w ≡ false
-  outside_unmet w h = elim (cases_Bool (is_met s last low high w)) [
+  pub outside_unmet : (w : Write) → range_contains write_cmp (Included from) (Included to) w ≡ false
+      → is_met reading last w ≡ false
+  outside_unmet w h = elim (cases_Bool (is_met reading last w)) [
     | inl is ↦
         let i = met_inside w is in
-        absurd (both_ways _ h (and_from _ _ (not_gt (write_cmp from w) i.0) (not_from_false _ (not_past (write_cmp to w) (write_cmp w to) (write_total.antisymm to w) i.1))))
+        absurd (both_ways _ h (and_from _ _ (not_gt (write_cmp from w) i.0)
+        (not_from_false _ (not_past (write_cmp to w) (write_cmp w to) (write_total.antisymm to w) i.1))))
     | inr is_not ↦ is_not
   ]
 
@@ -216,7 +270,7 @@ module _ (s last : ℕ) (low high : List ℕ) where
   sooner-none (Some n) = refl
 
   -- the least along the range is the least along all
-  pub range_is_all : (f : Write × ℕ → Option ℕ) → ((e : Write × ℕ) → is_met s last low high e.0 ≡ false → f e ≡ None)
+  pub range_is_all : (f : Write × ℕ → Option ℕ) → ((e : Write × ℕ) → is_met reading last e.0 ≡ false → f e ≡ None)
       → (least : Option ℕ) (es : List (Write × ℕ))
       → lowest f least (filter (λ e. range_contains write_cmp (Included from) (Included to) e.0) es) ≡ lowest f least es
   range_is_all f unmet least [] = refl
@@ -227,10 +281,12 @@ module _ (s last : ℕ) (low high : List ℕ) where
       rest = filter (λ d. range_contains write_cmp (Included from) (Included to) d.0) es
 
       by_test : (b : Bool) → range_contains write_cmp (Included from) (Included to) e.0 ≡ b
-          → ((o : Option ℕ) → lowest f o rest ≡ lowest f o es) → lowest f least (cond b (e ∷ rest) rest) ≡ lowest f (sooner least (f e)) es
+          → ((o : Option ℕ) → lowest f o rest ≡ lowest f o es) → lowest f least (cond b (e ∷ rest) rest) ≡ lowest f
+          (sooner least (f e)) es
       by_test true h all = all (sooner least (f e))
       by_test false h all =
-          all least ∙ ap (λ o. lowest f o es) (sym (ap (sooner least) (unmet e (outside_unmet e.0 h)) ∙ sooner-none least))
+          all least ∙ ap (λ o. lowest f o es) (sym
+          (ap (sooner least) (unmet e (outside_unmet e.0 h)) ∙ sooner-none least))
 
 -- ---- the rows that a read meets
 
@@ -250,30 +306,33 @@ committed (Some u) n ks e = by_stamp u.stamp refl e
         (u, refl, f ∙ ap (λ (p : ℕ × List (List ℕ)). Some p.0) pair, ap (λ (p : ℕ × List (List ℕ)). p.1) pair)
 
 module _ (row : ℕ → Option Row) (writer : List ℕ → ℕ → Option ℕ) (last : ℕ) (judged : List (List ℕ))
-    (indexed : IsIndexed (λ t. commit_in (row t)) writer last judged) (s : ℕ) (low high : List ℕ) where
+    (indexed : IsIndexed (λ t. commit_in (row t)) writer last judged) (reading : Reading) where
   -- the write is one of a row that conflicts
   pub record Conflict (w : Write) (t : ℕ) : Type 0 where
     pub one : Row
     pub is_row : row t ≡ Some one
     pub stamped : one.stamp ≡ Some (suc w.before)
-    pub conflicts : read_conflict s low high one ≡ true
+    pub conflicts : read_conflict reading.snapshot reading.low reading.high one ≡ true
 
-  met_conflict : (w : Write) (t : ℕ) → writer w.key w.before ≡ Some t → is_met s last low high w ≡ true → Conflict w t
+  met_conflict : (w : Write) (t : ℕ) → writer w.key w.before ≡ Some t → is_met reading last w ≡ true → Conflict w t
   met_conflict w t e h =
-      let a = and_parts (nat_le s w.before) _ h in
+      let a = and_parts (nat_le reading.snapshot w.before) _ h in
       let b = and_parts (nat_lt w.before last) _ a.1 in
       elim (indexed.only t w.before w.key e) [
         | inl wrote ↦
             let r = committed (row t) (suc w.before) wrote.keys wrote.is in
             let stamped = r.2 in
-            let above = leb-true s w.before a.0 in
-            let late : is_at_or_below r.0.stamp (Some s) ≡ false = ap (λ o. is_at_or_below o (Some s)) stamped ∙ lt-leb (suc w.before) s (omega (arith, above)) in
+            let above = leb-true reading.snapshot w.before a.0 in
+            let late : is_at_or_below r.0.stamp (Some reading.snapshot) ≡ false = ap
+            (λ o. is_at_or_below o (Some reading.snapshot)) stamped ∙
+            lt-leb (suc w.before) reading.snapshot (omega (arith, above)) in
             record {
               one = r.0;
               is_row = r.1;
               stamped = stamped;
               conflicts = and_from (is_some r.0.stamp) _ (ap is_some stamped) (and_from _ _ (not_from_false _ late)
-                  (list_any_when (lies_in low high) r.0.keys w.key (subst (λ ks. Contains ks w.key) (sym r.3) wrote.written) b.1));
+                  (list_any_when (lies_in reading.low reading.high) r.0.keys w.key
+                  (subst (λ ks. Contains ks w.key) (sym r.3) wrote.written) b.1));
             }
         | inr next ↦ absurd (let l = ltb-true w.before last b.0 in let e = next.0 in omega (arith, l, e))
       ]
@@ -282,22 +341,27 @@ module _ (row : ℕ → Option Row) (writer : List ℕ → ℕ → Option ℕ) (
   pub record Meets (t : ℕ) (u : Row) : Type 0 where
     pub write : Write
     pub is_write : writer write.key write.before ≡ Some t
-    pub is_met_by : is_met s last low high write ≡ true
+    pub is_met_by : is_met reading last write ≡ true
 
-  conflict_met : (t : ℕ) (u : Row) → row t ≡ Some u → read_conflict s low high u ≡ true → Meets t u
+  conflict_met : (t : ℕ) (u : Row) → row t ≡ Some u → read_conflict reading.snapshot reading.low reading.high u ≡ true
+      → Meets t u
   conflict_met t u e h =
       let a = and_parts (is_some u.stamp) _ h in
-      let b = and_parts (not (is_at_or_below u.stamp (Some s))) _ a.1 in
+      let b = and_parts (not (is_at_or_below u.stamp (Some reading.snapshot))) _ a.1 in
       let n = some_value u.stamp a.0 in
-      let k = list_any-source (lies_in low high) u.keys b.1 in
+      let k = list_any-source (lies_in reading.low reading.high) u.keys b.1 in
       let is : commit_in (row t) ≡ Some (n.0, u.keys) = ap commit_in e ∙ ap (option_map (λ m. (m, u.keys))) n.1 in
       let p = indexed.past t n.0 u.keys is in
-      let late = leb-false n.0 s (sym (ap (λ o. is_at_or_below o (Some s)) n.1) ∙ not-true _ b.0) in
+      let late = leb-false n.0 reading.snapshot (sym (ap (λ o. is_at_or_below o (Some reading.snapshot)) n.1) ∙
+      not-true _ b.0) in
       let next = p.next in
       record {
         write = record { key = k.0; before = p.before };
-        is_write = indexed.found t p.before k.0 (record { keys = u.keys; is = is ∙ ap (λ m. Some (m, u.keys)) next; written = k.1 });
-        is_met_by = and_from (nat_le s p.before) _ (le-leb s p.before (omega (arith, late, next))) (and_from (nat_lt p.before last) _ (lt-ltb p.before last p.below) k.2);
+        is_write = indexed.found t p.before k.0 (record
+            { keys = u.keys; is = is ∙ ap (λ m. Some (m, u.keys)) next; written = k.1 });
+        is_met_by = and_from (nat_le reading.snapshot p.before) _
+            (le-leb reading.snapshot p.before (omega (arith, late, next)))
+            (and_from (nat_lt p.before last) _ (lt-ltb p.before last p.below) k.2);
       }
 
   taken : (b : Bool) (o : Option ℕ) (m : ℕ) → (if b then o else None) ≡ Some m → (b ≡ true) × (o ≡ Some m)
@@ -307,37 +371,42 @@ module _ (row : ℕ → Option Row) (writer : List ℕ → ℕ → Option ℕ) (
   abbrev pivot_by : Row → Bool
   pivot_by u = is_earlier u.first_out u.stamp
 
-  gives_pivot : (t : ℕ) (u : Row) → row t ≡ Some u → read_pivot s low high u ≡ true → (m : Meets t u)
-      → pivot_at row s last low high (m.write, t) ≡ Some t
+  gives_pivot : (t : ℕ) (u : Row) → row t ≡ Some u → read_pivot reading.snapshot reading.low reading.high u ≡ true
+      → (m : Meets t u)
+      → pivot_at row reading last (m.write, t) ≡ Some t
   gives_pivot t u e h m =
-      cond-true _ (Some t) None (and_from _ _ m.is_met_by (ap (row_passes pivot_by) e ∙ (and_parts (read_conflict s low high u) _ h).1))
+      cond-true _ (Some t) None (and_from _ _ m.is_met_by
+      (ap (row_passes pivot_by) e ∙ (and_parts (read_conflict reading.snapshot reading.low reading.high u) _ h).1))
 
-  pub smallest_row : (o : Option ℕ) → IsLowest writer (pivot_at row s last low high) o → IsSmallestRow row (read_pivot s low high) o
-  smallest_row None h = λ t u e. elim (cases_Bool (read_pivot s low high u)) [
+  pub smallest_row : (o : Option ℕ) → IsLowest writer (pivot_at row reading last) o
+      → IsSmallestRow row (read_pivot reading.snapshot reading.low reading.high) o
+  smallest_row None h = λ t u e. elim (cases_Bool (read_pivot reading.snapshot reading.low reading.high u)) [
     | inl is ↦
-        let m = conflict_met t u e (and_parts (read_conflict s low high u) _ is).0 in
+        let m = conflict_met t u e (and_parts (read_conflict reading.snapshot reading.low reading.high u) _ is).0 in
         absurd (none-some t (sym (h m.write t m.is_write) ∙ gives_pivot t u e is m))
     | inr is_not ↦ is_not
   ]
   smallest_row (Some p) h =
       let g = taken _ (Some h.txn) p h.gives in
-      let both = and_parts (is_met s last low high h.write) _ g.0 in
+      let both = and_parts (is_met reading last h.write) _ g.0 in
       let c = met_conflict h.write h.txn h.is_write both.0 in
       record {
         one = c.one;
         is_row = ap row (sym (same_Some h.txn p g.1)) ∙ c.is_row;
-        passes = and_from (read_conflict s low high c.one) _ c.conflicts (sym (ap (row_passes pivot_by) c.is_row) ∙ both.1);
+        passes = and_from (read_conflict reading.snapshot reading.low reading.high c.one) _ c.conflicts
+            (sym (ap (row_passes pivot_by) c.is_row) ∙ both.1);
         smallest = λ t u e is.
-            let m = conflict_met t u e (and_parts (read_conflict s low high u) _ is).0 in
+            let m = conflict_met t u e (and_parts (read_conflict reading.snapshot reading.low reading.high u) _ is).0 in
             h.least m.write t t m.is_write (gives_pivot t u e is m);
       }
 
   gives_stamp : (t n : ℕ) (u : Row) → row t ≡ Some u → u.stamp ≡ Some n → (m : Meets t u)
-      → stamp_at row s last low high (m.write, t) ≡ Some n
+      → stamp_at row reading last (m.write, t) ≡ Some n
   gives_stamp t n u e f m = cond-true _ (stamp_in (row t)) None m.is_met_by ∙ (ap stamp_in e ∙ f)
 
-  pub least_stamp : (o : Option ℕ) → IsLowest writer (stamp_at row s last low high) o → IsLeastStamp row (read_conflict s low high) o
-  least_stamp None h = λ t u e. elim (cases_Bool (read_conflict s low high u)) [
+  pub least_stamp : (o : Option ℕ) → IsLowest writer (stamp_at row reading last) o
+      → IsLeastStamp row (read_conflict reading.snapshot reading.low reading.high) o
+  least_stamp None h = λ t u e. elim (cases_Bool (read_conflict reading.snapshot reading.low reading.high u)) [
     | inl is ↦
         let m = conflict_met t u e is in
         let n = some_value u.stamp (and_parts (is_some u.stamp) _ is).0 in
@@ -353,13 +422,17 @@ module _ (row : ℕ → Option Row) (writer : List ℕ → ℕ → Option ℕ) (
         is_row = c.is_row;
         passes = c.conflicts;
         stamped = sym (ap stamp_in c.is_row) ∙ g.1;
-        least = λ t n u e is f. let m = conflict_met t u e is in h.least m.write t n m.is_write (gives_stamp t n u e f m);
+        least = λ t n u e is f. let m = conflict_met t u e is in h.least m.write t n m.is_write
+            (gives_stamp t n u e f m);
       }
 
 -- ---- what is given of a write that is not met
 
-pub unmet_pivot : (row : ℕ → Option Row) (s last : ℕ) (low high : List ℕ) (e : Write × ℕ) → is_met s last low high e.0 ≡ false → pivot_at row s last low high e ≡ None
-unmet_pivot row s last low high e h = cond-false _ (Some e.1) None (ap (λ b. b && row_passes (λ u. is_earlier u.first_out u.stamp) (row e.1)) h)
+pub unmet_pivot : (row : ℕ → Option Row) (reading : Reading) (last : ℕ) (e : Write × ℕ)
+    → is_met reading last e.0 ≡ false → pivot_at row reading last e ≡ None
+unmet_pivot row reading last e h =
+    cond-false _ (Some e.1) None (ap (λ b. b && row_passes (λ u. is_earlier u.first_out u.stamp) (row e.1)) h)
 
-pub unmet_stamp : (row : ℕ → Option Row) (s last : ℕ) (low high : List ℕ) (e : Write × ℕ) → is_met s last low high e.0 ≡ false → stamp_at row s last low high e ≡ None
-unmet_stamp row s last low high e h = cond-false _ (stamp_in (row e.1)) None h
+pub unmet_stamp : (row : ℕ → Option Row) (reading : Reading) (last : ℕ) (e : Write × ℕ)
+    → is_met reading last e.0 ≡ false → stamp_at row reading last e ≡ None
+unmet_stamp row reading last e h = cond-false _ (stamp_in (row e.1)) None h

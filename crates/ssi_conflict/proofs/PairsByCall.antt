@@ -37,10 +37,13 @@ module _ (t s : ℕ) (calls : List Call) (ok : AreAllowed (Begins t s ∷ calls)
   pub same_snapshot : (x : ℕ) → has_begun x calls ≡ true → snapshot_of x (Begins t s ∷ calls) ≡ snapshot_of x calls
   same_snapshot x h = cond-false (t == x) (Some s) (snapshot_of x calls) (older x h)
 
-  concurrent_begins : (r u : ℕ) → has_begun r calls ≡ true → has_begun u calls ≡ true → are_concurrent r u (Begins t s ∷ calls) ≡ are_concurrent r u calls
+  concurrent_begins : (r u : ℕ) → has_begun r calls ≡ true → has_begun u calls ≡ true
+      → are_concurrent r u (Begins t s ∷ calls) ≡ are_concurrent r u calls
   concurrent_begins r u h i =
-      ap (λ x. not (r == u) && (not (is_at_or_below (stamp_of r calls) x) && not (is_at_or_below (stamp_of u calls) (snapshot_of r (Begins t s ∷ calls))))) (same_snapshot u i) ∙
-      ap (λ x. not (r == u) && (not (is_at_or_below (stamp_of r calls) (snapshot_of u calls)) && not (is_at_or_below (stamp_of u calls) x))) (same_snapshot r h)
+      ap (λ x. not (r == u) && (not (is_at_or_below (stamp_of r calls) x) && not
+      (is_at_or_below (stamp_of u calls) (snapshot_of r (Begins t s ∷ calls))))) (same_snapshot u i) ∙
+      ap (λ x. not (r == u) && (not (is_at_or_below (stamp_of r calls) (snapshot_of u calls)) && not
+      (is_at_or_below (stamp_of u calls) x))) (same_snapshot r h)
 
   pub pair_before_begin : (r u : ℕ) → IsPair r u (Begins t s ∷ calls) → IsPair r u calls
   pair_before_begin r u p =
@@ -55,14 +58,23 @@ module _ (t s : ℕ) (calls : List Call) (ok : AreAllowed (Begins t s ∷ calls)
       record { key = p.key; committed = p.committed; concurrent = concurrent_begins r u h i ∙ p.concurrent; met = p.met; written = p.written; unaborted = p.unaborted }
 
 module _ (t : ℕ) (low high : List ℕ) (calls : List Call) (ok : AreAllowed (Reads t low high ∷ calls)) where
-  pub pair_before_read : (r u : ℕ) → IsPair r u (Reads t low high ∷ calls) → (adds (Reads t low high) calls r u ≡ true) ⊎ IsPair r u calls
+  pub pair_before_read : (r u : ℕ) → IsPair r u (Reads t low high ∷ calls)
+      → (adds (Reads t low high) calls r u ≡ true) ⊎ IsPair r u calls
   pair_before_read r u p =
       elim (or_cases ((t == r) && lies_in low high p.key) (meets r p.key calls) p.met) [
         | inl now ↦
             let a = and_parts (t == r) _ now in
-            inl (and_from (t == r) _ a.0 (and_from (is_committed u calls) _ p.committed (and_from (are_concurrent r u calls) _ p.concurrent
+            inl (and_from (t == r) _ a.0 (and_from (is_committed u calls) _ p.committed
+            (and_from (are_concurrent r u calls) _ p.concurrent
             (list_any_when (lies_in low high) (keys_of u calls) p.key p.written a.1))))
-        | inr was ↦ inr (record { key = p.key; committed = p.committed; concurrent = p.concurrent; met = was; written = p.written; unaborted = p.unaborted })
+        | inr was ↦ inr (record {
+          key = p.key;
+          committed = p.committed;
+          concurrent = p.concurrent;
+          met = was;
+          written = p.written;
+          unaborted = p.unaborted;
+        })
       ]
 
   pub pair_of_read : (r u : ℕ) → adds (Reads t low high) calls r u ≡ true → IsPair r u (Reads t low high ∷ calls)
@@ -71,7 +83,8 @@ module _ (t : ℕ) (low high : List ℕ) (calls : List Call) (ok : AreAllowed (R
       let b = and_parts (is_committed u calls) _ a.1 in
       let d = and_parts (are_concurrent r u calls) _ b.1 in
       let k = list_any-source (lies_in low high) (keys_of u calls) d.1 in
-      let alive : is_aborted r calls ≡ false = subst (λ x. is_aborted x calls ≡ false) (eqb-true t r a.0) (open_parts t calls ok.0.opened).unaborted in
+      let alive : is_aborted r calls ≡ false = subst (λ x. is_aborted x calls ≡ false) (eqb-true t r a.0)
+      (open_parts t calls ok.0.opened).unaborted in
       record {
         key = k.0;
         committed = b.0;
@@ -82,7 +95,15 @@ module _ (t : ℕ) (low high : List ℕ) (calls : List Call) (ok : AreAllowed (R
       }
 
   pub pair_after_read : (r u : ℕ) → IsPair r u calls → IsPair r u (Reads t low high ∷ calls)
-  pair_after_read r u p = record { key = p.key; committed = p.committed; concurrent = p.concurrent; met = or_right ((t == r) && lies_in low high p.key) _ p.met; written = p.written; unaborted = p.unaborted }
+  pair_after_read r u p = record {
+    key = p.key;
+    committed = p.committed;
+    concurrent = p.concurrent;
+    met = or_right
+        ((t == r) && lies_in low high p.key) _ p.met;
+    written = p.written;
+    unaborted = p.unaborted;
+  }
 
 module _ (t n : ℕ) (ks : List (List ℕ)) (calls : List Call) (ok : AreAllowed (Commits t n ks ∷ calls)) where
   pub same_stamp : (x : ℕ) → t ≢ x → stamp_of x (Commits t n ks ∷ calls) ≡ stamp_of x calls
@@ -102,42 +123,52 @@ module _ (t n : ℕ) (ks : List (List ℕ)) (calls : List Call) (ok : AreAllowed
 
   -- the new stamp is above all snapshots
   pub new_above : (x : ℕ) → is_at_or_below (Some n) (snapshot_of x calls) ≡ false
-  new_above x = above_all n (snapshot_of x calls) (λ m e. let l = snapshots_below calls ok.1 x m e in let next = ok.0.next in omega (arith, l, next))
+  new_above x = above_all n (snapshot_of x calls) (λ m e. let l = snapshots_below calls ok.1 x m e in let next =
+      ok.0.next in omega (arith, l, next))
 
-  before_commit_apart : (r u : ℕ) → t ≢ u → are_concurrent r u (Commits t n ks ∷ calls) ≡ true → are_concurrent r u calls ≡ true
+  before_commit_apart : (r u : ℕ) → t ≢ u → are_concurrent r u (Commits t n ks ∷ calls) ≡ true
+      → are_concurrent r u calls ≡ true
   before_commit_apart r u ne h =
       let a = apart_parts r u (Commits t n ks ∷ calls) h in
       apart_from r u calls (record {
         differ = a.differ;
         not_before = elim (cases_eq t r) [
-          | inl e ↦ ap (λ x. is_at_or_below x (snapshot_of u calls)) (subst (λ x. stamp_of x calls ≡ None) e (unstamped t calls ok.0.opened))
+          | inl e ↦ ap (λ x. is_at_or_below x (snapshot_of u calls))
+              (subst (λ x. stamp_of x calls ≡ None) e (unstamped t calls ok.0.opened))
           | inr apart ↦ ap (λ x. is_at_or_below x (snapshot_of u calls)) (sym (same_stamp r apart)) ∙ a.not_before
         ];
         not_after = ap (λ x. is_at_or_below x (snapshot_of r calls)) (sym (same_stamp u ne)) ∙ a.not_after;
       })
 
-  after_commit_apart : (r u : ℕ) → t ≢ u → are_concurrent r u calls ≡ true → are_concurrent r u (Commits t n ks ∷ calls) ≡ true
+  after_commit_apart : (r u : ℕ) → t ≢ u → are_concurrent r u calls ≡ true
+      → are_concurrent r u (Commits t n ks ∷ calls) ≡ true
   after_commit_apart r u ne h =
       let a = apart_parts r u calls h in
       apart_from r u (Commits t n ks ∷ calls) (record {
         differ = a.differ;
         not_before = elim (cases_eq t r) [
-          | inl e ↦ ap (λ x. is_at_or_below x (snapshot_of u calls)) (subst (λ x. stamp_of x (Commits t n ks ∷ calls) ≡ Some n) e own_stamp) ∙ new_above u
+          | inl e ↦ ap (λ x. is_at_or_below x (snapshot_of u calls))
+              (subst (λ x. stamp_of x (Commits t n ks ∷ calls) ≡ Some n) e own_stamp) ∙ new_above u
           | inr apart ↦ ap (λ x. is_at_or_below x (snapshot_of u calls)) (same_stamp r apart) ∙ a.not_before
         ];
         not_after = ap (λ x. is_at_or_below x (snapshot_of r calls)) (same_stamp u ne) ∙ a.not_after;
       })
 
   pub not_committed_yet : (r u : ℕ) → IsPair r u calls → t ≢ u
-  not_committed_yet r u p e = both_ways (is_committed u calls) (subst (λ x. is_committed x calls ≡ false) e (open_parts t calls ok.0.opened).uncommitted) p.committed
+  not_committed_yet r u p e = both_ways (is_committed u calls)
+      (subst (λ x. is_committed x calls ≡ false) e (open_parts t calls ok.0.opened).uncommitted) p.committed
 
-  pub pair_before_commit : (r u : ℕ) → IsPair r u (Commits t n ks ∷ calls) → (adds (Commits t n ks) calls r u ≡ true) ⊎ IsPair r u calls
+  pub pair_before_commit : (r u : ℕ) → IsPair r u (Commits t n ks ∷ calls)
+      → (adds (Commits t n ks) calls r u ≡ true) ⊎ IsPair r u calls
   pair_before_commit r u p =
       elim (cases_eq t u) [
         | inl e ↦
-            let alive : is_aborted r calls ≡ false = ap (is_aborted r) (sym (cond-true (t == u) calls (before_commit u calls) (eq-eqb t u e))) ∙ p.unaborted in
-            let written : Contains ks p.key = subst (λ xs. Contains xs p.key) (cond-true (t == u) ks (keys_of u calls) (eq-eqb t u e)) p.written in
-            inl (and_from (t == u) _ (eq-eqb t u e) (and_from (not (is_aborted r calls)) _ (not_from_false _ alive) (and_from (are_concurrent r u (Commits t n ks ∷ calls)) _ p.concurrent
+            let alive : is_aborted r calls ≡ false = ap (is_aborted r)
+            (sym (cond-true (t == u) calls (before_commit u calls) (eq-eqb t u e))) ∙ p.unaborted in
+            let written : Contains ks p.key = subst (λ xs. Contains xs p.key)
+            (cond-true (t == u) ks (keys_of u calls) (eq-eqb t u e)) p.written in
+            inl (and_from (t == u) _ (eq-eqb t u e) (and_from (not (is_aborted r calls)) _ (not_from_false _ alive)
+            (and_from (are_concurrent r u (Commits t n ks ∷ calls)) _ p.concurrent
             (list_any_when (λ k. meets r k calls) ks p.key written p.met))))
         | inr ne ↦ inr (record {
           key = p.key;
@@ -177,7 +208,23 @@ module _ (t n : ℕ) (ks : List (List ℕ)) (calls : List Call) (ok : AreAllowed
       }
 
 pub pair_before_abort : (t : ℕ) (calls : List Call) (r u : ℕ) → IsPair r u (Aborts t ∷ calls) → IsPair r u calls
-pair_before_abort t calls r u p = record { key = p.key; committed = p.committed; concurrent = p.concurrent; met = p.met; written = p.written; unaborted = p.unaborted }
+pair_before_abort t calls r u p =
+    record {
+      key = p.key;
+      committed = p.committed;
+      concurrent = p.concurrent;
+      met = p.met;
+      written = p.written;
+      unaborted = p.unaborted;
+    }
 
 pub pair_after_abort : (t : ℕ) (calls : List Call) (r u : ℕ) → IsPair r u calls → IsPair r u (Aborts t ∷ calls)
-pair_after_abort t calls r u p = record { key = p.key; committed = p.committed; concurrent = p.concurrent; met = p.met; written = p.written; unaborted = p.unaborted }
+pair_after_abort t calls r u p =
+    record {
+      key = p.key;
+      committed = p.committed;
+      concurrent = p.concurrent;
+      met = p.met;
+      written = p.written;
+      unaborted = p.unaborted;
+    }

@@ -25,7 +25,8 @@ module _ (f f' : ℕ → Option ℕ) (t : ℕ) (o : Option ℕ) (put : (q : ℕ)
 
 module _ (f : ℕ → Option ℕ) (held held' : ℕ → Option Record) (apart : AreApart f) (taken : AreTaken f held) where
   -- what stands in another place
-  elsewhere : (i : ℕ) → ((j : ℕ) → j ≢ i → held' j ≡ held j) → (o : Option ℕ) → ((j : ℕ) → o ≡ Some j → j ≢ i) → at_slot o held' ≡ at_slot o held
+  elsewhere : (i : ℕ) → ((j : ℕ) → j ≢ i → held' j ≡ held j) → (o : Option ℕ) → ((j : ℕ) → o ≡ Some j → j ≢ i)
+      → at_slot o held' ≡ at_slot o held
   elsewhere i same None away = refl
   elsewhere i same (Some j) away = same j (away j refl)
 
@@ -35,10 +36,12 @@ module _ (f : ℕ → Option ℕ) (held held' : ℕ → Option Record) (apart : 
     others_stay x ne = elsewhere i same (f x) (λ j g same'. ne (apart x t i (g ∙ ap Some same') at))
 
     pub row_set : (g : Row → Row) (r new : Record) → held i ≡ Some r → held' i ≡ Some new → row_of new ≡ g (row_of r)
-        → Changes (λ x. option_map row_of (at_slot (f x) held)) (λ x. option_map row_of (at_slot (f x) held')) t (option_map g (option_map row_of (at_slot (f t) held)))
+        → Changes (λ x. option_map row_of (at_slot (f x) held)) (λ x. option_map row_of (at_slot (f x) held')) t
+        (option_map g (option_map row_of (at_slot (f t) held)))
     row_set g r new old_at new_at e = record {
       here = ap (λ o. option_map row_of (at_slot o held')) at ∙ (ap (option_map row_of) new_at ∙ (ap Some e ∙
-          sym (ap (λ o. option_map g (option_map row_of (at_slot o held))) at ∙ ap (λ o. option_map g (option_map row_of o)) old_at)));
+          sym (ap (λ o. option_map g (option_map row_of (at_slot o held))) at ∙ ap
+          (λ o. option_map g (option_map row_of o)) old_at)));
       others = λ x ne. ap (option_map row_of) (others_stay x ne);
     }
 
@@ -54,7 +57,8 @@ module _ (f : ℕ → Option ℕ) (held held' : ℕ → Option Record) (apart : 
       apart_left a b j g k = apart a b j (was a j g) (was b j k)
 
       pub taken_left : AreTaken f' held'
-      taken_left a j g = ap is_some (same j (λ e. not_gone a j g (apart a t i (was a j g ∙ ap Some e) at))) ∙ taken a j (was a j g)
+      taken_left a j g = ap is_some (same j (λ e. not_gone a j g (apart a t i (was a j g ∙ ap Some e) at))) ∙ taken a
+          j (was a j g)
 
       pub rows_left : (x : ℕ) → x ≢ t → at_slot (f' x) held' ≡ at_slot (f x) held
       rows_left x ne = ap (λ o. at_slot o held') (put_other f f' t None gone x ne) ∙ others_stay x ne
@@ -73,8 +77,16 @@ module _ (f : ℕ → Option ℕ) (held held' : ℕ → Option Record) (apart : 
 
     pub apart_added : AreApart f'
     apart_added a b j g k = elim (cases_eq a t) [
-      | inl e ↦ elim (cases_eq b t) [ inl e' ↦ e ∙ sym e' | inr ne ↦ absurd (fresh b j (before b j ne k) (own a j e g)) ]
-      | inr ne ↦ elim (cases_eq b t) [ inl e' ↦ absurd (fresh a j (before a j ne g) (own b j e' k)) | inr ne' ↦ apart a b j (before a j ne g) (before b j ne' k) ]
+      | inl e ↦ elim (cases_eq b t) [
+        | inl e' ↦ e ∙ sym e'
+        | inr ne ↦ absurd
+            (fresh b j (before b j ne k) (own a j e g))
+      ]
+      | inr ne ↦ elim (cases_eq b t) [
+        | inl e' ↦ absurd (fresh a j (before a j ne g) (own b j e' k))
+        | inr ne' ↦ apart
+            a b j (before a j ne g) (before b j ne' k)
+      ]
     ]
 
     pub taken_added : is_some (held' i) ≡ true → AreTaken f' held'
@@ -92,7 +104,8 @@ there None = refl
 there (Some r) = refl
 
 -- there is a row exactly if there is a place
-pub row_taken : (f : ℕ → Option ℕ) (held : ℕ → Option Record) → AreTaken f held → (t : ℕ) → is_some (option_map row_of (at_slot (f t) held)) ≡ is_some (f t)
+pub row_taken : (f : ℕ → Option ℕ) (held : ℕ → Option Record) → AreTaken f held → (t : ℕ)
+    → is_some (option_map row_of (at_slot (f t) held)) ≡ is_some (f t)
 row_taken f held taken t = by_slot (f t) refl
   where
     by_slot : (o : Option ℕ) → f t ≡ o → is_some (option_map row_of (at_slot o held)) ≡ is_some o

@@ -8,7 +8,8 @@ use Rattle.ssi_conflict.specs.declared.answer.Answer.{Answer}
 use Rattle.ssi_conflict.proofs.AllowedCalls.{kept_open}
 
 -- the same rows and marks stand for the same calls
-pub same_stands : (row row' : ℕ → Option Row) (marked marked' : ℕ → List ℕ → Bool) (calls : List Call) → ((t : ℕ) → row' t ≡ row t) → ((t : ℕ) (k : List ℕ) → marked' t k ≡ marked t k)
+pub same_stands : (row row' : ℕ → Option Row) (marked marked' : ℕ → List ℕ → Bool) (calls : List Call)
+    → ((t : ℕ) → row' t ≡ row t) → ((t : ℕ) (k : List ℕ) → marked' t k ≡ marked t k)
     → StandsFor row marked calls → StandsFor row' marked' calls
 same_stands row row' marked marked' calls rows marks stands = record {
   allowed = stands.allowed;
@@ -19,10 +20,12 @@ same_stands row row' marked marked' calls rows marks stands = record {
 }
 
 -- an open transaction has its row
-pub open_row : (row : ℕ → Option Row) (marked : ℕ → List ℕ → Bool) (calls : List Call) → StandsFor row marked calls → (t : ℕ) → is_open t calls ≡ true → row t ≡ None → ⊥
+pub open_row : (row : ℕ → Option Row) (marked : ℕ → List ℕ → Bool) (calls : List Call) → StandsFor row marked calls
+    → (t : ℕ) → is_open t calls ≡ true → row t ≡ None → ⊥
 open_row row marked calls stands t o e = true≢false (sym (stands.keeps t (kept_open t calls o)) ∙ ap is_some e)
 
-pub carried_refused : (c : Call) (calls : List Call) (r : Result Answer AllocError) → IsErr r → carried c calls r ≡ calls
+pub carried_refused : (c : Call) (calls : List Call) (r : Result Answer AllocError) → IsErr r
+    → carried c calls r ≡ calls
 carried_refused c calls (Ok a) h = absurd (true≢false (sym h))
 carried_refused c calls (Err e) h = refl
 

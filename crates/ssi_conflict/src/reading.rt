@@ -62,7 +62,7 @@ impl Met {
 impl Reading {
     /// Returns whether the key is read, and its commit came after the snapshot and is not above `last`.
     fn meets(&self, write: &Write, last: u64) -> bool
-        ensures { result ≡ is_met self.now.snapshot last self.now.low self.now.high write.now }
+        ensures { result ≡ is_met self.now last write.now }
     {
         self.snapshot <= write.before
             && write.before < last
@@ -72,8 +72,8 @@ impl Reading {
 
     /// Returns what the read meets of one write of the transaction.
     pub(crate) fn meet(&self, records: &Records, write: &Write, txn: Txn, last: u64) -> Met
-        ensures pivot { result.pivot ≡ pivot_at (row_in records.now) self.now.snapshot last self.now.low self.now.high (write.now, txn) }
-        ensures first { result.first ≡ stamp_at (row_in records.now) self.now.snapshot last self.now.low self.now.high (write.now, txn) }
+        ensures pivot { result.pivot ≡ pivot_at (row_in records.now) self.now last (write.now, txn) }
+        ensures first { result.first ≡ stamp_at (row_in records.now) self.now last (write.now, txn) }
     {
         let Some(kept) = records.get(txn) else {
             return Met::nothing();

@@ -65,7 +65,8 @@ impl Records {
 
     /// Pairs lead from the transaction to one with this stamp.
     pub(crate) fn add_out(&mut self, txn: Txn, stamp: Option<u64>)
-        ensures { Changes (row_in self.old) (row_in self.new) txn (option_map (with_sooner stamp) (row_in self.old txn)) }
+        ensures { Changes (row_in self.old) (row_in self.new) txn
+            (option_map (with_sooner stamp) (row_in self.old txn)) }
     {
         let Some(at) = self.slots.get(&txn) else {
             return;
@@ -77,7 +78,8 @@ impl Records {
 
     /// The transaction has committed with this stamp, and takes the keys.
     pub(crate) fn close(&mut self, txn: Txn, stamp: u64, keys: &mut Vec<Key>)
-        ensures { Changes (row_in self.old) (row_in self.new) txn (option_map (closed stamp keys.old.items) (row_in self.old txn)) }
+        ensures { Changes (row_in self.old) (row_in self.new) txn
+            (option_map (closed stamp keys.old.items) (row_in self.old txn)) }
     {
         let Some(at) = self.slots.get(&txn) else {
             return;
@@ -101,7 +103,8 @@ impl Records {
 
     /// Returns the number of records.
     pub(crate) fn len(&self) -> usize
-        ensures { (ts : List ℕ) → IsDistinct (eq_by_cmp nat_cmp) ts → ((t : ℕ) → is_member (eq_by_cmp nat_cmp) ts t ≡ is_some (row_in self.now t)) → result ≡ length ts }
+        ensures { (ts : List ℕ) → IsDistinct (eq_by_cmp nat_cmp) ts
+            → ((t : ℕ) → is_member (eq_by_cmp nat_cmp) ts t ≡ is_some (row_in self.now t)) → result ≡ length ts }
     {
         self.slots.len()
     }

@@ -88,7 +88,8 @@ impl Table {
 
     /// Pairs lead from the transaction to one with this stamp.
     pub(crate) fn add_out(&mut self, txn: Txn, stamp: Option<u64>)
-        ensures rows { Changes (row_at self.old) (row_at self.new) txn (option_map (with_sooner stamp) (row_at self.old txn)) }
+        ensures rows { Changes (row_at self.old) (row_at self.new) txn
+            (option_map (with_sooner stamp) (row_at self.old txn)) }
         ensures rest { self.new ≡ record self.old { records = self.new.records } }
     {
         self.records.add_out(txn, stamp);
@@ -96,8 +97,12 @@ impl Table {
 
     /// Returns what the read meets.
     pub(crate) fn met(&self, reading: &Reading) -> Met
-        ensures pivot { IsTidy self.now → IsSmallestRow (row_at self.now) (read_pivot reading.now.snapshot reading.now.low reading.now.high) result.pivot }
-        ensures first { IsTidy self.now → IsLeastStamp (row_at self.now) (read_conflict reading.now.snapshot reading.now.low reading.now.high) result.first }
+        ensures pivot { IsTidy self.now
+            → IsSmallestRow (row_at self.now) (read_pivot reading.now.snapshot reading.now.low reading.now.high)
+            result.pivot }
+        ensures first { IsTidy self.now
+            → IsLeastStamp (row_at self.now) (read_conflict reading.now.snapshot reading.now.low reading.now.high)
+            result.first }
     {
         self.writes.met(&self.records, reading, self.last)
     }
@@ -131,7 +136,8 @@ impl Table {
 
     /// The reader gets a pair to the writer, which commits with this stamp.
     pub(crate) fn meet(&mut self, writer: &Writer, stamp: u64, reader: Txn)
-        ensures rows { Changes (row_at self.old) (row_at self.new) reader (option_map (met writer.now.txn writer.now.snapshot stamp reader) (row_at self.old reader)) }
+        ensures rows { Changes (row_at self.old) (row_at self.new) reader
+            (option_map (met writer.now.txn writer.now.snapshot stamp reader) (row_at self.old reader)) }
         ensures rest { self.new ≡ record self.old { records = self.new.records } }
     {
         let apart = match self.get(reader) {
@@ -145,8 +151,10 @@ impl Table {
 
     /// The transaction has committed with the keys that were judged.
     pub(crate) fn close(&mut self, txn: Txn, stamp: u64)
-        ensures rows { Changes (row_at self.old) (row_at self.new) txn (option_map (closed stamp self.old.judged.items) (row_at self.old txn)) }
-        ensures tidy { is_open_row (row_at self.old txn) ≡ true → stamp ≡ suc self.old.last → IsPrepared self.old txn self.old.judged.items → IsTidy self.old → IsTidy self.new }
+        ensures rows { Changes (row_at self.old) (row_at self.new) txn
+            (option_map (closed stamp self.old.judged.items) (row_at self.old txn)) }
+        ensures tidy { is_open_row (row_at self.old txn) ≡ true → stamp ≡ suc self.old.last
+            → IsPrepared self.old txn self.old.judged.items → IsTidy self.old → IsTidy self.new }
         ensures last { self.new.last ≡ stamp }
     {
         self.open.remove(&txn);
@@ -186,7 +194,8 @@ impl Table {
         ensures tidy { IsTidy self.old → IsTidy self.new }
         ensures last { self.new.last ≡ self.old.last }
         ensures same { IfNone result ((x : ℕ) → row_at self.new x ≡ row_at self.old x) }
-        ensures rest { IfNone result (IsTidy self.old → (t n : ℕ) → stamp_in (row_at self.old t) ≡ Some n → comes_after (Some n) oldest ≡ true) }
+        ensures rest { IfNone result (IsTidy self.old → (t n : ℕ) → stamp_in (row_at self.old t) ≡ Some n →
+            comes_after (Some n) oldest ≡ true) }
     {
         let Some(first) = self.closed.front() else {
             return None;
@@ -207,7 +216,10 @@ impl Table {
     fn drop_record(&mut self, txn: Txn)
         ensures rows { Changes (row_at self.old) (row_at self.new) txn None }
         ensures rest { self.new ≡ record self.old { records = self.new.records; writes = self.new.writes } }
-        ensures indexed { IsIndexed (λ t. commit_in (row_at self.old t)) (writer_in self.old.writes) self.old.last self.old.judged.items → IsIndexed (λ t. commit_in (row_at self.new t)) (writer_in self.new.writes) self.old.last self.old.judged.items }
+        ensures indexed { IsIndexed (λ t. commit_in (row_at self.old t)) (writer_in self.old.writes) self.old.last
+            self.old.judged.items
+            → IsIndexed (λ t. commit_in (row_at self.new t)) (writer_in self.new.writes) self.old.last
+            self.old.judged.items }
     {
         let Some(kept) = self.records.remove(txn) else {
             return;
@@ -220,7 +232,8 @@ impl Table {
 
     /// Returns the number of transactions that have a record.
     pub(crate) fn len(&self) -> usize
-        ensures { (ts : List ℕ) → IsDistinct (eq_by_cmp nat_cmp) ts → ((t : ℕ) → is_member (eq_by_cmp nat_cmp) ts t ≡ is_some (row_at self.now t)) → result ≡ length ts }
+        ensures { (ts : List ℕ) → IsDistinct (eq_by_cmp nat_cmp) ts
+            → ((t : ℕ) → is_member (eq_by_cmp nat_cmp) ts t ≡ is_some (row_at self.now t)) → result ≡ length ts }
     {
         self.records.len()
     }

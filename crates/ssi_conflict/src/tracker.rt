@@ -81,7 +81,9 @@ fn any_pivots_with(table: &Table, txn: Txn, readers: &[Txn]) -> bool
 
 /// The readers get their pairs to the writer.
 fn meet_all(table: &mut Table, writer: &Writer, stamp: u64, readers: &[Txn])
-    ensures rows { (r : ℕ) → row_at table.new r ≡ option_map (met_if writer.now.txn writer.now.snapshot stamp readers.now r) (row_at table.old r) }
+    ensures rows { (r : ℕ)
+        → row_at table.new r ≡ option_map (met_if writer.now.txn writer.now.snapshot stamp readers.now r)
+        (row_at table.old r) }
     ensures rest { table.new ≡ record table.old { records = table.new.records } }
 {
     for reader in readers {
@@ -106,8 +108,10 @@ impl<M: Marks> Tracker<M> {
     /// Begins a transaction, whose snapshot is the greatest stamp so far. Its number is above all earlier ones.
     /// `AllocError` if out of memory: all is as before then.
     pub fn on_begin(&mut self, txn: Txn, snapshot: u64) -> Result<(), AllocError>
-        ensures begun { (calls : List Call) → Stands M.marked self.old calls → IsAllowed (Begins txn snapshot) calls → OnOk result (Stands M.marked self.new (Begins txn snapshot ∷ calls)) }
-        ensures refused { (calls : List Call) → Stands M.marked self.old calls → IsAllowed (Begins txn snapshot) calls → OnErr result (Stands M.marked self.new calls) }
+        ensures begun { (calls : List Call) → Stands M.marked self.old calls → IsAllowed (Begins txn snapshot) calls
+            → OnOk result (Stands M.marked self.new (Begins txn snapshot ∷ calls)) }
+        ensures refused { (calls : List Call) → Stands M.marked self.old calls → IsAllowed (Begins txn snapshot) calls
+            → OnErr result (Stands M.marked self.new calls) }
     {
         self.table.open(self.alloc, txn, snapshot)
     }
@@ -118,8 +122,10 @@ impl<M: Marks> Tracker<M> {
     /// It walks the writes of kept transactions: of a single key only those that came after the snapshot, of a range
     /// all. Each takes logarithmic time.
     pub fn on_read(&mut self, txn: Txn, lo: Key, hi: Key) -> Result<Answer, AllocError>
-        ensures stands { (calls : List Call) → Stands M.marked self.old calls → IsAllowed (Reads txn lo hi) calls → Stands M.marked self.new (carried (Reads txn lo hi) calls result) }
-        ensures answer { (calls : List Call) → Stands M.marked self.old calls → IsAllowed (Reads txn lo hi) calls → IfOk result (λ a. IsSmallest IsOrderedPivot (Reads txn lo hi ∷ calls) (pivot_of a)) }
+        ensures stands { (calls : List Call) → Stands M.marked self.old calls → IsAllowed (Reads txn lo hi) calls
+            → Stands M.marked self.new (carried (Reads txn lo hi) calls result) }
+        ensures answer { (calls : List Call) → Stands M.marked self.old calls → IsAllowed (Reads txn lo hi) calls
+            → IfOk result (λ a. IsSmallest IsOrderedPivot (Reads txn lo hi ∷ calls) (pivot_of a)) }
     {
         let Some(kept) = self.table.get(txn) else {
             return Ok(Answer::Safe);
@@ -145,7 +151,9 @@ impl<M: Marks> Tracker<M> {
     /// not follow, this memory is kept until the next call of `judge`, which takes it over.
     pub fn judge(&mut self, txn: Txn, keys: &[Key]) -> Result<Answer, AllocError>
         ensures stands { (calls : List Call) → Stands M.marked self.old calls → Stands M.marked self.new calls }
-        ensures answer { (calls : List Call) (n : ℕ) → Stands M.marked self.old calls → IsAllowed (Commits txn n keys.now) calls → IfOk result (λ a. IsSmallest IsOrderedPivot (Commits txn n keys.now ∷ calls) (pivot_of a)) }
+        ensures answer { (calls : List Call) (n : ℕ) → Stands M.marked self.old calls
+            → IsAllowed (Commits txn n keys.now) calls
+            → IfOk result (λ a. IsSmallest IsOrderedPivot (Commits txn n keys.now ∷ calls) (pivot_of a)) }
         ensures ready { IfOk result (λ a. a ≡ Answer.Safe → IsReady M.marked self.new txn keys.now) }
     {
         find_readers(&mut self.readers, &self.marks, keys)?;
@@ -160,7 +168,8 @@ impl<M: Marks> Tracker<M> {
     /// call, with the same keys, and returned `Safe`. Adds the pairs with those who have read one of the keys, and takes
     /// no memory.
     pub fn on_commit(&mut self, txn: Txn, stamp: u64, keys: &[Key])
-        ensures { (calls : List Call) → Stands M.marked self.old calls → IsAllowed (Commits txn stamp keys.now) calls → IsReady M.marked self.old txn keys.now → Stands M.marked self.new (Commits txn stamp keys.now ∷ calls) }
+        ensures { (calls : List Call) → Stands M.marked self.old calls → IsAllowed (Commits txn stamp keys.now) calls
+            → IsReady M.marked self.old txn keys.now → Stands M.marked self.new (Commits txn stamp keys.now ∷ calls) }
     {
         let Some(kept) = self.table.get(txn) else {
             return;
@@ -176,7 +185,8 @@ impl<M: Marks> Tracker<M> {
 
     /// Aborts an open transaction, and takes no memory. Its pairs stay.
     pub fn on_abort(&mut self, txn: Txn)
-        ensures { (calls : List Call) → Stands M.marked self.old calls → IsAllowed (Aborts txn) calls → Stands M.marked self.new (Aborts txn ∷ calls) }
+        ensures { (calls : List Call) → Stands M.marked self.old calls → IsAllowed (Aborts txn) calls
+            → Stands M.marked self.new (Aborts txn ∷ calls) }
     {
         self.table.remove(txn);
         self.marks.forget(txn);

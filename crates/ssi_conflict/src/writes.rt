@@ -34,8 +34,10 @@ impl Writes {
 
     /// Adds writes of these keys. If out of memory, some of them are there, and all others are as before.
     pub(crate) fn add(&mut self, keys: &[Key], before: u64, txn: Txn) -> Result<(), AllocError>
-        ensures added { OnOk result ((k : List ℕ) → has_key keys.now k ≡ true → writer_in self.new k before ≡ Some txn) }
-        ensures others { (k : List ℕ) (a : ℕ) → is_one_of keys.now before k a ≡ false → writer_in self.new k a ≡ writer_in self.old k a }
+        ensures added { OnOk result ((k : List ℕ) → has_key keys.now k ≡ true
+            → writer_in self.new k before ≡ Some txn) }
+        ensures others { (k : List ℕ) (a : ℕ) → is_one_of keys.now before k a ≡ false
+            → writer_in self.new k a ≡ writer_in self.old k a }
     {
         for key in keys {
             let write = Write { key: *key, before };
@@ -46,7 +48,8 @@ impl Writes {
 
     /// Removes the writes of these keys.
     pub(crate) fn remove(&mut self, keys: &[Key], before: u64)
-        ensures { (k : List ℕ) (a : ℕ) → writer_in self.new k a ≡ cond (is_one_of keys.now before k a) None (writer_in self.old k a) }
+        ensures { (k : List ℕ) (a : ℕ)
+            → writer_in self.new k a ≡ cond (is_one_of keys.now before k a) None (writer_in self.old k a) }
     {
         for key in keys {
             let write = Write { key: *key, before };
@@ -57,8 +60,8 @@ impl Writes {
     /// Returns what the read meets of the commits up to the stamp `last`. It walks the entries of the keys that are read,
     /// of a single key only those above the snapshot.
     pub(crate) fn met(&self, records: &Records, reading: &Reading, last: u64) -> Met
-        ensures pivot { IsLowest (writer_in self.now) (pivot_at (row_in records.now) reading.now.snapshot last reading.now.low reading.now.high) result.pivot }
-        ensures first { IsLowest (writer_in self.now) (stamp_at (row_in records.now) reading.now.snapshot last reading.now.low reading.now.high) result.first }
+        ensures pivot { IsLowest (writer_in self.now) (pivot_at (row_in records.now) reading.now last) result.pivot }
+        ensures first { IsLowest (writer_in self.now) (stamp_at (row_in records.now) reading.now last) result.first }
     {
         let from = Write {
             key: reading.low,

@@ -9,6 +9,7 @@ use Rattle.std.specs.BTreeMap.{get}
 use Rattle.adya_values.specs.Meaning.Keys.{lies_in}
 use Rattle.ssi_conflict.specs.Computing.Steps.{is_earlier}
 use Rattle.ssi_conflict.specs.Machinery.Rows.{Row, sooner}
+use Rattle.ssi_conflict.specs.declared.reading.Reading.{Reading}
 use Rattle.ssi_conflict.specs.declared.writes.Write.{Write}
 use Rattle.ssi_conflict.specs.declared.writes.Writes.{Writes}
 
@@ -44,7 +45,8 @@ pub record IsStamp (n last : ℕ) : Type 0 where
 
 -- the index has all writes of these commits, with stamps up to the last; and besides only the judged keys, under the
 -- next stamp
-pub record IsIndexed (commit : ℕ → Option (ℕ × List (List ℕ))) (writer : List ℕ → ℕ → Option ℕ) (last : ℕ) (judged : List (List ℕ)) : Type 0 where
+pub record IsIndexed (commit : ℕ → Option (ℕ × List (List ℕ))) (writer : List ℕ → ℕ → Option ℕ) (last : ℕ)
+    (judged : List (List ℕ)) : Type 0 where
   pub found : (t a : ℕ) (k : List ℕ) → Wrote commit t (suc a) k → writer k a ≡ Some t
   pub only : (t a : ℕ) (k : List ℕ) → writer k a ≡ Some t → Wrote commit t (suc a) k ⊎ ((a ≡ last) × Contains judged k)
   pub past : (t n : ℕ) (ks : List (List ℕ)) → commit t ≡ Some (n, ks) → IsStamp n last
@@ -58,17 +60,17 @@ stamp_in None = None
 stamp_in (Some u) = u.stamp
 
 -- the key is read, and its commit came after the snapshot, and not after the last one
-abbrev pub is_met : ℕ → ℕ → List ℕ → List ℕ → Write → Bool
-is_met s last low high w = nat_le s w.before && (nat_lt w.before last && lies_in low high w.key)
+abbrev pub is_met : Reading → ℕ → Write → Bool
+is_met r last w = nat_le r.snapshot w.before && (nat_lt w.before last && lies_in r.low r.high w.key)
 
 -- the writer, if the read meets the write and would make the writer a pivot
-abbrev pub pivot_at : (ℕ → Option Row) → ℕ → ℕ → List ℕ → List ℕ → Write × ℕ → Option ℕ
-pivot_at row s last low high e =
-    if is_met s last low high e.0 && row_passes (λ u. is_earlier u.first_out u.stamp) (row e.1) then Some e.1 else None
+abbrev pub pivot_at : (ℕ → Option Row) → Reading → ℕ → Write × ℕ → Option ℕ
+pivot_at row r last e =
+    if is_met r last e.0 && row_passes (λ u. is_earlier u.first_out u.stamp) (row e.1) then Some e.1 else None
 
 -- the stamp of the writer, if the read meets the write
-abbrev pub stamp_at : (ℕ → Option Row) → ℕ → ℕ → List ℕ → List ℕ → Write × ℕ → Option ℕ
-stamp_at row s last low high e = if is_met s last low high e.0 then stamp_in (row e.1) else None
+abbrev pub stamp_at : (ℕ → Option Row) → Reading → ℕ → Write × ℕ → Option ℕ
+stamp_at row r last e = if is_met r last e.0 then stamp_in (row e.1) else None
 
 -- the least of the first number and those that f gives
 abbrev pub lowest : {A : Type 0} → (A → Option ℕ) → Option ℕ → List A → Option ℕ

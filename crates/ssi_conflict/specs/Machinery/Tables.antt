@@ -51,7 +51,8 @@ AreRising row [] = Unit {0}
 AreRising row (t ∷ ts) = IsFirst row t ts × AreRising row ts
 
 -- the open ones are in a set, the committed ones are listed by their stamps, and their writes are in the index
-pub record Tidy (row : ℕ → Option Row) (opened : ℕ → Bool) (closed : List ℕ) (writer : List ℕ → ℕ → Option ℕ) (last : ℕ) (judged : List (List ℕ)) : Type 0 where
+pub record Tidy (row : ℕ → Option Row) (opened : ℕ → Bool) (closed : List ℕ) (writer : List ℕ → ℕ → Option ℕ)
+    (last : ℕ) (judged : List (List ℕ)) : Type 0 where
   pub opens : (t : ℕ) → opened t ≡ is_open_row (row t)
   pub listed : (t n : ℕ) → stamp_in (row t) ≡ Some n → Contains closed t
   pub rising : AreRising row closed

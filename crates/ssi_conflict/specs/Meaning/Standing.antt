@@ -29,14 +29,15 @@ pub record Holds {M : Type 0} (marked : M → ℕ → List ℕ → Bool) (tracke
   pub tidy : IsTidy tracker.table
   pub last : tracker.table.last ≡ last_stamp calls
 
--- the tracker stands for the calls: no pivot stands after them, and what the tracker has of each transaction is what the
--- calls say of it; and it has exactly the kept transactions
+-- the tracker stands for the calls: no pivot stands after them, what the tracker has of each transaction is what the
+-- calls say of it, and it has exactly the kept ones
 pub record Stands {M : Type 0} (marked : M → ℕ → List ℕ → Bool) (tracker : Tracker M) (calls : List Call) : Type 0 where
   pub holds : Holds marked tracker calls
   pub exact : (t : ℕ) → is_some (row_at tracker.table t) ≡ true → is_kept t calls ≡ true
 
 -- the tracker is ready for the commit of t with these keys: that takes no memory, and no pivot would stand after it
-pub record IsReady {M : Type 0} (marked : M → ℕ → List ℕ → Bool) (tracker : Tracker M) (t : ℕ) (ks : List (List ℕ)) : Type 0 where
+pub record IsReady {M : Type 0} (marked : M → ℕ → List ℕ → Bool) (tracker : Tracker M) (t : ℕ) (ks : List (List ℕ)) :
+    Type 0 where
   pub prepared : IsPrepared tracker.table t ks
   pub readers : (r : ℕ) → has_txn tracker.readers.items r ≡ list_any (marked tracker.marks r) ks
   pub safe : (calls : List Call) (n : ℕ) → Stands marked tracker calls → IsAllowed (Commits t n ks) calls

@@ -18,5 +18,6 @@ returns-in-Some-get_mut c =
     let new = record r { first_out = c.sooner-kept.result } in
     let row : Option ℕ → Row = λ o. record (row_of r) { first_out = o } in
     let w = Updates-with_value m.records i new (m.taken c.args.txn i old) in
-    row_set (get nat_cmp m.slots) (held m.records) (held (with_value m.records i new)) m.apart m.taken c.args.txn i old w.others
+    row_set (get nat_cmp m.slots) (held m.records) (held (with_value m.records i new)) m.apart m.taken c.args.txn i
+    old w.others
     (with_sooner c.args.stamp) r new value w.changed (ap row c.sooner-kept.ensures)

@@ -17,5 +17,7 @@ returns-in-Some-get_mut c =
     let value : held m.records i ≡ Some r = search rules in
     let new = record r { stamp = Some c.args.stamp; keys = c.swap.new.x } in
     let w = Updates-with_value m.records i new (m.taken c.args.txn i old) in
-    row_set (get nat_cmp m.slots) (held m.records) (held (with_value m.records i new)) m.apart m.taken c.args.txn i old w.others
-    (closed c.args.stamp c.args.keys.now.items) r new value w.changed (ap (λ v. record (row_of r) { stamp = Some c.args.stamp; keys = v.items }) c.swap.ensures.x_after)
+    row_set (get nat_cmp m.slots) (held m.records) (held (with_value m.records i new)) m.apart m.taken c.args.txn i
+    old w.others
+    (closed c.args.stamp c.args.keys.now.items) r new value w.changed
+    (ap (λ v. record (row_of r) { stamp = Some c.args.stamp; keys = v.items }) c.swap.ensures.x_after)

@@ -16,4 +16,5 @@ returns c ts once lists =
     c.len.ensures.len ∙ (sym (length-keys_of m.slots.entries) ∙
     length-from_same_keys (eq_by_cmp_equiv nat_cmp_total) (keys_of m.slots.entries) ts
     (IsDistinct-from_sorted nat_cmp (keys_of m.slots.entries) c.len.ensures.ordered) once
-    (λ t. sym (is_some-lookup (eq_by_cmp nat_cmp t) m.slots.entries) ∙ (sym (row_taken (get nat_cmp m.slots) (held m.records) m.taken t) ∙ sym (lists t))))
+    (λ t. sym (is_some-lookup (eq_by_cmp nat_cmp t) m.slots.entries) ∙
+    (sym (row_taken (get nat_cmp m.slots) (held m.records) m.taken t) ∙ sym (lists t))))

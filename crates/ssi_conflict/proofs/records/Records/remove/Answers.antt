@@ -12,8 +12,10 @@ invariant_of-self-2 c =
     let m = c.args.self.now in
     let old : get nat_cmp m.slots c.args.txn ≡ Some c.in-Some.at = search rules in
     record {
-      apart = apart_left (get nat_cmp m.slots) (held m.records) (held c.try_remove.new.self) m.apart m.taken c.args.txn c.in-Some.at old c.try_remove.ensures.updates.others _ c.remove.ensures.updates.0;
-      taken = taken_left (get nat_cmp m.slots) (held m.records) (held c.try_remove.new.self) m.apart m.taken c.args.txn c.in-Some.at old c.try_remove.ensures.updates.others _ c.remove.ensures.updates.0;
+      apart = apart_left (get nat_cmp m.slots) (held m.records) (held c.try_remove.new.self) m.apart m.taken
+          c.args.txn c.in-Some.at old c.try_remove.ensures.updates.others _ c.remove.ensures.updates.0;
+      taken = taken_left (get nat_cmp m.slots) (held m.records) (held c.try_remove.new.self) m.apart m.taken
+          c.args.txn c.in-Some.at old c.try_remove.ensures.updates.others _ c.remove.ensures.updates.0;
     }
 
 pub returns-clause-rows : goal.returns-clause-rows
@@ -21,6 +23,9 @@ returns-clause-rows c =
     let m = c.args.self.now in
     let old : get nat_cmp m.slots c.args.txn ≡ Some c.in-Some.at = search rules in
     record {
-      here = ap (λ o. option_map row_of (at_slot o (held c.try_remove.new.self))) (put_here (get nat_cmp m.slots) _ c.args.txn None c.remove.ensures.updates.0);
-      others = λ x ne. ap (option_map row_of) (rows_left (get nat_cmp m.slots) (held m.records) (held c.try_remove.new.self) m.apart m.taken c.args.txn c.in-Some.at old c.try_remove.ensures.updates.others _ c.remove.ensures.updates.0 x ne);
+      here = ap (λ o. option_map row_of (at_slot o (held c.try_remove.new.self)))
+          (put_here (get nat_cmp m.slots) _ c.args.txn None c.remove.ensures.updates.0);
+      others = λ x ne. ap (option_map row_of) (rows_left (get nat_cmp m.slots) (held m.records)
+          (held c.try_remove.new.self) m.apart m.taken c.args.txn c.in-Some.at old c.try_remove.ensures.updates.others
+          _ c.remove.ensures.updates.0 x ne);
     }

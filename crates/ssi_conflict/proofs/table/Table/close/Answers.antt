@@ -14,9 +14,12 @@ returns-clause-tidy c opened next ready tidy =
     let m = c.args.self.now in
     let t = c.args.txn in
     let after = closed_commit (row_at m t) m.last c.args.stamp m.judged.items next opened in
-    subst (λ ts. Tidy (row_in c.close.new.self) (contains nat_cmp c.remove.new.self) ts (writer_in m.writes) c.args.stamp c.close.new.keys.items)
+    subst (λ ts. Tidy (row_in c.close.new.self) (contains nat_cmp c.remove.new.self) ts (writer_in m.writes)
+    c.args.stamp c.close.new.keys.items)
     (sym (c.push_back.ensures.items ∙ cond-true _ _ _ (c.push_back.ensures.succeeds ready.room)))
-    (subst (λ n. Tidy (row_in c.close.new.self) (contains nat_cmp c.remove.new.self) (m.closed.items ++ t ∷ []) (writer_in m.writes) n c.close.new.keys.items) (sym next)
-    (tidy_closed (row_at m) (row_in c.close.new.self) (contains nat_cmp m.open) (contains nat_cmp c.remove.new.self) m.closed.items (writer_in m.writes) m.last m.judged.items c.close.new.keys.items t
+    (subst (λ n. Tidy (row_in c.close.new.self) (contains nat_cmp c.remove.new.self) (m.closed.items ++ t ∷ [])
+    (writer_in m.writes) n c.close.new.keys.items) (sym next)
+    (tidy_closed (row_at m) (row_in c.close.new.self) (contains nat_cmp m.open) (contains nat_cmp c.remove.new.self)
+    m.closed.items (writer_in m.writes) m.last m.judged.items c.close.new.keys.items t
     (option_map (closed c.args.stamp m.judged.items) (row_at m t)) c.close.ensures after.0 after.1 after.2
     (unstamped_gone (row_at m t) opened) ready.filed c.remove.ensures.updates.0 tidy))

@@ -14,8 +14,10 @@ returns-then-is_after-clause-rest c tidy t n e =
     let full : 0 < length m.closed.items = grind (arith, common_steps, c.front.ensures.variant, c.in-Some.is) in
     let w = head_is m.closed.items c.in-Some.first.now full c.in-Some.ensures.lookup in
     let row : row_at m c.in-Some.first.now ≡ Some (row_of c.in-Some-get.kept.now) = search rules in
-    let first = subst (λ ts. Tidy (row_at m) (contains nat_cmp m.open) ts (writer_in m.writes) m.last m.judged.items) w.1 tidy in
-    after_first (row_at m) c.in-Some.first.now w.0 c.args.oldest first.listed first.rising c.in-Some-get.kept.now.stamp (ap stamp_in row) (sym c.is_after.ensures ∙ c.if-is_after.true) t n e
+    let first = subst (λ ts. Tidy (row_at m) (contains nat_cmp m.open) ts (writer_in m.writes) m.last m.judged.items)
+    w.1 tidy in
+    after_first (row_at m) c.in-Some.first.now w.0 c.args.oldest first.listed first.rising
+    c.in-Some-get.kept.now.stamp (ap stamp_in row) (sym c.is_after.ensures ∙ c.if-is_after.true) t n e
 
 pub returns-clause-tidy : goal.returns-clause-tidy
 returns-clause-tidy c tidy =
@@ -24,7 +26,9 @@ returns-clause-tidy c tidy =
     let full : 0 < length m.closed.items = grind (arith, common_steps, c.front.ensures.variant, c.in-Some.is) in
     let w = head_is m.closed.items c.in-Some.first.now full c.in-Some.ensures.lookup in
     subst IsTidy (sym c.drop_record.ensures.rest)
-    (subst (λ ts. Tidy (row_at n) (contains nat_cmp m.open) ts (writer_in n.writes) m.last m.judged.items) (sym (c.pop_front.ensures.rest ∙ ap (drop 1) w.1))
-    (tidy_popped (row_at m) (row_at n) (contains nat_cmp m.open) c.in-Some.first.now w.0 (writer_in m.writes) (writer_in n.writes) m.last m.judged.items c.drop_record.ensures.rows
+    (subst (λ ts. Tidy (row_at n) (contains nat_cmp m.open) ts (writer_in n.writes) m.last m.judged.items)
+    (sym (c.pop_front.ensures.rest ∙ ap (drop 1) w.1))
+    (tidy_popped (row_at m) (row_at n) (contains nat_cmp m.open) c.in-Some.first.now w.0 (writer_in m.writes)
+    (writer_in n.writes) m.last m.judged.items c.drop_record.ensures.rows
     (c.drop_record.ensures.indexed tidy.indexed)
     (subst (λ ts. Tidy (row_at m) (contains nat_cmp m.open) ts (writer_in m.writes) m.last m.judged.items) w.1 tidy)))

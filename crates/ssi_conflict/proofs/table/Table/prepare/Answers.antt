@@ -10,7 +10,8 @@ pub returns-in_err-reserve-clause-tidy : goal.returns-in_err-reserve-clause-tidy
 returns-in_err-reserve-clause-tidy c tidy =
     let m = c.args.self.now in
     let cleared = indexed_cleared (λ t. commit_in (row_at m t)) (writer_in m.writes) _ m.last m.judged.items
-    (λ k a. c.remove.ensures k a ∙ ap (λ ks. cond (is_one_of ks m.last k a) None (writer_in m.writes k a)) c.deref.ensures.value) tidy.indexed in
+    (λ k a. c.remove.ensures k a ∙ ap (λ ks. cond (is_one_of ks m.last k a) None (writer_in m.writes k a))
+    c.deref.ensures.value) tidy.indexed in
     tidy_reindexed (row_at m) _ m.closed.items _ (writer_in m.writes) _ m.last m.judged.items _ c.reserve.ensures.items
     (indexed_judged _ _ m.last [] _ c.clear.ensures.items cleared) tidy
 
@@ -18,7 +19,8 @@ pub returns-in_err-extend_from_slice-clause-tidy : goal.returns-in_err-extend_fr
 returns-in_err-extend_from_slice-clause-tidy c tidy =
     let m = c.args.self.now in
     let cleared = indexed_cleared (λ t. commit_in (row_at m t)) (writer_in m.writes) _ m.last m.judged.items
-    (λ k a. c.remove.ensures k a ∙ ap (λ ks. cond (is_one_of ks m.last k a) None (writer_in m.writes k a)) c.deref.ensures.value) tidy.indexed in
+    (λ k a. c.remove.ensures k a ∙ ap (λ ks. cond (is_one_of ks m.last k a) None (writer_in m.writes k a))
+    c.deref.ensures.value) tidy.indexed in
     tidy_reindexed (row_at m) _ m.closed.items _ (writer_in m.writes) _ m.last m.judged.items _ c.reserve.ensures.items
     (indexed_judged _ _ m.last [] _ (c.in_err-extend_from_slice.ensures.items ∙ c.clear.ensures.items) cleared) tidy
 
@@ -26,9 +28,11 @@ pub returns-clause-tidy : goal.returns-clause-tidy
 returns-clause-tidy c tidy =
     let m = c.args.self.now in
     let cleared = indexed_cleared (λ t. commit_in (row_at m t)) (writer_in m.writes) _ m.last m.judged.items
-    (λ k a. c.remove.ensures k a ∙ ap (λ ks. cond (is_one_of ks m.last k a) None (writer_in m.writes k a)) c.deref.ensures.value) tidy.indexed in
+    (λ k a. c.remove.ensures k a ∙ ap (λ ks. cond (is_one_of ks m.last k a) None (writer_in m.writes k a))
+    c.deref.ensures.value) tidy.indexed in
     tidy_reindexed (row_at m) _ m.closed.items _ (writer_in m.writes) _ m.last m.judged.items _ c.reserve.ensures.items
-    (indexed_judged _ _ m.last c.deref-2.result.now _ (sym c.deref-2.ensures.value) (indexed_filled _ _ _ m.last c.deref-2.result.now c.add.ensures.others cleared)) tidy
+    (indexed_judged _ _ m.last c.deref-2.result.now _ (sym c.deref-2.ensures.value)
+    (indexed_filled _ _ _ m.last c.deref-2.result.now c.add.ensures.others cleared)) tidy
 
 pub returns-clause-prepared : goal.returns-clause-prepared
 returns-clause-prepared c =

@@ -8,7 +8,8 @@ pub returns : goal.returns
 returns g c calls stands ok =
     let rows = stands.holds.rows in
     c.retire.ensures (Aborts c.args.txn ∷ calls) (record {
-      rows = stands_after_abort c.args.txn calls (ok, rows.allowed) _ _ _ _ c.remove.ensures.rows.here c.remove.ensures.rows.others c.forget.ensures rows;
+      rows = stands_after_abort c.args.txn calls (ok, rows.allowed) _ _ _ _ c.remove.ensures.rows.here
+          c.remove.ensures.rows.others c.forget.ensures rows;
       tidy = c.remove.ensures.tidy (row_open _ _ calls rows c.args.txn ok) stands.holds.tidy;
       last = c.remove.ensures.last ∙ stands.holds.last;
     })

@@ -5,6 +5,7 @@ use Rattle.ssi_conflict.specs.Machinery.Records.{row_in}
 
 abbrev pub invariant-loop-write : goal.invariant-loop-write
 invariant-loop-write l =
-    let f = pivot_at (row_in l.records) l.reading.snapshot l.last l.reading.low l.reading.high in
-    let g = stamp_at (row_in l.records) l.reading.snapshot l.last l.reading.low l.reading.high in
-    (lowest f l.met.pivot l.write-iterator ≡ lowest f None l.fn.self.writers.entries) × (lowest g l.met.first l.write-iterator ≡ lowest g None l.fn.self.writers.entries)
+    let f = pivot_at (row_in l.records) l.reading l.last in
+    let g = stamp_at (row_in l.records) l.reading l.last in
+    (lowest f l.met.pivot l.write-iterator ≡ lowest f None l.fn.self.writers.entries) ×
+    (lowest g l.met.first l.write-iterator ≡ lowest g None l.fn.self.writers.entries)
