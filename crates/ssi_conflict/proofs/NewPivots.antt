@@ -109,7 +109,8 @@ module _ (t : ℕ) (low high : List ℕ) (calls : List Call) (ok : AreAllowed (R
   read_out p b done pair =
       elim (pair_before_read t low high calls ok p b pair) [
         | inl now ↦ absurd (both_ways (is_committed p calls)
-            (subst (λ x. is_committed x calls ≡ false) (is_reader p b now) (open_parts t calls ok.0.opened).uncommitted) done)
+            (subst (λ x. is_committed x calls ≡ false) (is_reader p b now)
+            (open_parts t calls ok.0.opened).uncommitted) done)
         | inr old ↦ old
       ]
 

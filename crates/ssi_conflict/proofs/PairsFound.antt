@@ -1,5 +1,5 @@
--- The pairs that calls add are those that one finds by looking back: of each call, a pair is there after it exactly if it
--- was there before, or the call adds it.
+-- The pairs that calls add are those that one finds by looking back: a pair is there after a call exactly if it was
+-- there before, or the call adds it.
 use Rattle.std.proofs.Common.{List, [], inl, inr, true, ℕ, ◌∷◌, ◌≡◌, ◌⊎◌}
 use Rattle.std.proofs.lemmas.Bool.{or_cases, or_left, or_right}
 use Rattle.ssi_conflict.specs.Computing.Steps.{adds, is_pair}

@@ -18,7 +18,8 @@ added_kept (Reads t low high) calls ok r u h =
     let seen = some_value (snapshot_of t calls) (open_parts t calls ok.0.opened).is_begun in
     let at : t ≡ r = by_reader t low high calls ok seen.0 seen.1 r u h in (
       subst (λ x. is_kept x calls ≡ true) at (kept_open t calls ok.0.opened),
-      met_is_kept t low high calls ok seen.0 seen.1 u (subst (λ x. adds (Reads t low high) calls x u ≡ true) (sym at) h),
+      met_is_kept t low high calls ok seen.0 seen.1 u
+          (subst (λ x. adds (Reads t low high) calls x u ≡ true) (sym at) h),
     )
 added_kept (Commits t n ks) calls ok r u h =
     let at : t ≡ u = by_writer t n ks calls ok r u h in (
