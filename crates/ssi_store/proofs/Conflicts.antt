@@ -22,7 +22,8 @@ first_is_least p [] r k e j c h = absurd (none_contained j c)
 first_is_least p (x ∷ ks) r k e j c h =
     elim (cases_Bool (p x)) [
       | inl holds ↦
-          let here : x ≡ k = same_Some x k (sym (cond-true {A = Option (List ℕ)} (p x) (Some x) (find p ks) holds) ∙ e) in
+          let here : x ≡ k = same_Some x k
+          (sym (cond-true {A = Option (List ℕ)} (p x) (Some x) (find p ks) holds) ∙ e) in
           elim (Contains-cases x ks j c) [
             | inl same ↦ key_le-from_eq k j (sym here ∙ same)
             | inr later ↦ key_le-from_lt k j (subst (λ y. key_lt y j ≡ true) here (head_below x ks j r later))
@@ -54,4 +55,5 @@ module _ (t : ℕ) (log : List Act) where
 
 pub conflict_is_least : ConflictIsLeast
 conflict_is_least t log found =
-    (least_found t log found, λ least. least_is_one t log (conflict t log) found (least_found t log (conflict t log) refl) least)
+    let is : IsLeastOvertaken t log (conflict t log) = least_found t log (conflict t log) refl in
+    (least_found t log found, λ least. least_is_one t log (conflict t log) found is least)

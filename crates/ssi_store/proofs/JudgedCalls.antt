@@ -21,7 +21,8 @@ is_upward (Do.ScanFirst s low high n) = key_le low high
 is_upward command = true
 
 module _ (t : ℕ) (log : List Act) (sound : Sound log) (live : is_open t log ≡ true) where
-  allowed_after : (m : Command) (act : Act) → judged t log m ≡ Some act → is_upward m ≡ true → AreAllowed (tracked (act ∷ log))
+  allowed_after : (m : Command) (act : Act) → judged t log m ≡ Some act → is_upward m ≡ true
+      → AreAllowed (tracked (act ∷ log))
   allowed_after (Do.Begin s) act e up = absurd (none-some act e)
   allowed_after (Do.Put s k v) act e up = absurd (none-some act e)
   allowed_after (Do.Del s k) act e up = absurd (none-some act e)

@@ -9,9 +9,9 @@ use ssi_conflict::laws::{
 use ssi_recorder::laws::commits_are_listed;
 use ssi_versions::laws::held_shows;
 
-/// The history of a course that is over is a checked snapshot history without a dangerous structure, by either rule, and
-/// each of its anti-dependencies between concurrent transactions is a pair. So a tracker meets all conflicts that there
-/// are (Cahill, Roehm and Fekete 2008, section 3), and the history is serializable.
+/// The history of a course that is over is a checked snapshot history without a dangerous structure, by either rule,
+/// and each of its anti-dependencies between concurrent transactions is a pair. So a tracker meets all conflicts that
+/// there are (Cahill, Roehm and Fekete 2008, section 3), and the history is serializable.
 pub fn finished_are_covered()
     ensures two_pair { FinishedAreCovered }
     ensures commit_order { OrderedFinishedAreCovered }
@@ -33,14 +33,15 @@ pub fn dumped_are_covered()
     commits_are_listed();
 }
 
-/// The history of a course records it, whatever names the pivots. So a history is no invention: its events are the steps
-/// that were answered, in their order.
+/// The history of a course records it, whatever names the pivots. So a history is no invention: its events are the
+/// steps that were answered, in their order.
 pub fn courses_are_recorded()
     ensures finished { FinishedRecord }
     ensures so_far { DumpedRecord }
 {}
 
-/// The store keeps to what its tracker and its versions ask of their callers. So all of their laws hold of every course.
+/// The store keeps to what its tracker and its versions ask of their callers. So all of their laws hold of every
+/// course.
 pub fn calls_are_allowed()
     ensures { CallsAreAllowed }
 {}
@@ -69,8 +70,8 @@ pub fn unsafe_names_smallest()
     quiet_calls_make_no_pair();
 }
 
-/// What the commit-order rule answers Unsafe the two-pair rule does too, with the same pivot or a smaller one. So to look
-/// at the order of the commits only saves transactions (Ports and Grittner 2012, section 3.3).
+/// What the commit-order rule answers Unsafe the two-pair rule does too, with the same pivot or a smaller one. So to
+/// look at the order of the commits only saves transactions (Ports and Grittner 2012, section 3.3).
 pub fn ordered_refuses_no_more()
     ensures { OrderedRefusesNoMore }
 {
@@ -95,14 +96,14 @@ pub fn sessions_are_in_order()
     ensures { SessionsAreInOrder }
 {}
 
-/// The key of a conflict is the smallest one that the transaction wrote and another one has committed since it started. So
-/// only the keys of the transaction itself can be in conflict.
+/// The key of a conflict is the smallest one that the transaction wrote and another one has committed since it
+/// started. So only the keys of the transaction itself can be in conflict.
 pub fn conflict_is_least()
     ensures { ConflictIsLeast }
 {}
 
-/// A scan lists of each key of its range what its transaction sees of it, by rising key. So it misses no key (Adya 1999,
-/// section 3.1.3).
+/// A scan lists of each key of its range what its transaction sees of it, by rising key. So it misses no key (Adya
+/// 1999, section 3.1.3).
 pub fn scans_list_seen()
     ensures { ScansListSeen }
 {}

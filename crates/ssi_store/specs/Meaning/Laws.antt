@@ -148,7 +148,8 @@ NoPivotStands = (c : Course) → Follows smallest_pivot c → smallest_pivot (tr
 
 -- likewise by the commit-order rule
 abbrev pub NoOrderedPivotStands : Type 0
-NoOrderedPivotStands = (c : Course) → Follows smallest_ordered_pivot c → smallest_ordered_pivot (tracked (acts c)) ≡ None
+NoOrderedPivotStands = (c : Course) → Follows smallest_ordered_pivot c
+    → smallest_ordered_pivot (tracked (acts c)) ≡ None
 
 -- the smallest overtaken key of the transaction, or nothing if no key is overtaken
 abbrev pub IsLeastOvertaken : ℕ → List Act → Option (List ℕ) → Type 0
