@@ -2,6 +2,7 @@
 //! devices that fail.
 
 mod audit;
+mod chains;
 mod check;
 mod edges;
 mod graphs;
@@ -9,6 +10,7 @@ mod lines;
 mod marks;
 mod order;
 mod random_histories;
+mod recorder;
 mod run_audit;
 mod run_order;
 mod run_pipe;

@@ -1,12 +1,12 @@
 -- What a reader of history lines knows of the lines that it was fed with.
-use Rattle.std.proofs.Common.{◌≡◌, ℕ, suc, ◌<◌, Bool, true, false, List, [], ◌∷◌, ◌++◌, length, map, Option}
+use Rattle.std.proofs.Common.{◌≡◌, ℕ, suc, ◌+◌, ◌<◌, Bool, true, false, List, [], ◌∷◌, ◌++◌, length, map, Option}
 use Rattle.std.proofs.Common.{Ok, Err, refl, sym, ap, subst, ◌∙◌, arith, append_assoc, append-nil}
 use Rattle.std.specs.Prelude.{not, ◌==◌}
 use Rattle.std.specs.Bool.{OnTrue, OnFalse}
 use Rattle.std.specs.List.{AllByRecursion, filter_map, list_all}
 use Rattle.std.specs.Cmp.Derive.{both_true}
 use Rattle.std.proofs.lemmas.Bool.Decides.{nat_tests}
-use Rattle.std.proofs.lemmas.List.{length-append}
+use Rattle.std.proofs.lemmas.List.{length-append, length-map}
 use Rattle.std.proofs.lemmas.List.Elements.{filter_map-append}
 use Rattle.adya_values.specs.Computing.Shapes.{is_shape, fits_edition}
 use Rattle.adya_values.specs.Meaning.Values.{history_of}
@@ -21,7 +21,7 @@ use Rattle.adya_text.specs.Computing.HistoryRuns.{allows, edition_at, stage_afte
 use Rattle.adya_text.specs.Computing.HistoryRuns.{event_in, unfinished_in, order_in, final_in}
 use Rattle.adya_text.specs.Machinery.HistoryReaders.{IsTaken, IsFed, IsRefused, IsAllowed, Takes}
 use Rattle.adya_text.specs.Meaning.Reading.{ReadsHistory}
-use Rattle.adya_text.specs.Machinery.HistoryReaders.{is_failed, is_done}
+use Rattle.adya_text.specs.Machinery.HistoryReaders.{is_failed, is_done, line_after, next_line}
 use Rattle.adya_values.specs.declared.edition.Edition.{Edition}
 use Rattle.adya_values.specs.declared.edition.Edition.TheVariants.{One}
 use Rattle.adya_text.specs.declared.history_reader.Stage.{Stage}
@@ -127,6 +127,78 @@ fed_undone tell r past fed undone (h, is, whole) = by_failed (is_failed r.stage)
         let done : is_done r.stage ≡ true = ap is_done same in
         absurd cc
 
+-- ---- the number of the line that comes next
+
+-- how many values the lines hold
+abbrev values_in : List Line → ℕ
+values_in xs = length (filter_map event_in xs) + (length (filter_map unfinished_in xs)
+    + (length (filter_map order_in xs) + length (filter_map final_in xs)))
+
+-- a line that may come is the head, the tail, or holds one value
+line_counts : (s : Stage) (x : Line) → allows s x ≡ true → suc (line_after s) ≡ line_after (stage_after s x) + values_in (x ∷ [])
+line_counts Head (HeadLine d) may = refl
+line_counts Head (EventLine v) may = absurd cc
+line_counts Head (UnfinishedLine t) may = absurd cc
+line_counts Head (OrderLine o) may = absurd cc
+line_counts Head (FinalLine f) may = absurd cc
+line_counts Head TailLine may = absurd cc
+line_counts (Events e) (HeadLine d) may = absurd cc
+line_counts (Events e) (EventLine v) may = refl
+line_counts (Events e) (UnfinishedLine t) may = refl
+line_counts (Events e) (OrderLine o) may = refl
+line_counts (Events e) (FinalLine f) may = refl
+line_counts (Events e) TailLine may = refl
+line_counts (Unfinished last) (HeadLine d) may = absurd cc
+line_counts (Unfinished last) (EventLine v) may = absurd cc
+line_counts (Unfinished last) (UnfinishedLine t) may = refl
+line_counts (Unfinished last) (OrderLine o) may = refl
+line_counts (Unfinished last) (FinalLine f) may = refl
+line_counts (Unfinished last) TailLine may = refl
+line_counts (Orders e last) (HeadLine d) may = absurd cc
+line_counts (Orders e last) (EventLine v) may = absurd cc
+line_counts (Orders e last) (UnfinishedLine t) may = absurd cc
+line_counts (Orders e last) (OrderLine o) may = refl
+line_counts (Orders e last) (FinalLine f) may = refl
+line_counts (Orders e last) TailLine may = refl
+line_counts (Finals e last) (HeadLine d) may = absurd cc
+line_counts (Finals e last) (EventLine v) may = absurd cc
+line_counts (Finals e last) (UnfinishedLine t) may = absurd cc
+line_counts (Finals e last) (OrderLine o) may = absurd cc
+line_counts (Finals e last) (FinalLine f) may = refl
+line_counts (Finals e last) TailLine may = refl
+line_counts (Done e) x may = absurd cc
+line_counts (Failed k) x may = absurd cc
+
+more_length : {Y : Type 0} (h : Line → Option Y) (x : Line) (xs : List Line)
+    → length (filter_map h (x ∷ xs)) ≡ length (filter_map h (x ∷ [])) + length (filter_map h xs)
+more_length h x xs = ap (λ r. length r) (filter_map-append h (x ∷ []) xs)
+    ∙ length-append (filter_map h (x ∷ [])) (filter_map h xs)
+
+lines_count : (s : Stage) (xs : List Line) → Run s xs → line_after s + length xs ≡ line_after (end s xs) + values_in xs
+lines_count s [] runs = omega arith
+lines_count s (x ∷ xs) runs =
+    let first = line_counts s x runs.0 in
+    let others = lines_count (stage_after s x) xs runs.1 in
+    let events = more_length event_in x xs in
+    let unfinished = more_length unfinished_in x xs in
+    let orders = more_length order_in x xs in
+    let finals = more_length final_in x xs in
+    omega (arith, first, others, events, unfinished, orders, finals)
+
+next_is : (r : HistoryReader) (lines : List (List ℕ)) → IsTaken r lines → next_line r ≡ suc (length lines)
+next_is r lines t =
+    let count = lines_count Head t.run.items t.run.runs in
+    let ends = ap line_after t.run.ends in
+    let events = sym (length-map r.events.items event_of) ∙ ap (λ xs. length xs) t.events in
+    let unfinished = ap (λ (xs : List ℕ). length xs) t.unfinished in
+    let orders = sym (length-map r.orders.items order_of) ∙ ap (λ xs. length xs) t.orders in
+    let finals = sym (length-map r.finals.items final_of) ∙ ap (λ xs. length xs) t.finals in
+    let told = ap (λ (xs : List (List ℕ)). length xs) t.run.same in
+    omega (arith, count, ends, events, unfinished, orders, finals, told, length-map t.run.items line_text)
+
+failed_same : (j k : ℕ) → Failed j ≡ Failed k → j ≡ k
+failed_same j k same = cc
+
 -- ---- one line more
 
 more_in : {Y : Type 0} (h : Line → Option Y) (old new : List Y) (items : List Line) (x : Line)
@@ -154,7 +226,6 @@ fed_taken old new past text x fed going allowed takes = record {
         unfinished = more_in unfinished_in _ _ t.run.items x t.unfinished takes.unfinished;
         orders = more_in order_in _ _ t.run.items x t.orders takes.orders;
         finals = more_in final_in _ _ t.run.items x t.finals takes.finals;
-        next = takes.next ∙ ap (λ (n : ℕ). suc n) t.next ∙ omega (arith, length-append past (text ∷ []));
       };
   faulty = λ k is.
       let failed : is_failed new.stage ≡ true = ap is_failed is in
@@ -163,15 +234,15 @@ fed_taken old new past text x fed going allowed takes = record {
 }
 
 pub fed_refused : LinesTell → (old new : HistoryReader) (past : List (List ℕ)) (text : List ℕ) → IsFed old past
-    → is_failed old.stage ≡ false → IsRefused old.stage text → new.stage ≡ Failed old.next
+    → is_failed old.stage ≡ false → IsRefused old.stage text → new.stage ≡ Failed (next_line old)
     → IsFed new (past ++ text ∷ [])
 fed_refused tell old new past text fed going none is = record {
   taken = λ still. let failed : is_failed new.stage ≡ true = ap is_failed is in absurd cc;
   faulty = λ k at.
       let t = fed.taken going in
       let run = t.run in
-      let here : Failed k ≡ Failed old.next = sym at ∙ is in
-      let line : k ≡ suc (length past) = cc in
+      let here : Failed k ≡ Failed (next_line old) = sym at ∙ is in
+      let line : k ≡ suc (length past) = failed_same k (next_line old) here ∙ next_is old past t in
       let fault = fault_at AreHistoryLines past text (run_begins old.stage past going run)
       (run_stops tell old.stage past text run none) in
       (omega (arith, length-append past (text ∷ [])), rw line fault);
@@ -195,10 +266,10 @@ failed_fault r past text rest k fed is cut =
 
 pub missing_fault : LinesTell → (r : HistoryReader) (past : List (List ℕ)) (text rest : List ℕ) → IsFed r past
     → is_failed r.stage ≡ false → (is_done r.stage ≡ true → rest ≡ [] → ⊥) → IsCut text past rest
-    → IsFaultLine AreHistoryLines text r.next
+    → IsFaultLine AreHistoryLines text (next_line r)
 missing_fault tell r past text rest fed going none cut =
-    let t = fed.taken going in
-    rw t.next (fault_after AreHistoryLines text past rest (fed_begins r past fed going)
+    subst (IsFaultLine AreHistoryLines text) (sym (next_is r past (fed.taken going)))
+    (fault_after AreHistoryLines text past rest (fed_begins r past fed going)
     (λ are empty. by_done (is_done r.stage) refl are empty) cut)
   where
     by_done : (b : Bool) → is_done r.stage ≡ b → AreHistoryLines past → rest ≡ [] → ⊥
@@ -390,16 +461,15 @@ unfailed (Orders e last) none = refl
 unfailed (Finals e last) none = refl
 unfailed (Done e) none = refl
 
-pub fed_none : (r : HistoryReader) → r.stage ≡ Head → r.next ≡ 1 → r.events.items ≡ []
+pub fed_none : (r : HistoryReader) → r.stage ≡ Head → r.events.items ≡ []
     → r.unfinished.items ≡ [] → r.orders.items ≡ [] → r.finals.items ≡ [] → IsFed r []
-fed_none r stage next events unfinished orders finals = record {
+fed_none r stage events unfinished orders finals = record {
   taken = λ going. record {
     run = record { items = []; goods = tt; runs = tt; ends = sym stage; same = refl };
     events = ap (map event_of) events;
     unfinished = unfinished;
     orders = ap (map order_of) orders;
     finals = ap (map final_of) finals;
-    next = next;
   };
   faulty = λ k is. let head : Failed k ≡ Head = sym is ∙ stage in absurd cc;
 }

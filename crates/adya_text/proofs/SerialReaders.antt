@@ -1,9 +1,9 @@
 -- What a reader of certificate lines knows of the lines that it was fed with.
-use Rattle.std.proofs.Common.{◌≡◌, ℕ, suc, Bool, true, false, List, [], ◌∷◌, ◌++◌, length, map, Ok, Err, refl}
+use Rattle.std.proofs.Common.{◌≡◌, ℕ, suc, ◌+◌, Bool, true, false, List, [], ◌∷◌, ◌++◌, length, map, Ok, Err, refl}
 use Rattle.std.proofs.Common.{sym, ap, subst, ◌∙◌, arith, append_assoc, append-nil}
 use Rattle.std.specs.Bool.{OnTrue, OnFalse}
 use Rattle.std.specs.List.{AllByRecursion, filter_map}
-use Rattle.std.proofs.lemmas.List.{length-append}
+use Rattle.std.proofs.lemmas.List.{length-append, length-map}
 use Rattle.std.proofs.lemmas.List.Elements.{filter_map-append}
 use Rattle.adya_values.specs.declared.serial.Serial.{Serial}
 use Rattle.adya_text.specs.Meaning.Texts.{IsSerial, serial_lines, AreSerialLines, with_ends, serial_text}
@@ -11,7 +11,7 @@ use Rattle.adya_text.specs.Meaning.Faults.{Begins, IsFaultLine, IsCut}
 use Rattle.adya_line.specs.Meaning.SerialLines.{Line, HeadLine, TxnLine, TailLine}
 use Rattle.adya_line.specs.Meaning.SerialLines.{IsLine, line_text, IsOnlyLineOf}
 use Rattle.adya_text.specs.Computing.SerialRuns.{allows, next_stage, stage_after, txn_in}
-use Rattle.adya_text.specs.Machinery.SerialReaders.{IsFed, IsRefused, IsAllowed, Takes, is_failed, is_done}
+use Rattle.adya_text.specs.Machinery.SerialReaders.{IsFed, IsTaken, IsRefused, IsAllowed, Takes, is_failed, is_done, line_after, next_line}
 use Rattle.adya_text.specs.Meaning.Reading.{ReadsSerial}
 use Rattle.adya_text.specs.declared.serial_reader.Stage.{Stage}
 use Rattle.adya_text.specs.declared.serial_reader.Stage.TheVariants.{Head, Txns, Done, Failed}
@@ -100,6 +100,40 @@ fed_undone tell r past fed undone (h, is, whole) = by_failed (is_failed r.stage)
         let done : is_done r.stage ≡ true = ap is_done same in
         absurd cc
 
+-- ---- the number of the line that comes next
+
+-- a line that may come is the head, the tail, or one of a transaction
+line_counts : (s : Stage) (x : Line) → allows s x ≡ true
+    → suc (line_after s) ≡ line_after (stage_after x) + length (filter_map txn_in (x ∷ []))
+line_counts Head HeadLine may = refl
+line_counts Head (TxnLine t) may = absurd cc
+line_counts Head TailLine may = absurd cc
+line_counts Txns HeadLine may = absurd cc
+line_counts Txns (TxnLine t) may = refl
+line_counts Txns TailLine may = refl
+line_counts Done x may = absurd cc
+line_counts (Failed k) x may = absurd cc
+
+lines_count : (s : Stage) (xs : List Line) → Run s xs
+    → line_after s + length xs ≡ line_after (end s xs) + length (filter_map txn_in xs)
+lines_count s [] runs = refl
+lines_count s (x ∷ xs) runs =
+    let first = line_counts s x runs.0 in
+    let others = lines_count (stage_after x) xs runs.1 in
+    let both = ap (λ (r : List ℕ). length r) (filter_map-append txn_in (x ∷ []) xs) in
+    omega (arith, first, others, both, length-append (filter_map txn_in (x ∷ [])) (filter_map txn_in xs))
+
+next_is : (r : SerialReader) (lines : List (List ℕ)) → IsTaken r lines → next_line r ≡ suc (length lines)
+next_is r lines t =
+    let count = lines_count Head t.run.items t.run.runs in
+    let ends = ap line_after t.run.ends in
+    let held = ap (λ (r : List ℕ). length r) t.txns in
+    let told = ap (λ (r : List (List ℕ)). length r) t.run.same in
+    omega (arith, count, ends, held, told, length-map t.run.items line_text)
+
+failed_same : (j k : ℕ) → Failed j ≡ Failed k → j ≡ k
+failed_same j k same = cc
+
 -- ---- one line more
 
 pub fed_taken : (old new : SerialReader) (past : List (List ℕ)) (text : List ℕ) (x : Line) → IsFed old past
@@ -119,7 +153,6 @@ fed_taken old new past text x fed going allowed takes = record {
         };
         txns = takes.txns ∙ ap (λ (r : List ℕ). r ++ filter_map txn_in (x ∷ [])) t.txns
             ∙ sym (filter_map-append txn_in t.run.items (x ∷ []));
-        next = takes.next ∙ ap (λ (n : ℕ). suc n) t.next ∙ omega (arith, length-append past (text ∷ []));
       };
   faulty = λ k is.
       let failed : is_failed new.stage ≡ true = ap is_failed is in
@@ -128,15 +161,15 @@ fed_taken old new past text x fed going allowed takes = record {
 }
 
 pub fed_refused : LinesTell → (old new : SerialReader) (past : List (List ℕ)) (text : List ℕ) → IsFed old past
-    → is_failed old.stage ≡ false → IsRefused old.stage text → new.stage ≡ Failed old.next
+    → is_failed old.stage ≡ false → IsRefused old.stage text → new.stage ≡ Failed (next_line old)
     → IsFed new (past ++ text ∷ [])
 fed_refused tell old new past text fed going none is = record {
   taken = λ still. let failed : is_failed new.stage ≡ true = ap is_failed is in absurd cc;
   faulty = λ k at.
       let t = fed.taken going in
       let run = t.run in
-      let here : Failed k ≡ Failed old.next = sym at ∙ is in
-      let line : k ≡ suc (length past) = cc in
+      let here : Failed k ≡ Failed (next_line old) = sym at ∙ is in
+      let line : k ≡ suc (length past) = failed_same k (next_line old) here ∙ next_is old past t in
       let fault = fault_at AreSerialLines past text (run_begins old.stage past going run)
       (run_stops tell old.stage past text run none) in
       (omega (arith, length-append past (text ∷ [])), rw line fault);
@@ -160,10 +193,10 @@ failed_fault r past text rest k fed is cut =
 
 pub missing_fault : LinesTell → (r : SerialReader) (past : List (List ℕ)) (text rest : List ℕ) → IsFed r past
     → is_failed r.stage ≡ false → (is_done r.stage ≡ true → rest ≡ [] → ⊥) → IsCut text past rest
-    → IsFaultLine AreSerialLines text r.next
+    → IsFaultLine AreSerialLines text (next_line r)
 missing_fault tell r past text rest fed going none cut =
-    let t = fed.taken going in
-    rw t.next (fault_after AreSerialLines text past rest (fed_begins r past fed going)
+    subst (IsFaultLine AreSerialLines text) (sym (next_is r past (fed.taken going)))
+    (fault_after AreSerialLines text past rest (fed_begins r past fed going)
     (λ are empty. by_done (is_done r.stage) refl are empty) cut)
   where
     by_done : (b : Bool) → is_done r.stage ≡ b → AreSerialLines past → rest ≡ [] → ⊥
@@ -218,12 +251,11 @@ unfailed Head none = refl
 unfailed Txns none = refl
 unfailed Done none = refl
 
-pub fed_none : (r : SerialReader) → r.stage ≡ Head → r.next ≡ 1 → r.txns.items ≡ [] → IsFed r []
-fed_none r stage next txns = record {
+pub fed_none : (r : SerialReader) → r.stage ≡ Head → r.txns.items ≡ [] → IsFed r []
+fed_none r stage txns = record {
   taken = λ going. record {
     run = record { items = []; goods = tt; runs = tt; ends = sym stage; same = refl };
     txns = txns;
-    next = next;
   };
   faulty = λ k is. let head : Failed k ≡ Head = sym is ∙ stage in absurd cc;
 }

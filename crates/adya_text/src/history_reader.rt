@@ -1,6 +1,6 @@
 //! A reader of history texts, line by line.
 
-ghost use Rattle.std.specs.Prelude.{◌≡◌, ◌↔◌, ◌++◌, ◌∷◌, [], List, true, ℕ, IsTrue, IfOk, OnOk, OnErr, IsErr};
+ghost use Rattle.std.specs.Prelude.{◌≡◌, ◌<◌, ◌↔◌, ◌+◌, ◌^◌, ◌++◌, ◌∷◌, [], List, length, true, ℕ, IsTrue, IfOk, OnOk, OnErr, IsErr};
 ghost use Rattle.std.specs.Prelude.{MatchOption, IsOk, map};
 ghost use Rattle.std.specs.Bool.{OnTrue, OnFalse};
 ghost use Rattle.adya_values.specs.Computing.Shapes.{fits_edition, is_shape};
@@ -11,7 +11,7 @@ ghost use Rattle.adya_text.specs.Meaning.Texts.{AreHistoryLines};
 ghost use Rattle.adya_text.specs.Meaning.Faults.{Begins, HasFront, IsCut};
 ghost use Rattle.adya_text.specs.Meaning.Reading.{IsOfText, ReadsHistory};
 ghost use Rattle.adya_text.specs.Machinery.HistoryReaders.{IsFed, IsRefused, IsAllowed, Takes, is_done, is_failed};
-ghost use Rattle.adya_text.specs.Machinery.HistoryReaders.{untold_history};
+ghost use Rattle.adya_text.specs.Machinery.HistoryReaders.{line_after, next_line, untold_history};
 
 use crate::line_reader::LineReader;
 use crate::read_fault::{ReadFault, Text};
@@ -97,6 +97,20 @@ impl Stage {
         }
     }
 
+    /// Returns the number of the line after the head and the tail that led to this stage.
+    fn line_after(&self) -> usize
+        ensures { result ≡ line_after self.now }
+    {
+        match self {
+            Stage::Head => 1,
+            Stage::Events { .. }
+            | Stage::Unfinished { .. }
+            | Stage::Orders { .. }
+            | Stage::Finals { .. } => 2,
+            Stage::Done { .. } | Stage::Failed { .. } => 3,
+        }
+    }
+
     /// Returns the stage after a line.
     fn after(&self, line: &HistoryLine) -> Stage
         ensures { result ≡ stage_after self.now (line_of line.now) }
@@ -124,7 +138,6 @@ impl Stage {
 pub(crate) struct HistoryReader {
     alloc: Global,
     stage: Stage,
-    next: usize,
     events: Vec<Event>,
     unfinished: Vec<Txn>,
     orders: Vec<Order>,
@@ -139,12 +152,19 @@ impl HistoryReader {
         HistoryReader {
             alloc,
             stage: Stage::Head,
-            next: 1,
             events: Vec::new(alloc),
             unfinished: Vec::new(alloc),
             orders: Vec::new(alloc),
             finals: Vec::new(alloc),
         }
+    }
+
+    /// Returns the number of the line that comes next. The lines before are the head, the tail and those of what the
+    /// reader holds, so the number fits.
+    fn next_line(&self) -> usize
+        ensures { result ≡ next_line self.now }
+    {
+        self.stage.line_after() + total(&self.events, &self.unfinished, &self.orders, &self.finals)
     }
 
     /// Returns the line by its kind, if it may come next.
@@ -166,7 +186,6 @@ impl HistoryReader {
         ensures { OnOk result (Takes self.old self.new (line_of line)) }
     {
         let stage = self.stage.after(&line);
-        let next = self.next.checked_add(1).ok_or(AllocError)?;
         match line {
             HistoryLine::Event(event) => self.events.push(event)?,
             HistoryLine::Unfinished(txn) => self.unfinished.push(txn)?,
@@ -175,7 +194,6 @@ impl HistoryReader {
             HistoryLine::Head(_) | HistoryLine::Tail => {}
         }
         self.stage = stage;
-        self.next = next;
         Ok(())
     }
 }
@@ -202,7 +220,10 @@ impl LineReader for HistoryReader {
         }
         match self.allowed(line)? {
             Some(line) => self.take(line)?,
-            None => self.stage = Stage::Failed { line: self.next },
+            None => {
+                let line = self.next_line();
+                self.stage = Stage::Failed { line };
+            }
         }
         Ok(())
     }
@@ -213,12 +234,12 @@ impl LineReader for HistoryReader {
             return Err(fault_at(line));
         }
         if !self.stage.is_done() {
-            return Err(fault_at(self.next));
+            return Err(fault_at(self.next_line()));
         }
         if !rest.is_empty() {
-            return Err(fault_at(self.next));
+            return Err(fault_at(self.next_line()));
         }
-        let next = self.next;
+        let next = self.next_line();
         let edition = self.stage.edition();
         // The numbers and the keys have been seen to rise line by line.
         match of_edition(
@@ -252,6 +273,14 @@ fn of_edition(
         Edition::One => History::new(events, orders, finals),
         Edition::Two => History::new_two(events, unfinished, orders, finals),
     }
+}
+
+/// Returns how many values these are.
+fn total(events: &[Event], unfinished: &[Txn], orders: &[Order], finals: &[FinalPair]) -> usize
+    ensures count { result ≡ length events.now + (length unfinished.now + (length orders.now + length finals.now)) }
+    ensures near { result < 2 ^ 63 }
+{
+    events.len() + (unfinished.len() + (orders.len() + finals.len()))
 }
 
 fn fault_at(line: usize) -> ReadFault

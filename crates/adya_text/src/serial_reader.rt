@@ -1,6 +1,6 @@
 //! A reader of certificate texts, line by line.
 
-ghost use Rattle.std.specs.Prelude.{◌≡◌, ◌↔◌, ◌++◌, ◌∷◌, [], List, ℕ, IsTrue, IfOk, OnOk, OnErr, IsErr, MatchOption};
+ghost use Rattle.std.specs.Prelude.{◌≡◌, ◌↔◌, ◌<◌, ◌^◌, ◌++◌, ◌∷◌, [], List, length, ℕ, IsTrue, IfOk, OnOk, OnErr, IsErr, MatchOption};
 ghost use Rattle.std.specs.Bool.{OnTrue, OnFalse};
 ghost use Rattle.adya_line.specs.Meaning.SerialLines.{line_of};
 ghost use Rattle.adya_text.specs.Computing.SerialRuns.{allows, stage_after};
@@ -8,7 +8,7 @@ ghost use Rattle.adya_text.specs.Meaning.Texts.{AreSerialLines};
 ghost use Rattle.adya_text.specs.Meaning.Faults.{Begins, HasFront, IsCut};
 ghost use Rattle.adya_text.specs.Meaning.Reading.{IsOfText, ReadsSerial};
 ghost use Rattle.adya_text.specs.Machinery.SerialReaders.{IsFed, IsRefused, IsAllowed, Takes, is_done, is_failed};
-ghost use Rattle.adya_text.specs.Machinery.SerialReaders.{untold_serial};
+ghost use Rattle.adya_text.specs.Machinery.SerialReaders.{line_after, next_line, untold_serial};
 
 use crate::line_reader::LineReader;
 use crate::read_fault::{ReadFault, Text};
@@ -52,6 +52,17 @@ impl Stage {
         }
     }
 
+    /// Returns the number of the line after the head and the tail that led to this stage.
+    fn line_after(&self) -> usize
+        ensures { result ≡ line_after self.now }
+    {
+        match self {
+            Stage::Head => 1,
+            Stage::Txns => 2,
+            Stage::Done | Stage::Failed { .. } => 3,
+        }
+    }
+
     /// Returns the stage after a line.
     fn after(line: &SerialLine) -> Stage
         ensures { result ≡ stage_after (line_of line.now) }
@@ -67,7 +78,6 @@ impl Stage {
 #[derive(Drop)]
 pub(crate) struct SerialReader {
     stage: Stage,
-    next: usize,
     txns: Vec<Txn>,
 }
 
@@ -78,9 +88,16 @@ impl SerialReader {
     {
         SerialReader {
             stage: Stage::Head,
-            next: 1,
             txns: Vec::new(alloc),
         }
+    }
+
+    /// Returns the number of the line that comes next. The lines before are the head, the tail and those of the
+    /// transactions, so the number fits.
+    fn next_line(&self) -> usize
+        ensures { result ≡ next_line self.now }
+    {
+        self.stage.line_after() + number_of(&self.txns)
     }
 
     /// Returns the line by its kind, if it may come next.
@@ -101,12 +118,10 @@ impl SerialReader {
         ensures { OnOk result (Takes self.old self.new (line_of line)) }
     {
         let stage = Stage::after(&line);
-        let next = self.next.checked_add(1).ok_or(AllocError)?;
         if let SerialLine::Txn(txn) = line {
             self.txns.push(txn)?;
         }
         self.stage = stage;
-        self.next = next;
         Ok(())
     }
 }
@@ -133,7 +148,10 @@ impl LineReader for SerialReader {
         }
         match self.allowed(line) {
             Some(line) => self.take(line)?,
-            None => self.stage = Stage::Failed { line: self.next },
+            None => {
+                let line = self.next_line();
+                self.stage = Stage::Failed { line };
+            }
         }
         Ok(())
     }
@@ -144,13 +162,20 @@ impl LineReader for SerialReader {
             return Err(fault_at(line));
         }
         if !self.stage.is_done() {
-            return Err(fault_at(self.next));
+            return Err(fault_at(self.next_line()));
         }
         if !rest.is_empty() {
-            return Err(fault_at(self.next));
+            return Err(fault_at(self.next_line()));
         }
         Ok(Serial::new(self.txns))
     }
+}
+
+fn number_of(txns: &[Txn]) -> usize
+    ensures count { result ≡ length txns.now }
+    ensures near { result < 2 ^ 63 }
+{
+    txns.len()
 }
 
 fn fault_at(line: usize) -> ReadFault

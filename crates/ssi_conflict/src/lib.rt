@@ -3,6 +3,7 @@
 #![tactic(auto)]
 
 mod answer;
+pub mod laws;
 mod reading;
 mod record;
 mod records;

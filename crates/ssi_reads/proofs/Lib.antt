@@ -3,3 +3,5 @@ pub mod ListedMarks
 pub mod Maps
 pub mod KeyedMarks
 pub mod RangedMarks
+pub mod Compared
+pub mod Prefixes

@@ -1,5 +1,5 @@
 -- What a reader of history lines holds of the lines that it was fed with.
-use Rattle.std.specs.Prelude.{◌≡◌, ℕ, suc, ◌≤◌, Bool, true, false, List, [], ◌∷◌, ◌++◌, length, map, Result, Ok, Err}
+use Rattle.std.specs.Prelude.{◌≡◌, ℕ, ◌+◌, ◌≤◌, Bool, true, false, List, [], ◌∷◌, ◌++◌, length, map, Result, Ok, Err}
 use Rattle.std.specs.List.{filter_map}
 use Rattle.adya_values.specs.Meaning.Histories.{event_of, order_of, final_of}
 use Rattle.adya_values.specs.declared.history.History.{History as HistoryValue}
@@ -34,6 +34,21 @@ is_done (Orders e last) = false
 is_done (Finals e last) = false
 is_done (Failed k) = false
 
+-- the number of the line after the head and the tail that led to the stage
+abbrev pub line_after : Stage → ℕ
+line_after Head = 1
+line_after (Events e) = 2
+line_after (Unfinished last) = 2
+line_after (Orders e last) = 2
+line_after (Finals e last) = 2
+line_after (Done e) = 3
+line_after (Failed k) = 3
+
+-- the number of the line that comes next
+abbrev pub next_line : HistoryReader → ℕ
+next_line r = line_after r.stage + (length r.events.items + (length r.unfinished.items
+    + (length r.orders.items + length r.finals.items)))
+
 -- each line is allowed where it comes, and the reader holds what the lines hold; the stage has their edition
 pub record IsTaken (r : HistoryReader) (lines : List (List ℕ)) : Type 0 where
   pub run : HasRun allows stage_after line_text IsLine Head r.stage lines
@@ -41,7 +56,6 @@ pub record IsTaken (r : HistoryReader) (lines : List (List ℕ)) : Type 0 where
   pub unfinished : r.unfinished.items ≡ filter_map unfinished_in run.items
   pub orders : map order_of r.orders.items ≡ filter_map order_in run.items
   pub finals : map final_of r.finals.items ≡ filter_map final_in run.items
-  pub next : r.next ≡ suc (length lines)
 
 -- the reader was fed with these lines: it has taken them, or one of them is faulty
 pub record IsFed (r : HistoryReader) (lines : List (List ℕ)) : Type 0 where
@@ -59,7 +73,6 @@ IsAllowed s text x = IsLineOf x text × (allows s x ≡ true)
 -- the new reader is the old one with what the line holds
 pub record Takes (old new : HistoryReader) (x : Line) : Type 0 where
   pub stage : new.stage ≡ stage_after old.stage x
-  pub next : new.next ≡ suc old.next
   pub events : map event_of new.events.items ≡ map event_of old.events.items ++ filter_map event_in (x ∷ [])
   pub unfinished : new.unfinished.items ≡ old.unfinished.items ++ filter_map unfinished_in (x ∷ [])
   pub orders : map order_of new.orders.items ≡ map order_of old.orders.items ++ filter_map order_in (x ∷ [])

@@ -1,5 +1,5 @@
 -- What a reader of certificate lines holds of the lines that it was fed with.
-use Rattle.std.specs.Prelude.{◌≡◌, ℕ, suc, ◌≤◌, Bool, true, false, List, [], ◌∷◌, ◌++◌, length, Result, Ok, Err}
+use Rattle.std.specs.Prelude.{◌≡◌, ℕ, ◌+◌, ◌≤◌, Bool, true, false, List, [], ◌∷◌, ◌++◌, length, Result, Ok, Err}
 use Rattle.std.specs.List.{filter_map}
 use Rattle.adya_values.specs.declared.serial.Serial.{Serial}
 use Rattle.adya_text.specs.Meaning.Texts.{AreSerialLines}
@@ -26,11 +26,21 @@ is_done Head = false
 is_done Txns = false
 is_done (Failed k) = false
 
+-- the number of the line after the head and the tail that led to the stage
+abbrev pub line_after : Stage → ℕ
+line_after Head = 1
+line_after Txns = 2
+line_after Done = 3
+line_after (Failed k) = 3
+
+-- the number of the line that comes next
+abbrev pub next_line : SerialReader → ℕ
+next_line r = line_after r.stage + length r.txns.items
+
 -- each line is allowed where it comes, and the reader holds what the lines hold
 pub record IsTaken (r : SerialReader) (lines : List (List ℕ)) : Type 0 where
   pub run : HasRun allows next_stage line_text IsLine Head r.stage lines
   pub txns : r.txns.items ≡ filter_map txn_in run.items
-  pub next : r.next ≡ suc (length lines)
 
 -- the reader was fed with these lines: it has taken them, or one of them is faulty
 pub record IsFed (r : SerialReader) (lines : List (List ℕ)) : Type 0 where
@@ -48,7 +58,6 @@ IsAllowed s text x = IsLineOf x text × (allows s x ≡ true)
 -- the new reader is the old one with what the line holds
 pub record Takes (old new : SerialReader) (x : Line) : Type 0 where
   pub stage : new.stage ≡ stage_after x
-  pub next : new.next ≡ suc old.next
   pub txns : new.txns.items ≡ old.txns.items ++ filter_map txn_in (x ∷ [])
 
 -- a result that says nothing of the text fits every text

@@ -3,4 +3,4 @@ use Rattle.adya_text.proofs.SerialReaders.{fed_none}
 use Rattle.adya_text.proofs.serial_reader.SerialReader.new.Goals as goal
 
 pub returns : goal.returns
-returns c = fed_none _ refl refl c.new.ensures.items
+returns c = fed_none _ refl c.new.ensures.items

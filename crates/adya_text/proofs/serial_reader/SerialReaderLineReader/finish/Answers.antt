@@ -1,7 +1,7 @@
 use Rattle.std.proofs.Common.{◌≡◌, [], length, ap, sym, ◌∙◌, rules, false, true}
 use Rattle.std.proofs.lemmas.Bool.{eqb-true, eq-eqb}
 use Rattle.std.proofs.lemmas.List.{nil_from_length}
-use Rattle.adya_text.specs.Machinery.SerialReaders.{is_failed, is_done}
+use Rattle.adya_text.specs.Machinery.SerialReaders.{is_failed, is_done, next_line}
 use Rattle.adya_text.specs.Meaning.Texts.{AreSerialLines}
 use Rattle.adya_text.proofs.PrefixFaults.{front_fault}
 use Rattle.adya_text.proofs.SerialReaders.{fed_begins, failed_fault, missing_fault, fed_serial, fault_is, unfailed}
@@ -16,7 +16,7 @@ pub returns-then-not-is_done-clause-answer : goal.returns-then-not-is_done-claus
 returns-then-not-is_done-clause-answer c = λ past fed text cut.
     let going : is_failed c.args.self.stage ≡ false = unfailed _ c.in_default.not-Failed in
     let undone : is_done c.args.self.stage ≡ false = sym c.is_done.ensures ∙ c.if-not-is_done.true in
-    fault_is text c.args.self.next _ c.fault_at-then-not-is_done.ensures
+    fault_is text (next_line c.args.self) _ (c.fault_at-then-not-is_done.ensures ∙ (search rules))
     (missing_fault c.serial_lines.ensures.one_text c.args.self past text c.args.rest.now fed going
     (λ done empty. absurd cc) cut)
 
@@ -25,7 +25,7 @@ returns-then-not-is_empty-clause-answer c = λ past fed text cut.
     let going : is_failed c.args.self.stage ≡ false = unfailed _ c.in_default.not-Failed in
     let some : c.is_empty.result ≡ false = c.if-not-is_empty.true in
     let none : (length c.args.rest.now ≡ 0) → c.is_empty.result ≡ true = λ e. c.is_empty.ensures ∙ eq-eqb _ 0 e in
-    fault_is text c.args.self.next _ c.fault_at-then-not-is_empty.ensures
+    fault_is text (next_line c.args.self) _ (c.fault_at-then-not-is_empty.ensures ∙ (search rules))
     (missing_fault c.serial_lines.ensures.one_text c.args.self past text c.args.rest.now fed going
     (λ done empty. let all =
     none (ap length empty) in absurd cc) cut)

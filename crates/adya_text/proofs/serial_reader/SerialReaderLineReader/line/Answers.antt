@@ -1,4 +1,5 @@
-use Rattle.std.proofs.Common.{sym, ◌∙◌, refl, rules}
+use Rattle.std.proofs.Common.{sym, ap, ◌∙◌, rules}
+use Rattle.adya_text.specs.declared.serial_reader.Stage.TheVariants.{Failed}
 use Rattle.adya_line.specs.Meaning.SerialLines.{line_of}
 use Rattle.adya_text.proofs.SerialReaders.{fed_taken, fed_refused, fed_failed}
 use Rattle.adya_text.proofs.serial_reader.SerialReaderLineReader.line.Goals as goal
@@ -15,4 +16,5 @@ returns-in_ok-take-in-Some c =
 pub returns-in-None : goal.returns-in-None
 returns-in-None c =
     λ past fed. fed_refused c.serial_lines.ensures.one_text c.args.self.now _ past c.args.line.now fed
-    (sym c.has_failed.ensures ∙ c.if-has_failed.false) (search rules) refl
+    (sym c.has_failed.ensures ∙ c.if-has_failed.false) (search rules)
+    (ap Failed c.next_line-line.ensures)

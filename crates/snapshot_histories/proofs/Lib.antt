@@ -1,0 +1,3 @@
+pub mod Commits
+pub mod Turns
+pub mod Cycles

@@ -1,0 +1,16 @@
+-- Which cycles a snapshot history can have (Fekete, Liarokapis, O'Neil, O'Neil and Shasha 2005).
+use Rattle.std.specs.Prelude.{ℕ, List}
+use Rattle.adya_values.specs.Meaning.Histories.{History}
+use Rattle.adya_values.specs.Meaning.Edges.{Edge, IsCycle}
+use Rattle.adya_values.specs.Meaning.Acceptance.{IsChecked}
+use Rattle.snapshot_histories.specs.Meaning.Snapshots.{IsSnapshotHistory, IsSafe}
+use Rattle.snapshot_histories.specs.Meaning.Cycles.{HasDanger}
+
+-- each cycle of a checked snapshot history holds a dangerous structure
+abbrev pub CyclesAreDangerous : Type 0
+CyclesAreDangerous = (h : History) (starts : ℕ → ℕ) → IsChecked h → IsSnapshotHistory h starts
+    → (cycle : List Edge) → IsCycle h cycle → HasDanger h starts cycle
+
+-- so a safe history has no cycle
+abbrev pub SafeHistoriesHaveNoCycle : Type 0
+SafeHistoriesHaveNoCycle = (h : History) (starts : ℕ → ℕ) → IsSafe h starts → (cycle : List Edge) → IsCycle h cycle → ⊥

@@ -1,0 +1,33 @@
+-- A safe history has no cycle, so none is found of it, and it has a certificate since it shows no phenomenon.
+use Rattle.std.proofs.Common.{◌≡◌, Vec, Global, map, inl, inr, subst}
+use Rattle.adya_values.specs.declared.history.History.{History as HistoryValue}
+use Rattle.adya_values.specs.Meaning.Histories.{History}
+use Rattle.adya_values.specs.Meaning.Values.{history_of}
+use Rattle.adya_values.specs.Meaning.Edges.{IsCycle}
+use Rattle.adya_dsg.specs.declared.edge.Edge.{Edge}
+use Rattle.adya_dsg.specs.declared.found.Found.TheVariants.{Cycle}
+use Rattle.adya_dsg.specs.Meaning.Values.{edge_of}
+use Rattle.adya_dsg.specs.Meaning.Found.{HasCertificate, IsFound}
+use Rattle.adya_dsg.specs.Meaning.Laws.{CertifiedWhereNoPhenomenon}
+use Rattle.snapshot_histories.specs.Meaning.Laws.{SafeHistoriesHaveNoCycle}
+use Rattle.ssi_certify.specs.Meaning.Laws.{IsSafeHistory}
+
+pub safe_accepted : SafeHistoriesHaveNoCycle → CertifiedWhereNoPhenomenon → (h : History) → IsSafeHistory h
+    → HasCertificate h
+safe_accepted no_cycle certified h (starts, safe) =
+    (certified h safe.checked.well_formed).1 (
+      λ g. elim g [
+        | inl a ↦ safe.checked.no_aborted_read a
+        | inr rest ↦ elim rest [
+          | inl b ↦ safe.checked.no_intermediate_read b
+          | inr c ↦ no_cycle h starts safe c.0 c.1
+        ]
+      ],
+      λ g. no_cycle h starts safe g.0 g.1,
+    )
+
+pub no_cycle_found : SafeHistoriesHaveNoCycle → (lent own : HistoryValue) → lent ≡ own
+    → IsSafeHistory (history_of own) → (es : Vec Edge Global) → IsFound (history_of lent) (Cycle es) → ⊥
+no_cycle_found no_cycle lent own same (starts, safe) es cycle =
+    no_cycle (history_of own) starts safe (map edge_of es.items)
+    (subst (λ h. IsCycle (history_of h) (map edge_of es.items)) same cycle)

@@ -1,0 +1,11 @@
+use Rattle.std.proofs.Common.{subst}
+use Rattle.adya_terms.specs.Meaning.Checked.{checked_history, history_in}
+use Rattle.adya_dsg.specs.Meaning.Found.{IsFound}
+use Rattle.ssi_certify.proofs.Accepted.{no_cycle_found}
+use Rattle.ssi_certify.proofs.certificate.certified.Goals as goal
+
+pub unreachable-requires-in-Cycle : goal.unreachable-requires-in-Cycle
+unreachable-requires-in-Cycle c =
+    no_cycle_found c.safe_histories_have_no_cycle.ensures (history_in c.in-Ok.checked) c.args.history.now
+    c.in-Ok.ensures.same c.requires c.in-Cycle.field-0
+    (subst (IsFound (checked_history c.in-Ok.checked)) c.in-Cycle.is c.in_ok-serial.ensures.found)

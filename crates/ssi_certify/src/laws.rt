@@ -1,0 +1,15 @@
+//! Laws of certificates of snapshot histories, each proved as the contract of a function that does nothing.
+
+ghost use Rattle.ssi_certify.specs.Meaning.Laws.{SafeHistoriesAreAccepted};
+
+use adya_dsg::certified_where_no_phenomenon;
+use snapshot_histories::laws::safe_histories_have_no_cycle;
+
+/// A checked snapshot history without a dangerous structure is accepted with some certificate. So it is serializable
+/// (Fekete, Liarokapis, O'Neil, O'Neil and Shasha 2005).
+pub fn safe_histories_are_accepted()
+    ensures { SafeHistoriesAreAccepted }
+{
+    safe_histories_have_no_cycle();
+    certified_where_no_phenomenon();
+}

@@ -1,0 +1,56 @@
+-- Numbers that rise, and the first of them that passes a test.
+use Rattle.std.specs.List.{Contains, find}
+use Rattle.std.proofs.Common.{Bool, List, Option, Some, [], ap, arith, inl, inr, ltb-true, nat_lt, refl, suc, true, zero, ℕ, ◌++◌, ◌<◌, ◌∙◌, ◌∷◌, ◌≡◌, ◌≤◌}
+use Rattle.std.proofs.lemmas.Bool.{and_from, and_parts, cases_Bool, cond-false, cond-true, lt-ltb}
+use Rattle.std.proofs.lemmas.List.Elements.{Contains-append_cases}
+use Rattle.lemmas.proofs.Members.{Contains-cases, Contains-cons, Contains-head, none_contained}
+use Rattle.adya_values.specs.Computing.Shapes.{numbers_rise}
+
+pub only_one : {X : Type 0} (y x : X) → Contains (y ∷ []) x → y ≡ x
+only_one y x (zero, l, f) = f
+only_one y x (suc i, l, f) = absurd (omega (arith, l))
+
+numbers_rise-tail : (x : ℕ) (xs : List ℕ) → numbers_rise (x ∷ xs) ≡ true → numbers_rise xs ≡ true
+numbers_rise-tail x [] r = refl
+numbers_rise-tail x (y ∷ ys) r = (and_parts (nat_lt x y) (numbers_rise (y ∷ ys)) r).1
+
+number_below : (x : ℕ) (xs : List ℕ) (y : ℕ) → numbers_rise (x ∷ xs) ≡ true → Contains xs y → x < y
+number_below x [] y r c = absurd (none_contained y c)
+number_below x (z ∷ xs) y r c =
+    let both = and_parts (nat_lt x z) (numbers_rise (z ∷ xs)) r in
+    let less = ltb-true x z both.0 in
+    elim (Contains-cases z xs y c) [
+      | inl e ↦ omega (arith, less, e)
+      | inr d ↦ (let rest = number_below z xs y both.1 d in omega (arith, less, rest))
+    ]
+
+numbers_rise-from_head : (x : ℕ) (xs : List ℕ) → ((y : ℕ) → Contains xs y → x < y) → numbers_rise xs ≡ true
+    → numbers_rise (x ∷ xs) ≡ true
+numbers_rise-from_head x [] h r = refl
+numbers_rise-from_head x (y ∷ ys) h r = and_from (nat_lt x y) (numbers_rise (y ∷ ys))
+    (lt-ltb x y (h y (Contains-head y ys))) r
+
+pub numbers_rise-more : (xs : List ℕ) (t : ℕ) → numbers_rise xs ≡ true → ((u : ℕ) → Contains xs u → u < t)
+    → numbers_rise (xs ++ t ∷ []) ≡ true
+numbers_rise-more [] t r h = refl
+numbers_rise-more (x ∷ xs) t r h =
+    numbers_rise-from_head x (xs ++ t ∷ []) (λ y c.
+    elim (Contains-append_cases xs (t ∷ []) y c) [
+      | inl old ↦ number_below x xs y r old
+      | inr new ↦ (let less = h x (Contains-head x xs) in let same = only_one t y new in omega (arith, less, same))
+    ])
+    (numbers_rise-more xs t (numbers_rise-tail x xs r) (λ u c. h u (Contains-cons x xs u c)))
+
+-- the first of a rising list that passes a test
+pub find_least : (f : ℕ → Bool) (xs : List ℕ) (p : ℕ) → numbers_rise xs ≡ true → Contains xs p → f p ≡ true
+    → (q : ℕ) × (find f xs ≡ Some q) × (q ≤ p)
+find_least f [] p r c e = absurd (none_contained p c)
+find_least f (x ∷ xs) p r (zero, l, s) e =
+    (x, cond-true {A = Option ℕ} (f x) (Some x) (find f xs) (ap f s ∙ e), omega (arith, s))
+find_least f (x ∷ xs) p r (suc i, l, s) e =
+    elim (cases_Bool (f x)) [
+      | inl holds ↦ (let below = number_below x xs p r (i, omega (arith, l), s) in
+          (x, cond-true {A = Option ℕ} (f x) (Some x) (find f xs) holds, omega (arith, below)))
+      | inr fails ↦ (let rest = find_least f xs p (numbers_rise-tail x xs r) (i, omega (arith, l), s) e in
+          (rest.0, cond-false {A = Option ℕ} (f x) (Some x) (find f xs) fails ∙ rest.1, rest.2))
+    ]

@@ -1,0 +1,42 @@
+-- What is said of a view, and what its transaction sees.
+use Rattle.std.specs.Prelude.{◌≡◌, ℕ, List, map, Option}
+use Rattle.adya_values.specs.Meaning.Histories.{Entry}
+use Rattle.adya_values.specs.Meaning.Events.{listed}
+use Rattle.ssi_versions.specs.Meaning.Changes.{Held, otherwise, entry_in, newest_within}
+use Rattle.ssi_versions.specs.Meaning.Chains.{write_of, chain_of}
+use Rattle.indexmap.specs.IndexMap.{values}
+use Rattle.ssi_snapshot.specs.Meaning.Listings.{within}
+use Rattle.ssi_snapshot.specs.declared.view.View.{View}
+
+-- the transaction
+abbrev pub txn_of : View → ℕ
+txn_of v = v.txn
+
+-- the stamp of its snapshot
+abbrev pub stamp_of : View → ℕ
+stamp_of v = v.stamp
+
+-- how often it has written
+abbrev pub count_of : View → ℕ
+count_of v = v.count
+
+-- its last write of each key, in the order of its first writes of the keys
+abbrev pub written : View → List Entry
+written v = map write_of (values v.writes)
+
+-- its last write of the key
+abbrev pub own : List ℕ → View → Option Entry
+own key v = listed key (written v)
+
+-- what it sees of the key: its own last write, or else the newest version at its snapshot
+abbrev pub sees : List ℕ → View → List Held → Option Entry
+sees key v held = otherwise (own key v) (entry_in (newest_within v.stamp (chain_of key held)))
+
+-- the same of the keys of a range
+abbrev pub sees_between : List ℕ → List ℕ → View → List Held → List ℕ → Option Entry
+sees_between lo hi v held = within lo hi (λ key. sees key v held)
+
+-- the same transaction, snapshot and writes
+abbrev pub IsAsBefore : View → View → Type 0
+IsAsBefore old new = (txn_of new ≡ txn_of old) × (stamp_of new ≡ stamp_of old) × (count_of new ≡ count_of old)
+    × (written new ≡ written old)

@@ -1,0 +1,189 @@
+//! Views.
+
+ghost use Rattle.std.specs.Prelude.{◌≡◌, ℕ, suc, List, [], ◌+◌, ◌<◌, ◌≤◌, true, map, option_map, OnOk, OnErr, IfOk, is_some};
+ghost use Rattle.adya_values.specs.Meaning.Keys.{key_le};
+ghost use Rattle.adya_values.specs.Meaning.Histories.{Entry as PlainEntry, content_of, entry_of};
+ghost use Rattle.adya_values.specs.Meaning.Events.{listed};
+ghost use Rattle.ssi_versions.specs.Meaning.Changes.{AreApart};
+ghost use Rattle.ssi_versions.specs.Meaning.Chains.{write_of};
+ghost use Rattle.ssi_snapshot.specs.Meaning.Writes.{mod_of, next_mod, next_write, put_write};
+ghost use Rattle.ssi_snapshot.specs.Meaning.Listings.{IsListing, up_to};
+ghost use Rattle.ssi_snapshot.specs.Machinery.Stored.{are_keyed, write_key, stored_writes};
+
+use crate::limit::keep_first;
+use crate::merge::{all_values, put_held, put_own};
+use adya_values::{Content, Entry, Key, Mod, Txn, Version};
+use indexmap::IndexMap;
+use ssi_versions::Chains;
+use std::alloc::{AllocError, Global};
+use std::collections::BTreeMap;
+
+/// What a transaction sees: its snapshot, which is the stamp of the last commit before it began, and its own writes.
+///
+/// Of each key the last write is kept, in the order of the first writes of the keys.
+#[derive(Drop)]
+pub struct View {
+    alloc: Global,
+    txn: Txn,
+    stamp: u64,
+    count: u16,
+    writes: IndexMap<Key, (Version, Content)>,
+    ghost keyed: { are_keyed write_key writes.entries ≡ true },
+    ghost counted: { (key : List ℕ) → mod_of (listed key (stored_writes writes.entries)) ≤ count },
+}
+
+impl View {
+    ghost use Rattle.ssi_snapshot.specs.Meaning.Views.{txn_of, stamp_of, count_of, written, own, sees, sees_between, IsAsBefore};
+
+    /// Makes the view of a transaction that has written nothing, with a snapshot at this stamp. Takes no memory.
+    pub fn new(alloc: Global, txn: Txn, stamp: u64) -> Self
+        ensures txn { txn_of result ≡ txn }
+        ensures stamp { stamp_of result ≡ stamp }
+        ensures count { count_of result ≡ 0 }
+        ensures written { written result ≡ [] }
+    {
+        View {
+            alloc,
+            txn,
+            stamp,
+            count: 0,
+            writes: IndexMap::new(alloc),
+        }
+    }
+
+    /// Returns the transaction.
+    pub fn txn(&self) -> Txn
+        ensures { result ≡ txn_of self.now }
+    {
+        self.txn
+    }
+
+    /// Returns the stamp of the snapshot.
+    pub fn stamp(&self) -> u64
+        ensures { result ≡ stamp_of self.now }
+    {
+        self.stamp
+    }
+
+    /// Returns how often the transaction has written.
+    pub fn count(&self) -> u16
+        ensures { result ≡ count_of self.now }
+    {
+        self.count
+    }
+
+    /// Writes the key; dead content deletes it. The transaction may have written at most 65,534 times before.
+    ///
+    /// Returns the number of the write among the transaction's writes of the key, counted from 1. Returns an error if
+    /// memory runs out; the view is then as before.
+    pub fn put(&mut self, key: Key, content: Content) -> Result<Mod, AllocError>
+        requires { count_of self.old < 65535 }
+        ensures m { IfOk result (λ m. m ≡ next_mod key (written self.old)) }
+        ensures written { OnOk result (written self.new
+            ≡ put_write (next_write (txn_of self.old) key (content_of content) (written self.old)) (written self.old)) }
+        ensures count { OnOk result (count_of self.new ≡ suc (count_of self.old)) }
+        ensures same { (txn_of self.new ≡ txn_of self.old) × (stamp_of self.new ≡ stamp_of self.old) }
+        ensures err { OnErr result (IsAsBefore self.old self.new) }
+    {
+        let m = self.next_mod(key);
+        let version = Version {
+            key,
+            txn: self.txn,
+            m,
+        };
+        self.writes.insert(key, (version, content))?;
+        self.count += 1;
+        Ok(m)
+    }
+
+    /// Returns the version of the key that the transaction sees: its own last write of the key, or else the newest one at
+    /// its snapshot. Either may be dead. Returns none if there is neither. Takes no memory.
+    pub fn get<C: Chains>(&self, chains: &C, key: Key) -> Option<Entry>
+        ensures { option_map entry_of result ≡ sees key self.now (C.held chains.now) }
+    {
+        if let Some(write) = self.own_write(key) {
+            return Some(write);
+        }
+        let held = chains.at(key, self.stamp)?;
+        Some(Entry {
+            version: held.version,
+            content: held.content,
+        })
+    }
+
+    /// Returns by rising key what the transaction sees of each key from `lo` to `hi`, both included. A dead version is
+    /// listed, and a key of which the transaction sees no version is left out. `lo` may not be above `hi`.
+    ///
+    /// Returns an error if memory runs out.
+    pub fn scan<C: Chains>(&self, chains: &C, lo: Key, hi: Key) -> Result<Vec<Entry>, AllocError>
+        requires { key_le lo hi ≡ true }
+        ensures { IfOk result (λ v. IsListing (sees_between lo hi self.now (C.held chains.now)) (map entry_of v.items)) }
+    {
+        let held = chains.range_at(lo, hi, self.stamp)?;
+        let mut seen = BTreeMap::new(self.alloc);
+        put_held(&mut seen, held.as_slice())?;
+        put_own(&mut seen, self.writes(), lo, hi)?;
+        let entries = all_values(self.alloc, &seen)?;
+        Ok(entries)
+    }
+
+    /// Returns what [`View::scan`] lists, up to the `n`th visible entry and with it; all of it if fewer are visible. `n`
+    /// is at least 1.
+    ///
+    /// Returns an error if memory runs out.
+    pub fn scan_first<C: Chains>(
+        &self,
+        chains: &C,
+        lo: Key,
+        hi: Key,
+        n: u16,
+    ) -> Result<Vec<Entry>, AllocError>
+        requires range { key_le lo hi ≡ true }
+        requires some { 0 < n }
+        ensures { IfOk result (λ v. (all : List PlainEntry)
+            × IsListing (sees_between lo hi self.now (C.held chains.now)) all
+            × (map entry_of v.items ≡ up_to n all)) }
+    {
+        let mut entries = self.scan(chains, lo, hi)?;
+        keep_first(&mut entries, n);
+        Ok(entries)
+    }
+
+    /// Returns whether the transaction has written the key. Takes no memory.
+    pub fn owns(&self, key: Key) -> bool
+        ensures { result ≡ is_some (own key self.now) }
+    {
+        self.writes.contains_key(&key)
+    }
+
+    /// Returns the transaction's last write of each key, in the order of its first writes of the keys. Takes no memory.
+    pub fn writes(&self) -> &[(Version, Content)]
+        ensures all { map write_of result.now ≡ written self.now }
+        ensures apart { AreApart (written self.now) }
+    {
+        let _unique = self.writes.len();
+        self.writes.values().as_slice()
+    }
+
+    /// Returns the transaction's last write of the key.
+    fn own_write(&self, key: Key) -> Option<Entry>
+        ensures { option_map entry_of result ≡ own key self.now }
+    {
+        match self.writes.get(&key) {
+            Some(&(version, content)) => Some(Entry { version, content }),
+            None => None,
+        }
+    }
+
+    /// Returns the number of the transaction's next write of the key.
+    fn next_mod(&self, key: Key) -> Mod
+        requires { count_of self.now < 65535 }
+        ensures m { result ≡ next_mod key (written self.now) }
+        ensures within { result ≤ count_of self.now + 1 }
+    {
+        match self.own_write(key) {
+            Some(write) => Mod::new(u64::from(write.version.m.get()) + 1).unwrap(),
+            None => Mod::new(1).unwrap(),
+        }
+    }
+}

@@ -1,0 +1,18 @@
+-- The store keeps to the conditions of its parts, and what open transactions see is held.
+use Rattle.ssi_versions.specs.Meaning.ChangeLaws.{HeldShows}
+use Rattle.ssi_store.specs.Meaning.Acts.{acts}
+use Rattle.ssi_store.specs.Meaning.Laws.{CallsAreAllowed, OpenSnapshotsAreHeld}
+use Rattle.ssi_store.specs.Meaning.Seeing.{changed, snapshot}
+use Rattle.ssi_store.proofs.Changing.{changed_installable, open_protected}
+use Rattle.ssi_store.proofs.Standing.{course_stands}
+use Rattle.ssi_store.proofs.Telling.{tracked_allowed}
+
+pub calls_are_allowed : CallsAreAllowed
+calls_are_allowed pivot c f = (tracked_allowed (acts c) (course_stands pivot c f).sound, changed_installable (acts c))
+
+pub open_snapshots_are_held : HeldShows → OpenSnapshotsAreHeld
+open_snapshots_are_held shows pivot c f t e =
+    let p = open_protected (acts c) (course_stands pivot c f).sound t e in record {
+      protected = p;
+      is_held = λ k. shows (changed (acts c)) (changed_installable (acts c)) k (snapshot t (acts c)) p;
+    }

@@ -1,0 +1,17 @@
+-- The history of a course records it.
+use Rattle.std.proofs.Common.{ap, map, refl, ◌++◌, ◌∙◌}
+use Rattle.ssi_store.specs.Meaning.Acts.{acts, open_txns, started}
+use Rattle.ssi_store.specs.Meaning.Faces.{Face as Seen}
+use Rattle.ssi_store.specs.Meaning.Laws.{DumpedRecord, FinishedRecord}
+use Rattle.ssi_store.proofs.Facing.{close_faces, faces_are}
+use Rattle.ssi_store.proofs.Standing.{course_stands}
+use Rattle.ssi_store.proofs.Starts.{started_rise}
+
+pub finished_record : FinishedRecord
+finished_record pivot c f =
+    let s = course_stands pivot c f in
+    close_faces (started (acts c)) (acts c) (started_rise (acts c) s.sound) ∙
+    ap (λ l. l ++ map Seen.Aborts (open_txns (acts c))) (faces_are pivot c f)
+
+pub dumped_record : DumpedRecord
+dumped_record pivot c f = record { steps = faces_are pivot c f; still_open = refl }

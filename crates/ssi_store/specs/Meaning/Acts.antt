@@ -1,0 +1,91 @@
+-- What the transactions of a course did, without sessions and answers. The newest act stands first, so that the tail of
+-- a log is what was before.
+use Rattle.std.specs.Prelude.{ℕ, suc, ◌==◌, Bool, false, not, ◌&&◌, ◌||◌, if◌then◌else◌, List, [], ◌∷◌, ◌++◌, length, Option, Some, None, filter}
+use Rattle.adya_values.specs.Meaning.Histories.{Content, Live, Dead, FinalPair}
+use Rattle.adya_values.specs.Meaning.Events.{last}
+use Rattle.ssi_store.specs.Meaning.Courses.{Command, Command as Do, Answer, Begun, Value, Absent, Done, Rows, Committed, Aborted, Conflict, Unsafe, Kept, Course, New, Then, txn_for}
+
+-- a transaction starts, writes a key, gets a key, scans a range, commits or aborts; and old versions are collected
+pub data Act : Type 0 where
+  Starts : (txn : ℕ) → Act
+  Writes : (txn : ℕ) (key : List ℕ) (content : Content) → Act
+  Gets : (txn : ℕ) (key : List ℕ) → Act
+  Scans : (txn : ℕ) (low high : List ℕ) → Act
+  Commits : (txn : ℕ) → Act
+  Aborts : (txn : ℕ) → Act
+  Collects : Act
+
+-- the key of the row, or this key if there is no row
+abbrev pub key_or : List ℕ → Option FinalPair → List ℕ
+key_or high None = high
+key_or high (Some row) = row.key
+
+-- how far a limited scan looked: to its last row if it found as many as its limit, and otherwise to the end of the range
+abbrev pub reached : List ℕ → ℕ → List FinalPair → List ℕ
+reached high n rows = if length rows == n then key_or high (last rows) else high
+
+-- the act that transaction t does by an operation with this answer: none if it was refused
+abbrev pub act_of : ℕ → Command → Answer → List Act
+act_of t (Do.Put s k v) Done = Writes t k (Live v) ∷ []
+act_of t (Do.Del s k) Done = Writes t k Dead ∷ []
+act_of t (Do.Get s k) (Value v) = Gets t k ∷ []
+act_of t (Do.Get s k) Absent = Gets t k ∷ []
+act_of t (Do.Scan s low high) (Rows rows) = Scans t low high ∷ []
+act_of t (Do.ScanFirst s low high n) (Rows rows) = Scans t low (reached high n rows) ∷ []
+act_of t command Committed = Commits t ∷ []
+act_of t command Aborted = Aborts t ∷ []
+act_of t command (Conflict k w) = Aborts t ∷ []
+act_of t command (Unsafe p) = Aborts t ∷ []
+act_of t command answer = []
+
+-- the act of a step, if the session of the command had this transaction before
+abbrev pub act_by : Option ℕ → Command → Answer → List Act
+act_by t command (Begun n) = Starts n ∷ []
+act_by t command (Kept n) = Collects ∷ []
+act_by (Some t) command answer = act_of t command answer
+act_by None command answer = []
+
+-- all acts of a course
+abbrev pub acts : Course → List Act
+acts (New first) = []
+acts (Then c command answer) = act_by (txn_for command c) command answer ++ acts c
+
+-- the transaction has started
+abbrev pub has_started : ℕ → List Act → Bool
+has_started t [] = false
+has_started t (Starts u ∷ log) = (u == t) || has_started t log
+has_started t (a ∷ log) = has_started t log
+
+-- it has committed
+abbrev pub has_committed : ℕ → List Act → Bool
+has_committed t [] = false
+has_committed t (Commits u ∷ log) = (u == t) || has_committed t log
+has_committed t (a ∷ log) = has_committed t log
+
+-- it was aborted
+abbrev pub has_aborted : ℕ → List Act → Bool
+has_aborted t [] = false
+has_aborted t (Aborts u ∷ log) = (u == t) || has_aborted t log
+has_aborted t (a ∷ log) = has_aborted t log
+
+-- it has started, and has neither committed nor aborted
+abbrev pub is_open : ℕ → List Act → Bool
+is_open t log = has_started t log && not (has_committed t log || has_aborted t log)
+
+-- the transactions, in the order in which they started
+abbrev pub started : List Act → List ℕ
+started [] = []
+started (Starts t ∷ log) = started log ++ t ∷ []
+started (a ∷ log) = started log
+
+-- the open ones, by rising number
+abbrev pub open_txns : List Act → List ℕ
+open_txns log = filter (λ t. is_open t log) (started log)
+
+-- how many operations the transaction has carried out
+abbrev pub operations : ℕ → List Act → ℕ
+operations t [] = 0
+operations t (Writes u k c ∷ log) = if u == t then suc (operations t log) else operations t log
+operations t (Gets u k ∷ log) = if u == t then suc (operations t log) else operations t log
+operations t (Scans u low high ∷ log) = if u == t then suc (operations t log) else operations t log
+operations t (a ∷ log) = operations t log

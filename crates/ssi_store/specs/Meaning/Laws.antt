@@ -1,0 +1,175 @@
+-- What holds of every course whose answers are the replies, by either rule.
+use Rattle.std.specs.Prelude.{◌≡◌, ℕ, ◌≤◌, Bool, true, false, List, [], ◌∷◌, take, Option, Some, None, ◌↔◌, ◌<◌, if◌then◌else◌, length, map}
+use Rattle.ssi_conflict.specs.Meaning.Kept.{open_count}
+use Rattle.adya_values.specs.Meaning.Events.{listed}
+use Rattle.adya_values.specs.Meaning.Keys.{key_le, keys_rise, lies_in}
+use Rattle.adya_values.specs.Meaning.Histories.{History, Entry}
+use Rattle.adya_values.specs.Computing.Shapes.{is_shape, fits_edition, numbers_rise}
+use Rattle.adya_values.specs.Meaning.Edges.{Rw, Edge, IsEdge}
+use Rattle.ssi_conflict.specs.Meaning.Calls.{Call, AreAllowed}
+use Rattle.ssi_conflict.specs.Meaning.Pairs.{IsPair, IsPivot, IsOrderedPivot, IsSmallest}
+use Rattle.ssi_conflict.specs.Computing.Steps.{smallest_pivot, smallest_ordered_pivot}
+use Rattle.ssi_versions.specs.Meaning.Changes.{contents, held, newest_within, AreInstallable, IsProtected}
+use Rattle.ssi_store.specs.Meaning.Courses.{Command, Get, Scan, ScanFirst, Commit, Collect, Stat, Course, Unsafe, txn_for, txn_in, next_txn}
+use Rattle.ssi_store.specs.Meaning.Acts.{Act, Gets, Scans, Commits, Collects, acts, reached, is_open, has_started, started, open_txns}
+use Rattle.ssi_store.specs.Meaning.Seeing.{snapshot, changed, sees, scanned}
+use Rattle.ssi_store.specs.Meaning.Tracked.{tracked}
+use Rattle.ssi_store.specs.Meaning.Replies.{rows, reply_in, reply, Follows, is_overtaken, conflict}
+use Rattle.ssi_store.specs.Meaning.Recording.{finished, dumped, starts, start_in}
+use Rattle.ssi_store.specs.Meaning.Faces.{Records, RecordsSoFar}
+use Rattle.snapshot_histories.specs.Meaning.Snapshots.{AreConcurrent, IsSafe}
+
+-- the snapshot of a transaction of the course
+abbrev pub start_of : Course → ℕ → ℕ
+start_of c t = start_in (starts c) t
+
+-- what a history of the course is, by a rule whose pivots never stand
+pub record IsCovered (IsStanding : ℕ → List Call → Type 0) (c : Course) (h : History) : Type 0 where
+  -- the history is checked, a snapshot history, and without a dangerous structure
+  pub safe : IsSafe h (start_of c)
+  -- its orders and finals are as a history's must be, and so are its unfinished transactions for its edition
+  pub shaped : is_shape h.orders h.finals ≡ true
+  pub fits : fits_edition h.edition h.unfinished ≡ true
+  -- each anti-dependency between concurrent transactions is a pair
+  pub pairs : (e : Edge) → IsEdge h e → e.kind ≡ Rw → AreConcurrent h (start_of c) e.from e.to
+      → IsPair e.from e.to (tracked (acts c))
+  pub no_pivot : (t : ℕ) → IsStanding t (tracked (acts c)) → ⊥
+
+-- by the two-pair rule, when the course is over
+abbrev pub FinishedAreCovered : Type 0
+FinishedAreCovered = (c : Course) → Follows smallest_pivot c → IsCovered IsPivot c (finished c)
+
+-- by the commit-order rule, when the course is over
+abbrev pub OrderedFinishedAreCovered : Type 0
+OrderedFinishedAreCovered = (c : Course) → Follows smallest_ordered_pivot c → IsCovered IsOrderedPivot c (finished c)
+
+-- by the two-pair rule, before the course is over
+abbrev pub DumpedAreCovered : Type 0
+DumpedAreCovered = (c : Course) → Follows smallest_pivot c → IsCovered IsPivot c (dumped c)
+
+-- by the commit-order rule, before the course is over
+abbrev pub OrderedDumpedAreCovered : Type 0
+OrderedDumpedAreCovered = (c : Course) → Follows smallest_ordered_pivot c → IsCovered IsOrderedPivot c (dumped c)
+
+-- by whatever rule, the finished history records the course
+abbrev pub FinishedRecord : Type 0
+FinishedRecord = (pivot : List Call → Option ℕ) (c : Course) → Follows pivot c → Records (finished c) c
+
+-- and the history so far records it so far
+abbrev pub DumpedRecord : Type 0
+DumpedRecord = (pivot : List Call → Option ℕ) (c : Course) → Follows pivot c → RecordsSoFar (dumped c) c
+
+-- the store keeps to the conditions of the tracker and of the store of versions
+abbrev pub CallsAreAllowed : Type 0
+CallsAreAllowed = (pivot : List Call → Option ℕ) (c : Course) → Follows pivot c
+    → AreAllowed (tracked (acts c)) × AreInstallable (changed (acts c))
+
+-- no collection left out the snapshot of an open transaction, so what that sees is held
+pub record IsStillSeen (t : ℕ) (c : Course) : Type 0 where
+  pub protected : IsProtected (snapshot t (acts c)) (changed (acts c))
+  pub is_held : (k : List ℕ) → newest_within (snapshot t (acts c)) (held k (changed (acts c))) ≡ contents k
+      (snapshot t (acts c)) (changed (acts c))
+
+-- what an open transaction sees is held, whatever was collected
+abbrev pub OpenSnapshotsAreHeld : Type 0
+OpenSnapshotsAreHeld = (pivot : List Call → Option ℕ) (c : Course) → Follows pivot c → (t : ℕ)
+    → is_open t (acts c) ≡ true → IsStillSeen t c
+
+-- on one course, what the commit-order rule answers Unsafe the two-pair rule does too, with the same pivot or a smaller
+-- one
+abbrev pub OrderedRefusesNoMore : Type 0
+OrderedRefusesNoMore = (pivot : List Call → Option ℕ) (c : Course) → Follows pivot c → (command : Command) (p : ℕ)
+    → reply smallest_ordered_pivot c command ≡ Unsafe p
+    → (q : ℕ) × (reply smallest_pivot c command ≡ Unsafe q) × (q ≤ p)
+
+-- the log without its collections
+abbrev pub uncollected : List Act → List Act
+uncollected [] = []
+uncollected (Collects ∷ log) = uncollected log
+uncollected (a ∷ log) = a ∷ uncollected log
+
+-- collect and stat
+abbrev pub is_count : Command → Bool
+is_count Collect = true
+is_count Stat = true
+is_count command = false
+
+-- what was collected changes no reply but those of collect and stat
+abbrev pub CollectionsChangeNoReply : Type 0
+CollectionsChangeNoReply = (pivot : List Call → Option ℕ) (t : ℕ) (log : List Act) (command : Command)
+    → is_count command ≡ false
+    → reply_in pivot t (uncollected log) command ≡ reply_in pivot t log command
+
+-- the act that a command is judged by before it is done: a read or a commit
+abbrev pub judged : ℕ → List Act → Command → Option Act
+judged t log (Get s k) = Some (Gets t k)
+judged t log (Scan s low high) = Some (Scans t low high)
+judged t log (ScanFirst s low high n) = Some (Scans t low (reached high n (take n (rows t low high log))))
+judged t log (Commit s) = Some (Commits t)
+judged t log command = None
+
+-- p is the smallest of the pivots that would stand if the command were carried out
+pub record WouldStand (IsStanding : ℕ → List Call → Type 0) (c : Course) (command : Command) (p : ℕ) : Type 0 where
+  pub txn : ℕ
+  pub act : Act
+  pub opened : txn_for command c ≡ Some txn
+  pub judges : judged txn (acts c) command ≡ Some act
+  pub smallest : IsSmallest IsStanding (tracked (act ∷ acts c)) (Some p)
+
+-- Unsafe names the smallest pivot that would stand
+abbrev pub UnsafeNamesSmallest : Type 0
+UnsafeNamesSmallest = (c : Course) → Follows smallest_pivot c → (command : Command) (p : ℕ)
+    → reply smallest_pivot c command ≡ Unsafe p → WouldStand IsPivot c command p
+
+-- likewise by the commit-order rule
+abbrev pub OrderedUnsafeNamesSmallest : Type 0
+OrderedUnsafeNamesSmallest = (c : Course) → Follows smallest_ordered_pivot c → (command : Command) (p : ℕ)
+    → reply smallest_ordered_pivot c command ≡ Unsafe p → WouldStand IsOrderedPivot c command p
+
+-- the transactions of a course and its sessions
+pub record AreInOrder (c : Course) : Type 0 where
+  -- a session's transaction is open
+  pub opened : (s : List ℕ) (t : ℕ) → txn_in s c ≡ Some t → is_open t (acts c) ≡ true
+  -- each open transaction is a session's
+  pub held : (t : ℕ) → is_open t (acts c) ≡ true → (s : List ℕ) × (txn_in s c ≡ Some t)
+  -- and of one session alone
+  pub apart : (r s : List ℕ) (t : ℕ) → txn_in r c ≡ Some t → txn_in s c ≡ Some t → r ≡ s
+  -- numbers rise, and the next one is above all
+  pub rising : numbers_rise (started (acts c)) ≡ true
+  pub below : (t : ℕ) → has_started t (acts c) ≡ true → t < next_txn c
+
+-- by whatever rule, sessions and transactions are in order
+abbrev pub SessionsAreInOrder : Type 0
+SessionsAreInOrder = (pivot : List Call → Option ℕ) (c : Course) → Follows pivot c → AreInOrder c
+
+-- after each command no pivot stands, by the two-pair rule
+abbrev pub NoPivotStands : Type 0
+NoPivotStands = (c : Course) → Follows smallest_pivot c → smallest_pivot (tracked (acts c)) ≡ None
+
+-- likewise by the commit-order rule
+abbrev pub NoOrderedPivotStands : Type 0
+NoOrderedPivotStands = (c : Course) → Follows smallest_ordered_pivot c → smallest_ordered_pivot (tracked (acts c)) ≡ None
+
+-- the smallest overtaken key of the transaction, or nothing if no key is overtaken
+abbrev pub IsLeastOvertaken : ℕ → List Act → Option (List ℕ) → Type 0
+IsLeastOvertaken t log None = (k : List ℕ) → is_overtaken t log k ≡ false
+IsLeastOvertaken t log (Some k) =
+    (is_overtaken t log k ≡ true) × ((j : List ℕ) → is_overtaken t log j ≡ true → key_le k j ≡ true)
+
+-- the conflict is that key, and no other answer is right
+abbrev pub ConflictIsLeast : Type 0
+ConflictIsLeast = (t : ℕ) (log : List Act) (found : Option (List ℕ))
+    → (conflict t log ≡ found) ↔ IsLeastOvertaken t log found
+
+-- what a scan lists: of each key of the range what is seen of it, by rising key
+pub record ListsSeen (t : ℕ) (low high : List ℕ) (log : List Act) (found : List Entry) : Type 0 where
+  pub rising : keys_rise (map (λ w. w.version.key) found) ≡ true
+  pub each : (k : List ℕ) → listed k found ≡ (if lies_in low high k then sees t k log else None)
+
+-- it lists exactly that
+abbrev pub ScansListSeen : Type 0
+ScansListSeen = (t : ℕ) (low high : List ℕ) (log : List Act) → ListsSeen t low high log (scanned t low high log)
+
+-- the tracker counts the open transactions of a log
+abbrev pub OpenAreCounted : Type 0
+OpenAreCounted = (log : List Act) → open_count (tracked log) ≡ length (open_txns log)
