@@ -1,5 +1,5 @@
 -- Records in places: which transaction has which place.
-use Rattle.std.specs.Prelude.{◌≡◌, ℕ, Bool, true, Option, Some, None, is_some}
+use Rattle.std.specs.Prelude.{◌≡◌, ℕ, true, Option, Some, None, is_some}
 
 -- what stands in the place, if there is one
 abbrev pub at_slot : {R : Type 0} → Option ℕ → (ℕ → Option R) → Option R

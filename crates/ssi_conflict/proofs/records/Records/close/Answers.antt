@@ -1,9 +1,9 @@
-use Rattle.std.proofs.Common.{rules, ◌≡◌, ℕ, List, Option, Some, ap}
+use Rattle.std.proofs.Common.{rules, ◌≡◌, Some, ap}
 use Rattle.std.specs.BTreeMap.{get}
 use Rattle.std.specs.Ordering.{nat_cmp}
 use Rattle.slab.specs.Slab.{get as held, with_value}
 use Rattle.slab.proofs.SlabLemmas.{Updates-with_value}
-use Rattle.ssi_conflict.specs.Machinery.Rows.{Row, closed}
+use Rattle.ssi_conflict.specs.Machinery.Rows.{closed}
 use Rattle.ssi_conflict.specs.Machinery.Records.{row_of}
 use Rattle.ssi_conflict.proofs.RecordSlots.{row_set}
 use Rattle.ssi_conflict.proofs.records.Records.close.Goals as goal
