@@ -1,0 +1,9 @@
+//! Tests of the public functions of the store's layers: the worked examples, over both implementations of each trait.
+#![tactic(auto)]
+
+#[cfg(test)]
+mod chains;
+#[cfg(test)]
+mod marks;
+#[cfg(test)]
+mod recorder;
