@@ -9,8 +9,8 @@ use ssi_versions::Chains;
 
 const READS: u64 = 4;
 
-/// Installs a version by each transaction, reads before it, and collects after each tenth of them. The sum is how many
-/// versions were seen and are held at the end.
+/// Installs a version by each transaction, reads before it, and collects after each tenth of them. Each version that a read
+/// finds is met.
 pub(crate) fn run<C: Chains>(chains: &mut C, work: &Work) -> Option<Done>
     requires { C.held chains.old ≡ [] }
 {
@@ -24,8 +24,8 @@ pub(crate) fn run<C: Chains>(chains: &mut C, work: &Work) -> Option<Done>
         }
     }
     Some(Done {
-        sum: seen.wrapping_add(chains.held()),
-        met: 0,
+        held: chains.held(),
+        met: seen,
     })
 }
 

@@ -1,6 +1,6 @@
 //! Work for measuring the layers of the store by themselves: `ssi_bench chains|marks|tracker TRANSACTIONS KEYS
-//! ROUNDS [open]`. It prints a sum over what the calls returned, and how many readers of written keys were met in
-//! all rounds. `bench/layers` runs it and measures.
+//! ROUNDS [open]`. It prints what the part holds at the end, and how many versions its reads have found or
+//! readers its writes have met, both summed over the rounds. `bench/layers` runs it and measures.
 #![tactic(auto)]
 
 mod chain_work;
@@ -20,7 +20,7 @@ fn main(rt: HostRuntime) -> ExitCode {
     let Some(done) = run(&rt) else {
         return ExitCode::FAILURE;
     };
-    match writeln!(rt.stdout(), "{} {}", done.sum, done.met) {
+    match writeln!(rt.stdout(), "{} {}", done.held, done.met) {
         Ok(()) => ExitCode::SUCCESS,
         Err(_) => ExitCode::FAILURE,
     }
@@ -40,13 +40,13 @@ fn run(rt: &HostRuntime) -> Option<Done> {
         keys,
         is_open: arguments.next().is_some(),
     };
-    let (mut sum, mut met) = (0u64, 0u64);
+    let (mut held, mut met) = (0u64, 0u64);
     for _ in 0..rounds {
         let done = round(alloc, part.as_str(), &work)?;
-        sum = sum.wrapping_add(done.sum);
+        held = held.wrapping_add(done.held);
         met = met.wrapping_add(done.met);
     }
-    Some(Done { sum, met })
+    Some(Done { held, met })
 }
 
 /// Does the work once, over an empty part.

@@ -16,7 +16,7 @@ pub(crate) fn run<M: Marks>(marks: &mut M, work: &Work) -> Option<Done> {
             marks.forget(txn_of(number - OPEN_AT_ONCE)?);
         }
     }
-    Some(Done { sum: met, met })
+    Some(Done { held: 0, met })
 }
 
 fn mark<M: Marks>(marks: &mut M, work: &Work, number: u64) -> Option<()> {

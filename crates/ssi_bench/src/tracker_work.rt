@@ -9,7 +9,7 @@ use std::alloc::Global;
 const OPEN_AT_ONCE: u64 = 8;
 
 /// Begins a transaction at each step, and ends the one that began eight steps before. If the first one stays open, all
-/// others are kept, and so each commit meets all that have read its keys. The sum is how many have committed and are kept.
+/// others are kept, and so each commit meets all that have read its keys.
 pub(crate) fn run<M: Marks + Drop>(alloc: Global, marks: M, work: &Work) -> Option<Done> {
     let mut tracker = Tracker::new(alloc, marks);
     let mut readers = Vec::from_elem(alloc, 0u64, work.keys as usize).ok()?;
@@ -33,7 +33,7 @@ pub(crate) fn run<M: Marks + Drop>(alloc: Global, marks: M, work: &Work) -> Opti
         }
     }
     Some(Done {
-        sum: committed.wrapping_add(tracker.kept() as u64),
+        held: tracker.kept() as u64,
         met,
     })
 }

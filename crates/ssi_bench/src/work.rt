@@ -5,9 +5,9 @@ use adya_values::{Key, Txn};
 /// What a run has done, besides its transactions.
 #[derive(Clone, Copy)]
 pub(crate) struct Done {
-    /// A sum over what the calls returned.
-    pub(crate) sum: u64,
-    /// How many readers of written keys were met.
+    /// How many versions, or kept transactions, the part holds at the end; 0 of marks, which nobody counts.
+    pub(crate) held: u64,
+    /// How many versions the reads have found, or how many readers the writes have met.
     pub(crate) met: u64,
 }
 
