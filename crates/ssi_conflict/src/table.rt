@@ -1,12 +1,12 @@
 //! What is kept of all transactions.
 
-ghost use Rattle.std.specs.Prelude.{◌≡◌, ◌≢◌, ◌==◌, ◌&&◌, ◌||◌, ℕ, suc, List, true, false, None, Some, OnOk, OnErr, OnSome, IfSome, IfNone, option_map, is_some, length, ◌<◌};
-ghost use Rattle.std.specs.List.{list_any, IsDistinct};
+ghost use Rattle.std.specs.Prelude.{◌≡◌, ℕ, suc, List, true, None, Some, OnOk, OnErr, OnSome, IfSome, IfNone, option_map, is_some, length, ◌<◌};
+ghost use Rattle.std.specs.List.{IsDistinct};
 ghost use Rattle.std.specs.VecDeque.{deque_len};
 ghost use Rattle.std.specs.Option.{option_copied};
 ghost use Rattle.std.specs.Ordering.{nat_cmp, eq_by_cmp};
 ghost use Rattle.std.specs.Set.{is_member};
-ghost use Rattle.ssi_conflict.specs.Machinery.Rows.{Row, new_row, with_sooner, closed, read_conflict, read_pivot, IsSmallestRow, IsLeastStamp};
+ghost use Rattle.ssi_conflict.specs.Machinery.Rows.{new_row, with_sooner, closed, read_conflict, read_pivot, IsSmallestRow, IsLeastStamp};
 ghost use Rattle.ssi_conflict.specs.Machinery.Records.{row_of, Changes};
 ghost use Rattle.ssi_conflict.specs.Machinery.Index.{stamp_in, commit_in, writer_in, IsIndexed};
 ghost use Rattle.ssi_conflict.specs.Machinery.Tables.{row_at, met, pivots, IsTidy, IsPrepared, is_open_row, IsOldestRow, IsPast, is_after as comes_after};
