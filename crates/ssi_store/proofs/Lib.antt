@@ -30,3 +30,5 @@ pub mod Keeping
 pub mod Collecting
 pub mod Judging
 pub mod WorkedCases
+pub mod Conflicts
+pub mod JudgedCalls
