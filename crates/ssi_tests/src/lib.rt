@@ -12,4 +12,6 @@ mod recorder;
 #[cfg(test)]
 mod shown;
 #[cfg(test)]
+mod tracker;
+#[cfg(test)]
 mod views;
