@@ -4,6 +4,14 @@
 #[cfg(test)]
 mod chains;
 #[cfg(test)]
+mod commits;
+#[cfg(test)]
 mod marks;
 #[cfg(test)]
 mod recorder;
+#[cfg(test)]
+mod shown;
+#[cfg(test)]
+mod tracker;
+#[cfg(test)]
+mod views;
