@@ -2,15 +2,12 @@
 //! devices that fail.
 
 mod audit;
-mod chains;
 mod check;
 mod edges;
 mod graphs;
 mod lines;
-mod marks;
 mod order;
 mod random_histories;
-mod recorder;
 mod run_audit;
 mod run_order;
 mod run_pipe;

@@ -1,16 +1,26 @@
 -- Which transactions a call can make pivots.
-use Rattle.std.proofs.Common.{List, Option, Some, ap, arith, inl, inr, is_some, subst, sym, true, ℕ, ◌&&◌, ◌==◌, ◌∙◌, ◌∷◌, ◌≡◌, ◌⊎◌}
-use Rattle.std.proofs.lemmas.Bool.{and_parts, both_ways, cases_Bool, cond-false, cond-true, eqb-true, or_cases}
+use Rattle.std.proofs.Common.{List, ap, arith, false, inl, inr, is_some, refl, subst, sym, true, ℕ, ◌==◌, ◌∙◌, ◌∷◌, ◌≡◌, ◌⊎◌}
+use Rattle.std.proofs.lemmas.Bool.{and_parts, both_ways, cases_Bool, eqb-true}
 use Rattle.std.proofs.lemmas.Option.{same_Some}
 use Rattle.lemmas.proofs.Options.{none_unless_some}
-use Rattle.adya_values.specs.Meaning.Keys.{lies_in}
 use Rattle.ssi_conflict.specs.Computing.Steps.{adds}
-use Rattle.ssi_conflict.specs.Meaning.Calls.{AreAllowed, Call, Commits, Reads, is_committed, meets, stamp_of}
+use Rattle.ssi_conflict.specs.Meaning.Calls.{Aborts, AreAllowed, Begins, Call, Commits, Reads, is_committed, stamp_of}
 use Rattle.ssi_conflict.specs.Meaning.Kept.{is_kept}
 use Rattle.ssi_conflict.specs.Meaning.Pairs.{IsAtMost, IsOrderedPivot, IsPair, IsPivot}
-use Rattle.ssi_conflict.proofs.Calls.{not_live, stamp_keeps, stamp_upto}
-use Rattle.ssi_conflict.proofs.PairsFound.{adds_read, pair_before_commit, pair_before_read}
+use Rattle.ssi_conflict.proofs.AfterCommit.{by_writer}
+use Rattle.ssi_conflict.proofs.AllowedCalls.{open_parts, stamps_below}
+use Rattle.ssi_conflict.proofs.PairsByCall.{own_stamp, pair_before_commit, pair_before_read, same_stamp}
 use Rattle.ssi_conflict.proofs.PairsKept.{pair_was}
+
+-- who has committed keeps its stamp
+stamp_stays : (t : ℕ) (c : Call) (calls : List Call) → AreAllowed (c ∷ calls) → is_committed t calls ≡ true
+    → stamp_of t (c ∷ calls) ≡ stamp_of t calls
+stamp_stays t (Begins u s) calls ok h = refl
+stamp_stays t (Reads u low high) calls ok h = refl
+stamp_stays t (Aborts u) calls ok h = refl
+stamp_stays t (Commits u n ks) calls ok h = same_stamp u n ks calls ok t (λ e.
+    both_ways (is_committed t calls)
+    (subst (λ x. is_committed x calls ≡ false) e (open_parts u calls ok.0.opened).uncommitted) h)
 
 pub new_pivot_kept : (c : Call) (calls : List Call) → AreAllowed (c ∷ calls) → (t : ℕ) → IsPivot t (c ∷ calls)
     → (IsPivot t calls → ⊥) → is_kept t calls ≡ true
@@ -29,7 +39,7 @@ at_most_before : (n t : ℕ) (c : Call) (calls : List Call) → AreAllowed (c �
     → IsAtMost n (stamp_of t (c ∷ calls)) → IsAtMost n (stamp_of t calls)
 at_most_before n t c calls a l =
     elim (cases_Bool (is_committed t calls)) [
-      | inl done ↦ subst (IsAtMost n) (stamp_keeps t c calls a done) l
+      | inl done ↦ subst (IsAtMost n) (stamp_stays t c calls a done) l
       | inr still ↦ subst (IsAtMost n) (sym (none_unless_some (stamp_of t calls) still)) tt
     ]
 
@@ -38,13 +48,13 @@ old_ordered : (c : Call) (calls : List Call) → AreAllowed (c ∷ calls)
     → IsOrderedPivot t calls
 old_ordered c calls a t p into out = record {
   middle = p.middle;
-  committed = sym (stamp_keeps t c calls a into.committed) ∙ p.committed;
+  committed = sym (stamp_stays t c calls a into.committed) ∙ p.committed;
   from = p.from;
   into = into;
   to = p.to;
   out = out;
   last = p.last;
-  to_committed = sym (stamp_keeps p.to c calls a out.committed) ∙ p.to_committed;
+  to_committed = sym (stamp_stays p.to c calls a out.committed) ∙ p.to_committed;
   before_middle = p.before_middle;
   not_after_first = at_most_before p.last p.from c calls a p.not_after_first;
 }
@@ -62,67 +72,67 @@ new_ordered_kept c calls a t p new =
 
 pub commit_makes_own : (t n : ℕ) (ks : List (List ℕ)) (calls : List Call) → AreAllowed (Commits t n ks ∷ calls)
     → (x : ℕ) → IsOrderedPivot x (Commits t n ks ∷ calls) → (IsOrderedPivot x calls → ⊥) → x ≡ t
-commit_makes_own t n ks calls a x p new =
-    elim (cases_Bool (t == x)) [
-      | inl same ↦ sym (eqb-true t x same)
-      | inr other ↦ elim (cases_Bool (t == p.to)) [
-        | inl ends ↦ absurd (
-            let last : n ≡ p.last = same_Some n p.last
-            (sym (cond-true {A = Option ℕ} (t == p.to) (Some n) (stamp_of p.to calls) ends) ∙ p.to_committed) in
-            let middle : stamp_of x calls ≡ Some p.middle = sym
-            (cond-false {A = Option ℕ} (t == x) (Some n) (stamp_of x calls) other) ∙ p.committed in
-            let upto = stamp_upto x p.middle calls a.1 middle in
-            let next = a.0.next in
+commit_makes_own t n ks calls ok x p new =
+    elim (pair_before_commit t n ks calls ok p.from x p.into) [
+      | inl now ↦ sym (by_writer t n ks calls ok p.from x now)
+      | inr into ↦ elim (pair_before_commit t n ks calls ok x p.to p.out) [
+        -- the stamp of the new commit is above all others
+        | inl now ↦ absurd (
+            let ends : t ≡ p.to = by_writer t n ks calls ok x p.to now in
+            let last : n ≡ p.last = same_Some n p.last (sym (own_stamp t n ks calls ok)
+            ∙ (ap (λ y. stamp_of y (Commits t n ks ∷ calls)) ends ∙ p.to_committed)) in
+            let middle = sym (stamp_stays x (Commits t n ks) calls ok into.committed) ∙ p.committed in
+            let upto = stamps_below calls ok.1 x p.middle middle in
+            let next = ok.0.next in
             let below = p.before_middle in
             omega (arith, last, upto, next, below))
-        | inr early ↦ absurd (new (old_ordered (Commits t n ks) calls a x p
-            (pair_before_commit t n ks p.from x calls a other p.into)
-            (pair_before_commit t n ks x p.to calls a early p.out)))
+        | inr out ↦ absurd (new (old_ordered (Commits t n ks) calls ok x p into out))
       ]
     ]
 
--- after a read a pair into a committed transaction is an old one, or one that the read makes
-read_into : (t : ℕ) (low high : List ℕ) (calls : List Call) → AreAllowed (Reads t low high ∷ calls) → (a p : ℕ)
-    → IsPair a p (Reads t low high ∷ calls) → IsPair a p calls ⊎ (adds (Reads t low high) calls t p ≡ true)
-read_into t low high calls allowed a p pair =
-    elim (or_cases ((t == a) && lies_in low high pair.key) (meets a pair.key calls) pair.met) [
-      | inl now ↦ inr (subst (λ x. adds (Reads t low high) calls x p ≡ true)
-          (sym (eqb-true t a (and_parts (t == a) (lies_in low high pair.key) now).0))
-          (adds_read t low high calls a p pair now))
-      | inr before ↦ inl (pair_before_read t low high a p calls pair before)
-    ]
+-- what a read adds, if it adds a pair
+module _ (t : ℕ) (low high : List ℕ) (calls : List Call) (ok : AreAllowed (Reads t low high ∷ calls)) where
+  is_reader : (r u : ℕ) → adds (Reads t low high) calls r u ≡ true → t ≡ r
+  is_reader r u h = eqb-true t r (and_parts (t == r) _ h).0
 
--- a pair out of a committed transaction is an old one
-read_out : (t : ℕ) (low high : List ℕ) (calls : List Call) → AreAllowed (Reads t low high ∷ calls) → (p b : ℕ)
-    → is_committed p calls ≡ true → IsPair p b (Reads t low high ∷ calls) → IsPair p b calls
-read_out t low high calls allowed p b done pair =
-    elim (or_cases ((t == p) && lies_in low high pair.key) (meets p pair.key calls) pair.met) [
-      | inl now ↦ absurd (both_ways _ (not_live t p calls allowed.0.opened done)
-          (and_parts (t == p) (lies_in low high pair.key) now).0)
-      | inr before ↦ pair_before_read t low high p b calls pair before
-    ]
+  -- a pair into a committed transaction is an old one, or one that the read makes
+  read_into : (a p : ℕ) → IsPair a p (Reads t low high ∷ calls)
+      → IsPair a p calls ⊎ (adds (Reads t low high) calls t p ≡ true)
+  read_into a p pair =
+      elim (pair_before_read t low high calls ok a p pair) [
+        | inl now ↦ inr (subst (λ x. adds (Reads t low high) calls x p ≡ true) (sym (is_reader a p now)) now)
+        | inr old ↦ inl old
+      ]
 
-pub read_makes : (t : ℕ) (low high : List ℕ) (calls : List Call) → AreAllowed (Reads t low high ∷ calls) → (p : ℕ)
-    → IsPivot p (Reads t low high ∷ calls) → (IsPivot p calls → ⊥) → adds (Reads t low high) calls t p ≡ true
-read_makes t low high calls a p pivot new =
-    elim (read_into t low high calls a pivot.from p pivot.into) [
-      | inl old ↦ absurd (new (record {
-        committed = pivot.committed;
-        from = pivot.from;
-        into = old;
-        to = pivot.to;
-        out = read_out t low high calls a
-            p pivot.to pivot.committed pivot.out;
-      }))
-      | inr now ↦ now
-    ]
+  -- a pair out of a committed transaction is an old one
+  read_out : (p b : ℕ) → is_committed p calls ≡ true → IsPair p b (Reads t low high ∷ calls) → IsPair p b calls
+  read_out p b done pair =
+      elim (pair_before_read t low high calls ok p b pair) [
+        | inl now ↦ absurd (both_ways (is_committed p calls)
+            (subst (λ x. is_committed x calls ≡ false) (is_reader p b now)
+            (open_parts t calls ok.0.opened).uncommitted) done)
+        | inr old ↦ old
+      ]
 
-pub read_makes_ordered : (t : ℕ) (low high : List ℕ) (calls : List Call) → AreAllowed (Reads t low high ∷ calls)
-    → (p : ℕ) → IsOrderedPivot p (Reads t low high ∷ calls) → (IsOrderedPivot p calls → ⊥)
-    → adds (Reads t low high) calls t p ≡ true
-read_makes_ordered t low high calls a p pivot new =
-    elim (read_into t low high calls a pivot.from p pivot.into) [
-      | inl old ↦ absurd (new (old_ordered (Reads t low high) calls a p pivot old
-          (read_out t low high calls a p pivot.to (ap is_some pivot.committed) pivot.out)))
-      | inr now ↦ now
-    ]
+  pub read_makes : (p : ℕ) → IsPivot p (Reads t low high ∷ calls) → (IsPivot p calls → ⊥)
+      → adds (Reads t low high) calls t p ≡ true
+  read_makes p pivot new =
+      elim (read_into pivot.from p pivot.into) [
+        | inl old ↦ absurd (new (record {
+          committed = pivot.committed;
+          from = pivot.from;
+          into = old;
+          to = pivot.to;
+          out = read_out p pivot.to pivot.committed pivot.out;
+        }))
+        | inr now ↦ now
+      ]
+
+  pub read_makes_ordered : (p : ℕ) → IsOrderedPivot p (Reads t low high ∷ calls) → (IsOrderedPivot p calls → ⊥)
+      → adds (Reads t low high) calls t p ≡ true
+  read_makes_ordered p pivot new =
+      elim (read_into pivot.from p pivot.into) [
+        | inl old ↦ absurd (new (old_ordered (Reads t low high) calls ok p pivot old
+            (read_out p pivot.to (ap is_some pivot.committed) pivot.out)))
+        | inr now ↦ now
+      ]

@@ -4,11 +4,12 @@ use Rattle.std.proofs.Common.{Bool, List, None, Option, Some, ap, arith, is_some
 use Rattle.std.proofs.lemmas.Bool.{and_from, and_parts, both_ways, le-leb, leb-true, lt-ltb}
 use Rattle.std.proofs.lemmas.Option.{same_Some}
 use Rattle.lemmas.proofs.Finds.{find-source, find_none}
-use Rattle.lemmas.proofs.Tests.{list_any-source, list_any_when}
+use Rattle.lemmas.proofs.Tests.{list_any-source}
 use Rattle.ssi_conflict.specs.Computing.Steps.{is_earlier, is_no_later, is_ordered_pivot, is_pair, is_pivot, smallest_ordered_pivot, smallest_pivot}
 use Rattle.ssi_conflict.specs.Meaning.Calls.{AreAllowed, Call, begun, is_committed, stamp_of}
 use Rattle.ssi_conflict.specs.Meaning.Pairs.{IsAtMost, IsOrderedPivot, IsPivot, IsSmallest}
-use Rattle.ssi_conflict.proofs.Calls.{begun_rise, begun_there, committed_begun, met_begun}
+use Rattle.ssi_conflict.proofs.AllowedCalls.{any_begun, committed_begun, reader_begun}
+use Rattle.ssi_conflict.proofs.Begun.{begun_rise, begun_there}
 use Rattle.ssi_conflict.proofs.PairsFound.{found_back, found_step}
 use Rattle.ssi_conflict.proofs.Rising.{find_least}
 
@@ -16,11 +17,9 @@ module _ (calls : List Call) (allowed : AreAllowed calls) where
   pivot_to : (t : ℕ) → IsPivot t calls → is_pivot t calls ≡ true
   pivot_to t p =
       and_from (list_any (λ a. is_pair a t calls) (begun calls)) (list_any (λ b. is_pair t b calls) (begun calls))
-      (list_any_when (λ a. is_pair a t calls) (begun calls) p.from
-      (begun_there p.from calls (met_begun p.from p.into.key calls allowed p.into.met))
+      (any_begun (λ a. is_pair a t calls) calls p.from (reader_begun calls allowed p.from p.into.key p.into.met)
       (found_step calls allowed p.from t p.into))
-      (list_any_when (λ b. is_pair t b calls) (begun calls) p.to
-      (begun_there p.to calls (committed_begun p.to calls allowed p.out.committed))
+      (any_begun (λ b. is_pair t b calls) calls p.to (committed_begun calls allowed p.to p.out.committed)
       (found_step calls allowed t p.to p.out))
 
   pivot_from : (t : ℕ) → is_pivot t calls ≡ true → IsPivot t calls
@@ -35,12 +34,11 @@ module _ (calls : List Call) (allowed : AreAllowed calls) where
         from = a.0;
         into = into;
         to = b.0;
-        out = found_back calls allowed t b.0
-            b.2;
+        out = found_back calls allowed t b.0 b.2;
       }
 
   pivot_begun : (t : ℕ) → is_committed t calls ≡ true → Contains (begun calls) t
-  pivot_begun t c = begun_there t calls (committed_begun t calls allowed c)
+  pivot_begun t c = begun_there t calls (committed_begun calls allowed t c)
 
   -- what is found first in the order of beginning is the smallest
   smallest_found : (Holds : ℕ → List Call → Type 0) (test : ℕ → Bool)
@@ -105,16 +103,15 @@ module _ (calls : List Call) (allowed : AreAllowed calls) where
 
   ordered_to : (t : ℕ) → IsOrderedPivot t calls → is_ordered_pivot t calls ≡ true
   ordered_to t p =
-      list_any_when (λ b. (is_pair t b calls && is_earlier (stamp_of b calls) (stamp_of t calls)) && list_any
-      (λ a. is_pair a t calls && is_no_later (stamp_of b calls) (stamp_of a calls)) (begun calls)) (begun calls) p.to
-      (pivot_begun p.to p.out.committed)
+      any_begun (λ b. (is_pair t b calls && is_earlier (stamp_of b calls) (stamp_of t calls)) && list_any
+      (λ a. is_pair a t calls && is_no_later (stamp_of b calls) (stamp_of a calls)) (begun calls)) calls p.to
+      (committed_begun calls allowed p.to p.out.committed)
       (and_from _ _
       (and_from (is_pair t p.to calls) _ (found_step calls allowed t p.to p.out)
       (ap (λ o. is_earlier o (stamp_of t calls)) p.to_committed
       ∙ (ap (λ o. is_earlier (Some p.last) o) p.committed ∙ lt-ltb p.last p.middle p.before_middle)))
-      (list_any_when (λ a. is_pair a t calls && is_no_later (stamp_of p.to calls) (stamp_of a calls))
-      (begun calls) p.from
-      (begun_there p.from calls (met_begun p.from p.into.key calls allowed p.into.met))
+      (any_begun (λ a. is_pair a t calls && is_no_later (stamp_of p.to calls) (stamp_of a calls)) calls p.from
+      (reader_begun calls allowed p.from p.into.key p.into.met)
       (and_from (is_pair p.from t calls) _ (found_step calls allowed p.from t p.into)
       (ap (λ o. is_no_later o (stamp_of p.from calls)) p.to_committed
       ∙ at_most_to p.last (stamp_of p.from calls) p.not_after_first))))

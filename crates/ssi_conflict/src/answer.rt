@@ -1,12 +1,12 @@
-//! Answers of a tracker.
+//! The answers of a tracker.
 
 use adya_values::Txn;
 
-/// What a tracker says of a read or a commit.
+/// Whether a read or a commit may be carried out.
 #[derive(Clone, Copy, PartialEq, Eq)]
 pub enum Answer {
-    /// It may be carried out.
+    /// No pivot would stand.
     Safe,
-    /// A pivot would stand, and this is the smallest.
+    /// A pivot would stand, and this is the smallest one.
     Unsafe { pivot: Txn },
 }

@@ -10,8 +10,8 @@ pub fn pairs_are_found()
     ensures { PairsAreFound }
 {}
 
-/// The two-pair rule names the smallest pivot if there is one, and nothing otherwise. So a call is refused exactly if it
-/// would leave a transaction with a pair into it and a pair out of it (Cahill, Roehm and Fekete 2008, section 3).
+/// The two-pair rule names the smallest pivot if there is one, and nothing otherwise. So a call is refused exactly if
+/// it would leave a transaction with a pair into it and a pair out of it (Cahill, Roehm and Fekete 2008, section 3).
 pub fn pivots_are_named()
     ensures { PivotsAreNamed }
 {}
@@ -22,8 +22,8 @@ pub fn ordered_pivots_are_named()
     ensures { OrderedPivotsAreNamed }
 {}
 
-/// Each pivot of the commit-order rule is one of the two-pair rule. So it refuses no transaction that the two-pair rule
-/// would let pass (Ports and Grittner 2012, section 3.3).
+/// Each pivot of the commit-order rule is one of the two-pair rule. So it refuses no transaction that the two-pair
+/// rule would let pass (Ports and Grittner 2012, section 3.3).
 pub fn ordered_pivots_are_pivots()
     ensures { OrderedPivotsArePivots }
 {}
@@ -50,15 +50,15 @@ pub fn forgotten_for_good()
     ensures { ForgottenForGood }
 {}
 
-/// A pivot that comes with a call is kept before that call, by either rule. So only kept transactions have to be looked
-/// at.
+/// A pivot that comes with a call is kept before that call, by either rule. So only kept transactions have to be
+/// looked at.
 pub fn new_pivots_are_kept()
     ensures two_pair { NewPivotsAreKept }
     ensures commit_order { NewOrderedPivotsAreKept }
 {}
 
-/// By the commit-order rule a commit makes no pivot but of its own transaction, since its stamp is the greatest so far.
-/// So a commit has only its own pairs to look at (Ports and Grittner 2012, section 3.3).
+/// By the commit-order rule a commit makes no pivot but of its own transaction, since its stamp is the greatest so
+/// far. So a commit has only its own pairs to look at (Ports and Grittner 2012, section 3.3).
 pub fn commit_makes_own_pivot()
     ensures { CommitMakesOwnPivot }
 {}

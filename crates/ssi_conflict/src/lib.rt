@@ -4,11 +4,13 @@
 
 mod answer;
 pub mod laws;
-mod pending;
+mod reading;
 mod record;
-mod scan;
+mod records;
+mod stamps;
 mod table;
 mod tracker;
+mod writes;
 
 pub use answer::Answer;
 pub use tracker::Tracker;

@@ -1,8 +1,9 @@
-//! Marks of keys in an index, and marks of ranges by transaction.
+//! Marks of keys and of ranges, in indexes.
 
 ghost use Rattle.std.specs.Prelude.{◌||◌};
 ghost use Rattle.ssi_reads.specs.Meaning.Marks.{IsEmpty};
-ghost use Rattle.ssi_reads.specs.Machinery.Indexed.{key_marked, ranged};
+ghost use Rattle.ssi_reads.specs.Machinery.Indexed.{key_marked};
+ghost use Rattle.ssi_reads.specs.Machinery.Ranged.{ranged};
 
 use crate::key_marks::KeyMarks;
 use crate::marks::Marks;
@@ -12,8 +13,11 @@ use adya_values::{Key, Txn};
 use std::alloc::{AllocError, Global};
 use std::collections::BTreeSet;
 
-/// Marks of keys by key, and marks of ranges by transaction. A mark takes logarithmic time, and `forget` takes it for
-/// each key that the transaction has marked; `readers_of` walks the readers of the key, and all marked ranges.
+/// Marks of keys by key, and marks of ranges by the longest prefix that the two ends of a range share. A mark takes
+/// logarithmic time, and `forget` takes it for each key and each range that the transaction has marked.
+///
+/// `readers_of` walks the readers of the key. It also walks the ranges under each prefix of the key that don't start
+/// above the key. Many ranges may stand under a short prefix: each of them is looked at, even if it ends below the key.
 #[derive(Drop)]
 pub struct IndexMarks {
     alloc: Global,
@@ -35,7 +39,7 @@ impl IndexMarks {
 }
 
 impl Marks for IndexMarks {
-    ghost marked = { λ m u k. key_marked m.keys u k || ranged m.ranges.spans u k };
+    ghost marked = { λ m u k. key_marked m.keys u k || ranged m.ranges u k };
 
     fn mark_key(&mut self, txn: Txn, key: Key) -> Result<(), AllocError> {
         self.keys.mark(txn, key)

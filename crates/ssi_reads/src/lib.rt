@@ -9,6 +9,7 @@ mod key_marks;
 mod list_marks;
 mod marks;
 mod members;
+mod place;
 mod range_marks;
 mod span;
 

@@ -8,16 +8,10 @@ ghost use Rattle.ssi_reads.specs.Machinery.Listed.{list_marked, is_over};
 
 use crate::marks::Marks;
 use crate::members::by_number;
-use crate::span::Span;
+use crate::span::{Mark, Span};
 use adya_values::{Key, Txn};
 use std::alloc::{AllocError, Global};
 use std::collections::BTreeSet;
-
-#[derive(Clone, Copy)]
-struct Mark {
-    txn: Txn,
-    span: Span,
-}
 
 /// Marks in a list, in the order in which they were made. A mark takes amortised constant time; `readers_of` and
 /// `forget` look at each mark.

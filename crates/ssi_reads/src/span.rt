@@ -3,10 +3,10 @@
 ghost use Rattle.std.specs.Prelude.{◌≡◌};
 ghost use Rattle.adya_values.specs.Meaning.Keys.{lies_in};
 
-use adya_values::Key;
+use adya_values::{Key, Txn};
 
 /// The keys from `low` to `high`, both included; none if `high` is below `low`.
-#[derive(Clone, Copy)]
+#[derive(Clone, Copy, PartialEq, Eq, PartialOrd, Ord)]
 pub(crate) struct Span {
     pub(crate) low: Key,
     pub(crate) high: Key,
@@ -18,4 +18,11 @@ impl Span {
     {
         self.low <= key && key <= self.high
     }
+}
+
+/// A mark of the transaction over each key of the range.
+#[derive(Clone, Copy, PartialEq, Eq, PartialOrd, Ord)]
+pub(crate) struct Mark {
+    pub(crate) span: Span,
+    pub(crate) txn: Txn,
 }

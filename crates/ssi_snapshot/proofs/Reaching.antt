@@ -156,14 +156,14 @@ module _ (high : List ℕ) where
           ] refl
 
 -- its keys rise
-rises_behind : (j : List ℕ) (n : ℕ) (ws : List Entry) → keys_rise (j ∷ keys ws) ≡ true → keys_rise (j ∷ keys (up_to n ws)) ≡ true
-rises_behind j zero ws rise = refl
-rises_behind j (suc n) [] rise = refl
-rises_behind j (suc n) (w ∷ ws) rise =
+rises_after : (j : List ℕ) (n : ℕ) (ws : List Entry) → keys_rise (j ∷ keys ws) ≡ true → keys_rise (j ∷ keys (up_to n ws)) ≡ true
+rises_after j zero ws rise = refl
+rises_after j (suc n) [] rise = refl
+rises_after j (suc n) (w ∷ ws) rise =
     let r = and_parts (key_lt j w.version.key) (keys_rise (keys (w ∷ ws))) rise in
     elim (is_some (visible w.content)) as (λ b. keys_rise (j ∷ w.version.key ∷ keys (if b then up_to n ws else up_to (suc n) ws)) ≡ true) [
-      | true ↦ and_from (key_lt j w.version.key) (keys_rise (w.version.key ∷ keys (up_to n ws))) r.0 (rises_behind w.version.key n ws r.1)
-      | false ↦ and_from (key_lt j w.version.key) (keys_rise (w.version.key ∷ keys (up_to (suc n) ws))) r.0 (rises_behind w.version.key (suc n) ws r.1)
+      | true ↦ and_from (key_lt j w.version.key) (keys_rise (w.version.key ∷ keys (up_to n ws))) r.0 (rises_after w.version.key n ws r.1)
+      | false ↦ and_from (key_lt j w.version.key) (keys_rise (w.version.key ∷ keys (up_to (suc n) ws))) r.0 (rises_after w.version.key (suc n) ws r.1)
     ]
 
 rises_to_end : (n : ℕ) (ws : List Entry) → keys_rise (keys ws) ≡ true → keys_rise (keys (up_to n ws)) ≡ true
@@ -171,8 +171,8 @@ rises_to_end zero ws rise = refl
 rises_to_end (suc n) [] rise = refl
 rises_to_end (suc n) (w ∷ ws) rise =
     elim (is_some (visible w.content)) as (λ b. keys_rise (w.version.key ∷ keys (if b then up_to n ws else up_to (suc n) ws)) ≡ true) [
-      | true ↦ rises_behind w.version.key n ws rise
-      | false ↦ rises_behind w.version.key (suc n) ws rise
+      | true ↦ rises_after w.version.key n ws rise
+      | false ↦ rises_after w.version.key (suc n) ws rise
     ]
 
 -- a listed entry lies in the range

@@ -52,7 +52,8 @@ pub(crate) fn put_own(
     hi: Key,
 ) -> Result<(), AllocError>
     ensures stored { OnOk result ((key : List ℕ) → stored_at key seen.new.entries
-        ≡ otherwise (if lies_in lo hi key then listed key (map write_of writes.now) else None) (stored_at key seen.old.entries)) }
+        ≡ otherwise (if lies_in lo hi key then listed key (map write_of writes.now) else None)
+        (stored_at key seen.old.entries)) }
     ensures keyed { are_keyed entry_key seen.old.entries ≡ true → are_keyed entry_key seen.new.entries ≡ true }
 {
     let n = writes.len();

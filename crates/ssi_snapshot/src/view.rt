@@ -140,7 +140,8 @@ impl View {
     ) -> Result<Vec<Entry>, AllocError>
         requires range { key_le lo hi ≡ true }
         requires some { 0 < n }
-        ensures { IfOk result (λ v. (all : List PlainEntry) × IsListing (sees_between lo hi self.now (C.held chains.now)) all
+        ensures { IfOk result (λ v. (all : List PlainEntry)
+            × IsListing (sees_between lo hi self.now (C.held chains.now)) all
             × (map entry_of v.items ≡ up_to n all)) }
     {
         let mut entries = self.scan(chains, lo, hi)?;

@@ -89,16 +89,14 @@ open_protected (Aborts u ∷ log) s t e =
     (record {
       begun = o.begun;
       uncommitted = o.uncommitted;
-      unaborted =
-          (or_parts (u == t) (has_aborted t log) o.unaborted).1;
+      unaborted = (or_parts (u == t) (has_aborted t log) o.unaborted).1;
     }))
 open_protected (Commits u ∷ log) s t e =
     let o = open_from t (Commits u ∷ log) e in
     open_protected log s.1 t (open_to t log
     (record {
       begun = o.begun;
-      uncommitted =
-          (or_parts (u == t) (has_committed t log) o.uncommitted).1;
+      uncommitted = (or_parts (u == t) (has_committed t log) o.uncommitted).1;
       unaborted = o.unaborted;
     }))
 open_protected (Collects ∷ log) s t e =

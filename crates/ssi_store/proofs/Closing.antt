@@ -17,8 +17,7 @@ open_before t u log e =
     let o = open_from t (Aborts u ∷ log) e in
     let both = or_parts (u == t) (has_aborted t log) o.unaborted in (
       open_to t log (record { begun = o.begun; uncommitted = o.uncommitted; unaborted = both.1 }),
-      λ s. both_ways _
-          both.0 (eq-eqb u t s),
+      λ s. both_ways _ both.0 (eq-eqb u t s),
     )
 
 close_sound : (ts : List ℕ) (log : List Act) → Sound log → Sound (close ts log)
@@ -45,8 +44,7 @@ close_opens : (t : ℕ) (ts : List ℕ) (log : List Act) → is_open t (close ts
 close_opens t [] log e = e
 close_opens t (u ∷ ts) log e =
     elim (cases_Bool (is_open u log)) [
-      | inl holds ↦ (open_before t u log
-          (close_opens t ts (Aborts u ∷ log)
+      | inl holds ↦ (open_before t u log (close_opens t ts (Aborts u ∷ log)
           (subst (λ b. is_open t (close ts (cond b (Aborts u ∷ log) log)) ≡ true) holds e))).0
       | inr fails ↦ close_opens t ts log
           (subst (λ b. is_open t (close ts (cond b (Aborts u ∷ log) log)) ≡ true) fails e)
@@ -56,8 +54,7 @@ close_ends : (t : ℕ) (ts : List ℕ) (log : List Act) → Contains ts t → is
 close_ends t [] log c e = none_contained t c
 close_ends t (u ∷ ts) log (zero, l, f) e =
     elim (cases_Bool (is_open u log)) [
-      | inl holds ↦ (open_before t u log
-          (close_opens t ts (Aborts u ∷ log)
+      | inl holds ↦ (open_before t u log (close_opens t ts (Aborts u ∷ log)
           (subst (λ b. is_open t (close ts (cond b (Aborts u ∷ log) log)) ≡ true) holds e))).1 f
       | inr fails ↦ both_ways _ fails (subst (λ x. is_open x log ≡ true) (sym f) (close_opens t (u ∷ ts) log e))
     ]

@@ -1,6 +1,7 @@
 -- Collections change no reply but those of collect and stat.
 use Rattle.std.specs.List.{filter_map, find}
-use Rattle.std.proofs.Common.{Bool, List, None, Option, Some, [], ap, cond, false, if◌then◌else◌, is_some, nat_le, nat_lt, not, refl, suc, take, ℕ, ◌&&◌, ◌++◌, ◌==◌, ◌||◌, ◌∙◌, ◌∷◌, ◌≡◌}
+use Rattle.std.proofs.Common.{List, None, Option, Some, [], ap, cond, false, if◌then◌else◌, is_some, nat_le, nat_lt, not, refl, suc, take, ℕ, ◌&&◌, ◌++◌, ◌==◌, ◌||◌, ◌∙◌, ◌∷◌, ◌≡◌}
+use Rattle.lemmas.proofs.Finds.{find_agree}
 use Rattle.adya_values.specs.Meaning.Events.{entry, listed, shown, version}
 use Rattle.adya_values.specs.Meaning.Histories.{FinalPair}
 use Rattle.adya_values.specs.Meaning.KeySets.{insert}
@@ -171,15 +172,10 @@ rows_same t low high log =
     (λ k. if lies_in low high k then sees t k log else None) (keys log)
     (λ k. ap (λ o. cond (lies_in low high k) o None) (sees_same t k log)))
 
-find_same : {X : Type 0} (f g : X → Bool) (xs : List X) → ((x : X) → f x ≡ g x) → find f xs ≡ find g xs
-find_same f g [] h = refl
-find_same {X} f g (x ∷ xs) h = ap (λ b. cond {A = Option X} b (Some x) (find f xs)) (h x)
-    ∙ ap (cond {A = Option X} (g x) (Some x)) (find_same f g xs h)
-
 conflict_same : (t : ℕ) (log : List Act) → conflict t (uncollected log) ≡ conflict t log
 conflict_same t log =
     ap (find (is_overtaken t (uncollected log))) (keys_same log) ∙
-    find_same (is_overtaken t (uncollected log)) (is_overtaken t log) (keys log) (λ k.
+    find_agree (is_overtaken t (uncollected log)) (is_overtaken t log) (keys log) (λ k.
     ap (λ o. is_some o && is_installed_above k (snapshot t (uncollected log)) (changed (uncollected log)))
     (own_same t k log) ∙
     (ap (λ n. wrote t k log && is_installed_above k n (changed (uncollected log))) (snapshot_same t log) ∙

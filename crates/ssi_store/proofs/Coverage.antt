@@ -50,8 +50,7 @@ selected_shows h (Scan t low high es) k p e =
       | inl inside ↦
           let at : place_of h t k (listed k es) ≡ Some p = rw inside at e in (
             listed k es,
-            cond-true {A = Option (Option Entry)} (lies_in low high k)
-                (Some (listed k es)) None inside,
+            cond-true {A = Option (Option Entry)} (lies_in low high k) (Some (listed k es)) None inside,
             at,
           )
       | inr out ↦ absurd (let nothing : None ≡ Some p = rw out at e in none-some p nothing)

@@ -62,7 +62,7 @@ idle_is_safe c Do.Collect p e = cc
 idle_is_safe c Do.Stat p e = cc
 
 -- the transaction of a command is open
-txn_open : (pivot : List Call → Option ℕ) (c : Course) → Stands pivot c → (m : Command) (t : ℕ) → txn_for m c ≡ Some t
+pub txn_open : (pivot : List Call → Option ℕ) (c : Course) → Stands pivot c → (m : Command) (t : ℕ) → txn_for m c ≡ Some t
     → is_open t (acts c) ≡ true
 txn_open pivot c s (Do.Begin v) t e = s.opened v t e
 txn_open pivot c s (Do.Get v k) t e = s.opened v t e

@@ -69,7 +69,7 @@ key_lt-from_not a b e f =
       ]
     ]
 
-key_le-anti : (a b : List ℕ) → key_le a b ≡ true → key_le b a ≡ true → a ≡ b
+pub key_le-anti : (a b : List ℕ) → key_le a b ≡ true → key_le b a ≡ true → a ≡ b
 key_le-anti a b e f =
     elim (key_le-cases a b e) [
       | inl less ↦ elim (key_le-cases b a f) [

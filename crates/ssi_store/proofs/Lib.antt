@@ -30,6 +30,8 @@ pub mod Keeping
 pub mod Collecting
 pub mod Judging
 pub mod WorkedCases
+pub mod Conflicts
+pub mod JudgedCalls
 pub mod Rosters
 pub mod Opens
 pub mod Steps

@@ -1,8 +1,10 @@
 -- No pivot ever stands after a log whose reads and commits were judged.
-use Rattle.std.proofs.Common.{List, None, Option, [], subst, ℕ, ◌∷◌, ◌≡◌}
+use Rattle.ssi_store.proofs.Standing.{Stands}
+use Rattle.ssi_store.specs.Meaning.Courses.{Course}
+use Rattle.std.proofs.Common.{List, None, Option, Some, [], refl, subst, ℕ, ◌∷◌, ◌≡◌}
 use Rattle.ssi_conflict.specs.Meaning.Calls.{Call}
 use Rattle.ssi_conflict.specs.Meaning.Pairs.{IsSmallest}
-use Rattle.ssi_store.specs.Meaning.Acts.{Aborts, Act, Collects, Commits, Gets, Scans, Starts, Writes}
+use Rattle.ssi_store.specs.Meaning.Acts.{Aborts, Act, Collects, Commits, Gets, Scans, Starts, Writes, acts}
 use Rattle.ssi_store.specs.Meaning.Seeing.{commit_count}
 use Rattle.ssi_store.specs.Meaning.Tracked.{tracked}
 use Rattle.ssi_store.proofs.PivotRules.{IsRule}
@@ -24,3 +26,13 @@ module _ (IsStanding : ℕ → List Call → Type 0) (pivot : List Call → Opti
   no_pivot (Commits t ∷ log) s f p h = none_from (Commits t ∷ log) s f.0 p h
   no_pivot (Aborts t ∷ log) s f p h = no_pivot log s.1 f.1 p (rule.before_abort t p (tracked log) h)
   no_pivot (Collects ∷ log) s f p h = no_pivot log s.1 f.1 p h
+
+  -- so the rule names nothing
+  pub nothing_named : (c : Course) → Stands pivot c → pivot (tracked (acts c)) ≡ None
+  nothing_named c stands = by_name (pivot (tracked (acts c))) refl
+      (rule.names (tracked (acts c)) (tracked_allowed (acts c) stands.sound))
+    where
+      by_name : (o : Option ℕ) → pivot (tracked (acts c)) ≡ o → IsSmallest IsStanding (tracked (acts c)) o
+          → pivot (tracked (acts c)) ≡ None
+      by_name None e least = e
+      by_name (Some p) e least = absurd (no_pivot (acts c) stands.sound stands.safe p least.0)

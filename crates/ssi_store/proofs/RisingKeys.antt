@@ -73,8 +73,8 @@ insert_source k (j ∷ js) y c =
     past : (x : List ℕ) (xs ys : List (List ℕ)) (n z : List ℕ) → (Contains ys z → (n ≡ z) ⊎ Contains xs z)
         → Contains (x ∷ ys) z → (n ≡ z) ⊎ Contains (x ∷ xs) z
     past x xs ys n z h (zero, l, f) = inr (zero, omega arith, f)
-    past x xs ys n z h (suc i, l, f) = elim
-        (h (i, omega (arith, l), f)) [ inl e ↦ inl e | inr d ↦ inr (Contains-cons x xs z d) ]
+    past x xs ys n z h (suc i, l, f) =
+        elim (h (i, omega (arith, l), f)) [ inl e ↦ inl e | inr d ↦ inr (Contains-cons x xs z d) ]
 
 pub insert_rises : (k : List ℕ) (js : List (List ℕ)) → keys_rise js ≡ true → keys_rise (insert k js) ≡ true
 insert_rises k [] r = refl

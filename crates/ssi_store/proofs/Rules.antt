@@ -20,19 +20,17 @@ use Rattle.ssi_store.specs.Meaning.Seeing.{commit_count, committed, keys, own_wr
 use Rattle.ssi_store.proofs.KeyOrder.{key_le-itself, lies_in-itself}
 use Rattle.ssi_store.proofs.Lists.{only_one, option_cases}
 use Rattle.ssi_store.proofs.Recorded.{aborted_events, committed_events, count_of_events, made, of_get, of_write, own_of_events, versions, versions_of_events, written_write}
-use Rattle.ssi_store.proofs.RisingKeys.{made_rises}
-use Rattle.ssi_store.proofs.Seen.{all_seen, get_shows, get_txn, otherwise_cases, scanned_is, sees_is, shows, started_stays}
+use Rattle.ssi_store.proofs.Seen.{all_seen, get_shows, get_txn, otherwise_cases, scanned_is, scanned_rises, sees_is, shows, started_stays}
 use Rattle.ssi_store.proofs.Sound.{Open, Sound, not_open, open_from}
 use Rattle.ssi_store.proofs.Stamps.{committed_stays}
-use Rattle.ssi_store.proofs.Writing.{committed_step, keys_of_log_rise, own_write_is}
+use Rattle.ssi_store.proofs.Writing.{committed_step, own_write_is}
 
 each_more : (P : List Event → Event → Type 0) (before es : List Event) (e : Event) → EachAfter P before es
     → P (before ++ es) e → EachAfter P before (es ++ e ∷ [])
 each_more P before [] e each p = (subst (λ l. P l e) (append-nil before) p, tt)
 each_more P before (x ∷ xs) e each p = (
   each.0,
-  each_more P (before ++ x ∷ []) xs e each.1
-      (subst (λ l. P l e) (sym (append_assoc before (x ∷ []) xs)) p),
+  each_more P (before ++ x ∷ []) xs e each.1 (subst (λ l. P l e) (sym (append_assoc before (x ∷ []) xs)) p),
 )
 
 -- a rule holds of all recorded events if it holds of each new one
@@ -379,19 +377,10 @@ scan_rising : (t : ℕ) (low high : List ℕ) (log : List Act) → key_le low hi
     → IsRising (Scan t low high (scanned t low high log))
 scan_rising t low high log le = (
   le,
-  made_rises (λ w. w.version.key) (λ j. if lies_in low high j then sees t j log else None) own_key (keys log)
-      (keys_of_log_rise log),
+  scanned_rises t low high log,
   All-from_contained (λ w. lies_in low high w.version.key ≡ true) (scanned t low high log)
       (λ o c. (scanned_source t low high log o c).0),
 )
-  where
-    own_key : (j : List ℕ) (w : Entry) → (if lies_in low high j then sees t j log else None) ≡ Some w
-        → w.version.key ≡ j
-    own_key j w e =
-        elim (cases_Bool (lies_in low high j)) [
-          | inl within ↦ let seen : sees t j log ≡ Some w = rw within at e in (sees_is t j log w seen).0
-          | inr out ↦ let nothing : None ≡ Some w = rw out at e in absurd (none-some w nothing)
-        ]
 
 pub rising : (a : Act) (log : List Act) → Sound (a ∷ log) → (e : Event) → Contains (recorded a log) e → IsRising e
 rising (Starts t) log s e c = absurd (none_contained e c)

@@ -1,6 +1,6 @@
 -- What a recorded event shows is the transaction's own, or its snapshot's by a recorded read.
 use Rattle.std.specs.List.{Contains}
-use Rattle.std.proofs.Common.{List, None, Option, Some, [], ap, cond, if◌then◌else◌, inl, inr, is_some, nat_lt, not, refl, subst, suc, sym, true, ℕ, ◌&&◌, ◌==◌, ◌∙◌, ◌∷◌, ◌≡◌, ◌≤◌, ◌⊎◌}
+use Rattle.std.proofs.Common.{List, None, Option, Some, [], ap, cond, if◌then◌else◌, inl, inr, is_some, map, nat_lt, not, refl, subst, suc, sym, true, ℕ, ◌&&◌, ◌==◌, ◌∙◌, ◌∷◌, ◌≡◌, ◌≤◌, ◌⊎◌}
 use Rattle.std.proofs.lemmas.Bool.{and_from, and_left, and_parts, cases_Bool, cond-false, cond-true, eq-eqb, le-ltb, not_from_false, or_left, or_right}
 use Rattle.std.proofs.lemmas.List.Elements.{Contains-append_cases}
 use Rattle.std.proofs.lemmas.Option.{cond_some, none-some}
@@ -8,7 +8,7 @@ use Rattle.lemmas.proofs.Members.{none_contained}
 use Rattle.lemmas.proofs.Orderings.{bytes_eq-from, bytes_eq-itself, bytes_eq-same}
 use Rattle.adya_values.specs.Meaning.Events.{entry, listed, txn_of}
 use Rattle.adya_values.specs.Meaning.Histories.{Abort, Commit, Content, Dead, Delete, Entry, Event, Live, Read, Scan, Write}
-use Rattle.adya_values.specs.Meaning.Keys.{key_eq, lies_in}
+use Rattle.adya_values.specs.Meaning.Keys.{key_eq, keys_rise, lies_in}
 use Rattle.ssi_versions.specs.Meaning.Changes.{otherwise}
 use Rattle.ssi_store.specs.Meaning.Acts.{Aborts, Act, Collects, Commits, Gets, Scans, Starts, Writes, has_started}
 use Rattle.ssi_store.specs.Meaning.Recording.{events, get_event, get_found, recorded}
@@ -16,9 +16,9 @@ use Rattle.ssi_store.specs.Meaning.Seeing.{commit_count, committed, keys, own_wr
 use Rattle.ssi_store.proofs.KeyOrder.{lies_in-one}
 use Rattle.ssi_store.proofs.Lists.{only_one, option_cases}
 use Rattle.ssi_store.proofs.Recorded.{of_write}
-use Rattle.ssi_store.proofs.RisingKeys.{Contains-inserted, listed_made}
+use Rattle.ssi_store.proofs.RisingKeys.{Contains-inserted, listed_made, made_rises}
 use Rattle.ssi_store.proofs.Sound.{Sound, has_read, not_fresh, open_from, snapshot_within}
-use Rattle.ssi_store.proofs.Writing.{committed_step, own_write_is, wrote_key}
+use Rattle.ssi_store.proofs.Writing.{committed_step, keys_of_log_rise, own_write_is, wrote_key}
 
 -- what an event shows of a key: a version or none; or nothing, if it doesn't look there
 abbrev pub shows : Event → List ℕ → Option (Option Entry)
@@ -117,22 +117,38 @@ get_txn t j (Some w) = by_content w.content
     by_content (Live v) = refl
     by_content Dead = refl
 
+-- what a scan lists of a key is of that key
+pub scan_key : (t : ℕ) (low high : List ℕ) (log : List Act) (j : List ℕ) (w : Entry)
+    → (if lies_in low high j then sees t j log else None) ≡ Some w
+    → (w.version.key ≡ j) × Contains (keys log) j
+scan_key t low high log j w e =
+    elim (cases_Bool (lies_in low high j)) [
+      | inl within ↦ (let seen : sees t j log ≡ Some w = rw within at e in sees_is t j log w seen)
+      | inr out ↦ let nothing : None ≡ Some w = rw out at e in absurd (none-some w nothing)
+    ]
+
 -- a scan lists of each key of its range what is seen of it
-pub scanned_is : (t : ℕ) (low high k : List ℕ) (log : List Act) → (lies_in low high k) ≡ true
+pub scanned_lists : (t : ℕ) (low high k : List ℕ) (log : List Act)
+    → listed k (scanned t low high log) ≡ (if lies_in low high k then sees t k log else None)
+scanned_lists t low high k log =
+    listed_made (λ j. if lies_in low high j then sees t j log else None)
+    (λ j w e. (scan_key t low high log j w e).0) (keys log) k
+    (elim (option_cases (if lies_in low high k then sees t k log else None)) [
+      | inl none ↦ inr none
+      | inr some ↦ inl (scan_key t low high log k some.0 some.1).1
+    ])
+
+pub scanned_is : (t : ℕ) (low high k : List ℕ) (log : List Act) → lies_in low high k ≡ true
     → listed k (scanned t low high log) ≡ sees t k log
 scanned_is t low high k log inside =
-    let f = λ (j : List ℕ). if lies_in low high j then sees t j log else None in
-    let at : f k ≡ sees t k log = cond-true {A = Option Entry} (lies_in low high k) (sees t k log) None inside in
-    let key : (j : List ℕ) (w : Entry) → f j ≡ Some w → w.version.key ≡ j = λ j w e.
-    elim (cases_Bool (lies_in low high j)) [
-      | inl within ↦ let seen : sees t j log ≡ Some w = rw within at e in (sees_is t j log w seen).0
-      | inr out ↦ let nothing : None ≡ Some w = rw out at e in absurd (none-some w nothing)
-    ] in
-    listed_made f key (keys log) k
-    (elim (option_cases (sees t k log)) [
-      | inl none ↦ inr (at ∙ none)
-      | inr some ↦ inl (sees_is t k log some.0 some.1).1
-    ]) ∙ at
+    scanned_lists t low high k log ∙ cond-true {A = Option Entry} (lies_in low high k) (sees t k log) None inside
+
+-- by rising key
+pub scanned_rises : (t : ℕ) (low high : List ℕ) (log : List Act)
+    → keys_rise (map (λ w. w.version.key) (scanned t low high log)) ≡ true
+scanned_rises t low high log =
+    made_rises (λ w. w.version.key) (λ j. if lies_in low high j then sees t j log else None)
+    (λ j w e. (scan_key t low high log j w e).0) (keys log) (keys_of_log_rise log)
 
 read_stays : (t : ℕ) (k : List ℕ) (a : Act) (log : List Act) → has_read t k log ≡ true
     → has_read t k (a ∷ log) ≡ true
@@ -247,8 +263,7 @@ all_seen (a ∷ log) s e c k o f =
           let r = all_seen log s.1 e old k o f in
           record {
             begun = started_stays (txn_of e) a log r.begun;
-            right = seen_stays
-                (txn_of e) k o a log s r.begun r.right;
+            right = seen_stays (txn_of e) k o a log s r.begun r.right;
           }
       | inr new ↦ new_seen a log s e new k o f
     ]

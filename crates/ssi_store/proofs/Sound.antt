@@ -114,8 +114,7 @@ read_started t k (Commits u ∷ log) s e = read_started t k log s.1 e
 read_started t k (Aborts u ∷ log) s e = read_started t k log s.1 e
 read_started t k (Gets u j ∷ log) s e =
     elim (or_cases ((u == t) && key_eq j k && not (wrote u j log)) (has_read t k log) e) [
-      | inl same ↦ subst (λ x. has_started x log ≡ true)
-          (eqb-true u t (and_parts (u == t) (key_eq j k)
+      | inl same ↦ subst (λ x. has_started x log ≡ true) (eqb-true u t (and_parts (u == t) (key_eq j k)
           (and_parts ((u == t) && key_eq j k) (not (wrote u j log)) same).0).0) (open_from u log s.0).begun
       | inr there ↦ read_started t k log s.1 there
     ]
@@ -153,8 +152,7 @@ not_fresh t u log a e = false_from_ne_true _
 
 -- whoever has committed is not one that is open
 pub not_open : (t u : ℕ) (log : List Act) → is_open t log ≡ true → has_committed u log ≡ true → (t == u) ≡ false
-not_open t u log o e = false_from_ne_true _
-    (λ same. both_ways _ (open_from t log o).uncommitted
+not_open t u log o e = false_from_ne_true _ (λ same. both_ways _ (open_from t log o).uncommitted
     (subst (λ x. has_committed x log ≡ true) (sym (eqb-true t u same)) e))
 
 pub stamp_committed : (t n : ℕ) (log : List Act) → stamp t log ≡ Some n → has_committed t log ≡ true
@@ -182,8 +180,7 @@ committed_stamp t (Commits u ∷ log) e =
     elim (cases_Bool (u == t)) [
       | inl same ↦ (
         suc (commit_count log),
-        cond-true {A = Option ℕ} (u == t) (Some (suc (commit_count log)))
-            (stamp t log) same,
+        cond-true {A = Option ℕ} (u == t) (Some (suc (commit_count log))) (stamp t log) same,
       )
       | inr other ↦
           let rest = committed_stamp t log (rw other at e) in

@@ -231,8 +231,7 @@ installed_above : (k : List ℕ) (p t n s : ℕ) (log : List Act) → Sound log
 installed_above k p t n s [] sound e f l = absurd (none-some t e)
 installed_above k p t n s (a ∷ log) sound e f l =
     elim (installed_cases k p t a log e) [
-      | inl old ↦ above_stays k s a log
-          (installed_above k p t n s log sound.1 old
+      | inl old ↦ above_stays k s a log (installed_above k p t n s log sound.1 old
           (sym (stamp_stays t a log sound (installer_is k p t log old).committed) ∙ f) l)
       | inr new ↦
           let now = same_Some _ n (sym (new_stamp t a log new.1) ∙ f) in

@@ -1,8 +1,8 @@
 -- The acts of a course that follows the replies are sound.
 use Rattle.std.proofs.Common.{Bool, List, None, Option, Some, [], ap, arith, cond, false, inl, inr, nat_le, nat_lt, refl, subst, sym, take, true, ℕ, ◌++◌, ◌<◌, ◌==◌, ◌∙◌, ◌∷◌, ◌≡◌, ◌⊎◌}
-use Rattle.std.proofs.lemmas.Bool.{both_ways, cases_Bool, cond-false, cond-true, eq-eqb, eqb-true, false_from_ne_true, ne_eqb, or_cases, or_from, or_left, or_right}
+use Rattle.std.proofs.lemmas.Bool.{both_ways, cases_Bool, cond-false, cond-true, eq-eqb, eqb-true, false_from_ne_true, ne_eqb, or_cases, or_from, or_left, or_parts, or_right}
 use Rattle.std.proofs.lemmas.Option.{none-some, same_Some}
-use Rattle.lemmas.proofs.Orderings.{bytes_eq-from, bytes_eq-same}
+use Rattle.lemmas.proofs.Orderings.{bytes_eq-from, bytes_eq-itself, bytes_eq-other, bytes_eq-same}
 use Rattle.adya_values.specs.Meaning.Events.{shown}
 use Rattle.adya_values.specs.Meaning.Histories.{Dead, FinalPair, Live}
 use Rattle.adya_values.specs.Meaning.Keys.{key_eq, key_le, key_lt}
@@ -22,9 +22,10 @@ module _ (pivot : List Call → Option ℕ) where
   pub record Stands (c : Course) : Type 0 where
     pub sound : Sound (acts c)
     pub safe : Safe pivot (acts c)
-    -- a session's transaction is open, and no other session's
+    -- a session's transaction is open, and no other session's; and each open one is a session's
     pub opened : (s : List ℕ) (t : ℕ) → txn_in s c ≡ Some t → is_open t (acts c) ≡ true
     pub apart : (r s : List ℕ) (t : ℕ) → txn_in r c ≡ Some t → txn_in s c ≡ Some t → r ≡ s
+    pub held : (t : ℕ) → is_open t (acts c) ≡ true → (s : List ℕ) × (txn_in s c ≡ Some t)
     pub below : (u : ℕ) → has_started u (acts c) ≡ true → u < next_txn c
 
   -- a command does nothing
@@ -41,7 +42,7 @@ module _ (pivot : List Call → Option ℕ) where
     pub clear : SafeAct pivot act (acts c)
     pub keeps : (x : Option ℕ) → txn_after x a ≡ x
     pub next_is : next_txn (Then c m a) ≡ next_txn c
-    pub still : (u : ℕ) → is_open u (acts c) ≡ true → is_open u (act ∷ acts c) ≡ true
+    pub still : (u : ℕ) → is_open u (act ∷ acts c) ≡ is_open u (acts c)
     pub starts : (u : ℕ) → has_started u (act ∷ acts c) ≡ has_started u (acts c)
 
   -- a command of the session s
@@ -58,6 +59,7 @@ module _ (pivot : List Call → Option ℕ) where
     pub drops : (x : Option ℕ) → txn_after x a ≡ None
     pub next_is : next_txn (Then c m a) ≡ next_txn c
     pub still : (u : ℕ) → (t ≡ u → ⊥) → is_open u (acts c) ≡ true → is_open u (act ∷ acts c) ≡ true
+    pub others : (u : ℕ) → is_open u (act ∷ acts c) ≡ true → (t ≡ u → ⊥) × (is_open u (acts c) ≡ true)
     pub starts : (u : ℕ) → has_started u (act ∷ acts c) ≡ has_started u (acts c)
 
   txn_kept : (c : Course) (m : Command) (a : Answer) → ((x : Option ℕ) → txn_after x a ≡ x) → (r : List ℕ)
@@ -74,13 +76,11 @@ module _ (pivot : List Call → Option ℕ) where
       → (s ≡ r → ⊥) × (txn_in r c ≡ Some t)
   txn_dropped s c m a of drops r t e =
       elim (cases_Bool (is_of r m)) [
-        | inl same ↦ absurd (none-some t
-            (sym (drops (txn_in r c)) ∙ (sym
+        | inl same ↦ absurd (none-some t (sym (drops (txn_in r c)) ∙ (sym
             (cond-true {A = Option ℕ} (is_of r m) (txn_after (txn_in r c) a) (txn_in r c) same) ∙ e)))
         | inr other ↦ (
           (λ same. both_ways _ other (of.session r ∙ bytes_eq-from s r same)),
-          sym
-              (cond-false {A = Option ℕ} (is_of r m) (txn_after (txn_in r c) a) (txn_in r c) other) ∙ e,
+          sym (cond-false {A = Option ℕ} (is_of r m) (txn_after (txn_in r c) a) (txn_in r c) other) ∙ e,
         )
       ]
 
@@ -94,6 +94,8 @@ module _ (pivot : List Call → Option ℕ) where
         opened = λ r t f. subst (λ l. is_open t l ≡ true) (sym same)
             (s.opened r t (sym (txn_kept c m a q.keeps r) ∙ f));
         apart = λ r v t f g. s.apart r v t (sym (txn_kept c m a q.keeps r) ∙ f) (sym (txn_kept c m a q.keeps v) ∙ g);
+        held = λ u f.
+            let h = s.held u (subst (λ l. is_open u l ≡ true) same f) in (h.0, txn_kept c m a q.keeps h.0 ∙ h.1);
         below = λ u f. subst (λ n. u < n) (sym q.next_is) (s.below u (subst (λ l. has_started u l ≡ true) same f));
       }
 
@@ -106,8 +108,11 @@ module _ (pivot : List Call → Option ℕ) where
         sound = subst Sound (sym same) (q.allowed, s.sound);
         safe = subst (Safe pivot) (sym same) (q.clear, s.safe);
         opened = λ r u f. subst (λ l. is_open u l ≡ true) (sym same)
-            (q.still u (s.opened r u (sym (txn_kept c m a q.keeps r) ∙ f)));
+            (q.still u ∙ s.opened r u (sym (txn_kept c m a q.keeps r) ∙ f));
         apart = λ r v u f g. s.apart r v u (sym (txn_kept c m a q.keeps r) ∙ f) (sym (txn_kept c m a q.keeps v) ∙ g);
+        held = λ u f.
+            let h = s.held u (sym (q.still u) ∙ subst (λ l. is_open u l ≡ true) same f) in
+            (h.0, txn_kept c m a q.keeps h.0 ∙ h.1);
         below = λ u f. subst (λ n. u < n) (sym q.next_is)
             (s.below u (sym (q.starts u) ∙ subst (λ l. has_started u l ≡ true) same f));
       }
@@ -126,13 +131,18 @@ module _ (pivot : List Call → Option ℕ) where
             (q.still u (λ w. d.0 (s.apart v r u (e ∙ ap Some w) d.1)) (s.opened r u d.1));
         apart = λ r x u f g. s.apart r x u (txn_dropped v c m a of q.drops r u f).1
             (txn_dropped v c m a of q.drops x u g).1;
+        held = λ u f.
+            let before = q.others u (subst (λ l. is_open u l ≡ true) same f) in
+            let h = s.held u before.1 in
+            let other : is_of h.0 m ≡ false = of.session h.0 ∙ bytes_eq-other v h.0 (λ w.
+            before.0 (same_Some t u (sym e ∙ (ap (λ x. txn_in x c) w ∙ h.1)))) in
+            (h.0, cond-false {A = Option ℕ} (is_of h.0 m) (txn_after (txn_in h.0 c) a) (txn_in h.0 c) other ∙ h.1);
         below = λ u f. subst (λ n. u < n) (sym q.next_is)
             (s.below u (sym (q.starts u) ∙ subst (λ l. has_started u l ≡ true) same f));
       }
 
   pub refused : (c : Course) (m : Command) (r : Answer) (x : Refusal) → r ≡ Refused x → Stands c → Stands (Then c m r)
-  refused c m r x e s = subst (λ a. Stands (Then c m a)) (sym e)
-      (after_quiet (txn_for m c) c m (Refused x) refl s
+  refused c m r x e s = subst (λ a. Stands (Then c m a)) (sym e) (after_quiet (txn_for m c) c m (Refused x) refl s
       (record { acts_are = none (txn_for m c) m; keeps = λ y. refl; next_is = refl }))
     where
       none_of : (t : ℕ) (m : Command) → act_of t m (Refused x) ≡ []
@@ -167,9 +177,14 @@ module _ (pivot : List Call → Option ℕ) where
         open_to u (Aborts t ∷ acts c) (record {
           begun = o.begun;
           uncommitted = o.uncommitted;
-          unaborted = or_from (t == u) (has_aborted u (acts c))
-              (ne_eqb t u ne) o.unaborted;
+          unaborted = or_from (t == u) (has_aborted u (acts c)) (ne_eqb t u ne) o.unaborted;
         });
+    others = λ u g.
+        let o = open_from u (Aborts t ∷ acts c) g in
+        let both = or_parts (t == u) (has_aborted u (acts c)) o.unaborted in (
+          λ same. both_ways _ both.0 (eq-eqb t u same),
+          open_to u (acts c) (record { begun = o.begun; uncommitted = o.uncommitted; unaborted = both.1 }),
+        );
     starts = λ u. refl;
   })
 
@@ -177,7 +192,7 @@ module _ (pivot : List Call → Option ℕ) where
   work_done : (t : ℕ) (c : Course) (m : Command) (a : Answer) (x : Act) → txn_for m c ≡ Some t → Stands c
       → act_by (Some t) m a ≡ x ∷ [] → Allowed x (acts c) → SafeAct pivot x (acts c)
       → ((y : Option ℕ) → txn_after y a ≡ y) → next_txn (Then c m a) ≡ next_txn c
-      → ((u : ℕ) → is_open u (acts c) ≡ true → is_open u (x ∷ acts c) ≡ true)
+      → ((u : ℕ) → is_open u (x ∷ acts c) ≡ is_open u (acts c))
       → ((u : ℕ) → has_started u (x ∷ acts c) ≡ has_started u (acts c)) → Stands (Then c m a)
   work_done t c m a x e s f allowed clear keeps next still starts = after_work (Some t) c m a e s (record {
     act = x;
@@ -196,9 +211,9 @@ module _ (pivot : List Call → Option ℕ) where
   get_judged t s k c e st (Some p) f v = aborted t s c (Do.Get s k) (Unsafe p)
       (record { session = λ r. refl; txn = refl }) e st refl (λ x. refl) refl
   get_judged t s k c e st None f None = work_done t c (Do.Get s k) Absent (Gets t k) e st refl (st.opened s t e) f
-      (λ x. refl) refl (λ u g. g) (λ u. refl)
+      (λ x. refl) refl (λ u. refl) (λ u. refl)
   get_judged t s k c e st None f (Some v) = work_done t c (Do.Get s k) (Value v) (Gets t k) e st refl
-      (st.opened s t e) f (λ x. refl) refl (λ u g. g) (λ u. refl)
+      (st.opened s t e) f (λ x. refl) refl (λ u. refl) (λ u. refl)
 
   pub scan_judged : (t : ℕ) (s low high : List ℕ) (c : Course) → key_le low high ≡ true → txn_in s c ≡ Some t
       → Stands c → (p : Option ℕ) → pivot (tracked (Scans t low high ∷ acts c)) ≡ p → (found : List FinalPair)
@@ -206,7 +221,7 @@ module _ (pivot : List Call → Option ℕ) where
   scan_judged t s low high c le e st (Some p) f found = aborted t s c (Do.Scan s low high) (Unsafe p)
       (record { session = λ r. refl; txn = refl }) e st refl (λ x. refl) refl
   scan_judged t s low high c le e st None f found = work_done t c (Do.Scan s low high) (Rows found)
-      (Scans t low high) e st refl (st.opened s t e, le) f (λ x. refl) refl (λ u g. g) (λ u. refl)
+      (Scans t low high) e st refl (st.opened s t e, le) f (λ x. refl) refl (λ u. refl) (λ u. refl)
 
   limited_judged : (t : ℕ) (s low high : List ℕ) (n : ℕ) (c : Course) (found : List FinalPair)
       → key_le low (reached high n found) ≡ true → txn_in s c ≡ Some t → Stands c → (p : Option ℕ)
@@ -215,7 +230,7 @@ module _ (pivot : List Call → Option ℕ) where
   limited_judged t s low high n c found le e st (Some p) f = aborted t s c (Do.ScanFirst s low high n) (Unsafe p)
       (record { session = λ r. refl; txn = refl }) e st refl (λ x. refl) refl
   limited_judged t s low high n c found le e st None f = work_done t c (Do.ScanFirst s low high n) (Rows found)
-      (Scans t low (reached high n found)) e st refl (st.opened s t e, le) f (λ x. refl) refl (λ u g. g) (λ u. refl)
+      (Scans t low (reached high n found)) e st refl (st.opened s t e, le) f (λ x. refl) refl (λ u. refl) (λ u. refl)
 
   commit_judged : (t : ℕ) (s : List ℕ) (c : Course) → txn_in s c ≡ Some t → Stands c → (k : Option (List ℕ))
       → conflict t (acts c) ≡ k → (p : Option ℕ) → pivot (tracked (Commits t ∷ acts c)) ≡ p
@@ -237,10 +252,15 @@ module _ (pivot : List Call → Option ℕ) where
             open_to u (Commits t ∷ acts c)
             (record {
               begun = o.begun;
-              uncommitted = or_from (t == u) (has_committed u (acts c))
-                  (ne_eqb t u ne) o.uncommitted;
+              uncommitted = or_from (t == u) (has_committed u (acts c)) (ne_eqb t u ne) o.uncommitted;
               unaborted = o.unaborted;
             });
+        others = λ u h.
+            let o = open_from u (Commits t ∷ acts c) h in
+            let both = or_parts (t == u) (has_committed u (acts c)) o.uncommitted in (
+              λ same. both_ways _ both.0 (eq-eqb t u same),
+              open_to u (acts c) (record { begun = o.begun; uncommitted = both.1; unaborted = o.unaborted }),
+            );
         starts = λ u. refl;
       })
 
@@ -266,8 +286,7 @@ module _ (pivot : List Call → Option ℕ) where
       elim (cases_Bool (key_eq s r)) [
         | inl same ↦ inl (
           bytes_eq-same s r same,
-          same_Some n t
-              (sym (cond-true {A = Option ℕ} (key_eq s r) (Some n) (txn_in r c) same) ∙ e),
+          same_Some n t (sym (cond-true {A = Option ℕ} (key_eq s r) (Some n) (txn_in r c) same) ∙ e),
         )
         | inr other ↦ inr (sym (cond-false {A = Option ℕ} (key_eq s r) (Some n) (txn_in r c) other) ∙ e)
       ]
@@ -287,8 +306,7 @@ module _ (pivot : List Call → Option ℕ) where
                   let o = open_from t (acts c) (st.opened r t old) in
                   open_to t (Starts (next_txn c) ∷ acts c)
                   (record {
-                    begun = or_right (next_txn c == t)
-                        (has_started t (acts c)) o.begun;
+                    begun = or_right (next_txn c == t) (has_started t (acts c)) o.begun;
                     uncommitted = o.uncommitted;
                     unaborted = o.unaborted;
                   })
@@ -303,6 +321,21 @@ module _ (pivot : List Call → Option ℕ) where
                 | inl new ↦ absurd (not_held r t new.1 old)
                 | inr also ↦ st.apart r v t old also
               ]
+            ];
+        held = λ u f.
+            let o = open_from u (Starts (next_txn c) ∷ acts c) (subst (λ l. is_open u l ≡ true) same f) in
+            elim (or_cases (next_txn c == u) (has_started u (acts c)) o.begun) [
+              | inl new ↦ (
+                s,
+                cond-true {A = Option ℕ} (key_eq s s) (Some (next_txn c)) (txn_in s c) (bytes_eq-itself s)
+                    ∙ ap Some (eqb-true (next_txn c) u new),
+              )
+              | inr old ↦
+                  let h = st.held u (open_to u (acts c)
+                  (record { begun = old; uncommitted = o.uncommitted; unaborted = o.unaborted })) in
+                  let other : key_eq s h.0 ≡ false = bytes_eq-other s h.0 (λ w.
+                  none-some u (sym e ∙ (ap (λ x. txn_in x c) w ∙ h.1))) in
+                  (h.0, cond-false {A = Option ℕ} (key_eq s h.0) (Some (next_txn c)) (txn_in h.0 c) other ∙ h.1)
             ];
         below = λ u f. elim (or_cases (next_txn c == u) (has_started u (acts c))
             (subst (λ l. has_started u l ≡ true) same f)) [
@@ -337,7 +370,7 @@ module _ (pivot : List Call → Option ℕ) where
     clear = tt;
     keeps = λ x. refl;
     next_is = refl;
-    still = λ u g. g;
+    still = λ u. refl;
     starts = λ u. refl;
   })
 
@@ -366,9 +399,9 @@ module _ (pivot : List Call → Option ℕ) where
       (get_judged t s k c e st (pivot (tracked (Gets t k ∷ acts c))) refl (shown (sees t k (acts c))))
   busy_stands t c (Do.Put s k v) e st = long_stands t c (Do.Put s k v) Done st
       (work_done t c (Do.Put s k v) Done (Writes t k (Live v)) e st refl (st.opened s t e) tt (λ x. refl) refl
-      (λ u g. g) (λ u. refl))
+      (λ u. refl) (λ u. refl))
   busy_stands t c (Do.Del s k) e st = long_stands t c (Do.Del s k) Done st
-      (work_done t c (Do.Del s k) Done (Writes t k Dead) e st refl (st.opened s t e) tt (λ x. refl) refl (λ u g. g)
+      (work_done t c (Do.Del s k) Done (Writes t k Dead) e st refl (st.opened s t e) tt (λ x. refl) refl (λ u. refl)
       (λ u. refl))
   busy_stands t c (Do.Scan s low high) e st =
       downward_stands low high c (Do.Scan s low high) _ st
@@ -400,6 +433,7 @@ module _ (pivot : List Call → Option ℕ) where
     safe = tt;
     opened = λ s t e. absurd (none-some t e);
     apart = λ r s t e g. absurd (none-some t e);
+    held = λ t e. absurd (cc (e));
     below = λ u e. absurd (cc (e));
   }
   course_stands (Then c m a) f =

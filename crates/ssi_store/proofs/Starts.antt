@@ -78,8 +78,7 @@ module _ (h : History) (f g : ℕ → ℕ) (same : (t : ℕ) → f t ≡ g t) wh
       record {
         differ = c.differ;
         ends_after = omega (arith, at_u, after);
-        starts_before = omega
-            (arith, at_t, before);
+        starts_before = omega (arith, at_t, before);
       }
 
   pub snapshots_same : IsSnapshotHistory h f → IsSnapshotHistory h g

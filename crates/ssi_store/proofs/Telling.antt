@@ -6,7 +6,7 @@ use Rattle.std.proofs.lemmas.List.Elements.{Contains-get_or}
 use Rattle.std.proofs.lemmas.List.Quantifiers.{all_pairs_push}
 use Rattle.lemmas.proofs.Orderings.{bytes_eq-from, bytes_eq-other, bytes_eq-same}
 use Rattle.adya_values.specs.Meaning.Keys.{key_eq, lies_in}
-use Rattle.ssi_conflict.specs.Meaning.Calls.{AreAllowed, begun, has_begun, is_aborted, is_committed as committed_told, is_open as open_told, keys_of, last_stamp, meets, snapshot_of, stamp_of}
+use Rattle.ssi_conflict.specs.Meaning.Calls.{AreAllowed, MayCommit, begun, has_begun, is_aborted, is_committed as committed_told, is_open as open_told, keys_of, last_stamp, meets, snapshot_of, stamp_of}
 use Rattle.ssi_store.specs.Meaning.Acts.{Aborts, Act, Collects, Commits, Gets, Scans, Starts, Writes, has_aborted, has_committed, has_started, is_open, started}
 use Rattle.ssi_store.specs.Meaning.Seeing.{commit_count, own_keys, snapshot, wrote}
 use Rattle.ssi_store.specs.Meaning.Tracked.{tracked}
@@ -26,8 +26,8 @@ pub stamp_told : (t : ℕ) (log : List Act) → stamp_of t (tracked log) ≡ sta
 stamp_told t [] = refl
 stamp_told t (Starts u ∷ log) = stamp_told t log
 stamp_told t (Writes u k c ∷ log) = stamp_told t log
-stamp_told t (Gets u k ∷ log) = elim
-    (cases_Bool (wrote u k log)) [ inl own ↦ rw own (stamp_told t log) | inr other ↦ rw other (stamp_told t log) ]
+stamp_told t (Gets u k ∷ log) =
+    elim (cases_Bool (wrote u k log)) [ inl own ↦ rw own (stamp_told t log) | inr other ↦ rw other (stamp_told t log) ]
 stamp_told t (Scans u low high ∷ log) = stamp_told t log
 stamp_told t (Commits u ∷ log) = ap (λ o. cond (u == t) (Some (suc (commit_count log))) o) (stamp_told t log)
 stamp_told t (Aborts u ∷ log) = stamp_told t log
@@ -51,8 +51,8 @@ pub aborted_told : (t : ℕ) (log : List Act) → is_aborted t (tracked log) ≡
 aborted_told t [] = refl
 aborted_told t (Starts u ∷ log) = aborted_told t log
 aborted_told t (Writes u k c ∷ log) = aborted_told t log
-aborted_told t (Gets u k ∷ log) = elim
-    (cases_Bool (wrote u k log)) [ inl own ↦ rw own (aborted_told t log) | inr other ↦ rw other (aborted_told t log) ]
+aborted_told t (Gets u k ∷ log) =
+    elim (cases_Bool (wrote u k log)) [ inl own ↦ rw own (aborted_told t log) | inr other ↦ rw other (aborted_told t log) ]
 aborted_told t (Scans u low high ∷ log) = aborted_told t log
 aborted_told t (Commits u ∷ log) = aborted_told t log
 aborted_told t (Aborts u ∷ log) = ap (λ b. (u == t) || b) (aborted_told t log)
@@ -63,14 +63,14 @@ begun_told t [] = refl
 begun_told t (Starts u ∷ log) =
     elim (cases_Bool (u == t)) [ inl same ↦ rw same refl | inr other ↦ rw other (begun_told t log) ]
 begun_told t (Writes u k c ∷ log) = begun_told t log
-begun_told t (Gets u k ∷ log) = elim
-    (cases_Bool (wrote u k log)) [ inl own ↦ rw own (begun_told t log) | inr other ↦ rw other (begun_told t log) ]
+begun_told t (Gets u k ∷ log) =
+    elim (cases_Bool (wrote u k log)) [ inl own ↦ rw own (begun_told t log) | inr other ↦ rw other (begun_told t log) ]
 begun_told t (Scans u low high ∷ log) = begun_told t log
 begun_told t (Commits u ∷ log) = begun_told t log
 begun_told t (Aborts u ∷ log) = begun_told t log
 begun_told t (Collects ∷ log) = begun_told t log
 
-is_open_told : (t : ℕ) (log : List Act) → open_told t (tracked log) ≡ is_open t log
+pub is_open_told : (t : ℕ) (log : List Act) → open_told t (tracked log) ≡ is_open t log
 is_open_told t log =
     ap (λ b. b && not (committed_told t (tracked log) || is_aborted t (tracked log))) (begun_told t log) ∙
     (ap (λ b. has_started t log && not (b || is_aborted t (tracked log))) (is_committed_told t log) ∙
@@ -82,15 +82,13 @@ snapshot_told t [] b = absurd (cc (b))
 snapshot_told t (Starts u ∷ log) b =
     elim (cases_Bool (u == t)) [
       | inl same ↦ rw same refl
-      | inr other ↦ rw other
-          (snapshot_told t log (rw other at b))
+      | inr other ↦ rw other (snapshot_told t log (rw other at b))
     ]
 snapshot_told t (Writes u k c ∷ log) b = snapshot_told t log b
-snapshot_told t (Gets u k ∷ log) b = elim
-    (cases_Bool (wrote u k log)) [
+snapshot_told t (Gets u k ∷ log) b =
+    elim (cases_Bool (wrote u k log)) [
       | inl own ↦ rw own (snapshot_told t log b)
-      | inr other ↦ rw other
-          (snapshot_told t log b)
+      | inr other ↦ rw other (snapshot_told t log b)
     ]
 snapshot_told t (Scans u low high ∷ log) b = snapshot_told t log b
 snapshot_told t (Commits u ∷ log) b = snapshot_told t log b
@@ -126,11 +124,10 @@ keys_told u [] s c k w = absurd (cc (c))
 keys_told u (Starts t ∷ log) s c k w = keys_told u log s.1 c k w
 keys_told u (Writes t j d ∷ log) s c k w =
     keys_told u log s.1 c k (rw (and_left (t == u) (key_eq j k) (not_open t u log s.0 c)) at w)
-keys_told u (Gets t j ∷ log) s c k w = elim
-    (cases_Bool (wrote t j log)) [
+keys_told u (Gets t j ∷ log) s c k w =
+    elim (cases_Bool (wrote t j log)) [
       | inl own ↦ rw own (keys_told u log s.1 c k w)
-      | inr other ↦ rw other
-          (keys_told u log s.1 c k w)
+      | inr other ↦ rw other (keys_told u log s.1 c k w)
     ]
 keys_told u (Scans t low high ∷ log) s c k w = keys_told u log s.1 c k w
 keys_told u (Aborts t ∷ log) s c k w = keys_told u log s.1 c k w
@@ -146,11 +143,10 @@ last_stamp_told : (log : List Act) → last_stamp (tracked log) ≡ commit_count
 last_stamp_told [] = refl
 last_stamp_told (Starts u ∷ log) = last_stamp_told log
 last_stamp_told (Writes u k c ∷ log) = last_stamp_told log
-last_stamp_told (Gets u k ∷ log) = elim
-    (cases_Bool (wrote u k log)) [
+last_stamp_told (Gets u k ∷ log) =
+    elim (cases_Bool (wrote u k log)) [
       | inl own ↦ rw own (last_stamp_told log)
-      | inr other ↦ rw other
-          (last_stamp_told log)
+      | inr other ↦ rw other (last_stamp_told log)
     ]
 last_stamp_told (Scans u low high ∷ log) = last_stamp_told log
 last_stamp_told (Commits u ∷ log) = refl
@@ -161,8 +157,8 @@ pub begun_are : (log : List Act) → begun (tracked log) ≡ started log
 begun_are [] = refl
 begun_are (Starts u ∷ log) = ap (λ l. l ++ u ∷ []) (begun_are log)
 begun_are (Writes u k c ∷ log) = begun_are log
-begun_are (Gets u k ∷ log) = elim
-    (cases_Bool (wrote u k log)) [ inl own ↦ rw own (begun_are log) | inr other ↦ rw other (begun_are log) ]
+begun_are (Gets u k ∷ log) =
+    elim (cases_Bool (wrote u k log)) [ inl own ↦ rw own (begun_are log) | inr other ↦ rw other (begun_are log) ]
 begun_are (Scans u low high ∷ log) = begun_are log
 begun_are (Commits u ∷ log) = begun_are log
 begun_are (Aborts u ∷ log) = begun_are log
@@ -187,6 +183,15 @@ own_keys_apart t (Writes u k c ∷ log) =
       | inr old ↦ rw old (own_keys_apart t log)
     ]
 
+-- an open transaction may commit with the keys that it has written
+pub may_commit : (t : ℕ) (log : List Act) → is_open t log ≡ true
+    → MayCommit t (suc (commit_count log)) (own_keys t log) (tracked log)
+may_commit t log live = record {
+  opened = is_open_told t log ∙ live;
+  next = ap suc (sym (last_stamp_told log));
+  apart = own_keys_apart t log;
+}
+
 -- the store keeps to the conditions of the tracker
 pub tracked_allowed : (log : List Act) → Sound log → AreAllowed (tracked log)
 tracked_allowed [] s = tt
@@ -200,20 +205,11 @@ tracked_allowed (Gets t k ∷ log) s =
       | inl own ↦ rw own (tracked_allowed log s.1)
       | inr other ↦ rw other (
         record { opened = is_open_told t log ∙ s.0; upward = key_le-itself k },
-        tracked_allowed
-            log s.1,
+        tracked_allowed log s.1,
       )
     ]
 tracked_allowed (Scans t low high ∷ log) s =
     (record { opened = is_open_told t log ∙ s.0.0; upward = s.0.1 }, tracked_allowed log s.1)
-tracked_allowed (Commits t ∷ log) s = (
-  record {
-    opened = is_open_told t log
-        ∙ s.0.opened;
-    next = ap suc (sym (last_stamp_told log));
-    apart = own_keys_apart t log;
-  },
-  tracked_allowed log s.1,
-)
+tracked_allowed (Commits t ∷ log) s = (may_commit t log s.0.opened, tracked_allowed log s.1)
 tracked_allowed (Aborts t ∷ log) s = (is_open_told t log ∙ s.0, tracked_allowed log s.1)
 tracked_allowed (Collects ∷ log) s = tracked_allowed log s.1

@@ -171,7 +171,7 @@ against_commit_order = (refl, refl, refl, (refl, refl, refl))
 against_commit_order_alike : IsAnsweredAlike against_commit_order_commands
 against_commit_order_alike = refl
 
--- a collection keeps what the open snapshots see, and the transactions that can still come into pairs
+-- a collection keeps what the open snapshots see, and transactions that can still come into pairs are kept
 abbrev collection_between_snapshots_commands : List Command
 collection_between_snapshots_commands =
     begin "U" ∷ get "U" "y" ∷ begin "V" ∷ put "V" "y" "1" ∷ commit "V" ∷ begin "A" ∷ put "U" "x" "1" ∷
@@ -193,7 +193,7 @@ collection_between_snapshots = (refl, refl, refl, (refl, refl, refl))
 collection_between_snapshots_alike : IsAnsweredAlike collection_between_snapshots_commands
 collection_between_snapshots_alike = refl
 
--- a deleted key is absent, and its dead versions are recorded and counted
+-- a deleted key is absent, and its dead version is recorded
 abbrev dead_keys_commands : List Command
 dead_keys_commands =
     begin "A" ∷ del "A" "b" ∷ commit "A" ∷ begin "A" ∷ put "A" "b" "7" ∷ commit "A" ∷ begin "A" ∷ del "A" "b" ∷
@@ -230,7 +230,7 @@ first_committer_wins = (refl, refl, refl, (refl, refl, refl))
 first_committer_wins_alike : IsAnsweredAlike first_committer_wins_commands
 first_committer_wins_alike = refl
 
--- the commit-order rule lets pass a pivot that isn't the first of its pairs to commit
+-- a pair leads to T and a pair leads from it, but T commits before the other two: only the two-pair rule refuses that
 abbrev later_committer_under_commit_order_commands : List Command
 later_committer_under_commit_order_commands =
     begin "A" ∷ begin "T" ∷ begin "B" ∷ get "A" "x" ∷ get "T" "y" ∷ put "T" "x" "1" ∷ commit "T" ∷
@@ -252,7 +252,7 @@ later_committer_under_commit_order_by_two_pairs : answers (by_two_pairs later_co
     Say.Unsafe 2 ∷ [])
 later_committer_under_commit_order_by_two_pairs = refl
 
--- a limited scan marks no more of its range than it has looked at
+-- a write of a key beyond the last row of a limited scan makes no pair with it
 abbrev limited_scan_commands : List Command
 limited_scan_commands =
     begin "I" ∷ put "I" "b" "1" ∷ put "I" "c" "2" ∷ put "I" "d" "3" ∷ commit "I" ∷ begin "A" ∷
@@ -287,7 +287,7 @@ limited_scan_of_own_writes = (refl, refl, refl, (refl, refl, refl))
 limited_scan_of_own_writes_alike : IsAnsweredAlike limited_scan_of_own_writes_commands
 limited_scan_of_own_writes_alike = refl
 
--- a get of an own write is answered from it, and makes no pair
+-- a transaction sees its own writes and deletes
 abbrev own_writes_commands : List Command
 own_writes_commands =
     begin "A" ∷ put "A" "x" "1" ∷ get "A" "x" ∷ del "A" "x" ∷ get "A" "x" ∷ scan "A" "x" "x" ∷ commit "A" ∷ []
@@ -305,7 +305,7 @@ own_writes = (refl, refl, refl, (refl, refl, refl))
 own_writes_alike : IsAnsweredAlike own_writes_commands
 own_writes_alike = refl
 
--- a scan meets the keys that others put into its range
+-- each of two scans meets the key that the other transaction puts into the range; the rules name different pivots
 abbrev phantom_skew_commands : List Command
 phantom_skew_commands =
     begin "A" ∷ begin "B" ∷ scan "A" "a" "m" ∷ scan "B" "a" "m" ∷ put "A" "b" "1" ∷ put "B" "c" "1" ∷
@@ -327,7 +327,7 @@ phantom_skew_by_two_pairs : answers (by_two_pairs phantom_skew_commands)
     Say.Unsafe 1 ∷ [])
 phantom_skew_by_two_pairs = refl
 
--- a transaction that only reads can make two writers unserializable
+-- a transaction that only reads can make a history unserializable (Fekete, O'Neil and O'Neil 2004)
 abbrev read_only_anomaly_commands : List Command
 read_only_anomaly_commands =
     begin "I" ∷ put "I" "x" "0" ∷ put "I" "y" "0" ∷ commit "I" ∷ begin "P" ∷ get "P" "x" ∷ get "P" "y" ∷

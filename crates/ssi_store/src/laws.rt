@@ -1,7 +1,7 @@
 //! Laws of courses whose answers are the replies, each proved as the contract of a function whose body does nothing but
 //! call the laws of the store's parts.
 
-ghost use Rattle.ssi_store.specs.Meaning.Laws.{FinishedAreCovered, OrderedFinishedAreCovered, DumpedAreCovered, OrderedDumpedAreCovered, FinishedRecord, DumpedRecord, CallsAreAllowed, OpenSnapshotsAreHeld, OrderedRefusesNoMore, CollectionsChangeNoReply, UnsafeNamesSmallest, OrderedUnsafeNamesSmallest};
+ghost use Rattle.ssi_store.specs.Meaning.Laws.{FinishedAreCovered, OrderedFinishedAreCovered, DumpedAreCovered, OrderedDumpedAreCovered, FinishedRecord, DumpedRecord, CallsAreAllowed, OpenSnapshotsAreHeld, OrderedRefusesNoMore, CollectionsChangeNoReply, UnsafeNamesSmallest, OrderedUnsafeNamesSmallest, SessionsAreInOrder, NoPivotStands, NoOrderedPivotStands, ConflictIsLeast, ScansListSeen, OpenAreCounted};
 
 use ssi_conflict::laws::{
     ordered_pivots_are_named, ordered_pivots_are_pivots, pivots_are_named, quiet_calls_make_no_pair,
@@ -9,9 +9,9 @@ use ssi_conflict::laws::{
 use ssi_recorder::laws::commits_are_listed;
 use ssi_versions::laws::held_shows;
 
-/// The history of a course that is over is a checked snapshot history without a dangerous structure, by either rule, and
-/// each of its anti-dependencies between concurrent transactions is a pair. So the conflicts that a tracker meets are all
-/// that there are (Cahill, Roehm and Fekete 2008, section 3), and the history is serializable.
+/// The history of a course that is over is a checked snapshot history without a dangerous structure, by either rule,
+/// and each of its anti-dependencies between concurrent transactions is a pair. So a tracker meets all conflicts that
+/// there are (Cahill, Roehm and Fekete 2008, section 3), and the history is serializable.
 pub fn finished_are_covered()
     ensures two_pair { FinishedAreCovered }
     ensures commit_order { OrderedFinishedAreCovered }
@@ -33,20 +33,21 @@ pub fn dumped_are_covered()
     commits_are_listed();
 }
 
-/// The history of a course records it, whatever names the pivots. So a history is no invention: its events are the steps
-/// that were answered, in their order.
+/// The history of a course records it, whatever names the pivots. So a history is no invention: its events are the
+/// steps that were answered, in their order.
 pub fn courses_are_recorded()
     ensures finished { FinishedRecord }
     ensures so_far { DumpedRecord }
 {}
 
-/// The store keeps to what its tracker and its versions ask of their callers. So all of their laws hold of every course.
+/// The store keeps to what its tracker and its versions ask of their callers. So all of their laws hold of every
+/// course.
 pub fn calls_are_allowed()
     ensures { CallsAreAllowed }
 {}
 
-/// What the snapshot of an open transaction sees is held, whatever was collected. So a collection never takes away a version
-/// that a transaction may still read.
+/// What the snapshot of an open transaction sees is held, whatever was collected. So a collection never takes away a
+/// version that a transaction may still read.
 pub fn open_snapshots_are_held()
     ensures { OpenSnapshotsAreHeld }
 {
@@ -69,8 +70,8 @@ pub fn unsafe_names_smallest()
     quiet_calls_make_no_pair();
 }
 
-/// What the commit-order rule answers Unsafe the two-pair rule does too, with the same pivot or a smaller one. So the order
-/// of the commits only saves transactions (Ports and Grittner 2012, section 3.3).
+/// What the commit-order rule answers Unsafe the two-pair rule does too, with the same pivot or a smaller one. So to
+/// look at the order of the commits only saves transactions (Ports and Grittner 2012, section 3.3).
 pub fn ordered_refuses_no_more()
     ensures { OrderedRefusesNoMore }
 {
@@ -78,3 +79,36 @@ pub fn ordered_refuses_no_more()
     ordered_pivots_are_named();
     ordered_pivots_are_pivots();
 }
+
+/// After each command no pivot stands, by either rule. So a command that makes no pair is never Unsafe.
+pub fn no_pivot_stands()
+    ensures two_pair { NoPivotStands }
+    ensures commit_order { NoOrderedPivotStands }
+{
+    pivots_are_named();
+    ordered_pivots_are_named();
+    quiet_calls_make_no_pair();
+}
+
+/// Each open transaction is that of exactly one session, and no other transaction is a session's. The next transaction
+/// number is above all earlier ones. So what is known of a transaction can be kept with its session.
+pub fn sessions_are_in_order()
+    ensures { SessionsAreInOrder }
+{}
+
+/// The key of a conflict is the smallest one that the transaction wrote and another one has committed since it
+/// started. So only the keys of the transaction itself can be in conflict.
+pub fn conflict_is_least()
+    ensures { ConflictIsLeast }
+{}
+
+/// A scan lists of each key of its range what its transaction sees of it, by rising key. So it misses no key (Adya
+/// 1999, section 3.1.3).
+pub fn scans_list_seen()
+    ensures { ScansListSeen }
+{}
+
+/// The tracker counts as many open transactions as the course has. So stat counts the transactions of the sessions.
+pub fn open_are_counted()
+    ensures { OpenAreCounted }
+{}

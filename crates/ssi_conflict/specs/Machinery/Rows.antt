@@ -55,7 +55,8 @@ new_row s = record { snapshot = s; stamp = None; keys = []; first_out = None }
 
 -- a read of these keys by an open transaction with snapshot s meets a write of the row's transaction
 abbrev pub read_conflict : ℕ → List ℕ → List ℕ → Row → Bool
-read_conflict s low high u = is_some u.stamp && (not (is_at_or_below u.stamp (Some s)) && list_any (lies_in low high) u.keys)
+read_conflict s low high u =
+    is_some u.stamp && (not (is_at_or_below u.stamp (Some s)) && list_any (lies_in low high) u.keys)
 
 -- and would make it a pivot
 abbrev pub read_pivot : ℕ → List ℕ → List ℕ → Row → Bool

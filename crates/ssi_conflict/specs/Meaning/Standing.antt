@@ -1,40 +1,44 @@
--- When a tracker stands for a list of calls, and what its answers say.
+-- When a tracker stands for a list of calls, when it is ready for a commit, and what its answers say.
 use Rattle.std.specs.Prelude.{◌≡◌, ℕ, Bool, true, List, ◌∷◌, Option, Some, None, Result, Ok, Err, is_some}
 use Rattle.std.specs.List.{list_any}
 use Rattle.std.specs.declared.alloc.AllocError.{AllocError}
-use Rattle.ssi_conflict.specs.Meaning.Calls.{Call, Commits, IsAllowed}
+use Rattle.ssi_reads.specs.Meaning.Marks.{has_txn}
+use Rattle.ssi_conflict.specs.Meaning.Calls.{Call, Commits, IsAllowed, last_stamp}
 use Rattle.ssi_conflict.specs.Meaning.Pairs.{IsOrderedPivot}
-use Rattle.ssi_conflict.specs.Machinery.Rows.{StandsFor}
-use Rattle.ssi_conflict.specs.Machinery.Tables.{row_at, has, IsTidy, HasRoom}
 use Rattle.ssi_conflict.specs.Meaning.Kept.{is_kept}
+use Rattle.ssi_conflict.specs.Machinery.Rows.{StandsFor}
+use Rattle.ssi_conflict.specs.Machinery.Tables.{row_at, IsTidy, IsPrepared}
 use Rattle.ssi_conflict.specs.declared.answer.Answer.{Answer}
 use Rattle.ssi_conflict.specs.declared.answer.Answer.TheVariants.{Safe, Unsafe}
 use Rattle.ssi_conflict.specs.declared.tracker.Tracker.{Tracker}
-
--- the table is in order, and its rows and the marks stand for the calls
-pub record Holds {M : Type 0} (marked : M → ℕ → List ℕ → Bool) (tracker : Tracker M) (calls : List Call) : Type 0 where
-  pub rows : StandsFor (row_at tracker.table) (marked tracker.marks) calls
-  pub tidy : IsTidy tracker.table
-
--- the tracker stands for the calls: besides, it has a row of no transaction that isn't kept
-pub record Stands {M : Type 0} (marked : M → ℕ → List ℕ → Bool) (tracker : Tracker M) (calls : List Call) : Type 0 where
-  pub holds : Holds marked tracker calls
-  pub exact : (t : ℕ) → is_some (row_at tracker.table t) ≡ true → is_kept t calls ≡ true
 
 -- the pivot that an answer names
 abbrev pub pivot_of : Answer → Option ℕ
 pivot_of Safe = None
 pivot_of (Unsafe p) = Some p
 
--- what a call that may be refused has carried out: nothing, unless it answers Safe
+-- the calls after one that may be refused: it is carried out only if the answer is Safe
 abbrev pub carried : Call → List Call → Result Answer AllocError → List Call
 carried c calls (Ok Safe) = c ∷ calls
 carried c calls (Ok (Unsafe p)) = calls
 carried c calls (Err e) = calls
 
--- the tracker is ready for the commit of t with these keys, after which there would be no pivot
-pub record IsReady {M : Type 0} (marked : M → ℕ → List ℕ → Bool) (tracker : Tracker M) (t : ℕ) (ks : List (List ℕ)) : Type 0 where
-  pub room : HasRoom tracker.table
-  pub keys : tracker.pending.keys.items ≡ ks
-  pub readers : (r : ℕ) → has tracker.pending.readers.items r ≡ list_any (marked tracker.marks r) ks
-  pub safe : (calls : List Call) (n : ℕ) → Stands marked tracker calls → IsAllowed (Commits t n ks) calls → (q : ℕ) → IsOrderedPivot q (Commits t n ks ∷ calls) → ⊥
+-- the table is in order, and its rows and the marks stand for the calls
+pub record Holds {M : Type 0} (marked : M → ℕ → List ℕ → Bool) (tracker : Tracker M) (calls : List Call) : Type 0 where
+  pub rows : StandsFor (row_at tracker.table) (marked tracker.marks) calls
+  pub tidy : IsTidy tracker.table
+  pub last : tracker.table.last ≡ last_stamp calls
+
+-- the tracker stands for the calls: no pivot stands after them, what the tracker has of each transaction is what the
+-- calls say of it, and it has exactly the kept ones
+pub record Stands {M : Type 0} (marked : M → ℕ → List ℕ → Bool) (tracker : Tracker M) (calls : List Call) : Type 0 where
+  pub holds : Holds marked tracker calls
+  pub exact : (t : ℕ) → is_some (row_at tracker.table t) ≡ true → is_kept t calls ≡ true
+
+-- the tracker is ready for the commit of t with these keys: that takes no memory, and no pivot would stand after it
+pub record IsReady {M : Type 0} (marked : M → ℕ → List ℕ → Bool) (tracker : Tracker M) (t : ℕ) (ks : List (List ℕ)) :
+    Type 0 where
+  pub prepared : IsPrepared tracker.table t ks
+  pub readers : (r : ℕ) → has_txn tracker.readers.items r ≡ list_any (marked tracker.marks r) ks
+  pub safe : (calls : List Call) (n : ℕ) → Stands marked tracker calls → IsAllowed (Commits t n ks) calls
+      → (q : ℕ) → IsOrderedPivot q (Commits t n ks ∷ calls) → ⊥

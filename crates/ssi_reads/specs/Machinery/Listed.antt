@@ -2,7 +2,7 @@
 use Rattle.std.specs.Prelude.{ℕ, ◌==◌, Bool, not, ◌&&◌, List}
 use Rattle.std.specs.List.{list_any}
 use Rattle.adya_values.specs.Meaning.Keys.{lies_in}
-use Rattle.ssi_reads.specs.declared.list_marks.Mark.{Mark}
+use Rattle.ssi_reads.specs.declared.span.Mark.{Mark}
 
 -- the mark is of this transaction and over this key
 abbrev pub is_over : ℕ → List ℕ → Mark → Bool

@@ -25,7 +25,8 @@ ListIsByKey = (ws : List Entry) → AreApart ws → filter_map (λ k. listed k w
 
 -- two lists by rising key that have the same of each key are the same
 abbrev pub ListingIsUnique : Type 0
-ListingIsUnique = (shows : List ℕ → Option Entry) (vs ws : List Entry) → IsListing shows vs → IsListing shows ws → vs ≡ ws
+ListingIsUnique = (shows : List ℕ → Option Entry) (vs ws : List Entry)
+    → IsListing shows vs → IsListing shows ws → vs ≡ ws
 
 -- the visible pairs of a limited scan are the first ones of the whole scan
 abbrev pub LimitTakesFirst : Type 0
@@ -33,5 +34,6 @@ LimitTakesFirst = (n : ℕ) (ws : List Entry) → visible_pairs (up_to n ws) ≡
 
 -- and it lists all that is shown of the keys as far as it looked
 abbrev pub LimitListsItsRange : Type 0
-LimitListsItsRange = (shows : List ℕ → Option Entry) (low high : List ℕ) (n : ℕ) (ws : List Entry) → 0 < n → IsListing (within low high shows) ws
+LimitListsItsRange = (shows : List ℕ → Option Entry) (low high : List ℕ) (n : ℕ) (ws : List Entry)
+    → 0 < n → IsListing (within low high shows) ws
     → IsListing (within low (reached high n (visible_pairs (up_to n ws))) shows) (up_to n ws)

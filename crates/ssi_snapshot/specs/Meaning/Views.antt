@@ -38,4 +38,5 @@ sees_between lo hi v held = within lo hi (λ key. sees key v held)
 
 -- the same transaction, snapshot and writes
 abbrev pub IsAsBefore : View → View → Type 0
-IsAsBefore old new = (txn_of new ≡ txn_of old) × (stamp_of new ≡ stamp_of old) × (count_of new ≡ count_of old) × (written new ≡ written old)
+IsAsBefore old new = (txn_of new ≡ txn_of old) × (stamp_of new ≡ stamp_of old) × (count_of new ≡ count_of old)
+    × (written new ≡ written old)

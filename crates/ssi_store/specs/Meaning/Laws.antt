@@ -1,17 +1,20 @@
 -- What holds of every course whose answers are the replies, by either rule.
-use Rattle.std.specs.Prelude.{◌≡◌, ℕ, ◌≤◌, Bool, true, false, List, [], ◌∷◌, take, Option, Some, None}
-use Rattle.adya_values.specs.Meaning.Histories.{History}
-use Rattle.adya_values.specs.Computing.Shapes.{is_shape, fits_edition}
+use Rattle.std.specs.Prelude.{◌≡◌, ℕ, ◌≤◌, Bool, true, false, List, [], ◌∷◌, take, Option, Some, None, ◌↔◌, ◌<◌, if◌then◌else◌, length, map}
+use Rattle.ssi_conflict.specs.Meaning.Kept.{open_count}
+use Rattle.adya_values.specs.Meaning.Events.{listed}
+use Rattle.adya_values.specs.Meaning.Keys.{key_le, keys_rise, lies_in}
+use Rattle.adya_values.specs.Meaning.Histories.{History, Entry}
+use Rattle.adya_values.specs.Computing.Shapes.{is_shape, fits_edition, numbers_rise}
 use Rattle.adya_values.specs.Meaning.Edges.{Rw, Edge, IsEdge}
 use Rattle.ssi_conflict.specs.Meaning.Calls.{Call, AreAllowed}
 use Rattle.ssi_conflict.specs.Meaning.Pairs.{IsPair, IsPivot, IsOrderedPivot, IsSmallest}
 use Rattle.ssi_conflict.specs.Computing.Steps.{smallest_pivot, smallest_ordered_pivot}
 use Rattle.ssi_versions.specs.Meaning.Changes.{contents, held, newest_within, AreInstallable, IsProtected}
-use Rattle.ssi_store.specs.Meaning.Courses.{Command, Get, Scan, ScanFirst, Commit, Collect, Stat, Course, Unsafe, txn_for}
-use Rattle.ssi_store.specs.Meaning.Acts.{Act, Gets, Scans, Commits, Collects, acts, reached, is_open}
-use Rattle.ssi_store.specs.Meaning.Seeing.{snapshot, changed}
+use Rattle.ssi_store.specs.Meaning.Courses.{Command, Get, Scan, ScanFirst, Commit, Collect, Stat, Course, Unsafe, txn_for, txn_in, next_txn}
+use Rattle.ssi_store.specs.Meaning.Acts.{Act, Gets, Scans, Commits, Collects, acts, reached, is_open, has_started, started, open_txns}
+use Rattle.ssi_store.specs.Meaning.Seeing.{snapshot, changed, sees, scanned}
 use Rattle.ssi_store.specs.Meaning.Tracked.{tracked}
-use Rattle.ssi_store.specs.Meaning.Replies.{rows, reply_in, reply, Follows}
+use Rattle.ssi_store.specs.Meaning.Replies.{rows, reply_in, reply, Follows, is_overtaken, conflict}
 use Rattle.ssi_store.specs.Meaning.Recording.{finished, dumped, starts, start_in}
 use Rattle.ssi_store.specs.Meaning.Faces.{Records, RecordsSoFar}
 use Rattle.snapshot_histories.specs.Meaning.Snapshots.{AreConcurrent, IsSafe}
@@ -122,3 +125,52 @@ UnsafeNamesSmallest = (c : Course) → Follows smallest_pivot c → (command : C
 abbrev pub OrderedUnsafeNamesSmallest : Type 0
 OrderedUnsafeNamesSmallest = (c : Course) → Follows smallest_ordered_pivot c → (command : Command) (p : ℕ)
     → reply smallest_ordered_pivot c command ≡ Unsafe p → WouldStand IsOrderedPivot c command p
+
+-- the transactions of a course and its sessions
+pub record AreInOrder (c : Course) : Type 0 where
+  -- a session's transaction is open
+  pub opened : (s : List ℕ) (t : ℕ) → txn_in s c ≡ Some t → is_open t (acts c) ≡ true
+  -- each open transaction is a session's
+  pub held : (t : ℕ) → is_open t (acts c) ≡ true → (s : List ℕ) × (txn_in s c ≡ Some t)
+  -- and of one session alone
+  pub apart : (r s : List ℕ) (t : ℕ) → txn_in r c ≡ Some t → txn_in s c ≡ Some t → r ≡ s
+  -- numbers rise, and the next one is above all
+  pub rising : numbers_rise (started (acts c)) ≡ true
+  pub below : (t : ℕ) → has_started t (acts c) ≡ true → t < next_txn c
+
+-- by whatever rule, sessions and transactions are in order
+abbrev pub SessionsAreInOrder : Type 0
+SessionsAreInOrder = (pivot : List Call → Option ℕ) (c : Course) → Follows pivot c → AreInOrder c
+
+-- after each command no pivot stands, by the two-pair rule
+abbrev pub NoPivotStands : Type 0
+NoPivotStands = (c : Course) → Follows smallest_pivot c → smallest_pivot (tracked (acts c)) ≡ None
+
+-- likewise by the commit-order rule
+abbrev pub NoOrderedPivotStands : Type 0
+NoOrderedPivotStands = (c : Course) → Follows smallest_ordered_pivot c
+    → smallest_ordered_pivot (tracked (acts c)) ≡ None
+
+-- the smallest overtaken key of the transaction, or nothing if no key is overtaken
+abbrev pub IsLeastOvertaken : ℕ → List Act → Option (List ℕ) → Type 0
+IsLeastOvertaken t log None = (k : List ℕ) → is_overtaken t log k ≡ false
+IsLeastOvertaken t log (Some k) =
+    (is_overtaken t log k ≡ true) × ((j : List ℕ) → is_overtaken t log j ≡ true → key_le k j ≡ true)
+
+-- the conflict is that key, and no other answer is right
+abbrev pub ConflictIsLeast : Type 0
+ConflictIsLeast = (t : ℕ) (log : List Act) (found : Option (List ℕ))
+    → (conflict t log ≡ found) ↔ IsLeastOvertaken t log found
+
+-- what a scan lists: of each key of the range what is seen of it, by rising key
+pub record ListsSeen (t : ℕ) (low high : List ℕ) (log : List Act) (found : List Entry) : Type 0 where
+  pub rising : keys_rise (map (λ w. w.version.key) found) ≡ true
+  pub each : (k : List ℕ) → listed k found ≡ (if lies_in low high k then sees t k log else None)
+
+-- it lists exactly that
+abbrev pub ScansListSeen : Type 0
+ScansListSeen = (t : ℕ) (low high : List ℕ) (log : List Act) → ListsSeen t low high log (scanned t low high log)
+
+-- the tracker counts the open transactions of a log
+abbrev pub OpenAreCounted : Type 0
+OpenAreCounted = (log : List Act) → open_count (tracked log) ≡ length (open_txns log)

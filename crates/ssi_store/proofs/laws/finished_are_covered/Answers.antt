@@ -9,7 +9,8 @@ pub returns-clause-two_pair : goal.returns-clause-two_pair
 returns-clause-two_pair c d f =
     let quiet = c.quiet_calls_make_no_pair.ensures in
     finished_covered c.commits_are_listed.ensures quiet.aborts IsPivot smallest_pivot
-    (two_pair_rule quiet.begins quiet.aborts c.pivots_are_named.ensures) pivot_endangers d (course_stands smallest_pivot d f)
+    (two_pair_rule quiet.begins quiet.aborts c.pivots_are_named.ensures) pivot_endangers d
+    (course_stands smallest_pivot d f)
 
 pub returns-clause-commit_order : goal.returns-clause-commit_order
 returns-clause-commit_order c d f =

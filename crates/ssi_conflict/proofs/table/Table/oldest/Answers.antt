@@ -1,8 +1,10 @@
 use Rattle.std.proofs.Common.{rules, ◌≡◌, Some, None, ap, refl, sym, ◌∙◌}
 use Rattle.std.proofs.lemmas.Bool.{both_ways}
-use Rattle.ssi_conflict.specs.Machinery.Tables.{row_of, row_at, is_open_row, stamp_in}
-use Rattle.ssi_conflict.proofs.Tidying.{not_gt, unstamped_gone}
+use Rattle.ssi_conflict.proofs.TableOrder.{not_gt, unstamped_gone}
 use Rattle.ssi_conflict.proofs.table.Table.oldest.Goals as goal
+use Rattle.ssi_conflict.specs.Machinery.Index.{stamp_in}
+use Rattle.ssi_conflict.specs.Machinery.Records.{row_of}
+use Rattle.ssi_conflict.specs.Machinery.Tables.{row_at, is_open_row}
 
 pub returns-in_default-get : goal.returns-in_default-get
 returns-in_default-get c tidy =

@@ -1,8 +1,8 @@
 use Rattle.std.proofs.Common.{◌≡◌, ◌||◌, ℕ}
 use Rattle.std.specs.BTreeSet.{contains}
 use Rattle.std.specs.Ordering.{nat_cmp}
-use Rattle.ssi_reads.specs.Machinery.Indexed.{ranged_by}
+use Rattle.ssi_reads.specs.Machinery.Ranged.{met}
 use Rattle.ssi_reads.proofs.range_marks.RangeMarks.add_readers.Given as goal
 
-abbrev pub invariant-loop-txn : goal.invariant-loop-txn
-invariant-loop-txn l = (u : ℕ) → (ranged_by l.txn-iterator u l.key || contains nat_cmp l.found u) ≡ (ranged_by l.self.spans.entries u l.key || contains nat_cmp l.fn.found u)
+abbrev pub invariant-loop-len : goal.invariant-loop-len
+invariant-loop-len l = (u : ℕ) → contains nat_cmp l.found u ≡ (met l.self l.key u l.len || contains nat_cmp l.fn.found u)

@@ -1,7 +1,8 @@
-use Rattle.std.proofs.Common.{ap, ◌∙◌}
-use Rattle.ssi_reads.specs.Machinery.Indexed.{covered_in}
-use Rattle.ssi_reads.proofs.RangedMarks.{ranges_dropped}
+use Rattle.ssi_reads.specs.declared.range_marks.RangeMarks.{RangeMarks}
+use Rattle.ssi_reads.proofs.RangedMarks.{range_forgotten}
 use Rattle.ssi_reads.proofs.range_marks.RangeMarks.forget.Goals as goal
 
 pub returns : goal.returns
-returns c u k = ap (λ o. covered_in o k) (c.remove.ensures.updates.0 u) ∙ ranges_dropped c.args.txn u k _
+returns c u k =
+    let after : RangeMarks = record { alloc = c.args.self.now.alloc; places = c.remove.new.self; marks = c.remove_all.new.marks } in
+    range_forgotten c.args.self.now after u k c.args.txn (c.remove.ensures.updates.0 u) c.remove_all.ensures

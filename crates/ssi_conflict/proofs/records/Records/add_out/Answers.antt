@@ -1,0 +1,23 @@
+use Rattle.std.proofs.Common.{rules, ◌≡◌, ℕ, Option, Some, ap}
+use Rattle.std.specs.BTreeMap.{get}
+use Rattle.std.specs.Ordering.{nat_cmp}
+use Rattle.slab.specs.Slab.{get as held, with_value}
+use Rattle.slab.proofs.SlabLemmas.{Updates-with_value}
+use Rattle.ssi_conflict.specs.Machinery.Rows.{Row, with_sooner}
+use Rattle.ssi_conflict.specs.Machinery.Records.{row_of}
+use Rattle.ssi_conflict.proofs.RecordSlots.{row_set}
+use Rattle.ssi_conflict.proofs.records.Records.add_out.Goals as goal
+
+pub returns-in-Some-get_mut : goal.returns-in-Some-get_mut
+returns-in-Some-get_mut c =
+    let m = c.args.self.now in
+    let i = c.in-Some.at.now in
+    let r = c.in-Some-get_mut.kept.now in
+    let old : get nat_cmp m.slots c.args.txn ≡ Some i = search rules in
+    let value : held m.records i ≡ Some r = search rules in
+    let new = record r { first_out = c.sooner-kept.result } in
+    let row : Option ℕ → Row = λ o. record (row_of r) { first_out = o } in
+    let w = Updates-with_value m.records i new (m.taken c.args.txn i old) in
+    row_set (get nat_cmp m.slots) (held m.records) (held (with_value m.records i new)) m.apart m.taken c.args.txn i
+    old w.others
+    (with_sooner c.args.stamp) r new value w.changed (ap row c.sooner-kept.ensures)

@@ -1,0 +1,49 @@
+-- The tracker may be told of a read or a commit before its answer is known.
+use Rattle.std.proofs.Common.{List, Some, subst, take, true, ℕ, ◌∷◌, ◌≡◌, Bool, Option}
+use Rattle.adya_values.specs.Meaning.Keys.{key_le}
+use Rattle.std.proofs.lemmas.Option.{none-some, same_Some}
+use Rattle.ssi_conflict.specs.Meaning.Calls.{AreAllowed, Call}
+use Rattle.ssi_store.specs.Meaning.Acts.{Act, Gets, Scans, acts, is_open, reached}
+use Rattle.ssi_store.specs.Meaning.Courses.{Command, Command as Do, Course, txn_for}
+use Rattle.ssi_store.specs.Meaning.Laws.{judged}
+use Rattle.ssi_store.specs.Meaning.Replies.{rows, Follows}
+use Rattle.ssi_store.specs.Meaning.Tracked.{tracked}
+use Rattle.ssi_store.proofs.Judging.{txn_open}
+use Rattle.ssi_store.proofs.Limits.{reached_upward}
+use Rattle.ssi_store.proofs.Sound.{Sound}
+use Rattle.ssi_store.proofs.Standing.{course_stands}
+use Rattle.ssi_store.proofs.Telling.{may_commit, tracked_allowed}
+
+-- the command has no range that runs downward
+abbrev pub is_upward : Command → Bool
+is_upward (Do.Scan s low high) = key_le low high
+is_upward (Do.ScanFirst s low high n) = key_le low high
+is_upward command = true
+
+module _ (t : ℕ) (log : List Act) (sound : Sound log) (live : is_open t log ≡ true) where
+  allowed_after : (m : Command) (act : Act) → judged t log m ≡ Some act → is_upward m ≡ true
+      → AreAllowed (tracked (act ∷ log))
+  allowed_after (Do.Begin s) act e up = absurd (none-some act e)
+  allowed_after (Do.Put s k v) act e up = absurd (none-some act e)
+  allowed_after (Do.Del s k) act e up = absurd (none-some act e)
+  allowed_after (Do.Abort s) act e up = absurd (none-some act e)
+  allowed_after Do.Collect act e up = absurd (none-some act e)
+  allowed_after Do.Stat act e up = absurd (none-some act e)
+  allowed_after (Do.Get s k) act e up =
+      subst (λ x. AreAllowed (tracked (x ∷ log))) (same_Some _ act e) (tracked_allowed (Gets t k ∷ log) (live, sound))
+  allowed_after (Do.Scan s low high) act e up =
+      subst (λ x. AreAllowed (tracked (x ∷ log))) (same_Some _ act e)
+      (tracked_allowed (Scans t low high ∷ log) ((live, up), sound))
+  allowed_after (Do.ScanFirst s low high n) act e up =
+      subst (λ x. AreAllowed (tracked (x ∷ log))) (same_Some _ act e)
+      (tracked_allowed (Scans t low (reached high n (take n (rows t low high log))) ∷ log)
+      ((live, reached_upward t low high n log up), sound))
+  allowed_after (Do.Commit s) act e up =
+      subst (λ x. AreAllowed (tracked (x ∷ log))) (same_Some _ act e) (may_commit t log live, tracked_allowed log sound)
+
+pub judged_calls_are_allowed : (pivot : List Call → Option ℕ) (c : Course) → Follows pivot c → (m : Command) (t : ℕ)
+    (act : Act) → txn_for m c ≡ Some t → judged t (acts c) m ≡ Some act → is_upward m ≡ true
+    → AreAllowed (tracked (act ∷ acts c))
+judged_calls_are_allowed pivot c f m t act e j up =
+    let stands = course_stands pivot c f in
+    allowed_after t (acts c) stands.sound (txn_open pivot c stands m t e) m act j up

@@ -1,0 +1,15 @@
+use Rattle.ssi_store.specs.Meaning.Acts.{acts}
+use Rattle.ssi_store.proofs.Standing.{course_stands}
+use Rattle.ssi_store.proofs.Starts.{started_rise}
+use Rattle.ssi_store.proofs.laws.sessions_are_in_order.Goals as goal
+
+pub returns : goal.returns
+returns c pivot d f =
+    let stands = course_stands pivot d f in
+    record {
+      opened = stands.opened;
+      held = stands.held;
+      apart = stands.apart;
+      rising = started_rise (acts d) stands.sound;
+      below = stands.below;
+    }
