@@ -1,7 +1,7 @@
 use Rattle.std.proofs.Common.{rules, ap, sym, ◌∙◌}
 use Rattle.ssi_store.proofs.Ends.{dropped}
 use Rattle.ssi_store.proofs.RisingOpens.{below_without}
-use Rattle.ssi_store.proofs.store.Store.drop_txn.Goals as goal
+use Rattle.ssi_store.proofs.engine.Engine.drop_txn.Goals as goal
 
 pub returns : goal.returns
 returns g c = record {
