@@ -1,14 +1,17 @@
 -- The events of a course that is over.
-use Rattle.std.proofs.Common.{List, [], ap, arith, cond, filter, inl, inr, map, refl, sym, true, ℕ, ◌++◌, ◌∙◌, ◌∷◌, ◌≡◌}
+use Rattle.std.proofs.Common.{List, [], ap, arith, cond, filter, inl, inr, map, refl, subst, sym, true, ℕ, ◌++◌, ◌==◌, ◌∙◌, ◌∷◌, ◌≡◌}
 use Rattle.std.proofs.lemmas.Bool.{cases_Bool, ne_eqb}
 use Rattle.std.proofs.lemmas.List.{append-nil, append_assoc}
 use Rattle.adya_values.specs.Computing.Shapes.{numbers_rise}
 use Rattle.adya_values.specs.Meaning.Histories.{Event, History, Abort as Ended}
 use Rattle.adya_values.specs.declared.edition.Edition.TheVariants.{One, Two}
+use Rattle.snapshot_histories.specs.Meaning.Snapshots.{IsSafe}
+use Rattle.ssi_conflict.specs.Meaning.Pairs.{IsOrderedPivot}
 use Rattle.ssi_recorder.specs.Meaning.Recorded.{history_of_events}
 use Rattle.ssi_store.specs.Meaning.Acts.{Aborts, Act, acts, is_open, open_txns, started}
 use Rattle.ssi_store.specs.Meaning.Courses.{Course}
-use Rattle.ssi_store.specs.Meaning.Recording.{close, dumped, events, finished}
+use Rattle.ssi_store.specs.Meaning.Recording.{close, closed, dumped, events, finished, start_in, starts}
+use Rattle.ssi_store.specs.Meaning.Laws.{IsCovered}
 use Rattle.ssi_store.specs.Meaning.Seeing.{snapshot}
 use Rattle.ssi_store.specs.Meaning.Standing.{Parts, StandsFor}
 use Rattle.ssi_store.specs.Machinery.Opens.{Sessions}
@@ -37,6 +40,12 @@ close_events (t ∷ ts) log r = elim (cases_Bool (is_open t log)) [
       ∙ ap (λ b. events log ++ map Ended (cond b (t ∷ filter (λ u. is_open u log) ts) (filter (λ u. is_open u log) ts)))
       (sym fails)
 ]
+
+-- a history of the course is safe by the starts of the course, whatever they are called
+pub safe_by : (c : Course) (h g : History) (began : List (ℕ × ℕ)) → h ≡ g → began ≡ starts c → IsCovered IsOrderedPivot c g
+    → IsSafe h (start_in began)
+safe_by c h g began is since covered =
+    subst (λ x. IsSafe x (start_in began)) (sym is) (subst (λ l. IsSafe g (start_in l)) (sym since) covered.safe)
 
 module _ {p : Parts} {next : ℕ} {es : Sessions} {c : Course} (st : StandsFor p next es c) where
   active_are : (active : List ℕ) → active ≡ map (λ (e : ℕ × ℕ). e.0) p.opened → active ≡ open_txns (acts c)

@@ -9,7 +9,8 @@
 -- Laws: what holds of every course whose answers are the replies.
 -- Sessions: the names of sessions.
 -- Commands: the commands and answers of the code, as those of a course.
--- Standing: when a store stands for a course.
+-- Standing: when the engine of a store stands for a course.
+-- Stores: when a store stands for a course.
 -- Finished: what is seen of a finished store.
 pub mod Courses
 pub mod Acts
@@ -22,4 +23,5 @@ pub mod Laws
 pub mod Sessions
 pub mod Commands
 pub mod Standing
+pub mod Stores
 pub mod Finished

@@ -1,11 +1,12 @@
 //! Abort, and the ends of transactions by an abort.
 
-use crate::{Refusal, Reply, Session, Store};
+use crate::engine::Engine;
+use crate::{Refusal, Reply, Session};
 use adya_values::{Event, Txn};
 use ssi_reads::Marks;
 use ssi_versions::Chains;
 
-impl<C: Chains + Drop, M: Marks + Drop> Store<C, M> {
+impl<C: Chains + Drop, M: Marks + Drop> Engine<C, M> {
     ghost use Rattle.ssi_store.specs.Meaning.Courses.{Course, Then, Command as Do, Answer as Is};
     ghost use Rattle.ssi_store.specs.Meaning.Commands.{answer_of};
     ghost use Rattle.ssi_store.specs.Meaning.Standing.{IsAt};

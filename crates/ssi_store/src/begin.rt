@@ -1,12 +1,13 @@
 //! Begin.
 
+use crate::engine::Engine;
 use crate::open::Open;
-use crate::{Refusal, Reply, Session, Store};
+use crate::{Refusal, Reply, Session};
 use adya_values::Txn;
 use ssi_reads::Marks;
 use ssi_versions::Chains;
 
-impl<C: Chains + Drop, M: Marks + Drop> Store<C, M> {
+impl<C: Chains + Drop, M: Marks + Drop> Engine<C, M> {
     ghost use Rattle.ssi_store.specs.Meaning.Courses.{Course, Then, Command as Do};
     ghost use Rattle.ssi_store.specs.Meaning.Commands.{answer_of};
     ghost use Rattle.ssi_store.specs.Meaning.Standing.{IsAt};

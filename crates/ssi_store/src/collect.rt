@@ -1,11 +1,12 @@
 //! Collect and stat, the commands of an operator.
 
 use crate::below::laws_below;
-use crate::{Refusal, Reply, Store};
+use crate::engine::Engine;
+use crate::{Refusal, Reply};
 use ssi_reads::Marks;
 use ssi_versions::Chains;
 
-impl<C: Chains + Drop, M: Marks + Drop> Store<C, M> {
+impl<C: Chains + Drop, M: Marks + Drop> Engine<C, M> {
     ghost use Rattle.ssi_store.specs.Meaning.Courses.{Course, Then, Command as Do};
     ghost use Rattle.ssi_store.specs.Meaning.Commands.{answer_of};
     ghost use Rattle.ssi_store.specs.Meaning.Standing.{IsAt};

@@ -4,15 +4,16 @@ ghost use Rattle.std.specs.Prelude.{◌≡◌, map, IfOk};
 ghost use Rattle.ssi_store.specs.Machinery.Overtaken.{written_key};
 
 use crate::below::laws_below;
+use crate::engine::Engine;
 use crate::overtaken::least_overtaken;
-use crate::{Refusal, Reply, Session, Store};
+use crate::{Refusal, Reply, Session};
 use adya_values::{Content, Event, Key, Version};
 use ssi_conflict::Answer;
 use ssi_reads::Marks;
 use ssi_versions::Chains;
 use std::alloc::{AllocError, Global};
 
-impl<C: Chains + Drop, M: Marks + Drop> Store<C, M> {
+impl<C: Chains + Drop, M: Marks + Drop> Engine<C, M> {
     ghost use Rattle.ssi_store.specs.Meaning.Courses.{Course, Then, Command as Do};
     ghost use Rattle.ssi_store.specs.Meaning.Commands.{answer_of};
     ghost use Rattle.ssi_store.specs.Meaning.Standing.{IsAt};

@@ -1,24 +1,27 @@
 //! What remains of a store: its history, and the snapshots of its transactions.
 
 ghost use Rattle.std.specs.Prelude.{◌≡◌, IfOk, IfErr};
+ghost use Rattle.snapshot_histories.specs.Meaning.Snapshots.{IsSafe};
 ghost use Rattle.adya_values.specs.Meaning.Values.{history_of};
 ghost use Rattle.ssi_conflict.specs.Meaning.Pairs.{IsOrderedPivot};
-ghost use Rattle.ssi_store.specs.Meaning.Recording.{finished, dumped, starts};
+ghost use Rattle.ssi_store.specs.Meaning.Recording.{finished, dumped, starts, start_in};
 ghost use Rattle.ssi_store.specs.Meaning.Faces.{Records, RecordsSoFar};
 ghost use Rattle.ssi_store.specs.Meaning.Laws.{IsCovered};
 
-use crate::Store;
+use crate::engine::Engine;
 use crate::laws::{courses_are_recorded, dumped_are_covered, finished_are_covered};
 use adya_values::{History, Txn};
 use ssi_reads::Marks;
 use ssi_versions::Chains;
 use std::alloc::AllocError;
 
-/// The history of a store, and each of its transactions with its snapshot, by rising number.
+/// The history of a store, and each of its transactions with its snapshot, by rising number. By these the history is a
+/// checked snapshot history without a dangerous structure.
 #[derive(Drop)]
 pub struct Finished {
     pub(crate) history: History,
     pub(crate) starts: Vec<(Txn, u64)>,
+    pub(crate) ghost safe: { ∥ IsSafe (history_of history) (start_in starts.items) ∥₁ },
 }
 
 impl Finished {
@@ -26,7 +29,8 @@ impl Finished {
 
     /// Returns the history.
     pub fn history(&self) -> &History
-        ensures { history_of result.now ≡ recorded_in self.now }
+        ensures same { history_of result.now ≡ recorded_in self.now }
+        ensures safe { ∥ IsSafe (recorded_in self.now) (start_in (began_in self.now)) ∥₁ }
     {
         &self.history
     }
@@ -39,16 +43,14 @@ impl Finished {
     }
 }
 
-impl<C: Chains + Drop, M: Marks + Drop> Store<C, M> {
+impl<C: Chains + Drop, M: Marks + Drop> Engine<C, M> {
     ghost use Rattle.ssi_store.specs.Meaning.Courses.{Course};
-    ghost use Rattle.ssi_store.specs.Meaning.Standing.{IsAt};
+    ghost use Rattle.ssi_store.specs.Meaning.Standing.{IsAt, HasCourse};
     ghost use Rattle.ssi_store.specs.Meaning.Finished.{recorded_in, began_in};
 
-    /// Ends the store. Its history has an abort of each open transaction at its end, by rising number.
-    ///
-    /// The history records the course of the store. It is a checked snapshot history by these starts, without a dangerous
-    /// structure. Hands the store back as it was if memory runs out.
-    pub fn finish(mut self) -> Result<Finished, (Store<C, M>, AllocError)>
+    /// Ends the engine, with an abort of each open transaction at the end of its history.
+    pub(crate) fn finish(mut self) -> Result<Finished, (Engine<C, M>, AllocError)>
+        requires { HasCourse C.held M.marked self }
         ensures history { IfOk result (λ f. (c : Course) → IsAt C.held M.marked self c → recorded_in f ≡ finished c) }
         ensures starts { IfOk result (λ f. (c : Course) → IsAt C.held M.marked self c → began_in f ≡ starts c) }
         ensures records { IfOk result (λ f. (c : Course) → IsAt C.held M.marked self c → Records (recorded_in f) c) }
@@ -69,11 +71,9 @@ impl<C: Chains + Drop, M: Marks + Drop> Store<C, M> {
         }
     }
 
-    /// Returns the history so far. Its open transactions are unfinished. The store stays as it is.
-    ///
-    /// The history records the course of the store. It is a checked snapshot history by these starts, without a dangerous
-    /// structure. Returns `AllocError` if memory runs out.
-    pub fn dump(&self) -> Result<Finished, AllocError>
+    /// Returns the history so far, with the open transactions unfinished.
+    pub(crate) fn dump(&self) -> Result<Finished, AllocError>
+        requires { HasCourse C.held M.marked self.now }
         ensures history { IfOk result (λ f. (c : Course) → IsAt C.held M.marked self.now c → recorded_in f ≡ dumped c) }
         ensures starts { IfOk result (λ f. (c : Course) → IsAt C.held M.marked self.now c → began_in f ≡ starts c) }
         ensures records { IfOk result (λ f. (c : Course) → IsAt C.held M.marked self.now c → RecordsSoFar (recorded_in f) c) }

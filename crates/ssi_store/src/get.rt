@@ -9,9 +9,10 @@ ghost use Rattle.ssi_store.specs.Meaning.Recording.{get_event};
 ghost use Rattle.ssi_store.specs.Meaning.Replies.{got};
 
 use crate::below::laws_below;
+use crate::engine::Engine;
 use crate::open::MAX_OPERATIONS;
 use crate::sessions::count_at;
-use crate::{Refusal, Reply, Session, Store};
+use crate::{Refusal, Reply, Session};
 use adya_values::{Content, Event, Key, Value};
 use ssi_conflict::Answer;
 use ssi_reads::Marks;
@@ -19,7 +20,7 @@ use ssi_snapshot::View;
 use ssi_versions::Chains;
 use std::alloc::{AllocError, Global};
 
-impl<C: Chains + Drop, M: Marks + Drop> Store<C, M> {
+impl<C: Chains + Drop, M: Marks + Drop> Engine<C, M> {
     ghost use Rattle.ssi_store.specs.Meaning.Courses.{Course, Then, Command as Do};
     ghost use Rattle.ssi_store.specs.Meaning.Commands.{answer_of};
     ghost use Rattle.ssi_store.specs.Meaning.Standing.{IsAt};

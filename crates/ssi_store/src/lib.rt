@@ -14,6 +14,7 @@ mod below;
 mod collect;
 mod command;
 mod commit;
+mod engine;
 mod finish;
 mod get;
 pub mod laws;

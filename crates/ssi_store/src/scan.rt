@@ -7,9 +7,10 @@ ghost use Rattle.std.specs.Int.NonZero.{non_zero_u16_get};
 ghost use Rattle.ssi_store.specs.Meaning.Acts.{reached};
 
 use crate::below::laws_below;
+use crate::engine::Engine;
 use crate::open::MAX_OPERATIONS;
 use crate::sessions::count_at;
-use crate::{Refusal, Reply, Session, Store};
+use crate::{Refusal, Reply, Session};
 use adya_values::{Content, Entry, Event, FinalPair, Key, Txn};
 use ssi_conflict::Answer;
 use ssi_reads::Marks;
@@ -17,7 +18,7 @@ use ssi_versions::Chains;
 use std::alloc::{AllocError, Global};
 use std::num::NonZeroU16;
 
-impl<C: Chains + Drop, M: Marks + Drop> Store<C, M> {
+impl<C: Chains + Drop, M: Marks + Drop> Engine<C, M> {
     ghost use Rattle.ssi_store.specs.Meaning.Courses.{Course, Then, Command as Do};
     ghost use Rattle.ssi_store.specs.Meaning.Commands.{answer_of};
     ghost use Rattle.ssi_store.specs.Meaning.Standing.{IsAt};

@@ -1,76 +1,58 @@
 //! The store.
 
-ghost use Rattle.std.specs.Prelude.{◌≡◌, ◌<◌, ◌≤◌, ◌+◌, [], true};
-ghost use Rattle.indexmap.specs.IndexMap.{index_map_len};
-ghost use Rattle.ssi_versions.specs.Meaning.Chains.{IsAbove};
+ghost use Rattle.std.specs.Prelude.{◌≡◌, [], IfOk, IfErr};
 ghost use Rattle.ssi_reads.specs.Meaning.Marks.{IsEmpty};
-ghost use Rattle.ssi_recorder.specs.Meaning.Recorder.{places_of};
+ghost use Rattle.ssi_conflict.specs.Meaning.Pairs.{IsOrderedPivot};
 ghost use Rattle.ssi_conflict.specs.Computing.Steps.{smallest_ordered_pivot};
-ghost use Rattle.ssi_store.specs.Machinery.Rosters.{AreBelow};
-ghost use Rattle.ssi_store.specs.Machinery.RosterRoom.{opened_in};
+ghost use Rattle.ssi_store.specs.Meaning.Standing.{HasCourse};
 
-use crate::open::Open;
-use crate::roster::Roster;
-use crate::{Command, Refusal, Reply, Session};
-use adya_values::{Content, Txn};
-use indexmap::IndexMap;
-use ssi_conflict::Tracker;
+use crate::engine::Engine;
+use crate::{Command, Finished, Refusal, Reply};
+use adya_values::Txn;
 use ssi_reads::Marks;
-use ssi_recorder::Recorder;
 use ssi_versions::Chains;
-use std::alloc::Global;
+use std::alloc::{AllocError, Global};
 
 /// A store of keys and values, over a store of versions and a set of marks.
 ///
 /// Commands come as one interleaved list, each of a session or of an operator. A transaction sees the contents at its
 /// begin, with its own writes over them. Of two concurrent transactions that write one key only the first to commit is
 /// committed, and a command after which a pivot would stand aborts its transaction.
+///
+/// A store always stands for some course, so each history that it gives has a certificate.
 #[derive(Drop)]
 pub struct Store<C: Chains + Drop, M: Marks + Drop> {
-    pub(crate) alloc: Global,
-    pub(crate) chains: C,
-    pub(crate) sessions: IndexMap<Session, Open>,
-    pub(crate) roster: Roster,
-    pub(crate) tracker: Tracker<M>,
-    pub(crate) recorder: Recorder,
-    pub(crate) commits: u64,
-    pub(crate) next: u64,
-    pub(crate) ghost room: { commits + index_map_len sessions < next },
-    pub(crate) ghost few: { next ≤ 4294967296 },
-    pub(crate) ghost above: { IsAbove (commits + 1) (C.held chains) },
-    pub(crate) ghost early: { AreBelow next (opened_in roster) },
-    pub(crate) ghost places: { index_map_len sessions ≤ places_of recorder },
+    engine: Engine<C, M>,
+    ghost stands: { HasCourse C.held M.marked engine },
 }
 
 impl<C: Chains + Drop, M: Marks + Drop> Store<C, M> {
     ghost use Rattle.ssi_store.specs.Meaning.Courses.{Course, New, Then};
     ghost use Rattle.ssi_store.specs.Meaning.Replies.{IsAnswer};
     ghost use Rattle.ssi_store.specs.Meaning.Commands.{command_of, answer_of};
-    ghost use Rattle.ssi_store.specs.Meaning.Standing.{IsAt};
+    ghost use Rattle.ssi_store.specs.Meaning.Recording.{finished, dumped, starts};
+    ghost use Rattle.ssi_store.specs.Meaning.Faces.{Records, RecordsSoFar};
+    ghost use Rattle.ssi_store.specs.Meaning.Laws.{IsCovered};
+    ghost use Rattle.ssi_store.specs.Meaning.Finished.{recorded_in, began_in};
+    ghost use Rattle.ssi_store.specs.Meaning.Stores.{IsAt};
 
     /// Makes an empty store over versions and marks that are empty; the first transaction has number 1. Takes no memory.
     pub fn new(alloc: Global, chains: C, marks: M) -> Self
-        requires { C.held chains ≡ [] }
-        ensures { IsEmpty (M.marked marks) → IsAt C.held M.marked result (New 1) }
+        requires versions { C.held chains ≡ [] }
+        requires marks { IsEmpty (M.marked marks) }
+        ensures { IsAt C.held M.marked result (New 1) }
     {
         Store::with_next(alloc, chains, marks, Txn::new(1).unwrap())
     }
 
     /// Makes an empty store whose first transaction has this number. Takes no memory.
     pub fn with_next(alloc: Global, chains: C, marks: M, next: Txn) -> Self
-        requires { C.held chains ≡ [] }
-        ensures { IsEmpty (M.marked marks) → IsAt C.held M.marked result (New next) }
+        requires versions { C.held chains ≡ [] }
+        requires marks { IsEmpty (M.marked marks) }
+        ensures { IsAt C.held M.marked result (New next) }
     {
-        Store {
-            alloc,
-            chains,
-            sessions: IndexMap::new(alloc),
-            roster: Roster::new(alloc),
-            tracker: Tracker::new(alloc, marks),
-            recorder: Recorder::new(alloc),
-            commits: 0,
-            next: u64::from(next.get()),
-        }
+        let engine = Engine::with_next(alloc, chains, marks, next);
+        Store { engine }
     }
 
     /// Carries out one command.
@@ -81,26 +63,36 @@ impl<C: Chains + Drop, M: Marks + Drop> Store<C, M> {
         ensures stands { (c : Course) → IsAt C.held M.marked self.old c → IsAt C.held M.marked self.new (Then c (command_of command) (answer_of result)) }
         ensures answers { (c : Course) → IsAt C.held M.marked self.old c → IsAnswer smallest_ordered_pivot c (command_of command) (answer_of result) }
     {
-        match command {
-            Command::Begin { session } => self.begin(session),
-            Command::Get { session, key } => self.get(session, key),
-            Command::Put {
-                session,
-                key,
-                value,
-            } => self.write(session, key, Content::Live(value)),
-            Command::Del { session, key } => self.write(session, key, Content::Dead),
-            Command::Scan { session, lo, hi } => self.scan(session, lo, hi),
-            Command::ScanFirst {
-                session,
-                lo,
-                hi,
-                limit,
-            } => self.scan_first(session, lo, hi, limit),
-            Command::Commit { session } => self.commit(session),
-            Command::Abort { session } => self.abort(session),
-            Command::Collect => self.collect(),
-            Command::Stat => self.stat(),
+        self.engine.apply(command)
+    }
+
+    /// Ends the store. Its history has an abort of each open transaction at its end, by rising number.
+    ///
+    /// The history records the course of the store. It is a checked snapshot history by these starts, without a dangerous
+    /// structure. Hands the store back as it was if memory runs out.
+    pub fn finish(self) -> Result<Finished, (Store<C, M>, AllocError)>
+        ensures history { IfOk result (λ f. (c : Course) → IsAt C.held M.marked self c → recorded_in f ≡ finished c) }
+        ensures starts { IfOk result (λ f. (c : Course) → IsAt C.held M.marked self c → began_in f ≡ starts c) }
+        ensures records { IfOk result (λ f. (c : Course) → IsAt C.held M.marked self c → Records (recorded_in f) c) }
+        ensures covered { IfOk result (λ f. (c : Course) → IsAt C.held M.marked self c → IsCovered IsOrderedPivot c (recorded_in f)) }
+        ensures err { IfErr result (λ e. (c : Course) → IsAt C.held M.marked self c → IsAt C.held M.marked e.0 c) }
+    {
+        match self.engine.finish() {
+            Ok(finished) => Ok(finished),
+            Err((engine, e)) => Err((Store { engine }, e)),
         }
+    }
+
+    /// Returns the history so far. Its open transactions are unfinished. The store stays as it is.
+    ///
+    /// The history records the course of the store. It is a checked snapshot history by these starts, without a dangerous
+    /// structure. Returns `AllocError` if memory runs out.
+    pub fn dump(&self) -> Result<Finished, AllocError>
+        ensures history { IfOk result (λ f. (c : Course) → IsAt C.held M.marked self.now c → recorded_in f ≡ dumped c) }
+        ensures starts { IfOk result (λ f. (c : Course) → IsAt C.held M.marked self.now c → began_in f ≡ starts c) }
+        ensures records { IfOk result (λ f. (c : Course) → IsAt C.held M.marked self.now c → RecordsSoFar (recorded_in f) c) }
+        ensures covered { IfOk result (λ f. (c : Course) → IsAt C.held M.marked self.now c → IsCovered IsOrderedPivot c (recorded_in f)) }
+    {
+        self.engine.dump()
     }
 }

@@ -5,13 +5,14 @@ ghost use Rattle.adya_values.specs.Meaning.Histories.{event_of, content_of};
 ghost use Rattle.ssi_store.specs.Meaning.Recording.{write_event as recorded_write};
 
 use crate::below::laws_below;
+use crate::engine::Engine;
 use crate::open::MAX_OPERATIONS;
-use crate::{Refusal, Reply, Session, Store};
+use crate::{Refusal, Reply, Session};
 use adya_values::{Content, Event, Key, Mod, Txn};
 use ssi_reads::Marks;
 use ssi_versions::Chains;
 
-impl<C: Chains + Drop, M: Marks + Drop> Store<C, M> {
+impl<C: Chains + Drop, M: Marks + Drop> Engine<C, M> {
     ghost use Rattle.ssi_store.specs.Meaning.Courses.{Course, Then};
     ghost use Rattle.ssi_store.specs.Meaning.Commands.{answer_of, written};
     ghost use Rattle.ssi_store.specs.Meaning.Standing.{IsAt};

@@ -1,6 +1,6 @@
--- When a store stands for a course: the course is one of replies, each part of the store was told of the acts of the
--- course, and each session has the transaction that it has in the course.
-use Rattle.std.specs.Prelude.{◌≡◌, ℕ, Bool, List, map, option_map, IfSome}
+-- When the engine of a store stands for a course: the course is one of replies, each part of the engine was told of the
+-- acts of the course, and each session has the transaction that it has in the course.
+use Rattle.std.specs.Prelude.{◌≡◌, ℕ, Bool, List, map, Option, option_map, IfSome}
 use Rattle.adya_values.specs.Meaning.Histories.{Event}
 use Rattle.ssi_versions.specs.Meaning.Changes.{Held, held}
 use Rattle.ssi_versions.specs.Meaning.Chains.{chain_of}
@@ -18,13 +18,13 @@ use Rattle.ssi_store.specs.Meaning.Replies.{Follows}
 use Rattle.ssi_store.specs.Meaning.Recording.{events}
 use Rattle.ssi_store.specs.Machinery.Opens.{Sessions, open_at, number_of, IsOpen}
 use Rattle.ssi_store.specs.declared.roster.Roster.{Roster}
-use Rattle.ssi_store.specs.declared.store.Store.{Store}
+use Rattle.ssi_store.specs.declared.engine.Engine.{Engine}
 
 -- each of these transactions with its snapshot
 abbrev pub with_snapshots : List ℕ → List Act → List (ℕ × ℕ)
 with_snapshots ts log = map (λ t. (t, snapshot t log)) ts
 
--- what is seen of the parts of a store
+-- what is seen of the parts of an engine
 pub record Parts : Type 1 where
   -- the held versions
   pub holds : List Held
@@ -64,7 +64,7 @@ abbrev pub began_of : Roster → List (ℕ × ℕ)
 began_of r = r.starts.items
 
 module _ {C M : Type 0} {g : HeldBy C} {h : MarkedBy M} (holds : C → List Held) (marked : M → ℕ → List ℕ → Bool) where
-  abbrev pub parts_of : Store C M g h → Parts
+  abbrev pub parts_of : Engine C M g h → Parts
   parts_of s = record {
     holds = holds s.chains;
     told = Stands marked s.tracker;
@@ -74,6 +74,10 @@ module _ {C M : Type 0} {g : HeldBy C} {h : MarkedBy M} (holds : C → List Held
     began = began_of s.roster;
   }
 
-  -- the store stands for the course
-  abbrev pub IsAt : Store C M g h → Course → Type 0
+  -- the engine stands for the course
+  abbrev pub IsAt : Engine C M g h → Course → Type 0
   IsAt s c = StandsFor (parts_of s) s.next s.sessions.entries c
+
+  -- the engine stands for some course
+  abbrev pub HasCourse : Engine C M g h → Type 0
+  HasCourse s = ∥ ((c : Course) × IsAt s c) ∥₁

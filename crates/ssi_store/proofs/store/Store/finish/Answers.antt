@@ -1,22 +1,7 @@
-use Rattle.std.proofs.Common.{sym, subst}
-use Rattle.ssi_conflict.specs.Computing.Steps.{smallest_ordered_pivot}
-use Rattle.ssi_conflict.specs.Meaning.Pairs.{IsOrderedPivot}
-use Rattle.ssi_store.specs.Meaning.Faces.{Records}
-use Rattle.ssi_store.specs.Meaning.Laws.{IsCovered}
-use Rattle.ssi_store.proofs.Finishes.{finishes}
+use Rattle.std.proofs.Math.Logic.{∥∥₁_map}
 use Rattle.ssi_store.proofs.store.Store.finish.Goals as goal
 
-pub returns-in-Ok-clause-history : goal.returns-in-Ok-clause-history
-returns-in-Ok-clause-history g c = λ course st.
-    finishes st c.open_txns.result.now _ c.open_txns.ensures.all c.in-Ok.ensures.history
-
-pub returns-in-Ok-clause-records : goal.returns-in-Ok-clause-records
-returns-in-Ok-clause-records g c = λ course st.
-    subst (λ h. Records h course) (sym (finishes st c.open_txns.result.now _ c.open_txns.ensures.all c.in-Ok.ensures.history))
-    (c.courses_are_recorded.ensures.finished smallest_ordered_pivot course st.follows)
-
-pub returns-in-Ok-clause-covered : goal.returns-in-Ok-clause-covered
-returns-in-Ok-clause-covered g c = λ course st.
-    subst (λ h. IsCovered IsOrderedPivot course h)
-    (sym (finishes st c.open_txns.result.now _ c.open_txns.ensures.all c.in-Ok.ensures.history))
-    (c.finished_are_covered.ensures.commit_order course st.follows)
+pub invariant_of-result : goal.invariant_of-result
+invariant_of-result g c = record {
+  stands = ∥∥₁_map c.args.self.stands (λ at. (at.0, c.in-Err.ensures.err at.0 at.1));
+}

@@ -4,7 +4,7 @@ use Rattle.adya_values.specs.Meaning.Serial.{visible_pairs}
 use Rattle.ssi_store.specs.Meaning.Courses.{Scan}
 use Rattle.ssi_store.proofs.KeyOrder.{key_le-from_not}
 use Rattle.ssi_store.proofs.Scans.{scan_idle, scan_is}
-use Rattle.ssi_store.proofs.store.Store.scan.Goals as goal
+use Rattle.ssi_store.proofs.engine.Engine.scan.Goals as goal
 
 pub scan-requires : goal.scan-requires
 scan-requires g c = key_le-from_not c.args.lo c.args.hi (Prim.search rules)

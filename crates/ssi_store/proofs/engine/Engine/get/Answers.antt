@@ -9,7 +9,7 @@ use Rattle.ssi_store.specs.Meaning.Courses.{Get, Unsafe}
 use Rattle.ssi_store.specs.Meaning.Tracked.{tracked}
 use Rattle.ssi_store.proofs.Gets.{get_idle, get_long, get_memory, get_own, get_read, get_ends, may_get, safe_of}
 use Rattle.ssi_store.proofs.Steps.{same_answer, same_course}
-use Rattle.ssi_store.proofs.store.Store.get.Goals as goal
+use Rattle.ssi_store.proofs.engine.Engine.get.Goals as goal
 
 pub returns-in_default : goal.returns-in_default
 returns-in_default g c = record { stands = λ course st. get_idle st c.args.session c.args.key (Prim.search rules) }

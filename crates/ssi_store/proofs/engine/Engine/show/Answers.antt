@@ -9,7 +9,7 @@ use Rattle.ssi_store.specs.Meaning.Tracked.{tracked}
 use Rattle.ssi_store.proofs.Gets.{safe_of}
 use Rattle.ssi_store.proofs.Scans.{may_scan, show_memory, show_ends, shown}
 use Rattle.ssi_store.proofs.Steps.{same_course}
-use Rattle.ssi_store.proofs.store.Store.show.Goals as goal
+use Rattle.ssi_store.proofs.engine.Engine.show.Goals as goal
 
 pub returns-in_default : goal.returns-in_default
 returns-in_default g c = record {

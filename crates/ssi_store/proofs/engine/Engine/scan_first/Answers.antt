@@ -7,7 +7,7 @@ use Rattle.ssi_store.specs.Meaning.Acts.{reached}
 use Rattle.ssi_store.specs.Meaning.Courses.{ScanFirst}
 use Rattle.ssi_store.proofs.KeyOrder.{key_le-from_not}
 use Rattle.ssi_store.proofs.LimitedScans.{first_idle, first_is}
-use Rattle.ssi_store.proofs.store.Store.scan_first.Goals as goal
+use Rattle.ssi_store.proofs.engine.Engine.scan_first.Goals as goal
 
 pub returns-in_default : goal.returns-in_default
 returns-in_default g c = record {

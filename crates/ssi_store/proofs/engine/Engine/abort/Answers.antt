@@ -2,7 +2,7 @@ use Rattle.std.proofs.Common.{rules, sym, subst}
 use Rattle.ssi_store.specs.Meaning.Courses.{Abort as DoAbort, Aborted}
 use Rattle.ssi_store.specs.Machinery.Ends.{IsEnd}
 use Rattle.ssi_store.proofs.Ends.{abort_idle, abort_ends}
-use Rattle.ssi_store.proofs.store.Store.abort.Goals as goal
+use Rattle.ssi_store.proofs.engine.Engine.abort.Goals as goal
 
 pub returns-in_default : goal.returns-in_default
 returns-in_default g c = record { stands = λ course st. abort_idle st c.args.session (Prim.search rules) }

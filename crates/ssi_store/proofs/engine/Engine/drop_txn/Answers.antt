@@ -1,6 +1,6 @@
 use Rattle.ssi_store.proofs.Ends.{dropped}
 use Rattle.ssi_store.proofs.RisingOpens.{below_without}
-use Rattle.ssi_store.proofs.store.Store.drop_txn.Goals as goal
+use Rattle.ssi_store.proofs.engine.Engine.drop_txn.Goals as goal
 
 pub returns : goal.returns
 returns g c = record {

@@ -2,7 +2,7 @@ use Rattle.std.proofs.Common.{rules, arith, ap, sym, ◌∙◌, ◌++◌, ◌∷
 use Rattle.adya_values.specs.Meaning.Histories.{event_of, content_of}
 use Rattle.ssi_recorder.specs.Meaning.Recorder.{events_of}
 use Rattle.ssi_store.proofs.PutsAndDels.{write_idle, write_long, write_memory, write_done, same_as}
-use Rattle.ssi_store.proofs.store.Store.write.Goals as goal
+use Rattle.ssi_store.proofs.engine.Engine.write.Goals as goal
 
 pub returns-in_default : goal.returns-in_default
 returns-in_default g c = record {

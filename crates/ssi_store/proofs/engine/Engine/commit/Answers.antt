@@ -12,7 +12,7 @@ use Rattle.ssi_store.proofs.Gets.{safe_of}
 use Rattle.ssi_store.proofs.Overtaking.{written_keys}
 use Rattle.ssi_store.proofs.RisingOpens.{below_without}
 use Rattle.ssi_store.proofs.Steps.{same_course}
-use Rattle.ssi_store.proofs.store.Store.commit.Goals as goal
+use Rattle.ssi_store.proofs.engine.Engine.commit.Goals as goal
 
 pub returns-in_default : goal.returns-in_default
 returns-in_default g c = record { stands = λ course st. commit_idle st c.args.session (Prim.search rules) }

@@ -1,6 +1,6 @@
 use Rattle.std.proofs.Common.{◌+◌}
 use Rattle.ssi_store.proofs.Collects.{above_kept, collected}
-use Rattle.ssi_store.proofs.store.Store.collect.Goals as goal
+use Rattle.ssi_store.proofs.engine.Engine.collect.Goals as goal
 
 pub returns : goal.returns
 returns g c = record {

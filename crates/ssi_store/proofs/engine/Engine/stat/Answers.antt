@@ -1,7 +1,7 @@
 use Rattle.ssi_store.specs.Meaning.Acts.{acts}
 use Rattle.ssi_store.specs.Meaning.Tracked.{tracked}
 use Rattle.ssi_store.proofs.Collects.{counted}
-use Rattle.ssi_store.proofs.store.Store.stat.Goals as goal
+use Rattle.ssi_store.proofs.engine.Engine.stat.Goals as goal
 
 pub returns : goal.returns
 returns g c = record {

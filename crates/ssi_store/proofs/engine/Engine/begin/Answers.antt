@@ -3,7 +3,7 @@ use Rattle.adya_values.specs.Meaning.Keys.{key_eq}
 use Rattle.ssi_store.specs.Machinery.Opens.{open_at}
 use Rattle.ssi_store.proofs.RisingOpens.{below_same, below_next, below_begun}
 use Rattle.ssi_store.proofs.Begins.{begin_memory, begun}
-use Rattle.ssi_store.proofs.store.Store.begin.Goals as goal
+use Rattle.ssi_store.proofs.engine.Engine.begin.Goals as goal
 
 pub returns-in_default-on_begin : goal.returns-in_default-on_begin
 returns-in_default-on_begin g c = record {

@@ -1,10 +1,11 @@
-use Rattle.std.proofs.Common.{sym, subst}
+use Rattle.std.proofs.Common.{sym, subst, rules, ap, ◌∙◌}
+use Rattle.std.proofs.Math.Logic.{∥∥₁_map}
 use Rattle.ssi_conflict.specs.Computing.Steps.{smallest_ordered_pivot}
 use Rattle.ssi_conflict.specs.Meaning.Pairs.{IsOrderedPivot}
 use Rattle.ssi_store.specs.Meaning.Faces.{RecordsSoFar}
 use Rattle.ssi_store.specs.Meaning.Laws.{IsCovered}
-use Rattle.ssi_store.proofs.Finishes.{dumps}
-use Rattle.ssi_store.proofs.store.Store.dump.Goals as goal
+use Rattle.ssi_store.proofs.Finishes.{dumps, safe_by}
+use Rattle.ssi_store.proofs.engine.Engine.dump.Goals as goal
 
 pub returns-clause-history : goal.returns-clause-history
 returns-clause-history g c = λ course st.
@@ -21,3 +22,11 @@ returns-clause-covered g c = λ course st.
     subst (λ h. IsCovered IsOrderedPivot course h)
     (sym (dumps st c.open_txns.result.now _ c.open_txns.ensures.all c.in_ok-history.ensures))
     (c.dumped_are_covered.ensures.commit_order course st.follows)
+
+pub invariant_of-finished : goal.invariant_of-finished
+invariant_of-finished g c = record {
+  safe = ∥∥₁_map c.requires (λ at.
+      safe_by at.0 _ _ c.in_ok-starts.starts.items
+      (dumps at.1 c.open_txns.result.now _ c.open_txns.ensures.all c.in_ok-history.ensures)
+      (c.in_ok-starts.ensures ∙ at.1.log.began) (c.dumped_are_covered.ensures.commit_order at.0 at.1.follows));
+}

@@ -1,0 +1,91 @@
+//! The engine of a store: its parts, and what each command does to them.
+
+ghost use Rattle.std.specs.Prelude.{◌≡◌, ◌<◌, ◌≤◌, ◌+◌, [], true};
+ghost use Rattle.indexmap.specs.IndexMap.{index_map_len};
+ghost use Rattle.ssi_versions.specs.Meaning.Chains.{IsAbove};
+ghost use Rattle.ssi_reads.specs.Meaning.Marks.{IsEmpty};
+ghost use Rattle.ssi_recorder.specs.Meaning.Recorder.{places_of};
+ghost use Rattle.ssi_conflict.specs.Computing.Steps.{smallest_ordered_pivot};
+ghost use Rattle.ssi_store.specs.Machinery.Rosters.{AreBelow};
+ghost use Rattle.ssi_store.specs.Machinery.RosterRoom.{opened_in};
+
+use crate::open::Open;
+use crate::roster::Roster;
+use crate::{Command, Refusal, Reply, Session};
+use adya_values::{Content, Txn};
+use indexmap::IndexMap;
+use ssi_conflict::Tracker;
+use ssi_reads::Marks;
+use ssi_recorder::Recorder;
+use ssi_versions::Chains;
+use std::alloc::Global;
+
+/// The parts of a store. They stand for each course that is as they were told; [`Store`](crate::Store) has one.
+#[derive(Drop)]
+pub(crate) struct Engine<C: Chains + Drop, M: Marks + Drop> {
+    pub(crate) alloc: Global,
+    pub(crate) chains: C,
+    pub(crate) sessions: IndexMap<Session, Open>,
+    pub(crate) roster: Roster,
+    pub(crate) tracker: Tracker<M>,
+    pub(crate) recorder: Recorder,
+    pub(crate) commits: u64,
+    pub(crate) next: u64,
+    pub(crate) ghost room: { commits + index_map_len sessions < next },
+    pub(crate) ghost few: { next ≤ 4294967296 },
+    pub(crate) ghost above: { IsAbove (commits + 1) (C.held chains) },
+    pub(crate) ghost early: { AreBelow next (opened_in roster) },
+    pub(crate) ghost places: { index_map_len sessions ≤ places_of recorder },
+}
+
+impl<C: Chains + Drop, M: Marks + Drop> Engine<C, M> {
+    ghost use Rattle.ssi_store.specs.Meaning.Courses.{Course, New, Then};
+    ghost use Rattle.ssi_store.specs.Meaning.Replies.{IsAnswer};
+    ghost use Rattle.ssi_store.specs.Meaning.Commands.{command_of, answer_of};
+    ghost use Rattle.ssi_store.specs.Meaning.Standing.{IsAt};
+
+    /// Makes an empty engine whose first transaction has this number. Takes no memory.
+    pub(crate) fn with_next(alloc: Global, chains: C, marks: M, next: Txn) -> Self
+        requires { C.held chains ≡ [] }
+        ensures { IsEmpty (M.marked marks) → IsAt C.held M.marked result (New next) }
+    {
+        Engine {
+            alloc,
+            chains,
+            sessions: IndexMap::new(alloc),
+            roster: Roster::new(alloc),
+            tracker: Tracker::new(alloc, marks),
+            recorder: Recorder::new(alloc),
+            commits: 0,
+            next: u64::from(next.get()),
+        }
+    }
+
+    /// Carries out one command.
+    pub(crate) fn apply(&mut self, command: Command) -> Result<Reply, Refusal>
+        ensures stands { (c : Course) → IsAt C.held M.marked self.old c → IsAt C.held M.marked self.new (Then c (command_of command) (answer_of result)) }
+        ensures answers { (c : Course) → IsAt C.held M.marked self.old c → IsAnswer smallest_ordered_pivot c (command_of command) (answer_of result) }
+    {
+        match command {
+            Command::Begin { session } => self.begin(session),
+            Command::Get { session, key } => self.get(session, key),
+            Command::Put {
+                session,
+                key,
+                value,
+            } => self.write(session, key, Content::Live(value)),
+            Command::Del { session, key } => self.write(session, key, Content::Dead),
+            Command::Scan { session, lo, hi } => self.scan(session, lo, hi),
+            Command::ScanFirst {
+                session,
+                lo,
+                hi,
+                limit,
+            } => self.scan_first(session, lo, hi, limit),
+            Command::Commit { session } => self.commit(session),
+            Command::Abort { session } => self.abort(session),
+            Command::Collect => self.collect(),
+            Command::Stat => self.stat(),
+        }
+    }
+}
