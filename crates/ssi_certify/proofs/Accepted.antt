@@ -1,5 +1,6 @@
 -- A safe history has no cycle, so none is found of it, and it has a certificate since it shows no phenomenon.
-use Rattle.std.proofs.Common.{◌≡◌, Vec, Global, map, inl, inr, subst}
+use Rattle.std.proofs.Common.{◌≡◌, ℕ, Vec, Global, map, inl, inr, sym, subst}
+use Rattle.std.proofs.Math.Logic.{∥∥₁_elim, ∥∥₁_map}
 use Rattle.adya_values.specs.declared.history.History.{History as HistoryValue}
 use Rattle.adya_values.specs.Meaning.Histories.{History}
 use Rattle.adya_values.specs.Meaning.Values.{history_of}
@@ -10,6 +11,7 @@ use Rattle.adya_dsg.specs.Meaning.Values.{edge_of}
 use Rattle.adya_dsg.specs.Meaning.Found.{HasCertificate, IsFound}
 use Rattle.adya_dsg.specs.Meaning.Laws.{CertifiedWhereNoPhenomenon}
 use Rattle.snapshot_histories.specs.Meaning.Laws.{SafeHistoriesHaveNoCycle}
+use Rattle.snapshot_histories.specs.Meaning.Snapshots.{IsSafe}
 use Rattle.ssi_certify.specs.Meaning.Laws.{IsSafeHistory}
 
 pub safe_accepted : SafeHistoriesHaveNoCycle → CertifiedWhereNoPhenomenon → (h : History) → IsSafeHistory h
@@ -27,7 +29,11 @@ safe_accepted no_cycle certified h (starts, safe) =
     )
 
 pub no_cycle_found : SafeHistoriesHaveNoCycle → (lent own : HistoryValue) → lent ≡ own
-    → IsSafeHistory (history_of own) → (es : Vec Edge Global) → IsFound (history_of lent) (Cycle es) → ⊥
-no_cycle_found no_cycle lent own same (starts, safe) es cycle =
-    no_cycle (history_of own) starts safe (map edge_of es.items)
-    (subst (λ h. IsCycle (history_of h) (map edge_of es.items)) same cycle)
+    → ∥ IsSafeHistory (history_of own) ∥₁ → (es : Vec Edge Global) → IsFound (history_of lent) (Cycle es) → ⊥
+no_cycle_found no_cycle lent own same is_safe es cycle = ∥∥₁_elim is_safe (λ a. absurd a) (λ safe.
+    no_cycle (history_of own) safe.0 safe.1 (map edge_of es.items)
+    (subst (λ h. IsCycle (history_of h) (map edge_of es.items)) same cycle))
+
+-- whatever the starts are called
+pub safe_by : (h g : History) (starts : ℕ → ℕ) → h ≡ g → ∥ IsSafe g starts ∥₁ → ∥ IsSafeHistory h ∥₁
+safe_by h g starts is safe = ∥∥₁_map safe (λ s. (starts, subst (λ x. IsSafe x starts) (sym is) s))

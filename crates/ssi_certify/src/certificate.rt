@@ -1,20 +1,31 @@
-//! The certificate of a safe history.
+//! The certificates of safe histories.
 
 ghost use Rattle.std.specs.Prelude.{IfOk};
 ghost use Rattle.adya_values.specs.Meaning.Values.{history_of, serial_txns};
 ghost use Rattle.adya_values.specs.Meaning.Acceptance.{IsAccepted};
+ghost use Rattle.ssi_store.specs.Meaning.Finished.{recorded_in};
 ghost use Rattle.ssi_certify.specs.Meaning.Laws.{IsSafeHistory};
 
 use adya_dsg::{Found, order};
 use adya_terms::{CheckFault, Checked};
 use adya_values::{History, Serial};
 use snapshot_histories::laws::safe_histories_have_no_cycle;
+use ssi_store::Finished;
 use std::alloc::{AllocError, Global};
+
+/// Returns a certificate with which the history of a store is accepted, whether the store has ended or was dumped;
+/// `AllocError` if memory runs out. So whatever a store was asked to do, its history is serializable, and this says in
+/// which order.
+pub fn certify(alloc: Global, finished: &Finished) -> Result<Serial, AllocError>
+    ensures { IfOk result (λ s. IsAccepted (recorded_in finished.now) (serial_txns s)) }
+{
+    certified(alloc, finished.history())
+}
 
 /// Returns a certificate with which the history is accepted, the one that [`order`] finds; `AllocError` if memory runs
 /// out. The history is a checked snapshot history without a dangerous structure, so it has no fault and no cycle.
 pub fn certified(alloc: Global, history: &History) -> Result<Serial, AllocError>
-    requires { IsSafeHistory (history_of history.now) }
+    requires { ∥ IsSafeHistory (history_of history.now) ∥₁ }
     ensures { IfOk result (λ s. IsAccepted (history_of history.now) (serial_txns s)) }
 {
     safe_histories_have_no_cycle();
