@@ -6,7 +6,7 @@ use adya_audit::run_audit;
 use adya_testing::Pieces;
 use adya_text::{write_history, write_serial};
 use devices::Watched;
-use ssi_certify::certified;
+use ssi_certify::certify;
 use ssi_reads::{IndexMarks, ListMarks, Marks};
 use ssi_store::{Command, Finished, Store};
 use ssi_versions::{Chains, KeyChains, PlainChains};
@@ -99,7 +99,7 @@ fn written(alloc: Global, replies: Vec<u8>, finished: &Finished) -> Option<Run> 
     let mut history = Watched::new(Vec::new(alloc));
     write_history(finished.history(), &mut history).ok()?;
     let history = history.into_inner();
-    let serial = certified(alloc, finished.history()).ok()?;
+    let serial = certify(alloc, finished).ok()?;
     let mut certificate = Watched::new(Vec::new(alloc));
     write_serial(&serial, &mut certificate).ok()?;
     let certificate = certificate.into_inner();
