@@ -1,7 +1,6 @@
 //! Replies and refusals by their lines.
 
-use adya_values::Key;
-use adya_values::FinalPair;
+use adya_values::{FinalPair, Key};
 use ssi_store::{Refusal, Reply};
 use std::alloc::{AllocError, Global};
 
@@ -10,7 +9,10 @@ fn text(bytes: &[u8]) -> &str {
 }
 
 /// Returns the line of an answer, without its line feed.
-pub(crate) fn line_of(alloc: Global, answer: &Result<Reply, Refusal>) -> Result<String, AllocError> {
+pub(crate) fn line_of(
+    alloc: Global,
+    answer: &Result<Reply, Refusal>,
+) -> Result<String, AllocError> {
     match answer {
         Ok(reply) => reply_line(alloc, reply),
         Err(refusal) => format!(in alloc; "! {}", refusal_text(*refusal)),
