@@ -31,7 +31,7 @@ commit_number t (Commit u) c is = subst IsTxn (commits_txn t (Commit u) c) is
 commit_number t (Abort u) c is = absurd (cc (c))
 
 -- what a history that has a text is accepted with has a text
-accepted_serial : (h : History) (ts : List ℕ) → IsHistory h → IsAccepted h ts → IsSerial ts
+pub accepted_serial : (h : History) (ts : List ℕ) → IsHistory h → IsAccepted h ts → IsSerial ts
 accepted_serial h ts is a =
     recursion-from_contained IsTxn ts (λ t c.
     let e = list_any-source (commits t) h.events

@@ -1,7 +1,7 @@
 //! What a yes implies. Each law is the contract of a function that does nothing.
 
 ghost use Rattle.adya_audit.specs.Meaning.Laws.{YesWhereAccepted, AcceptedIsSerializable};
-ghost use Rattle.adya_audit.specs.Meaning.TextLaws.{YesWhereTextsAccepted, AcceptedTextsAreSerializable};
+ghost use Rattle.adya_audit.specs.Meaning.TextLaws.{YesWhereTextsAccepted, AcceptedTextsAreSerializable, AcceptedHaveTexts};
 
 use adya_laws::{accepted_agrees, accepted_has_no_phenomenon, accepted_where_forward};
 use adya_terms::laws::checked_where_no_fault;
@@ -40,3 +40,8 @@ pub fn accepted_texts_are_serializable()
 {
     accepted_is_serializable();
 }
+
+/// If a history with a text is accepted with a certificate, the certificate has a text too, and both texts are accepted.
+pub fn accepted_have_texts()
+    ensures { AcceptedHaveTexts }
+{}

@@ -1,5 +1,8 @@
 -- What a yes on texts implies.
 use Rattle.std.specs.Prelude.{◌≡◌, ◌↔◌, ℕ, List}
+use Rattle.adya_values.specs.Meaning.Histories.{History}
+use Rattle.adya_values.specs.Meaning.Acceptance.{IsAccepted}
+use Rattle.adya_text.specs.Meaning.Texts.{IsHistory, history_text, serial_text}
 use Rattle.adya_audit.specs.Meaning.Verdicts.{Verdict, Yes}
 use Rattle.adya_audit.specs.Meaning.TextVerdicts.{IsVerdictOn, AreAccepted, AreSerializable}
 
@@ -10,3 +13,8 @@ YesWhereTextsAccepted = (h c : List ℕ) (v : Verdict) → IsVerdictOn h c v →
 -- accepted texts are those of a history and a certificate by which it is serializable
 abbrev pub AcceptedTextsAreSerializable : Type 0
 AcceptedTextsAreSerializable = (h c : List ℕ) → AreAccepted h c → AreSerializable h c
+
+-- what a history that has a text is accepted with has a text too, and both texts are accepted
+abbrev pub AcceptedHaveTexts : Type 0
+AcceptedHaveTexts = (h : History) (ts : List ℕ) → IsHistory h → IsAccepted h ts
+    → AreAccepted (history_text h) (serial_text ts)
