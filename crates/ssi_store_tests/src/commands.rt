@@ -1,11 +1,27 @@
-//! Commands by their lines.
+//! The steps of a course by their lines.
 
 use adya_values::{Key, Value};
 use ssi_store::{Command, Session};
 use std::num::NonZeroU16;
 
+/// What a line asks for.
+pub(crate) enum Step {
+    /// A command of the store.
+    Do(Command),
+    /// The history so far.
+    Dump,
+}
+
+/// Returns what the line asks for; none if it asks for nothing.
+pub(crate) fn step_of(line: &str) -> Option<Step> {
+    if line == "dump" {
+        return Some(Step::Dump);
+    }
+    Some(Step::Do(command_of(line)?))
+}
+
 /// Returns the command of a line; none if it is no command of a store.
-pub(crate) fn command_of(line: &str) -> Option<Command> {
+fn command_of(line: &str) -> Option<Command> {
     let mut words = line.split(' ');
     let name = words.next()?;
     match name {

@@ -1,45 +1,46 @@
-//! The worked courses of the store. Each line of standard input names a folder with the commands of some sessions. They
-//! are given to a store over each pair of representations. For each pair the program writes `ok` if the replies are
-//! those of the folder, and otherwise the replies.
+//! The store, tried by whole courses of commands over each pair of representations.
+//!
+//! Without arguments: each line of standard input names a folder with a worked course. For each the program says whether
+//! the replies, the history and the certificate are those of the folder and the auditor says `yes`: for the commands as
+//! they stand, with a collection after each of them, and with a dump after each of them. Then come a transaction of as
+//! many operations as one may have, and the last transaction number.
+//!
+//! With the name of a file: it holds courses, each ended by a line `end`. For each the program writes the replies, the
+//! history, the certificate, the verdict on both, and a line `end of list`. `scripts/compare_store.py` reads them.
 #![tactic(auto)]
 
 mod commands;
+mod courses;
+mod limits;
+mod lists;
 mod replies;
 mod runs;
+mod texts;
+mod worked;
 
-use crate::runs::over_all;
-use std::{fs, io};
-
-/// Returns the bytes of a file of the worked course.
-fn file(rt: &HostRuntime, name: &str, file: &str) -> io::Result<Vec<u8>> {
-    fs::read(rt, format!(in rt.alloc(); "{name}/{file}")?)
-}
-
-/// Returns the text if the bytes are one; nothing otherwise.
-fn text(bytes: &[u8]) -> &str {
-    str::from_utf8(bytes).unwrap_or("")
-}
-
-/// Returns the line of a worked course.
-fn line_of(rt: &HostRuntime, name: &str) -> io::Result<String> {
-    let commands = file(rt, name, "commands")?;
-    let mut line = format!(in rt.alloc(); "{name}:")?;
-    let Some(runs) = over_all(rt.alloc(), text(&commands)) else {
-        return Ok(format!(in rt.alloc(); "{line} no run\n")?);
-    };
-    let wanted = file(rt, name, "replies")?;
-    for replies in &runs {
-        let is_wanted = replies.as_slice() == wanted.as_slice();
-        line.push_str(if is_wanted { " ok" } else { text(replies) })?;
-    }
-    line.push_str("\n")?;
-    Ok(line)
-}
+use std::{env, io};
 
 fn main(rt: HostRuntime) -> io::Result<()> {
+    let mut arguments = env::args(&rt)?;
+    let _program = arguments.next();
+    match arguments.next() {
+        Some(path) => lists::write_outcomes(&rt, path.as_str()),
+        None => write_worked(&rt),
+    }
+}
+
+fn write_worked(rt: &HostRuntime) -> io::Result<()> {
     for line in rt.lines(rt.alloc()) {
         let name = line?;
-        print!(rt; "{}", line_of(&rt, name.as_str())?)?;
+        print!(rt; "{}", worked::line_of(rt, name.as_str())?)?;
     }
+    print!(rt;
+        "longest transaction: {}\n",
+        limits::longest_transaction(rt.alloc())
+    )?;
+    print!(rt;
+        "last transaction: {}\n",
+        limits::last_transaction(rt.alloc())
+    )?;
     Ok(())
 }

@@ -1,59 +1,104 @@
-//! Courses of commands over each pair of representations.
+//! What a store makes of a course.
 
-use crate::commands::command_of;
+use crate::commands::{Step, step_of};
 use crate::replies::line_of;
-use ssi_reads::{IndexMarks, ListMarks, Marks};
+use crate::texts::{Texts, are_accepted, texts_of};
+use ssi_reads::Marks;
 use ssi_store::{Command, Store};
-use ssi_versions::{Chains, KeyChains, PlainChains};
+use ssi_versions::Chains;
 use std::alloc::Global;
 
-/// Returns the replies to the commands, one a line, over each pair of representations; nothing if a line is no command or
-/// memory runs out.
-pub(crate) fn over_all(alloc: Global, commands: &str) -> Option<Vec<Vec<u8>>> {
-    let mut runs = Vec::new(alloc);
-    runs.push(over_plain_and_list(alloc, commands)?).ok()?;
-    runs.push(over_plain_and_index(alloc, commands)?).ok()?;
-    runs.push(over_keys_and_list(alloc, commands)?).ok()?;
-    runs.push(over_keys_and_index(alloc, commands)?).ok()?;
-    Some(runs)
+/// What is done after each command of a course.
+#[derive(Clone, Copy, PartialEq)]
+pub(crate) enum After {
+    /// Nothing.
+    Nothing,
+    /// A collection, whose reply isn't kept.
+    Collect,
+    /// A dump, which the auditor must accept.
+    Dump,
 }
 
-fn over_plain_and_list(alloc: Global, commands: &str) -> Option<Vec<u8>> {
-    let store = Store::new(alloc, PlainChains::new(alloc), ListMarks::new(alloc));
-    carried_out(alloc, store, commands)
+/// What a course has made.
+#[derive(PartialEq, Drop)]
+pub(crate) struct Outcome {
+    /// The replies, one a line.
+    pub(crate) replies: Vec<u8>,
+    /// The texts of the end, and the verdict on them.
+    pub(crate) texts: Texts,
 }
 
-fn over_plain_and_index(alloc: Global, commands: &str) -> Option<Vec<u8>> {
-    let store = Store::new(alloc, PlainChains::new(alloc), IndexMarks::new(alloc));
-    carried_out(alloc, store, commands)
-}
-
-fn over_keys_and_list(alloc: Global, commands: &str) -> Option<Vec<u8>> {
-    let store = Store::new(alloc, KeyChains::new(alloc), ListMarks::new(alloc));
-    carried_out(alloc, store, commands)
-}
-
-fn over_keys_and_index(alloc: Global, commands: &str) -> Option<Vec<u8>> {
-    let store = Store::new(alloc, KeyChains::new(alloc), IndexMarks::new(alloc));
-    carried_out(alloc, store, commands)
-}
-
-/// Gives the commands to the store and returns its replies.
-fn carried_out<C: Chains + Drop, M: Marks + Drop>(
+/// Gives the course to the store, ends the store, and returns what came of it; nothing if a dump isn't accepted or memory
+/// runs out.
+pub(crate) fn outcome_of<C: Chains + Drop, M: Marks + Drop>(
     alloc: Global,
     mut store: Store<C, M>,
-    commands: &str,
-) -> Option<Vec<u8>> {
+    lines: &[&str],
+    after: After,
+) -> Option<Outcome> {
     let mut replies = Vec::new(alloc);
-    for line in commands.lines() {
-        let said = said(alloc, &mut store, command_of(line)?)?;
+    for line in lines {
+        let said = said(alloc, &mut store, line)?;
         replies.extend_from_slice(&said).ok()?;
+        follow(alloc, &mut store, after)?;
     }
-    Some(replies)
+    let texts = ended(alloc, store)?;
+    Some(Outcome { replies, texts })
+}
+
+/// Ends the store and returns its texts.
+fn ended<C: Chains + Drop, M: Marks + Drop>(alloc: Global, store: Store<C, M>) -> Option<Texts> {
+    match store.finish() {
+        Ok(finished) => texts_of(alloc, &finished),
+        Err(_) => None,
+    }
+}
+
+/// Does what is done after each command; nothing if a dump isn't accepted or memory runs out.
+fn follow<C: Chains + Drop, M: Marks + Drop>(
+    alloc: Global,
+    store: &mut Store<C, M>,
+    after: After,
+) -> Option<()> {
+    match after {
+        After::Nothing => Some(()),
+        After::Collect => {
+            let _ = store.apply(Command::Collect);
+            Some(())
+        }
+        After::Dump => {
+            if are_accepted(&dumped(alloc, store)?) {
+                Some(())
+            } else {
+                None
+            }
+        }
+    }
+}
+
+/// Returns the texts of a dump.
+fn dumped<C: Chains + Drop, M: Marks + Drop>(alloc: Global, store: &Store<C, M>) -> Option<Texts> {
+    match store.dump() {
+        Ok(finished) => texts_of(alloc, &finished),
+        Err(_) => None,
+    }
+}
+
+/// Returns what the store answers to the line.
+fn said<C: Chains + Drop, M: Marks + Drop>(
+    alloc: Global,
+    store: &mut Store<C, M>,
+    line: &str,
+) -> Option<Vec<u8>> {
+    match step_of(line) {
+        Some(Step::Do(command)) => carried_out(alloc, store, command),
+        Some(Step::Dump) => dumped(alloc, store)?.joined().ok(),
+        None => Vec::from_slice(alloc, b"? syntax\n").ok(),
+    }
 }
 
 /// Returns the line of the store's answer.
-fn said<C: Chains + Drop, M: Marks + Drop>(
+fn carried_out<C: Chains + Drop, M: Marks + Drop>(
     alloc: Global,
     store: &mut Store<C, M>,
     command: Command,

@@ -1,0 +1,62 @@
+//! The longest transaction, and the last one.
+
+use crate::courses::over_all;
+use crate::runs::After;
+use crate::texts::are_accepted;
+use adya_values::Txn;
+use std::alloc::Global;
+
+/// Returns `as defined` if 65,535 operations of one transaction are carried out, no other one is, and it can still commit.
+pub(crate) fn longest_transaction(alloc: Global) -> &'static str {
+    match are_last_replies(
+        alloc,
+        1,
+        65_535,
+        &[
+            "get A x",
+            "put A x 1",
+            "del A x",
+            "scan A x x",
+            "scan A x x 1",
+            "commit A",
+        ],
+        "! 4 long\n! 4 long\n! 4 long\n! 4 long\n! 4 long\ncommitted\n",
+    ) {
+        Some(true) => "as defined",
+        _ => "otherwise",
+    }
+}
+
+/// Returns `as defined` if the transaction of the greatest number is carried out, and no other one is begun.
+pub(crate) fn last_transaction(alloc: Global) -> &'static str {
+    match are_last_replies(
+        alloc,
+        4_294_967_295,
+        0,
+        &["begin A", "begin B", "commit A", "begin A", "stat"],
+        "! 1 busy\n! 5 spent\ncommitted\n! 5 spent\nstat open 0 kept 0 versions 0 keys 0\n",
+    ) {
+        Some(true) => "as defined",
+        _ => "otherwise",
+    }
+}
+
+/// Whether a transaction with this number, so many gets and then these lines get these replies to the lines.
+fn are_last_replies(
+    alloc: Global,
+    first: u64,
+    gets: u32,
+    last: &[&str],
+    wanted: &str,
+) -> Option<bool> {
+    let mut lines = Vec::new(alloc);
+    lines.push("begin A").ok()?;
+    for _ in 0..gets {
+        lines.push("get A x").ok()?;
+    }
+    for line in last {
+        lines.push(*line).ok()?;
+    }
+    let outcome = over_all(alloc, Txn::new(first).ok()?, &lines, After::Nothing)?;
+    Some(outcome.replies.ends_with(wanted.as_bytes()) && are_accepted(&outcome.texts))
+}

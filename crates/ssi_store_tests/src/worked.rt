@@ -1,0 +1,102 @@
+//! Worked courses.
+
+use crate::courses::over_all;
+use crate::runs::{After, Outcome};
+use crate::texts::are_accepted;
+use adya_values::Txn;
+use std::alloc::{AllocError, Global};
+use std::{fs, io};
+
+/// What a worked course must make.
+#[derive(Drop)]
+struct Worked {
+    replies: Vec<u8>,
+    history: Vec<u8>,
+    certificate: Vec<u8>,
+}
+
+/// Returns the line of a worked course.
+pub(crate) fn line_of(rt: &HostRuntime, name: &str) -> io::Result<String> {
+    let alloc = rt.alloc();
+    let commands = file(rt, name, "commands")?;
+    let worked = Worked {
+        replies: file(rt, name, "replies")?,
+        history: file(rt, name, "history")?,
+        certificate: file(rt, name, "certificate")?,
+    };
+    let lines = lines_of(alloc, text(&commands))?;
+    let plain = of_course(alloc, &lines, After::Nothing, &worked);
+    let collecting = of_course(alloc, &lines, After::Collect, &worked);
+    let dumping = of_course(alloc, &lines, After::Dump, &worked);
+    Ok(format!(in alloc; "{name}: {plain}, with collections {collecting}, with dumps {dumping}\n")?)
+}
+
+/// Returns the bytes of a file of the worked course.
+fn file(rt: &HostRuntime, name: &str, file: &str) -> io::Result<Vec<u8>> {
+    fs::read(rt, format!(in rt.alloc(); "{name}/{file}")?)
+}
+
+/// Returns the text if the bytes are one; nothing otherwise.
+fn text(bytes: &[u8]) -> &str {
+    str::from_utf8(bytes).unwrap_or("")
+}
+
+fn lines_of<'a>(alloc: Global, text: &'a str) -> Result<Vec<&'a str>, AllocError> {
+    let mut lines = Vec::new(alloc);
+    for line in text.lines() {
+        lines.push(line)?;
+    }
+    Ok(lines)
+}
+
+/// Returns `as worked` if the course makes what it must make, and otherwise what differs.
+fn of_course(alloc: Global, lines: &[&str], after: After, worked: &Worked) -> &'static str {
+    let Ok(first) = Txn::new(1) else {
+        return "no number";
+    };
+    let Some(outcome) = over_all(alloc, first, lines, after) else {
+        return "no outcome";
+    };
+    if !are_said(&outcome.replies, after, &worked.replies) {
+        return "other replies";
+    }
+    said_of_texts(&outcome, worked)
+}
+
+fn said_of_texts(outcome: &Outcome, worked: &Worked) -> &'static str {
+    if outcome.texts.history != worked.history {
+        return "another history";
+    }
+    if outcome.texts.certificate != worked.certificate {
+        return "another certificate";
+    }
+    if !are_accepted(&outcome.texts) {
+        return "not accepted";
+    }
+    "as worked"
+}
+
+/// Whether the replies are the wanted ones. After collections the counts of versions may be others.
+fn are_said(replies: &[u8], after: After, wanted: &[u8]) -> bool {
+    match after {
+        After::Collect => are_alike_but_for_counts(text(replies), text(wanted)),
+        _ => replies == wanted,
+    }
+}
+
+fn are_alike_but_for_counts(replies: &str, wanted: &str) -> bool {
+    let mut wanted = wanted.lines();
+    for reply in replies.lines() {
+        let Some(line) = wanted.next() else {
+            return false;
+        };
+        if reply != line && !(are_counts(reply) && are_counts(line)) {
+            return false;
+        }
+    }
+    wanted.next().is_none()
+}
+
+fn are_counts(reply: &str) -> bool {
+    reply.starts_with("kept ") || reply.starts_with("stat ")
+}
