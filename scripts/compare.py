@@ -15,7 +15,7 @@ import sys
 import tempfile
 
 import reference
-from reference import Event, last_write
+from reference import Event, history_text, last_write
 
 TOP = os.path.dirname(os.path.dirname(os.path.abspath(__file__)))
 KEYS = [["a"], ["a", "b"], ["a", "ab", "b"], ["a", "b", "c", "d"]]
@@ -145,34 +145,6 @@ class Maker:
             front, rest, behind = text[:at], text[at:], text[at + 1 :]
             text = self.random.choice([front, front + splinter + rest, front + behind, front + splinter + behind])
         return text
-
-
-def version_text(version):
-    return "%s.%d:%d" % version
-
-
-def entry_text(entry):
-    return "%s,%s" % (version_text(entry[0]), "!" if entry[1] is None else entry[1])
-
-
-def event_text(e):
-    if e.ends:
-        return "%s%d" % (e.kind, e.txn)
-    if e.kind == "d":
-        inside = version_text(e.write[0])
-    elif e.kind == "s":
-        inside = ";".join([",".join(e.span)] + [entry_text(seen) for seen in e.seen])
-    else:
-        inside = entry_text(e.write or e.seen[0])
-    return "%s%d(%s)" % (e.kind, e.txn, inside)
-
-
-def history_text(h):
-    lines = ["adya 2" if h.is_second else "adya 1"] + [event_text(e) for e in h.events]
-    lines += ["u%d" % txn for txn in h.unfinished]
-    lines += ["[%s:%s]" % (key, "<<".join(map(str, txns))) for key, txns in h.orders]
-    lines += ["{%s,%s}" % final for final in h.finals]
-    return "".join(line + "\n" for line in lines + ["end"])
 
 
 def written(folder, name, text):
