@@ -1,9 +1,10 @@
 #!/usr/bin/env python3
 """Compares the proved store with scripts/store_reference.py on random lists of commands.
 
-    scripts/compare_store.py [--cases 1000] [--seed 1] [--bad-lines] PROGRAM
+    scripts/compare_store.py [--cases 1000] [--seed 1] [--bad-lines] [PROGRAM]
 
-PROGRAM runs the store. It is called as `PROGRAM FILE`. The file has the lists one after the other; after the commands
+PROGRAM runs the store. By default it is the program of the store's tests, which `rt run < /dev/null` builds in
+crates/ssi_store_tests. It is called as `PROGRAM FILE`. The file has the lists one after the other; after the commands
 of a list comes the line `end`. For each list the program writes the reply to each command (the reply to `dump` is two
 texts), then the history at the end, its certificate, the line of the verdict on both, and the line `end of list`. If it
 runs several stores and they don't agree, it writes something else, such as `differ`. With --bad-lines the lists also
@@ -226,7 +227,8 @@ def show_first(program, lists, failed):
 
 def options():
     p = argparse.ArgumentParser(description=__doc__, formatter_class=argparse.RawDescriptionHelpFormatter)
-    p.add_argument("program", help="a program that runs the store on the lists of a file")
+    built = os.path.join(os.path.dirname(os.path.abspath(__file__)), "../crates/ssi_store_tests/out/ssi_store_tests")
+    p.add_argument("program", nargs="?", default=built, help="default: crates/ssi_store_tests/out/ssi_store_tests")
     p.add_argument("--cases", type=int, default=1000, help="how many lists (default %(default)s)")
     p.add_argument("--seed", type=int, default=1, help="the same seed gives the same lists (default %(default)s)")
     p.add_argument("--bad-lines", action="store_true", help="also lines that are no commands")
