@@ -21,9 +21,9 @@ use Rattle.ssi_store.specs.Machinery.Opens.{Sessions, open_at, number_of, IsOpen
 use Rattle.ssi_store.specs.declared.open.Open.{Open}
 use Rattle.ssi_store.proofs.Opens.{other_open, open_begun}
 use Rattle.ssi_store.proofs.Rosters.{began_then, opened_then}
-use Rattle.ssi_store.proofs.Sound.{open_from}
+use Rattle.ssi_store.proofs.SoundLogs.{open_from}
 use Rattle.ssi_store.proofs.Steps.{both, settled, opened, idle, unchanged, answer_memory, refused, refused_same}
-use Rattle.ssi_store.proofs.Telling.{tracked_allowed}
+use Rattle.ssi_store.proofs.TrackedCalls.{tracked_allowed}
 
 begin_idle : (c : Course) (s : List ℕ) → txn_in s c ≡ None
     → reply smallest_ordered_pivot c (Do.Begin s) ≡ cond (nat_lt 4294967295 (next_txn c)) (Refused Spent) (Begun (next_txn c))

@@ -6,7 +6,7 @@ use Rattle.lemmas.proofs.Members.{none_contained}
 use Rattle.ssi_conflict.specs.Meaning.Calls.{Call}
 use Rattle.ssi_store.specs.Meaning.Acts.{Aborts, Act, has_aborted, is_open, started}
 use Rattle.ssi_store.specs.Meaning.Recording.{close, closed}
-use Rattle.ssi_store.proofs.Sound.{Open, Safe, Sound, open_from, started_there}
+use Rattle.ssi_store.proofs.SoundLogs.{Open, Safe, Sound, open_from, started_there}
 
 pub open_to : (t : ℕ) (log : List Act) → Open t log → is_open t log ≡ true
 open_to t log o = and_from _ _ o.begun (not_from_false _ (or_from _ _ o.uncommitted o.unaborted))

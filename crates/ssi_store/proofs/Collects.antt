@@ -18,10 +18,10 @@ use Rattle.ssi_store.specs.Meaning.Standing.{Parts, StandsFor, with_snapshots}
 use Rattle.ssi_store.specs.Meaning.Tracked.{tracked}
 use Rattle.ssi_store.specs.Machinery.Below.{Below}
 use Rattle.ssi_store.specs.Machinery.Opens.{Sessions, open_at, IsOpen}
-use Rattle.ssi_store.proofs.Changing.{changed_installable, open_protected}
+use Rattle.ssi_store.proofs.ChangesAllowed.{changed_installable, open_protected}
 use Rattle.ssi_store.proofs.Lists.{filter_within}
 use Rattle.ssi_store.proofs.Steps.{both, settled}
-use Rattle.ssi_store.proofs.Telling.{aborted_told, begun_are, begun_told, is_committed_told}
+use Rattle.ssi_store.proofs.TrackedCalls.{aborted_told, begun_are, begun_told, is_committed_told}
 
 -- the two halves of the pairs
 pub first_halves : (f : ℕ → ℕ) (ts : List ℕ) → map (λ (e : ℕ × ℕ). e.0) (map (λ t. (t, f t)) ts) ≡ ts

@@ -28,8 +28,8 @@ use Rattle.ssi_store.specs.declared.open.Open.{Open}
 use Rattle.ssi_store.proofs.Overtaking.{conflict_is, writer_is}
 use Rattle.ssi_store.proofs.Rosters.{after_commit}
 use Rattle.ssi_store.proofs.Steps.{settled, opened, idle, open_of, answer_memory, same_course, refused_same, ended}
-use Rattle.ssi_store.proofs.Telling.{tracked_allowed}
-use Rattle.ssi_store.proofs.Writing.{last_writes_of}
+use Rattle.ssi_store.proofs.TrackedCalls.{tracked_allowed}
+use Rattle.ssi_store.proofs.OwnWrites.{last_writes_of}
 
 -- after an install with this stamp the next one is above all stamps
 pub above_installed : (n : ℕ) (old new : List Held) (ws : List Entry) → IsAbove n old

@@ -13,7 +13,7 @@ use Rattle.ssi_store.specs.Meaning.Seeing.{keys, wrote}
 use Rattle.ssi_store.specs.Meaning.Laws.{ConflictIsLeast, IsLeastOvertaken}
 use Rattle.ssi_store.proofs.KeyOrder.{key_le-anti, key_le-from_eq, key_le-from_lt}
 use Rattle.ssi_store.proofs.RisingKeys.{head_below}
-use Rattle.ssi_store.proofs.Writing.{keys_of_log_rise, wrote_key}
+use Rattle.ssi_store.proofs.OwnWrites.{keys_of_log_rise, wrote_key}
 
 -- the first of rising keys that passes a test is the smallest one
 first_is_least : (p : List ℕ → Bool) (ks : List (List ℕ)) → keys_rise ks ≡ true → (k : List ℕ) → find p ks ≡ Some k

@@ -26,21 +26,21 @@ use Rattle.ssi_store.specs.Meaning.Laws.{IsCovered, start_of}
 use Rattle.ssi_store.specs.Meaning.Recording.{close, closed, dumped, events, finished}
 use Rattle.ssi_store.specs.Meaning.Seeing.{commit_count, committed, keys, snapshot}
 use Rattle.ssi_store.specs.Meaning.Tracked.{tracked}
-use Rattle.ssi_store.proofs.Changing.{open_there}
+use Rattle.ssi_store.proofs.ChangesAllowed.{open_there}
 use Rattle.ssi_store.proofs.Closing.{close_safe, closed_ended, closed_sound}
-use Rattle.ssi_store.proofs.Coverage.{danger_is_ordered, danger_is_pivot, edge_pair_by, is_snapshot_history}
-use Rattle.ssi_store.proofs.Limits.{row_key}
-use Rattle.ssi_store.proofs.Logged.{history_of_log, installers}
-use Rattle.ssi_store.proofs.Making.{recorder_makes}
+use Rattle.ssi_store.proofs.SnapshotHistories.{danger_is_ordered, danger_is_pivot, edge_pair_by, is_snapshot_history}
+use Rattle.ssi_store.proofs.ReachedKeys.{row_key}
+use Rattle.ssi_store.proofs.LoggedHistories.{history_of_log, installers}
+use Rattle.ssi_store.proofs.MadeHistories.{recorder_makes}
 use Rattle.ssi_store.proofs.NoPivot.{no_pivot}
 use Rattle.ssi_store.proofs.PivotRules.{IsRule}
 use Rattle.ssi_store.proofs.RisingKeys.{made_rises}
 use Rattle.ssi_store.proofs.RisingNumbers.{numbers_rise-filter}
-use Rattle.ssi_store.proofs.Sound.{Safe, Sound}
-use Rattle.ssi_store.proofs.Standing.{Stands}
+use Rattle.ssi_store.proofs.SoundLogs.{Safe, Sound}
+use Rattle.ssi_store.proofs.SoundCourses.{Stands}
 use Rattle.ssi_store.proofs.Starts.{concurrent_same, danger_same, snapshots_same, start_is, started_rise}
-use Rattle.ssi_store.proofs.Whole.{is_checked}
-use Rattle.ssi_store.proofs.Writing.{keys_of_log_rise}
+use Rattle.ssi_store.proofs.CheckedHistories.{is_checked}
+use Rattle.ssi_store.proofs.OwnWrites.{keys_of_log_rise}
 
 close_pair : AbortsMakeNoPair → (r u : ℕ) (ts : List ℕ) (log : List Act) → IsPair r u (tracked (close ts log))
     → IsPair r u (tracked log)

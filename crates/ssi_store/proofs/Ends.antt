@@ -15,7 +15,7 @@ use Rattle.ssi_store.specs.Machinery.Opens.{Sessions, open_at, number_of}
 use Rattle.ssi_store.specs.declared.open.Open.{Open}
 use Rattle.ssi_store.proofs.Rosters.{after_abort}
 use Rattle.ssi_store.proofs.Steps.{settled, opened, idle, refused_same, ended}
-use Rattle.ssi_store.proofs.Telling.{tracked_allowed}
+use Rattle.ssi_store.proofs.TrackedCalls.{tracked_allowed}
 
 module _ {p : Parts} {next : ℕ} {es : Sessions} {c : Course} (st : StandsFor p next es c) (s : List ℕ) where
   pub abort_idle : open_at s es ≡ None → StandsFor p next es (Then c (Do.Abort s) (Refused Idle))

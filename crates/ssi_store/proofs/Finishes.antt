@@ -1,5 +1,5 @@
 -- The events of a course that is over.
-use Rattle.std.proofs.Common.{List, [], ap, arith, cond, filter, inl, inr, map, refl, subst, sym, true, ℕ, ◌++◌, ◌==◌, ◌∙◌, ◌∷◌, ◌≡◌}
+use Rattle.std.proofs.Common.{List, [], ap, arith, cond, filter, inl, inr, map, refl, subst, sym, true, ℕ, ◌++◌, ◌∙◌, ◌∷◌, ◌≡◌}
 use Rattle.std.proofs.lemmas.Bool.{cases_Bool, ne_eqb}
 use Rattle.std.proofs.lemmas.List.{append-nil, append_assoc}
 use Rattle.adya_values.specs.Computing.Shapes.{numbers_rise}
@@ -10,7 +10,7 @@ use Rattle.ssi_conflict.specs.Meaning.Pairs.{IsOrderedPivot}
 use Rattle.ssi_recorder.specs.Meaning.Recorded.{history_of_events}
 use Rattle.ssi_store.specs.Meaning.Acts.{Aborts, Act, acts, is_open, open_txns, started}
 use Rattle.ssi_store.specs.Meaning.Courses.{Course}
-use Rattle.ssi_store.specs.Meaning.Recording.{close, closed, dumped, events, finished, start_in, starts}
+use Rattle.ssi_store.specs.Meaning.Recording.{close, dumped, events, finished, start_in, starts}
 use Rattle.ssi_store.specs.Meaning.Laws.{IsCovered}
 use Rattle.ssi_store.specs.Meaning.Seeing.{snapshot}
 use Rattle.ssi_store.specs.Meaning.Standing.{Parts, StandsFor}

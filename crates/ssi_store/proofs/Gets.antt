@@ -23,12 +23,12 @@ use Rattle.ssi_store.specs.Machinery.Below.{Below}
 use Rattle.ssi_store.specs.Machinery.Ends.{IsEnd}
 use Rattle.ssi_store.specs.Machinery.Opens.{Sessions, open_at, number_of, AreCounted}
 use Rattle.ssi_store.specs.declared.open.Open.{Open}
-use Rattle.ssi_store.proofs.Changing.{changed_installable, open_protected}
+use Rattle.ssi_store.proofs.ChangesAllowed.{changed_installable, open_protected}
 use Rattle.ssi_store.proofs.NoPivot.{no_pivot}
 use Rattle.ssi_store.proofs.Opens.{open_got}
 use Rattle.ssi_store.proofs.PivotRules.{commit_order_rule}
 use Rattle.ssi_store.proofs.Steps.{settled, opened, idle, open_of, answer_memory, same_course, refused_same, worked}
-use Rattle.ssi_store.proofs.Telling.{tracked_allowed}
+use Rattle.ssi_store.proofs.TrackedCalls.{tracked_allowed}
 
 -- an answer of a tracker that names no pivot
 pub safe_of : (a : Judged) → ((p : ℕ) → a ≡ Pivot p → ⊥) → a ≡ Clear

@@ -11,9 +11,9 @@ use Rattle.adya_values.specs.declared.edition.Edition.{Edition}
 use Rattle.ssi_recorder.specs.Meaning.Recorded.{order_line}
 use Rattle.ssi_store.specs.Meaning.Acts.{Aborts, Act, Collects, Commits, Gets, Scans, Starts, Writes}
 use Rattle.ssi_store.specs.Meaning.Seeing.{keys, wrote}
-use Rattle.ssi_store.proofs.Logged.{history_of_log, installers}
+use Rattle.ssi_store.proofs.LoggedHistories.{history_of_log, installers}
 use Rattle.ssi_store.proofs.RisingKeys.{Contains-inserted}
-use Rattle.ssi_store.proofs.Writing.{wrote_key}
+use Rattle.ssi_store.proofs.OwnWrites.{wrote_key}
 
 line_step : (f : List ℕ → List ℕ) (j k : List ℕ) (os : List Order) (l : List ℕ) → f j ≡ l
     → ((j ≡ k → f k ≡ []) → line_of os k ≡ f k) → line_of (cons_option (order_line j l) os) k ≡ f k

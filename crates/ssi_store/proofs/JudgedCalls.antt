@@ -8,11 +8,11 @@ use Rattle.ssi_store.specs.Meaning.Courses.{Command, Command as Do, Course, txn_
 use Rattle.ssi_store.specs.Meaning.Laws.{judged}
 use Rattle.ssi_store.specs.Meaning.Replies.{rows, Follows}
 use Rattle.ssi_store.specs.Meaning.Tracked.{tracked}
-use Rattle.ssi_store.proofs.Judging.{txn_open}
-use Rattle.ssi_store.proofs.Limits.{reached_upward}
-use Rattle.ssi_store.proofs.Sound.{Sound}
-use Rattle.ssi_store.proofs.Standing.{course_stands}
-use Rattle.ssi_store.proofs.Telling.{may_commit, tracked_allowed}
+use Rattle.ssi_store.proofs.UnsafeAnswers.{txn_open}
+use Rattle.ssi_store.proofs.ReachedKeys.{reached_upward}
+use Rattle.ssi_store.proofs.SoundLogs.{Sound}
+use Rattle.ssi_store.proofs.SoundCourses.{course_stands}
+use Rattle.ssi_store.proofs.TrackedCalls.{may_commit, tracked_allowed}
 
 -- the command has no range that runs downward
 abbrev pub is_upward : Command → Bool

@@ -1,5 +1,5 @@
 -- No pivot ever stands after a log whose reads and commits were judged.
-use Rattle.ssi_store.proofs.Standing.{Stands}
+use Rattle.ssi_store.proofs.SoundCourses.{Stands}
 use Rattle.ssi_store.specs.Meaning.Courses.{Course}
 use Rattle.std.proofs.Common.{List, None, Option, Some, [], refl, subst, ℕ, ◌∷◌, ◌≡◌}
 use Rattle.ssi_conflict.specs.Meaning.Calls.{Call}
@@ -8,8 +8,8 @@ use Rattle.ssi_store.specs.Meaning.Acts.{Aborts, Act, Collects, Commits, Gets, S
 use Rattle.ssi_store.specs.Meaning.Seeing.{commit_count}
 use Rattle.ssi_store.specs.Meaning.Tracked.{tracked}
 use Rattle.ssi_store.proofs.PivotRules.{IsRule}
-use Rattle.ssi_store.proofs.Sound.{Safe, Sound}
-use Rattle.ssi_store.proofs.Telling.{tracked_allowed}
+use Rattle.ssi_store.proofs.SoundLogs.{Safe, Sound}
+use Rattle.ssi_store.proofs.TrackedCalls.{tracked_allowed}
 
 module _ (IsStanding : ℕ → List Call → Type 0) (pivot : List Call → Option ℕ) (rule : IsRule IsStanding pivot) where
   none_from : (log : List Act) → Sound log → pivot (tracked log) ≡ None → (p : ℕ) → IsStanding p (tracked log) → ⊥

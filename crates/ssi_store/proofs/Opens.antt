@@ -13,7 +13,7 @@ use Rattle.ssi_store.specs.Meaning.Seeing.{commit_count, snapshot, write_count, 
 use Rattle.ssi_store.specs.Machinery.Below.{Below}
 use Rattle.ssi_store.specs.Machinery.Opens.{number_of, IsOpen, IsSameOpen, IsCounted}
 use Rattle.ssi_store.specs.declared.open.Open.{Open}
-use Rattle.ssi_store.proofs.Sound.{Sound, open_from}
+use Rattle.ssi_store.proofs.SoundLogs.{Sound, open_from}
 
 -- whose act it is
 abbrev pub IsBy : ℕ → Act → Type 0

@@ -13,7 +13,7 @@ use Rattle.ssi_store.specs.Meaning.Seeing.{commit_count, snapshot}
 use Rattle.ssi_store.specs.Meaning.Standing.{with_snapshots}
 use Rattle.ssi_store.proofs.Lists.{filter_within}
 use Rattle.ssi_store.proofs.RisingNumbers.{number_below, numbers_rise-filter, numbers_rise-tail}
-use Rattle.ssi_store.proofs.Sound.{Sound, aborted_started, committed_started}
+use Rattle.ssi_store.proofs.SoundLogs.{Sound, aborted_started, committed_started}
 use Rattle.ssi_store.proofs.Starts.{started_rise, there_started}
 
 map_within : {X Y : Type 0} (f g : X → Y) (xs : List X) → ((x : X) → Contains xs x → f x ≡ g x) → map f xs ≡ map g xs

@@ -20,10 +20,10 @@ use Rattle.ssi_store.specs.Meaning.Seeing.{commit_count, committed, keys, own_wr
 use Rattle.ssi_store.proofs.KeyOrder.{key_le-itself, lies_in-itself}
 use Rattle.ssi_store.proofs.Lists.{only_one, option_cases}
 use Rattle.ssi_store.proofs.Recorded.{aborted_events, committed_events, count_of_events, made, of_get, of_write, own_of_events, versions, versions_of_events, written_write}
-use Rattle.ssi_store.proofs.Seen.{all_seen, get_shows, get_txn, otherwise_cases, scanned_is, scanned_rises, sees_is, shows, started_stays}
-use Rattle.ssi_store.proofs.Sound.{Open, Sound, not_open, open_from}
+use Rattle.ssi_store.proofs.SeenByEvents.{all_seen, get_shows, get_txn, otherwise_cases, scanned_is, scanned_rises, sees_is, shows, started_stays}
+use Rattle.ssi_store.proofs.SoundLogs.{Open, Sound, not_open, open_from}
 use Rattle.ssi_store.proofs.Stamps.{committed_stays}
-use Rattle.ssi_store.proofs.Writing.{committed_step, own_write_is}
+use Rattle.ssi_store.proofs.OwnWrites.{committed_step, own_write_is}
 
 each_more : (P : List Event → Event → Type 0) (before es : List Event) (e : Event) → EachAfter P before es
     → P (before ++ es) e → EachAfter P before (es ++ e ∷ [])

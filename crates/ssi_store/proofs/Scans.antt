@@ -28,10 +28,10 @@ use Rattle.ssi_store.proofs.KeyOrder.{key_le-from_not}
 use Rattle.ssi_store.proofs.Lists.{option_cases}
 use Rattle.ssi_store.proofs.Opens.{open_scanned}
 use Rattle.ssi_store.proofs.RisingKeys.{listed_made, made_rises}
-use Rattle.ssi_store.proofs.Seen.{sees_is as seen_key}
+use Rattle.ssi_store.proofs.SeenByEvents.{sees_is as seen_key}
 use Rattle.ssi_store.proofs.Steps.{settled, opened, idle, open_of, answer_memory, same_course, refused_same, worked}
-use Rattle.ssi_store.proofs.Telling.{tracked_allowed}
-use Rattle.ssi_store.proofs.Writing.{keys_of_log_rise}
+use Rattle.ssi_store.proofs.TrackedCalls.{tracked_allowed}
+use Rattle.ssi_store.proofs.OwnWrites.{keys_of_log_rise}
 
 -- a scan lists what is seen of the range, by rising key
 module _ (t : ℕ) (low high : List ℕ) (log : List Act) where

@@ -15,11 +15,11 @@ use Rattle.snapshot_histories.specs.Meaning.Snapshots.{stamp_in}
 use Rattle.ssi_store.specs.Meaning.Acts.{Aborts, Act, Collects, Commits, Gets, Scans, Starts, Writes, has_committed, has_started}
 use Rattle.ssi_store.specs.Meaning.Replies.{is_overtaken}
 use Rattle.ssi_store.specs.Meaning.Seeing.{changed, commit_count, committed, keys, last_writes, own_write, snapshot, wrote}
-use Rattle.ssi_store.proofs.Logged.{history_of_log, installers}
+use Rattle.ssi_store.proofs.LoggedHistories.{history_of_log, installers}
 use Rattle.ssi_store.proofs.Recorded.{commits_of_events, committers, length_more}
-use Rattle.ssi_store.proofs.Seen.{snapshot_stays}
-use Rattle.ssi_store.proofs.Sound.{Allowed, Sound, committed_stamp, committed_started, is_before, is_upto, not_open, open_from, stamp, stamp_above, stamp_committed}
-use Rattle.ssi_store.proofs.Writing.{committed_step, last_writes_of, own_write_is, wrote_key}
+use Rattle.ssi_store.proofs.SeenByEvents.{snapshot_stays}
+use Rattle.ssi_store.proofs.SoundLogs.{Allowed, Sound, committed_stamp, committed_started, is_before, is_upto, not_open, open_from, stamp, stamp_above, stamp_committed}
+use Rattle.ssi_store.proofs.OwnWrites.{committed_step, last_writes_of, own_write_is, wrote_key}
 
 committers_length : (log : List Act) → length (committers log) ≡ commit_count log
 committers_length [] = refl

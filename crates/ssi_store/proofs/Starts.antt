@@ -15,8 +15,8 @@ use Rattle.ssi_store.specs.Meaning.Recording.{start_in}
 use Rattle.ssi_store.specs.Meaning.Seeing.{commit_count, snapshot}
 use Rattle.ssi_store.specs.Meaning.Tracked.{tracked}
 use Rattle.ssi_store.proofs.Calls.{begun_rise, there_begun}
-use Rattle.ssi_store.proofs.Sound.{Sound, started_there}
-use Rattle.ssi_store.proofs.Telling.{begun_are, begun_told, tracked_allowed}
+use Rattle.ssi_store.proofs.SoundLogs.{Sound, started_there}
+use Rattle.ssi_store.proofs.TrackedCalls.{begun_are, begun_told, tracked_allowed}
 
 pub started_rise : (log : List Act) → Sound log → numbers_rise (started log) ≡ true
 started_rise log s = subst (λ l. numbers_rise l ≡ true) (begun_are log)

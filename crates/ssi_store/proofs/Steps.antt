@@ -13,7 +13,7 @@ use Rattle.ssi_store.specs.Meaning.Standing.{Parts, IsLog, StandsFor}
 use Rattle.ssi_store.specs.Machinery.Opens.{Sessions, open_at, number_of, IsOpen, IsSameOpen, IsCounted, IsReplaced}
 use Rattle.ssi_store.specs.declared.open.Open.{Open}
 use Rattle.ssi_store.proofs.Opens.{IsBy, same_open, other_open}
-use Rattle.ssi_store.proofs.Standing.{Stands as Settled, course_stands}
+use Rattle.ssi_store.proofs.SoundCourses.{Stands as Settled, course_stands}
 
 pub both : {X : Type 0} (P Q : X → Type 0) (o : Option X) → ((x : X) → o ≡ Some x → P x → Q x) → IfSome o P → IfSome o Q
 both P Q None f h = tt

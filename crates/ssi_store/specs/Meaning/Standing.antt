@@ -1,6 +1,6 @@
 -- When the engine of a store stands for a course: the course is one of replies, each part of the engine was told of the
 -- acts of the course, and each session has the transaction that it has in the course.
-use Rattle.std.specs.Prelude.{◌≡◌, ℕ, Bool, List, map, Option, option_map, IfSome}
+use Rattle.std.specs.Prelude.{◌≡◌, ℕ, Bool, List, map, option_map, IfSome}
 use Rattle.adya_values.specs.Meaning.Histories.{Event}
 use Rattle.ssi_versions.specs.Meaning.Changes.{Held, held}
 use Rattle.ssi_versions.specs.Meaning.Chains.{chain_of}

@@ -1,4 +1,4 @@
-use Rattle.ssi_store.proofs.Keeping.{calls_are_allowed}
+use Rattle.ssi_store.proofs.HeldSnapshots.{calls_are_allowed}
 use Rattle.ssi_store.proofs.laws.calls_are_allowed.Goals as goal
 
 pub returns : goal.returns

@@ -1,4 +1,4 @@
-use Rattle.ssi_store.proofs.Collecting.{reply_same}
+use Rattle.ssi_store.proofs.UnseenCollections.{reply_same}
 use Rattle.ssi_store.proofs.laws.collections_change_no_reply.Goals as goal
 
 pub returns : goal.returns

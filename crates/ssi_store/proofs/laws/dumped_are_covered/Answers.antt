@@ -2,7 +2,7 @@ use Rattle.ssi_conflict.specs.Computing.Steps.{smallest_ordered_pivot, smallest_
 use Rattle.ssi_conflict.specs.Meaning.Pairs.{IsOrderedPivot, IsPivot}
 use Rattle.ssi_store.proofs.Covered.{dumped_covered, ordered_endangers, pivot_endangers}
 use Rattle.ssi_store.proofs.PivotRules.{commit_order_rule, two_pair_rule}
-use Rattle.ssi_store.proofs.Standing.{course_stands}
+use Rattle.ssi_store.proofs.SoundCourses.{course_stands}
 use Rattle.ssi_store.proofs.laws.dumped_are_covered.Goals as goal
 
 pub returns-clause-two_pair : goal.returns-clause-two_pair

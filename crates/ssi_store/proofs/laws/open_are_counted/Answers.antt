@@ -4,7 +4,7 @@ use Rattle.std.specs.List.{filter}
 use Rattle.ssi_conflict.specs.Meaning.Calls.{begun, is_open as open_told}
 use Rattle.ssi_store.specs.Meaning.Acts.{is_open}
 use Rattle.ssi_store.specs.Meaning.Tracked.{tracked}
-use Rattle.ssi_store.proofs.Telling.{begun_are, is_open_told}
+use Rattle.ssi_store.proofs.TrackedCalls.{begun_are, is_open_told}
 use Rattle.ssi_store.proofs.laws.open_are_counted.Goals as goal
 
 pub returns : goal.returns

@@ -1,4 +1,4 @@
-use Rattle.ssi_store.proofs.Keeping.{open_snapshots_are_held}
+use Rattle.ssi_store.proofs.HeldSnapshots.{open_snapshots_are_held}
 use Rattle.ssi_store.proofs.laws.open_snapshots_are_held.Goals as goal
 
 pub returns : goal.returns

@@ -1,4 +1,4 @@
-use Rattle.ssi_store.proofs.Judging.{ordered_refuses_no_more}
+use Rattle.ssi_store.proofs.UnsafeAnswers.{ordered_refuses_no_more}
 use Rattle.ssi_store.proofs.PivotRules.{ordered_names_less}
 use Rattle.ssi_store.proofs.laws.ordered_refuses_no_more.Goals as goal
 

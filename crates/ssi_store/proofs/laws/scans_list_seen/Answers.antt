@@ -1,4 +1,4 @@
-use Rattle.ssi_store.proofs.Seen.{scanned_lists, scanned_rises}
+use Rattle.ssi_store.proofs.SeenByEvents.{scanned_lists, scanned_rises}
 use Rattle.ssi_store.proofs.laws.scans_list_seen.Goals as goal
 
 pub returns : goal.returns

@@ -1,5 +1,5 @@
 use Rattle.ssi_store.specs.Meaning.Acts.{acts}
-use Rattle.ssi_store.proofs.Standing.{course_stands}
+use Rattle.ssi_store.proofs.SoundCourses.{course_stands}
 use Rattle.ssi_store.proofs.Starts.{started_rise}
 use Rattle.ssi_store.proofs.laws.sessions_are_in_order.Goals as goal
 

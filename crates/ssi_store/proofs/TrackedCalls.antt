@@ -11,8 +11,8 @@ use Rattle.ssi_store.specs.Meaning.Acts.{Aborts, Act, Collects, Commits, Gets, S
 use Rattle.ssi_store.specs.Meaning.Seeing.{commit_count, own_keys, snapshot, wrote}
 use Rattle.ssi_store.specs.Meaning.Tracked.{tracked}
 use Rattle.ssi_store.proofs.KeyOrder.{key_le-itself, lies_in-itself, lies_in-one}
-use Rattle.ssi_store.proofs.Sound.{Sound, has_read, not_open, stamp}
-use Rattle.ssi_store.proofs.Writing.{own_key_there, own_key_written}
+use Rattle.ssi_store.proofs.SoundLogs.{Sound, has_read, not_open, stamp}
+use Rattle.ssi_store.proofs.OwnWrites.{own_key_there, own_key_written}
 
 lies_in-is : (j k : List ℕ) → lies_in j j k ≡ key_eq j k
 lies_in-is j k =

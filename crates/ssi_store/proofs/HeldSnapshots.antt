@@ -3,9 +3,9 @@ use Rattle.ssi_versions.specs.Meaning.ChangeLaws.{HeldShows}
 use Rattle.ssi_store.specs.Meaning.Acts.{acts}
 use Rattle.ssi_store.specs.Meaning.Laws.{CallsAreAllowed, OpenSnapshotsAreHeld}
 use Rattle.ssi_store.specs.Meaning.Seeing.{changed, snapshot}
-use Rattle.ssi_store.proofs.Changing.{changed_installable, open_protected}
-use Rattle.ssi_store.proofs.Standing.{course_stands}
-use Rattle.ssi_store.proofs.Telling.{tracked_allowed}
+use Rattle.ssi_store.proofs.ChangesAllowed.{changed_installable, open_protected}
+use Rattle.ssi_store.proofs.SoundCourses.{course_stands}
+use Rattle.ssi_store.proofs.TrackedCalls.{tracked_allowed}
 
 pub calls_are_allowed : CallsAreAllowed
 calls_are_allowed pivot c f = (tracked_allowed (acts c) (course_stands pivot c f).sound, changed_installable (acts c))

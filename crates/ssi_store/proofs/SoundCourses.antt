@@ -14,9 +14,9 @@ use Rattle.ssi_store.specs.Meaning.Seeing.{sees}
 use Rattle.ssi_store.specs.Meaning.Tracked.{tracked}
 use Rattle.ssi_store.proofs.Closing.{open_to}
 use Rattle.ssi_store.proofs.KeyOrder.{key_le-from_not}
-use Rattle.ssi_store.proofs.Limits.{reached_upward}
+use Rattle.ssi_store.proofs.ReachedKeys.{reached_upward}
 use Rattle.ssi_store.proofs.Recorded.{versions}
-use Rattle.ssi_store.proofs.Sound.{Allowed, Safe, SafeAct, Sound, aborted_started, committed_started, open_from}
+use Rattle.ssi_store.proofs.SoundLogs.{Allowed, Safe, SafeAct, Sound, aborted_started, committed_started, open_from}
 
 module _ (pivot : List Call → Option ℕ) where
   pub record Stands (c : Course) : Type 0 where

@@ -17,8 +17,8 @@ use Rattle.ssi_store.proofs.KeyOrder.{lies_in-one}
 use Rattle.ssi_store.proofs.Lists.{only_one, option_cases}
 use Rattle.ssi_store.proofs.Recorded.{of_write}
 use Rattle.ssi_store.proofs.RisingKeys.{Contains-inserted, listed_made, made_rises}
-use Rattle.ssi_store.proofs.Sound.{Sound, has_read, not_fresh, open_from, snapshot_within}
-use Rattle.ssi_store.proofs.Writing.{committed_step, keys_of_log_rise, own_write_is, wrote_key}
+use Rattle.ssi_store.proofs.SoundLogs.{Sound, has_read, not_fresh, open_from, snapshot_within}
+use Rattle.ssi_store.proofs.OwnWrites.{committed_step, keys_of_log_rise, own_write_is, wrote_key}
 
 -- what an event shows of a key: a version or none; or nothing, if it doesn't look there
 abbrev pub shows : Event → List ℕ → Option (Option Entry)

@@ -18,8 +18,8 @@ use Rattle.ssi_store.proofs.KeyOrder.{key_le-from_eq, key_le-from_lt, key_le-its
 use Rattle.ssi_store.proofs.Lists.{Contains-take, filter_map_same, last_of_some, take_all}
 use Rattle.ssi_store.proofs.RisingKeys.{head_below}
 use Rattle.ssi_store.proofs.Rules.{scanned_source}
-use Rattle.ssi_store.proofs.Seen.{sees_is}
-use Rattle.ssi_store.proofs.Writing.{keys_of_log_rise}
+use Rattle.ssi_store.proofs.SeenByEvents.{sees_is}
+use Rattle.ssi_store.proofs.OwnWrites.{keys_of_log_rise}
 
 -- the row that an entry makes is of its key
 pub row_key : (k : List ℕ) (v : Option (List ℕ)) (p : FinalPair) → visible_pair_of k v ≡ Some p → p.key ≡ k

@@ -23,12 +23,12 @@ use Rattle.ssi_store.specs.Meaning.Tracked.{tracked}
 use Rattle.ssi_store.proofs.Calls.{unaborted_before}
 use Rattle.ssi_store.proofs.Installed.{writers_are}
 use Rattle.ssi_store.proofs.EdgeEnds.{committed_ends}
-use Rattle.ssi_store.proofs.Logged.{history_of_log, installers}
+use Rattle.ssi_store.proofs.LoggedHistories.{history_of_log, installers}
 use Rattle.ssi_store.proofs.Recorded.{committed_events}
-use Rattle.ssi_store.proofs.Seen.{IsOwnEntry, all_seen, shows}
-use Rattle.ssi_store.proofs.Sound.{Sound, committed_stamp, committed_started, has_read, is_before, is_upto, not_both, stamp, stamp_above}
+use Rattle.ssi_store.proofs.SeenByEvents.{IsOwnEntry, all_seen, shows}
+use Rattle.ssi_store.proofs.SoundLogs.{Sound, committed_stamp, committed_started, has_read, is_before, is_upto, not_both, stamp, stamp_above}
 use Rattle.ssi_store.proofs.Stamps.{IsInstaller, NewestOf, contents_newest, installer_is, installers_apart, installers_rise, stamp_in_log}
-use Rattle.ssi_store.proofs.Telling.{aborted_told, is_committed_told, keys_told, read_told, snapshot_told, stamp_told}
+use Rattle.ssi_store.proofs.TrackedCalls.{aborted_told, is_committed_told, keys_told, read_told, snapshot_told, stamp_told}
 
 -- what an event selects it shows
 selected_shows : (h : History) (e : Event) (k : List ℕ) (p : ℕ) → selected h e k ≡ Some p

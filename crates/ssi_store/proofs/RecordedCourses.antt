@@ -19,10 +19,10 @@ use Rattle.ssi_store.specs.Meaning.Recording.{close, events, get_event, get_foun
 use Rattle.ssi_store.specs.Meaning.Replies.{Follows, conflict, got, last_writer, reply_for, reply_idle, reply_in, rows, unless_conflict, unless_downward, unless_long, unless_pivot}
 use Rattle.ssi_store.specs.Meaning.Seeing.{changed, sees}
 use Rattle.ssi_store.specs.Meaning.Tracked.{tracked}
-use Rattle.ssi_store.proofs.Limits.{limited_rows}
+use Rattle.ssi_store.proofs.ReachedKeys.{limited_rows}
 use Rattle.ssi_store.proofs.Recorded.{versions}
 use Rattle.ssi_store.proofs.RisingNumbers.{number_below, numbers_rise-tail}
-use Rattle.ssi_store.proofs.Seen.{sees_is}
+use Rattle.ssi_store.proofs.SeenByEvents.{sees_is}
 
 write_face : (t : ℕ) (k : List ℕ) (n : ℕ) (c : Content) → face_of (write_event t k n c) ≡ Seen.Wrote t k c
 write_face t k n (Live v) = refl

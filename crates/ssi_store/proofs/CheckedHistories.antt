@@ -21,11 +21,11 @@ use Rattle.ssi_store.specs.Meaning.Recording.{events}
 use Rattle.ssi_store.specs.Meaning.Seeing.{commit_count, committed, keys, own_write, wrote}
 use Rattle.ssi_store.proofs.Installed.{writers_are}
 use Rattle.ssi_store.proofs.Lists.{option_cases}
-use Rattle.ssi_store.proofs.Logged.{history_of_log, installers}
+use Rattle.ssi_store.proofs.LoggedHistories.{history_of_log, installers}
 use Rattle.ssi_store.proofs.Recorded.{aborted_events, committed_events, own_of_events}
 use Rattle.ssi_store.proofs.Rules.{contents_own, each_recorded, event_started, numbered, observed_right, open_until, own_writes, rising, was_written}
-use Rattle.ssi_store.proofs.Seen.{contents_is}
-use Rattle.ssi_store.proofs.Sound.{Sound, committed_stamp, not_both, not_open, open_from, stamp_above}
+use Rattle.ssi_store.proofs.SeenByEvents.{contents_is}
+use Rattle.ssi_store.proofs.SoundLogs.{Sound, committed_stamp, not_both, not_open, open_from, stamp_above}
 use Rattle.ssi_store.proofs.Stamps.{NewestOf, contents_newest, installer_is, installers_rise}
 
 -- M7

@@ -15,11 +15,11 @@ use Rattle.ssi_store.specs.Meaning.Replies.{Follows, conflict, got, reply, reply
 use Rattle.ssi_store.specs.Meaning.Seeing.{sees}
 use Rattle.ssi_store.specs.Meaning.Tracked.{tracked}
 use Rattle.ssi_store.proofs.KeyOrder.{key_le-from_not}
-use Rattle.ssi_store.proofs.Limits.{reached_upward}
+use Rattle.ssi_store.proofs.ReachedKeys.{reached_upward}
 use Rattle.ssi_store.proofs.PivotRules.{IsRule, NamesLess}
-use Rattle.ssi_store.proofs.Sound.{Sound}
-use Rattle.ssi_store.proofs.Standing.{Stands, course_stands}
-use Rattle.ssi_store.proofs.Telling.{tracked_allowed}
+use Rattle.ssi_store.proofs.SoundLogs.{Sound}
+use Rattle.ssi_store.proofs.SoundCourses.{Stands, course_stands}
+use Rattle.ssi_store.proofs.TrackedCalls.{tracked_allowed}
 
 -- what an answer says of the tests that it passed
 pivot_through : (o : Option ℕ) (a : Answer) (p : ℕ) → ((x : ℕ) → a ≡ Unsafe x → ⊥) → unless_pivot o a ≡ Unsafe p

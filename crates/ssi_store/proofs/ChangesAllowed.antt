@@ -12,9 +12,9 @@ use Rattle.ssi_store.specs.Meaning.Acts.{Aborts, Act, Collects, Commits, Gets, S
 use Rattle.ssi_store.specs.Meaning.Seeing.{changed, commit_count, own_keys, own_write, snapshot}
 use Rattle.ssi_store.proofs.Closing.{open_to}
 use Rattle.ssi_store.proofs.Lists.{pairs_head, pairs_tail}
-use Rattle.ssi_store.proofs.Sound.{Sound, open_from, started_there}
-use Rattle.ssi_store.proofs.Telling.{own_keys_apart}
-use Rattle.ssi_store.proofs.Writing.{own_write_is}
+use Rattle.ssi_store.proofs.SoundLogs.{Sound, open_from, started_there}
+use Rattle.ssi_store.proofs.TrackedCalls.{own_keys_apart}
+use Rattle.ssi_store.proofs.OwnWrites.{own_write_is}
 
 last_installed_is : (log : List Act) → last_installed (changed log) ≡ commit_count log
 last_installed_is [] = refl

@@ -21,12 +21,12 @@ use Rattle.ssi_store.specs.Meaning.Recording.{events}
 use Rattle.ssi_store.specs.Meaning.Seeing.{commit_count, committed, keys, wrote}
 use Rattle.ssi_store.proofs.Installed.{writers_are}
 use Rattle.ssi_store.proofs.Lists.{filter_map_same, filter_within, only_one}
-use Rattle.ssi_store.proofs.Logged.{history_of_log, installers}
+use Rattle.ssi_store.proofs.LoggedHistories.{history_of_log, installers}
 use Rattle.ssi_store.proofs.Recorded.{commits_of_events, committers, made, own_of_events, versions, versions_of_events}
 use Rattle.ssi_store.proofs.Rules.{own_stays}
-use Rattle.ssi_store.proofs.Sound.{Sound}
+use Rattle.ssi_store.proofs.SoundLogs.{Sound}
 use Rattle.ssi_store.proofs.Stamps.{committers_count, contents_newest}
-use Rattle.ssi_store.proofs.Whole.{last_value}
+use Rattle.ssi_store.proofs.CheckedHistories.{last_value}
 
 keys_of_versions : (log : List Act) → fold (λ ks w. insert w.version.key ks) [] (versions log) ≡ keys log
 keys_of_versions [] = refl
