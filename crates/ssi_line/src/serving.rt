@@ -40,6 +40,7 @@ pub fn serve<S: Source, W: Write, C: Chains + Drop, M: Marks + Drop>(
     ensures read_fault { result ≡ End.ReadFault → S.is_failed reader.new ≡ true }
     ensures write_fault { result ≡ End.WriteFault → has_failed writer.new ≡ true }
     ensures eof { result ≡ End.Eof → S.is_failed reader.new ≡ false }
+    ensures unfailed { (result ≡ End.ReadFault → ⊥) → S.is_failed reader.new ≡ true → S.is_failed reader.old ≡ true }
     ensures stream { S.same reader.old reader.new }
 {
     let mut buffer = LineBuffer::new();

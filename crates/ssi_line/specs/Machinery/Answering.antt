@@ -20,8 +20,8 @@ pub record Answered {D E : Type 0} (contents : D → Option (List ℕ)) (line : 
   pub made : IsStep line step
   pub told : Told contents result step old new
 
--- the text is that of a history and of a certificate that it is accepted with, where the history is that of a store which
--- is of these courses
+-- the text is that of a history and of a certificate that it is accepted with; the history is that of each of these courses
+-- so far
 pub record IsDumpText (is_at : Course → Type 0) (text : List ℕ) : Type 0 where
   pub history : History
   pub serial : List ℕ
@@ -29,7 +29,7 @@ pub record IsDumpText (is_at : Course → Type 0) (text : List ℕ) : Type 0 whe
   pub accepted : IsAccepted history serial
   pub follows : (course : Course) → is_at course → MayFollow course (Dumped history serial)
 
--- the step is one that a dump makes, of a store that is of these courses
+-- the step is one that a dump makes of a store that stands for these courses
 pub record IsDump (is_at : Course → Type 0) (step : Step) : Type 0 where
   pub made : IsStep (line_text Dump) step
   pub goes_on : is_stop step ≡ false
