@@ -10,4 +10,5 @@ pub mod SerialTexts
 pub mod SerialReaders
 pub mod TextLaws
 pub mod WrittenTexts
+pub mod HaveTexts
 pub mod Buffers

@@ -1,10 +1,17 @@
-//! The laws of texts. The calls do nothing: each contract is a law.
+//! The laws of texts. The calls change nothing: each contract is a law.
 
-ghost use Rattle.adya_text.specs.Meaning.Texts.{AreHistoryLines, AreSerialLines};
+ghost use Rattle.std.specs.Prelude.{◌<◌, length, map};
+ghost use Rattle.std.specs.List.{AllByRecursion};
+ghost use Rattle.adya_values.specs.Meaning.Keys.{IsTxn};
+ghost use Rattle.adya_values.specs.Meaning.Histories.{event_of, order_of, final_of};
+ghost use Rattle.adya_values.specs.Meaning.Values.{history_of, serial_txns};
+ghost use Rattle.adya_line.specs.Meaning.Limits.{IsEvent, IsOrder, IsFinal};
+ghost use Rattle.adya_text.specs.Meaning.Texts.{IsHistory, IsSerial, AreHistoryLines, AreSerialLines};
 ghost use Rattle.adya_text.specs.Meaning.Laws.{HistoriesDiffer, SerialsDiffer, NoHistoryBegins, NoSerialBegins};
 ghost use Rattle.adya_text.specs.Meaning.Laws.{HasOneFaultLine, HasNoFaultWithin, IsCutAfterEnd, IsWholeWithoutEnd};
 
-use adya_line::laws::{history_lines, serial_lines};
+use adya_line::laws::{event_within, final_within, history_lines, order_within, serial_lines};
+use adya_values::{Event, FinalPair, History, Order, Serial, Txn};
 
 /// Each history has a text of its own, and no history text begins with another.
 pub fn history_texts()
@@ -38,3 +45,52 @@ pub fn stream_parts()
     ensures cut { IsCutAfterEnd }
     ensures whole { IsWholeWithoutEnd }
 {}
+
+/// Each history has a text.
+pub fn history_has_text(history: &History)
+    ensures { IsHistory (history_of history.now) }
+{
+    txns_within(history.unfinished());
+    events_within(history.events());
+    orders_within(history.orders());
+    finals_within(history.finals());
+}
+
+/// Each certificate has a text.
+pub fn serial_has_text(serial: &Serial)
+    ensures { IsSerial (serial_txns serial.now) }
+{
+    txns_within(serial.txns());
+}
+
+fn txns_within(txns: &[Txn])
+    ensures { AllByRecursion IsTxn txns.now }
+{
+    for txn in txns {
+        let _ = txn.get();
+    }
+}
+
+fn events_within(events: &[Event])
+    ensures { AllByRecursion IsEvent (map event_of events.now) }
+{
+    for event in events {
+        event_within(event);
+    }
+}
+
+fn orders_within(orders: &[Order])
+    ensures { AllByRecursion (λ o. 0 < length o.writers → IsOrder o) (map order_of orders.now) }
+{
+    for order in orders {
+        order_within(order);
+    }
+}
+
+fn finals_within(finals: &[FinalPair])
+    ensures { AllByRecursion IsFinal (map final_of finals.now) }
+{
+    for pair in finals {
+        final_within(pair);
+    }
+}

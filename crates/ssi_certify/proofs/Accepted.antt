@@ -1,12 +1,19 @@
--- A safe history has no cycle, so none is found of it, and it has a certificate since it shows no phenomenon.
+-- A safe history has no cycle, so none is found of it, and it has a certificate since it shows no phenomenon. If it has
+-- a text, then so does what is found, and both texts are accepted.
 use Rattle.std.proofs.Common.{◌≡◌, ℕ, Vec, Global, map, inl, inr, sym, subst}
 use Rattle.std.proofs.Math.Logic.{∥∥₁_elim, ∥∥₁_map}
 use Rattle.adya_values.specs.declared.history.History.{History as HistoryValue}
+use Rattle.adya_values.specs.declared.serial.Serial.{Serial as SerialValue}
 use Rattle.adya_values.specs.Meaning.Histories.{History}
-use Rattle.adya_values.specs.Meaning.Values.{history_of}
+use Rattle.adya_values.specs.Meaning.Values.{history_of, serial_txns}
 use Rattle.adya_values.specs.Meaning.Edges.{IsCycle}
+use Rattle.adya_values.specs.Meaning.Acceptance.{IsAccepted}
+use Rattle.adya_text.specs.Meaning.Texts.{IsHistory, history_text, serial_text}
+use Rattle.adya_audit.specs.Meaning.TextVerdicts.{AreAccepted}
+use Rattle.adya_audit.specs.Meaning.TextLaws.{AcceptedHaveTexts}
 use Rattle.adya_dsg.specs.declared.edge.Edge.{Edge}
-use Rattle.adya_dsg.specs.declared.found.Found.TheVariants.{Cycle}
+use Rattle.adya_dsg.specs.declared.found.Found.{Found}
+use Rattle.adya_dsg.specs.declared.found.Found.TheVariants.{Cycle, Serial}
 use Rattle.adya_dsg.specs.Meaning.Values.{edge_of}
 use Rattle.adya_dsg.specs.Meaning.Found.{HasCertificate, IsFound}
 use Rattle.adya_dsg.specs.Meaning.Laws.{CertifiedWhereNoPhenomenon}
@@ -33,6 +40,13 @@ pub no_cycle_found : SafeHistoriesHaveNoCycle → (lent own : HistoryValue) → 
 no_cycle_found no_cycle lent own same is_safe es cycle = ∥∥₁_elim is_safe (λ a. absurd a) (λ safe.
     no_cycle (history_of own) safe.0 safe.1 (map edge_of es.items)
     (subst (λ h. IsCycle (history_of h) (map edge_of es.items)) same cycle))
+
+pub texts_accepted : AcceptedHaveTexts → (lent own : HistoryValue) → lent ≡ own → IsHistory (history_of own)
+    → (found : Found) (s : SerialValue) → found ≡ Serial s → IsFound (history_of lent) found
+    → AreAccepted (history_text (history_of own)) (serial_text (serial_txns s))
+texts_accepted have_texts lent own same has_text found s is accepted =
+    have_texts (history_of own) (serial_txns s) has_text
+    (subst (λ h. IsAccepted (history_of h) (serial_txns s)) same (subst (IsFound (history_of lent)) is accepted))
 
 -- whatever the starts are called
 pub safe_by : (h g : History) (starts : ℕ → ℕ) → h ≡ g → ∥ IsSafe g starts ∥₁ → ∥ IsSafeHistory h ∥₁

@@ -5,3 +5,4 @@ pub mod Ranges
 pub mod KeptLines
 pub mod Consumed
 pub mod Runs
+pub mod Dumps

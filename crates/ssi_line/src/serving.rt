@@ -9,7 +9,7 @@ ghost use Rattle.ssi_line.specs.Meaning.Ends.{WentOn, Took, EndsAs};
 ghost use Rattle.ssi_line.specs.Machinery.Lines.{kept};
 ghost use Rattle.ssi_line.specs.Machinery.Answering.{Answered, IsDump};
 
-use crate::dump::Dump;
+use crate::dump::dump_text;
 use crate::lines::LineBuffer;
 use crate::short_line::ShortLine;
 use crate::{End, Line, read_line, write_reply};
@@ -22,10 +22,11 @@ use std::alloc::Global;
 use std::io::Write;
 
 /// Carries out the lines of the input, one after the other, up to and with the first `stop`. It answers each before it
-/// reads further. What follows the last line feed is no line: it is not carried out, and has no answer.
+/// reads further, by one `write_all`, or several if a scan's rows make more than 4096 bytes. What follows the last line
+/// feed is no line: it is not carried out, and has no answer.
 ///
-/// A command whose answer could not be written has been carried out. Only `dump` takes memory, and what the store takes
-/// for its commands; if memory runs out, `! 6 memory` is answered, and the run goes on.
+/// A command whose answer could not be written has been carried out. Beside what the store takes for its commands, only
+/// `dump` takes memory. If memory runs out, `! 6 memory` is answered and nothing else of that line, and the run goes on.
 pub fn serve<S: Source, W: Write, C: Chains + Drop, M: Marks + Drop>(
     alloc: Global,
     reader: &mut S,
@@ -39,6 +40,7 @@ pub fn serve<S: Source, W: Write, C: Chains + Drop, M: Marks + Drop>(
     ensures read_fault { result ≡ End.ReadFault → S.is_failed reader.new ≡ true }
     ensures write_fault { result ≡ End.WriteFault → has_failed writer.new ≡ true }
     ensures eof { result ≡ End.Eof → S.is_failed reader.new ≡ false }
+    ensures unfailed { (result ≡ End.ReadFault → ⊥) → S.is_failed reader.new ≡ true → S.is_failed reader.old ≡ true }
     ensures stream { S.same reader.old reader.new }
 {
     let mut buffer = LineBuffer::new();
@@ -94,7 +96,7 @@ fn answer<W: Write, C: Chains + Drop, M: Marks + Drop>(
     }
 }
 
-/// Writes the history so far and a certificate of it, or that memory ran out before that.
+/// Answers with the texts of the history so far and of a certificate, both at once, or says that memory ran out.
 fn answer_dump<W: Write, C: Chains + Drop, M: Marks + Drop>(
     alloc: Global,
     store: &Store<C, M>,
@@ -103,8 +105,8 @@ fn answer_dump<W: Write, C: Chains + Drop, M: Marks + Drop>(
     ensures { (step : Step) × IsDump (IsAt C.held M.marked store.now) step
         × Wrote W.contents out.old out.new (step_text step) result }
 {
-    match Dump::of(alloc, store) {
-        Ok(dump) => dump.write(out),
+    match dump_text(alloc, store) {
+        Ok(text) => say(&text, out),
         Err(_) => write_reply(&Err(Refusal::Memory), out),
     }
 }

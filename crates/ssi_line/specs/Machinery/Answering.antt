@@ -1,10 +1,13 @@
 -- What is done with one line.
-use Rattle.std.specs.Prelude.{◌≡◌, ℕ, List, Bool, false, Option, Result, Ok, Err}
+use Rattle.std.specs.Prelude.{◌≡◌, ◌++◌, ℕ, List, Bool, false, Option, Result, Ok, Err}
 use Rattle.devices.specs.declared.watched.Watched.{Watched}
 use Rattle.devices.specs.Meaning.Writing.{Grew}
+use Rattle.adya_values.specs.Meaning.Histories.{History}
+use Rattle.adya_values.specs.Meaning.Acceptance.{IsAccepted}
+use Rattle.adya_text.specs.Meaning.Texts.{history_text, serial_text}
 use Rattle.ssi_store.specs.Meaning.Courses.{Course}
 use Rattle.ssi_line.specs.Meaning.Spelling.{Dump, line_text}
-use Rattle.ssi_line.specs.Meaning.Steps.{Step, IsStep, MayFollow, course_with, step_text, is_stop}
+use Rattle.ssi_line.specs.Meaning.Steps.{Step, Dumped, IsStep, MayFollow, course_with, step_text, is_stop}
 
 -- what was written for the step, and whether it ended the run
 abbrev pub Told : {D E : Type 0} → (D → Option (List ℕ)) → Result Bool E → Step → Watched D → Watched D → Type 0
@@ -17,7 +20,16 @@ pub record Answered {D E : Type 0} (contents : D → Option (List ℕ)) (line : 
   pub made : IsStep line step
   pub told : Told contents result step old new
 
--- the step is one that a dump makes, of a store that is of these courses
+-- the text is that of a history and of a certificate that it is accepted with; the history is that of each of these courses
+-- so far
+pub record IsDumpText (is_at : Course → Type 0) (text : List ℕ) : Type 0 where
+  pub history : History
+  pub serial : List ℕ
+  pub is : text ≡ history_text history ++ serial_text serial
+  pub accepted : IsAccepted history serial
+  pub follows : (course : Course) → is_at course → MayFollow course (Dumped history serial)
+
+-- the step is one that a dump makes of a store that stands for these courses
 pub record IsDump (is_at : Course → Type 0) (step : Step) : Type 0 where
   pub made : IsStep (line_text Dump) step
   pub goes_on : is_stop step ≡ false

@@ -10,7 +10,8 @@ use Rattle.ssi_line.specs.Meaning.Steps.{Step, Stopped, AreSteps, AllMayFollow, 
 use Rattle.ssi_line.specs.declared.end.End.{End}
 use Rattle.ssi_line.specs.declared.end.End.TheVariants.{Eof, Stop, ReadFault, WriteFault}
 
--- of whatever course the store was, it is of that course with these steps now, and each step may follow those before it
+-- whatever course the store stood for, it now stands for that course with these steps, and each step may follow the ones
+-- before it
 abbrev pub WentOn : {T : Type 0} → (T → Course → Type 0) → T → List Step → T → Type 0
 WentOn is_at old steps new =
     (course : Course) → is_at old course → AllMayFollow course steps × is_at new (course_after course steps)

@@ -67,8 +67,8 @@ abbrev pub course_after : Course → List Step → Course
 course_after course [] = course
 course_after course (s ∷ ss) = course_after (course_with course s) ss
 
--- a command has an answer that it may have after the course; a dump gives the history of the course so far, which records
--- it
+-- the answer to a command is one that it may have after the course; a dump gives the history of the course so far, which
+-- records it
 abbrev pub MayFollow : Course → Step → Type 0
 MayFollow course (Given c a) = IsAnswer smallest_ordered_pivot course c a
 MayFollow course (Dumped h ts) = (h ≡ dumped course) × RecordsSoFar h course
@@ -77,7 +77,7 @@ MayFollow course Stopped = Unit {0}
 MayFollow course NotRead = Unit {0}
 MayFollow course TooLong = Unit {0}
 
--- so does each step, after the course with those before it
+-- each step may follow the course with the steps before it
 abbrev pub AllMayFollow : Course → List Step → Type 0
 AllMayFollow course [] = Unit {0}
 AllMayFollow course (s ∷ ss) = MayFollow course s × AllMayFollow (course_with course s) ss

@@ -1,17 +1,19 @@
-use Rattle.std.proofs.Common.{refl}
-use Rattle.adya_values.specs.Meaning.Values.{serial_txns}
-use Rattle.ssi_store.specs.Meaning.Finished.{recorded_in}
+use Rattle.std.proofs.Common.{refl, ◌++◌, ◌∙◌}
+use Rattle.adya_text.specs.Meaning.Texts.{history_text, serial_text}
 use Rattle.ssi_line.specs.Meaning.Steps.{Dumped}
+use Rattle.ssi_line.proofs.Dumps.{wrote_same}
 use Rattle.ssi_line.proofs.serving.answer_dump.Goals as goal
 
 pub returns-in-Ok : goal.returns-in-Ok
-returns-in-Ok g c = (
-  Dumped (recorded_in c.in-Ok.dump.finished) (serial_txns c.in-Ok.dump.serial),
-  record {
-    made = (refl, c.in-Ok.ensures.accepted);
-    goes_on = refl;
-    follows = c.in-Ok.ensures.history;
-    leaves = λ course. refl;
-  },
-  c.write.ensures,
-)
+returns-in-Ok g c =
+    let text = c.in-Ok.ensures in (
+      Dumped text.history text.serial,
+      record {
+        made = (refl, text.accepted);
+        goes_on = refl;
+        follows = text.follows;
+        leaves = λ course. refl;
+      },
+      wrote_same g.W.Write.contents c.args.out.now c.say.new.out c.say.result c.deref.result.now
+          (history_text text.history ++ serial_text text.serial) (c.deref.ensures.value ∙ text.is) c.say.ensures,
+    )

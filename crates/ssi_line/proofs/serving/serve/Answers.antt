@@ -9,6 +9,7 @@ use Rattle.ssi_line.proofs.serving.serve.Goals as goal
 pub loop-line-init : goal.loop-line-init
 loop-line-init g c = (
   search rules,
+  search rules,
   (
     [],
     [],
@@ -21,7 +22,7 @@ loop-line-init g c = (
 
 pub returns-in-Ok-true-answer-clause-run : goal.returns-in-Ok-true-answer-clause-run
 returns-in-Ok-true-answer-clause-run g c =
-    let (stream, (lines, steps, took, went_on, go_on, written)) = c.loop-line.invariant in
+    let (stream, unfailed, (lines, steps, took, went_on, go_on, written)) = c.loop-line.invariant in
     let (text, plain, room, eaten) = c.next_line.ensures.bytes in
     let (step, answered, goes) = c.answer.ensures.answered text room in
     let ended = ended_so c.next_line.result _ true c.in-Ok-true.is c.in-Ok-true.field-0-test in
@@ -41,12 +42,13 @@ returns-in-Ok-true-answer-clause-run g c =
 
 pub loop-line-preserved : goal.loop-line-preserved
 loop-line-preserved g c =
-    let (stream, (lines, steps, took, went_on, go_on, written)) = c.loop-line.invariant in
+    let (stream, unfailed, (lines, steps, took, went_on, go_on, written)) = c.loop-line.invariant in
     let (text, plain, room, eaten) = c.next_line.ensures.bytes in
     let (step, answered, goes) = c.answer.ensures.answered text room in
     let ended = ended_so c.next_line.result _ true c.in-Ok-true.is c.in-Ok-true.field-0-test in
     let told = told_so g.W.Write.contents c.answer.result _ false step _ _ c.in-Ok-false-answer.is c.in-Ok-false-answer.field-0-test answered.told in (
       g.met.S.Source.same_trans _ _ _ stream c.next_line.ensures.stream,
+      search rules,
       (
         lines ++ text ∷ [],
         steps ++ step ∷ [],
@@ -60,7 +62,7 @@ loop-line-preserved g c =
 
 pub returns-in-Err-answer-clause-run : goal.returns-in-Err-answer-clause-run
 returns-in-Err-answer-clause-run g c =
-    let (stream, (lines, steps, took, went_on, go_on, written)) = c.loop-line.invariant in
+    let (stream, unfailed, (lines, steps, took, went_on, go_on, written)) = c.loop-line.invariant in
     let (text, plain, room, eaten) = c.next_line.ensures.bytes in
     let (step, answered, goes) = c.answer.ensures.answered text room in
     let ended = ended_so c.next_line.result _ true c.in-Ok-true.is c.in-Ok-true.field-0-test in (

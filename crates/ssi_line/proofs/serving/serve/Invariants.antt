@@ -1,5 +1,5 @@
 -- Lines were read, and each was carried out and answered.
-use Rattle.std.proofs.Common.{List, ℕ, []}
+use Rattle.std.proofs.Common.{◌≡◌, List, ℕ, [], true}
 use Rattle.std.specs.Io.KnownBytes.{prepend_known}
 use Rattle.devices.specs.Meaning.Writing.{Grew}
 use Rattle.ssi_store.specs.Meaning.Stores.{IsAt}
@@ -11,6 +11,7 @@ use Rattle.ssi_line.proofs.serving.serve.Given as goal
 abbrev pub invariant-loop-line : goal.invariant-loop-line
 invariant-loop-line g l =
     (g.S.Source.same l.initial.reader l.reader)
+    × (g.S.Source.is_failed l.reader ≡ true → g.S.Source.is_failed l.initial.reader ≡ true)
     × ((lines : List (List ℕ)) × (steps : List Step)
     × Took (g.S.Read.remaining l.initial.reader) lines steps [] (prepend_known l.buffer (g.S.Read.remaining l.reader))
     × WentOn (IsAt g.C.Chains.held g.M.Marks.marked) l.initial.store steps l.store
