@@ -10,14 +10,17 @@ pub(crate) enum Step {
     Do(Command),
     /// The history so far.
     Dump,
+    /// The end.
+    Stop,
 }
 
 /// Returns what the line asks for; none if it asks for nothing.
 pub(crate) fn step_of(line: &str) -> Option<Step> {
-    if line == "dump" {
-        return Some(Step::Dump);
+    match line {
+        "dump" => Some(Step::Dump),
+        "stop" => Some(Step::Stop),
+        _ => Some(Step::Do(command_of(line)?)),
     }
-    Some(Step::Do(command_of(line)?))
 }
 
 /// Returns the command of a line; none if it is no command of a store.

@@ -6,9 +6,9 @@ use crate::texts::are_accepted;
 use adya_values::Txn;
 use std::alloc::Global;
 
-/// Returns `as defined` if 65,535 operations of one transaction are carried out, no other one is, and it can still commit.
-pub(crate) fn longest_transaction(alloc: Global) -> &'static str {
-    match are_last_replies(
+/// Whether 65,535 operations of one transaction are carried out, no other one is, and it can still commit.
+pub(crate) fn longest_transaction(alloc: Global) -> bool {
+    are_last_replies(
         alloc,
         1,
         65_535,
@@ -21,24 +21,18 @@ pub(crate) fn longest_transaction(alloc: Global) -> &'static str {
             "commit A",
         ],
         "! 4 long\n! 4 long\n! 4 long\n! 4 long\n! 4 long\ncommitted\n",
-    ) {
-        Some(true) => "as defined",
-        _ => "otherwise",
-    }
+    ) == Some(true)
 }
 
-/// Returns `as defined` if the transaction of the greatest number is carried out, and no other one is begun.
-pub(crate) fn last_transaction(alloc: Global) -> &'static str {
-    match are_last_replies(
+/// Whether the transaction of the greatest number is carried out, and no other one is begun.
+pub(crate) fn last_transaction(alloc: Global) -> bool {
+    are_last_replies(
         alloc,
         4_294_967_295,
         0,
         &["begin A", "begin B", "commit A", "begin A", "stat"],
         "! 1 busy\n! 5 spent\ncommitted\n! 5 spent\nstat open 0 kept 0 versions 0 keys 0\n",
-    ) {
-        Some(true) => "as defined",
-        _ => "otherwise",
-    }
+    ) == Some(true)
 }
 
 /// Whether a transaction with this number, so many gets and then these lines get these replies to the lines.

@@ -2,8 +2,9 @@
 //!
 //! Without arguments: each line of standard input names a folder with a worked course. For each the program says whether
 //! the replies, the history and the certificate are those of the folder and the auditor says `yes`: for the commands as
-//! they stand, with a collection after each of them, and with a dump after each of them. Then come a transaction of as
-//! many operations as one may have, and the last transaction number.
+//! they stand, with a collection after each of them, and with a dump after each of them; and for their lines as a script
+//! that comes in pieces of any size. Then come a transaction of as many operations as one may have, the last transaction
+//! number, lines of any length, a second input to one store, and a socket.
 //!
 //! With the name of a file: it holds courses, each ended by a line `end`. For each the program writes the replies, the
 //! history, the certificate, the verdict on both, and a line `end of list`. `scripts/compare_store.py` reads them.
@@ -15,6 +16,7 @@ mod limits;
 mod lists;
 mod replies;
 mod runs;
+mod scripts;
 mod texts;
 mod worked;
 
@@ -34,13 +36,27 @@ fn write_worked(rt: &HostRuntime) -> io::Result<()> {
         let name = line?;
         print!(rt; "{}", worked::line_of(rt, name.as_str())?)?;
     }
-    print!(rt;
-        "longest transaction: {}\n",
-        limits::longest_transaction(rt.alloc())
+    write_rest(rt)
+}
+
+fn write_rest(rt: &HostRuntime) -> io::Result<()> {
+    let alloc = rt.alloc();
+    write_line(
+        rt,
+        "longest transaction",
+        limits::longest_transaction(alloc),
     )?;
-    print!(rt;
-        "last transaction: {}\n",
-        limits::last_transaction(rt.alloc())
+    write_line(rt, "last transaction", limits::last_transaction(alloc))?;
+    write_line(
+        rt,
+        "lines of any length",
+        scripts::are_lines_told_apart(alloc),
     )?;
-    Ok(())
+    write_line(rt, "second input", scripts::are_sessions_the_stores(alloc))?;
+    write_line(rt, "socket", scripts::are_peers_answered(rt)?)
+}
+
+fn write_line(rt: &HostRuntime, name: &str, is_so: bool) -> io::Result<()> {
+    let said = if is_so { "as defined" } else { "otherwise" };
+    print!(rt; "{name}: {said}\n")
 }

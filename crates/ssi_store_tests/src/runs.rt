@@ -93,6 +93,7 @@ fn said<C: Chains + Drop, M: Marks + Drop>(
     match step_of(line) {
         Some(Step::Do(command)) => carried_out(alloc, store, command),
         Some(Step::Dump) => dumped(alloc, store)?.joined().ok(),
+        Some(Step::Stop) => Vec::from_slice(alloc, b"stopped\n").ok(),
         None => Vec::from_slice(alloc, b"? syntax\n").ok(),
     }
 }

@@ -2,6 +2,7 @@
 
 use crate::courses::over_all;
 use crate::runs::{After, Outcome};
+use crate::scripts::of_script;
 use crate::texts::are_accepted;
 use adya_values::Txn;
 use std::alloc::{AllocError, Global};
@@ -28,7 +29,10 @@ pub(crate) fn line_of(rt: &HostRuntime, name: &str) -> io::Result<String> {
     let plain = of_course(alloc, &lines, After::Nothing, &worked);
     let collecting = of_course(alloc, &lines, After::Collect, &worked);
     let dumping = of_course(alloc, &lines, After::Dump, &worked);
-    Ok(format!(in alloc; "{name}: {plain}, with collections {collecting}, with dumps {dumping}\n")?)
+    let script = as_script(alloc, &commands, &worked);
+    Ok(format!(in alloc;
+        "{name}: {plain}, with collections {collecting}, with dumps {dumping}, as a script {script}\n"
+    )?)
 }
 
 /// Returns the bytes of a file of the worked course.
@@ -61,6 +65,23 @@ fn of_course(alloc: Global, lines: &[&str], after: After, worked: &Worked) -> &'
         return "other replies";
     }
     said_of_texts(&outcome, worked)
+}
+
+/// Returns `as worked` if the commands as a script make what they must make, and otherwise what differs.
+fn as_script(alloc: Global, commands: &[u8], worked: &Worked) -> &'static str {
+    let Some(written) = of_script(alloc, commands) else {
+        return "nothing";
+    };
+    if written.replies != worked.replies {
+        return "other replies";
+    }
+    if written.history != worked.history || written.certificate != worked.certificate {
+        return "other texts";
+    }
+    if written.is_stopped != commands.ends_with(b"stop\n") {
+        return "another end";
+    }
+    "as worked"
 }
 
 fn said_of_texts(outcome: &Outcome, worked: &Worked) -> &'static str {

@@ -1,0 +1,123 @@
+//! Courses as lines of text: as a script, over two inputs, and over a socket.
+
+ghost use Rattle.std.specs.Prelude.{◌<◌};
+
+use adya_testing::Pieces;
+use devices::Watched;
+use ssi_cli::{Served, run_script, serve_socket};
+use ssi_line::{End, serve};
+use ssi_reads::IndexMarks;
+use ssi_store::Store;
+use ssi_versions::KeyChains;
+use std::alloc::{AllocError, Global};
+use std::io;
+use std::io::{Read, Write};
+use std::os::unix::net::{UnixListener, UnixStream};
+
+/// What a script has made.
+#[derive(PartialEq, Drop)]
+pub(crate) struct Written {
+    /// Whether `stop` ended it. Otherwise its input ended.
+    pub(crate) is_stopped: bool,
+    pub(crate) replies: Vec<u8>,
+    pub(crate) history: Vec<u8>,
+    pub(crate) certificate: Vec<u8>,
+}
+
+/// Returns what the script makes, which comes in pieces of at most `most` bytes; nothing if a device fails or memory
+/// runs out.
+fn in_pieces(alloc: Global, script: &[u8], most: usize) -> Option<Written>
+    requires { 0 < most }
+{
+    let mut input = Watched::new(Pieces::new(script, most));
+    let mut output = Watched::new(Vec::new(alloc));
+    let mut history = Watched::new(Vec::new(alloc));
+    let mut certificate = Watched::new(Vec::new(alloc));
+    let ran = run_script(
+        alloc,
+        &mut input,
+        &mut output,
+        &mut history,
+        &mut certificate,
+    );
+    Some(Written {
+        is_stopped: is_stopped(ran.ok()?)?,
+        replies: output.into_inner(),
+        history: history.into_inner(),
+        certificate: certificate.into_inner(),
+    })
+}
+
+fn is_stopped(end: End) -> Option<bool> {
+    match end {
+        End::Stop => Some(true),
+        End::Eof => Some(false),
+        End::ReadFault | End::WriteFault => None,
+    }
+}
+
+/// Returns what the script makes; nothing if it isn't the same in pieces of 1, of 7 and of all bytes.
+pub(crate) fn of_script(alloc: Global, script: &[u8]) -> Option<Written> {
+    let whole = in_pieces(alloc, script, usize::MAX)?;
+    let are_same = whole == in_pieces(alloc, script, 1)? && whole == in_pieces(alloc, script, 7)?;
+    if are_same { Some(whole) } else { None }
+}
+
+/// Whether the longest line is read, a longer one is passed over, and what follows the last line feed is no line.
+pub(crate) fn are_lines_told_apart(alloc: Global) -> bool {
+    let Ok(script) = long_lines(alloc) else {
+        return false;
+    };
+    let Some(written) = of_script(alloc, &script) else {
+        return false;
+    };
+    !written.is_stopped
+        && written.replies.as_slice() == b"? syntax\n? long\nbegun 1\nbegun 2\ndone\n".as_slice()
+        && written.history.as_slice() == b"adya 1\nw1(x.1:1,5)\na1\na2\nend\n".as_slice()
+        && written.certificate.as_slice() == b"serial 1\nend\n".as_slice()
+}
+
+fn long_lines(alloc: Global) -> Result<Vec<u8>, AllocError> {
+    let mut script = Vec::new(alloc);
+    push_line(&mut script, 4096)?;
+    push_line(&mut script, 4097)?;
+    script.extend_from_slice(b"begin A\nbegin B\nput A x 5\ncom")?;
+    Ok(script)
+}
+
+fn push_line(script: &mut Vec<u8>, length: u32) -> Result<(), AllocError> {
+    for _ in 0..length {
+        script.push(b'a')?;
+    }
+    script.push(b'\n')?;
+    Ok(())
+}
+
+/// Whether a session outlives the input in which it began, and a command without its line feed isn't carried out.
+pub(crate) fn are_sessions_the_stores(alloc: Global) -> bool {
+    let mut store = Store::new(alloc, KeyChains::new(alloc), IndexMarks::new(alloc));
+    let mut first = Watched::new(Pieces::new(b"begin A\nput A x 1\nput A x", 7));
+    let mut second = Watched::new(Pieces::new(b"commit A\nstop\nbegin A\n", 7));
+    let mut output = Watched::new(Vec::new(alloc));
+    let ends = (
+        serve(alloc, &mut first, &mut output, &mut store),
+        serve(alloc, &mut second, &mut output, &mut store),
+    );
+    ends == (End::Eof, End::Stop)
+        && output.into_inner().as_slice() == b"begun 1\ndone\ncommitted\nstopped\n".as_slice()
+}
+
+/// Whether a store answers over a socket, to a peer that has written all its lines.
+pub(crate) fn are_peers_answered(rt: &HostRuntime) -> io::Result<bool> {
+    let listener = UnixListener::bind(rt, "socket")?;
+    let mut peer = UnixStream::connect(rt, "socket")?;
+    peer.write_all(b"begin A\ncommit A\nstop\n")?;
+    let alloc = rt.alloc();
+    let mut store = Store::new(alloc, KeyChains::new(alloc), IndexMarks::new(alloc));
+    if serve_socket(alloc, &listener, &mut store) != Served::Stopped {
+        return Ok(false);
+    }
+    let mut replies = Vec::new(alloc);
+    peer.read_to_end(&mut replies)?;
+    Ok(replies.as_slice() == b"begun 1\ncommitted\nstopped\n".as_slice())
+}
