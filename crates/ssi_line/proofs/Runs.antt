@@ -1,0 +1,174 @@
+-- One step more of a run.
+use Rattle.std.proofs.Common.{◌≡◌, ℕ, List, [], ◌∷◌, ◌++◌, Bool, true, false, Option, None, Some, Result, Ok, Err}
+use Rattle.std.proofs.Common.{refl, sym, ap, subst, ◌∙◌, append_assoc, append-nil, arith}
+use Rattle.std.specs.Prelude.{IsErr}
+use Rattle.std.specs.Io.KnownBytes.{Consumes, Appends, prepend_known}
+use Rattle.std.proofs.KnownBytes.{Consumes-trans, Consumes-nil, Appends-nil, Appends-trans, prepend_known-nil}
+use Rattle.std.proofs.lemmas.List.Elements.{All-push}
+use Rattle.devices.specs.declared.watched.Watched.{Watched}
+use Rattle.devices.specs.Meaning.Watched.{watched_contents}
+use Rattle.devices.specs.Meaning.Writing.{Grew}
+use Rattle.adya_line.specs.Meaning.Laws.{IsPlain}
+use Rattle.adya_text.specs.Meaning.Texts.{with_ends}
+use Rattle.ssi_store.specs.Meaning.Courses.{Course}
+use Rattle.ssi_line.specs.Meaning.Steps.{Step, Given, Dumped, NotDumped, Stopped, NotRead, TooLong, IsStep, AreSteps}
+use Rattle.ssi_line.specs.Meaning.Steps.{step_text, steps_text, course_with, course_after, MayFollow, AllMayFollow}
+use Rattle.ssi_line.specs.Meaning.Steps.{is_stop, AllGoOn}
+use Rattle.ssi_line.specs.Meaning.Ends.{WentOn, Took, EndsWith}
+use Rattle.ssi_line.specs.Machinery.Lines.{has_ended, line_end}
+use Rattle.ssi_line.specs.Machinery.Answering.{Told}
+
+-- ---- lists of steps
+
+steps_more : (lines : List (List ℕ)) (steps : List Step) (line : List ℕ) (step : Step) → AreSteps lines steps
+    → IsStep line step → AreSteps (lines ++ line ∷ []) (steps ++ step ∷ [])
+steps_more [] [] line step are is = (is, tt)
+steps_more [] (s ∷ ss) line step are is = absurd are
+steps_more (l ∷ ls) [] line step are is = absurd are
+steps_more (l ∷ ls) (s ∷ ss) line step are is = (are.0, steps_more ls ss line step are.1 is)
+
+text_more : (steps : List Step) (step : Step) → steps_text (steps ++ step ∷ []) ≡ steps_text steps ++ step_text step
+text_more [] step = append-nil (step_text step)
+text_more (s ∷ ss) step =
+    ap (λ (l : List ℕ). step_text s ++ l) (text_more ss step)
+    ∙ sym (append_assoc (step_text s) (steps_text ss) (step_text step))
+
+after_more : (course : Course) (steps : List Step) (step : Step)
+    → course_after course (steps ++ step ∷ []) ≡ course_with (course_after course steps) step
+after_more course [] step = refl
+after_more course (s ∷ ss) step = after_more (course_with course s) ss step
+
+follow_more : (course : Course) (steps : List Step) (step : Step) → AllMayFollow course steps
+    → MayFollow (course_after course steps) step → AllMayFollow course (steps ++ step ∷ [])
+follow_more course [] step all is = (is, tt)
+follow_more course (s ∷ ss) step all is = (all.0, follow_more (course_with course s) ss step all.1 is)
+
+pub went_on_more : {T : Type 0} (is_at : T → Course → Type 0) (old mid new : T) (steps : List Step) (step : Step)
+    → WentOn is_at old steps mid → WentOn is_at mid (step ∷ []) new → WentOn is_at old (steps ++ step ∷ []) new
+went_on_more is_at old mid new steps step before now = λ course at.
+    let first = before course at in
+    let last = now (course_after course steps) first.1 in (
+      follow_more course steps step first.0 last.0.0,
+      subst (λ (c : Course). is_at new c) (sym (after_more course steps step)) last.1,
+    )
+
+pub go_on_more : (steps : List Step) (step : Step) → AllGoOn steps → is_stop step ≡ false
+    → AllGoOn (steps ++ step ∷ [])
+go_on_more steps step all is = All-push (λ s. is_stop s ≡ false) steps step all is
+
+-- ---- what was taken
+
+took_none : (a : Option (List ℕ)) → Took a [] [] [] a
+took_none a = record { plain = λ k d below. absurd (omega arith); made = tt; consumed = Consumes-nil a }
+
+pub took_start : (a : Option (List ℕ)) (pending : List ℕ) → pending ≡ [] → Took a [] [] [] (prepend_known pending a)
+took_start a pending none =
+    subst (λ (p : List ℕ). Took a [] [] [] (prepend_known p a)) (sym none)
+    (subst (λ (o : Option (List ℕ)). Took a [] [] [] o) (sym (prepend_known-nil a)) (took_none a))
+
+ends_append : (xs ys : List (List ℕ)) → with_ends (xs ++ ys) ≡ with_ends xs ++ with_ends ys
+ends_append [] ys = refl
+ends_append (x ∷ xs) ys = ap (λ (r : List ℕ). x ++ (10 ∷ r)) (ends_append xs ys)
+    ∙ sym (append_assoc x (10 ∷ with_ends xs) (with_ends ys))
+
+pub took_more : (a b c : Option (List ℕ)) (lines : List (List ℕ)) (steps : List Step) (line : List ℕ) (step : Step)
+    (ended : Bool) → Took a lines steps [] b → ended ≡ true → IsPlain line → Consumes b c (line ++ line_end ended)
+    → IsStep line step → Took a (lines ++ line ∷ []) (steps ++ step ∷ []) [] c
+took_more a b c lines steps line step ended took is plain eaten made =
+    let whole : Consumes b c (line ++ 10 ∷ []) = subst (λ e. Consumes b c (line ++ line_end e)) is eaten in
+    let all : with_ends (lines ++ line ∷ []) ++ [] ≡ (with_ends lines ++ []) ++ (line ++ 10 ∷ []) =
+    append-nil (with_ends (lines ++ line ∷ [])) ∙ ends_append lines (line ∷ [])
+    ∙ ap (λ (l : List ℕ). l ++ (line ++ 10 ∷ [])) (sym (append-nil (with_ends lines))) in
+    record {
+      plain = All-push IsPlain lines line took.plain plain;
+      made = steps_more lines steps line step took.made made;
+      consumed = subst (λ (l : List ℕ). Consumes a c l) (sym all)
+          (Consumes-trans a b c (with_ends lines ++ []) (line ++ 10 ∷ []) took.consumed whole);
+    }
+
+-- what follows the last line feed
+pub took_rest : (a b c : Option (List ℕ)) (lines : List (List ℕ)) (steps : List Step) (rest pending : List ℕ)
+    (ended : Bool) → Took a lines steps [] b → ended ≡ false → pending ≡ []
+    → Consumes b (prepend_known pending c) (rest ++ line_end ended) → Took a lines steps rest c
+took_rest a b c lines steps rest pending ended took is none eaten =
+    let rest_only : Consumes b (prepend_known [] c) (rest ++ []) =
+    subst (λ (p : List ℕ). Consumes b (prepend_known p c) (rest ++ [])) none
+    (subst (λ e. Consumes b (prepend_known pending c) (rest ++ line_end e)) is eaten) in
+    let plain_rest : Consumes b c rest =
+    subst (λ (l : List ℕ). Consumes b c l) (append-nil rest)
+    (subst (λ (o : Option (List ℕ)). Consumes b o (rest ++ [])) (prepend_known-nil c) rest_only) in
+    record {
+      plain = took.plain;
+      made = took.made;
+      consumed = subst (λ (l : List ℕ). Consumes a c (l ++ rest)) (append-nil (with_ends lines))
+          (Consumes-trans a b c (with_ends lines ++ []) rest took.consumed plain_rest);
+    }
+
+pending_after : (a c : Option (List ℕ)) (front pending : List ℕ) → Consumes a (prepend_known pending c) (front ++ [])
+    → Consumes a c (front ++ pending)
+pending_after None c front pending eaten = tt
+pending_after (Some xs) None front pending eaten = absurd eaten
+pending_after (Some xs) (Some ys) front pending eaten =
+    eaten ∙ ap (λ (l : List ℕ). l ++ (pending ++ ys)) (append-nil front) ∙ sym (append_assoc front pending ys)
+
+-- what was read and not taken
+pub took_pending : (a c : Option (List ℕ)) (lines : List (List ℕ)) (steps : List Step) (pending : List ℕ)
+    → Took a lines steps [] (prepend_known pending c) → Took a lines steps pending c
+took_pending a c lines steps pending took = record {
+  plain = took.plain;
+  made = took.made;
+  consumed = pending_after a c (with_ends lines) pending took.consumed;
+}
+
+-- ---- what was written
+
+pub wrote_none : {D : Type 0} (contents : D → Option (List ℕ)) (w : Watched D) → Grew contents w w []
+wrote_none contents w = record { appends = Appends-nil (watched_contents contents w); works = refl }
+
+pub wrote_more : {D : Type 0} (contents : D → Option (List ℕ)) (a b c : Watched D) (steps : List Step) (step : Step)
+    → Grew contents a b (steps_text steps) → Grew contents b c (step_text step)
+    → Grew contents a c (steps_text (steps ++ step ∷ []))
+wrote_more contents a b c steps step before now = record {
+  appends =
+      subst (λ (l : List ℕ). Appends (watched_contents contents a) (watched_contents contents c) l)
+      (sym (text_more steps step))
+      (Appends-trans (watched_contents contents a) (watched_contents contents b) (watched_contents contents c)
+      (steps_text steps) (step_text step) before.appends now.appends);
+  works = now.works ∙ before.works;
+}
+
+-- ---- the turns of a run
+
+pub ended_so : {E : Type 0} (r : Result Bool E) (b c : Bool) → r ≡ Ok b → b ≡ c → has_ended r ≡ c
+ended_so r b c is same = ap has_ended is ∙ same
+
+-- the answer was written
+pub told_so : {D E : Type 0} (contents : D → Option (List ℕ)) (r : Result Bool E) (b c : Bool) (step : Step)
+    (old new : Watched D) → r ≡ Ok b → b ≡ c → Told contents r step old new
+    → (is_stop step ≡ c) × Grew contents old new (step_text step)
+told_so {E = E} contents r b c step old new is same told =
+    let written : Told {E = E} contents (Ok b) step old new = subst
+    (λ (x : Result Bool E). Told contents x step old new) is told in
+    (written.0 ∙ same, written.1)
+
+-- a fault says nothing of what was written
+pub untold : {D E : Type 0} (contents : D → Option (List ℕ)) (r : Result Bool E) (step : Step) (old new : Watched D)
+    → IsErr r → Told contents r step old new
+untold contents (Ok b) step old new is = cc
+untold contents (Err e) step old new is = tt
+
+pub stopped : (step : Step) → is_stop step ≡ true → step ≡ Stopped
+stopped (Given c a) is = cc
+stopped (Dumped h ts) is = cc
+stopped NotDumped is = cc
+stopped Stopped is = refl
+stopped NotRead is = cc
+stopped TooLong is = cc
+
+pub ends_with : (steps : List Step) (step last : Step) → AllGoOn steps → step ≡ last
+    → EndsWith (steps ++ step ∷ []) last
+ends_with steps step last all is = record {
+  before = steps;
+  go_on = all;
+  is = ap (λ (s : Step). steps ++ (s ∷ [])) is;
+}

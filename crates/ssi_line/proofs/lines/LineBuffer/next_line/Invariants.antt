@@ -1,0 +1,18 @@
+-- A part of the line was taken, which is all that came so far.
+use Rattle.std.proofs.Common.{◌≡◌, ◌≤◌, List, ℕ, true}
+use Rattle.std.specs.Io.KnownBytes.{Consumes, prepend_known}
+use Rattle.adya_line.specs.Meaning.Laws.{IsPlain}
+use Rattle.ssi_line.specs.Machinery.Lines.{kept, work_left}
+use Rattle.ssi_line.proofs.lines.LineBuffer.next_line.Given as goal
+
+abbrev pub invariant-loop-self : goal.invariant-loop-self
+invariant-loop-self g l =
+    (g.S.Source.same l.initial.source l.source)
+    × (work_left (g.S.Source.left l.source) l.self ≤ work_left (g.S.Source.left l.initial.source) l.initial.self)
+    × (g.S.Source.is_failed l.source ≡ true → g.S.Source.is_failed l.initial.source ≡ true)
+    × ((taken : List ℕ) × IsPlain taken × (l.line ≡ kept taken)
+    × Consumes (prepend_known l.initial.self (g.S.Read.remaining l.initial.source))
+    (prepend_known l.self (g.S.Read.remaining l.source)) taken)
+
+abbrev pub decreases-loop-self : goal.decreases-loop-self
+decreases-loop-self g l = work_left (g.S.Source.left l.source) l.self

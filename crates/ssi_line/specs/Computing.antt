@@ -1,0 +1,2 @@
+-- What a line says, word by word.
+pub mod Reading

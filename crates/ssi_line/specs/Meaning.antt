@@ -1,0 +1,5 @@
+-- What the promises mean.
+pub mod Spelling
+pub mod Replies
+pub mod Steps
+pub mod Ends

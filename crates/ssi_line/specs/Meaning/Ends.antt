@@ -1,0 +1,45 @@
+-- What a run over an input has done when it ends.
+use Rattle.std.specs.Prelude.{◌≡◌, ℕ, List, [], ◌∷◌, ◌++◌, All, Option}
+use Rattle.std.specs.Io.KnownBytes.{Consumes, IsAtEnd}
+use Rattle.devices.specs.declared.watched.Watched.{Watched}
+use Rattle.devices.specs.Meaning.Writing.{Grew}
+use Rattle.adya_line.specs.Meaning.Laws.{IsPlain}
+use Rattle.adya_text.specs.Meaning.Texts.{with_ends}
+use Rattle.ssi_store.specs.Meaning.Courses.{Course}
+use Rattle.ssi_line.specs.Meaning.Steps.{Step, Stopped, AreSteps, AllMayFollow, AllGoOn, course_after, steps_text}
+use Rattle.ssi_line.specs.declared.end.End.{End}
+use Rattle.ssi_line.specs.declared.end.End.TheVariants.{Eof, Stop, ReadFault, WriteFault}
+
+-- of whatever course the store was, it is of that course with these steps now, and each step may follow those before it
+abbrev pub WentOn : {T : Type 0} → (T → Course → Type 0) → T → List Step → T → Type 0
+WentOn is_at old steps new =
+    (course : Course) → is_at old course → AllMayFollow course steps × is_at new (course_after course steps)
+
+-- the input began with these lines, each of which made a step, and then these bytes; the rest is left
+pub record Took (old : Option (List ℕ)) (lines : List (List ℕ)) (steps : List Step) (after : List ℕ)
+    (left : Option (List ℕ)) : Type 0 where
+  pub plain : All IsPlain lines
+  pub made : AreSteps lines steps
+  pub consumed : Consumes old left (with_ends lines ++ after)
+
+-- the run ended with the last step
+pub record EndsWith (steps : List Step) (last : Step) : Type 0 where
+  pub before : List Step
+  pub go_on : AllGoOn before
+  pub is : steps ≡ before ++ (last ∷ [])
+
+-- no line ended the run: exactly this was written, and what follows the last line feed is no line
+pub record EndsOpen {D : Type 0} (contents : D → Option (List ℕ)) (steps : List Step) (after : List ℕ)
+    (old new : Watched D) : Type 0 where
+  pub go_on : AllGoOn steps
+  pub unfinished : IsPlain after
+  pub written : Grew contents old new (steps_text steps)
+
+-- what each end says of the steps, of the bytes after the last line feed, of what is left, and of what was written; after
+-- a write fault the last step was carried out, and nothing is said of how much was written
+abbrev pub EndsAs : {D : Type 0} → End → (D → Option (List ℕ)) → List Step → (after : List ℕ)
+    → (left : Option (List ℕ)) → (old new : Watched D) → Type 0
+EndsAs Eof contents steps after left old new = EndsOpen contents steps after old new × IsAtEnd left
+EndsAs ReadFault contents steps after left old new = EndsOpen contents steps after old new
+EndsAs Stop contents steps after left old new = EndsWith steps Stopped × Grew contents old new (steps_text steps)
+EndsAs WriteFault contents steps after left old new = (last : Step) × EndsWith steps last

@@ -1,0 +1,116 @@
+//! A run over an input.
+
+ghost use Rattle.std.specs.Prelude.{◌≡◌, List, [], ◌∷◌, ℕ, IsErr, true, false};
+ghost use Rattle.devices.specs.Meaning.Watched.{has_failed};
+ghost use Rattle.devices.specs.Meaning.Writing.{Wrote};
+ghost use Rattle.ssi_store.specs.Meaning.Stores.{IsAt};
+ghost use Rattle.ssi_line.specs.Meaning.Steps.{Step, step_text};
+ghost use Rattle.ssi_line.specs.Meaning.Ends.{WentOn, Took, EndsAs};
+ghost use Rattle.ssi_line.specs.Machinery.Lines.{kept};
+ghost use Rattle.ssi_line.specs.Machinery.Answering.{Answered, IsDump};
+
+use crate::dump::Dump;
+use crate::lines::LineBuffer;
+use crate::short_line::ShortLine;
+use crate::{End, Line, read_line, write_reply};
+use adya_text::WriteFault;
+use devices::{Source, Watched, put};
+use ssi_reads::Marks;
+use ssi_store::{Refusal, Store};
+use ssi_versions::Chains;
+use std::alloc::Global;
+use std::io::Write;
+
+/// Carries out the lines of the input, one after the other, up to and with the first `stop`. It answers each before it
+/// reads further. What follows the last line feed is no line: it is not carried out, and has no answer.
+///
+/// A command whose answer could not be written has been carried out. Only `dump` takes memory, and what the store takes
+/// for its commands; if memory runs out, `! 6 memory` is answered, and the run goes on.
+pub fn serve<S: Source, W: Write, C: Chains + Drop, M: Marks + Drop>(
+    alloc: Global,
+    reader: &mut S,
+    writer: &mut Watched<W>,
+    store: &mut Store<C, M>,
+) -> End
+    ensures run { (lines : List (List ℕ)) × (steps : List Step) × (after : List ℕ)
+        × Took (S.remaining reader.old) lines steps after (S.remaining reader.new)
+        × WentOn (IsAt C.held M.marked) store.old steps store.new
+        × EndsAs result W.contents steps after (S.remaining reader.new) writer.old writer.new }
+    ensures read_fault { result ≡ End.ReadFault → S.is_failed reader.new ≡ true }
+    ensures write_fault { result ≡ End.WriteFault → has_failed writer.new ≡ true }
+    ensures eof { result ≡ End.Eof → S.is_failed reader.new ≡ false }
+    ensures stream { S.same reader.old reader.new }
+{
+    let mut buffer = LineBuffer::new();
+    let mut line = ShortLine::new();
+    loop {
+        match buffer.next_line(reader, &mut line) {
+            Ok(true) => {}
+            Ok(false) => return End::Eof,
+            Err(_) => return End::ReadFault,
+        }
+        match answer(alloc, &line, writer, store) {
+            Ok(false) => {}
+            Ok(true) => return End::Stop,
+            Err(_) => return End::WriteFault,
+        }
+    }
+}
+
+/// Answers one line, and returns whether it ends the run.
+fn answer<W: Write, C: Chains + Drop, M: Marks + Drop>(
+    alloc: Global,
+    line: &ShortLine,
+    out: &mut Watched<W>,
+    store: &mut Store<C, M>,
+) -> Result<bool, WriteFault>
+    ensures answered { (text : List ℕ) → line.now ≡ kept text → (step : Step)
+        × Answered W.contents text step result out.old out.new
+        × WentOn (IsAt C.held M.marked) store.old (step ∷ []) store.new }
+    ensures fault { IsErr result → has_failed out.new ≡ true }
+{
+    let Some(text) = line.text() else {
+        say(b"? long\n", out)?;
+        return Ok(false);
+    };
+    match read_line(text) {
+        None => {
+            say(b"? syntax\n", out)?;
+            Ok(false)
+        }
+        Some(Line::Stop) => {
+            say(b"stopped\n", out)?;
+            Ok(true)
+        }
+        Some(Line::Dump) => {
+            answer_dump(alloc, store, out)?;
+            Ok(false)
+        }
+        Some(Line::Do(command)) => {
+            let reply = store.apply(command);
+            write_reply(&reply, out)?;
+            Ok(false)
+        }
+    }
+}
+
+/// Writes the history so far and a certificate of it, or that memory ran out before that.
+fn answer_dump<W: Write, C: Chains + Drop, M: Marks + Drop>(
+    alloc: Global,
+    store: &Store<C, M>,
+    out: &mut Watched<W>,
+) -> Result<(), WriteFault>
+    ensures { (step : Step) × IsDump (IsAt C.held M.marked store.now) step
+        × Wrote W.contents out.old out.new (step_text step) result }
+{
+    match Dump::of(alloc, store) {
+        Ok(dump) => dump.write(out),
+        Err(_) => write_reply(&Err(Refusal::Memory), out),
+    }
+}
+
+fn say<W: Write>(line: &[u8], out: &mut Watched<W>) -> Result<(), WriteFault>
+    ensures { Wrote W.contents out.old out.new line.now result }
+{
+    put(line, out).map_err(|_| WriteFault)
+}
