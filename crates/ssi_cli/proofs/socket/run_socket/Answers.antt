@@ -1,0 +1,15 @@
+use Rattle.std.proofs.Common.{Result, Ok, Err, IfOk}
+use Rattle.ssi_store.specs.Meaning.Courses.{New}
+use Rattle.ssi_line.specs.Meaning.Steps.{course_after}
+use Rattle.ssi_cli.proofs.socket.run_socket.Goals as goal
+
+if_ok : {T E : Type 0} {P Q : T → Type 0} (r : Result T E) → ((x : T) → P x → Q x) → IfOk r P → IfOk r Q
+if_ok (Ok x) more is = more x is
+if_ok (Err e) more is = tt
+
+pub returns-clause-certified : goal.returns-clause-certified
+returns-clause-certified g c =
+    let (steps, went_on) = c.serve_socket-served.ensures in
+    let (follow, at) = went_on (New 1) c.new-store.ensures in
+    if_ok c.write_texts-written.result (λ _ certified. (steps, follow, certified (course_after (New 1) steps) at))
+    c.write_texts-written.ensures.certified

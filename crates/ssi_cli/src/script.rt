@@ -1,0 +1,46 @@
+//! A run over a script.
+
+ghost use Rattle.std.specs.Prelude.{◌≡◌, true, false, Ok, Err, IfOk};
+ghost use Rattle.devices.specs.Meaning.Watched.{has_failed};
+ghost use Rattle.ssi_cli.specs.Meaning.Scripts.{Ran, Certified, course_of};
+
+use crate::ScriptFault;
+use crate::texts::write_texts;
+use devices::{Source, Watched};
+use ssi_line::{End, serve};
+use ssi_reads::IndexMarks;
+use ssi_store::Store;
+use ssi_versions::KeyChains;
+use std::alloc::Global;
+use std::io::Write;
+
+/// Carries out the lines of the input on a new store, as [`serve`] does, and then writes the history of the store and a
+/// certificate of it. They are written however the lines end, so also if the input or the output has failed. Returns how
+/// the lines ended.
+///
+/// The history records the course of the store, and the auditor says yes to both texts.
+pub fn run_script<S: Source, W: Write, H: Write, C: Write>(
+    alloc: Global,
+    input: &mut S,
+    output: &mut Watched<W>,
+    history: &mut Watched<H>,
+    certificate: &mut Watched<C>,
+) -> Result<End, ScriptFault>
+    ensures run { (ran : Ran W.contents (S.remaining input.old) (S.remaining input.new) output.old output.new)
+        × IfOk result (λ end. (end ≡ ran.end)
+        × Certified (course_of ran) H.contents history.old history.new C.contents certificate.old certificate.new) }
+    ensures read_fault { result ≡ Ok End.ReadFault → S.is_failed input.new ≡ true }
+    ensures write_fault { result ≡ Ok End.WriteFault → has_failed output.new ≡ true }
+    ensures eof { result ≡ Ok End.Eof → S.is_failed input.new ≡ false }
+    ensures stream { S.same input.old input.new }
+    ensures history_fault { result ≡ Err ScriptFault.History
+        → (has_failed history.new ≡ true) × (certificate.new ≡ certificate.old) }
+    ensures certificate_fault { result ≡ Err ScriptFault.Certificate → has_failed certificate.new ≡ true }
+    ensures memory { result ≡ Err ScriptFault.Memory
+        → (history.new ≡ history.old) × (certificate.new ≡ certificate.old) }
+{
+    let mut store = Store::new(alloc, KeyChains::new(alloc), IndexMarks::new(alloc));
+    let end = serve(alloc, input, output, &mut store);
+    write_texts(alloc, store, history, certificate)?;
+    Ok(end)
+}

@@ -1,0 +1,73 @@
+//! The texts that remain of a store.
+
+ghost use Rattle.std.specs.Prelude.{◌≡◌, [], true, Err, IfOk};
+ghost use Rattle.adya_values.specs.Meaning.Values.{history_of, serial_txns};
+ghost use Rattle.devices.specs.Meaning.Watched.{has_failed};
+ghost use Rattle.devices.specs.Meaning.Writing.{Wrote};
+ghost use Rattle.adya_text.specs.Meaning.Texts.{history_text, serial_text};
+ghost use Rattle.ssi_store.specs.Meaning.Courses.{Course};
+ghost use Rattle.ssi_store.specs.Meaning.Stores.{IsAt};
+ghost use Rattle.ssi_cli.specs.Meaning.Scripts.{Certified};
+
+use crate::ScriptFault;
+use adya_text::{WriteFault, write_history, write_serial};
+use adya_values::{History, Serial};
+use devices::Watched;
+use ssi_certify::certify;
+use ssi_reads::Marks;
+use ssi_store::Store;
+use ssi_versions::Chains;
+use std::alloc::Global;
+use std::io::Write;
+
+/// Ends the store, and writes its history and then a certificate of it. The history records the course of the store, and
+/// the auditor says yes to both texts.
+pub(crate) fn write_texts<C: Chains + Drop, M: Marks + Drop, H: Write, W: Write>(
+    alloc: Global,
+    store: Store<C, M>,
+    history: &mut Watched<H>,
+    certificate: &mut Watched<W>,
+) -> Result<(), ScriptFault>
+    ensures certified { IfOk result (λ _. (course : Course) → IsAt C.held M.marked store course
+        → Certified course H.contents history.old history.new W.contents certificate.old certificate.new) }
+    ensures history_fault { result ≡ Err ScriptFault.History
+        → (has_failed history.new ≡ true) × (certificate.new ≡ certificate.old) }
+    ensures certificate_fault { result ≡ Err ScriptFault.Certificate → has_failed certificate.new ≡ true }
+    ensures memory { result ≡ Err ScriptFault.Memory
+        → (history.new ≡ history.old) × (certificate.new ≡ certificate.old) }
+{
+    let Ok(finished) = store.finish() else {
+        return Err(ScriptFault::Memory);
+    };
+    let Ok(serial) = certify(alloc, &finished) else {
+        return Err(ScriptFault::Memory);
+    };
+    let Ok(()) = put_history(finished.history(), history) else {
+        return Err(ScriptFault::History);
+    };
+    let Ok(()) = put_serial(&serial, certificate) else {
+        return Err(ScriptFault::Certificate);
+    };
+    Ok(())
+}
+
+// What the device holds back is written, too.
+fn put_history<W: Write>(history: &History, out: &mut Watched<W>) -> Result<(), WriteFault>
+    ensures { Wrote W.contents out.old out.new (history_text (history_of history.now)) result }
+{
+    write_history(history, out)?;
+    flush(out)
+}
+
+fn put_serial<W: Write>(serial: &Serial, out: &mut Watched<W>) -> Result<(), WriteFault>
+    ensures { Wrote W.contents out.old out.new (serial_text (serial_txns serial.now)) result }
+{
+    write_serial(serial, out)?;
+    flush(out)
+}
+
+fn flush<W: Write>(out: &mut Watched<W>) -> Result<(), WriteFault>
+    ensures { Wrote W.contents out.old out.new [] result }
+{
+    out.flush().map_err(|_| WriteFault)
+}
