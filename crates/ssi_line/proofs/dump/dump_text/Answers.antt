@@ -10,5 +10,5 @@ returns g c =
     (IsAt {g = g.C.Chains} {h = g.M.Marks} g.C.Chains.held g.M.Marks.marked c.args.store.now)
     (history_of c.history.result.now)
     (recorded_in c.in_ok-finished.finished) (serial_txns c.in_ok-serial.serial) c.both_texts.ensures
-    c.history.ensures.same c.in_ok-serial.ensures
+    c.history.ensures.same c.in_ok-serial.ensures.accepted
     (λ course at. (c.in_ok-finished.ensures.history course at, c.in_ok-finished.ensures.records course at))
