@@ -93,6 +93,12 @@ done
 for text in 'begins with a hyphen' 'ssi order -- -x' 'ssi order ./-x'; do
     check "order --help mentions $text" found "$(grep -q -e "$text" text && echo found)"
 done
+for command in script serve; do
+    "$ssi" "$command" --help >text
+    for text in 'begins with a hyphen' "ssi $command -- -" "ssi $command ./-"; do
+        check "$command --help mentions $text" found "$(grep -q -e "$text" text && echo found)"
+    done
+done
 
 # Files.
 sed '/^end$/q' "$sample" >h

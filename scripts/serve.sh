@@ -249,7 +249,7 @@ start socket h c
 check 'a peer' 'begun 1' "$(echo begin A | talk socket)"
 long=$(letters 200)
 echo text >file
-for path in "$long" nowhere/socket file folder socket; do
+for path in "$long" nowhere/socket file folder socket ''; do
     check "a socket at '$path'" "err: ssi: socket fault: $path"$'\nstatus 3' "$(run serve "$path" h c)"
     check "no files with a socket at '$path'" '' "$(left h c "$long" nowhere)"
 done
