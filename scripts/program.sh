@@ -63,8 +63,12 @@ check 'audit and one file' "$wrong" "$(streams audit h)"
 check 'audit and three files' "$wrong" "$(streams audit h c d)"
 check 'order' "$wrong" "$(streams order)"
 check 'order and two files' "$wrong" "$(streams order h c)"
-check 'script' "$wrong" "$(streams script h c <"$sample")"
-check 'serve' "$wrong" "$(streams serve s h c <"$sample")"
+check 'script' "$wrong" "$(streams script <"$sample")"
+check 'script and one file' "$wrong" "$(streams script h <"$sample")"
+check 'script and three files' "$wrong" "$(streams script h c d <"$sample")"
+check 'serve' "$wrong" "$(streams serve)"
+check 'serve and two paths' "$wrong" "$(streams serve s h)"
+check 'serve and four paths' "$wrong" "$(streams serve s h c d)"
 check 'an unknown command' "$wrong" "$(streams foo <"$sample")"
 check 'an empty argument' "$wrong" "$(streams '' <"$sample")"
 check 'an unknown option' "$wrong" "$(streams --foo <"$sample")"
@@ -75,8 +79,10 @@ check '--help' "$help" "$(streams --help)"
 check 'help' "$help" "$(streams help)"
 check 'audit --help' "$help" "$(streams audit --help)"
 check 'help order' "$help" "$(streams help order)"
+check 'script --help' "$help" "$(streams script --help)"
+check 'help serve' "$help" "$(streams help serve)"
 "$ssi" --help >text
-for text in audit order 'adya 1' 'serial 1' 'Exit status'; do
+for text in audit order script serve 'adya 1' 'serial 1' 'Exit status'; do
     check "--help mentions $text" found "$(grep -q -e "$text" text && echo found)"
 done
 "$ssi" audit --help >text
@@ -86,6 +92,12 @@ done
 "$ssi" order --help >text
 for text in 'begins with a hyphen' 'ssi order -- -x' 'ssi order ./-x'; do
     check "order --help mentions $text" found "$(grep -q -e "$text" text && echo found)"
+done
+for command in script serve; do
+    "$ssi" "$command" --help >text
+    for text in 'begins with a hyphen' "ssi $command -- -" "ssi $command ./-"; do
+        check "$command --help mentions $text" found "$(grep -q -e "$text" text && echo found)"
+    done
 done
 
 # Files.

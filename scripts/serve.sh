@@ -1,0 +1,275 @@
+#!/usr/bin/env bash
+# Runs the store of the built program. By `script`: the test cases, the limits of a line, streams and files that fail. By
+# `serve`: clients that come one after the other, wait, or leave too early, and sockets and files that can't be made.
+# Compares what the program prints, its status, both files, and the verdict on them with what is wanted. Build the program
+# first: (cd crates/ssi && rt run < stdin). Usage: serve.sh [PROGRAM], by default crates/ssi/out/ssi.
+set -u
+top=$(realpath "$(dirname "$0")/..")
+ssi=$(realpath "${1:-$top/crates/ssi/out/ssi}")
+cd "$top" || exit
+[ -x "$ssi" ] || { echo "no program at $ssi"; exit 2; }
+cases=$PWD/crates/ssi_store_tests/data
+passed=0 failed=0
+server=
+work=$(mktemp -d)
+trap '[ -z "$server" ] || kill "$server" 2>/dev/null; rm -rf "$work"' EXIT
+cd "$work" || exit
+mkdir folder
+
+check() { # the name of the case; the wanted text; the actual text
+    if [ "$2" = "$3" ]; then
+        passed=$((passed + 1))
+    else
+        failed=$((failed + 1))
+        printf '%s\n' "$1: wanted" "$2" 'got' "$3"
+    fi
+}
+
+run() { # the arguments; prints the lines of standard output, those of standard error, and the status
+    timeout 60 "$ssi" "$@" >out 2>err
+    local status=$?
+    sed 's/^/out: /' out
+    sed 's/^/err: /' err
+    echo "status $status"
+}
+
+lines() { # lines; prints them
+    printf '%s\n' "$@"
+}
+
+answer() { # lines; prints what `run` does if they are the standard output and the status is 0
+    [ "$#" -eq 0 ] || lines "$@" | sed 's/^/out: /'
+    echo 'status 0'
+}
+
+texts() { # a history and its certificate; prints both and the verdict on them, and removes them
+    cat -- "$1" "$2" 2>&1
+    "$ssi" audit -- "$1" "$2" 2>&1
+    rm -f -- "$1" "$2"
+}
+
+left() { # paths; prints those at which there is something
+    for path; do [ ! -e "$path" ] || echo "$path"; done
+}
+
+letters() { # a number; prints so many letters
+    head -c "$1" /dev/zero | tr '\0' a
+}
+
+# Test cases.
+for case in "$cases"/*/; do
+    name=$(basename "$case")
+    check "$name" "$(sed 's/^/out: /' "$case/replies"; echo 'status 0')" "$(run script h c <"$case/commands")"
+    check "texts of $name" "$(cat "$case/history" "$case/certificate"; echo yes)" "$(texts h c)"
+done
+
+# Lines.
+none=$(lines 'adya 1' end 'serial 1' end yes) # the texts if no command was carried out
+aborted=$(lines 'adya 1' a1 end 'serial 1' end yes)
+check 'no line' "$(answer)" "$(run script h c </dev/null)"
+check 'texts of no line' "$none" "$(texts h c)"
+check 'lines that are no commands' \
+    "$(answer '? syntax' '? long' '? syntax' '? syntax' '? syntax' '? syntax' '? syntax' '? syntax')" \
+    "$(lines "$(letters 4096)" "$(letters 4097)" '' 'begin A ' 'begin  A' $'begin A\r' $'\xff' 'stop now' | run script h c)"
+check 'texts of lines that are no commands' "$none" "$(texts h c)"
+check 'a rest without a line feed' "$(answer 'begun 1' 'begun 2' 'done')" \
+    "$(printf 'begin A\nbegin B\nput A x 5\ncom' | run script h c)"
+check 'texts without the rest' "$(lines 'adya 1' 'w1(x.1:1,5)' a1 a2 end 'serial 1' end yes)" "$(texts h c)"
+check 'lines after stop' "$(answer 'begun 1' stopped)" "$(lines 'begin A' stop 'commit A' | run script h c)"
+check 'texts without the lines after stop' "$aborted" "$(texts h c)"
+check 'the longest transaction' "$(lines '1 begun 1' '65535 absent' '2 ! 4 long' '1 committed')" "$(
+    (echo begin A; yes get A x | head -n 65536; lines 'put A x 1' 'commit A') |
+        timeout 300 "$ssi" script h c | uniq -c | sed 's/^ *//')"
+check 'the verdict on the longest transaction' yes "$("$ssi" audit h c)"
+rm -f h c
+cat >each.py <<'END'
+import subprocess, sys
+
+program = subprocess.Popen([sys.argv[1], "script", "h", "c"], stdin=subprocess.PIPE, stdout=subprocess.PIPE)
+for line in b"begin A\n", b"put A x 1\n", b"commit A\n":
+    program.stdin.write(line)
+    program.stdin.flush()
+    print(program.stdout.readline().decode(), end="", flush=True)
+program.stdin.close()
+print("status", program.wait())
+END
+history=$(lines 'adya 1' 'w1(x.1:1,1)' c1 '[x:1]' '{x,1}' end)
+whole=$(lines "$history" 'serial 1' 1 end yes)
+check 'a reply before the next line is sent' "$(lines 'begun 1' 'done' committed 'status 0')" \
+    "$(timeout 60 python3 each.py "$ssi" 2>&1)"
+check 'texts of lines sent one by one' "$whole" "$(texts h c)"
+
+# Standard input and output that fail. Both texts are written all the same. A command is carried out before its reply.
+lines 'begin A' 'put A x 1' 'commit A' >commands
+input=$'err: ssi: read fault: stdin\nstatus 3'
+check 'a folder as standard input' "$input" "$(run script h c <folder)"
+check 'texts after a folder as standard input' "$none" "$(texts h c)"
+check 'closed standard input' "$input" "$(run script h c <&-)"
+check 'texts after closed standard input' "$none" "$(texts h c)"
+output=$'ssi: write fault: stdout\nstatus 3'
+check 'a full device as standard output' "$output" "$("$ssi" script h c <commands 2>&1 >/dev/full; echo "status $?")"
+check 'texts after a full device as standard output' "$aborted" "$(texts h c)"
+check 'closed standard output' "$output" "$("$ssi" script h c <commands 2>&1 >&-; echo "status $?")"
+check 'texts after closed standard output' "$aborted" "$(texts h c)"
+check 'a full device as standard error' 'status 3' "$("$ssi" script h c <folder 2>/dev/full; echo "status $?")"
+check 'texts after a full device as standard error' "$none" "$(texts h c)"
+
+# Files that can't be written. The history comes first. Of several faults the first is printed.
+replied=$(answer 'begun 1' 'done' committed)
+for path in folder nowhere/file /dev/full ''; do
+    fault="${replied%status 0}err: ssi: write fault: $path"$'\nstatus 3'
+    check "the history to '$path'" "$fault" "$(run script "$path" c <commands)"
+    check "no certificate with the history to '$path'" '' "$(left c)"
+    check "the certificate to '$path'" "$fault" "$(run script h "$path" <commands)"
+    check "the history with the certificate to '$path'" "$history" "$(cat h)"
+    rm -f h
+done
+check 'standard input and the history' "$input" "$(run script folder c <folder)"
+check 'standard input and the certificate' "$input" "$(run script h folder <folder)"
+check 'standard output and the history' "$output" \
+    "$("$ssi" script folder c <commands 2>&1 >/dev/full; echo "status $?")"
+check 'standard output and the certificate' "$output" \
+    "$("$ssi" script h folder <commands 2>&1 >/dev/full; echo "status $?")"
+for name in h c; do letters 100000 >"$name"; done
+check 'files with something in them' "$replied" "$(run script h c <commands)"
+check 'what was in the files is gone' "$whole" "$(texts h c)"
+check 'paths that begin with a hyphen, after --' "$replied" "$(run script -- -h -c <commands)"
+check 'texts at paths that begin with a hyphen' "$whole" "$(texts -h -c)"
+
+# Clients.
+cat >talk.py <<'END'
+"""Sends standard input to a socket, line by line, and prints the reply to each line before it sends the next. Then it
+closes the connection, after a rest without a line feed if there is one. `together`: sends all at once, and prints what
+comes back; `leave`: sends all and closes; `remove`: removes the socket's file when it is connected."""
+import os, socket, sys, time
+
+path, way = sys.argv[1], sys.argv[2] if len(sys.argv) > 2 else ""
+given = sys.stdin.buffer.read()
+connection = socket.socket(socket.AF_UNIX)
+connection.settimeout(30)
+for _ in range(1000):  # until the server listens
+    if connection.connect_ex(path) == 0:
+        break
+    time.sleep(0.01)
+if way == "remove":
+    os.remove(path)
+replies = connection.makefile("rb")
+for line in [given] if way in ("together", "leave") else given.splitlines(True):
+    connection.sendall(line)
+    if way != "leave" and line.endswith(b"\n"):
+        sys.stdout.buffer.write(replies.readline())
+if way == "together":
+    connection.shutdown(socket.SHUT_WR)
+    sys.stdout.buffer.write(replies.read())
+END
+
+talk() { # the socket, and how to talk; sends standard input, and prints the replies
+    timeout 60 python3 talk.py "$@" 2>&1
+}
+
+start() { # the socket, the history, the certificate; starts a server
+    timeout 120 "$ssi" serve "$@" >served 2>&1 &
+    server=$!
+}
+
+finish() { # waits for the server; `ending` is then what it has printed, its status, and the files of sockets
+    local status=0
+    wait "$server" || status=$?
+    server=
+    ending=$(cat served; echo "status $status"; find . -type s)
+}
+
+start socket h c
+check 'a peer that leaves in the middle of a line' $'begun 1\ndone' "$(printf 'begin A\nput A x 5\nput A x' | talk socket)"
+check 'a session that outlives its connection' $'value 5\ncommitted\nbegun 2\nvalue 5' \
+    "$(lines 'get A x' 'commit A' 'begin B' 'get B x' | talk socket)"
+check 'stop' stopped "$(echo stop | talk socket)"
+finish
+check 'the end after stop' 'status 0' "$ending"
+check 'texts of three connections' \
+    "$(lines 'adya 1' 'w1(x.1:1,5)' 'r1(x.1:1,5)' c1 'r2(x.1:1,5)' a2 '[x:1]' '{x,5}' end 'serial 1' 1 end yes)" \
+    "$(texts h c)"
+
+start socket h c
+check 'a peer that leaves without its replies' '' "$(yes stat | head -n 2000 | talk socket leave)"
+check 'a peer after one that left' $'begun 1\nabsent' "$(lines 'begin A' 'get A x' | talk socket)"
+dump=$(lines 'adya 2' 's1(x,x)' u1 end 'serial 1' end)
+check 'a dump' "$dump" "$(echo dump | talk socket together)"
+check 'the verdict on a dump' yes "$(lines "$dump" | "$ssi")"
+check 'lines sent together' "$(lines committed 'begun 2' stopped)" \
+    "$(lines 'commit A' 'begin A' stop | talk socket together)"
+finish
+check 'the end after lines sent together' 'status 0' "$ending"
+check 'texts of lines sent together' "$(lines 'adya 1' 's1(x,x)' c1 a2 end 'serial 1' 1 end yes)" "$(texts h c)"
+
+cat >wait.py <<'END'
+import socket, sys, time
+
+first, second = socket.socket(socket.AF_UNIX), socket.socket(socket.AF_UNIX)
+for _ in range(1000):  # until the server listens
+    if first.connect_ex(sys.argv[1]) == 0:
+        break
+    time.sleep(0.01)
+second.connect(sys.argv[1])
+second.sendall(b"begin B\n")
+second.settimeout(0.3)
+try:
+    print("early", second.recv(100))
+except TimeoutError:
+    print("waits")
+first.sendall(b"begin A\n")
+print(first.recv(100).decode(), end="")
+first.close()
+second.settimeout(30)
+print(second.recv(100).decode(), end="")
+second.sendall(b"stop\n")
+print(second.recv(100).decode(), end="")
+END
+start socket h c
+check 'a peer that waits until another one has left' "$(lines waits 'begun 1' 'begun 2' stopped)" \
+    "$(timeout 60 python3 wait.py socket 2>&1)"
+finish
+check 'the end after two peers at once' 'status 0' "$ending"
+check 'texts of two peers at once' "$(lines 'adya 1' a1 a2 end 'serial 1' end yes)" "$(texts h c)"
+
+start -- -s -h -c
+check 'paths of a server that begin with a hyphen' stopped "$(echo stop | talk -s)"
+finish
+check 'the end of a server with such paths' 'status 0' "$ending"
+check 'texts of a server with such paths' "$none" "$(texts -h -c)"
+
+start socket h c
+check "a socket's file that is removed" stopped "$(echo stop | talk socket remove)"
+finish
+check "the end without the socket's file" 'status 0' "$ending"
+check "texts without the socket's file" "$none" "$(texts h c)"
+
+# Sockets that can't be made. Nothing is written.
+start socket h c
+check 'a peer' 'begun 1' "$(echo begin A | talk socket)"
+long=$(letters 200)
+echo text >file
+for path in "$long" nowhere/socket file folder socket ''; do
+    check "a socket at '$path'" "err: ssi: socket fault: $path"$'\nstatus 3' "$(run serve "$path" h c)"
+    check "no files with a socket at '$path'" '' "$(left h c "$long" nowhere)"
+done
+check 'the file is as before' text "$(cat file)"
+check 'the server at that socket goes on' stopped "$(echo stop | talk socket)"
+finish
+check 'the end of that server' 'status 0' "$ending"
+check 'texts of that server' "$aborted" "$(texts h c)"
+
+# Files of a server that can't be written.
+start socket folder c
+check 'a server with a folder for the history' stopped "$(echo stop | talk socket)"
+finish
+check 'its end' $'ssi: write fault: folder\nstatus 3' "$ending"
+check 'no certificate of it' '' "$(left c)"
+start socket h folder
+check 'a server with a folder for the certificate' stopped "$(echo stop | talk socket)"
+finish
+check 'its end, too' $'ssi: write fault: folder\nstatus 3' "$ending"
+check 'its history' $'adya 1\nend' "$(cat h)"
+
+echo "$passed passed, $failed failed"
+[ "$failed" -eq 0 ]
