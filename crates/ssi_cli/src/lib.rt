@@ -8,6 +8,7 @@
 mod script;
 mod script_fault;
 mod socket;
+mod store;
 mod texts;
 
 pub use script::run_script;

@@ -5,12 +5,10 @@ ghost use Rattle.devices.specs.Meaning.Watched.{has_failed};
 ghost use Rattle.ssi_cli.specs.Meaning.Scripts.{Ran, Certified, course_of};
 
 use crate::ScriptFault;
+use crate::store::new_store;
 use crate::texts::write_texts;
 use devices::{Source, Watched};
 use ssi_line::{End, serve};
-use ssi_reads::IndexMarks;
-use ssi_store::Store;
-use ssi_versions::KeyChains;
 use std::alloc::Global;
 use std::io::Write;
 
@@ -39,7 +37,7 @@ pub fn run_script<S: Source, W: Write, H: Write, C: Write>(
     ensures memory { result ≡ Err ScriptFault.Memory
         → (history.new ≡ history.old) × (certificate.new ≡ certificate.old) }
 {
-    let mut store = Store::new(alloc, KeyChains::new(alloc), IndexMarks::new(alloc));
+    let mut store = new_store(alloc);
     let end = serve(alloc, input, output, &mut store);
     write_texts(alloc, store, history, certificate)?;
     Ok(end)

@@ -9,12 +9,13 @@ ghost use Rattle.ssi_line.specs.Meaning.Ends.{WentOn};
 ghost use Rattle.ssi_cli.specs.Meaning.Scripts.{Certified};
 
 use crate::ScriptFault;
+use crate::store::new_store;
 use crate::texts::write_texts;
 use devices::Watched;
 use ssi_line::{End, serve};
-use ssi_reads::{IndexMarks, Marks};
+use ssi_reads::Marks;
 use ssi_store::Store;
-use ssi_versions::{Chains, KeyChains};
+use ssi_versions::Chains;
 use std::alloc::Global;
 use std::io::Write;
 use std::os::unix::net::{UnixListener, UnixStream};
@@ -48,7 +49,7 @@ pub fn run_socket<H: Write, C: Write>(
     ensures memory { result.1 ≡ Err ScriptFault.Memory
         → (history.new ≡ history.old) × (certificate.new ≡ certificate.old) }
 {
-    let mut store = Store::new(alloc, KeyChains::new(alloc), IndexMarks::new(alloc));
+    let mut store = new_store(alloc);
     let served = serve_socket(alloc, listener, &mut store);
     let written = write_texts(alloc, store, history, certificate);
     (served, written)

@@ -6,7 +6,7 @@ use Rattle.ssi_cli.proofs.script.run_script.Goals as goal
 pub returns-clause-run : goal.returns-clause-run
 returns-clause-run g c =
     let (lines, steps, after, took, went_on, ends) = c.serve-end.ensures.run in
-    let (follow, at) = went_on (New 1) c.new-store.ensures in (
+    let (follow, at) = went_on (New 1) c.new_store-store.ensures in (
       record {
         end = c.serve-end.result;
         lines = lines;
