@@ -63,8 +63,12 @@ check 'audit and one file' "$wrong" "$(streams audit h)"
 check 'audit and three files' "$wrong" "$(streams audit h c d)"
 check 'order' "$wrong" "$(streams order)"
 check 'order and two files' "$wrong" "$(streams order h c)"
-check 'script' "$wrong" "$(streams script h c <"$sample")"
-check 'serve' "$wrong" "$(streams serve s h c <"$sample")"
+check 'script' "$wrong" "$(streams script </dev/null)"
+check 'script and one file' "$wrong" "$(streams script h </dev/null)"
+check 'script and three files' "$wrong" "$(streams script h c d </dev/null)"
+check 'serve' "$wrong" "$(streams serve)"
+check 'serve, a socket and one file' "$wrong" "$(streams serve s h)"
+check 'serve, a socket and three files' "$wrong" "$(streams serve s h c d)"
 check 'an unknown command' "$wrong" "$(streams foo <"$sample")"
 check 'an empty argument' "$wrong" "$(streams '' <"$sample")"
 check 'an unknown option' "$wrong" "$(streams --foo <"$sample")"
@@ -76,7 +80,7 @@ check 'help' "$help" "$(streams help)"
 check 'audit --help' "$help" "$(streams audit --help)"
 check 'help order' "$help" "$(streams help order)"
 "$ssi" --help >text
-for text in audit order 'adya 1' 'serial 1' 'Exit status'; do
+for text in audit order script serve 'adya 1' 'serial 1' 'Exit status'; do
     check "--help mentions $text" found "$(grep -q -e "$text" text && echo found)"
 done
 "$ssi" audit --help >text
@@ -131,6 +135,57 @@ check 'a full device, help' "$full" "$("$ssi" --help 2>&1 >/dev/full; echo "stat
 check 'closed standard output' "$full" "$("$ssi" <"$sample" 2>&1 >&-; echo "status $?")"
 check 'closed standard output, files' "$full" "$("$ssi" audit -- -h -c 2>&1 >&-; echo "status $?")"
 check 'a full device as standard error too' 'status 3' "$("$ssi" order nowhere 2>/dev/full; echo "status $?")"
+
+# Commands of the store. The texts are written also if the input or the output has failed.
+commands=$'begin A\nput A x 1\ncommit A\n'
+replies=$'out: begun 1\nout: done\nout: committed\nstatus 0'
+check 'script' "$replies" "$(run script nh nc <<<"${commands%?}")"
+check 'script: the auditor says yes' "$answer" "$(run audit nh nc)"
+check 'script: the history' "$(printf '%s\n' 'adya 1' 'w1(x.1:1,1)' c1 '[x:1]' '{x,1}' end)" "$(cat nh)"
+check 'script: the certificate' "$(printf '%s\n' 'serial 1' 1 end)" "$(cat nc)"
+check 'script, no commands' 'status 0' "$(run script nh nc </dev/null)"
+check 'script overwrites the history' $'adya 1\nend' "$(cat nh)"
+check 'script overwrites the certificate' $'serial 1\nend' "$(cat nc)"
+rm nh nc
+check 'script, a folder as standard input' $'err: ssi: read fault: stdin\nstatus 3' "$(run script nh nc <folder)"
+check 'script, a folder as standard input: the auditor says yes' "$answer" "$(run audit nh nc)"
+rm nh nc
+check 'script, a full device' "$full" "$("$ssi" script nh nc 2>&1 >/dev/full <<<"$commands"; echo "status $?")"
+check 'script, a full device: the auditor says yes' "$answer" "$(run audit nh nc)"
+rm nh nc
+nothing=$(ls)
+check 'script, a folder as history' $'err: ssi: write fault: folder\nstatus 3' "$(run script folder nc </dev/null)"
+check 'script, a full device as history' $'err: ssi: write fault: /dev/full\nstatus 3' "$(run script /dev/full nc </dev/null)"
+check 'script, no history: no certificate is made' "$nothing" "$(ls)"
+check 'script, a folder as certificate' $'err: ssi: write fault: folder\nstatus 3' "$(run script nh folder </dev/null)"
+check 'script, a folder as input, and as history: the first fault' $'err: ssi: read fault: stdin\nstatus 3' \
+    "$(run script folder nc <folder)"
+rm nh
+
+# A socket. Each client sends its lines, says that there are no more, and prints what it gets.
+client() { # the lines
+    python3 -c 'import socket, sys
+s = socket.socket(socket.AF_UNIX)
+s.connect("socket")
+s.sendall(sys.argv[1].encode())
+s.shutdown(socket.SHUT_WR)
+while part := s.recv(65536):
+    sys.stdout.write(part.decode())' "$1"
+}
+run serve socket nh nc >served &
+until [ -S socket ]; do sleep 0.05; done
+check 'serve, the first connection' $'begun 1\ndone' "$(client $'begin A\nput A x 1\nput A x')"
+check 'serve, a session outlives its connection' $'committed\nstopped' "$(client $'commit A\nstop\nstat\n')"
+wait
+check 'serve' 'status 0' "$(cat served)"
+check 'serve: the auditor says yes' "$answer" "$(run audit nh nc)"
+check 'serve: the history' "$(printf '%s\n' 'adya 1' 'w1(x.1:1,1)' c1 '[x:1]' '{x,1}' end)" "$(cat nh)"
+check 'serve: no file of the socket is left' '' "$(ls socket 2>/dev/null)"
+rm nh nc served
+nothing=$(ls)
+check 'serve, a file at the path of the socket' $'err: ssi: socket fault: c\nstatus 3' "$(run serve c nh nc)"
+check 'serve, an empty path' $'err: ssi: socket fault: \nstatus 3' "$(run serve '' nh nc)"
+check 'serve, no socket: no file is made' "$nothing" "$(ls)"
 
 echo "$passed passed, $failed failed"
 [ "$failed" -eq 0 ]
