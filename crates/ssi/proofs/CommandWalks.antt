@@ -21,6 +21,16 @@ audits = slice_index_or parser.subs 0 parser.top
 abbrev pub orders : Shape
 orders = slice_index_or parser.subs 1 parser.top
 
+abbrev pub scripts : Shape
+scripts = slice_index_or parser.subs 2 parser.top
+
+abbrev pub serves : Shape
+serves = slice_index_or parser.subs 3 parser.top
+
+-- a command of this name with a history and a certificate, as `audit` and `script` are
+abbrev pub pairs : Text → Shape
+pairs name = record audits { name = name }
+
 abbrev pub top_walk : List Text → Walk
 top_walk arguments = walk parser.top.rules names nothing_held arguments
 
@@ -43,3 +53,12 @@ stops_at_audit arguments = stays parser.top.rules names (first_argument (codes "
 pub stops_at_order : (arguments : List Text) → (top_walk (codes "order" ∷ arguments)).stopped ≡ Some (codes "order", arguments)
 unfolding clap_on_literals
 stops_at_order arguments = stays parser.top.rules names (first_argument (codes "order")) (codes "order") [] arguments refl
+
+pub stops_at_script : (arguments : List Text)
+    → (top_walk (codes "script" ∷ arguments)).stopped ≡ Some (codes "script", arguments)
+unfolding clap_on_literals
+stops_at_script arguments = stays parser.top.rules names (first_argument (codes "script")) (codes "script") [] arguments refl
+
+pub stops_at_serve : (arguments : List Text) → (top_walk (codes "serve" ∷ arguments)).stopped ≡ Some (codes "serve", arguments)
+unfolding clap_on_literals
+stops_at_serve arguments = stays parser.top.rules names (first_argument (codes "serve")) (codes "serve") [] arguments refl

@@ -10,11 +10,13 @@ use Rattle.clap.specs.Kinds.{Kinds, or_else}
 use Rattle.clap.specs.Faults.{built_fault, check_fault, defaults_fault, entered_fault, fault_of, is_simple_and_free}
 use Rattle.clap.specs.Faults.{level_fault, settle_fault, turn_fault, walk_fault}
 use Rattle.clap.proofs.OnLiterals.{clap_on_literals}
-use Rattle.ssi.specs.Meaning.Arguments.{Request, pipe, audit, order, are_plain, is_plain, arguments_of}
+use Rattle.ssi.specs.Meaning.Arguments.{Request, pipe, audit, order, script, serve, are_plain, is_plain, arguments_of}
 use Rattle.ssi.specs.Machinery.Parser.{ssi_app}
-use Rattle.ssi.proofs.CommandWalks.{audits, names, orders, parser, stops_at_audit, stops_at_order, top_walk}
+use Rattle.ssi.proofs.CommandWalks.{audits, names, orders, pairs, parser, scripts, serves, top_walk}
+use Rattle.ssi.proofs.CommandWalks.{stops_at_audit, stops_at_order, stops_at_script, stops_at_serve}
 use Rattle.ssi.proofs.PlainArguments.{at, turn_fault-plain}
-use Rattle.ssi.proofs.TakesRequests.{one_path, path_plain, two_paths, walk_one, walk_two}
+use Rattle.ssi.proofs.TakesRequests.{one_path, two_paths, three_paths, path_plain, paths_plain}
+use Rattle.ssi.proofs.TakesRequests.{walk_one, walk_two, walk_front, walk_three}
 
 -- ---- no fault of the whole is none of its parts
 
@@ -60,36 +62,76 @@ first_turn s ns w argument arguments e =
 abbrev leaf_fault : Shape → List Text → Kinds
 leaf_fault s arguments = level_fault s [] nothing_held arguments false []
 
-audit_alone : leaf_fault audits [] ≡ [] → ⊥
+pair_alone : (name : Text) → leaf_fault (pairs name) [] ≡ [] → ⊥
 unfolding clap_on_literals
-audit_alone e = absurd (cc e)
+pair_alone name e = absurd (cc e)
+
+serve_alone : leaf_fault serves [] ≡ [] → ⊥
+unfolding clap_on_literals
+serve_alone e = absurd (cc e)
 
 order_alone : leaf_fault orders [] ≡ [] → ⊥
 unfolding clap_on_literals
 order_alone e = absurd (cc e)
 
-audit_one : (h : Text) → is_plain h ≡ true → leaf_fault audits (h ∷ []) ≡ [] → ⊥
-audit_one h p e =
-    let missing = ap (λ w. check_fault audits (finished audits.rules w.held) false) (walk_one audits h p) in
-    let none : check_fault audits (finished audits.rules (one_path audits h).held) false ≡ [] =
-    sym missing ∙ no_check audits [] (h ∷ []) false [] e in
+pair_one : (name h : Text) → is_plain h ≡ true → leaf_fault (pairs name) (h ∷ []) ≡ [] → ⊥
+pair_one name h p e =
+    let shape = pairs name in
+    let missing = ap (λ w. check_fault shape (finished shape.rules w.held) false) (walk_one shape h p) in
+    let none : check_fault shape (finished shape.rules (one_path shape h).held) false ≡ [] =
+    sym missing ∙ no_check shape [] (h ∷ []) false [] e in
+    absurd (cc none)
+
+serve_one : (s : Text) → is_plain s ≡ true → leaf_fault serves (s ∷ []) ≡ [] → ⊥
+serve_one s p e =
+    let missing = ap (λ w. check_fault serves (finished serves.rules w.held) false) (walk_one serves s p) in
+    let none : check_fault serves (finished serves.rules (one_path serves s).held) false ≡ [] =
+    sym missing ∙ no_check serves [] (s ∷ []) false [] e in
+    absurd (cc none)
+
+serve_two : (s h : Text) → is_plain s ≡ true → is_plain h ≡ true → leaf_fault serves (s ∷ h ∷ []) ≡ [] → ⊥
+serve_two s h p q e =
+    let missing = ap (λ w. check_fault serves (finished serves.rules w.held) false) (walk_front s h p q) in
+    let none : check_fault serves (finished serves.rules (two_paths serves s h).held) false ≡ [] =
+    sym missing ∙ no_check serves [] (s ∷ h ∷ []) false [] e in
     absurd (cc none)
 
 -- an argument too many for the subcommand
-audit_more : (h c argument : Text) (arguments : List Text) → are_plain (h ∷ c ∷ argument ∷ arguments) ≡ true
-    → leaf_fault audits (h ∷ c ∷ argument ∷ arguments) ≡ [] → ⊥
-audit_more h c argument arguments p e =
+pair_more : (name h c argument : Text) (arguments : List Text) → are_plain (h ∷ c ∷ argument ∷ arguments) ≡ true
+    → leaf_fault (pairs name) (h ∷ c ∷ argument ∷ arguments) ≡ [] → ⊥
+pair_more name h c argument arguments p e =
+    let shape = pairs name in
     let p₁ = and_parts (is_plain h) (are_plain (c ∷ argument ∷ arguments)) p in
     let p₂ = and_parts (is_plain c) (are_plain (argument ∷ arguments)) p₁.1 in
     let p₃ = and_parts (is_plain argument) (are_plain arguments) p₂.1 in
-    let t₁ = first_turn audits [] (at nothing_held 1) h (c ∷ argument ∷ arguments)
-    (after_walk audits [] (h ∷ c ∷ argument ∷ arguments) false [] e).0 in
-    let t₂ = first_turn audits [] (walked audits.rules [] (at nothing_held 1) h) c (argument ∷ arguments) t₁.1 in
-    let w₂ = walked audits.rules [] (walked audits.rules [] (at nothing_held 1) h) c in
-    let t₃ = first_turn audits [] w₂ argument arguments t₂.1 in
-    let stray : turn_fault audits [] (two_paths h c) argument ≡ [] =
-    sym (ap (λ w. turn_fault audits [] w argument) (walk_two h c p₁.0 p₂.0)) ∙ t₃.0 in
-    let none = sym (turn_fault-plain [] (two_paths h c).held 3 audits argument p₃.0 refl) ∙ stray in
+    let t₁ = first_turn shape [] (at nothing_held 1) h (c ∷ argument ∷ arguments)
+    (after_walk shape [] (h ∷ c ∷ argument ∷ arguments) false [] e).0 in
+    let t₂ = first_turn shape [] (walked shape.rules [] (at nothing_held 1) h) c (argument ∷ arguments) t₁.1 in
+    let w₂ = walked shape.rules [] (walked shape.rules [] (at nothing_held 1) h) c in
+    let t₃ = first_turn shape [] w₂ argument arguments t₂.1 in
+    let stray : turn_fault shape [] (two_paths shape h c) argument ≡ [] =
+    sym (ap (λ w. turn_fault shape [] w argument) (walk_two name h c p₁.0 p₂.0)) ∙ t₃.0 in
+    let none = sym (turn_fault-plain [] (two_paths shape h c).held 3 shape argument p₃.0 refl) ∙ stray in
+    absurd (cc none)
+
+serve_more : (s h c argument : Text) (arguments : List Text) → are_plain (s ∷ h ∷ c ∷ argument ∷ arguments) ≡ true
+    → leaf_fault serves (s ∷ h ∷ c ∷ argument ∷ arguments) ≡ [] → ⊥
+serve_more s h c argument arguments p e =
+    let p₁ = and_parts (is_plain s) (are_plain (h ∷ c ∷ argument ∷ arguments)) p in
+    let p₂ = and_parts (is_plain h) (are_plain (c ∷ argument ∷ arguments)) p₁.1 in
+    let p₃ = and_parts (is_plain c) (are_plain (argument ∷ arguments)) p₂.1 in
+    let p₄ = and_parts (is_plain argument) (are_plain arguments) p₃.1 in
+    let w₁ = walked serves.rules [] (at nothing_held 1) s in
+    let w₂ = walked serves.rules [] w₁ h in
+    let w₃ = walked serves.rules [] w₂ c in
+    let t₁ = first_turn serves [] (at nothing_held 1) s (h ∷ c ∷ argument ∷ arguments)
+    (after_walk serves [] (s ∷ h ∷ c ∷ argument ∷ arguments) false [] e).0 in
+    let t₂ = first_turn serves [] w₁ h (c ∷ argument ∷ arguments) t₁.1 in
+    let t₃ = first_turn serves [] w₂ c (argument ∷ arguments) t₂.1 in
+    let t₄ = first_turn serves [] w₃ argument arguments t₃.1 in
+    let stray : turn_fault serves [] (three_paths s h c) argument ≡ [] =
+    sym (ap (λ w. turn_fault serves [] w argument) (walk_three s h c p₁.0 p₂.0 p₃.0)) ∙ t₄.0 in
+    let none = sym (turn_fault-plain [] (three_paths s h c).held 4 serves argument p₄.0 refl) ∙ stray in
     absurd (cc none)
 
 order_more : (h argument : Text) (arguments : List Text) → are_plain (h ∷ argument ∷ arguments) ≡ true
@@ -138,11 +180,20 @@ other_faults argument arguments p m e =
 abbrev pub Ask : List Text → Type 0
 Ask arguments = (r : Request) × (arguments ≡ arguments_of r)
 
-asks_audit : (arguments : List Text) → are_plain arguments ≡ true → leaf_fault audits arguments ≡ [] → Ask (codes "audit" ∷ arguments)
-asks_audit [] p e = absurd (audit_alone e)
-asks_audit (h ∷ []) p e = absurd (audit_one h (path_plain h p) e)
-asks_audit (h ∷ c ∷ []) p e = (audit h c, refl)
-asks_audit (h ∷ c ∷ argument ∷ arguments) p e = absurd (audit_more h c argument arguments p e)
+-- two paths after a name, if these are the arguments of some request
+asks_pair : (name : Text) → ((h c : Text) → Ask (name ∷ h ∷ c ∷ [])) → (arguments : List Text) → are_plain arguments ≡ true
+    → leaf_fault (pairs name) arguments ≡ [] → Ask (name ∷ arguments)
+asks_pair name ask [] p e = absurd (pair_alone name e)
+asks_pair name ask (h ∷ []) p e = absurd (pair_one name h (path_plain h p) e)
+asks_pair name ask (h ∷ c ∷ []) p e = ask h c
+asks_pair name ask (h ∷ c ∷ argument ∷ arguments) p e = absurd (pair_more name h c argument arguments p e)
+
+asks_serve : (arguments : List Text) → are_plain arguments ≡ true → leaf_fault serves arguments ≡ [] → Ask (codes "serve" ∷ arguments)
+asks_serve [] p e = absurd (serve_alone e)
+asks_serve (s ∷ []) p e = absurd (serve_one s (path_plain s p) e)
+asks_serve (s ∷ h ∷ []) p e = let plain = paths_plain s h p in absurd (serve_two s h plain.0 plain.1 e)
+asks_serve (s ∷ h ∷ c ∷ []) p e = (serve s h c, refl)
+asks_serve (s ∷ h ∷ c ∷ argument ∷ arguments) p e = absurd (serve_more s h c argument arguments p e)
 
 asks_order : (arguments : List Text) → are_plain arguments ≡ true → leaf_fault orders arguments ≡ [] → Ask (codes "order" ∷ arguments)
 asks_order [] p e = absurd (order_alone e)
@@ -151,13 +202,23 @@ asks_order (h ∷ argument ∷ arguments) p e = absurd (order_more h argument ar
 
 audit_words : (arguments : List Text) → are_plain arguments ≡ true → whole_fault (codes "audit" ∷ arguments) ≡ []
     → Ask (codes "audit" ∷ arguments)
-audit_words arguments p e = asks_audit arguments p
+audit_words arguments p e = asks_pair (codes "audit") (λ h c. (audit h c, refl)) arguments p
     (sym (ap (entered_fault parser) (stops_at_audit arguments)) ∙ leaf_of (codes "audit") arguments e)
 
 order_words : (arguments : List Text) → are_plain arguments ≡ true → whole_fault (codes "order" ∷ arguments) ≡ []
     → Ask (codes "order" ∷ arguments)
 order_words arguments p e = asks_order arguments p
     (sym (ap (entered_fault parser) (stops_at_order arguments)) ∙ leaf_of (codes "order") arguments e)
+
+script_words : (arguments : List Text) → are_plain arguments ≡ true → whole_fault (codes "script" ∷ arguments) ≡ []
+    → Ask (codes "script" ∷ arguments)
+script_words arguments p e = asks_pair (codes "script") (λ h c. (script h c, refl)) arguments p
+    (sym (ap (entered_fault parser) (stops_at_script arguments)) ∙ leaf_of (codes "script") arguments e)
+
+serve_words : (arguments : List Text) → are_plain arguments ≡ true → whole_fault (codes "serve" ∷ arguments) ≡ []
+    → Ask (codes "serve" ∷ arguments)
+serve_words arguments p e = asks_serve arguments p
+    (sym (ap (entered_fault parser) (stops_at_serve arguments)) ∙ leaf_of (codes "serve") arguments e)
 
 module _ (argument : Text) (arguments : List Text) where
   abbrev Reads : Text → Type 0
@@ -166,17 +227,20 @@ module _ (argument : Text) (arguments : List Text) where
   named : (name : Text) → bytes_eq name argument ≡ true → Reads name → Reads argument
   named name same reads = subst Reads ((bytes_eq-Decides name argument).0 same) reads
 
-  reads : (a o h : Bool) → bytes_eq (codes "audit") argument ≡ a → bytes_eq (codes "order") argument ≡ o
-      → bytes_eq (codes "help") argument ≡ h → Reads argument
-  reads true o h ea eo eh = named (codes "audit") ea (audit_words arguments)
-  reads false true h ea eo eh = named (codes "order") eo (order_words arguments)
-  reads false false true ea eo eh = named (codes "help") eh (λ p e. absurd (help_faults arguments e))
-  reads false false false ea eo eh = λ p e.
-      absurd (other_faults argument arguments (and_parts (is_plain argument) (are_plain arguments) p).0 (rw (ea, eo, eh) refl) e)
+  reads : (a o c v h : Bool) → bytes_eq (codes "audit") argument ≡ a → bytes_eq (codes "order") argument ≡ o
+      → bytes_eq (codes "script") argument ≡ c → bytes_eq (codes "serve") argument ≡ v → bytes_eq (codes "help") argument ≡ h
+      → Reads argument
+  reads true o c v h ea eo ec ev eh = named (codes "audit") ea (audit_words arguments)
+  reads false true c v h ea eo ec ev eh = named (codes "order") eo (order_words arguments)
+  reads false false true v h ea eo ec ev eh = named (codes "script") ec (script_words arguments)
+  reads false false false true h ea eo ec ev eh = named (codes "serve") ev (serve_words arguments)
+  reads false false false false true ea eo ec ev eh = named (codes "help") eh (λ p e. absurd (help_faults arguments e))
+  reads false false false false false ea eo ec ev eh = λ p e.
+      absurd (other_faults argument arguments (and_parts (is_plain argument) (are_plain arguments) p).0 (rw (ea, eo, ec, ev, eh) refl) e)
 
 asks : (arguments : List Text) → are_plain arguments ≡ true → whole_fault arguments ≡ [] → Ask arguments
 asks [] p e = (pipe, refl)
-asks (argument ∷ arguments) p e = reads argument arguments _ _ _ refl refl refl p e
+asks (argument ∷ arguments) p e = reads argument arguments _ _ _ _ _ refl refl refl refl refl p e
 
 pub simple_and_free : is_simple_and_free ssi_app ≡ true
 unfolding clap_on_literals

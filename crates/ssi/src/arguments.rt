@@ -3,7 +3,7 @@
 ghost use Rattle.std.specs.Prelude.{◌≡◌, ◌≢◌, true, map, drop, string_bytes, IfOk, MatchResult};
 ghost use Rattle.clap.specs.Words.{rows_of, found_of, kind_of, subcommand_rows_of};
 ghost use Rattle.clap.specs.declared.error.kind.ErrorKind.TheVariants.{OutOfMemory};
-ghost use Rattle.ssi.specs.Machinery.Parser.{path_in, request_in};
+ghost use Rattle.ssi.specs.Machinery.Parser.{path_in, request_in, request_named};
 ghost use Rattle.ssi.specs.Meaning.Arguments.{Request, request_of, arguments_of, are_plain};
 ghost use Rattle.ssi.specs.declared.arguments.NoTask.TheVariants.{Text, Memory};
 
@@ -27,6 +27,18 @@ pub enum Task<'a> {
     /// To find a certificate, or a cycle, of the history in this file.
     Order {
         history: &'a str,
+    },
+    /// To carry out the commands on standard input, and write the history and a certificate to these files.
+    Script {
+        history: &'a str,
+        certificate: &'a str,
+    },
+    /// To carry out the commands of the connections to this socket, and write the history and a certificate to these
+    /// files.
+    Serve {
+        socket: &'a str,
+        history: &'a str,
+        certificate: &'a str,
     },
 }
 
@@ -93,13 +105,30 @@ fn task_in<'a>(matches: &ArgMatches<'a>) -> Task<'a>
 {
     match matches.subcommand() {
         None => Task::Pipe,
-        Some(("audit", given)) => Task::Audit {
+        Some((name, given)) => task_named(name, given),
+    }
+}
+
+fn task_named<'a>(name: &str, given: &ArgMatches<'a>) -> Task<'a>
+    ensures { request_of result ≡ request_named name.now (rows_of (found_of given.now)) }
+{
+    match name {
+        "audit" => Task::Audit {
             history: path(given, "HISTORY"),
             certificate: path(given, "CERTIFICATE"),
         },
-        // `order`, the only other one
-        Some((_, given)) => Task::Order {
+        "order" => Task::Order {
             history: path(given, "HISTORY"),
+        },
+        "script" => Task::Script {
+            history: path(given, "HISTORY"),
+            certificate: path(given, "CERTIFICATE"),
+        },
+        // `serve`, the only other one
+        _ => Task::Serve {
+            socket: path(given, "SOCKET"),
+            history: path(given, "HISTORY"),
+            certificate: path(given, "CERTIFICATE"),
         },
     }
 }

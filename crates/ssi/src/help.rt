@@ -1,7 +1,7 @@
 //! The help texts, in lines of at most 80 columns.
 
 /// What the program does.
-pub const ABOUT: &str = "Audits histories of database transactions: are they serializable?";
+pub const ABOUT: &str = "Audits histories of database transactions, and runs a serializable store.";
 
 /// What follows the list of commands: an example of both texts, and the statuses.
 pub const MORE: &str = "\
@@ -26,10 +26,11 @@ certificate claims that all this is the same as if transaction 1 had run first,
 and then transaction 2. The verdict is yes.
 
 Exit status:
-    0  the answer is yes or a certificate, or help was asked for
+    0  the answer is yes or a certificate, the commands were carried out, or
+       help was asked for
     1  the answer is no or a cycle
     2  wrong arguments
-    3  reading or writing failed, or memory ran out";
+    3  reading, writing or the socket failed, or memory ran out";
 
 /// What `audit` does.
 pub const AUDIT: &str = "Audits a history by a certificate";
@@ -68,8 +69,59 @@ Exit status:
     2  wrong arguments
     3  reading or writing failed, or memory ran out";
 
+/// What `script` does.
+pub const SCRIPT: &str = "Carries out commands on a new store";
+
+/// What `script` reads and writes, how it takes paths, and its statuses.
+pub const SCRIPT_MORE: &str = "\
+Reads commands from standard input, one a line, and answers each at once:
+
+    begin S        get S K        put S K V      del S K        scan S K K
+    scan S K K N   commit S       abort S        collect        stat
+    dump           stop
+
+S is a session, K a key, V a value, and N the most rows that the scan gives.
+After `stop`, or at the end of the input, it writes the history of the store to
+one file and a certificate to the other. `audit` says yes to them.
+
+If a path begins with a hyphen, put `--` before the paths, or `./` before it:
+`ssi script -- -x -y` or `ssi script ./-x ./-y`.
+
+Exit status:
+    0  the commands were carried out, and both files are written
+    2  wrong arguments
+    3  reading or writing failed, or memory ran out";
+
+/// What `serve` does.
+pub const SERVE: &str = "Carries out the commands of connections to a socket";
+
+/// What `serve` reads and writes, how it takes paths, and its statuses.
+pub const SERVE_MORE: &str = "\
+Makes a Unix socket, accepts connections to it, one after the other, and carries
+out the commands of each on one new store, as `script` does. A session outlives
+the connection that began it. After `stop` it writes the history of the store to
+one file and a certificate to the other, and removes the file of the socket.
+`audit` says yes to them.
+
+If a path begins with a hyphen, put `--` before the paths, or `./` before it:
+`ssi serve -- -s -x -y` or `ssi serve ./-s ./-x ./-y`.
+
+Exit status:
+    0  a connection said `stop`, and both files are written
+    2  wrong arguments
+    3  the socket or writing failed, or memory ran out";
+
 /// The argument that names a history.
 pub const HISTORY: &str = "The file of the history";
 
 /// The argument that names a certificate.
 pub const CERTIFICATE: &str = "The file of the certificate";
+
+/// The argument that names a socket.
+pub const SOCKET: &str = "The path of the socket; no file may be there";
+
+/// The argument that names the history to write.
+pub const NEW_HISTORY: &str = "The file for the history; created or overwritten";
+
+/// The argument that names the certificate to write.
+pub const NEW_CERTIFICATE: &str = "The file for the certificate; created or overwritten";

@@ -1,10 +1,11 @@
-//! The program `ssi`: audits histories by certificates, and finds certificates or cycles.
+//! The program `ssi`: audits histories by certificates, finds certificates or cycles, and runs the store.
 #![tactic(auto)]
 
 mod arguments;
 mod command_line;
 mod fault;
 mod help;
+mod late_file;
 mod runs;
 mod status;
 mod tasks;

@@ -1,14 +1,17 @@
 //! Runs over any readers and writers, and their exit status.
 
-ghost use Rattle.std.specs.Prelude.{◌≡◌, ◌↔◌, true, List, ℕ, IfOk, IfSome, IsErrOf};
+ghost use Rattle.std.specs.Prelude.{◌≡◌, ◌↔◌, ◌⊎◌, true, List, ℕ, IfOk, IfSome, IsErrOf};
 ghost use Rattle.std.specs.Io.KnownBytes.{Appends};
 ghost use Rattle.devices.specs.Meaning.Watched.{has_failed, watched_remaining, watched_contents};
 ghost use Rattle.adya_audit.specs.Meaning.TextVerdicts.{IsAcceptedStream, IsSerializableStream, AreAccepted, AreSerializable};
 ghost use Rattle.adya_audit.specs.Meaning.Answers.{Answer, Certificate, IsAnswer, answer_text};
+ghost use Rattle.ssi_cli.specs.Meaning.Scripts.{Ran, Certified, course_of};
 
 use crate::status::Status;
 use adya_audit::{RunFault, run_audit, run_order, run_pipe};
-use devices::Watched;
+use devices::{Source, Watched};
+use ssi_cli::{ScriptFault, run_script};
+use ssi_line::End;
 use std::alloc::Global;
 use std::io::{Read, Write};
 
@@ -67,4 +70,43 @@ pub fn order_text<H: Read, W: Write>(
 {
     let ordered = run_order(alloc, history, out)?;
     Ok(Status::of_ordered(&ordered))
+}
+
+/// The first fault of a run over commands.
+#[derive(Clone, Copy, Debug, PartialEq, Eq)]
+pub enum CommandsFault {
+    /// Reading the commands failed.
+    Input,
+    /// Writing an answer failed.
+    Output,
+    /// The commands were carried out, but the history and its certificate are not both written.
+    Texts(ScriptFault),
+}
+
+/// Carries out the commands on a new store, and writes its history and a certificate. They are written also if reading or
+/// answering the commands failed. Returns the first fault.
+pub fn carry_out_commands<S: Source, W: Write, H: Write, C: Write>(
+    alloc: Global,
+    input: &mut S,
+    out: &mut Watched<W>,
+    history: &mut Watched<H>,
+    certificate: &mut Watched<C>,
+) -> Result<Status, CommandsFault>
+    ensures run { (ran : Ran W.contents (S.remaining input.old) (S.remaining input.new) out.old out.new)
+        × IfOk result (λ status. (status ≡ Status.Fine) × ((ran.end ≡ End.Eof) ⊎ (ran.end ≡ End.Stop))
+        × Certified (course_of ran) H.contents history.old history.new C.contents certificate.old certificate.new) }
+    ensures input { IsErrOf result CommandsFault.Input → S.is_failed input.new ≡ true }
+    ensures output { IsErrOf result CommandsFault.Output → has_failed out.new ≡ true }
+    ensures history { IsErrOf result (CommandsFault.Texts ScriptFault.History) → has_failed history.new ≡ true }
+    ensures certificate { IsErrOf result (CommandsFault.Texts ScriptFault.Certificate) → has_failed certificate.new ≡ true }
+{
+    match run_script(alloc, input, out, history, certificate) {
+        Ok(End::Eof) => Ok(Status::Fine),
+        Ok(End::Stop) => Ok(Status::Fine),
+        Ok(End::ReadFault) => Err(CommandsFault::Input),
+        Ok(End::WriteFault) => Err(CommandsFault::Output),
+        Err(_) if input.failed() => Err(CommandsFault::Input),
+        Err(_) if out.failed() => Err(CommandsFault::Output),
+        Err(fault) => Err(CommandsFault::Texts(fault)),
+    }
 }

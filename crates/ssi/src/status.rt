@@ -10,13 +10,13 @@ use std::process::ExitCode;
 /// How the program ends, each with an exit status of its own.
 #[derive(Clone, Copy, Debug, PartialEq, Eq)]
 pub enum Status {
-    /// 0: the answer is yes or a certificate, or help was asked for.
+    /// 0: the answer is yes or a certificate, the commands were carried out, or help was asked for.
     Fine,
     /// 1: the answer is no or a cycle.
     Refused,
     /// 2: the arguments ask for nothing that the program does.
     WrongArguments,
-    /// 3: reading or writing failed, or memory ran out.
+    /// 3: reading, writing or a socket failed, or memory ran out.
     Failed,
 }
 

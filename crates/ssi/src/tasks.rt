@@ -6,16 +6,21 @@ ghost use Rattle.clap.specs.declared.error.kind.ErrorKind.TheVariants.{DisplayHe
 
 use crate::arguments::{NoTask, Task, given_arguments, task_of};
 use crate::fault::Fault;
-use crate::runs::{judge_stream, judge_texts, order_text};
+use crate::late_file::LateFile;
+use crate::runs::{carry_out_commands, judge_stream, judge_texts, order_text};
 use crate::status::Status;
 use clap::Error;
 use devices::Watched;
+use ssi_cli::{Served, run_socket};
 use std::fs::Files;
+use std::io::BufWriter;
+use std::net::Net;
+use std::os::unix::net::UnixListener;
 use std::rt::Runtime;
 use std::{fs, io};
 
 /// Does what the arguments ask for, and prints a fault on standard error.
-pub fn run<R: Runtime + AllocGlobal>(rt: &R) -> Status {
+pub fn run<R: Runtime + Net + AllocGlobal>(rt: &R) -> Status {
     let arguments = match given_arguments(rt) {
         Ok(arguments) => arguments,
         Err(none) => return without_task(rt, none),
@@ -30,7 +35,10 @@ pub fn run<R: Runtime + AllocGlobal>(rt: &R) -> Status {
     }
 }
 
-fn carry_out<'a, R: Runtime + AllocGlobal>(rt: &R, task: Task<'a>) -> Result<Status, Fault<'a>> {
+fn carry_out<'a, R: Runtime + Net + AllocGlobal>(
+    rt: &'a R,
+    task: Task<'a>,
+) -> Result<Status, Fault<'a>> {
     match task {
         Task::Pipe => audit_input(rt),
         Task::Audit {
@@ -38,6 +46,15 @@ fn carry_out<'a, R: Runtime + AllocGlobal>(rt: &R, task: Task<'a>) -> Result<Sta
             certificate,
         } => audit_files(rt, history, certificate),
         Task::Order { history } => order_file(rt, history),
+        Task::Script {
+            history,
+            certificate,
+        } => follow_input(rt, history, certificate),
+        Task::Serve {
+            socket,
+            history,
+            certificate,
+        } => serve_connections(rt, socket, history, certificate),
     }
 }
 
@@ -72,6 +89,67 @@ fn order_file<'a, R: Runtime + AllocGlobal>(rt: &R, history: &'a str) -> Result<
     order_text(rt.alloc(), &mut history_file, &mut output).map_err(|fault| Fault::of_run(
         fault, history, history,
     ))
+}
+
+fn follow_input<'a, R: Runtime + AllocGlobal>(
+    rt: &'a R,
+    history: &'a str,
+    certificate: &'a str,
+) -> Result<Status, Fault<'a>> {
+    let mut input = Watched::new(rt.reader());
+    let mut output = Watched::new(io::writer(rt));
+    let mut history_file = late_file(rt, history)?;
+    let mut certificate_file = late_file(rt, certificate)?;
+    carry_out_commands(
+        rt.alloc(),
+        &mut input,
+        &mut output,
+        &mut history_file,
+        &mut certificate_file,
+    )
+    .map_err(|fault| Fault::of_commands(fault, history, certificate))
+}
+
+fn serve_connections<'a, R: Runtime + Net + AllocGlobal>(
+    rt: &'a R,
+    socket: &'a str,
+    history: &'a str,
+    certificate: &'a str,
+) -> Result<Status, Fault<'a>> {
+    let mut history_file = late_file(rt, history)?;
+    let mut certificate_file = late_file(rt, certificate)?;
+    let listener = bound(rt, socket)?;
+    let (served, written) = run_socket(
+        rt.alloc(),
+        &listener,
+        &mut history_file,
+        &mut certificate_file,
+    );
+    // A file that can't be removed is no fault.
+    let _ = fs::remove_file(rt, socket);
+    match (served, written) {
+        (Served::SocketFault, _) => Err(Fault::Socket(socket)),
+        (Served::Stopped, Err(fault)) => Err(Fault::of_texts(fault, history, certificate)),
+        (Served::Stopped, Ok(())) => Ok(Status::Fine),
+    }
+}
+
+// The system would make a socket without a file of the empty path.
+fn bound<'a, R: Files + Net>(rt: &R, path: &'a str) -> Result<UnixListener, Fault<'a>> {
+    if path.is_empty() {
+        return Err(Fault::Socket(path));
+    }
+    UnixListener::bind(rt, path).map_err(|_| Fault::Socket(path))
+}
+
+fn late_file<'a, R: Files + AllocGlobal>(
+    rt: &'a R,
+    path: &'a str,
+) -> Result<Watched<BufWriter<LateFile<'a, R>>>, Fault<'a>> {
+    match BufWriter::new(rt.alloc(), LateFile::new(rt, path)) {
+        Ok(file) => Ok(Watched::new(file)),
+        Err(_) => Err(Fault::Memory),
+    }
 }
 
 fn opened<'a, R: Files>(rt: &R, path: &'a str) -> Result<Watched<R::File>, Fault<'a>> {
