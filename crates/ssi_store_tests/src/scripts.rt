@@ -10,9 +10,9 @@ use ssi_reads::IndexMarks;
 use ssi_store::Store;
 use ssi_versions::KeyChains;
 use std::alloc::{AllocError, Global};
-use std::io;
 use std::io::{Read, Write};
 use std::os::unix::net::{UnixListener, UnixStream};
+use std::{fs, io};
 
 /// What a script has made.
 #[derive(PartialEq, Drop)]
@@ -111,6 +111,7 @@ pub(crate) fn are_sessions_the_stores(alloc: Global) -> bool {
 pub(crate) fn are_peers_answered(rt: &HostRuntime) -> io::Result<bool> {
     let listener = UnixListener::bind(rt, "socket")?;
     let mut peer = UnixStream::connect(rt, "socket")?;
+    fs::remove_file(rt, "socket")?;
     peer.write_all(b"begin A\ncommit A\nstop\n")?;
     let alloc = rt.alloc();
     let mut store = Store::new(alloc, KeyChains::new(alloc), IndexMarks::new(alloc));
