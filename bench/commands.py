@@ -11,15 +11,9 @@ import argparse
 import random
 import sys
 
-LONGEST_SCAN = 10  # keys in the range of a scan, at most, and most rows of a limited one
+from generate import LONGEST_SCAN, count
+
 SCANS, LIMITED, DELETES = 0.25, 0.5, 0.25  # of the reads, of the scans, of the writes, with --scans
-
-
-def count(text):
-    number = int(text)
-    if number < 1:
-        raise argparse.ArgumentTypeError("1 or more is wanted")
-    return number
 
 
 def options():

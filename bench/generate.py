@@ -220,4 +220,5 @@ def main():
     print("%d events, %d transactions, %d of them committed" % numbers, file=sys.stderr)
 
 
-main()
+if __name__ == "__main__":
+    main()

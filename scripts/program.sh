@@ -2,35 +2,9 @@
 # Runs the built program on every worked example, with wrong arguments, for help, and on files and streams that fail.
 # Compares its standard output, its standard error and its exit status with what is wanted. Build it first:
 # (cd crates/ssi && rt run < stdin). Usage: program.sh [PROGRAM], by default crates/ssi/out/ssi.
-set -u
-top=$(realpath "$(dirname "$0")/..")
-ssi=$(realpath "${1:-$top/crates/ssi/out/ssi}")
-cd "$top" || exit
-[ -x "$ssi" ] || { echo "no program at $ssi"; exit 2; }
-examples=$PWD/crates/adya_tests/data
-sample=$PWD/crates/ssi/stdin
-passed=0 failed=0
-work=$(mktemp -d)
-trap 'rm -rf "$work"' EXIT
-cd "$work" || exit
-mkdir folder
-
-check() { # the name of the case; the wanted text; the actual text
-    if [ "$2" = "$3" ]; then
-        passed=$((passed + 1))
-    else
-        failed=$((failed + 1))
-        printf '%s\n' "$1: wanted" "$2" 'got' "$3"
-    fi
-}
-
-run() { # the arguments; prints the lines of standard output, those of standard error, and the status
-    "$ssi" "$@" >out 2>err
-    local status=$?
-    sed 's/^/out: /' out
-    sed 's/^/err: /' err
-    echo "status $status"
-}
+source "$(dirname "$0")/checks.sh"
+examples=$top/crates/adya_tests/data
+sample=$top/crates/ssi/stdin
 
 streams() { # the arguments; prints which of the two streams were written to, and the status
     run "$@" | sed -E 's/^(out|err): .*/\1/' | uniq
@@ -144,5 +118,4 @@ check 'closed standard output' "$full" "$("$ssi" <"$sample" 2>&1 >&-; echo "stat
 check 'closed standard output, files' "$full" "$("$ssi" audit -- -h -c 2>&1 >&-; echo "status $?")"
 check 'a full device as standard error too' 'status 3' "$("$ssi" order nowhere 2>/dev/full; echo "status $?")"
 
-echo "$passed passed, $failed failed"
-[ "$failed" -eq 0 ]
+report

@@ -3,35 +3,10 @@
 # `serve`: clients that come one after the other, wait, or leave too early, and sockets and files that can't be made.
 # Compares what the program prints, its status, both files, and the verdict on them with what is wanted. Build the program
 # first: (cd crates/ssi && rt run < stdin). Usage: serve.sh [PROGRAM], by default crates/ssi/out/ssi.
-set -u
-top=$(realpath "$(dirname "$0")/..")
-ssi=$(realpath "${1:-$top/crates/ssi/out/ssi}")
-cd "$top" || exit
-[ -x "$ssi" ] || { echo "no program at $ssi"; exit 2; }
-cases=$PWD/crates/ssi_store_tests/data
-passed=0 failed=0
+source "$(dirname "$0")/checks.sh"
+cases=$top/crates/ssi_store_tests/data
 server=
-work=$(mktemp -d)
 trap '[ -z "$server" ] || kill "$server" 2>/dev/null; rm -rf "$work"' EXIT
-cd "$work" || exit
-mkdir folder
-
-check() { # the name of the case; the wanted text; the actual text
-    if [ "$2" = "$3" ]; then
-        passed=$((passed + 1))
-    else
-        failed=$((failed + 1))
-        printf '%s\n' "$1: wanted" "$2" 'got' "$3"
-    fi
-}
-
-run() { # the arguments; prints the lines of standard output, those of standard error, and the status
-    timeout 60 "$ssi" "$@" >out 2>err
-    local status=$?
-    sed 's/^/out: /' out
-    sed 's/^/err: /' err
-    echo "status $status"
-}
 
 lines() { # lines; prints them
     printf '%s\n' "$@"
@@ -271,5 +246,4 @@ finish
 check 'its end, too' $'ssi: write fault: folder\nstatus 3' "$ending"
 check 'its history' $'adya 1\nend' "$(cat h)"
 
-echo "$passed passed, $failed failed"
-[ "$failed" -eq 0 ]
+report

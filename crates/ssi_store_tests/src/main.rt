@@ -10,11 +10,9 @@
 //! history, the certificate, the verdict on both, and a line `end of list`. `scripts/compare_store.py` reads them.
 #![tactic(auto)]
 
-mod commands;
 mod courses;
 mod limits;
 mod lists;
-mod replies;
 mod runs;
 mod scripts;
 mod texts;
@@ -53,7 +51,8 @@ fn write_rest(rt: &HostRuntime) -> io::Result<()> {
         scripts::are_lines_told_apart(alloc),
     )?;
     write_line(rt, "second input", scripts::are_sessions_the_stores(alloc))?;
-    write_line(rt, "socket", scripts::are_peers_answered(rt)?)
+    write_line(rt, "socket", scripts::are_peers_answered(rt)?)?;
+    write_line(rt, "socket with texts", scripts::are_peers_recorded(rt)?)
 }
 
 fn write_line(rt: &HostRuntime, name: &str, is_so: bool) -> io::Result<()> {

@@ -1,8 +1,8 @@
 //! What a store makes of a course.
 
-use crate::commands::{Step, step_of};
-use crate::replies::line_of;
 use crate::texts::{Texts, are_accepted, texts_of};
+use devices::Watched;
+use ssi_line::{Line, read_line, write_reply};
 use ssi_reads::Marks;
 use ssi_store::{Command, Store};
 use ssi_versions::Chains;
@@ -90,10 +90,10 @@ fn said<C: Chains + Drop, M: Marks + Drop>(
     store: &mut Store<C, M>,
     line: &str,
 ) -> Option<Vec<u8>> {
-    match step_of(line) {
-        Some(Step::Do(command)) => carried_out(alloc, store, command),
-        Some(Step::Dump) => dumped(alloc, store)?.joined().ok(),
-        Some(Step::Stop) => Vec::from_slice(alloc, b"stopped\n").ok(),
+    match read_line(line.as_bytes()) {
+        Some(Line::Do(command)) => carried_out(alloc, store, command),
+        Some(Line::Dump) => dumped(alloc, store)?.joined().ok(),
+        Some(Line::Stop) => Vec::from_slice(alloc, b"stopped\n").ok(),
         None => Vec::from_slice(alloc, b"? syntax\n").ok(),
     }
 }
@@ -105,8 +105,7 @@ fn carried_out<C: Chains + Drop, M: Marks + Drop>(
     command: Command,
 ) -> Option<Vec<u8>> {
     let answer = store.apply(command);
-    let line = line_of(alloc, &answer).ok()?;
-    let mut bytes = Vec::from_slice(alloc, line.as_bytes()).ok()?;
-    bytes.push(b'\n').ok()?;
-    Some(bytes)
+    let mut line = Watched::new(Vec::new(alloc));
+    write_reply(&answer, &mut line).ok()?;
+    Some(line.into_inner())
 }

@@ -4,7 +4,7 @@ ghost use Rattle.std.specs.Prelude.{◌<◌};
 
 use adya_testing::Pieces;
 use devices::Watched;
-use ssi_cli::{Served, run_script, serve_socket};
+use ssi_cli::{Served, run_script, run_socket, serve_socket};
 use ssi_line::{End, serve};
 use ssi_reads::IndexMarks;
 use ssi_store::Store;
@@ -107,12 +107,18 @@ pub(crate) fn are_sessions_the_stores(alloc: Global) -> bool {
         && output.into_inner().as_slice() == b"begun 1\ndone\ncommitted\nstopped\n".as_slice()
 }
 
-/// Whether a store answers over a socket, to a peer that has written all its lines.
-pub(crate) fn are_peers_answered(rt: &HostRuntime) -> io::Result<bool> {
+/// Returns a socket, and a peer that has written these lines to it.
+fn peer_with(rt: &HostRuntime, lines: &[u8]) -> io::Result<(UnixListener, UnixStream)> {
     let listener = UnixListener::bind(rt, "socket")?;
     let mut peer = UnixStream::connect(rt, "socket")?;
     fs::remove_file(rt, "socket")?;
-    peer.write_all(b"begin A\ncommit A\nstop\n")?;
+    peer.write_all(lines)?;
+    Ok((listener, peer))
+}
+
+/// Whether a store answers a peer that has written all its lines.
+pub(crate) fn are_peers_answered(rt: &HostRuntime) -> io::Result<bool> {
+    let (listener, mut peer) = peer_with(rt, b"begin A\ncommit A\nstop\n")?;
     let alloc = rt.alloc();
     let mut store = Store::new(alloc, KeyChains::new(alloc), IndexMarks::new(alloc));
     if serve_socket(alloc, &listener, &mut store) != Served::Stopped {
@@ -121,4 +127,19 @@ pub(crate) fn are_peers_answered(rt: &HostRuntime) -> io::Result<bool> {
     let mut replies = Vec::new(alloc);
     peer.read_to_end(&mut replies)?;
     Ok(replies.as_slice() == b"begun 1\ncommitted\nstopped\n".as_slice())
+}
+
+/// Whether what a peer has asked for is in the texts at the end.
+pub(crate) fn are_peers_recorded(rt: &HostRuntime) -> io::Result<bool> {
+    let (listener, _peer) = peer_with(rt, b"begin A\nput A x 5\ncommit A\nstop\n")?;
+    let mut history = Watched::new(Vec::new(rt.alloc()));
+    let mut certificate = Watched::new(Vec::new(rt.alloc()));
+    let (served, written) = run_socket(rt.alloc(), &listener, &mut history, &mut certificate);
+    Ok(
+        served == Served::Stopped
+            && written.is_ok()
+            && history.into_inner().as_slice()
+                == b"adya 1\nw1(x.1:1,5)\nc1\n[x:1]\n{x,5}\nend\n".as_slice()
+            && certificate.into_inner().as_slice() == b"serial 1\n1\nend\n".as_slice(),
+    )
 }
