@@ -105,6 +105,17 @@ check 'a folder as history' "$folder" "$(run audit folder c)"
 check 'a folder as certificate' "$folder" "$(run audit -- -h folder)"
 check 'a folder to order' "$folder" "$(run order folder)"
 
+# The greatest number in each place of a number, and one more.
+great() { # four numbers: of the transaction, of its write, in the order and in the certificate; prints the verdict
+    printf '%s\n' 'adya 1' "w$1(x.$1:$2,4294967295)" "c$1" "[x:$3]" '{x,4294967295}' end 'serial 1' "$4" end | run
+}
+most=4294967295
+check 'the greatest numbers' "$answer" "$(great $most 1 $most $most)"
+check 'a transaction above them' $'out: no 1 syntax history 2\nstatus 1' "$(great 4294967296 1 $most $most)"
+check 'a write above them' $'out: no 1 syntax history 2\nstatus 1' "$(great $most $most $most $most)"
+check 'an installed version above them' $'out: no 1 syntax history 4\nstatus 1' "$(great $most 1 4294967296 $most)"
+check 'a transaction of the certificate above them' $'out: no 1 syntax serial 2\nstatus 1' "$(great $most 1 $most 4294967296)"
+
 # Standard input and output.
 check 'empty input' $'out: no 1 syntax history 1\nstatus 1' "$(run </dev/null)"
 check 'a folder as standard input' $'err: ssi: read fault: stdin\nstatus 3' "$(run <folder)"
