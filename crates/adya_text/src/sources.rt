@@ -98,7 +98,7 @@ fn read_history_part<S: Source>(
 {
     let mut reader = HistoryReader::new(alloc);
     let mut line = Vec::new(alloc);
-    while buffer.next_line(source, &mut line)? {
+    while buffer.next_line(source, &mut line, reader.longest_line())? {
         reader.line(&line)?;
         if is_tail(&line) {
             return reader.finish(b"");
@@ -144,7 +144,7 @@ fn read_rest<S: Source, R: LineReader>(
 {
     let mut reader = reader;
     let mut line = Vec::new(alloc);
-    while buffer.next_line(source, &mut line)? {
+    while buffer.next_line(source, &mut line, reader.longest_line())? {
         reader.line(&line)?;
         if reader.has_failed() {
             return reader.finish(b"");
