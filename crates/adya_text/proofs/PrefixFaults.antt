@@ -114,7 +114,7 @@ fault_after grammar text past rest begins outside cut = record {
   first = fault_missing grammar past begins;
 }
 
--- ---- the fault of a text of which one line's start is too much
+-- ---- the fault of a text with the start of a line that cannot come there
 
 pub front_of : (text : List ℕ) (past : List (List ℕ)) (bytes : List ℕ) → HasStart text past bytes → HasFront text past
 front_of text past bytes start = record { plain = start.plain; rest = bytes ++ start.rest; whole = start.whole }
@@ -131,7 +131,7 @@ longer_line bytes l ls rest =
     ∙ sym (append_assoc bytes l (10 ∷ (with_ends ls ++ rest)))
     ∙ sym (append_assoc (bytes ++ l) (10 ∷ []) (with_ends ls ++ rest))
 
--- if the line ends later it begins no text, and else it is missing
+-- the line, if it ends, begins no text with those before it, and else it is missing
 pub fault_at_start : (grammar : Grammar) (text : List ℕ) (past : List (List ℕ)) (bytes : List ℕ) → Begins grammar past
     → StartsNoLine grammar past bytes → HasStart text past bytes → IsFaultLine grammar text (suc (length past))
 fault_at_start grammar text past bytes begins none start =

@@ -101,7 +101,7 @@ impl Stage {
         }
     }
 
-    /// Returns the most bytes that the next line can have; `None` if it can have any number.
+    /// Returns the most bytes that the next line can have: 0 if none may come, `None` if it can have any number.
     fn longest_line(&self) -> Option<usize>
         ensures { result ≡ longest_line self.now }
     {

@@ -1,7 +1,7 @@
 //! Lines read from a source.
 
 ghost use Rattle.std.specs.Prelude.{◌≡◌, ◌≢◌, ◌↔◌, ◌⊎◌, ℕ, ◌+◌, ◌*◌, ◌<◌, ◌≤◌, List, [], ◌∷◌, ◌++◌, length, All, true};
-ghost use Rattle.std.specs.Prelude.{false, if◌then◌else◌, IfOk, OnOk, IsErrOf, IsTrue, slice_range};
+ghost use Rattle.std.specs.Prelude.{false, if◌then◌else◌, IfOk, OnOk, IfSome, IsErrOf, IsTrue, slice_range};
 ghost use Rattle.std.specs.Io.KnownBytes.{Consumes, IsAtEnd, prepend_known};
 ghost use Rattle.adya_text.specs.Machinery.Buffers.{work_left, line_end};
 ghost use Rattle.adya_text.specs.Machinery.LongLines.{IsLonger};
@@ -63,6 +63,7 @@ impl LineBuffer {
             × All (λ x. x ≢ 10) taken × (self.old ≡ taken ++ line_end ended ++ self.new)) }
         ensures all { IfOk result (λ ended. ended ≡ false → self.new ≡ []) }
         ensures less { IfOk result (λ ended. ended ≡ true → length self.new < length self.old) }
+        ensures short { OnOk result (length line.new.items ≤ length line.old.items + 8192) }
     {
         let pending = &self.bytes[self.start..self.end];
         match memchr(b'\n', pending) {
@@ -104,10 +105,10 @@ impl LineBuffer {
         }
     }
 
-    /// Reads the next line, without its line feed, in place of what `line` held. Returns false if the input ended before
-    /// a line feed, or if the bytes before it are more than `longest`: after the first read that brought so many. `line`
-    /// then holds what follows the last line feed, as far as it was read. `Device` if the source failed, `Memory` if
-    /// `line` could not grow. `work_left` falls with each line.
+    /// Reads the next line, without its line feed, in place of what `line` held; it may have any length if `longest` is
+    /// `None`. Returns false if the input ended before a line feed, or if more than `longest` bytes came without one;
+    /// `line` then holds what was read after the last one, at most 8192 bytes more than `longest`. `Device` if the source
+    /// failed, `Memory` if `line` could not grow. `work_left` falls with each line.
     pub(crate) fn next_line<S: Source>(
         &mut self,
         source: &mut S,
@@ -118,6 +119,7 @@ impl LineBuffer {
             (λ ended. Consumes (prepend_known self.old (S.remaining source.old))
             (prepend_known self.new (S.remaining source.new)) (line.new.items ++ line_end ended)) }
         ensures plain { OnOk result (All (λ x. x ≢ 10) line.new.items) }
+        ensures short { OnOk result (IfSome longest (λ most. length line.new.items ≤ most + 8192)) }
         ensures end { IfOk result (λ ended. ended ≡ false
             → IsLonger longest line.new.items ⊎ ((self.new ≡ []) × IsAtEnd (S.remaining source.new))) }
         ensures less { IfOk result (λ ended. ended ≡ true
@@ -143,7 +145,7 @@ impl LineBuffer {
     }
 }
 
-/// Returns whether these are more bytes than the most; false if there is no most.
+/// Returns whether these are more than `longest` bytes; false if that is `None`.
 fn is_longer(bytes: &[u8], longest: Option<usize>) -> bool
     ensures { IsTrue result ↔ IsLonger longest bytes.now }
 {

@@ -59,7 +59,7 @@ impl Stage {
         }
     }
 
-    /// Returns the most bytes that the next line can have.
+    /// Returns the most bytes that the next line can have: 0 if none may come.
     fn longest_line(&self) -> Option<usize>
         ensures { result ≡ longest_line self.now }
     {

@@ -35,7 +35,7 @@ is_done (Orders e last) = false
 is_done (Finals e last) = false
 is_done (Failed k) = false
 
--- the most bytes of a line that may come in the stage, if there is a most; the heads are `adya 1` and `adya 2`
+-- the most bytes of a line that may come in the stage, if there is a most: `adya 1` and `adya 2` have 6
 abbrev pub longest_line : Stage → Option ℕ
 longest_line Head = Some 6
 longest_line (Events e) = None

@@ -27,7 +27,7 @@ is_done Head = false
 is_done Txns = false
 is_done (Failed k) = false
 
--- the most bytes of a line that may come in the stage: `serial 1`, or a number up to 4294967295
+-- the most bytes of a line that may come in the stage: `serial 1` has 8, and 4294967295 has 10
 abbrev pub longest_line : Stage → Option ℕ
 longest_line Head = Some 8
 longest_line Txns = Some 10
