@@ -18,11 +18,11 @@ mod values;
 use adya_testing::histories::{
     self, BadHistory, commit, final_pair, read, version, version_order, write,
 };
-use adya_testing::{FailsAt, Narrow, Pieces};
+use adya_testing::{Endless, FailsAt, Narrow, Pieces};
 use adya_values::History;
 use devices::Watched;
 use std::alloc::Global;
-use std::io::ErrorKind;
+use std::io::{Chain, ErrorKind, Read};
 
 /// The history in which transaction 2 reads what transaction 1 wrote.
 const HISTORY: &[u8] = b"adya 1\nw1(x.1:1,5)\nc1\nr2(x.1:1,5)\nc2\n[x:1]\n{x,5}\nend\n";
@@ -33,6 +33,9 @@ const CERTIFICATE: &[u8] = b"serial 1\n1\n2\nend\n";
 /// Both texts in one stream.
 const STREAM: &[u8] =
     b"adya 1\nw1(x.1:1,5)\nc1\nr2(x.1:1,5)\nc2\n[x:1]\n{x,5}\nend\nserial 1\n1\n2\nend\n";
+
+/// A history up to a value that may go on; only the rest of its line would show that it is too long.
+const UNENDED: &[u8] = b"adya 1\nw1(x.1:1,";
 
 /// How failing devices fail. An interrupted call is a failed one.
 const KINDS: [ErrorKind; 2] = [ErrorKind::Interrupted, ErrorKind::TimedOut];
@@ -56,6 +59,12 @@ type Reader<'a> = Watched<FailsAt<Pieces<'a>>>;
 /// Makes a reader of the text in pieces of 7 bytes whose k-th call fails; if k is 0, none does.
 fn reader(text: &[u8], k: u64, kind: ErrorKind) -> Reader<'_> {
     Watched::new(FailsAt::new(Pieces::new(text, 7), k, kind))
+}
+
+/// Makes a reader of the text and then of the byte forever, which gives at most `most_reads` reads.
+fn endless(text: &[u8], byte: u8, most_reads: u32) -> Watched<FailsAt<Chain<&[u8], Endless>>> {
+    let device = FailsAt::new(text.chain(Endless(byte)), 0, ErrorKind::Other);
+    Watched::with_bound(device, most_reads)
 }
 
 /// Makes a writer that takes a byte a call and whose k-th call fails; if k is 0, none does.

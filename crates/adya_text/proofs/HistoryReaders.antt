@@ -21,9 +21,10 @@ use Rattle.adya_text.specs.Computing.HistoryRuns.{allows, edition_at, stage_afte
 use Rattle.adya_text.specs.Computing.HistoryRuns.{event_in, unfinished_in, order_in, final_in}
 use Rattle.adya_text.specs.Machinery.HistoryReaders.{IsTaken, IsFed, IsRefused, IsAllowed, Takes}
 use Rattle.adya_text.specs.Meaning.Reading.{ReadsHistory}
-use Rattle.adya_text.specs.Machinery.HistoryReaders.{is_failed, is_done, line_after, next_line}
+use Rattle.adya_text.specs.Machinery.HistoryReaders.{is_failed, is_done, line_after, longest_line, next_line}
+use Rattle.adya_text.specs.Machinery.LongLines.{IsLonger, HasStart, StartsNoLine}
 use Rattle.adya_values.specs.declared.edition.Edition.{Edition}
-use Rattle.adya_values.specs.declared.edition.Edition.TheVariants.{One}
+use Rattle.adya_values.specs.declared.edition.Edition.TheVariants.{One, Two}
 use Rattle.adya_text.specs.declared.history_reader.Stage.{Stage}
 use Rattle.adya_text.specs.declared.history_reader.Stage.TheVariants.{Head, Events, Unfinished, Orders, Finals, Done}
 use Rattle.adya_text.specs.declared.history_reader.Stage.TheVariants.{Failed}
@@ -32,8 +33,9 @@ use Rattle.adya_text.specs.declared.read_fault.ReadFault.{ReadFault}
 use Rattle.adya_text.specs.declared.read_fault.ReadFault.TheVariants.{Syntax}
 use Rattle.adya_text.specs.declared.read_fault.Text.TheVariants as Of
 use Rattle.adya_text.proofs.Runs.{run_join, refused, taken, one_end}
-use Rattle.adya_text.proofs.FaultLines.{fault_at, fault_stays, fault_stops, whole_begins}
-use Rattle.adya_text.proofs.PrefixFaults.{fault_within, fault_after}
+use Rattle.adya_text.proofs.FaultLines.{front_begins, fault_at, fault_stays, fault_stops, whole_begins}
+use Rattle.adya_text.proofs.PrefixFaults.{fault_within, fault_after, fault_at_start}
+use Rattle.adya_text.proofs.LongLines.{longer_some, longer_with}
 use Rattle.adya_text.proofs.HistoryTexts.{LinesTell, HasLines, Run, end, run_of, are_lines, items_of, event_items}
 use Rattle.adya_text.proofs.HistoryTexts.{unfinished_items, order_items, final_items, held_by, items_texts}
 
@@ -126,6 +128,39 @@ fed_undone tell r past fed undone (h, is, whole) = by_failed (is_failed r.stage)
         (fed.taken going).run run in
         let done : is_done r.stage ≡ true = ap is_done same in
         absurd cc
+
+-- ---- lines that are too long
+
+-- a line that may come in the stage is not longer than the most
+within : (s : Stage) (x : Line) → allows s x ≡ true → IsLonger (longest_line s) (line_text x) → ⊥
+within Head (HeadLine One) may longer = absurd (omega (arith, longer))
+within Head (HeadLine Two) may longer = absurd (omega (arith, longer))
+within Head (EventLine v) may longer = absurd cc
+within Head (UnfinishedLine t) may longer = absurd cc
+within Head (OrderLine o) may longer = absurd cc
+within Head (FinalLine f) may longer = absurd cc
+within Head TailLine may longer = absurd cc
+within (Events e) x may longer = longer
+within (Unfinished last) x may longer = longer
+within (Orders e last) x may longer = longer
+within (Finals e last) x may longer = longer
+within (Done e) x may longer = absurd cc
+within (Failed k) x may longer = absurd cc
+
+pub fed_long : LinesTell → (r : HistoryReader) (past : List (List ℕ)) → IsFed r past → (start : List ℕ)
+    → IsLonger (longest_line r.stage) start → StartsNoLine AreHistoryLines past start
+fed_long tell r past fed start longer = record {
+  some = longer_some (longest_line r.stage) start longer;
+  stops = λ more b. by_failed (is_failed r.stage) refl more b;
+}
+  where
+    by_failed : (b : Bool) → is_failed r.stage ≡ b → (more : List ℕ)
+        → Begins AreHistoryLines (past ++ (start ++ more) ∷ []) → ⊥
+    by_failed true failed more b =
+        fed_stops r past fed failed (front_begins AreHistoryLines past ((start ++ more) ∷ []) b)
+    by_failed false going more b = run_stops tell r.stage past (start ++ more) (fed.taken going).run
+        (λ x is ok. within r.stage x ok
+        (subst (IsLonger (longest_line r.stage)) is.same (longer_with (longest_line r.stage) start more longer))) b
 
 -- ---- the number of the line that comes next
 
@@ -430,6 +465,12 @@ fed_history r past text rest v fed done empty cut e ts es os fs =
     let whole : text ≡ history_text h = cut.whole ∙ ap (λ (l : List ℕ). with_ends past ++ l) empty
     ∙ append-nil (with_ends past) ∙ ap with_ends held.lines in
     (subst IsHistory (sym same) held.is, whole ∙ ap history_text (sym same))
+
+pub long_fault : (r : HistoryReader) (past : List (List ℕ)) (text bytes : List ℕ) → IsFed r past → is_failed r.stage ≡ false
+    → StartsNoLine AreHistoryLines past bytes → HasStart text past bytes → IsFaultLine AreHistoryLines text (next_line r)
+long_fault r past text bytes fed going none start =
+    subst (IsFaultLine AreHistoryLines text) (sym (next_is r past (fed.taken going)))
+    (fault_at_start AreHistoryLines text past bytes (fed_begins r past fed going) none start)
 
 -- ---- the answers of the reader
 

@@ -3,6 +3,7 @@ pub mod FaultLines
 pub mod LineLists
 pub mod PrefixFaults
 pub mod LinesRead
+pub mod LongLines
 pub mod StreamParts
 pub mod HistoryTexts
 pub mod HistoryReaders

@@ -1,7 +1,7 @@
 -- Lines that were read of known bytes.
 use Rattle.std.proofs.Common.{◌≡◌, ℕ, List, [], ◌∷◌, ◌++◌, Bool, true, false, All, Option, None, Some, IfSome, Result}
 use Rattle.std.proofs.Common.{Ok, Err, refl, sym, ap, subst, ◌∙◌, append-nil, arith}
-use Rattle.std.specs.Prelude.{OnOk}
+use Rattle.std.specs.Prelude.{OnOk, IsErr}
 use Rattle.std.proofs.lemmas.List.Elements.{All-push}
 use Rattle.std.specs.Io.KnownBytes.{Consumes, IsAtEnd, prepend_known}
 use Rattle.std.proofs.KnownBytes.{Consumes-nil, Consumes-trans, prepend_known-nil}
@@ -9,6 +9,7 @@ use Rattle.adya_text.specs.Meaning.Texts.{with_ends}
 use Rattle.adya_line.specs.Meaning.Laws.{IsPlain}
 use Rattle.adya_text.specs.Meaning.Faults.{IsCut, HasFront}
 use Rattle.adya_text.specs.Machinery.Buffers.{line_end}
+use Rattle.adya_text.specs.Machinery.LongLines.{HasStart}
 use Rattle.adya_text.proofs.LineLists.{ends_append}
 
 -- the known bytes began with these lines, and these are left
@@ -68,6 +69,27 @@ all_read {b = b} {lines = lines} buffer c line P read is plain eaten end all =
       whole = ap (λ (l : List ℕ). with_ends lines ++ l) (whole.1 ∙ append-nil line);
     }) whole.0)
 
+begun : (c : Option (List ℕ)) (line rest : List ℕ) → Consumes (Some rest) c (line ++ [])
+    → (more : List ℕ) × (rest ≡ line ++ more)
+begun None line rest eaten = absurd eaten
+begun (Some more) line rest eaten = (more, eaten ∙ ap (λ (l : List ℕ). l ++ more) (append-nil line))
+
+-- after the lines there is what has no line feed so far
+pub start_read : {a b : Option (List ℕ)} {lines : List (List ℕ)} (c : Option (List ℕ)) (line : List ℕ) {ended : Bool}
+    (P : List ℕ → Type 0) → WereRead a lines b → ended ≡ false → IsPlain line
+    → Consumes b c (line ++ line_end ended) → ((text : List ℕ) → HasStart text lines line → P text) → IfSome a P
+start_read {b = b} {lines = lines} c line P read is plain eaten all =
+    rest_unread P read (λ rest left.
+    let last : Consumes (Some rest) c (line ++ []) = subst (λ o. Consumes o c (line ++ [])) left
+    (subst (λ e. Consumes b c (line ++ line_end e)) is eaten) in
+    let (more, whole) = begun c line rest last in
+    all (with_ends lines ++ rest) (record {
+      plain = read.plain;
+      plain_bytes = plain;
+      rest = more;
+      whole = ap (λ (l : List ℕ). with_ends lines ++ l) whole;
+    }))
+
 -- what holds of all the known bytes
 pub of_known : (buffer : List ℕ) (a : Option (List ℕ)) (text : List ℕ) (P : List ℕ → Type 0) → buffer ≡ []
     → a ≡ Some text → IfSome (prepend_known buffer a) P → P text
@@ -78,3 +100,7 @@ of_known buffer a text P none known all =
 pub on_ok : {T E : Type 0} {P : Type 0} (result : Result T E) → P → OnOk result P
 on_ok (Ok x) p = p
 on_ok (Err e) p = tt
+
+pub on_err : {T E : Type 0} (P : Type 0) (result : Result T E) → IsErr result → OnOk result P
+on_err P (Ok x) failed = absurd cc
+on_err P (Err e) failed = tt

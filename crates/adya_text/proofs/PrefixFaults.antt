@@ -2,12 +2,15 @@
 use Rattle.std.proofs.Common.{◌≡◌, ◌≢◌, ◌==◌, ℕ, suc, ◌≤◌, Bool, true, false, List, [], ◌∷◌, ◌++◌, All, length}
 use Rattle.std.proofs.Common.{refl, sym, ap, ◌∙◌, arith, append_assoc}
 use Rattle.std.proofs.lemmas.Bool.{eqb-true}
-use Rattle.std.proofs.lemmas.List.Elements.{All-nil, All-cons, All-append}
+use Rattle.std.proofs.lemmas.List.{length-append}
+use Rattle.std.proofs.lemmas.List.Elements.{All-nil, All-cons, All-append, All-push}
 use Rattle.adya_text.specs.Meaning.Texts.{with_ends}
 use Rattle.adya_line.specs.Meaning.Laws.{IsPlain}
 use Rattle.adya_text.specs.Meaning.Faults.{IsCut, HasFront, Begins, IsFirstFaulty, IsFaultLine}
+use Rattle.adya_text.specs.Machinery.LongLines.{HasStart, StartsNoLine}
 use Rattle.adya_text.proofs.LineLists.{ends_append}
-use Rattle.adya_text.proofs.FaultLines.{Grammar, front_begins, whole_begins, fault_stays, fault_stops, fault_missing}
+use Rattle.adya_text.proofs.FaultLines.{Grammar, front_begins, whole_begins, fault_at, fault_stays, fault_stops}
+use Rattle.adya_text.proofs.FaultLines.{fault_missing}
 
 -- the complete lines of a text, and its rest
 record Cut (text : List ℕ) : Type 0 where
@@ -110,3 +113,49 @@ fault_after grammar text past rest begins outside cut = record {
   outside = outside;
   first = fault_missing grammar past begins;
 }
+
+-- ---- the fault of a text with the start of a line that cannot come there
+
+pub front_of : (text : List ℕ) (past : List (List ℕ)) (bytes : List ℕ) → HasStart text past bytes → HasFront text past
+front_of text past bytes start = record { plain = start.plain; rest = bytes ++ start.rest; whole = start.whole }
+
+empty_front : (bytes rest : List ℕ) → bytes ++ rest ≡ [] → bytes ≡ []
+empty_front [] rest e = refl
+empty_front (b ∷ bytes) rest e = absurd cc
+
+-- bytes in front of lines are the start of the first line
+longer_line : (bytes l : List ℕ) (ls : List (List ℕ)) (rest : List ℕ)
+    → bytes ++ (with_ends (l ∷ ls) ++ rest) ≡ with_ends ((bytes ++ l) ∷ []) ++ (with_ends ls ++ rest)
+longer_line bytes l ls rest =
+    ap (λ (r : List ℕ). bytes ++ r) (append_assoc l (10 ∷ with_ends ls) rest)
+    ∙ sym (append_assoc bytes l (10 ∷ (with_ends ls ++ rest)))
+    ∙ sym (append_assoc (bytes ++ l) (10 ∷ []) (with_ends ls ++ rest))
+
+-- the line, if it ends, begins no text with those before it, and else it is missing
+pub fault_at_start : (grammar : Grammar) (text : List ℕ) (past : List (List ℕ)) (bytes : List ℕ) → Begins grammar past
+    → StartsNoLine grammar past bytes → HasStart text past bytes → IsFaultLine grammar text (suc (length past))
+fault_at_start grammar text past bytes begins none start =
+    let c = cut_of start.rest in by_lines c.lines c.rest c.cut
+  where
+    by_lines : (lines : List (List ℕ)) (rest : List ℕ) → IsCut start.rest lines rest
+        → IsFaultLine grammar text (suc (length past))
+    by_lines [] rest cut =
+        fault_after grammar text past (bytes ++ rest) begins (λ are empty. none.some (empty_front bytes rest empty))
+        (record {
+          plain = start.plain;
+          plain_rest = All-append (λ x. x ≢ 10) bytes rest start.plain_bytes cut.plain_rest;
+          whole = start.whole ∙ ap (λ (r : List ℕ). with_ends past ++ (bytes ++ r)) cut.whole;
+        })
+    by_lines (l ∷ ls) rest cut =
+        let line = bytes ++ l in
+        front_fault grammar text (past ++ line ∷ []) (suc (length past)) (omega (arith, length-append past (line ∷ [])))
+        (fault_at grammar past line begins (none.stops l))
+        (record {
+          plain = All-push IsPlain past line start.plain
+              (All-append (λ x. x ≢ 10) bytes l start.plain_bytes (cut.plain 0 l (omega arith)));
+          rest = with_ends ls ++ rest;
+          whole = start.whole ∙ ap (λ (r : List ℕ). with_ends past ++ (bytes ++ r)) cut.whole
+              ∙ ap (λ (r : List ℕ). with_ends past ++ r) (longer_line bytes l ls rest)
+              ∙ sym (append_assoc (with_ends past) (with_ends (line ∷ [])) (with_ends ls ++ rest))
+              ∙ ap (λ (r : List ℕ). r ++ (with_ends ls ++ rest)) (sym (ends_append past (line ∷ [])));
+        })

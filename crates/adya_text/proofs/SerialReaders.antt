@@ -3,6 +3,7 @@ use Rattle.std.proofs.Common.{◌≡◌, ℕ, suc, ◌+◌, Bool, true, false, L
 use Rattle.std.proofs.Common.{sym, ap, subst, ◌∙◌, arith, append_assoc, append-nil}
 use Rattle.std.specs.Bool.{OnTrue, OnFalse}
 use Rattle.std.specs.List.{AllByRecursion, filter_map}
+use Rattle.std.proofs.lemmas.Fmt.{length-decimal-le}
 use Rattle.std.proofs.lemmas.List.{length-append, length-map}
 use Rattle.std.proofs.lemmas.List.Elements.{filter_map-append}
 use Rattle.adya_values.specs.declared.serial.Serial.{Serial}
@@ -11,7 +12,9 @@ use Rattle.adya_text.specs.Meaning.Faults.{Begins, IsFaultLine, IsCut}
 use Rattle.adya_line.specs.Meaning.SerialLines.{Line, HeadLine, TxnLine, TailLine}
 use Rattle.adya_line.specs.Meaning.SerialLines.{IsLine, line_text, IsOnlyLineOf}
 use Rattle.adya_text.specs.Computing.SerialRuns.{allows, next_stage, stage_after, txn_in}
-use Rattle.adya_text.specs.Machinery.SerialReaders.{IsFed, IsTaken, IsRefused, IsAllowed, Takes, is_failed, is_done, line_after, next_line}
+use Rattle.adya_text.specs.Machinery.SerialReaders.{IsFed, IsTaken, IsRefused, IsAllowed, Takes, is_failed, is_done}
+use Rattle.adya_text.specs.Machinery.SerialReaders.{line_after, longest_line, next_line}
+use Rattle.adya_text.specs.Machinery.LongLines.{IsLonger, HasStart, StartsNoLine}
 use Rattle.adya_text.specs.Meaning.Reading.{ReadsSerial}
 use Rattle.adya_text.specs.declared.serial_reader.Stage.{Stage}
 use Rattle.adya_text.specs.declared.serial_reader.Stage.TheVariants.{Head, Txns, Done, Failed}
@@ -20,8 +23,9 @@ use Rattle.adya_text.specs.declared.read_fault.ReadFault.{ReadFault}
 use Rattle.adya_text.specs.declared.read_fault.ReadFault.TheVariants.{Syntax}
 use Rattle.adya_text.specs.declared.read_fault.Text.TheVariants as Of
 use Rattle.adya_text.proofs.Runs.{run_join, refused, taken, one_end}
-use Rattle.adya_text.proofs.FaultLines.{fault_at, fault_stays, fault_stops, whole_begins}
-use Rattle.adya_text.proofs.PrefixFaults.{fault_within, fault_after}
+use Rattle.adya_text.proofs.FaultLines.{front_begins, fault_at, fault_stays, fault_stops, whole_begins}
+use Rattle.adya_text.proofs.PrefixFaults.{fault_within, fault_after, fault_at_start}
+use Rattle.adya_text.proofs.LongLines.{longer_some, longer_with}
 use Rattle.adya_text.proofs.SerialTexts.{LinesTell, HasLines, Run, end, run_of, are_lines, items_of, txn_items, held_by}
 use Rattle.adya_text.proofs.SerialTexts.{items_texts}
 
@@ -99,6 +103,35 @@ fed_undone tell r past fed undone (h, is, whole) = by_failed (is_failed r.stage)
         one_end allows next_stage line_text IsLine tell Head r.stage Done past (fed.taken going).run run in
         let done : is_done r.stage ≡ true = ap is_done same in
         absurd cc
+
+-- ---- lines that are too long
+
+-- a line that may come in the stage is not longer than the most
+within : (s : Stage) (x : Line) → IsLine x → allows s x ≡ true → IsLonger (longest_line s) (line_text x) → ⊥
+within Head HeadLine good may longer = absurd (omega (arith, longer))
+within Head (TxnLine t) good may longer = absurd cc
+within Head TailLine good may longer = absurd cc
+within Txns HeadLine good may longer = absurd cc
+within Txns (TxnLine t) good may longer =
+    omega (arith, longer, length-decimal-le 10 t (omega arith) (omega (arith, good.1)) (omega (arith, good.1)))
+within Txns TailLine good may longer = absurd (omega (arith, longer))
+within Done x good may longer = absurd cc
+within (Failed k) x good may longer = absurd cc
+
+pub fed_long : LinesTell → (r : SerialReader) (past : List (List ℕ)) → IsFed r past → (start : List ℕ)
+    → IsLonger (longest_line r.stage) start → StartsNoLine AreSerialLines past start
+fed_long tell r past fed start longer = record {
+  some = longer_some (longest_line r.stage) start longer;
+  stops = λ more b. by_failed (is_failed r.stage) refl more b;
+}
+  where
+    by_failed : (b : Bool) → is_failed r.stage ≡ b → (more : List ℕ)
+        → Begins AreSerialLines (past ++ (start ++ more) ∷ []) → ⊥
+    by_failed true failed more b =
+        fed_stops r past fed failed (front_begins AreSerialLines past ((start ++ more) ∷ []) b)
+    by_failed false going more b = run_stops tell r.stage past (start ++ more) (fed.taken going).run
+        (λ x is ok. within r.stage x is.good ok
+        (subst (IsLonger (longest_line r.stage)) is.same (longer_with (longest_line r.stage) start more longer))) b
 
 -- ---- the number of the line that comes next
 
@@ -223,6 +256,12 @@ fed_serial r past text rest v fed done empty cut same =
     let whole : text ≡ serial_text held.txns = cut.whole ∙ ap (λ (l : List ℕ). with_ends past ++ l) empty
     ∙ append-nil (with_ends past) ∙ ap with_ends lines in
     (subst IsSerial (sym txns) held.is, whole ∙ ap serial_text (sym txns))
+
+pub long_fault : (r : SerialReader) (past : List (List ℕ)) (text bytes : List ℕ) → IsFed r past → is_failed r.stage ≡ false
+    → StartsNoLine AreSerialLines past bytes → HasStart text past bytes → IsFaultLine AreSerialLines text (next_line r)
+long_fault r past text bytes fed going none start =
+    subst (IsFaultLine AreSerialLines text) (sym (next_is r past (fed.taken going)))
+    (fault_at_start AreSerialLines text past bytes (fed_begins r past fed going) none start)
 
 -- ---- the answers of the reader
 

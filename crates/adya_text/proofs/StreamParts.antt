@@ -1,7 +1,7 @@
 -- The place at which the history text of a stream ends, by the lines of the stream.
-use Rattle.std.proofs.Common.{◌≡◌, ◌≢◌, ◌==◌, ℕ, suc, ◌+◌, true, false, if◌then◌else◌, List, [], ◌∷◌}
+use Rattle.std.proofs.Common.{◌≡◌, ◌≢◌, ◌==◌, ℕ, suc, ◌+◌, ◌-◌, ◌≤◌, Bool, true, false, if◌then◌else◌, List, [], ◌∷◌}
 use Rattle.std.proofs.Common.{◌++◌, All, length, take, drop, refl, sym, ap, ◌∙◌, arith, append_assoc}
-use Rattle.std.proofs.Common.{append-nil}
+use Rattle.std.proofs.Common.{append-nil, zero-le}
 use Rattle.std.specs.Prelude.{codes}
 use Rattle.std.proofs.lemmas.Bool.{eqb-true, ne_eqb, and_parts, false_from_ne_true}
 use Rattle.std.proofs.lemmas.List.{length-append}
@@ -13,6 +13,7 @@ use Rattle.adya_line.specs.Meaning.Laws.{IsPlain}
 use Rattle.adya_text.specs.Meaning.Faults.{IsCut, HasFront}
 use Rattle.adya_text.specs.Meaning.Streams.{history_part, serial_part}
 use Rattle.adya_text.specs.Meaning.Laws.{HasNoEnd, IsCutAfterEnd, IsWholeWithoutEnd}
+use Rattle.adya_text.specs.Machinery.LongLines.{HasStart}
 use Rattle.adya_text.specs.Computing.Streams.{begins_with, end_of_history}
 use Rattle.adya_text.proofs.LineLists.{ends_append}
 
@@ -89,6 +90,39 @@ past_lines (l ∷ ls) rest plain other =
     (λ k d below. other (suc k) d (omega arith)) in
     omega (arith, whole, first, later, length-append l (10 ∷ []), length-append l (10 ∷ with_ends ls))
 
+-- ---- bytes without a line feed
+
+on_through : (line more : List ℕ) → IsPlain line → length line ≤ end_of_history false (line ++ more)
+on_through [] more plain = zero-le
+on_through (b ∷ l) more plain =
+    let here = ap (λ t. end_of_history t (l ++ more)) (no_feed b l plain) in
+    omega (arith, here, on_through l more (All-tail (λ x. x ≢ 10) b l plain))
+
+short_of_end : (line more : List ℕ) → IsPlain line → begins_with (codes "end\n") (line ++ more) ≡ true
+    → length line ≤ 4
+short_of_end [] more plain is = omega arith
+short_of_end (a ∷ []) more plain is = omega arith
+short_of_end (a ∷ b ∷ []) more plain is = omega arith
+short_of_end (a ∷ b ∷ d ∷ []) more plain is = omega arith
+short_of_end (a ∷ b ∷ d ∷ e ∷ l) more plain is =
+    let third = and_parts (100 == d) _ (and_parts (110 == b) _ (and_parts (101 == a) _ is).1).1 in
+    let fourth = and_parts (10 == e) _ third.1 in
+    absurd (plain 3 e (omega arith) (sym (eqb-true 10 e fourth.0)))
+
+-- they are the history's if a line starts with them
+through : (line more : List ℕ) → IsPlain line → length line ≤ end_of_history true (line ++ more)
+through [] more plain = zero-le
+through (b ∷ l) more plain = by_end (begins_with (codes "end\n") ((b ∷ l) ++ more)) refl
+  where
+    by_end : (t : Bool) → begins_with (codes "end\n") ((b ∷ l) ++ more) ≡ t
+        → length (b ∷ l) ≤ end_of_history true ((b ∷ l) ++ more)
+    by_end true is =
+        let end = ap (λ t. if t then 4 else suc (end_of_history (b == 10) (l ++ more))) is in
+        omega (arith, end, short_of_end (b ∷ l) more plain is)
+    by_end false is =
+        let goes_on = ap (λ t. if t then 4 else suc (end_of_history (b == 10) (l ++ more))) is in
+        omega (arith, goes_on, on_through (b ∷ l) more plain)
+
 -- ---- the two parts
 
 history_after : (past : List (List ℕ)) (rest : List ℕ) → All IsPlain past → HasNoEnd past
@@ -111,6 +145,22 @@ part_front stream lines other front = record {
   rest = history_part front.rest;
   whole = ap history_part front.whole ∙ history_after lines front.rest front.plain other;
 }
+
+-- so is the start of the next line
+pub part_start : (stream : List ℕ) (lines : List (List ℕ)) (bytes : List ℕ) → HasNoEnd lines
+    → HasStart stream lines bytes → HasStart (history_part stream) lines bytes
+part_start stream lines bytes other start =
+    let n = end_of_history true (bytes ++ start.rest) - length bytes in
+    let far : end_of_history true (bytes ++ start.rest) ≡ length bytes + n =
+    omega (arith, through bytes start.rest start.plain_bytes) in
+    record {
+      plain = start.plain;
+      plain_bytes = start.plain_bytes;
+      rest = take n start.rest;
+      whole = ap history_part start.whole ∙ history_after lines (bytes ++ start.rest) start.plain other
+          ∙ ap (λ (l : List ℕ). with_ends lines ++ l)
+          (ap (λ k. take k (bytes ++ start.rest)) far ∙ take-append-add bytes start.rest n);
+    }
 
 -- the first line `end` ends the history's part
 pub cut_after_end : IsCutAfterEnd

@@ -11,7 +11,8 @@ ghost use Rattle.adya_text.specs.Meaning.Texts.{AreHistoryLines};
 ghost use Rattle.adya_text.specs.Meaning.Faults.{Begins, HasFront, IsCut};
 ghost use Rattle.adya_text.specs.Meaning.Reading.{IsOfText, ReadsHistory};
 ghost use Rattle.adya_text.specs.Machinery.HistoryReaders.{IsFed, IsRefused, IsAllowed, Takes, is_done, is_failed};
-ghost use Rattle.adya_text.specs.Machinery.HistoryReaders.{line_after, next_line, untold_history};
+ghost use Rattle.adya_text.specs.Machinery.HistoryReaders.{line_after, longest_line, next_line, untold_history};
+ghost use Rattle.adya_text.specs.Machinery.LongLines.{IsLonger, HasStart, StartsNoLine};
 
 use crate::line_reader::LineReader;
 use crate::read_fault::{ReadFault, Text};
@@ -19,6 +20,9 @@ use adya_line::laws::history_lines;
 use adya_line::{HistoryLine, history_line};
 use adya_values::{BadShape, Edition, Event, FinalPair, History, Key, Order, Txn};
 use std::alloc::{AllocError, Global};
+
+/// How many bytes the head has, `adya 1` or `adya 2`.
+const HEAD: usize = 6;
 
 /// Which lines may come next.
 #[derive(Clone, Copy)]
@@ -94,6 +98,20 @@ impl Stage {
             | Stage::Done { edition } => *edition,
             Stage::Unfinished { .. } => Edition::Two,
             Stage::Head | Stage::Failed { .. } => Edition::One,
+        }
+    }
+
+    /// Returns the most bytes that the next line can have: 0 if none may come, `None` if it can have any number.
+    fn longest_line(&self) -> Option<usize>
+        ensures { result ≡ longest_line self.now }
+    {
+        match self {
+            Stage::Head => Some(HEAD),
+            Stage::Events { .. }
+            | Stage::Unfinished { .. }
+            | Stage::Orders { .. }
+            | Stage::Finals { .. } => None,
+            Stage::Done { .. } | Stage::Failed { .. } => Some(0),
         }
     }
 
@@ -211,6 +229,11 @@ impl LineReader for HistoryReader {
 
     fn has_failed(&self) -> bool {
         self.stage.has_failed()
+    }
+
+    fn longest_line(&self) -> Option<usize> {
+        history_lines();
+        self.stage.longest_line()
     }
 
     fn line(&mut self, line: &[u8]) -> Result<(), AllocError> {

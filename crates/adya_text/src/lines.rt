@@ -1,9 +1,10 @@
-//! Lines of any length, read from a source.
+//! Lines read from a source.
 
-ghost use Rattle.std.specs.Prelude.{◌≡◌, ◌≢◌, ◌↔◌, ℕ, ◌+◌, ◌*◌, ◌<◌, ◌≤◌, List, [], ◌∷◌, ◌++◌, length, All, true};
-ghost use Rattle.std.specs.Prelude.{false, if◌then◌else◌, IfOk, OnOk, IsErrOf, slice_range};
+ghost use Rattle.std.specs.Prelude.{◌≡◌, ◌≢◌, ◌↔◌, ◌⊎◌, ℕ, ◌+◌, ◌*◌, ◌<◌, ◌≤◌, List, [], ◌∷◌, ◌++◌, length, All, true};
+ghost use Rattle.std.specs.Prelude.{false, if◌then◌else◌, IfOk, OnOk, IfSome, IsErrOf, IsTrue, slice_range};
 ghost use Rattle.std.specs.Io.KnownBytes.{Consumes, IsAtEnd, prepend_known};
 ghost use Rattle.adya_text.specs.Machinery.Buffers.{work_left, line_end};
+ghost use Rattle.adya_text.specs.Machinery.LongLines.{IsLonger};
 
 use devices::Source;
 use memchr::memchr;
@@ -62,6 +63,7 @@ impl LineBuffer {
             × All (λ x. x ≢ 10) taken × (self.old ≡ taken ++ line_end ended ++ self.new)) }
         ensures all { IfOk result (λ ended. ended ≡ false → self.new ≡ []) }
         ensures less { IfOk result (λ ended. ended ≡ true → length self.new < length self.old) }
+        ensures short { OnOk result (length line.new.items ≤ length line.old.items + 8192) }
     {
         let pending = &self.bytes[self.start..self.end];
         match memchr(b'\n', pending) {
@@ -103,35 +105,52 @@ impl LineBuffer {
         }
     }
 
-    /// Reads the next line, without its line feed, in place of what `line` held; a line may have any length. Returns
-    /// false if the input ended before a line feed; `line` then holds what follows the last one. `Device` if the source
+    /// Reads the next line, without its line feed, in place of what `line` held; it may have any length if `longest` is
+    /// `None`. Returns false if the input ended before a line feed, or if more than `longest` bytes came without one;
+    /// `line` then holds what was read after the last one, at most 8192 bytes more than `longest`. `Device` if the source
     /// failed, `Memory` if `line` could not grow. `work_left` falls with each line.
     pub(crate) fn next_line<S: Source>(
         &mut self,
         source: &mut S,
         line: &mut Vec<u8>,
+        longest: Option<usize>,
     ) -> Result<bool, LineFault>
         ensures bytes { IfOk result
             (λ ended. Consumes (prepend_known self.old (S.remaining source.old))
             (prepend_known self.new (S.remaining source.new)) (line.new.items ++ line_end ended)) }
         ensures plain { OnOk result (All (λ x. x ≢ 10) line.new.items) }
-        ensures end { IfOk result (λ ended. ended ≡ false → (self.new ≡ []) × IsAtEnd (S.remaining source.new)) }
+        ensures short { OnOk result (IfSome longest (λ most. length line.new.items ≤ most + 8192)) }
+        ensures end { IfOk result (λ ended. ended ≡ false
+            → IsLonger longest line.new.items ⊎ ((self.new ≡ []) × IsAtEnd (S.remaining source.new))) }
         ensures less { IfOk result (λ ended. ended ≡ true
             → work_left (S.left source.new) self.new < work_left (S.left source.old) self.old) }
         ensures fault { IsErrOf result LineFault.Device → S.is_failed source.new ≡ true }
         ensures stream { S.same source.old source.new }
         ensures unfailed { (IsErrOf result LineFault.Device → ⊥) → S.is_failed source.new ≡ S.is_failed source.old }
-        ensures read_works { self.old ≡ [] → OnOk result (S.is_failed source.new ≡ false) }
-        ensures end_works { IfOk result (λ ended. ended ≡ false → S.is_failed source.new ≡ false) }
+        ensures works { (self.old ≡ []) ⊎ (S.is_failed source.old ≡ false)
+            → OnOk result (S.is_failed source.new ≡ false) }
     {
         line.clear();
         loop {
             if self.take_line(line).map_err(|_| LineFault::Memory)? {
                 return Ok(true);
             }
+            if is_longer(line, longest) {
+                return Ok(false);
+            }
             if !self.fill(source)? {
                 return Ok(false);
             }
         }
+    }
+}
+
+/// Returns whether these are more than `longest` bytes; false if that is `None`.
+fn is_longer(bytes: &[u8], longest: Option<usize>) -> bool
+    ensures { IsTrue result ↔ IsLonger longest bytes.now }
+{
+    match longest {
+        Some(most) => most < bytes.len(),
+        None => false,
     }
 }

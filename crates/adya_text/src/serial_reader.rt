@@ -8,7 +8,8 @@ ghost use Rattle.adya_text.specs.Meaning.Texts.{AreSerialLines};
 ghost use Rattle.adya_text.specs.Meaning.Faults.{Begins, HasFront, IsCut};
 ghost use Rattle.adya_text.specs.Meaning.Reading.{IsOfText, ReadsSerial};
 ghost use Rattle.adya_text.specs.Machinery.SerialReaders.{IsFed, IsRefused, IsAllowed, Takes, is_done, is_failed};
-ghost use Rattle.adya_text.specs.Machinery.SerialReaders.{line_after, next_line, untold_serial};
+ghost use Rattle.adya_text.specs.Machinery.SerialReaders.{line_after, longest_line, next_line, untold_serial};
+ghost use Rattle.adya_text.specs.Machinery.LongLines.{IsLonger, HasStart, StartsNoLine};
 
 use crate::line_reader::LineReader;
 use crate::read_fault::{ReadFault, Text};
@@ -16,6 +17,12 @@ use adya_line::laws::serial_lines;
 use adya_line::{SerialLine, serial_line};
 use adya_values::{Serial, Txn};
 use std::alloc::{AllocError, Global};
+
+/// How many bytes the head has, `serial 1`.
+const HEAD: usize = 8;
+
+/// The most bytes of a transaction's number, which is at most 4294967295. The tail has fewer.
+const TXN: usize = 10;
 
 /// Which lines may come next.
 #[derive(Clone, Copy)]
@@ -49,6 +56,17 @@ impl Stage {
         match line {
             SerialLine::Head => matches!(self, Stage::Head),
             SerialLine::Txn(_) | SerialLine::Tail => matches!(self, Stage::Txns),
+        }
+    }
+
+    /// Returns the most bytes that the next line can have: 0 if none may come.
+    fn longest_line(&self) -> Option<usize>
+        ensures { result ≡ longest_line self.now }
+    {
+        match self {
+            Stage::Head => Some(HEAD),
+            Stage::Txns => Some(TXN),
+            Stage::Done | Stage::Failed { .. } => Some(0),
         }
     }
 
@@ -139,6 +157,11 @@ impl LineReader for SerialReader {
 
     fn has_failed(&self) -> bool {
         self.stage.has_failed()
+    }
+
+    fn longest_line(&self) -> Option<usize> {
+        serial_lines();
+        self.stage.longest_line()
     }
 
     fn line(&mut self, line: &[u8]) -> Result<(), AllocError> {

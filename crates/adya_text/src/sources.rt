@@ -20,9 +20,10 @@ use devices::Source;
 use std::alloc::Global;
 
 /// Reads the text of a history from all that the source has left. It keeps one line and the history so far. It reads to
-/// the end of the input, and stops earlier only after a line that is a syntax fault. Returns `Syntax` exactly if the
-/// bytes are the text of no history, with the line of the fault as [`read_history`](crate::read_history) returns it;
-/// `Device` if the source failed, `Memory` if memory ran out.
+/// the end of the input, and stops earlier only at a line that is a syntax fault. A first line of more than 6 bytes is
+/// refused before it ends, and so is a line after `end`; other lines may have any length. Returns `Syntax` exactly if
+/// the bytes are the text of no history, with the line of the fault as [`read_history`](crate::read_history) returns
+/// it; `Device` if the source failed, `Memory` if memory ran out.
 pub fn read_history_from<S: Source>(alloc: Global, source: &mut S) -> Result<History, ReadFault>
     ensures answer { IfSome (S.remaining source.old) (λ text. ReadsHistory text result) }
     ensures only { (h : Plain) → IsHistory h → S.remaining source.old ≡ Some (history_text h) →
@@ -39,9 +40,10 @@ pub fn read_history_from<S: Source>(alloc: Global, source: &mut S) -> Result<His
 }
 
 /// Reads the text of a certificate from all that the source has left. It keeps one line and the certificate so far. It
-/// reads to the end of the input, and stops earlier only after a line that is a syntax fault. Returns `Syntax` exactly if
-/// the bytes are the text of no certificate, with the line of the fault as [`read_serial`](crate::read_serial) returns
-/// it; `Device` if the source failed, `Memory` if memory ran out.
+/// reads to the end of the input, and stops earlier only at a line that is a syntax fault. A first line of more than 8
+/// bytes is refused before it ends, and so are a later one of more than 10 and a line after `end`. Returns `Syntax`
+/// exactly if the bytes are the text of no certificate, with the line of the fault as
+/// [`read_serial`](crate::read_serial) returns it; `Device` if the source failed, `Memory` if memory ran out.
 pub fn read_serial_from<S: Source>(alloc: Global, source: &mut S) -> Result<Serial, ReadFault>
     ensures answer { IfSome (S.remaining source.old) (λ text. ReadsSerial text result) }
     ensures only { (ts : List ℕ) → IsSerial ts → S.remaining source.old ≡ Some (serial_text ts) →
@@ -59,9 +61,10 @@ pub fn read_serial_from<S: Source>(alloc: Global, source: &mut S) -> Result<Seri
 
 /// Reads the two texts of one stream: a history's, up to and with the first line `end`, and then a certificate's, to
 /// the end of the input. If there is no line `end`, all of the stream is the history's. It keeps one line and what the
-/// lines before it say, and stops before the end of the input only after a line that is a syntax fault. Returns `Syntax`
-/// for the first text as [`read_history_from`] does, or else for the second as [`read_serial_from`] does; `Device` if
-/// the source failed, `Memory` if memory ran out.
+/// lines before it say, and stops before the end of the input only at a line that is a syntax fault; lines that are too
+/// long are refused before they end, as [`read_history_from`] and [`read_serial_from`] do. Returns `Syntax` for the
+/// first text as the one does, or else for the second as the other does; `Device` if the source failed, `Memory` if
+/// memory ran out.
 pub fn read_texts_from<S: Source>(
     alloc: Global,
     source: &mut S,
@@ -98,7 +101,7 @@ fn read_history_part<S: Source>(
 {
     let mut reader = HistoryReader::new(alloc);
     let mut line = Vec::new(alloc);
-    while buffer.next_line(source, &mut line)? {
+    while buffer.next_line(source, &mut line, reader.longest_line())? {
         reader.line(&line)?;
         if is_tail(&line) {
             return reader.finish(b"");
@@ -144,7 +147,7 @@ fn read_rest<S: Source, R: LineReader>(
 {
     let mut reader = reader;
     let mut line = Vec::new(alloc);
-    while buffer.next_line(source, &mut line)? {
+    while buffer.next_line(source, &mut line, reader.longest_line())? {
         reader.line(&line)?;
         if reader.has_failed() {
             return reader.finish(b"");

@@ -1,9 +1,9 @@
 //! The auditor on a stream for each text: devices that fail, streams that never end, and texts that are cut short.
 
-use super::{CERTIFICATE, HISTORY, KINDS, full, reader, writer};
+use super::{CERTIFICATE, HISTORY, KINDS, UNENDED, endless, full, reader, writer};
 use crate::audits::of_two_streams;
 use adya_audit::{RunFault, Verdict, run_audit};
-use adya_testing::Endless;
+use adya_testing::Pieces;
 use devices::Watched;
 use std::alloc::{AllocError, Global};
 use std::io::{ErrorKind, Read};
@@ -92,7 +92,7 @@ fn audit_writer_takes_nothing(rt: HostRuntime) -> Result<(), Fail> {
 
 #[test]
 fn audit_endless_history(rt: HostRuntime) -> Result<(), Fail> {
-    let mut history = Watched::with_bound(Endless(b'a'), 10);
+    let mut history = endless(UNENDED, b'a', 10);
     let mut certificate = reader(CERTIFICATE, 0, ErrorKind::Other);
     let (outcome, line) = audit(rt.alloc(), &mut history, &mut certificate);
     assert!(rt; matches!(outcome, Err(RunFault::ReadHistory)));
@@ -101,9 +101,22 @@ fn audit_endless_history(rt: HostRuntime) -> Result<(), Fail> {
 }
 
 #[test]
-fn audit_endless_certificate(rt: HostRuntime) -> Result<(), Fail> {
+fn audit_first_lines_that_never_end(rt: HostRuntime) -> Result<(), Fail> {
+    let mut certificate = reader(CERTIFICATE, 0, ErrorKind::Other);
+    let (outcome, line) = audit(rt.alloc(), &mut endless(b"", 0, u32::MAX), &mut certificate);
+    assert!(rt; matches!(outcome, Ok(Verdict::Syntax { .. })));
+    assert_eq!(rt; line.as_slice(), b"no 1 syntax history 1\n".as_slice());
     let mut history = reader(HISTORY, 0, ErrorKind::Other);
-    let mut certificate = Watched::with_bound(Endless(b'a'), 10);
+    let (outcome, line) = audit(rt.alloc(), &mut history, &mut endless(b"", 0, u32::MAX));
+    assert!(rt; matches!(outcome, Ok(Verdict::Syntax { .. })));
+    assert_eq!(rt; line.as_slice(), b"no 1 syntax serial 1\n".as_slice());
+    Ok(())
+}
+
+#[test]
+fn audit_bound_of_certificate(rt: HostRuntime) -> Result<(), Fail> {
+    let mut history = reader(HISTORY, 0, ErrorKind::Other);
+    let mut certificate = Watched::with_bound(Pieces::new(CERTIFICATE, 1), 10);
     let (outcome, line) = audit(rt.alloc(), &mut history, &mut certificate);
     assert!(rt; matches!(outcome, Err(RunFault::ReadSerial)));
     assert!(rt; certificate.failed() && line.is_empty());

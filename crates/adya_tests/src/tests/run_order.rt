@@ -1,8 +1,7 @@
 //! Orders of the transactions of a history in a stream: devices that fail, and streams that never end.
 
-use super::{HISTORY, KINDS, full, reader, writer};
+use super::{HISTORY, KINDS, UNENDED, endless, full, reader, writer};
 use adya_audit::{Ordered, RunFault, run_order};
-use adya_testing::Endless;
 use devices::Watched;
 use std::alloc::Global;
 use std::io::{ErrorKind, Read};
@@ -72,10 +71,18 @@ fn order_writer_takes_nothing(rt: HostRuntime) -> Result<(), Fail> {
 
 #[test]
 fn order_endless_line(rt: HostRuntime) -> Result<(), Fail> {
-    let mut history = Watched::with_bound(Endless(b'a'), 10);
+    let mut history = endless(UNENDED, b'a', 10);
     let (outcome, lines) = order(rt.alloc(), &mut history);
     assert!(rt; matches!(outcome, Err(RunFault::ReadHistory)));
     assert!(rt; history.failed() && lines.is_empty());
+    Ok(())
+}
+
+#[test]
+fn order_first_line_that_never_ends(rt: HostRuntime) -> Result<(), Fail> {
+    let (outcome, lines) = order(rt.alloc(), &mut endless(b"", 0, u32::MAX));
+    assert!(rt; matches!(outcome, Ok(Ordered::No(_))));
+    assert_eq!(rt; lines.as_slice(), b"no 1 syntax history 1\n".as_slice());
     Ok(())
 }
 

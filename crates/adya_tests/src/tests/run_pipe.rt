@@ -1,8 +1,7 @@
 //! The auditor on one stream of both texts: devices that fail, and streams that never end.
 
-use super::{KINDS, STREAM, full, reader, writer};
+use super::{KINDS, STREAM, UNENDED, endless, full, reader, writer};
 use adya_audit::{RunFault, Verdict, run_pipe};
-use adya_testing::Endless;
 use devices::Watched;
 use std::alloc::Global;
 use std::io::{ErrorKind, Read};
@@ -62,7 +61,7 @@ fn pipe_writer_takes_nothing(rt: HostRuntime) -> Result<(), Fail> {
 
 #[test]
 fn pipe_endless_line(rt: HostRuntime) -> Result<(), Fail> {
-    let mut input = Watched::with_bound(Endless(b'a'), 10);
+    let mut input = endless(UNENDED, b'a', 10);
     let (outcome, line) = audit(rt.alloc(), &mut input);
     assert!(rt; matches!(outcome, Err(RunFault::ReadHistory)));
     assert!(rt; input.failed() && line.is_empty());
@@ -70,8 +69,16 @@ fn pipe_endless_line(rt: HostRuntime) -> Result<(), Fail> {
 }
 
 #[test]
+fn pipe_first_line_that_never_ends(rt: HostRuntime) -> Result<(), Fail> {
+    let (outcome, line) = audit(rt.alloc(), &mut endless(b"", 0, u32::MAX));
+    assert!(rt; matches!(outcome, Ok(Verdict::Syntax { .. })));
+    assert_eq!(rt; line.as_slice(), b"no 1 syntax history 1\n".as_slice());
+    Ok(())
+}
+
+#[test]
 fn pipe_endless_lines(rt: HostRuntime) -> Result<(), Fail> {
-    let mut input = Watched::with_bound(Endless(b'\n'), 10);
+    let mut input = endless(b"", b'\n', 10);
     let (outcome, line) = audit(rt.alloc(), &mut input);
     assert!(rt; matches!(outcome, Ok(Verdict::Syntax { .. })));
     assert_eq!(rt; line.as_slice(), b"no 1 syntax history 1\n".as_slice());

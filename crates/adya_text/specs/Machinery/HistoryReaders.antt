@@ -1,5 +1,6 @@
 -- What a reader of history lines holds of the lines that it was fed with.
-use Rattle.std.specs.Prelude.{◌≡◌, ℕ, ◌+◌, ◌≤◌, Bool, true, false, List, [], ◌∷◌, ◌++◌, length, map, Result, Ok, Err}
+use Rattle.std.specs.Prelude.{◌≡◌, ℕ, ◌+◌, ◌≤◌, Bool, true, false, List, [], ◌∷◌, ◌++◌, length, map, Option, Some, None}
+use Rattle.std.specs.Prelude.{Result, Ok, Err}
 use Rattle.std.specs.List.{filter_map}
 use Rattle.adya_values.specs.Meaning.Histories.{event_of, order_of, final_of}
 use Rattle.adya_values.specs.declared.history.History.{History as HistoryValue}
@@ -33,6 +34,16 @@ is_done (Unfinished last) = false
 is_done (Orders e last) = false
 is_done (Finals e last) = false
 is_done (Failed k) = false
+
+-- the most bytes of a line that may come in the stage, if there is a most: `adya 1` and `adya 2` have 6
+abbrev pub longest_line : Stage → Option ℕ
+longest_line Head = Some 6
+longest_line (Events e) = None
+longest_line (Unfinished last) = None
+longest_line (Orders e last) = None
+longest_line (Finals e last) = None
+longest_line (Done e) = Some 0
+longest_line (Failed k) = Some 0
 
 -- the number of the line after the head and the tail that led to the stage
 abbrev pub line_after : Stage → ℕ

@@ -1,5 +1,6 @@
 -- What a reader of certificate lines holds of the lines that it was fed with.
-use Rattle.std.specs.Prelude.{◌≡◌, ℕ, ◌+◌, ◌≤◌, Bool, true, false, List, [], ◌∷◌, ◌++◌, length, Result, Ok, Err}
+use Rattle.std.specs.Prelude.{◌≡◌, ℕ, ◌+◌, ◌≤◌, Bool, true, false, List, [], ◌∷◌, ◌++◌, length, Option, Some, Result}
+use Rattle.std.specs.Prelude.{Ok, Err}
 use Rattle.std.specs.List.{filter_map}
 use Rattle.adya_values.specs.declared.serial.Serial.{Serial}
 use Rattle.adya_text.specs.Meaning.Texts.{AreSerialLines}
@@ -25,6 +26,13 @@ is_done Done = true
 is_done Head = false
 is_done Txns = false
 is_done (Failed k) = false
+
+-- the most bytes of a line that may come in the stage: `serial 1` has 8, and 4294967295 has 10
+abbrev pub longest_line : Stage → Option ℕ
+longest_line Head = Some 8
+longest_line Txns = Some 10
+longest_line Done = Some 0
+longest_line (Failed k) = Some 0
 
 -- the number of the line after the head and the tail that led to the stage
 abbrev pub line_after : Stage → ℕ

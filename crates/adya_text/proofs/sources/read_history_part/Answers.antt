@@ -1,15 +1,17 @@
-use Rattle.std.proofs.Common.{◌≡◌, ◌≢◌, List, [], ◌∷◌, ◌++◌, ℕ, Some, rules, refl, sym, ap, ◌∙◌, subst}
+use Rattle.std.proofs.Common.{◌≡◌, ◌≢◌, List, [], ◌∷◌, ◌++◌, ℕ, Some, rules, refl, sym, ap, ◌∙◌, subst, inl, inr}
 use Rattle.std.specs.Io.KnownBytes.{prepend_known}
 use Rattle.std.proofs.lemmas.Bool.{false≢true}
 use Rattle.adya_line.specs.Meaning.Spelling.{tail}
 use Rattle.adya_text.specs.Meaning.Faults.{IsCut}
 use Rattle.adya_text.specs.Machinery.HistoryReaders.{IsFed}
+use Rattle.adya_text.specs.Machinery.LongLines.{HasStart, StartsNoLine}
+use Rattle.adya_text.specs.Meaning.Texts.{AreHistoryLines}
 use Rattle.adya_text.specs.Meaning.Reading.{ReadsHistory}
 use Rattle.adya_text.specs.Meaning.Streams.{history_part, serial_part}
 use Rattle.std.proofs.lemmas.List.Elements.{All-push}
-use Rattle.adya_text.proofs.LinesRead.{line_read, rest_unread, prefix_read, all_read, on_ok}
+use Rattle.adya_text.proofs.LinesRead.{line_read, rest_unread, prefix_read, start_read, all_read, on_ok, on_err}
 use Rattle.adya_text.specs.Meaning.Laws.{HasNoEnd}
-use Rattle.adya_text.proofs.StreamParts.{part_front, part_at_end, part_of_all}
+use Rattle.adya_text.proofs.StreamParts.{part_front, part_start, part_at_end, part_of_all}
 use Rattle.adya_text.proofs.sources.read_history_part.Goals as goal
 
 pub returns-then-is_tail-clause-answer : goal.returns-then-is_tail-clause-answer
@@ -75,13 +77,24 @@ returns-clause-answer g c =
     let (stream, same, works, (past, fed, other, read)) = c.loop-line.invariant in
     let line = c.next_line.new.line.items in
     let next = c.in_ok-next_line.ensures in
-    all_read _ _ line (λ stream. ReadsHistory (history_part stream) c.finish-2.result) read c.if-branch.false next.plain
-    next.bytes (next.end c.if-branch.false)
-    (λ stream cut left.
-    let here : IsCut (history_part stream) past line =
-    subst (λ t. IsCut t past line) (sym (part_of_all stream past line other cut).0) cut in
-    c.finish-2.ensures.answer past fed (history_part stream)
-    (subst (IsCut (history_part stream) past) (sym c.deref-2.ensures.value) here))
+    elim (next.end c.if-branch.false) [
+      | inl longer ↦
+          let none = subst (StartsNoLine AreHistoryLines past) (sym c.deref-2.ensures.value)
+          (c.longest_line.ensures past fed line longer) in
+          start_read _ line (λ stream. ReadsHistory (history_part stream) c.finish-2.result) read c.if-branch.false
+          next.plain next.bytes
+          (λ stream start. c.finish-2.ensures.long past fed none (history_part stream)
+          (subst (HasStart (history_part stream) past) (sym c.deref-2.ensures.value)
+          (part_start stream past line other start)))
+      | inr end ↦
+          all_read _ _ line (λ stream. ReadsHistory (history_part stream) c.finish-2.result) read c.if-branch.false
+          next.plain next.bytes end
+          (λ stream cut left.
+          let here : IsCut (history_part stream) past line =
+          subst (λ t. IsCut t past line) (sym (part_of_all stream past line other cut).0) cut in
+          c.finish-2.ensures.answer past fed (history_part stream)
+          (subst (IsCut (history_part stream) past) (sym c.deref-2.ensures.value) here))
+    ]
 
 pub returns-clause-rest : goal.returns-clause-rest
 returns-clause-rest g c =
@@ -89,7 +102,13 @@ returns-clause-rest g c =
     let line = c.next_line.new.line.items in
     let next = c.in_ok-next_line.ensures in
     let left = prepend_known c.next_line.new.self (g.S.Read.remaining c.next_line.new.source) in
-    on_ok c.finish-2.result
-    (all_read _ _ line (λ stream. left ≡ Some (serial_part stream)) read c.if-branch.false next.plain next.bytes
-    (next.end c.if-branch.false)
-    (λ stream cut is. is ∙ ap (λ (l : List ℕ). Some l) (sym (part_of_all stream past line other cut).1)))
+    elim (next.end c.if-branch.false) [
+      | inl longer ↦ on_err _ c.finish-2.result (c.finish-2.ensures.long_refused past fed
+          (subst (StartsNoLine AreHistoryLines past) (sym c.deref-2.ensures.value)
+          (c.longest_line.ensures past fed line longer)))
+      | inr end ↦
+          on_ok c.finish-2.result
+          (all_read _ _ line (λ stream. left ≡ Some (serial_part stream)) read c.if-branch.false next.plain next.bytes
+          end
+          (λ stream cut is. is ∙ ap (λ (l : List ℕ). Some l) (sym (part_of_all stream past line other cut).1)))
+    ]

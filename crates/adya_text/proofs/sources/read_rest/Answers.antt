@@ -1,6 +1,7 @@
-use Rattle.std.proofs.Common.{rules, [], ◌∷◌, ◌++◌, sym, subst}
+use Rattle.std.proofs.Common.{rules, [], ◌∷◌, ◌++◌, sym, subst, inl, inr}
 use Rattle.adya_text.specs.Meaning.Faults.{IsCut}
-use Rattle.adya_text.proofs.LinesRead.{none_read, line_read, prefix_read, all_read}
+use Rattle.adya_text.specs.Machinery.LongLines.{HasStart, StartsNoLine}
+use Rattle.adya_text.proofs.LinesRead.{none_read, line_read, prefix_read, start_read, all_read, on_ok, on_err}
 use Rattle.adya_text.proofs.sources.read_rest.Goals as goal
 
 pub loop-line-init : goal.loop-line-init
@@ -39,7 +40,28 @@ returns-clause-answer g c =
     let (stream, same, works, (past, fed, read)) = c.loop-line.invariant in
     let line = c.next_line.new.line.items in
     let next = c.in_ok-next_line.ensures in
-    all_read _ _ line (λ text. g.R.LineReader.reads text c.finish-2.result) read c.if-branch.false next.plain next.bytes
-    (next.end c.if-branch.false)
-    (λ text cut left. c.finish-2.ensures.answer past fed text
-    (subst (IsCut text past) (sym c.deref-2.ensures.value) cut))
+    elim (next.end c.if-branch.false) [
+      | inl longer ↦
+          let none = subst (StartsNoLine g.R.LineReader.grammar past) (sym c.deref-2.ensures.value)
+          (c.longest_line.ensures past fed line longer) in
+          start_read _ line (λ text. g.R.LineReader.reads text c.finish-2.result) read c.if-branch.false next.plain
+          next.bytes
+          (λ text start. c.finish-2.ensures.long past fed none text
+          (subst (HasStart text past) (sym c.deref-2.ensures.value) start))
+      | inr end ↦
+          all_read _ _ line (λ text. g.R.LineReader.reads text c.finish-2.result) read c.if-branch.false next.plain
+          next.bytes end
+          (λ text cut left. c.finish-2.ensures.answer past fed text
+          (subst (IsCut text past) (sym c.deref-2.ensures.value) cut))
+    ]
+
+pub returns-clause-ended : goal.returns-clause-ended
+returns-clause-ended g c =
+    let (stream, same, works, (past, fed, read)) = c.loop-line.invariant in
+    let line = c.next_line.new.line.items in
+    elim (c.in_ok-next_line.ensures.end c.if-branch.false) [
+      | inl longer ↦ on_err _ c.finish-2.result (c.finish-2.ensures.long_refused past fed
+          (subst (StartsNoLine g.R.LineReader.grammar past) (sym c.deref-2.ensures.value)
+          (c.longest_line.ensures past fed line longer)))
+      | inr end ↦ on_ok c.finish-2.result end
+    ]

@@ -3,9 +3,9 @@ use Rattle.std.proofs.lemmas.Bool.{eqb-true, eq-eqb}
 use Rattle.std.proofs.lemmas.List.{nil_from_length}
 use Rattle.adya_text.specs.Machinery.HistoryReaders.{is_failed, is_done, next_line}
 use Rattle.adya_text.specs.Meaning.Texts.{AreHistoryLines}
-use Rattle.adya_text.proofs.PrefixFaults.{front_fault}
+use Rattle.adya_text.proofs.PrefixFaults.{front_fault, front_of}
 use Rattle.adya_text.proofs.HistoryReaders.{fed_begins, failed_fault, missing_fault, fed_fits, fed_shape, fed_history}
-use Rattle.adya_text.proofs.HistoryReaders.{fault_is, unfailed}
+use Rattle.adya_text.proofs.HistoryReaders.{long_fault, fault_is, unfailed}
 use Rattle.adya_text.proofs.history_reader.HistoryReaderLineReader.finish.Goals as goal
 
 pub returns-in-Failed-clause-answer : goal.returns-in-Failed-clause-answer
@@ -74,3 +74,31 @@ returns-clause-early c = λ past fed stops text front.
 pub returns-in-Ok-clause-refused : goal.returns-in-Ok-clause-refused
 returns-in-Ok-clause-refused c = λ past fed stops.
     absurd (stops (fed_begins c.args.self past fed (unfailed _ c.in_default.not-Failed)))
+
+pub returns-in-Failed-clause-long : goal.returns-in-Failed-clause-long
+returns-in-Failed-clause-long c = λ past fed none text start.
+    let (within, fault) = fed.faulty c.in-Failed.line (search rules) in
+    fault_is text c.in-Failed.line _ c.fault_at.ensures
+    (front_fault AreHistoryLines text past c.in-Failed.line within fault (front_of text past c.args.rest.now start))
+
+pub returns-then-not-is_done-clause-long : goal.returns-then-not-is_done-clause-long
+returns-then-not-is_done-clause-long c = λ past fed none text start.
+    fault_is text (next_line c.args.self) _ (c.fault_at-then-not-is_done.ensures ∙ (search rules))
+    (long_fault c.args.self past text c.args.rest.now fed (unfailed _ c.in_default.not-Failed) none start)
+
+pub returns-then-not-is_empty-clause-long : goal.returns-then-not-is_empty-clause-long
+returns-then-not-is_empty-clause-long c = λ past fed none text start.
+    fault_is text (next_line c.args.self) _ (c.fault_at-then-not-is_empty.ensures ∙ (search rules))
+    (long_fault c.args.self past text c.args.rest.now fed (unfailed _ c.in_default.not-Failed) none start)
+
+pub returns-in-Ok-clause-long : goal.returns-in-Ok-clause-long
+returns-in-Ok-clause-long c = λ past fed none text start.
+    absurd (none.some (nil_from_length _ (eqb-true _ 0 (sym c.is_empty.ensures ∙ c.if-not-is_empty.false))))
+
+pub returns-clause-long : goal.returns-clause-long
+returns-clause-long c = λ past fed none text start.
+    absurd (none.some (nil_from_length _ (eqb-true _ 0 (sym c.is_empty.ensures ∙ c.if-not-is_empty.false))))
+
+pub returns-in-Ok-clause-long_refused : goal.returns-in-Ok-clause-long_refused
+returns-in-Ok-clause-long_refused c = λ past fed none.
+    absurd (none.some (nil_from_length _ (eqb-true _ 0 (sym c.is_empty.ensures ∙ c.if-not-is_empty.false))))

@@ -1,17 +1,19 @@
-use Rattle.std.proofs.Common.{◌≡◌, ◌≢◌, ◌≤◌, ◌⊎◌, [], false, All}
+use Rattle.std.proofs.Common.{◌≡◌, ◌≢◌, ◌≤◌, ◌⊎◌, [], false, All, IfSome, length}
 use Rattle.std.specs.Io.KnownBytes.{Consumes, prepend_known}
 use Rattle.adya_text.specs.Machinery.Buffers.{work_left}
 use Rattle.adya_text.proofs.lines.LineBuffer.next_line.Given as goal
 
-abbrev pub invariant-loop-self : goal.invariant-loop-self
-invariant-loop-self g l =
+abbrev pub invariant-loop-line : goal.invariant-loop-line
+invariant-loop-line g l =
     (All (λ x. x ≢ 10) l.line.items)
+    × (IfSome l.longest (λ most. length l.line.items ≤ most))
     × (g.S.Source.same l.initial.source l.source)
     × (work_left (g.S.Source.left l.source) l.self ≤ work_left (g.S.Source.left l.initial.source) l.initial.self)
     × (g.S.Source.is_failed l.source ≡ g.S.Source.is_failed l.initial.source)
-    × (l.initial.self ≡ [] → (l.self ≡ []) ⊎ (g.S.Source.is_failed l.source ≡ false))
+    × ((l.initial.self ≡ []) ⊎ (g.S.Source.is_failed l.initial.source ≡ false)
+    → ((l.line.items ≡ []) × (l.self ≡ [])) ⊎ (g.S.Source.is_failed l.source ≡ false))
     × Consumes (prepend_known l.initial.self (g.S.Read.remaining l.initial.source))
     (prepend_known l.self (g.S.Read.remaining l.source)) l.line.items
 
-abbrev pub decreases-loop-self : goal.decreases-loop-self
-decreases-loop-self g l = work_left (g.S.Source.left l.source) l.self
+abbrev pub decreases-loop-line : goal.decreases-loop-line
+decreases-loop-line g l = work_left (g.S.Source.left l.source) l.self
