@@ -6,6 +6,7 @@ mod failing_devices;
 mod failing_serves;
 mod hostile_lines;
 mod many_sessions;
+mod random_lines;
 
 use crate::texts::{Texts, texts_of};
 use adya_testing::{FailsAt, Narrow, Pieces};
