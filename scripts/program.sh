@@ -120,6 +120,17 @@ check 'a write above them' $'out: no 1 syntax history 2\nstatus 1' "$(great $mos
 check 'an installed version above them' $'out: no 1 syntax history 4\nstatus 1' "$(great $most 1 4294967296 $most)"
 check 'a transaction of the certificate above them' $'out: no 1 syntax serial 2\nstatus 1' "$(great $most 1 $most 4294967296)"
 
+# A first line without end. The bound on memory ends a program that keeps all of it.
+endless() { # as `run`
+    (ulimit -v 1000000; run "$@")
+}
+history=$'out: no 1 syntax history 1\nstatus 1'
+certificate=$'out: no 1 syntax serial 1\nstatus 1'
+check 'a history whose first line has no end' "$history" "$(endless audit -- /dev/zero -c)"
+check 'a certificate whose first line has no end' "$certificate" "$(endless audit -- -h /dev/zero)"
+check 'standard input whose first line has no end' "$history" "$(endless </dev/zero)"
+check 'standard input whose certificate has no end' "$certificate" "$(cat -- -h /dev/zero | endless)"
+
 # Standard input and output.
 check 'empty input' $'out: no 1 syntax history 1\nstatus 1' "$(run </dev/null)"
 check 'a folder as standard input' $'err: ssi: read fault: stdin\nstatus 3' "$(run <folder)"
