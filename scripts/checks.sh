@@ -9,6 +9,8 @@ work=$(mktemp -d)
 trap 'rm -rf "$work"' EXIT
 cd "$work" || exit
 mkdir folder
+mkfifo unread
+exec 9<>unread 8>unread 9<&- # writing to 8 fails: it is a pipe whose reader has gone
 
 check() { # the name of the case; the wanted text; the actual text
     if [ "$2" = "$3" ]; then

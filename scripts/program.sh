@@ -100,6 +100,10 @@ check 'no certificate' "$nowhere" "$(run audit h nowhere)"
 check 'neither file: the history is opened first' "$nowhere" "$(run audit nowhere neither)"
 check 'no history to order' "$nowhere" "$(run order nowhere)"
 check 'an empty path' $'err: ssi: read fault: \nstatus 3' "$(run order '')"
+check 'an empty file as history' $'out: no 1 syntax history 1\nstatus 1' "$(run audit /dev/null c)"
+check 'an empty file as certificate' $'out: no 1 syntax serial 1\nstatus 1' "$(run audit -- -h /dev/null)"
+check 'an empty file to order' $'out: no 1 syntax history 1\nstatus 1' "$(run order /dev/null)"
+check 'a file in place of a folder' $'err: ssi: read fault: h/h\nstatus 3' "$(run audit h/h c)"
 folder=$'err: ssi: read fault: folder\nstatus 3'
 check 'a folder as history' "$folder" "$(run audit folder c)"
 check 'a folder as certificate' "$folder" "$(run audit -- -h folder)"
@@ -116,6 +120,17 @@ check 'a write above them' $'out: no 1 syntax history 2\nstatus 1' "$(great $mos
 check 'an installed version above them' $'out: no 1 syntax history 4\nstatus 1' "$(great $most 1 4294967296 $most)"
 check 'a transaction of the certificate above them' $'out: no 1 syntax serial 2\nstatus 1' "$(great $most 1 $most 4294967296)"
 
+# A first line without end. The bound on memory ends a program that keeps all of it.
+endless() { # as `run`
+    (ulimit -v 1000000; run "$@")
+}
+history=$'out: no 1 syntax history 1\nstatus 1'
+certificate=$'out: no 1 syntax serial 1\nstatus 1'
+check 'a history whose first line has no end' "$history" "$(endless audit -- /dev/zero -c)"
+check 'a certificate whose first line has no end' "$certificate" "$(endless audit -- -h /dev/zero)"
+check 'standard input whose first line has no end' "$history" "$(endless </dev/zero)"
+check 'standard input whose certificate has no end' "$certificate" "$(cat -- -h /dev/zero | endless)"
+
 # Standard input and output.
 check 'empty input' $'out: no 1 syntax history 1\nstatus 1' "$(run </dev/null)"
 check 'a folder as standard input' $'err: ssi: read fault: stdin\nstatus 3' "$(run <folder)"
@@ -127,6 +142,15 @@ check 'a full device, order' "$full" "$("$ssi" order "$examples/order/empty/hist
 check 'a full device, help' "$full" "$("$ssi" --help 2>&1 >/dev/full; echo "status $?")"
 check 'closed standard output' "$full" "$("$ssi" <"$sample" 2>&1 >&-; echo "status $?")"
 check 'closed standard output, files' "$full" "$("$ssi" audit -- -h -c 2>&1 >&-; echo "status $?")"
+check 'a reader that has gone, no arguments' "$full" "$("$ssi" <"$sample" 2>&1 >&8; echo "status $?")"
+check 'a reader that has gone, audit' "$full" "$("$ssi" audit -- -h -c 2>&1 >&8; echo "status $?")"
+check 'a reader that has gone, audit with the verdict no' "$full" "$("$ssi" audit h c 2>&1 >&8; echo "status $?")"
+check 'a reader that has gone, order' "$full" \
+    "$("$ssi" order "$examples/order/empty/history" 2>&1 >&8; echo "status $?")"
+check 'a reader that has gone, help' "$full" "$("$ssi" --help 2>&1 >&8; echo "status $?")"
 check 'a full device as standard error too' 'status 3' "$("$ssi" order nowhere 2>/dev/full; echo "status $?")"
+check 'a reader of standard error that has gone' 'status 3' "$("$ssi" order nowhere 2>&8; echo "status $?")"
+check 'a reader of both that has gone' 'status 3' "$("$ssi" <"$sample" >&8 2>&8; echo "status $?")"
+check 'wrong arguments, and a reader of standard error that has gone' 'status 2' "$("$ssi" foo 2>&8; echo "status $?")"
 
 report

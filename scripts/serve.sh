@@ -86,6 +86,14 @@ check 'a full device as standard output' "$output" "$("$ssi" script h c <command
 check 'texts after a full device as standard output' "$aborted" "$(texts h c)"
 check 'closed standard output' "$output" "$("$ssi" script h c <commands 2>&1 >&-; echo "status $?")"
 check 'texts after closed standard output' "$aborted" "$(texts h c)"
+check 'standard output whose reader has gone' "$output" "$("$ssi" script h c <commands 2>&1 >&8; echo "status $?")"
+check 'texts after a reader that has gone' "$aborted" "$(texts h c)"
+check 'a reader that goes after two lines' "$(lines 'begun 1' 'done' "$output")" "$(
+    (echo begin A; yes put A x 1) |
+        (timeout 60 "$ssi" script h c 2>err; echo "status $?" >>err) | head -n 2
+    cat err)"
+check 'the verdict after that reader' yes "$("$ssi" audit h c)"
+rm -f h c
 check 'a full device as standard error' 'status 3' "$("$ssi" script h c <folder 2>/dev/full; echo "status $?")"
 check 'texts after a full device as standard error' "$none" "$(texts h c)"
 
@@ -177,6 +185,38 @@ finish
 check 'the end after lines sent together' 'status 0' "$ending"
 check 'texts of lines sent together' "$(lines 'adya 1' 's1(x,x)' c1 a2 end 'serial 1' 1 end yes)" "$(texts h c)"
 
+cat >part.py <<'END'
+"""Lets the store at a socket carry out many operations, asks for a dump, and leaves after its first line."""
+import socket, sys, time
+
+connection = socket.socket(socket.AF_UNIX)
+connection.settimeout(30)
+for _ in range(1000):  # until the server listens
+    if connection.connect_ex(sys.argv[1]) == 0:
+        break
+    time.sleep(0.01)
+connection.sendall(b"begin A\n")
+print(connection.recv(100).decode(), end="")
+replies = b""
+for _ in range(200):
+    connection.sendall(b"put A x %s\n" % (64 * b"a") * 100)
+    while not replies.endswith(b"done\n" * 100):
+        replies = replies[-500:] + connection.recv(1000)
+    replies = b""
+connection.sendall(b"dump\n")
+print(connection.recv(7).decode(), end="")
+END
+start socket h c
+check 'a peer that sends nothing' '' "$(talk socket leave </dev/null)"
+check 'a peer that leaves in the middle of a dump' $'begun 1\nadya 2' "$(timeout 60 python3 part.py socket 2>&1)"
+check 'a peer after one that left in the middle of a dump' "$(lines 'done' committed stopped)" \
+    "$(lines 'put A y 1' 'commit A' stop | talk socket)"
+finish
+check 'the end after a dump that was not read' 'status 0' "$ending"
+check 'the end of that history' "$(lines 'w1(y.1:1,1)' c1 '[x:1]' '[y:1]' "{x,$(letters 64)}" '{y,1}' end)" "$(tail -n 7 h)"
+check 'the verdict on that history' yes "$("$ssi" audit h c)"
+rm -f h c
+
 cat >wait.py <<'END'
 import socket, sys, time
 
@@ -213,6 +253,13 @@ finish
 check 'the end of a server with such paths' 'status 0' "$ending"
 check 'texts of a server with such paths' "$none" "$(texts -h -c)"
 
+longest=$(letters 107)
+start "$longest" h c
+check 'the longest path of a socket' stopped "$(echo stop | talk "$longest")"
+finish
+check 'the end of a server with the longest path' 'status 0' "$ending"
+check 'texts of a server with the longest path' "$none" "$(texts h c)"
+
 start socket h c
 check "a socket's file that is removed" stopped "$(echo stop | talk socket remove)"
 finish
@@ -224,26 +271,35 @@ start socket h c
 check 'a peer' 'begun 1' "$(echo begin A | talk socket)"
 long=$(letters 200)
 echo text >file
-for path in "$long" nowhere/socket file folder socket ''; do
+ln -s nothing link
+python3 -c 'import socket; socket.socket(socket.AF_UNIX).bind("stale")' # nobody listens
+for path in "$long" "${longest}a" nowhere/socket file/socket file folder link stale socket ''; do
     check "a socket at '$path'" "err: ssi: socket fault: $path"$'\nstatus 3' "$(run serve "$path" h c)"
-    check "no files with a socket at '$path'" '' "$(left h c "$long" nowhere)"
+    check "no files with a socket at '$path'" '' "$(left h c "$long" "${longest}a" nowhere nothing)"
 done
 check 'the file is as before' text "$(cat file)"
+check 'the link is as before' nothing "$(readlink link)"
+check 'the socket without a server is there' stale "$(left stale)"
+rm stale
 check 'the server at that socket goes on' stopped "$(echo stop | talk socket)"
 finish
 check 'the end of that server' 'status 0' "$ending"
 check 'texts of that server' "$aborted" "$(texts h c)"
 
 # Files of a server that can't be written.
-start socket folder c
-check 'a server with a folder for the history' stopped "$(echo stop | talk socket)"
-finish
-check 'its end' $'ssi: write fault: folder\nstatus 3' "$ending"
-check 'no certificate of it' '' "$(left c)"
-start socket h folder
-check 'a server with a folder for the certificate' stopped "$(echo stop | talk socket)"
-finish
-check 'its end, too' $'ssi: write fault: folder\nstatus 3' "$ending"
-check 'its history' $'adya 1\nend' "$(cat h)"
+for path in folder nowhere/file /dev/full ''; do
+    fault="ssi: write fault: $path"$'\nstatus 3'
+    start socket "$path" c
+    check "a server with the history to '$path'" stopped "$(echo stop | talk socket)"
+    finish
+    check "its end with the history to '$path'" "$fault" "$ending"
+    check "no certificate of a server with the history to '$path'" '' "$(left c)"
+    start socket h "$path"
+    check "a server with the certificate to '$path'" stopped "$(echo stop | talk socket)"
+    finish
+    check "its end with the certificate to '$path'" "$fault" "$ending"
+    check "its history with the certificate to '$path'" $'adya 1\nend' "$(cat h)"
+    rm -f h
+done
 
 report

@@ -15,6 +15,8 @@ mod limits;
 mod lists;
 mod runs;
 mod scripts;
+#[cfg(test)]
+mod tests;
 mod texts;
 mod worked;
 

@@ -47,7 +47,10 @@ pub(crate) fn outcome_of<C: Chains + Drop, M: Marks + Drop>(
 }
 
 /// Ends the store and returns its texts.
-fn ended<C: Chains + Drop, M: Marks + Drop>(alloc: Global, store: Store<C, M>) -> Option<Texts> {
+pub(crate) fn ended<C: Chains + Drop, M: Marks + Drop>(
+    alloc: Global,
+    store: Store<C, M>,
+) -> Option<Texts> {
     match store.finish() {
         Ok(finished) => texts_of(alloc, &finished),
         Err(_) => None,
@@ -85,7 +88,7 @@ fn dumped<C: Chains + Drop, M: Marks + Drop>(alloc: Global, store: &Store<C, M>)
 }
 
 /// Returns what the store answers to the line.
-fn said<C: Chains + Drop, M: Marks + Drop>(
+pub(crate) fn said<C: Chains + Drop, M: Marks + Drop>(
     alloc: Global,
     store: &mut Store<C, M>,
     line: &str,

@@ -58,7 +58,7 @@ fn certificate_text(alloc: Global, certificate: &Serial) -> Option<Vec<u8>> {
 }
 
 /// Returns the line that the auditor writes.
-fn verdict_on(alloc: Global, history: &[u8], certificate: &[u8]) -> Vec<u8> {
+pub(crate) fn verdict_on(alloc: Global, history: &[u8], certificate: &[u8]) -> Vec<u8> {
     let mut history = Watched::new(Pieces::new(history, 4096));
     let mut certificate = Watched::new(Pieces::new(certificate, 4096));
     let mut out = Watched::new(Vec::new(alloc));
