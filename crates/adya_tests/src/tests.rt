@@ -34,7 +34,7 @@ const CERTIFICATE: &[u8] = b"serial 1\n1\n2\nend\n";
 const STREAM: &[u8] =
     b"adya 1\nw1(x.1:1,5)\nc1\nr2(x.1:1,5)\nc2\n[x:1]\n{x,5}\nend\nserial 1\n1\n2\nend\n";
 
-/// A history up to a value that may go on; only the rest of its line would show that it is too long.
+/// The front of a history. Its second line is judged when it has ended, since lines of events may have any length.
 const UNENDED: &[u8] = b"adya 1\nw1(x.1:1,";
 
 /// How failing devices fail. An interrupted call is a failed one.
