@@ -8,6 +8,7 @@ use adya_testing::Pieces;
 use devices::Watched;
 use ssi_line::End;
 use std::alloc::{AllocError, Global};
+use std::process::Abort;
 use std::test::Fail;
 
 /// How many lines there are.
@@ -197,48 +198,63 @@ fn is_row(text: &str) -> bool {
 }
 
 /// How replies begin. Each of these is among those to the lines.
-const FRONTS: [&str; 18] = [
-    "? syntax",
-    "? long",
-    "begun ",
-    "value ",
-    "absent",
-    "done",
-    "rows 0",
-    "rows 1 ",
-    "rows 2 ",
-    "unsafe ",
-    "committed",
-    "conflict ",
-    "aborted",
-    "kept ",
-    "stat ",
-    "! 1 busy",
-    "! 2 idle",
-    "! 3 range",
+const FRONTS: [&[u8]; 18] = [
+    b"? syntax",
+    b"? long",
+    b"begun ",
+    b"value ",
+    b"absent",
+    b"done",
+    b"rows 0",
+    b"rows 1 ",
+    b"rows 2 ",
+    b"unsafe ",
+    b"committed",
+    b"conflict ",
+    b"aborted",
+    b"kept ",
+    b"stat ",
+    b"! 1 busy",
+    b"! 2 idle",
+    b"! 3 range",
 ];
 
-#[test]
-fn random_lines(rt: HostRuntime) -> Result<(), Fail> {
-    let alloc = rt.alloc();
-    let script = random_script(alloc)?;
-    let mut input = Watched::new(Pieces::new(&script, 1000));
-    let answers = answers_to(alloc, &mut input).ok_or("memory ran out")?;
-    assert!(rt; answers.end == End::Eof);
-    assert!(rt; are_accepted(&answers.texts));
+/// Asserts that each line gets one reply, and one that it can get.
+fn are_answered(rt: &impl Abort, alloc: Global, script: &[u8], replies: &str) -> Result<(), Fail> {
     let mut lines = script.split(|b| *b == b'\n');
-    let mut replies = str::from_utf8(&answers.replies)?.lines();
+    let mut replies = replies.lines();
     for _ in 0..LINES {
         let line = lines.next().ok_or("a line is missing")?;
         let reply = replies.next().ok_or("a reply is missing")?;
-        let words: Vec<&str> = reply.split(' ').collect(alloc)?;
-        assert!(rt; is_reply(&words), "{reply}");
-        assert!(rt; is_reply_to(line, &words), "{reply}");
+        is_answered(rt, alloc, line, reply)?;
     }
     assert!(rt; replies.next().is_none());
-    for front in FRONTS {
-        let mut replies = str::from_utf8(&answers.replies)?.lines();
-        assert!(rt; replies.any(|reply| reply.starts_with(front)), "{front}");
+    Ok(())
+}
+
+fn is_answered(rt: &impl Abort, alloc: Global, line: &[u8], reply: &str) -> Result<(), Fail> {
+    let words: Vec<&str> = reply.split(' ').collect(alloc)?;
+    assert!(rt; is_reply(&words), "{reply}");
+    assert!(rt; is_reply_to(line, &words), "{reply}");
+    Ok(())
+}
+
+fn begins_a_reply(front: &[u8], replies: &[u8]) -> bool {
+    let mut lines = replies.split(|b| *b == b'\n');
+    lines.any(|reply| reply.starts_with(front))
+}
+
+#[test]
+fn random_lines(rt: HostRuntime) -> Result<(), Fail> {
+    let script = random_script(rt.alloc())?;
+    let mut input = Watched::new(Pieces::new(&script, 1000));
+    let answers = answers_to(rt.alloc(), &mut input).ok_or("memory ran out")?;
+    assert!(rt; answers.end == End::Eof);
+    assert!(rt; are_accepted(&answers.texts));
+    let replies = str::from_utf8(&answers.replies)?;
+    are_answered(&rt, rt.alloc(), &script, replies)?;
+    for (place, front) in FRONTS.iter().enumerate() {
+        assert!(rt; begins_a_reply(front, &answers.replies), "{place}");
     }
     Ok(())
 }
