@@ -32,8 +32,8 @@ impl<C: Chains + Drop> Commits<C> {
         Ok(())
     }
 
-    /// Installs what the view has written. If memory is refused, the counts and what lies in the range must be as before,
-    /// and it is installed once more.
+    /// Installs what the view has written. If memory is refused, the counts must be as before, and it is installed once
+    /// more.
     fn commit(&mut self, tally: &mut Tally, view: &View) -> Result<(), &'static str> {
         let before = (self.chains.held(), self.chains.keys());
         if self.install(view).is_ok() {

@@ -225,8 +225,8 @@ fn verdict(
     Ok(())
 }
 
-/// Judges the two texts in two streams and in one, and finds the order. The second try writes where the first did, so it
-/// goes wrong if the first has written something.
+/// Judges the two texts in two streams and in one, and finds the order. The second try writes where the first did, so
+/// it goes wrong if the first has written something.
 fn runs(tally: &mut Tally, stream: &[u8], worked: &Worked) -> Result<(), &'static str> {
     let mut out = wanting(worked.verdict);
     let _ = again!(

@@ -24,11 +24,13 @@ use std::alloc::{AllocError, Global};
 use std::io;
 use std::io::{Read, Write};
 
-/// How many allocations are made before a test whose number is 0, and how many of them are no padding.
+/// How many allocations are made before the only test if its number is 0.
 const BEFORE: u32 = 2001;
 
+/// How many of them are for the input and the room for texts. The others are padding.
 const NO_PADDING: u32 = 4;
 
+/// How long the input may be without a second allocation, and how many tests it may hold.
 const MOST_INPUT: usize = 65536;
 
 const MOST_TESTS: u32 = 1000;

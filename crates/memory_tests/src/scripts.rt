@@ -33,8 +33,8 @@ impl Spare {
     }
 }
 
-/// Runs the commands of the course as a script. If memory ran out at the end, neither text was begun. If it ran out at a
-/// command, one reply says so, and both texts are accepted.
+/// Runs the commands of the course as a script. If memory ran out at the end, neither text was begun. If it ran out at
+/// a command, one reply says so, and both texts are accepted.
 pub(crate) fn run(tally: &mut Tally, spare: Spare, course: &Course) -> Result<(), &'static str> {
     let mut input = Watched::new(Pieces::new(course.commands.as_bytes(), ROOM));
     let mut replies = Watched::new(spare.replies);
