@@ -130,6 +130,14 @@ check 'a history whose first line has no end' "$history" "$(endless audit -- /de
 check 'a certificate whose first line has no end' "$certificate" "$(endless audit -- -h /dev/zero)"
 check 'standard input whose first line has no end' "$history" "$(endless </dev/zero)"
 check 'standard input whose certificate has no end' "$certificate" "$(cat -- -h /dev/zero | endless)"
+check 'a history to order whose first line has no end' "$history" "$(endless order /dev/zero)"
+
+# A scan of a hundred million bytes. Nobody wrote the versions that it lists.
+value=$(printf 'v%.0s' {1..60})
+entries() { yes "k.4294967295:65535,$value" | head -n 1260000 | paste -sd ';' | tr -d '\n'; }
+scan() { (printf 'adya 1\ns1(a,z;'; entries; printf '%s\n' "$1" c1 end 'serial 1' 1 end) | endless; }
+check 'a scan of a hundred million bytes' $'out: no 2 malformed 2 M3\nstatus 1' "$(scan ')')"
+check 'a scan of a hundred million bytes that has no end' $'out: no 1 syntax history 2\nstatus 1' "$(scan '')"
 
 # Standard input and output.
 check 'empty input' $'out: no 1 syntax history 1\nstatus 1' "$(run </dev/null)"
