@@ -7,14 +7,17 @@ PROGRAM runs the store. By default it is the program of the store's tests, which
 crates/ssi_store_tests. It is called as `PROGRAM FILE`. The file has the lists one after the other; after the commands
 of a list comes the line `end`. For each list the program writes the reply to each command (the reply to `dump` is two
 texts), then the history at the end, its certificate, the line of the verdict on both, and the line `end of list`. If it
-runs several stores and they don't agree, it writes something else, such as `differ`. With --bad-lines the lists also
-have lines that are no commands, which only the line protocol knows.
+runs several stores and they don't agree, it writes something else, such as `differ`.
+
+With --bad-lines the lists also have lines that are no commands. These only the line protocol knows, so PROGRAM is then
+the built program, by default crates/ssi/out/ssi: each list is given to its `script`, and its `audit` says the verdict.
 
 It counts the kinds of replies. The last line is `N passed, 0 failed`. If an output differs, it ends with status 1; the
 first lists that differ are printed, each without the commands that the difference doesn't need, with what differs.
 """
 import argparse
 import collections
+import functools
 import itertools
 import os
 import random
@@ -175,6 +178,22 @@ def kind(line, reply):
 # Running it.
 
 
+def scripted(program, lists):
+    """What `script` and `audit` of the program write for each list."""
+    found = []
+    with tempfile.TemporaryDirectory(prefix="compare-") as folder:
+        texts = [os.path.join(folder, name) for name in ("history", "certificate")]
+        for lines in lists:
+            given = "".join(line + "\n" for line in lines).encode("latin-1")
+            parts = [subprocess.run([program, "script", *texts], input=given, capture_output=True).stdout]
+            for path in texts:
+                with open(path, "rb") as text:
+                    parts.append(text.read())
+            parts.append(subprocess.run([program, "audit", *texts], capture_output=True).stdout)
+            found.append(b"".join(parts).decode("latin-1"))
+    return found
+
+
 def outputs(program, lists):
     """What the program writes for each list. If it ends early or badly, the last output says so."""
     with tempfile.TemporaryDirectory(prefix="compare-") as folder:
@@ -189,19 +208,19 @@ def outputs(program, lists):
     return found[: len(lists) - 1] + ["".join(found[len(lists) - 1 :])]
 
 
-def is_passed(program, lines):
+def is_passed(run, lines):
     wanted = Wanted(lines)
-    return wanted.is_accepted and outputs(program, [lines]) == [wanted.text]
+    return wanted.is_accepted and run([lines]) == [wanted.text]
 
 
-def shrunk(program, lines):
+def shrunk(run, lines):
     """Leaves commands out, many at once at first, for as long as it isn't passed."""
     size = len(lines)
     while size:
         at = 0
         while at < len(lines):
             shorter = lines[:at] + lines[at + size :]
-            if is_passed(program, shorter):
+            if is_passed(run, shorter):
                 at += size
             else:
                 lines = shorter
@@ -209,45 +228,53 @@ def shrunk(program, lines):
     return lines
 
 
-def show(program, case, lines):
-    wanted, (got,) = Wanted(lines), outputs(program, [lines])
+def show(run, case, lines):
+    wanted, (got,) = Wanted(lines), run([lines])
     print("list %d, made smaller:" % case, *lines, sep="\n")
     print(wanted.difference(got) if wanted.text != got else "the audit refuses a text that the definitions give")
 
 
-def show_first(program, lists, failed):
+def show_first(run, lists, failed):
     """The first of the lists that failed, as long as they fail without the others too."""
-    alone = (case for case in failed if not is_passed(program, lists[case - 1]))
+    alone = (case for case in failed if not is_passed(run, lists[case - 1]))
     shown = list(itertools.islice(alone, MOST_SHOWN))
     for case in shown:
-        show(program, case, shrunk(program, lists[case - 1]))
+        show(run, case, shrunk(run, lists[case - 1]))
     if failed and not shown:
         print("each list passes alone; list %d is the first that failed after others" % failed[0])
 
 
 def options():
     p = argparse.ArgumentParser(description=__doc__, formatter_class=argparse.RawDescriptionHelpFormatter)
-    built = os.path.join(os.path.dirname(os.path.abspath(__file__)), "../crates/ssi_store_tests/out/ssi_store_tests")
-    p.add_argument("program", nargs="?", default=built, help="default: crates/ssi_store_tests/out/ssi_store_tests")
+    p.add_argument("program", nargs="?", help="default: crates/ssi_store_tests/out/ssi_store_tests")
     p.add_argument("--cases", type=int, default=1000, help="how many lists (default %(default)s)")
     p.add_argument("--seed", type=int, default=1, help="the same seed gives the same lists (default %(default)s)")
     p.add_argument("--bad-lines", action="store_true", help="also lines that are no commands")
     return p.parse_args()
 
 
+def runner(o):
+    """What gives the outputs for lists."""
+    name = "ssi" if o.bad_lines else "ssi_store_tests"
+    built = os.path.join(os.path.dirname(os.path.abspath(__file__)), "..", "crates", name, "out", name)
+    program = os.path.abspath(o.program or built)
+    if not os.access(program, os.X_OK):
+        sys.exit("compare_store.py: there is no program %s" % program)
+    return functools.partial(scripted if o.bad_lines else outputs, program)
+
+
 def main():
     o = options()
-    if not os.access(o.program, os.X_OK):
-        sys.exit("compare_store.py: there is no program %s" % o.program)
-    maker, program = Maker(o.seed, o.bad_lines), os.path.abspath(o.program)
+    run = runner(o)
+    maker = Maker(o.seed, o.bad_lines)
     lists = [maker.commands() for _ in range(o.cases)]
     failed, counts = [], collections.Counter()
-    for case, (lines, got) in enumerate(zip(lists, outputs(program, lists)), 1):
+    for case, (lines, got) in enumerate(zip(lists, run(lists)), 1):
         wanted = Wanted(lines)
         counts.update(kind(*pair) for pair in zip(lines, wanted.replies))
         if got != wanted.text or not wanted.is_accepted:
             failed.append(case)
-    show_first(program, lists, failed)
+    show_first(run, lists, failed)
     for name, count in sorted(counts.items()):
         print("%7d %s" % (count, name))
     print("%d passed, %d failed" % (o.cases - len(failed), len(failed)))
