@@ -3,24 +3,22 @@ use Rattle.std.proofs.Common.{◌≡◌, ℕ, zero, suc, ◌⊎◌, Bool, true, 
 use Rattle.std.proofs.Common.{Ordering, Less, Equal, Greater}
 use Rattle.std.specs.List.{list_all, list_any, Contains}
 use Rattle.std.specs.List.{filter_map, All}
-use Rattle.std.specs.Ordering.{is_eq, is_gt, is_le, is_lt, nat_cmp, ordering_reverse, ordering_then}
-use Rattle.std.specs.Cmp.{IsTotalOrder}
+use Rattle.std.specs.Ordering.{is_gt, is_le, is_lt, nat_cmp, ordering_reverse}
 use Rattle.std.specs.declared.ops.Bound.TheVariants.{Included}
 use Rattle.std.specs.BTreeMap.{BTreeMap, IsOrdered, get}
 use Rattle.std.specs.BTreeMap.Range.{IsEntryInRange, entries_between, range_contains}
-use Rattle.std.proofs.lemmas.Cmp.{nat_cmp_total, nat_list_cmp_total, then_total, tied_itself}
-use Rattle.std.proofs.lemmas.Map.Lookups.{CmpEqualImpliesEq, exact_unsigned}
+use Rattle.std.proofs.lemmas.Cmp.{nat_list_cmp_total}
+use Rattle.std.proofs.lemmas.Map.Lookups.{CmpEqualImpliesEq}
 use Rattle.std.proofs.lemmas.Map.Views.{btree_map_get_iff}
 use Rattle.std.specs.Cmp.Lexicographic.{slice_cmp}
-use Rattle.std.proofs.lemmas.Bool.{or_from, not_from_true, cases_Bool, and_parts, and_from, both_ways, eqb-true, not-true, or_cases, or_left, or_right}
+use Rattle.std.proofs.lemmas.Bool.{or_from, not_from_true, cases_Bool, and_parts, and_from, both_ways, not-true, or_cases, or_left, or_right}
 use Rattle.adya_values.specs.Meaning.Keys.{key_eq, key_le, key_lt, keys_rise, lies_in}
-use Rattle.adya_terms.specs.declared.tables.Own.{Own}
 use Rattle.adya_values.specs.Meaning.Histories.{Entry, Event}
 use Rattle.adya_values.specs.Meaning.Events.{written, last_write}
 use Rattle.adya_values.specs.Computing.Faults.{entry_eq, lists_only, none_or_lists_only}
-use Rattle.adya_terms.specs.Machinery.Tables.{own, own_cmp, written_at}
+use Rattle.adya_terms.specs.Machinery.Tables.{written_at}
+use Rattle.adya_terms.specs.Machinery.OpenWrites.{HasOwn}
 use Rattle.adya_terms.specs.Machinery.Checks.{is_of_key}
-use Rattle.adya_terms.proofs.Tells.{own_tied}
 use Rattle.std.proofs.lemmas.List.Elements.{All-contains}
 use Rattle.adya_values.proofs.Entries.{entry_eq-same, entry_eq-from}
 use Rattle.adya_values.proofs.Keys.{rises_below, keys_rise-tail}
@@ -117,76 +115,44 @@ gt_back Less = refl
 gt_back Equal = refl
 gt_back Greater = refl
 
-txn_total : IsTotalOrder (λ (x y : Own). nat_cmp x.txn y.txn)
-txn_total = record {
-  antisymm = λ x y. nat_cmp_total.antisymm x.txn y.txn;
-  trans = λ x y z. nat_cmp_total.trans x.txn y.txn z.txn;
-  congr = λ x y z. nat_cmp_total.congr x.txn y.txn z.txn;
-}
+key_exact : CmpEqualImpliesEq (slice_cmp nat_cmp)
+key_exact = tied_bytes
 
-key_total : IsTotalOrder (λ (x y : Own). slice_cmp nat_cmp x.key y.key)
-key_total = record {
-  antisymm = λ x y. nat_list_cmp_total.antisymm x.key y.key;
-  trans = λ x y z. nat_list_cmp_total.trans x.key y.key z.key;
-  congr = λ x y z. nat_list_cmp_total.congr x.key y.key z.key;
-}
+between_keys : (low high k : List ℕ) → is_gt (slice_cmp nat_cmp low k) ≡ false → is_gt (slice_cmp nat_cmp k high) ≡ false → lies_in low high k ≡ true
+between_keys low high k above below = and_from _ _ (le_not_gt _ above) (le_not_gt _ below)
 
-pub own_total : IsTotalOrder own_cmp
-own_total = then_total txn_total key_total
-
-pub own_exact : CmpEqualImpliesEq own_cmp
-own_exact x y e =
-    let both = and_parts _ _ (own_tied x.txn x.key y.txn y.key ∙ ap is_eq e) in
-    ap (λ t. own t x.key) (eqb-true _ _ both.0) ∙ ap (own y.txn) (bytes_eq-same _ _ both.1)
-
-same_txn : (t : ℕ) (a b : List ℕ) → own_cmp (own t a) (own t b) ≡ slice_cmp nat_cmp a b
-same_txn t a b = ap (λ o. ordering_then o (slice_cmp nat_cmp a b)) (tied_itself nat_cmp_total t)
-
-within : (t : ℕ) (low high : List ℕ) (q : Own) (o : Ordering) → nat_cmp t q.txn ≡ o → is_gt (own_cmp (own t low) q) ≡ false → is_gt (own_cmp q (own t high)) ≡ false → q.txn ≡ t
-within t low high q Equal e above below = sym (exact_unsigned t q.txn e)
-within t low high q Greater e above below =
-    absurd (both_ways _ above (ap (λ o. is_gt (ordering_then o (slice_cmp nat_cmp low q.key))) e))
-within t low high q Less e above below =
-    let back : nat_cmp q.txn t ≡ Greater = nat_cmp_total.antisymm q.txn t ∙ ap ordering_reverse e in
-    absurd (both_ways _ below (ap (λ o. is_gt (ordering_then o (slice_cmp nat_cmp q.key high))) back))
-
-between_keys : (t : ℕ) (low high k : List ℕ) → is_gt (own_cmp (own t low) (own t k)) ≡ false → is_gt (own_cmp (own t k) (own t high)) ≡ false → lies_in low high k ≡ true
-between_keys t low high k above below =
-    and_from _ _ (le_not_gt _ (ap is_gt (sym (same_txn t low k)) ∙ above)) (le_not_gt _ (ap is_gt (sym (same_txn t k high)) ∙ below))
-
-contained_key : (t : ℕ) (low high k : List ℕ) → lies_in low high k ≡ true → range_contains own_cmp (Included (own t low)) (Included (own t high)) (own t k) ≡ true
-contained_key t low high k e =
+contained_key : (low high k : List ℕ) → lies_in low high k ≡ true → range_contains (slice_cmp nat_cmp) (Included low) (Included high) k ≡ true
+contained_key low high k e =
     let both = and_parts _ _ e in
-    let back : own_cmp (own t high) (own t k) ≡ ordering_reverse (slice_cmp nat_cmp k high) = same_txn t high k ∙ nat_list_cmp_total.antisymm high k in
-    and_from _ _ (ap is_le (same_txn t low k) ∙ both.0) (ap (λ o. not (is_lt o)) back ∙ le_back _ both.1)
+    and_from _ _ both.0 (ap (λ o. not (is_lt o)) (nat_list_cmp_total.antisymm high k) ∙ le_back _ both.1)
 
--- the range of the transaction's keys between two
-module _ (m : BTreeMap Own ℕ) (t : ℕ) (low high : List ℕ) (items : List (Own × ℕ))
-    (between : items ≡ entries_between own_cmp (Included (own t low)) (Included (own t high)) m.entries) (ordered : IsOrdered own_cmp m)
-    (in_range : All (IsEntryInRange own_cmp (Included (own t low)) (Included (own t high)) m) items) where
-  item_there : (k : List ℕ) (p : ℕ) → lies_in low high k ≡ true → get own_cmp m (own t k) ≡ Some p → Contains items (own t k, p)
+-- the entries of the map between two keys
+module _ (m : BTreeMap (List ℕ) ℕ) (low high : List ℕ) (items : List (List ℕ × ℕ))
+    (between : items ≡ entries_between (slice_cmp nat_cmp) (Included low) (Included high) m.entries) (ordered : IsOrdered (slice_cmp nat_cmp) m)
+    (in_range : All (IsEntryInRange (slice_cmp nat_cmp) (Included low) (Included high) m) items) where
+  item_there : (k : List ℕ) (p : ℕ) → lies_in low high k ≡ true → get (slice_cmp nat_cmp) m k ≡ Some p → Contains items (k, p)
   item_there k p inside g =
-      let kept = Contains-filter (λ (e : Own × ℕ). range_contains own_cmp (Included (own t low)) (Included (own t high)) e.0) m.entries (own t k, p)
-      ((btree_map_get_iff own_total own_exact m ordered (own t k) p).0 g) (contained_key t low high k inside) in
-      subst (λ xs. Contains xs (own t k, p)) (sym between) kept
+      let kept = Contains-filter (λ (e : List ℕ × ℕ). range_contains (slice_cmp nat_cmp) (Included low) (Included high) e.0) m.entries (k, p)
+      ((btree_map_get_iff nat_list_cmp_total key_exact m ordered k p).0 g) (contained_key low high k inside) in
+      subst (λ xs. Contains xs (k, p)) (sym between) kept
 
-  module _ (all before : List Event) (es : List Entry) (last_is : (u : ℕ) (k : List ℕ) → written_at all (get own_cmp m (own u k)) ≡ last_write u k before) where
-    abbrev shows : Own × ℕ → Bool
+  module _ (t : ℕ) (all before : List Event) (es : List Entry) (own : HasOwn (Some m) t all before) where
+    abbrev shows : List ℕ × ℕ → Bool
     shows e = none_or_lists_only es (written_at all (Some e.1))
 
     abbrev test : Entry → Bool
     test w = not (lies_in low high w.version.key) || none_or_lists_only es (last_write t w.version.key before)
 
-    item_shows : list_all shows items ≡ true → (k : List ℕ) → lies_in low high k ≡ true → (o : Option ℕ) → get own_cmp m (own t k) ≡ o → none_or_lists_only es (written_at all o) ≡ true
+    item_shows : list_all shows items ≡ true → (k : List ℕ) → lies_in low high k ≡ true → (o : Option ℕ) → get (slice_cmp nat_cmp) m k ≡ o → none_or_lists_only es (written_at all o) ≡ true
     item_shows pass k inside None e = refl
-    item_shows pass k inside (Some p) e = all_pass shows items (own t k, p) pass (item_there k p inside e)
+    item_shows pass k inside (Some p) e = all_pass shows items (k, p) pass (item_there k p inside e)
 
     all_shown : list_all shows items ≡ true → list_all test (filter_map written before) ≡ true
     all_shown pass =
         list_all_when test (filter_map written before)
         (λ w c. elim (cases_Bool (lies_in low high w.version.key)) [
           | inl inside ↦
-              or_right _ _ (ap (none_or_lists_only es) (sym (last_is t w.version.key)) ∙ item_shows pass w.version.key inside (get own_cmp m (own t w.version.key)) refl)
+              or_right _ _ (ap (none_or_lists_only es) (sym (own w.version.key)) ∙ item_shows pass w.version.key inside (get (slice_cmp nat_cmp) m w.version.key) refl)
           | inr out ↦ or_left _ _ (ap not out)
         ])
 
@@ -200,18 +166,13 @@ module _ (m : BTreeMap Own ℕ) (t : ℕ) (low high : List ℕ) (items : List (O
           | inr own ↦ subst (λ x. none_or_lists_only es x ≡ true) e own
         ]
 
-    one_shown : list_all test (filter_map written before) ≡ true → (e : Own × ℕ) → IsEntryInRange own_cmp (Included (own t low)) (Included (own t high)) m e → shows e ≡ true
+    one_shown : list_all test (filter_map written before) ≡ true → (e : List ℕ × ℕ) → IsEntryInRange (slice_cmp nat_cmp) (Included low) (Included high) m e → shows e ≡ true
     one_shown pass e ((above, below), g) =
-        let k = e.0.key in
-        let is : e.0.txn ≡ t = within t low high e.0 (nat_cmp t e.0.txn) refl above below in
-        let same : e.0 ≡ own t k = ap (λ u. own u k) is in
-        let inside = between_keys t low high k (subst (λ q. is_gt (own_cmp (own t low) q) ≡ false) same above) (subst (λ q. is_gt (own_cmp q (own t high)) ≡ false) same below) in
-        let found : get own_cmp m (own t k) ≡ Some e.1 = ap (get own_cmp m) (sym same) ∙ g in
-        ap (λ o. none_or_lists_only es (written_at all o)) (sym found) ∙
-        (ap (none_or_lists_only es) (last_is t k) ∙ last_shown pass k inside (last_write t k before) refl)
+        ap (λ o. none_or_lists_only es (written_at all o)) (sym g) ∙
+        (ap (none_or_lists_only es) (own e.0) ∙ last_shown pass e.0 (between_keys low high e.0 above below) (last_write t e.0 before) refl)
 
     items_shown : list_all test (filter_map written before) ≡ true → list_all shows items ≡ true
-    items_shown pass = list_all_when shows items (λ e c. one_shown pass e (All-contains (IsEntryInRange own_cmp (Included (own t low)) (Included (own t high)) m) items e in_range c))
+    items_shown pass = list_all_when shows items (λ e c. one_shown pass e (All-contains (IsEntryInRange (slice_cmp nat_cmp) (Included low) (Included high) m) items e in_range c))
 
     pub range_shows : list_all shows items ≡ list_all test (filter_map written before)
     range_shows =
@@ -224,21 +185,27 @@ module _ (m : BTreeMap Own ℕ) (t : ℕ) (low high : List ℕ) (items : List (O
               ]
         ]
 
-pub runs_forward : (t : ℕ) (low high : List ℕ) → key_lt high low ≡ false → is_gt (own_cmp (own t low) (own t high)) ≡ false
-runs_forward t low high e =
-    ap is_gt (same_txn t low high ∙ nat_list_cmp_total.antisymm low high) ∙ (gt_back (slice_cmp nat_cmp high low) ∙ e)
+pub runs_forward : (low high : List ℕ) → key_lt high low ≡ false → is_gt (slice_cmp nat_cmp low high) ≡ false
+runs_forward low high e = ap is_gt (nat_list_cmp_total.antisymm low high) ∙ (gt_back (slice_cmp nat_cmp high low) ∙ e)
 
 -- the same, where the bounds are these
-pub scan_shows : (m : BTreeMap Own ℕ) (t : ℕ) (low high : List ℕ) (items : List (Own × ℕ)) (a b : Own) → a ≡ own t low → b ≡ own t high
-    → items ≡ entries_between own_cmp (Included a) (Included b) m.entries → IsOrdered own_cmp m → All (IsEntryInRange own_cmp (Included a) (Included b) m) items
-    → (all before : List Event) (es : List Entry) → ((u : ℕ) (k : List ℕ) → written_at all (get own_cmp m (own u k)) ≡ last_write u k before)
-    → list_all (λ (e : Own × ℕ). none_or_lists_only es (written_at all (Some e.1))) items
+pub scan_shows : (m : BTreeMap (List ℕ) ℕ) (low high : List ℕ) (items : List (List ℕ × ℕ)) (a b : List ℕ) → a ≡ low → b ≡ high
+    → items ≡ entries_between (slice_cmp nat_cmp) (Included a) (Included b) m.entries → IsOrdered (slice_cmp nat_cmp) m
+    → All (IsEntryInRange (slice_cmp nat_cmp) (Included a) (Included b) m) items
+    → (t : ℕ) (all before : List Event) (es : List Entry) → HasOwn (Some m) t all before
+    → list_all (λ (e : List ℕ × ℕ). none_or_lists_only es (written_at all (Some e.1))) items
     ≡ list_all (λ w. not (lies_in low high w.version.key) || none_or_lists_only es (last_write t w.version.key before)) (filter_map written before)
-scan_shows m t low high items a b from to between ordered in_range all before es last_is =
-    range_shows m t low high items
-    (subst (λ q. items ≡ entries_between own_cmp (Included (own t low)) (Included q) m.entries) to
-    (subst (λ q. items ≡ entries_between own_cmp (Included q) (Included b) m.entries) from between))
+scan_shows m low high items a b from to between ordered in_range t all before es own =
+    range_shows m low high items
+    (subst (λ q. items ≡ entries_between (slice_cmp nat_cmp) (Included low) (Included q) m.entries) to
+    (subst (λ q. items ≡ entries_between (slice_cmp nat_cmp) (Included q) (Included b) m.entries) from between))
     ordered
-    (subst (λ q. All (IsEntryInRange own_cmp (Included (own t low)) (Included q) m) items) to
-    (subst (λ q. All (IsEntryInRange own_cmp (Included q) (Included b) m) items) from in_range))
-    all before es last_is
+    (subst (λ q. All (IsEntryInRange (slice_cmp nat_cmp) (Included low) (Included q) m) items) to
+    (subst (λ q. All (IsEntryInRange (slice_cmp nat_cmp) (Included q) (Included b) m) items) from in_range))
+    t all before es own
+
+-- of a transaction that has written nothing, nothing has to be listed
+pub nothing_own : (t : ℕ) (all before : List Event) (low high : List ℕ) (es : List Entry) → HasOwn None t all before
+    → list_all (λ w. not (lies_in low high w.version.key) || none_or_lists_only es (last_write t w.version.key before)) (filter_map written before) ≡ true
+nothing_own t all before low high es own =
+    list_all_when _ (filter_map written before) (λ w c. or_right _ _ (ap (none_or_lists_only es) (sym (own w.version.key))))

@@ -2,9 +2,6 @@
 use Rattle.std.proofs.Common.{◌≡◌, ℕ, suc, ◌+◌, ◌<◌, ◌==◌, Bool, true, false, cond, ◌&&◌, ◌||◌, List, [], ◌∷◌, ◌++◌, length, Option, Some, None, is_some, slice_get, filter, refl, sym, ◌∙◌, ap, subst, inl, inr, arith}
 use Rattle.std.specs.List.{filter_map, cons_option, list_any}
 use Rattle.std.specs.Option.{IsSome}
-use Rattle.std.specs.Ordering.{is_eq, nat_cmp}
-use Rattle.std.specs.Cmp.{both_tied, unsigned_tied}
-use Rattle.std.specs.Cmp.Lexicographic.{slice_cmp, texts_ties}
 use Rattle.std.proofs.lemmas.Cmp.{nat_list_eq_equiv, nat_eq_equiv}
 use Rattle.std.proofs.lemmas.Bool.{cases_Bool, and_parts, and_from, eqb-true, eq-eqb, both_ways, false_from_ne_true}
 use Rattle.std.proofs.Math.Bool.{or-false, or_comm}
@@ -18,13 +15,10 @@ use Rattle.adya_values.specs.Meaning.Histories.{Entry, Event}
 use Rattle.adya_values.specs.Meaning.Events.{written, writes_of, last, last_write, is_committed, commits, aborts}
 use Rattle.adya_values.specs.Computing.Faults.{content_eq, version_eq, entry_eq}
 use Rattle.lemmas.proofs.Booleans.{cond_or}
-use Rattle.adya_terms.specs.Machinery.Tables.{own, own_eq, own_cmp, written_at, written_by, is_there, with_replaced, is_at, number_of, Tell}
+use Rattle.adya_terms.specs.Machinery.Tables.{own, own_eq, written_at, written_by, is_there, with_replaced, is_at, number_of, Tell}
 use Rattle.adya_values.proofs.Entries.{version_eq-same}
 use Rattle.adya_values.proofs.Writes.{last_write_from}
 use Rattle.lemmas.proofs.Orderings.{bytes_eq-same, bytes_eq-from}
-
-pub own_tied : (t : ℕ) (k : List ℕ) (u : ℕ) (j : List ℕ) → ((t == u) && key_eq k j) ≡ is_eq (own_cmp (own t k) (own u j))
-own_tied t k u j = both_tied (t == u) (key_eq k j) (nat_cmp t u) (slice_cmp nat_cmp k j) (sym (unsigned_tied t u)) (texts_ties k j)
 
 pub version_flip : (a b : Version) → version_eq a b ≡ version_eq b a
 version_flip a b =

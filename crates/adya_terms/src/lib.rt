@@ -5,6 +5,7 @@
 mod checked;
 mod finals;
 mod listed;
+mod open_writes;
 mod reads;
 mod rules;
 mod scans;

@@ -1,17 +1,19 @@
 //! The rules M1 to M5 of each event, given those before it.
 
-ghost use Rattle.std.specs.Prelude.{◌≡◌, ◌+◌, ℕ, List, [], Some, map, MatchOption, MatchResult};
+ghost use Rattle.std.specs.Prelude.{◌≡◌, ◌+◌, ℕ, List, [], true, Some, map, MatchOption, MatchResult};
+ghost use Rattle.adya_terms.specs.declared.tables.Tables.{Tables};
 ghost use Rattle.adya_values.specs.Meaning.Histories.{Event as EventValue, event_of};
 ghost use Rattle.adya_values.specs.Meaning.Events.{written};
 ghost use Rattle.adya_values.specs.Computing.Faults as faults;
-ghost use Rattle.adya_terms.specs.Machinery.Tables.{Keeps, Means};
+ghost use Rattle.adya_terms.specs.Machinery.Tables.{Means};
+ghost use Rattle.adya_terms.specs.Machinery.OpenWrites.{Keeps};
 ghost use Rattle.adya_terms.specs.Machinery.Checks.{Names};
 
-use crate::scans::{all_lie_in, all_written, keep, keys_rise, lists_own};
-use crate::tables::{Own, Tables, wrote};
+use crate::open_writes::OpenWrites;
+use crate::scans::{all_lie_in, all_written, keys_rise, lists_own};
+use crate::tables::{Tables, wrote, wrote_at};
 use crate::{CheckFault, Content, Entry, Event, Rule};
 use std::alloc::Global;
-use std::collections::BTreeMap;
 
 /// M1: returns whether the event's transaction is still open.
 fn is_open(tables: &Tables, event: &Event) -> bool
@@ -20,17 +22,21 @@ fn is_open(tables: &Tables, event: &Event) -> bool
     !tables.has_ended(event.txn())
 }
 
-/// M2: returns whether the event, if it writes, has the next number of its transaction's writes of the key.
-fn is_next(tables: &Tables, events: &[Event], event: &Event) -> bool
-    ensures { (before : List EventValue)
-        → Means tables.now (map event_of events.now) before
+/// M2: returns whether the event, if it writes, has the next number of its transaction's writes of the key. The
+/// transaction is still open.
+fn is_next(writes: &OpenWrites, events: &[Event], event: &Event) -> bool
+    ensures { let all = map event_of events.now in
+        (tables : Tables) (before : List EventValue)
+        → Means tables all before
+        → Keeps writes.now all before
+        → faults.is_open before (event_of event.now) ≡ true
         → result ≡ faults.is_next before (written (event_of event.now)) }
 {
     let Some(new) = wrote(event) else {
         return true;
     };
     let number = u32::from(new.version.m.get());
-    match tables.last_write(events, new.version.txn, new.version.key) {
+    match wrote_at(events, writes.last_place(new.version.txn, new.version.key)) {
         None => number == 1,
         Some(last) => number == u32::from(last.version.m.get()) + 1,
     }
@@ -61,17 +67,12 @@ fn was_written(tables: &Tables, events: &[Event], event: &Event) -> bool
 }
 
 /// M4: returns whether the event sees no other version than its transaction's latest of each key that this has
-/// written.
-fn sees_own(
-    tables: &Tables,
-    written: &BTreeMap<Own, usize>,
-    events: &[Event],
-    event: &Event,
-) -> bool
+/// written. The transaction is still open.
+fn sees_own(writes: &OpenWrites, events: &[Event], event: &Event) -> bool
     ensures { let all = map event_of events.now in
         (before : List EventValue)
-        → Means tables.now all before
-        → Keeps written.now all before
+        → Keeps writes.now all before
+        → faults.is_open before (event_of event.now) ≡ true
         → result ≡ faults.sees_own before (event_of event.now) }
 {
     match event {
@@ -79,7 +80,7 @@ fn sees_own(
             txn,
             version,
             value,
-        } => match tables.last_write(events, *txn, version.key) {
+        } => match wrote_at(events, writes.last_place(*txn, version.key)) {
             None => true,
             Some(last) => last.same(&Entry {
                 version: *version,
@@ -91,7 +92,7 @@ fn sees_own(
             lo,
             hi,
             entries,
-        } => lists_own(written, events, *txn, *lo, *hi, entries),
+        } => lists_own(writes.of(*txn), events, *lo, *hi, entries),
         Event::Write { .. } => true,
         Event::Delete { .. } => true,
         Event::Commit { .. } => true,
@@ -121,14 +122,14 @@ fn is_rising(event: &Event) -> bool
 /// Returns the first rule that the event breaks.
 fn broken_rule(
     tables: &Tables,
-    written: &BTreeMap<Own, usize>,
+    writes: &OpenWrites,
     events: &[Event],
     event: &Event,
 ) -> Option<Rule>
     ensures { let all = map event_of events.now in
         (before : List EventValue)
         → Means tables.now all before
-        → Keeps written.now all before
+        → Keeps writes.now all before
         → (line : ℕ)
         → MatchOption result (faults.faults_at before line (event_of event.now) ≡ [])
         (λ r. faults.first (faults.faults_at before line (event_of event.now)) ≡ Some (CheckFault.Malformed line r)) }
@@ -136,13 +137,13 @@ fn broken_rule(
     if !is_open(tables, event) {
         return Some(Rule::M1);
     }
-    if !is_next(tables, events, event) {
+    if !is_next(writes, events, event) {
         return Some(Rule::M2);
     }
     if !was_written(tables, events, event) {
         return Some(Rule::M3);
     }
-    if !sees_own(tables, written, events, event) {
+    if !sees_own(writes, events, event) {
         return Some(Rule::M4);
     }
     if !is_rising(event) {
@@ -157,15 +158,15 @@ pub(crate) fn tables_of(alloc: Global, events: &[Event]) -> Result<Tables, Check
         MatchResult result (λ t. Means t all all × (faults.event_faults [] 2 all ≡ [])) (Names (faults.event_faults [] 2 all)) }
 {
     let mut tables = Tables::new(alloc);
-    let mut written = BTreeMap::new(alloc);
+    let mut writes = OpenWrites::new(alloc);
     for (i, event) in events.iter().enumerate() {
-        if let Some(rule) = broken_rule(&tables, &written, events, event) {
+        if let Some(rule) = broken_rule(&tables, &writes, events, event) {
             return Err(CheckFault::Malformed { line: i + 2, rule });
         }
         let Ok(()) = tables.record(events, i, event) else {
             return Err(CheckFault::Memory);
         };
-        let Ok(()) = keep(&mut written, i, event) else {
+        let Ok(()) = writes.keep(i, event) else {
             return Err(CheckFault::Memory);
         };
     }

@@ -1,6 +1,6 @@
 //! What a scan lists: M3, M4 and M5.
 
-ghost use Rattle.std.specs.Prelude.{◌≡◌, ◌&&◌, ◌++◌, [], ◌∷◌, List, true, Some, map, slice_get, IfOk};
+ghost use Rattle.std.specs.Prelude.{◌≡◌, ◌&&◌, ℕ, List, true, Some, map, option_map};
 ghost use Rattle.std.specs.List.{list_all, list_any};
 ghost use Rattle.adya_values.specs.Meaning.Keys as keys;
 ghost use Rattle.adya_values.specs.Meaning.Histories.{Event as EventValue, entry_of, event_of, Scan};
@@ -8,11 +8,11 @@ ghost use Rattle.adya_values.specs.Computing.Faults as faults;
 ghost use Rattle.adya_values.specs.Computing.Faults.{entry_eq, none_or_lists_only, sees_own, version_eq};
 ghost use Rattle.adya_terms.specs.Machinery.Checks as checks;
 ghost use Rattle.std.specs.HashMap.{get};
-ghost use Rattle.adya_terms.specs.Machinery.Tables.{is_at, own_eq, written_at, Keeps};
+ghost use Rattle.adya_terms.specs.Machinery.Tables.{is_at, own_eq, written_at};
+ghost use Rattle.adya_terms.specs.Machinery.OpenWrites.{HasOwn};
 
-use crate::tables::{Own, Tables, wrote, wrote_at};
-use crate::{Entry, Event, Key, Txn};
-use std::alloc::{AllocError, Global};
+use crate::tables::{Tables, wrote_at};
+use crate::{Entry, Event, Key};
 use std::collections::BTreeMap;
 
 /// Returns whether each entry was written before.
@@ -112,44 +112,22 @@ impl ScanList<'_> {
     }
 }
 
-/// Records what the event at the place writes.
-pub(crate) fn keep(
-    written: &mut BTreeMap<Own, usize>,
-    at: usize,
-    event: &Event,
-) -> Result<(), AllocError>
-    ensures { IfOk result
-        (λ u. (all before : List EventValue)
-        → Keeps written.old all before
-        → slice_get all at ≡ Some (event_of event.now)
-        → Keeps written.new all (before ++ event_of event.now ∷ [])) }
-{
-    if let Some(Entry { version, .. }) = wrote(event) {
-        written.insert(
-            Own {
-                txn: version.txn,
-                key: version.key,
-            },
-            at,
-        )?;
-    }
-    Ok(())
-}
-
 /// Returns whether of each key between the two that the transaction has written its last write is listed, and nothing
-/// else of that key.
+/// else of that key. `own` has the places of these writes.
 pub(crate) fn lists_own(
-    written: &BTreeMap<Own, usize>,
+    own: Option<&BTreeMap<Key, usize>>,
     events: &[Event],
-    txn: Txn,
     lo: Key,
     hi: Key,
     entries: &[Entry],
 ) -> bool
-    ensures { (before : List EventValue)
-        → Keeps written.now (map event_of events.now) before
-        → result ≡ sees_own before (Scan txn lo hi (map entry_of entries.now)) }
+    ensures { (t : ℕ) (before : List EventValue)
+        → HasOwn (option_map (λ m. m.now) own.entry) t (map event_of events.now) before
+        → result ≡ sees_own before (Scan t lo hi (map entry_of entries.now)) }
 {
+    let Some(own) = own else {
+        return true;
+    };
     if hi < lo {
         return true;
     }
@@ -157,7 +135,7 @@ pub(crate) fn lists_own(
         entries,
         rising: keys_rise(entries),
     };
-    for (_, at) in written.range(Own { txn, key: lo }..=Own { txn, key: hi }) {
+    for (_, at) in own.range(lo..=hi) {
         if !listed.has_write(events, *at) {
             return false;
         }

@@ -1,11 +1,6 @@
 -- What the tables of the check say about the events that they were made of.
 use Rattle.std.specs.Prelude.{◌≡◌, ℕ, ◌<◌, ◌==◌, nat_eq, Bool, false, ◌&&◌, ◌||◌, cond, List, length, Option, Some, None, is_some, IsSome, slice_get}
 use Rattle.std.specs.List.{filter_map, list_any}
-use Rattle.std.specs.Ordering.{nat_cmp, ordering_then}
-use Rattle.std.specs.Cmp.Lexicographic.{slice_cmp}
-use Rattle.std.specs.declared.cmp.Ordering.{Ordering}
-use Rattle.std.specs.BTreeMap as tree
-use Rattle.std.specs.BTreeMap.{BTreeMap}
 use Rattle.std.specs.HashMap.{get}
 use Rattle.std.specs.HashSet.{contains}
 use Rattle.adya_values.specs.declared.event.Version.{Version}
@@ -21,9 +16,6 @@ own t k = record { txn = t; key = k }
 
 abbrev pub own_eq : Own → Own → Bool
 own_eq a b = (a.txn == b.txn) && key_eq a.key b.key
-
-abbrev pub own_cmp : Own → Own → Ordering
-own_cmp a b = ordering_then (nat_cmp a.txn b.txn) (slice_cmp nat_cmp a.key b.key)
 
 abbrev pub written_by : Option Event → Option Entry
 written_by None = None
@@ -67,7 +59,3 @@ pub record Tell (committed aborted : ℕ → Bool) (last : Own → Option ℕ) (
 -- the tables are right about the events before, by places in all of them
 abbrev pub Means : Tables → List Event → List Event → Type 0
 Means t all before = Tell (contains nat_eq t.committed) (contains nat_eq t.aborted) (get own_eq t.last) (get version_eq t.replaced) all before
-
--- the tree has the place of each transaction's last write of each key
-abbrev pub Keeps : BTreeMap Own ℕ → List Event → List Event → Type 0
-Keeps written all before = (t : ℕ) (k : List ℕ) → written_at all (tree.get own_cmp written (own t k)) ≡ last_write t k before

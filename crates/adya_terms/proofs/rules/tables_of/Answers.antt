@@ -1,8 +1,9 @@
-use Rattle.std.proofs.Common.{◌≡◌, ◌+◌, ◌∙◌, ap, map, take, Some, arith, subst, sym}
+use Rattle.std.proofs.Common.{◌≡◌, ◌+◌, ◌∙◌, ap, map, take, Some, arith, refl, subst, sym}
 use Rattle.adya_values.specs.declared.fault.CheckFault.TheVariants.{Malformed}
 use Rattle.adya_values.specs.Meaning.Histories.{event_of}
 use Rattle.adya_values.specs.Computing.Faults.{first}
-use Rattle.adya_terms.specs.Machinery.Tables.{Keeps, Means}
+use Rattle.adya_terms.specs.Machinery.Tables.{Means}
+use Rattle.adya_terms.specs.Machinery.OpenWrites.{Keeps}
 use Rattle.adya_terms.proofs.Firsts.{fault_here, fault_later}
 use Rattle.adya_terms.proofs.rules.tables_of.Goals as goal
 use Rattle.adya_values.proofs.Faults.{passes_all}
@@ -19,6 +20,15 @@ returns-in-Some c =
     (fault_here all i (event_of e) t (Malformed (2 + i) c.in-Some.rule) (c.in-Some.ensures (take i all) c.loop-i.invariant.means c.loop-i.invariant.keeps (2 + i)) ∙
     ap (λ n. Some (Malformed n c.in-Some.rule)) line)
 
+pub loop-i-init : goal.loop-i-init
+loop-i-init c =
+    let all = map event_of c.args.events.now in
+    record {
+      means = c.new-tables.ensures all;
+      keeps = c.new-writes.ensures all;
+      faults = refl;
+    }
+
 pub loop-i-preserved : goal.loop-i-preserved
 loop-i-preserved c =
     let all = map event_of c.args.events.now in
@@ -30,6 +40,6 @@ loop-i-preserved c =
     record {
       means = subst (Means c.record.new.self all) (sym t.front)
           (c.in-Ok.ensures (take i all) m t.found (passes_all (take i all) (2 + i) (event_of e) none).next);
-      keeps = subst (Keeps c.keep.new.written all) (sym t.front) (c.in-Ok-keep.ensures all (take i all) c.loop-i.invariant.keeps t.found);
+      keeps = subst (Keeps c.keep.new.self all) (sym t.front) (c.in-Ok-keep.ensures all (take i all) c.loop-i.invariant.keeps t.found);
       faults = c.loop-i.invariant.faults ∙ fault_later all i (event_of e) t none;
     }

@@ -1,7 +1,8 @@
 use Rattle.std.proofs.Common.{◌≡◌, ◌+◌, [], map, take, drop}
 use Rattle.adya_values.specs.Meaning.Histories.{event_of}
 use Rattle.adya_values.specs.Computing.Faults.{event_faults}
-use Rattle.adya_terms.specs.Machinery.Tables.{Keeps, Means}
+use Rattle.adya_terms.specs.Machinery.Tables.{Means}
+use Rattle.adya_terms.specs.Machinery.OpenWrites.{Keeps}
 use Rattle.adya_terms.proofs.rules.tables_of.Given as goal
 
 abbrev pub invariant-loop-i : goal.invariant-loop-i
@@ -9,6 +10,6 @@ invariant-loop-i l =
     let all = map event_of l.events in
     record {
       means : Means l.tables all (take l.i all);
-      keeps : Keeps l.written all (take l.i all);
+      keeps : Keeps l.writes all (take l.i all);
       faults : event_faults [] 2 all ≡ event_faults (take l.i all) (2 + l.i) (drop l.i all);
     }
