@@ -11,13 +11,13 @@ ghost use Rattle.adya_dsg.specs.Machinery.PartEdges.{is_backward};
 use crate::Edge;
 use adya_values::Txn;
 use std::alloc::{AllocError, Global};
-use std::collections::HashMap;
+use txn_table::TxnTable;
 
 /// A certificate and the places of its transactions. One that it doesn't list has the place after the last.
 #[derive(Drop)]
 pub(crate) struct CertificatePlaces<'a> {
     txns: &'a [Txn],
-    places: HashMap<Txn, usize>,
+    places: TxnTable<usize>,
     ghost placed: { HasPlaces places txns.now },
 }
 
@@ -34,7 +34,7 @@ impl<'a> CertificatePlaces<'a> {
     fn place(&self, txn: Txn) -> usize
         ensures { result ≡ place self.now.txns.now txn }
     {
-        self.places.get(&txn).copied().unwrap_or(self.txns.len())
+        self.places.get(txn)
     }
 
     /// Returns whether the edge goes forward.
@@ -57,15 +57,16 @@ impl<'a> CertificatePlaces<'a> {
     }
 }
 
-// For each transaction of the certificate how many come before it.
-fn places_of(alloc: Global, txns: &[Txn]) -> Result<HashMap<Txn, usize>, AllocError>
+// For each transaction how many of the certificate come before it. Most histories commit more than half of their
+// transactions, so most numbers are below twice as many.
+fn places_of(alloc: Global, txns: &[Txn]) -> Result<TxnTable<usize>, AllocError>
     ensures { IfOk result (λ m. HasPlaces m txns.now) }
 {
-    let mut places = HashMap::new(alloc);
+    let mut places = TxnTable::new(alloc, txns.len().saturating_mul(2), txns.len())?;
     let mut i = txns.len();
     while i > 0 {
         i -= 1;
-        places.insert(txns[i], i)?;
+        places.set(txns[i], i)?;
     }
     Ok(places)
 }

@@ -3,6 +3,8 @@ use Rattle.std.specs.Prelude.{◌≡◌, ℕ, ◌==◌, nat_eq, Bool, ◌&&◌, 
 use Rattle.std.specs.Option.{unwrap_or}
 use Rattle.std.specs.List.{slice_get}
 use Rattle.std.specs.HashMap.{HashMap, get}
+use Rattle.txn_table.specs.declared.TxnTable.{TxnTable}
+use Rattle.txn_table.specs.Meaning.{value_of}
 use Rattle.adya_values.specs.declared.order.Order.{Order}
 use Rattle.adya_values.specs.Meaning.Orders.{place}
 use Rattle.adya_dsg.specs.declared.places.Slot.{Slot}
@@ -20,6 +22,6 @@ HasLine m i ws = (t : ℕ) → unwrap_or (get slot_eq m (slot i t)) (length ws) 
 abbrev pub HasLines : {S : Type 0} → HashMap Slot ℕ S → List Order → Type 0
 HasLines m os = (i : ℕ) (o : Order) → slice_get os i ≡ Some o → HasLine m i o.writers.items
 
--- the map has how many transactions of the certificate come before the transaction, if it is one of them
-abbrev pub HasPlaces : {S : Type 0} → HashMap ℕ ℕ S → List ℕ → Type 0
-HasPlaces m ts = (t : ℕ) → unwrap_or (get nat_eq m t) (length ts) ≡ place ts t
+-- the table has how many transactions of the certificate come before each
+abbrev pub HasPlaces : TxnTable ℕ → List ℕ → Type 0
+HasPlaces m ts = (t : ℕ) → value_of m t ≡ place ts t
