@@ -1,15 +1,15 @@
 -- Along an order line whose write dependencies go forward, a later writer is the same or comes later.
-use Rattle.std.proofs.Common.{◌≡◌, ◌≢◌, ℕ, zero, suc, ◌+◌, ◌-◌, ◌<◌, ◌≤◌, ◌==◌, ◌⊎◌, Bool, true, false, cond, List, [], ◌∷◌, length, get_or, Option, Some, None, sym, ◌∙◌, ap, subst, arith, inl, inr}
+use Rattle.std.proofs.Common.{◌≡◌, ◌≢◌, ℕ, zero, suc, ◌+◌, ◌-◌, ◌<◌, ◌≤◌, ◌⊎◌, Bool, true, cond, List, length, get_or, Some, sym, ◌∙◌, ap, subst, arith, inl, inr}
 use Rattle.std.specs.List.{find, Contains}
-use Rattle.std.proofs.lemmas.Bool.{cases_Bool, cases_eq, eq-eqb, ne_eqb, both_ways}
+use Rattle.std.proofs.lemmas.Bool.{cases_Bool, cases_eq, both_ways}
 use Rattle.std.proofs.lemmas.Option.{none-some, same_Some, slice_get_within, slice_get-get_or}
 use Rattle.adya_values.specs.Meaning.Histories.{History}
 use Rattle.adya_values.specs.Meaning.Orders.{writers, installer}
-use Rattle.adya_values.specs.Meaning.Edges.{Kind, Ww, Edge}
+use Rattle.adya_values.specs.Meaning.Edges.{Ww, Edge}
 use Rattle.adya_values.specs.Computing.EdgeList.{numbers, places, joined, write_edges}
 use Rattle.adya_values.specs.Meaning.Acceptance.{IsBefore}
-use Rattle.adya_values.proofs.EdgeList.{Contains-joined, Contains-numbers, Contains-places}
-use Rattle.lemmas.proofs.Members.{none_contained, Contains-cons, Contains-flat_map}
+use Rattle.adya_values.proofs.EdgeList.{Contains-joined, Contains-places}
+use Rattle.lemmas.proofs.Members.{Contains-flat_map}
 
 -- the first of the numbers that passes, if this one does
 pub record FirstOf (test : ℕ → Bool) (from n q : ℕ) : Type 0 where

@@ -3,18 +3,18 @@ use Rattle.std.proofs.Common.{◌≡◌, ℕ, suc, ◌+◌, ◌<◌, ◌==◌, B
 use Rattle.std.specs.List.{filter_map, cons_option, list_any}
 use Rattle.std.specs.Option.{IsSome}
 use Rattle.std.proofs.lemmas.Cmp.{nat_list_eq_equiv, nat_eq_equiv}
-use Rattle.std.proofs.lemmas.Bool.{cases_Bool, and_parts, and_from, eqb-true, eq-eqb, both_ways, false_from_ne_true}
+use Rattle.std.proofs.lemmas.Bool.{cases_Bool, cases_eq, ne_eqb, or_right, and_parts, and_from, eqb-true, eq-eqb, both_ways, false_from_ne_true}
 use Rattle.std.proofs.Math.Bool.{or-false, or_comm}
 use Rattle.std.proofs.lemmas.List.{append-nil, length-append}
 use Rattle.std.proofs.lemmas.List.Elements.{filter_map-append, filter-append}
 use Rattle.std.proofs.lemmas.List.Folds.{list_any-append}
 use Rattle.adya_values.specs.declared.event.Version.{Version}
 use Rattle.adya_terms.specs.declared.tables.Own.{Own}
+use Rattle.adya_terms.specs.declared.tables.Ended.{Ended}
 use Rattle.adya_values.specs.Meaning.Keys.{key_eq}
 use Rattle.adya_values.specs.Meaning.Histories.{Entry, Event}
 use Rattle.adya_values.specs.Meaning.Events.{written, writes_of, last, last_write, is_committed, commits, aborts}
 use Rattle.adya_values.specs.Computing.Faults.{content_eq, version_eq, entry_eq}
-use Rattle.lemmas.proofs.Booleans.{cond_or}
 use Rattle.adya_terms.specs.Machinery.Tables.{own, own_eq, written_at, written_by, is_there, with_replaced, is_at, number_of, Tell}
 use Rattle.adya_values.proofs.Entries.{version_eq-same}
 use Rattle.adya_values.proofs.Writes.{last_write_from}
@@ -38,9 +38,45 @@ last_more (y ∷ z ∷ xs) x = last_more (z ∷ xs) x
 pub written_more : (before : List Event) (e : Event) → filter_map written (before ++ e ∷ []) ≡ filter_map written before ++ cons_option (written e) []
 written_more before e = filter_map-append written before (e ∷ [])
 
--- a number added to a set
-pub added : (u t : ℕ) (x y : Bool) → y ≡ cond (u == t) true x → y ≡ (x || (u == t))
-added u t x y e = e ∙ cond_or (u == t) x
+-- how transactions have ended, after one of them commits or aborts
+module _ (e f : ℕ → Ended) (t : ℕ) (x : Bool) where
+  pub commits_more : x ≡ (e t).aborted → ((u : ℕ) → f u ≡ cond (t == u) (record { committed = true; aborted = x }) (e u))
+      → (u : ℕ) → ((f u).committed ≡ ((e u).committed || (t == u))) × ((f u).aborted ≡ ((e u).aborted || false))
+  commits_more was set u =
+      let new : Ended = record { committed = true; aborted = x } in
+      elim (cases_eq t u) [
+        | inl same ↦
+            let b = eq-eqb t u same in
+            let is : f u ≡ new = set u ∙ ap (λ h. cond h new (e u)) b in (
+              ap (λ (z : Ended). z.committed) is ∙ sym (or_right _ _ b),
+              ap (λ (z : Ended). z.aborted) is ∙ (was ∙ (ap (λ v. (e v).aborted) same ∙ sym (or-false _))),
+            )
+        | inr apart ↦
+            let b = ne_eqb t u apart in
+            let is : f u ≡ e u = set u ∙ ap (λ h. cond h new (e u)) b in (
+              ap (λ (z : Ended). z.committed) is ∙ (sym (or-false _) ∙ ap (λ h. (e u).committed || h) (sym b)),
+              ap (λ (z : Ended). z.aborted) is ∙ sym (or-false _),
+            )
+      ]
+
+  pub aborts_more : x ≡ (e t).committed → ((u : ℕ) → f u ≡ cond (t == u) (record { committed = x; aborted = true }) (e u))
+      → (u : ℕ) → ((f u).committed ≡ ((e u).committed || false)) × ((f u).aborted ≡ ((e u).aborted || (t == u)))
+  aborts_more was set u =
+      let new : Ended = record { committed = x; aborted = true } in
+      elim (cases_eq t u) [
+        | inl same ↦
+            let b = eq-eqb t u same in
+            let is : f u ≡ new = set u ∙ ap (λ h. cond h new (e u)) b in (
+              ap (λ (z : Ended). z.committed) is ∙ (was ∙ (ap (λ v. (e v).committed) same ∙ sym (or-false _))),
+              ap (λ (z : Ended). z.aborted) is ∙ sym (or_right _ _ b),
+            )
+        | inr apart ↦
+            let b = ne_eqb t u apart in
+            let is : f u ≡ e u = set u ∙ ap (λ h. cond h new (e u)) b in (
+              ap (λ (z : Ended). z.committed) is ∙ sym (or-false _),
+              ap (λ (z : Ended). z.aborted) is ∙ (sym (or-false _) ∙ ap (λ h. (e u).aborted || h) (sym b)),
+            )
+      ]
 
 pub written_none : (before : List Event) (e : Event) → written e ≡ None → filter_map written (before ++ e ∷ []) ≡ filter_map written before
 written_none before e w = written_more before e ∙ (ap (λ o. filter_map written before ++ cons_option o []) w ∙ append-nil (filter_map written before))

@@ -157,7 +157,10 @@ pub(crate) fn tables_of(alloc: Global, events: &[Event]) -> Result<Tables, Check
     ensures { let all = map event_of events.now in
         MatchResult result (λ t. Means t all all × (faults.event_faults [] 2 all ≡ [])) (Names (faults.event_faults [] 2 all)) }
 {
-    let mut tables = Tables::new(alloc);
+    // a transaction has an event, so few numbers are larger if they go from 1 on
+    let Ok(mut tables) = Tables::new(alloc, events.len()) else {
+        return Err(CheckFault::Memory);
+    };
     let mut writes = OpenWrites::new(alloc);
     for (i, event) in events.iter().enumerate() {
         if let Some(rule) = broken_rule(&tables, &writes, events, event) {

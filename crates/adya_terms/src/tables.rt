@@ -2,7 +2,7 @@
 
 ghost use Rattle.std.specs.Prelude.{◌≡◌, ◌||◌, ◌&&◌, is_some, ◌++◌, [], ◌∷◌, List, true, Some, cond, map, nat_eq, option_map, slice_get, IfOk};
 ghost use Rattle.std.specs.HashMap.{get};
-ghost use Rattle.std.specs.HashSet.{contains};
+ghost use Rattle.txn_table.specs.Meaning.{value_for};
 ghost use Rattle.adya_values.specs.Meaning.Histories.{Event as EventValue, entry_of, event_of};
 ghost use Rattle.adya_values.specs.Meaning.Events.{written};
 ghost use Rattle.adya_values.specs.Computing.Faults.{is_next, version_eq};
@@ -10,7 +10,8 @@ ghost use Rattle.adya_terms.specs.Machinery.Tables.{own, own_eq, written_at, is_
 
 use crate::{Content, Entry, Event, Key, Txn, Version};
 use std::alloc::{AllocError, Global};
-use std::collections::{HashMap, HashSet};
+use std::collections::HashMap;
+use txn_table::TxnTable;
 
 /// A transaction and a key.
 #[derive(Clone, Copy, PartialEq, Eq, PartialOrd, Ord, Hash)]
@@ -19,12 +20,18 @@ pub(crate) struct Own {
     pub key: Key,
 }
 
-/// The transactions that have ended; the place in the list of events at which each transaction wrote each key last; and
+/// How a transaction has ended, if it has.
+#[derive(Clone, Copy)]
+pub(crate) struct Ended {
+    pub committed: bool,
+    pub aborted: bool,
+}
+
+/// Which transactions have ended, and how; the place in the list of events at which each transaction wrote each key last; and
 /// the place of each version that a later write of the same transaction replaced.
 #[derive(Drop)]
 pub(crate) struct Tables {
-    pub committed: HashSet<Txn>,
-    pub aborted: HashSet<Txn>,
+    pub ended: TxnTable<Ended>,
     pub last: HashMap<Own, usize>,
     pub replaced: HashMap<Version, usize>,
 }
@@ -81,37 +88,41 @@ fn is_there(seen: &Entry, wrote: Option<Entry>) -> bool
 }
 
 impl Tables {
-    /// Makes the tables of no events.
-    pub fn new(alloc: Global) -> Tables
-        ensures { (all : List EventValue) → Means result all [] }
+    /// Makes the tables of no events. Room for the ends of transactions with numbers below `small` is taken now.
+    pub fn new(alloc: Global, small: usize) -> Result<Tables, AllocError>
+        ensures { IfOk result (λ t. (all : List EventValue) → Means t all []) }
     {
-        Tables {
-            committed: HashSet::new(alloc),
-            aborted: HashSet::new(alloc),
+        let open = Ended {
+            committed: false,
+            aborted: false,
+        };
+        Ok(Tables {
+            ended: TxnTable::new(alloc, small, open)?,
             last: HashMap::new(alloc),
             replaced: HashMap::new(alloc),
-        }
+        })
     }
 
     /// Returns whether the transaction has committed.
     pub fn has_committed(&self, txn: Txn) -> bool
-        ensures { result ≡ contains nat_eq self.now.committed txn }
+        ensures { result ≡ (value_for self.now.ended txn).committed }
     {
-        self.committed.contains(&txn)
+        self.ended.get(txn).committed
     }
 
     /// Returns whether the transaction has aborted.
     pub fn has_aborted(&self, txn: Txn) -> bool
-        ensures { result ≡ contains nat_eq self.now.aborted txn }
+        ensures { result ≡ (value_for self.now.ended txn).aborted }
     {
-        self.aborted.contains(&txn)
+        self.ended.get(txn).aborted
     }
 
     /// Returns whether the transaction has committed or aborted.
     pub fn has_ended(&self, txn: Txn) -> bool
-        ensures { result ≡ (contains nat_eq self.now.committed txn || contains nat_eq self.now.aborted txn) }
+        ensures { result ≡ ((value_for self.now.ended txn).committed || (value_for self.now.ended txn).aborted) }
     {
-        self.has_committed(txn) || self.has_aborted(txn)
+        let ended = self.ended.get(txn);
+        ended.committed || ended.aborted
     }
 
     /// Returns the transaction's last write of the key.
@@ -125,7 +136,7 @@ impl Tables {
     /// Returns whether the transaction is committed and wrote the key.
     pub fn installs(&self, txn: Txn, key: Key) -> bool
         ensures { result
-            ≡ (contains nat_eq self.now.committed txn && is_some (get own_eq self.now.last (own txn key))) }
+            ≡ ((value_for self.now.ended txn).committed && is_some (get own_eq self.now.last (own txn key))) }
     {
         self.has_committed(txn) && self.last.contains_key(&Own { txn, key })
     }
@@ -187,10 +198,24 @@ impl Tables {
             Event::Read { .. } => {}
             Event::Scan { .. } => {}
             Event::Commit { txn } => {
-                self.committed.insert(*txn)?;
+                let aborted = self.has_aborted(*txn);
+                self.ended.set(
+                    *txn,
+                    Ended {
+                        committed: true,
+                        aborted,
+                    },
+                )?;
             }
             Event::Abort { txn } => {
-                self.aborted.insert(*txn)?;
+                let committed = self.has_committed(*txn);
+                self.ended.set(
+                    *txn,
+                    Ended {
+                        committed,
+                        aborted: true,
+                    },
+                )?;
             }
         }
         Ok(())
@@ -205,8 +230,7 @@ impl Tables {
             (λ u. (r : Version)
             → get version_eq self.new.replaced r
             ≡ with_replaced (written_at (map event_of events.now) p) p (get version_eq self.old.replaced) r) }
-        ensures ended { IfOk result
-            (λ u. (self.new.committed ≡ self.old.committed) × (self.new.aborted ≡ self.old.aborted)) }
+        ensures ended { IfOk result (λ u. self.new.ended ≡ self.old.ended) }
     {
         let Some(place) = self.last.insert(own, at)? else {
             return Ok(());

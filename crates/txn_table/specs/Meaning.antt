@@ -6,5 +6,5 @@ use Rattle.std.specs.BTreeMap.{get}
 use Rattle.txn_table.specs.declared.TxnTable.{TxnTable}
 
 -- the value in the array, or else in the map, or else the one that all have at first
-abbrev pub value_of : {V : Type 0} → TxnTable V → ℕ → V
-value_of t u = unwrap_or (slice_get t.small.items u) (unwrap_or (get nat_cmp t.large u) t.initial)
+abbrev pub value_for : {V : Type 0} → TxnTable V → ℕ → V
+value_for t u = unwrap_or (slice_get t.small.items u) (unwrap_or (get nat_cmp t.large u) t.initial)

@@ -19,12 +19,12 @@ pub struct TxnTable<V> {
 }
 
 impl<V: Copy> TxnTable<V> {
-    ghost use Rattle.txn_table.specs.Meaning.{value_of};
+    ghost use Rattle.txn_table.specs.Meaning.{value_for};
 
     /// Makes the table in which each transaction has this value. Its array holds the numbers below `small`, and takes its
     /// room now; `AllocError` if memory is refused.
     pub fn new(alloc: Global, small: usize, initial: V) -> Result<TxnTable<V>, AllocError>
-        ensures { IfOk result (λ t. (u : ℕ) → value_of t u ≡ initial) }
+        ensures { IfOk result (λ t. (u : ℕ) → value_for t u ≡ initial) }
     {
         let mut values = Vec::new(alloc);
         values.resize(small, initial)?;
@@ -37,7 +37,7 @@ impl<V: Copy> TxnTable<V> {
 
     /// Returns the transaction's value.
     pub fn get(&self, txn: Txn) -> V
-        ensures { result ≡ value_of self.now txn }
+        ensures { result ≡ value_for self.now txn }
     {
         match self.small.get(txn.get() as usize) {
             Some(value) => *value,
@@ -47,8 +47,8 @@ impl<V: Copy> TxnTable<V> {
 
     /// Gives the transaction the value; `AllocError` if memory is refused, and then nothing has changed.
     pub fn set(&mut self, txn: Txn, value: V) -> Result<(), AllocError>
-        ensures set { OnOk result ((u : ℕ) → value_of self.new u ≡ cond (txn == u) value (value_of self.old u)) }
-        ensures refused { OnErr result ((u : ℕ) → value_of self.new u ≡ value_of self.old u) }
+        ensures set { OnOk result ((u : ℕ) → value_for self.new u ≡ cond (txn == u) value (value_for self.old u)) }
+        ensures refused { OnErr result ((u : ℕ) → value_for self.new u ≡ value_for self.old u) }
     {
         if let Some(place) = self.small.get_mut(txn.get() as usize) {
             *place = value;

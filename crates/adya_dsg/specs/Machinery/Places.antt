@@ -1,10 +1,10 @@
 -- What the tables of places mean.
-use Rattle.std.specs.Prelude.{◌≡◌, ℕ, ◌==◌, nat_eq, Bool, ◌&&◌, List, Some, length}
+use Rattle.std.specs.Prelude.{◌≡◌, ℕ, ◌==◌, Bool, ◌&&◌, List, Some, length}
 use Rattle.std.specs.Option.{unwrap_or}
 use Rattle.std.specs.List.{slice_get}
 use Rattle.std.specs.HashMap.{HashMap, get}
 use Rattle.txn_table.specs.declared.TxnTable.{TxnTable}
-use Rattle.txn_table.specs.Meaning.{value_of}
+use Rattle.txn_table.specs.Meaning.{value_for}
 use Rattle.adya_values.specs.declared.order.Order.{Order}
 use Rattle.adya_values.specs.Meaning.Orders.{place}
 use Rattle.adya_dsg.specs.declared.places.Slot.{Slot}
@@ -24,4 +24,4 @@ HasLines m os = (i : ℕ) (o : Order) → slice_get os i ≡ Some o → HasLine 
 
 -- the table has how many transactions of the certificate come before each
 abbrev pub HasPlaces : TxnTable ℕ → List ℕ → Type 0
-HasPlaces m ts = (t : ℕ) → value_of m t ≡ place ts t
+HasPlaces m ts = (t : ℕ) → value_for m t ≡ place ts t

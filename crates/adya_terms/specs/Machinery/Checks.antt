@@ -1,10 +1,10 @@
 -- What the parts of the check return.
-use Rattle.std.specs.Prelude.{◌≡◌, ℕ, zero, suc, ◌+◌, ◌==◌, nat_eq, Bool, false, cond, not, ◌&&◌, ◌||◌, List, [], ◌++◌, length, Option, Some, None, map, filter, count_by, sum_by}
+use Rattle.std.specs.Prelude.{◌≡◌, ℕ, zero, suc, ◌+◌, ◌==◌, Bool, false, cond, not, ◌&&◌, ◌||◌, List, [], ◌++◌, length, Option, Some, None, map, filter, count_by, sum_by}
 use Rattle.std.specs.List.{filter_map, list_all, list_any}
 use Rattle.std.specs.Cmp.Lexicographic.{slice_cmp}
 use Rattle.std.specs.HashMap.{HashMap, get}
 use Rattle.std.specs.BTreeSet.{BTreeSet, contains}
-use Rattle.std.specs.HashSet as hashed
+use Rattle.txn_table.specs.Meaning.{value_for}
 use Rattle.std.specs.Ordering.{nat_cmp}
 use Rattle.adya_values.specs.declared.event.Version.{Version}
 use Rattle.adya_values.specs.declared.event.Event.{Event as EventValue}
@@ -149,7 +149,7 @@ is_of_key w x = not (key_eq x.version.key w.version.key) || entry_eq x w
 
 -- the tables or the set of unfinished transactions have it
 abbrev pub is_done : Tables → BTreeSet ℕ → ℕ → Bool
-is_done t s u = (hashed.contains nat_eq t.committed u || hashed.contains nat_eq t.aborted u) || contains nat_cmp s u
+is_done t s u = ((value_for t.ended u).committed || (value_for t.ended u).aborted) || contains nat_cmp s u
 
 -- the event's transaction has ended or is unfinished
 abbrev pub ends : List Event → List ℕ → Event → Bool

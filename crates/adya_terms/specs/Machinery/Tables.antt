@@ -1,8 +1,8 @@
 -- What the tables of the check say about the events that they were made of.
-use Rattle.std.specs.Prelude.{◌≡◌, ℕ, ◌<◌, ◌==◌, nat_eq, Bool, false, ◌&&◌, ◌||◌, cond, List, length, Option, Some, None, is_some, IsSome, slice_get}
+use Rattle.std.specs.Prelude.{◌≡◌, ℕ, ◌<◌, ◌==◌, Bool, false, ◌&&◌, ◌||◌, cond, List, length, Option, Some, None, is_some, IsSome, slice_get}
 use Rattle.std.specs.List.{filter_map, list_any}
 use Rattle.std.specs.HashMap.{get}
-use Rattle.std.specs.HashSet.{contains}
+use Rattle.txn_table.specs.Meaning.{value_for}
 use Rattle.adya_values.specs.declared.event.Version.{Version}
 use Rattle.adya_terms.specs.declared.tables.Own.{Own}
 use Rattle.adya_terms.specs.declared.tables.Tables.{Tables}
@@ -58,4 +58,4 @@ pub record Tell (committed aborted : ℕ → Bool) (last : Own → Option ℕ) (
 
 -- the tables are right about the events before, by places in all of them
 abbrev pub Means : Tables → List Event → List Event → Type 0
-Means t all before = Tell (contains nat_eq t.committed) (contains nat_eq t.aborted) (get own_eq t.last) (get version_eq t.replaced) all before
+Means t all before = Tell (λ u. (value_for t.ended u).committed) (λ u. (value_for t.ended u).aborted) (get own_eq t.last) (get version_eq t.replaced) all before

@@ -24,7 +24,7 @@ pub loop-i-init : goal.loop-i-init
 loop-i-init c =
     let all = map event_of c.args.events.now in
     record {
-      means = c.new-tables.ensures all;
+      means = c.in-Ok.ensures all;
       keeps = c.new-writes.ensures all;
       faults = refl;
     }
@@ -36,10 +36,10 @@ loop-i-preserved c =
     let e = c.index-events-i.result in
     let t = turn event_of c.args.events.now i e c.loop-i-test.true c.index-events-i.is in
     let m = c.loop-i.invariant.means in
-    let none = c.in_default.ensures (take i all) m c.loop-i.invariant.keeps (2 + i) in
+    let none = c.in_default-broken_rule.ensures (take i all) m c.loop-i.invariant.keeps (2 + i) in
     record {
       means = subst (Means c.record.new.self all) (sym t.front)
-          (c.in-Ok.ensures (take i all) m t.found (passes_all (take i all) (2 + i) (event_of e) none).next);
+          (c.in-Ok-record.ensures (take i all) m t.found (passes_all (take i all) (2 + i) (event_of e) none).next);
       keeps = subst (Keeps c.keep.new.self all) (sym t.front) (c.in-Ok-keep.ensures all (take i all) c.loop-i.invariant.keeps t.found);
       faults = c.loop-i.invariant.faults ∙ fault_later all i (event_of e) t none;
     }
