@@ -1,3 +1,4 @@
 -- What only the loops and the tables of the check need.
 pub mod Tables
 pub mod Checks
+pub mod Places
