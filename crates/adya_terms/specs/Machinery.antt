@@ -2,3 +2,4 @@
 pub mod Tables
 pub mod OpenWrites
 pub mod Checks
+pub mod Places

@@ -1,198 +1,166 @@
 //! M7: the order line of a key names exactly its committed writers, without repeats.
+//!
+//! An array beside the events has, at the index of each listed writer's last write, the writer's place in its line. So a
+//! writer that is listed twice, and a write that no line lists, show without a search.
 
-ghost use Rattle.std.specs.Prelude.{◌≡◌, ◌+◌, ◌^◌, ◌<◌, ◌==◌, ℕ, List, [], true, not, ◌&&◌, ◌||◌, map, cond, count_by, option_copied, is_some, IfSome, IfOk, MatchOption, MatchResult, Contains};
-ghost use Rattle.std.specs.List.{filter_map, list_all, list_any};
+ghost use Rattle.std.specs.Prelude.{◌≡◌, ◌^◌, ◌<◌, ℕ, List, [], true, false, length, map, replicate, slice_get, is_some, Some, IfSome, IfOk, MatchOption, MatchResult};
+ghost use Rattle.std.specs.List.{list_any};
 ghost use Rattle.std.specs.HashMap.{get};
-ghost use Rattle.std.specs.BTreeSet.{contains};
-ghost use Rattle.std.specs.Ordering.{nat_cmp};
-ghost use Rattle.std.specs.Cmp.Lexicographic.{slice_cmp};
 ghost use Rattle.adya_values.specs.Meaning.Keys.{key_eq, keys_rise};
 ghost use Rattle.adya_values.specs.Meaning.Histories.{Event as EventValue, Order as OrderValue, event_of, order_of};
-ghost use Rattle.adya_values.specs.Meaning.Events.{written, is_committed};
 ghost use Rattle.adya_values.specs.Computing.Faults as faults;
 ghost use Rattle.adya_values.specs.Meaning.Orders.{line_of};
-ghost use Rattle.adya_values.specs.Meaning.Rules.{installs};
-ghost use Rattle.adya_terms.specs.Machinery.Tables.{own, own_eq, Means};
-ghost use Rattle.adya_terms.specs.Machinery.Checks as checks;
-ghost use Rattle.adya_terms.specs.Machinery.Checks.{Names, Lists, LeavesOut, listing_faults, parts};
+ghost use Rattle.adya_terms.specs.Machinery.Tables.{own_eq, Means};
+ghost use Rattle.adya_terms.specs.Machinery.Checks.{Names, listing_faults, parts};
+ghost use Rattle.adya_terms.specs.Machinery.Places.{line, AfterLine, AfterLines, HasLeft, IsLeft, Judges, Leaves, Places};
 
-use crate::tables::{Own, Tables, wrote};
+use crate::tables::{Tables, wrote};
 use crate::{CheckFault, Entry, Event, Key, Order, Rule, Txn};
 use std::alloc::{AllocError, Global};
-use std::collections::{BTreeSet, HashMap};
+use std::collections::BTreeSet;
 
-/// How often the lines of a key list a transaction that they list.
-#[derive(Clone, Copy)]
-pub(crate) enum Times {
-    Once,
-    More,
-}
-
-/// Counts how often the lines of each key list each transaction.
-fn listed(alloc: Global, orders: &[Order]) -> Result<HashMap<Own, Times>, AllocError>
-    ensures { IfOk result (λ m. Lists m (map order_of orders.now)) }
+/// Returns the index of the transaction's last write of the key in the list of events, if the transaction is committed
+/// and the write has no place yet.
+fn unplaced(tables: &Tables, places: &[usize], key: Key, txn: Txn) -> Option<usize>
+    ensures within { IfSome result (λ at. at < length places.now) }
+    ensures left { (all : List EventValue)
+        → Means tables.now all all
+        → length places.now ≡ length all
+        → let IsHere = IsLeft all (get own_eq tables.now.last) places.now key txn in
+        MatchOption result ((at : ℕ) → IsHere at → ⊥) IsHere }
 {
-    let mut listed = HashMap::new(alloc);
-    for order in orders {
-        list(&mut listed, order.key, &order.writers)?;
+    if !tables.has_committed(txn) {
+        return None;
     }
-    Ok(listed)
-}
-
-/// Counts the writers of a line of the key.
-fn list(listed: &mut HashMap<Own, Times>, key: Key, writers: &[Txn]) -> Result<(), AllocError>
-    ensures { IfOk result
-        (λ u. (n : ℕ → List ℕ → ℕ)
-        → ((t : ℕ) (k : List ℕ) → get own_eq listed.old (own t k) ≡ checks.times (n t k))
-        → (t : ℕ) (k : List ℕ)
-        → get own_eq listed.new (own t k)
-        ≡ checks.times (n t k + cond (key_eq key k) (count_by (λ u. u == t) writers.now) 0)) }
-{
-    for txn in writers {
-        let own = Own { txn: *txn, key };
-        let times = once_more(listed.get(&own).copied());
-        listed.insert(own, times)?;
-    }
-    Ok(())
-}
-
-fn once_more(times: Option<Times>) -> Times
-    ensures { result ≡ checks.once_more times }
-{
-    match times {
-        None => Times::Once,
-        Some(_) => Times::More,
+    let Some(at) = tables.last_place(txn, key) else {
+        return None;
+    };
+    match places.get(at) {
+        Some(0) => Some(at),
+        _ => None,
     }
 }
 
-/// Returns the keys of committed writes that no line of their key lists.
+/// Records the place of each writer of the key's line, from 1 on, at the index of its last write of the key. Returns
+/// whether all are committed writers of the key, without repeats; stops at the first that isn't one, or repeats.
+fn place_line(tables: &Tables, places: &mut [usize], key: Key, writers: &[Txn]) -> bool
+    ensures { (all : List EventValue) (os : List OrderValue)
+        → Means tables.now all all
+        → length places.old ≡ length all
+        → Places (get own_eq tables.now.last) places.old os
+        → list_any (λ o. key_eq o.key key) os ≡ false
+        → AfterLine all (get own_eq tables.now.last) places.new os (line key writers.now) result }
+{
+    for (i, txn) in writers.iter().enumerate() {
+        let Some(at) = unplaced(tables, places, key, *txn) else {
+            return false;
+        };
+        places[at] = i + 1;
+    }
+    true
+}
+
+/// Records the places line by line, up to the first line that lists others than committed writers of its key or repeats
+/// one. Returns the index of this line, or the number of lines.
+fn place_lines(tables: &Tables, places: &mut [usize], orders: &[Order]) -> usize
+    requires rise { keys_rise (map (λ o. o.key) (map order_of orders.now)) ≡ true }
+    ensures { (all : List EventValue)
+        → Means tables.now all all
+        → places.old ≡ replicate (length all) 0
+        → AfterLines all (get own_eq tables.now.last) places.new (map order_of orders.now) result }
+{
+    for (i, order) in orders.iter().enumerate() {
+        if !place_line(tables, places, order.key, &order.writers) {
+            return i;
+        }
+    }
+    orders.len()
+}
+
+/// Returns the places of the writers of the lines up to the first line that lists others than committed writers of its
+/// key or repeats one, and the index of this line, or the number of lines.
+fn placed(
+    alloc: Global,
+    tables: &Tables,
+    events: &[Event],
+    orders: &[Order],
+) -> Result<(Vec<usize>, usize), AllocError>
+    requires tell { Means tables.now (map event_of events.now) (map event_of events.now) }
+    requires rise { keys_rise (map (λ o. o.key) (map order_of orders.now)) ≡ true }
+    ensures same_length { IfOk result (λ p. length p.0.items ≡ length events.now) }
+    ensures lines { let last = get own_eq tables.now.last in
+        IfOk result (λ p. AfterLines (map event_of events.now) last p.0.items (map order_of orders.now) p.1) }
+{
+    let mut places = vec![in alloc; 0; events.len()]?;
+    let wrong = place_lines(tables, &mut places, orders);
+    Ok((places, wrong))
+}
+
+/// Returns the key that the event at the index writes, if its transaction is committed and its last write of the key
+/// has no place.
+fn unlisted_key(tables: &Tables, places: &[usize], at: usize, event: &Event) -> Option<Key>
+    requires { at < length places.now }
+    ensures left { (all : List EventValue)
+        → Means tables.now all all
+        → length places.now ≡ length all
+        → IfSome result (HasLeft all (get own_eq tables.now.last) places.now) }
+    ensures found { (all : List EventValue)
+        → Means tables.now all all
+        → length places.now ≡ length all
+        → slice_get all at ≡ Some (event_of event.now)
+        → (k : List ℕ) (t : ℕ)
+        → IsLeft all (get own_eq tables.now.last) places.now k t at
+        → result ≡ Some k }
+{
+    if places[at] != 0 {
+        return None;
+    }
+    let Some(Entry { version, .. }) = wrote(event) else {
+        return None;
+    };
+    if unplaced(tables, places, version.key, version.txn).is_none() {
+        return None;
+    }
+    Some(version.key)
+}
+
+/// Returns the keys that committed transactions have written last at an index that has no place.
 fn unlisted(
     alloc: Global,
     tables: &Tables,
     events: &[Event],
-    listed: &HashMap<Own, Times>,
+    places: &[usize],
 ) -> Result<BTreeSet<Key>, AllocError>
-    ensures { IfOk result
-        (λ s. (all : List EventValue) (os : List OrderValue)
-        → Means tables.now all all
-        → Lists listed.now os
-        → (k : List ℕ)
-        → contains (slice_cmp nat_cmp) s k
-        ≡ list_any (checks.is_unlisted all os k) (filter_map written (map event_of events.now))) }
+    requires tell { Means tables.now (map event_of events.now) (map event_of events.now) }
+    requires same_length { length places.now ≡ length events.now }
+    ensures { IfOk result (Leaves (map event_of events.now) (get own_eq tables.now.last) places.now) }
 {
     let mut keys = BTreeSet::new(alloc);
-    for event in events {
-        if let Some(key) = unlisted_key(tables, listed, event) {
+    for (i, event) in events.iter().enumerate() {
+        if let Some(key) = unlisted_key(tables, places, i, event) {
             keys.insert(key)?;
         }
     }
     Ok(keys)
 }
 
-/// Returns the key of the event, if this is a committed write that no line of its key lists.
-fn unlisted_key(tables: &Tables, listed: &HashMap<Own, Times>, event: &Event) -> Option<Key>
-    ensures { (all : List EventValue) (os : List OrderValue)
-        → Means tables.now all all
-        → Lists listed.now os
-        → (k : List ℕ)
-        → checks.is_this result k ≡ checks.is_some_and (checks.is_unlisted all os k) (written (event_of event.now)) }
-{
-    let Some(Entry { version, .. }) = wrote(event) else {
-        return None;
-    };
-    if !tables.has_committed(version.txn) {
-        return None;
-    }
-    if listed.contains_key(&Own {
-        txn: version.txn,
-        key: version.key,
-    }) {
-        return None;
-    }
-    Some(version.key)
-}
-
-/// Returns whether a transaction is listed as often as wanted: once, or not at all.
-fn fits(times: Option<Times>, wanted: bool) -> bool
-    ensures { result ≡ checks.fits times wanted }
-{
-    match times {
-        None => !wanted,
-        Some(Times::Once) => wanted,
-        Some(Times::More) => false,
-    }
-}
-
-/// Returns whether the key's lines list the transaction as often as they should: once if it is a committed writer of
-/// the key, and else not at all.
-fn belongs(tables: &Tables, listed: &HashMap<Own, Times>, key: Key, txn: Txn) -> bool
-    ensures { (all : List EventValue) (os : List OrderValue)
-        → Means tables.now all all
-        → Lists listed.now os
-        → result ≡ checks.belongs all os key txn }
-{
-    fits(
-        listed.get(&Own { txn, key }).copied(),
-        tables.installs(txn, key),
-    )
-}
-
-/// Returns whether that holds of each transaction of the line.
-fn all_belong(tables: &Tables, listed: &HashMap<Own, Times>, key: Key, writers: &[Txn]) -> bool
-    ensures { (all : List EventValue) (os : List OrderValue)
-        → Means tables.now all all
-        → Lists listed.now os
-        → result ≡ list_all (checks.belongs all os key) writers.now }
-{
-    for txn in writers {
-        if !belongs(tables, listed, key, *txn) {
-            return false;
-        }
-    }
-    true
-}
-
-/// Returns whether the line names exactly the committed writers of its key, without repeats.
-fn is_exact(
-    tables: &Tables,
-    listed: &HashMap<Own, Times>,
-    unlisted: &BTreeSet<Key>,
-    order: &Order,
-) -> bool
-    ensures { (all : List EventValue) (os : List OrderValue)
-        → Means tables.now all all
-        → Lists listed.now os
-        → LeavesOut unlisted.now all os
-        → keys_rise (map (λ o. o.key) os) ≡ true
-        → Contains os (order_of order.now)
-        → result ≡ faults.lists_exactly (installs all order.now.key) order.now.writers.items all }
-{
-    if unlisted.contains(&order.key) {
-        return false;
-    }
-    all_belong(tables, listed, order.key, &order.writers)
-}
-
-/// Returns the first order line that breaks M7, if there is one. The line of the first order is `first`.
+/// Returns the first order line that breaks M7, if there is one: a line before the index `wrong` whose key is left out,
+/// or that at the index. The line of the first order is `first`.
 fn check_lines(
-    tables: &Tables,
-    listed: &HashMap<Own, Times>,
     unlisted: &BTreeSet<Key>,
     orders: &[Order],
+    wrong: usize,
     first: usize,
 ) -> Result<(), CheckFault>
     requires near { first < 2 ^ 63 }
-    requires lists { Lists listed.now (map order_of orders.now) }
-    requires rise { keys_rise (map (λ o. o.key) (map order_of orders.now)) ≡ true }
     ensures { let os = map order_of orders.now in
         (all : List EventValue)
-        → Means tables.now all all
-        → LeavesOut unlisted.now all os
+        → Judges all os unlisted.now wrong
         → let found = faults.order_faults all first os in
         MatchResult result (λ u. found ≡ []) (Names found) }
 {
     for (i, order) in orders.iter().enumerate() {
-        if !is_exact(tables, listed, unlisted, order) {
+        if i == wrong || unlisted.contains(&order.key) {
             return Err(CheckFault::Malformed {
                 line: first + i,
                 rule: Rule::M7,
@@ -203,32 +171,35 @@ fn check_lines(
 }
 
 /// Returns the first order line that breaks M7, or else the line after the orders if a key with a committed writer has
-/// no line. The line of the first order is `first`.
+/// no line. The line of the first order is `first`. If no line does, returns the places of the writers in their lines,
+/// from 1 on, each at the index of the writer's last write of the key in the list of events, and 0 at other indices.
 pub(crate) fn check_orders(
     alloc: Global,
     tables: &Tables,
     events: &[Event],
     orders: &[Order],
     first: usize,
-) -> Result<(), CheckFault>
+) -> Result<Vec<usize>, CheckFault>
     requires near { first < 2 ^ 63 }
     requires tell { Means tables.now (map event_of events.now) (map event_of events.now) }
     requires rise { keys_rise (map (λ o. o.key) (map order_of orders.now)) ≡ true }
-    ensures { let found = listing_faults (parts events.now orders.now []) first in
+    ensures faults { let found = listing_faults (parts events.now orders.now []) first in
         MatchResult result (λ u. found ≡ []) (Names found) }
+    ensures same_length { IfOk result (λ v. length v.items ≡ length events.now) }
+    ensures places { IfOk result (λ v. Places (get own_eq tables.now.last) v.items (map order_of orders.now)) }
 {
-    let Ok(listed) = listed(alloc, orders) else {
+    let Ok((places, wrong)) = placed(alloc, tables, events, orders) else {
         return Err(CheckFault::Memory);
     };
-    let Ok(unlisted) = unlisted(alloc, tables, events, &listed) else {
+    let Ok(unlisted) = unlisted(alloc, tables, events, &places) else {
         return Err(CheckFault::Memory);
     };
-    if let Err(fault) = check_lines(tables, &listed, &unlisted, orders, first) {
+    if let Err(fault) = check_lines(&unlisted, orders, wrong, first) {
         return Err(fault);
     }
     // no line breaks the rule, so a key that is left out has no line
     match unlisted.first() {
-        None => Ok(()),
+        None => Ok(places),
         Some(_) => Err(CheckFault::Malformed {
             line: first + orders.len(),
             rule: Rule::M7,

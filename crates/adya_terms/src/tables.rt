@@ -133,6 +133,13 @@ impl Tables {
         wrote_at(events, self.last.get(&Own { txn, key }).copied())
     }
 
+    /// Returns the index of the transaction's last write of the key in the list of events.
+    pub fn last_place(&self, txn: Txn, key: Key) -> Option<usize>
+        ensures { result ≡ get own_eq self.now.last (own txn key) }
+    {
+        self.last.get(&Own { txn, key }).copied()
+    }
+
     /// Returns whether the transaction is committed and wrote the key.
     pub fn installs(&self, txn: Txn, key: Key) -> bool
         ensures { result

@@ -1,8 +1,6 @@
 -- What the parts of the check return.
-use Rattle.std.specs.Prelude.{◌≡◌, ℕ, zero, suc, ◌+◌, ◌==◌, Bool, false, cond, not, ◌&&◌, ◌||◌, List, [], ◌++◌, length, Option, Some, None, map, filter, count_by, sum_by}
+use Rattle.std.specs.Prelude.{◌≡◌, ℕ, ◌+◌, ◌==◌, Bool, not, ◌&&◌, ◌||◌, List, [], ◌++◌, length, Option, Some, None, map, filter}
 use Rattle.std.specs.List.{filter_map, list_all, list_any}
-use Rattle.std.specs.Cmp.Lexicographic.{slice_cmp}
-use Rattle.std.specs.HashMap.{HashMap, get}
 use Rattle.std.specs.BTreeSet.{BTreeSet, contains}
 use Rattle.txn_table.specs.Meaning.{value_for}
 use Rattle.std.specs.Ordering.{nat_cmp}
@@ -12,18 +10,13 @@ use Rattle.adya_values.specs.declared.order.Order.{Order as OrderValue}
 use Rattle.adya_values.specs.declared.order.FinalPair.{FinalPair as FinalValue}
 use Rattle.adya_values.specs.declared.fault.Rule.TheVariants.{M6, M7, M8}
 use Rattle.adya_values.specs.declared.fault.CheckFault.{CheckFault}
-use Rattle.adya_terms.specs.declared.tables.Own.{Own}
 use Rattle.adya_terms.specs.declared.tables.Tables.{Tables}
-use Rattle.adya_terms.specs.declared.listed.Times.{Times}
-use Rattle.adya_terms.specs.declared.listed.Times.TheVariants.{Once, More}
 use Rattle.adya_values.specs.Meaning.Keys.{key_eq}
-use Rattle.adya_values.specs.Meaning.Histories.{Entry, Event, Order, History, event_of, order_of, final_of}
+use Rattle.adya_values.specs.Meaning.Histories.{Entry, Event, History, event_of, order_of, final_of}
 use Rattle.adya_values.specs.declared.edition.Edition.TheVariants.{One, Two}
 use Rattle.adya_values.specs.Meaning.Events.{txn_of, written, observed, is_committed, has_ended, aborts, last_write}
-use Rattle.adya_values.specs.Meaning.Rules.{installs}
 use Rattle.adya_values.specs.Computing.Faults.{entry_eq, first, is_entry, fault_unless, aborted_reads, all_end, intermediate_reads, order_faults, has_lines, final_faults, has_finals}
 use Rattle.adya_terms.specs.Meaning.Faults.{IsFault}
-use Rattle.adya_terms.specs.Machinery.Tables.{own, own_eq}
 
 -- the fault is the first of the list, or memory ran out
 abbrev pub Names : List CheckFault → CheckFault → Type 0
@@ -73,56 +66,6 @@ refused good events e = filter (λ o. is_committed events (txn_of e) && not (goo
 abbrev pub IsFirst : List Entry → Option Version → Type 0
 IsFirst es None = es ≡ []
 IsFirst es (Some v) = first (map (λ o. o.version) es) ≡ Some v
-
--- not at all, once, or more often
-abbrev pub times : ℕ → Option Times
-times zero = None
-times (suc zero) = Some Once
-times (suc (suc n)) = Some More
-
-abbrev pub once_more : Option Times → Times
-once_more None = Once
-once_more (Some n) = More
-
--- once if it is wanted, and else not at all
-abbrev pub fits : Option Times → Bool → Bool
-fits None wanted = not wanted
-fits (Some Once) wanted = wanted
-fits (Some More) wanted = false
-
--- how often the line lists the transaction, if it is the key's
-abbrev pub listed_by : ℕ → List ℕ → Order → ℕ
-listed_by t k o = cond (key_eq o.key k) (count_by (λ u. u == t) o.writers) 0
-
--- how often the key's lines list the transaction
-abbrev pub listed : List Order → ℕ → List ℕ → ℕ
-listed os t k = sum_by (listed_by t k) os
-
-abbrev pub Lists : {S : Type 0} → HashMap Own Times S → List Order → Type 0
-Lists m os = (t : ℕ) (k : List ℕ) → get own_eq m (own t k) ≡ times (listed os t k)
-
--- a committed write of the key, which no line of its key lists
-abbrev pub is_unlisted : List Event → List Order → List ℕ → Entry → Bool
-is_unlisted events os k w =
-    is_committed events w.version.txn && ((listed os w.version.txn w.version.key == 0) && key_eq w.version.key k)
-
--- the set has the keys of committed writes that no line of their key lists
-abbrev pub LeavesOut : BTreeSet (List ℕ) → List Event → List Order → Type 0
-LeavesOut s events os = (k : List ℕ) → contains (slice_cmp nat_cmp) s k ≡ list_any (is_unlisted events os k) (filter_map written events)
-
--- there is an entry, and it passes
-abbrev pub is_some_and : (Entry → Bool) → Option Entry → Bool
-is_some_and test None = false
-is_some_and test (Some w) = test w
-
--- it is this key
-abbrev pub is_this : Option (List ℕ) → List ℕ → Bool
-is_this None k = false
-is_this (Some j) k = key_eq j k
-
--- the key's lines list the transaction once if it is a committed writer of the key, and else not at all
-abbrev pub belongs : List Event → List Order → List ℕ → ℕ → Bool
-belongs events os k t = listed os t k == cond (installs events k t) 1 0
 
 -- M7, from the line of the first order on
 abbrev pub listing_faults : History → ℕ → List CheckFault

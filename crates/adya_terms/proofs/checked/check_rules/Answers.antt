@@ -45,7 +45,7 @@ returns-in-Err c us holds =
     let line = c.args.line in
     let ends : fault_unless (all_end h) line M6 ≡ [] = ap (λ b. fault_unless b line M6) (sym (c.all_end.ensures ∙ all_ended c.args.tables.now c.args.unfinished.now us c.args.events.now c.requires.tell holds) ∙ c.if-not-all_end.false) in
     names_behind (fault_unless (all_end h) line M6) _ c.in-Err.fault ends
-    (names_front (listing_faults h line) (final_value_faults h (line + length h.orders)) c.in-Err.fault c.in-Err.ensures)
+    (names_front (listing_faults h line) (final_value_faults h (line + length h.orders)) c.in-Err.fault c.in-Err.ensures.faults)
 
 pub returns : goal.returns
 returns c us holds =
@@ -56,5 +56,5 @@ returns c us holds =
     ap (λ b. fault_unless b line M6) (sym (c.all_end.ensures ∙ all_ended c.args.tables.now c.args.unfinished.now us c.args.events.now c.requires.tell holds) ∙ c.if-not-all_end.false) in
     let at : line + length c.args.orders.now ≡ line + length h.orders = ap (λ n. line + n) (sym (length-map c.args.orders.now order_of)) in
     found_behind r (fault_unless (all_end h) line M6) _ ends
-    (found_behind r (listing_faults h line) _ c.in_default.ensures
+    (found_behind r (listing_faults h line) _ c.in_default.ensures.faults
     (subst (λ n. MatchResult r (λ u. final_value_faults h n ≡ []) (Names (final_value_faults h n))) at c.check_finals.ensures))

@@ -1,30 +1,43 @@
-use Rattle.std.proofs.Common.{◌≡◌, ◌+◌, ◌∙◌, sym, ap, map}
+use Rattle.std.proofs.Common.{◌≡◌, ◌+◌, ◌∙◌, ◌<◌, sym, ap, map, not, false, arith}
+use Rattle.std.specs.List.{slice_get}
 use Rattle.adya_values.specs.Meaning.Histories.{order_of}
 use Rattle.adya_values.specs.Meaning.Rules.{installs}
-use Rattle.adya_values.specs.Computing.Faults.{lists_exactly, first}
+use Rattle.adya_values.specs.Computing.Faults.{lists_exactly}
+use Rattle.adya_values.specs.Computing.Faults as faults
 use Rattle.adya_terms.proofs.Firsts.{order_here, order_later}
 use Rattle.adya_terms.proofs.listed.check_lines.Goals as goal
-use Rattle.lemmas.proofs.Members.{Contains-slice_get}
+use Rattle.adya_terms.proofs.listed.check_lines.Goals.{then-i-wrong-via-then-i-wrong, then-i-wrong-via-else-i-wrong+then-contains}
 use Rattle.lemmas.proofs.Steps.{turn}
 
-pub returns-then-not-is_exact : goal.returns-then-not-is_exact
-returns-then-not-is_exact c all m out =
+pub returns-then-i-wrong : goal.returns-then-i-wrong
+returns-then-i-wrong c all j =
     let os = map order_of c.args.orders.now in
     let i = c.loop-i.i in
     let o = c.index-orders-i.result in
-    let lists = c.requires.lists in
     let t = turn order_of c.args.orders.now i o c.loop-i-test.true c.index-orders-i.is in
-    let exact : c.is_exact.result ≡ lists_exactly (installs all o.key) o.writers.items all =
-    c.is_exact.ensures all os m lists out c.requires.rise (Contains-slice_get os i (order_of o) t.found) in
-    ap first (c.loop-i.invariant all m out) ∙ order_here all (c.args.first + i) os i (order_of o) t (sym exact ∙ c.if-not-is_exact.true)
+    let within = c.loop-i.invariant.within in
+    let wrong : lists_exactly (installs all o.key) o.writers.items all ≡ false =
+    elim c.then-i-wrong.branch [
+      | then-i-wrong-via-then-i-wrong w ↦ j.wrong (order_of o) (ap (slice_get os) (sym w.if-i-wrong.true) ∙ t.found)
+      | then-i-wrong-via-else-i-wrong+then-contains w ↦
+          let other = w.if-i-wrong.false in
+          j.before i (order_of o) (omega (arith, within, other)) t.found ∙ ap not (sym w.contains.ensures ∙ w.if-contains.true)
+    ] in
+    ap faults.first (c.loop-i.invariant.faults all j) ∙ order_here all (c.args.first + i) os i (order_of o) t wrong
 
 pub loop-i-preserved : goal.loop-i-preserved
-loop-i-preserved c all m out =
+loop-i-preserved c =
     let os = map order_of c.args.orders.now in
     let i = c.loop-i.i in
     let o = c.index-orders-i.result in
-    let lists = c.requires.lists in
     let t = turn order_of c.args.orders.now i o c.loop-i-test.true c.index-orders-i.is in
-    let exact : c.is_exact.result ≡ lists_exactly (installs all o.key) o.writers.items all =
-    c.is_exact.ensures all os m lists out c.requires.rise (Contains-slice_get os i (order_of o) t.found) in
-    c.loop-i.invariant all m out ∙ order_later all c.args.first os i (order_of o) t (sym exact ∙ c.if-not-is_exact.false)
+    let within = c.loop-i.invariant.within in
+    let other = c.if-i-wrong.false in
+    let less : i < c.args.wrong = omega (arith, within, other) in
+    record {
+      within = omega (arith, less);
+      faults = λ all j.
+          c.loop-i.invariant.faults all j ∙
+          order_later all c.args.first os i (order_of o) t
+          (j.before i (order_of o) less t.found ∙ ap not (sym c.contains.ensures ∙ c.if-contains.false));
+    }

@@ -1,42 +1,45 @@
-use Rattle.std.proofs.Common.{◌≡◌, ◌+◌, ◌||◌, cond, true, false, map, take, nat_cmp, BTreeSet, sym, ap, ◌∙◌}
-use Rattle.std.proofs.Math.Bool.{or-false}
-use Rattle.std.specs.List.{filter_map, list_any}
+use Rattle.std.proofs.Common.{◌≡◌, ◌∙◌, ◌+◌, cond, length, map, nat_cmp, sym, ap, subst, true}
 use Rattle.std.specs.BTreeSet.{contains}
+use Rattle.std.specs.HashMap.{get}
 use Rattle.std.specs.Cmp.Lexicographic.{slice_cmp, texts_ties}
-use Rattle.adya_values.specs.declared.key.Key.{Key}
+use Rattle.std.proofs.lemmas.List.{length-map}
+use Rattle.std.proofs.lemmas.Option.{none-some, same_Some}
 use Rattle.adya_values.specs.Meaning.Keys.{key_eq}
 use Rattle.adya_values.specs.Meaning.Histories.{event_of}
-use Rattle.adya_values.specs.Meaning.Events.{written}
-use Rattle.adya_terms.specs.Machinery.Checks.{is_unlisted, is_some_and, is_this}
-use Rattle.lemmas.proofs.Booleans.{cond_or}
-use Rattle.adya_terms.proofs.Listings.{any_written}
+use Rattle.adya_terms.specs.Machinery.Tables.{own_eq}
+use Rattle.adya_terms.proofs.Places.{AreFound, found_all, found_none, found_one}
 use Rattle.adya_terms.proofs.listed.unlisted.Goals as goal
 use Rattle.adya_terms.proofs.listed.unlisted.Goals.{in-Some+in_ok-insert, in_default}
+use Rattle.lemmas.proofs.Booleans.{cond_or}
 use Rattle.lemmas.proofs.Steps.{turn}
 
-pub loop-event-preserved : goal.loop-event-preserved
-loop-event-preserved c all os m lists k =
-    let es = map event_of c.args.events.now in
-    let i = c.loop-event.event-index in
-    let e = c.event-item.result in
-    let t = turn event_of c.args.events.now i e c.loop-event-test.true c.event-item.is in
-    let test = is_unlisted all os k in
-    let set = λ (s : BTreeSet Key). contains (slice_cmp nat_cmp) s k in
-    let old = c.loop-event.invariant all os m lists k in
-    let more : list_any test (filter_map written (take (i + 1) es)) ≡ (list_any test (filter_map written (take i es)) || is_some_and test (written (event_of e))) =
-    ap (λ ys. list_any test (filter_map written ys)) t.front ∙ any_written test (take i es) (event_of e) in
-    let here = c.unlisted_key.ensures all os m lists k in
+pub loop-i-preserved : goal.loop-i-preserved
+loop-i-preserved c =
+    let all = map event_of c.args.events.now in
+    let last = get own_eq c.args.tables.now.last in
+    let ps = c.args.places.now in
+    let i = c.loop-i.i in
+    let e = c.index-events-i.result in
+    let t = turn event_of c.args.events.now i e c.loop-i-test.true c.index-events-i.is in
+    let same : length ps ≡ length all = c.requires.same_length ∙ sym (length-map c.args.events.now event_of) in
+    let has = contains (slice_cmp nat_cmp) c.loop-i.keys in
+    let found = c.unlisted_key.ensures.found all c.requires.tell same t.found in
     elim c.match-unlisted_key.branch [
       | in-Some+in_ok-insert w ↦
           let j = w.in-Some.key in
-          let found : key_eq j k ≡ is_some_and test (written (event_of e)) = ap (λ o. is_this o k) (sym w.in-Some.is) ∙ here in
-          ap set w.keys-is ∙
-          (w.in_ok-insert.ensures.updates.0 k ∙
-          (ap (λ b. cond b true (set c.loop-event.keys)) (sym (texts_ties j k)) ∙
-          (cond_or (key_eq j k) (set c.loop-event.keys) ∙
-          (ap (λ b. b || key_eq j k) old ∙
-          (ap (λ b. list_any test (filter_map written (take i es)) || b) found ∙ sym more)))))
+          subst (λ s. AreFound all last ps (i + 1) (contains (slice_cmp nat_cmp) s)) (sym w.keys-is)
+          (found_one all last ps i has c.loop-i.invariant j _ (w.in-Some.ensures.left all c.requires.tell same)
+          (λ k u left. same_Some j k (sym w.in-Some.is ∙ found k u left))
+          (λ k. w.in_ok-insert.ensures.updates.0 k ∙ (ap (λ b. cond b true (has k)) (sym (texts_ties j k)) ∙ cond_or (key_eq j k) (has k))))
       | in_default w ↦
-          let none : is_some_and test (written (event_of e)) ≡ false = sym here ∙ ap (λ o. is_this o k) w.in_default.is in
-          ap set w.keys-is ∙ (old ∙ sym (more ∙ (ap (λ b. list_any test (filter_map written (take i es)) || b) none ∙ or-false _)))
+          subst (λ s. AreFound all last ps (i + 1) (contains (slice_cmp nat_cmp) s)) (sym w.keys-is)
+          (found_none all last ps i has c.loop-i.invariant (λ k u left. none-some k (sym w.in_default.is ∙ found k u left)))
     ]
+
+pub returns : goal.returns
+returns c =
+    let all = map event_of c.args.events.now in
+    record {
+      from = c.loop-i.invariant.from;
+      has = found_all _ _ _ _ all c.requires.tell c.args.places.now c.loop-i.i (contains (slice_cmp nat_cmp) c.loop-i.keys) (rw length-map c.loop-i-test.false) c.loop-i.invariant;
+    }

@@ -1,24 +1,27 @@
-use Rattle.std.proofs.Common.{◌≡◌, ◌==◌, true, false, ◌&&◌, is_some, sym, ap, ◌∙◌}
-use Rattle.std.proofs.Math.Bool.{and-false}
-use Rattle.adya_values.specs.Meaning.Keys.{key_eq}
-use Rattle.adya_values.specs.Meaning.Events.{is_committed}
-use Rattle.adya_terms.specs.Machinery.Checks.{listed, times}
-use Rattle.adya_terms.proofs.Listings.{not_listed}
+use Rattle.std.proofs.Common.{◌≡◌, ◌∙◌, Some, None, not, sym, ap, subst}
+use Rattle.std.specs.HashMap.{get}
+use Rattle.std.proofs.lemmas.Option.{MatchOption-at_none, same_Some}
+use Rattle.adya_values.specs.Meaning.Histories.{Entry, entry_of, event_of}
+use Rattle.adya_terms.specs.Machinery.Tables.{own_eq}
+use Rattle.adya_terms.specs.Machinery.Places.{IsLeft}
+use Rattle.adya_terms.proofs.Places.{writes_it}
 use Rattle.adya_terms.proofs.listed.unlisted_key.Goals as goal
+use Rattle.lemmas.proofs.Options.{none_unless_some}
 
-pub returns-then-contains_key : goal.returns-then-contains_key
-returns-then-contains_key c all os m lists k =
-    let t = c.in-Some.field-0.version.txn in
-    let j = c.in-Some.field-0.version.key in
-    let at : c.contains_key.result ≡ is_some (times (listed os t j)) = c.contains_key.ensures ∙ ap is_some (lists t j) in
-    let zero : (listed os t j == 0) ≡ false = not_listed (listed os t j) c.contains_key.result true at c.if-contains_key.true in
-    rw (sym c.in-Some.ensures) (sym (ap (λ b. is_committed all t && (b && key_eq j k)) zero ∙ and-false (is_committed all t)))
+pub returns-then-is_none-clause-found : goal.returns-then-is_none-clause-found
+returns-then-is_none-clause-found c all m same found k t left =
+    let w = entry_of c.in-Some.field-0 in
+    let x = writes_it _ _ _ _ all m t k c.args.at (event_of c.args.event.now) left.last_is found (Some w) c.in-Some.ensures in
+    let is : w ≡ x.0 = same_Some w x.0 x.1 in
+    let last = get own_eq c.args.tables.now.last in
+    let mine : IsLeft all last c.args.places.now w.version.key w.version.txn c.args.at =
+    subst (λ (y : Entry). IsLeft all last c.args.places.now y.version.key y.version.txn c.args.at) (sym is)
+    (subst (λ j. IsLeft all last c.args.places.now j x.0.version.txn c.args.at) (sym x.3) (subst (λ u. IsLeft all last c.args.places.now k u c.args.at) (sym x.2) left)) in
+    let none : c.unplaced.result ≡ None = none_unless_some c.unplaced.result (c.is_none.ensures ∙ ap not c.if-is_none.true) in
+    absurd (MatchOption-at_none _ _ none (c.unplaced.ensures.left all m same) c.args.at mine)
 
-pub returns : goal.returns
-returns c all os m lists k =
-    let t = c.in-Some.field-0.version.txn in
-    let j = c.in-Some.field-0.version.key in
-    let at : c.contains_key.result ≡ is_some (times (listed os t j)) = c.contains_key.ensures ∙ ap is_some (lists t j) in
-    let zero : (listed os t j == 0) ≡ true = not_listed (listed os t j) c.contains_key.result false at c.if-contains_key.false in
-    let done : is_committed all t ≡ true = sym (m.committed_is t) ∙ (sym c.has_committed.ensures ∙ c.if-not-has_committed.false) in
-    rw (sym c.in-Some.ensures) (sym (ap (λ b. b && ((listed os t j == 0) && key_eq j k)) done ∙ ap (λ b. b && key_eq j k) zero))
+pub returns-clause-found : goal.returns-clause-found
+returns-clause-found c all m same found k t left =
+    let w = entry_of c.in-Some.field-0 in
+    let x = writes_it _ _ _ _ all m t k c.args.at (event_of c.args.event.now) left.last_is found (Some w) c.in-Some.ensures in
+    ap Some (ap (λ (y : Entry). y.version.key) (same_Some w x.0 x.1) ∙ x.3)
