@@ -11,7 +11,6 @@ pub mod FirstAlong
 pub mod FlatMaps
 pub mod Keys
 pub mod LineEdges
-pub mod LinePlaces
 pub mod Lines
 pub mod LinksDecide
 pub mod Numbers

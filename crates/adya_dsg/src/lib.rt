@@ -21,7 +21,6 @@ mod links;
 mod listing;
 mod nodes;
 mod ordering;
-mod places;
 mod selection;
 mod version_orders;
 mod write_edges;

@@ -1,4 +1,4 @@
-//! The version orders of a history, with tables of the places in them.
+//! The version orders of a history, with what changes the matches of scans.
 
 ghost use Rattle.std.specs.Prelude.{◌≡◌, ◌<◌, ◌≤◌, ℕ, suc, Some, slice_get, List, nat_lt, length, map, true, false, IfNone, IfSome, IfOk};
 ghost use Rattle.std.specs.List.{find, list_all};
@@ -8,25 +8,20 @@ ghost use Rattle.adya_values.specs.Meaning.Events.{txn_of, is_committed};
 ghost use Rattle.adya_values.specs.Meaning.Values.{events_in, orders_in};
 ghost use Rattle.adya_values.specs.Meaning.Orders.{writers, place, installer, is_visible_at};
 ghost use Rattle.adya_terms.specs.Meaning.Checked.{checked_history, history_in};
-ghost use Rattle.adya_dsg.specs.Machinery.Places.{HasLines};
 ghost use Rattle.adya_dsg.specs.Machinery.Choices.{key_at};
 ghost use Rattle.adya_dsg.specs.Machinery.Links.{changed_places};
 
 use crate::changes::{line_changes, shows};
-use crate::places::{Slot, line_places};
 use adya_terms::Checked;
 use adya_values::{Event, Key, Order, Txn};
 use std::alloc::{AllocError, Global};
-use std::collections::HashMap;
 
 /// The version orders of a checked history. An order line is named by its index in the list of lines. In a line, place
 /// 0 is that of the unborn version, and the writers come from place 1 on.
 #[derive(Drop)]
 pub(crate) struct VersionOrders<'a> {
     checked: &'a Checked<'a>,
-    places: HashMap<Slot, usize>,
     changes: Vec<Vec<usize>>,
-    ghost placed: { HasLines places (orders_in (history_in checked.now)) },
     ghost changed: { let h = checked_history checked.now in
         map (λ line. line.items) changes.items ≡ map (λ o. changed_places h o.key) h.orders },
 }
@@ -34,17 +29,12 @@ pub(crate) struct VersionOrders<'a> {
 impl<'a> VersionOrders<'a> {
     ghost use Rattle.adya_dsg.specs.Machinery.VersionOrders.{ordered_history, order_lines};
 
-    /// Takes the orders of the history and makes their tables; `AllocError` if memory is refused.
+    /// Takes the orders of the history, and finds what changes the matches; `AllocError` if memory is refused.
     pub fn of(alloc: Global, checked: &'a Checked<'a>) -> Result<VersionOrders<'a>, AllocError>
         ensures same { IfOk result (λ g. history_in g.checked.now ≡ history_in checked.now) }
     {
-        let places = line_places(alloc, checked.history().orders())?;
         let changes = line_changes(alloc, checked)?;
-        Ok(VersionOrders {
-            checked,
-            places,
-            changes,
-        })
+        Ok(VersionOrders { checked, changes })
     }
 
     /// Returns the events of the history.
@@ -87,9 +77,9 @@ impl<'a> VersionOrders<'a> {
         ensures { let h = ordered_history self.now in
             result ≡ suc (place (writers h (key_at h line)) txn) }
     {
-        let len = self.order(line).writers.len();
-        let before = self.places.get(&Slot { line, txn });
-        before.copied().unwrap_or(len) + 1
+        let order = self.order(line);
+        let before = self.checked.place(txn, order.key);
+        before.unwrap_or(order.writers.len()) + 1
     }
 
     /// Returns who installed the version at the place of the line.

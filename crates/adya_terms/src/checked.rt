@@ -1,15 +1,19 @@
 //! Histories that passed their check, and the check itself.
 
-ghost use Rattle.std.specs.Prelude.{◌≡◌, ◌≢◌, ◌^◌, ◌<◌, ℕ, List, [], true, None, Some, map, option_map, is_none, IfOk, IfErr, MatchResult};
+ghost use Rattle.std.specs.Prelude.{◌≡◌, ◌≢◌, ◌^◌, ◌<◌, ℕ, List, [], true, None, Some, length, map, option_map, is_none, IfOk, IfErr, MatchResult};
 ghost use Rattle.std.specs.List.{list_all};
+ghost use Rattle.std.specs.Option.{unwrap_or};
+ghost use Rattle.std.specs.HashMap.{get};
 ghost use Rattle.adya_values.specs.Meaning.Keys.{keys_rise};
 ghost use Rattle.adya_values.specs.Meaning.Histories.{entry_of, event_of, order_of, final_of};
 ghost use Rattle.adya_values.specs.Meaning.Events.{is_committed, last_write};
+ghost use Rattle.adya_values.specs.Meaning.Orders.{writers, place};
 ghost use Rattle.adya_values.specs.Meaning.Values.{history_of};
 ghost use Rattle.adya_values.specs.Computing.Faults.{was_written, first_fault, check_faults};
 ghost use Rattle.adya_values.specs.Meaning.Acceptance.{IsChecked};
 ghost use Rattle.adya_terms.specs.Meaning.Faults.{IsFault};
-ghost use Rattle.adya_terms.specs.Machinery.Tables.{Means};
+ghost use Rattle.adya_terms.specs.Machinery.Tables.{own_eq, Means};
+ghost use Rattle.adya_terms.specs.Machinery.Places.{KnowsPlaces, Places};
 ghost use Rattle.adya_terms.specs.Machinery.Checks.{Names, Holds, whole, rule_faults, read_faults};
 
 use crate::finals::check_finals;
@@ -28,8 +32,10 @@ use std::collections::BTreeSet;
 pub struct Checked<'a> {
     history: &'a History,
     tables: Tables,
+    places: Vec<usize>,
     pub ghost checked: { is_none (first_fault (history_of history.now)) ≡ true },
     pub ghost tell: { let all = (history_of history.now).events in Means tables all all },
+    pub ghost placed: { KnowsPlaces (get own_eq tables.last) places.items (history_of history.now) },
 }
 
 impl<'a> Checked<'a> {
@@ -56,7 +62,11 @@ impl<'a> Checked<'a> {
             history.finals(),
         ) {
             Err(fault) => Err(fault),
-            Ok(tables) => Ok(Checked { history, tables }),
+            Ok((tables, places)) => Ok(Checked {
+                history,
+                tables,
+                places,
+            }),
         }
     }
 
@@ -84,21 +94,37 @@ impl<'a> Checked<'a> {
     {
         self.tables.last_write(self.history.events(), txn, key)
     }
+
+    /// Returns how many writers come before the transaction in the order line of the key; `None` if the line doesn't name
+    /// the transaction, or the key has no line.
+    pub fn place(&self, txn: Txn, key: Key) -> Option<usize>
+        ensures { let ws = writers (checked_history self.now) key in unwrap_or result (length ws) ≡ place ws txn }
+    {
+        let Some(at) = self.tables.last_place(txn, key) else {
+            return None;
+        };
+        match self.places.get(at) {
+            Some(0) => None,
+            Some(place) => Some(*place - 1),
+            None => None,
+        }
+    }
 }
 
-/// Makes the tables of the events, if the lists have no fault.
+/// Makes the tables of the events, and those of the writers' places in the order lines, if the lists have no fault.
 fn check(
     alloc: Global,
     events: &[Event],
     unfinished: &[Txn],
     orders: &[Order],
     finals: &[FinalPair],
-) -> Result<Tables, CheckFault>
+) -> Result<(Tables, Vec<usize>), CheckFault>
     requires orders_rise { keys_rise (map (λ o. o.key) (map order_of orders.now)) ≡ true }
     requires finals_rise { keys_rise (map (λ f. f.key) (map final_of finals.now)) ≡ true }
     ensures faults { let faults = check_faults (whole events.now unfinished.now orders.now finals.now) in
         MatchResult result (λ t. faults ≡ []) (Names faults) }
-    ensures tell { let all = map event_of events.now in IfOk result (λ t. Means t all all) }
+    ensures tell { let all = map event_of events.now in IfOk result (λ t. Means t.0 all all) }
+    ensures places { IfOk result (λ t. Places (get own_eq t.0.last) t.1.items (map order_of orders.now)) }
 {
     let tables = match tables_of(alloc, events) {
         Ok(tables) => tables,
@@ -111,13 +137,14 @@ fn check(
         return Err(fault);
     }
     let orders_line = events.len() + 2 + unfinished.len();
-    if let Err(fault) = check_rules(alloc, &tables, events, &set, orders, finals, orders_line) {
-        return Err(fault);
-    }
+    let places = match check_rules(alloc, &tables, events, &set, orders, finals, orders_line) {
+        Ok(places) => places,
+        Err(fault) => return Err(fault),
+    };
     if let Err(fault) = check_reads(&tables, events, &set) {
         return Err(fault);
     }
-    Ok(tables)
+    Ok((tables, places))
 }
 
 /// Looks for the first aborted read (G1a), and then for the first intermediate read (G1b).
@@ -140,7 +167,7 @@ fn check_reads(
 }
 
 /// Looks for the first fault after the unfinished transactions: a transaction that doesn't end, M7 and M8. The line
-/// of the first order is `line`.
+/// of the first order is `line`. If there is none, returns the places of the writers in the order lines.
 fn check_rules(
     alloc: Global,
     tables: &Tables,
@@ -149,15 +176,16 @@ fn check_rules(
     orders: &[Order],
     finals: &[FinalPair],
     line: usize,
-) -> Result<(), CheckFault>
+) -> Result<Vec<usize>, CheckFault>
     requires near { line < 2 ^ 62 }
     requires tell { Means tables.now (map event_of events.now) (map event_of events.now) }
     requires orders_rise { keys_rise (map (λ o. o.key) (map order_of orders.now)) ≡ true }
     requires finals_rise { keys_rise (map (λ f. f.key) (map final_of finals.now)) ≡ true }
-    ensures { (us : List ℕ)
+    ensures faults { (us : List ℕ)
         → Holds unfinished.now us
         → let faults = rule_faults (whole events.now us orders.now finals.now) line in
         MatchResult result (λ u. faults ≡ []) (Names faults) }
+    ensures places { IfOk result (λ v. Places (get own_eq tables.now.last) v.items (map order_of orders.now)) }
 {
     if !all_end(tables, events, unfinished) {
         return Err(CheckFault::Malformed {
@@ -165,8 +193,12 @@ fn check_rules(
             rule: Rule::M6,
         });
     }
-    if let Err(fault) = check_orders(alloc, tables, events, orders, line) {
-        return Err(fault);
+    let places = match check_orders(alloc, tables, events, orders, line) {
+        Ok(places) => places,
+        Err(fault) => return Err(fault),
+    };
+    match check_finals(tables, events, orders, finals, line + orders.len()) {
+        Ok(()) => Ok(places),
+        Err(fault) => Err(fault),
     }
-    check_finals(tables, events, orders, finals, line + orders.len())
 }

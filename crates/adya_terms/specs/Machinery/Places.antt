@@ -1,12 +1,14 @@
 -- What the array says that the check of the order lines makes: the places of writers in the lines of their keys, from 1
 -- on, each at the index of the writer's last write of the key in the list of events.
-use Rattle.std.specs.Prelude.{◌≡◌, ℕ, suc, ◌<◌, ◌==◌, Bool, true, false, cond, not, List, [], ◌∷◌, ◌++◌, take, Option, Some, slice_get, slice_index, count_by, Contains}
+use Rattle.std.specs.Prelude.{◌≡◌, ℕ, zero, suc, ◌<◌, ◌==◌, Bool, true, false, cond, not, List, [], ◌∷◌, ◌++◌, length, take, Option, Some, None, slice_get, slice_index, count_by, Contains}
 use Rattle.std.specs.List.{list_all}
 use Rattle.std.specs.BTreeSet.{BTreeSet, contains}
 use Rattle.std.specs.Ordering.{nat_cmp}
 use Rattle.std.specs.Cmp.Lexicographic.{slice_cmp}
 use Rattle.adya_terms.specs.declared.tables.Own.{Own}
-use Rattle.adya_values.specs.Meaning.Histories.{Event, Order}
+use Rattle.std.specs.Option.{unwrap_or}
+use Rattle.adya_values.specs.Meaning.Orders.{writers, place}
+use Rattle.adya_values.specs.Meaning.Histories.{Event, Order, History}
 use Rattle.adya_values.specs.Meaning.Rules.{installs}
 use Rattle.adya_values.specs.Computing.Faults.{lists_exactly}
 use Rattle.adya_terms.specs.Machinery.Tables.{own}
@@ -79,3 +81,18 @@ pub record Judges (all : List Event) (os : List Order) (s : BTreeSet (List ℕ))
   pub before : (i : ℕ) (o : Order) → i < n → slice_get os i ≡ Some o
       → lists_exactly (installs all o.key) o.writers all ≡ not (contains (slice_cmp nat_cmp) s o.key)
   pub wrong : (o : Order) → slice_get os n ≡ Some o → lists_exactly (installs all o.key) o.writers all ≡ false
+
+-- one less, if it is a place
+abbrev pub before : Option ℕ → Option ℕ
+before None = None
+before (Some zero) = None
+before (Some (suc i)) = Some i
+
+-- how many writers come before that whose place stands at the index
+abbrev pub placed_at : List ℕ → Option ℕ → Option ℕ
+placed_at ps None = None
+placed_at ps (Some at) = before (slice_get ps at)
+
+-- for each transaction and key the array has how many writers of the key's line come before, if it is one of them
+abbrev pub KnowsPlaces : (Own → Option ℕ) → List ℕ → History → Type 0
+KnowsPlaces last ps h = (t : ℕ) (k : List ℕ) → unwrap_or (placed_at ps (last (own t k))) (length (writers h k)) ≡ place (writers h k) t

@@ -13,7 +13,7 @@ use Rattle.adya_dsg.proofs.LinksDecide.{readers, ends_by_parts, links_are_ends, 
 use Rattle.adya_dsg.proofs.links.links.Goals as goal
 
 -- the arcs are the ends of the links
-are_ends : (c : goal.After-drop-versions-3)
+are_ends : (c : goal.After-drop-versions-2)
     → c.add_event_arcs.new.arcs.items ≡ map ends (links (checked_history c.args.checked.now))
 are_ends c =
     let history = history_in c.args.checked.now in

@@ -14,7 +14,7 @@ use Rattle.adya_dsg.specs.declared.edge.Edge.{Edge as EdgeValue}
 use Rattle.adya_dsg.proofs.DistinctEdges.{copied}
 use Rattle.adya_dsg.proofs.listing.edges.Goals as goal
 
-listed : (c : goal.After-drop-versions-3)
+listed : (c : goal.After-drop-versions-2)
     → map edge_of c.as_slice.result.now ≡ edge_list (checked_history c.args.checked.now)
 listed c =
     let h = ordered_history c.in_ok-versions.versions in

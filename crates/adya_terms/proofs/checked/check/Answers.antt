@@ -32,7 +32,7 @@ returns-in-Err-check_rules-clause-faults c =
     let line : length c.args.events.now + 2 + length c.args.unfinished.now ≡ orders_line h = ap (λ k. k + length h.unfinished) at in
     let fault = c.in-Err-check_rules.fault in
     rules_first h c.in-Ok.ensures.1 ended fault
-    (subst (λ k. Names (rule_faults h k) fault) line (c.in-Err-check_rules.ensures c.args.unfinished.now c.in-Ok-set_of.ensures))
+    (subst (λ k. Names (rule_faults h k) fault) line (c.in-Err-check_rules.ensures.faults c.args.unfinished.now c.in-Ok-set_of.ensures))
 
 pub returns-in-Err-check_reads-clause-faults : goal.returns-in-Err-check_reads-clause-faults
 returns-in-Err-check_reads-clause-faults c =
@@ -41,7 +41,7 @@ returns-in-Err-check_reads-clause-faults c =
     let at : length c.args.events.now + 2 ≡ unfinished_line h = omega (arith, n) in
     let ended = subst (λ k. unfinished_faults h.events k h.unfinished ≡ []) at c.in_default-check_unfinished.ensures in
     let line : length c.args.events.now + 2 + length c.args.unfinished.now ≡ orders_line h = ap (λ k. k + length h.unfinished) at in
-    let rules = subst (λ k. rule_faults h k ≡ []) line (c.in_default-check_rules.ensures c.args.unfinished.now c.in-Ok-set_of.ensures) in
+    let rules = subst (λ k. rule_faults h k ≡ []) line (c.in-Ok-check_rules.ensures.faults c.args.unfinished.now c.in-Ok-set_of.ensures) in
     names_behind (malformed h) (read_faults h) c.in-Err-check_reads.fault (none_malformed h c.in-Ok.ensures.1 ended rules)
     (c.in-Err-check_reads.ensures c.args.unfinished.now c.in-Ok-set_of.ensures)
 
@@ -52,7 +52,7 @@ returns-clause-faults c =
     let at : length c.args.events.now + 2 ≡ unfinished_line h = omega (arith, n) in
     let ended = subst (λ k. unfinished_faults h.events k h.unfinished ≡ []) at c.in_default-check_unfinished.ensures in
     let line : length c.args.events.now + 2 + length c.args.unfinished.now ≡ orders_line h = ap (λ k. k + length h.unfinished) at in
-    let rules = subst (λ k. rule_faults h k ≡ []) line (c.in_default-check_rules.ensures c.args.unfinished.now c.in-Ok-set_of.ensures) in
+    let rules = subst (λ k. rule_faults h k ≡ []) line (c.in-Ok-check_rules.ensures.faults c.args.unfinished.now c.in-Ok-set_of.ensures) in
     both_nil (malformed h) (read_faults h) (none_malformed h c.in-Ok.ensures.1 ended rules)
     (c.in_default-check_reads.ensures c.args.unfinished.now c.in-Ok-set_of.ensures)
 
