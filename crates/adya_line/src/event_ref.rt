@@ -196,12 +196,12 @@ fn key_of(bytes: &[u8]) -> Key
     requires { is_key bytes.now ≡ true }
     ensures { result ≡ bytes.now }
 {
-    Key::new(bytes).unwrap()
+    Key::from_valid(bytes)
 }
 
 pub(crate) fn value_of(bytes: &[u8]) -> Value
     requires { is_value bytes.now ≡ true }
     ensures { value_of result ≡ bytes.now }
 {
-    Value::new(bytes).unwrap()
+    Value::from_valid(bytes)
 }

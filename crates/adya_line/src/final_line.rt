@@ -18,7 +18,7 @@ pub fn final_pair(line: &[u8]) -> Option<FinalPair>
         return None;
     }
     Some(FinalPair {
-        key: Key::new(key).ok()?,
-        value: Value::new(value).ok()?,
+        key: Key::from_valid(key),
+        value: Value::from_valid(value),
     })
 }

@@ -71,9 +71,7 @@ pub fn order(alloc: Global, line: &[u8]) -> Result<Option<Order>, AllocError>
     let Some((key, rest)) = key_between(b'[', b':', line) else {
         return Ok(None);
     };
-    let Ok(key) = Key::new(key) else {
-        return Ok(None);
-    };
+    let key = Key::from_valid(key);
     let mut cursor = Cursor { rest };
     let Some(writers) = cursor.writers(alloc)? else {
         return Ok(None);
