@@ -150,6 +150,8 @@ pub fn read_event(line: &[u8]) -> Option<EventRef<'_>>
 /// Reads the line of an event into an event of its own. Returns `None` if [`read_event`] does, and `AllocError` if there
 /// is no memory for a scan's entries.
 #[tactic(auto, unfolding(crate::specs::Computing::Reading::event_at))]
+// Not inlined: a caller pays at its entry for all locals of what is inlined into it.
+#[inline(never)]
 pub fn event(alloc: Global, line: &[u8]) -> Result<Option<Event>, AllocError>
     ensures { IfOk result (λ r. Gives event_of r (event_at line.now)) }
 {
