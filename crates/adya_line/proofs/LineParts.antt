@@ -18,7 +18,7 @@ use Rattle.adya_values.specs.declared.event.Version.{Version}
 use Rattle.adya_values.specs.Meaning.Keys.{is_text, is_key, is_key_byte, IsTxn, IsMod}
 use Rattle.adya_line.specs.Meaning.Spelling.{version_text}
 use Rattle.adya_line.specs.Meaning.Limits.{IsVersion}
-use Rattle.adya_line.specs.Computing.Reading.{◌>>=◌, after, text_at, txn_at, mod_at, version_at, txn_at_line, none_or}
+use Rattle.adya_line.specs.Computing.Reading.{Gives, ◌>>=◌, after, text_at, txn_at, mod_at, version_at, txn_at_line, none_or}
 use Rattle.adya_line.specs.Computing.Reading.{key_between}
 use Rattle.adya_line.proofs.Digits.{model, front_passes, digits_front, list_all-is, positive_front}
 
@@ -115,6 +115,11 @@ txn_takes bytes =
       rw (number_spelled bytes some nonzero fits) (sym (take-append-drop (prefix_len is_ascii_digit bytes) bytes)),
       (positive_front bytes some nonzero fits, fits),
     ))
+
+pub txn_good : {R : Type 0} (view : R → ℕ × List ℕ) (bytes : List ℕ) (r : Option R) → Gives view r (txn_at bytes)
+    → IfSome r (λ x. IsTxn (view x).0)
+txn_good view bytes (Some x) is = let h = (txn_takes bytes).holds in let g = rw is at h in g.1
+txn_good view bytes None is = tt
 
 pub txn_again : (v : ℕ) (rest : List ℕ) → IsTxn v → is_ascii_digit (get_or rest 0 0) ≡ false
     → txn_at (decimal v ++ rest) ≡ Some (v, rest)

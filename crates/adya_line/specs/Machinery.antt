@@ -1,2 +1,3 @@
 -- What only this crate's loops and tables need.
 pub mod Fronts
+pub mod Numbers

@@ -1,13 +1,14 @@
 //! The lines of events.
 
-ghost use Rattle.std.specs.Prelude.{◌≡◌, IfSome, IfOk, MatchOption};
+ghost use Rattle.std.specs.Prelude.{◌≡◌, None, IfSome, IfOk, MatchOption};
 ghost use Rattle.adya_values.specs.Meaning.Histories.{Event as Plain, event_of};
 ghost use Rattle.adya_line.specs.Computing.Reading.{Gives, write_at, delete_at, read_at, scan_at, event_at};
+ghost use Rattle.adya_line.specs.Machinery.Fronts.{scan_after};
 ghost use Rattle.adya_line.specs.Meaning.Spelling.{event_text};
 ghost use Rattle.adya_line.specs.Meaning.Limits.{IsEvent};
 ghost use Rattle.adya_line.specs.Meaning.Views.{view};
 
-use crate::entries::after_entries;
+use crate::entries::{after_entries, read_entries};
 use crate::event_ref::{DeleteRef, EndRef, EventRef, ReadRef, ScanRef, WriteRef};
 use crate::fields::{after, key_at, txn_at, value_at, version_at};
 use crate::txn_line::txn_at_line;
@@ -67,26 +68,53 @@ fn read_at(bytes: &[u8]) -> Option<EventRef<'_>>
     }))
 }
 
-/// Reads a scan after its letter.
+/// Reads a scan's transaction and range after its letter. Its entries and its end are still to be looked at.
 #[tactic(auto, unfolding(crate::specs::Computing::Reading::scan_at))]
-fn scan_at(bytes: &[u8]) -> Option<EventRef<'_>>
-    ensures { Gives view result (scan_at bytes.now) }
+fn scan_front(bytes: &[u8]) -> Option<ScanRef<'_>>
+    ensures { MatchOption result (scan_at bytes.now ≡ None) (λ s.
+        scan_at bytes.now ≡ scan_after s.txn s.lo.now s.hi.now s.listed.now) }
 {
     let (txn, rest) = txn_at(bytes)?;
     let rest = after(b'(', rest)?;
     let (lo, rest) = key_at(rest)?;
     let rest = after(b',', rest)?;
     let (hi, listed) = key_at(rest)?;
-    let rest = after(b')', after_entries(listed))?;
-    if !rest.is_empty() {
-        return None;
-    }
-    Some(EventRef::Scan(ScanRef {
+    Some(ScanRef {
         txn,
         lo,
         hi,
         listed,
-    }))
+    })
+}
+
+/// Reads a scan after its letter.
+fn scan_at(bytes: &[u8]) -> Option<EventRef<'_>>
+    ensures { Gives view result (scan_at bytes.now) }
+{
+    let scan = scan_front(bytes)?;
+    let rest = after(b')', after_entries(scan.listed))?;
+    if !rest.is_empty() {
+        return None;
+    }
+    Some(EventRef::Scan(scan))
+}
+
+/// Reads a scan after its letter into an event of its own, and each of its entries once.
+fn scan(alloc: Global, bytes: &[u8]) -> Result<Option<Event>, AllocError>
+    ensures { IfOk result (λ r. Gives event_of r (scan_at bytes.now)) }
+{
+    let Some(front) = scan_front(bytes) else {
+        return Ok(None);
+    };
+    let mut entries = Vec::new(alloc);
+    let rest = read_entries(front.listed, &mut entries)?;
+    let Some(rest) = after(b')', rest) else {
+        return Ok(None);
+    };
+    if !rest.is_empty() {
+        return Ok(None);
+    }
+    Ok(Some(front.with_entries(entries)))
 }
 
 #[tactic(auto, unfolding(crate::specs::Computing::Reading::event_at))]
@@ -121,9 +149,15 @@ pub fn read_event(line: &[u8]) -> Option<EventRef<'_>>
 
 /// Reads the line of an event into an event of its own. Returns `None` if [`read_event`] does, and `AllocError` if there
 /// is no memory for a scan's entries.
+#[tactic(auto, unfolding(crate::specs::Computing::Reading::event_at))]
+// Not inlined: a caller pays at its entry for all locals of what is inlined into it.
+#[inline(never)]
 pub fn event(alloc: Global, line: &[u8]) -> Result<Option<Event>, AllocError>
     ensures { IfOk result (λ r. Gives event_of r (event_at line.now)) }
 {
+    if let [b's', rest @ ..] = line {
+        return scan(alloc, rest);
+    }
     let Some(found) = read_event(line) else {
         return Ok(None);
     };

@@ -134,12 +134,7 @@ impl<'a> EventRef<'a> {
                 version: r.version.version(),
                 value: value_of(r.value),
             },
-            EventRef::Scan(s) => Event::Scan {
-                txn: txn_of(s.txn),
-                lo: key_of(s.lo),
-                hi: key_of(s.hi),
-                entries: s.to_entries(alloc)?,
-            },
+            EventRef::Scan(s) => s.with_entries(s.to_entries(alloc)?),
             EventRef::Commit(e) => Event::Commit { txn: txn_of(e.txn) },
             EventRef::Abort(e) => Event::Abort { txn: txn_of(e.txn) },
         })
@@ -148,7 +143,7 @@ impl<'a> EventRef<'a> {
 
 impl<'a> ScanRef<'a> {
     ghost use Rattle.std.specs.Prelude.{map, IfOk};
-    ghost use Rattle.adya_values.specs.Meaning.Histories.{entry_of};
+    ghost use Rattle.adya_values.specs.Meaning.Histories.{Scan, entry_of, event_of};
     ghost use Rattle.adya_line.specs.Computing.Reading.{entries_of};
     ghost use Rattle.adya_line.specs.Meaning.Views.{entries_left};
 
@@ -157,6 +152,18 @@ impl<'a> ScanRef<'a> {
         ensures { entries_left result ≡ entries_of self.now.listed.now }
     {
         Entries::new(self.listed)
+    }
+
+    /// Returns the scan by itself, with these entries.
+    pub(crate) fn with_entries(&self, entries: Vec<Entry>) -> Event
+        ensures { event_of result ≡ Scan self.now.txn self.now.lo.now self.now.hi.now (map entry_of entries.items) }
+    {
+        Event::Scan {
+            txn: txn_of(self.txn),
+            lo: key_of(self.lo),
+            hi: key_of(self.hi),
+            entries,
+        }
     }
 
     fn to_entries(&self, alloc: Global) -> Result<Vec<Entry>, AllocError>
@@ -196,12 +203,12 @@ fn key_of(bytes: &[u8]) -> Key
     requires { is_key bytes.now ≡ true }
     ensures { result ≡ bytes.now }
 {
-    Key::new(bytes).unwrap()
+    Key::from_valid(bytes)
 }
 
 pub(crate) fn value_of(bytes: &[u8]) -> Value
     requires { is_value bytes.now ≡ true }
     ensures { value_of result ≡ bytes.now }
 {
-    Value::new(bytes).unwrap()
+    Value::from_valid(bytes)
 }

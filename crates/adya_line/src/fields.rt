@@ -1,17 +1,14 @@
 //! The parts of a line.
 
-ghost use Rattle.std.specs.Prelude.{◌≡◌, ◌<◌, ◌≤◌, ◌^◌, length, true, IfSome, SomeIff};
+ghost use Rattle.std.specs.Prelude.{◌≡◌, ◌<◌, ◌≤◌, length, true, IfSome};
 ghost use Rattle.std.specs.List.{prefix_len};
-ghost use Rattle.std.specs.Char.{is_ascii_digit};
-ghost use Rattle.std.specs.Str.{all_ascii_digits};
-ghost use Rattle.std.specs.Str.Parse.{digits_value};
 ghost use Rattle.adya_values.specs.Meaning.Keys.{is_key, is_value, is_key_byte, is_value_byte, IsTxn, IsMod};
 ghost use Rattle.adya_line.specs.Computing.Reading.{Gives, after, text_at, txn_at, mod_at, version_at, key_between};
+ghost use Rattle.adya_line.specs.Machinery.Numbers.{digit_at, number_from};
 ghost use Rattle.adya_line.specs.Meaning.Views.{view_version};
 
 use crate::event_ref::VersionRef;
 use adya_values::{MAX_KEY_LEN, MAX_VALUE_LEN, is_key_byte, is_value_byte};
-use std::str;
 
 /// Returns what follows the byte, if it stands at the front.
 #[tactic(auto, unfolding(crate::specs::Computing::Reading::after))]
@@ -36,13 +33,6 @@ fn value_len(bytes: &[u8]) -> usize
     ensures within { result ≤ length bytes.now }
 {
     bytes.iter().take_while(|b| is_value_byte(**b)).count()
-}
-
-fn digits_len(bytes: &[u8]) -> usize
-    ensures value { result ≡ prefix_len is_ascii_digit bytes.now }
-    ensures within { result ≤ length bytes.now }
-{
-    bytes.iter().take_while(|b| b.is_ascii_digit()).count()
 }
 
 /// Reads the key at the front; returns it and what follows.
@@ -72,26 +62,48 @@ pub(crate) fn value_at(bytes: &[u8]) -> Option<(&[u8], &[u8])>
 }
 
 /// Reads the number at the front, which is not 0 and has no leading zero; returns it and what follows.
-#[tactic(auto, using(crate::proofs::Digits::digits_front), unfolding(crate::specs::Computing::Reading::txn_at))]
+// Not inlined: its loop would carry what else is read of the line.
+#[inline(never)]
+#[tactic(auto, unfolding(crate::specs::Computing::Reading::txn_at))]
 pub(crate) fn txn_at(bytes: &[u8]) -> Option<(u32, &[u8])>
     ensures exact { Gives (λ x. (x.0, x.1.now)) result (txn_at bytes.now) }
     ensures good { IfSome result (λ x. IsTxn x.0) }
 {
-    let len = digits_len(bytes);
-    if len == 0 || bytes[0] == b'0' {
+    let (first, rest) = digit_at(bytes)?;
+    let leads_with_zero = first == 0;
+    if leads_with_zero {
         return None;
     }
-    let (digits, rest) = bytes.split_at(len);
-    Some((value_of(digits)?, rest))
+    number_from(u32::from(first), rest)
 }
 
-/// Returns the number of these digits, if it fits.
-fn value_of(digits: &[u8]) -> Option<u32>
-    requires digits { all_ascii_digits digits.now ≡ true }
-    requires some { 0 < length digits.now }
-    ensures { SomeIff result (digits_value 10 digits.now < 2 ^ 32) (digits_value 10 digits.now) }
+/// Reads the digit at the front; returns its value and what follows.
+#[tactic(auto, unfolding(crate::specs::Machinery::Numbers::digit_at))]
+fn digit_at(bytes: &[u8]) -> Option<(u8, &[u8])>
+    ensures exact { Gives (λ x. (x.0, x.1.now)) result (digit_at bytes.now) }
+    ensures small { IfSome result (λ x. x.0 < 10) }
 {
-    str::from_utf8(digits).ok()?.parse().ok()
+    match bytes {
+        [digit, rest @ ..] if digit.is_ascii_digit() => Some((*digit - b'0', rest)),
+        _ => None,
+    }
+}
+
+/// Reads the digits at the front after those of `start`; returns the number of both, if it fits, and what follows.
+fn number_from(start: u32, bytes: &[u8]) -> Option<(u32, &[u8])>
+    ensures { Gives (λ x. (x.0, x.1.now)) result (number_from start bytes.now) }
+{
+    let mut number = start;
+    let mut rest = bytes;
+    'digits: while let Some((digit, left)) = digit_at(rest) {
+        let longer = u64::from(number) * 10 + u64::from(digit);
+        if longer > 4_294_967_295 {
+            return None;
+        }
+        number = longer as u32;
+        rest = left;
+    }
+    Some((number, rest))
 }
 
 /// Reads the number of a modification at the front; returns it and what follows.

@@ -8,6 +8,8 @@ use adya_values::{FinalPair, Key, Value};
 
 /// Reads the line of a final, without its line feed: `{K,V}`. Returns `None` for every other text.
 #[tactic(auto, unfolding(crate::specs::Computing::Reading::final_at))]
+// Not inlined: a caller pays at its entry for all locals of what is inlined into it.
+#[inline(never)]
 pub fn final_pair(line: &[u8]) -> Option<FinalPair>
     ensures { Gives final_of result (final_at line.now) }
 {
@@ -18,7 +20,7 @@ pub fn final_pair(line: &[u8]) -> Option<FinalPair>
         return None;
     }
     Some(FinalPair {
-        key: Key::new(key).ok()?,
-        value: Value::new(value).ok()?,
+        key: Key::from_valid(key),
+        value: Value::from_valid(value),
     })
 }

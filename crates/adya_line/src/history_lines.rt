@@ -30,6 +30,8 @@ pub enum HistoryLine {
 
 /// Reads a line of a history text, without its line feed. Returns `None` if the text is that of no line, and
 /// `AllocError` if there is no memory for a list of entries or of writers.
+// Not inlined: a caller pays at its entry for all locals of what is inlined into it.
+#[inline(never)]
 pub fn history_line(alloc: Global, text: &[u8]) -> Result<Option<HistoryLine>, AllocError>
     ensures { IfOk result (λ o. MatchOption o (IsNoLine text.now) (λ x. IsOnlyLineOf (line_of x) text.now)) }
 {

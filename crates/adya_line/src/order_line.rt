@@ -65,15 +65,15 @@ impl Cursor<'_> {
 /// Reads the line of an order, without its line feed: `[K:T<<T<<..]`, with at least one writer. Returns `None` for every
 /// other text, and `AllocError` if there is no memory for the writers.
 #[tactic(auto, unfolding(crate::specs::Computing::Reading::order_at))]
+// Not inlined: a caller pays at its entry for all locals of what is inlined into it.
+#[inline(never)]
 pub fn order(alloc: Global, line: &[u8]) -> Result<Option<Order>, AllocError>
     ensures { IfOk result (λ r. Gives order_of r (order_at line.now)) }
 {
     let Some((key, rest)) = key_between(b'[', b':', line) else {
         return Ok(None);
     };
-    let Ok(key) = Key::new(key) else {
-        return Ok(None);
-    };
+    let key = Key::from_valid(key);
     let mut cursor = Cursor { rest };
     let Some(writers) = cursor.writers(alloc)? else {
         return Ok(None);

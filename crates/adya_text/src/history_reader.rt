@@ -1,11 +1,11 @@
 //! A reader of history texts, line by line.
 
-ghost use Rattle.std.specs.Prelude.{◌≡◌, ◌<◌, ◌↔◌, ◌+◌, ◌^◌, ◌++◌, ◌∷◌, [], List, length, true, ℕ, IsTrue, IfOk, OnOk, OnErr, IsErr};
+ghost use Rattle.std.specs.Prelude.{◌≡◌, ◌<◌, ◌↔◌, ◌+◌, ◌^◌, ◌++◌, ◌∷◌, [], List, length, true, false, ℕ, IsTrue, IfOk, OnOk, OnErr, IsErr};
 ghost use Rattle.std.specs.Prelude.{MatchOption, IsOk, map};
 ghost use Rattle.std.specs.Bool.{OnTrue, OnFalse};
 ghost use Rattle.adya_values.specs.Computing.Shapes.{fits_edition, is_shape};
 ghost use Rattle.adya_values.specs.Meaning.Histories.{order_of, final_of};
-ghost use Rattle.adya_line.specs.Meaning.HistoryLines.{line_of};
+ghost use Rattle.adya_line.specs.Meaning.HistoryLines.{Line, line_of};
 ghost use Rattle.adya_text.specs.Computing.HistoryRuns.{allows, edition_at, stage_after};
 ghost use Rattle.adya_text.specs.Meaning.Texts.{AreHistoryLines};
 ghost use Rattle.adya_text.specs.Meaning.Faults.{Begins, HasFront, IsCut};
@@ -16,8 +16,8 @@ ghost use Rattle.adya_text.specs.Machinery.LongLines.{IsLonger, HasStart, Starts
 
 use crate::line_reader::LineReader;
 use crate::read_fault::{ReadFault, Text};
-use adya_line::laws::history_lines;
-use adya_line::{HistoryLine, history_line};
+use adya_line::laws::{event_lines, history_lines};
+use adya_line::{HistoryLine, event, history_line};
 use adya_values::{BadShape, Edition, Event, FinalPair, History, Key, Order, Txn};
 use std::alloc::{AllocError, Global};
 
@@ -200,6 +200,25 @@ impl HistoryReader {
         Ok(Some(read))
     }
 
+    /// Takes the line if it is that of an event, as most are, and may come next. Returns whether it did.
+    fn take_event(&mut self, line: &[u8]) -> Result<bool, AllocError>
+        ensures taken { IfOk result (λ b. b ≡ true
+            → (x : Line) × IsAllowed self.old.stage line.now x × Takes self.old self.new x) }
+        ensures left { IfOk result (λ b. b ≡ false → self.new ≡ self.old) }
+    {
+        event_lines();
+        let Stage::Events { .. } = self.stage else {
+            return Ok(false);
+        };
+        let Some(event) = event(self.alloc, line)? else {
+            return Ok(false);
+        };
+        self.events.push(event)?;
+        Ok(true)
+    }
+
+    // Not inlined: a caller pays at its entry for all locals of what is inlined into it.
+    #[inline(never)]
     fn take(&mut self, line: HistoryLine) -> Result<(), AllocError>
         ensures { OnOk result (Takes self.old self.new (line_of line)) }
     {
@@ -239,6 +258,9 @@ impl LineReader for HistoryReader {
     fn line(&mut self, line: &[u8]) -> Result<(), AllocError> {
         history_lines();
         if self.stage.has_failed() {
+            return Ok(());
+        }
+        if self.take_event(line)? {
             return Ok(());
         }
         match self.allowed(line)? {

@@ -36,10 +36,18 @@ impl Value {
         if !is_value(text) {
             return Err(BadValue);
         }
-        Ok(Value {
+        Ok(Value::from_valid(text))
+    }
+
+    /// Makes a value of these bytes, which form one, without a second look at them.
+    pub fn from_valid(text: &[u8]) -> Value
+        requires { is_value text.now ≡ true }
+        ensures { value_of result ≡ text.now }
+    {
+        Value {
             bytes: padded(text),
             len: text.len() as u8,
-        })
+        }
     }
 
     /// Returns the bytes of the value.
