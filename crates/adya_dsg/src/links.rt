@@ -4,7 +4,7 @@ ghost use Rattle.std.specs.Prelude.{◌≡◌, ◌++◌, IfOk, OnOk, map, filter
 ghost use Rattle.adya_values.specs.Meaning.Histories.{order_of};
 ghost use Rattle.adya_values.specs.Meaning.Events.{txn_of, is_committed};
 ghost use Rattle.adya_values.specs.Computing.EdgeList.{edge_list};
-ghost use Rattle.adya_terms.specs.Meaning.Checked.{checked_history};
+ghost use Rattle.adya_values.specs.Meaning.Acceptance.{IsChecked};
 ghost use Rattle.adya_dsg.specs.Machinery.VersionOrders.{ordered_history};
 ghost use Rattle.adya_dsg.specs.Meaning.Values.{edge_of};
 ghost use Rattle.adya_dsg.specs.Machinery.Arcs.{AreEnds, Decide, ends};
@@ -16,23 +16,22 @@ use crate::event_links::push_event_links;
 use crate::version_orders::VersionOrders;
 use crate::write_edges::push_write_edges;
 use adya_laws::{edge_list_keeps_first, selected_is_installed};
-use adya_terms::Checked;
 use adya_values::Order;
 use digraph::Arc;
 use std::alloc::{AllocError, Global};
 
 /// Returns the arcs of the links, which decide for each order of the transactions whether all edges go forward in it;
 /// `AllocError` if memory is refused.
-pub(crate) fn links(alloc: Global, checked: &Checked) -> Result<Vec<Arc>, AllocError>
-    ensures sound { IfOk result (λ v. AreEnds (edge_list (checked_history checked.now)) v.items) }
-    ensures enough { IfOk result (λ v. Decide (edge_list (checked_history checked.now)) v.items) }
+pub(crate) fn links(alloc: Global, versions: &VersionOrders) -> Result<Vec<Arc>, AllocError>
+    requires { IsChecked (ordered_history versions.now) }
+    ensures sound { IfOk result (λ v. AreEnds (edge_list (ordered_history versions.now)) v.items) }
+    ensures enough { IfOk result (λ v. Decide (edge_list (ordered_history versions.now)) v.items) }
 {
     edge_list_keeps_first();
     selected_is_installed();
     let mut arcs = Vec::new(alloc);
-    add_write_arcs(alloc, checked.history().orders(), &mut arcs)?;
-    let versions = VersionOrders::of(alloc, checked)?;
-    add_event_arcs(alloc, &versions, &mut arcs)?;
+    add_write_arcs(alloc, versions.orders(), &mut arcs)?;
+    add_event_arcs(alloc, versions, &mut arcs)?;
     Ok(arcs)
 }
 

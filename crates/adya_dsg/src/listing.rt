@@ -36,9 +36,16 @@ pub fn edges(alloc: Global, checked: &Checked) -> Result<Vec<Edge>, AllocError>
     edge_list_is_exact();
     edge_list_is_distinct();
     let versions = VersionOrders::of(alloc, checked)?;
+    edges_of(alloc, &versions)
+}
+
+/// Returns the edges of the history with these version orders, as [`edges`] does.
+pub(crate) fn edges_of(alloc: Global, versions: &VersionOrders) -> Result<Vec<Edge>, AllocError>
+    ensures { IfOk result (λ v. map edge_of v.items ≡ edge_list (ordered_history versions.now)) }
+{
     let mut set = IndexSet::new(alloc);
-    add_write_edges(alloc, &versions, &mut set)?;
-    add_event_edges(alloc, &versions, &mut set)?;
+    add_write_edges(alloc, versions, &mut set)?;
+    add_event_edges(alloc, versions, &mut set)?;
     Vec::from_slice(alloc, set.as_slice())
 }
 

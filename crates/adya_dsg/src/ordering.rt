@@ -7,16 +7,19 @@ ghost use Rattle.adya_values.specs.Meaning.Phenomena.{HasG1, HasG2};
 ghost use Rattle.adya_terms.specs.Meaning.Checked.{checked_history};
 ghost use Rattle.adya_dsg.specs.Machinery.Arcs.{ends};
 ghost use Rattle.adya_dsg.specs.Meaning.Values.{edge_of};
+ghost use Rattle.adya_dsg.specs.Machinery.VersionOrders.{ordered_history};
 ghost use Rattle.adya_dsg.specs.Machinery.Nodes.{committed};
 ghost use Rattle.adya_dsg.specs.Meaning.Found.{IsFound, NoneBesideCycle, HasCertificate};
 
+use crate::Found;
 use crate::along::edges_along;
 use crate::laws::{
     certified_where_no_phenomenon, cycle_excludes_certificates, edges_join_committed,
 };
 use crate::links::{add_arcs, links};
+use crate::listing::edges_of;
 use crate::nodes::{committed, serial_of};
-use crate::{Found, edges};
+use crate::version_orders::VersionOrders;
 use adya_laws::edge_list_is_exact;
 use adya_terms::Checked;
 use digraph::{Outcome, topological_order};
@@ -37,34 +40,35 @@ pub fn order(alloc: Global, checked: &Checked) -> Result<Found, AllocError>
     certified_where_no_phenomenon();
     cycle_excludes_certificates();
     let nodes = committed(alloc, checked.history().events())?;
-    by_links(alloc, checked, &nodes)
+    let versions = VersionOrders::of(alloc, checked)?;
+    by_links(alloc, &versions, &nodes)
 }
 
 // By the links, which are few. If they have a cycle, by all edges.
-fn by_links(alloc: Global, checked: &Checked, nodes: &[u32]) -> Result<Found, AllocError>
-    requires checked { IsChecked (checked_history checked.now) }
-    requires nodes { nodes.now ≡ committed (checked_history checked.now).events }
+fn by_links(alloc: Global, versions: &VersionOrders, nodes: &[u32]) -> Result<Found, AllocError>
+    requires checked { IsChecked (ordered_history versions.now) }
+    requires nodes { nodes.now ≡ committed (ordered_history versions.now).events }
     requires numbers { All IsTxn nodes.now }
-    ensures { IfOk result (IsFound (checked_history checked.now)) }
+    ensures { IfOk result (IsFound (ordered_history versions.now)) }
 {
     edge_list_is_exact();
     edges_join_committed();
-    match topological_order(alloc, nodes, links(alloc, checked)?)? {
+    match topological_order(alloc, nodes, links(alloc, versions)?)? {
         Outcome::Order(order) => Ok(Found::Serial(serial_of(alloc, &order)?)),
-        Outcome::Cycle(_) => by_edges(alloc, checked, nodes),
+        Outcome::Cycle(_) => by_edges(alloc, versions, nodes),
     }
 }
 
 // By all edges.
-fn by_edges(alloc: Global, checked: &Checked, nodes: &[u32]) -> Result<Found, AllocError>
-    requires checked { IsChecked (checked_history checked.now) }
-    requires nodes { nodes.now ≡ committed (checked_history checked.now).events }
+fn by_edges(alloc: Global, versions: &VersionOrders, nodes: &[u32]) -> Result<Found, AllocError>
+    requires checked { IsChecked (ordered_history versions.now) }
+    requires nodes { nodes.now ≡ committed (ordered_history versions.now).events }
     requires numbers { All IsTxn nodes.now }
-    ensures { IfOk result (IsFound (checked_history checked.now)) }
+    ensures { IfOk result (IsFound (ordered_history versions.now)) }
 {
     edge_list_is_exact();
     edges_join_committed();
-    let edges = edges(alloc, checked)?;
+    let edges = edges_of(alloc, versions)?;
     let mut arcs = Vec::with_capacity(alloc, edges.len())?;
     add_arcs(&mut arcs, &edges)?;
     match topological_order(alloc, nodes, arcs)? {

@@ -1,6 +1,6 @@
 //! What the events so far say of transactions, of their keys and of versions.
 
-ghost use Rattle.std.specs.Prelude.{◌≡◌, ◌||◌, ◌&&◌, is_some, ◌++◌, [], ◌∷◌, List, true, Some, cond, map, nat_eq, option_map, slice_get, IfOk};
+ghost use Rattle.std.specs.Prelude.{◌≡◌, ◌||◌, is_some, ◌++◌, [], ◌∷◌, List, true, Some, cond, map, nat_eq, option_map, slice_get, IfOk};
 ghost use Rattle.std.specs.HashMap.{get};
 ghost use Rattle.txn_table.specs.Meaning.{value_for};
 ghost use Rattle.adya_values.specs.Meaning.Histories.{Event as EventValue, entry_of, event_of};
@@ -138,14 +138,6 @@ impl Tables {
         ensures { result ≡ get own_eq self.now.last (own txn key) }
     {
         self.last.get(&Own { txn, key }).copied()
-    }
-
-    /// Returns whether the transaction is committed and wrote the key.
-    pub fn installs(&self, txn: Txn, key: Key) -> bool
-        ensures { result
-            ≡ ((value_for self.now.ended txn).committed && is_some (get own_eq self.now.last (own txn key))) }
-    {
-        self.has_committed(txn) && self.last.contains_key(&Own { txn, key })
     }
 
     /// Returns whether a later write of the same transaction replaced the version.

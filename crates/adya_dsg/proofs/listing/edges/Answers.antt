@@ -1,46 +1,38 @@
-use Rattle.std.proofs.Common.{◌≡◌, ◌≢◌, List, [], map, filter, flat_map, fold, refl, ap, sym, ◌∙◌}
+use Rattle.std.proofs.Common.{◌≡◌, ◌≢◌, List, Vec, Global, Result, Ok, Err, IfOk, map, sym, ap, subst}
 use Rattle.std.specs.List.{AllPairs}
-use Rattle.std.proofs.lemmas.List.Sums.{fold-append}
 use Rattle.adya_values.specs.declared.history.History.{History as HistoryValue}
-use Rattle.adya_values.specs.Meaning.Histories.{Order, Event}
 use Rattle.adya_values.specs.Meaning.Values.{history_of}
-use Rattle.adya_values.specs.Meaning.Events.{txn_of, is_committed}
 use Rattle.adya_values.specs.Meaning.Edges.{Edge}
-use Rattle.adya_values.specs.Computing.EdgeList.{with_edge, write_edges, event_edges, edge_list}
+use Rattle.adya_values.specs.Computing.EdgeList.{edge_list}
 use Rattle.adya_terms.specs.Meaning.Checked.{checked_history}
 use Rattle.adya_dsg.specs.Machinery.VersionOrders.{ordered_history}
 use Rattle.adya_dsg.specs.Meaning.Values.{edge_of, AreEdges}
 use Rattle.adya_dsg.specs.declared.edge.Edge.{Edge as EdgeValue}
-use Rattle.adya_dsg.proofs.DistinctEdges.{copied}
 use Rattle.adya_dsg.proofs.listing.edges.Goals as goal
 
-listed : (c : goal.After-drop-versions-2)
-    → map edge_of c.as_slice.result.now ≡ edge_list (checked_history c.args.checked.now)
-listed c =
-    let h = ordered_history c.in_ok-versions.versions in
-    let writes = flat_map (λ (o : Order). write_edges h o.key) h.orders in
-    let events = flat_map (event_edges h) (filter (λ (e : Event). is_committed h.events (txn_of e)) h.events) in
-    ap (λ (zs : List EdgeValue). map edge_of zs) c.as_slice.ensures.keys ∙
-    (c.in_ok-add_event_edges.ensures ∙
-    (ap (λ (zs : List Edge). fold with_edge zs events)
-    (c.in_ok-add_write_edges.ensures ∙
-    ap (λ (zs : List EdgeValue). fold with_edge (map edge_of zs) writes) c.new-set.ensures.empty) ∙
-    (sym (fold-append with_edge [] writes events) ∙
-    ap (λ (g : HistoryValue). edge_list (history_of g)) c.in_ok-versions.ensures.same)))
+-- what holds of the list holds of the edges
+held : {E : Type 0} (r : Result (Vec EdgeValue Global) E) (all : List Edge) (holds : List Edge → Type 0)
+    → IfOk r (λ v. map edge_of v.items ≡ all) → holds all → IfOk r (λ v. holds (map edge_of v.items))
+held (Ok v) all holds same it = subst holds (sym same) it
+held (Err e) all holds same it = tt
+
+-- the version orders are those of the history
+same_list : (c : goal.After-drop-versions) → edge_list (ordered_history c.in_ok-versions.versions) ≡ edge_list (checked_history c.args.checked.now)
+same_list c = ap (λ (g : HistoryValue). edge_list (history_of g)) c.in_ok-versions.ensures.same
 
 pub returns-clause-exact : goal.returns-clause-exact
 returns-clause-exact c =
-    let all = edge_list (checked_history c.args.checked.now) in
-    copied c.from_slice.result c.as_slice.result.now all (λ es. es ≡ all) c.from_slice.ensures.items (listed c) refl
+    held c.edges_of.result (edge_list (ordered_history c.in_ok-versions.versions)) (λ es. es ≡ edge_list (checked_history c.args.checked.now))
+    c.edges_of.ensures (same_list c)
 
 pub returns-clause-edges : goal.returns-clause-edges
 returns-clause-edges c =
     let h = checked_history c.args.checked.now in
-    copied c.from_slice.result c.as_slice.result.now (edge_list h) (AreEdges h) c.from_slice.ensures.items (listed c)
-    (c.edge_list_is_exact.ensures h)
+    held c.edges_of.result (edge_list (ordered_history c.in_ok-versions.versions)) (AreEdges h)
+    c.edges_of.ensures (subst (AreEdges h) (sym (same_list c)) (c.edge_list_is_exact.ensures h))
 
 pub returns-clause-once : goal.returns-clause-once
 returns-clause-once c =
     let h = checked_history c.args.checked.now in
-    copied c.from_slice.result c.as_slice.result.now (edge_list h) (AllPairs (λ (a b : Edge). a ≢ b))
-    c.from_slice.ensures.items (listed c) (c.edge_list_is_distinct.ensures h)
+    held c.edges_of.result (edge_list (ordered_history c.in_ok-versions.versions)) (AllPairs (λ (a b : Edge). a ≢ b))
+    c.edges_of.ensures (subst (AllPairs (λ (a b : Edge). a ≢ b)) (sym (same_list c)) (c.edge_list_is_distinct.ensures h))

@@ -4,7 +4,7 @@ use Rattle.digraph.specs.Meaning.Graphs.{IsCycle as IsArcCycle, IsOrderOrCycle}
 use Rattle.adya_values.specs.Meaning.Keys.{IsTxn}
 use Rattle.adya_values.specs.Computing.EdgeList.{edge_list}
 use Rattle.adya_values.specs.Meaning.Acceptance.{IsAccepted}
-use Rattle.adya_terms.specs.Meaning.Checked.{checked_history}
+use Rattle.adya_dsg.specs.Machinery.VersionOrders.{ordered_history}
 use Rattle.adya_dsg.specs.declared.edge.Edge.{Edge}
 use Rattle.adya_dsg.specs.Machinery.Arcs.{ends, AreEnds, Decide}
 use Rattle.adya_dsg.specs.Meaning.Values.{edge_of}
@@ -18,14 +18,14 @@ added : (arcs none : List Arc) (lent edges : List Edge) → arcs ≡ none ++ map
 added arcs none lent edges adds empty same =
     adds ∙ (ap (λ xs. xs ++ map ends (map edge_of lent)) empty ∙ ap (λ xs. map ends (map edge_of xs)) same)
 
-are_ends : (c : goal.In_ok-add_arcs) → c.add_arcs.new.arcs.items ≡ map ends (edge_list (checked_history c.args.checked.now))
+are_ends : (c : goal.In_ok-add_arcs) → c.add_arcs.new.arcs.items ≡ map ends (edge_list (ordered_history c.args.versions.now))
 are_ends c =
     added _ _ _ _ c.in_ok-add_arcs.ensures c.in_ok-arcs.ensures.items c.deref.ensures.value ∙
-    ap (map ends) c.in_ok-edges.ensures.exact
+    ap (map ends) c.in_ok-edges.ensures
 
 pub topological_order-requires : goal.topological_order-requires
 topological_order-requires c =
-    let h = checked_history c.args.checked.now in
+    let h = ordered_history c.args.versions.now in
     ends_are_nodes h c.requires.checked c.edge_list_is_exact.ensures c.args.nodes.now c.requires.nodes c.add_arcs.new.arcs.items
     c.edges_join_committed.ensures (subst (AreEnds (edge_list h)) (sym (are_ends c)) (all_are_ends (edge_list h)))
 
@@ -38,11 +38,11 @@ serial_of-requires c =
 
 pub returns-in-Order : goal.returns-in-Order
 returns-in-Order c =
-    let h = checked_history c.args.checked.now in
+    let h = ordered_history c.args.versions.now in
     let nodes = c.args.nodes.now in
     let arcs = c.add_arcs.new.arcs.items in
     let are = added _ _ _ _ c.in_ok-add_arcs.ensures c.in_ok-arcs.ensures.items c.deref.ensures.value ∙
-    ap (map ends) c.in_ok-edges.ensures.exact in
+    ap (map ends) c.in_ok-edges.ensures in
     let sorted = subst (IsOrderOrCycle nodes arcs) c.in-Order.is c.in_ok-order.ensures in
     subst (IsAccepted h) (sym (c.in_ok-serial_of-in-Order.ensures ∙ c.deref-in-Order.ensures.value))
     (accepted_if_sorted h c.requires.checked c.edge_list_is_exact.ensures nodes c.requires.nodes arcs
@@ -60,11 +60,11 @@ edges_along-requires c =
 
 pub returns : goal.returns
 returns c =
-    let h = checked_history c.args.checked.now in
+    let h = ordered_history c.args.versions.now in
     let arcs = c.add_arcs.new.arcs.items in
     let lent = c.deref-in-Cycle-2.result.now in
     let cyclic = subst (IsOrderOrCycle c.args.nodes.now arcs) c.in-Cycle.is c.in_ok-order.ensures in
     first_edges_are_cycle h c.edge_list_is_exact.ensures lent _ arcs c.deref-in-Cycle.result.now
     (subst (IsArcCycle arcs) (sym c.deref-in-Cycle.ensures.value) cyclic)
-    (ap (map edge_of) c.deref-in-Cycle-2.ensures.value ∙ c.in_ok-edges.ensures.exact)
+    (ap (map edge_of) c.deref-in-Cycle-2.ensures.value ∙ c.in_ok-edges.ensures)
     c.in_ok-edges_along-in-Cycle.ensures
