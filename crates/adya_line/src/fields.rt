@@ -62,8 +62,6 @@ pub(crate) fn value_at(bytes: &[u8]) -> Option<(&[u8], &[u8])>
 }
 
 /// Reads the number at the front, which is not 0 and has no leading zero; returns it and what follows.
-// Not inlined: its loop would carry what else is read of the line.
-#[inline(never)]
 #[tactic(auto, unfolding(crate::specs::Computing::Reading::txn_at))]
 pub(crate) fn txn_at(bytes: &[u8]) -> Option<(u32, &[u8])>
     ensures exact { Gives (λ x. (x.0, x.1.now)) result (txn_at bytes.now) }
