@@ -17,3 +17,4 @@ pub mod Numbers
 pub mod Ranges
 pub mod RisingEntries
 pub mod Selections
+pub mod Visibility

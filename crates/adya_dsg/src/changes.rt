@@ -12,7 +12,7 @@ use adya_values::{Content, Entry, Key, Order, Txn};
 use std::alloc::{AllocError, Global};
 
 /// Whether the transaction's last write of the key leaves a value.
-pub(crate) fn shows(checked: &Checked, txn: Txn, key: Key) -> bool
+fn shows(checked: &Checked, txn: Txn, key: Key) -> bool
     ensures { result ≡ is_some (shown (last_write txn key (checked_history checked.now).events)) }
 {
     match checked.last_write(txn, key) {

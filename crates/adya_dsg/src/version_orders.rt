@@ -1,7 +1,8 @@
 //! The version orders of a history, with what changes the matches of scans.
 
-ghost use Rattle.std.specs.Prelude.{◌≡◌, ◌<◌, ◌≤◌, ℕ, suc, Some, slice_get, List, nat_lt, length, map, true, false, IfNone, IfSome, IfOk};
+ghost use Rattle.std.specs.Prelude.{◌≡◌, ◌<◌, ◌≤◌, ℕ, suc, Some, slice_get, List, nat_lt, leb, length, map, true, false, IfNone, IfSome, IfOk};
 ghost use Rattle.std.specs.List.{find, list_all};
+ghost use Rattle.std.specs.List.Sorted.{IsPartitionPoint};
 ghost use Rattle.adya_values.specs.Meaning.Keys.{key_lt, keys_rise};
 ghost use Rattle.adya_values.specs.Meaning.Histories.{event_of, order_of};
 ghost use Rattle.adya_values.specs.Meaning.Events.{txn_of, is_committed};
@@ -11,10 +12,13 @@ ghost use Rattle.adya_terms.specs.Meaning.Checked.{checked_history, history_in};
 ghost use Rattle.adya_dsg.specs.Machinery.Choices.{key_at};
 ghost use Rattle.adya_dsg.specs.Machinery.Links.{changed_places};
 
-use crate::changes::{line_changes, shows};
+use crate::changes::line_changes;
 use adya_terms::Checked;
 use adya_values::{Event, Key, Order, Txn};
 use std::alloc::{AllocError, Global};
+
+/// A line with at most so many writers is read through to find one, which takes less time than to look it up in a table.
+const SHORT_LINE: usize = 32;
 
 /// The version orders of a checked history. An order line is named by its index in the list of lines. In a line, place
 /// 0 is that of the unborn version, and the writers come from place 1 on.
@@ -78,8 +82,12 @@ impl<'a> VersionOrders<'a> {
             result ≡ suc (place (writers h (key_at h line)) txn) }
     {
         let order = self.order(line);
+        let writers = order.writers.as_slice();
+        if writers.len() <= SHORT_LINE {
+            return writers_before(writers, txn) + 1;
+        }
         let before = self.checked.place(txn, order.key);
-        before.unwrap_or(order.writers.len()) + 1
+        before.unwrap_or(writers.len()) + 1
     }
 
     /// Returns who installed the version at the place of the line.
@@ -100,10 +108,8 @@ impl<'a> VersionOrders<'a> {
         ensures { let h = ordered_history self.now in
             result ≡ is_visible_at h (key_at h line) place }
     {
-        match self.installer(line, place) {
-            None => false,
-            Some(txn) => shows(self.checked, txn, self.order(line).key),
-        }
+        // the unborn version isn't visible, and each change turns that round
+        place <= self.order(line).writers.len() && self.changes_up_to(line, place) % 2 == 1
     }
 
     /// Returns the places of the line where the version is visible and the one before isn't, or the other way round.
@@ -115,15 +121,25 @@ impl<'a> VersionOrders<'a> {
         &self.changes[line]
     }
 
+    /// Returns how many of these places come before this one or are it.
+    fn changes_up_to(&self, line: usize, place: usize) -> usize
+        requires { line < length (order_lines self.now) }
+        ensures within { let h = ordered_history self.now in
+            result ≤ length (changed_places h (key_at h line)) }
+        ensures up_to { let h = ordered_history self.now in
+            IsPartitionPoint (λ q. leb q place ≡ true) (λ q. leb q place ≡ false) (changed_places h (key_at h line)) result }
+    {
+        self.changes(line).partition_point(|q| *q <= place)
+    }
+
     /// Returns the first such place after this one.
     pub fn next_change(&self, line: usize, place: usize) -> Option<usize>
         requires { line < length (order_lines self.now) }
         ensures { let h = ordered_history self.now in
             result ≡ find (λ q. nat_lt place q) (changed_places h (key_at h line)) }
     {
-        let changes = self.changes(line);
-        let next = changes.partition_point(|q| *q <= place);
-        changes.get(next).copied()
+        let next = self.changes_up_to(line, place);
+        self.changes(line).get(next).copied()
     }
 
     /// Returns the line of the key.
@@ -146,6 +162,18 @@ impl<'a> VersionOrders<'a> {
     {
         self.orders().partition_point(|o| is_below(o.key, key))
     }
+}
+
+/// Returns how many of the writers come before the transaction.
+fn writers_before(writers: &[Txn], txn: Txn) -> usize
+    ensures { result ≡ place writers.now txn }
+{
+    for (i, writer) in writers.iter().enumerate() {
+        if *writer == txn {
+            return i;
+        }
+    }
+    writers.len()
 }
 
 pub(crate) fn is_below(low: Key, high: Key) -> bool

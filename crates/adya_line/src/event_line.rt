@@ -114,6 +114,8 @@ fn scan(alloc: Global, bytes: &[u8]) -> Result<Option<Event>, AllocError>
     if !rest.is_empty() {
         return Ok(None);
     }
+    // they grew by doubling
+    entries.shrink_to_fit();
     Ok(Some(front.with_entries(entries)))
 }
 

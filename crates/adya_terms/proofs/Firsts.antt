@@ -1,6 +1,5 @@
 -- The first fault of joined lists, and of the events from one on.
-use Rattle.std.proofs.Common.{◌≡◌, ℕ, suc, ◌+◌, ◌<◌, ◌⊎◌, not, length, get_or, Result, MatchResult, inl, inr, true, false, List, [], ◌∷◌, ◌++◌, Some, take, drop, sym, ◌∙◌, ap, subst, arith}
-use Rattle.adya_values.specs.declared.fault.Rule.{Rule}
+use Rattle.std.proofs.Common.{◌≡◌, ℕ, suc, ◌+◌, ◌<◌, not, length, get_or, Result, MatchResult, true, false, List, [], ◌∷◌, ◌++◌, Some, take, drop, sym, ◌∙◌, ap, subst, arith}
 use Rattle.adya_values.specs.declared.fault.CheckFault.{CheckFault}
 use Rattle.adya_values.specs.declared.fault.CheckFault.TheVariants.{Malformed, AbortedRead, IntermediateRead, Memory}
 use Rattle.adya_values.specs.declared.fault.Rule.TheVariants.{M6, M7}
@@ -31,11 +30,6 @@ pub fault_later : (all : List Event) (i : ℕ) (e : Event) → IsTurn all i e �
     → event_faults (take i all) (2 + i) (drop i all) ≡ event_faults (take (i + 1) all) (2 + (i + 1)) (drop (i + 1) all)
 fault_later all i e t h =
     faults_from all i e t ∙ ap (λ fs. fs ++ event_faults (take (i + 1) all) (2 + (i + 1)) (drop (i + 1) all)) h
-
-pub names_broken : (fs : List CheckFault) (line : ℕ) (rule : Rule) (r : CheckFault) → first fs ≡ Some (Malformed line rule)
-    → (r ≡ Malformed line rule) ⊎ (r ≡ Memory) → Names fs r
-names_broken fs line rule r h (inl e) = subst (Names fs) (sym e) h
-names_broken fs line rule r h (inr e) = subst (Names fs) (sym e) tt
 
 -- the faults of lines, where the line of the element is broken or not
 pub order_here : (all : List Event) (line : ℕ) (os : List Order) (i : ℕ) (o : Order) → IsTurn os i o → lists_exactly (installs all o.key) o.writers all ≡ false

@@ -1,5 +1,9 @@
 -- What only the loops and the tables of the check need.
 pub mod Tables
 pub mod OpenWrites
+pub mod NewestWrites
+pub mod Observed
+pub mod EventIndex
 pub mod Checks
+pub mod Reads
 pub mod Places

@@ -2,21 +2,19 @@
 
 ghost use Rattle.std.specs.Prelude.{◌≡◌, ◌^◌, ◌<◌, [], true, map, option_map, is_some, MatchResult};
 ghost use Rattle.adya_values.specs.Meaning.Keys.{keys_rise};
-ghost use Rattle.adya_values.specs.Meaning.Histories.{event_of, order_of, final_of, value_of};
+ghost use Rattle.adya_values.specs.Meaning.Histories.{order_of, final_of, value_of};
 ghost use Rattle.adya_values.specs.Meaning.Rules.{final_value};
 ghost use Rattle.adya_values.specs.Computing.Faults as faults;
-ghost use Rattle.adya_terms.specs.Machinery.Tables.{Means};
 ghost use Rattle.adya_terms.specs.Machinery.Checks.{Names, final_value_faults, parts};
 
+use crate::event_index::EventIndex;
 use crate::listed::line_of;
-use crate::tables::Tables;
-use crate::{CheckFault, Content, Event, FinalPair, Key, Order, Rule, Value};
+use crate::{CheckFault, Content, FinalPair, Key, Order, Rule, Value};
 
 /// Returns the value of the key's last version, if it has one.
-fn last_value(tables: &Tables, events: &[Event], orders: &[Order], key: Key) -> Option<Value>
-    requires tell { Means tables.now (map event_of events.now) (map event_of events.now) }
+fn last_value(index: &EventIndex, orders: &[Order], key: Key) -> Option<Value>
     requires rise { keys_rise (map (λ o. o.key) (map order_of orders.now)) ≡ true }
-    ensures { option_map value_of result ≡ faults.last_value (parts events.now orders.now []) key }
+    ensures { option_map value_of result ≡ faults.last_value (parts index.now.events.now orders.now []) key }
 {
     let Some(order) = line_of(orders, key) else {
         return None;
@@ -24,7 +22,7 @@ fn last_value(tables: &Tables, events: &[Event], orders: &[Order], key: Key) -> 
     let Some(txn) = order.writers.as_slice().last() else {
         return None;
     };
-    let Some(last) = tables.last_write(events, *txn, key) else {
+    let Some(last) = index.last_write(*txn, key) else {
         return None;
     };
     match last.content {
@@ -44,20 +42,18 @@ fn is_value(last: Option<Value>, value: &Value) -> bool
 
 /// Returns the first line of a final that isn't the value of its key's last version, if there is one.
 fn check_lines(
-    tables: &Tables,
-    events: &[Event],
+    index: &EventIndex,
     orders: &[Order],
     finals: &[FinalPair],
     first: usize,
 ) -> Result<(), CheckFault>
     requires near { first < 2 ^ 63 }
-    requires tell { Means tables.now (map event_of events.now) (map event_of events.now) }
     requires rise { keys_rise (map (λ o. o.key) (map order_of orders.now)) ≡ true }
-    ensures { let found = faults.final_faults (parts events.now orders.now finals.now) first (map final_of finals.now) in
+    ensures { let found = faults.final_faults (parts index.now.events.now orders.now finals.now) first (map final_of finals.now) in
         MatchResult result (λ u. found ≡ []) (Names found) }
 {
     for (i, pair) in finals.iter().enumerate() {
-        if !is_value(last_value(tables, events, orders, pair.key), &pair.value) {
+        if !is_value(last_value(index, orders, pair.key), &pair.value) {
             return Err(CheckFault::Malformed {
                 line: first + i,
                 rule: Rule::M8,
@@ -78,16 +74,13 @@ fn has_final(finals: &[FinalPair], key: Key) -> bool
 }
 
 /// Returns whether each key whose last version has a value has a final line.
-fn has_finals(tables: &Tables, events: &[Event], orders: &[Order], finals: &[FinalPair]) -> bool
-    requires tell { Means tables.now (map event_of events.now) (map event_of events.now) }
+fn has_finals(index: &EventIndex, orders: &[Order], finals: &[FinalPair]) -> bool
     requires orders_rise { keys_rise (map (λ o. o.key) (map order_of orders.now)) ≡ true }
     requires finals_rise { keys_rise (map (λ f. f.key) (map final_of finals.now)) ≡ true }
-    ensures { result ≡ faults.has_finals (parts events.now orders.now finals.now) }
+    ensures { result ≡ faults.has_finals (parts index.now.events.now orders.now finals.now) }
 {
     for order in orders {
-        if last_value(tables, events, orders, order.key).is_some()
-            && !has_final(finals, order.key)
-        {
+        if last_value(index, orders, order.key).is_some() && !has_final(finals, order.key) {
             return false;
         }
     }
@@ -97,23 +90,21 @@ fn has_finals(tables: &Tables, events: &[Event], orders: &[Order], finals: &[Fin
 /// Returns the first line of a final that isn't the value of its key's last version, or else the line after the
 /// finals if a key whose last version has a value has no final. The line of the first final is `first`.
 pub(crate) fn check_finals(
-    tables: &Tables,
-    events: &[Event],
+    index: &EventIndex,
     orders: &[Order],
     finals: &[FinalPair],
     first: usize,
 ) -> Result<(), CheckFault>
     requires near { first < 2 ^ 63 }
-    requires tell { Means tables.now (map event_of events.now) (map event_of events.now) }
     requires orders_rise { keys_rise (map (λ o. o.key) (map order_of orders.now)) ≡ true }
     requires finals_rise { keys_rise (map (λ f. f.key) (map final_of finals.now)) ≡ true }
-    ensures { let found = final_value_faults (parts events.now orders.now finals.now) first in
+    ensures { let found = final_value_faults (parts index.now.events.now orders.now finals.now) first in
         MatchResult result (λ u. found ≡ []) (Names found) }
 {
-    if let Err(fault) = check_lines(tables, events, orders, finals, first) {
+    if let Err(fault) = check_lines(index, orders, finals, first) {
         return Err(fault);
     }
-    if !has_finals(tables, events, orders, finals) {
+    if !has_finals(index, orders, finals) {
         return Err(CheckFault::Malformed {
             line: first + finals.len(),
             rule: Rule::M8,

@@ -3,8 +3,12 @@
 #![tactic(auto)]
 
 mod checked;
+mod ends;
+mod event_index;
 mod finals;
 mod listed;
+mod newest_writes;
+mod observed;
 mod open_writes;
 mod reads;
 mod rules;

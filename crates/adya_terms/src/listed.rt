@@ -5,34 +5,32 @@
 
 ghost use Rattle.std.specs.Prelude.{◌≡◌, ◌^◌, ◌<◌, ℕ, List, [], true, false, length, map, replicate, slice_get, is_some, Some, IfSome, IfOk, MatchOption, MatchResult};
 ghost use Rattle.std.specs.List.{list_any};
-ghost use Rattle.std.specs.HashMap.{get};
 ghost use Rattle.adya_values.specs.Meaning.Keys.{key_eq, keys_rise};
 ghost use Rattle.adya_values.specs.Meaning.Histories.{Event as EventValue, Order as OrderValue, event_of, order_of};
 ghost use Rattle.adya_values.specs.Computing.Faults as faults;
 ghost use Rattle.adya_values.specs.Meaning.Orders.{line_of};
-ghost use Rattle.adya_terms.specs.Machinery.Tables.{own_eq, Means};
+ghost use Rattle.adya_terms.specs.Machinery.EventIndex.{indexed, last_in};
 ghost use Rattle.adya_terms.specs.Machinery.Checks.{Names, listing_faults, parts};
 ghost use Rattle.adya_terms.specs.Machinery.Places.{line, AfterLine, AfterLines, HasLeft, IsLeft, Judges, Leaves, Places};
 
-use crate::tables::{Tables, wrote};
+use crate::event_index::EventIndex;
+use crate::tables::wrote;
 use crate::{CheckFault, Entry, Event, Key, Order, Rule, Txn};
 use std::alloc::{AllocError, Global};
 use std::collections::BTreeSet;
 
 /// Returns the index of the transaction's last write of the key in the list of events, if the transaction is committed
 /// and the write has no place yet.
-fn unplaced(tables: &Tables, places: &[usize], key: Key, txn: Txn) -> Option<usize>
+fn unplaced(index: &EventIndex, places: &[usize], key: Key, txn: Txn) -> Option<usize>
     ensures within { IfSome result (λ at. at < length places.now) }
-    ensures left { (all : List EventValue)
-        → Means tables.now all all
-        → length places.now ≡ length all
-        → let IsHere = IsLeft all (get own_eq tables.now.last) places.now key txn in
+    ensures left { length places.now ≡ length (indexed index.now)
+        → let IsHere = IsLeft (indexed index.now) (last_in index.now) places.now key txn in
         MatchOption result ((at : ℕ) → IsHere at → ⊥) IsHere }
 {
-    if !tables.has_committed(txn) {
+    if !index.has_committed(txn) {
         return None;
     }
-    let Some(at) = tables.last_place(txn, key) else {
+    let Some(at) = index.last_place(txn, key) else {
         return None;
     };
     match places.get(at) {
@@ -43,16 +41,15 @@ fn unplaced(tables: &Tables, places: &[usize], key: Key, txn: Txn) -> Option<usi
 
 /// Records the place of each writer of the key's line, from 1 on, at the index of its last write of the key. Returns
 /// whether all are committed writers of the key, without repeats; stops at the first that isn't one, or repeats.
-fn place_line(tables: &Tables, places: &mut [usize], key: Key, writers: &[Txn]) -> bool
-    ensures { (all : List EventValue) (os : List OrderValue)
-        → Means tables.now all all
-        → length places.old ≡ length all
-        → Places (get own_eq tables.now.last) places.old os
+fn place_line(index: &EventIndex, places: &mut [usize], key: Key, writers: &[Txn]) -> bool
+    ensures { (os : List OrderValue)
+        → length places.old ≡ length (indexed index.now)
+        → Places (last_in index.now) places.old os
         → list_any (λ o. key_eq o.key key) os ≡ false
-        → AfterLine all (get own_eq tables.now.last) places.new os (line key writers.now) result }
+        → AfterLine (indexed index.now) (last_in index.now) places.new os (line key writers.now) result }
 {
     for (i, txn) in writers.iter().enumerate() {
-        let Some(at) = unplaced(tables, places, key, *txn) else {
+        let Some(at) = unplaced(index, places, key, *txn) else {
             return false;
         };
         places[at] = i + 1;
@@ -62,15 +59,13 @@ fn place_line(tables: &Tables, places: &mut [usize], key: Key, writers: &[Txn]) 
 
 /// Records the places line by line, up to the first line that lists others than committed writers of its key or repeats
 /// one. Returns the index of this line, or the number of lines.
-fn place_lines(tables: &Tables, places: &mut [usize], orders: &[Order]) -> usize
+fn place_lines(index: &EventIndex, places: &mut [usize], orders: &[Order]) -> usize
     requires rise { keys_rise (map (λ o. o.key) (map order_of orders.now)) ≡ true }
-    ensures { (all : List EventValue)
-        → Means tables.now all all
-        → places.old ≡ replicate (length all) 0
-        → AfterLines all (get own_eq tables.now.last) places.new (map order_of orders.now) result }
+    ensures { places.old ≡ replicate (length (indexed index.now)) 0
+        → AfterLines (indexed index.now) (last_in index.now) places.new (map order_of orders.now) result }
 {
     for (i, order) in orders.iter().enumerate() {
-        if !place_line(tables, places, order.key, &order.writers) {
+        if !place_line(index, places, order.key, &order.writers) {
             return i;
         }
     }
@@ -81,35 +76,29 @@ fn place_lines(tables: &Tables, places: &mut [usize], orders: &[Order]) -> usize
 /// key or repeats one, and the index of this line, or the number of lines.
 fn placed(
     alloc: Global,
-    tables: &Tables,
-    events: &[Event],
+    index: &EventIndex,
     orders: &[Order],
 ) -> Result<(Vec<usize>, usize), AllocError>
-    requires tell { Means tables.now (map event_of events.now) (map event_of events.now) }
     requires rise { keys_rise (map (λ o. o.key) (map order_of orders.now)) ≡ true }
-    ensures same_length { IfOk result (λ p. length p.0.items ≡ length events.now) }
-    ensures lines { let last = get own_eq tables.now.last in
-        IfOk result (λ p. AfterLines (map event_of events.now) last p.0.items (map order_of orders.now) p.1) }
+    ensures same_length { IfOk result (λ p. length p.0.items ≡ length index.now.events.now) }
+    ensures lines { IfOk result
+        (λ p. AfterLines (indexed index.now) (last_in index.now) p.0.items (map order_of orders.now) p.1) }
 {
-    let mut places = vec![in alloc; 0; events.len()]?;
-    let wrong = place_lines(tables, &mut places, orders);
+    let mut places = vec![in alloc; 0; index.events.len()]?;
+    let wrong = place_lines(index, &mut places, orders);
     Ok((places, wrong))
 }
 
 /// Returns the key that the event at the index writes, if its transaction is committed and its last write of the key
 /// has no place.
-fn unlisted_key(tables: &Tables, places: &[usize], at: usize, event: &Event) -> Option<Key>
+fn unlisted_key(index: &EventIndex, places: &[usize], at: usize, event: &Event) -> Option<Key>
     requires { at < length places.now }
-    ensures left { (all : List EventValue)
-        → Means tables.now all all
-        → length places.now ≡ length all
-        → IfSome result (HasLeft all (get own_eq tables.now.last) places.now) }
-    ensures found { (all : List EventValue)
-        → Means tables.now all all
-        → length places.now ≡ length all
-        → slice_get all at ≡ Some (event_of event.now)
+    ensures left { length places.now ≡ length (indexed index.now)
+        → IfSome result (HasLeft (indexed index.now) (last_in index.now) places.now) }
+    ensures found { length places.now ≡ length (indexed index.now)
+        → slice_get (indexed index.now) at ≡ Some (event_of event.now)
         → (k : List ℕ) (t : ℕ)
-        → IsLeft all (get own_eq tables.now.last) places.now k t at
+        → IsLeft (indexed index.now) (last_in index.now) places.now k t at
         → result ≡ Some k }
 {
     if places[at] != 0 {
@@ -118,7 +107,7 @@ fn unlisted_key(tables: &Tables, places: &[usize], at: usize, event: &Event) -> 
     let Some(Entry { version, .. }) = wrote(event) else {
         return None;
     };
-    if unplaced(tables, places, version.key, version.txn).is_none() {
+    if unplaced(index, places, version.key, version.txn).is_none() {
         return None;
     }
     Some(version.key)
@@ -127,17 +116,15 @@ fn unlisted_key(tables: &Tables, places: &[usize], at: usize, event: &Event) -> 
 /// Returns the keys that committed transactions have written last at an index that has no place.
 fn unlisted(
     alloc: Global,
-    tables: &Tables,
-    events: &[Event],
+    index: &EventIndex,
     places: &[usize],
 ) -> Result<BTreeSet<Key>, AllocError>
-    requires tell { Means tables.now (map event_of events.now) (map event_of events.now) }
-    requires same_length { length places.now ≡ length events.now }
-    ensures { IfOk result (Leaves (map event_of events.now) (get own_eq tables.now.last) places.now) }
+    requires same_length { length places.now ≡ length index.now.events.now }
+    ensures { IfOk result (Leaves (indexed index.now) (last_in index.now) places.now) }
 {
     let mut keys = BTreeSet::new(alloc);
-    for (i, event) in events.iter().enumerate() {
-        if let Some(key) = unlisted_key(tables, places, i, event) {
+    for (i, event) in index.events.iter().enumerate() {
+        if let Some(key) = unlisted_key(index, places, i, event) {
             keys.insert(key)?;
         }
     }
@@ -175,23 +162,21 @@ fn check_lines(
 /// from 1 on, each at the index of the writer's last write of the key in the list of events, and 0 at other indices.
 pub(crate) fn check_orders(
     alloc: Global,
-    tables: &Tables,
-    events: &[Event],
+    index: &EventIndex,
     orders: &[Order],
     first: usize,
 ) -> Result<Vec<usize>, CheckFault>
     requires near { first < 2 ^ 63 }
-    requires tell { Means tables.now (map event_of events.now) (map event_of events.now) }
     requires rise { keys_rise (map (λ o. o.key) (map order_of orders.now)) ≡ true }
-    ensures faults { let found = listing_faults (parts events.now orders.now []) first in
+    ensures faults { let found = listing_faults (parts index.now.events.now orders.now []) first in
         MatchResult result (λ u. found ≡ []) (Names found) }
-    ensures same_length { IfOk result (λ v. length v.items ≡ length events.now) }
-    ensures places { IfOk result (λ v. Places (get own_eq tables.now.last) v.items (map order_of orders.now)) }
+    ensures same_length { IfOk result (λ v. length v.items ≡ length index.now.events.now) }
+    ensures places { IfOk result (λ v. Places (last_in index.now) v.items (map order_of orders.now)) }
 {
-    let Ok((places, wrong)) = placed(alloc, tables, events, orders) else {
+    let Ok((places, wrong)) = placed(alloc, index, orders) else {
         return Err(CheckFault::Memory);
     };
-    let Ok(unlisted) = unlisted(alloc, tables, events, &places) else {
+    let Ok(unlisted) = unlisted(alloc, index, &places) else {
         return Err(CheckFault::Memory);
     };
     if let Err(fault) = check_lines(&unlisted, orders, wrong, first) {

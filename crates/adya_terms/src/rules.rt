@@ -1,18 +1,26 @@
 //! The rules M1 to M5 of each event, given those before it.
 
-ghost use Rattle.std.specs.Prelude.{◌≡◌, ◌+◌, ℕ, List, [], true, Some, map, MatchOption, MatchResult};
+ghost use Rattle.std.specs.Prelude.{◌≡◌, ◌+◌, ◌||◌, ℕ, List, [], true, Some, map, MatchOption, MatchResult};
 ghost use Rattle.adya_terms.specs.declared.tables.Tables.{Tables};
-ghost use Rattle.adya_values.specs.Meaning.Histories.{Event as EventValue, event_of};
+ghost use Rattle.adya_values.specs.Meaning.Histories.{Event as EventValue, entry_of, event_of};
 ghost use Rattle.adya_values.specs.Meaning.Events.{written};
 ghost use Rattle.adya_values.specs.Computing.Faults as faults;
-ghost use Rattle.adya_terms.specs.Machinery.Tables.{Means};
+ghost use Rattle.adya_values.specs.Meaning.Keys.{key_eq};
+ghost use Rattle.adya_values.specs.Computing.Faults.{version_eq};
+ghost use Rattle.std.specs.List.{list_all};
+ghost use Rattle.std.specs.HashMap.{get};
+ghost use Rattle.adya_terms.specs.Machinery.Tables.{own_eq, Means};
 ghost use Rattle.adya_terms.specs.Machinery.OpenWrites.{Keeps};
+ghost use Rattle.adya_terms.specs.Machinery.NewestWrites as newest_writes;
+ghost use Rattle.adya_terms.specs.Machinery.NewestWrites.{is_found};
 ghost use Rattle.adya_terms.specs.Machinery.Checks.{Names};
 
+use crate::newest_writes::NewestWrites;
+use crate::observed::{Observed, read_entry};
 use crate::open_writes::OpenWrites;
-use crate::scans::{all_lie_in, all_written, keys_rise, lists_own};
+use crate::scans::{all_lie_in, keys_rise, lists_own};
 use crate::tables::{Tables, wrote, wrote_at};
-use crate::{CheckFault, Content, Entry, Event, Rule};
+use crate::{CheckFault, Entry, Event, Rule};
 use std::alloc::Global;
 
 /// M1: returns whether the event's transaction is still open.
@@ -42,28 +50,35 @@ fn is_next(writes: &OpenWrites, events: &[Event], event: &Event) -> bool
     }
 }
 
+/// Returns whether the version was written with this content. Most often it is the newest write of its key.
+fn is_written(tables: &Tables, newest: &NewestWrites, events: &[Event], seen: &Entry) -> bool
+    ensures { result
+        ≡ is_found (get key_eq newest.now.places) (get own_eq tables.now.last) (get version_eq tables.now.replaced)
+        (map event_of events.now) (entry_of seen.now) }
+{
+    newest.has(events, seen) || tables.was_written(events, seen)
+}
+
+/// Returns whether each entry was written.
+fn all_written(tables: &Tables, newest: &NewestWrites, events: &[Event], entries: &[Entry]) -> bool
+    ensures { result
+        ≡ list_all (λ w. is_found (get key_eq newest.now.places) (get own_eq tables.now.last)
+        (get version_eq tables.now.replaced) (map event_of events.now) (entry_of w)) entries.now }
+{
+    entries
+        .iter()
+        .all(|entry| is_written(tables, newest, events, entry))
+}
+
 /// M3: returns whether all that the event sees was written before.
-fn was_written(tables: &Tables, events: &[Event], event: &Event) -> bool
-    ensures { (before : List EventValue)
-        → Means tables.now (map event_of events.now) before
+fn was_written(tables: &Tables, newest: &NewestWrites, events: &[Event], event: &Event) -> bool
+    ensures { let all = map event_of events.now in
+        (before : List EventValue)
+        → Means tables.now all before
+        → newest_writes.Keeps newest.now all before
         → result ≡ faults.was_written before (event_of event.now) }
 {
-    match event {
-        Event::Read { version, value, .. } => {
-            tables.was_written(
-                events,
-                &Entry {
-                    version: *version,
-                    content: Content::Live(*value),
-                },
-            )
-        }
-        Event::Scan { entries, .. } => all_written(tables, events, entries),
-        Event::Write { .. } => true,
-        Event::Delete { .. } => true,
-        Event::Commit { .. } => true,
-        Event::Abort { .. } => true,
-    }
+    all_written(tables, newest, events, Observed::of(event).entries())
 }
 
 /// M4: returns whether the event sees no other version than its transaction's latest of each key that this has
@@ -82,10 +97,7 @@ fn sees_own(writes: &OpenWrites, events: &[Event], event: &Event) -> bool
             value,
         } => match wrote_at(events, writes.last_place(*txn, version.key)) {
             None => true,
-            Some(last) => last.same(&Entry {
-                version: *version,
-                content: Content::Live(*value),
-            }),
+            Some(last) => last.same(&read_entry(*version, *value)),
         },
         Event::Scan {
             txn,
@@ -123,6 +135,7 @@ fn is_rising(event: &Event) -> bool
 fn broken_rule(
     tables: &Tables,
     writes: &OpenWrites,
+    newest: &NewestWrites,
     events: &[Event],
     event: &Event,
 ) -> Option<Rule>
@@ -130,6 +143,7 @@ fn broken_rule(
         (before : List EventValue)
         → Means tables.now all before
         → Keeps writes.now all before
+        → newest_writes.Keeps newest.now all before
         → (line : ℕ)
         → MatchOption result (faults.faults_at before line (event_of event.now) ≡ [])
         (λ r. faults.first (faults.faults_at before line (event_of event.now)) ≡ Some (CheckFault.Malformed line r)) }
@@ -140,7 +154,7 @@ fn broken_rule(
     if !is_next(writes, events, event) {
         return Some(Rule::M2);
     }
-    if !was_written(tables, events, event) {
+    if !was_written(tables, newest, events, event) {
         return Some(Rule::M3);
     }
     if !sees_own(writes, events, event) {
@@ -162,14 +176,18 @@ pub(crate) fn tables_of(alloc: Global, events: &[Event]) -> Result<Tables, Check
         return Err(CheckFault::Memory);
     };
     let mut writes = OpenWrites::new(alloc);
+    let mut newest = NewestWrites::new(alloc);
     for (i, event) in events.iter().enumerate() {
-        if let Some(rule) = broken_rule(&tables, &writes, events, event) {
+        if let Some(rule) = broken_rule(&tables, &writes, &newest, events, event) {
             return Err(CheckFault::Malformed { line: i + 2, rule });
         }
         let Ok(()) = tables.record(events, i, event) else {
             return Err(CheckFault::Memory);
         };
         let Ok(()) = writes.keep(i, event) else {
+            return Err(CheckFault::Memory);
+        };
+        let Ok(()) = newest.keep(i, event) else {
             return Err(CheckFault::Memory);
         };
     }

@@ -15,18 +15,6 @@ use crate::tables::{Tables, wrote_at};
 use crate::{Entry, Event, Key};
 use std::collections::BTreeMap;
 
-/// Returns whether each entry was written before.
-pub(crate) fn all_written(tables: &Tables, events: &[Event], entries: &[Entry]) -> bool
-    ensures { let all = map event_of events.now in
-        result
-        ≡ list_all (λ w. is_at (get own_eq tables.now.last) (get version_eq tables.now.replaced) all (entry_of w))
-        entries.now }
-{
-    entries
-        .iter()
-        .all(|entry| tables.was_written(events, entry))
-}
-
 fn lies_in(lo: Key, hi: Key, key: Key) -> bool
     ensures { result ≡ keys.lies_in lo hi key }
 {

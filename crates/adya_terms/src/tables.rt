@@ -78,7 +78,7 @@ pub(crate) fn wrote_at(events: &[Event], at: Option<usize>) -> Option<Entry>
 }
 
 /// Returns whether it is this entry.
-fn is_there(seen: &Entry, wrote: Option<Entry>) -> bool
+pub(crate) fn is_there(seen: &Entry, wrote: Option<Entry>) -> bool
     ensures { result ≡ is_there (entry_of seen.now) (option_map entry_of wrote) }
 {
     match wrote {

@@ -11,6 +11,7 @@ mod random_histories;
 mod run_audit;
 mod run_order;
 mod run_pipe;
+mod tables;
 mod texts;
 mod texts_from_sources;
 mod values;

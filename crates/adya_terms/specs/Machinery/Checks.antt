@@ -1,8 +1,7 @@
 -- What the parts of the check return.
 use Rattle.std.specs.Prelude.{◌≡◌, ℕ, ◌+◌, ◌==◌, Bool, not, ◌&&◌, ◌||◌, List, [], ◌++◌, length, Option, Some, None, map, filter}
-use Rattle.std.specs.List.{filter_map, list_all, list_any}
+use Rattle.std.specs.List.{list_any}
 use Rattle.std.specs.BTreeSet.{BTreeSet, contains}
-use Rattle.txn_table.specs.Meaning.{value_for}
 use Rattle.std.specs.Ordering.{nat_cmp}
 use Rattle.adya_values.specs.declared.event.Version.{Version}
 use Rattle.adya_values.specs.declared.event.Event.{Event as EventValue}
@@ -10,11 +9,10 @@ use Rattle.adya_values.specs.declared.order.Order.{Order as OrderValue}
 use Rattle.adya_values.specs.declared.order.FinalPair.{FinalPair as FinalValue}
 use Rattle.adya_values.specs.declared.fault.Rule.TheVariants.{M6, M7, M8}
 use Rattle.adya_values.specs.declared.fault.CheckFault.{CheckFault}
-use Rattle.adya_terms.specs.declared.tables.Tables.{Tables}
 use Rattle.adya_values.specs.Meaning.Keys.{key_eq}
 use Rattle.adya_values.specs.Meaning.Histories.{Entry, Event, History, event_of, order_of, final_of}
 use Rattle.adya_values.specs.declared.edition.Edition.TheVariants.{One, Two}
-use Rattle.adya_values.specs.Meaning.Events.{txn_of, written, observed, is_committed, has_ended, aborts, last_write}
+use Rattle.adya_values.specs.Meaning.Events.{txn_of, observed, is_committed, has_ended, aborts, last_write}
 use Rattle.adya_values.specs.Computing.Faults.{entry_eq, first, is_entry, fault_unless, aborted_reads, all_end, intermediate_reads, order_faults, has_lines, final_faults, has_finals}
 use Rattle.adya_terms.specs.Meaning.Faults.{IsFault}
 
@@ -49,10 +47,6 @@ is_not_aborted all unfinished e o = not (list_any (aborts o.version.txn) all || 
 -- the set holds the numbers of the list
 abbrev pub Holds : BTreeSet ℕ → List ℕ → Type 0
 Holds s us = (t : ℕ) → contains nat_cmp s t ≡ list_any (λ u. u == t) us
-
--- each entry is written by one of the events
-abbrev pub are_written : List Event → List Entry → Bool
-are_written events es = list_all (λ o. list_any (entry_eq o) (filter_map written events)) es
 
 -- the entry is of the event's transaction, or its writer's last of the key
 abbrev pub is_own_or_last : List Event → Event → Entry → Bool
@@ -89,10 +83,6 @@ read_faults h = aborted_reads h ++ intermediate_reads h
 -- the entry is this write, or of another key
 abbrev pub is_of_key : Entry → Entry → Bool
 is_of_key w x = not (key_eq x.version.key w.version.key) || entry_eq x w
-
--- the tables or the set of unfinished transactions have it
-abbrev pub is_done : Tables → BTreeSet ℕ → ℕ → Bool
-is_done t s u = ((value_for t.ended u).committed || (value_for t.ended u).aborted) || contains nat_cmp s u
 
 -- the event's transaction has ended or is unfinished
 abbrev pub ends : List Event → List ℕ → Event → Bool

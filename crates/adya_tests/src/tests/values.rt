@@ -1,7 +1,7 @@
 //! Values, and what their errors print.
 
 use adya_testing::histories::{dead, final_pair, history, live, scan, version};
-use adya_values::{BadKey, BadNumber, BadValue, Event, Value};
+use adya_values::{BadKey, BadNumber, BadValue, Event, Key, Value};
 use std::test::Fail;
 
 #[test]
@@ -10,6 +10,18 @@ fn values_have_up_to_64_bytes(rt: HostRuntime) -> Result<(), Fail> {
     assert_eq!(rt; Value::new(longest)?.bytes(), longest.as_slice());
     let too_long = b"ABCDEFGHIJKLMNOPQRSTUVWXYZabcdefghijklmnopqrstuvwxyz0123456789_.+";
     assert!(rt; matches!(Value::new(too_long), Err(BadValue)));
+    Ok(())
+}
+
+#[test]
+fn valid_bytes_are_taken_as_they_are(rt: HostRuntime) -> Result<(), Fail> {
+    let key = Key::new(b"a_1")?;
+    assert_eq!(rt; Key::from_valid(key.bytes()).bytes(), b"a_1".as_slice());
+    let value = Value::new(b"-1.5")?;
+    assert_eq!(rt;
+        Value::from_valid(value.bytes()).bytes(),
+        b"-1.5".as_slice()
+    );
     Ok(())
 }
 

@@ -1,7 +1,12 @@
-use Rattle.std.proofs.Common.{◌≡◌, ◌+◌, ap, subst, length, map, [], arith}
+use Rattle.std.proofs.Common.{◌≡◌, ◌∙◌, ◌+◌, ℕ, List, true, sym, ap, subst, length, map, [], arith}
+use Rattle.std.specs.List.{list_all}
 use Rattle.std.proofs.lemmas.List.{length-map}
-use Rattle.adya_values.specs.Meaning.Histories.{event_of}
-use Rattle.adya_values.specs.Computing.Faults.{malformed, unfinished_faults, unfinished_line, orders_line}
+use Rattle.adya_values.specs.declared.event.Event.{Event as EventValue}
+use Rattle.adya_values.specs.declared.order.Order.{Order as OrderValue}
+use Rattle.adya_values.specs.declared.order.FinalPair.{FinalPair as FinalValue}
+use Rattle.adya_terms.specs.declared.event_index.EventIndex.{EventIndex}
+use Rattle.adya_values.specs.Meaning.Histories.{History, event_of}
+use Rattle.adya_values.specs.Computing.Faults.{was_written, malformed, unfinished_faults, unfinished_line, orders_line}
 use Rattle.adya_terms.specs.Machinery.Checks.{Names, whole, rule_faults, read_faults}
 use Rattle.adya_terms.proofs.Firsts.{names_behind}
 use Rattle.adya_terms.proofs.Replaced.{all_were_written}
@@ -9,52 +14,72 @@ use Rattle.adya_terms.proofs.Parts.{events_first, unfinished_first, rules_first,
 use Rattle.adya_terms.proofs.checked.check.Goals as goal
 use Rattle.lemmas.proofs.Lists.{both_nil}
 
+-- the index is of the same events and unfinished transactions
+same_lists : (x : EventIndex) (es : List EventValue) (us : List ℕ) (os : List OrderValue) (fs : List FinalValue) → x.events.now ≡ es → x.unfinished.now ≡ us
+    → whole x.events.now x.unfinished.now os fs ≡ whole es us os fs
+same_lists x es us os fs e u = ap (λ v. whole v x.unfinished.now os fs) e ∙ ap (λ v. whole es v os fs) u
+
 pub returns-in-Err-clause-faults : goal.returns-in-Err-clause-faults
 returns-in-Err-clause-faults c =
     let h = whole c.args.events.now c.args.unfinished.now c.args.orders.now c.args.finals.now in
-    events_first h c.in-Err.fault c.in-Err.ensures
+    events_first h c.in-Err.fault c.in-Err.ensures.faults
 
 pub returns-in-Err-check_unfinished-clause-faults : goal.returns-in-Err-check_unfinished-clause-faults
 returns-in-Err-check_unfinished-clause-faults c =
     let h = whole c.args.events.now c.args.unfinished.now c.args.orders.now c.args.finals.now in
     let n = length-map c.args.events.now event_of in
+    let same = same_lists c.in-Ok.index c.args.events.now c.args.unfinished.now c.args.orders.now c.args.finals.now c.in-Ok.ensures.events c.in-Ok.ensures.unfinished in
     let at : length c.args.events.now + 2 ≡ unfinished_line h = omega (arith, n) in
     let fault = c.in-Err-check_unfinished.fault in
-    unfinished_first h c.in-Ok.ensures.1 fault
-    (subst (λ k. Names (unfinished_faults h.events k h.unfinished) fault) at c.in-Err-check_unfinished.ensures)
+    unfinished_first h c.in-Ok.ensures.faults fault
+    (subst (λ k. Names (unfinished_faults h.events k h.unfinished) fault) at
+    (subst (λ (z : History). Names (unfinished_faults z.events (length c.args.events.now + 2) z.unfinished) fault) same c.in-Err-check_unfinished.ensures))
 
 pub returns-in-Err-check_rules-clause-faults : goal.returns-in-Err-check_rules-clause-faults
 returns-in-Err-check_rules-clause-faults c =
     let h = whole c.args.events.now c.args.unfinished.now c.args.orders.now c.args.finals.now in
     let n = length-map c.args.events.now event_of in
+    let same = same_lists c.in-Ok.index c.args.events.now c.args.unfinished.now c.args.orders.now c.args.finals.now c.in-Ok.ensures.events c.in-Ok.ensures.unfinished in
     let at : length c.args.events.now + 2 ≡ unfinished_line h = omega (arith, n) in
-    let ended = subst (λ k. unfinished_faults h.events k h.unfinished ≡ []) at c.in_default-check_unfinished.ensures in
+    let ended = subst (λ k. unfinished_faults h.events k h.unfinished ≡ []) at
+    (subst (λ (z : History). unfinished_faults z.events (length c.args.events.now + 2) z.unfinished ≡ []) same c.in_default.ensures) in
     let line : length c.args.events.now + 2 + length c.args.unfinished.now ≡ orders_line h = ap (λ k. k + length h.unfinished) at in
     let fault = c.in-Err-check_rules.fault in
-    rules_first h c.in-Ok.ensures.1 ended fault
-    (subst (λ k. Names (rule_faults h k) fault) line (c.in-Err-check_rules.ensures.faults c.args.unfinished.now c.in-Ok-set_of.ensures))
+    rules_first h c.in-Ok.ensures.faults ended fault
+    (subst (λ k. Names (rule_faults h k) fault) line
+    (subst (λ z. Names (rule_faults z (length c.args.events.now + 2 + length c.args.unfinished.now)) fault) same c.in-Err-check_rules.ensures.faults))
 
 pub returns-in-Err-check_reads-clause-faults : goal.returns-in-Err-check_reads-clause-faults
 returns-in-Err-check_reads-clause-faults c =
     let h = whole c.args.events.now c.args.unfinished.now c.args.orders.now c.args.finals.now in
     let n = length-map c.args.events.now event_of in
+    let same = same_lists c.in-Ok.index c.args.events.now c.args.unfinished.now c.args.orders.now c.args.finals.now c.in-Ok.ensures.events c.in-Ok.ensures.unfinished in
     let at : length c.args.events.now + 2 ≡ unfinished_line h = omega (arith, n) in
-    let ended = subst (λ k. unfinished_faults h.events k h.unfinished ≡ []) at c.in_default-check_unfinished.ensures in
+    let ended = subst (λ k. unfinished_faults h.events k h.unfinished ≡ []) at
+    (subst (λ (z : History). unfinished_faults z.events (length c.args.events.now + 2) z.unfinished ≡ []) same c.in_default.ensures) in
     let line : length c.args.events.now + 2 + length c.args.unfinished.now ≡ orders_line h = ap (λ k. k + length h.unfinished) at in
-    let rules = subst (λ k. rule_faults h k ≡ []) line (c.in-Ok-check_rules.ensures.faults c.args.unfinished.now c.in-Ok-set_of.ensures) in
-    names_behind (malformed h) (read_faults h) c.in-Err-check_reads.fault (none_malformed h c.in-Ok.ensures.1 ended rules)
-    (c.in-Err-check_reads.ensures c.args.unfinished.now c.in-Ok-set_of.ensures)
+    let rules = subst (λ k. rule_faults h k ≡ []) line
+    (subst (λ z. rule_faults z (length c.args.events.now + 2 + length c.args.unfinished.now) ≡ []) same c.in-Ok-check_rules.ensures.faults) in
+    names_behind (malformed h) (read_faults h) c.in-Err-check_reads.fault (none_malformed h c.in-Ok.ensures.faults ended rules)
+    (subst (λ z. Names (read_faults z) c.in-Err-check_reads.fault) same c.in-Err-check_reads.ensures)
 
 pub returns-clause-faults : goal.returns-clause-faults
 returns-clause-faults c =
     let h = whole c.args.events.now c.args.unfinished.now c.args.orders.now c.args.finals.now in
     let n = length-map c.args.events.now event_of in
+    let same = same_lists c.in-Ok.index c.args.events.now c.args.unfinished.now c.args.orders.now c.args.finals.now c.in-Ok.ensures.events c.in-Ok.ensures.unfinished in
     let at : length c.args.events.now + 2 ≡ unfinished_line h = omega (arith, n) in
-    let ended = subst (λ k. unfinished_faults h.events k h.unfinished ≡ []) at c.in_default-check_unfinished.ensures in
+    let ended = subst (λ k. unfinished_faults h.events k h.unfinished ≡ []) at
+    (subst (λ (z : History). unfinished_faults z.events (length c.args.events.now + 2) z.unfinished ≡ []) same c.in_default.ensures) in
     let line : length c.args.events.now + 2 + length c.args.unfinished.now ≡ orders_line h = ap (λ k. k + length h.unfinished) at in
-    let rules = subst (λ k. rule_faults h k ≡ []) line (c.in-Ok-check_rules.ensures.faults c.args.unfinished.now c.in-Ok-set_of.ensures) in
-    both_nil (malformed h) (read_faults h) (none_malformed h c.in-Ok.ensures.1 ended rules)
-    (c.in_default-check_reads.ensures c.args.unfinished.now c.in-Ok-set_of.ensures)
+    let rules = subst (λ k. rule_faults h k ≡ []) line
+    (subst (λ z. rule_faults z (length c.args.events.now + 2 + length c.args.unfinished.now) ≡ []) same c.in-Ok-check_rules.ensures.faults) in
+    both_nil (malformed h) (read_faults h) (none_malformed h c.in-Ok.ensures.faults ended rules)
+    (subst (λ z. read_faults z ≡ []) same c.in_default-check_reads.ensures)
 
-pub check_reads-requires-clause-written : goal.check_reads-requires-clause-written
-check_reads-requires-clause-written c = all_were_written [] 2 (map event_of c.args.events.now) c.in-Ok.ensures.1
+pub check_reads-requires : goal.check_reads-requires
+check_reads-requires c = record {
+  written =
+      subst (λ (es : List EventValue). let all = map event_of es in list_all (was_written all) all ≡ true) (sym c.in-Ok.ensures.events)
+      (all_were_written [] 2 (map event_of c.args.events.now) c.in-Ok.ensures.faults);
+}

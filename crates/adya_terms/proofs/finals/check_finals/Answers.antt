@@ -10,7 +10,7 @@ use Rattle.adya_values.proofs.Faults.{first_right}
 
 pub returns-then-not-has_finals : goal.returns-then-not-has_finals
 returns-then-not-has_finals c =
-    let h = parts c.args.events.now c.args.orders.now c.args.finals.now in
+    let h = parts c.args.index.now.events.now c.args.orders.now c.args.finals.now in
     let line = c.args.first in
     let last : first (fault_unless (has_finals h) (line + length h.finals) M8) ≡ Some (Malformed (line + length c.args.finals.now) M8) =
     ap (λ b. first (fault_unless b (line + length h.finals) M8)) (sym c.has_finals.ensures ∙ c.if-not-has_finals.true) ∙

@@ -6,5 +6,5 @@ use Rattle.adya_terms.proofs.finals.check_lines.Given as goal
 
 abbrev pub invariant-loop-i : goal.invariant-loop-i
 invariant-loop-i l =
-    let h = parts l.events l.orders l.finals in
+    let h = parts l.index.events.now l.orders l.finals in
     final_faults h l.first (map final_of l.finals) ≡ final_faults h (l.first + l.i) (map final_of (drop l.i l.finals))

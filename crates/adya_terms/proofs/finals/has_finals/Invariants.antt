@@ -8,6 +8,6 @@ use Rattle.adya_terms.proofs.finals.has_finals.Given as goal
 
 abbrev pub invariant-loop-order : goal.invariant-loop-order
 invariant-loop-order l =
-    let h = parts l.events l.orders l.finals in
+    let h = parts l.index.events.now l.orders l.finals in
     let test = λ (o : Order). is_none (last_value h o.key) || is_some (final_value h.finals o.key) in
     list_all test h.orders ≡ list_all test (map order_of (drop l.order-index l.orders))

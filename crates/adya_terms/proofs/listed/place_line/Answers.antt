@@ -1,45 +1,50 @@
 use Rattle.std.proofs.Common.{◌≡◌, ◌+◌, false, [], ◌∷◌, ◌++◌, length, set, take, drop, sym, ◌∙◌, ap, subst, arith}
-use Rattle.std.specs.HashMap.{get}
 use Rattle.std.proofs.lemmas.List.{length-take-le, take_all, take_more, take-append-drop}
-use Rattle.adya_terms.specs.Machinery.Tables.{own_eq}
 use Rattle.adya_terms.specs.Machinery.Places.{line, AfterLine}
+use Rattle.adya_terms.specs.Machinery.EventIndex.{indexed, last_in}
 use Rattle.adya_terms.proofs.Places.{IsPart, part_more, part_none, part_stops, part_whole}
 use Rattle.adya_terms.proofs.listed.place_line.Goals as goal
 use Rattle.lemmas.proofs.Steps.{drop_step}
 
 pub loop-i-init : goal.loop-i-init
-loop-i-init c all os m same old apart = part_none all (get own_eq c.args.tables.now.last) c.args.places.now os c.args.key old
+loop-i-init c os same old apart = part_none (indexed c.args.index.now) (last_in c.args.index.now) c.args.places.now os c.args.key old
 
 pub returns-in_default : goal.returns-in_default
-returns-in_default c all os m same old apart =
-    let last = get own_eq c.args.tables.now.last in
+returns-in_default c os same old apart =
+    let all = indexed c.args.index.now in
+    let m = c.args.index.now.tell in
+    let last = last_in c.args.index.now in
     let xs = c.args.writers.now in
     let i = c.loop-i.i in
     let u = c.index-writers-i.result in
-    let part = c.loop-i.invariant all os m same old apart in
+    let part = c.loop-i.invariant os same old apart in
     let whole : take i xs ++ u ∷ drop (i + 1) xs ≡ xs =
     ap (λ ys. take i xs ++ ys) (sym (drop_step xs i u c.loop-i-test.true c.index-writers-i.is)) ∙ take-append-drop i xs in
     subst (λ ys. AfterLine all last c.loop-i.places os (line c.args.key ys) false) whole
-    (part_stops _ _ _ _ all m c.loop-i.places os c.args.key (take i xs) apart part u (drop (i + 1) xs) (c.in_default.ensures.left all m (c.loop-i.auto.places ∙ same)))
+    (part_stops _ _ _ _ all m c.loop-i.places os c.args.key (take i xs) apart part u (drop (i + 1) xs) (c.in_default.ensures.left (c.loop-i.auto.places ∙ same)))
 
 pub loop-i-preserved : goal.loop-i-preserved
-loop-i-preserved c all os m same old apart =
-    let last = get own_eq c.args.tables.now.last in
+loop-i-preserved c os same old apart =
+    let all = indexed c.args.index.now in
+    let m = c.args.index.now.tell in
+    let last = last_in c.args.index.now in
     let xs = c.args.writers.now in
     let i = c.loop-i.i in
     let u = c.index-writers-i.result in
-    let part = c.loop-i.invariant all os m same old apart in
+    let part = c.loop-i.invariant os same old apart in
     let front : take i xs ++ u ∷ [] ≡ take (i + 1) xs = ap (λ v. take i xs ++ v ∷ []) c.index-writers-i.is ∙ sym (take_more xs i u c.loop-i-test.true) in
     let less = c.loop-i-test.true in
     let long : length (take i xs) ≡ i = length-take-le i xs (omega (arith, less)) in
     subst (λ ys. IsPart all last (set c.loop-i.places c.in-Some.at (i + 1)) os c.args.key ys) front
     (part_more _ _ _ _ all m c.loop-i.places os c.args.key (take i xs) apart part u c.in-Some.at
-    (c.in-Some.ensures.left all m (c.loop-i.auto.places ∙ same)) (i + 1) (omega (arith, long)) c.in-Some.ensures.within)
+    (c.in-Some.ensures.left (c.loop-i.auto.places ∙ same)) (i + 1) (omega (arith, long)) c.in-Some.ensures.within)
 
 pub returns : goal.returns
-returns c all os m same old apart =
-    let last = get own_eq c.args.tables.now.last in
+returns c os same old apart =
+    let all = indexed c.args.index.now in
+    let m = c.args.index.now.tell in
+    let last = last_in c.args.index.now in
     let xs = c.args.writers.now in
     let whole = take_all c.loop-i.i xs c.loop-i-test.false in
-    let part = subst (λ ys. IsPart all last c.loop-i.places os c.args.key ys) whole (c.loop-i.invariant all os m same old apart) in
+    let part = subst (λ ys. IsPart all last c.loop-i.places os c.args.key ys) whole (c.loop-i.invariant os same old apart) in
     part_whole _ _ _ _ all m c.loop-i.places os c.args.key xs apart part

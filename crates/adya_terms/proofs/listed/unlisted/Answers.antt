@@ -1,12 +1,11 @@
-use Rattle.std.proofs.Common.{◌≡◌, ◌∙◌, ◌+◌, cond, length, map, nat_cmp, sym, ap, subst, true}
+use Rattle.std.proofs.Common.{◌≡◌, ◌∙◌, ◌+◌, cond, length, nat_cmp, sym, ap, subst, true}
 use Rattle.std.specs.BTreeSet.{contains}
-use Rattle.std.specs.HashMap.{get}
 use Rattle.std.specs.Cmp.Lexicographic.{slice_cmp, texts_ties}
 use Rattle.std.proofs.lemmas.List.{length-map}
 use Rattle.std.proofs.lemmas.Option.{none-some, same_Some}
 use Rattle.adya_values.specs.Meaning.Keys.{key_eq}
 use Rattle.adya_values.specs.Meaning.Histories.{event_of}
-use Rattle.adya_terms.specs.Machinery.Tables.{own_eq}
+use Rattle.adya_terms.specs.Machinery.EventIndex.{indexed, last_in}
 use Rattle.adya_terms.proofs.Places.{AreFound, found_all, found_none, found_one}
 use Rattle.adya_terms.proofs.listed.unlisted.Goals as goal
 use Rattle.adya_terms.proofs.listed.unlisted.Goals.{in-Some+in_ok-insert, in_default}
@@ -15,20 +14,20 @@ use Rattle.lemmas.proofs.Steps.{turn}
 
 pub loop-i-preserved : goal.loop-i-preserved
 loop-i-preserved c =
-    let all = map event_of c.args.events.now in
-    let last = get own_eq c.args.tables.now.last in
+    let all = indexed c.args.index.now in
+    let last = last_in c.args.index.now in
     let ps = c.args.places.now in
     let i = c.loop-i.i in
-    let e = c.index-events-i.result in
-    let t = turn event_of c.args.events.now i e c.loop-i-test.true c.index-events-i.is in
-    let same : length ps ≡ length all = c.requires.same_length ∙ sym (length-map c.args.events.now event_of) in
+    let e = c.event-item.result in
+    let t = turn event_of c.args.index.now.events.now i e c.loop-i-test.true c.event-item.is in
+    let same : length ps ≡ length all = c.requires.same_length ∙ sym (length-map c.args.index.now.events.now event_of) in
     let has = contains (slice_cmp nat_cmp) c.loop-i.keys in
-    let found = c.unlisted_key.ensures.found all c.requires.tell same t.found in
+    let found = c.unlisted_key.ensures.found same t.found in
     elim c.match-unlisted_key.branch [
       | in-Some+in_ok-insert w ↦
           let j = w.in-Some.key in
           subst (λ s. AreFound all last ps (i + 1) (contains (slice_cmp nat_cmp) s)) (sym w.keys-is)
-          (found_one all last ps i has c.loop-i.invariant j _ (w.in-Some.ensures.left all c.requires.tell same)
+          (found_one all last ps i has c.loop-i.invariant j _ (w.in-Some.ensures.left same)
           (λ k u left. same_Some j k (sym w.in-Some.is ∙ found k u left))
           (λ k. w.in_ok-insert.ensures.updates.0 k ∙ (ap (λ b. cond b true (has k)) (sym (texts_ties j k)) ∙ cond_or (key_eq j k) (has k))))
       | in_default w ↦
@@ -38,8 +37,8 @@ loop-i-preserved c =
 
 pub returns : goal.returns
 returns c =
-    let all = map event_of c.args.events.now in
+    let all = indexed c.args.index.now in
     record {
       from = c.loop-i.invariant.from;
-      has = found_all _ _ _ _ all c.requires.tell c.args.places.now c.loop-i.i (contains (slice_cmp nat_cmp) c.loop-i.keys) (rw length-map c.loop-i-test.false) c.loop-i.invariant;
+      has = found_all _ _ _ _ all c.args.index.now.tell c.args.places.now c.loop-i.i (contains (slice_cmp nat_cmp) c.loop-i.keys) (rw length-map c.loop-i-test.false) c.loop-i.invariant;
     }

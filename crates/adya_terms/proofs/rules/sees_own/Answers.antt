@@ -16,8 +16,9 @@ returns-in-Some c before m is_open =
     let last : last_write t r.key before ≡ Some (entry_of c.in-Some.last) =
     sym (m t not_ended r.key) ∙ (ap (written_at all) (sym c.last_place.ensures) ∙ (sym c.wrote_at.ensures ∙ ap (option_map entry_of) c.in-Some.is)) in
     c.same.ensures ∙
+    (ap (faults.entry_eq (entry_of c.in-Some.last)) c.read_entry.ensures ∙
     (ap (λ w. faults.is_none_or w (entry r (Live (value_of c.in-Read.value)))) (sym last) ∙
-    ap (λ e. faults.sees_own before (event_of e)) (sym c.in-Read.is))
+    ap (λ e. faults.sees_own before (event_of e)) (sym c.in-Read.is)))
 
 pub returns-in-Scan : goal.returns-in-Scan
 returns-in-Scan c before m is_open =

@@ -1,12 +1,12 @@
-use Rattle.std.proofs.Common.{List, ap, subst, map, is_none}
+use Rattle.std.proofs.Common.{◌≡◌, ◌∙◌, List, ap, subst, map, is_none}
 use Rattle.adya_terms.proofs.Parts.{found_whole, faultless_whole}
 use Rattle.adya_terms.proofs.Judged.{refused_when_found}
 use Rattle.adya_values.specs.Meaning.Histories.{event_of}
-use Rattle.std.specs.HashMap.{get}
 use Rattle.std.proofs.lemmas.Bool.{and_parts}
 use Rattle.adya_values.specs.declared.order.Order.{Order}
 use Rattle.adya_values.specs.Meaning.Histories.{order_of}
-use Rattle.adya_terms.specs.Machinery.Tables.{own_eq, Means}
+use Rattle.adya_terms.specs.Machinery.Tables.{Means}
+use Rattle.adya_terms.specs.Machinery.EventIndex.{indexed, last_in}
 use Rattle.adya_terms.specs.Machinery.Places.{Places}
 use Rattle.adya_terms.proofs.KnownPlaces.{knows_places}
 use Rattle.adya_values.specs.Meaning.Values.{history_of}
@@ -21,16 +21,16 @@ pub invariant_of-result : goal.invariant_of-result
 invariant_of-result c =
     let none = faultless_whole c.args.history.now c.events.result.now c.unfinished.result.now c.orders.result.now c.finals.result.now
     c.events.ensures c.unfinished.ensures.value c.orders.ensures.value c.finals.ensures c.in-Ok.ensures.faults in
+    let h = history_of c.args.history.now in
+    let same : indexed c.in-Ok.index ≡ h.events = ap (map event_of) (c.in-Ok.ensures.events ∙ c.events.ensures) in
     record {
       checked = ap is_none none;
-      tell = subst (λ es. let all = map event_of es in Means c.in-Ok.tables all all) c.events.ensures c.in-Ok.ensures.tell;
+      same = same;
       placed =
-          let history = c.args.history.now in
-          let h = history_of history in
-          knows_places c.in-Ok.tables c.in-Ok.places.items h
-          (subst (λ es. let all = map event_of es in Means c.in-Ok.tables all all) c.events.ensures c.in-Ok.ensures.tell)
+          knows_places c.in-Ok.index.tables c.in-Ok.places.items h
+          (subst (λ all. Means c.in-Ok.index.tables all all) same c.in-Ok.index.tell)
           (and_parts _ _ (and_parts _ _ c.orders.ensures.shape).0).1
-          (subst (λ (os : List Order). Places (get own_eq c.in-Ok.tables.last) c.in-Ok.places.items (map order_of os)) c.orders.ensures.value c.in-Ok.ensures.places);
+          (subst (λ (os : List Order). Places (last_in c.in-Ok.index) c.in-Ok.places.items (map order_of os)) c.orders.ensures.value c.in-Ok.ensures.places);
     }
 
 pub returns-in-Ok-clause-checked : goal.returns-in-Ok-clause-checked

@@ -1,0 +1,25 @@
+-- What an index of events is made of.
+use Rattle.std.specs.Prelude.{ℕ, Bool, ◌||◌, ◌==◌, List, Option, map}
+use Rattle.std.specs.List.{list_any}
+use Rattle.std.specs.HashMap.{get}
+use Rattle.adya_values.specs.Meaning.Histories.{Event, event_of}
+use Rattle.adya_values.specs.Meaning.Events.{has_ended}
+use Rattle.adya_terms.specs.declared.event_index.EventIndex.{EventIndex}
+use Rattle.adya_terms.specs.declared.tables.Own.{Own}
+use Rattle.adya_terms.specs.Machinery.Tables.{own_eq}
+
+-- the events
+abbrev pub indexed : EventIndex → List Event
+indexed x = map event_of x.events.now
+
+-- the unfinished transactions
+abbrev pub unfinished_in : EventIndex → List ℕ
+unfinished_in x = x.unfinished.now
+
+-- the places of last writes
+abbrev pub last_in : EventIndex → Own → Option ℕ
+last_in x = get own_eq x.tables.last
+
+-- the transaction has ended or is unfinished
+abbrev pub is_done : EventIndex → ℕ → Bool
+is_done x t = has_ended (indexed x) t || list_any (λ u. u == t) (unfinished_in x)

@@ -1,0 +1,118 @@
+//! The events of a history with what the rules from M6 on, and the search for bad reads, look up in them.
+
+ghost use Rattle.std.specs.Prelude.{◌≡◌, ◌||◌, ◌==◌, [], true, map, option_map, IfOk, MatchResult};
+ghost use Rattle.std.specs.List.{filter_map, list_any};
+ghost use Rattle.adya_values.specs.Meaning.Histories.{entry_of, event_of};
+ghost use Rattle.adya_values.specs.Meaning.Events.{aborts, has_ended, is_committed, last_write, written};
+ghost use Rattle.adya_values.specs.Computing.Faults.{entry_eq, event_faults, is_entry};
+ghost use Rattle.adya_terms.specs.Machinery.Tables.{own, Means};
+ghost use Rattle.adya_terms.specs.Machinery.Checks.{Names, Holds};
+
+use crate::rules::tables_of;
+use crate::tables::Tables;
+use crate::{CheckFault, Entry, Event, Key, Txn};
+use std::alloc::{AllocError, Global};
+use std::collections::BTreeSet;
+
+/// The events of a history, which keep the rules M1 to M5, and its unfinished transactions, with tables of both.
+#[derive(Drop)]
+pub(crate) struct EventIndex<'a> {
+    pub events: &'a [Event],
+    pub unfinished: &'a [Txn],
+    tables: Tables,
+    unfinished_set: BTreeSet<Txn>,
+    pub ghost tell: { let all = map event_of events.now in Means tables all all },
+    pub ghost holds: { Holds unfinished_set unfinished.now },
+}
+
+impl<'a> EventIndex<'a> {
+    ghost use Rattle.adya_terms.specs.Machinery.EventIndex.{indexed, unfinished_in, last_in};
+
+    /// Makes the index, if no event breaks one of the rules M1 to M5.
+    pub fn of(
+        alloc: Global,
+        events: &'a [Event],
+        unfinished: &'a [Txn],
+    ) -> Result<EventIndex<'a>, CheckFault>
+        ensures events { IfOk result (λ x. x.events.now ≡ events.now) }
+        ensures unfinished { IfOk result (λ x. x.unfinished.now ≡ unfinished.now) }
+        ensures faults { let faults = event_faults [] 2 (map event_of events.now) in
+            MatchResult result (λ x. faults ≡ []) (Names faults) }
+    {
+        let tables = match tables_of(alloc, events) {
+            Ok(tables) => tables,
+            Err(fault) => return Err(fault),
+        };
+        let Ok(unfinished_set) = set_of(alloc, unfinished) else {
+            return Err(CheckFault::Memory);
+        };
+        Ok(EventIndex {
+            events,
+            unfinished,
+            tables,
+            unfinished_set,
+        })
+    }
+
+    /// Returns whether the transaction has committed.
+    pub fn has_committed(&self, txn: Txn) -> bool
+        ensures { result ≡ is_committed (indexed self.now) txn }
+    {
+        self.tables.has_committed(txn)
+    }
+
+    /// Returns whether the transaction has committed or aborted.
+    pub fn has_ended(&self, txn: Txn) -> bool
+        ensures { result ≡ has_ended (indexed self.now) txn }
+    {
+        self.tables.has_ended(txn)
+    }
+
+    /// Returns whether the transaction is listed as unfinished.
+    pub fn is_unfinished(&self, txn: Txn) -> bool
+        ensures { result ≡ list_any (λ u. u == txn) (unfinished_in self.now) }
+    {
+        self.unfinished_set.contains(&txn)
+    }
+
+    /// Returns whether the transaction has aborted or is unfinished.
+    pub fn is_aborted(&self, txn: Txn) -> bool
+        ensures { result ≡ (list_any (aborts txn) (indexed self.now) || list_any (λ u. u == txn) (unfinished_in self.now)) }
+    {
+        self.tables.has_aborted(txn) || self.is_unfinished(txn)
+    }
+
+    /// Returns the transaction's last write of the key.
+    pub fn last_write(&self, txn: Txn, key: Key) -> Option<Entry>
+        ensures { option_map entry_of result ≡ last_write txn key (indexed self.now) }
+    {
+        self.tables.last_write(self.events, txn, key)
+    }
+
+    /// Returns the index of the transaction's last write of the key in the list of events.
+    pub fn last_place(&self, txn: Txn, key: Key) -> Option<usize>
+        ensures { result ≡ last_in self.now (own txn key) }
+    {
+        self.tables.last_place(txn, key)
+    }
+
+    /// Returns whether the entry, which was written, is its transaction's last write of the key.
+    pub fn is_last(&self, seen: &Entry) -> bool
+        requires { list_any (entry_eq (entry_of seen.now)) (filter_map written (indexed self.now)) ≡ true }
+        ensures { let o = entry_of seen.now in
+            result ≡ is_entry (last_write o.version.txn o.version.key (indexed self.now)) o }
+    {
+        !self.tables.was_replaced(seen.version)
+    }
+}
+
+/// Makes the set of the transactions.
+fn set_of(alloc: Global, txns: &[Txn]) -> Result<BTreeSet<Txn>, AllocError>
+    ensures { IfOk result (λ s. Holds s txns.now) }
+{
+    let mut set = BTreeSet::new(alloc);
+    for txn in txns {
+        set.insert(*txn)?;
+    }
+    Ok(set)
+}
