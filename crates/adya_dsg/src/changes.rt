@@ -1,21 +1,21 @@
 //! The places of an order line whose versions change what a scan of the key matches.
 
-ghost use Rattle.std.specs.Prelude.{◌≡◌, IfOk, map, is_some};
+ghost use Rattle.std.specs.Prelude.{◌≡◌, IfOk, Some, map, is_some, slice_get};
 ghost use Rattle.adya_values.specs.Meaning.Histories.{order_of};
-ghost use Rattle.adya_values.specs.Meaning.Events.{last_write, shown};
+ghost use Rattle.adya_values.specs.Meaning.Events.{shown};
 ghost use Rattle.adya_values.specs.Meaning.Orders.{writers};
-ghost use Rattle.adya_terms.specs.Meaning.Checked.{checked_history};
+ghost use Rattle.adya_terms.specs.Meaning.Checked.{checked_history, installed_at};
 ghost use Rattle.adya_dsg.specs.Machinery.Links.{changed_places};
 
 use adya_terms::Checked;
-use adya_values::{Content, Entry, Key, Order, Txn};
+use adya_values::{Content, Entry, Order};
 use std::alloc::{AllocError, Global};
 
-/// Whether the transaction's last write of the key leaves a value.
-fn shows(checked: &Checked, txn: Txn, key: Key) -> bool
-    ensures { result ≡ is_some (shown (last_write txn key (checked_history checked.now).events)) }
+/// Whether what the writer at this place of the order line at this index installed is a value.
+fn shows(checked: &Checked, line: usize, place: usize) -> bool
+    ensures { result ≡ is_some (shown (installed_at (checked_history checked.now) line place)) }
 {
-    match checked.last_write(txn, key) {
+    match checked.installed(line, place) {
         Some(
             Entry {
                 content: Content::Live(_),
@@ -33,20 +33,27 @@ pub(crate) fn line_changes(alloc: Global, checked: &Checked) -> Result<Vec<Vec<u
 {
     let orders = checked.history().orders();
     let mut lines = Vec::new(alloc);
-    for order in orders {
-        lines.push(changed_places(alloc, checked, order)?)?;
+    for (i, order) in orders.iter().enumerate() {
+        lines.push(changed_places(alloc, checked, i, order)?)?;
     }
     Ok(lines)
 }
 
-fn changed_places(alloc: Global, checked: &Checked, order: &Order) -> Result<Vec<usize>, AllocError>
-    requires { writers (checked_history checked.now) order.now.key ≡ order.now.writers.items }
+/// Returns the places of the order line at the index whose versions change the matches.
+fn changed_places(
+    alloc: Global,
+    checked: &Checked,
+    line: usize,
+    order: &Order,
+) -> Result<Vec<usize>, AllocError>
+    requires here { slice_get (checked_history checked.now).orders line ≡ Some (order_of order.now) }
+    requires writers { writers (checked_history checked.now) order.now.key ≡ order.now.writers.items }
     ensures { IfOk result (λ v. v.items ≡ changed_places (checked_history checked.now) order.now.key) }
 {
     let mut places = Vec::new(alloc);
     let mut was = false;
-    for (i, txn) in order.writers.iter().enumerate() {
-        let now = shows(checked, *txn, order.key);
+    for i in 0..order.writers.len() {
+        let now = shows(checked, line, i);
         if now != was {
             places.push(i + 1)?;
         }

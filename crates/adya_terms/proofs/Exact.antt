@@ -2,7 +2,7 @@
 use Rattle.std.proofs.Common.{◌≡◌, ℕ, suc, ◌==◌, ◌<◌, Bool, true, false, cond, not, is_some, ◌&&◌, ◌||◌, List, [], length, get_or, Option, Some, slice_get, map, take, refl, sym, ◌∙◌, ap, subst, inl, inr, arith}
 use Rattle.std.specs.List.{filter_map, list_all, list_any, Contains}
 use Rattle.std.proofs.lemmas.Bool.{cases_Bool, cases_lt, both_ways, and_parts, and_from, or_cases, not-true, false_from_ne_true, eqb-true}
-use Rattle.std.proofs.lemmas.List.{get_or-take, length-take}
+use Rattle.std.proofs.lemmas.List.{get_or-take, length-take, take_all}
 use Rattle.std.proofs.lemmas.Option.{get_or_from_slice_get, slice_get-get_or, slice_get_within}
 use Rattle.std.specs.Ordering.{is_eq, nat_cmp}
 use Rattle.std.specs.Cmp.Lexicographic.{slice_cmp}
@@ -16,7 +16,7 @@ use Rattle.adya_values.specs.Meaning.Events.{txn_of, written, last_write, is_com
 use Rattle.adya_values.specs.Meaning.Rules.{installs}
 use Rattle.adya_values.specs.Computing.Faults.{lists_exactly, order_faults}
 use Rattle.adya_terms.specs.Machinery.Tables.{own, Tell}
-use Rattle.adya_terms.specs.Machinery.Places.{lists_once, ArePlaced, AfterLines, HasLeft, HasPlace, Judges, Leaves, Places}
+use Rattle.adya_terms.specs.Machinery.Places.{line, lists_once, ArePlaced, AfterLines, HasLeft, HasPlace, Judges, Leaves, Places}
 use Rattle.adya_terms.proofs.Places.{place_cases, same_own}
 use Rattle.adya_terms.proofs.Selected.{rise_unique}
 use Rattle.adya_values.proofs.Faults.{each_passes}
@@ -132,6 +132,17 @@ module _ (c a : ℕ → Bool) (l : Own → Option ℕ) (v : Version → Option �
               let x = get_or os n o in
               let at = slice_get-get_or os n o less in
               absurd (both_ways _ (after.not_once x at) (and_parts (lists_once all x) _ (right x (Contains-slice_get os n x at))).0)
+        ]
+
+    -- no line is left out
+    pub all_taken : take n os ≡ os
+    all_taken =
+        elim (cases_lt n (length os)) [
+          | inl less ↦
+              let x = get_or os n (line [] []) in
+              let at = slice_get-get_or os n (line [] []) less in
+              absurd (both_ways _ (after.not_once x at) (and_parts (lists_once all x) _ (right x (Contains-slice_get os n x at))).0)
+          | inr past ↦ take_all n os past
         ]
 
     pub places_where_right : Places l ps os

@@ -11,14 +11,14 @@ ghost use Rattle.adya_values.specs.Computing.Faults.{first_fault, check_faults};
 ghost use Rattle.adya_values.specs.Meaning.Acceptance.{IsChecked};
 ghost use Rattle.adya_terms.specs.Meaning.Faults.{IsFault};
 ghost use Rattle.adya_terms.specs.Machinery.EventIndex.{indexed, last_in};
-ghost use Rattle.adya_terms.specs.Machinery.Places.{KnowsPlaces, Places};
+ghost use Rattle.adya_terms.specs.Machinery.Places.{AreWrites, KnowsPlaces, Places};
 ghost use Rattle.adya_terms.specs.Machinery.Checks.{Names, whole, rule_faults};
 
 use crate::ends::{all_end, check_unfinished};
 use crate::event_index::EventIndex;
 use crate::finals::check_finals;
 use crate::laws::checked_where_no_fault;
-use crate::listed::check_orders;
+use crate::listed::{Listed, check_orders};
 use crate::reads::check_reads;
 use crate::{CheckFault, Entry, Event, FinalPair, History, Key, Order, Rule, Txn};
 use std::alloc::Global;
@@ -29,14 +29,15 @@ use std::alloc::Global;
 pub struct Checked<'a> {
     history: &'a History,
     index: EventIndex<'a>,
-    places: Vec<usize>,
+    listed: Listed,
     pub ghost checked: { is_none (first_fault (history_of history.now)) ≡ true },
     pub ghost same: { indexed index ≡ (history_of history.now).events },
-    pub ghost placed: { KnowsPlaces (last_in index) places.items (history_of history.now) },
+    pub ghost placed: { KnowsPlaces (last_in index) listed.places.items (history_of history.now) },
+    pub ghost written: { AreWrites (last_in index) listed.writes.items (history_of history.now).orders },
 }
 
 impl<'a> Checked<'a> {
-    ghost use Rattle.adya_terms.specs.Meaning.Checked.{checked_history, history_in};
+    ghost use Rattle.adya_terms.specs.Meaning.Checked.{checked_history, history_in, installed_at};
 
     /// Checks the history. Returns its first fault if it has one: broken rules come before aborted reads, and these
     /// before intermediate reads; within a kind the first line decides, and then the first rule. Returns
@@ -59,10 +60,10 @@ impl<'a> Checked<'a> {
             history.finals(),
         ) {
             Err(fault) => Err(fault),
-            Ok((index, places)) => Ok(Checked {
+            Ok((index, listed)) => Ok(Checked {
                 history,
                 index,
-                places,
+                listed,
             }),
         }
     }
@@ -100,28 +101,43 @@ impl<'a> Checked<'a> {
         let Some(at) = self.index.last_place(txn, key) else {
             return None;
         };
-        match self.places.get(at) {
+        match self.listed.places.get(at) {
             Some(0) => None,
             Some(place) => Some(*place - 1),
             None => None,
         }
     }
+
+    /// Returns what the writer at this place of the order line at this index installed, both counted from 0: its last
+    /// write of the line's key (Adya 1999, section 3.1). `None` if there is no such line, or no such writer in it.
+    pub fn installed(&self, line: usize, place: usize) -> Option<Entry>
+        ensures { option_map entry_of result ≡ installed_at (checked_history self.now) line place }
+    {
+        let Some(writes) = self.listed.writes.get(line) else {
+            return None;
+        };
+        let Some(at) = writes.get(place) else {
+            return None;
+        };
+        self.index.entry_at(*at)
+    }
 }
 
-/// Makes the index of the events, and the places of the writers in the order lines, if the lists have no fault.
+/// Makes the index of the events, and what the order lines say of them, if the lists have no fault.
 fn check<'a>(
     alloc: Global,
     events: &'a [Event],
     unfinished: &'a [Txn],
     orders: &[Order],
     finals: &[FinalPair],
-) -> Result<(EventIndex<'a>, Vec<usize>), CheckFault>
+) -> Result<(EventIndex<'a>, Listed), CheckFault>
     requires orders_rise { keys_rise (map (λ o. o.key) (map order_of orders.now)) ≡ true }
     requires finals_rise { keys_rise (map (λ f. f.key) (map final_of finals.now)) ≡ true }
     ensures faults { let faults = check_faults (whole events.now unfinished.now orders.now finals.now) in
         MatchResult result (λ t. faults ≡ []) (Names faults) }
     ensures events { IfOk result (λ t. t.0.events.now ≡ events.now) }
-    ensures places { IfOk result (λ t. Places (last_in t.0) t.1.items (map order_of orders.now)) }
+    ensures places { IfOk result (λ t. Places (last_in t.0) t.1.places.items (map order_of orders.now)) }
+    ensures writes { IfOk result (λ t. AreWrites (last_in t.0) t.1.writes.items (map order_of orders.now)) }
 {
     let index = match EventIndex::of(alloc, events, unfinished) {
         Ok(index) => index,
@@ -131,31 +147,32 @@ fn check<'a>(
         return Err(fault);
     }
     let orders_line = events.len() + 2 + unfinished.len();
-    let places = match check_rules(alloc, &index, orders, finals, orders_line) {
-        Ok(places) => places,
+    let listed = match check_rules(alloc, &index, orders, finals, orders_line) {
+        Ok(listed) => listed,
         Err(fault) => return Err(fault),
     };
     if let Err(fault) = check_reads(&index) {
         return Err(fault);
     }
-    Ok((index, places))
+    Ok((index, listed))
 }
 
 /// Looks for the first fault after the unfinished transactions: a transaction that doesn't end, M7 and M8. The line
-/// of the first order is `line`. If there is none, returns the places of the writers in the order lines.
+/// of the first order is `line`. If there is none, returns what the order lines say of the events.
 fn check_rules(
     alloc: Global,
     index: &EventIndex,
     orders: &[Order],
     finals: &[FinalPair],
     line: usize,
-) -> Result<Vec<usize>, CheckFault>
+) -> Result<Listed, CheckFault>
     requires near { line < 2 ^ 62 }
     requires orders_rise { keys_rise (map (λ o. o.key) (map order_of orders.now)) ≡ true }
     requires finals_rise { keys_rise (map (λ f. f.key) (map final_of finals.now)) ≡ true }
     ensures faults { let h = whole index.now.events.now index.now.unfinished.now orders.now finals.now in
         MatchResult result (λ u. rule_faults h line ≡ []) (Names (rule_faults h line)) }
-    ensures places { IfOk result (λ v. Places (last_in index.now) v.items (map order_of orders.now)) }
+    ensures places { IfOk result (λ l. Places (last_in index.now) l.places.items (map order_of orders.now)) }
+    ensures writes { IfOk result (λ l. AreWrites (last_in index.now) l.writes.items (map order_of orders.now)) }
 {
     if !all_end(index) {
         return Err(CheckFault::Malformed {
@@ -163,12 +180,12 @@ fn check_rules(
             rule: Rule::M6,
         });
     }
-    let places = match check_orders(alloc, index, orders, line) {
-        Ok(places) => places,
+    let listed = match check_orders(alloc, index, orders, line) {
+        Ok(listed) => listed,
         Err(fault) => return Err(fault),
     };
     match check_finals(index, orders, finals, line + orders.len()) {
-        Ok(()) => Ok(places),
+        Ok(()) => Ok(listed),
         Err(fault) => Err(fault),
     }
 }

@@ -1,15 +1,15 @@
 //! The events of a history with what the rules from M6 on, and the search for bad reads, look up in them.
 
-ghost use Rattle.std.specs.Prelude.{◌≡◌, ◌||◌, ◌==◌, [], true, map, option_map, IfOk, MatchResult};
+ghost use Rattle.std.specs.Prelude.{◌≡◌, ◌||◌, ◌==◌, [], true, map, option_map, IfOk, MatchResult, Some};
 ghost use Rattle.std.specs.List.{filter_map, list_any};
 ghost use Rattle.adya_values.specs.Meaning.Histories.{entry_of, event_of};
 ghost use Rattle.adya_values.specs.Meaning.Events.{aborts, has_ended, is_committed, last_write, written};
 ghost use Rattle.adya_values.specs.Computing.Faults.{entry_eq, event_faults, is_entry};
-ghost use Rattle.adya_terms.specs.Machinery.Tables.{own, Means};
+ghost use Rattle.adya_terms.specs.Machinery.Tables.{own, written_at, Means};
 ghost use Rattle.adya_terms.specs.Machinery.Checks.{Names, Holds};
 
 use crate::rules::tables_of;
-use crate::tables::Tables;
+use crate::tables::{Tables, wrote_at};
 use crate::{CheckFault, Entry, Event, Key, Txn};
 use std::alloc::{AllocError, Global};
 use std::collections::BTreeSet;
@@ -94,6 +94,13 @@ impl<'a> EventIndex<'a> {
         ensures { result ≡ last_in self.now (own txn key) }
     {
         self.tables.last_place(txn, key)
+    }
+
+    /// Returns what the event at the index in the list of events writes.
+    pub fn entry_at(&self, at: usize) -> Option<Entry>
+        ensures { option_map entry_of result ≡ written_at (indexed self.now) (Some at) }
+    {
+        wrote_at(self.events, Some(at))
     }
 
     /// Returns whether the entry, which was written, is its transaction's last write of the key.

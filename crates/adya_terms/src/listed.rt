@@ -1,17 +1,19 @@
 //! M7: the order line of a key names exactly its committed writers, without repeats.
 //!
 //! An array beside the events has, at the index of each listed writer's last write, the writer's place in its line. So a
-//! writer that is listed twice, and a write that no line lists, show without a search.
+//! writer that is listed twice, and a write that no line lists, show without a search. The indices themselves are kept by
+//! lines, since these writes installed the versions that the lines name.
 
-ghost use Rattle.std.specs.Prelude.{◌≡◌, ◌^◌, ◌<◌, ℕ, List, [], true, false, length, map, replicate, slice_get, is_some, Some, IfSome, IfOk, MatchOption, MatchResult};
+ghost use Rattle.std.specs.Prelude.{◌≡◌, ◌^◌, ◌<◌, ℕ, List, [], true, false, length, map, replicate, slice_get, take, is_some, Some, IfSome, IfOk, MatchOption, MatchResult};
 ghost use Rattle.std.specs.List.{list_any};
 ghost use Rattle.adya_values.specs.Meaning.Keys.{key_eq, keys_rise};
 ghost use Rattle.adya_values.specs.Meaning.Histories.{Event as EventValue, Order as OrderValue, event_of, order_of};
 ghost use Rattle.adya_values.specs.Computing.Faults as faults;
 ghost use Rattle.adya_values.specs.Meaning.Orders.{line_of};
 ghost use Rattle.adya_terms.specs.Machinery.EventIndex.{indexed, last_in};
+ghost use Rattle.adya_terms.specs.Machinery.Tables.{own};
 ghost use Rattle.adya_terms.specs.Machinery.Checks.{Names, listing_faults, parts};
-ghost use Rattle.adya_terms.specs.Machinery.Places.{line, AfterLine, AfterLines, HasLeft, IsLeft, Judges, Leaves, Places};
+ghost use Rattle.adya_terms.specs.Machinery.Places.{line, line_writes, AfterLine, AfterLines, AreWrites, HasLeft, IsLeft, Judges, Leaves, Places};
 
 use crate::event_index::EventIndex;
 use crate::tables::wrote;
@@ -19,10 +21,20 @@ use crate::{CheckFault, Entry, Event, Key, Order, Rule, Txn};
 use std::alloc::{AllocError, Global};
 use std::collections::BTreeSet;
 
+/// What the order lines of a history that keeps M7 say of its events.
+#[derive(Drop)]
+pub(crate) struct Listed {
+    /// At the index of each listed writer's last write of the key the writer's place in its line, from 1 on; 0 elsewhere.
+    pub places: Vec<usize>,
+    /// For each line, the indices of its writers' last writes of the key.
+    pub writes: Vec<Vec<usize>>,
+}
+
 /// Returns the index of the transaction's last write of the key in the list of events, if the transaction is committed
 /// and the write has no place yet.
 fn unplaced(index: &EventIndex, places: &[usize], key: Key, txn: Txn) -> Option<usize>
     ensures within { IfSome result (λ at. at < length places.now) }
+    ensures last { IfSome result (λ at. last_in index.now (own txn key) ≡ Some at) }
     ensures left { length places.now ≡ length (indexed index.now)
         → let IsHere = IsLeft (indexed index.now) (last_in index.now) places.now key txn in
         MatchOption result ((at : ℕ) → IsHere at → ⊥) IsHere }
@@ -40,53 +52,72 @@ fn unplaced(index: &EventIndex, places: &[usize], key: Key, txn: Txn) -> Option<
 }
 
 /// Records the place of each writer of the key's line, from 1 on, at the index of its last write of the key. Returns
-/// whether all are committed writers of the key, without repeats; stops at the first that isn't one, or repeats.
-fn place_line(index: &EventIndex, places: &mut [usize], key: Key, writers: &[Txn]) -> bool
-    ensures { (os : List OrderValue)
+/// these indices if all are committed writers of the key, without repeats; stops at the first that isn't one, or repeats.
+fn place_line(
+    alloc: Global,
+    index: &EventIndex,
+    places: &mut [usize],
+    key: Key,
+    writers: &[Txn],
+) -> Result<Option<Vec<usize>>, AllocError>
+    ensures places { IfOk result (λ w. (os : List OrderValue)
         → length places.old ≡ length (indexed index.now)
         → Places (last_in index.now) places.old os
         → list_any (λ o. key_eq o.key key) os ≡ false
-        → AfterLine (indexed index.now) (last_in index.now) places.new os (line key writers.now) result }
+        → AfterLine (indexed index.now) (last_in index.now) places.new os (line key writers.now) (is_some w)) }
+    ensures writes { IfOk result (λ w. IfSome w (λ v. map Some v.items ≡ line_writes (last_in index.now) (line key writers.now))) }
 {
+    let mut writes = Vec::with_capacity(alloc, writers.len())?;
     for (i, txn) in writers.iter().enumerate() {
         let Some(at) = unplaced(index, places, key, *txn) else {
-            return false;
+            return Ok(None);
         };
         places[at] = i + 1;
+        writes.push(at)?;
     }
-    true
+    Ok(Some(writes))
 }
 
 /// Records the places line by line, up to the first line that lists others than committed writers of its key or repeats
-/// one. Returns the index of this line, or the number of lines.
-fn place_lines(index: &EventIndex, places: &mut [usize], orders: &[Order]) -> usize
+/// one. Returns the writes of the lines before it, and its index or the number of lines.
+fn place_lines(
+    alloc: Global,
+    index: &EventIndex,
+    places: &mut [usize],
+    orders: &[Order],
+) -> Result<(Vec<Vec<usize>>, usize), AllocError>
     requires rise { keys_rise (map (λ o. o.key) (map order_of orders.now)) ≡ true }
-    ensures { places.old ≡ replicate (length (indexed index.now)) 0
-        → AfterLines (indexed index.now) (last_in index.now) places.new (map order_of orders.now) result }
+    ensures places { IfOk result (λ p. places.old ≡ replicate (length (indexed index.now)) 0
+        → AfterLines (indexed index.now) (last_in index.now) places.new (map order_of orders.now) p.1) }
+    ensures writes { IfOk result (λ p. AreWrites (last_in index.now) p.0.items (take p.1 (map order_of orders.now))) }
 {
+    let mut lines = Vec::with_capacity(alloc, orders.len())?;
     for (i, order) in orders.iter().enumerate() {
-        if !place_line(index, places, order.key, &order.writers) {
-            return i;
-        }
+        let Some(writes) = place_line(alloc, index, places, order.key, &order.writers)? else {
+            return Ok((lines, i));
+        };
+        lines.push(writes)?;
     }
-    orders.len()
+    Ok((lines, orders.len()))
 }
 
-/// Returns the places of the writers of the lines up to the first line that lists others than committed writers of its
+/// Returns the places and the writes of the lines up to the first line that lists others than committed writers of its
 /// key or repeats one, and the index of this line, or the number of lines.
 fn placed(
     alloc: Global,
     index: &EventIndex,
     orders: &[Order],
-) -> Result<(Vec<usize>, usize), AllocError>
+) -> Result<(Listed, usize), AllocError>
     requires rise { keys_rise (map (λ o. o.key) (map order_of orders.now)) ≡ true }
-    ensures same_length { IfOk result (λ p. length p.0.items ≡ length index.now.events.now) }
-    ensures lines { IfOk result
-        (λ p. AfterLines (indexed index.now) (last_in index.now) p.0.items (map order_of orders.now) p.1) }
+    ensures same_length { IfOk result (λ p. length p.0.places.items ≡ length index.now.events.now) }
+    ensures places { IfOk result
+        (λ p. AfterLines (indexed index.now) (last_in index.now) p.0.places.items (map order_of orders.now) p.1) }
+    ensures writes { IfOk result
+        (λ p. AreWrites (last_in index.now) p.0.writes.items (take p.1 (map order_of orders.now))) }
 {
     let mut places = vec![in alloc; 0; index.events.len()]?;
-    let wrong = place_lines(index, &mut places, orders);
-    Ok((places, wrong))
+    let (writes, wrong) = place_lines(alloc, index, &mut places, orders)?;
+    Ok((Listed { places, writes }, wrong))
 }
 
 /// Returns the key that the event at the index writes, if its transaction is committed and its last write of the key
@@ -159,24 +190,24 @@ fn check_lines(
 
 /// Returns the first order line that breaks M7, or else the line after the orders if a key with a committed writer has
 /// no line. The line of the first order is `first`. If no line does, returns the places of the writers in their lines,
-/// from 1 on, each at the index of the writer's last write of the key in the list of events, and 0 at other indices.
+/// and the writes that installed what the lines name.
 pub(crate) fn check_orders(
     alloc: Global,
     index: &EventIndex,
     orders: &[Order],
     first: usize,
-) -> Result<Vec<usize>, CheckFault>
+) -> Result<Listed, CheckFault>
     requires near { first < 2 ^ 63 }
     requires rise { keys_rise (map (λ o. o.key) (map order_of orders.now)) ≡ true }
     ensures faults { let found = listing_faults (parts index.now.events.now orders.now []) first in
         MatchResult result (λ u. found ≡ []) (Names found) }
-    ensures same_length { IfOk result (λ v. length v.items ≡ length index.now.events.now) }
-    ensures places { IfOk result (λ v. Places (last_in index.now) v.items (map order_of orders.now)) }
+    ensures places { IfOk result (λ l. Places (last_in index.now) l.places.items (map order_of orders.now)) }
+    ensures writes { IfOk result (λ l. AreWrites (last_in index.now) l.writes.items (map order_of orders.now)) }
 {
-    let Ok((places, wrong)) = placed(alloc, index, orders) else {
+    let Ok((listed, wrong)) = placed(alloc, index, orders) else {
         return Err(CheckFault::Memory);
     };
-    let Ok(unlisted) = unlisted(alloc, index, &places) else {
+    let Ok(unlisted) = unlisted(alloc, index, &listed.places) else {
         return Err(CheckFault::Memory);
     };
     if let Err(fault) = check_lines(&unlisted, orders, wrong, first) {
@@ -184,7 +215,7 @@ pub(crate) fn check_orders(
     }
     // no line breaks the rule, so a key that is left out has no line
     match unlisted.first() {
-        None => Ok(places),
+        None => Ok(listed),
         Some(_) => Err(CheckFault::Malformed {
             line: first + orders.len(),
             rule: Rule::M7,

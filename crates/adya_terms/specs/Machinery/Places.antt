@@ -1,6 +1,7 @@
 -- What the array says that the check of the order lines makes: the places of writers in the lines of their keys, from 1
 -- on, each at the index of the writer's last write of the key in the list of events.
-use Rattle.std.specs.Prelude.{◌≡◌, ℕ, zero, suc, ◌<◌, ◌==◌, Bool, true, false, cond, not, List, [], ◌∷◌, ◌++◌, length, take, Option, Some, None, slice_get, slice_index, count_by, Contains}
+use Rattle.std.specs.Prelude.{◌≡◌, ℕ, zero, suc, ◌<◌, ◌==◌, Bool, true, false, cond, not, List, [], ◌∷◌, ◌++◌, length, take, Option, Some, None, slice_get, slice_index, count_by, Contains, Vec, map}
+use Rattle.std.specs.Global.{Global}
 use Rattle.std.specs.List.{list_all}
 use Rattle.std.specs.BTreeSet.{BTreeSet, contains}
 use Rattle.std.specs.Ordering.{nat_cmp}
@@ -46,6 +47,14 @@ ArePlaces last ps os = (at i : ℕ) → slice_index ps at ≡ suc i → IsOfWrit
 pub record Places (last : Own → Option ℕ) (ps : List ℕ) (os : List Order) : Type 0 where
   pub placed : ArePlaced last ps os
   pub only : ArePlaces last ps os
+
+-- the indices of the last writes of the key by the writers of its line
+abbrev pub line_writes : (Own → Option ℕ) → Order → List (Option ℕ)
+line_writes last o = map (λ t. last (own t o.key)) o.writers
+
+-- the lists are those indices of the lines
+abbrev pub AreWrites : (Own → Option ℕ) → List (Vec ℕ Global) → List Order → Type 0
+AreWrites last ws os = map (λ v. map Some v.items) ws ≡ map (line_writes last) os
 
 -- after one more line that was placed whole, or in part
 abbrev pub AfterLine : List Event → (Own → Option ℕ) → List ℕ → List Order → Order → Bool → Type 0

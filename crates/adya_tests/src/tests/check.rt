@@ -3,7 +3,8 @@
 use super::write_then_read;
 use adya_terms::Checked;
 use adya_testing::histories::{abort, commit, final_pair, history, version_order, write};
-use adya_values::{Key, Txn};
+use adya_values::{Content, History, Key, Txn, Value};
+use std::alloc::Global;
 use std::test::Fail;
 
 #[test]
@@ -13,11 +14,11 @@ fn check_succeeds_with_ample_memory(rt: HostRuntime) -> Result<(), Fail> {
     Ok(())
 }
 
-#[test]
-fn writers_have_their_places_and_others_have_none(rt: HostRuntime) -> Result<(), Fail> {
-    let alloc = rt.alloc();
+/// T1 writes `x` twice and T2 writes it once, which the version order puts first; T3 writes and aborts.
+fn listed_and_aborted_writers(alloc: Global) -> Result<History, Fail> {
     let events = vec![in alloc;
-        write(1, "x", 1, "5")?,
+        write(1, "x", 1, "4")?,
+        write(1, "x", 2, "5")?,
         write(2, "x", 1, "6")?,
         commit(1)?,
         commit(2)?,
@@ -27,8 +28,13 @@ fn writers_have_their_places_and_others_have_none(rt: HostRuntime) -> Result<(),
     ]?;
     let orders = vec![in alloc; version_order(alloc, "x", &[2, 1])?]?;
     let finals = vec![in alloc; final_pair("x", "5")?]?;
-    let history = history(events, orders, finals)?;
-    let Ok(checked) = Checked::of(alloc, &history) else {
+    Ok(history(events, orders, finals)?)
+}
+
+#[test]
+fn writers_have_their_places_and_others_have_none(rt: HostRuntime) -> Result<(), Fail> {
+    let history = listed_and_aborted_writers(rt.alloc())?;
+    let Ok(checked) = Checked::of(rt.alloc(), &history) else {
         return Err(Fail::new("the history has a fault"));
     };
     let key = Key::new(b"x")?;
@@ -36,5 +42,21 @@ fn writers_have_their_places_and_others_have_none(rt: HostRuntime) -> Result<(),
     assert_eq!(rt; checked.place(Txn::new(1)?, key), Some(1));
     assert_eq!(rt; checked.place(Txn::new(3)?, key), None);
     assert_eq!(rt; checked.place(Txn::new(3)?, Key::new(b"y")?), None);
+    Ok(())
+}
+
+#[test]
+fn an_order_line_names_what_its_writers_wrote_last(rt: HostRuntime) -> Result<(), Fail> {
+    let history = listed_and_aborted_writers(rt.alloc())?;
+    let Ok(checked) = Checked::of(rt.alloc(), &history) else {
+        return Err(Fail::new("the history has a fault"));
+    };
+    let (Some(first), Some(second)) = (checked.installed(0, 0), checked.installed(0, 1)) else {
+        return Err(Fail::new("a writer is missing"));
+    };
+    assert!(rt; first.content.same(&Content::Live(Value::new(b"6")?)));
+    assert!(rt; second.content.same(&Content::Live(Value::new(b"5")?)));
+    assert!(rt; checked.installed(0, 2).is_none());
+    assert!(rt; checked.installed(1, 0).is_none());
     Ok(())
 }

@@ -4,8 +4,8 @@ use Rattle.adya_terms.specs.Meaning.Checked.{checked_history}
 use Rattle.adya_dsg.specs.Machinery.Links.{changed_places}
 use Rattle.adya_dsg.proofs.changes.line_changes.Given as goal
 
-abbrev pub invariant-loop-order : goal.invariant-loop-order
-invariant-loop-order l =
+abbrev pub invariant-loop-i : goal.invariant-loop-i
+invariant-loop-i l =
     let h = checked_history l.checked in
-    map (λ line. line.items) l.lines.items ++ map (λ o. changed_places h o.key) (map order_of (drop l.order-index l.orders))
+    map (λ line. line.items) l.lines.items ++ map (λ o. changed_places h o.key) (map order_of (drop l.i l.orders))
     ≡ map (λ o. changed_places h o.key) h.orders

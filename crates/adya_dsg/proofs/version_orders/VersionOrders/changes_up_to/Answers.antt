@@ -1,4 +1,4 @@
-use Rattle.std.proofs.Common.{ℕ, List, length, ap, subst, rules, leb, sym, ◌≡◌, true, false}
+use Rattle.std.proofs.Common.{ℕ, List, length, subst, rules, leb, sym, ◌≡◌, true, false}
 use Rattle.std.specs.List.Sorted.{IsNonDecreasingBy, IsPartitionPoint}
 use Rattle.std.proofs.lemmas.List.Sorted.{IsPartitionPoint-from_clause, IsPartitionedBy-leb}
 use Rattle.adya_values.specs.Meaning.Orders.{writers}

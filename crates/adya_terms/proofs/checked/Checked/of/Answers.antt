@@ -7,7 +7,7 @@ use Rattle.adya_values.specs.declared.order.Order.{Order}
 use Rattle.adya_values.specs.Meaning.Histories.{order_of}
 use Rattle.adya_terms.specs.Machinery.Tables.{Means}
 use Rattle.adya_terms.specs.Machinery.EventIndex.{indexed, last_in}
-use Rattle.adya_terms.specs.Machinery.Places.{Places}
+use Rattle.adya_terms.specs.Machinery.Places.{AreWrites, Places}
 use Rattle.adya_terms.proofs.KnownPlaces.{knows_places}
 use Rattle.adya_values.specs.Meaning.Values.{history_of}
 use Rattle.adya_terms.proofs.checked.Checked.of.Goals as goal
@@ -27,10 +27,11 @@ invariant_of-result c =
       checked = ap is_none none;
       same = same;
       placed =
-          knows_places c.in-Ok.index.tables c.in-Ok.places.items h
+          knows_places c.in-Ok.index.tables c.in-Ok.listed.places.items h
           (subst (λ all. Means c.in-Ok.index.tables all all) same c.in-Ok.index.tell)
           (and_parts _ _ (and_parts _ _ c.orders.ensures.shape).0).1
-          (subst (λ (os : List Order). Places (last_in c.in-Ok.index) c.in-Ok.places.items (map order_of os)) c.orders.ensures.value c.in-Ok.ensures.places);
+          (subst (λ (os : List Order). Places (last_in c.in-Ok.index) c.in-Ok.listed.places.items (map order_of os)) c.orders.ensures.value c.in-Ok.ensures.places);
+      written = subst (λ (os : List Order). AreWrites (last_in c.in-Ok.index) c.in-Ok.listed.writes.items (map order_of os)) c.orders.ensures.value c.in-Ok.ensures.writes;
     }
 
 pub returns-in-Ok-clause-checked : goal.returns-in-Ok-clause-checked
