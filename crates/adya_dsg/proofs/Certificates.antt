@@ -16,7 +16,6 @@ use Rattle.digraph.specs.Meaning.Graphs.{IsGraph, IsTopologicalOrder, IsPath as 
 use Rattle.digraph.specs.Meaning.Laws.{CycleExcludesOrder, OrderOrCycleExists}
 use Rattle.lemmas.proofs.Members.{Contains-map, map-source, recursion-from_contained}
 use Rattle.adya_dsg.specs.Machinery.Nodes.{committed}
-use Rattle.adya_dsg.specs.declared.edge.Edge.{Edge as EdgeValue}
 use Rattle.adya_dsg.specs.Machinery.Along.{first_along}
 use Rattle.adya_dsg.specs.declared.found.Found.{Found}
 use Rattle.adya_dsg.specs.declared.found.Found.TheVariants.{Serial, Cycle}
@@ -94,27 +93,16 @@ cycle_known arcs [] c = tt
 cycle_known arcs (a ∷ way) c = c.0
 
 -- each arc of the cycle has the ends of an edge
-pub cycle_has_edges : (es : List Edge) (arcs way : List Arc) → arcs ≡ map ends es → IsArcCycle arcs way
-    → AreEnds es way
-cycle_has_edges es arcs way e c a there =
-    let all = All-from_recursion (Contains arcs) way (cycle_known arcs way c) in
-    all_are_ends es a (subst (λ xs. Contains xs a) e (All-contains (Contains arcs) way a all there))
-
-all_listed : (h : History) → EdgeListIsExact → (edges found : List EdgeValue) → map edge_of edges ≡ edge_list h
-    → AllByRecursion (Contains edges) found → AllByRecursion (IsEdge h) (map edge_of found)
-all_listed h exact edges [] e known = tt
-all_listed h exact edges (x ∷ found) e known = (
-  (exact h (edge_of x)).1 (subst (λ xs. Contains xs (edge_of x)) e (Contains-map edge_of edges x known.0)),
-  all_listed h exact edges found e known.1,
-)
+pub cycle_has_edges : (es : List Edge) (arcs way : List Arc) → AreEnds es arcs → IsArcCycle arcs way → AreEnds es way
+cycle_has_edges es arcs way are c a there =
+    are a (All-contains (Contains arcs) way a (All-from_recursion (Contains arcs) way (cycle_known arcs way c)) there)
 
 -- the first edges along the arcs of a cycle are a cycle
-pub first_edges_are_cycle : (h : History) → EdgeListIsExact → (edges found : List EdgeValue) (arcs way : List Arc)
-    → IsArcCycle arcs way → map edge_of edges ≡ edge_list h → map Some found ≡ map (first_along edges) way
-    → IsCycle h (map edge_of found)
-first_edges_are_cycle h exact edges found arcs way c e f =
-    let r = first_edges_along edges found way f in
-    cycle_of_edges h arcs way (map edge_of found) c r.0 (all_listed h exact edges found e r.1)
+pub first_edges_are_cycle : (h : History) → EdgeListIsExact → (found : List Edge) (arcs way : List Arc)
+    → IsArcCycle arcs way → map Some found ≡ map (first_along (edge_list h)) way → IsCycle h found
+first_edges_are_cycle h exact found arcs way c f =
+    let r = first_edges_along (edge_list h) found way f in
+    cycle_of_edges h arcs way found c r.0 (all_edges h exact found r.1)
 
 is_rw : (k : Kind) → (k ≡ Rw) ⊎ (k ≢ Rw)
 is_rw Ww = inr (λ e. absurd (cc (e)))

@@ -14,6 +14,7 @@ pub mod LineEdges
 pub mod Lines
 pub mod LinksDecide
 pub mod Numbers
+pub mod Parts
 pub mod Ranges
 pub mod RisingEntries
 pub mod Selections

@@ -1,5 +1,5 @@
 -- Links are edges, and decide whether all edges go forward.
-use Rattle.std.proofs.Common.{◌≡◌, ◌≢◌, ℕ, ◌<◌, ◌≤◌, ◌==◌, Bool, true, false, ◌&&◌, nat_lt, List, ◌++◌, map, option_map, Option, Some, None, is_some, refl, sym, ◌∙◌, ap, subst, arith, inl, inr, ltb-true}
+use Rattle.std.proofs.Common.{◌≡◌, ◌≢◌, ◌↔◌, ℕ, ◌<◌, ◌≤◌, ◌==◌, Bool, true, false, ◌&&◌, nat_lt, List, ◌++◌, map, option_map, Option, Some, None, is_some, refl, sym, ◌∙◌, ap, subst, arith, inl, inr, ltb-true}
 use Rattle.std.specs.List.{find, filter, flat_map, Contains}
 use Rattle.std.proofs.lemmas.Bool.{eq-eqb, eqb-true, lt-ltb, and_parts, and_from, or_cases, or_left, not_from_true, not-false}
 use Rattle.std.proofs.lemmas.Option.{none-some, same_Some}
@@ -21,7 +21,7 @@ use Rattle.adya_dsg.specs.Meaning.Values.{edge_of}
 use Rattle.adya_dsg.specs.Machinery.Choices.{Choice, choice, choices}
 use Rattle.adya_dsg.specs.Machinery.Links.{installer_at, choice_links, event_links, links}
 use Rattle.adya_dsg.specs.Machinery.PartEdges.{line_edges, is_backward}
-use Rattle.adya_dsg.specs.Machinery.Arcs.{ends, AreEnds, Decide}
+use Rattle.adya_dsg.specs.Machinery.Arcs.{ends, HasEdge, AreEnds, Decide}
 use Rattle.lemmas.proofs.Options.{none_unless_some, some_value}
 use Rattle.lemmas.proofs.Members.{none_contained, Contains-map, map-source, Contains-flat_map, flat_map-source}
 use Rattle.lemmas.proofs.Filters.{Contains-filter, filter-source, Contains-filter_map, filter_map-source}
@@ -219,32 +219,44 @@ has_installers : SelectedIsInstalled → (h : History) → IsChecked h → (e : 
     → is_committed h.events (txn_of e) ≡ true → HasInstallers h e
 has_installers law h checked e occurs committed k p = law h e k p checked occurs committed
 
-module _ (keeps_first : EdgeListKeepsFirst) (h : History) (arcs : List Arc) (are : arcs ≡ map ends (links h)) where
-  -- the ends of an arc
+module _ (keeps_first : EdgeListKeepsFirst) (h : History) where
+  -- the ends of an edge
   abbrev joins : Edge → Edge → Bool
   joins x y = (y.from == x.from) && (y.to == x.to)
 
-  pub links_are_ends : AreEnds (edge_list h) arcs
-  links_are_ends a c =
-      let x = map-source ends (links h) a (subst (λ zs. Contains zs a) are c) in
-      let there = find_when (joins x.0) (dependencies h) x.0 (of_history h x.0 x.1)
-      (and_from _ _ (eq-eqb x.0.from x.0.from refl) (eq-eqb x.0.to x.0.to refl)) in
-      let at = find-source (joins x.0) (edge_list h) there.0 (keeps_first h (joins x.0) ∙ there.1) in
+  has_edge : (x : Edge) → Contains (dependencies h) x → HasEdge (edge_list h) (ends x)
+  has_edge x c =
+      let there = find_when (joins x) (dependencies h) x c (and_from _ _ (eq-eqb x.from x.from refl) (eq-eqb x.to x.to refl)) in
+      let at = find-source (joins x) (edge_list h) there.0 (keeps_first h (joins x) ∙ there.1) in
       let same = and_parts _ _ at.1 in
-      record {
-        edge = there.0;
-        stands = at.0;
-        from = eqb-true _ _ same.0 ∙ ap (λ b. b.from) x.2;
-        to = eqb-true _ _ same.1 ∙ ap (λ b. b.to) x.2;
-      }
+      record { edge = there.0; stands = at.0; from = eqb-true _ _ same.0; to = eqb-true _ _ same.1 }
 
-  pub links_decide : SelectedIsInstalled → IsChecked h → Decide (edge_list h) arcs
-  links_decide law checked ts forward =
-      forward_from_none ts (edge_list h)
-      (keeps_first h (is_backward ts) ∙
-      none_from_forward ts (dependencies h)
-      (all_forward h (has_installers law h checked) ts (λ x c.
-      forward (ends x) (subst (λ zs. Contains zs (ends x)) (sym are) (Contains-map ends (links h) x c)))))
+  listed_forward : (ts : List ℕ) → AllForward ts (dependencies h) → AllForward ts (edge_list h)
+  listed_forward ts forward =
+      forward_from_none ts (edge_list h) (keeps_first h (is_backward ts) ∙ none_from_forward ts (dependencies h) forward)
+
+  module _ (arcs : List Arc) where
+    pub links_are_ends : arcs ≡ map ends (links h) → AreEnds (edge_list h) arcs
+    links_are_ends are a c =
+        let x = map-source ends (links h) a (subst (λ zs. Contains zs a) are c) in
+        subst (HasEdge (edge_list h)) x.2 (has_edge x.0 (of_history h x.0 x.1))
+
+    pub links_decide : arcs ≡ map ends (links h) → SelectedIsInstalled → IsChecked h → Decide (edge_list h) arcs
+    links_decide are law checked ts forward =
+        listed_forward ts
+        (all_forward h (has_installers law h checked) ts (λ x c.
+        forward (ends x) (subst (λ zs. Contains zs (ends x)) (sym are) (Contains-map ends (links h) x c))))
+
+    -- the arcs of all edges, with or without repeats
+    module _ (are : (a : Arc) → Contains arcs a ↔ Contains (map ends (dependencies h)) a) where
+      pub edges_are_ends : AreEnds (edge_list h) arcs
+      edges_are_ends a c =
+          let x = map-source ends (dependencies h) a ((are a).0 c) in
+          subst (HasEdge (edge_list h)) x.2 (has_edge x.0 x.1)
+
+      pub edges_decide : Decide (edge_list h) arcs
+      edges_decide ts forward =
+          listed_forward ts (λ x c. forward (ends x) ((are (ends x)).1 (Contains-map ends (dependencies h) x c)))
 
 -- an event whose links go forward has no backward edge
 pub none_of_event : SelectedIsInstalled → (h : History) → IsChecked h → (e : Event) → Contains h.events e

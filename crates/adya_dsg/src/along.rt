@@ -1,21 +1,24 @@
 //! The edges along a cycle of arcs.
 
-ghost use Rattle.std.specs.Prelude.{◌≡◌, ◌==◌, ◌&&◌, ℕ, Some, map, IfOk};
-ghost use Rattle.std.specs.List.{list_any};
-ghost use Rattle.std.specs.BTreeSet.{contains};
+ghost use Rattle.std.specs.Prelude.{◌≡◌, ◌++◌, List, Some, map, IfOk};
+ghost use Rattle.adya_values.specs.Meaning.Edges.{Edge as PlainEdge};
+ghost use Rattle.adya_values.specs.Computing.EdgeList.{dependencies, edge_list};
+ghost use Rattle.adya_dsg.specs.Machinery.VersionOrders.{ordered_history};
 ghost use Rattle.adya_dsg.specs.Meaning.Values.{edge_of};
 ghost use Rattle.adya_dsg.specs.Machinery.Arcs.{AreEnds};
-ghost use Rattle.adya_dsg.specs.Machinery.Along.{HasFirst, first_along, ends_cmp};
+ghost use Rattle.adya_dsg.specs.Machinery.Along.{HasFirst, Wants, first_along};
 
 use crate::Edge;
+use crate::part_edges::{count_parts, push_part_edges};
+use crate::version_orders::VersionOrders;
+use adya_laws::edge_list_keeps_first;
 use digraph::Arc;
 use std::alloc::{AllocError, Global};
 use std::collections::{BTreeMap, BTreeSet};
 
-// The ends of the arcs.
+/// Returns the ends of the arcs.
 fn ends_of(alloc: Global, cycle: &[Arc]) -> Result<BTreeSet<(u32, u32)>, AllocError>
-    ensures { IfOk result (λ s. (q : ℕ × ℕ)
-        → contains ends_cmp s q ≡ list_any (λ a. (a.from == q.0) && (a.to == q.1)) cycle.now) }
+    ensures { IfOk result (λ s. Wants s cycle.now) }
 {
     let mut ends = BTreeSet::new(alloc);
     for a in cycle {
@@ -24,16 +27,17 @@ fn ends_of(alloc: Global, cycle: &[Arc]) -> Result<BTreeSet<(u32, u32)>, AllocEr
     Ok(ends)
 }
 
-// The first of the edges with the ends of each arc, in one pass over the edges.
-fn first_edges(
-    alloc: Global,
-    cycle: &[Arc],
+/// Notes each of the edges whose ends are wanted, unless an edge with these ends is noted already.
+fn note_first(
+    wanted: &BTreeSet<(u32, u32)>,
+    first: &mut BTreeMap<(u32, u32), Edge>,
     edges: &[Edge],
-) -> Result<BTreeMap<(u32, u32), Edge>, AllocError>
-    ensures { IfOk result (λ m. HasFirst m cycle.now edges.now) }
+) -> Result<(), AllocError>
+    ensures { IfOk result (λ u. (cycle : List Arc) (before : List PlainEdge)
+        → Wants wanted.now cycle
+        → HasFirst first.old cycle before
+        → HasFirst first.new cycle (before ++ map edge_of edges.now)) }
 {
-    let wanted = ends_of(alloc, cycle)?;
-    let mut first = BTreeMap::new(alloc);
     for e in edges {
         let arc = e.arc();
         let ends = (arc.from, arc.to);
@@ -41,19 +45,40 @@ fn first_edges(
             first.insert(ends, *e)?;
         }
     }
+    Ok(())
+}
+
+/// Returns the first edge with the ends of each arc.
+fn first_edges(
+    alloc: Global,
+    versions: &VersionOrders,
+    cycle: &[Arc],
+) -> Result<BTreeMap<(u32, u32), Edge>, AllocError>
+    ensures { IfOk result (λ m. HasFirst m cycle.now (dependencies (ordered_history versions.now))) }
+{
+    let wanted = ends_of(alloc, cycle)?;
+    let mut first = BTreeMap::new(alloc);
+    let mut edges = Vec::new(alloc);
+    for part in 0..count_parts(versions) {
+        edges.clear();
+        push_part_edges(alloc, &mut edges, versions, part)?;
+        note_first(&wanted, &mut first, &edges)?;
+    }
     Ok(first)
 }
 
-/// Returns for each arc the first of the edges with its ends; `AllocError` if memory is refused.
+/// Returns for each arc the first edge of the history with its ends; `AllocError` if memory is refused.
 pub(crate) fn edges_along(
     alloc: Global,
+    versions: &VersionOrders,
     cycle: &[Arc],
-    edges: &[Edge],
 ) -> Result<Vec<Edge>, AllocError>
-    requires { AreEnds (map edge_of edges.now) cycle.now }
-    ensures { IfOk result (λ v. map Some v.items ≡ map (first_along edges.now) cycle.now) }
+    requires { AreEnds (edge_list (ordered_history versions.now)) cycle.now }
+    ensures { let es = edge_list (ordered_history versions.now) in
+        IfOk result (λ v. map Some (map edge_of v.items) ≡ map (first_along es) cycle.now) }
 {
-    let first = first_edges(alloc, cycle, edges)?;
+    edge_list_keeps_first();
+    let first = first_edges(alloc, versions, cycle)?;
     let mut along = Vec::new(alloc);
     for a in cycle {
         along.push(first[&(a.from, a.to)])?;

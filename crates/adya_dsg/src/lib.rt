@@ -9,6 +9,7 @@
 #![tactic(auto)]
 
 mod along;
+mod arcs;
 mod backward;
 mod certificate_places;
 mod changes;
@@ -21,6 +22,7 @@ mod links;
 mod listing;
 mod nodes;
 mod ordering;
+mod part_edges;
 mod selection;
 mod version_orders;
 mod write_edges;

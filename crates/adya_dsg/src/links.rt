@@ -6,12 +6,11 @@ ghost use Rattle.adya_values.specs.Meaning.Events.{txn_of, is_committed};
 ghost use Rattle.adya_values.specs.Computing.EdgeList.{edge_list};
 ghost use Rattle.adya_values.specs.Meaning.Acceptance.{IsChecked};
 ghost use Rattle.adya_dsg.specs.Machinery.VersionOrders.{ordered_history};
-ghost use Rattle.adya_dsg.specs.Meaning.Values.{edge_of};
 ghost use Rattle.adya_dsg.specs.Machinery.Arcs.{AreEnds, Decide, ends};
 ghost use Rattle.adya_dsg.specs.Machinery.PartEdges.{line_edges};
 ghost use Rattle.adya_dsg.specs.Machinery.Links.{event_links};
 
-use crate::Edge;
+use crate::arcs::add_arcs;
 use crate::event_links::push_event_links;
 use crate::version_orders::VersionOrders;
 use crate::write_edges::push_write_edges;
@@ -65,16 +64,6 @@ fn add_event_arcs(
             push_event_links(alloc, &mut edges, versions, event)?;
             add_arcs(arcs, &edges)?;
         }
-    }
-    Ok(())
-}
-
-/// Adds the arcs of the edges.
-pub(crate) fn add_arcs(arcs: &mut Vec<Arc>, edges: &[Edge]) -> Result<(), AllocError>
-    ensures { OnOk result (arcs.new.items ≡ arcs.old.items ++ map ends (map edge_of edges.now)) }
-{
-    for edge in edges {
-        arcs.push(edge.arc())?;
     }
     Ok(())
 }

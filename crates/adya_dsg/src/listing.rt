@@ -1,17 +1,15 @@
 //! The edges of a history.
 
-ghost use Rattle.std.specs.Prelude.{◌≡◌, ◌≢◌, IfOk, OnOk, map, filter, flat_map, fold};
+ghost use Rattle.std.specs.Prelude.{◌≡◌, ◌≢◌, IfOk, OnOk, map, fold};
 ghost use Rattle.std.specs.List.{AllPairs};
-ghost use Rattle.adya_values.specs.Meaning.Events.{txn_of, is_committed};
-ghost use Rattle.adya_values.specs.Computing.EdgeList.{with_edge, edge_list, write_edges, event_edges};
+ghost use Rattle.adya_values.specs.Computing.EdgeList.{with_edge, edge_list};
 ghost use Rattle.adya_terms.specs.Meaning.Checked.{checked_history};
 ghost use Rattle.adya_dsg.specs.Machinery.VersionOrders.{ordered_history};
 ghost use Rattle.adya_dsg.specs.Meaning.Values.{edge_of, AreEdges};
 
 use crate::Edge;
-use crate::event_edges::push_event_edges;
+use crate::part_edges::{count_parts, push_part_edges};
 use crate::version_orders::VersionOrders;
-use crate::write_edges::push_write_edges;
 use adya_laws::{edge_list_is_distinct, edge_list_is_exact};
 use adya_terms::Checked;
 use indexmap::IndexSet;
@@ -40,53 +38,17 @@ pub fn edges(alloc: Global, checked: &Checked) -> Result<Vec<Edge>, AllocError>
 }
 
 /// Returns the edges of the history with these version orders, as [`edges`] does.
-pub(crate) fn edges_of(alloc: Global, versions: &VersionOrders) -> Result<Vec<Edge>, AllocError>
+fn edges_of(alloc: Global, versions: &VersionOrders) -> Result<Vec<Edge>, AllocError>
     ensures { IfOk result (λ v. map edge_of v.items ≡ edge_list (ordered_history versions.now)) }
 {
     let mut set = IndexSet::new(alloc);
-    add_write_edges(alloc, versions, &mut set)?;
-    add_event_edges(alloc, versions, &mut set)?;
-    Vec::from_slice(alloc, set.as_slice())
-}
-
-fn add_write_edges(
-    alloc: Global,
-    versions: &VersionOrders,
-    set: &mut IndexSet<Edge>,
-) -> Result<(), AllocError>
-    ensures { let h = ordered_history versions.now in
-        OnOk result (map edge_of set.new.keys
-        ≡ fold with_edge (map edge_of set.old.keys) (flat_map (λ o. write_edges h o.key) h.orders)) }
-{
     let mut edges = Vec::new(alloc);
-    let orders = versions.orders();
-    for order in orders {
+    for part in 0..count_parts(versions) {
         edges.clear();
-        push_write_edges(&mut edges, order)?;
-        add(set, &edges)?;
+        push_part_edges(alloc, &mut edges, versions, part)?;
+        add(&mut set, &edges)?;
     }
-    Ok(())
-}
-
-fn add_event_edges(
-    alloc: Global,
-    versions: &VersionOrders,
-    set: &mut IndexSet<Edge>,
-) -> Result<(), AllocError>
-    ensures { let h = ordered_history versions.now in
-        OnOk result (map edge_of set.new.keys ≡ fold with_edge (map edge_of set.old.keys)
-        (flat_map (event_edges h) (filter (λ e. is_committed h.events (txn_of e)) h.events))) }
-{
-    let mut edges = Vec::new(alloc);
-    let events = versions.events();
-    for event in events {
-        if versions.is_committed(event) {
-            edges.clear();
-            push_event_edges(alloc, &mut edges, versions, event)?;
-            add(set, &edges)?;
-        }
-    }
-    Ok(())
+    Vec::from_slice(alloc, set.as_slice())
 }
 
 /// Adds the edges that aren't there yet.

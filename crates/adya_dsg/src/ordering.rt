@@ -13,11 +13,11 @@ ghost use Rattle.adya_dsg.specs.Meaning.Found.{IsFound, NoneBesideCycle, HasCert
 
 use crate::Found;
 use crate::along::edges_along;
+use crate::arcs::arcs_of_edges;
 use crate::laws::{
     certified_where_no_phenomenon, cycle_excludes_certificates, edges_join_committed,
 };
-use crate::links::{add_arcs, links};
-use crate::listing::edges_of;
+use crate::links::links;
 use crate::nodes::{committed, serial_of};
 use crate::version_orders::VersionOrders;
 use adya_laws::edge_list_is_exact;
@@ -44,7 +44,7 @@ pub fn order(alloc: Global, checked: &Checked) -> Result<Found, AllocError>
     by_links(alloc, &versions, &nodes)
 }
 
-// By the links, which are few. If they have a cycle, by all edges.
+/// By the links, which are few. If they have a cycle, by all edges.
 fn by_links(alloc: Global, versions: &VersionOrders, nodes: &[u32]) -> Result<Found, AllocError>
     requires checked { IsChecked (ordered_history versions.now) }
     requires nodes { nodes.now ≡ committed (ordered_history versions.now).events }
@@ -59,7 +59,7 @@ fn by_links(alloc: Global, versions: &VersionOrders, nodes: &[u32]) -> Result<Fo
     }
 }
 
-// By all edges.
+/// By all edges.
 fn by_edges(alloc: Global, versions: &VersionOrders, nodes: &[u32]) -> Result<Found, AllocError>
     requires checked { IsChecked (ordered_history versions.now) }
     requires nodes { nodes.now ≡ committed (ordered_history versions.now).events }
@@ -68,11 +68,8 @@ fn by_edges(alloc: Global, versions: &VersionOrders, nodes: &[u32]) -> Result<Fo
 {
     edge_list_is_exact();
     edges_join_committed();
-    let edges = edges_of(alloc, versions)?;
-    let mut arcs = Vec::with_capacity(alloc, edges.len())?;
-    add_arcs(&mut arcs, &edges)?;
-    match topological_order(alloc, nodes, arcs)? {
+    match topological_order(alloc, nodes, arcs_of_edges(alloc, versions)?)? {
         Outcome::Order(order) => Ok(Found::Serial(serial_of(alloc, &order)?)),
-        Outcome::Cycle(cycle) => Ok(Found::Cycle(edges_along(alloc, &cycle, &edges)?)),
+        Outcome::Cycle(cycle) => Ok(Found::Cycle(edges_along(alloc, versions, &cycle)?)),
     }
 }

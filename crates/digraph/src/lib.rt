@@ -4,6 +4,7 @@
 #![tactic(auto)]
 
 mod arc;
+mod distinct;
 mod incoming;
 mod laws;
 mod order;
@@ -11,5 +12,6 @@ mod ready;
 mod trace;
 
 pub use arc::Arc;
+pub use distinct::each_once;
 pub use laws::{cycle_excludes_order, order_or_cycle_exists};
 pub use order::{Outcome, topological_order};

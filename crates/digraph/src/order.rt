@@ -7,6 +7,7 @@ ghost use Rattle.std.specs.BTreeSet.{contains};
 ghost use Rattle.digraph.specs.Meaning.Graphs.{IsGraph, IsOrderOrCycle};
 
 use crate::arc::Arc;
+use crate::distinct::each_once;
 use crate::incoming::by_target;
 use crate::ready::Ready;
 use crate::trace::{Trace, trace_back};
@@ -31,15 +32,6 @@ fn set_of(alloc: Global, nodes: &[u32]) -> Result<BTreeSet<u32>, AllocError>
         set.insert(*t)?;
     }
     Ok(set)
-}
-
-// The arcs by where they come from, each once.
-fn by_source(mut arcs: Vec<Arc>) -> Vec<Arc>
-    ensures { (a : Arc) → Contains arcs.items a ↔ Contains result.items a }
-{
-    arcs.sort_unstable_by_key(|a| (a.from, a.to));
-    arcs.dedup();
-    arcs
 }
 
 // The next node if it remains, and else the first.
@@ -71,7 +63,7 @@ pub fn topological_order(
     requires { IsGraph nodes.now arcs.items }
     ensures { IfOk result (IsOrderOrCycle nodes.now arcs.items) }
 {
-    let out = by_source(arcs);
+    let out = each_once(arcs);
     let into = by_target(alloc, &out)?;
     let mut remaining = set_of(alloc, nodes)?;
     let mut ready = Ready::of(alloc, nodes, out)?;

@@ -1,9 +1,15 @@
 -- Directed graphs as lists of nodes and arcs, their topological orders and their cycles.
 use Rattle.std.specs.Prelude.{◌≡◌, ℕ, suc, ◌==◌, ◌<◌, true, cond, List, [], ◌∷◌, Contains, count_by}
 use Rattle.std.specs.List.{list_any, AllByRecursion}
+use Rattle.std.specs.Ordering.{nat_cmp, ordering_then}
+use Rattle.std.specs.declared.cmp.Ordering.{Ordering}
 use Rattle.digraph.specs.declared.arc.Arc.{Arc}
 use Rattle.digraph.specs.declared.order.Outcome.{Outcome}
 use Rattle.digraph.specs.declared.order.Outcome.TheVariants.{Order, Cycle}
+
+-- by the node that an arc leaves, and then by the node that it enters
+abbrev pub arc_cmp : Arc → Arc → Ordering
+arc_cmp a b = ordering_then (nat_cmp a.from b.from) (nat_cmp a.to b.to)
 
 -- the ends of each arc are nodes
 abbrev pub IsGraph : List ℕ → List Arc → Type 0

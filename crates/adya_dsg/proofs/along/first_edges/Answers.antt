@@ -1,39 +1,21 @@
-use Rattle.std.proofs.Common.{◌∙◌, ◌==◌, ◌&&◌, Some, cond, is_some, sym, ap}
-use Rattle.std.specs.List.{list_any}
-use Rattle.std.specs.Ordering.{is_eq}
-use Rattle.std.specs.BTreeMap.{get}
-use Rattle.digraph.specs.declared.arc.Arc.{Arc}
-use Rattle.adya_dsg.specs.Machinery.Along.{ends_cmp}
-use Rattle.adya_dsg.proofs.FirstAlong.{noted, had_before, unwanted}
+use Rattle.std.proofs.Common.{◌<◌, ◌++◌, ◌∙◌, sym, ap, subst, arith}
+use Rattle.adya_dsg.specs.Machinery.VersionOrders.{ordered_history}
+use Rattle.adya_dsg.specs.Machinery.Along.{first_along}
+use Rattle.adya_dsg.proofs.Parts.{edges_before, one_more, all_parts, pushed}
 use Rattle.adya_dsg.proofs.along.first_edges.Goals as goal
-use Rattle.adya_dsg.proofs.along.first_edges.Goals.{then-contains+then-not-contains_key+in_ok-insert, else-contains, else-contains-via-then-contains+else-not-contains_key, else-contains-via-else-contains}
 
-pub loop-e-preserved : goal.loop-e-preserved
-loop-e-preserved c a there =
-    let edges = c.args.edges.now in
-    let cycle = c.args.cycle.now in
-    let i = c.loop-e.e-index in
-    let e = c.e-item.result in
-    let m = c.loop-e.first in
-    let arc = c.arc-arc.result in
-    let same = c.arc-arc.ensures in
-    let had = c.loop-e.invariant a there in
-    elim c.if-contains.branch [
-      | then-contains+then-not-contains_key+in_ok-insert w ↦ ap (λ x. get ends_cmp x (a.from, a.to)) w.first-is ∙
-          noted edges i e c.loop-e-test.true c.e-item.is a m had
-          (ap (λ (x : Arc). is_some (get ends_cmp m (x.from, x.to))) (sym same) ∙
-          (sym w.contains_key.ensures ∙ w.if-not-contains_key.true)) _
-          (w.in_ok-insert.ensures.updates.0 (a.from, a.to) ∙
-          ap (λ (x : Arc). cond (is_eq (ends_cmp (x.from, x.to) (a.from, a.to))) (Some e) (get ends_cmp m (a.from, a.to))) same)
-      | else-contains w ↦ ap (λ x. get ends_cmp x (a.from, a.to)) w.first-is ∙
-          elim w.else-contains.branch [
-            | else-contains-via-then-contains+else-not-contains_key w' ↦
-                had_before edges i e c.loop-e-test.true c.e-item.is a m had
-                (ap (λ (x : Arc). is_some (get ends_cmp m (x.from, x.to))) (sym same) ∙
-                (sym w'.contains_key.ensures ∙ w'.if-not-contains_key.false))
-            | else-contains-via-else-contains w' ↦
-                unwanted edges i e c.loop-e-test.true c.e-item.is a m had cycle there
-                (ap (λ (x : Arc). list_any (λ y. (y.from == x.from) && (y.to == x.to)) cycle) (sym same) ∙
-                (sym (c.in_ok-wanted.ensures (arc.from, arc.to)) ∙ (sym c.contains.ensures ∙ w'.if-contains.false)))
-          ]
-    ]
+pub loop-part-preserved : goal.loop-part-preserved
+loop-part-preserved c a there =
+    let h = ordered_history c.args.versions.now in
+    let i = c.loop-part.part in
+    let l = subst (λ n. i < n) c.count_parts-part-end.ensures c.loop-part-test.true in
+    let given = pushed h i c.deref.result.now _ _ c.deref.ensures.value c.in_ok-push_part_edges.ensures c.clear.ensures.items in
+    c.in_ok-note_first.ensures c.args.cycle.now (edges_before h i) c.in_ok-wanted.ensures c.loop-part.invariant a there ∙
+    ap (λ zs. first_along zs a) (ap (λ zs. edges_before h i ++ zs) given ∙ sym (one_more h i l))
+
+pub returns : goal.returns
+returns c a there =
+    let n = c.count_parts-part-end.ensures in
+    c.loop-part.invariant a there ∙
+    ap (λ zs. first_along zs a)
+    (all_parts (ordered_history c.args.versions.now) c.loop-part.part (omega (arith, c.loop-part-test.false, n)))

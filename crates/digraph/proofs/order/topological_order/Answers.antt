@@ -31,7 +31,7 @@ walked given out lent into gone first copied second taken a = (
 
 pub returns-in-Cycle : goal.returns-in-Cycle
 returns-in-Cycle c =
-    let same = walked c.args.arcs.items _ _ _ _ c.by_source-out.ensures c.deref.ensures.value c.in_ok-into.ensures.same
+    let same = walked c.args.arcs.items _ _ _ _ c.each_once-out.ensures.same c.deref.ensures.value c.in_ok-into.ensures.same
     c.deref-in-Some.ensures.value in
     cycle_known c.deref-in-Some.result.now c.args.arcs.items c.in-Cycle.cycle.items (λ a here. (same a).1 here)
     (subst (IsTrace c.deref-in-Some.result.now c.place.remaining) c.in-Cycle.is c.in_ok-cycle.ensures)
@@ -40,7 +40,7 @@ pub place-preserved : goal.place-preserved
 place-preserved c =
     let nodes = c.args.nodes.now in
     let arcs = c.args.arcs.items in
-    let same = walked arcs _ _ _ _ c.by_source-out.ensures c.deref.ensures.value c.in_ok-into.ensures.same
+    let same = walked arcs _ _ _ _ c.each_once-out.ensures.same c.deref.ensures.value c.in_ok-into.ensures.same
     c.deref-in-Some.ensures.value in
     let less = contains nat_cmp c.remove.new.self in
     let walk = subst (IsTrace c.deref-in-Some.result.now c.place.remaining) c.in-Source.is c.in_ok-cycle.ensures in

@@ -1,7 +1,7 @@
 use Rattle.std.proofs.Common.{◌≡◌, ◌++◌, map, drop}
 use Rattle.adya_dsg.specs.Meaning.Values.{edge_of}
 use Rattle.adya_dsg.specs.Machinery.Arcs.{ends}
-use Rattle.adya_dsg.proofs.links.add_arcs.Given as goal
+use Rattle.adya_dsg.proofs.arcs.add_arcs.Given as goal
 
 abbrev pub invariant-loop-edge : goal.invariant-loop-edge
 invariant-loop-edge l =

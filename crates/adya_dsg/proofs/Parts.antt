@@ -1,0 +1,146 @@
+-- The parts of a history: one of them, and the edges of the first ones and of all.
+use Rattle.std.proofs.Common.{◌≡◌, ℕ, ◌+◌, ◌<◌, ◌≤◌, ◌-◌, Bool, true, false, cond, List, [], ◌∷◌, ◌++◌, map, filter, flat_map, take, get_or, length, Contains, ◌↔◌, inl, inr, refl, sym, ◌∙◌, ap, subst, arith, append-nil}
+use Rattle.std.proofs.lemmas.Grind.{flat_map-append}
+use Rattle.std.proofs.lemmas.List.{take_all, take_more, get_or-map, get_or_append_left, get_or-append_right, length-append, length-map, map-append}
+use Rattle.std.proofs.lemmas.List.Elements.{Contains-append_left, Contains-append_right, Contains-append_cases, Contains-get_or}
+use Rattle.std.proofs.lemmas.List.Folds.{flat_map-map}
+use Rattle.adya_values.specs.declared.order.Order.{Order as OrderValue}
+use Rattle.adya_values.specs.declared.event.Event.{Event as EventValue}
+use Rattle.adya_values.specs.Meaning.Keys.{keys_rise}
+use Rattle.adya_values.specs.Meaning.Histories.{Event, Order, History, event_of, order_of}
+use Rattle.adya_values.specs.Meaning.Events.{txn_of, is_committed}
+use Rattle.adya_values.specs.Meaning.Edges.{Edge}
+use Rattle.adya_values.specs.Computing.EdgeList.{write_edges, event_edges, dependencies}
+use Rattle.digraph.specs.declared.arc.Arc.{Arc}
+use Rattle.adya_dsg.specs.declared.edge.Edge.{Edge as EdgeValue}
+use Rattle.adya_dsg.specs.Machinery.Arcs.{ends}
+use Rattle.adya_dsg.specs.Meaning.Values.{edge_of}
+use Rattle.adya_dsg.specs.Machinery.PartEdges.{line_edges, committed_edges, parts, part_edges}
+use Rattle.lemmas.proofs.Members.{Contains-map}
+use Rattle.adya_dsg.proofs.FlatMaps.{filtered}
+use Rattle.adya_dsg.proofs.LineEdges.{line_edges-at}
+
+-- the edges of the parts before this one
+abbrev pub edges_before : History → ℕ → List Edge
+edges_before h i = flat_map (λ es. es) (take i (parts h))
+
+pub one_more : (h : History) (i : ℕ) → i < length (parts h) → edges_before h (i + 1) ≡ edges_before h i ++ part_edges h i
+one_more h i l =
+    ap (flat_map (λ es. es)) (take_more (parts h) i [] l) ∙
+    (flat_map-append (λ es. es) (take i (parts h)) (part_edges h i ∷ []) ∙
+    ap (λ es. edges_before h i ++ es) (append-nil (part_edges h i)))
+
+-- what the elements that pass a test give
+of_tested : {X A : Type 0} (test : X → Bool) (f : X → List A) (xs : List X)
+    → flat_map (λ x. cond (test x) (f x) []) xs ≡ flat_map f (filter test xs)
+of_tested test f [] = refl
+of_tested test f (x ∷ xs) =
+    ap (λ ys. cond (test x) (f x) [] ++ ys) (of_tested test f xs) ∙ sym (filtered test f (x ∷ xs) xs x refl (test x) refl)
+
+pub all_parts : (h : History) (n : ℕ) → length (parts h) ≤ n → edges_before h n ≡ dependencies h
+all_parts h n l =
+    let of_line : Order → List Edge = λ o. write_edges h o.key in
+    ap (flat_map (λ es. es)) (take_all n (parts h) l) ∙
+    (flat_map-append (λ es. es) (map of_line h.orders) (map (committed_edges h) h.events) ∙
+    (ap (λ es. es ++ flat_map (λ (zs : List Edge). zs) (map (committed_edges h) h.events)) (flat_map-map (λ es. es) of_line h.orders) ∙
+    ap (λ es. flat_map of_line h.orders ++ es)
+    (flat_map-map (λ es. es) (committed_edges h) h.events ∙
+    of_tested (λ (e : Event). is_committed h.events (txn_of e)) (event_edges h) h.events)))
+
+-- how many there are
+pub parts_are : (h : History) → length (parts h) ≡ length h.orders + length h.events
+parts_are h =
+    let of_line : Order → List Edge = λ o. write_edges h o.key in
+    length-append (map of_line h.orders) (map (committed_edges h) h.events) ∙
+    (ap (λ n. n + length (map (committed_edges h) h.events)) (length-map h.orders of_line) ∙
+    ap (λ n. length h.orders + n) (length-map h.events (committed_edges h)))
+
+-- the part of a line
+pub of_line_at : (h : History) (i : ℕ) (o : Order) → i < length h.orders → o ≡ get_or h.orders i o
+    → write_edges h o.key ≡ part_edges h i
+of_line_at h i o l at =
+    let of_line : Order → List Edge = λ x. write_edges h x.key in
+    ap of_line at ∙
+    (sym (get_or-map of_line h.orders i o [] l) ∙
+    sym (get_or_append_left (map of_line h.orders) (map (committed_edges h) h.events) [] i
+    (subst (λ n. i < n) (sym (length-map h.orders of_line)) l)))
+
+-- the part of an event
+pub of_event_at : (h : History) (n i : ℕ) (e : Event) → length h.orders ≡ n → n ≤ i → i - n < length h.events
+    → e ≡ get_or h.events (i - n) e → committed_edges h e ≡ part_edges h i
+of_event_at h n i e lines after l at =
+    let of_line : Order → List Edge = λ x. write_edges h x.key in
+    ap (committed_edges h) at ∙
+    (sym (get_or-map (committed_edges h) h.events (i - n) e [] l) ∙
+    sym (get_or-append_right (map of_line h.orders) (map (committed_edges h) h.events) n i []
+    (length-map h.orders of_line ∙ lines) after))
+
+module _ (h : History) (os : List OrderValue) (lines : map order_of os ≡ h.orders) (i : ℕ) where
+  count : length h.orders ≡ length os
+  count = ap length (sym lines) ∙ length-map os order_of
+
+  -- the part of a line, by its writers
+  pub of_line : keys_rise (map (λ (x : Order). x.key) (map order_of os)) ≡ true → (o : OrderValue) → i < length os
+      → o ≡ get_or os i o → line_edges o.key o.writers.items ≡ part_edges h i
+  of_line rise o l at =
+      line_edges-at h os i o lines rise l at ∙
+      of_line_at h i (order_of o) (subst (λ n. i < n) (sym count) l)
+      (ap order_of at ∙ (sym (get_or-map order_of os i o (order_of o) l) ∙ ap (λ zs. get_or zs i (order_of o)) lines))
+
+  -- the part of an event
+  module _ (es : List EventValue) (events : map event_of es ≡ h.events) (there : i < length (parts h))
+      (after : length os ≤ i) where
+    within : i - length os < length es
+    within =
+        let all = parts_are h in
+        let lines' = count in
+        let events' : length h.events ≡ length es = ap length (sym events) ∙ length-map es event_of in
+        omega (arith, all, lines', events', there, after)
+
+    event_at : (e : EventValue) → e ≡ get_or es (i - length os) e → committed_edges h (event_of e) ≡ part_edges h i
+    event_at e at =
+        of_event_at h (length os) i (event_of e) count after
+        (subst (λ n. i - length os < n) (sym (length-map es event_of) ∙ ap length events) within)
+        (ap event_of at ∙
+        (sym (get_or-map event_of es (i - length os) e (event_of e) within) ∙
+        ap (λ zs. get_or zs (i - length os) (event_of e)) events))
+
+    pub occurs : (e : EventValue) → e ≡ get_or es (i - length os) e → Contains h.events (event_of e)
+    occurs e at =
+        subst (λ zs. Contains zs (event_of e)) events
+        (Contains-map event_of es e (subst (Contains es) (sym at) (Contains-get_or es (i - length os) e within)))
+
+    pub of_committed : (e : EventValue) → e ≡ get_or es (i - length os) e → is_committed h.events (txn_of (event_of e)) ≡ true
+        → event_edges h (event_of e) ≡ part_edges h i
+    of_committed e at c = sym (ap (λ b. cond b (event_edges h (event_of e)) []) c) ∙ event_at e at
+
+    pub of_other : (e : EventValue) → e ≡ get_or es (i - length os) e → is_committed h.events (txn_of (event_of e)) ≡ false
+        → part_edges h i ≡ []
+    of_other e at c = sym (event_at e at) ∙ ap (λ b. cond b (event_edges h (event_of e)) []) c
+
+-- arcs of the parts so far, with those of one more
+pub arcs_more : (h : History) (i : ℕ) → i < length (parts h) → (arcs now : List Arc)
+    → ((a : Arc) → Contains arcs a ↔ Contains (map ends (edges_before h i)) a) → now ≡ arcs ++ map ends (part_edges h i)
+    → (a : Arc) → Contains now a ↔ Contains (map ends (edges_before h (i + 1))) a
+arcs_more h i l arcs now had adds a =
+    let before = map ends (edges_before h i) in
+    let here = map ends (part_edges h i) in
+    let all : map ends (edges_before h (i + 1)) ≡ before ++ here =
+    ap (map ends) (one_more h i l) ∙ map-append ends (edges_before h i) (part_edges h i) in (
+      λ c. subst (λ zs. Contains zs a) (sym all)
+          (elim (Contains-append_cases arcs here a (subst (λ zs. Contains zs a) adds c)) [
+            | inl d ↦ Contains-append_left before here a ((had a).0 d)
+            | inr d ↦ Contains-append_right before here a d
+          ]),
+      λ c. subst (λ zs. Contains zs a) (sym adds)
+          (elim (Contains-append_cases before here a (subst (λ zs. Contains zs a) all c)) [
+            | inl d ↦ Contains-append_left arcs here a ((had a).1 d)
+            | inr d ↦ Contains-append_right arcs here a d
+          ]),
+    )
+
+-- what a list that was cleared holds after the part's edges were added
+pub pushed : (h : History) (i : ℕ) (lent now cleared : List EdgeValue) → lent ≡ now
+    → map edge_of now ≡ map edge_of cleared ++ part_edges h i → cleared ≡ [] → map edge_of lent ≡ part_edges h i
+pushed h i lent now cleared same adds empty =
+    ap (map edge_of) same ∙ (adds ∙ ap (λ zs. map edge_of zs ++ part_edges h i) empty)

@@ -1,0 +1,42 @@
+//! The edges of a history part by part: those of each order line, and then those of each event.
+
+ghost use Rattle.std.specs.Prelude.{◌≡◌, ◌<◌, ◌++◌, length, map, OnOk};
+ghost use Rattle.adya_dsg.specs.Machinery.VersionOrders.{ordered_history};
+ghost use Rattle.adya_dsg.specs.Meaning.Values.{edge_of};
+ghost use Rattle.adya_dsg.specs.Machinery.PartEdges.{parts, part_edges};
+
+use crate::Edge;
+use crate::event_edges::push_event_edges;
+use crate::version_orders::VersionOrders;
+use crate::write_edges::push_write_edges;
+use std::alloc::{AllocError, Global};
+
+/// Returns how many parts the history has: its order lines and its events.
+pub(crate) fn count_parts(versions: &VersionOrders) -> usize
+    ensures { result ≡ length (parts (ordered_history versions.now)) }
+{
+    versions.orders().len() + versions.events().len()
+}
+
+/// Adds the edges of the part: of the order line at this index or, if there are only so many lines, of the event. Only
+/// the events of committed transactions have edges.
+pub(crate) fn push_part_edges(
+    alloc: Global,
+    edges: &mut Vec<Edge>,
+    versions: &VersionOrders,
+    part: usize,
+) -> Result<(), AllocError>
+    requires { part < length (parts (ordered_history versions.now)) }
+    ensures { OnOk result (map edge_of edges.new.items
+        ≡ map edge_of edges.old.items ++ part_edges (ordered_history versions.now) part) }
+{
+    let orders = versions.orders();
+    if part < orders.len() {
+        return push_write_edges(edges, &orders[part]);
+    }
+    let event = &versions.events()[part - orders.len()];
+    if versions.is_committed(event) {
+        push_event_edges(alloc, edges, versions, event)?;
+    }
+    Ok(())
+}
