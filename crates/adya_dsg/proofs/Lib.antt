@@ -12,6 +12,7 @@ pub mod FlatMaps
 pub mod Keys
 pub mod LineEdges
 pub mod Lines
+pub mod LineNumbers
 pub mod LinksDecide
 pub mod Numbers
 pub mod Parts

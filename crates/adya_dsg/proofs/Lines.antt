@@ -1,10 +1,6 @@
 -- Order lines by their indexes in the list of lines.
-use Rattle.std.proofs.Common.{◌≡◌, ℕ, zero, suc, ◌<◌, ◌≤◌, Bool, true, false, cond, List, [], ◌∷◌, map, length, get_or, IfSome, IfNone, slice_get, option_map, refl, sym, ◌∙◌, ap, subst, arith, inl, inr}
-use Rattle.std.proofs.Common.{Result, Ok, Err, Equal, nat_cmp}
-use Rattle.std.specs.List.{HoldsAt}
-use Rattle.std.specs.List.Sorted.{IsBinarySearchResult, IsSearchInRange, IsPartitionPoint}
-use Rattle.std.specs.Cmp.Lexicographic.{slice_cmp}
-use Rattle.std.specs.Result.{result_ok}
+use Rattle.std.proofs.Common.{◌≡◌, ℕ, zero, suc, ◌<◌, ◌≤◌, Bool, true, false, cond, List, [], ◌∷◌, map, length, get_or, slice_get, option_map, refl, sym, ◌∙◌, ap, subst, arith, inl, inr}
+use Rattle.std.specs.List.Sorted.{IsPartitionPoint}
 use Rattle.std.proofs.lemmas.Bool.{cases_eq, eq-eqb, ne_eqb, and_parts}
 use Rattle.std.proofs.lemmas.Option.{slice_get-map, slice_get_read, slice_get-get_or}
 use Rattle.std.proofs.lemmas.Simd.{map-map}
@@ -16,8 +12,7 @@ use Rattle.adya_values.specs.Computing.Shapes.{is_shape}
 use Rattle.adya_values.specs.Meaning.Histories.{History, Order, order_of, final_of}
 use Rattle.adya_values.specs.Meaning.Orders.{place, line_of}
 use Rattle.adya_dsg.specs.Machinery.Choices.{key_of}
-use Rattle.lemmas.proofs.Orderings.{tied_bytes, search_misses}
-use Rattle.adya_dsg.proofs.Keys.{line_of-at, rises_at}
+use Rattle.adya_dsg.proofs.Keys.{line_of-at}
 
 -- the orders that a checked history gives out are its lines
 pub record Lends (h : History) (os : List OrderValue) : Type 0 where
@@ -68,25 +63,11 @@ place-le (x ∷ ws) t =
     ]
 
 -- a fact of the line at an index, whatever the default past the end
-at_key : (os : List OrderValue) (i : ℕ) (k : List ℕ) → i < length os
-    → ((d : OrderValue) → slice_cmp nat_cmp (get_or os i d).key k ≡ Equal)
-    → key_of (slice_get (map order_of os) i) ≡ k
-at_key [] i k l h = absurd (omega (arith, l))
-at_key (o ∷ os) i k l h = key_there (o ∷ os) i o l ∙ tied_bytes _ k (h o)
-
 tested_at : (os : List OrderValue) (k : List ℕ) (b : Bool) (i : ℕ) → i < length os
     → ((d : OrderValue) → key_lt (get_or os i d).key k ≡ b)
     → key_lt (key_of (slice_get (map order_of os) i)) k ≡ b
 tested_at [] k b i l h = absurd (omega (arith, l))
 tested_at (o ∷ os) k b i l h = ap (λ j. key_lt j k) (key_there (o ∷ os) i o l) ∙ h o
-
-nowhere : (os : List OrderValue) (k : List ℕ) (n : ℕ) → keys_rise (map (λ (o : OrderValue). o.key) os) ≡ true
-    → IsBinarySearchResult (λ (o : OrderValue). slice_cmp nat_cmp o.key k) os (Err n) → (i : ℕ) → i < length os
-    → key_of (slice_get (map order_of os) i) ≡ k → ⊥
-nowhere [] k n rise found i l e = omega (arith, l)
-nowhere (o ∷ os) k n rise found i l e =
-    search_misses (λ (x : OrderValue). x.key) (o ∷ os) k n
-    (λ a b d less m. rises_at (λ (x : OrderValue). x.key) (o ∷ os) a b d rise less m) found i o l (sym (key_there (o ∷ os) i o l) ∙ e)
 
 -- what is kept of each line, at one of them
 pub mapped_at : {X Y : Type 0} (f : List ℕ → Y) (view : X → Y) (xs : List X) (os : List OrderValue) (i : ℕ) (x : X)
@@ -98,26 +79,6 @@ mapped_at f view (y ∷ xs) [] i x same l e = absurd (omega (arith, l))
 mapped_at f view (y ∷ xs) (o ∷ os) zero x same l e = ap view e ∙ cc (same)
 mapped_at f view (y ∷ xs) (o ∷ os) (suc i) x same l e =
     mapped_at f view xs os i x (cc (same)) (omega (arith, l)) e
-
--- what a binary search by keys finds
-pub found_at : (os orders : List OrderValue) → orders ≡ os → (k : List ℕ) (r : Result ℕ ℕ) → IsSearchInRange r (length orders)
-    → IsBinarySearchResult (λ (o : OrderValue). slice_cmp nat_cmp o.key k) orders r
-    → IfSome (result_ok r) (λ i. key_of (slice_get (map order_of os) i) ≡ k)
-found_at os orders same k (Ok i) within found =
-    let l : i < length os = subst (λ (zs : List OrderValue). i < length zs) same within in
-    at_key os i k l (subst (λ zs. HoldsAt (λ (o : OrderValue). slice_cmp nat_cmp o.key k ≡ Equal) zs i) same found)
-found_at os orders same k (Err i) within found = tt
-
--- if it finds nothing, no line has the key
-pub found_nowhere : (os orders : List OrderValue) → orders ≡ os
-    → keys_rise (map (λ (o : Order). o.key) (map order_of os)) ≡ true → (k : List ℕ) (r : Result ℕ ℕ)
-    → IsBinarySearchResult (λ (o : OrderValue). slice_cmp nat_cmp o.key k) orders r
-    → IfNone (result_ok r)
-    ((i : ℕ) → i < length os → key_of (slice_get (map order_of os) i) ≡ k → ⊥)
-found_nowhere os orders same rise k (Ok n) found = tt
-found_nowhere os orders same rise k (Err n) found = λ i l e.
-    nowhere os k n (rise_of_values os rise)
-    (subst (λ zs. IsBinarySearchResult (λ (o : OrderValue). slice_cmp nat_cmp o.key k) zs (Err n)) same found) i l e
 
 -- the lines up to a partition by a key are below it
 pub keys_below : (os orders : List OrderValue) → orders ≡ os → (k : List ℕ) (n : ℕ) → n ≤ length os

@@ -14,9 +14,9 @@ ghost use Rattle.adya_dsg.specs.Meaning.Values.{edge_of};
 ghost use Rattle.adya_dsg.specs.Machinery.PartEdges.{line_edges, is_backward};
 
 use crate::Edge;
-use crate::certificate_places::CertificatePlaces;
 use crate::event_edges::push_event_edges;
 use crate::event_links::push_event_links;
+use crate::txn_places::TxnPlaces;
 use crate::version_orders::VersionOrders;
 use crate::write_edges::push_write_edges;
 use adya_laws::{edge_list_keeps_first, selected_is_installed};
@@ -38,7 +38,9 @@ pub fn first_backward(
         ≡ first_backward (checked_history checked.now) (serial_txns serial.now)) }
 {
     edge_list_keeps_first();
-    let certificate = CertificatePlaces::of(alloc, serial.txns())?;
+    let txns = serial.txns();
+    // most histories commit more than half of their transactions, so most numbers are below twice as many
+    let certificate = TxnPlaces::of(alloc, txns, txns.len().saturating_mul(2))?;
     let found = first_write(alloc, &certificate, checked.history().orders())?;
     if found.is_some() {
         return Ok(found);
@@ -50,7 +52,7 @@ pub fn first_backward(
 /// Returns the first write dependency that doesn't go forward.
 fn first_write(
     alloc: Global,
-    certificate: &CertificatePlaces,
+    certificate: &TxnPlaces,
     orders: &[Order],
 ) -> Result<Option<Edge>, AllocError>
     ensures { IfOk result (λ o. option_map edge_of o ≡ find (is_backward certificate.now.txns.now)
@@ -70,7 +72,7 @@ fn first_write(
 /// Returns the first edge of a committed transaction's event that doesn't go forward, if all write dependencies do.
 fn first_read(
     alloc: Global,
-    certificate: &CertificatePlaces,
+    certificate: &TxnPlaces,
     versions: &VersionOrders,
 ) -> Result<Option<Edge>, AllocError>
     requires checked { IsChecked (ordered_history versions.now) }
@@ -96,7 +98,7 @@ fn first_read(
 /// forward, so do all of its edges, so its edges are listed only if a link goes backward.
 fn first_of_event(
     alloc: Global,
-    certificate: &CertificatePlaces,
+    certificate: &TxnPlaces,
     versions: &VersionOrders,
     event: &Event,
     edges: &mut Vec<Edge>,

@@ -11,19 +11,21 @@
 mod along;
 mod arcs;
 mod backward;
-mod certificate_places;
 mod changes;
 mod edge;
 mod event_edges;
 mod event_links;
 mod found;
 mod laws;
+mod line_numbers;
+mod line_tables;
 mod links;
 mod listing;
 mod nodes;
 mod ordering;
 mod part_edges;
 mod selection;
+mod txn_places;
 mod version_orders;
 mod write_edges;
 

@@ -1,7 +1,10 @@
 //! A certificate of a history, or a cycle of its graph.
 
 ghost use Rattle.std.specs.Prelude.{◌≡◌, ◌↔◌, All, IfOk, map};
+ghost use Rattle.std.specs.List.{list_any};
 ghost use Rattle.adya_values.specs.Meaning.Keys.{IsTxn};
+ghost use Rattle.adya_values.specs.Meaning.Histories.{event_of};
+ghost use Rattle.adya_values.specs.Meaning.Selections.{is_scan};
 ghost use Rattle.adya_values.specs.Meaning.Acceptance.{IsChecked};
 ghost use Rattle.adya_values.specs.Meaning.Phenomena.{HasG1, HasG2};
 ghost use Rattle.adya_terms.specs.Meaning.Checked.{checked_history};
@@ -14,6 +17,7 @@ ghost use Rattle.adya_dsg.specs.Meaning.Found.{IsFound, NoneBesideCycle, HasCert
 use crate::Found;
 use crate::along::edges_along;
 use crate::arcs::arcs_of_edges;
+use crate::event_links::is_scan;
 use crate::laws::{
     certified_where_no_phenomenon, cycle_excludes_certificates, edges_join_committed,
 };
@@ -22,6 +26,7 @@ use crate::nodes::{committed, serial_of};
 use crate::version_orders::VersionOrders;
 use adya_laws::edge_list_is_exact;
 use adya_terms::Checked;
+use adya_values::Event;
 use digraph::{Outcome, topological_order};
 use std::alloc::{AllocError, Global};
 
@@ -44,7 +49,7 @@ pub fn order(alloc: Global, checked: &Checked) -> Result<Found, AllocError>
     by_links(alloc, &versions, &nodes)
 }
 
-/// By the links, which are few. If they have a cycle, by all edges.
+/// By the links, which are few. If they have a cycle, by all edges; without scans these have no other ends.
 fn by_links(alloc: Global, versions: &VersionOrders, nodes: &[u32]) -> Result<Found, AllocError>
     requires checked { IsChecked (ordered_history versions.now) }
     requires nodes { nodes.now ≡ committed (ordered_history versions.now).events }
@@ -55,7 +60,12 @@ fn by_links(alloc: Global, versions: &VersionOrders, nodes: &[u32]) -> Result<Fo
     edges_join_committed();
     match topological_order(alloc, nodes, links(alloc, versions)?)? {
         Outcome::Order(order) => Ok(Found::Serial(serial_of(alloc, &order)?)),
-        Outcome::Cycle(_) => by_edges(alloc, versions, nodes),
+        Outcome::Cycle(cycle) => {
+            if has_scans(versions.events()) {
+                return by_edges(alloc, versions, nodes);
+            }
+            Ok(Found::Cycle(edges_along(alloc, versions, &cycle)?))
+        }
     }
 }
 
@@ -72,4 +82,11 @@ fn by_edges(alloc: Global, versions: &VersionOrders, nodes: &[u32]) -> Result<Fo
         Outcome::Order(order) => Ok(Found::Serial(serial_of(alloc, &order)?)),
         Outcome::Cycle(cycle) => Ok(Found::Cycle(edges_along(alloc, versions, &cycle)?)),
     }
+}
+
+/// Returns whether an event is a scan.
+fn has_scans(events: &[Event]) -> bool
+    ensures { result ≡ list_any (λ e. is_scan (event_of e)) events.now }
+{
+    events.iter().any(is_scan)
 }

@@ -1,31 +1,40 @@
 //! The version orders of a history, with what changes the matches of scans.
 
 ghost use Rattle.std.specs.Prelude.{◌≡◌, ◌<◌, ◌≤◌, ℕ, suc, Some, slice_get, List, nat_lt, leb, length, map, true, false, IfNone, IfSome, IfOk};
+ghost use Rattle.std.specs.HashMap.{get};
 ghost use Rattle.std.specs.List.{find, list_all};
 ghost use Rattle.std.specs.List.Sorted.{IsPartitionPoint};
-ghost use Rattle.adya_values.specs.Meaning.Keys.{key_lt, keys_rise};
+ghost use Rattle.adya_values.specs.Meaning.Keys.{key_eq, key_lt, keys_rise};
 ghost use Rattle.adya_values.specs.Meaning.Histories.{event_of, order_of};
 ghost use Rattle.adya_values.specs.Meaning.Events.{txn_of, is_committed};
 ghost use Rattle.adya_values.specs.Meaning.Values.{events_in, orders_in};
 ghost use Rattle.adya_values.specs.Meaning.Orders.{writers, place, installer, is_visible_at};
 ghost use Rattle.adya_terms.specs.Meaning.Checked.{checked_history, history_in};
 ghost use Rattle.adya_dsg.specs.Machinery.Choices.{key_at};
+ghost use Rattle.adya_dsg.specs.Machinery.LineNumbers.{FindsLines};
 ghost use Rattle.adya_dsg.specs.Machinery.Links.{changed_places};
+ghost use Rattle.adya_dsg.specs.Machinery.Places.{tabled};
 
 use crate::changes::line_changes;
+use crate::line_numbers::lines_by_key;
+use crate::line_tables::{SHORT_LINE, line_tables};
+use crate::txn_places::TxnPlaces;
 use adya_terms::Checked;
 use adya_values::{Event, Key, Order, Txn};
 use std::alloc::{AllocError, Global};
-
-/// A line with at most so many writers is read through to find one, which takes less time than to look it up in a table.
-const SHORT_LINE: usize = 32;
+use std::collections::HashMap;
 
 /// The version orders of a checked history. An order line is named by its index in the list of lines. In a line, place
 /// 0 is that of the unborn version, and the writers come from place 1 on.
 #[derive(Drop)]
 pub(crate) struct VersionOrders<'a> {
     checked: &'a Checked<'a>,
+    lines: HashMap<Key, usize>,
+    tables: Vec<TxnPlaces<'a>>,
     changes: Vec<Vec<usize>>,
+    ghost found: { let os = orders_in (history_in checked.now) in FindsLines (get key_eq lines) os (length os) },
+    ghost listed: { let h = checked_history checked.now in
+        map (λ p. p.txns.now) tables.items ≡ map (λ o. tabled (writers h o.key)) h.orders },
     ghost changed: { let h = checked_history checked.now in
         map (λ line. line.items) changes.items ≡ map (λ o. changed_places h o.key) h.orders },
 }
@@ -37,8 +46,15 @@ impl<'a> VersionOrders<'a> {
     pub fn of(alloc: Global, checked: &'a Checked<'a>) -> Result<VersionOrders<'a>, AllocError>
         ensures same { IfOk result (λ g. history_in g.checked.now ≡ history_in checked.now) }
     {
+        let lines = lines_by_key(alloc, checked.history().orders())?;
+        let tables = line_tables(alloc, checked)?;
         let changes = line_changes(alloc, checked)?;
-        Ok(VersionOrders { checked, changes })
+        Ok(VersionOrders {
+            checked,
+            lines,
+            tables,
+            changes,
+        })
     }
 
     /// Returns the events of the history.
@@ -86,8 +102,7 @@ impl<'a> VersionOrders<'a> {
         if writers.len() <= SHORT_LINE {
             return writers_before(writers, txn) + 1;
         }
-        let before = self.checked.place(txn, order.key);
-        before.unwrap_or(writers.len()) + 1
+        self.tables[line].place(txn) + 1
     }
 
     /// Returns who installed the version at the place of the line.
@@ -149,7 +164,7 @@ impl<'a> VersionOrders<'a> {
         ensures none { IfNone result ((i : ℕ) → i < length (order_lines self.now)
             → key_at (ordered_history self.now) i ≡ key → ⊥) }
     {
-        self.orders().binary_search_by_key(&key, |o| o.key).ok()
+        self.lines.get(&key).copied()
     }
 
     /// Returns how many lines have smaller keys.

@@ -16,7 +16,7 @@ use Rattle.adya_values.specs.Meaning.Events.{txn_of, written, last_write, is_com
 use Rattle.adya_values.specs.Meaning.Rules.{installs}
 use Rattle.adya_values.specs.Computing.Faults.{lists_exactly, order_faults}
 use Rattle.adya_terms.specs.Machinery.Tables.{own, Tell}
-use Rattle.adya_terms.specs.Machinery.Places.{line, lists_once, ArePlaced, AfterLines, HasLeft, HasPlace, Judges, Leaves, Places}
+use Rattle.adya_terms.specs.Machinery.Places.{line, lists_once, ArePlaced, AfterLines, HasLeft, HasPlace, Judges, Leaves}
 use Rattle.adya_terms.proofs.Places.{place_cases, same_own}
 use Rattle.adya_terms.proofs.Selected.{rise_unique}
 use Rattle.adya_values.proofs.Faults.{each_passes}
@@ -144,9 +144,6 @@ module _ (c a : ℕ → Bool) (l : Own → Option ℕ) (v : Version → Option �
               absurd (both_ways _ (after.not_once x at) (and_parts (lists_once all x) _ (right x (Contains-slice_get os n x at))).0)
           | inr past ↦ take_all n os past
         ]
-
-    pub places_where_right : Places l ps os
-    places_where_right = record { placed = all_placed; only = after.only }
 
     -- a key that is left has no line
     pub no_line_where_left : (k : List ℕ) → HasLeft all l ps k → list_all (has_line all os) (filter_map written all) ≡ false

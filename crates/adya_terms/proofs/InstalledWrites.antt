@@ -2,15 +2,15 @@
 use Rattle.std.proofs.Common.{◌≡◌, ℕ, List, [], ◌∷◌, ◌++◌, Option, Some, None, Vec, Global, map, option_map, slice_get, refl, sym, ◌∙◌, ap}
 use Rattle.std.specs.Prelude.{option_and_then}
 use Rattle.std.proofs.lemmas.List.{map-append}
+use Rattle.std.proofs.lemmas.Simd.{map-map}
 use Rattle.std.proofs.lemmas.Option.{none-some, same_Some, slice_get-map}
 use Rattle.adya_values.specs.Meaning.Histories.{Entry, Event, Order}
 use Rattle.adya_values.specs.Meaning.Events.{last_write}
 use Rattle.adya_terms.specs.declared.tables.Own.{Own}
 use Rattle.adya_terms.specs.declared.checked.Checked.{Checked}
 use Rattle.adya_terms.specs.Meaning.Checked.{checked_history, installed_at}
-use Rattle.adya_terms.specs.Machinery.EventIndex.{indexed, last_in}
 use Rattle.adya_terms.specs.Machinery.Tables.{own, written_at}
-use Rattle.adya_terms.specs.Machinery.Places.{line_writes, AreWrites}
+use Rattle.adya_terms.specs.Machinery.Places.{line_writes, AreInstalled, AreWrites}
 
 -- two lists that agree still do with one more on each side
 pub both_more : {A B C : Type 0} (f : A → C) (g : B → C) (xs : List A) (ys : List B) (x : A) (y : B) → map f xs ≡ map g ys → f x ≡ g y
@@ -23,52 +23,77 @@ both_at : {A B C : Type 0} (f : A → C) (g : B → C) (xs : List A) (ys : List 
     → option_map f (slice_get xs i) ≡ option_map g (slice_get ys i)
 both_at f g xs ys i e = sym (slice_get-map f xs i) ∙ (ap (λ zs. slice_get zs i) e ∙ slice_get-map g ys i)
 
-module _ (last : Own → Option ℕ) (all : List Event) (last_is : (t : ℕ) (k : List ℕ) → written_at all (last (own t k)) ≡ last_write t k all) where
-  -- what the transaction wrote last of the key is what the event at the index wrote
-  of_writer : (k : List ℕ) (a t : Option ℕ) → option_map Some a ≡ option_map (λ u. last (own u k)) t
-      → option_and_then (λ at. written_at all (Some at)) a ≡ option_and_then (λ u. last_write u k all) t
-  of_writer k None None e = refl
-  of_writer k None (Some t) e = absurd (none-some _ e)
-  of_writer k (Some at) None e = absurd (none-some _ (sym e))
-  of_writer k (Some at) (Some t) e = ap (written_at all) (same_Some _ _ e) ∙ last_is t k
+-- functions that agree map a list alike
+map_alike : {X Y : Type 0} (f g : X → Y) → ((x : X) → f x ≡ g x) → (xs : List X) → map f xs ≡ map g xs
+map_alike f g same [] = refl
+map_alike f g same (x ∷ xs) = ap (λ y. y ∷ map f xs) (same x) ∙ ap (λ ys. g x ∷ ys) (map_alike f g same xs)
 
-  of_line : (place : ℕ) (v : Option (Vec ℕ Global)) (o : Option Order) → option_map (λ ws. map Some ws.items) v ≡ option_map (line_writes last) o
-      → option_and_then (λ ws. option_and_then (λ at. written_at all (Some at)) (slice_get ws.items place)) v
-      ≡ option_and_then (λ x. option_and_then (λ t. last_write t x.key all) (slice_get x.writers place)) o
+-- lists that agree still do when both sides are mapped once more
+both_then : {A B C D : Type 0} (f : A → C) (g : B → C) (after : C → D) (xs : List A) (ys : List B) → map f xs ≡ map g ys
+    → map (λ x. after (f x)) xs ≡ map (λ y. after (g y)) ys
+both_then f g after xs ys e = sym (map-map after f xs) ∙ (ap (map after) e ∙ map-map after g ys)
+
+-- lines of the indices of last writes are lines of the indices of what was installed
+pub installed_if_last : (last : Own → Option ℕ) (all : List Event)
+    → ((t : ℕ) (k : List ℕ) → written_at all (last (own t k)) ≡ last_write t k all)
+    → (ws : List (Vec ℕ Global)) (os : List Order) → AreWrites last ws os → AreInstalled all ws os
+installed_if_last last all last_is ws os e =
+    let by_line = both_then (λ (v : Vec ℕ Global). map Some v.items) (line_writes last) (map (written_at all)) ws os e in
+    map_alike _ _ (λ v. sym (map-map (written_at all) Some v.items)) ws ∙
+    (by_line ∙
+    map_alike _ _
+    (λ o. map-map (written_at all) (λ t. last (own t o.key)) o.writers ∙ map_alike _ _ (λ t. last_is t o.key) o.writers) os)
+
+joined : {X Y : Type 0} (f : X → Option Y) (o : Option X) → option_and_then f o ≡ option_and_then (λ y. y) (option_map f o)
+joined f None = refl
+joined f (Some x) = refl
+
+module _ (all : List Event) where
+  abbrev wrote : ℕ → Option Entry
+  wrote at = written_at all (Some at)
+
+  abbrev wrote_last : List ℕ → ℕ → Option Entry
+  wrote_last k t = last_write t k all
+
+  -- what the event at the index that the lists have for a line and a place wrote
+  abbrev pub installed_by : List (Vec ℕ Global) → ℕ → ℕ → Option Entry
+  installed_by lines line place = option_and_then (λ ws. option_and_then wrote (slice_get ws.items place)) (slice_get lines line)
+
+  of_line : (place : ℕ) (v : Option (Vec ℕ Global)) (o : Option Order)
+      → option_map (λ ws. map wrote ws.items) v ≡ option_map (λ x. map (wrote_last x.key) x.writers) o
+      → option_and_then (λ ws. option_and_then wrote (slice_get ws.items place)) v
+      ≡ option_and_then (λ x. option_and_then (wrote_last x.key) (slice_get x.writers place)) o
   of_line place None None e = refl
   of_line place None (Some o) e = absurd (none-some _ e)
   of_line place (Some v) None e = absurd (none-some _ (sym e))
   of_line place (Some v) (Some o) e =
-      of_writer o.key (slice_get v.items place) (slice_get o.writers place)
-      (both_at Some (λ t. last (own t o.key)) v.items o.writers place (same_Some _ _ e))
+      joined wrote (slice_get v.items place) ∙
+      (ap (option_and_then (λ y. y)) (both_at wrote (wrote_last o.key) v.items o.writers place (same_Some _ _ e)) ∙
+      sym (joined (wrote_last o.key) (slice_get o.writers place)))
 
-  -- the event at the index that the lists have for a line and a place
-  pub installs : (lines : List (Vec ℕ Global)) (os : List Order) (line place : ℕ) → AreWrites last lines os
-      → option_and_then (λ ws. option_and_then (λ at. written_at all (Some at)) (slice_get ws.items place)) (slice_get lines line)
-      ≡ option_and_then (λ x. option_and_then (λ t. last_write t x.key all) (slice_get x.writers place)) (slice_get os line)
+  -- it is what the writer there wrote last of the line's key
+  pub installs : (lines : List (Vec ℕ Global)) (os : List Order) (line place : ℕ) → AreInstalled all lines os
+      → installed_by lines line place
+      ≡ option_and_then (λ x. option_and_then (wrote_last x.key) (slice_get x.writers place)) (slice_get os line)
   installs lines os line place same =
-      of_line place (slice_get lines line) (slice_get os line) (both_at (λ (ws : Vec ℕ Global). map Some ws.items) (line_writes last) lines os line same)
-
--- what the event at an index that is kept for the place of the line wrote
-abbrev installed_by : Checked → ℕ → ℕ → Option Entry
-installed_by x line place =
-    option_and_then (λ ws. option_and_then (λ at. written_at (indexed x.index) (Some at)) (slice_get ws.items place)) (slice_get x.listed.writes.items line)
-
-installed_is : (x : Checked) (line place : ℕ) → installed_by x line place ≡ installed_at (checked_history x) line place
-installed_is x line place =
-    let h = checked_history x in
-    installs (last_in x.index) (indexed x.index) x.index.tell.last_is x.listed.writes.items h.orders line place x.written ∙
-    ap (λ all. option_and_then (λ o. option_and_then (λ t. last_write t o.key all) (slice_get o.writers place)) (slice_get h.orders line)) x.same
+      of_line place (slice_get lines line) (slice_get os line)
+      (both_at (λ (ws : Vec ℕ Global). map wrote ws.items) (λ (o : Order). map (wrote_last o.key) o.writers) lines os line same)
 
 module _ (x : Checked) (line place : ℕ) where
-  pub no_line : slice_get x.listed.writes.items line ≡ None → None ≡ installed_at (checked_history x) line place
-  no_line none =
-      ap (option_and_then (λ ws. option_and_then (λ at. written_at (indexed x.index) (Some at)) (slice_get ws.items place))) (sym none) ∙
-      installed_is x line place
+  abbrev all : List Event
+  all = (checked_history x).events
 
-  pub at_place : (v : Vec ℕ Global) (at : Option ℕ) → slice_get x.listed.writes.items line ≡ Some v → slice_get v.items place ≡ at
-      → option_and_then (λ n. written_at (indexed x.index) (Some n)) at ≡ installed_at (checked_history x) line place
+  installed_is : installed_by all x.writes.items line place ≡ installed_at (checked_history x) line place
+  installed_is = installs all x.writes.items (checked_history x).orders line place x.written
+
+  pub no_line : slice_get x.writes.items line ≡ None → None ≡ installed_at (checked_history x) line place
+  no_line none =
+      ap (option_and_then (λ (ws : Vec ℕ Global). option_and_then (λ at. written_at all (Some at)) (slice_get ws.items place))) (sym none) ∙
+      installed_is
+
+  pub at_place : (v : Vec ℕ Global) (at : Option ℕ) → slice_get x.writes.items line ≡ Some v → slice_get v.items place ≡ at
+      → option_and_then (λ n. written_at all (Some n)) at ≡ installed_at (checked_history x) line place
   at_place v at there found =
-      ap (option_and_then (λ n. written_at (indexed x.index) (Some n))) (sym found) ∙
-      (ap (option_and_then (λ ws. option_and_then (λ n. written_at (indexed x.index) (Some n)) (slice_get ws.items place))) (sym there) ∙
-      installed_is x line place)
+      ap (option_and_then (λ n. written_at all (Some n))) (sym found) ∙
+      (ap (option_and_then (λ (ws : Vec ℕ Global). option_and_then (λ n. written_at all (Some n)) (slice_get ws.items place))) (sym there) ∙
+      installed_is)

@@ -1,39 +1,40 @@
 //! Histories that passed their check, and the check itself.
 
-ghost use Rattle.std.specs.Prelude.{◌≡◌, ◌≢◌, ◌^◌, ◌<◌, [], true, None, length, map, option_map, is_none, IfOk, IfErr, MatchResult};
-ghost use Rattle.std.specs.Option.{unwrap_or};
+ghost use Rattle.std.specs.Prelude.{◌≡◌, ◌≢◌, ◌^◌, ◌<◌, [], true, None, map, option_map, is_none, IfOk, IfErr, MatchResult};
 ghost use Rattle.adya_values.specs.Meaning.Keys.{keys_rise};
 ghost use Rattle.adya_values.specs.Meaning.Histories.{entry_of, order_of, final_of};
-ghost use Rattle.adya_values.specs.Meaning.Events.{is_committed, last_write};
-ghost use Rattle.adya_values.specs.Meaning.Orders.{writers, place};
+ghost use Rattle.adya_values.specs.Meaning.Events.{is_committed};
 ghost use Rattle.adya_values.specs.Meaning.Values.{history_of};
 ghost use Rattle.adya_values.specs.Computing.Faults.{first_fault, check_faults};
 ghost use Rattle.adya_values.specs.Meaning.Acceptance.{IsChecked};
 ghost use Rattle.adya_terms.specs.Meaning.Faults.{IsFault};
-ghost use Rattle.adya_terms.specs.Machinery.EventIndex.{indexed, last_in};
-ghost use Rattle.adya_terms.specs.Machinery.Places.{AreWrites, KnowsPlaces, Places};
+ghost use Rattle.adya_terms.specs.Machinery.EventIndex.{last_in};
+ghost use Rattle.adya_terms.specs.Machinery.Places.{AreInstalled, AreWrites};
+ghost use Rattle.adya_terms.specs.Machinery.Tables.{KnowsCommitted};
 ghost use Rattle.adya_terms.specs.Machinery.Checks.{Names, whole, rule_faults};
 
 use crate::ends::{all_end, check_unfinished};
 use crate::event_index::EventIndex;
 use crate::finals::check_finals;
 use crate::laws::checked_where_no_fault;
-use crate::listed::{Listed, check_orders};
+use crate::listed::check_orders;
 use crate::reads::check_reads;
-use crate::{CheckFault, Entry, Event, FinalPair, History, Key, Order, Rule, Txn};
+use crate::tables::{Ended, wrote_at};
+use crate::{CheckFault, Entry, Event, FinalPair, History, Order, Rule, Txn};
 use std::alloc::Global;
+use txn_table::TxnTable;
 
 /// A history that passed its check: it is well-formed and has no aborted and no intermediate reads (Adya 1999, G1a and
 /// G1b).
 #[derive(Drop)]
 pub struct Checked<'a> {
     history: &'a History,
-    index: EventIndex<'a>,
-    listed: Listed,
+    ended: TxnTable<Ended>,
+    /// For each order line, the indices of the events that wrote what it names.
+    writes: Vec<Vec<usize>>,
     pub ghost checked: { is_none (first_fault (history_of history.now)) ≡ true },
-    pub ghost same: { indexed index ≡ (history_of history.now).events },
-    pub ghost placed: { KnowsPlaces (last_in index) listed.places.items (history_of history.now) },
-    pub ghost written: { AreWrites (last_in index) listed.writes.items (history_of history.now).orders },
+    pub ghost commits: { KnowsCommitted ended (history_of history.now).events },
+    pub ghost written: { let h = history_of history.now in AreInstalled h.events writes.items h.orders },
 }
 
 impl<'a> Checked<'a> {
@@ -60,10 +61,10 @@ impl<'a> Checked<'a> {
             history.finals(),
         ) {
             Err(fault) => Err(fault),
-            Ok((index, listed)) => Ok(Checked {
+            Ok((index, writes)) => Ok(Checked {
                 history,
-                index,
-                listed,
+                ended: index.into_ended(),
+                writes,
             }),
         }
     }
@@ -82,30 +83,7 @@ impl<'a> Checked<'a> {
     pub fn is_committed(&self, txn: Txn) -> bool
         ensures { result ≡ is_committed (checked_history self.now).events txn }
     {
-        self.index.has_committed(txn)
-    }
-
-    /// Returns the transaction's last write of the key (Adya 1999, section 3.1), whether or not the transaction has
-    /// committed; `None` if it has written none.
-    pub fn last_write(&self, txn: Txn, key: Key) -> Option<Entry>
-        ensures { option_map entry_of result ≡ last_write txn key (checked_history self.now).events }
-    {
-        self.index.last_write(txn, key)
-    }
-
-    /// Returns how many writers come before the transaction in the order line of the key; `None` if the line doesn't name
-    /// the transaction, or the key has no line.
-    pub fn place(&self, txn: Txn, key: Key) -> Option<usize>
-        ensures { let ws = writers (checked_history self.now) key in unwrap_or result (length ws) ≡ place ws txn }
-    {
-        let Some(at) = self.index.last_place(txn, key) else {
-            return None;
-        };
-        match self.listed.places.get(at) {
-            Some(0) => None,
-            Some(place) => Some(*place - 1),
-            None => None,
-        }
+        self.ended.get(txn).committed
     }
 
     /// Returns what the writer at this place of the order line at this index installed, both counted from 0: its last
@@ -113,31 +91,31 @@ impl<'a> Checked<'a> {
     pub fn installed(&self, line: usize, place: usize) -> Option<Entry>
         ensures { option_map entry_of result ≡ installed_at (checked_history self.now) line place }
     {
-        let Some(writes) = self.listed.writes.get(line) else {
+        let Some(writes) = self.writes.get(line) else {
             return None;
         };
         let Some(at) = writes.get(place) else {
             return None;
         };
-        self.index.entry_at(*at)
+        wrote_at(self.history.events(), Some(*at))
     }
 }
 
-/// Makes the index of the events, and what the order lines say of them, if the lists have no fault.
+/// Makes the index of the events, and for each order line the indices of the events that wrote what it names, if the
+/// lists have no fault.
 fn check<'a>(
     alloc: Global,
     events: &'a [Event],
     unfinished: &'a [Txn],
     orders: &[Order],
     finals: &[FinalPair],
-) -> Result<(EventIndex<'a>, Listed), CheckFault>
+) -> Result<(EventIndex<'a>, Vec<Vec<usize>>), CheckFault>
     requires orders_rise { keys_rise (map (λ o. o.key) (map order_of orders.now)) ≡ true }
     requires finals_rise { keys_rise (map (λ f. f.key) (map final_of finals.now)) ≡ true }
     ensures faults { let faults = check_faults (whole events.now unfinished.now orders.now finals.now) in
         MatchResult result (λ t. faults ≡ []) (Names faults) }
     ensures events { IfOk result (λ t. t.0.events.now ≡ events.now) }
-    ensures places { IfOk result (λ t. Places (last_in t.0) t.1.places.items (map order_of orders.now)) }
-    ensures writes { IfOk result (λ t. AreWrites (last_in t.0) t.1.writes.items (map order_of orders.now)) }
+    ensures writes { IfOk result (λ t. AreWrites (last_in t.0) t.1.items (map order_of orders.now)) }
 {
     let index = match EventIndex::of(alloc, events, unfinished) {
         Ok(index) => index,
@@ -147,32 +125,32 @@ fn check<'a>(
         return Err(fault);
     }
     let orders_line = events.len() + 2 + unfinished.len();
-    let listed = match check_rules(alloc, &index, orders, finals, orders_line) {
-        Ok(listed) => listed,
+    let writes = match check_rules(alloc, &index, orders, finals, orders_line) {
+        Ok(writes) => writes,
         Err(fault) => return Err(fault),
     };
     if let Err(fault) = check_reads(&index) {
         return Err(fault);
     }
-    Ok((index, listed))
+    Ok((index, writes))
 }
 
 /// Looks for the first fault after the unfinished transactions: a transaction that doesn't end, M7 and M8. The line
-/// of the first order is `line`. If there is none, returns what the order lines say of the events.
+/// of the first order is `line`. If there is none, returns for each order line the indices of the events that wrote what
+/// it names.
 fn check_rules(
     alloc: Global,
     index: &EventIndex,
     orders: &[Order],
     finals: &[FinalPair],
     line: usize,
-) -> Result<Listed, CheckFault>
+) -> Result<Vec<Vec<usize>>, CheckFault>
     requires near { line < 2 ^ 62 }
     requires orders_rise { keys_rise (map (λ o. o.key) (map order_of orders.now)) ≡ true }
     requires finals_rise { keys_rise (map (λ f. f.key) (map final_of finals.now)) ≡ true }
     ensures faults { let h = whole index.now.events.now index.now.unfinished.now orders.now finals.now in
         MatchResult result (λ u. rule_faults h line ≡ []) (Names (rule_faults h line)) }
-    ensures places { IfOk result (λ l. Places (last_in index.now) l.places.items (map order_of orders.now)) }
-    ensures writes { IfOk result (λ l. AreWrites (last_in index.now) l.writes.items (map order_of orders.now)) }
+    ensures writes { IfOk result (λ v. AreWrites (last_in index.now) v.items (map order_of orders.now)) }
 {
     if !all_end(index) {
         return Err(CheckFault::Malformed {
@@ -180,12 +158,12 @@ fn check_rules(
             rule: Rule::M6,
         });
     }
-    let listed = match check_orders(alloc, index, orders, line) {
-        Ok(listed) => listed,
+    let writes = match check_orders(alloc, index, orders, line) {
+        Ok(writes) => writes,
         Err(fault) => return Err(fault),
     };
     match check_finals(index, orders, finals, line + orders.len()) {
-        Ok(()) => Ok(listed),
+        Ok(()) => Ok(writes),
         Err(fault) => Err(fault),
     }
 }

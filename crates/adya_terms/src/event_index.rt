@@ -1,18 +1,19 @@
 //! The events of a history with what the rules from M6 on, and the search for bad reads, look up in them.
 
-ghost use Rattle.std.specs.Prelude.{◌≡◌, ◌||◌, ◌==◌, [], true, map, option_map, IfOk, MatchResult, Some};
+ghost use Rattle.std.specs.Prelude.{◌≡◌, ◌||◌, ◌==◌, [], true, map, option_map, IfOk, MatchResult};
 ghost use Rattle.std.specs.List.{filter_map, list_any};
 ghost use Rattle.adya_values.specs.Meaning.Histories.{entry_of, event_of};
 ghost use Rattle.adya_values.specs.Meaning.Events.{aborts, has_ended, is_committed, last_write, written};
 ghost use Rattle.adya_values.specs.Computing.Faults.{entry_eq, event_faults, is_entry};
-ghost use Rattle.adya_terms.specs.Machinery.Tables.{own, written_at, Means};
+ghost use Rattle.adya_terms.specs.Machinery.Tables.{own, Means, KnowsCommitted};
 ghost use Rattle.adya_terms.specs.Machinery.Checks.{Names, Holds};
 
 use crate::rules::tables_of;
-use crate::tables::{Tables, wrote_at};
+use crate::tables::{Ended, Tables};
 use crate::{CheckFault, Entry, Event, Key, Txn};
 use std::alloc::{AllocError, Global};
 use std::collections::BTreeSet;
+use txn_table::TxnTable;
 
 /// The events of a history, which keep the rules M1 to M5, and its unfinished transactions, with tables of both.
 #[derive(Drop)]
@@ -96,13 +97,6 @@ impl<'a> EventIndex<'a> {
         self.tables.last_place(txn, key)
     }
 
-    /// Returns what the event at the index in the list of events writes.
-    pub fn entry_at(&self, at: usize) -> Option<Entry>
-        ensures { option_map entry_of result ≡ written_at (indexed self.now) (Some at) }
-    {
-        wrote_at(self.events, Some(at))
-    }
-
     /// Returns whether the entry, which was written, is its transaction's last write of the key.
     pub fn is_last(&self, seen: &Entry) -> bool
         requires { list_any (entry_eq (entry_of seen.now)) (filter_map written (indexed self.now)) ≡ true }
@@ -110,6 +104,13 @@ impl<'a> EventIndex<'a> {
             result ≡ is_entry (last_write o.version.txn o.version.key (indexed self.now)) o }
     {
         !self.tables.was_replaced(seen.version)
+    }
+
+    /// Returns how the transactions have ended.
+    pub fn into_ended(self) -> TxnTable<Ended>
+        ensures { KnowsCommitted result (indexed self.entry) }
+    {
+        self.tables.ended
     }
 }
 

@@ -21,13 +21,16 @@ use crate::{CheckFault, Entry, Event, Key, Order, Rule, Txn};
 use std::alloc::{AllocError, Global};
 use std::collections::BTreeSet;
 
-/// What the order lines of a history that keeps M7 say of its events.
+/// What placing the order lines found, up to the first line that lists others than committed writers of its key or
+/// repeats one.
 #[derive(Drop)]
-pub(crate) struct Listed {
+struct Placement {
     /// At the index of each listed writer's last write of the key the writer's place in its line, from 1 on; 0 elsewhere.
-    pub places: Vec<usize>,
-    /// For each line, the indices of its writers' last writes of the key.
-    pub writes: Vec<Vec<usize>>,
+    places: Vec<usize>,
+    /// For each line before that one, the indices of its writers' last writes of the key.
+    writes: Vec<Vec<usize>>,
+    /// The index of that line, or the number of lines.
+    wrong: usize,
 }
 
 /// Returns the index of the transaction's last write of the key in the list of events, if the transaction is committed
@@ -101,23 +104,22 @@ fn place_lines(
     Ok((lines, orders.len()))
 }
 
-/// Returns the places and the writes of the lines up to the first line that lists others than committed writers of its
-/// key or repeats one, and the index of this line, or the number of lines.
-fn placed(
-    alloc: Global,
-    index: &EventIndex,
-    orders: &[Order],
-) -> Result<(Listed, usize), AllocError>
+/// Places the writers of the order lines.
+fn placed(alloc: Global, index: &EventIndex, orders: &[Order]) -> Result<Placement, AllocError>
     requires rise { keys_rise (map (λ o. o.key) (map order_of orders.now)) ≡ true }
-    ensures same_length { IfOk result (λ p. length p.0.places.items ≡ length index.now.events.now) }
+    ensures same_length { IfOk result (λ p. length p.places.items ≡ length index.now.events.now) }
     ensures places { IfOk result
-        (λ p. AfterLines (indexed index.now) (last_in index.now) p.0.places.items (map order_of orders.now) p.1) }
+        (λ p. AfterLines (indexed index.now) (last_in index.now) p.places.items (map order_of orders.now) p.wrong) }
     ensures writes { IfOk result
-        (λ p. AreWrites (last_in index.now) p.0.writes.items (take p.1 (map order_of orders.now))) }
+        (λ p. AreWrites (last_in index.now) p.writes.items (take p.wrong (map order_of orders.now))) }
 {
     let mut places = vec![in alloc; 0; index.events.len()]?;
     let (writes, wrong) = place_lines(alloc, index, &mut places, orders)?;
-    Ok((Listed { places, writes }, wrong))
+    Ok(Placement {
+        places,
+        writes,
+        wrong,
+    })
 }
 
 /// Returns the key that the event at the index writes, if its transaction is committed and its last write of the key
@@ -189,33 +191,32 @@ fn check_lines(
 }
 
 /// Returns the first order line that breaks M7, or else the line after the orders if a key with a committed writer has
-/// no line. The line of the first order is `first`. If no line does, returns the places of the writers in their lines,
-/// and the writes that installed what the lines name.
+/// no line. The line of the first order is `first`. If no line does, returns for each line the indices of its writers'
+/// last writes of the key: of the writes that installed what the line names.
 pub(crate) fn check_orders(
     alloc: Global,
     index: &EventIndex,
     orders: &[Order],
     first: usize,
-) -> Result<Listed, CheckFault>
+) -> Result<Vec<Vec<usize>>, CheckFault>
     requires near { first < 2 ^ 63 }
     requires rise { keys_rise (map (λ o. o.key) (map order_of orders.now)) ≡ true }
     ensures faults { let found = listing_faults (parts index.now.events.now orders.now []) first in
         MatchResult result (λ u. found ≡ []) (Names found) }
-    ensures places { IfOk result (λ l. Places (last_in index.now) l.places.items (map order_of orders.now)) }
-    ensures writes { IfOk result (λ l. AreWrites (last_in index.now) l.writes.items (map order_of orders.now)) }
+    ensures writes { IfOk result (λ v. AreWrites (last_in index.now) v.items (map order_of orders.now)) }
 {
-    let Ok((listed, wrong)) = placed(alloc, index, orders) else {
+    let Ok(placed) = placed(alloc, index, orders) else {
         return Err(CheckFault::Memory);
     };
-    let Ok(unlisted) = unlisted(alloc, index, &listed.places) else {
+    let Ok(unlisted) = unlisted(alloc, index, &placed.places) else {
         return Err(CheckFault::Memory);
     };
-    if let Err(fault) = check_lines(&unlisted, orders, wrong, first) {
+    if let Err(fault) = check_lines(&unlisted, orders, placed.wrong, first) {
         return Err(fault);
     }
     // no line breaks the rule, so a key that is left out has no line
     match unlisted.first() {
-        None => Ok(listed),
+        None => Ok(placed.writes),
         Some(_) => Err(CheckFault::Malformed {
             line: first + orders.len(),
             rule: Rule::M7,

@@ -1,9 +1,13 @@
--- What the table of places in a certificate means.
-use Rattle.std.specs.Prelude.{◌≡◌, ℕ, List}
+-- What tables of places in a list of transactions mean.
+use Rattle.std.specs.Prelude.{◌≡◌, ℕ, leb, if◌then◌else◌, List, [], length}
 use Rattle.txn_table.specs.declared.TxnTable.{TxnTable}
 use Rattle.txn_table.specs.Meaning.{value_for}
 use Rattle.adya_values.specs.Meaning.Orders.{place}
 
--- the table has how many transactions of the certificate come before each
+-- the table has how many transactions of the list come before each
 abbrev pub HasPlaces : TxnTable ℕ → List ℕ → Type 0
 HasPlaces m ts = (t : ℕ) → value_for m t ≡ place ts t
+
+-- the writers of a line that is read through to find one aren't in a table
+abbrev pub tabled : List ℕ → List ℕ
+tabled ws = if leb (length ws) 32 then [] else ws

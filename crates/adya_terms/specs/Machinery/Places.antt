@@ -1,18 +1,17 @@
 -- What the array says that the check of the order lines makes: the places of writers in the lines of their keys, from 1
 -- on, each at the index of the writer's last write of the key in the list of events.
-use Rattle.std.specs.Prelude.{◌≡◌, ℕ, zero, suc, ◌<◌, ◌==◌, Bool, true, false, cond, not, List, [], ◌∷◌, ◌++◌, length, take, Option, Some, None, slice_get, slice_index, count_by, Contains, Vec, map}
+use Rattle.std.specs.Prelude.{◌≡◌, ℕ, suc, ◌<◌, ◌==◌, Bool, true, false, cond, not, List, [], ◌∷◌, ◌++◌, take, Option, Some, slice_get, slice_index, count_by, Contains, Vec, map}
 use Rattle.std.specs.Global.{Global}
 use Rattle.std.specs.List.{list_all}
 use Rattle.std.specs.BTreeSet.{BTreeSet, contains}
 use Rattle.std.specs.Ordering.{nat_cmp}
 use Rattle.std.specs.Cmp.Lexicographic.{slice_cmp}
 use Rattle.adya_terms.specs.declared.tables.Own.{Own}
-use Rattle.std.specs.Option.{unwrap_or}
-use Rattle.adya_values.specs.Meaning.Orders.{writers, place}
-use Rattle.adya_values.specs.Meaning.Histories.{Event, Order, History}
+use Rattle.adya_values.specs.Meaning.Histories.{Event, Order}
+use Rattle.adya_values.specs.Meaning.Events.{last_write}
 use Rattle.adya_values.specs.Meaning.Rules.{installs}
 use Rattle.adya_values.specs.Computing.Faults.{lists_exactly}
-use Rattle.adya_terms.specs.Machinery.Tables.{own}
+use Rattle.adya_terms.specs.Machinery.Tables.{own, written_at}
 
 abbrev pub line : List ℕ → List ℕ → Order
 line k ts = record { key = k; writers = ts }
@@ -56,6 +55,11 @@ line_writes last o = map (λ t. last (own t o.key)) o.writers
 abbrev pub AreWrites : (Own → Option ℕ) → List (Vec ℕ Global) → List Order → Type 0
 AreWrites last ws os = map (λ v. map Some v.items) ws ≡ map (line_writes last) os
 
+-- the indices are those of events that wrote what the lines name
+abbrev pub AreInstalled : List Event → List (Vec ℕ Global) → List Order → Type 0
+AreInstalled all ws os =
+    map (λ v. map (λ at. written_at all (Some at)) v.items) ws ≡ map (λ o. map (λ t. last_write t o.key all) o.writers) os
+
 -- after one more line that was placed whole, or in part
 abbrev pub AfterLine : List Event → (Own → Option ℕ) → List ℕ → List Order → Order → Bool → Type 0
 AfterLine all last ps os o true = (lists_once all o ≡ true) × Places last ps (os ++ o ∷ [])
@@ -90,18 +94,3 @@ pub record Judges (all : List Event) (os : List Order) (s : BTreeSet (List ℕ))
   pub before : (i : ℕ) (o : Order) → i < n → slice_get os i ≡ Some o
       → lists_exactly (installs all o.key) o.writers all ≡ not (contains (slice_cmp nat_cmp) s o.key)
   pub wrong : (o : Order) → slice_get os n ≡ Some o → lists_exactly (installs all o.key) o.writers all ≡ false
-
--- one less, if it is a place
-abbrev pub before : Option ℕ → Option ℕ
-before None = None
-before (Some zero) = None
-before (Some (suc i)) = Some i
-
--- how many writers come before that whose place stands at the index
-abbrev pub placed_at : List ℕ → Option ℕ → Option ℕ
-placed_at ps None = None
-placed_at ps (Some at) = before (slice_get ps at)
-
--- for each transaction and key the array has how many writers of the key's line come before, if it is one of them
-abbrev pub KnowsPlaces : (Own → Option ℕ) → List ℕ → History → Type 0
-KnowsPlaces last ps h = (t : ℕ) (k : List ℕ) → unwrap_or (placed_at ps (last (own t k))) (length (writers h k)) ≡ place (writers h k) t

@@ -2,8 +2,10 @@
 use Rattle.std.specs.Prelude.{◌≡◌, ℕ, ◌<◌, ◌==◌, Bool, false, ◌&&◌, ◌||◌, cond, List, length, Option, Some, None, is_some, IsSome, slice_get}
 use Rattle.std.specs.List.{filter_map, list_any}
 use Rattle.std.specs.HashMap.{get}
+use Rattle.txn_table.specs.declared.TxnTable.{TxnTable}
 use Rattle.txn_table.specs.Meaning.{value_for}
 use Rattle.adya_values.specs.declared.event.Version.{Version}
+use Rattle.adya_terms.specs.declared.tables.Ended.{Ended}
 use Rattle.adya_terms.specs.declared.tables.Own.{Own}
 use Rattle.adya_terms.specs.declared.tables.Tables.{Tables}
 use Rattle.adya_values.specs.Meaning.Histories.{Entry, Event}
@@ -59,3 +61,7 @@ pub record Tell (committed aborted : ℕ → Bool) (last : Own → Option ℕ) (
 -- the tables are right about the events before, by places in all of them
 abbrev pub Means : Tables → List Event → List Event → Type 0
 Means t all before = Tell (λ u. (value_for t.ended u).committed) (λ u. (value_for t.ended u).aborted) (get own_eq t.last) (get version_eq t.replaced) all before
+
+-- the table has which transactions have committed
+abbrev pub KnowsCommitted : TxnTable Ended → List Event → Type 0
+KnowsCommitted ended all = (t : ℕ) → (value_for ended t).committed ≡ is_committed all t

@@ -3,7 +3,7 @@
 use super::write_then_read;
 use adya_terms::Checked;
 use adya_testing::histories::{abort, commit, final_pair, history, version_order, write};
-use adya_values::{Content, History, Key, Txn, Value};
+use adya_values::{Content, History, Txn, Value};
 use std::alloc::Global;
 use std::test::Fail;
 
@@ -32,16 +32,15 @@ fn listed_and_aborted_writers(alloc: Global) -> Result<History, Fail> {
 }
 
 #[test]
-fn writers_have_their_places_and_others_have_none(rt: HostRuntime) -> Result<(), Fail> {
+fn only_the_committed_have_committed(rt: HostRuntime) -> Result<(), Fail> {
     let history = listed_and_aborted_writers(rt.alloc())?;
     let Ok(checked) = Checked::of(rt.alloc(), &history) else {
         return Err(Fail::new("the history has a fault"));
     };
-    let key = Key::new(b"x")?;
-    assert_eq!(rt; checked.place(Txn::new(2)?, key), Some(0));
-    assert_eq!(rt; checked.place(Txn::new(1)?, key), Some(1));
-    assert_eq!(rt; checked.place(Txn::new(3)?, key), None);
-    assert_eq!(rt; checked.place(Txn::new(3)?, Key::new(b"y")?), None);
+    assert!(rt; checked.is_committed(Txn::new(1)?));
+    assert!(rt; checked.is_committed(Txn::new(2)?));
+    assert!(rt; !checked.is_committed(Txn::new(3)?));
+    assert!(rt; !checked.is_committed(Txn::new(4)?));
     Ok(())
 }
 

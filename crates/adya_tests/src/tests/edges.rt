@@ -46,3 +46,31 @@ fn no_events_have_no_edge(rt: HostRuntime) -> Result<(), Fail> {
     assert_eq!(rt; edge_lists::of_history(alloc, &given)?.as_str(), "");
     Ok(())
 }
+
+/// Makes the history in which forty transactions write x, one after the other, and another reads the version of the
+/// thirty-fifth.
+fn read_within_a_long_line(alloc: Global) -> Result<History, BadHistory> {
+    let mut events = Vec::new(alloc);
+    let mut writers = Vec::new(alloc);
+    for txn in 1..=40 {
+        events.push(write(txn, "x", 1, "0")?)?;
+        events.push(commit(txn)?)?;
+        writers.push(txn)?;
+    }
+    events.push(read(50, version("x", 35, 1)?, "0")?)?;
+    events.push(commit(50)?)?;
+    let orders = vec![in alloc; version_order(alloc, "x", &writers)?]?;
+    let finals = vec![in alloc; final_pair("x", "0")?]?;
+    history(events, orders, finals)
+}
+
+#[test]
+fn a_read_within_a_long_line_has_both_neighbours(rt: HostRuntime) -> Result<(), Fail> {
+    let given = read_within_a_long_line(rt.alloc())?;
+    let text = edge_lists::of_history(rt.alloc(), &given)?;
+    assert!(rt;
+        text.as_str()
+            .ends_with("\nww x 39 40\nwr x 35 50\nrw x 50 36\n")
+    );
+    Ok(())
+}

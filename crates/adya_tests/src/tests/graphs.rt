@@ -3,7 +3,7 @@
 ghost use Rattle.std.specs.Prelude.{◌≡◌, ◌==◌, ◌&&◌};
 ghost use Rattle.std.specs.List.{list_any, list_all};
 
-use digraph::{Arc, Outcome, topological_order};
+use digraph::{Arc, Outcome, each_once, topological_order};
 use std::alloc::Global;
 use std::test::Fail;
 
@@ -142,5 +142,14 @@ fn cycle_along_the_arcs(rt: HostRuntime) -> Result<(), Fail> {
         outcome(rt.alloc(), &[1, 2, 3, 4], &lines)?.as_str(),
         "cycle 1-3 3-2 2-4 4-1"
     );
+    Ok(())
+}
+
+#[test]
+fn arcs_without_repeats_go_by_their_sources(rt: HostRuntime) -> Result<(), Fail> {
+    let alloc = rt.alloc();
+    let arcs = each_once(graph(alloc, &[(2, 1), (1, 3), (2, 1), (1, 2), (1, 3)])?);
+    let wanted = graph(alloc, &[(1, 2), (1, 3), (2, 1)])?;
+    assert!(rt; arcs.as_slice() == wanted.as_slice());
     Ok(())
 }

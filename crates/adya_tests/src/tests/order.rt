@@ -130,3 +130,31 @@ fn a_cycle_goes_along_the_edges(rt: HostRuntime) -> Result<(), Fail> {
     );
     Ok(())
 }
+
+/// Makes the history in which two transactions scan the same empty range, and each then writes a key of it.
+fn phantom_write_skew(alloc: Global) -> Result<History, BadHistory> {
+    let events = vec![in alloc;
+        scan(2, "x", "y", Vec::new(alloc))?,
+        scan(3, "x", "y", Vec::new(alloc))?,
+        write(2, "x", 1, "0")?,
+        write(3, "y", 1, "0")?,
+        commit(2)?,
+        commit(3)?,
+    ]?;
+    let orders = vec![in alloc;
+        version_order(alloc, "x", &[2])?,
+        version_order(alloc, "y", &[3])?,
+    ]?;
+    let finals = vec![in alloc; final_pair("x", "0")?, final_pair("y", "0")?]?;
+    history(events, orders, finals)
+}
+
+#[test]
+fn scans_that_miss_each_others_keys_form_a_cycle(rt: HostRuntime) -> Result<(), Fail> {
+    let given = phantom_write_skew(rt.alloc())?;
+    assert_eq!(rt;
+        found(rt.alloc(), &given)?.as_str(),
+        "cycle\nrw y 2 3\nrw x 3 2\n"
+    );
+    Ok(())
+}

@@ -22,7 +22,7 @@ returns-then-is_some c =
     (lends history c.history.result.now os c.history.ensures.same c.orders.ensures.value c.orders.ensures.shape)
     c.in_ok-certificate.certificate.txns.now c.in_ok-found.found c.in_ok-found.ensures c.edge_list_keeps_first.ensures
     (sym c.is_some.ensures ∙ c.if-is_some.true) ∙
-    ap (first_backward h) (c.in_ok-certificate.ensures ∙ c.txns.ensures)
+    ap (first_backward h) (c.in_ok-certificate.ensures ∙ c.txns-txns.ensures)
 
 pub first_read-requires-clause-writes : goal.first_read-requires-clause-writes
 first_read-requires-clause-writes c =
@@ -52,4 +52,4 @@ returns c =
     (λ (o : Option Edge). option_map edge_of o ≡ first_backward h (serial_txns c.args.serial.now))
     (λ o e. e ∙
     (ap of_reads c.in_ok-versions.ensures.same ∙
-    (none ∙ ap (first_backward h) (c.in_ok-certificate.ensures ∙ c.txns.ensures)))) c.first_read.ensures
+    (none ∙ ap (first_backward h) (c.in_ok-certificate.ensures ∙ c.txns-txns.ensures)))) c.first_read.ensures

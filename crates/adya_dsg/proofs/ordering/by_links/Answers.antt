@@ -1,10 +1,12 @@
 use Rattle.std.proofs.Common.{All, sym, subst, ◌∙◌}
-use Rattle.digraph.specs.Meaning.Graphs.{IsOrderOrCycle}
+use Rattle.digraph.specs.Meaning.Graphs.{IsCycle as IsArcCycle, IsOrderOrCycle}
 use Rattle.adya_values.specs.Meaning.Keys.{IsTxn}
+use Rattle.adya_values.specs.Computing.EdgeList.{edge_list}
 use Rattle.adya_values.specs.Meaning.Acceptance.{IsAccepted}
+use Rattle.adya_dsg.specs.Machinery.Arcs.{AreEnds}
 use Rattle.adya_dsg.specs.Machinery.VersionOrders.{ordered_history}
 use Rattle.adya_dsg.proofs.CommittedNodes.{order_has_numbers}
-use Rattle.adya_dsg.proofs.Certificates.{accepted_if_sorted, ends_are_nodes}
+use Rattle.adya_dsg.proofs.Certificates.{accepted_if_sorted, ends_are_nodes, cycle_has_edges, first_edges_are_cycle}
 use Rattle.adya_dsg.proofs.ordering.by_links.Goals as goal
 
 pub topological_order-requires : goal.topological_order-requires
@@ -21,8 +23,8 @@ serial_of-requires c =
     subst (All IsTxn) (sym c.deref.ensures.value)
     (order_has_numbers nodes c.in-Order.order.items sorted.nodes_once c.requires.numbers)
 
-pub returns-in-Order : goal.returns-in-Order
-returns-in-Order c =
+pub returns-in_ok-serial_of-in-Order : goal.returns-in_ok-serial_of-in-Order
+returns-in_ok-serial_of-in-Order c =
     let h = ordered_history c.args.versions.now in
     let nodes = c.args.nodes.now in
     let arcs = c.in_ok-links.field-0.items in
@@ -30,3 +32,20 @@ returns-in-Order c =
     subst (IsAccepted h) (sym (c.in_ok-serial_of-in-Order.ensures ∙ c.deref.ensures.value))
     (accepted_if_sorted h c.requires.checked c.edge_list_is_exact.ensures nodes c.requires.nodes arcs
     c.in_ok-links.ensures.enough c.in-Order.order.items sorted)
+
+pub edges_along-requires : goal.edges_along-requires
+edges_along-requires c =
+    let arcs = c.in_ok-links.field-0.items in
+    let cyclic = subst (IsOrderOrCycle c.args.nodes.now arcs) c.in-Cycle.is c.in_ok-order.ensures in
+    subst (AreEnds (edge_list (ordered_history c.args.versions.now))) (sym c.deref-in-Cycle.ensures.value)
+    (cycle_has_edges (edge_list (ordered_history c.args.versions.now)) arcs c.in-Cycle.cycle.items
+    c.in_ok-links.ensures.sound cyclic)
+
+pub returns-in_ok-edges_along-in-Cycle : goal.returns-in_ok-edges_along-in-Cycle
+returns-in_ok-edges_along-in-Cycle c =
+    let arcs = c.in_ok-links.field-0.items in
+    let cyclic = subst (IsOrderOrCycle c.args.nodes.now arcs) c.in-Cycle.is c.in_ok-order.ensures in
+    first_edges_are_cycle (ordered_history c.args.versions.now) c.edge_list_is_exact.ensures _ arcs
+    c.deref-in-Cycle.result.now
+    (subst (IsArcCycle arcs) (sym c.deref-in-Cycle.ensures.value) cyclic)
+    c.in_ok-edges_along-in-Cycle.ensures

@@ -9,7 +9,7 @@ use Rattle.adya_terms.specs.Machinery.Checks.{parts}
 use Rattle.adya_terms.specs.Machinery.Places.{AreWrites, Leaves}
 use Rattle.adya_terms.specs.Machinery.EventIndex.{last_in}
 use Rattle.adya_terms.proofs.Firsts.{names_front}
-use Rattle.adya_terms.proofs.Exact.{judges, lines_where_none_left, no_line_where_left, places_where_right, all_taken, lines_right, none_in_set}
+use Rattle.adya_terms.proofs.Exact.{judges, lines_where_none_left, no_line_where_left, all_taken, lines_right, none_in_set}
 use Rattle.adya_terms.proofs.listed.check_orders.Goals as goal
 use Rattle.adya_values.proofs.Faults.{first_right}
 use Rattle.lemmas.proofs.Lists.{both_nil}
@@ -19,7 +19,7 @@ returns-in-Err-clause-faults c =
     let h = parts c.args.index.now.events.now c.args.orders.now [] in
     let last = last_in c.args.index.now in
     let leaves = subst (λ ps. Leaves h.events last ps c.in-Ok-unlisted.unlisted) c.deref.ensures.value c.in-Ok-unlisted.ensures in
-    let right = judges _ _ _ _ h.events c.args.index.now.tell c.in-Ok.listed.places.items h.orders c.in-Ok.wrong c.in-Ok.ensures.places c.requires.rise c.in-Ok-unlisted.unlisted leaves in
+    let right = judges _ _ _ _ h.events c.args.index.now.tell c.in-Ok.placed.places.items h.orders c.in-Ok.placed.wrong c.in-Ok.ensures.places c.requires.rise c.in-Ok-unlisted.unlisted leaves in
     names_front (order_faults h.events c.args.first h.orders) _ c.in-Err.fault (c.in-Err.ensures h.events right)
 
 pub returns-in-None-clause-faults : goal.returns-in-None-clause-faults
@@ -30,23 +30,12 @@ returns-in-None-clause-faults c =
     let s = c.in-Ok-unlisted.unlisted in
     let leaves = subst (λ ps. Leaves h.events last ps s) c.deref.ensures.value c.in-Ok-unlisted.ensures in
     let after = c.in-Ok.ensures.places in
-    let right = judges _ _ _ _ h.events c.args.index.now.tell c.in-Ok.listed.places.items h.orders c.in-Ok.wrong after c.requires.rise s leaves in
+    let right = judges _ _ _ _ h.events c.args.index.now.tell c.in-Ok.placed.places.items h.orders c.in-Ok.placed.wrong after c.requires.rise s leaves in
     let there : has_lines h ≡ true =
-    lines_where_none_left _ _ _ _ h.events c.args.index.now.tell c.in-Ok.listed.places.items h.orders c.in-Ok.wrong after
+    lines_where_none_left _ _ _ _ h.events c.args.index.now.tell c.in-Ok.placed.places.items h.orders c.in-Ok.placed.wrong after
     (λ k left. both_ways _ (none_in_set s k c.in-None.ensures.variant.1) (leaves.has k left)) in
     both_nil (order_faults h.events line h.orders) _ (c.in_default-check_lines.ensures h.events right)
     (ap (λ b. fault_unless b (line + length h.orders) M7) there)
-
-pub returns-in-None-clause-places : goal.returns-in-None-clause-places
-returns-in-None-clause-places c =
-    let h = parts c.args.index.now.events.now c.args.orders.now [] in
-    let last = last_in c.args.index.now in
-    let s = c.in-Ok-unlisted.unlisted in
-    let leaves = subst (λ ps. Leaves h.events last ps s) c.deref.ensures.value c.in-Ok-unlisted.ensures in
-    let after = c.in-Ok.ensures.places in
-    let right = judges _ _ _ _ h.events c.args.index.now.tell c.in-Ok.listed.places.items h.orders c.in-Ok.wrong after c.requires.rise s leaves in
-    places_where_right _ _ _ _ h.events c.args.index.now.tell c.in-Ok.listed.places.items h.orders c.in-Ok.wrong after
-    (lines_right h.events c.args.first h.orders (c.in_default-check_lines.ensures h.events right))
 
 pub returns-in-None-clause-writes : goal.returns-in-None-clause-writes
 returns-in-None-clause-writes c =
@@ -55,10 +44,10 @@ returns-in-None-clause-writes c =
     let s = c.in-Ok-unlisted.unlisted in
     let leaves = subst (λ ps. Leaves h.events last ps s) c.deref.ensures.value c.in-Ok-unlisted.ensures in
     let after = c.in-Ok.ensures.places in
-    let right = judges _ _ _ _ h.events c.args.index.now.tell c.in-Ok.listed.places.items h.orders c.in-Ok.wrong after c.requires.rise s leaves in
-    let whole = all_taken _ _ _ _ h.events c.args.index.now.tell c.in-Ok.listed.places.items h.orders c.in-Ok.wrong after
+    let right = judges _ _ _ _ h.events c.args.index.now.tell c.in-Ok.placed.places.items h.orders c.in-Ok.placed.wrong after c.requires.rise s leaves in
+    let whole = all_taken _ _ _ _ h.events c.args.index.now.tell c.in-Ok.placed.places.items h.orders c.in-Ok.placed.wrong after
     (lines_right h.events c.args.first h.orders (c.in_default-check_lines.ensures h.events right)) in
-    subst (AreWrites last c.in-Ok.listed.writes.items) whole c.in-Ok.ensures.writes
+    subst (AreWrites last c.in-Ok.placed.writes.items) whole c.in-Ok.ensures.writes
 
 pub returns-in-Some-clause-faults : goal.returns-in-Some-clause-faults
 returns-in-Some-clause-faults c =
@@ -69,10 +58,10 @@ returns-in-Some-clause-faults c =
     let k = c.in-Some.field-0.now in
     let leaves = subst (λ ps. Leaves h.events last ps s) c.deref.ensures.value c.in-Ok-unlisted.ensures in
     let after = c.in-Ok.ensures.places in
-    let right = judges _ _ _ _ h.events c.args.index.now.tell c.in-Ok.listed.places.items h.orders c.in-Ok.wrong after c.requires.rise s leaves in
+    let right = judges _ _ _ _ h.events c.args.index.now.tell c.in-Ok.placed.places.items h.orders c.in-Ok.placed.wrong after c.requires.rise s leaves in
     let faultless = c.in_default-check_lines.ensures h.events right in
     let none : has_lines h ≡ false =
-    no_line_where_left _ _ _ _ h.events c.args.index.now.tell c.in-Ok.listed.places.items h.orders c.in-Ok.wrong after (lines_right h.events line h.orders faultless) k
+    no_line_where_left _ _ _ _ h.events c.args.index.now.tell c.in-Ok.placed.places.items h.orders c.in-Ok.placed.wrong after (lines_right h.events line h.orders faultless) k
     (leaves.from k c.in-Some.ensures.member) in
     let end : first (fault_unless (has_lines h) (line + length h.orders) M7) ≡ Some (Malformed (line + length c.args.orders.now) M7) =
     ap (λ b. first (fault_unless b (line + length h.orders) M7)) none ∙

@@ -1,14 +1,14 @@
-use Rattle.std.proofs.Common.{◌≡◌, ◌∙◌, List, ap, subst, map, is_none}
+use Rattle.std.proofs.Common.{◌≡◌, ◌∙◌, ℕ, List, ap, subst, map, is_none}
 use Rattle.adya_terms.proofs.Parts.{found_whole, faultless_whole}
 use Rattle.adya_terms.proofs.Judged.{refused_when_found}
 use Rattle.adya_values.specs.Meaning.Histories.{event_of}
-use Rattle.std.proofs.lemmas.Bool.{and_parts}
 use Rattle.adya_values.specs.declared.order.Order.{Order}
 use Rattle.adya_values.specs.Meaning.Histories.{order_of}
-use Rattle.adya_terms.specs.Machinery.Tables.{Means}
+use Rattle.adya_values.specs.Meaning.Events.{last_write}
+use Rattle.adya_terms.specs.Machinery.Tables.{own, written_at, KnowsCommitted}
 use Rattle.adya_terms.specs.Machinery.EventIndex.{indexed, last_in}
-use Rattle.adya_terms.specs.Machinery.Places.{AreWrites, Places}
-use Rattle.adya_terms.proofs.KnownPlaces.{knows_places}
+use Rattle.adya_terms.specs.Machinery.Places.{AreWrites}
+use Rattle.adya_terms.proofs.InstalledWrites.{installed_if_last}
 use Rattle.adya_values.specs.Meaning.Values.{history_of}
 use Rattle.adya_terms.proofs.checked.Checked.of.Goals as goal
 
@@ -25,13 +25,13 @@ invariant_of-result c =
     let same : indexed c.in-Ok.index ≡ h.events = ap (map event_of) (c.in-Ok.ensures.events ∙ c.events.ensures) in
     record {
       checked = ap is_none none;
-      same = same;
-      placed =
-          knows_places c.in-Ok.index.tables c.in-Ok.listed.places.items h
-          (subst (λ all. Means c.in-Ok.index.tables all all) same c.in-Ok.index.tell)
-          (and_parts _ _ (and_parts _ _ c.orders.ensures.shape).0).1
-          (subst (λ (os : List Order). Places (last_in c.in-Ok.index) c.in-Ok.listed.places.items (map order_of os)) c.orders.ensures.value c.in-Ok.ensures.places);
-      written = subst (λ (os : List Order). AreWrites (last_in c.in-Ok.index) c.in-Ok.listed.writes.items (map order_of os)) c.orders.ensures.value c.in-Ok.ensures.writes;
+      commits = subst (KnowsCommitted c.into_ended.result) same c.into_ended.ensures;
+      written =
+          installed_if_last (last_in c.in-Ok.index) h.events
+          (subst (λ all. (t : ℕ) (k : List ℕ) → written_at all (last_in c.in-Ok.index (own t k)) ≡ last_write t k all) same
+          c.in-Ok.index.tell.last_is)
+          c.in-Ok.writes.items h.orders
+          (subst (λ (os : List Order). AreWrites (last_in c.in-Ok.index) c.in-Ok.writes.items (map order_of os)) c.orders.ensures.value c.in-Ok.ensures.writes);
     }
 
 pub returns-in-Ok-clause-checked : goal.returns-in-Ok-clause-checked

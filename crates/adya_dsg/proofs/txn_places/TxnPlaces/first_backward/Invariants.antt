@@ -1,7 +1,7 @@
 use Rattle.std.proofs.Common.{◌≡◌, map, drop, find}
 use Rattle.adya_dsg.specs.Meaning.Values.{edge_of}
 use Rattle.adya_dsg.specs.Machinery.PartEdges.{is_backward}
-use Rattle.adya_dsg.proofs.certificate_places.CertificatePlaces.first_backward.Given as goal
+use Rattle.adya_dsg.proofs.txn_places.TxnPlaces.first_backward.Given as goal
 
 abbrev pub invariant-loop-edge : goal.invariant-loop-edge
 invariant-loop-edge l =

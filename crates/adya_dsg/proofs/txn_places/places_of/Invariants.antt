@@ -1,7 +1,7 @@
 use Rattle.std.proofs.Common.{◌≡◌, ◌+◌, ◌≤◌, ℕ, length, drop}
 use Rattle.txn_table.specs.Meaning.{value_for}
 use Rattle.adya_values.specs.Meaning.Orders.{place}
-use Rattle.adya_dsg.proofs.certificate_places.places_of.Given as goal
+use Rattle.adya_dsg.proofs.txn_places.places_of.Given as goal
 
 abbrev pub invariant-loop-i : goal.invariant-loop-i
 invariant-loop-i l =

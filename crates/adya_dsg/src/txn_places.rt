@@ -1,4 +1,4 @@
-//! A certificate with a table of the places in it.
+//! A list of transactions with a table of the places in it.
 
 ghost use Rattle.std.specs.Prelude.{◌≡◌, IfOk, map, option_map};
 ghost use Rattle.std.specs.List.{find};
@@ -13,38 +13,39 @@ use adya_values::Txn;
 use std::alloc::{AllocError, Global};
 use txn_table::TxnTable;
 
-/// A certificate and the places of its transactions. One that it doesn't list has the place after the last.
+/// A list of transactions and their places in it. One that it doesn't have has the place after the last.
 #[derive(Drop)]
-pub(crate) struct CertificatePlaces<'a> {
+pub(crate) struct TxnPlaces<'a> {
     txns: &'a [Txn],
     places: TxnTable<usize>,
     ghost placed: { HasPlaces places txns.now },
 }
 
-impl<'a> CertificatePlaces<'a> {
-    /// Makes the table for the certificate of these transactions; `AllocError` if memory is refused.
-    pub fn of(alloc: Global, txns: &'a [Txn]) -> Result<CertificatePlaces<'a>, AllocError>
-        ensures { IfOk result (λ c. c.txns.now ≡ txns.now) }
+impl<'a> TxnPlaces<'a> {
+    /// Makes the table for these transactions, with an array for the numbers below `small`; `AllocError` if memory is
+    /// refused.
+    pub fn of(alloc: Global, txns: &'a [Txn], small: usize) -> Result<TxnPlaces<'a>, AllocError>
+        ensures { IfOk result (λ p. p.txns.now ≡ txns.now) }
     {
-        let places = places_of(alloc, txns)?;
-        Ok(CertificatePlaces { txns, places })
+        let places = places_of(alloc, txns, small)?;
+        Ok(TxnPlaces { txns, places })
     }
 
     /// Returns how many transactions come before this one.
-    fn place(&self, txn: Txn) -> usize
+    pub fn place(&self, txn: Txn) -> usize
         ensures { result ≡ place self.now.txns.now txn }
     {
         self.places.get(txn)
     }
 
-    /// Returns whether the edge goes forward.
+    /// Returns whether the edge goes forward in the list.
     fn is_forward(&self, edge: Edge) -> bool
         ensures { result ≡ is_forward self.now.txns.now (edge_of edge) }
     {
         self.place(edge.from) < self.place(edge.to)
     }
 
-    /// Returns the first of the edges that doesn't go forward.
+    /// Returns the first of the edges that doesn't go forward in the list.
     pub fn first_backward(&self, edges: &[Edge]) -> Option<Edge>
         ensures { option_map edge_of result ≡ find (is_backward self.now.txns.now) (map edge_of edges.now) }
     {
@@ -57,12 +58,11 @@ impl<'a> CertificatePlaces<'a> {
     }
 }
 
-// For each transaction how many of the certificate come before it. Most histories commit more than half of their
-// transactions, so most numbers are below twice as many.
-fn places_of(alloc: Global, txns: &[Txn]) -> Result<TxnTable<usize>, AllocError>
+/// Returns for each transaction how many of the list come before it.
+fn places_of(alloc: Global, txns: &[Txn], small: usize) -> Result<TxnTable<usize>, AllocError>
     ensures { IfOk result (λ m. HasPlaces m txns.now) }
 {
-    let mut places = TxnTable::new(alloc, txns.len().saturating_mul(2), txns.len())?;
+    let mut places = TxnTable::new(alloc, small, txns.len())?;
     let mut i = txns.len();
     while i > 0 {
         i -= 1;
