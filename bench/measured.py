@@ -1,0 +1,59 @@
+"""What the scripts of this folder share: a command that has run, the least of three, and what machine this is."""
+import os
+import resource
+import signal
+import subprocess
+import time
+
+RUNS = 3  # each time is the least of so many
+
+
+class Run:
+    """A command that has run: its processor time (user and system), wall time, peak of resident memory, status."""
+
+    def __init__(self, words, stdin, stdout, limit):
+        with open(stdin, "rb") as given, open(stdout, "wb") as out:
+            start = time.perf_counter()
+            child = subprocess.Popen(words, stdin=given, stdout=out, stderr=subprocess.DEVNULL)
+            signal.signal(signal.SIGALRM, lambda *_: child.kill())
+            signal.alarm(limit)
+            _, status, used = os.wait4(child.pid, 0)
+            signal.alarm(0)
+            self.wall = time.perf_counter() - start
+            self.status = child.returncode = os.waitstatus_to_exitcode(status)
+        self.is_late = self.status == -signal.SIGKILL and self.wall >= limit
+        self.time = max(used.ru_utime + used.ru_stime, 0.001)
+        self.memory = used.ru_maxrss * 1024  # Linux counts in KiB
+        # Linux counts in what this process had when it made the new one, so a smaller peak can't be told.
+        self.is_told = used.ru_maxrss > 1.05 * resource.getrusage(resource.RUSAGE_SELF).ru_maxrss
+
+
+def least(words, stdin, stdout, limit):
+    """The run with the least processor time of three. One is enough if it ends late or by an unusual status."""
+    best = Run(words, stdin, stdout, limit)
+    for _ in range(RUNS - 1):
+        if best.is_late or best.status not in (0, 1):
+            break
+        best = min(best, Run(words, stdin, stdout, limit), key=lambda run: run.time)
+    return best
+
+
+def sort_time(path, limit):
+    """The processor time of sorting the lines of a file."""
+    return least(["env", "LC_ALL=C", "sort", "--parallel=1"], path, os.devnull, limit).time
+
+
+def first_line(words):
+    try:
+        return subprocess.run(words, capture_output=True, text=True).stdout.split("\n")[0]
+    except OSError:
+        return "%s is not here" % words[0]
+
+
+def machine():
+    """The lines that begin each measurement."""
+    with open("/proc/cpuinfo") as info:
+        names = [line.split(":", 1)[1].strip() for line in info if line.startswith("model name")]
+    name = names[0] if names else os.uname().machine
+    return "machine: %d cores, %s, load %.1f\ntoolchain: %s" % (
+        os.cpu_count(), name, os.getloadavg()[0], first_line(["rt", "--version"]))
