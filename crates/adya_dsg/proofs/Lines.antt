@@ -1,7 +1,7 @@
 -- Order lines by their indexes in the list of lines.
 use Rattle.std.proofs.Common.{◌≡◌, ℕ, zero, suc, ◌<◌, ◌≤◌, Bool, true, false, cond, List, [], ◌∷◌, map, length, get_or, slice_get, option_map, refl, sym, ◌∙◌, ap, subst, arith, inl, inr}
 use Rattle.std.specs.List.Sorted.{IsPartitionPoint}
-use Rattle.std.proofs.lemmas.Bool.{cases_eq, eq-eqb, ne_eqb, and_parts}
+use Rattle.std.proofs.lemmas.Bool.{cases_Bool, cases_eq, cases_lt, eq-eqb, ne_eqb, and_parts}
 use Rattle.std.proofs.lemmas.Option.{slice_get-map, slice_get_read, slice_get-get_or}
 use Rattle.std.proofs.lemmas.Simd.{map-map}
 use Rattle.adya_values.specs.declared.order.Order.{Order as OrderValue}
@@ -12,7 +12,8 @@ use Rattle.adya_values.specs.Computing.Shapes.{is_shape}
 use Rattle.adya_values.specs.Meaning.Histories.{History, Order, order_of, final_of}
 use Rattle.adya_values.specs.Meaning.Orders.{place, line_of}
 use Rattle.adya_dsg.specs.Machinery.Choices.{key_of}
-use Rattle.adya_dsg.proofs.Keys.{line_of-at}
+use Rattle.adya_dsg.proofs.Keys.{line_of-at, rises_at}
+use Rattle.lemmas.proofs.Orderings.{bytes_lt-trans, bytes_lt-apart}
 
 -- the orders that a checked history gives out are its lines
 pub record Lends (h : History) (os : List OrderValue) : Type 0 where
@@ -95,3 +96,39 @@ pub keys_from : (os orders : List OrderValue) → orders ≡ os → (k : List �
 keys_from os orders same k n point i l m =
     tested_at os k false i m
     (λ d. subst (λ zs. (j : ℕ) (x : OrderValue) → n ≤ j → j < length zs → key_lt (get_or zs j x).key k ≡ false) same point.1 i d l m)
+
+-- the keys of the lines rise
+rises : (os : List OrderValue) (i j : ℕ) → keys_rise (map (λ (o : OrderValue). o.key) os) ≡ true → i < j → j < length os
+    → key_lt (key_of (slice_get (map order_of os) i)) (key_of (slice_get (map order_of os) j)) ≡ true
+rises [] i j r l m = absurd (omega (arith, m))
+rises (o ∷ os) i j r l m =
+    let at : ℕ → List ℕ = λ n. key_of (slice_get (map order_of (o ∷ os)) n) in
+    let low : at i ≡ (get_or (o ∷ os) i o).key = key_there (o ∷ os) i o (omega (arith, l, m)) in
+    let high : at j ≡ (get_or (o ∷ os) j o).key = key_there (o ∷ os) j o m in
+    ap (λ k. key_lt k (at j)) low ∙
+    (ap (key_lt (get_or (o ∷ os) i o).key) high ∙ rises_at (λ (x : OrderValue). x.key) (o ∷ os) i j o r l m)
+
+-- the lines before a line are below its key
+pub line_below : (os : List OrderValue) → keys_rise (map (λ (o : OrderValue). o.key) os) ≡ true → (k : List ℕ) (n : ℕ)
+    → n < length os → key_of (slice_get (map order_of os) n) ≡ k → (i : ℕ) → i < n
+    → key_lt (key_of (slice_get (map order_of os) i)) k ≡ true
+line_below os r k n within here i l =
+    ap (key_lt (key_of (slice_get (map order_of os) i))) (sym here) ∙ rises os i n r l within
+
+-- and from it on they aren't
+pub line_from : (os : List OrderValue) → keys_rise (map (λ (o : OrderValue). o.key) os) ≡ true → (k : List ℕ) (n : ℕ)
+    → key_of (slice_get (map order_of os) n) ≡ k → (i : ℕ) → n ≤ i → i < length os
+    → key_lt (key_of (slice_get (map order_of os) i)) k ≡ false
+line_from os r k n here i l m =
+    let at : ℕ → List ℕ = λ j. key_of (slice_get (map order_of os) j) in
+    elim (cases_Bool (key_lt (at i) k)) [
+      | inl below ↦ elim (cases_lt n i) [
+        | inl before ↦
+            let above : key_lt k (at i) ≡ true = ap (λ j. key_lt j (at i)) (sym here) ∙ rises os n i r before m in
+            absurd (bytes_lt-apart k k (bytes_lt-trans k (at i) k above below) refl)
+        | inr more ↦
+            let same : i ≡ n = omega (arith, l, more) in
+            absurd (bytes_lt-apart (at i) k below (ap at same ∙ here))
+      ]
+      | inr not ↦ not
+    ]

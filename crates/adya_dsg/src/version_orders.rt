@@ -167,7 +167,7 @@ impl<'a> VersionOrders<'a> {
         self.lines.get(&key).copied()
     }
 
-    /// Returns how many lines have smaller keys.
+    /// Returns how many lines have smaller keys. If the key has a line, this takes no search.
     pub fn lines_below(&self, key: Key) -> usize
         ensures within { result ≤ length (order_lines self.now) }
         ensures below { (i : ℕ) → i < result
@@ -175,7 +175,11 @@ impl<'a> VersionOrders<'a> {
         ensures others { (i : ℕ) → result ≤ i → i < length (order_lines self.now)
             → key_lt (key_at (ordered_history self.now) i) key ≡ false }
     {
-        self.orders().partition_point(|o| is_below(o.key, key))
+        let orders = self.orders();
+        match self.line_of(key) {
+            Some(line) => line,
+            None => orders.partition_point(|o| is_below(o.key, key)),
+        }
     }
 }
 

@@ -53,16 +53,16 @@ fn is_next(writes: &OpenWrites, events: &[Event], event: &Event) -> bool
 /// Returns whether the version was written with this content. Most often it is the newest write of its key.
 fn is_written(tables: &Tables, newest: &NewestWrites, events: &[Event], seen: &Entry) -> bool
     ensures { result
-        ≡ is_found (get key_eq newest.now.places) (get own_eq tables.now.last) (get version_eq tables.now.replaced)
+        ≡ is_found (get key_eq newest.now.writes) (get own_eq tables.now.last) (get version_eq tables.now.replaced)
         (map event_of events.now) (entry_of seen.now) }
 {
-    newest.has(events, seen) || tables.was_written(events, seen)
+    newest.has(seen) || tables.was_written(events, seen)
 }
 
 /// Returns whether each entry was written.
 fn all_written(tables: &Tables, newest: &NewestWrites, events: &[Event], entries: &[Entry]) -> bool
     ensures { result
-        ≡ list_all (λ w. is_found (get key_eq newest.now.places) (get own_eq tables.now.last)
+        ≡ list_all (λ w. is_found (get key_eq newest.now.writes) (get own_eq tables.now.last)
         (get version_eq tables.now.replaced) (map event_of events.now) (entry_of w)) entries.now }
 {
     entries
@@ -75,7 +75,7 @@ fn was_written(tables: &Tables, newest: &NewestWrites, events: &[Event], event: 
     ensures { let all = map event_of events.now in
         (before : List EventValue)
         → Means tables.now all before
-        → newest_writes.Keeps newest.now all before
+        → newest_writes.Keeps newest.now before
         → result ≡ faults.was_written before (event_of event.now) }
 {
     all_written(tables, newest, events, Observed::of(event).entries())
@@ -143,7 +143,7 @@ fn broken_rule(
         (before : List EventValue)
         → Means tables.now all before
         → Keeps writes.now all before
-        → newest_writes.Keeps newest.now all before
+        → newest_writes.Keeps newest.now before
         → (line : ℕ)
         → MatchOption result (faults.faults_at before line (event_of event.now) ≡ [])
         (λ r. faults.first (faults.faults_at before line (event_of event.now)) ≡ Some (CheckFault.Malformed line r)) }
@@ -187,7 +187,7 @@ pub(crate) fn tables_of(alloc: Global, events: &[Event]) -> Result<Tables, Check
         let Ok(()) = writes.keep(i, event) else {
             return Err(CheckFault::Memory);
         };
-        let Ok(()) = newest.keep(i, event) else {
+        let Ok(()) = newest.keep(event) else {
             return Err(CheckFault::Memory);
         };
     }

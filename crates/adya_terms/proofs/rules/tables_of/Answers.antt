@@ -27,7 +27,7 @@ loop-i-init c =
     record {
       means = c.in-Ok.ensures all;
       keeps = c.new-writes.ensures all;
-      newest = c.new-newest.ensures all;
+      newest = c.new-newest.ensures;
       faults = refl;
     }
 
@@ -43,6 +43,6 @@ loop-i-preserved c =
       means = subst (Means c.record.new.self all) (sym t.front)
           (c.in-Ok-record.ensures (take i all) m t.found (passes_all (take i all) (2 + i) (event_of e) none).next);
       keeps = subst (Keeps c.keep.new.self all) (sym t.front) (c.in-Ok-keep.ensures all (take i all) c.loop-i.invariant.keeps t.found);
-      newest = subst (newest_writes.Keeps c.keep-in-loop-i.new.self all) (sym t.front) (c.in-Ok-keep-2.ensures all (take i all) c.loop-i.invariant.newest t.found);
+      newest = subst (newest_writes.Keeps c.keep-in-loop-i.new.self) (sym t.front) (c.in-Ok-keep-2.ensures (take i all) c.loop-i.invariant.newest);
       faults = c.loop-i.invariant.faults ∙ fault_later all i (event_of e) t none;
     }

@@ -12,6 +12,6 @@ invariant-loop-i l =
     record {
       means : Means l.tables all (take l.i all);
       keeps : Keeps l.writes all (take l.i all);
-      newest : newest_writes.Keeps l.newest all (take l.i all);
+      newest : newest_writes.Keeps l.newest (take l.i all);
       faults : event_faults [] 2 all ≡ event_faults (take l.i all) (2 + l.i) (drop l.i all);
     }

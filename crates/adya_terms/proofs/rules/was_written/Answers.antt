@@ -16,7 +16,7 @@ use Rattle.adya_terms.proofs.rules.was_written.Goals as goal
 pub returns : goal.returns
 returns c before m n =
     let all = map event_of c.args.events.now in
-    let newest = get key_eq c.args.newest.now.places in
+    let newest = get key_eq c.args.newest.now.writes in
     let last = get own_eq c.args.tables.now.last in
     let replaced = get version_eq c.args.tables.now.replaced in
     let es = c.entries.result.now in
