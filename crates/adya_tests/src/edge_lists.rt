@@ -4,7 +4,6 @@ use adya_audit::{Edge, Kind};
 use adya_dsg::edges;
 use adya_terms::Checked;
 use adya_text::read_history;
-use adya_values::History;
 use std::alloc::{AllocError, Global};
 
 fn name(kind: Kind) -> &'static str {
@@ -27,18 +26,13 @@ pub(crate) fn lines(alloc: Global, edges: &[Edge]) -> Result<String, AllocError>
     Ok(text)
 }
 
-/// Returns the edges of the history; if it isn't checked, none.
-pub(crate) fn of_history(alloc: Global, history: &History) -> Result<String, AllocError> {
-    match Checked::of(alloc, history) {
-        Ok(checked) => lines(alloc, &edges(alloc, &checked)?),
-        Err(_) => Ok(String::new(alloc)),
-    }
-}
-
 /// Returns the edges of the history of this text; if there is none, or it isn't checked, none.
 pub(crate) fn of_text(alloc: Global, text: &[u8]) -> Result<String, AllocError> {
-    match read_history(alloc, text) {
-        Ok(history) => of_history(alloc, &history),
+    let Ok(history) = read_history(alloc, text) else {
+        return Ok(String::new(alloc));
+    };
+    match Checked::of(alloc, &history) {
+        Ok(checked) => lines(alloc, &edges(alloc, &checked)?),
         Err(_) => Ok(String::new(alloc)),
     }
 }

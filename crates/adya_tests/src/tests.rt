@@ -1,12 +1,9 @@
 //! Tests of the public functions of all crates: each at work with ample memory, what no contract says, and runs on
 //! devices that fail.
 
-mod audit;
 mod check;
-mod edges;
 mod graphs;
 mod lines;
-mod order;
 mod random_histories;
 mod run_audit;
 mod run_order;
@@ -16,11 +13,7 @@ mod texts;
 mod texts_from_sources;
 mod values;
 
-use adya_testing::histories::{
-    self, BadHistory, commit, final_pair, read, version, version_order, write,
-};
 use adya_testing::{Endless, FailsAt, Narrow, Pieces};
-use adya_values::History;
 use devices::Watched;
 use std::alloc::Global;
 use std::io::{Chain, ErrorKind, Read};
@@ -40,19 +33,6 @@ const UNENDED: &[u8] = b"adya 1\nw1(x.1:1,";
 
 /// How failing devices fail. An interrupted call is a failed one.
 const KINDS: [ErrorKind; 2] = [ErrorKind::Interrupted, ErrorKind::TimedOut];
-
-/// Makes the history in which transaction 2 reads what transaction 1 wrote, as a value.
-fn write_then_read(alloc: Global) -> Result<History, BadHistory> {
-    let events = vec![in alloc;
-        write(1, "x", 1, "5")?,
-        commit(1)?,
-        read(2, version("x", 1, 1)?, "5")?,
-        commit(2)?,
-    ]?;
-    let orders = vec![in alloc; version_order(alloc, "x", &[1])?]?;
-    let finals = vec![in alloc; final_pair("x", "5")?]?;
-    histories::history(events, orders, finals)
-}
 
 /// A reader that fails once.
 type Reader<'a> = Watched<FailsAt<Pieces<'a>>>;

@@ -13,7 +13,7 @@ use std::alloc::Global;
 
 /// What was read from a text.
 #[derive(PartialEq, Drop)]
-pub enum Outcome {
+enum Outcome {
     /// A value, whose text this is.
     Text(Vec<u8>),
     /// None, for this reason.
@@ -23,7 +23,7 @@ pub enum Outcome {
 }
 
 /// Returns what was read from the text of a history.
-pub(crate) fn of_history(alloc: Global, read: Result<History, ReadFault>) -> Outcome {
+fn of_history(alloc: Global, read: Result<History, ReadFault>) -> Outcome {
     let history = match read {
         Ok(history) => history,
         Err(fault) => return Outcome::Fault(fault),
@@ -36,7 +36,7 @@ pub(crate) fn of_history(alloc: Global, read: Result<History, ReadFault>) -> Out
 }
 
 /// Returns what was read from the text of a certificate.
-pub(crate) fn of_serial(alloc: Global, read: Result<Serial, ReadFault>) -> Outcome {
+fn of_serial(alloc: Global, read: Result<Serial, ReadFault>) -> Outcome {
     let serial = match read {
         Ok(serial) => serial,
         Err(fault) => return Outcome::Fault(fault),

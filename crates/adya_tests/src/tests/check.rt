@@ -1,18 +1,10 @@
 //! The check of a history.
 
-use super::write_then_read;
 use adya_terms::Checked;
 use adya_testing::histories::{abort, commit, final_pair, history, version_order, write};
 use adya_values::{Content, History, Txn, Value};
 use std::alloc::Global;
 use std::test::Fail;
-
-#[test]
-fn check_succeeds_with_ample_memory(rt: HostRuntime) -> Result<(), Fail> {
-    let history = write_then_read(rt.alloc())?;
-    assert!(rt; matches!(&Checked::of(rt.alloc(), &history), Ok(_)));
-    Ok(())
-}
 
 /// T1 writes `x` twice and T2 writes it once, which the version order puts first; T3 writes and aborts.
 fn listed_and_aborted_writers(alloc: Global) -> Result<History, Fail> {
@@ -29,6 +21,13 @@ fn listed_and_aborted_writers(alloc: Global) -> Result<History, Fail> {
     let orders = vec![in alloc; version_order(alloc, "x", &[2, 1])?]?;
     let finals = vec![in alloc; final_pair("x", "5")?]?;
     Ok(history(events, orders, finals)?)
+}
+
+#[test]
+fn check_succeeds_with_ample_memory(rt: HostRuntime) -> Result<(), Fail> {
+    let history = listed_and_aborted_writers(rt.alloc())?;
+    assert!(rt; matches!(&Checked::of(rt.alloc(), &history), Ok(_)));
+    Ok(())
 }
 
 #[test]

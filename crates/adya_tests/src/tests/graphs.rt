@@ -57,91 +57,66 @@ fn outcome(alloc: Global, nodes: &[u32], lines: &[(u32, u32)]) -> Result<String,
     }
 }
 
-#[test]
-fn empty(rt: HostRuntime) -> Result<(), Fail> {
-    assert_eq!(rt; outcome(rt.alloc(), &[], &[])?.as_str(), "order");
-    Ok(())
-}
+/// A graph: its nodes, the two ends of each arc, and what is to be found of it.
+type Case = (&'static [u32], &'static [(u32, u32)], &'static str);
+
+// In the cycle 3-6 6-3, 1 is placed. From 2, which is on a cycle with 5, the walk goes back to 4, its smaller
+// predecessor, and on to 6 and 3, from which it returns to 6. The smaller predecessor 1 of 6 no longer remains. In the
+// last graph the walk back from 1 goes to 4, 2, 3 and 1 again: the cycle goes the other way.
+const CASES: [Case; 7] = [
+    (&[], &[], "order"),
+    (
+        &[3, 1, 5, 2, 4],
+        &[(5, 1), (5, 1), (5, 1), (4, 2), (2, 3)],
+        "order 4 2 3 5 1",
+    ),
+    (&[2, 1], &[(1, 2), (2, 1)], "cycle 1-2 2-1"),
+    (
+        &[1, 3, 2],
+        &[(1, 2), (2, 3), (1, 2), (3, 2)],
+        "cycle 2-3 3-2",
+    ),
+    (
+        &[1, 2, 3],
+        &[
+            (1, 2),
+            (1, 3),
+            (1, 2),
+            (1, 2),
+            (2, 3),
+            (1, 3),
+            (3, 2),
+            (1, 3),
+        ],
+        "cycle 2-3 3-2",
+    ),
+    (
+        &[1, 2, 3, 4, 5, 6],
+        &[
+            (1, 6),
+            (5, 2),
+            (4, 2),
+            (3, 6),
+            (6, 3),
+            (6, 3),
+            (2, 5),
+            (3, 6),
+            (6, 4),
+        ],
+        "cycle 3-6 6-3",
+    ),
+    (
+        &[1, 2, 3, 4],
+        &[(4, 1), (2, 4), (3, 2), (1, 3)],
+        "cycle 1-3 3-2 2-4 4-1",
+    ),
+];
 
 #[test]
-fn node_before_a_cycle_with_arcs_repeated(rt: HostRuntime) -> Result<(), Fail> {
-    let lines = [
-        (1, 2),
-        (1, 3),
-        (1, 2),
-        (1, 2),
-        (2, 3),
-        (1, 3),
-        (3, 2),
-        (1, 3),
-    ];
-    assert_eq!(rt;
-        outcome(rt.alloc(), &[1, 2, 3], &lines)?.as_str(),
-        "cycle 2-3 3-2"
-    );
-    Ok(())
-}
-
-#[test]
-fn cycle_of_two(rt: HostRuntime) -> Result<(), Fail> {
-    let lines = [(1, 2), (2, 1)];
-    assert_eq!(rt;
-        outcome(rt.alloc(), &[2, 1], &lines)?.as_str(),
-        "cycle 1-2 2-1"
-    );
-    Ok(())
-}
-
-#[test]
-fn node_before_a_cycle(rt: HostRuntime) -> Result<(), Fail> {
-    let lines = [(1, 2), (2, 3), (1, 2), (3, 2)];
-    assert_eq!(rt;
-        outcome(rt.alloc(), &[1, 3, 2], &lines)?.as_str(),
-        "cycle 2-3 3-2"
-    );
-    Ok(())
-}
-
-#[test]
-fn smallest_ready_number_at_each_place(rt: HostRuntime) -> Result<(), Fail> {
-    let lines = [(5, 1), (5, 1), (5, 1), (4, 2), (2, 3)];
-    assert_eq!(rt;
-        outcome(rt.alloc(), &[3, 1, 5, 2, 4], &lines)?.as_str(),
-        "order 4 2 3 5 1"
-    );
-    Ok(())
-}
-
-// 1 is placed. From 2, which is on a cycle with 5, the walk goes back to 4, its smaller predecessor, and on to 6 and 3,
-// from which it returns to 6. The smaller predecessor 1 of 6 no longer remains.
-#[test]
-fn cycle_before_the_smallest_remaining(rt: HostRuntime) -> Result<(), Fail> {
-    let lines = [
-        (1, 6),
-        (5, 2),
-        (4, 2),
-        (3, 6),
-        (6, 3),
-        (6, 3),
-        (2, 5),
-        (3, 6),
-        (6, 4),
-    ];
-    assert_eq!(rt;
-        outcome(rt.alloc(), &[1, 2, 3, 4, 5, 6], &lines)?.as_str(),
-        "cycle 3-6 6-3"
-    );
-    Ok(())
-}
-
-// The walk back from 1 goes to 4, 2, 3 and 1 again: the cycle goes the other way.
-#[test]
-fn cycle_along_the_arcs(rt: HostRuntime) -> Result<(), Fail> {
-    let lines = [(4, 1), (2, 4), (3, 2), (1, 3)];
-    assert_eq!(rt;
-        outcome(rt.alloc(), &[1, 2, 3, 4], &lines)?.as_str(),
-        "cycle 1-3 3-2 2-4 4-1"
-    );
+fn worked_graphs(rt: HostRuntime) -> Result<(), Fail> {
+    for (nodes, lines, expected) in CASES {
+        assert_eq!(rt; outcome(rt.alloc(), nodes, lines)?.as_str(), expected);
+    }
     Ok(())
 }
 

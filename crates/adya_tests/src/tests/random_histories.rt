@@ -2,15 +2,15 @@
 
 ghost use Rattle.std.specs.Prelude.{◌<◌};
 
-use super::order::{found, lines};
-use adya_dsg::{Edge, Found, edges};
+use crate::edge_lists;
+use adya_dsg::{Edge, Found, edges, order};
 use adya_terms::Checked;
 use adya_testing::histories::{
     self, BadHistory, commit, dead, delete, final_pair, history, live, read, scan, version,
     version_order, write,
 };
 use adya_values::{Entry, Event, History};
-use std::alloc::Global;
+use std::alloc::{AllocError, Global};
 use std::test::Fail;
 
 const KEYS: [&str; 3] = ["a", "b", "c"];
@@ -278,6 +278,32 @@ fn expected(alloc: Global, edges: &[Edge]) -> Result<Found, Fail> {
 fn all_edges(alloc: Global, history: &History) -> Result<Vec<Edge>, Fail> {
     match Checked::of(alloc, history) {
         Ok(checked) => Ok(edges(alloc, &checked)?),
+        Err(_) => Err(Fail::new("the history is not checked")),
+    }
+}
+
+/// Returns the transactions of the certificate, or the edges of the cycle, a line each.
+fn lines(alloc: Global, found: &Found) -> Result<String, AllocError> {
+    match found {
+        Found::Serial(serial) => {
+            let mut text = String::from_str(alloc, "serial\n")?;
+            for txn in serial.txns() {
+                let n = txn.get();
+                text.push_str(&format!(in alloc; "{n}\n")?)?;
+            }
+            Ok(text)
+        }
+        Found::Cycle(edges) => {
+            let edges = edge_lists::lines(alloc, edges)?;
+            format!(in alloc; "cycle\n{edges}")
+        }
+    }
+}
+
+/// Returns what is found of the history, in lines.
+fn found(alloc: Global, history: &History) -> Result<String, Fail> {
+    match Checked::of(alloc, history) {
+        Ok(checked) => Ok(lines(alloc, &order(alloc, &checked)?)?),
         Err(_) => Err(Fail::new("the history is not checked")),
     }
 }

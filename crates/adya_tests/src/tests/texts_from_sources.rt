@@ -1,14 +1,9 @@
 //! Texts read out of sources that give pieces, fail or never end.
 
-use super::{CERTIFICATE, HISTORY, KINDS, Reader, STREAM, UNENDED, endless, reader};
-use crate::texts::{of_history, of_serial};
+use super::{CERTIFICATE, HISTORY, KINDS, UNENDED, endless, reader};
 use adya_testing::Pieces;
-use adya_text::{
-    ReadFault, Text, read_history, read_history_from, read_serial, read_serial_from,
-    read_texts_from,
-};
+use adya_text::{ReadFault, Text, read_history_from, read_serial_from, read_texts_from};
 use devices::Watched;
-use std::io::ErrorKind;
 use std::test::Fail;
 
 /// Makes the fault of a history at this line.
@@ -113,57 +108,6 @@ fn kth_read_of_history_fails(rt: HostRuntime) -> Result<(), Fail> {
             }
             assert_eq!(rt; source.into_inner().calls(), k);
         }
-    }
-    Ok(())
-}
-
-#[test]
-fn kth_read_of_certificate_fails(rt: HostRuntime) -> Result<(), Fail> {
-    for kind in KINDS {
-        let mut source = reader(CERTIFICATE, 0, kind);
-        assert!(rt; read_serial_from(rt.alloc(), &mut source).is_ok());
-        for k in 1..=source.into_inner().calls() {
-            let mut source = reader(CERTIFICATE, k, kind);
-            for _ in 0..2 {
-                let serial = read_serial_from(rt.alloc(), &mut source);
-                assert!(rt; matches!(serial, Err(ReadFault::Device)), "at {k}");
-                assert!(rt; source.failed());
-            }
-            assert_eq!(rt; source.into_inner().calls(), k);
-        }
-    }
-    Ok(())
-}
-
-#[test]
-fn kth_read_of_both_texts_fails(rt: HostRuntime) -> Result<(), Fail> {
-    let mut source: Reader = reader(STREAM, 0, ErrorKind::Interrupted);
-    let (history, serial) = read_texts_from(rt.alloc(), &mut source)?;
-    assert_eq!(rt; history.events().len(), 4);
-    assert_eq!(rt; serial.txns().len(), 2);
-    for k in 1..=source.into_inner().calls() {
-        let mut source = reader(STREAM, k, ErrorKind::Interrupted);
-        let texts = read_texts_from(rt.alloc(), &mut source);
-        assert!(rt; matches!(texts, Err(ReadFault::Device)), "at {k}");
-        assert!(rt; source.failed());
-        assert_eq!(rt; source.into_inner().calls(), k);
-    }
-    Ok(())
-}
-
-#[test]
-fn both_texts_in_pieces(rt: HostRuntime) -> Result<(), Fail> {
-    let alloc = rt.alloc();
-    for source in [
-        Pieces::new(STREAM, 1),
-        Pieces::new(STREAM, 3),
-        Pieces::new(STREAM, 8192),
-    ] {
-        let (history, serial) = read_texts_from(alloc, &mut Watched::new(source))?;
-        let whole = of_history(alloc, read_history(alloc, HISTORY));
-        assert!(rt; of_history(alloc, Ok(history)) == whole);
-        let whole = of_serial(alloc, read_serial(alloc, CERTIFICATE));
-        assert!(rt; of_serial(alloc, Ok(serial)) == whole);
     }
     Ok(())
 }
