@@ -1,11 +1,10 @@
 -- Keys that rise: each is below all later ones, so an element is the only one of its key.
 -- That `key_eq` and `key_lt` are an equality and an order is in lemmas (Orderings), by lists of bytes.
-use Rattle.std.proofs.Common.{◌≡◌, ℕ, zero, suc, ◌+◌, ◌<◌, true, false, ◌&&◌, List, [], ◌∷◌, map, drop, get_or, length, refl, ◌∙◌, ap, subst, arith, inl, inr}
+use Rattle.std.proofs.Common.{◌≡◌, ℕ, zero, suc, ◌<◌, true, false, List, [], ◌∷◌, map, get_or, length, refl, subst, arith, inl, inr}
 use Rattle.std.specs.List.{AllPairs, Contains}
 use Rattle.std.proofs.lemmas.Bool.{and_parts}
 use Rattle.std.proofs.lemmas.List.Elements.{Contains-get_or}
 use Rattle.lemmas.proofs.Members.{none_contained, Contains-cases}
-use Rattle.lemmas.proofs.Steps.{drop_step}
 use Rattle.lemmas.proofs.Orderings.{bytes_eq-other, bytes_lt-trans, bytes_lt-apart}
 use Rattle.adya_values.specs.Meaning.Keys.{key_eq, key_lt, keys_rise}
 
@@ -36,11 +35,3 @@ module _ {X : Type 0} (key : X → List ℕ) where
       rises_below x xs (get_or xs j d) r (Contains-get_or xs j d (omega (arith, m)))
   rises_pairs (x ∷ xs) r (suc i) (suc j) d l m =
       rises_pairs xs (keys_rise-tail (key x) (map key xs) r) i j d (omega (arith, l)) (omega (arith, m))
-
--- the turn of a loop that compares each key with the last one, if they don't rise
-pub rise_fails : {X Y : Type 0} (key : X → List ℕ) (view : Y → X) (last : List ℕ) (ys : List Y) (i : ℕ) (y : Y)
-    → i < length ys → y ≡ get_or ys i y → key_lt last (key (view y)) ≡ false
-    → keys_rise (last ∷ map key (map view (drop i ys))) ≡ false
-rise_fails key view last ys i y l at e =
-    ap (λ x. keys_rise (last ∷ map key (map view x))) (drop_step ys i y l at) ∙
-    ap (λ b. b && keys_rise (key (view y) ∷ map key (map view (drop (i + 1) ys)))) e

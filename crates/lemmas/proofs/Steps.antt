@@ -1,5 +1,5 @@
 -- One turn of a loop over a list, whose elements are seen as others.
-use Rattle.std.proofs.Common.{◌≡◌, ℕ, suc, ◌+◌, ◌-◌, ◌<◌, ◌≤◌, Bool, true, false, ◌&&◌, List, [], ◌∷◌, ◌++◌, Some, slice_get, map, take, drop, length, get_or, append_assoc, refl, sym, ◌∙◌, ap, arith}
+use Rattle.std.proofs.Common.{◌≡◌, ℕ, suc, ◌+◌, ◌<◌, Bool, true, false, ◌&&◌, List, [], ◌∷◌, ◌++◌, Some, slice_get, map, take, drop, length, get_or, append_assoc, refl, sym, ◌∙◌, ap, arith}
 use Rattle.std.proofs.Math.Seq.{drop-cons}
 use Rattle.std.specs.List.{list_all, flat_map}
 use Rattle.std.specs.Option.{option_map}
@@ -12,13 +12,6 @@ pub drop_step : {Y : Type 0} (ys : List Y) (i : ℕ) (y : Y) → i < length ys �
 drop_step ys i y l e =
     let next : suc i ≡ i + 1 = omega arith in
     drop-cons ys i y l ∙ (ap (λ x. x ∷ drop (suc i) ys) (sym e) ∙ ap (λ j. y ∷ drop j ys) next)
-
--- the same, if the loop goes down
-pub drop_back : {Y : Type 0} (ys : List Y) (i : ℕ) (y : Y) → 0 < i → i ≤ length ys → y ≡ get_or ys (i - 1) y
-    → drop (i - 1) ys ≡ y ∷ drop i ys
-drop_back ys i y z l e =
-    let back : (i - 1) + 1 ≡ i = omega arith in
-    drop_step ys (i - 1) y (omega arith) e ∙ ap (λ j. y ∷ drop j ys) back
 
 -- the element of the turn: its place, what is left from it on, and what was met with it
 pub record IsTurn {X : Type 0} (xs : List X) (i : ℕ) (x : X) : Type 0 where
