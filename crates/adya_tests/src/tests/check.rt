@@ -2,7 +2,7 @@
 
 use adya_terms::Checked;
 use adya_testing::histories::{abort, commit, final_pair, history, version_order, write};
-use adya_values::{Content, History, Txn, Value};
+use adya_values::{History, Txn};
 use std::alloc::Global;
 use std::test::Fail;
 
@@ -40,21 +40,5 @@ fn only_the_committed_have_committed(rt: HostRuntime) -> Result<(), Fail> {
     assert!(rt; checked.is_committed(Txn::new(2)?));
     assert!(rt; !checked.is_committed(Txn::new(3)?));
     assert!(rt; !checked.is_committed(Txn::new(4)?));
-    Ok(())
-}
-
-#[test]
-fn an_order_line_names_what_its_writers_wrote_last(rt: HostRuntime) -> Result<(), Fail> {
-    let history = listed_and_aborted_writers(rt.alloc())?;
-    let Ok(checked) = Checked::of(rt.alloc(), &history) else {
-        return Err(Fail::new("the history has a fault"));
-    };
-    let (Some(first), Some(second)) = (checked.installed(0, 0), checked.installed(0, 1)) else {
-        return Err(Fail::new("a writer is missing"));
-    };
-    assert!(rt; first.content.same(&Content::Live(Value::new(b"6")?)));
-    assert!(rt; second.content.same(&Content::Live(Value::new(b"5")?)));
-    assert!(rt; checked.installed(0, 2).is_none());
-    assert!(rt; checked.installed(1, 0).is_none());
     Ok(())
 }

@@ -1,8 +1,7 @@
-//! Single lines: read, and written again.
+//! Single lines: which are read, and events written again.
 
 use adya_line::{
     ContentRef, EventRef, event, final_pair, order, read_event, txn, unfinished, write_event,
-    write_final, write_order, write_txn, write_unfinished,
 };
 use devices::Watched;
 use std::test::Fail;
@@ -94,107 +93,65 @@ fn entries_come_in_the_order_of_the_line(rt: HostRuntime) -> Result<(), Fail> {
     Ok(())
 }
 
+/// Texts that name no unfinished transaction.
+const OTHER_UNFINISHED: [&[u8]; 11] = [
+    b"",
+    b"u",
+    b"u0",
+    b"u01",
+    b"u4294967296",
+    b"u1 ",
+    b"U1",
+    b"1",
+    b"c1",
+    b"end",
+    b"adya 2",
+];
+
+/// Texts of no version order.
+const OTHER_ORDERS: [&[u8]; 10] = [
+    b"",
+    b"[x:]",
+    b"[:1]",
+    b"[x:1<2]",
+    b"[x:1<<]",
+    b"[x:1<<02]",
+    b"[x:1<<2",
+    b"[x:1<<2]]",
+    b"[x:1,2]",
+    b"x:1]",
+];
+
+/// Texts of no final contents of a key.
+const OTHER_FINALS: [&[u8]; 8] = [
+    b"", b"{x,}", b"{,1}", b"{x:1}", b"{x,1", b"{x,1}}", b"{x,!}", b"x,1}",
+];
+
+/// Texts of no line of a certificate.
+const OTHER_TXNS: [&[u8]; 9] = [
+    b"",
+    b"0",
+    b"01",
+    b"+1",
+    b"1 ",
+    b"c1",
+    b"4294967296",
+    b"end",
+    b"serial 1",
+];
+
 #[test]
-fn unfinished_lines_are_read_and_written_again(rt: HostRuntime) -> Result<(), Fail> {
-    for line in [b"u1".as_slice(), b"u4294967295"] {
-        let Some(found) = unfinished(line) else {
-            return Err(Fail::new("the line is refused"));
-        };
-        let mut out = Watched::new(Vec::new(rt.alloc()));
-        write_unfinished(found, &mut out)?;
-        assert_eq!(rt; out.into_inner().as_slice(), line);
-    }
-    for line in [
-        b"".as_slice(),
-        b"u",
-        b"u0",
-        b"u01",
-        b"u4294967296",
-        b"u1 ",
-        b"U1",
-        b"1",
-        b"c1",
-        b"end",
-        b"adya 2",
-    ] {
+fn other_lines_are_refused(rt: HostRuntime) -> Result<(), Fail> {
+    for line in OTHER_UNFINISHED {
         assert!(rt; unfinished(line).is_none());
     }
-    Ok(())
-}
-
-#[test]
-fn order_lines_are_read_and_written_again(rt: HostRuntime) -> Result<(), Fail> {
-    for line in [b"[x:1]".as_slice(), b"[k_9:3<<1<<4294967295]", b"[x:1<<1]"] {
-        let Some(found) = order(rt.alloc(), line)? else {
-            return Err(Fail::new("the line is refused"));
-        };
-        let mut out = Watched::new(Vec::new(rt.alloc()));
-        write_order(&found, &mut out)?;
-        assert_eq!(rt; out.into_inner().as_slice(), line);
-    }
-    for line in [
-        b"".as_slice(),
-        b"[x:]",
-        b"[:1]",
-        b"[x:1<2]",
-        b"[x:1<<]",
-        b"[x:1<<02]",
-        b"[x:1<<2",
-        b"[x:1<<2]]",
-        b"[x:1,2]",
-        b"x:1]",
-    ] {
+    for line in OTHER_ORDERS {
         assert!(rt; order(rt.alloc(), line)?.is_none());
     }
-    Ok(())
-}
-
-#[test]
-fn final_lines_are_read_and_written_again(rt: HostRuntime) -> Result<(), Fail> {
-    for line in [b"{x,1}".as_slice(), b"{k_9,V.1-0}"] {
-        let Some(found) = final_pair(line) else {
-            return Err(Fail::new("the line is refused"));
-        };
-        let mut out = Watched::new(Vec::new(rt.alloc()));
-        write_final(&found, &mut out)?;
-        assert_eq!(rt; out.into_inner().as_slice(), line);
-    }
-    for line in [
-        b"".as_slice(),
-        b"{x,}",
-        b"{,1}",
-        b"{x:1}",
-        b"{x,1",
-        b"{x,1}}",
-        b"{x,!}",
-        b"x,1}",
-    ] {
+    for line in OTHER_FINALS {
         assert!(rt; final_pair(line).is_none());
     }
-    Ok(())
-}
-
-#[test]
-fn certificate_lines_are_read_and_written_again(rt: HostRuntime) -> Result<(), Fail> {
-    for line in [b"1".as_slice(), b"4294967295"] {
-        let Some(found) = txn(line) else {
-            return Err(Fail::new("the line is refused"));
-        };
-        let mut out = Watched::new(Vec::new(rt.alloc()));
-        write_txn(found, &mut out)?;
-        assert_eq!(rt; out.into_inner().as_slice(), line);
-    }
-    for line in [
-        b"".as_slice(),
-        b"0",
-        b"01",
-        b"+1",
-        b"1 ",
-        b"c1",
-        b"4294967296",
-        b"end",
-        b"serial 1",
-    ] {
+    for line in OTHER_TXNS {
         assert!(rt; txn(line).is_none());
     }
     Ok(())

@@ -3,7 +3,6 @@
 use super::{CERTIFICATE, HISTORY, KINDS, UNENDED, endless, full, reader, writer};
 use crate::audits::of_two_streams;
 use adya_audit::{RunFault, Verdict, run_audit};
-use adya_testing::Pieces;
 use devices::Watched;
 use std::alloc::{AllocError, Global};
 use std::io::{ErrorKind, Read};
@@ -110,16 +109,6 @@ fn audit_first_lines_that_never_end(rt: HostRuntime) -> Result<(), Fail> {
     let (outcome, line) = audit(rt.alloc(), &mut history, &mut endless(b"", 0, u32::MAX));
     assert!(rt; matches!(outcome, Ok(Verdict::Syntax { .. })));
     assert_eq!(rt; line.as_slice(), b"no 1 syntax serial 1\n".as_slice());
-    Ok(())
-}
-
-#[test]
-fn audit_bound_of_certificate(rt: HostRuntime) -> Result<(), Fail> {
-    let mut history = reader(HISTORY, 0, ErrorKind::Other);
-    let mut certificate = Watched::with_bound(Pieces::new(CERTIFICATE, 1), 10);
-    let (outcome, line) = audit(rt.alloc(), &mut history, &mut certificate);
-    assert!(rt; matches!(outcome, Err(RunFault::ReadSerial)));
-    assert!(rt; certificate.failed() && line.is_empty());
     Ok(())
 }
 

@@ -52,7 +52,8 @@ fn a_history_is_read_and_written_again(rt: HostRuntime) -> Result<(), Fail> {
 
 #[test]
 fn a_history_of_the_second_edition_is_read_and_written_again(rt: HostRuntime) -> Result<(), Fail> {
-    let text = b"adya 2\nw1(x.1:1,5)\nc1\nd2(x.2:1)\ns3(a,z;x.1:1,5)\nu2\nu3\n[x:1]\n{x,5}\nend\n";
+    let text =
+        b"adya 2\nd2(x.2:1)\ns3(a,z;x.1:1,5)\nu2\nu4294967295\n[k_9:3<<1<<4294967295]\n{k_9,V.1-0}\nend\n";
     let history = read_history(rt.alloc(), text)?;
     assert_eq!(rt; history.edition(), Edition::Two);
     assert_eq!(rt; history.unfinished().len(), 2);
@@ -62,7 +63,7 @@ fn a_history_of_the_second_edition_is_read_and_written_again(rt: HostRuntime) ->
 
 #[test]
 fn a_certificate_is_read_and_written_again(rt: HostRuntime) -> Result<(), Fail> {
-    let text = b"serial 1\n2\n1\n2\nend\n".as_slice();
+    let text = b"serial 1\n2\n4294967295\n2\nend\n".as_slice();
     let serial = read_serial(rt.alloc(), text)?;
     assert_eq!(rt; serial.txns().len(), 3);
     let mut out = Watched::new(Vec::new(rt.alloc()));
