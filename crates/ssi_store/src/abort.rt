@@ -1,6 +1,7 @@
 //! Abort, and the ends of transactions by an abort.
 
 use crate::engine::Engine;
+use crate::sessions::remove;
 use crate::{Refusal, Reply, Session};
 use adya_values::{Event, Txn};
 use ssi_reads::Marks;
@@ -28,9 +29,9 @@ impl<C: Chains + Drop, M: Marks + Drop> Engine<C, M> {
     pub(crate) fn drop_txn(&mut self, session: Session, txn: Txn)
         ensures stands { (c : Course) (m : Do) (a : Is) → IsAt C.held M.marked self.old c → IsEnd session txn c m a → IsAt C.held M.marked self.new (Then c m a) }
     {
-        let Some(_open) = self.sessions.swap_remove(&session) else {
+        if !remove(&mut self.sessions, session) {
             return;
-        };
+        }
         self.roster.end(txn);
         self.recorder.end(Event::Abort { txn });
         self.tracker.on_abort(txn);

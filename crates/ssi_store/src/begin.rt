@@ -2,6 +2,7 @@
 
 use crate::engine::Engine;
 use crate::open::Open;
+use crate::sessions::add;
 use crate::{Refusal, Reply, Session};
 use adya_values::Txn;
 use ssi_reads::Marks;
@@ -34,14 +35,13 @@ impl<C: Chains + Drop, M: Marks + Drop> Engine<C, M> {
         let Ok(()) = self.tracker.on_begin(txn, self.commits) else {
             return Err(Refusal::Memory);
         };
-        let open = Open::new(self.alloc, txn, self.commits);
-        match self.sessions.insert(session, open) {
-            Ok(_) => {
-                self.roster.begin(txn, self.commits);
-                self.next += 1;
-                Ok(Reply::Begun { txn })
-            }
-            Err(_) => Err(Refusal::Memory),
-        }
+        add(
+            &mut self.sessions,
+            session,
+            Open::new(self.alloc, txn, self.commits),
+        );
+        self.roster.begin(txn, self.commits);
+        self.next += 1;
+        Ok(Reply::Begun { txn })
     }
 }

@@ -6,6 +6,7 @@ ghost use Rattle.ssi_store.specs.Machinery.Overtaken.{written_key};
 use crate::below::laws_below;
 use crate::engine::Engine;
 use crate::overtaken::least_overtaken;
+use crate::sessions::remove;
 use crate::{Refusal, Reply, Session};
 use adya_values::{Content, Event, Key, Version};
 use ssi_conflict::Answer;
@@ -50,9 +51,7 @@ impl<C: Chains + Drop, M: Marks + Drop> Engine<C, M> {
             return Err(Refusal::Memory);
         };
         self.tracker.on_commit(txn, self.commits + 1, keys);
-        let Some(_open) = self.sessions.swap_remove(&session) else {
-            return Err(Refusal::Idle);
-        };
+        let _there = remove(&mut self.sessions, session);
         self.roster.end(txn);
         self.recorder.end(Event::Commit { txn });
         self.commits += 1;

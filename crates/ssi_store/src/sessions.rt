@@ -1,8 +1,9 @@
 //! The open transactions of the sessions.
 
-ghost use Rattle.std.specs.Prelude.{◌≡◌, ◌<◌, IfSome};
-ghost use Rattle.indexmap.specs.IndexMap.{index_map_len};
-ghost use Rattle.ssi_store.specs.Machinery.Opens.{open_at, AreCounted};
+ghost use Rattle.std.specs.Prelude.{◌≡◌, ◌<◌, ◌≤◌, ◌+◌, List, ℕ, None, cond, is_some, if◌then◌else◌, IfSome};
+ghost use Rattle.indexmap.specs.IndexMap.{index_map_len, spare};
+ghost use Rattle.adya_values.specs.Meaning.Keys.{key_eq};
+ghost use Rattle.ssi_store.specs.Machinery.Opens.{open_at, AreCounted, IsReplaced};
 
 use crate::Session;
 use crate::open::Open;
@@ -18,4 +19,22 @@ pub(crate) fn count_at(sessions: &mut IndexMap<Session, Open>, session: Session)
         return;
     };
     open.count();
+}
+
+/// Opens the transaction for the session, in the room that was made. Takes no memory.
+pub(crate) fn add(sessions: &mut IndexMap<Session, Open>, session: Session, opened: Open)
+    requires { 0 < spare sessions.old }
+    ensures added { IsReplaced session opened sessions.old.entries sessions.new.entries }
+    ensures len { index_map_len sessions.new ≤ index_map_len sessions.old + 1 }
+{
+    let _added = sessions.insert(session, opened);
+}
+
+/// The session has no transaction any more. Returns whether it had one.
+pub(crate) fn remove(sessions: &mut IndexMap<Session, Open>, session: Session) -> bool
+    ensures there { result ≡ is_some (open_at session sessions.old.entries) }
+    ensures gone { (q : List ℕ) → open_at q sessions.new.entries ≡ cond (key_eq session q) None (open_at q sessions.old.entries) }
+    ensures len { index_map_len sessions.new + (if result then 1 else 0) ≡ index_map_len sessions.old }
+{
+    sessions.swap_remove(&session).is_some()
 }

@@ -1,4 +1,4 @@
-use Rattle.std.proofs.Common.{rules, ap, sym, subst, ◌+◌, ◌∙◌, ◌∷◌, map, Some, None}
+use Rattle.std.proofs.Common.{rules, refl, ap, sym, subst, ◌+◌, ◌∙◌, ◌∷◌, map, Some, None}
 use Rattle.ssi_versions.specs.Meaning.Chains.{write_of}
 use Rattle.ssi_snapshot.specs.Meaning.Listings.{keys}
 use Rattle.ssi_conflict.specs.Meaning.Calls.{Commits as Ends}
@@ -7,7 +7,7 @@ use Rattle.ssi_conflict.specs.Meaning.Standing.{pivot_of}
 use Rattle.ssi_store.specs.Meaning.Acts.{acts}
 use Rattle.ssi_store.specs.Meaning.Courses.{Commit, Conflict, Unsafe}
 use Rattle.ssi_store.specs.Meaning.Tracked.{tracked}
-use Rattle.ssi_store.proofs.Commits.{commit_idle, found_conflict, conflict_ends, may_commit, commit_ends, committed, above_installed}
+use Rattle.ssi_store.proofs.Commits.{commit_idle, commit_memory, found_conflict, conflict_ends, may_commit, commit_ends, committed, above_installed}
 use Rattle.ssi_store.proofs.Gets.{safe_of}
 use Rattle.ssi_store.proofs.Overtaking.{written_keys}
 use Rattle.ssi_store.proofs.RisingOpens.{below_without}
@@ -86,9 +86,30 @@ returns g c = record {
       c.writes-writes.ensures.all c.in-Ok-install.ensures.added
       (c.on_commit.ensures (tracked (acts course)) (c.judge.ensures.stands (tracked (acts course)) st.log.tracker) may
       (c.in-Ok-judge.ensures.ready safe))
-      c.end-2.ensures.events c.end.ensures.opened c.end.ensures.began c.swap_remove.ensures.updates.0;
+      c.end-2.ensures.events c.end.ensures.opened c.end.ensures.began c.remove-there.ensures.gone;
 }
 
 pub invariant_of-self-2-clause-early : goal.invariant_of-self-2-clause-early
 invariant_of-self-2-clause-early g c =
     below_without _ _ c.txn-txn.result c.args.self.now.next c.args.self.now.roster.rising c.args.self.now.early c.end.ensures.opened
+
+pub returns-in_default-keys_in : goal.returns-in_default-keys_in
+returns-in_default-keys_in g c = record {
+  stands = λ course st.
+      commit_memory st c.args.session c.in-Some.open.now (sym c.in-Some.ensures.value) _ _
+      refl st.log.tracker;
+}
+
+pub returns-in_default-judge : goal.returns-in_default-judge
+returns-in_default-judge g c = record {
+  stands = λ course st.
+      commit_memory st c.args.session c.in-Some.open.now (sym c.in-Some.ensures.value) _ _
+      refl (c.judge.ensures.stands (tracked (acts course)) st.log.tracker);
+}
+
+pub returns-in_default-install : goal.returns-in_default-install
+returns-in_default-install g c = record {
+  stands = λ course st.
+      commit_memory st c.args.session c.in-Some.open.now (sym c.in-Some.ensures.value) _ _
+      c.in_default-install.ensures.err (c.judge.ensures.stands (tracked (acts course)) st.log.tracker);
+}

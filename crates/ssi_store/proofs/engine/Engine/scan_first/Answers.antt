@@ -6,7 +6,7 @@ use Rattle.ssi_snapshot.specs.Meaning.Listings.{up_to}
 use Rattle.ssi_store.specs.Meaning.Acts.{reached}
 use Rattle.ssi_store.specs.Meaning.Courses.{ScanFirst}
 use Rattle.ssi_store.proofs.KeyOrder.{key_le-from_not}
-use Rattle.ssi_store.proofs.LimitedScans.{first_idle, first_is}
+use Rattle.ssi_store.proofs.LimitedScans.{first_idle, first_range, first_long, first_memory, first_is}
 use Rattle.ssi_store.proofs.engine.Engine.scan_first.Goals as goal
 
 pub returns-in_default : goal.returns-in_default
@@ -32,4 +32,36 @@ returns g c = record {
       (c.in-Ok-rows_of.ensures ∙ ap (λ ws. visible_pairs (map entry_of ws)) c.as_slice.ensures.value)
       (c.reached-last.ensures ∙ ap (λ rs. reached c.args.hi c.get-n.result (map final_of rs)) c.as_slice-2.ensures.value
       ∙ ap (λ x. reached c.args.hi x (map final_of c.in-Ok-rows_of.rows.items)) same));
+}
+
+pub returns-then-lt : goal.returns-then-lt
+returns-then-lt g c = record {
+  stands = λ course st.
+      first_range st c.args.session c.args.lo c.args.hi (non_zero_u16_get c.args.limit)
+      (subst (λ x. 0 < x) c.get-n.ensures.value c.get-n.ensures.nonzero) c.in-Some.open.now (sym c.in-Some.ensures.value)
+      (Prim.search rules);
+}
+
+pub returns-then-open-ge-MAX_OPERATIONS : goal.returns-then-open-ge-MAX_OPERATIONS
+returns-then-open-ge-MAX_OPERATIONS g c = record {
+  stands = λ course st.
+      first_long st c.args.session c.args.lo c.args.hi (non_zero_u16_get c.args.limit)
+      (subst (λ x. 0 < x) c.get-n.ensures.value c.get-n.ensures.nonzero) c.in-Some.open.now (sym c.in-Some.ensures.value)
+      (Prim.search rules) (omega arith);
+}
+
+pub returns-in_default-scan_first : goal.returns-in_default-scan_first
+returns-in_default-scan_first g c = record {
+  stands = λ course st.
+      first_memory st c.args.session c.args.lo c.args.hi (non_zero_u16_get c.args.limit)
+      (subst (λ x. 0 < x) c.get-n.ensures.value c.get-n.ensures.nonzero) c.in-Some.open.now (sym c.in-Some.ensures.value)
+      (Prim.search rules) (omega arith);
+}
+
+pub returns-in_default-rows_of : goal.returns-in_default-rows_of
+returns-in_default-rows_of g c = record {
+  stands = λ course st.
+      first_memory st c.args.session c.args.lo c.args.hi (non_zero_u16_get c.args.limit)
+      (subst (λ x. 0 < x) c.get-n.ensures.value c.get-n.ensures.nonzero) c.in-Some.open.now (sym c.in-Some.ensures.value)
+      (Prim.search rules) (omega arith);
 }
