@@ -1,98 +1,77 @@
-//! The worked histories. Each line of standard input names a folder, and the program writes what the auditor makes of
-//! the files there: for a name under `audit/` the verdict on a history and a certificate, read as two streams, and if
-//! it differs also the verdict on both as one stream; under `order/` the certificate, the cycle or the verdict for a
-//! history; under `edges/` the edges of a history; under `examples/`, which holds copies of the repository's examples,
-//! the verdict and the order. All texts are read whole and in pieces of 1 and of 3 bytes. At the end it writes the
-//! verdicts on a history with a scan of 5,000 entries, read as values and as bytes.
+//! The test cases of the auditor.
+//!
+//! Each line of standard input is a name. For each the program writes what it finds, and its whole output must be the
+//! file `stdout`. Names with a `/` are of folders and files under `data`:
+//!
+//! - `audit/NAME`: the verdict on a history and a certificate, read as two streams, and if it differs also the verdict
+//!   on both as one stream;
+//! - `order/NAME`: the certificate, the cycle or the verdict for a history;
+//! - `edges/NAME`: the edges of a history;
+//! - `examples/NAME`: the verdict and the order, for copies of the repository's examples;
+//! - `events/NAME`: a file of lines, each of which is read as an event and written again;
+//! - `no_events/NAME`, `no_unfinished/NAME`, `no_orders/NAME`, `no_finals/NAME`, `no_txns/NAME`: files of lines, each of
+//!   which is refused as an event, an unfinished transaction, a version order, a final value, a line of a certificate.
+//!   The first line of each is empty, and is a case too;
+//! - `graphs/NAME`: a file of lines, each with the nodes and the arcs of a graph and its order or its cycle;
+//! - `arcs/NAME`: a file of lines, each with arcs and what is left of them without repeats;
+//! - `choices/NAME`: a file of histories, each with the certificate or the cycle that is to be found. All were made by
+//!   chance, and what is to be found of them was found by `scripts/reference.py`;
+//! - `verdicts/NAME`: a file of histories and certificates, each two with their verdict.
+//!
+//! In the files of the last two kinds a line `%` stands between the parts of a case and a line `%%` after it; a text that
+//! is cut short has no line end before that. For each file the program writes how many of its cases are as defined, or
+//! the first that isn't. Texts are read whole and in pieces of 1 and of 3 bytes.
+//!
+//! Any other name is of a module whose cases stand in the code: what public functions do if there is memory, what no
+//! contract says, and runs on devices that fail or never end. For each case the program writes whether it is as defined.
+//! `scan of 5000 entries` is a history with a long line, read as values and as bytes.
 #![tactic(auto)]
 
 mod audits;
+mod choices;
 mod edge_lists;
+mod failing_calls;
+mod files;
+mod given;
+mod graphs;
+mod lines;
 mod long_scan;
 mod orders;
-#[cfg(test)]
-mod tests;
+mod runs;
+mod saying;
+mod sources;
+mod streams;
 mod texts;
+mod values;
+mod worked;
 
-use std::alloc::Global;
-use std::{fs, io};
-
-/// Returns the bytes of a file of the worked history.
-fn file(rt: &HostRuntime, name: &str, file: &str) -> io::Result<Vec<u8>> {
-    fs::read(rt, format!(in rt.alloc(); "{name}/{file}")?)
-}
-
-/// Returns the verdicts, after the name.
-fn verdicts(rt: &HostRuntime, name: &str) -> io::Result<String> {
-    let history = file(rt, name, "history")?;
-    let certificate = file(rt, name, "certificate")?;
-    if !texts::are_read_alike(rt.alloc(), &history, &certificate) {
-        return Ok(format!(in rt.alloc(); "{name}: in pieces the texts are read otherwise\n")?);
-    }
-    let of_two = audits::of_two_streams(rt.alloc(), &history, &certificate);
-    let of_one = audits::of_one_stream(rt.alloc(), &history, &certificate)?;
-    let two = str::from_utf8(&of_two).unwrap_or("");
-    let one = str::from_utf8(&of_one).unwrap_or("");
-    if of_two.as_slice() == of_one.as_slice() {
-        return Ok(format!(in rt.alloc(); "{name}: {two}")?);
-    }
-    Ok(format!(in rt.alloc(); "{name}: {two}{name} in one stream: {one}")?)
-}
-
-/// Returns the certificate, the cycle or the verdict, after the name.
-fn order(rt: &HostRuntime, name: &str) -> io::Result<String> {
-    let history = file(rt, name, "history")?;
-    let lines = orders::of_text(rt.alloc(), &history);
-    let lines = str::from_utf8(&lines).unwrap_or("");
-    Ok(format!(in rt.alloc(); "{name}:\n{lines}")?)
-}
-
-/// Returns the edges, after the name.
-fn edges(rt: &HostRuntime, name: &str) -> io::Result<String> {
-    let history = file(rt, name, "history")?;
-    let lines = edge_lists::of_text(rt.alloc(), &history)?;
-    Ok(format!(in rt.alloc(); "{name}:\n{lines}")?)
-}
-
-/// Returns what is written for the worked history.
-fn lines_of(rt: &HostRuntime, name: &str) -> io::Result<String> {
-    if name.starts_with("audit/") {
-        return verdicts(rt, name);
-    }
-    if name.starts_with("order/") {
-        return order(rt, name);
-    }
-    if name.starts_with("edges/") {
-        return edges(rt, name);
-    }
-    let verdicts = verdicts(rt, name)?;
-    let order = order(rt, name)?;
-    Ok(format!(in rt.alloc(); "{verdicts}{order}")?)
-}
-
-/// Returns the verdicts on a history with a scan of so many entries: of the values, of two streams and of one stream.
-fn long_scan_verdicts(alloc: Global, size: u32) -> Option<[Vec<u8>; 3]> {
-    let history = long_scan::history(alloc, size).ok()?;
-    let certificate = long_scan::certificate(alloc).ok()?;
-    let of_values = audits::of_values(alloc, &history, &certificate)?;
-    let (history, certificate) = long_scan::texts(alloc, &history, &certificate)?;
-    let of_two = audits::of_two_streams(alloc, &history, &certificate);
-    let of_one = audits::of_one_stream(alloc, &history, &certificate).ok()?;
-    Some([of_values, of_two, of_one])
-}
+use crate::saying::say_cases;
+use std::io;
+use std::io::Read;
 
 fn main(rt: HostRuntime) -> io::Result<()> {
-    for line in rt.lines(rt.alloc()) {
-        let name = line?;
-        print!(rt; "{}", lines_of(&rt, name.as_str())?)?;
-    }
-    if let Some([of_values, of_two, of_one]) = long_scan_verdicts(rt.alloc(), 5000) {
-        let values = str::from_utf8(&of_values).unwrap_or("");
-        let two = str::from_utf8(&of_two).unwrap_or("");
-        let one = str::from_utf8(&of_one).unwrap_or("");
-        print!(rt;
-            "scan of 5000 entries, from values: {values}from two streams: {two}from one stream: {one}"
-        )?;
+    let mut bytes = Vec::new(rt.alloc());
+    rt.stdin().read_to_end(&mut bytes)?;
+    for name in str::from_utf8(&bytes).unwrap_or("").lines() {
+        say_of(&rt, name)?;
     }
     Ok(())
+}
+
+/// Writes what is found for a name.
+fn say_of(rt: &HostRuntime, name: &str) -> io::Result<()> {
+    let (folder, _) = name.split_once("/").unwrap_or((name, ""));
+    match folder {
+        "audit" => worked::say_verdicts(rt, name),
+        "order" => worked::say_order(rt, name),
+        "edges" => worked::say_edges(rt, name),
+        "examples" => worked::say_example(rt, name),
+        "values" => say_cases(rt, &values::cases(rt.alloc())),
+        "texts" => say_cases(rt, &texts::cases(rt.alloc())),
+        "sources" => say_cases(rt, &sources::cases(rt.alloc())),
+        "failing_calls" => say_cases(rt, &failing_calls::cases(rt.alloc())),
+        "streams" => say_cases(rt, &streams::cases(rt.alloc())),
+        "scan of 5000 entries" => long_scan::say_verdicts(rt, name),
+        _ => files::say_count(rt, folder, name),
+    }
 }

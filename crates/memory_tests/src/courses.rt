@@ -54,19 +54,38 @@ fn carry_out<C: Chains + Drop, M: Marks + Drop>(
     mut store: Store<C, M>,
     course: &Course,
 ) -> Result<(), &'static str> {
+    let replied = reply_to_all(tally, &mut store, course);
+    let finished = finished(tally, store);
+    replied?;
+    is_recorded(tally, &finished?, course)
+}
+
+fn reply_to_all<C: Chains + Drop, M: Marks + Drop>(
+    tally: &mut Tally,
+    store: &mut Store<C, M>,
+    course: &Course,
+) -> Result<(), &'static str> {
     let mut replies = wanting(course.replies.as_bytes());
     for line in course.commands.lines() {
-        answer(tally, &mut store, line, &mut replies)?;
+        answer(tally, store, line, &mut replies)?;
     }
-    if !is_met(replies) {
-        return Err("too few replies");
+    if is_met(replies) {
+        Ok(())
+    } else {
+        Err("too few replies")
     }
-    let finished = finished(tally, store)?;
+}
+
+/// Whether the history is the wanted one, and so is its certificate.
+fn is_recorded(
+    tally: &mut Tally,
+    finished: &Finished,
+    course: &Course,
+) -> Result<(), &'static str> {
     if !is_history(finished.history(), course.history.as_bytes()) {
         return Err("another history");
     }
-    let serial = again!(tally, Err(AllocError), certify(tally.alloc(), &finished));
-    match serial {
+    match again!(tally, Err(AllocError), certify(tally.alloc(), finished)) {
         Ok(serial) if is_serial(&serial, course.certificate.as_bytes()) => Ok(()),
         Ok(_) => Err("another certificate"),
         Err(_) => Err("no certificate at the second try"),
@@ -144,10 +163,15 @@ fn finished<C: Chains + Drop, M: Marks + Drop>(
     tally: &mut Tally,
     store: Store<C, M>,
 ) -> Result<Finished, &'static str> {
-    let store = match store.finish() {
-        Ok(finished) => return Ok(finished),
-        Err((store, _)) => store,
+    let finished = match store.finish() {
+        Err((store, _)) => {
+            tally.refuse();
+            store.finish()
+        }
+        finished => finished,
     };
-    tally.refuse();
-    store.finish().map_err(|_| "no end at the second try")
+    match finished {
+        Ok(finished) => Ok(finished),
+        Err(_) => Err("no end at the second try"),
+    }
 }

@@ -8,13 +8,18 @@
 //! the program writes a line that says whether all did, and how many were refused memory.
 #![tactic(auto)]
 
-mod chains;
 mod courses;
 mod histories;
 mod layers;
+mod marks;
+mod recorder;
+mod reply;
 mod scripts;
 mod tally;
+mod tracker;
+mod versions;
 mod wanted;
+mod words;
 
 use crate::courses::Course;
 use crate::histories::Worked;
@@ -67,7 +72,14 @@ fn write_outcome(rt: &HostRuntime, test: &str) -> io::Result<()> {
     let mut tally = Tally::new(rt.alloc());
     let said = said_of(&mut tally, spare, name, texts);
     out.write_all(b": ")?;
-    out.write_all(said.err().unwrap_or("as worked").as_bytes())?;
+    match said {
+        Ok(()) => out.write_all(b"as worked")?,
+        Err(what) => {
+            out.write_all(what.as_bytes())?;
+            let line = tally.line();
+            print!(rt; " at line {line}")?;
+        }
+    }
     out.write_all(tally.text().as_bytes())
 }
 
@@ -86,8 +98,10 @@ fn said_of(tally: &mut Tally, spare: Spare, name: &str, texts: &str) -> Result<(
         "course-over-lists" => courses::over_lists(tally, &Course::of(texts)?),
         "script" => scripts::run(tally, spare, &Course::of(texts)?),
         "history" => histories::run(tally, spare, &Worked::of(texts)?),
-        "layers-over-keys" => layers::over_keys(tally),
-        "layers-over-lists" => layers::over_lists(tally),
+        "versions" => layers::versions(tally, texts),
+        "marks" => layers::marks(tally, texts),
+        "tracker" => layers::tracker(tally, texts),
+        "recorder" => layers::recorder(tally, texts),
         _ => Err("no such kind"),
     }
 }

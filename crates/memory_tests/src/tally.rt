@@ -7,17 +7,32 @@ use std::alloc::Global;
 pub(crate) struct Tally {
     alloc: Global,
     refused: u32,
+    line: u32,
 }
 
 impl Tally {
     /// Makes a tally of no calls.
     pub(crate) fn new(alloc: Global) -> Tally {
-        Tally { alloc, refused: 0 }
+        Tally {
+            alloc,
+            refused: 0,
+            line: 0,
+        }
     }
 
     /// Returns the allocator that the calls take.
     pub(crate) fn alloc(&self) -> Global {
         self.alloc
+    }
+
+    /// Counts a line of the test.
+    pub(crate) fn begin_line(&mut self) {
+        self.line = self.line.saturating_add(1);
+    }
+
+    /// Returns which line of the test was begun last; 0 if its lines aren't counted.
+    pub(crate) fn line(&self) -> u32 {
+        self.line
     }
 
     /// Counts a call that was refused memory.

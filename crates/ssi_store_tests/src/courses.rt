@@ -7,42 +7,54 @@ use ssi_store::Store;
 use ssi_versions::{KeyChains, PlainChains};
 use std::alloc::Global;
 
+/// How the versions are held, and the marks of what was read.
+#[derive(Clone, Copy)]
+pub(crate) enum Pair {
+    PlainAndList,
+    PlainAndIndex,
+    KeysAndList,
+    KeysAndIndex,
+}
+
 /// Returns what the course makes over each of the four pairs, the first transaction being this one; nothing if it isn't
 /// the same over all of them, if a dump isn't accepted, or if memory runs out.
 pub(crate) fn over_all(alloc: Global, first: Txn, lines: &[&str], after: After) -> Option<Outcome> {
-    let outcome = over_plain_and_list(alloc, first, lines, after)?;
-    let are_same = outcome == over_plain_and_index(alloc, first, lines, after)?
-        && outcome == over_keys_and_list(alloc, first, lines, after)?
-        && outcome == over_keys_and_index(alloc, first, lines, after)?;
+    let outcome = over(alloc, Pair::PlainAndList, first, lines, after)?;
+    let are_same = outcome == over(alloc, Pair::PlainAndIndex, first, lines, after)?
+        && outcome == over(alloc, Pair::KeysAndList, first, lines, after)?
+        && outcome == over(alloc, Pair::KeysAndIndex, first, lines, after)?;
     if are_same { Some(outcome) } else { None }
 }
 
-fn over_plain_and_list(alloc: Global, first: Txn, lines: &[&str], after: After) -> Option<Outcome> {
-    let store = Store::with_next(alloc, PlainChains::new(alloc), ListMarks::new(alloc), first);
-    outcome_of(alloc, store, lines, after)
-}
-
-fn over_plain_and_index(
+/// Returns what the course makes over this pair, the first transaction being this one; nothing if a dump isn't accepted,
+/// or if memory runs out.
+pub(crate) fn over(
     alloc: Global,
+    pair: Pair,
     first: Txn,
     lines: &[&str],
     after: After,
 ) -> Option<Outcome> {
-    let store = Store::with_next(
-        alloc,
-        PlainChains::new(alloc),
-        IndexMarks::new(alloc),
-        first,
-    );
-    outcome_of(alloc, store, lines, after)
-}
-
-fn over_keys_and_list(alloc: Global, first: Txn, lines: &[&str], after: After) -> Option<Outcome> {
-    let store = Store::with_next(alloc, KeyChains::new(alloc), ListMarks::new(alloc), first);
-    outcome_of(alloc, store, lines, after)
-}
-
-fn over_keys_and_index(alloc: Global, first: Txn, lines: &[&str], after: After) -> Option<Outcome> {
-    let store = Store::with_next(alloc, KeyChains::new(alloc), IndexMarks::new(alloc), first);
-    outcome_of(alloc, store, lines, after)
+    let plain = PlainChains::new(alloc);
+    let keys = KeyChains::new(alloc);
+    let list = ListMarks::new(alloc);
+    let index = IndexMarks::new(alloc);
+    match pair {
+        Pair::PlainAndList => {
+            let store = Store::with_next(alloc, plain, list, first);
+            outcome_of(alloc, store, lines, after)
+        }
+        Pair::PlainAndIndex => {
+            let store = Store::with_next(alloc, plain, index, first);
+            outcome_of(alloc, store, lines, after)
+        }
+        Pair::KeysAndList => {
+            let store = Store::with_next(alloc, keys, list, first);
+            outcome_of(alloc, store, lines, after)
+        }
+        Pair::KeysAndIndex => {
+            let store = Store::with_next(alloc, keys, index, first);
+            outcome_of(alloc, store, lines, after)
+        }
+    }
 }

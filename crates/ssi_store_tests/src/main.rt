@@ -1,22 +1,38 @@
 //! The store, tried by whole courses of commands over each pair of representations.
 //!
-//! Without arguments: each line of standard input names a folder with a worked course. For each the program says whether
-//! the replies, the history and the certificate are those of the folder and the auditor says `yes`: for the commands as
-//! they stand, with a collection after each of them, and with a dump after each of them; and for their lines as a script
-//! that comes in pieces of any size. Then come a transaction of as many operations as one may have, the last transaction
-//! number, lines of any length, a second input to one store, and a socket.
+//! Without arguments: each line of standard input names what is tried.
+//!
+//! The name of a folder is that of a worked course. For it the program says whether the replies, the history and the
+//! certificate are those of the folder and the auditor says `yes`: for the commands as they stand, with a collection
+//! after each of them, and with a dump after each of them; and for their lines as a script that comes in pieces of any
+//! size. The other names are these:
+//!
+//! - `limits`: a transaction of as many operations as one may have, and the last transaction number;
+//! - `scripts`: lines of any length, a second input to one store, and a socket;
+//! - `failing_devices`: readers and writers that fail at each of their calls;
+//! - `hostile_lines`: lines that are no commands, and lines that are too long;
+//! - `endless_streams`: inputs that never end;
+//! - `many_sessions`: hundreds of transactions at once;
+//! - `random_lines`: lines made by chance.
 //!
 //! With the name of a file: it holds courses, each ended by a line `end`. For each the program writes the replies, the
 //! history, the certificate, the verdict on both, and a line `end of list`. `scripts/compare_store.py` reads them.
 #![tactic(auto)]
 
+mod answers;
 mod courses;
+mod endless_streams;
+mod failing_devices;
+mod failing_scripts;
+mod failing_serves;
+mod faults;
+mod hostile_lines;
 mod limits;
 mod lists;
+mod many_sessions;
+mod random_lines;
 mod runs;
 mod scripts;
-#[cfg(test)]
-mod tests;
 mod texts;
 mod worked;
 
@@ -27,26 +43,44 @@ fn main(rt: HostRuntime) -> io::Result<()> {
     let _program = arguments.next();
     match arguments.next() {
         Some(path) => lists::write_outcomes(&rt, path.as_str()),
-        None => write_worked(&rt),
+        None => write_named(&rt),
     }
 }
 
-fn write_worked(rt: &HostRuntime) -> io::Result<()> {
+fn write_named(rt: &HostRuntime) -> io::Result<()> {
     for line in rt.lines(rt.alloc()) {
         let name = line?;
-        print!(rt; "{}", worked::line_of(rt, name.as_str())?)?;
+        write_lines(rt, name.as_str())?;
     }
-    write_rest(rt)
+    Ok(())
 }
 
-fn write_rest(rt: &HostRuntime) -> io::Result<()> {
+/// Writes what comes of what is named.
+fn write_lines(rt: &HostRuntime, name: &str) -> io::Result<()> {
+    match name {
+        "limits" => write_limits(rt),
+        "scripts" => write_scripts(rt),
+        "failing_devices" => failing_devices::write_lines(rt),
+        "hostile_lines" => write_hostile_lines(rt),
+        "endless_streams" => write_endless_streams(rt),
+        "many_sessions" => write_many_sessions(rt),
+        "random_lines" => write_line(rt, name, random_lines::are_answered(rt)?),
+        _ => print!(rt; "{}", worked::line_of(rt, name)?),
+    }
+}
+
+fn write_limits(rt: &HostRuntime) -> io::Result<()> {
     let alloc = rt.alloc();
     write_line(
         rt,
         "longest transaction",
         limits::longest_transaction(alloc),
     )?;
-    write_line(rt, "last transaction", limits::last_transaction(alloc))?;
+    write_line(rt, "last transaction", limits::last_transaction(alloc))
+}
+
+fn write_scripts(rt: &HostRuntime) -> io::Result<()> {
+    let alloc = rt.alloc();
     write_line(
         rt,
         "lines of any length",
@@ -55,6 +89,48 @@ fn write_rest(rt: &HostRuntime) -> io::Result<()> {
     write_line(rt, "second input", scripts::are_sessions_the_stores(alloc))?;
     write_line(rt, "socket", scripts::are_peers_answered(rt)?)?;
     write_line(rt, "socket with texts", scripts::are_peers_recorded(rt)?)
+}
+
+fn write_hostile_lines(rt: &HostRuntime) -> io::Result<()> {
+    let alloc = rt.alloc();
+    write_line(
+        rt,
+        "lines_that_are_no_commands",
+        hostile_lines::are_no_commands(rt)?,
+    )?;
+    write_line(rt, "lines_of_letters", hostile_lines::are_letters(alloc))?;
+    write_line(
+        rt,
+        "commands_in_lines_that_are_too_long",
+        hostile_lines::are_too_long(alloc),
+    )
+}
+
+fn write_endless_streams(rt: &HostRuntime) -> io::Result<()> {
+    let alloc = rt.alloc();
+    write_line(
+        rt,
+        "serve_endless_line",
+        endless_streams::serves_a_line(alloc) == Some(true),
+    )?;
+    write_line(
+        rt,
+        "script_endless_line",
+        endless_streams::runs_a_line(alloc),
+    )?;
+    write_line(
+        rt,
+        "serve_endless_line_feeds",
+        endless_streams::serves_line_feeds(alloc) == Some(true),
+    )
+}
+
+fn write_many_sessions(rt: &HostRuntime) -> io::Result<()> {
+    for (name, pair) in many_sessions::PAIRS {
+        let is_so = many_sessions::are_answered(rt.alloc(), pair) == Some(true);
+        write_line(rt, name, is_so)?;
+    }
+    Ok(())
 }
 
 fn write_line(rt: &HostRuntime, name: &str, is_so: bool) -> io::Result<()> {

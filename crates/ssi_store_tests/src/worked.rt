@@ -8,28 +8,34 @@ use adya_values::Txn;
 use std::alloc::{AllocError, Global};
 use std::{fs, io};
 
-/// What a worked course must make.
+/// A course that was worked by hand: its command lines, and what they must make.
 #[derive(Drop)]
-struct Worked {
-    replies: Vec<u8>,
-    history: Vec<u8>,
-    certificate: Vec<u8>,
+pub(crate) struct Worked {
+    pub(crate) commands: Vec<u8>,
+    pub(crate) replies: Vec<u8>,
+    pub(crate) history: Vec<u8>,
+    pub(crate) certificate: Vec<u8>,
+}
+
+/// Returns the worked course of the folder.
+pub(crate) fn worked_in(rt: &HostRuntime, name: &str) -> io::Result<Worked> {
+    Ok(Worked {
+        commands: file(rt, name, "commands")?,
+        replies: file(rt, name, "replies")?,
+        history: file(rt, name, "history")?,
+        certificate: file(rt, name, "certificate")?,
+    })
 }
 
 /// Returns the line of a worked course.
 pub(crate) fn line_of(rt: &HostRuntime, name: &str) -> io::Result<String> {
     let alloc = rt.alloc();
-    let commands = file(rt, name, "commands")?;
-    let worked = Worked {
-        replies: file(rt, name, "replies")?,
-        history: file(rt, name, "history")?,
-        certificate: file(rt, name, "certificate")?,
-    };
-    let lines = lines_of(alloc, text(&commands))?;
+    let worked = worked_in(rt, name)?;
+    let lines = lines_of(alloc, text(&worked.commands))?;
     let plain = of_course(alloc, &lines, After::Nothing, &worked);
     let collecting = of_course(alloc, &lines, After::Collect, &worked);
     let dumping = of_course(alloc, &lines, After::Dump, &worked);
-    let script = as_script(alloc, &commands, &worked);
+    let script = as_script(alloc, &worked);
     Ok(format!(in alloc;
         "{name}: {plain}, with collections {collecting}, with dumps {dumping}, as a script {script}\n"
     )?)
@@ -41,11 +47,12 @@ fn file(rt: &HostRuntime, name: &str, file: &str) -> io::Result<Vec<u8>> {
 }
 
 /// Returns the text if the bytes are one; nothing otherwise.
-fn text(bytes: &[u8]) -> &str {
+pub(crate) fn text(bytes: &[u8]) -> &str {
     str::from_utf8(bytes).unwrap_or("")
 }
 
-fn lines_of<'a>(alloc: Global, text: &'a str) -> Result<Vec<&'a str>, AllocError> {
+/// Returns the lines of the text.
+pub(crate) fn lines_of<'a>(alloc: Global, text: &'a str) -> Result<Vec<&'a str>, AllocError> {
     let mut lines = Vec::new(alloc);
     for line in text.lines() {
         lines.push(line)?;
@@ -68,8 +75,8 @@ fn of_course(alloc: Global, lines: &[&str], after: After, worked: &Worked) -> &'
 }
 
 /// Returns `as worked` if the commands as a script make what they must make, and otherwise what differs.
-fn as_script(alloc: Global, commands: &[u8], worked: &Worked) -> &'static str {
-    let Some(written) = of_script(alloc, commands) else {
+fn as_script(alloc: Global, worked: &Worked) -> &'static str {
+    let Some(written) = of_script(alloc, &worked.commands) else {
         return "nothing";
     };
     if written.replies != worked.replies {
@@ -78,7 +85,7 @@ fn as_script(alloc: Global, commands: &[u8], worked: &Worked) -> &'static str {
     if written.history != worked.history || written.certificate != worked.certificate {
         return "other texts";
     }
-    if written.is_stopped != commands.ends_with(b"stop\n") {
+    if written.is_stopped != worked.commands.ends_with(b"stop\n") {
         return "another end";
     }
     "as worked"

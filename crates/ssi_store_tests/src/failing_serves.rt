@@ -1,0 +1,68 @@
+//! Inputs and outputs that fail, and a store that goes on with the next input.
+
+ghost use Rattle.std.specs.Prelude.{◌<◌};
+
+use crate::answers::{FastStore, new_store};
+use crate::faults::{Fault, split_after, watched_reader, watched_writer, whole_lines};
+use crate::texts::texts_of;
+use crate::worked::Worked;
+use adya_testing::Pieces;
+use devices::{Source, Watched};
+use ssi_line::{End, serve};
+use std::alloc::Global;
+
+/// Whether a store goes on after the read that fails so: what the lines before it did stands, and the line that wasn't
+/// read whole isn't carried out. Nothing if no read has failed.
+pub(crate) fn after_read(alloc: Global, worked: &Worked, fault: Fault) -> Option<bool> {
+    let mut store = new_store(alloc);
+    let mut input = watched_reader(&worked.commands, fault);
+    let mut output = Watched::new(Vec::new(alloc));
+    let end = serve(alloc, &mut input, &mut output, &mut store);
+    if !input.failed() && end == End::Eof {
+        return None;
+    }
+    let left = input.into_inner().get_ref().bytes;
+    let read = worked.commands.strip_suffix(left).unwrap_or(b"");
+    let lines = whole_lines(read);
+    Some(
+        end == End::ReadFault
+            && output.into_inner().as_slice() == split_after(&worked.replies, lines).0
+            && goes_on(alloc, store, worked, lines),
+    )
+}
+
+/// Whether a store goes on after the write that fails so: the command whose reply failed took effect. Nothing if no write
+/// has failed.
+pub(crate) fn after_write(alloc: Global, worked: &Worked, fault: Fault) -> Option<bool> {
+    let mut store = new_store(alloc);
+    let mut input = Watched::new(Pieces::new(&worked.commands, 7));
+    let mut output = watched_writer(alloc, fault);
+    let end = serve(alloc, &mut input, &mut output, &mut store);
+    if !output.failed() && end == End::Eof {
+        return None;
+    }
+    let device = output.into_inner();
+    let lines = whole_lines(device.get_ref().bytes()).saturating_add(1);
+    Some(end == End::WriteFault && goes_on(alloc, store, worked, lines))
+}
+
+/// Whether the rest of the course gets the rest of the replies, and the texts are those of the whole course.
+fn goes_on(alloc: Global, mut store: FastStore, worked: &Worked, lines: usize) -> bool {
+    let (_, commands) = split_after(&worked.commands, lines);
+    let (_, replies) = split_after(&worked.replies, lines);
+    let mut input = Watched::new(Pieces::new(commands, 7));
+    let mut output = Watched::new(Vec::new(alloc));
+    let end = serve(alloc, &mut input, &mut output, &mut store);
+    end == End::Eof
+        && output.into_inner().as_slice() == replies
+        && has_texts(alloc, store, worked) == Some(true)
+}
+
+/// Whether the texts of the store's end are those of the course.
+fn has_texts(alloc: Global, store: FastStore, worked: &Worked) -> Option<bool> {
+    let Ok(finished) = store.finish() else {
+        return None;
+    };
+    let texts = texts_of(alloc, &finished)?;
+    Some(texts.history == worked.history && texts.certificate == worked.certificate)
+}
