@@ -1,17 +1,9 @@
 //! The program `ssi`: audits histories by certificates, finds certificates or cycles, and runs the store.
 #![tactic(auto)]
 
-mod arguments;
-mod command_line;
-mod fault;
-mod help;
-mod late_file;
-mod runs;
-mod status;
-mod tasks;
-
+use ssi_program::run;
 use std::process::ExitCode;
 
 fn main(rt: HostRuntime) -> ExitCode {
-    ExitCode::from(tasks::run(&rt))
+    ExitCode::from(run(&rt))
 }

@@ -1,0 +1,180 @@
+-- That the parser accepts the arguments of each request, and finds the request in them.
+use Rattle.std.proofs.Common.{◌≡◌, ◌∙◌, ◌&&◌, Bool, true, false, List, [], ◌∷◌, refl, ap, ap₂, codes, drop}
+use Rattle.std.specs.Prelude.{Some}
+use Rattle.std.specs.List.{list_all}
+use Rattle.std.proofs.lemmas.Bool.{and_parts}
+use Rattle.clap.specs.Walk.{Text, Walk, arg_by_index, finished, nothing_held, to_positional, walk, walked}
+use Rattle.clap.specs.Simple.{Shape, entered, is_simple, subcommand_of}
+use Rattle.clap.specs.Takes.{built_takes, default_passes, is_valid, level_passes, settle_passes, takes, turn_passes}
+use Rattle.clap.specs.Takes.{walk_passes}
+use Rattle.clap.proofs.OnLiterals.{clap_on_literals}
+use Rattle.ssi_program.specs.Meaning.Arguments.{Request, pipe, audit, order, script, serve, are_plain, is_plain, arguments_of}
+use Rattle.ssi_program.specs.Machinery.Parser.{request_in, ssi_app}
+use Rattle.ssi_program.proofs.CommandWalks.{audits, names, orders, pairs, parser, scripts, serves, top_walk}
+use Rattle.ssi_program.proofs.CommandWalks.{stops_at_audit, stops_at_order, stops_at_script, stops_at_serve}
+use Rattle.ssi_program.proofs.PlainArguments.{at, turn_passes-plain, walked-plain}
+
+pub simple : is_simple ssi_app ≡ true
+unfolding clap_on_literals
+simple = refl
+
+-- ---- up to the name of the command
+
+abbrev top_passes : List Text → Bool
+top_passes arguments = level_passes parser.top names nothing_held arguments true
+
+takes_none : built_takes parser nothing_held [] ≡ true
+unfolding clap_on_literals
+takes_none = refl
+
+passes_to_audit : (h c : Text) → top_passes (arguments_of (audit h c)) ≡ true
+unfolding clap_on_literals
+passes_to_audit h c = refl
+
+passes_to_order : (h : Text) → top_passes (arguments_of (order h)) ≡ true
+unfolding clap_on_literals
+passes_to_order h = refl
+
+passes_to_script : (h c : Text) → top_passes (arguments_of (script h c)) ≡ true
+unfolding clap_on_literals
+passes_to_script h c = refl
+
+passes_to_serve : (s h c : Text) → top_passes (arguments_of (serve s h c)) ≡ true
+unfolding clap_on_literals
+passes_to_serve s h c = refl
+
+-- ---- the paths
+
+-- the walks over them
+abbrev pub one_path : Shape → Text → Walk
+one_path s h = to_positional s.rules (arg_by_index s.rules 1) h (at nothing_held 1) nothing_held
+
+abbrev pub two_paths : Shape → Text → Text → Walk
+two_paths s h c = to_positional s.rules (arg_by_index s.rules 2) c (one_path s h) (one_path s h).held
+
+abbrev pub three_paths : Text → Text → Text → Walk
+three_paths s h c =
+    to_positional serves.rules (arg_by_index serves.rules 3) c (two_paths serves s h) (two_paths serves s h).held
+
+pub walk_one : (s : Shape) (h : Text) → is_plain h ≡ true → walk s.rules [] nothing_held (h ∷ []) ≡ one_path s h
+walk_one s h p = walked-plain [] nothing_held 1 s.rules h p refl
+
+-- what is checked after the walk
+abbrev ends_well : Shape → Walk → Bool
+ends_well s w = settle_passes s.rules s.args_override_self w.held
+    && (list_all default_passes s.rules && is_valid s (finished s.rules w.held) false)
+
+passes_order : (h : Text) → is_plain h ≡ true → level_passes orders [] nothing_held (h ∷ []) false ≡ true
+unfolding walk_passes
+passes_order h p = ap₂ (λ a b. (a && true) && b)
+    (turn_passes-plain [] nothing_held 1 orders h p refl)
+    (ap (ends_well orders) (walk_one orders h p))
+
+module _ (name h c : Text) (p : is_plain h ≡ true) (q : is_plain c ≡ true) where
+  pub walk_two : walk (pairs name).rules [] nothing_held (h ∷ c ∷ []) ≡ two_paths (pairs name) h c
+  walk_two = ap (λ w. walked (pairs name).rules [] w c) (walk_one (pairs name) h p)
+      ∙ walked-plain [] (one_path (pairs name) h).held 2 (pairs name).rules c q refl
+
+  passes_first : turn_passes (pairs name) [] (at nothing_held 1) h ≡ true
+  passes_first = turn_passes-plain [] nothing_held 1 (pairs name) h p refl
+
+  passes_second : turn_passes (pairs name) [] (walked (pairs name).rules [] (at nothing_held 1) h) c ≡ true
+  passes_second = ap (λ w. turn_passes (pairs name) [] w c) (walk_one (pairs name) h p)
+      ∙ turn_passes-plain [] (one_path (pairs name) h).held 2 (pairs name) c q refl
+
+  passes_pair : level_passes (pairs name) [] nothing_held (h ∷ c ∷ []) false ≡ true
+  unfolding walk_passes
+  passes_pair = ap₂ (λ a b. a && b)
+      (ap₂ (λ a b. a && (b && true)) passes_first passes_second)
+      (ap (ends_well (pairs name)) walk_two)
+
+pub walk_front : (s h : Text) → is_plain s ≡ true → is_plain h ≡ true
+    → walk serves.rules [] nothing_held (s ∷ h ∷ []) ≡ two_paths serves s h
+walk_front s h p q = ap (λ w. walked serves.rules [] w h) (walk_one serves s p)
+    ∙ walked-plain [] (one_path serves s).held 2 serves.rules h q refl
+
+module _ (s h c : Text) (p : is_plain s ≡ true) (q : is_plain h ≡ true) (r : is_plain c ≡ true) where
+  pub walk_three : walk serves.rules [] nothing_held (s ∷ h ∷ c ∷ []) ≡ three_paths s h c
+  walk_three = ap (λ w. walked serves.rules [] w c) (walk_front s h p q)
+      ∙ walked-plain [] (two_paths serves s h).held 3 serves.rules c r refl
+
+  serve_first : turn_passes serves [] (at nothing_held 1) s ≡ true
+  serve_first = turn_passes-plain [] nothing_held 1 serves s p refl
+
+  serve_second : turn_passes serves [] (walked serves.rules [] (at nothing_held 1) s) h ≡ true
+  serve_second = ap (λ w. turn_passes serves [] w h) (walk_one serves s p)
+      ∙ turn_passes-plain [] (one_path serves s).held 2 serves h q refl
+
+  serve_third : turn_passes serves [] (walk serves.rules [] nothing_held (s ∷ h ∷ [])) c ≡ true
+  serve_third = ap (λ w. turn_passes serves [] w c) (walk_front s h p q)
+      ∙ turn_passes-plain [] (two_paths serves s h).held 3 serves c r refl
+
+  passes_serve : level_passes serves [] nothing_held (s ∷ h ∷ c ∷ []) false ≡ true
+  unfolding walk_passes
+  passes_serve = ap₂ (λ a b. a && b)
+      (ap₂ (λ a b. a && b) serve_first (ap₂ (λ a b. a && (b && true)) serve_second serve_third))
+      (ap (ends_well serves) walk_three)
+
+passes_audit : (h c : Text) → is_plain h ≡ true → is_plain c ≡ true
+    → level_passes audits [] nothing_held (h ∷ c ∷ []) false ≡ true
+passes_audit h c p q = passes_pair (codes "audit") h c p q
+
+passes_script : (h c : Text) → is_plain h ≡ true → is_plain c ≡ true
+    → level_passes scripts [] nothing_held (h ∷ c ∷ []) false ≡ true
+passes_script h c p q = passes_pair (codes "script") h c p q
+
+-- ---- the whole
+
+-- a single path, two and three of them
+pub path_plain : (h : Text) → are_plain (h ∷ []) ≡ true → is_plain h ≡ true
+path_plain h p = (and_parts (is_plain h) true p).0
+
+pub paths_plain : (h c : Text) → are_plain (h ∷ c ∷ []) ≡ true → (is_plain h ≡ true) × (is_plain c ≡ true)
+paths_plain h c p = let parts = and_parts (is_plain h) (is_plain c && true) p in (parts.0, path_plain c parts.1)
+
+pub all_plain : (s h c : Text) → are_plain (s ∷ h ∷ c ∷ []) ≡ true
+    → (is_plain s ≡ true) × (is_plain h ≡ true) × (is_plain c ≡ true)
+all_plain s h c p =
+    let parts = and_parts (is_plain s) (are_plain (h ∷ c ∷ [])) p in
+    let rest = paths_plain h c parts.1 in (parts.0, rest.0, rest.1)
+
+taken : (r : Request) → are_plain (arguments_of r) ≡ true → built_takes parser nothing_held (arguments_of r) ≡ true
+taken pipe p = takes_none
+taken (audit h c) p =
+    let plain = paths_plain h c p in
+    rw (stops_at_audit (h ∷ c ∷ []), passes_audit h c plain.0 plain.1, passes_to_audit h c) refl
+taken (order h) p = rw (stops_at_order (h ∷ []), passes_order h (path_plain h p), passes_to_order h) refl
+taken (script h c) p =
+    let plain = paths_plain h c p in
+    rw (stops_at_script (h ∷ c ∷ []), passes_script h c plain.0 plain.1, passes_to_script h c) refl
+taken (serve s h c) p =
+    let plain = all_plain s h c p in
+    rw (stops_at_serve (s ∷ h ∷ c ∷ []), passes_serve s h c plain.0 plain.1 plain.2, passes_to_serve s h c) refl
+
+found : (r : Request) → are_plain (arguments_of r) ≡ true → request_in (entered parser (top_walk (arguments_of r)).stopped) ≡ r
+found pipe p = refl
+found (audit h c) p =
+    let plain = paths_plain h c p in
+    ap (λ stop. request_in (entered parser stop)) (stops_at_audit (h ∷ c ∷ []))
+    ∙ ap (λ w. request_in (Some (codes "audit", finished audits.rules w.held))) (walk_two (codes "audit") h c plain.0 plain.1)
+found (order h) p =
+    ap (λ stop. request_in (entered parser stop)) (stops_at_order (h ∷ []))
+    ∙ ap (λ w. request_in (Some (codes "order", finished orders.rules w.held))) (walk_one orders h (path_plain h p))
+found (script h c) p =
+    let plain = paths_plain h c p in
+    ap (λ stop. request_in (entered parser stop)) (stops_at_script (h ∷ c ∷ []))
+    ∙ ap (λ w. request_in (Some (codes "script", finished scripts.rules w.held))) (walk_two (codes "script") h c plain.0 plain.1)
+found (serve s h c) p =
+    let plain = all_plain s h c p in
+    ap (λ stop. request_in (entered parser stop)) (stops_at_serve (s ∷ h ∷ c ∷ []))
+    ∙ ap (λ w. request_in (Some (codes "serve", finished serves.rules w.held)))
+    (walk_three s h c plain.0 plain.1 plain.2)
+
+-- the arguments of a request are taken, and the request is found in them
+pub takes_request : (arguments : List Text) (r : Request) → are_plain (drop 1 arguments) ≡ true → drop 1 arguments ≡ arguments_of r
+    → (takes ssi_app arguments ≡ true) × (request_in (subcommand_of ssi_app arguments) ≡ r)
+takes_request arguments r p e =
+    let plain : are_plain (arguments_of r) ≡ true = rw e at p in (
+      ap₂ (λ a b. a && b) simple (ap (built_takes parser nothing_held) e ∙ taken r plain),
+      ap (λ ws. request_in (entered parser (top_walk ws).stopped)) e ∙ found r plain,
+    )

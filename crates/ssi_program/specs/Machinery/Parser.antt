@@ -1,0 +1,48 @@
+-- The command line as the parser knows it.
+use Rattle.std.specs.Prelude.{true, List, Option, Some, None, codes, unwrap_or, if◌then◌else◌}
+use Rattle.std.specs.Str.{bytes_eq}
+use Rattle.clap.specs.Words.{App, Row, Rule, Text, first_of, new_app, new_rule, with_rule, with_subcommand}
+use Rattle.ssi_program.specs.Meaning.Arguments.{Request, pipe, audit, order, script, serve}
+
+-- a path that must be there
+abbrev pub file_rule : Text → Rule
+file_rule name = record (new_rule name) { required = true }
+
+-- a history and a certificate
+abbrev with_texts : App → App
+with_texts app = with_rule (with_rule app (file_rule (codes "HISTORY"))) (file_rule (codes "CERTIFICATE"))
+
+abbrev pub audit_app : App
+audit_app = with_texts (new_app (codes "audit"))
+
+abbrev pub order_app : App
+order_app = with_rule (new_app (codes "order")) (file_rule (codes "HISTORY"))
+
+abbrev pub script_app : App
+script_app = with_texts (new_app (codes "script"))
+
+abbrev pub serve_app : App
+serve_app = with_texts (with_rule (new_app (codes "serve")) (file_rule (codes "SOCKET")))
+
+-- no paths of its own, and four commands
+abbrev pub ssi_app : App
+ssi_app =
+    with_subcommand (with_subcommand (with_subcommand (with_subcommand (new_app (codes "ssi")) audit_app.top) order_app.top)
+    script_app.top) serve_app.top
+
+-- the path of this name in the matches of a command
+abbrev pub path_in : List Row → Text → Text
+path_in rows name = unwrap_or (first_of name rows) (codes "")
+
+-- the request of a command of this name with these matches
+abbrev pub request_named : Text → List Row → Request
+request_named name rows =
+    if bytes_eq name (codes "audit") then audit (path_in rows (codes "HISTORY")) (path_in rows (codes "CERTIFICATE"))
+    else if bytes_eq name (codes "order") then order (path_in rows (codes "HISTORY"))
+    else if bytes_eq name (codes "script") then script (path_in rows (codes "HISTORY")) (path_in rows (codes "CERTIFICATE"))
+    else serve (path_in rows (codes "SOCKET")) (path_in rows (codes "HISTORY")) (path_in rows (codes "CERTIFICATE"))
+
+-- the request in the name and the matches of the command that was met
+abbrev pub request_in : Option (Text × List Row) → Request
+request_in None = pipe
+request_in (Some (name, rows)) = request_named name rows

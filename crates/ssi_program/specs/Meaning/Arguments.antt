@@ -1,0 +1,38 @@
+-- What the arguments ask for.
+use Rattle.std.specs.Prelude.{ℕ, ◌==◌, ◌&&◌, Bool, true, not, List, [], ◌∷◌, codes}
+use Rattle.ssi_program.specs.declared.arguments.Task.{Task}
+use Rattle.ssi_program.specs.declared.arguments.Task.TheVariants as task
+
+-- to audit the two texts on standard input, to audit a history and a certificate, to order a history, to carry out the
+-- commands on standard input, or to carry out those of a socket's connections; the last two write a history and a
+-- certificate
+pub data Request : Type 0 where
+  pipe : Request
+  audit : List ℕ → List ℕ → Request
+  order : List ℕ → Request
+  script : (history certificate : List ℕ) → Request
+  serve : (socket history certificate : List ℕ) → Request
+
+abbrev pub request_of : Task → Request
+request_of task.Pipe = pipe
+request_of (task.Audit history certificate) = audit history.now certificate.now
+request_of (task.Order history) = order history.now
+request_of (task.Script history certificate) = script history.now certificate.now
+request_of (task.Serve socket history certificate) = serve socket.now history.now certificate.now
+
+-- the arguments that ask for this, after the program's name
+abbrev pub arguments_of : Request → List (List ℕ)
+arguments_of pipe = []
+arguments_of (audit history certificate) = codes "audit" ∷ history ∷ certificate ∷ []
+arguments_of (order history) = codes "order" ∷ history ∷ []
+arguments_of (script history certificate) = codes "script" ∷ history ∷ certificate ∷ []
+arguments_of (serve socket history certificate) = codes "serve" ∷ socket ∷ history ∷ certificate ∷ []
+
+-- the argument doesn't begin with a hyphen (45)
+abbrev pub is_plain : List ℕ → Bool
+is_plain [] = true
+is_plain (b ∷ bs) = not (b == 45)
+
+abbrev pub are_plain : List (List ℕ) → Bool
+are_plain [] = true
+are_plain (argument ∷ arguments) = is_plain argument && are_plain arguments

@@ -1,0 +1,141 @@
+//! The arguments of the program, and what they ask for.
+
+ghost use Rattle.std.specs.Prelude.{◌≡◌, ◌≢◌, true, map, drop, string_bytes, IfOk, MatchResult};
+ghost use Rattle.clap.specs.Words.{rows_of, found_of, kind_of, subcommand_rows_of};
+ghost use Rattle.clap.specs.declared.error.kind.ErrorKind.TheVariants.{OutOfMemory};
+ghost use Rattle.ssi_program.specs.Machinery.Parser.{path_in, request_in, request_named};
+ghost use Rattle.ssi_program.specs.Meaning.Arguments.{Request, request_of, arguments_of, are_plain};
+ghost use Rattle.ssi_program.specs.declared.arguments.NoTask.TheVariants.{Text, Memory};
+
+use crate::command_line::command_line;
+use clap::error::ErrorKind;
+use clap::{ArgMatches, Error};
+use std::alloc::{AllocError, Global};
+use std::rt::Env;
+use std::{env, io};
+
+/// What the arguments ask for. A path is an argument as it was given.
+#[derive(Drop)]
+pub enum Task<'a> {
+    /// To audit the two texts on standard input.
+    Pipe,
+    /// To audit the history and the certificate in these files.
+    Audit {
+        history: &'a str,
+        certificate: &'a str,
+    },
+    /// To find a certificate, or a cycle, of the history in this file.
+    Order {
+        history: &'a str,
+    },
+    /// To carry out the commands on standard input, and write the history and a certificate to these files.
+    Script {
+        history: &'a str,
+        certificate: &'a str,
+    },
+    /// To carry out the commands of the connections to this socket, and write the history and a certificate to these
+    /// files.
+    Serve {
+        socket: &'a str,
+        history: &'a str,
+        certificate: &'a str,
+    },
+}
+
+/// Why the arguments ask for no task.
+#[derive(Drop)]
+pub enum NoTask {
+    /// The parser has a text to print: help, or what is wrong with the arguments.
+    Text(Error),
+    /// The arguments are not UTF-8.
+    NotUtf8,
+    /// Memory ran out.
+    Memory,
+}
+
+impl From<AllocError> for NoTask {
+    ghost from_gives = { λ _ none. none ≡ Memory };
+
+    fn from(_: AllocError) -> NoTask {
+        NoTask::Memory
+    }
+}
+
+impl From<Error> for NoTask {
+    ghost from_gives = { λ error none. (kind_of error ≡ OutOfMemory → none ≡ Memory)
+        × (kind_of error ≢ OutOfMemory → none ≡ Text error) };
+
+    fn from(error: Error) -> NoTask {
+        match error.kind() {
+            ErrorKind::OutOfMemory => NoTask::Memory,
+            _ => NoTask::Text(error),
+        }
+    }
+}
+
+/// Returns the program's name and its arguments, as they were given. `NotUtf8` if one of them isn't UTF-8, `Memory` if
+/// memory runs out.
+pub fn given_arguments<R: Env + AllocGlobal>(rt: &R) -> Result<Vec<String>, NoTask> {
+    match env::args(rt) {
+        Ok(arguments) => Ok(arguments.collect(rt.alloc())?),
+        Err(e) if e.kind() == io::ErrorKind::OutOfMemory => Err(NoTask::Memory),
+        Err(_) => Err(NoTask::NotUtf8),
+    }
+}
+
+/// Returns what the arguments ask for; the first string is the program's name. An argument that begins with a hyphen is
+/// an option of the parser: `--help`, or `--`, after which a path may begin with a hyphen. `Text` if the parser has
+/// something to print, `Memory` if memory runs out.
+pub fn task_of<'a>(alloc: Global, arguments: &'a [String]) -> Result<Task<'a>, NoTask>
+    // Arguments that don't begin with a hyphen ask for a task if and only if they are its arguments. The arguments of a
+    // task are refused only if memory runs out.
+    ensures asked { let rest = drop 1 (map string_bytes arguments.entry.now) in
+        (request : Request) → are_plain rest ≡ true → rest ≡ arguments_of request
+        → MatchResult result (λ task. request_of task ≡ request) (λ none. none ≡ NoTask.Memory) }
+    ensures no_other { let rest = drop 1 (map string_bytes arguments.entry.now) in
+        are_plain rest ≡ true → IfOk result (λ task. rest ≡ arguments_of (request_of task)) }
+{
+    let command = command_line(alloc)?;
+    let matches = command.try_get_matches_from(arguments)?;
+    Ok(task_in(&matches))
+}
+
+fn task_in<'a>(matches: &ArgMatches<'a>) -> Task<'a>
+    ensures { request_of result ≡ request_in (subcommand_rows_of matches.now) }
+{
+    match matches.subcommand() {
+        None => Task::Pipe,
+        Some((name, given)) => task_named(name, given),
+    }
+}
+
+fn task_named<'a>(name: &str, given: &ArgMatches<'a>) -> Task<'a>
+    ensures { request_of result ≡ request_named name.now (rows_of (found_of given.now)) }
+{
+    match name {
+        "audit" => Task::Audit {
+            history: path(given, "HISTORY"),
+            certificate: path(given, "CERTIFICATE"),
+        },
+        "order" => Task::Order {
+            history: path(given, "HISTORY"),
+        },
+        "script" => Task::Script {
+            history: path(given, "HISTORY"),
+            certificate: path(given, "CERTIFICATE"),
+        },
+        // `serve`, the only other one
+        _ => Task::Serve {
+            socket: path(given, "SOCKET"),
+            history: path(given, "HISTORY"),
+            certificate: path(given, "CERTIFICATE"),
+        },
+    }
+}
+
+// The parser has seen to it that each path is there.
+fn path<'a>(given: &ArgMatches<'a>, name: &str) -> &'a str
+    ensures { result.now ≡ path_in (rows_of (found_of given.now)) name.now }
+{
+    given.get_str(name).unwrap_or("")
+}

@@ -1,0 +1,18 @@
+//! What the program `ssi` does with its arguments: it audits histories by certificates, finds certificates or cycles,
+//! and runs the store.
+#![tactic(auto)]
+
+mod arguments;
+mod command_line;
+mod fault;
+mod help;
+mod late_file;
+mod runs;
+mod status;
+mod tasks;
+
+pub use arguments::{NoTask, Task, given_arguments, task_of};
+pub use fault::Fault;
+pub use runs::{CommandsFault, carry_out_commands, judge_stream, judge_texts, order_text};
+pub use status::Status;
+pub use tasks::run;
