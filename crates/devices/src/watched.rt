@@ -5,6 +5,7 @@ ghost use Rattle.std.specs.Io.{ReadsAtMost, WritesAtMost};
 ghost use Rattle.std.specs.Io.KnownBytes.{ReadConsumes, WriteAppends, Keeps, Appends};
 ghost use Rattle.std.specs.IoError.{error_kind};
 ghost use Rattle.devices.specs.Meaning.Watched.{has_failed, reads_left, device_of, watched_remaining, watched_contents};
+ghost use Rattle.devices.specs.Meaning.Writing.{Broke};
 
 use std::io;
 use std::io::{Error, ErrorKind, Read, Write};
@@ -110,6 +111,7 @@ impl<D: Write> Write for Watched<D> {
         ensures something { IfOk result (λ n. 0 < n → (has_failed self.old ≡ false) × (has_failed self.new ≡ false)) }
         ensures kept { has_failed self.old ≡ true → self.new ≡ self.old }
         ensures held { (has_failed self.old ≡ true) → IsErrAnd result (λ e. error_kind e ≢ ErrorKind.Interrupted) }
+        ensures left { reads_left self.new ≡ reads_left self.old }
     {
         if self.is_failed {
             return Err(not_passed_on());
@@ -130,6 +132,8 @@ impl<D: Write> Write for Watched<D> {
         ensures bytes { Keeps (watched_contents D.contents self.old) (watched_contents D.contents self.new) }
         ensures fault { IsErr result ↔ (has_failed self.new ≡ true) }
         ensures kept { has_failed self.old ≡ true → self.new ≡ self.old }
+        ensures held { (has_failed self.old ≡ true) → IsErrAnd result (λ e. error_kind e ≢ ErrorKind.Interrupted) }
+        ensures left { reads_left self.new ≡ reads_left self.old }
     {
         if self.is_failed {
             return Err(not_passed_on());
@@ -147,6 +151,9 @@ impl<D: Write> Write for Watched<D> {
         ensures bytes { OnOk result (Appends (watched_contents D.contents self.old) (watched_contents D.contents self.new) buf.now) }
         ensures fault { IsErr result → has_failed self.new ≡ true }
         ensures works { OnOk result (has_failed self.new ≡ has_failed self.old) }
+        ensures broke { OnErr result (Broke D.contents self.old self.new buf.now) }
+        ensures kept { has_failed self.old ≡ true → self.new ≡ self.old }
+        ensures left { reads_left self.new ≡ reads_left self.old }
     {
         let mut rest = buf;
         while !rest.is_empty() {

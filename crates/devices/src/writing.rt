@@ -1,16 +1,17 @@
 //! Writing bytes, numbers and lines.
 
-ghost use Rattle.std.specs.Prelude.{◌++◌, ◌∷◌, [], decimal};
-ghost use Rattle.devices.specs.Meaning.Writing.{Wrote};
+ghost use Rattle.std.specs.Prelude.{◌++◌, ◌∷◌, [], decimal, OnErr};
+ghost use Rattle.devices.specs.Meaning.Writing.{Wrote, Broke};
 
 use crate::Watched;
 use itoa::Buffer;
 use std::io;
 use std::io::Write;
 
-/// Writes the bytes. Returns an error only if the device has failed; how much it took is then not said.
+/// Writes the bytes. Returns an error only if the device has failed; it then took a front of them, but not all.
 pub fn put<W: Write>(bytes: &[u8], out: &mut Watched<W>) -> io::Result<()>
-    ensures { Wrote W.contents out.old out.new bytes.now result }
+    ensures wrote { Wrote W.contents out.old out.new bytes.now result }
+    ensures broke { OnErr result (Broke W.contents out.old out.new bytes.now) }
 {
     out.write_all(bytes)
 }

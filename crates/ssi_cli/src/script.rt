@@ -1,6 +1,6 @@
 //! A run over a script.
 
-ghost use Rattle.std.specs.Prelude.{◌≡◌, true, false, Ok, Err, IfOk};
+ghost use Rattle.std.specs.Prelude.{◌≡◌, ◌≢◌, true, false, Ok, Err, IfOk};
 ghost use Rattle.devices.specs.Meaning.Watched.{has_failed};
 ghost use Rattle.ssi_cli.specs.Meaning.Scripts.{Ran, Certified, course_of};
 
@@ -30,6 +30,7 @@ pub fn run_script<S: Source, W: Write, H: Write, C: Write>(
     ensures read_fault { result ≡ Ok End.ReadFault → S.is_failed input.new ≡ true }
     ensures write_fault { result ≡ Ok End.WriteFault → has_failed output.new ≡ true }
     ensures eof { result ≡ Ok End.Eof → S.is_failed input.new ≡ false }
+    ensures unfailed { IfOk result (λ end. end ≢ End.ReadFault → S.is_failed input.new ≡ true → S.is_failed input.old ≡ true) }
     ensures stream { S.same input.old input.new }
     ensures history_fault { result ≡ Err ScriptFault.History
         → (has_failed history.new ≡ true) × (certificate.new ≡ certificate.old) }

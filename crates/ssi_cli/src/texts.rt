@@ -6,8 +6,10 @@ ghost use Rattle.devices.specs.Meaning.Watched.{has_failed};
 ghost use Rattle.devices.specs.Meaning.Writing.{Wrote};
 ghost use Rattle.adya_text.specs.Meaning.Texts.{history_text, serial_text};
 ghost use Rattle.ssi_store.specs.Meaning.Courses.{Course};
+ghost use Rattle.ssi_store.specs.Meaning.Finished.{recorded_in};
 ghost use Rattle.ssi_store.specs.Meaning.Stores.{IsAt};
 ghost use Rattle.ssi_cli.specs.Meaning.Scripts.{Certified};
+ghost use Rattle.ssi_cli.specs.Machinery.{Remains};
 
 use crate::ScriptFault;
 use adya_text::{WriteFault, write_history, write_serial};
@@ -15,9 +17,9 @@ use adya_values::{History, Serial};
 use devices::Watched;
 use ssi_certify::certify;
 use ssi_reads::Marks;
-use ssi_store::Store;
+use ssi_store::{Finished, Store};
 use ssi_versions::Chains;
-use std::alloc::Global;
+use std::alloc::{AllocError, Global};
 use std::io::Write;
 
 /// Ends the store, and writes its history and then a certificate of it. The history records the course of the store, and
@@ -36,10 +38,7 @@ pub(crate) fn write_texts<C: Chains + Drop, M: Marks + Drop, H: Write, W: Write>
     ensures memory { result ≡ Err ScriptFault.Memory
         → (history.new ≡ history.old) × (certificate.new ≡ certificate.old) }
 {
-    let Ok(finished) = store.finish() else {
-        return Err(ScriptFault::Memory);
-    };
-    let Ok(serial) = certify(alloc, &finished) else {
+    let Ok((finished, serial)) = end(alloc, store) else {
         return Err(ScriptFault::Memory);
     };
     let Ok(()) = put_history(finished.history(), history) else {
@@ -49,6 +48,23 @@ pub(crate) fn write_texts<C: Chains + Drop, M: Marks + Drop, H: Write, W: Write>
         return Err(ScriptFault::Certificate);
     };
     Ok(())
+}
+
+/// Ends the store, and certifies its history.
+fn end<C: Chains + Drop, M: Marks + Drop>(
+    alloc: Global,
+    store: Store<C, M>,
+) -> Result<(Finished, Serial), AllocError>
+    ensures { IfOk result (λ r. (course : Course) → IsAt C.held M.marked store course
+        → Remains course (recorded_in r.0) (serial_txns r.1)) }
+{
+    let Ok(finished) = store.finish() else {
+        return Err(AllocError);
+    };
+    let Ok(serial) = certify(alloc, &finished) else {
+        return Err(AllocError);
+    };
+    Ok((finished, serial))
 }
 
 // What the device holds back is written, too.

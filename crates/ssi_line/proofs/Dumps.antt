@@ -4,11 +4,10 @@ use Rattle.std.specs.Prelude.{IfOk}
 use Rattle.adya_values.specs.Meaning.Histories.{History}
 use Rattle.adya_values.specs.Meaning.Acceptance.{IsAccepted}
 use Rattle.devices.specs.declared.watched.Watched.{Watched}
-use Rattle.devices.specs.Meaning.Writing.{Wrote}
 use Rattle.adya_text.specs.Meaning.Texts.{history_text, serial_text}
 use Rattle.ssi_store.specs.Meaning.Courses.{Course}
 use Rattle.ssi_line.specs.Meaning.Steps.{Dumped, MayFollow}
-use Rattle.ssi_line.specs.Machinery.Answering.{IsDumpText}
+use Rattle.ssi_line.specs.Machinery.Answering.{Said, IsDumpText}
 
 -- both texts were put together
 pub dump_told : {T E : Type 0} (r : Result T E) (bytes : T → List ℕ) (is_at : Course → Type 0) (shown history : History)
@@ -24,7 +23,7 @@ dump_told (Ok t) bytes is_at shown history serial told same accepted follows = r
 }
 dump_told (Err e) bytes is_at shown history serial told same accepted follows = tt
 
--- the same bytes were written
-pub wrote_same : {D T E : Type 0} (contents : D → Option (List ℕ)) (old new : Watched D) (r : Result T E)
-    (xs ys : List ℕ) → xs ≡ ys → Wrote contents old new xs r → Wrote contents old new ys r
-wrote_same contents old new r xs ys same wrote = subst (λ (l : List ℕ). Wrote contents old new l r) same wrote
+-- the same bytes were written, or a front of them
+pub said_same : {D T E : Type 0} (contents : D → Option (List ℕ)) (old new : Watched D) (r : Result T E)
+    (xs ys : List ℕ) → xs ≡ ys → Said contents old new xs r → Said contents old new ys r
+said_same contents old new r xs ys same said = subst (λ (l : List ℕ). Said contents old new l r) same said

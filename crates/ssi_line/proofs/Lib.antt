@@ -6,3 +6,4 @@ pub mod KeptLines
 pub mod Consumed
 pub mod Runs
 pub mod Dumps
+pub mod Drafts

@@ -1,22 +1,22 @@
 -- One step more of a run.
 use Rattle.std.proofs.Common.{◌≡◌, ℕ, List, [], ◌∷◌, ◌++◌, Bool, true, false, Option, None, Some, Result, Ok, Err}
 use Rattle.std.proofs.Common.{refl, sym, ap, subst, ◌∙◌, append_assoc, append-nil, arith}
-use Rattle.std.specs.Prelude.{IsErr}
+use Rattle.std.specs.Result.{result_and}
 use Rattle.std.specs.Io.KnownBytes.{Consumes, Appends, prepend_known}
 use Rattle.std.proofs.KnownBytes.{Consumes-trans, Consumes-nil, Appends-nil, Appends-trans, prepend_known-nil}
 use Rattle.std.proofs.lemmas.List.Elements.{All-push}
 use Rattle.devices.specs.declared.watched.Watched.{Watched}
 use Rattle.devices.specs.Meaning.Watched.{watched_contents}
-use Rattle.devices.specs.Meaning.Writing.{Grew}
+use Rattle.devices.specs.Meaning.Writing.{Grew, Broke}
 use Rattle.adya_line.specs.Meaning.Laws.{IsPlain}
 use Rattle.adya_text.specs.Meaning.Texts.{with_ends}
 use Rattle.ssi_store.specs.Meaning.Courses.{Course}
 use Rattle.ssi_line.specs.Meaning.Steps.{Step, Given, Dumped, NotDumped, Stopped, NotRead, TooLong, IsStep, AreSteps}
 use Rattle.ssi_line.specs.Meaning.Steps.{step_text, steps_text, course_with, course_after, MayFollow, AllMayFollow}
 use Rattle.ssi_line.specs.Meaning.Steps.{is_stop, AllGoOn}
-use Rattle.ssi_line.specs.Meaning.Ends.{WentOn, Took, EndsWith}
+use Rattle.ssi_line.specs.Meaning.Ends.{WentOn, Took, EndsWith, EndsBroken}
 use Rattle.ssi_line.specs.Machinery.Lines.{has_ended, line_end}
-use Rattle.ssi_line.specs.Machinery.Answering.{Told}
+use Rattle.ssi_line.specs.Machinery.Answering.{Said, Told}
 
 -- ---- lists of steps
 
@@ -151,11 +151,20 @@ told_so {E = E} contents r b c step old new is same told =
     (λ (x : Result Bool E). Told contents x step old new) is told in
     (written.0 ∙ same, written.1)
 
--- a fault says nothing of what was written
-pub untold : {D E : Type 0} (contents : D → Option (List ℕ)) (r : Result Bool E) (step : Step) (old new : Watched D)
-    → IsErr r → Told contents r step old new
-untold contents (Ok b) step old new is = cc
-untold contents (Err e) step old new is = tt
+-- a front of the answer was written
+pub told_broken : {D E : Type 0} (contents : D → Option (List ℕ)) (r : Result Bool E) (e : E) (step : Step)
+    (old new : Watched D) → r ≡ Err e → Told contents r step old new → Broke contents old new (step_text step)
+told_broken {E = E} contents r e step old new is told =
+    subst (λ (x : Result Bool E). Told contents x step old new) is told
+
+-- the answer was written, or a front of it
+pub told_and : {D T E : Type 0} (contents : D → Option (List ℕ)) (r : Result T E) (q : Result Bool E) (stops : Bool)
+    (step : Step) (old new : Watched D) → q ≡ result_and r (Ok stops) → is_stop step ≡ stops
+    → Said contents old new (step_text step) r → Told contents q step old new
+told_and {E = E} contents (Ok t) q stops step old new is stop said =
+    subst (λ (x : Result Bool E). Told contents x step old new) (sym is) (stop, said)
+told_and {E = E} contents (Err e) q stops step old new is stop said =
+    subst (λ (x : Result Bool E). Told contents x step old new) (sym is) said
 
 pub stopped : (step : Step) → is_stop step ≡ true → step ≡ Stopped
 stopped (Given c a) is = cc
@@ -171,4 +180,19 @@ ends_with steps step last all is = record {
   before = steps;
   go_on = all;
   is = ap (λ (s : Step). steps ++ (s ∷ [])) is;
+}
+
+-- a front of the last step's text was written
+pub ends_broken : {D : Type 0} (contents : D → Option (List ℕ)) (a b c : Watched D) (steps : List Step) (step : Step)
+    → AllGoOn steps → Grew contents a b (steps_text steps) → Broke contents b c (step_text step)
+    → EndsBroken contents (steps ++ step ∷ []) a c
+ends_broken contents a b c steps step all before now = record {
+  last = step;
+  ends = record { before = steps; go_on = all; is = refl };
+  front = now.front;
+  rest = now.rest;
+  parts = now.parts;
+  more = now.more;
+  written = Appends-trans (watched_contents contents a) (watched_contents contents b) (watched_contents contents c)
+      (steps_text steps) now.front before.appends now.appends;
 }

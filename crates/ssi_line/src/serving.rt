@@ -2,12 +2,11 @@
 
 ghost use Rattle.std.specs.Prelude.{◌≡◌, List, [], ◌∷◌, ℕ, IsErr, true, false};
 ghost use Rattle.devices.specs.Meaning.Watched.{has_failed};
-ghost use Rattle.devices.specs.Meaning.Writing.{Wrote};
 ghost use Rattle.ssi_store.specs.Meaning.Stores.{IsAt};
 ghost use Rattle.ssi_line.specs.Meaning.Steps.{Step, step_text};
 ghost use Rattle.ssi_line.specs.Meaning.Ends.{WentOn, Took, EndsAs};
 ghost use Rattle.ssi_line.specs.Machinery.Lines.{kept};
-ghost use Rattle.ssi_line.specs.Machinery.Answering.{Answered, IsDump};
+ghost use Rattle.ssi_line.specs.Machinery.Answering.{Answered, IsDump, Said};
 
 use crate::dump::dump_text;
 use crate::lines::LineBuffer;
@@ -25,7 +24,7 @@ use std::io::Write;
 /// reads further, by one `write_all`, or several if a scan's rows make more than 4096 bytes. What follows the last line
 /// feed is no line: it is not carried out, and has no answer.
 ///
-/// A command whose answer could not be written has been carried out. Beside what the store takes for its commands, only
+/// A command whose answer could not be written has been carried out, and is the last. Beside what the store takes for its commands, only
 /// `dump` takes memory. If memory runs out, `! 6 memory` is answered and nothing else of that line, and the run goes on.
 pub fn serve<S: Source, W: Write, C: Chains + Drop, M: Marks + Drop>(
     alloc: Global,
@@ -72,26 +71,15 @@ fn answer<W: Write, C: Chains + Drop, M: Marks + Drop>(
     ensures fault { IsErr result → has_failed out.new ≡ true }
 {
     let Some(text) = line.text() else {
-        say(b"? long\n", out)?;
-        return Ok(false);
+        return say(b"? long\n", out).and(Ok(false));
     };
     match read_line(text) {
-        None => {
-            say(b"? syntax\n", out)?;
-            Ok(false)
-        }
-        Some(Line::Stop) => {
-            say(b"stopped\n", out)?;
-            Ok(true)
-        }
-        Some(Line::Dump) => {
-            answer_dump(alloc, store, out)?;
-            Ok(false)
-        }
+        None => say(b"? syntax\n", out).and(Ok(false)),
+        Some(Line::Stop) => say(b"stopped\n", out).and(Ok(true)),
+        Some(Line::Dump) => answer_dump(alloc, store, out).and(Ok(false)),
         Some(Line::Do(command)) => {
             let reply = store.apply(command);
-            write_reply(&reply, out)?;
-            Ok(false)
+            write_reply(&reply, out).and(Ok(false))
         }
     }
 }
@@ -102,8 +90,9 @@ fn answer_dump<W: Write, C: Chains + Drop, M: Marks + Drop>(
     store: &Store<C, M>,
     out: &mut Watched<W>,
 ) -> Result<(), WriteFault>
-    ensures { (step : Step) × IsDump (IsAt C.held M.marked store.now) step
-        × Wrote W.contents out.old out.new (step_text step) result }
+    ensures told { (step : Step) × IsDump (IsAt C.held M.marked store.now) step
+        × Said W.contents out.old out.new (step_text step) result }
+    ensures fault { IsErr result → has_failed out.new ≡ true }
 {
     match dump_text(alloc, store) {
         Ok(text) => say(&text, out),
@@ -112,7 +101,8 @@ fn answer_dump<W: Write, C: Chains + Drop, M: Marks + Drop>(
 }
 
 fn say<W: Write>(line: &[u8], out: &mut Watched<W>) -> Result<(), WriteFault>
-    ensures { Wrote W.contents out.old out.new line.now result }
+    ensures said { Said W.contents out.old out.new line.now result }
+    ensures fault { IsErr result → has_failed out.new ≡ true }
 {
     put(line, out).map_err(|_| WriteFault)
 }

@@ -1,12 +1,13 @@
 -- What a run over an input has done when it ends.
-use Rattle.std.specs.Prelude.{◌≡◌, ℕ, List, [], ◌∷◌, ◌++◌, All, Option}
-use Rattle.std.specs.Io.KnownBytes.{Consumes, IsAtEnd}
+use Rattle.std.specs.Prelude.{◌≡◌, ℕ, ◌<◌, List, [], ◌∷◌, ◌++◌, length, All, Option}
+use Rattle.std.specs.Io.KnownBytes.{Consumes, Appends, IsAtEnd}
 use Rattle.devices.specs.declared.watched.Watched.{Watched}
+use Rattle.devices.specs.Meaning.Watched.{watched_contents}
 use Rattle.devices.specs.Meaning.Writing.{Grew}
 use Rattle.adya_line.specs.Meaning.Laws.{IsPlain}
 use Rattle.adya_text.specs.Meaning.Texts.{with_ends}
 use Rattle.ssi_store.specs.Meaning.Courses.{Course}
-use Rattle.ssi_line.specs.Meaning.Steps.{Step, Stopped, AreSteps, AllMayFollow, AllGoOn, course_after, steps_text}
+use Rattle.ssi_line.specs.Meaning.Steps.{Step, Stopped, AreSteps, AllMayFollow, AllGoOn, course_after, step_text, steps_text}
 use Rattle.ssi_line.specs.declared.end.End.{End}
 use Rattle.ssi_line.specs.declared.end.End.TheVariants.{Eof, Stop, ReadFault, WriteFault}
 
@@ -36,11 +37,23 @@ pub record EndsOpen {D : Type 0} (contents : D → Option (List ℕ)) (steps : L
   pub unfinished : IsPlain after
   pub written : Grew contents old new (steps_text steps)
 
+-- the text of the last step couldn't be written: before it exactly this was, and of it a front, which may be empty, and not
+-- the rest, which isn't
+pub record EndsBroken {D : Type 0} (contents : D → Option (List ℕ)) (steps : List Step) (old new : Watched D)
+    : Type 0 where
+  pub last : Step
+  pub ends : EndsWith steps last
+  pub front : List ℕ
+  pub rest : List ℕ
+  pub parts : step_text last ≡ front ++ rest
+  pub more : 0 < length rest
+  pub written : Appends (watched_contents contents old) (watched_contents contents new) (steps_text ends.before ++ front)
+
 -- what each end says of the steps, of the bytes after the last line feed, of what is left, and of what was written; after
--- a write fault the last step was carried out, and nothing is said of how much was written
+-- a write fault the last step was carried out
 abbrev pub EndsAs : {D : Type 0} → End → (D → Option (List ℕ)) → List Step → (after : List ℕ)
     → (left : Option (List ℕ)) → (old new : Watched D) → Type 0
 EndsAs Eof contents steps after left old new = EndsOpen contents steps after old new × IsAtEnd left
 EndsAs ReadFault contents steps after left old new = EndsOpen contents steps after old new
 EndsAs Stop contents steps after left old new = EndsWith steps Stopped × Grew contents old new (steps_text steps)
-EndsAs WriteFault contents steps after left old new = (last : Step) × EndsWith steps last
+EndsAs WriteFault contents steps after left old new = EndsBroken contents steps old new

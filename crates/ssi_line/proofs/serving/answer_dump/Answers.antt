@@ -1,11 +1,11 @@
 use Rattle.std.proofs.Common.{refl, ◌++◌, ◌∙◌}
 use Rattle.adya_text.specs.Meaning.Texts.{history_text, serial_text}
 use Rattle.ssi_line.specs.Meaning.Steps.{Dumped}
-use Rattle.ssi_line.proofs.Dumps.{wrote_same}
+use Rattle.ssi_line.proofs.Dumps.{said_same}
 use Rattle.ssi_line.proofs.serving.answer_dump.Goals as goal
 
-pub returns-in-Ok : goal.returns-in-Ok
-returns-in-Ok g c =
+pub returns-in-Ok-clause-told : goal.returns-in-Ok-clause-told
+returns-in-Ok-clause-told g c =
     let text = c.in-Ok.ensures in (
       Dumped text.history text.serial,
       record {
@@ -14,6 +14,6 @@ returns-in-Ok g c =
         follows = text.follows;
         leaves = λ course. refl;
       },
-      wrote_same g.W.Write.contents c.args.out.now c.say.new.out c.say.result c.deref.result.now
-          (history_text text.history ++ serial_text text.serial) (c.deref.ensures.value ∙ text.is) c.say.ensures,
+      said_same g.W.Write.contents c.args.out.now c.say.new.out c.say.result c.deref.result.now
+          (history_text text.history ++ serial_text text.serial) (c.deref.ensures.value ∙ text.is) c.say.ensures.said,
     )

@@ -1,9 +1,9 @@
-use Rattle.std.proofs.Common.{rules, ◌++◌, ◌∷◌, [], true, false, refl, arith}
+use Rattle.std.proofs.Common.{rules, ◌++◌, ◌∷◌, [], true, false, arith}
 use Rattle.ssi_store.specs.Meaning.Stores.{IsAt}
 use Rattle.ssi_line.specs.Meaning.Steps.{Stopped}
 use Rattle.ssi_line.specs.Machinery.Lines.{has_ended}
 use Rattle.ssi_line.proofs.Runs.{took_start, took_more, took_pending, ended_so, told_so, stopped, ends_with}
-use Rattle.ssi_line.proofs.Runs.{went_on_more, go_on_more, wrote_none, wrote_more}
+use Rattle.ssi_line.proofs.Runs.{went_on_more, go_on_more, wrote_none, wrote_more, told_broken, ends_broken}
 use Rattle.ssi_line.proofs.serving.serve.Goals as goal
 
 pub loop-line-init : goal.loop-line-init
@@ -73,5 +73,6 @@ returns-in-Err-answer-clause-run g c =
           (took_more _ _ _ lines steps text step (has_ended c.next_line.result) took ended plain eaten answered.made),
       went_on_more (IsAt {g = g.C.Chains} {h = g.M.Marks} g.C.Chains.held g.M.Marks.marked) c.args.store.now c.loop-line.store
           c.answer.new.store steps step went_on goes,
-      (step, ends_with steps step step go_on refl),
+      ends_broken g.W.Write.contents _ _ _ steps step go_on written
+          (told_broken g.W.Write.contents c.answer.result _ step _ _ c.in-Err-answer.is answered.told),
     )

@@ -10,14 +10,18 @@ moves_front all done rest n e =
 
 pub loop-rest-preserved : goal.loop-rest-preserved
 loop-rest-preserved g c =
-    let (same, (done, split, appended)) = c.loop-rest.invariant in
+    let (same, left, kept, (done, split, appended)) = c.loop-rest.invariant in
     let rest = c.loop-rest.rest.now in
-    let n = c.in_ok-n.n in
-    (search rules, (done ++ take n rest, moves_front _ done rest n split, Appends-trans _ _ _ _ _ appended c.in_ok-n.ensures.bytes))
+    let n = c.in_ok-n.n in (
+      search rules,
+      search rules,
+      search rules,
+      (done ++ take n rest, moves_front _ done rest n split, Appends-trans _ _ _ _ _ appended c.in_ok-n.ensures.bytes),
+    )
 
 pub returns-clause-bytes : goal.returns-clause-bytes
 returns-clause-bytes g c =
-    let (same, (done, split, appended)) = c.loop-rest.invariant in
+    let (same, left, kept, (done, split, appended)) = c.loop-rest.invariant in
     let rest = c.loop-rest.rest.now in
     let empty : rest ≡ [] = drop_of_length-le rest {i = 0} (search rules) in
     subst (Appends _ _) (sym (split ∙ ap (λ l. done ++ l) empty ∙ append-nil done)) appended

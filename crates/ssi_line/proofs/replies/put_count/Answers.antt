@@ -1,0 +1,5 @@
+use Rattle.ssi_line.proofs.Drafts.{added_then}
+use Rattle.ssi_line.proofs.replies.put_count.Goals as goal
+
+pub returns : goal.returns
+returns g c = added_then g.W.Write.contents _ _ _ _ _ _ _ _ c.put.ensures c.put_number.ensures
