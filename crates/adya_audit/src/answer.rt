@@ -1,9 +1,8 @@
 //! A certificate of a history, a cycle, or the verdict on it: finding it and writing it.
 
-ghost use Rattle.std.specs.Prelude.{◌≡◌, true, IfOk, OnOk, IsErr};
-ghost use Rattle.std.specs.Io.KnownBytes.{Appends};
+ghost use Rattle.std.specs.Prelude.{IfOk};
 ghost use Rattle.adya_values.specs.Meaning.Values.{history_of};
-ghost use Rattle.devices.specs.Meaning.Watched.{has_failed, watched_contents};
+ghost use Rattle.devices.specs.Meaning.Writing.{Wrote};
 ghost use Rattle.adya_audit.specs.Meaning.Answers.{Tells, IsAnswerOn, answer_of, answer_text};
 
 use crate::auditor::refusal;
@@ -49,9 +48,7 @@ pub(crate) fn write_answer<W: Write>(
     out: &mut Watched<W>,
 ) -> Result<Ordered, WriteFault>
     ensures kind { IfOk result (λ o. Tells o (answer_of answer.now)) }
-    ensures written { OnOk result (Appends (watched_contents W.contents out.old) (watched_contents W.contents out.new)
-        (answer_text (answer_of answer.now))) }
-    ensures fault { IsErr result → has_failed out.new ≡ true }
+    ensures written { Wrote W.contents out.old out.new (answer_text (answer_of answer.now)) result }
 {
     match answer {
         Answer::Certificate(serial) => {

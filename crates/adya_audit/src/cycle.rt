@@ -1,8 +1,6 @@
 //! Writing cycles.
 
-ghost use Rattle.std.specs.Prelude.{◌≡◌, OnOk, IsErr, map, true, flat_map};
-ghost use Rattle.std.specs.Io.KnownBytes.{Appends};
-ghost use Rattle.devices.specs.Meaning.Watched.{has_failed, watched_contents};
+ghost use Rattle.std.specs.Prelude.{map, flat_map};
 ghost use Rattle.devices.specs.Meaning.Writing.{Wrote};
 ghost use Rattle.adya_dsg.specs.Meaning.Values.{edge_of};
 ghost use Rattle.adya_audit.specs.Meaning.Output.{edge_line, cycle_text};
@@ -16,9 +14,7 @@ use std::io::Write;
 /// Writes a line with the number of edges, and then a line for each edge. `WriteFault` only if the writer fails or had
 /// failed before. How much of the cycle went out is unknown then.
 pub(crate) fn write_cycle<W: Write>(edges: &[Edge], out: &mut Watched<W>) -> Result<(), WriteFault>
-    ensures written { OnOk result (Appends (watched_contents W.contents out.old) (watched_contents W.contents out.new)
-        (cycle_text (map edge_of edges.now))) }
-    ensures fault { IsErr result → has_failed out.new ≡ true }
+    ensures { Wrote W.contents out.old out.new (cycle_text (map edge_of edges.now)) result }
 {
     put_cycle(edges, out).map_err(|_| WriteFault)
 }

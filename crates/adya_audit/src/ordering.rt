@@ -1,15 +1,15 @@
 //! A certificate, a cycle or a verdict for a history text.
 
 ghost use Rattle.std.specs.Prelude.{◌≡◌, ◌≢◌, false, true, IfOk, IfErr, IfSome, OnOk, IsErrOf};
-ghost use Rattle.std.specs.Io.KnownBytes.{Appends};
-ghost use Rattle.devices.specs.Meaning.Watched.{has_failed, watched_remaining, watched_contents};
+ghost use Rattle.devices.specs.Meaning.Watched.{has_failed, watched_remaining};
+ghost use Rattle.devices.specs.Meaning.Writing.{Grew};
 ghost use Rattle.adya_audit.specs.Meaning.Answers.{Answer as Plain, Tells, IsAnswer, answer_of, answer_text};
 
 use crate::answer::{Answer, answer_on, write_answer};
 use crate::laws::accepted_texts_are_serializable;
 use crate::{Ordered, RunFault, Text, Verdict};
 use adya_text::laws::history_texts;
-use adya_text::{ReadFault, read_history_from};
+use adya_text::{ReadFault, read_history_early};
 use devices::Watched;
 use std::alloc::Global;
 use std::io::{Read, Write};
@@ -29,7 +29,7 @@ pub fn run_order<H: Read, W: Write>(
     ensures answer { IfOk result (λ o. (a : Plain)
         × Tells o a
         × IfSome (watched_remaining H.remaining history.old) (λ text. IsAnswer text a)
-        × Appends (watched_contents W.contents out.old) (watched_contents W.contents out.new) (answer_text a)) }
+        × Grew W.contents out.old out.new (answer_text a)) }
     ensures ended { OnOk result (has_failed history.new ≡ false) }
     ensures read_fault { IsErrOf result RunFault.ReadHistory → has_failed history.new ≡ true }
     ensures write_fault { IsErrOf result RunFault.Write → has_failed out.new ≡ true }
@@ -50,7 +50,7 @@ fn answer_on_stream<H: Read>(alloc: Global, history: &mut Watched<H>) -> Result<
 {
     history_texts();
     accepted_texts_are_serializable();
-    match read_history_from(alloc, history) {
+    match read_history_early(alloc, history) {
         Ok(history) => Ok(answer_on(alloc, &history)?),
         Err(ReadFault::Syntax { line, .. }) => Ok(Answer::Refusal(Verdict::Syntax {
             text: Text::History,

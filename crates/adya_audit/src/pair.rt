@@ -1,8 +1,8 @@
 //! The verdict on a history text and a certificate text in two streams.
 
 ghost use Rattle.std.specs.Prelude.{◌≡◌, ◌≢◌, ◌↔◌, ◌⊎◌, ℕ, false, true, IfOk, IfErr, IfSome, OnOk, IsErrOf};
-ghost use Rattle.std.specs.Io.KnownBytes.{Appends};
-ghost use Rattle.devices.specs.Meaning.Watched.{has_failed, watched_remaining, watched_contents};
+ghost use Rattle.devices.specs.Meaning.Watched.{has_failed, watched_remaining};
+ghost use Rattle.devices.specs.Meaning.Writing.{Grew};
 ghost use Rattle.adya_audit.specs.Meaning.Verdicts.{plain_verdict};
 ghost use Rattle.adya_audit.specs.Meaning.Output.{verdict_line};
 ghost use Rattle.adya_audit.specs.Meaning.TextVerdicts.{IsVerdictOn, NamesHistoryFault, AreAccepted, AreSerializable};
@@ -10,7 +10,7 @@ ghost use Rattle.adya_audit.specs.Meaning.TextVerdicts.{IsVerdictOn, NamesHistor
 use crate::laws::{accepted_texts_are_serializable, yes_where_texts_accepted};
 use crate::{RunFault, Text, Verdict, audit, write_verdict};
 use adya_text::laws::fault_lines;
-use adya_text::{ReadFault, read_history_from, read_serial_from};
+use adya_text::{ReadFault, read_history_early, read_serial_early};
 use devices::Watched;
 use std::alloc::Global;
 use std::io::{Read, Write};
@@ -36,8 +36,7 @@ pub fn run_audit<H: Read, C: Read, W: Write>(
         (λ h. IfSome (watched_remaining C.remaining certificate.old) (λ c. (v ≡ Verdict.Yes) ↔ AreAccepted h c))) }
     ensures promise { IfOk result (λ v. IfSome (watched_remaining H.remaining history.old)
         (λ h. IfSome (watched_remaining C.remaining certificate.old) (λ c. v ≡ Verdict.Yes → AreSerializable h c))) }
-    ensures written { IfOk result (λ v. Appends (watched_contents W.contents out.old)
-        (watched_contents W.contents out.new) (verdict_line (plain_verdict v))) }
+    ensures written { IfOk result (λ v. Grew W.contents out.old out.new (verdict_line (plain_verdict v))) }
     ensures history_ended { OnOk result (has_failed history.new ≡ false) }
     // The certificate isn't needed if the history has a syntax fault.
     ensures certificate_ended { IfOk result
@@ -71,7 +70,7 @@ fn verdict_on_streams<H: Read, C: Read>(
     ensures no_write { IsErrOf result RunFault.Write → ⊥ }
 {
     fault_lines();
-    let history = match read_history_from(alloc, history) {
+    let history = match read_history_early(alloc, history) {
         Ok(history) => history,
         Err(ReadFault::Syntax { line, .. }) => {
             return Ok(Verdict::Syntax {
@@ -82,7 +81,7 @@ fn verdict_on_streams<H: Read, C: Read>(
         Err(ReadFault::Device) => return Err(RunFault::ReadHistory),
         Err(ReadFault::Memory) => return Err(RunFault::Memory),
     };
-    let serial = match read_serial_from(alloc, certificate) {
+    let serial = match read_serial_early(alloc, certificate) {
         Ok(serial) => serial,
         Err(ReadFault::Syntax { line, .. }) => {
             return Ok(Verdict::Syntax {

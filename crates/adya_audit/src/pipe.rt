@@ -1,8 +1,8 @@
 //! The verdict on a history text and a certificate text in one stream.
 
 ghost use Rattle.std.specs.Prelude.{◌≡◌, ◌≢◌, ◌↔◌, false, true, IfOk, IfErr, IfSome, OnOk, IsErrOf};
-ghost use Rattle.std.specs.Io.KnownBytes.{Appends};
-ghost use Rattle.devices.specs.Meaning.Watched.{has_failed, watched_remaining, watched_contents};
+ghost use Rattle.devices.specs.Meaning.Watched.{has_failed, watched_remaining};
+ghost use Rattle.devices.specs.Meaning.Writing.{Grew};
 ghost use Rattle.adya_audit.specs.Meaning.Verdicts.{plain_verdict};
 ghost use Rattle.adya_audit.specs.Meaning.Output.{verdict_line};
 ghost use Rattle.adya_audit.specs.Meaning.TextVerdicts.{IsVerdictOnStream, IsAcceptedStream, IsSerializableStream};
@@ -31,8 +31,7 @@ pub fn run_pipe<R: Read, W: Write>(
         (λ stream. (v ≡ Verdict.Yes) ↔ IsAcceptedStream stream)) }
     ensures promise { IfOk result (λ v. IfSome (watched_remaining R.remaining input.old)
         (λ stream. v ≡ Verdict.Yes → IsSerializableStream stream)) }
-    ensures written { IfOk result (λ v. Appends (watched_contents W.contents out.old)
-        (watched_contents W.contents out.new) (verdict_line (plain_verdict v))) }
+    ensures written { IfOk result (λ v. Grew W.contents out.old out.new (verdict_line (plain_verdict v))) }
     ensures ended { OnOk result (has_failed input.new ≡ false) }
     ensures read_fault { IsErrOf result RunFault.ReadHistory → has_failed input.new ≡ true }
     ensures write_fault { IsErrOf result RunFault.Write → has_failed out.new ≡ true }

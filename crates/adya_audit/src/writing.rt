@@ -1,8 +1,6 @@
 //! Writing verdicts and edges.
 
-ghost use Rattle.std.specs.Prelude.{◌≡◌, ◌++◌, OnOk, IsErr, codes, decimal, true};
-ghost use Rattle.std.specs.Io.KnownBytes.{Appends};
-ghost use Rattle.devices.specs.Meaning.Watched.{has_failed, watched_contents};
+ghost use Rattle.std.specs.Prelude.{◌++◌, codes, decimal};
 ghost use Rattle.devices.specs.Meaning.Writing.{Wrote};
 ghost use Rattle.adya_line.specs.Meaning.Spelling.{version_text};
 ghost use Rattle.adya_dsg.specs.Meaning.Values.{kind_of, edge_of};
@@ -18,9 +16,7 @@ use std::io::Write;
 
 /// Writes the line of the verdict. `WriteFault` only if the writer fails or had failed before.
 pub fn write_verdict<W: Write>(verdict: &Verdict, out: &mut Watched<W>) -> Result<(), WriteFault>
-    ensures written { OnOk result (Appends (watched_contents W.contents out.old) (watched_contents W.contents out.new)
-        (verdict_line (plain_verdict verdict.now))) }
-    ensures fault { IsErr result → has_failed out.new ≡ true }
+    ensures { Wrote W.contents out.old out.new (verdict_line (plain_verdict verdict.now)) result }
 {
     put_verdict_line(verdict, out).map_err(|_| WriteFault)
 }
@@ -117,6 +113,13 @@ pub(crate) fn put_edge<W: Write>(edge: &Edge, out: &mut Watched<W>) -> io::Resul
     put(b" ", out)?;
     put(edge.key.bytes(), out)?;
     put(b" ", out)?;
+    put_ends(edge, out)
+}
+
+fn put_ends<W: Write>(edge: &Edge, out: &mut Watched<W>) -> io::Result<()>
+    ensures { Wrote W.contents out.old out.new
+        (decimal (edge_of edge.now).from ++ codes " " ++ decimal (edge_of edge.now).to) result }
+{
     put_number(u64::from(edge.from.get()), out)?;
     put(b" ", out)?;
     put_number(u64::from(edge.to.get()), out)

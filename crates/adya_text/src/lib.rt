@@ -17,5 +17,7 @@ pub use adya_line::{
 };
 pub use read_fault::{ReadFault, Text};
 pub use reading::{read_history, read_serial};
-pub use sources::{read_history_from, read_serial_from, read_texts_from};
+pub use sources::{
+    read_history_early, read_history_from, read_serial_early, read_serial_from, read_texts_from,
+};
 pub use writing::{WriteFault, write_history, write_serial};

@@ -32,6 +32,8 @@ pub(crate) struct LineBuffer {
     bytes: [u8; ROOM],
     start: usize,
     end: usize,
+    /// Whether the last line was given up before it ended.
+    is_cut: bool,
 }
 
 impl Model for LineBuffer {
@@ -53,6 +55,7 @@ impl LineBuffer {
             bytes: [0; ROOM],
             start: 0,
             end: 0,
+            is_cut: false,
         }
     }
 
@@ -136,12 +139,36 @@ impl LineBuffer {
                 return Ok(true);
             }
             if is_longer(line, longest) {
+                self.is_cut = true;
                 return Ok(false);
             }
             if !self.fill(source)? {
                 return Ok(false);
             }
         }
+    }
+
+    /// If the last line was given up before it ended, reads up to its line feed, or to the end of the input. Keeps
+    /// nothing of it. `Device` if the source failed.
+    pub(crate) fn pass_over<S: Source>(&mut self, source: &mut S) -> Result<(), LineFault>
+        ensures fault { IsErrOf result LineFault.Device → S.is_failed source.new ≡ true }
+        ensures memory { IsErrOf result LineFault.Memory → ⊥ }
+        ensures unfailed { (IsErrOf result LineFault.Device → ⊥) → S.is_failed source.new ≡ S.is_failed source.old }
+        ensures stream { S.same source.old source.new }
+    {
+        while self.is_cut {
+            let pending = &self.bytes[self.start..self.end];
+            if let Some(at) = memchr(b'\n', pending) {
+                self.start += at + 1;
+                self.is_cut = false;
+                return Ok(());
+            }
+            self.start = self.end;
+            if !self.fill(source)? {
+                return Ok(());
+            }
+        }
+        Ok(())
     }
 }
 

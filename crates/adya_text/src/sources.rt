@@ -20,11 +20,56 @@ use devices::Source;
 use std::alloc::Global;
 
 /// Reads the text of a history from all that the source has left. It keeps one line and the history so far. It reads to
-/// the end of the input, and stops earlier only at a line that is a syntax fault. A first line of more than 6 bytes is
-/// refused before it ends, and so is a line after `end`; other lines may have any length. Returns `Syntax` exactly if
-/// the bytes are the text of no history, with the line of the fault as [`read_history`](crate::read_history) returns
-/// it; `Device` if the source failed, `Memory` if memory ran out.
+/// the end of the input, and stops earlier only after a line that is a syntax fault. Of a first line that has more than 6
+/// bytes, and of a line after `end`, it keeps at most 8198; other lines may have any length. Returns `Syntax`
+/// exactly if the bytes are the text of no history, with the line of the fault as [`read_history`](crate::read_history)
+/// returns it; `Device` if the source failed, `Memory` if memory ran out.
 pub fn read_history_from<S: Source>(alloc: Global, source: &mut S) -> Result<History, ReadFault>
+    ensures answer { IfSome (S.remaining source.old) (λ text. ReadsHistory text result) }
+    ensures only { (h : Plain) → IsHistory h → S.remaining source.old ≡ Some (history_text h) →
+        MatchResult result (λ v. history_of v ≡ h) (λ e. (e ≡ ReadFault.Device) ⊎ (e ≡ ReadFault.Memory)) }
+    ensures ended { OnOk result (IsAtEnd (S.remaining source.new)) }
+    ensures fault { IsErrOf result ReadFault.Device → S.is_failed source.new ≡ true }
+    ensures unfailed { (IsErrOf result ReadFault.Device → ⊥) → S.is_failed source.new ≡ S.is_failed source.old }
+    ensures works { IsOfText result → S.is_failed source.new ≡ false }
+    ensures stream { S.same source.old source.new }
+{
+    history_lines();
+    let mut buffer = LineBuffer::new();
+    let read = read_rest(alloc, HistoryReader::new(alloc), &mut buffer, source);
+    if read.is_err() {
+        buffer.pass_over(source)?;
+    }
+    read
+}
+
+/// Reads the text of a certificate from all that the source has left. It keeps one line and the certificate so far. It
+/// reads to the end of the input, and stops earlier only after a line that is a syntax fault. Of a first line that has
+/// more than 8 bytes, of a later one that has more than 10, and of a line after `end`, it keeps at most 8202.
+/// Returns `Syntax` exactly if the bytes are the text of no certificate, with the line of the fault as
+/// [`read_serial`](crate::read_serial) returns it; `Device` if the source failed, `Memory` if memory ran out.
+pub fn read_serial_from<S: Source>(alloc: Global, source: &mut S) -> Result<Serial, ReadFault>
+    ensures answer { IfSome (S.remaining source.old) (λ text. ReadsSerial text result) }
+    ensures only { (ts : List ℕ) → IsSerial ts → S.remaining source.old ≡ Some (serial_text ts) →
+        MatchResult result (λ v. serial_txns v ≡ ts) (λ e. (e ≡ ReadFault.Device) ⊎ (e ≡ ReadFault.Memory)) }
+    ensures ended { OnOk result (IsAtEnd (S.remaining source.new)) }
+    ensures fault { IsErrOf result ReadFault.Device → S.is_failed source.new ≡ true }
+    ensures unfailed { (IsErrOf result ReadFault.Device → ⊥) → S.is_failed source.new ≡ S.is_failed source.old }
+    ensures works { IsOfText result → S.is_failed source.new ≡ false }
+    ensures stream { S.same source.old source.new }
+{
+    serial_lines();
+    let mut buffer = LineBuffer::new();
+    let read = read_rest(alloc, SerialReader::new(alloc), &mut buffer, source);
+    if read.is_err() {
+        buffer.pass_over(source)?;
+    }
+    read
+}
+
+/// Reads the text of a history as [`read_history_from`] does, but reads no further than it needs: a first line of more
+/// than 6 bytes is refused before it ends, and so is a line after `end`.
+pub fn read_history_early<S: Source>(alloc: Global, source: &mut S) -> Result<History, ReadFault>
     ensures answer { IfSome (S.remaining source.old) (λ text. ReadsHistory text result) }
     ensures only { (h : Plain) → IsHistory h → S.remaining source.old ≡ Some (history_text h) →
         MatchResult result (λ v. history_of v ≡ h) (λ e. (e ≡ ReadFault.Device) ⊎ (e ≡ ReadFault.Memory)) }
@@ -39,12 +84,9 @@ pub fn read_history_from<S: Source>(alloc: Global, source: &mut S) -> Result<His
     read_rest(alloc, HistoryReader::new(alloc), &mut buffer, source)
 }
 
-/// Reads the text of a certificate from all that the source has left. It keeps one line and the certificate so far. It
-/// reads to the end of the input, and stops earlier only at a line that is a syntax fault. A first line of more than 8
-/// bytes is refused before it ends, and so are a later one of more than 10 and a line after `end`. Returns `Syntax`
-/// exactly if the bytes are the text of no certificate, with the line of the fault as
-/// [`read_serial`](crate::read_serial) returns it; `Device` if the source failed, `Memory` if memory ran out.
-pub fn read_serial_from<S: Source>(alloc: Global, source: &mut S) -> Result<Serial, ReadFault>
+/// Reads the text of a certificate as [`read_serial_from`] does, but reads no further than it needs: a first line of more
+/// than 8 bytes is refused before it ends, and so are a later one of more than 10 and a line after `end`.
+pub fn read_serial_early<S: Source>(alloc: Global, source: &mut S) -> Result<Serial, ReadFault>
     ensures answer { IfSome (S.remaining source.old) (λ text. ReadsSerial text result) }
     ensures only { (ts : List ℕ) → IsSerial ts → S.remaining source.old ≡ Some (serial_text ts) →
         MatchResult result (λ v. serial_txns v ≡ ts) (λ e. (e ≡ ReadFault.Device) ⊎ (e ≡ ReadFault.Memory)) }
@@ -62,7 +104,7 @@ pub fn read_serial_from<S: Source>(alloc: Global, source: &mut S) -> Result<Seri
 /// Reads the two texts of one stream: a history's, up to and with the first line `end`, and then a certificate's, to
 /// the end of the input. If there is no line `end`, all of the stream is the history's. It keeps one line and what the
 /// lines before it say, and stops before the end of the input only at a line that is a syntax fault; lines that are too
-/// long are refused before they end, as [`read_history_from`] and [`read_serial_from`] do. Returns `Syntax` for the
+/// long are refused before they end, as [`read_history_early`] and [`read_serial_early`] do. Returns `Syntax` for the
 /// first text as the one does, or else for the second as the other does; `Device` if the source failed, `Memory` if
 /// memory ran out.
 pub fn read_texts_from<S: Source>(
@@ -84,7 +126,7 @@ pub fn read_texts_from<S: Source>(
 
 /// Reads the first text of a stream: the history's, up to and with the first line `end`, or all if there is no such line.
 /// The stream is what `buffer` holds and then what the source has left; on `Ok` they hold what follows. After a fault
-/// nothing is said of what they hold. Faults are those of [`read_history_from`].
+/// nothing is said of what they hold. Faults are those of [`read_history_early`].
 fn read_history_part<S: Source>(
     alloc: Global,
     buffer: &mut LineBuffer,
@@ -114,7 +156,7 @@ fn read_history_part<S: Source>(
 }
 
 /// Reads the text of a certificate from what `buffer` holds and then all that the source has left: the second text of a
-/// stream, after [`read_history_part`]. Otherwise it does as [`read_serial_from`].
+/// stream, after [`read_history_part`]. Otherwise it does as [`read_serial_early`].
 fn read_serial_rest<S: Source>(
     alloc: Global,
     buffer: &mut LineBuffer,

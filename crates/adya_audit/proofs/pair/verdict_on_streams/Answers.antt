@@ -4,8 +4,8 @@ use Rattle.adya_audit.proofs.pair.verdict_on_streams.Goals as goal
 
 pub returns-clause-verdict : goal.returns-clause-verdict
 returns-clause-verdict g c =
-    verdict_on_two _ _ c.in-Ok.history c.in-Ok-read_serial_from.serial _
-    c.in-Ok.ensures.answer c.in-Ok-read_serial_from.ensures.answer c.in_ok-audit.ensures.verdict
+    verdict_on_two _ _ c.in-Ok.history c.in-Ok-read_serial_early.serial _
+    c.in-Ok.ensures.answer c.in-Ok-read_serial_early.ensures.answer c.in_ok-audit.ensures.verdict
 
 pub returns-in-Err-Syntax-clause-history_syntax : goal.returns-in-Err-Syntax-clause-history_syntax
 returns-in-Err-Syntax-clause-history_syntax g c =
@@ -13,12 +13,12 @@ returns-in-Err-Syntax-clause-history_syntax g c =
     (fault_named c.fault_lines.ensures.one_of_history _ c.in-Err-Syntax.field-0-0 c.in-Err-Syntax.line
     (rw c.in-Err-Syntax.field-0-is at c.in-Err-Syntax.ensures.answer))
 
-pub returns-in-Err-Syntax-read_serial_from-clause-history_syntax :
-    goal.returns-in-Err-Syntax-read_serial_from-clause-history_syntax
-returns-in-Err-Syntax-read_serial_from-clause-history_syntax g c =
+pub returns-in-Err-Syntax-read_serial_early-clause-history_syntax :
+    goal.returns-in-Err-Syntax-read_serial_early-clause-history_syntax
+returns-in-Err-Syntax-read_serial_early-clause-history_syntax g c =
     none_named c.fault_lines.ensures.none_of_history _ c.in-Ok.history _ c.in-Ok.ensures.answer (λ k e. absurd (cc (e)))
 
 pub returns-clause-history_syntax : goal.returns-clause-history_syntax
 returns-clause-history_syntax g c =
-    verdict_names_none c.fault_lines.ensures.none_of_history _ c.in-Ok.history c.in-Ok-read_serial_from.serial.txns.items
+    verdict_names_none c.fault_lines.ensures.none_of_history _ c.in-Ok.history c.in-Ok-read_serial_early.serial.txns.items
     _ c.in-Ok.ensures.answer c.in_ok-audit.ensures.verdict

@@ -13,4 +13,4 @@ pub returns-in-IntermediateRead : goal.returns-in-IntermediateRead
 returns-in-IntermediateRead g c = rw c.in-IntermediateRead.is c.put_read-in-IntermediateRead.ensures
 
 pub returns-in-NotTheCommitted : goal.returns-in-NotTheCommitted
-returns-in-NotTheCommitted g c = rw c.in-NotTheCommitted.is c.put-in-NotTheCommitted.ensures
+returns-in-NotTheCommitted g c = rw c.in-NotTheCommitted.is c.put-in-NotTheCommitted.ensures.wrote

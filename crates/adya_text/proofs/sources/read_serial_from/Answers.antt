@@ -5,9 +5,16 @@ use Rattle.adya_text.proofs.TextLaws.{only_serial}
 use Rattle.adya_text.proofs.LinesRead.{of_known}
 use Rattle.adya_text.proofs.sources.read_serial_from.Goals as goal
 
-pub returns-clause-only : goal.returns-clause-only
-returns-clause-only g c = λ value is known.
+pub returns-in_ok-pass_over-clause-only : goal.returns-in_ok-pass_over-clause-only
+returns-in_ok-pass_over-clause-only g c = λ value is known.
     let laws = c.serial_lines.ensures in
-    let reads = of_known _ _ (serial_text value) (λ text. ReadsSerial text c.read_rest.result) c.new-buffer.ensures
-    known c.read_rest.ensures.answer in
-    only_serial laws.one_text laws.no_line_feed (serial_text value) c.read_rest.result reads value is refl
+    let reads = of_known _ _ (serial_text value) (λ text. ReadsSerial text c.read_rest-read.result) c.new-buffer.ensures
+    known c.read_rest-read.ensures.answer in
+    only_serial laws.one_text laws.no_line_feed (serial_text value) c.read_rest-read.result reads value is refl
+
+pub returns-else-is_err-clause-only : goal.returns-else-is_err-clause-only
+returns-else-is_err-clause-only g c = λ value is known.
+    let laws = c.serial_lines.ensures in
+    let reads = of_known _ _ (serial_text value) (λ text. ReadsSerial text c.read_rest-read.result) c.new-buffer.ensures
+    known c.read_rest-read.ensures.answer in
+    only_serial laws.one_text laws.no_line_feed (serial_text value) c.read_rest-read.result reads value is refl

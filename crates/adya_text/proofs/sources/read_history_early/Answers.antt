@@ -1,0 +1,13 @@
+use Rattle.std.proofs.Common.{refl}
+use Rattle.adya_text.specs.Meaning.Texts.{history_text}
+use Rattle.adya_text.specs.Meaning.Reading.{ReadsHistory}
+use Rattle.adya_text.proofs.TextLaws.{only_history}
+use Rattle.adya_text.proofs.LinesRead.{of_known}
+use Rattle.adya_text.proofs.sources.read_history_early.Goals as goal
+
+pub returns-clause-only : goal.returns-clause-only
+returns-clause-only g c = λ value is known.
+    let laws = c.history_lines.ensures in
+    let reads = of_known _ _ (history_text value) (λ text. ReadsHistory text c.read_rest.result) c.new-buffer.ensures
+    known c.read_rest.ensures.answer in
+    only_history laws.one_text laws.no_line_feed (history_text value) c.read_rest.result reads value is refl
