@@ -8,12 +8,12 @@ ghost use Rattle.adya_audit.specs.Meaning.TextVerdicts.{AreAccepted};
 ghost use Rattle.ssi_store.specs.Meaning.Finished.{recorded_in};
 ghost use Rattle.ssi_certify.specs.Meaning.Laws.{IsSafeHistory};
 
+use crate::laws::safe_histories_have_no_cycle;
 use adya_audit::laws::accepted_have_texts;
 use adya_dsg::{Found, order};
 use adya_terms::{CheckFault, Checked};
 use adya_text::laws::history_has_text;
 use adya_values::{History, Serial};
-use snapshot_histories::laws::safe_histories_have_no_cycle;
 use ssi_store::Finished;
 use std::alloc::{AllocError, Global};
 

@@ -3,7 +3,7 @@
 ghost use Rattle.ssi_certify.specs.Meaning.Laws.{SafeHistoriesAreAccepted};
 
 use adya_dsg::certified_where_no_phenomenon;
-use snapshot_histories::laws::safe_histories_have_no_cycle;
+pub use snapshot_histories::laws::{cycles_are_dangerous, safe_histories_have_no_cycle};
 
 /// A checked snapshot history without a dangerous structure is accepted with some certificate. So it is serializable
 /// (Fekete, Liarokapis, O'Neil, O'Neil and Shasha 2005).
