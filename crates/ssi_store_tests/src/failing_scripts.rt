@@ -1,5 +1,7 @@
 //! Scripts over devices that fail. However the lines end, both texts are written.
 
+ghost use Rattle.std.specs.Prelude.{◌<◌};
+
 use crate::faults::{Fault, Writer, split_after, watched_reader, watched_writer, whole_lines};
 use crate::texts::verdict_on;
 use crate::worked::Worked;
@@ -58,9 +60,16 @@ struct Made<'a> {
     certificate: FailsAt<Writer>,
 }
 
-/// Runs the commands as a script.
+/// Runs the commands as a script in pieces of 7 bytes.
 fn run(alloc: Global, commands: &[u8], faults: Faults) -> Made<'_> {
-    let mut input = watched_reader(commands, faults.input);
+    run_in(alloc, commands, 7, faults)
+}
+
+/// Runs the commands as a script in pieces of at most `most` bytes.
+fn run_in(alloc: Global, commands: &[u8], most: usize, faults: Faults) -> Made<'_>
+    requires { 0 < most }
+{
+    let mut input = watched_reader(commands, most, faults.input);
     let mut output = watched_writer(alloc, faults.output);
     let mut history = watched_writer(alloc, faults.history);
     let mut certificate = watched_writer(alloc, faults.certificate);
@@ -134,7 +143,8 @@ pub(crate) fn is_as_worked(alloc: Global, worked: &Worked) -> bool {
         && made.is_accepted(alloc)
 }
 
-/// Whether the run in which this call of the device fails, and nothing else, makes what it must make.
+/// Whether the run in which this call of the device fails, and nothing else, makes what it must make; for a device that
+/// isn't the input, also where all lines come at once.
 pub(crate) fn is_as_defined(
     alloc: Global,
     worked: &Worked,
@@ -144,12 +154,27 @@ pub(crate) fn is_as_defined(
 ) -> bool {
     let faults = Faults::of(device, Fault::At(call, kind));
     let made = run(alloc, &worked.commands, faults);
+    let is_so = is_made_as_defined(alloc, worked, device, call, &made);
+    if device == Device::Input {
+        return is_so;
+    }
+    let whole = run_in(alloc, &worked.commands, usize::MAX, faults);
+    is_so && is_made_as_defined(alloc, worked, device, call, &whole)
+}
+
+fn is_made_as_defined(
+    alloc: Global,
+    worked: &Worked,
+    device: Device,
+    call: u64,
+    made: &Made<'_>,
+) -> bool {
     made.calls(device) == call
         && match device {
-            Device::Input => is_read_fault(alloc, worked, &made),
-            Device::Output => is_write_fault(alloc, worked, &made),
-            Device::History => is_history_fault(worked, &made),
-            Device::Certificate => is_certificate_fault(worked, &made),
+            Device::Input => is_read_fault(alloc, worked, made),
+            Device::Output => is_write_fault(alloc, worked, made),
+            Device::History => is_history_fault(worked, made),
+            Device::Certificate => is_certificate_fault(worked, made),
         }
 }
 

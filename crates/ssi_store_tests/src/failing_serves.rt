@@ -15,7 +15,7 @@ use std::alloc::Global;
 /// read whole isn't carried out. Nothing if no read has failed.
 pub(crate) fn after_read(alloc: Global, worked: &Worked, fault: Fault) -> Option<bool> {
     let mut store = new_store(alloc);
-    let mut input = watched_reader(&worked.commands, fault);
+    let mut input = watched_reader(&worked.commands, 7, fault);
     let mut output = Watched::new(Vec::new(alloc));
     let end = serve(alloc, &mut input, &mut output, &mut store);
     if !input.failed() && end == End::Eof {
@@ -32,10 +32,23 @@ pub(crate) fn after_read(alloc: Global, worked: &Worked, fault: Fault) -> Option
 }
 
 /// Whether a store goes on after the write that fails so: the command whose reply failed took effect. Nothing if no write
-/// has failed.
+/// has failed. The lines that were read together with it didn't.
 pub(crate) fn after_write(alloc: Global, worked: &Worked, fault: Fault) -> Option<bool> {
+    let in_pieces = after_write_in(alloc, worked, fault, 7);
+    let whole = after_write_in(alloc, worked, fault, usize::MAX);
+    if in_pieces == whole {
+        whole
+    } else {
+        Some(false)
+    }
+}
+
+/// The same for an input in pieces of at most `most` bytes.
+fn after_write_in(alloc: Global, worked: &Worked, fault: Fault, most: usize) -> Option<bool>
+    requires { 0 < most }
+{
     let mut store = new_store(alloc);
-    let mut input = Watched::new(Pieces::new(&worked.commands, 7));
+    let mut input = Watched::new(Pieces::new(&worked.commands, most));
     let mut output = watched_writer(alloc, fault);
     let end = serve(alloc, &mut input, &mut output, &mut store);
     if !output.failed() && end == End::Eof {

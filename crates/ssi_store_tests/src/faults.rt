@@ -1,5 +1,7 @@
 //! Readers and writers that fail, and the parts of a text that a fault leaves.
 
+ghost use Rattle.std.specs.Prelude.{◌<◌};
+
 use adya_testing::{FailsAt, Narrow, Pieces};
 use devices::Watched;
 use std::alloc::Global;
@@ -68,9 +70,11 @@ impl Write for Writer {
     }
 }
 
-/// Makes a reader of the text in pieces of 7 bytes that fails so.
-pub(crate) fn watched_reader(text: &[u8], fault: Fault) -> Watched<FailsAt<Pieces<'_>>> {
-    Watched::new(FailsAt::new(Pieces::new(text, 7), fault.call(), fault.kind()))
+/// Makes a reader of the text in pieces of at most `most` bytes that fails so.
+pub(crate) fn watched_reader(text: &[u8], most: usize, fault: Fault) -> Watched<FailsAt<Pieces<'_>>>
+    requires { 0 < most }
+{
+    Watched::new(FailsAt::new(Pieces::new(text, most), fault.call(), fault.kind()))
 }
 
 /// Makes a writer that takes a byte a call and fails so.

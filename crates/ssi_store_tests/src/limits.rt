@@ -2,9 +2,10 @@
 
 use crate::courses::over_all;
 use crate::runs::After;
+use crate::scripts::of_script;
 use crate::texts::are_accepted;
 use adya_values::Txn;
-use std::alloc::Global;
+use std::alloc::{AllocError, Global};
 
 /// Whether 65,535 operations of one transaction are carried out, no other one is, and it can still commit.
 pub(crate) fn longest_transaction(alloc: Global) -> bool {
@@ -24,6 +25,43 @@ pub(crate) fn longest_transaction(alloc: Global) -> bool {
     ) == Some(true)
 }
 
+/// Whether each of 65,535 operations that come as lines is answered, and no other one is carried out.
+pub(crate) fn longest_script(alloc: Global) -> bool {
+    let (Ok(script), Ok(replies)) = (longest(alloc), longest_replies(alloc)) else {
+        return false;
+    };
+    of_script(alloc, &script).is_some_and(|written| written.replies == replies)
+}
+
+fn longest(alloc: Global) -> Result<Vec<u8>, AllocError> {
+    repeated(
+        alloc,
+        b"begin A\n",
+        b"get A x\n",
+        b"get A x\nput A x 1\ncommit A\n",
+    )
+}
+
+fn longest_replies(alloc: Global) -> Result<Vec<u8>, AllocError> {
+    repeated(
+        alloc,
+        b"begun 1\n",
+        b"absent\n",
+        b"! 4 long\n! 4 long\ncommitted\n",
+    )
+}
+
+/// Returns a text with 65,535 times the second part.
+fn repeated(alloc: Global, first: &[u8], part: &[u8], last: &[u8]) -> Result<Vec<u8>, AllocError> {
+    let mut text = Vec::new(alloc);
+    text.extend_from_slice(first)?;
+    for _ in 0..65_535 {
+        text.extend_from_slice(part)?;
+    }
+    text.extend_from_slice(last)?;
+    Ok(text)
+}
+
 /// Whether the transaction of the greatest number is carried out, and no other one is begun.
 pub(crate) fn last_transaction(alloc: Global) -> bool {
     are_last_replies(
@@ -31,7 +69,7 @@ pub(crate) fn last_transaction(alloc: Global) -> bool {
         4_294_967_295,
         0,
         &["begin A", "begin B", "commit A", "begin A", "stat"],
-        "! 1 busy\n! 5 spent\ncommitted\n! 5 spent\nstat open 0 kept 0 versions 0 keys 0\n",
+        "begun 4294967295\n! 1 busy\n! 5 spent\ncommitted\n! 5 spent\nstat open 0 kept 0 versions 0 keys 0\n",
     ) == Some(true)
 }
 

@@ -76,6 +76,7 @@ fn write_limits(rt: &HostRuntime) -> io::Result<()> {
         "longest transaction",
         limits::longest_transaction(alloc),
     )?;
+    write_line(rt, "longest script", limits::longest_script(alloc))?;
     write_line(rt, "last transaction", limits::last_transaction(alloc))
 }
 
@@ -85,6 +86,11 @@ fn write_scripts(rt: &HostRuntime) -> io::Result<()> {
         rt,
         "lines of any length",
         scripts::are_lines_told_apart(alloc),
+    )?;
+    write_line(
+        rt,
+        "rest of any length",
+        scripts::is_long_rest_passed_over(alloc),
     )?;
     write_line(rt, "second input", scripts::are_sessions_the_stores(alloc))?;
     write_line(rt, "socket", scripts::are_peers_answered(rt)?)?;

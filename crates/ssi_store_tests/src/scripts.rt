@@ -2,13 +2,12 @@
 
 ghost use Rattle.std.specs.Prelude.{◌<◌};
 
+use crate::answers::{answers_over_all, new_store};
+use crate::texts::{are_accepted, texts_of};
 use adya_testing::Pieces;
 use devices::Watched;
 use ssi_cli::{Served, run_script, run_socket, serve_socket};
 use ssi_line::{End, serve};
-use ssi_reads::IndexMarks;
-use ssi_store::Store;
-use ssi_versions::KeyChains;
 use std::alloc::{AllocError, Global};
 use std::io::{Read, Write};
 use std::os::unix::net::{UnixListener, UnixStream};
@@ -56,11 +55,27 @@ fn is_stopped(end: End) -> Option<bool> {
     }
 }
 
-/// Returns what the script makes; nothing if it isn't the same in pieces of 1, of 7 and of all bytes.
+/// Returns what the script makes; nothing if it isn't the same in pieces of 1, of 7 and of all bytes, and over each pair of
+/// representations.
 pub(crate) fn of_script(alloc: Global, script: &[u8]) -> Option<Written> {
     let whole = in_pieces(alloc, script, usize::MAX)?;
-    let are_same = whole == in_pieces(alloc, script, 1)? && whole == in_pieces(alloc, script, 7)?;
+    let are_same = whole == in_pieces(alloc, script, 1)?
+        && whole == in_pieces(alloc, script, 7)?
+        && whole == over_all_pairs(alloc, script)?;
     if are_same { Some(whole) } else { None }
+}
+
+fn over_all_pairs(alloc: Global, script: &[u8]) -> Option<Written> {
+    let answers = answers_over_all(alloc, script)?;
+    if !are_accepted(&answers.texts) {
+        return None;
+    }
+    Some(Written {
+        is_stopped: is_stopped(answers.end)?,
+        replies: answers.replies,
+        history: answers.texts.history,
+        certificate: answers.texts.certificate,
+    })
 }
 
 /// Whether the longest line is read, a longer one is passed over, and what follows the last line feed is no line.
@@ -93,9 +108,31 @@ fn push_line(script: &mut Vec<u8>, length: u32) -> Result<(), AllocError> {
     Ok(())
 }
 
+/// Whether a line that is too long and has no line feed, at the end of the input, has no reply.
+pub(crate) fn is_long_rest_passed_over(alloc: Global) -> bool {
+    let Ok(script) = long_rest(alloc) else {
+        return false;
+    };
+    let Some(written) = of_script(alloc, &script) else {
+        return false;
+    };
+    !written.is_stopped
+        && written.replies.as_slice() == b"begun 1\n".as_slice()
+        && written.history.as_slice() == b"adya 1\na1\nend\n".as_slice()
+        && written.certificate.as_slice() == b"serial 1\nend\n".as_slice()
+}
+
+fn long_rest(alloc: Global) -> Result<Vec<u8>, AllocError> {
+    let mut script = Vec::new(alloc);
+    script.extend_from_slice(b"begin A\n")?;
+    push_line(&mut script, 10_000)?;
+    script.pop();
+    Ok(script)
+}
+
 /// Whether a session outlives the input in which it began, and a command without its line feed isn't carried out.
 pub(crate) fn are_sessions_the_stores(alloc: Global) -> bool {
-    let mut store = Store::new(alloc, KeyChains::new(alloc), IndexMarks::new(alloc));
+    let mut store = new_store(alloc);
     let mut first = Watched::new(Pieces::new(b"begin A\nput A x 1\nput A x", 7));
     let mut second = Watched::new(Pieces::new(b"commit A\nstop\nbegin A\n", 7));
     let mut output = Watched::new(Vec::new(alloc));
@@ -103,8 +140,17 @@ pub(crate) fn are_sessions_the_stores(alloc: Global) -> bool {
         serve(alloc, &mut first, &mut output, &mut store),
         serve(alloc, &mut second, &mut output, &mut store),
     );
+    let Ok(finished) = store.finish() else {
+        return false;
+    };
+    let Some(texts) = texts_of(alloc, &finished) else {
+        return false;
+    };
     ends == (End::Eof, End::Stop)
         && output.into_inner().as_slice() == b"begun 1\ndone\ncommitted\nstopped\n".as_slice()
+        && texts.history.as_slice() == b"adya 1\nw1(x.1:1,1)\nc1\n[x:1]\n{x,1}\nend\n".as_slice()
+        && texts.certificate.as_slice() == b"serial 1\n1\nend\n".as_slice()
+        && are_accepted(&texts)
 }
 
 /// Returns a socket, and a peer that has written these lines to it.
@@ -120,7 +166,7 @@ fn peer_with(rt: &HostRuntime, lines: &[u8]) -> io::Result<(UnixListener, UnixSt
 pub(crate) fn are_peers_answered(rt: &HostRuntime) -> io::Result<bool> {
     let (listener, mut peer) = peer_with(rt, b"begin A\ncommit A\nstop\n")?;
     let alloc = rt.alloc();
-    let mut store = Store::new(alloc, KeyChains::new(alloc), IndexMarks::new(alloc));
+    let mut store = new_store(alloc);
     if serve_socket(alloc, &listener, &mut store) != Served::Stopped {
         return Ok(false);
     }

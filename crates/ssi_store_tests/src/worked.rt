@@ -68,7 +68,7 @@ fn of_course(alloc: Global, lines: &[&str], after: After, worked: &Worked) -> &'
     let Some(outcome) = over_all(alloc, first, lines, after) else {
         return "no outcome";
     };
-    if !are_said(&outcome.replies, after, &worked.replies) {
+    if outcome.replies != worked.replies {
         return "other replies";
     }
     said_of_texts(&outcome, worked)
@@ -102,29 +102,4 @@ fn said_of_texts(outcome: &Outcome, worked: &Worked) -> &'static str {
         return "not accepted";
     }
     "as worked"
-}
-
-/// Whether the replies are the wanted ones. After collections the counts of versions may be others.
-fn are_said(replies: &[u8], after: After, wanted: &[u8]) -> bool {
-    match after {
-        After::Collect => are_alike_but_for_counts(text(replies), text(wanted)),
-        _ => replies == wanted,
-    }
-}
-
-fn are_alike_but_for_counts(replies: &str, wanted: &str) -> bool {
-    let mut wanted = wanted.lines();
-    for reply in replies.lines() {
-        let Some(line) = wanted.next() else {
-            return false;
-        };
-        if reply != line && !(are_counts(reply) && are_counts(line)) {
-            return false;
-        }
-    }
-    wanted.next().is_none()
-}
-
-fn are_counts(reply: &str) -> bool {
-    reply.starts_with("kept ") || reply.starts_with("stat ")
 }
