@@ -32,7 +32,7 @@ while read -r history; do
     check "stream $example" "$example/verdict" yes "$got" "$?"
     got=$("$ssi" order "$example/history")
     check "order $example" "$example/order" 'serial 1' "$got" "$?"
-done < <(find examples -path examples/store -prune -o -name history -print | sort)
+done < <(find examples \( -path examples/store -o -path examples/isolation \) -prune -o -name history -print | sort)
 
 same() { # name; file with the wanted text; file with the actual one
     if cmp -s "$2" "$3"; then
@@ -57,14 +57,14 @@ while read -r history; do
     fi
     python3 "$work/arrows" "$work/page" >"$work/found"
     same "picture of $example" <(echo "well-formed $(($(wc -l <"$work/explanation") - 1))") "$work/found"
-done < <(find examples -path examples/store -prune -o -name history -print | sort)
+done < <(find examples \( -path examples/store -o -path examples/isolation \) -prune -o -name history -print | sort)
 
 tools/explain.py --program "$ssi" --picture "$work/skew.svg" examples/write-skew/history >"$work/explanation"
 same 'the picture in README' docs/write-skew.svg "$work/skew.svg"
 
 # Each script runs in a new folder, where it leaves its two files. What `dump` replied is audited too.
 echo yes >"$work/yes"
-for example in examples/store/*/; do
+for example in examples/store/*/ examples/isolation/*/; do
     example=${example%/}
     out=$work/$(basename "$example")
     mkdir "$out"

@@ -267,4 +267,5 @@ def main():
     print(summary % (version, o.level, recording.begun, committed), file=sys.stderr)
 
 
-main()
+if __name__ == "__main__":
+    main()
