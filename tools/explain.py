@@ -57,15 +57,22 @@ class Explainer:
     def writes(self, place):
         return "deletes" if self.events[place].write[1] is None else "writes"
 
+    def alone(self, key):
+        """The history with the order of this key alone, and the writes of it."""
+        history = reference.History()
+        history.events = [e for e in self.events if e.write and e.write[0][0] == key]
+        history.orders = [order for order in self.history.orders if order[0] == key]
+        return history
+
     def place_that_gives(self, edge):
         """The place of the first event that makes the edge, the transactions of the key's versions, and which of them the
         event selects: 0 if none."""
         start, kind, key, end = edge
+        history = self.alone(key)
         for at, e in enumerate(self.events):
-            if e.txn == (start if kind == "rw" else end) and edge in reference.event_edges(self.history, e):
-                for selected, txns, place in reference.selections(self.history, e):
-                    if selected == key:
-                        return at, txns, place
+            if e.txn == (start if kind == "rw" else end) and edge in reference.event_edges(history, e):
+                _, txns, place = next(reference.selections(history, e))
+                return at, txns, place
         raise ValueError("no event makes %s" % reference.told(edge))
 
     def seen(self, at, key, txns, place):
