@@ -66,7 +66,7 @@ same 'the picture in README' docs/write-skew.svg "$work/skew.svg"
 echo yes >"$work/yes"
 for example in examples/store/*/ examples/isolation/*/; do
     example=${example%/}
-    out=$work/$(basename "$example")
+    out=$work/${example//\//_}
     mkdir "$out"
     "$ssi" script "$out/history" "$out/certificate" <"$example/commands" >"$out/replies"
     echo "$?" >"$out/status"
