@@ -2,12 +2,11 @@
 use Rattle.std.proofs.Common.{◌≡◌, ◌↔◌, ℕ, Bool, true, false, cond, List, Option, Some, None, Result, Ok, Err, IfOk}
 use Rattle.std.proofs.Common.{refl, sym, ◌∙◌, ap}
 use Rattle.std.specs.declared.alloc.AllocError.{AllocError}
-use Rattle.adya_values.specs.declared.fault.CheckFault.{CheckFault}
-use Rattle.adya_values.specs.declared.fault.CheckFault.TheVariants as Checked
+use Rattle.adya_values.specs.Computing.Faults as faults
 use Rattle.adya_values.specs.Meaning.Histories.{History}
 use Rattle.adya_values.specs.Computing.Shapes.{is_shape}
 use Rattle.adya_values.specs.Meaning.Edges.{Edge}
-use Rattle.adya_values.specs.Computing.Faults.{first_fault}
+use Rattle.adya_values.specs.Computing.Faults.{Fault, first_fault}
 use Rattle.adya_values.specs.Computing.Certificates.{lists_the_committed, first_backward}
 use Rattle.adya_values.specs.Meaning.Acceptance.{IsAccepted}
 use Rattle.adya_rules.specs.Meaning.Laws.{CheckedIfNoFault, CheckedWhereNoFault}
@@ -23,12 +22,11 @@ certificate_yes true None e = (refl, refl)
 certificate_yes true (Some x) e = absurd (cc (e))
 certificate_yes false o e = absurd (cc (e))
 
-fault_yes : (f : Option CheckFault) (v : Verdict) → fault_verdict f v ≡ Yes → (f ≡ None) × (v ≡ Yes)
+fault_yes : (f : Option Fault) (v : Verdict) → fault_verdict f v ≡ Yes → (f ≡ None) × (v ≡ Yes)
 fault_yes None v e = (refl, e)
-fault_yes (Some (Checked.Malformed line rule)) v e = absurd (cc (e))
-fault_yes (Some (Checked.AbortedRead line version)) v e = absurd (cc (e))
-fault_yes (Some (Checked.IntermediateRead line version)) v e = absurd (cc (e))
-fault_yes (Some Checked.Memory) v e = absurd (cc (e))
+fault_yes (Some (faults.Malformed line rule)) v e = absurd (cc (e))
+fault_yes (Some (faults.AbortedRead line version)) v e = absurd (cc (e))
+fault_yes (Some (faults.IntermediateRead line version)) v e = absurd (cc (e))
 
 module _ (h : History) (ts : List ℕ) (forward : AcceptedWhereForward) where
   accepted_from_yes : CheckedIfNoFault → verdict_of h ts ≡ Yes → IsAccepted h ts

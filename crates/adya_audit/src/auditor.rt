@@ -3,8 +3,9 @@
 ghost use Rattle.std.specs.Prelude.{◌≡◌, ◌↔◌, IfOk};
 ghost use Rattle.adya_values.specs.Meaning.Values.{history_of, serial_txns};
 ghost use Rattle.adya_values.specs.Meaning.Acceptance.{IsAccepted};
-ghost use Rattle.adya_audit.specs.Meaning.Verdicts.{plain_verdict, Refuses, verdict_of};
+ghost use Rattle.adya_audit.specs.Meaning.Verdicts.{plain_verdict, verdict_of};
 ghost use Rattle.adya_audit.specs.Meaning.Laws.{IsSerializableBy};
+ghost use Rattle.adya_audit.specs.Machinery.Refusals.{Refuses};
 
 use crate::Verdict;
 use crate::judge::judge;

@@ -5,12 +5,12 @@ use Rattle.adya_values.specs.declared.fault.CheckFault.TheVariants.{Malformed, A
 use Rattle.adya_values.specs.Meaning.Histories.{History}
 use Rattle.adya_values.specs.Computing.Shapes.{is_shape}
 use Rattle.adya_values.specs.Meaning.Acceptance.{IsChecked}
-use Rattle.adya_values.specs.Computing.Faults.{first_fault}
+use Rattle.adya_values.specs.Computing.Faults.{Fault, first_fault}
 use Rattle.adya_terms.specs.Meaning.Faults.{IsFault}
 use Rattle.adya_rules.specs.Meaning.Laws.{CheckedWhereNoFault}
 
 -- a fault that was found is there
-found_is : (found : Option CheckFault) (e : CheckFault) → found ≡ None → IsFault found e → e ≢ Memory → ⊥
+found_is : (found : Option Fault) (e : CheckFault) → found ≡ None → IsFault found e → e ≢ Memory → ⊥
 found_is found (Malformed line rule) none is other = cc (none, is)
 found_is found (AbortedRead line version) none is other = cc (none, is)
 found_is found (IntermediateRead line version) none is other = cc (none, is)

@@ -146,7 +146,7 @@ fn broken_rule(
         → newest_writes.Keeps newest.now before
         → (line : ℕ)
         → MatchOption result (faults.faults_at before line (event_of event.now) ≡ [])
-        (λ r. faults.first (faults.faults_at before line (event_of event.now)) ≡ Some (CheckFault.Malformed line r)) }
+        (λ r. faults.first (faults.faults_at before line (event_of event.now)) ≡ Some (faults.Malformed line r)) }
 {
     if !is_open(tables, event) {
         return Some(Rule::M1);

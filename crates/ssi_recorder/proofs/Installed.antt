@@ -23,7 +23,8 @@ use Rattle.ssi_recorder.specs.Meaning.Recorded.{writers_by_commit, shown_by, las
 use Rattle.ssi_recorder.specs.Machinery.Lines.{Line, line_at, AreLines, line_entries, order_in, final_in, versions_by_commit, versions_under}
 use Rattle.ssi_recorder.proofs.Puts.{tied}
 use Rattle.ssi_recorder.proofs.Shaped.{keys_rise-from_sorted}
-use Rattle.ssi_recorder.proofs.WrittenKeys.{head_below, keys_with_rise, keys_with_all, made_of_some}
+use Rattle.adya_values.proofs.InsertedKeys.{head_below}
+use Rattle.ssi_recorder.proofs.WrittenKeys.{keys_with_rise, keys_with_all, made_of_some}
 
 -- ---- the installed versions of a key, their writers and the last of them
 

@@ -20,7 +20,7 @@ use Rattle.ssi_store.specs.Machinery.Opens.{Sessions, open_at, number_of}
 use Rattle.ssi_store.specs.Machinery.Scans.{IsScan}
 use Rattle.ssi_store.specs.declared.open.Open.{Open}
 use Rattle.ssi_store.proofs.Gets.{sees_is}
-use Rattle.ssi_store.proofs.KeyOrder.{key_le-from_not}
+use Rattle.adya_values.proofs.KeyOrder.{key_le-from_not}
 use Rattle.ssi_store.proofs.ReachedKeys.{reached_upward}
 use Rattle.ssi_store.proofs.Scans.{scan_listing}
 use Rattle.ssi_store.proofs.Steps.{opened, idle, open_of, answer_memory, refused_same}

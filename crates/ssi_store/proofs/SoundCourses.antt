@@ -13,7 +13,7 @@ use Rattle.ssi_store.specs.Meaning.Replies.{Follows, conflict, got, last_writer,
 use Rattle.ssi_store.specs.Meaning.Seeing.{sees}
 use Rattle.ssi_store.specs.Meaning.Tracked.{tracked}
 use Rattle.ssi_store.proofs.Closing.{open_to}
-use Rattle.ssi_store.proofs.KeyOrder.{key_le-from_not}
+use Rattle.adya_values.proofs.KeyOrder.{key_le-from_not}
 use Rattle.ssi_store.proofs.ReachedKeys.{reached_upward}
 use Rattle.ssi_store.proofs.Recorded.{versions}
 use Rattle.ssi_store.proofs.SoundLogs.{Allowed, Safe, SafeAct, Sound, aborted_started, committed_started, open_from}

@@ -14,7 +14,7 @@ use Rattle.ssi_store.specs.Meaning.Laws.{OrderedRefusesNoMore, WouldStand, judge
 use Rattle.ssi_store.specs.Meaning.Replies.{Follows, conflict, got, reply, reply_for, reply_idle, reply_in, rows, scan_answer, unless_conflict, unless_downward, unless_long, unless_pivot}
 use Rattle.ssi_store.specs.Meaning.Seeing.{sees}
 use Rattle.ssi_store.specs.Meaning.Tracked.{tracked}
-use Rattle.ssi_store.proofs.KeyOrder.{key_le-from_not}
+use Rattle.adya_values.proofs.KeyOrder.{key_le-from_not}
 use Rattle.ssi_store.proofs.ReachedKeys.{reached_upward}
 use Rattle.ssi_store.proofs.PivotRules.{IsRule, NamesLess}
 use Rattle.ssi_store.proofs.SoundLogs.{Sound}

@@ -2,13 +2,12 @@
 use Rattle.std.specs.Prelude.{◌≡◌, ◌↔◌, ℕ, true, List, Some}
 use Rattle.adya_values.specs.declared.event.Version.{Version}
 use Rattle.adya_values.specs.declared.fault.Rule.{Rule}
-use Rattle.adya_values.specs.declared.fault.CheckFault.TheVariants.{Malformed, AbortedRead, IntermediateRead}
+use Rattle.adya_values.specs.Computing.Faults.{Malformed, AbortedRead, IntermediateRead, first_fault}
 use Rattle.adya_values.specs.Meaning.Histories.{History}
 use Rattle.adya_values.specs.Computing.Shapes.{is_shape}
 use Rattle.adya_values.specs.Meaning.Edges.{Edge}
 use Rattle.adya_values.specs.Meaning.Rules.{IsWellFormed}
 use Rattle.adya_values.specs.Meaning.Phenomena.{HasG1a}
-use Rattle.adya_values.specs.Computing.Faults.{first_fault}
 use Rattle.adya_values.specs.Computing.Certificates.{first_backward}
 use Rattle.adya_rules.specs.Meaning.FirstFaults.{BreaksRule, IsFirstMalformed, IsFirstAbortedRead, IsFirstIntermediateRead, IsFirstBackward}
 
