@@ -1,6 +1,6 @@
-//! What a yes implies. Each law is the contract of a function that does nothing.
+//! When a verdict is yes, and what that implies. Each law is the contract of a function that does nothing.
 
-ghost use Rattle.adya_audit.specs.Meaning.Laws.{YesWhereAccepted, AcceptedIsSerializable};
+ghost use Rattle.adya_audit.specs.Meaning.Laws.{YesWhereAccepted, AcceptedIsSerializable, NotTheCommittedIffUnlisted};
 ghost use Rattle.adya_audit.specs.Meaning.TextLaws.{YesWhereTextsAccepted, AcceptedTextsAreSerializable, AcceptedHaveTexts};
 
 use adya_laws::{accepted_agrees, accepted_has_no_phenomenon, accepted_where_forward};
@@ -13,6 +13,14 @@ pub fn yes_where_accepted()
 {
     checked_where_no_fault();
     accepted_where_forward();
+}
+
+/// The verdict is `NotTheCommitted` if and only if the history passes its check, and the certificate doesn't list each
+/// committed transaction once and no other.
+pub fn not_the_committed_iff_unlisted()
+    ensures { NotTheCommittedIffUnlisted }
+{
+    checked_where_no_fault();
 }
 
 /// An accepted history has neither G1 nor G2 (Adya 1999, section 3.2). Its committed transactions, run serially in the
