@@ -1,8 +1,8 @@
 pub mod Distinct
 pub mod ExactlyTheCommitted
-pub mod YesWhereAccepted
+pub mod YesIffAccepted
 pub mod UnlistedCommitted
-pub mod YesWhereTextsAccepted
+pub mod YesIffTextsAccepted
 pub mod NamesHistoryFault
 pub mod TextVerdicts
 pub mod TextAnswers

@@ -15,8 +15,8 @@ pub record IsSerializableBy (h : History) (ts : List ℕ) : Type 0 where
   pub agrees : Agrees h ts
 
 -- the verdict is yes if and only if the history and the certificate are accepted
-abbrev pub YesWhereAccepted : Type 0
-YesWhereAccepted = (h : History) (ts : List ℕ) → is_shape h.orders h.finals ≡ true
+abbrev pub YesIffAccepted : Type 0
+YesIffAccepted = (h : History) (ts : List ℕ) → is_shape h.orders h.finals ≡ true
     → (verdict_of h ts ≡ Yes) ↔ IsAccepted h ts
 
 -- an accepted history is serializable by its certificate

@@ -7,8 +7,8 @@ use Rattle.adya_audit.specs.Meaning.Verdicts.{Verdict, Yes}
 use Rattle.adya_audit.specs.Meaning.TextVerdicts.{IsVerdictOn, AreAccepted, AreSerializable}
 
 -- the verdict on texts is yes if and only if they are accepted
-abbrev pub YesWhereTextsAccepted : Type 0
-YesWhereTextsAccepted = (h c : List ℕ) (v : Verdict) → IsVerdictOn h c v → (v ≡ Yes) ↔ AreAccepted h c
+abbrev pub YesIffTextsAccepted : Type 0
+YesIffTextsAccepted = (h c : List ℕ) (v : Verdict) → IsVerdictOn h c v → (v ≡ Yes) ↔ AreAccepted h c
 
 -- accepted texts are those of a history and a certificate by which it is serializable
 abbrev pub AcceptedTextsAreSerializable : Type 0

@@ -12,8 +12,8 @@ use Rattle.adya_values.specs.Computing.Certificates.{first_backward}
 use Rattle.adya_rules.specs.Meaning.FirstFaults.{BreaksRule, IsFirstMalformed, IsFirstAbortedRead, IsFirstIntermediateRead, IsFirstBackward}
 
 -- a history whose orders and finals rise by key is well-formed exactly if it breaks no rule at any line
-abbrev pub WellFormedWhereUnbroken : Type 0
-WellFormedWhereUnbroken = (h : History) → is_shape h.orders h.finals ≡ true
+abbrev pub WellFormedIffUnbroken : Type 0
+WellFormedIffUnbroken = (h : History) → is_shape h.orders h.finals ≡ true
     → ((line : ℕ) (rule : Rule) → BreaksRule h line rule → ⊥) ↔ IsWellFormed h
 
 -- a broken rule is named exactly if it is the first one

@@ -15,10 +15,10 @@ use Rattle.adya_audit.specs.declared.verdict.Verdict.{Verdict as VerdictValue}
 use Rattle.adya_audit.specs.declared.verdict.Verdict.TheVariants as Said
 use Rattle.adya_audit.specs.Meaning.Verdicts.{Verdict, Yes, Syntax, Malformed, AbortedRead, IntermediateRead, NotTheCommitted}
 use Rattle.adya_audit.specs.Meaning.Verdicts.{Backward, plain_verdict}
-use Rattle.adya_audit.specs.Meaning.Laws.{YesWhereAccepted, AcceptedIsSerializable}
+use Rattle.adya_audit.specs.Meaning.Laws.{YesIffAccepted, AcceptedIsSerializable}
 use Rattle.adya_audit.specs.Meaning.TextVerdicts.{IsTextOf, IsSerialTextOf, HaveVerdict, IsVerdictOn, AreAccepted}
-use Rattle.adya_audit.specs.Meaning.TextLaws.{YesWhereTextsAccepted, AcceptedTextsAreSerializable}
-use Rattle.adya_audit.proofs.YesWhereAccepted.{plain_yes}
+use Rattle.adya_audit.specs.Meaning.TextLaws.{YesIffTextsAccepted, AcceptedTextsAreSerializable}
+use Rattle.adya_audit.proofs.YesIffAccepted.{plain_yes}
 
 has_writer : (n : ℕ) → 0 < n → not (n == 0) ≡ true
 has_writer n h = grind (arith, h)
@@ -50,7 +50,7 @@ one_history differ text g h is_g is_h = differ g h is_g.is_history is_h.is_histo
 pub one_serial : SerialsDiffer → (text ts us : List ℕ) → IsSerialTextOf text ts → IsSerialTextOf text us → ts ≡ us
 one_serial differ text ts us is_t is_u = differ ts us is_t.is_serial is_u.is_serial (sym is_t.same ∙ is_u.same)
 
-module _ (law : YesWhereAccepted) (histories : HistoriesDiffer) (serials : SerialsDiffer)
+module _ (law : YesIffAccepted) (histories : HistoriesDiffer) (serials : SerialsDiffer)
     (no_history : HasNoFaultWithin AreHistoryLines) (no_serial : HasNoFaultWithin AreSerialLines) (h c : List ℕ) where
   accepted_from_yes : HaveVerdict h c Yes → AreAccepted h c
   accepted_from_yes r =
@@ -98,7 +98,7 @@ serializable_texts law h c a =
     }
 
 -- the same of a verdict on two known texts
-pub yes_on_two : YesWhereTextsAccepted → (first second : Option (List ℕ)) (v : VerdictValue)
+pub yes_on_two : YesIffTextsAccepted → (first second : Option (List ℕ)) (v : VerdictValue)
     → IfSome first (λ h. IfSome second (λ c. IsVerdictOn h c (plain_verdict v)))
     → IfSome first (λ h. IfSome second (λ c. (v ≡ Said.Yes) ↔ AreAccepted h c))
 yes_on_two law None second v r = tt
