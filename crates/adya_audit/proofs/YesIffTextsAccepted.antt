@@ -1,6 +1,5 @@
 -- When a verdict on texts is yes.
-use Rattle.std.proofs.Common.{◌≡◌, ◌↔◌, ℕ, ◌<◌, ◌==◌, true, List, [], ◌∷◌, length, Option, Some, None, IfSome}
-use Rattle.std.proofs.Common.{refl, sym, ◌∙◌, ap, subst, not, arith}
+use Rattle.std.proofs.Common.{◌≡◌, ◌↔◌, ℕ, ◌<◌, ◌==◌, true, List, [], ◌∷◌, length, Option, Some, None, IfSome, refl, sym, ◌∙◌, ap, subst, not, arith}
 use Rattle.std.specs.List.{AllByRecursion, list_all}
 use Rattle.std.proofs.lemmas.Bool.{and_from}
 use Rattle.adya_values.specs.Meaning.Histories.{History, Order}
@@ -13,11 +12,10 @@ use Rattle.adya_text.specs.Meaning.Faults.{IsFaultLine}
 use Rattle.adya_text.specs.Meaning.Laws.{HistoriesDiffer, SerialsDiffer, HasNoFaultWithin}
 use Rattle.adya_audit.specs.declared.verdict.Verdict.{Verdict as VerdictValue}
 use Rattle.adya_audit.specs.declared.verdict.Verdict.TheVariants as Said
-use Rattle.adya_audit.specs.Meaning.Verdicts.{Verdict, Yes, Syntax, Malformed, AbortedRead, IntermediateRead, NotTheCommitted}
-use Rattle.adya_audit.specs.Meaning.Verdicts.{Backward, plain_verdict}
+use Rattle.adya_audit.specs.Meaning.Verdicts.{Verdict, Yes, Syntax, Malformed, AbortedRead, IntermediateRead, NotTheCommitted, Backward, plain_verdict}
 use Rattle.adya_audit.specs.Meaning.Laws.{YesIffAccepted, AcceptedIsSerializable}
 use Rattle.adya_audit.specs.Meaning.TextVerdicts.{IsTextOf, IsSerialTextOf, HaveVerdict, IsVerdictOn, AreAccepted}
-use Rattle.adya_audit.specs.Meaning.TextLaws.{YesIffTextsAccepted, AcceptedTextsAreSerializable}
+use Rattle.adya_audit.specs.Meaning.TextLaws.{YesIffTextsAccepted, AcceptedTextsAreSerializable, AcceptedTextsGetYes}
 use Rattle.adya_audit.proofs.YesIffAccepted.{plain_yes}
 
 has_writer : (n : ℕ) → 0 < n → not (n == 0) ≡ true
@@ -85,6 +83,17 @@ module _ (law : YesIffAccepted) (histories : HistoriesDiffer) (serials : Serials
       (λ e. absurd (cc (e)), yes_from_accepted (IntermediateRead line version) r)
   yes_texts NotTheCommitted r = (λ e. absurd (cc (e)), yes_from_accepted NotTheCommitted r)
   yes_texts (Backward edge) r = (λ e. absurd (cc (e)), yes_from_accepted (Backward edge) r)
+
+pub yes_on_accepted : YesIffAccepted → AcceptedTextsGetYes
+yes_on_accepted law h c a =
+    record {
+      history = a.history;
+      certificate = a.certificate;
+      history_read = a.history_read;
+      certificate_read = a.certificate_read;
+      same =
+          sym ((law a.history a.certificate (has_shape a.history a.history_read.is_history)).1 a.accepted);
+    }
 
 pub serializable_texts : AcceptedIsSerializable → AcceptedTextsAreSerializable
 serializable_texts law h c a =

@@ -1,7 +1,7 @@
 //! When a verdict is yes, and what that implies. Each law is the contract of a function that does nothing.
 
 ghost use Rattle.adya_audit.specs.Meaning.Laws.{YesIffAccepted, AcceptedIsSerializable, NotTheCommittedIffUnlisted};
-ghost use Rattle.adya_audit.specs.Meaning.TextLaws.{YesIffTextsAccepted, AcceptedTextsAreSerializable, AcceptedHaveTexts};
+ghost use Rattle.adya_audit.specs.Meaning.TextLaws.{YesIffTextsAccepted, AcceptedTextsGetYes, AcceptedTextsAreSerializable, AcceptedHaveTexts};
 
 use adya_laws::{accepted_agrees, accepted_has_no_phenomenon, accepted_iff_forward};
 use adya_terms::laws::checked_iff_no_fault;
@@ -40,6 +40,13 @@ pub fn yes_iff_texts_accepted()
     history_texts();
     serial_texts();
     fault_lines();
+}
+
+/// Yes is a verdict on accepted texts, and by [`yes_iff_texts_accepted`] the only one.
+pub fn accepted_texts_get_yes()
+    ensures { AcceptedTextsGetYes }
+{
+    yes_iff_accepted();
 }
 
 /// If texts are accepted, the history is serializable in the order of the certificate.

@@ -11,7 +11,7 @@ use Rattle.adya_values.specs.Computing.Faults.{Fault, Malformed, is_open, is_nex
 use Rattle.adya_values.specs.Meaning.Keys.{key_eq}
 use Rattle.adya_values.specs.Meaning.Histories.{Event, History}
 use Rattle.adya_values.specs.Meaning.Events.{txn_of, written, is_committed, has_ended, is_unfinished}
-use Rattle.adya_values.specs.Meaning.Orders.{value_by, writers, installer}
+use Rattle.adya_values.specs.Meaning.Orders.{shown_by, writers, installer}
 use Rattle.adya_values.specs.Meaning.Rules.{final_value}
 use Rattle.lemmas.proofs.Members.{none_contained, Contains-head}
 use Rattle.lemmas.proofs.Tests.{list_any-source, list_any_when, list_all-failed, list_all_fails_at}
@@ -191,7 +191,7 @@ event_from front start (x ∷ es) line r c =
           )
     ]
 
-pub value_installer : (h : History) (k : List ℕ) (i : Option ℕ) (v : List ℕ) → value_by h k i ≡ Some v
+pub value_installer : (h : History) (k : List ℕ) (i : Option ℕ) (v : List ℕ) → shown_by k h.events i ≡ Some v
     → (u : ℕ) × (i ≡ Some u)
 value_installer h k None v e = absurd (none-some v e)
 value_installer h k (Some u) v e = (u, refl)

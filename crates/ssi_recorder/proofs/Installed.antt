@@ -19,7 +19,8 @@ use Rattle.adya_values.specs.Meaning.Events.{written, last, last_write, shown}
 use Rattle.adya_values.specs.Meaning.Serial.{visible_pair_of}
 use Rattle.adya_values.proofs.Keys.{keys_rise-tail}
 use Rattle.adya_values.proofs.Writes.{last_contained, last_write_from}
-use Rattle.ssi_recorder.specs.Meaning.Recorded.{writers_by_commit, shown_by, last_shown, written_keys, order_line, orders_of_events, finals_of_events, by_commit}
+use Rattle.adya_values.specs.Meaning.Orders.{shown_by}
+use Rattle.ssi_recorder.specs.Meaning.Recorded.{writers_by_commit, last_shown, written_keys, order_line, orders_of_events, finals_of_events, by_commit}
 use Rattle.ssi_recorder.specs.Machinery.Lines.{Line, line_at, AreLines, line_entries, order_in, final_in, versions_by_commit, versions_under}
 use Rattle.ssi_recorder.proofs.Puts.{tied}
 use Rattle.ssi_recorder.proofs.Shaped.{keys_rise-from_sorted}
