@@ -8,11 +8,10 @@ ghost use Rattle.headline.specs.Headline.{CertifiedRunsGetYes, YesMeansSerializa
 use adya_audit::laws::{
     accepted_texts_are_serializable, accepted_texts_get_yes, yes_iff_texts_accepted,
 };
-use adya_audit::{RunFault, Verdict, run_audit};
+use adya_audit::{Verdict, run_audit};
 use devices::Watched;
-use ssi_cli::{ScriptFault, run_script};
-use std::alloc::Global;
-use thiserror::Error;
+use ssi_cli::run_script;
+use std::alloc::{AllocError, Global};
 
 /// Whenever the verdict on a history text and a certificate text is yes, the history shows neither G1 nor G2, and its
 /// committed transactions, run one at a time in the certificate's order, give every recorded read, every scan and the final
@@ -31,41 +30,34 @@ pub fn certified_runs_get_yes()
     accepted_texts_get_yes();
 }
 
-/// Why there is no verdict on a run.
-#[derive(Debug, Error, Drop)]
-pub enum Fault {
-    /// The run couldn't write its texts.
-    #[error("the run: {0}")]
-    Run(ScriptFault),
-    /// The audit couldn't be made.
-    #[error("the audit: {0}")]
-    Audit(RunFault),
-}
-
 /// Carries out the command lines of `input` on a new store, and returns the verdict on the history and the certificate
-/// that this leaves: yes, whatever the lines are. `Fault` only if memory runs out.
-pub fn audited_run(alloc: Global, input: &[u8]) -> Result<Verdict, Fault>
+/// that this leaves: yes, whatever the lines are. `AllocError` if memory runs out; nothing else can fail, since all devices
+/// are in memory.
+pub fn audited_run(alloc: Global, input: &[u8]) -> Result<Verdict, AllocError>
     ensures { IfOk result (λ verdict. verdict ≡ Verdict.Yes) }
 {
     yes_iff_texts_accepted();
     let mut replies = Watched::new(Vec::new(alloc));
     let mut history = Watched::new(Vec::new(alloc));
     let mut certificate = Watched::new(Vec::new(alloc));
-    run_script(
+    let Ok(_) = run_script(
         alloc,
         &mut Watched::new(input),
         &mut replies,
         &mut history,
         &mut certificate,
-    )
-    .map_err(Fault::Run)?;
+    ) else {
+        return Err(AllocError);
+    };
     let history = history.into_inner();
     let certificate = certificate.into_inner();
-    run_audit(
+    match run_audit(
         alloc,
         &mut Watched::new(history.as_slice()),
         &mut Watched::new(certificate.as_slice()),
         &mut Watched::new(Vec::new(alloc)),
-    )
-    .map_err(Fault::Audit)
+    ) {
+        Ok(verdict) => Ok(verdict),
+        Err(_) => Err(AllocError),
+    }
 }

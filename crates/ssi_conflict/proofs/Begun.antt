@@ -4,9 +4,9 @@ use Rattle.std.proofs.Common.{List, [], inl, inr, refl, subst, true, ℕ, ◌==�
 use Rattle.std.proofs.lemmas.Bool.{both_ways, cases_Bool, eq-eqb, eqb-true}
 use Rattle.std.proofs.lemmas.List.Elements.{Contains-append_cases, Contains-append_left, Contains-append_right}
 use Rattle.lemmas.proofs.Members.{Contains-head, none_contained}
+use Rattle.adya_values.proofs.RisingNumbers.{only_one, numbers_rise-more}
 use Rattle.adya_values.specs.Computing.Shapes.{numbers_rise}
 use Rattle.ssi_conflict.specs.Meaning.Calls.{Aborts, AreAllowed, Begins, Call, Commits, Reads, begun, has_begun}
-use Rattle.ssi_conflict.proofs.Rising.{numbers_rise-more, only_one}
 
 pub begun_there : (t : ℕ) (calls : List Call) → has_begun t calls ≡ true → Contains (begun calls) t
 begun_there t [] e = absurd (cc (e))

@@ -11,7 +11,7 @@ use Rattle.ssi_conflict.specs.Meaning.Pairs.{IsAtMost, IsOrderedPivot, IsPivot, 
 use Rattle.ssi_conflict.proofs.AllowedCalls.{any_begun, committed_begun, reader_begun}
 use Rattle.ssi_conflict.proofs.Begun.{begun_rise, begun_there}
 use Rattle.ssi_conflict.proofs.PairsFound.{found_back, found_step}
-use Rattle.ssi_conflict.proofs.Rising.{find_least}
+use Rattle.adya_values.proofs.RisingNumbers.{find_least}
 
 module _ (calls : List Call) (allowed : AreAllowed calls) where
   pivot_to : (t : ℕ) → IsPivot t calls → is_pivot t calls ≡ true

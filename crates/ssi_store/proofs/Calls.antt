@@ -4,10 +4,9 @@ use Rattle.std.proofs.Common.{List, [], false, inl, inr, refl, subst, true, ℕ,
 use Rattle.std.proofs.lemmas.Bool.{both_ways, cases_Bool, eq-eqb, eqb-true, or_parts}
 use Rattle.std.proofs.lemmas.List.Elements.{Contains-append_cases, Contains-append_left, Contains-append_right}
 use Rattle.lemmas.proofs.Members.{Contains-head, none_contained}
+use Rattle.adya_values.proofs.RisingNumbers.{only_one, numbers_rise-more}
 use Rattle.adya_values.specs.Computing.Shapes.{numbers_rise}
 use Rattle.ssi_conflict.specs.Meaning.Calls.{Aborts, AreAllowed, Begins, Call, Commits, Reads, before_commit, begun, has_begun, is_aborted}
-use Rattle.ssi_store.proofs.Lists.{only_one}
-use Rattle.ssi_store.proofs.RisingNumbers.{numbers_rise-more}
 
 pub unaborted_before : (r u : ℕ) (calls : List Call) → is_aborted r calls ≡ false
     → is_aborted r (before_commit u calls) ≡ false

@@ -35,7 +35,7 @@ use Rattle.ssi_store.proofs.MadeHistories.{recorder_makes}
 use Rattle.ssi_store.proofs.NoPivot.{no_pivot}
 use Rattle.ssi_store.proofs.PivotRules.{IsRule}
 use Rattle.ssi_store.proofs.RisingKeys.{made_rises}
-use Rattle.ssi_store.proofs.RisingNumbers.{numbers_rise-filter}
+use Rattle.adya_values.proofs.RisingNumbers.{numbers_rise-filter}
 use Rattle.ssi_store.proofs.SoundLogs.{Safe, Sound}
 use Rattle.ssi_store.proofs.SoundCourses.{Stands}
 use Rattle.ssi_store.proofs.Starts.{concurrent_same, danger_same, snapshots_same, start_is, started_rise}

@@ -17,7 +17,7 @@ use Rattle.ssi_store.specs.Meaning.Standing.{Parts, StandsFor}
 use Rattle.ssi_store.specs.Machinery.Opens.{Sessions}
 use Rattle.ssi_store.proofs.Collects.{first_halves}
 use Rattle.ssi_store.proofs.Lists.{filter_within}
-use Rattle.ssi_store.proofs.RisingNumbers.{number_below, numbers_rise-tail}
+use Rattle.adya_values.proofs.RisingNumbers.{number_below, numbers_rise-tail}
 use Rattle.ssi_store.proofs.Starts.{started_rise}
 use Rattle.ssi_store.proofs.Steps.{settled, same_course}
 

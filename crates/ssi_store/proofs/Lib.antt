@@ -1,5 +1,4 @@
 pub mod Lists
-pub mod RisingNumbers
 pub mod RisingKeys
 pub mod Calls
 pub mod SoundLogs

@@ -9,10 +9,6 @@ pub option_cases : {X : Type 0} (o : Option X) → (o ≡ None) ⊎ ((w : X) × 
 option_cases None = inl refl
 option_cases (Some w) = inr (w, refl)
 
-pub only_one : {X : Type 0} (y x : X) → Contains (y ∷ []) x → y ≡ x
-only_one y x (zero, l, f) = f
-only_one y x (suc i, l, f) = absurd (omega (arith, l))
-
 pub Contains-take : {X : Type 0} (n : ℕ) (xs : List X) (x : X) → Contains (take n xs) x → Contains xs x
 Contains-take zero xs x c = absurd (none_contained x c)
 Contains-take (suc n) [] x c = absurd (none_contained x c)

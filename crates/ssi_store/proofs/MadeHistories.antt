@@ -8,6 +8,7 @@ use Rattle.std.proofs.lemmas.List.Sums.{fold-append}
 use Rattle.lemmas.proofs.Booleans.{cond-at_most_one}
 use Rattle.lemmas.proofs.Counts.{count, count_contained, count_rest, count_same}
 use Rattle.lemmas.proofs.Members.{none_contained, recursion-from_contained}
+use Rattle.adya_values.proofs.RisingNumbers.{only_one}
 use Rattle.adya_values.specs.Meaning.Events.{last, last_write, shown}
 use Rattle.adya_values.specs.Meaning.Histories.{FinalPair, History, Order}
 use Rattle.adya_values.specs.Meaning.KeySets.{insert}
@@ -20,7 +21,7 @@ use Rattle.ssi_store.specs.Meaning.Acts.{Aborts, Act, Collects, Commits, Gets, S
 use Rattle.ssi_store.specs.Meaning.Recording.{events}
 use Rattle.ssi_store.specs.Meaning.Seeing.{commit_count, committed, keys, wrote}
 use Rattle.ssi_store.proofs.Installed.{writers_are}
-use Rattle.ssi_store.proofs.Lists.{filter_map_same, filter_within, only_one}
+use Rattle.ssi_store.proofs.Lists.{filter_map_same, filter_within}
 use Rattle.ssi_store.proofs.LoggedHistories.{history_of_log, installers}
 use Rattle.ssi_store.proofs.Recorded.{commits_of_events, committers, made, own_of_events, versions, versions_of_events}
 use Rattle.ssi_store.proofs.Rules.{own_stays}

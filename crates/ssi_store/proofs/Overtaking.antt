@@ -6,6 +6,7 @@ use Rattle.std.proofs.lemmas.List.Elements.{Contains-append_cases, Contains-appe
 use Rattle.lemmas.proofs.Finds.{none_found}
 use Rattle.std.proofs.lemmas.Option.{none-some, same_Some}
 use Rattle.lemmas.proofs.Members.{Contains-cases, Contains-cons, Contains-head, none_contained}
+use Rattle.adya_values.proofs.RisingNumbers.{only_one}
 use Rattle.adya_values.specs.declared.event.Version.{Version}
 use Rattle.adya_values.specs.declared.event.Content.{Content}
 use Rattle.adya_values.proofs.Keys.{keys_rise-tail}
@@ -22,7 +23,6 @@ use Rattle.ssi_store.specs.Machinery.Overtaken.{IsLeast, is_passed, passed_by, k
 use Rattle.ssi_store.specs.declared.overtaken.Overtaken.{Overtaken}
 use Rattle.ssi_store.proofs.ChangesAllowed.{changed_installable}
 use Rattle.adya_values.proofs.KeyOrder.{key_le-itself, key_le-from_lt, key_le-from_not, key_le-trans, key_lt-from_le_lt, key_lt-never}
-use Rattle.ssi_store.proofs.Lists.{only_one}
 use Rattle.adya_values.proofs.InsertedKeys.{head_below}
 use Rattle.ssi_store.proofs.OwnWrites.{keys_of_log_rise, own_key_there, own_key_written, wrote_key}
 

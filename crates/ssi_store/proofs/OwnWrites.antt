@@ -5,6 +5,7 @@ use Rattle.std.proofs.lemmas.Bool.{and_from, and_parts, both_ways, cases_Bool, c
 use Rattle.std.proofs.lemmas.List.Elements.{Contains-append_cases, Contains-append_left, Contains-append_right}
 use Rattle.std.proofs.lemmas.Option.{none-some, same_Some}
 use Rattle.lemmas.proofs.Members.{Contains-head, none_contained}
+use Rattle.adya_values.proofs.RisingNumbers.{only_one}
 use Rattle.lemmas.proofs.Orderings.{bytes_eq-itself, bytes_eq-same}
 use Rattle.adya_values.specs.Meaning.Events.{entry, listed, version}
 use Rattle.adya_values.specs.Meaning.Histories.{Content, Entry}
@@ -13,7 +14,7 @@ use Rattle.adya_values.specs.Meaning.Keys.{key_eq, keys_rise}
 use Rattle.ssi_versions.specs.Meaning.Changes.{contents, entry_in, otherwise, stamped}
 use Rattle.ssi_store.specs.Meaning.Acts.{Aborts, Act, Collects, Commits, Gets, Scans, Starts, Writes}
 use Rattle.ssi_store.specs.Meaning.Seeing.{changed, commit_count, committed, keys, last_writes, own_keys, own_write, write_count, wrote}
-use Rattle.ssi_store.proofs.Lists.{only_one, option_cases}
+use Rattle.ssi_store.proofs.Lists.{option_cases}
 use Rattle.adya_values.proofs.InsertedKeys.{Contains-insert, Contains-inserted, insert_rises}
 use Rattle.ssi_store.proofs.RisingKeys.{listed_made}
 

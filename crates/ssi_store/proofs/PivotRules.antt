@@ -9,7 +9,7 @@ use Rattle.ssi_conflict.specs.Computing.Steps.{is_earlier, is_no_later, is_order
 use Rattle.ssi_conflict.specs.Meaning.Calls.{Aborts, AreAllowed, Begins, Call, begun, stamp_of}
 use Rattle.ssi_conflict.specs.Meaning.Laws.{AbortsMakeNoPair, BeginsMakeNoPair, OrderedPivotsAreNamed, PivotsAreNamed}
 use Rattle.ssi_conflict.specs.Meaning.Pairs.{IsOrderedPivot, IsPivot, IsSmallest}
-use Rattle.ssi_store.proofs.RisingNumbers.{first_no_later}
+use Rattle.adya_values.proofs.RisingNumbers.{first_no_later}
 
 -- whatever was called, a pivot of the commit-order rule is one of the two-pair rule
 ordered_is_pivot : (calls : List Call) (t : ℕ) → is_ordered_pivot t calls ≡ true → is_pivot t calls ≡ true

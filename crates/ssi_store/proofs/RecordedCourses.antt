@@ -22,7 +22,7 @@ use Rattle.ssi_store.specs.Meaning.Seeing.{changed, sees}
 use Rattle.ssi_store.specs.Meaning.Tracked.{tracked}
 use Rattle.ssi_store.proofs.ReachedKeys.{limited_rows}
 use Rattle.ssi_store.proofs.Recorded.{versions}
-use Rattle.ssi_store.proofs.RisingNumbers.{number_below, numbers_rise-tail}
+use Rattle.adya_values.proofs.RisingNumbers.{number_below, numbers_rise-tail}
 use Rattle.ssi_store.proofs.SeenByEvents.{sees_is}
 
 write_face : (t : ℕ) (k : List ℕ) (n : ℕ) (c : Content) → face_of (write_event t k n c) ≡ Seen.Wrote t k c

@@ -7,10 +7,9 @@ use Rattle.std.proofs.lemmas.List.Elements.{Contains-append_cases}
 use Rattle.indexmap.specs.IndexMap.{insert_entry, shift_remove_entry}
 use Rattle.lemmas.proofs.Filters.{filter-source}
 use Rattle.lemmas.proofs.Members.{Contains-cons, Contains-head}
+use Rattle.adya_values.proofs.RisingNumbers.{only_one, number_below, numbers_rise-filter, numbers_rise-more, numbers_rise-tail}
 use Rattle.adya_values.specs.Computing.Shapes.{numbers_rise}
 use Rattle.ssi_store.specs.Machinery.Rosters.{txns_in, AreBelow}
-use Rattle.ssi_store.proofs.Lists.{only_one}
-use Rattle.ssi_store.proofs.RisingNumbers.{number_below, numbers_rise-filter, numbers_rise-more, numbers_rise-tail}
 use Rattle.ssi_store.proofs.Rosters.{filter_all}
 
 -- a greater number goes to the end

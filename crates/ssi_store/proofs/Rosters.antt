@@ -12,7 +12,7 @@ use Rattle.ssi_store.specs.Meaning.Acts.{Aborts, Act, Commits, Starts, has_abort
 use Rattle.ssi_store.specs.Meaning.Seeing.{commit_count, snapshot}
 use Rattle.ssi_store.specs.Meaning.Standing.{with_snapshots}
 use Rattle.ssi_store.proofs.Lists.{filter_within}
-use Rattle.ssi_store.proofs.RisingNumbers.{number_below, numbers_rise-filter, numbers_rise-tail}
+use Rattle.adya_values.proofs.RisingNumbers.{number_below, numbers_rise-filter, numbers_rise-tail}
 use Rattle.ssi_store.proofs.SoundLogs.{Sound, aborted_started, committed_started}
 use Rattle.ssi_store.proofs.Starts.{started_rise, there_started}
 

@@ -7,6 +7,7 @@ use Rattle.std.proofs.lemmas.List.Elements.{Contains-append_cases, Contains-appe
 use Rattle.std.proofs.lemmas.Option.{cond_some, none-some, same_Some}
 use Rattle.lemmas.proofs.Filters.{filter_map-source}
 use Rattle.lemmas.proofs.Members.{All-from_contained, Contains-head, none_contained}
+use Rattle.adya_values.proofs.RisingNumbers.{only_one}
 use Rattle.lemmas.proofs.Orderings.{bytes_eq-itself, bytes_eq-same}
 use Rattle.adya_values.specs.Meaning.Events.{entry, last_write, listed, observed, txn_of, writes_of, written}
 use Rattle.adya_values.specs.Meaning.Histories.{Abort, Commit, Content, Dead, Delete, Entry, Event, Live, Read, Scan, Write}
@@ -18,7 +19,7 @@ use Rattle.ssi_store.specs.Meaning.Acts.{Aborts, Act, Collects, Commits, Gets, S
 use Rattle.ssi_store.specs.Meaning.Recording.{events, get_event, get_found, recorded, write_event}
 use Rattle.ssi_store.specs.Meaning.Seeing.{commit_count, committed, keys, own_write, scanned, sees, snapshot, write_count, wrote}
 use Rattle.adya_values.proofs.KeyOrder.{key_le-itself, lies_in-itself}
-use Rattle.ssi_store.proofs.Lists.{only_one, option_cases}
+use Rattle.ssi_store.proofs.Lists.{option_cases}
 use Rattle.ssi_store.proofs.Recorded.{aborted_events, committed_events, count_of_events, made, of_get, of_write, own_of_events, versions, versions_of_events, written_write}
 use Rattle.ssi_store.proofs.SeenByEvents.{all_seen, get_shows, get_txn, otherwise_cases, scanned_is, scanned_rises, sees_is, shows, started_stays}
 use Rattle.ssi_store.proofs.SoundLogs.{Open, Sound, not_open, open_from}

@@ -5,6 +5,7 @@ use Rattle.std.proofs.lemmas.Bool.{and_from, and_left, and_parts, cases_Bool, co
 use Rattle.std.proofs.lemmas.List.Elements.{Contains-append_cases}
 use Rattle.std.proofs.lemmas.Option.{cond_some, none-some}
 use Rattle.lemmas.proofs.Members.{none_contained}
+use Rattle.adya_values.proofs.RisingNumbers.{only_one}
 use Rattle.lemmas.proofs.Orderings.{bytes_eq-from, bytes_eq-itself, bytes_eq-same}
 use Rattle.adya_values.specs.Meaning.Events.{entry, listed, txn_of}
 use Rattle.adya_values.specs.Meaning.Histories.{Abort, Commit, Content, Dead, Delete, Entry, Event, Live, Read, Scan, Write}
@@ -14,7 +15,7 @@ use Rattle.ssi_store.specs.Meaning.Acts.{Aborts, Act, Collects, Commits, Gets, S
 use Rattle.ssi_store.specs.Meaning.Recording.{events, get_event, get_found, recorded}
 use Rattle.ssi_store.specs.Meaning.Seeing.{commit_count, committed, keys, own_write, scanned, sees, snapshot, write_count, wrote}
 use Rattle.adya_values.proofs.KeyOrder.{lies_in-one}
-use Rattle.ssi_store.proofs.Lists.{only_one, option_cases}
+use Rattle.ssi_store.proofs.Lists.{option_cases}
 use Rattle.ssi_store.proofs.Recorded.{of_write}
 use Rattle.adya_values.proofs.InsertedKeys.{Contains-inserted}
 use Rattle.ssi_store.proofs.RisingKeys.{listed_made, made_rises}

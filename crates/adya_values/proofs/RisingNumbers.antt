@@ -1,6 +1,6 @@
 -- Numbers that rise, and the first of them that passes a test.
 use Rattle.std.specs.List.{Contains, filter, find}
-use Rattle.std.proofs.Common.{Bool, List, Option, Some, [], arith, false, inl, inr, ltb-true, nat_lt, refl, sym, true, ℕ, ◌++◌, ◌<◌, ◌∙◌, ◌∷◌, ◌≡◌, ◌≤◌}
+use Rattle.std.proofs.Common.{Bool, List, Option, Some, [], ap, arith, false, inl, inr, ltb-true, nat_lt, refl, suc, sym, true, zero, ℕ, ◌++◌, ◌<◌, ◌∙◌, ◌∷◌, ◌≡◌, ◌≤◌}
 use Rattle.std.proofs.lemmas.Bool.{and_from, and_parts, both_ways, cases_Bool, cond-false, cond-true, false_from_ne_true, lt-ltb}
 use Rattle.std.proofs.lemmas.List.Elements.{Contains-append_cases}
 use Rattle.std.proofs.lemmas.Option.{none-some}
@@ -8,7 +8,11 @@ use Rattle.lemmas.proofs.Filters.{filter-source}
 use Rattle.lemmas.proofs.Finds.{find-source}
 use Rattle.lemmas.proofs.Members.{Contains-cases, Contains-cons, Contains-head, none_contained}
 use Rattle.adya_values.specs.Computing.Shapes.{numbers_rise}
-use Rattle.ssi_store.proofs.Lists.{only_one}
+
+-- a list of one element contains no other
+pub only_one : {X : Type 0} (y x : X) → Contains (y ∷ []) x → y ≡ x
+only_one y x (zero, l, f) = f
+only_one y x (suc i, l, f) = absurd (omega (arith, l))
 
 pub numbers_rise-tail : (x : ℕ) (xs : List ℕ) → numbers_rise (x ∷ xs) ≡ true → numbers_rise xs ≡ true
 numbers_rise-tail x [] r = refl
@@ -82,4 +86,18 @@ first_no_later f g passes (x ∷ xs) p e =
             cond-false {A = Option ℕ} (g x) (Some x) (find g xs) fails ∙ rest.1,
             λ r. rest.2 (numbers_rise-tail x xs r),
           ))
+    ]
+
+-- the first of a rising list that passes a test
+pub find_least : (f : ℕ → Bool) (xs : List ℕ) (p : ℕ) → numbers_rise xs ≡ true → Contains xs p → f p ≡ true
+    → (q : ℕ) × (find f xs ≡ Some q) × (q ≤ p)
+find_least f [] p r c e = absurd (none_contained p c)
+find_least f (x ∷ xs) p r (zero, l, s) e =
+    (x, cond-true {A = Option ℕ} (f x) (Some x) (find f xs) (ap f s ∙ e), omega (arith, s))
+find_least f (x ∷ xs) p r (suc i, l, s) e =
+    elim (cases_Bool (f x)) [
+      | inl holds ↦ (let below = number_below x xs p r (i, omega (arith, l), s) in
+          (x, cond-true {A = Option ℕ} (f x) (Some x) (find f xs) holds, omega (arith, below)))
+      | inr fails ↦ (let rest = find_least f xs p (numbers_rise-tail x xs r) (i, omega (arith, l), s) e in
+          (rest.0, cond-false {A = Option ℕ} (f x) (Some x) (find f xs) fails ∙ rest.1, rest.2))
     ]
