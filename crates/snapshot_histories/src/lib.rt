@@ -1,5 +1,5 @@
 //! Snapshot histories, and why one of them without a dangerous structure is serializable (Fekete, Liarokapis, O'Neil,
-//! O'Neil and Shasha 2005; Cahill, Roehm and Fekete 2008). It holds definitions and laws of them, and no code
+//! O'Neil and Shasha 2005; Cahill, Röhm and Fekete 2008). It holds definitions and laws of them, and no code
 //! that runs.
 //!
 //! In a *snapshot history* each transaction reads from the state that the transactions committed before its start have

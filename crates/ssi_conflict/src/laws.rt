@@ -4,14 +4,14 @@
 ghost use Rattle.ssi_conflict.specs.Meaning.Laws.{PairsAreFound, PivotsAreNamed, OrderedPivotsAreNamed, OrderedPivotsArePivots, PairsStay, BeginsMakeNoPair, AbortsMakeNoPair, NewPairsAreKept, ForgottenForGood, NewPivotsAreKept, NewOrderedPivotsAreKept, CommitMakesOwnPivot, ReadMakesWritersPivots, ReadMakesWritersOrderedPivots};
 
 /// The pairs that the calls add one by one are exactly those that one finds by looking back over all calls. So the
-/// anti-dependencies between concurrent transactions (Cahill, Roehm and Fekete 2008, section 3) can be noted as they
+/// anti-dependencies between concurrent transactions (Cahill, Röhm and Fekete 2008, section 3) can be noted as they
 /// arise.
 pub fn pairs_are_found()
     ensures { PairsAreFound }
 {}
 
 /// The two-pair rule names the smallest pivot if there is one, and nothing otherwise. So a call is refused exactly if
-/// it would leave a transaction with a pair into it and a pair out of it (Cahill, Roehm and Fekete 2008, section 3).
+/// it would leave a transaction with a pair into it and a pair out of it (Cahill, Röhm and Fekete 2008, section 3).
 pub fn pivots_are_named()
     ensures { PivotsAreNamed }
 {}

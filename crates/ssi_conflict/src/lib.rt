@@ -1,4 +1,4 @@
-//! Conflicts of concurrent transactions, by the order of their commits (Cahill, Roehm and Fekete 2008; the commit order
+//! Conflicts of concurrent transactions, by the order of their commits (Cahill, Röhm and Fekete 2008; the commit order
 //! as in Ports and Grittner 2012).
 #![tactic(auto)]
 

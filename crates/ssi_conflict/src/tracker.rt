@@ -17,7 +17,7 @@ use ssi_reads::Marks;
 use std::alloc::{AllocError, Global};
 
 /// The pairs of concurrent transactions of which one read what the other wrote, and the question that they are kept for:
-/// whether a read or a commit would leave a pivot of the commit-order rule (Cahill, Roehm and Fekete 2008, section 3;
+/// whether a read or a commit would leave a pivot of the commit-order rule (Cahill, Röhm and Fekete 2008, section 3;
 /// Ports and Grittner 2012).
 ///
 /// The contracts speak of the list of all calls so far, the newest first. `Stands` says that the tracker stands for such

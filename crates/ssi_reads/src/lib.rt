@@ -1,4 +1,4 @@
-//! Marks of the keys that transactions have read (Cahill, Roehm and Fekete 2008, section 3: the SIREAD locks).
+//! Marks of the keys that transactions have read (Cahill, Röhm and Fekete 2008, section 3: the SIREAD locks).
 //!
 //! A [`Marks`] says of each key which transactions have read it. [`ListMarks`] is the plain representation,
 //! [`IndexMarks`] the fast one.

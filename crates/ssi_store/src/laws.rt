@@ -11,7 +11,7 @@ use ssi_versions::laws::held_shows;
 
 /// The history of a course that is over is a checked snapshot history without a dangerous structure, by either rule,
 /// and each of its anti-dependencies between concurrent transactions is a pair. So a tracker meets all conflicts that
-/// there are (Cahill, Roehm and Fekete 2008, section 3), and the history is serializable.
+/// there are (Cahill, Röhm and Fekete 2008, section 3), and the history is serializable.
 pub fn finished_are_covered()
     ensures two_pair { FinishedAreCovered }
     ensures commit_order { OrderedFinishedAreCovered }

@@ -1,4 +1,4 @@
-//! A transaction store under serializable snapshot isolation (Cahill, Roehm and Fekete 2008; the commit order as in
+//! A transaction store under serializable snapshot isolation (Cahill, Röhm and Fekete 2008; the commit order as in
 //! Ports and Grittner 2012): what it answers to each command, and what its history is.
 //!
 //! A *course* is a list of commands with their answers. Its transactions' *acts* are told to three parts that know

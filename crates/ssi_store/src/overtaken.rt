@@ -1,4 +1,4 @@
-//! The first committer wins (Cahill, Roehm and Fekete 2008, section 2.2): keys of a transaction of which another one has
+//! The first committer wins (Cahill, Röhm and Fekete 2008, section 2.2): keys of a transaction of which another one has
 //! committed a version since it began.
 
 ghost use Rattle.std.specs.Prelude.{◌≡◌, Some, None, if◌then◌else◌, map, option_map, IfSome};

@@ -21,7 +21,7 @@ pub fn held_shows()
 {}
 
 /// Whether a version of a key with a stamp above a snapshot was installed can be told from the key's last version.
-/// This is what a commit asks where the first committer wins (Cahill, Roehm and Fekete 2008).
+/// This is what a commit asks where the first committer wins (Cahill, Röhm and Fekete 2008).
 pub fn last_is_above()
     ensures { LastIsAbove }
 {}
