@@ -1,7 +1,8 @@
 pub mod Distinct
 pub mod ExactlyTheCommitted
-pub mod YesWhereAccepted
-pub mod YesWhereTextsAccepted
+pub mod YesIffAccepted
+pub mod UnlistedCommitted
+pub mod YesIffTextsAccepted
 pub mod NamesHistoryFault
 pub mod TextVerdicts
 pub mod TextAnswers

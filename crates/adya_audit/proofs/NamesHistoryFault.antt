@@ -15,7 +15,7 @@ use Rattle.adya_audit.specs.Meaning.Verdicts.{Verdict, verdict_of}
 use Rattle.adya_audit.specs.Meaning.Verdicts as Said
 use Rattle.adya_audit.specs.Meaning.TextVerdicts.{NamesHistoryFault}
 use Rattle.adya_audit.proofs.TextVerdicts.{history_fault, no_syntax, text_read}
-use Rattle.adya_audit.proofs.YesWhereTextsAccepted.{no_history_fault}
+use Rattle.adya_audit.proofs.YesIffTextsAccepted.{no_history_fault}
 
 -- the fault that reading met
 pub fault_named : HasOneFaultLine AreHistoryLines → (known : Option (List ℕ)) (text : Text) (line : ℕ)

@@ -19,7 +19,7 @@ use Rattle.lemmas.proofs.Counts.{count, count_contained}
 use Rattle.lemmas.proofs.Members.{recursion-from_contained}
 use Rattle.lemmas.proofs.Tests.{list_any-source}
 use Rattle.adya_values.proofs.Writes.{commits_txn}
-use Rattle.adya_audit.proofs.YesWhereTextsAccepted.{one_history}
+use Rattle.adya_audit.proofs.YesIffTextsAccepted.{one_history}
 use Rattle.adya_audit.proofs.TextVerdicts.{text_read, verdict_on_texts}
 
 commit_number : (t : ℕ) (e : Event) → commits t e ≡ true → IsEvent e → IsTxn t

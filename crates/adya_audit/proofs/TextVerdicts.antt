@@ -1,14 +1,13 @@
 -- The verdict on what was read of two texts.
 use Rattle.std.proofs.Common.{◌≡◌, ℕ, Bool, true, false, cond, List, Option, Some, None, IfSome, Ok}
 use Rattle.std.proofs.Common.{Err}
-use Rattle.adya_values.specs.declared.fault.CheckFault.{CheckFault}
-use Rattle.adya_values.specs.declared.fault.CheckFault.TheVariants as Checked
+use Rattle.adya_values.specs.Computing.Faults as faults
 use Rattle.adya_values.specs.declared.history.History.{History}
 use Rattle.adya_values.specs.declared.serial.Serial.{Serial}
 use Rattle.adya_values.specs.Meaning.Histories.{History as Plain}
 use Rattle.adya_values.specs.Meaning.Edges.{Edge}
 use Rattle.adya_values.specs.Meaning.Values.{history_of}
-use Rattle.adya_values.specs.Computing.Faults.{first_fault}
+use Rattle.adya_values.specs.Computing.Faults.{Fault, first_fault}
 use Rattle.adya_values.specs.Computing.Certificates.{lists_the_committed, first_backward}
 use Rattle.adya_text.specs.declared.read_fault.ReadFault.TheVariants.{Syntax}
 use Rattle.adya_text.specs.declared.read_fault.Text.{Text}
@@ -30,15 +29,14 @@ history_fault h Of.History line r = r
 history_fault h Of.Serial line r = absurd r
 
 -- the verdict on values is no syntax fault
-pub no_syntax : (f : Option CheckFault) (b : Bool) (o : Option Edge) (text : Text) (line : ℕ)
+pub no_syntax : (f : Option Fault) (b : Bool) (o : Option Edge) (text : Text) (line : ℕ)
     → Said.Syntax text line ≡ fault_verdict f (cond b (edge_verdict o) NotTheCommitted) → ⊥
 no_syntax None true None text line e = cc (e)
 no_syntax None true (Some x) text line e = cc (e)
 no_syntax None false o text line e = cc (e)
-no_syntax (Some (Checked.Malformed l rule)) b o text line e = cc (e)
-no_syntax (Some (Checked.AbortedRead l version)) b o text line e = cc (e)
-no_syntax (Some (Checked.IntermediateRead l version)) b o text line e = cc (e)
-no_syntax (Some Checked.Memory) b o text line e = cc (e)
+no_syntax (Some (faults.Malformed l rule)) b o text line e = cc (e)
+no_syntax (Some (faults.AbortedRead l version)) b o text line e = cc (e)
+no_syntax (Some (faults.IntermediateRead l version)) b o text line e = cc (e)
 
 -- the verdict on texts is that on the values that they hold
 module _ (text certificate : List ℕ) (h : Plain) (ts : List ℕ) (is_h : IsTextOf text h)

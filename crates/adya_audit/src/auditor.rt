@@ -3,12 +3,13 @@
 ghost use Rattle.std.specs.Prelude.{◌≡◌, ◌↔◌, IfOk};
 ghost use Rattle.adya_values.specs.Meaning.Values.{history_of, serial_txns};
 ghost use Rattle.adya_values.specs.Meaning.Acceptance.{IsAccepted};
-ghost use Rattle.adya_audit.specs.Meaning.Verdicts.{plain_verdict, Refuses, verdict_of};
+ghost use Rattle.adya_audit.specs.Meaning.Verdicts.{plain_verdict, verdict_of};
 ghost use Rattle.adya_audit.specs.Meaning.Laws.{IsSerializableBy};
+ghost use Rattle.adya_audit.specs.Machinery.Refusals.{Refuses};
 
 use crate::Verdict;
 use crate::judge::judge;
-use crate::laws::{accepted_is_serializable, yes_where_accepted};
+use crate::laws::{accepted_is_serializable, yes_iff_accepted};
 use adya_terms::Checked;
 use adya_values::{CheckFault, History, Serial};
 use std::alloc::{AllocError, Global};
@@ -22,7 +23,7 @@ pub fn audit(alloc: Global, history: &History, serial: &Serial) -> Result<Verdic
     ensures promise { IfOk result (λ v. v ≡ Verdict.Yes
         → IsSerializableBy (history_of history.now) (serial_txns serial.now)) }
 {
-    yes_where_accepted();
+    yes_iff_accepted();
     accepted_is_serializable();
     verdict(alloc, history, serial)
 }

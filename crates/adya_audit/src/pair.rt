@@ -7,7 +7,7 @@ ghost use Rattle.adya_audit.specs.Meaning.Verdicts.{plain_verdict};
 ghost use Rattle.adya_audit.specs.Meaning.Output.{verdict_line};
 ghost use Rattle.adya_audit.specs.Meaning.TextVerdicts.{IsVerdictOn, NamesHistoryFault, AreAccepted, AreSerializable};
 
-use crate::laws::{accepted_texts_are_serializable, yes_where_texts_accepted};
+use crate::laws::{accepted_texts_are_serializable, yes_iff_texts_accepted};
 use crate::{RunFault, Text, Verdict, audit, write_verdict};
 use adya_text::laws::fault_lines;
 use adya_text::{ReadFault, read_history_early, read_serial_early};
@@ -46,7 +46,7 @@ pub fn run_audit<H: Read, C: Read, W: Write>(
     ensures write_fault { IsErrOf result RunFault.Write → has_failed out.new ≡ true }
     ensures unwritten { IfErr result (λ e. e ≢ RunFault.Write → out.new ≡ out.old) }
 {
-    yes_where_texts_accepted();
+    yes_iff_texts_accepted();
     accepted_texts_are_serializable();
     let verdict = verdict_on_streams(alloc, history, certificate)?;
     write_verdict(&verdict, out)?;

@@ -7,7 +7,7 @@ ghost use Rattle.adya_audit.specs.Meaning.Verdicts.{plain_verdict};
 ghost use Rattle.adya_audit.specs.Meaning.Output.{verdict_line};
 ghost use Rattle.adya_audit.specs.Meaning.TextVerdicts.{IsVerdictOnStream, IsAcceptedStream, IsSerializableStream};
 
-use crate::laws::{accepted_texts_are_serializable, yes_where_texts_accepted};
+use crate::laws::{accepted_texts_are_serializable, yes_iff_texts_accepted};
 use crate::{RunFault, Verdict, audit, write_verdict};
 use adya_text::{ReadFault, read_texts_from};
 use devices::Watched;
@@ -38,7 +38,7 @@ pub fn run_pipe<R: Read, W: Write>(
     ensures no_other { IsErrOf result RunFault.ReadSerial → ⊥ }
     ensures unwritten { IfErr result (λ e. e ≢ RunFault.Write → out.new ≡ out.old) }
 {
-    yes_where_texts_accepted();
+    yes_iff_texts_accepted();
     accepted_texts_are_serializable();
     let verdict = verdict_on_stream(alloc, input)?;
     write_verdict(&verdict, out)?;

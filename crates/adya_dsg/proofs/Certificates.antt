@@ -21,7 +21,7 @@ use Rattle.adya_dsg.specs.declared.found.Found.{Found}
 use Rattle.adya_dsg.specs.declared.found.Found.TheVariants.{Serial, Cycle}
 use Rattle.adya_dsg.specs.Meaning.Values.{edge_of}
 use Rattle.adya_dsg.specs.Meaning.Found.{IsFound, NoneBesideCycle}
-use Rattle.adya_dsg.specs.Meaning.Laws.{CycleExcludesCertificates, EdgesJoinCommitted, CertifiedWhereNoPhenomenon}
+use Rattle.adya_dsg.specs.Meaning.Laws.{CycleExcludesCertificates, EdgesJoinCommitted, CertifiedIffNoPhenomenon}
 use Rattle.adya_dsg.proofs.FirstAlong.{ends_equal, first_edges_along}
 use Rattle.adya_dsg.proofs.CommittedNodes.{committed_are_nodes}
 
@@ -131,7 +131,7 @@ cycle_kinds h es c =
 
 -- if there is no phenomenon, the order of the graph is a certificate
 pub certified : AcceptedHasNoPhenomenon → EdgeListIsExact → EdgesJoinCommitted → OrderOrCycleExists
-    → CertifiedWhereNoPhenomenon
+    → CertifiedIffNoPhenomenon
 certified none exact join exists h well_formed = (
   λ c. none h c.0 c.1,
   λ clean.

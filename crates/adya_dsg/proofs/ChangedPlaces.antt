@@ -4,7 +4,7 @@ use Rattle.std.proofs.lemmas.Option.{slice_get_read}
 use mathlib.Core.Bool.{beq}
 use Rattle.adya_values.specs.Meaning.Histories.{History}
 use Rattle.adya_values.specs.Meaning.Events.{last_write, shown}
-use Rattle.adya_values.specs.Meaning.Orders.{writers, installer, value_by, is_visible_at}
+use Rattle.adya_values.specs.Meaning.Orders.{writers, installer, shown_by, is_visible_at}
 use Rattle.adya_values.specs.Meaning.Selections.{differ, changes_matches}
 use Rattle.adya_values.specs.Computing.EdgeList.{numbers}
 use Rattle.lemmas.proofs.Steps.{drop_step}
@@ -23,7 +23,7 @@ module _ (h : History) (k ws : List ℕ) (w : writers h k ≡ ws) (i x : ℕ) (l
     (was now : Bool) (before : was ≡ is_visible_at h k i)
     (here : now ≡ is_some (shown (last_write x k h.events))) where
   visible_here : is_visible_at h k (suc i) ≡ now
-  visible_here = ap (λ o. is_some (value_by h k o)) (installer_is h k ws i x w l e) ∙ sym here
+  visible_here = ap (λ o. is_some (shown_by k h.events o)) (installer_is h k ws i x w l e) ∙ sym here
 
   pub visible_next : now ≡ is_visible_at h k (i + 1)
   visible_next =

@@ -5,7 +5,7 @@ use Rattle.std.proofs.Math.Nat.{suc-mod, mod-lt}
 use Rattle.std.proofs.lemmas.Bool.{cases_lt, le-leb, lt-leb}
 use Rattle.std.proofs.lemmas.Option.{slice_get_past}
 use Rattle.adya_values.specs.Meaning.Histories.{History}
-use Rattle.adya_values.specs.Meaning.Orders.{writers, value_by, is_visible_at}
+use Rattle.adya_values.specs.Meaning.Orders.{writers, shown_by, is_visible_at}
 use Rattle.adya_values.specs.Meaning.Selections.{differ, changes_matches}
 use Rattle.adya_values.specs.Computing.EdgeList.{numbers}
 use Rattle.adya_dsg.specs.Machinery.Links.{changed_places}
@@ -116,4 +116,4 @@ module _ (h : History) (k : List ℕ) where
 
   pub not_visible : (p : ℕ) → length (writers h k) < p → is_visible_at h k p ≡ false
   not_visible zero l = absurd (omega (arith, l))
-  not_visible (suc p) l = ap (λ o. is_some (value_by h k o)) (slice_get_past (writers h k) p (omega (arith, l)))
+  not_visible (suc p) l = ap (λ o. is_some (shown_by k h.events o)) (slice_get_past (writers h k) p (omega (arith, l)))

@@ -1,6 +1,6 @@
 //! Laws of the graph of a history, each proved as the contract of a function that does nothing.
 
-ghost use Rattle.adya_dsg.specs.Meaning.Laws.{CycleExcludesCertificates, EdgesJoinCommitted, CertifiedWhereNoPhenomenon, BadReadExcludesCertificates};
+ghost use Rattle.adya_dsg.specs.Meaning.Laws.{CycleExcludesCertificates, EdgesJoinCommitted, CertifiedIffNoPhenomenon, BadReadExcludesCertificates};
 
 use adya_laws::{accepted_has_no_phenomenon, edge_list_is_exact};
 use digraph::{cycle_excludes_order, order_or_cycle_exists};
@@ -21,8 +21,8 @@ pub fn edges_join_committed()
 
 /// A well-formed history is accepted with some certificate if and only if it shows none of the phenomena that level
 /// PL-3 proscribes: neither G1 nor G2 (Adya 1999, section 3.2).
-pub fn certified_where_no_phenomenon()
-    ensures { CertifiedWhereNoPhenomenon }
+pub fn certified_iff_no_phenomenon()
+    ensures { CertifiedIffNoPhenomenon }
 {
     accepted_has_no_phenomenon();
     edge_list_is_exact();

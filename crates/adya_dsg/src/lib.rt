@@ -33,7 +33,7 @@ pub use backward::first_backward;
 pub use edge::{Edge, Kind};
 pub use found::Found;
 pub use laws::{
-    bad_read_excludes_certificates, certified_where_no_phenomenon, cycle_excludes_certificates,
+    bad_read_excludes_certificates, certified_iff_no_phenomenon, cycle_excludes_certificates,
     edges_join_committed,
 };
 pub use listing::edges;

@@ -18,9 +18,7 @@ use crate::Found;
 use crate::along::edges_along;
 use crate::arcs::arcs_of_edges;
 use crate::event_links::is_scan;
-use crate::laws::{
-    certified_where_no_phenomenon, cycle_excludes_certificates, edges_join_committed,
-};
+use crate::laws::{certified_iff_no_phenomenon, cycle_excludes_certificates, edges_join_committed};
 use crate::links::links;
 use crate::nodes::{committed, serial_of};
 use crate::version_orders::VersionOrders;
@@ -42,7 +40,7 @@ pub fn order(alloc: Global, checked: &Checked) -> Result<Found, AllocError>
     ensures decided { let h = checked_history checked.now in
         HasCertificate h ↔ ((HasG1 h → ⊥) × (HasG2 h → ⊥)) }
 {
-    certified_where_no_phenomenon();
+    certified_iff_no_phenomenon();
     cycle_excludes_certificates();
     let nodes = committed(alloc, checked.history().events())?;
     let versions = VersionOrders::of(alloc, checked)?;

@@ -9,7 +9,7 @@ ghost use Rattle.adya_dsg.specs.Machinery.VersionOrders.{ordered_history, order_
 ghost use Rattle.adya_dsg.specs.Machinery.Choices.{choices, choice_of, key_at};
 
 use crate::version_orders::{VersionOrders, is_below};
-use adya_terms::laws::checked_where_no_fault;
+use adya_terms::laws::checked_iff_no_fault;
 use adya_values::{Entry, Event, Key, Txn, Version};
 use std::alloc::{AllocError, Global};
 
@@ -31,7 +31,7 @@ pub(crate) fn selections(
     ensures choices { let h = ordered_history versions.now in
         IfOk result (λ v. map (choice_of h) v.items ≡ choices h (event_of event.now)) }
 {
-    checked_where_no_fault();
+    checked_iff_no_fault();
     match event {
         Event::Read { txn, version, .. } => {
             let mut selections = Vec::new(alloc);

@@ -1,7 +1,7 @@
 pub mod Dependencies
 pub mod EdgeList
 pub mod AcceptedHasNoPhenomenon
-pub mod AcceptedWhereForward
+pub mod AcceptedIffForward
 pub mod CheckedReads
 pub mod VersionOrders
 pub mod SerialRuns

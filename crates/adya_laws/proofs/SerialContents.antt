@@ -2,10 +2,9 @@
 use Rattle.std.proofs.Common.{◌≡◌, ◌≢◌, ℕ, suc, ◌+◌, ◌<◌, ◌≤◌, true, false, List, ◌∷◌, ◌++◌, length, Option, Some, None, is_some, refl, sym, ◌∙◌, ap, subst, arith, inl, inr}
 use Rattle.std.proofs.lemmas.Bool.{cases_Bool, cases_lt, and_parts, and_cases, both_ways}
 use Rattle.std.proofs.lemmas.Option.{same_Some, none-some}
-use Rattle.adya_values.specs.Meaning.Histories.{Entry}
-use Rattle.adya_values.specs.Meaning.Histories.{History}
+use Rattle.adya_values.specs.Meaning.Histories.{Entry, History}
 use Rattle.adya_values.specs.Meaning.Events.{is_committed, last_write, shown}
-use Rattle.adya_values.specs.Meaning.Orders.{place, writers, installer, value_by, value_at}
+use Rattle.adya_values.specs.Meaning.Orders.{place, writers, installer, shown_by, value_at}
 use Rattle.adya_values.specs.Meaning.Rules.{installs}
 use Rattle.adya_values.specs.Meaning.Acceptance.{IsAccepted}
 use Rattle.adya_laws.proofs.SerialRuns.{over}
@@ -75,7 +74,7 @@ module _ (h : History) (ts : List ℕ) (a : IsAccepted h ts) (front : List ℕ) 
       record {
         upto = suc i;
         within = installer_within h k (suc i) t own;
-        value = over_some (last_write t k h.events) v (and_parts _ _ e).1 ∙ ap (value_by h k) (sym own);
+        value = over_some (last_write t k h.events) v (and_parts _ _ e).1 ∙ ap (shown_by k h.events) (sym own);
         done = λ q u f l.
             elim (cases_lt q (suc i)) [
               | inl less ↦ let before = rises h ts a k q (suc i) u t f own less in omega (arith, before, here)

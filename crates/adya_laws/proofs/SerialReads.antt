@@ -7,7 +7,7 @@ use Rattle.adya_values.specs.declared.event.Version.{Version}
 use Rattle.adya_values.specs.Meaning.Keys.{key_eq, lies_in, keys_rise}
 use Rattle.adya_values.specs.Meaning.Histories.{Live, Entry, Event, Write, Delete, Read, Scan, Commit, Abort, History}
 use Rattle.adya_values.specs.Meaning.Events.{txn_of, entry, written, observed, last_write, is_committed, listed, shown}
-use Rattle.adya_values.specs.Meaning.Orders.{place, writers, installer, value_by, value_at, is_visible_at}
+use Rattle.adya_values.specs.Meaning.Orders.{place, writers, installer, shown_by, value_at, is_visible_at}
 use Rattle.adya_values.specs.Meaning.Selections.{selected, reads_from, overwritten_by, differ, place_of}
 use Rattle.adya_values.specs.Meaning.Edges.{Wr, Rw, Edge}
 use Rattle.adya_values.specs.Meaning.Serial.{Contents, run, events_of, Sees}
@@ -21,11 +21,10 @@ use Rattle.adya_laws.proofs.SerialContents.{HoldsVersion, t_committed, place_her
 use Rattle.adya_laws.proofs.ListedPairs.{pairs_from_keys}
 use Rattle.adya_values.proofs.KeyLookups.{listed_from, listed_found}
 use Rattle.adya_values.proofs.Places.{installer_there}
-use Rattle.adya_values.proofs.Writes.{writer_of}
+use Rattle.adya_values.proofs.Writes.{writer_of, last_write_from, last_write_missing}
 use Rattle.lemmas.proofs.Members.{Contains-head}
 use Rattle.lemmas.proofs.Orderings.{bytes_eq-itself}
 use Rattle.lemmas.proofs.Options.{none_unless_some}
-use Rattle.adya_values.proofs.Writes.{last_write_from, last_write_missing}
 
 pub same_from_not_differ : (x y : Bool) → (differ x y ≡ true → ⊥) → x ≡ y
 same_from_not_differ true true h = refl
@@ -141,7 +140,7 @@ module _ (h : History) (ts : List ℕ) (a : IsAccepted h ts) (front : List ℕ) 
       ] in
       let same : s.upto ≡ suc p = omega (arith, low, high) in
       s.value ∙ (ap (value_at h k) same ∙
-      (ap (value_by h k) other.installs ∙ (ap shown other.last ∙ ap (λ w. shown (Some w)) live)))
+      (ap (shown_by k h.events) other.installs ∙ (ap shown other.last ∙ ap (λ w. shown (Some w)) live)))
 
   -- the version that a scan selects is what the key holds before the transaction
   module _ (u : ℕ) (low high : List ℕ) (l : List Entry) (k : List ℕ) (p : ℕ) (m : Option (List ℕ))
@@ -216,7 +215,7 @@ module _ (h : History) (ts : List ℕ) (a : IsAccepted h ts) (front : List ℕ) 
         (reads_from_itself h (Scan u low high l) k (suc p)) inst other.not_own in
         scan_holds u low high l k (suc p) (m k) occurs mine selects (stands k)
         ((stands k).only (suc p) o.version.txn inst early) ∙
-        (ap (value_by h k) inst ∙ (ap (λ j. shown (last_write o.version.txn j h.events)) (sym at.1) ∙
+        (ap (shown_by k h.events) inst ∙ (ap (λ j. shown (last_write o.version.txn j h.events)) (sym at.1) ∙
         ap shown other.last))
 
     pub scan_sees : (u : ℕ) (low high : List ℕ) (l : List Entry) → Contains h.events (Scan u low high l) → u ≡ t

@@ -1,15 +1,13 @@
 -- Worked histories and certificates, with the verdict on each.
 use Rattle.std.proofs.Common.{◌≡◌, ℕ, true, false, List, [], ◌∷◌, Some, None, refl, codes}
 use Rattle.adya_values.specs.declared.fault.Rule.TheVariants.{M1, M2, M3, M4, M5, M6, M7, M8}
-use Rattle.adya_values.specs.declared.fault.CheckFault.{CheckFault}
-use Rattle.adya_values.specs.declared.fault.CheckFault.TheVariants.{Malformed, AbortedRead, IntermediateRead}
+use Rattle.adya_values.specs.Computing.Faults.{Fault, Malformed, AbortedRead, IntermediateRead, first_fault}
 use Rattle.adya_values.specs.Meaning.Histories.{Live, Dead, Event, Write, Delete, Read, Scan, Commit, Abort, Order, FinalPair, History}
 use Rattle.adya_values.specs.declared.edition.Edition.TheVariants.{One, Two}
 use Rattle.adya_values.specs.Meaning.Events.{version, entry}
 use Rattle.adya_values.specs.Meaning.Edges.{Kind, Ww, Wr, Rw, Edge}
 use Rattle.adya_values.specs.Computing.EdgeList.{edge_list}
 use Rattle.adya_values.specs.Meaning.Serial.{pair}
-use Rattle.adya_values.specs.Computing.Faults.{first_fault}
 use Rattle.adya_values.specs.Computing.Certificates.{lists_the_committed, first_backward}
 
 abbrev pub a : List ℕ
@@ -51,7 +49,7 @@ Yes h ts = (first_fault h ≡ None) × (lists_the_committed h ts ≡ true) × (f
 abbrev pub Backward : History → List ℕ → Edge → Type 0
 Backward h ts e = (first_fault h ≡ None) × (lists_the_committed h ts ≡ true) × (first_backward h ts ≡ Some e)
 
-abbrev pub Faulty : History → CheckFault → Type 0
+abbrev pub Faulty : History → Fault → Type 0
 Faulty h f = first_fault h ≡ Some f
 
 abbrev pub NotTheCommitted : History → List ℕ → Type 0

@@ -2,7 +2,7 @@
 //! function that does nothing.
 #![tactic(auto)]
 
-ghost use Rattle.adya_laws.specs.Meaning.Laws.{EdgeListIsExact, EdgeListIsDistinct, EdgeListKeepsFirst, AcceptedHasNoPhenomenon, AcceptedWhereForward, AcceptedAgrees, SelectedIsInstalled};
+ghost use Rattle.adya_laws.specs.Meaning.Laws.{EdgeListIsExact, EdgeListIsDistinct, EdgeListKeepsFirst, AcceptedHasNoPhenomenon, AcceptedIffForward, AcceptedAgrees, SelectedIsInstalled};
 
 pub use adya_rules::first_faults;
 
@@ -29,8 +29,8 @@ pub fn accepted_has_no_phenomenon()
 
 /// A checked history is accepted with a certificate exactly if the certificate lists each committed transaction once
 /// and no other, and no edge goes backward in it.
-pub fn accepted_where_forward()
-    ensures { AcceptedWhereForward }
+pub fn accepted_iff_forward()
+    ensures { AcceptedIffForward }
 {}
 
 /// Running the transactions of an accepted history one after the other, in the certificate's order on an initially

@@ -7,11 +7,10 @@ use Rattle.lemmas.proofs.Lists.{nil_left, nil_right, nil_from_map}
 use Rattle.lemmas.proofs.Members.{none_contained, Contains-slice_get, slice_get-contained}
 use Rattle.lemmas.proofs.Filters.{Contains-filter}
 use Rattle.adya_values.specs.declared.event.Version.{Version}
-use Rattle.adya_values.specs.declared.fault.CheckFault.{CheckFault}
+use Rattle.adya_values.specs.Computing.Faults.{Fault, bad_reads, first}
 use Rattle.adya_values.specs.Meaning.Histories.{Entry, Event, History}
 use Rattle.adya_values.specs.Meaning.Events.{txn_of, observed, is_committed}
 use Rattle.adya_values.specs.Meaning.Phenomena.{ReadsCommitted}
-use Rattle.adya_values.specs.Computing.Faults.{bad_reads, first}
 use Rattle.adya_values.proofs.Faults.{first_append, first_map, first_cases}
 use Rattle.adya_rules.specs.Meaning.FirstFaults.{IsOnLine, IsNoLater, IsFirstRead}
 use Rattle.adya_rules.proofs.Lines.{on_line-head, on_line-cons, on_line-empty, on_line-cases, on_line-contained, contained-on_line, on_line-same}
@@ -121,13 +120,13 @@ module _ (good : Event → Entry → Bool) (events : List Event) where
     least = λ l p y w b. f.least l p y w (bad_later e es start l p y w none b);
   }
 
-  module _ (fault : ℕ → Version → CheckFault) where
-    pub first_bad : (start : ℕ) (es : List Event) (c : CheckFault)
+  module _ (fault : ℕ → Version → Fault) where
+    pub first_bad : (start : ℕ) (es : List Event) (c : Fault)
         → first (bad_reads good fault events start es) ≡ Some c
         → (line : ℕ) × (e : Event) × (o : Entry) × (fault line o.version ≡ c) × IsFirstBad es start line e o
     first_bad start [] c f = absurd (none-some c f)
     first_bad start (e ∷ es) c f =
-        let at_line : Entry → CheckFault = λ o. fault start o.version in
+        let at_line : Entry → Fault = λ o. fault start o.version in
         elim (first_append (map at_line (filter (is_bad e) (observed e))) _ c f) [
           | inl here ↦
               let m = first_map at_line (filter (is_bad e) (observed e)) c here in
@@ -147,7 +146,7 @@ module _ (good : Event → Entry → Bool) (events : List Event) where
         → (l p : ℕ) (x : Event) (w : Entry) → IsBadAt es start l p x w → ⊥
     none_bad start [] none l p x w b = on_line-empty start l b.before x b.on_line
     none_bad start (e ∷ es) none l p x w b =
-        let at_line : Entry → CheckFault = λ o. fault start o.version in
+        let at_line : Entry → Fault = λ o. fault start o.version in
         let here = map at_line (filter (is_bad e) (observed e)) in
         let later = bad_reads good fault events (suc start) es in
         none_bad (suc start) es (nil_right here later none) l p x w
@@ -162,8 +161,8 @@ no_later_same a b c d (inl l) (inr m) = let e = m.0 in absurd (omega (arith, l, 
 no_later_same a b c d (inr l) (inl m) = let e = l.0 in absurd (omega (arith, m, e))
 no_later_same a b c d (inr l) (inr m) = let x = l.1 in let y = m.1 in (l.0, omega (arith, x, y))
 
-module _ (h : History) (good : Event → Entry → Bool) (fault : ℕ → Version → CheckFault) where
-  abbrev all_bad : List CheckFault
+module _ (h : History) (good : Event → Entry → Bool) (fault : ℕ → Version → Fault) where
+  abbrev all_bad : List Fault
   all_bad = bad_reads good fault h.events 2 h.events
 
   abbrev IsBad : ℕ → ℕ → Event → Entry → Type 0

@@ -7,14 +7,12 @@ use Rattle.std.proofs.lemmas.List.{append-nil}
 use Rattle.std.proofs.lemmas.List.Elements.{Contains-append_left, Contains-append_right, Contains-append_cases}
 use Rattle.adya_values.specs.declared.fault.Rule.{Rule}
 use Rattle.adya_values.specs.declared.fault.Rule.TheVariants.{M1, M2, M3, M4, M5, M6, M7, M8}
-use Rattle.adya_values.specs.declared.fault.CheckFault.{CheckFault}
-use Rattle.adya_values.specs.declared.fault.CheckFault.TheVariants.{Malformed}
+use Rattle.adya_values.specs.Computing.Faults.{Fault, Malformed, is_open, is_next, was_written, sees_own, is_rising, fault_unless, faults_at, event_faults, all_end, has_lines, last_value, has_finals}
 use Rattle.adya_values.specs.Meaning.Keys.{key_eq}
 use Rattle.adya_values.specs.Meaning.Histories.{Event, History}
 use Rattle.adya_values.specs.Meaning.Events.{txn_of, written, is_committed, has_ended, is_unfinished}
-use Rattle.adya_values.specs.Meaning.Orders.{value_by, writers, installer}
+use Rattle.adya_values.specs.Meaning.Orders.{shown_by, writers, installer}
 use Rattle.adya_values.specs.Meaning.Rules.{final_value}
-use Rattle.adya_values.specs.Computing.Faults.{is_open, is_next, was_written, sees_own, is_rising, fault_unless, faults_at, event_faults, all_end, has_lines, last_value, has_finals}
 use Rattle.lemmas.proofs.Members.{none_contained, Contains-head}
 use Rattle.lemmas.proofs.Tests.{list_any-source, list_any_when, list_all-failed, list_all_fails_at}
 use Rattle.lemmas.proofs.Orderings.{bytes_eq-same, bytes_eq-from}
@@ -44,7 +42,7 @@ unless_from false line rule l r (zero, lt, e) = (refl, same_line line rule l r e
 unless_from false line rule l r (suc i, lt, e) = absurd (omega (arith, lt))
 
 -- of a list with a fault for each line whose test fails: which faults it holds
-module _ {X : Type 0} (test : X → Bool) (rule : Rule) (faults : ℕ → List X → List CheckFault)
+module _ {X : Type 0} (test : X → Bool) (rule : Rule) (faults : ℕ → List X → List Fault)
     (none : (line : ℕ) → faults line [] ≡ [])
     (step : HasFaultPerLine test rule faults) where
   pub line_there : (start : ℕ) (xs : List X) (line : ℕ) (before : List X) (x : X) → IsOnLine xs start line before x
@@ -193,7 +191,7 @@ event_from front start (x ∷ es) line r c =
           )
     ]
 
-pub value_installer : (h : History) (k : List ℕ) (i : Option ℕ) (v : List ℕ) → value_by h k i ≡ Some v
+pub value_installer : (h : History) (k : List ℕ) (i : Option ℕ) (v : List ℕ) → shown_by k h.events i ≡ Some v
     → (u : ℕ) × (i ≡ Some u)
 value_installer h k None v e = absurd (none-some v e)
 value_installer h k (Some u) v e = (u, refl)

@@ -6,22 +6,19 @@ use Rattle.std.proofs.lemmas.Option.{same_Some}
 use Rattle.std.proofs.lemmas.List.Elements.{Contains-append_cases}
 use Rattle.adya_values.specs.declared.fault.Rule.{Rule}
 use Rattle.adya_values.specs.declared.fault.Rule.TheVariants.{M1, M2, M3, M4, M5, M6, M7, M8}
-use Rattle.adya_values.specs.declared.fault.CheckFault.{CheckFault}
-use Rattle.adya_values.specs.declared.fault.CheckFault.TheVariants.{Malformed, AbortedRead, IntermediateRead, Memory}
+use Rattle.adya_values.specs.Computing.Faults.{Fault, Malformed, AbortedRead, IntermediateRead, is_open, is_next, was_written, sees_own, is_rising, fault_unless, faults_at, event_faults, unfinished_faults, all_end, lists_exactly, order_faults, has_lines, last_value, is_value, final_faults, has_finals, unfinished_line, orders_line, finals_line, tail_line, malformed, first}
 use Rattle.adya_values.specs.Meaning.Histories.{Event, Order, FinalPair, History}
 use Rattle.adya_values.specs.Meaning.Events.{written, has_ended}
 use Rattle.adya_values.specs.Meaning.Rules.{installs}
-use Rattle.adya_values.specs.Computing.Faults.{is_open, is_next, was_written, sees_own, is_rising, fault_unless, faults_at, event_faults, unfinished_faults, all_end, lists_exactly, order_faults, has_lines, last_value, is_value, final_faults, has_finals, unfinished_line, orders_line, finals_line, tail_line, malformed, first}
 use Rattle.lemmas.proofs.Members.{none_contained, Contains-cases}
 use Rattle.adya_values.proofs.Faults.{HasFaultPerLine, first_append, first_contained}
 use Rattle.adya_rules.specs.Meaning.FirstFaults.{number, IsNoLater}
 
 -- a number that rises with line and rule; that of other faults is 0
-abbrev pub rank : CheckFault → ℕ
+abbrev pub rank : Fault → ℕ
 rank (Malformed line rule) = 9 * line + number rule
 rank (AbortedRead line v) = 0
 rank (IntermediateRead line v) = 0
-rank Memory = 0
 
 pub number_low : (r : Rule) → 1 ≤ number r
 number_low M1 = omega arith
@@ -60,10 +57,10 @@ rank_from_no_later line rule l r (inl below) =
 rank_from_no_later line rule l r (inr same) = let e = same.0 in let le = same.1 in omega (arith, e, le)
 
 -- the ranks of the faults lie from low to below high, and that of the first is the least
-pub record InOrder (low high : ℕ) (xs : List CheckFault) : Type 0 where
-  pub from_low : (f : CheckFault) → Contains xs f → low ≤ rank f
-  pub below_high : (f : CheckFault) → Contains xs f → rank f < high
-  pub least : (f g : CheckFault) → first xs ≡ Some f → Contains xs g → rank f ≤ rank g
+pub record InOrder (low high : ℕ) (xs : List Fault) : Type 0 where
+  pub from_low : (f : Fault) → Contains xs f → low ≤ rank f
+  pub below_high : (f : Fault) → Contains xs f → rank f < high
+  pub least : (f g : Fault) → first xs ≡ Some f → Contains xs g → rank f ≤ rank g
 
 pub none_in_order : (low high : ℕ) → InOrder low high []
 none_in_order low high = record {
@@ -72,7 +69,7 @@ none_in_order low high = record {
   least = λ f g e c. absurd (none_contained g c);
 }
 
-pub wider : (low high less more : ℕ) (xs : List CheckFault) → InOrder low high xs → less ≤ low → high ≤ more
+pub wider : (low high less more : ℕ) (xs : List Fault) → InOrder low high xs → less ≤ low → high ≤ more
     → InOrder less more xs
 wider low high less more xs o l m = record {
   from_low = λ f c. let h = o.from_low f c in omega (arith, h, l);
@@ -80,8 +77,8 @@ wider low high less more xs o l m = record {
   least = o.least;
 }
 
-pub least_append : (low mid high : ℕ) (xs ys : List CheckFault) → InOrder low mid xs → InOrder mid high ys
-    → (f g : CheckFault) → first (xs ++ ys) ≡ Some f → Contains (xs ++ ys) g → rank f ≤ rank g
+pub least_append : (low mid high : ℕ) (xs ys : List Fault) → InOrder low mid xs → InOrder mid high ys
+    → (f g : Fault) → first (xs ++ ys) ≡ Some f → Contains (xs ++ ys) g → rank f ≤ rank g
 least_append low mid high xs ys o p f g e c =
     elim (first_append xs ys f e) [
       | inl here ↦
@@ -99,7 +96,7 @@ least_append low mid high xs ys o p f g e c =
           ])
     ]
 
-pub append_in_order : (low mid high : ℕ) (xs ys : List CheckFault) → low ≤ mid → mid ≤ high → InOrder low mid xs
+pub append_in_order : (low mid high : ℕ) (xs ys : List Fault) → low ≤ mid → mid ≤ high → InOrder low mid xs
     → InOrder mid high ys → InOrder low high (xs ++ ys)
 append_in_order low mid high xs ys l m o p = record {
   from_low = λ f c. elim (Contains-append_cases xs ys f c) [
@@ -113,13 +110,13 @@ append_in_order low mid high xs ys l m o p = record {
   least = least_append low mid high xs ys o p;
 }
 
-pub only_one : (x f : CheckFault) → Contains (x ∷ []) f → x ≡ f
+pub only_one : (x f : Fault) → Contains (x ∷ []) f → x ≡ f
 only_one x f c = elim (Contains-cases x [] f c) [
   | inl e ↦ e
   | inr r ↦ absurd (none_contained f r)
 ]
 
-pub one_in_order : (x : CheckFault) (low high : ℕ) → low ≤ rank x → rank x < high → InOrder low high (x ∷ [])
+pub one_in_order : (x : Fault) (low high : ℕ) → low ≤ rank x → rank x < high → InOrder low high (x ∷ [])
 one_in_order x low high l m = record {
   from_low = λ f c. subst (λ y. low ≤ rank y) (only_one x f c) l;
   below_high = λ f c. subst (λ y. rank y < high) (only_one x f c) m;
@@ -131,7 +128,7 @@ pub unless_in_order : (b : Bool) (line : ℕ) (rule : Rule) (low high : ℕ) →
 unless_in_order true line rule low high l m = none_in_order low high
 unless_in_order false line rule low high l m = one_in_order (Malformed line rule) low high l m
 
-module _ {X : Type 0} (test : X → Bool) (rule : Rule) (faults : ℕ → List X → List CheckFault)
+module _ {X : Type 0} (test : X → Bool) (rule : Rule) (faults : ℕ → List X → List Fault)
     (none : (line : ℕ) → faults line [] ≡ [])
     (step : HasFaultPerLine test rule faults) where
   pub lines_in_order : (start : ℕ) (xs : List X)
@@ -251,8 +248,7 @@ same_from_ranks line rule l r a b =
     ap (λ n. Malformed n rule) lines ∙ ap (Malformed l) (same_number rule r numbers)
 
 -- a fault with a rank is one of the rules
-pub malformed_from_rank : (f : CheckFault) → 1 ≤ rank f → (line : ℕ) × (rule : Rule) × (f ≡ Malformed line rule)
+pub malformed_from_rank : (f : Fault) → 1 ≤ rank f → (line : ℕ) × (rule : Rule) × (f ≡ Malformed line rule)
 malformed_from_rank (Malformed line rule) l = (line, rule, refl)
 malformed_from_rank (AbortedRead line v) l = absurd (omega (arith, l))
 malformed_from_rank (IntermediateRead line v) l = absurd (omega (arith, l))
-malformed_from_rank Memory l = absurd (omega (arith, l))

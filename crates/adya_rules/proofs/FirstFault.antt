@@ -6,14 +6,13 @@ use Rattle.lemmas.proofs.Lists.{nil_left, nil_right, both_nil}
 use Rattle.lemmas.proofs.Members.{none_contained}
 use Rattle.adya_values.specs.declared.event.Version.{Version}
 use Rattle.adya_values.specs.declared.fault.Rule.{Rule}
-use Rattle.adya_values.specs.declared.fault.CheckFault.TheVariants.{Malformed, AbortedRead, IntermediateRead}
+use Rattle.adya_values.specs.Computing.Faults.{Malformed, AbortedRead, IntermediateRead, malformed, aborted_reads, is_last_of_another, intermediate_reads, first, check_faults, first_fault}
 use Rattle.adya_values.specs.Meaning.Histories.{Entry, Event, History}
 use Rattle.adya_values.specs.Computing.Shapes.{is_shape}
 use Rattle.adya_values.specs.Meaning.Events.{txn_of, last_write, is_aborted}
 use Rattle.adya_values.specs.Meaning.Rules.{IsWellFormed}
 use Rattle.adya_values.specs.Meaning.Phenomena.{HasG1a, HasG1b}
 use Rattle.adya_values.specs.Meaning.Acceptance.{IsChecked}
-use Rattle.adya_values.specs.Computing.Faults.{malformed, aborted_reads, is_last_of_another, intermediate_reads, first, check_faults, first_fault}
 use Rattle.adya_values.proofs.Entries.{is_entry-same, is_entry-from}
 use Rattle.adya_values.proofs.Faults.{first_append, first_contained, first_left, first_cases, nil_from_first}
 use Rattle.adya_rules.specs.Meaning.FirstFaults.{BreaksRule, IsFirstMalformed, ReadsAborted, ReadsIntermediate, IsFirstAbortedRead, IsFirstIntermediateRead}

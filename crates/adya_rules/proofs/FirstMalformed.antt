@@ -5,12 +5,10 @@ use Rattle.std.proofs.lemmas.Bool.{both_ways, not-false, not_from_true, false_fr
 use Rattle.std.proofs.lemmas.List.Elements.{Contains-append_left, Contains-append_right, Contains-append_cases}
 use Rattle.adya_values.specs.declared.fault.Rule.{Rule}
 use Rattle.adya_values.specs.declared.fault.Rule.TheVariants.{M1, M2, M3, M4, M5, M6, M7, M8}
-use Rattle.adya_values.specs.declared.fault.CheckFault.{CheckFault}
-use Rattle.adya_values.specs.declared.fault.CheckFault.TheVariants.{Malformed}
+use Rattle.adya_values.specs.Computing.Faults.{Fault, Malformed, fault_unless, event_faults, unfinished_faults, all_end, lists_exactly, order_faults, has_lines, last_value, is_value, final_faults, has_finals, unfinished_line, orders_line, finals_line, tail_line, malformed, first}
 use Rattle.adya_values.specs.Meaning.Histories.{Event, Order, FinalPair, History}
 use Rattle.adya_values.specs.Meaning.Events.{has_ended}
 use Rattle.adya_values.specs.Meaning.Rules.{installs}
-use Rattle.adya_values.specs.Computing.Faults.{fault_unless, event_faults, unfinished_faults, all_end, lists_exactly, order_faults, has_lines, last_value, is_value, final_faults, has_finals, unfinished_line, orders_line, finals_line, tail_line, malformed, first}
 use Rattle.adya_values.proofs.Faults.{first_contained, first_there}
 use Rattle.adya_rules.specs.Meaning.FirstFaults.{IsOnLine, BreaksRule, IsFirstMalformed}
 use Rattle.adya_rules.proofs.RuleTests.{open_test, numbered_test, written_test, own_test, rising_test, writers_test, value_test}
@@ -51,19 +49,19 @@ module _ (h : History) where
       subst (BreaksRule h line) u.0 (inl (u.1, u.2, u.3, λ e. both_ways _ u.4 ((value_test _ _).1 e)))
 
   -- the faults from each part of the list on
-  abbrev pub from_finals : List CheckFault
+  abbrev pub from_finals : List Fault
   from_finals = final_faults h (finals_line h) h.finals ++ fault_unless (has_finals h) (tail_line h) M8
 
-  abbrev pub from_missing_order : List CheckFault
+  abbrev pub from_missing_order : List Fault
   from_missing_order = fault_unless (has_lines h) (finals_line h) M7 ++ from_finals
 
-  abbrev pub from_orders : List CheckFault
+  abbrev pub from_orders : List Fault
   from_orders = order_faults h.events (orders_line h) h.orders ++ from_missing_order
 
-  abbrev pub from_ends : List CheckFault
+  abbrev pub from_ends : List Fault
   from_ends = fault_unless (all_end h) (orders_line h) M6 ++ from_orders
 
-  abbrev pub from_unfinished : List CheckFault
+  abbrev pub from_unfinished : List Fault
   from_unfinished = unfinished_faults h.events (unfinished_line h) h.unfinished ++ from_ends
 
   pub finals_break : (line : ℕ) (r : Rule) → Contains from_finals (Malformed line r) → BreaksRule h line r
@@ -111,44 +109,44 @@ module _ (h : History) where
       ]
 
   -- which part of the list a fault stands in
-  pub in_events : (x : CheckFault) → Contains (event_faults [] 2 h.events) x → Contains (malformed h) x
+  pub in_events : (x : Fault) → Contains (event_faults [] 2 h.events) x → Contains (malformed h) x
   in_events x c = Contains-append_left (event_faults [] 2 h.events) _ x c
 
-  pub in_unfinished : (x : CheckFault) → Contains (unfinished_faults h.events (unfinished_line h) h.unfinished) x
+  pub in_unfinished : (x : Fault) → Contains (unfinished_faults h.events (unfinished_line h) h.unfinished) x
       → Contains (malformed h) x
   in_unfinished x c =
       Contains-append_right (event_faults [] 2 h.events) _ x
       (Contains-append_left (unfinished_faults h.events (unfinished_line h) h.unfinished) _ x c)
 
-  pub after_unfinished : (x : CheckFault) → Contains from_ends x → Contains (malformed h) x
+  pub after_unfinished : (x : Fault) → Contains from_ends x → Contains (malformed h) x
   after_unfinished x c =
       Contains-append_right (event_faults [] 2 h.events) _ x
       (Contains-append_right (unfinished_faults h.events (unfinished_line h) h.unfinished) _ x c)
 
-  pub in_ends : (x : CheckFault) → Contains (fault_unless (all_end h) (orders_line h) M6) x → Contains (malformed h) x
+  pub in_ends : (x : Fault) → Contains (fault_unless (all_end h) (orders_line h) M6) x → Contains (malformed h) x
   in_ends x c = after_unfinished x (Contains-append_left (fault_unless (all_end h) (orders_line h) M6) _ x c)
 
-  pub in_orders : (x : CheckFault) → Contains (order_faults h.events (orders_line h) h.orders) x
+  pub in_orders : (x : Fault) → Contains (order_faults h.events (orders_line h) h.orders) x
       → Contains (malformed h) x
   in_orders x c =
       after_unfinished x (Contains-append_right (fault_unless (all_end h) (orders_line h) M6) _ x
       (Contains-append_left (order_faults h.events (orders_line h) h.orders) _ x c))
 
-  pub after_orders : (x : CheckFault) → Contains from_missing_order x → Contains (malformed h) x
+  pub after_orders : (x : Fault) → Contains from_missing_order x → Contains (malformed h) x
   after_orders x c =
       after_unfinished x (Contains-append_right (fault_unless (all_end h) (orders_line h) M6) _ x
       (Contains-append_right (order_faults h.events (orders_line h) h.orders) _ x c))
 
-  pub in_lines : (x : CheckFault) → Contains (fault_unless (has_lines h) (finals_line h) M7) x
+  pub in_lines : (x : Fault) → Contains (fault_unless (has_lines h) (finals_line h) M7) x
       → Contains (malformed h) x
   in_lines x c = after_orders x (Contains-append_left (fault_unless (has_lines h) (finals_line h) M7) _ x c)
 
-  pub in_finals : (x : CheckFault) → Contains (final_faults h (finals_line h) h.finals) x → Contains (malformed h) x
+  pub in_finals : (x : Fault) → Contains (final_faults h (finals_line h) h.finals) x → Contains (malformed h) x
   in_finals x c =
       after_orders x (Contains-append_right (fault_unless (has_lines h) (finals_line h) M7) _ x
       (Contains-append_left (final_faults h (finals_line h) h.finals) _ x c))
 
-  pub in_tail : (x : CheckFault) → Contains (fault_unless (has_finals h) (tail_line h) M8) x → Contains (malformed h) x
+  pub in_tail : (x : Fault) → Contains (fault_unless (has_finals h) (tail_line h) M8) x → Contains (malformed h) x
   in_tail x c =
       after_orders x (Contains-append_right (fault_unless (has_lines h) (finals_line h) M7) _ x
       (Contains-append_right (final_faults h (finals_line h) h.finals) _ x c))

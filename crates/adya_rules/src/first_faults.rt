@@ -1,12 +1,12 @@
 //! The named fault of a history is the first one, and so is the named edge of a certificate. Each law is the contract
 //! of a function that does nothing.
 
-ghost use Rattle.adya_rules.specs.Meaning.FirstFaultLaws.{WellFormedWhereUnbroken, FirstMalformedIsNamed, NamedAbortedReadIsFirst, FirstAbortedReadIsNamed, NamedIntermediateReadIsFirst, FirstIntermediateReadIsNamed, FirstBackwardIsNamed};
+ghost use Rattle.adya_rules.specs.Meaning.FirstFaultLaws.{WellFormedIffUnbroken, FirstMalformedIsNamed, NamedAbortedReadIsFirst, FirstAbortedReadIsNamed, NamedIntermediateReadIsFirst, FirstIntermediateReadIsNamed, FirstBackwardIsNamed};
 
 /// A history is well-formed exactly if it breaks no rule at any line. Only one direction needs that its orders and
 /// finals rise by key, as those of every history do.
-pub fn well_formed_where_unbroken()
-    ensures { WellFormedWhereUnbroken }
+pub fn well_formed_iff_unbroken()
+    ensures { WellFormedIffUnbroken }
 {}
 
 /// A broken rule is named exactly if no rule is broken on an earlier line, and none of a smaller number on its own.

@@ -1,12 +1,12 @@
 -- The first fault of joined lists, and of the events from one on.
 use Rattle.std.proofs.Common.{◌≡◌, ℕ, suc, ◌+◌, ◌<◌, not, length, get_or, Result, MatchResult, true, false, List, [], ◌∷◌, ◌++◌, Some, take, drop, sym, ◌∙◌, ap, subst, arith}
 use Rattle.adya_values.specs.declared.fault.CheckFault.{CheckFault}
-use Rattle.adya_values.specs.declared.fault.CheckFault.TheVariants.{Malformed, AbortedRead, IntermediateRead, Memory}
+use Rattle.adya_values.specs.declared.fault.CheckFault.TheVariants as Checked
 use Rattle.adya_values.specs.declared.fault.Rule.TheVariants.{M6, M7}
 use Rattle.adya_values.specs.Meaning.Histories.{Event, Order}
 use Rattle.adya_values.specs.Meaning.Events.{has_ended}
 use Rattle.adya_values.specs.Meaning.Rules.{installs}
-use Rattle.adya_values.specs.Computing.Faults.{first, faults_at, event_faults, fault_unless, lists_exactly, order_faults, unfinished_faults}
+use Rattle.adya_values.specs.Computing.Faults.{Fault, Malformed, first, faults_at, event_faults, fault_unless, lists_exactly, order_faults, unfinished_faults}
 use Rattle.adya_terms.specs.Machinery.Checks.{Names}
 use Rattle.lemmas.proofs.Steps.{drop_step}
 use Rattle.lemmas.proofs.Steps.{IsTurn}
@@ -21,7 +21,7 @@ faults_from all i e t =
     (ap (λ n. faults_at (take i all) (2 + i) e ++ event_faults (take i all ++ e ∷ []) n (drop (i + 1) all)) line ∙
     ap (λ b. faults_at (take i all) (2 + i) e ++ event_faults b (2 + (i + 1)) (drop (i + 1) all)) (sym t.front))
 
-pub fault_here : (all : List Event) (i : ℕ) (e : Event) → IsTurn all i e → (fault : CheckFault) → first (faults_at (take i all) (2 + i) e) ≡ Some fault
+pub fault_here : (all : List Event) (i : ℕ) (e : Event) → IsTurn all i e → (fault : Fault) → first (faults_at (take i all) (2 + i) e) ≡ Some fault
     → first (event_faults (take i all) (2 + i) (drop i all)) ≡ Some fault
 fault_here all i e t fault h =
     ap first (faults_from all i e t) ∙ first_left (faults_at (take i all) (2 + i) e) (event_faults (take (i + 1) all) (2 + (i + 1)) (drop (i + 1) all)) fault h
@@ -47,17 +47,17 @@ order_later all line os i o t e =
     ap (λ n. order_faults all n (drop (i + 1) os)) next)
 
 -- what is found of a list, behind one with no fault or before any
-pub names_front : (xs ys : List CheckFault) (e : CheckFault) → Names xs e → Names (xs ++ ys) e
-names_front xs ys (Malformed line rule) h = first_left xs ys _ h
-names_front xs ys (AbortedRead line version) h = first_left xs ys _ h
-names_front xs ys (IntermediateRead line version) h = first_left xs ys _ h
-names_front xs ys Memory h = tt
+pub names_front : (xs ys : List Fault) (e : CheckFault) → Names xs e → Names (xs ++ ys) e
+names_front xs ys (Checked.Malformed line rule) h = first_left xs ys _ h
+names_front xs ys (Checked.AbortedRead line version) h = first_left xs ys _ h
+names_front xs ys (Checked.IntermediateRead line version) h = first_left xs ys _ h
+names_front xs ys Checked.Memory h = tt
 
-pub found_behind : (r : Result (Unit {0}) CheckFault) (xs ys : List CheckFault) → xs ≡ [] → MatchResult r (λ u. ys ≡ []) (Names ys)
+pub found_behind : (r : Result (Unit {0}) CheckFault) (xs ys : List Fault) → xs ≡ [] → MatchResult r (λ u. ys ≡ []) (Names ys)
     → MatchResult r (λ u. xs ++ ys ≡ []) (Names (xs ++ ys))
 found_behind r xs ys none h = subst (λ zs. MatchResult r (λ u. zs ++ ys ≡ []) (Names (zs ++ ys))) (sym none) h
 
-pub names_behind : (xs ys : List CheckFault) (e : CheckFault) → xs ≡ [] → Names ys e → Names (xs ++ ys) e
+pub names_behind : (xs ys : List Fault) (e : CheckFault) → xs ≡ [] → Names ys e → Names (xs ++ ys) e
 names_behind xs ys e none h = subst (λ zs. Names (zs ++ ys) e) (sym none) h
 
 pub unfinished_here : (all : List Event) (line : ℕ) (ts : List ℕ) (i : ℕ) (t : ℕ) → i < length ts → t ≡ get_or ts i t → has_ended all t ≡ true

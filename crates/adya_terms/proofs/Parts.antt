@@ -6,7 +6,7 @@ use Rattle.adya_values.specs.declared.order.FinalPair.{FinalPair as FinalValue}
 use Rattle.adya_values.specs.declared.history.History.{History as HistoryValue}
 use Rattle.adya_values.specs.Meaning.Values.{history_of}
 use Rattle.adya_values.specs.Meaning.Histories.{History}
-use Rattle.adya_values.specs.Computing.Faults.{first, first_fault, malformed, check_faults, event_faults, fault_unless, unfinished_faults, all_end, order_faults, has_lines, unfinished_line, orders_line, finals_line}
+use Rattle.adya_values.specs.Computing.Faults.{Fault, first, first_fault, malformed, check_faults, event_faults, fault_unless, unfinished_faults, all_end, order_faults, has_lines, unfinished_line, orders_line, finals_line}
 use Rattle.adya_terms.specs.Meaning.Faults.{IsFault}
 use Rattle.adya_terms.specs.Machinery.Checks.{Names, whole, final_value_faults, rule_faults, read_faults}
 use Rattle.std.proofs.lemmas.List.{append_assoc}
@@ -16,7 +16,7 @@ use Rattle.adya_terms.proofs.Firsts.{names_front, names_behind}
 use Rattle.lemmas.proofs.Lists.{both_nil}
 
 module _ (h : History) where
-  abbrev behind_events : List CheckFault
+  abbrev behind_events : List Fault
   behind_events = unfinished_faults h.events (unfinished_line h) h.unfinished ++ rule_faults h (orders_line h)
 
   -- rule by rule they are the faults of the whole
@@ -24,7 +24,7 @@ module _ (h : History) where
   rules_joined =
       let orders = order_faults h.events (orders_line h) h.orders in
       let lines = fault_unless (has_lines h) (finals_line h) M7 in
-      ap (λ (fs : List CheckFault). event_faults [] 2 h.events ++
+      ap (λ (fs : List Fault). event_faults [] 2 h.events ++
       (unfinished_faults h.events (unfinished_line h) h.unfinished ++
       (fault_unless (all_end h) (orders_line h) M6 ++ fs)))
       (append_assoc orders lines (final_value_faults h (finals_line h)))

@@ -16,7 +16,7 @@ ghost use Rattle.adya_terms.specs.Machinery.Checks.{Names, whole, rule_faults};
 use crate::ends::{all_end, check_unfinished};
 use crate::event_index::EventIndex;
 use crate::finals::check_finals;
-use crate::laws::checked_where_no_fault;
+use crate::laws::checked_iff_no_fault;
 use crate::listed::check_orders;
 use crate::reads::check_reads;
 use crate::tables::{Ended, wrote_at};
@@ -52,7 +52,7 @@ impl<'a> Checked<'a> {
         ensures checked { IfOk result (λ c. IsChecked (checked_history c)) }
         ensures refused { IfErr result (λ e. e ≢ CheckFault.Memory → IsChecked (history_of history.now) → ⊥) }
     {
-        checked_where_no_fault();
+        checked_iff_no_fault();
         match check(
             alloc,
             history.events(),
@@ -75,7 +75,7 @@ impl<'a> Checked<'a> {
         ensures faultless { first_fault (history_of result.now) ≡ None }
         ensures checked { IsChecked (history_of result.now) }
     {
-        checked_where_no_fault();
+        checked_iff_no_fault();
         self.history
     }
 

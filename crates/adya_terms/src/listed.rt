@@ -16,7 +16,6 @@ ghost use Rattle.adya_terms.specs.Machinery.Checks.{Names, listing_faults, parts
 ghost use Rattle.adya_terms.specs.Machinery.Places.{line, line_writes, AfterLine, AfterLines, AreWrites, HasLeft, IsLeft, Judges, Leaves, Places};
 
 use crate::event_index::EventIndex;
-use crate::tables::wrote;
 use crate::{CheckFault, Entry, Event, Key, Order, Rule, Txn};
 use std::alloc::{AllocError, Global};
 use std::collections::BTreeSet;
@@ -137,7 +136,7 @@ fn unlisted_key(index: &EventIndex, places: &[usize], at: usize, event: &Event) 
     if places[at] != 0 {
         return None;
     }
-    let Some(Entry { version, .. }) = wrote(event) else {
+    let Some(Entry { version, .. }) = event.written() else {
         return None;
     };
     if unplaced(index, places, version.key, version.txn).is_none() {

@@ -6,7 +6,6 @@ ghost use Rattle.adya_values.specs.Meaning.Keys.{key_eq};
 ghost use Rattle.adya_values.specs.Meaning.Histories.{Event as EventValue, entry_of, event_of};
 ghost use Rattle.adya_terms.specs.Machinery.NewestWrites.{is_newest, Keeps};
 
-use crate::tables::wrote;
 use crate::{Entry, Event, Key};
 use std::alloc::{AllocError, Global};
 use std::collections::HashMap;
@@ -45,7 +44,7 @@ impl NewestWrites {
             → Keeps self.old before
             → Keeps self.new (before ++ event_of event.now ∷ [])) }
     {
-        if let Some(new) = &wrote(event) {
+        if let Some(new) = &event.written() {
             self.writes.insert(new.version.key, *new)?;
         }
         Ok(())

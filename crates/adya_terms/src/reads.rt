@@ -7,7 +7,7 @@ ghost use Rattle.adya_values.specs.Meaning.Events.{txn_of, written};
 ghost use Rattle.adya_values.specs.Computing.Faults.{entry_eq, was_written, bad_reads};
 ghost use Rattle.adya_terms.specs.Machinery.EventIndex.{indexed, unfinished_in};
 ghost use Rattle.adya_terms.specs.Machinery.Checks.{Names, IsFirst, refused, whole, read_faults};
-ghost use Rattle.adya_terms.specs.Machinery.Reads.{is_good, fault_of};
+ghost use Rattle.adya_terms.specs.Machinery.Reads.{is_good, fault_of, refusal_of};
 
 use crate::event_index::EventIndex;
 use crate::observed::Observed;
@@ -36,7 +36,7 @@ impl BadRead {
     }
 
     fn fault(self, line: usize, version: Version) -> CheckFault
-        ensures { result ≡ fault_of self line version }
+        ensures { result ≡ refusal_of self line version }
     {
         match self {
             BadRead::Aborted => CheckFault::AbortedRead { line, version },

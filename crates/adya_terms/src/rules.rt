@@ -19,7 +19,7 @@ use crate::newest_writes::NewestWrites;
 use crate::observed::{Observed, read_entry};
 use crate::open_writes::OpenWrites;
 use crate::scans::{all_lie_in, keys_rise, lists_own};
-use crate::tables::{Tables, wrote, wrote_at};
+use crate::tables::{Tables, wrote_at};
 use crate::{CheckFault, Entry, Event, Rule};
 use std::alloc::Global;
 
@@ -40,7 +40,7 @@ fn is_next(writes: &OpenWrites, events: &[Event], event: &Event) -> bool
         → faults.is_open before (event_of event.now) ≡ true
         → result ≡ faults.is_next before (written (event_of event.now)) }
 {
-    let Some(new) = wrote(event) else {
+    let Some(new) = event.written() else {
         return true;
     };
     let number = u32::from(new.version.m.get());
@@ -146,7 +146,7 @@ fn broken_rule(
         → newest_writes.Keeps newest.now before
         → (line : ℕ)
         → MatchOption result (faults.faults_at before line (event_of event.now) ≡ [])
-        (λ r. faults.first (faults.faults_at before line (event_of event.now)) ≡ Some (CheckFault.Malformed line r)) }
+        (λ r. faults.first (faults.faults_at before line (event_of event.now)) ≡ Some (faults.Malformed line r)) }
 {
     if !is_open(tables, event) {
         return Some(Rule::M1);

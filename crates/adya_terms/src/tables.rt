@@ -8,7 +8,7 @@ ghost use Rattle.adya_values.specs.Meaning.Events.{written};
 ghost use Rattle.adya_values.specs.Computing.Faults.{is_next, version_eq};
 ghost use Rattle.adya_terms.specs.Machinery.Tables.{own, own_eq, written_at, is_there, with_replaced, Means};
 
-use crate::{Content, Entry, Event, Key, Txn, Version};
+use crate::{Entry, Event, Key, Txn, Version};
 use std::alloc::{AllocError, Global};
 use std::collections::HashMap;
 use txn_table::TxnTable;
@@ -36,34 +36,6 @@ pub(crate) struct Tables {
     pub replaced: HashMap<Version, usize>,
 }
 
-/// Returns what the event writes.
-pub(crate) fn wrote(event: &Event) -> Option<Entry>
-    ensures { option_map entry_of result ≡ written (event_of event.now) }
-{
-    match event {
-        Event::Write { txn, key, m, value } => Some(Entry {
-            version: Version {
-                key: *key,
-                txn: *txn,
-                m: *m,
-            },
-            content: Content::Live(*value),
-        }),
-        Event::Delete { txn, key, m } => Some(Entry {
-            version: Version {
-                key: *key,
-                txn: *txn,
-                m: *m,
-            },
-            content: Content::Dead,
-        }),
-        Event::Read { .. } => None,
-        Event::Scan { .. } => None,
-        Event::Commit { .. } => None,
-        Event::Abort { .. } => None,
-    }
-}
-
 /// Returns what the event at the place writes.
 pub(crate) fn wrote_at(events: &[Event], at: Option<usize>) -> Option<Entry>
     ensures { option_map entry_of result ≡ written_at (map event_of events.now) at }
@@ -74,7 +46,7 @@ pub(crate) fn wrote_at(events: &[Event], at: Option<usize>) -> Option<Entry>
     let Some(event) = events.get(at) else {
         return None;
     };
-    wrote(event)
+    event.written()
 }
 
 /// Returns whether it is this entry.

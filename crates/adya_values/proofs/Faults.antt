@@ -6,10 +6,9 @@ use Rattle.lemmas.proofs.Members.{none_contained, Contains-cases}
 use Rattle.lemmas.proofs.Lists.{nil_left, nil_right}
 use Rattle.adya_values.specs.declared.fault.Rule.{Rule}
 use Rattle.adya_values.specs.declared.fault.Rule.TheVariants.{M1, M2, M3, M4, M5}
-use Rattle.adya_values.specs.declared.fault.CheckFault.{CheckFault}
+use Rattle.adya_values.specs.Computing.Faults.{Fault, is_open, is_next, was_written, sees_own, is_rising, fault_unless, faults_at, first}
 use Rattle.adya_values.specs.Meaning.Histories.{Event}
 use Rattle.adya_values.specs.Meaning.Events.{written}
-use Rattle.adya_values.specs.Computing.Faults.{is_open, is_next, was_written, sees_own, is_rising, fault_unless, faults_at, first}
 
 -- ---- the first of a list
 
@@ -53,12 +52,12 @@ no_fault true line rule e = refl
 no_fault false line rule e = absurd (cc (e))
 
 -- a list of faults that has one for each line whose test fails
-abbrev pub HasFaultPerLine : {X : Type 0} → (X → Bool) → Rule → (ℕ → List X → List CheckFault) → Type 0
+abbrev pub HasFaultPerLine : {X : Type 0} → (X → Bool) → Rule → (ℕ → List X → List Fault) → Type 0
 HasFaultPerLine {X} test rule faults =
     (line : ℕ) (x : X) (xs : List X) → faults line (x ∷ xs) ≡ fault_unless (test x) line rule ++ faults (suc line) xs
 
 -- if it is empty, each test passes
-pub each_passes : {X : Type 0} (test : X → Bool) (rule : Rule) (faults : ℕ → List X → List CheckFault)
+pub each_passes : {X : Type 0} (test : X → Bool) (rule : Rule) (faults : ℕ → List X → List Fault)
     → HasFaultPerLine test rule faults → (line : ℕ) (xs : List X) (x : X) → faults line xs ≡ [] → Contains xs x
     → test x ≡ true
 each_passes test rule faults step line [] x e c = absurd (none_contained x c)

@@ -1,8 +1,8 @@
 //! Versions of keys, and the events that write and read them.
 
-ghost use Rattle.std.specs.Prelude.{◌≡◌, IfOk};
+ghost use Rattle.std.specs.Prelude.{◌≡◌, IfOk, option_map};
 ghost use Rattle.adya_values.specs.Meaning.Histories.{content_of, entry_of, event_of};
-ghost use Rattle.adya_values.specs.Meaning.Events.{txn_of};
+ghost use Rattle.adya_values.specs.Meaning.Events.{txn_of, written};
 ghost use Rattle.adya_values.specs.Computing.Faults.{content_eq, entry_eq};
 
 use crate::{Key, Mod, Txn, Value};
@@ -119,6 +119,34 @@ impl Event {
             Event::Scan { txn, .. } => *txn,
             Event::Commit { txn } => *txn,
             Event::Abort { txn } => *txn,
+        }
+    }
+
+    /// Returns the version that the event writes, with its content, if it is a write or a delete.
+    pub fn written(&self) -> Option<Entry>
+        ensures { option_map entry_of result ≡ written (event_of self.now) }
+    {
+        match self {
+            Event::Write { txn, key, m, value } => Some(Entry {
+                version: Version {
+                    key: *key,
+                    txn: *txn,
+                    m: *m,
+                },
+                content: Content::Live(*value),
+            }),
+            Event::Delete { txn, key, m } => Some(Entry {
+                version: Version {
+                    key: *key,
+                    txn: *txn,
+                    m: *m,
+                },
+                content: Content::Dead,
+            }),
+            Event::Read { .. } => None,
+            Event::Scan { .. } => None,
+            Event::Commit { .. } => None,
+            Event::Abort { .. } => None,
         }
     }
 

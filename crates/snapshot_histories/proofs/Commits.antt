@@ -6,13 +6,13 @@ use Rattle.std.proofs.lemmas.Option.{none-some, same_Some}
 use Rattle.lemmas.proofs.Booleans.{cond-positive}
 use Rattle.lemmas.proofs.Counts.{count, count_at, count_rest, count_same}
 use Rattle.adya_values.specs.Meaning.Histories.{Event, Write, Delete, Read, Scan, Commit, Abort, History}
-use Rattle.adya_values.specs.Meaning.Events.{is_committed}
+use Rattle.adya_values.specs.Meaning.Events.{is_committed, commit_of}
 use Rattle.adya_values.specs.Meaning.Orders.{place, writers, installer}
 use Rattle.adya_values.specs.Meaning.Edges.{Kind, Ww, Wr, Rw, Depends}
 use Rattle.adya_values.specs.Meaning.Rules.{installs}
 use Rattle.adya_values.specs.Meaning.Acceptance.{IsChecked}
 use Rattle.adya_values.proofs.Places.{place_get}
-use Rattle.snapshot_histories.specs.Meaning.Snapshots.{commit_of, stamp_in}
+use Rattle.snapshot_histories.specs.Meaning.Snapshots.{stamp_in}
 
 -- a committed transaction is among the commits
 counted_commit : (t : ℕ) (es : List Event) → is_committed es t ≡ true → 0 < count (filter_map commit_of es) t

@@ -16,12 +16,12 @@ use Rattle.adya_dsg.specs.declared.found.Found.{Found}
 use Rattle.adya_dsg.specs.declared.found.Found.TheVariants.{Cycle, Serial}
 use Rattle.adya_dsg.specs.Meaning.Values.{edge_of}
 use Rattle.adya_dsg.specs.Meaning.Found.{HasCertificate, IsFound}
-use Rattle.adya_dsg.specs.Meaning.Laws.{CertifiedWhereNoPhenomenon}
+use Rattle.adya_dsg.specs.Meaning.Laws.{CertifiedIffNoPhenomenon}
 use Rattle.snapshot_histories.specs.Meaning.Laws.{SafeHistoriesHaveNoCycle}
 use Rattle.snapshot_histories.specs.Meaning.Snapshots.{IsSafe}
 use Rattle.ssi_certify.specs.Meaning.Laws.{IsSafeHistory}
 
-pub safe_accepted : SafeHistoriesHaveNoCycle → CertifiedWhereNoPhenomenon → (h : History) → IsSafeHistory h
+pub safe_accepted : SafeHistoriesHaveNoCycle → CertifiedIffNoPhenomenon → (h : History) → IsSafeHistory h
     → HasCertificate h
 safe_accepted no_cycle certified h (starts, safe) =
     (certified h safe.checked.well_formed).1 (

@@ -2,7 +2,7 @@
 
 ghost use Rattle.ssi_certify.specs.Meaning.Laws.{SafeHistoriesAreAccepted};
 
-use adya_dsg::certified_where_no_phenomenon;
+use adya_dsg::certified_iff_no_phenomenon;
 pub use snapshot_histories::laws::{cycles_are_dangerous, safe_histories_have_no_cycle};
 
 /// A checked snapshot history without a dangerous structure is accepted with some certificate. So it is serializable
@@ -11,5 +11,5 @@ pub fn safe_histories_are_accepted()
     ensures { SafeHistoriesAreAccepted }
 {
     safe_histories_have_no_cycle();
-    certified_where_no_phenomenon();
+    certified_iff_no_phenomenon();
 }

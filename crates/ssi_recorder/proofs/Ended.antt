@@ -5,10 +5,10 @@ use Rattle.std.proofs.lemmas.List.Elements.{filter_map-append}
 use Rattle.adya_values.specs.declared.edition.Edition.{Edition}
 use Rattle.adya_values.specs.Meaning.Keys.{key_eq}
 use Rattle.adya_values.specs.Meaning.Histories.{Entry, Event, Abort, Order, FinalPair, History}
-use Rattle.adya_values.specs.Meaning.Events.{written, last, shown}
+use Rattle.adya_values.specs.Meaning.Events.{written, last, shown, commit_of}
 use Rattle.adya_values.specs.Meaning.Serial.{visible_pair_of}
 use Rattle.adya_values.specs.Meaning.KeySets.{insert}
-use Rattle.ssi_recorder.specs.Meaning.Recorded.{commit_of, with_number, order_line, orders_of_events, finals_of_events}
+use Rattle.ssi_recorder.specs.Meaning.Recorded.{with_number, order_line, orders_of_events, finals_of_events}
 
 abbrev with_aborts : List Event → List ℕ → List Event
 with_aborts events ts = events ++ map Abort ts

@@ -19,11 +19,13 @@ use Rattle.adya_values.specs.Meaning.Events.{written, last, last_write, shown}
 use Rattle.adya_values.specs.Meaning.Serial.{visible_pair_of}
 use Rattle.adya_values.proofs.Keys.{keys_rise-tail}
 use Rattle.adya_values.proofs.Writes.{last_contained, last_write_from}
-use Rattle.ssi_recorder.specs.Meaning.Recorded.{writers_by_commit, shown_by, last_shown, written_keys, order_line, orders_of_events, finals_of_events, by_commit}
+use Rattle.adya_values.specs.Meaning.Orders.{shown_by}
+use Rattle.ssi_recorder.specs.Meaning.Recorded.{writers_by_commit, last_shown, written_keys, order_line, orders_of_events, finals_of_events, by_commit}
 use Rattle.ssi_recorder.specs.Machinery.Lines.{Line, line_at, AreLines, line_entries, order_in, final_in, versions_by_commit, versions_under}
 use Rattle.ssi_recorder.proofs.Puts.{tied}
 use Rattle.ssi_recorder.proofs.Shaped.{keys_rise-from_sorted}
-use Rattle.ssi_recorder.proofs.WrittenKeys.{head_below, keys_with_rise, keys_with_all, made_of_some}
+use Rattle.adya_values.proofs.InsertedKeys.{head_below}
+use Rattle.ssi_recorder.proofs.WrittenKeys.{keys_with_rise, keys_with_all, made_of_some}
 
 -- ---- the installed versions of a key, their writers and the last of them
 

@@ -7,9 +7,9 @@ ghost use Rattle.std.specs.Ordering.{nat_cmp};
 ghost use Rattle.std.specs.Cmp.Lexicographic.{slice_cmp};
 ghost use Rattle.adya_values.specs.Meaning.Keys.{key_eq};
 ghost use Rattle.adya_values.specs.Meaning.Histories.{entry_of, event_of, order_of, final_of, value_of};
-ghost use Rattle.adya_values.specs.Meaning.Events.{written, visible};
+ghost use Rattle.adya_values.specs.Meaning.Events.{written, visible, commit_of};
 ghost use Rattle.adya_values.specs.Computing.Shapes.{is_shape};
-ghost use Rattle.ssi_recorder.specs.Meaning.Recorded.{commit_of, by_commit, orders_of_events, finals_of_events};
+ghost use Rattle.ssi_recorder.specs.Meaning.Recorded.{by_commit, orders_of_events, finals_of_events};
 ghost use Rattle.ssi_recorder.specs.Machinery.Lines.{put_at, write_by, AreLines, order_in, final_in};
 
 use adya_values::{Content, Entry, Event, FinalPair, Key, Order, Txn, Value, Version};
@@ -34,34 +34,6 @@ fn commit_of(event: &Event) -> Option<Txn>
         Event::Read { .. } => None,
         Event::Scan { .. } => None,
         Event::Commit { txn } => Some(*txn),
-        Event::Abort { .. } => None,
-    }
-}
-
-/// Returns the version that the event writes, if it writes one.
-fn wrote(event: &Event) -> Option<Entry>
-    ensures { option_map entry_of result ≡ written (event_of event.now) }
-{
-    match event {
-        Event::Write { txn, key, m, value } => Some(Entry {
-            version: Version {
-                key: *key,
-                txn: *txn,
-                m: *m,
-            },
-            content: Content::Live(*value),
-        }),
-        Event::Delete { txn, key, m } => Some(Entry {
-            version: Version {
-                key: *key,
-                txn: *txn,
-                m: *m,
-            },
-            content: Content::Dead,
-        }),
-        Event::Read { .. } => None,
-        Event::Scan { .. } => None,
-        Event::Commit { .. } => None,
         Event::Abort { .. } => None,
     }
 }
@@ -114,7 +86,7 @@ fn lines(
     let _unique = committed.len();
     let mut lines = BTreeMap::new(alloc);
     'events: for event in events {
-        if let Some(entry) = wrote(event) {
+        if let Some(entry) = event.written() {
             if let Some(place) = committed.get_index_of(&entry.version.txn) {
                 put(alloc, &mut lines, place, &entry)?;
             }

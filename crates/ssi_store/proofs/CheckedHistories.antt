@@ -11,7 +11,7 @@ use Rattle.adya_values.specs.Meaning.Acceptance.{IsChecked}
 use Rattle.adya_values.specs.Meaning.Events.{aborts, has_ended, is_aborted, is_committed, shown, txn_of}
 use Rattle.adya_values.specs.Meaning.Histories.{Entry, Event, FinalPair}
 use Rattle.adya_values.specs.Meaning.Keys.{key_eq}
-use Rattle.adya_values.specs.Meaning.Orders.{installer, value_at, value_by, writers}
+use Rattle.adya_values.specs.Meaning.Orders.{installer, value_at, shown_by, writers}
 use Rattle.adya_values.specs.Meaning.Phenomena.{ReadsCommitted}
 use Rattle.adya_values.specs.Meaning.Rules.{IsRising, IsWellFormed, final_value}
 use Rattle.adya_values.specs.Meaning.Serial.{visible_pair_of}
@@ -136,7 +136,7 @@ last_value edition unfinished k log s (Some w) e newest (suc n) l =
     let who : installer (history_of_log edition unfinished log) k (suc n) ≡ Some w.version.txn = ap
     (λ xs. slice_get xs n) (writers_are edition unfinished k log)
     ∙ (ap (slice_get (installers k log)) (sym same) ∙ newest.installs) in
-    ap (value_by (history_of_log edition unfinished log) k) who
+    ap (shown_by k (history_of_log edition unfinished log).events) who
     ∙ ap shown (own_of_events w.version.txn k log ∙ (contents_own k (commit_count log) log w s e).own)
 
 ended : (t : ℕ) (log : List Act) → has_started t log ≡ true → is_open t log ≡ false

@@ -11,8 +11,8 @@ use Rattle.ssi_store.specs.Meaning.Acts.{Act}
 use Rattle.ssi_store.specs.Meaning.Replies.{conflict, is_overtaken}
 use Rattle.ssi_store.specs.Meaning.Seeing.{keys, wrote}
 use Rattle.ssi_store.specs.Meaning.Laws.{ConflictIsLeast, IsLeastOvertaken}
-use Rattle.ssi_store.proofs.KeyOrder.{key_le-anti, key_le-from_eq, key_le-from_lt}
-use Rattle.ssi_store.proofs.RisingKeys.{head_below}
+use Rattle.adya_values.proofs.KeyOrder.{key_le-anti, key_le-from_eq, key_le-from_lt}
+use Rattle.adya_values.proofs.InsertedKeys.{head_below}
 use Rattle.ssi_store.proofs.OwnWrites.{keys_of_log_rise, wrote_key}
 
 -- the first of rising keys that passes a test is the smallest one

@@ -12,7 +12,7 @@ use Rattle.ssi_recorder.specs.Meaning.Recorded.{order_line}
 use Rattle.ssi_store.specs.Meaning.Acts.{Aborts, Act, Collects, Commits, Gets, Scans, Starts, Writes}
 use Rattle.ssi_store.specs.Meaning.Seeing.{keys, wrote}
 use Rattle.ssi_store.proofs.LoggedHistories.{history_of_log, installers}
-use Rattle.ssi_store.proofs.RisingKeys.{Contains-inserted}
+use Rattle.adya_values.proofs.InsertedKeys.{Contains-inserted}
 use Rattle.ssi_store.proofs.OwnWrites.{wrote_key}
 
 line_step : (f : List ℕ → List ℕ) (j k : List ℕ) (os : List Order) (l : List ℕ) → f j ≡ l

@@ -3,7 +3,8 @@ use Rattle.std.proofs.Common.{List, Some, subst, take, true, ℕ, ◌∷◌, ◌
 use Rattle.adya_values.specs.Meaning.Keys.{key_le}
 use Rattle.std.proofs.lemmas.Option.{none-some, same_Some}
 use Rattle.ssi_conflict.specs.Meaning.Calls.{AreAllowed, Call}
-use Rattle.ssi_store.specs.Meaning.Acts.{Act, Gets, Scans, acts, is_open, reached}
+use Rattle.ssi_snapshot.specs.Meaning.Listings.{reached}
+use Rattle.ssi_store.specs.Meaning.Acts.{Act, Gets, Scans, acts, is_open}
 use Rattle.ssi_store.specs.Meaning.Courses.{Command, Command as Do, Course, txn_for}
 use Rattle.ssi_store.specs.Meaning.Laws.{judged}
 use Rattle.ssi_store.specs.Meaning.Replies.{rows, Follows}

@@ -1,6 +1,5 @@
 pub mod Lists
 pub mod RisingNumbers
-pub mod KeyOrder
 pub mod RisingKeys
 pub mod Calls
 pub mod SoundLogs

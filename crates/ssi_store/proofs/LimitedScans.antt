@@ -7,9 +7,9 @@ use Rattle.adya_values.specs.Meaning.Histories.{Entry, FinalPair}
 use Rattle.adya_values.specs.Meaning.Serial.{visible_pairs}
 use Rattle.ssi_conflict.specs.Computing.Steps.{smallest_ordered_pivot}
 use Rattle.ssi_snapshot.specs.Meaning.Listings as Listing
-use Rattle.ssi_snapshot.specs.Meaning.Listings.{IsListing, up_to, within}
+use Rattle.ssi_snapshot.specs.Meaning.Listings.{IsListing, up_to, within, key_or, reached}
 use Rattle.ssi_snapshot.specs.Meaning.Views as View
-use Rattle.ssi_store.specs.Meaning.Acts.{Scans, acts, key_or, operations, reached}
+use Rattle.ssi_store.specs.Meaning.Acts.{Scans, acts, operations}
 use Rattle.ssi_store.specs.Meaning.Courses.{Command as Do, Answer, Rows, Refused, Idle, Range, Long, Memory, Course, Then}
 use Rattle.ssi_store.specs.Meaning.Replies.{may_run_out_of_memory, reply, reply_for, rows, scan_answer, unless_long, unless_downward, unless_pivot}
 use Rattle.ssi_store.specs.Meaning.Seeing.{scanned, sees}
@@ -20,7 +20,7 @@ use Rattle.ssi_store.specs.Machinery.Opens.{Sessions, open_at, number_of}
 use Rattle.ssi_store.specs.Machinery.Scans.{IsScan}
 use Rattle.ssi_store.specs.declared.open.Open.{Open}
 use Rattle.ssi_store.proofs.Gets.{sees_is}
-use Rattle.ssi_store.proofs.KeyOrder.{key_le-from_not}
+use Rattle.adya_values.proofs.KeyOrder.{key_le-from_not}
 use Rattle.ssi_store.proofs.ReachedKeys.{reached_upward}
 use Rattle.ssi_store.proofs.Scans.{scan_listing}
 use Rattle.ssi_store.proofs.Steps.{opened, idle, open_of, answer_memory, refused_same}

@@ -11,11 +11,11 @@ use Rattle.lemmas.proofs.Members.{none_contained, recursion-from_contained}
 use Rattle.adya_values.specs.Meaning.Events.{last, last_write, shown}
 use Rattle.adya_values.specs.Meaning.Histories.{FinalPair, History, Order}
 use Rattle.adya_values.specs.Meaning.KeySets.{insert}
-use Rattle.adya_values.specs.Meaning.Orders.{value_at, value_by, writers}
+use Rattle.adya_values.specs.Meaning.Orders.{value_at, shown_by, writers}
 use Rattle.adya_values.specs.Meaning.Serial.{visible_pair_of}
 use Rattle.adya_values.specs.declared.edition.Edition.{Edition}
 use Rattle.ssi_recorder.specs.Meaning.Laws.{CommitsAreListed}
-use Rattle.ssi_recorder.specs.Meaning.Recorded.{by_commit, history_of_events, last_shown, order_line, shown_by, writers_by_commit, written_keys}
+use Rattle.ssi_recorder.specs.Meaning.Recorded.{by_commit, history_of_events, last_shown, order_line, writers_by_commit, written_keys}
 use Rattle.ssi_store.specs.Meaning.Acts.{Aborts, Act, Collects, Commits, Gets, Scans, Starts, Writes, has_committed}
 use Rattle.ssi_store.specs.Meaning.Recording.{events}
 use Rattle.ssi_store.specs.Meaning.Seeing.{commit_count, committed, keys, wrote}
@@ -106,12 +106,7 @@ shown_is : (h : History) (k : List ℕ) (ws : List ℕ) → writers h k ≡ ws
     → shown_by k h.events (last ws) ≡ value_at h k (length ws)
 shown_is h k [] e = refl
 shown_is h k (x ∷ xs) e =
-    ap (shown_by k h.events) (sym (last_slice x xs)) ∙
-    (same (slice_get (x ∷ xs) (length xs)) ∙ ap (λ l. value_by h k (slice_get l (length xs))) (sym e))
-  where
-    same : (o : Option ℕ) → shown_by k h.events o ≡ value_by h k o
-    same None = refl
-    same (Some t) = refl
+    ap (shown_by k h.events) (sym (last_slice x xs)) ∙ ap (λ l. shown_by k h.events (slice_get l (length xs))) (sym e)
 
 -- that commits are listed one by one is a law of the recorder
 module _ (listed : CommitsAreListed) where

@@ -21,9 +21,9 @@ use Rattle.ssi_store.specs.Machinery.Below.{Below}
 use Rattle.ssi_store.specs.Machinery.Overtaken.{IsLeast, is_passed, passed_by, key_of, lesser, written_key}
 use Rattle.ssi_store.specs.declared.overtaken.Overtaken.{Overtaken}
 use Rattle.ssi_store.proofs.ChangesAllowed.{changed_installable}
-use Rattle.ssi_store.proofs.KeyOrder.{key_le-itself, key_le-from_lt, key_le-from_not, key_le-trans, key_lt-from_le_lt, key_lt-never}
+use Rattle.adya_values.proofs.KeyOrder.{key_le-itself, key_le-from_lt, key_le-from_not, key_le-trans, key_lt-from_le_lt, key_lt-never}
 use Rattle.ssi_store.proofs.Lists.{only_one}
-use Rattle.ssi_store.proofs.RisingKeys.{head_below}
+use Rattle.adya_values.proofs.InsertedKeys.{head_below}
 use Rattle.ssi_store.proofs.OwnWrites.{keys_of_log_rise, own_key_there, own_key_written, wrote_key}
 
 module _ (test : List ℕ → Bool) (ks : List (List ℕ)) (k : List ℕ) where

@@ -14,7 +14,8 @@ use Rattle.ssi_versions.specs.Meaning.Changes.{contents, entry_in, otherwise, st
 use Rattle.ssi_store.specs.Meaning.Acts.{Aborts, Act, Collects, Commits, Gets, Scans, Starts, Writes}
 use Rattle.ssi_store.specs.Meaning.Seeing.{changed, commit_count, committed, keys, last_writes, own_keys, own_write, write_count, wrote}
 use Rattle.ssi_store.proofs.Lists.{only_one, option_cases}
-use Rattle.ssi_store.proofs.RisingKeys.{Contains-insert, Contains-inserted, insert_rises, listed_made}
+use Rattle.adya_values.proofs.InsertedKeys.{Contains-insert, Contains-inserted, insert_rises}
+use Rattle.ssi_store.proofs.RisingKeys.{listed_made}
 
 pub own_write_is : (t : ℕ) (k : List ℕ) (log : List Act) (w : Entry) → own_write t k log ≡ Some w
     → (w.version.txn ≡ t) × (w.version.key ≡ k)

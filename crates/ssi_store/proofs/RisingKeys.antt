@@ -1,95 +1,15 @@
--- Rising keys, and lists made from them.
+-- Lists made from rising keys.
 use Rattle.std.specs.List.{Contains, cons_option, filter_map}
 use Rattle.std.proofs.Common.{List, None, Option, Some, [], ap, arith, inl, inr, map, refl, subst, suc, sym, true, zero, ℕ, ◌∙◌, ◌∷◌, ◌≡◌, ◌⊎◌}
-use Rattle.std.proofs.lemmas.Bool.{and_from, and_parts, both_ways, cases_Bool, cond-false, cond-true}
+use Rattle.std.proofs.lemmas.Bool.{both_ways, cases_Bool, cond-false, cond-true}
 use Rattle.lemmas.proofs.Filters.{filter_map-source}
-use Rattle.lemmas.proofs.Members.{Contains-cases, Contains-cons, Contains-head, map-source, none_contained}
-use Rattle.lemmas.proofs.Orderings.{bytes_eq-from, bytes_eq-same, bytes_lt-trans}
+use Rattle.lemmas.proofs.Members.{map-source, none_contained}
+use Rattle.lemmas.proofs.Orderings.{bytes_eq-from, bytes_eq-same}
 use Rattle.adya_values.specs.Meaning.Events.{listed}
 use Rattle.adya_values.specs.Meaning.Histories.{Entry}
-use Rattle.adya_values.specs.Meaning.KeySets.{insert}
 use Rattle.adya_values.specs.Meaning.Keys.{key_eq, key_lt, keys_rise}
 use Rattle.adya_values.proofs.Keys.{keys_rise-tail}
-use Rattle.ssi_store.proofs.KeyOrder.{key_lt-from_not}
-
-keys_rise-from_head : (x : List ℕ) (ys : List (List ℕ)) → ((y : List ℕ) → Contains ys y → key_lt x y ≡ true)
-    → keys_rise ys ≡ true → keys_rise (x ∷ ys) ≡ true
-keys_rise-from_head x [] h r = refl
-keys_rise-from_head x (y ∷ ys) h r = and_from (key_lt x y) (keys_rise (y ∷ ys)) (h y (Contains-head y ys)) r
-
-pub head_below : (x : List ℕ) (ys : List (List ℕ)) (y : List ℕ) → keys_rise (x ∷ ys) ≡ true → Contains ys y
-    → key_lt x y ≡ true
-head_below x [] y r c = absurd (none_contained y c)
-head_below x (z ∷ ys) y r c =
-    let both = and_parts (key_lt x z) (keys_rise (z ∷ ys)) r in
-    elim (Contains-cases z ys y c) [
-      | inl e ↦ subst (λ w. key_lt x w ≡ true) e both.0
-      | inr d ↦ bytes_lt-trans x z y both.0 (head_below z ys y both.1 d)
-    ]
-
-pub Contains-insert : (k : List ℕ) (js : List (List ℕ)) → Contains (insert k js) k
-Contains-insert k [] = Contains-head k []
-Contains-insert k (j ∷ js) =
-    elim (cases_Bool (key_lt k j)) [
-      | inl less ↦ rw less (Contains-head k (j ∷ js))
-      | inr more ↦
-          rw more (elim (cases_Bool (key_eq k j)) [
-            | inl same ↦ rw same (subst (λ x. Contains (j ∷ js) x) (sym (bytes_eq-same k j same))
-                (Contains-head j js))
-            | inr other ↦ rw other (Contains-cons j (insert k js) k (Contains-insert k js))
-          ])
-    ]
-
-past_head : (j : List ℕ) (xs ys : List (List ℕ)) (i : List ℕ) → (Contains xs i → Contains ys i)
-    → Contains (j ∷ xs) i → Contains (j ∷ ys) i
-past_head j xs ys i rest (zero, l, f) = (zero, omega arith, f)
-past_head j xs ys i rest (suc n, l, f) = Contains-cons j ys i (rest (n, omega (arith, l), f))
-
-pub Contains-inserted : (k : List ℕ) (js : List (List ℕ)) (i : List ℕ) → Contains js i → Contains (insert k js) i
-Contains-inserted k [] i c = absurd (none_contained i c)
-Contains-inserted k (j ∷ js) i c =
-    elim (cases_Bool (key_lt k j)) [
-      | inl less ↦ rw less (Contains-cons k (j ∷ js) i c)
-      | inr more ↦
-          rw more (elim (cases_Bool (key_eq k j)) [
-            | inl same ↦ rw same c
-            | inr other ↦ rw other (past_head j js (insert k js) i (Contains-inserted k js i) c)
-          ])
-    ]
-
-insert_source : (k : List ℕ) (js : List (List ℕ)) (y : List ℕ) → Contains (insert k js) y
-    → (k ≡ y) ⊎ Contains js y
-insert_source k [] y (zero, l, f) = inl f
-insert_source k [] y (suc i, l, f) = absurd (omega (arith, l))
-insert_source k (j ∷ js) y c =
-    elim (cases_Bool (key_lt k j)) [
-      | inl less ↦ Contains-cases k (j ∷ js) y (rw less at c)
-      | inr more ↦ elim (cases_Bool (key_eq k j)) [
-        | inl same ↦ inr (rw (more, same) at c)
-        | inr other ↦ past j js (insert k js) k y (insert_source k js y) (rw (more, other) at c)
-      ]
-    ]
-  where
-    past : (x : List ℕ) (xs ys : List (List ℕ)) (n z : List ℕ) → (Contains ys z → (n ≡ z) ⊎ Contains xs z)
-        → Contains (x ∷ ys) z → (n ≡ z) ⊎ Contains (x ∷ xs) z
-    past x xs ys n z h (zero, l, f) = inr (zero, omega arith, f)
-    past x xs ys n z h (suc i, l, f) =
-        elim (h (i, omega (arith, l), f)) [ inl e ↦ inl e | inr d ↦ inr (Contains-cons x xs z d) ]
-
-pub insert_rises : (k : List ℕ) (js : List (List ℕ)) → keys_rise js ≡ true → keys_rise (insert k js) ≡ true
-insert_rises k [] r = refl
-insert_rises k (j ∷ js) r =
-    elim (cases_Bool (key_lt k j)) [
-      | inl less ↦ rw less (and_from (key_lt k j) (keys_rise (j ∷ js)) less r)
-      | inr more ↦ rw more (elim (cases_Bool (key_eq k j)) [
-        | inl same ↦ rw same r
-        | inr other ↦ rw other (keys_rise-from_head j (insert k js) (λ y c.
-            elim (insert_source k js y c) [
-              | inl e ↦ subst (λ x. key_lt j x ≡ true) e (key_lt-from_not k j more other)
-              | inr d ↦ head_below j js y r d
-            ]) (insert_rises k js (keys_rise-tail j js r)))
-      ])
-    ]
+use Rattle.adya_values.proofs.InsertedKeys.{head_below, rises_with_head}
 
 rises_step : {Y : Type 0} (key : Y → List ℕ) (f : List ℕ → Option Y)
     → ((j : List ℕ) (y : Y) → f j ≡ Some y → key y ≡ j) → (j : List ℕ) (js : List (List ℕ))
@@ -97,7 +17,7 @@ rises_step : {Y : Type 0} (key : Y → List ℕ) (f : List ℕ → Option Y)
     → keys_rise (map key (cons_option l (filter_map f js))) ≡ true
 rises_step key f own j js r rest None e = rest
 rises_step key f own j js r rest (Some y) e =
-    keys_rise-from_head (key y) (map key (filter_map f js)) (λ n c.
+    rises_with_head (key y) (map key (filter_map f js)) (λ n c.
     let z = map-source key (filter_map f js) n c in
     let x = filter_map-source f js z.0 z.1 in
     let below = head_below j js x.0 r x.1 in

@@ -17,7 +17,7 @@ use Rattle.ssi_versions.specs.Meaning.Changes.{otherwise}
 use Rattle.ssi_store.specs.Meaning.Acts.{Aborts, Act, Collects, Commits, Gets, Scans, Starts, Writes, has_committed, has_started}
 use Rattle.ssi_store.specs.Meaning.Recording.{events, get_event, get_found, recorded, write_event}
 use Rattle.ssi_store.specs.Meaning.Seeing.{commit_count, committed, keys, own_write, scanned, sees, snapshot, write_count, wrote}
-use Rattle.ssi_store.proofs.KeyOrder.{key_le-itself, lies_in-itself}
+use Rattle.adya_values.proofs.KeyOrder.{key_le-itself, lies_in-itself}
 use Rattle.ssi_store.proofs.Lists.{only_one, option_cases}
 use Rattle.ssi_store.proofs.Recorded.{aborted_events, committed_events, count_of_events, made, of_get, of_write, own_of_events, versions, versions_of_events, written_write}
 use Rattle.ssi_store.proofs.SeenByEvents.{all_seen, get_shows, get_txn, otherwise_cases, scanned_is, scanned_rises, sees_is, shows, started_stays}

@@ -24,7 +24,7 @@ use Rattle.ssi_store.specs.Machinery.Opens.{Sessions, open_at, number_of, AreCou
 use Rattle.ssi_store.specs.Machinery.Scans.{IsScan}
 use Rattle.ssi_store.specs.declared.open.Open.{Open}
 use Rattle.ssi_store.proofs.Gets.{sees_is}
-use Rattle.ssi_store.proofs.KeyOrder.{key_le-from_not}
+use Rattle.adya_values.proofs.KeyOrder.{key_le-from_not}
 use Rattle.ssi_store.proofs.Lists.{option_cases}
 use Rattle.ssi_store.proofs.Opens.{open_scanned}
 use Rattle.ssi_store.proofs.RisingKeys.{listed_made, made_rises}

@@ -13,10 +13,11 @@ use Rattle.ssi_versions.specs.Meaning.Changes.{otherwise}
 use Rattle.ssi_store.specs.Meaning.Acts.{Aborts, Act, Collects, Commits, Gets, Scans, Starts, Writes, has_started}
 use Rattle.ssi_store.specs.Meaning.Recording.{events, get_event, get_found, recorded}
 use Rattle.ssi_store.specs.Meaning.Seeing.{commit_count, committed, keys, own_write, scanned, sees, snapshot, write_count, wrote}
-use Rattle.ssi_store.proofs.KeyOrder.{lies_in-one}
+use Rattle.adya_values.proofs.KeyOrder.{lies_in-one}
 use Rattle.ssi_store.proofs.Lists.{only_one, option_cases}
 use Rattle.ssi_store.proofs.Recorded.{of_write}
-use Rattle.ssi_store.proofs.RisingKeys.{Contains-inserted, listed_made, made_rises}
+use Rattle.adya_values.proofs.InsertedKeys.{Contains-inserted}
+use Rattle.ssi_store.proofs.RisingKeys.{listed_made, made_rises}
 use Rattle.ssi_store.proofs.SoundLogs.{Sound, has_read, not_fresh, open_from, snapshot_within}
 use Rattle.ssi_store.proofs.OwnWrites.{committed_step, keys_of_log_rise, own_write_is, wrote_key}
 

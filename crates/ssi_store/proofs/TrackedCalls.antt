@@ -10,7 +10,7 @@ use Rattle.ssi_conflict.specs.Meaning.Calls.{AreAllowed, MayCommit, begun, has_b
 use Rattle.ssi_store.specs.Meaning.Acts.{Aborts, Act, Collects, Commits, Gets, Scans, Starts, Writes, has_aborted, has_committed, has_started, is_open, started}
 use Rattle.ssi_store.specs.Meaning.Seeing.{commit_count, own_keys, snapshot, wrote}
 use Rattle.ssi_store.specs.Meaning.Tracked.{tracked}
-use Rattle.ssi_store.proofs.KeyOrder.{key_le-itself, lies_in-itself, lies_in-one}
+use Rattle.adya_values.proofs.KeyOrder.{key_le-itself, lies_in-itself, lies_in-one}
 use Rattle.ssi_store.proofs.SoundLogs.{Sound, has_read, not_open, stamp}
 use Rattle.ssi_store.proofs.OwnWrites.{own_key_there, own_key_written}
 

@@ -4,7 +4,7 @@ ghost use Rattle.std.specs.Prelude.{◌≡◌, ◌++◌, ◌∷◌, [], ◌<◌,
 ghost use Rattle.adya_values.specs.Meaning.Histories.{entry_of, final_of};
 ghost use Rattle.adya_values.specs.Meaning.Serial.{visible_pairs};
 ghost use Rattle.std.specs.Int.NonZero.{non_zero_u16_get};
-ghost use Rattle.ssi_store.specs.Meaning.Acts.{reached};
+ghost use Rattle.ssi_snapshot.specs.Meaning.Listings.{reached};
 
 use crate::below::laws_below;
 use crate::engine::Engine;

@@ -7,8 +7,12 @@ use Rattle.adya_audit.specs.Meaning.Verdicts.{Verdict, Yes}
 use Rattle.adya_audit.specs.Meaning.TextVerdicts.{IsVerdictOn, AreAccepted, AreSerializable}
 
 -- the verdict on texts is yes if and only if they are accepted
-abbrev pub YesWhereTextsAccepted : Type 0
-YesWhereTextsAccepted = (h c : List ℕ) (v : Verdict) → IsVerdictOn h c v → (v ≡ Yes) ↔ AreAccepted h c
+abbrev pub YesIffTextsAccepted : Type 0
+YesIffTextsAccepted = (h c : List ℕ) (v : Verdict) → IsVerdictOn h c v → (v ≡ Yes) ↔ AreAccepted h c
+
+-- yes is a verdict on accepted texts
+abbrev pub AcceptedTextsGetYes : Type 0
+AcceptedTextsGetYes = (h c : List ℕ) → AreAccepted h c → IsVerdictOn h c Yes
 
 -- accepted texts are those of a history and a certificate by which it is serializable
 abbrev pub AcceptedTextsAreSerializable : Type 0

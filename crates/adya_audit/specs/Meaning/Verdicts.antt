@@ -2,11 +2,10 @@
 use Rattle.std.specs.Prelude.{◌≡◌, ℕ, if◌then◌else◌, List, Option, Some, None}
 use Rattle.adya_values.specs.declared.event.Version.{Version}
 use Rattle.adya_values.specs.declared.fault.Rule.{Rule}
-use Rattle.adya_values.specs.declared.fault.CheckFault.{CheckFault}
-use Rattle.adya_values.specs.declared.fault.CheckFault.TheVariants as Checked
+use Rattle.adya_values.specs.Computing.Faults as faults
 use Rattle.adya_values.specs.Meaning.Histories.{History}
 use Rattle.adya_values.specs.Meaning.Edges.{Edge}
-use Rattle.adya_values.specs.Computing.Faults.{first_fault}
+use Rattle.adya_values.specs.Computing.Faults.{Fault, first_fault}
 use Rattle.adya_values.specs.Computing.Certificates.{lists_the_committed, first_backward}
 use Rattle.adya_text.specs.declared.read_fault.Text.{Text}
 use Rattle.adya_audit.specs.declared.verdict.Verdict.{Verdict as VerdictValue}
@@ -40,20 +39,12 @@ edge_verdict (Some e) = Backward e
 abbrev pub certificate_verdict : History → List ℕ → Verdict
 certificate_verdict h ts = if lists_the_committed h ts then edge_verdict (first_backward h ts) else NotTheCommitted
 
--- the verdict names the fault
-abbrev pub Refuses : CheckFault → Verdict → Type 0
-Refuses (Checked.Malformed line rule) v = v ≡ Malformed line rule
-Refuses (Checked.AbortedRead line version) v = v ≡ AbortedRead line version
-Refuses (Checked.IntermediateRead line version) v = v ≡ IntermediateRead line version
-Refuses Checked.Memory v = ⊥
-
--- the verdict on the fault of a history, else that on the certificate; no history has the fault `Memory`
-abbrev pub fault_verdict : Option CheckFault → Verdict → Verdict
+-- the verdict on the fault of a history, else that on the certificate
+abbrev pub fault_verdict : Option Fault → Verdict → Verdict
 fault_verdict None v = v
-fault_verdict (Some (Checked.Malformed line rule)) v = Malformed line rule
-fault_verdict (Some (Checked.AbortedRead line version)) v = AbortedRead line version
-fault_verdict (Some (Checked.IntermediateRead line version)) v = IntermediateRead line version
-fault_verdict (Some Checked.Memory) v = NotTheCommitted
+fault_verdict (Some (faults.Malformed line rule)) v = Malformed line rule
+fault_verdict (Some (faults.AbortedRead line version)) v = AbortedRead line version
+fault_verdict (Some (faults.IntermediateRead line version)) v = IntermediateRead line version
 
 -- the verdict on a history and a certificate
 abbrev pub verdict_of : History → List ℕ → Verdict

@@ -19,8 +19,8 @@ EdgesJoinCommitted = (h : History) → IsChecked h → (e : Edge) → IsEdge h e
     → (is_committed h.events e.from ≡ true) × (is_committed h.events e.to ≡ true)
 
 -- a well-formed history is accepted with some certificate if and only if it shows neither G1 nor G2
-abbrev pub CertifiedWhereNoPhenomenon : Type 0
-CertifiedWhereNoPhenomenon = (h : History) → IsWellFormed h
+abbrev pub CertifiedIffNoPhenomenon : Type 0
+CertifiedIffNoPhenomenon = (h : History) → IsWellFormed h
     → HasCertificate h ↔ ((HasG1 h → ⊥) × (HasG2 h → ⊥))
 
 -- a history with an aborted or an intermediate read shows G1, and is accepted with no certificate

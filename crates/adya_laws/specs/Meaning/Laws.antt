@@ -31,8 +31,8 @@ AcceptedHasNoPhenomenon = (h : History) (ts : List ℕ) → IsAccepted h ts → 
 
 -- a checked history is accepted with a certificate exactly if this lists the committed transactions and no edge goes
 -- backward in it
-abbrev pub AcceptedWhereForward : Type 0
-AcceptedWhereForward = (h : History) (ts : List ℕ) → IsChecked h
+abbrev pub AcceptedIffForward : Type 0
+AcceptedIffForward = (h : History) (ts : List ℕ) → IsChecked h
     → ((lists_the_committed h ts ≡ true) × (first_backward h ts ≡ None)) ↔ IsAccepted h ts
 
 -- running the transactions of an accepted history one after the other, in the certificate's order on an initially

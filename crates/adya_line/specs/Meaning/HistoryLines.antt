@@ -1,5 +1,5 @@
 -- The lines of a history text, by their kind.
-use Rattle.std.specs.Prelude.{◌≡◌, ℕ, List}
+use Rattle.std.specs.Prelude.{ℕ, List}
 use Rattle.adya_values.specs.declared.edition.Edition.{Edition}
 use Rattle.adya_values.specs.Meaning.Keys.{IsTxn}
 use Rattle.adya_values.specs.Meaning.Histories.{Event, Order, FinalPair, event_of, order_of, final_of}
@@ -7,6 +7,7 @@ use Rattle.adya_line.specs.Meaning.Spelling.{head_text, tail, event_text, unfini
 use Rattle.adya_line.specs.Meaning.Limits.{IsEvent, IsOrder, IsFinal}
 use Rattle.adya_line.specs.declared.history_lines.HistoryLine.{HistoryLine as LineValue}
 use Rattle.adya_line.specs.declared.history_lines.HistoryLine.TheVariants as In
+use Rattle.adya_line.specs.Meaning.Lines.{Spells, SpellsNone, SpellsOnly}
 
 -- the head of an edition; an event, an unfinished transaction, an order, a final; the tail
 pub data Line : Type 0 where
@@ -42,16 +43,12 @@ IsLine (OrderLine o) = IsOrder o
 IsLine (FinalLine f) = IsFinal f
 IsLine TailLine = Unit {0}
 
--- the text is that of the line
-pub record IsLineOf (x : Line) (text : List ℕ) : Type 0 where
-  pub good : IsLine x
-  pub same : text ≡ line_text x
+-- the text is that of the line; of no line; of this line, and of no other
+abbrev pub IsLineOf : Line → List ℕ → Type 0
+IsLineOf = Spells IsLine line_text
 
--- the text is that of no line
 abbrev pub IsNoLine : List ℕ → Type 0
-IsNoLine text = (x : Line) → IsLineOf x text → ⊥
+IsNoLine = SpellsNone IsLine line_text
 
--- the text is that of this line, and of no other
-pub record IsOnlyLineOf (x : Line) (text : List ℕ) : Type 0 where
-  pub line : IsLineOf x text
-  pub only : (y : Line) → IsLineOf y text → y ≡ x
+abbrev pub IsOnlyLineOf : Line → List ℕ → Type 0
+IsOnlyLineOf = SpellsOnly IsLine line_text

@@ -1,9 +1,10 @@
 -- The lines of a certificate text, by their kind.
-use Rattle.std.specs.Prelude.{◌≡◌, ℕ, List}
+use Rattle.std.specs.Prelude.{ℕ, List}
 use Rattle.adya_values.specs.Meaning.Keys.{IsTxn}
 use Rattle.adya_line.specs.Meaning.Spelling.{serial_head, tail, txn_text}
 use Rattle.adya_line.specs.declared.serial_lines.SerialLine.{SerialLine as LineValue}
 use Rattle.adya_line.specs.declared.serial_lines.SerialLine.TheVariants as In
+use Rattle.adya_line.specs.Meaning.Lines.{Spells, SpellsNone, SpellsOnly}
 
 -- the head, a transaction, the tail
 pub data Line : Type 0 where
@@ -27,16 +28,12 @@ IsLine HeadLine = Unit {0}
 IsLine (TxnLine t) = IsTxn t
 IsLine TailLine = Unit {0}
 
--- the text is that of the line
-pub record IsLineOf (x : Line) (text : List ℕ) : Type 0 where
-  pub good : IsLine x
-  pub same : text ≡ line_text x
+-- the text is that of the line; of no line; of this line, and of no other
+abbrev pub IsLineOf : Line → List ℕ → Type 0
+IsLineOf = Spells IsLine line_text
 
--- the text is that of no line
 abbrev pub IsNoLine : List ℕ → Type 0
-IsNoLine text = (x : Line) → IsLineOf x text → ⊥
+IsNoLine = SpellsNone IsLine line_text
 
--- the text is that of this line, and of no other
-pub record IsOnlyLineOf (x : Line) (text : List ℕ) : Type 0 where
-  pub line : IsLineOf x text
-  pub only : (y : Line) → IsLineOf y text → y ≡ x
+abbrev pub IsOnlyLineOf : Line → List ℕ → Type 0
+IsOnlyLineOf = SpellsOnly IsLine line_text

@@ -2,19 +2,18 @@
 use Rattle.std.specs.Prelude.{◌≡◌, ◌↔◌, ℕ, true, List, Some}
 use Rattle.adya_values.specs.declared.event.Version.{Version}
 use Rattle.adya_values.specs.declared.fault.Rule.{Rule}
-use Rattle.adya_values.specs.declared.fault.CheckFault.TheVariants.{Malformed, AbortedRead, IntermediateRead}
+use Rattle.adya_values.specs.Computing.Faults.{Malformed, AbortedRead, IntermediateRead, first_fault}
 use Rattle.adya_values.specs.Meaning.Histories.{History}
 use Rattle.adya_values.specs.Computing.Shapes.{is_shape}
 use Rattle.adya_values.specs.Meaning.Edges.{Edge}
 use Rattle.adya_values.specs.Meaning.Rules.{IsWellFormed}
 use Rattle.adya_values.specs.Meaning.Phenomena.{HasG1a}
-use Rattle.adya_values.specs.Computing.Faults.{first_fault}
 use Rattle.adya_values.specs.Computing.Certificates.{first_backward}
 use Rattle.adya_rules.specs.Meaning.FirstFaults.{BreaksRule, IsFirstMalformed, IsFirstAbortedRead, IsFirstIntermediateRead, IsFirstBackward}
 
 -- a history whose orders and finals rise by key is well-formed exactly if it breaks no rule at any line
-abbrev pub WellFormedWhereUnbroken : Type 0
-WellFormedWhereUnbroken = (h : History) → is_shape h.orders h.finals ≡ true
+abbrev pub WellFormedIffUnbroken : Type 0
+WellFormedIffUnbroken = (h : History) → is_shape h.orders h.finals ≡ true
     → ((line : ℕ) (rule : Rule) → BreaksRule h line rule → ⊥) ↔ IsWellFormed h
 
 -- a broken rule is named exactly if it is the first one

@@ -10,5 +10,5 @@ abbrev pub CheckedIfNoFault : Type 0
 CheckedIfNoFault = (h : History) → first_fault h ≡ None → IsChecked h
 
 -- a history whose orders and finals rise by key has no fault exactly if it is checked
-abbrev pub CheckedWhereNoFault : Type 0
-CheckedWhereNoFault = (h : History) → is_shape h.orders h.finals ≡ true → (first_fault h ≡ None) ↔ IsChecked h
+abbrev pub CheckedIffNoFault : Type 0
+CheckedIffNoFault = (h : History) → is_shape h.orders h.finals ≡ true → (first_fault h ≡ None) ↔ IsChecked h

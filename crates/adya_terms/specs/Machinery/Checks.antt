@@ -13,11 +13,11 @@ use Rattle.adya_values.specs.Meaning.Keys.{key_eq}
 use Rattle.adya_values.specs.Meaning.Histories.{Entry, Event, History, event_of, order_of, final_of}
 use Rattle.adya_values.specs.declared.edition.Edition.TheVariants.{One, Two}
 use Rattle.adya_values.specs.Meaning.Events.{txn_of, observed, is_committed, has_ended, aborts, last_write}
-use Rattle.adya_values.specs.Computing.Faults.{entry_eq, first, is_entry, fault_unless, aborted_reads, all_end, intermediate_reads, order_faults, has_lines, final_faults, has_finals}
+use Rattle.adya_values.specs.Computing.Faults.{Fault, entry_eq, first, is_entry, fault_unless, aborted_reads, all_end, intermediate_reads, order_faults, has_lines, final_faults, has_finals}
 use Rattle.adya_terms.specs.Meaning.Faults.{IsFault}
 
 -- the fault is the first of the list, or memory ran out
-abbrev pub Names : List CheckFault → CheckFault → Type 0
+abbrev pub Names : List Fault → CheckFault → Type 0
 Names fs e = IsFault (first fs) e
 
 -- the history of these parts
@@ -62,22 +62,22 @@ IsFirst es None = es ≡ []
 IsFirst es (Some v) = first (map (λ o. o.version) es) ≡ Some v
 
 -- M7, from the line of the first order on
-abbrev pub listing_faults : History → ℕ → List CheckFault
+abbrev pub listing_faults : History → ℕ → List Fault
 listing_faults h line = order_faults h.events line h.orders ++ fault_unless (has_lines h) (line + length h.orders) M7
 
 -- M8, from the line of the first final on
-abbrev pub final_value_faults : History → ℕ → List CheckFault
+abbrev pub final_value_faults : History → ℕ → List Fault
 final_value_faults h line = final_faults h line h.finals ++ fault_unless (has_finals h) (line + length h.finals) M8
 
 -- the faults of the lines from the first order on
-abbrev pub rule_faults : History → ℕ → List CheckFault
+abbrev pub rule_faults : History → ℕ → List Fault
 rule_faults h line =
     fault_unless (all_end h) line M6 ++
     (listing_faults h line ++
     final_value_faults h (line + length h.orders))
 
 -- aborted and intermediate reads
-abbrev pub read_faults : History → List CheckFault
+abbrev pub read_faults : History → List Fault
 read_faults h = aborted_reads h ++ intermediate_reads h
 
 -- the entry is this write, or of another key

@@ -5,13 +5,17 @@ use Rattle.std.specs.List.{filter_map, list_any, list_all}
 use Rattle.adya_values.specs.declared.event.Version.{Version}
 use Rattle.adya_values.specs.declared.fault.Rule.{Rule}
 use Rattle.adya_values.specs.declared.fault.Rule.TheVariants.{M1, M2, M3, M4, M5, M6, M7, M8}
-use Rattle.adya_values.specs.declared.fault.CheckFault.{CheckFault}
-use Rattle.adya_values.specs.declared.fault.CheckFault.TheVariants.{Malformed, AbortedRead, IntermediateRead}
 use Rattle.adya_values.specs.Meaning.Keys.{key_eq, key_le, lies_in, keys_rise}
 use Rattle.adya_values.specs.Meaning.Histories.{Content, Live, Dead, Entry, Event, Write, Delete, Read, Scan, Commit, Abort, Order, FinalPair, History}
 use Rattle.adya_values.specs.Meaning.Events.{txn_of, entry, written, observed, writes_of, last_write, is_committed, has_ended, is_unfinished, is_aborted}
 use Rattle.adya_values.specs.Meaning.Orders.{writers, value_at}
 use Rattle.adya_values.specs.Meaning.Rules.{installs, final_value}
+
+-- a line that breaks a rule, or at which a committed transaction sees a version that it may not see
+pub data Fault : Type 0 where
+  Malformed : (line : ℕ) (rule : Rule) → Fault
+  AbortedRead : (line : ℕ) (version : Version) → Fault
+  IntermediateRead : (line : ℕ) (version : Version) → Fault
 
 abbrev pub content_eq : Content → Content → Bool
 content_eq (Live v) (Live w) = key_eq v w
@@ -73,12 +77,12 @@ is_rising (Commit t) = true
 is_rising (Abort t) = true
 
 -- one fault if the test fails, and else none
-abbrev pub fault_unless : Bool → ℕ → Rule → List CheckFault
+abbrev pub fault_unless : Bool → ℕ → Rule → List Fault
 fault_unless true line rule = []
 fault_unless false line rule = Malformed line rule ∷ []
 
 -- the faults of an event, given those before it
-abbrev pub faults_at : List Event → ℕ → Event → List CheckFault
+abbrev pub faults_at : List Event → ℕ → Event → List Fault
 faults_at before line e =
     fault_unless (is_open before e) line M1 ++
     (fault_unless (is_next before (written e)) line M2 ++
@@ -86,11 +90,11 @@ faults_at before line e =
     (fault_unless (sees_own before e) line M4 ++
     fault_unless (is_rising e) line M5)))
 
-abbrev pub event_faults : List Event → ℕ → List Event → List CheckFault
+abbrev pub event_faults : List Event → ℕ → List Event → List Fault
 event_faults before line [] = []
 event_faults before line (e ∷ es) = faults_at before line e ++ event_faults (before ++ e ∷ []) (suc line) es
 
-abbrev pub unfinished_faults : List Event → ℕ → List ℕ → List CheckFault
+abbrev pub unfinished_faults : List Event → ℕ → List ℕ → List Fault
 unfinished_faults events line [] = []
 unfinished_faults events line (t ∷ ts) = fault_unless (not (has_ended events t)) line M6 ++ unfinished_faults events (suc line) ts
 
@@ -104,7 +108,7 @@ lists_exactly test xs events =
     list_all (λ t. count_by (λ u. u == t) xs == cond (test t) 1 0) xs &&
     list_all (λ e. count_by (λ u. u == txn_of e) xs == cond (test (txn_of e)) 1 0) events
 
-abbrev pub order_faults : List Event → ℕ → List Order → List CheckFault
+abbrev pub order_faults : List Event → ℕ → List Order → List Fault
 order_faults events line [] = []
 order_faults events line (o ∷ os) = fault_unless (lists_exactly (installs events o.key) o.writers events) line M7 ++ order_faults events (suc line) os
 
@@ -120,7 +124,7 @@ abbrev pub is_value : Option (List ℕ) → List ℕ → Bool
 is_value None v = false
 is_value (Some w) v = key_eq w v
 
-abbrev pub final_faults : History → ℕ → List FinalPair → List CheckFault
+abbrev pub final_faults : History → ℕ → List FinalPair → List Fault
 final_faults h line [] = []
 final_faults h line (f ∷ fs) = fault_unless (is_value (last_value h f.key) f.value) line M8 ++ final_faults h (suc line) fs
 
@@ -142,7 +146,7 @@ abbrev pub tail_line : History → ℕ
 tail_line h = finals_line h + length h.finals
 
 -- the faults of the rules, by line and rule
-abbrev pub malformed : History → List CheckFault
+abbrev pub malformed : History → List Fault
 malformed h =
     event_faults [] 2 h.events ++
     (unfinished_faults h.events (unfinished_line h) h.unfinished ++
@@ -153,19 +157,19 @@ malformed h =
     fault_unless (has_finals h) (tail_line h) M8)))))
 
 -- the reads of committed transactions that fail the test, by line and place in the list
-abbrev pub bad_reads : (Event → Entry → Bool) → (ℕ → Version → CheckFault) → List Event → ℕ → List Event → List CheckFault
+abbrev pub bad_reads : (Event → Entry → Bool) → (ℕ → Version → Fault) → List Event → ℕ → List Event → List Fault
 bad_reads good fault events line [] = []
 bad_reads good fault events line (e ∷ es) =
     map (λ o. fault line o.version) (filter (λ o. is_committed events (txn_of e) && not (good e o)) (observed e)) ++
     bad_reads good fault events (suc line) es
 
-abbrev pub aborted_reads : History → List CheckFault
+abbrev pub aborted_reads : History → List Fault
 aborted_reads h = bad_reads (λ e o. not (is_aborted h o.version.txn)) AbortedRead h.events 2 h.events
 
 abbrev pub is_last_of_another : History → Event → Entry → Bool
 is_last_of_another h e o = (o.version.txn == txn_of e) || is_entry (last_write o.version.txn o.version.key h.events) o
 
-abbrev pub intermediate_reads : History → List CheckFault
+abbrev pub intermediate_reads : History → List Fault
 intermediate_reads h = bad_reads (is_last_of_another h) IntermediateRead h.events 2 h.events
 
 abbrev pub first : {X : Type 0} → List X → Option X
@@ -173,9 +177,9 @@ first [] = None
 first (x ∷ xs) = Some x
 
 -- all faults of a history, in order
-abbrev pub check_faults : History → List CheckFault
+abbrev pub check_faults : History → List Fault
 check_faults h = malformed h ++ (aborted_reads h ++ intermediate_reads h)
 
 -- the first fault of the first kind that is there
-abbrev pub first_fault : History → Option CheckFault
+abbrev pub first_fault : History → Option Fault
 first_fault h = first (check_faults h)

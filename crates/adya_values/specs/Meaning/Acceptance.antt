@@ -17,9 +17,12 @@ pub record IsChecked (h : History) : Type 0 where
 abbrev pub IsBefore : List ℕ → ℕ → ℕ → Type 0
 IsBefore ts a b = place ts a < place ts b
 
+-- the list has each committed transaction once, and no other
+abbrev pub ListsTheCommitted : History → List ℕ → Type 0
+ListsTheCommitted h ts = (t : ℕ) → count_by (λ u. u == t) ts ≡ cond (is_committed h.events t) 1 0
+
 pub record IsAccepted (h : History) (ts : List ℕ) : Type 0 where
   pub checked : IsChecked h
-  -- each committed transaction once, and no other
-  pub committed_once : (t : ℕ) → count_by (λ u. u == t) ts ≡ cond (is_committed h.events t) 1 0
+  pub committed_once : ListsTheCommitted h ts
   -- each edge goes forward
   pub forward : (e : Edge) → IsEdge h e → IsBefore ts e.from e.to

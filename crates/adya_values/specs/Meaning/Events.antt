@@ -51,21 +51,18 @@ last (x ∷ y ∷ ys) = last (y ∷ ys)
 abbrev pub last_write : ℕ → List ℕ → List Event → Option Entry
 last_write t k events = last (writes_of t k events)
 
+-- the transaction that the event commits, if it is a commit
+abbrev pub commit_of : Event → Option ℕ
+commit_of (Commit t) = Some t
+commit_of e = None
+
 abbrev pub commits : ℕ → Event → Bool
-commits t (Write u k m v) = false
-commits t (Delete u k m) = false
-commits t (Read u r v) = false
-commits t (Scan u low high es) = false
 commits t (Commit u) = u == t
-commits t (Abort u) = false
+commits t e = false
 
 abbrev pub aborts : ℕ → Event → Bool
-aborts t (Write u k m v) = false
-aborts t (Delete u k m) = false
-aborts t (Read u r v) = false
-aborts t (Scan u low high es) = false
-aborts t (Commit u) = false
 aborts t (Abort u) = u == t
+aborts t e = false
 
 abbrev pub is_committed : List Event → ℕ → Bool
 is_committed events t = list_any (commits t) events

@@ -2,7 +2,7 @@
 -- the key's order line names has the next place, for its last write of the key.
 use Rattle.std.specs.Prelude.{ℕ, zero, suc, ◌==◌, Bool, if◌then◌else◌, List, [], ◌∷◌, Option, Some, None, is_some, slice_get}
 use Rattle.adya_values.specs.Meaning.Keys.{key_eq}
-use Rattle.adya_values.specs.Meaning.Histories.{Order, History}
+use Rattle.adya_values.specs.Meaning.Histories.{Event, Order, History}
 use Rattle.adya_values.specs.Meaning.Events.{last_write, shown}
 
 -- how many numbers of the list come before this one
@@ -23,13 +23,14 @@ abbrev pub installer : History → List ℕ → ℕ → Option ℕ
 installer h k zero = None
 installer h k (suc p) = slice_get (writers h k) p
 
--- the value that a reader gets of the version that this transaction installed
-abbrev pub value_by : History → List ℕ → Option ℕ → Option (List ℕ)
-value_by h k None = None
-value_by h k (Some t) = shown (last_write t k h.events)
+-- the value that a reader gets of the transaction's last write of the key
+abbrev pub shown_by : List ℕ → List Event → Option ℕ → Option (List ℕ)
+shown_by k events None = None
+shown_by k events (Some t) = shown (last_write t k events)
 
+-- the value that a reader gets of the version at the place
 abbrev pub value_at : History → List ℕ → ℕ → Option (List ℕ)
-value_at h k p = value_by h k (installer h k p)
+value_at h k p = shown_by k h.events (installer h k p)
 
 -- the version at the place has a value: it is neither unborn nor dead
 abbrev pub is_visible_at : History → List ℕ → ℕ → Bool

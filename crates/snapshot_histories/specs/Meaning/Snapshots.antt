@@ -3,21 +3,12 @@
 -- commit before it started. A history doesn't record when a transaction started, so `starts` gives its snapshot.
 use Rattle.std.specs.Prelude.{◌≡◌, ◌≢◌, ℕ, zero, suc, ◌<◌, ◌≤◌, true, List, Option, Some, None, Contains}
 use Rattle.std.specs.List.{filter_map}
-use Rattle.adya_values.specs.Meaning.Histories.{Event, Write, Delete, Read, Scan, Commit, Abort, History}
-use Rattle.adya_values.specs.Meaning.Events.{txn_of, is_committed}
+use Rattle.adya_values.specs.Meaning.Histories.{Event, History}
+use Rattle.adya_values.specs.Meaning.Events.{txn_of, is_committed, commit_of}
 use Rattle.adya_values.specs.Meaning.Orders.{place, installer}
 use Rattle.adya_values.specs.Meaning.Selections.{selected}
 use Rattle.adya_values.specs.Meaning.Edges.{Rw, Edge, IsEdge}
 use Rattle.adya_values.specs.Meaning.Acceptance.{IsChecked}
-
--- the transaction that the event commits, if it is a commit
-abbrev pub commit_of : Event → Option ℕ
-commit_of (Commit t) = Some t
-commit_of (Write t k m v) = None
-commit_of (Delete t k m) = None
-commit_of (Read t r v) = None
-commit_of (Scan t low high es) = None
-commit_of (Abort t) = None
 
 -- the place of the transaction's commit among the commits, from 1; of a transaction that doesn't commit, above all others
 abbrev pub stamp_in : History → ℕ → ℕ

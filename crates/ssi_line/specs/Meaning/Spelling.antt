@@ -6,6 +6,7 @@ use Rattle.ssi_store.specs.Meaning.Commands.{command_of}
 use Rattle.ssi_store.specs.Meaning.Courses.{Command, Begin, Get, Put, Del, Scan, ScanFirst, Commit, Abort, Collect, Stat}
 use Rattle.ssi_line.specs.declared.line.Line.{Line as LineValue}
 use Rattle.ssi_line.specs.declared.line.Line.TheVariants as Of
+use Rattle.adya_line.specs.Meaning.Lines.{Spells, SpellsNone, SpellsOnly}
 
 -- words with one space between them
 abbrev pub spaced : List (List ℕ) → List ℕ
@@ -63,16 +64,12 @@ IsLine (Do c) = IsCommand c
 IsLine Stop = Unit {0}
 IsLine Dump = Unit {0}
 
--- the text is that of the line
-pub record IsLineOf (x : Line) (text : List ℕ) : Type 0 where
-  pub good : IsLine x
-  pub same : text ≡ line_text x
+-- the text is that of the line; of no line; of this line, and of no other
+abbrev pub IsLineOf : Line → List ℕ → Type 0
+IsLineOf = Spells IsLine line_text
 
--- the text is that of no line
 abbrev pub IsNoLine : List ℕ → Type 0
-IsNoLine text = (x : Line) → IsLineOf x text → ⊥
+IsNoLine = SpellsNone IsLine line_text
 
--- the text is that of this line, and of no other
-pub record IsOnlyLineOf (x : Line) (text : List ℕ) : Type 0 where
-  pub line : IsLineOf x text
-  pub only : (y : Line) → IsLineOf y text → y ≡ x
+abbrev pub IsOnlyLineOf : Line → List ℕ → Type 0
+IsOnlyLineOf = SpellsOnly IsLine line_text

@@ -2,7 +2,8 @@
 use Rattle.std.specs.Prelude.{◌≡◌, nat_eq, List}
 use Rattle.std.specs.List.{filter_map, IsDistinct}
 use Rattle.adya_values.specs.Meaning.Histories.{Event}
-use Rattle.ssi_recorder.specs.Meaning.Recorded.{commit_of, by_commit}
+use Rattle.adya_values.specs.Meaning.Events.{commit_of}
+use Rattle.ssi_recorder.specs.Meaning.Recorded.{by_commit}
 
 -- if no transaction commits twice, the committed transactions are those of the commits, one by one
 abbrev pub CommitsAreListed : Type 0

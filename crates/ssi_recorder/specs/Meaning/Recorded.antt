@@ -3,19 +3,11 @@
 use Rattle.std.specs.Prelude.{ℕ, nat_eq, if◌then◌else◌, List, [], ◌∷◌, ◌++◌, Option, Some, None, is_some, filter, fold}
 use Rattle.std.specs.List.{filter_map, list_any}
 use Rattle.adya_values.specs.declared.edition.Edition.{Edition}
-use Rattle.adya_values.specs.Meaning.Histories.{Event, Write, Delete, Read, Scan, Commit, Abort, Order, FinalPair, History}
-use Rattle.adya_values.specs.Meaning.Events.{written, last, last_write, shown}
+use Rattle.adya_values.specs.Meaning.Histories.{Event, Order, FinalPair, History}
+use Rattle.adya_values.specs.Meaning.Events.{commit_of, written, last, last_write}
+use Rattle.adya_values.specs.Meaning.Orders.{shown_by}
 use Rattle.adya_values.specs.Meaning.Serial.{visible_pair_of}
 use Rattle.adya_values.specs.Meaning.KeySets.{insert}
-
--- the transaction that the event commits, if it is a commit
-abbrev pub commit_of : Event → Option ℕ
-commit_of (Commit t) = Some t
-commit_of (Write t k m v) = None
-commit_of (Delete t k m) = None
-commit_of (Read t r v) = None
-commit_of (Scan t low high es) = None
-commit_of (Abort t) = None
 
 -- the list with the number at its end, unless it has the number already
 abbrev pub with_number : List ℕ → ℕ → List ℕ
@@ -28,11 +20,6 @@ by_commit events = fold with_number [] (filter_map commit_of events)
 -- those of them that wrote the key
 abbrev pub writers_by_commit : List ℕ → List Event → List ℕ
 writers_by_commit k events = filter (λ t. is_some (last_write t k events)) (by_commit events)
-
--- the value that a reader gets of the transaction's last write of the key
-abbrev pub shown_by : List ℕ → List Event → Option ℕ → Option (List ℕ)
-shown_by k events None = None
-shown_by k events (Some t) = shown (last_write t k events)
 
 -- the value that the key has after all commits
 abbrev pub last_shown : List ℕ → List Event → Option (List ℕ)

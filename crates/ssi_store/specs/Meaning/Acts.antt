@@ -1,8 +1,8 @@
 -- What the transactions of a course did, without sessions and answers. The newest act stands first, so that the tail of
 -- a log is what was before.
-use Rattle.std.specs.Prelude.{ℕ, suc, ◌==◌, Bool, false, not, ◌&&◌, ◌||◌, if◌then◌else◌, List, [], ◌∷◌, ◌++◌, length, Option, Some, None, filter}
-use Rattle.adya_values.specs.Meaning.Histories.{Content, Live, Dead, FinalPair}
-use Rattle.adya_values.specs.Meaning.Events.{last}
+use Rattle.std.specs.Prelude.{ℕ, suc, ◌==◌, Bool, false, not, ◌&&◌, ◌||◌, if◌then◌else◌, List, [], ◌∷◌, ◌++◌, Option, Some, None, filter}
+use Rattle.adya_values.specs.Meaning.Histories.{Content, Live, Dead}
+use Rattle.ssi_snapshot.specs.Meaning.Listings.{reached}
 use Rattle.ssi_store.specs.Meaning.Courses.{Command, Command as Do, Answer, Begun, Value, Absent, Done, Rows, Committed, Aborted, Conflict, Unsafe, Kept, Course, New, Then, txn_for}
 
 -- a transaction starts, writes a key, gets a key, scans a range, commits or aborts; and old versions are collected
@@ -14,15 +14,6 @@ pub data Act : Type 0 where
   Commits : (txn : ℕ) → Act
   Aborts : (txn : ℕ) → Act
   Collects : Act
-
--- the key of the row, or this key if there is no row
-abbrev pub key_or : List ℕ → Option FinalPair → List ℕ
-key_or high None = high
-key_or high (Some row) = row.key
-
--- how far a limited scan looked: to its last row if it found as many as its limit, and otherwise to the end of the range
-abbrev pub reached : List ℕ → ℕ → List FinalPair → List ℕ
-reached high n rows = if length rows == n then key_or high (last rows) else high
 
 -- the act that transaction t does by an operation with this answer: none if it was refused
 abbrev pub act_of : ℕ → Command → Answer → List Act

@@ -11,7 +11,8 @@ use Rattle.ssi_conflict.specs.Meaning.Pairs.{IsPair, IsPivot, IsOrderedPivot, Is
 use Rattle.ssi_conflict.specs.Computing.Steps.{smallest_pivot, smallest_ordered_pivot}
 use Rattle.ssi_versions.specs.Meaning.Changes.{contents, held, newest_within, AreInstallable, IsProtected}
 use Rattle.ssi_store.specs.Meaning.Courses.{Command, Get, Scan, ScanFirst, Commit, Collect, Stat, Course, Unsafe, txn_for, txn_in, next_txn}
-use Rattle.ssi_store.specs.Meaning.Acts.{Act, Gets, Scans, Commits, Collects, acts, reached, is_open, has_started, started, open_txns}
+use Rattle.ssi_snapshot.specs.Meaning.Listings.{reached}
+use Rattle.ssi_store.specs.Meaning.Acts.{Act, Gets, Scans, Commits, Collects, acts, is_open, has_started, started, open_txns}
 use Rattle.ssi_store.specs.Meaning.Seeing.{snapshot, changed, sees, scanned}
 use Rattle.ssi_store.specs.Meaning.Tracked.{tracked}
 use Rattle.ssi_store.specs.Meaning.Replies.{rows, reply_in, reply, Follows, is_overtaken, conflict}

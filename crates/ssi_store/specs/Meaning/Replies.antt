@@ -11,7 +11,8 @@ use Rattle.ssi_conflict.specs.Meaning.Calls.{Call}
 use Rattle.ssi_conflict.specs.Meaning.Kept.{kept_count, open_count}
 use Rattle.ssi_versions.specs.Meaning.Changes.{Held, last_version, is_installed_above, held_count, key_count}
 use Rattle.ssi_store.specs.Meaning.Courses.{Command, Command as Do, Busy, Idle, Range, Long, Spent, Memory, Answer, Begun, Value, Absent, Done, Rows, Committed, Aborted, Conflict, Unsafe, Kept, Counts, Refused, Course, New, Then, txn_for, next_txn, is_proper}
-use Rattle.ssi_store.specs.Meaning.Acts.{Act, Gets, Scans, Commits, Collects, acts, reached, operations}
+use Rattle.ssi_snapshot.specs.Meaning.Listings.{reached}
+use Rattle.ssi_store.specs.Meaning.Acts.{Act, Gets, Scans, Commits, Collects, acts, operations}
 use Rattle.ssi_store.specs.Meaning.Seeing.{snapshot, wrote, sees, keys, scanned, changed}
 use Rattle.ssi_store.specs.Meaning.Tracked.{tracked}
 

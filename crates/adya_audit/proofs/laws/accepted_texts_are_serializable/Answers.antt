@@ -1,4 +1,4 @@
-use Rattle.adya_audit.proofs.YesWhereTextsAccepted.{serializable_texts}
+use Rattle.adya_audit.proofs.YesIffTextsAccepted.{serializable_texts}
 use Rattle.adya_audit.proofs.laws.accepted_texts_are_serializable.Goals as goal
 
 pub returns : goal.returns

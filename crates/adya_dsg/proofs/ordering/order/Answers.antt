@@ -5,11 +5,11 @@ use Rattle.adya_values.specs.Meaning.Phenomena.{HasG1, HasG2}
 use Rattle.adya_values.specs.Meaning.Acceptance.{IsChecked}
 use Rattle.adya_terms.specs.Meaning.Checked.{checked_history, history_in}
 use Rattle.adya_dsg.specs.Meaning.Found.{IsFound, HasCertificate}
-use Rattle.adya_dsg.specs.Meaning.Laws.{CertifiedWhereNoPhenomenon}
+use Rattle.adya_dsg.specs.Meaning.Laws.{CertifiedIffNoPhenomenon}
 use Rattle.adya_dsg.proofs.Certificates.{none_beside_result}
 use Rattle.adya_dsg.proofs.ordering.order.Goals as goal
 
-decided : CertifiedWhereNoPhenomenon → (own lent : HistoryValue) → lent ≡ own → IsChecked (history_of lent)
+decided : CertifiedIffNoPhenomenon → (own lent : HistoryValue) → lent ≡ own → IsChecked (history_of lent)
     → HasCertificate (history_of own) ↔ ((HasG1 (history_of own) → ⊥) × (HasG2 (history_of own) → ⊥))
 decided law own lent same checked =
     law (history_of own) (subst (λ h. IsChecked (history_of h)) same checked).well_formed
@@ -21,15 +21,15 @@ returns-clause-refused c =
 
 pub returns-clause-decided : goal.returns-clause-decided
 returns-clause-decided c =
-    decided c.certified_where_no_phenomenon.ensures (history_in c.args.checked.now) c.history.result.now
+    decided c.certified_iff_no_phenomenon.ensures (history_in c.args.checked.now) c.history.result.now
     c.history.ensures.same c.history.ensures.checked
 
 pub returns-in_err-nodes-clause-decided : goal.returns-in_err-nodes-clause-decided
 returns-in_err-nodes-clause-decided c =
-    decided c.certified_where_no_phenomenon.ensures (history_in c.args.checked.now) c.history.result.now
+    decided c.certified_iff_no_phenomenon.ensures (history_in c.args.checked.now) c.history.result.now
     c.history.ensures.same c.history.ensures.checked
 
 pub returns-in_err-versions-clause-decided : goal.returns-in_err-versions-clause-decided
 returns-in_err-versions-clause-decided c =
-    decided c.certified_where_no_phenomenon.ensures (history_in c.args.checked.now) c.history.result.now
+    decided c.certified_iff_no_phenomenon.ensures (history_in c.args.checked.now) c.history.result.now
     c.history.ensures.same c.history.ensures.checked

@@ -18,7 +18,7 @@ pub of_scan-requires : goal.of_scan-requires
 of_scan-requires c =
     let checked = c.args.versions.now.checked.now in
     let h = checked_history checked in
-    let is_checked = c.checked_where_no_fault.ensures.sound h (none_from (first_fault h) checked.checked) in
+    let is_checked = c.checked_iff_no_fault.ensures.sound h (none_from (first_fault h) checked.checked) in
     let rising = subst IsRising (ap event_of c.in-Scan.is) (rising_at h is_checked (event_of c.args.event.now) c.requires) in
     ap (λ (ws : List EntryValue). keys_rise (map (λ (w : Entry). w.version.key) (map entry_of ws))) c.deref.ensures.value ∙
     rising.1

@@ -5,13 +5,12 @@ use Rattle.std.proofs.lemmas.List.Folds.{list_all-map}
 use Rattle.adya_values.specs.declared.event.Event.{Event as EventValue}
 use Rattle.adya_values.specs.declared.fault.Rule.TheVariants.{M6}
 use Rattle.adya_values.specs.declared.fault.CheckFault.{CheckFault}
-use Rattle.adya_values.specs.declared.fault.CheckFault.TheVariants.{Malformed}
+use Rattle.adya_values.specs.Computing.Faults.{Malformed, first, fault_unless, all_end}
 use Rattle.adya_values.specs.declared.order.Order.{Order as OrderValue}
 use Rattle.adya_values.specs.declared.order.FinalPair.{FinalPair as FinalValue}
 use Rattle.adya_values.specs.Meaning.Histories.{event_of, order_of}
 use Rattle.adya_values.specs.Meaning.Events.{txn_of}
 use Rattle.adya_terms.specs.declared.event_index.EventIndex.{EventIndex}
-use Rattle.adya_values.specs.Computing.Faults.{first, fault_unless, all_end}
 use Rattle.adya_terms.specs.Machinery.Checks.{Names, whole, ends, listing_faults, final_value_faults, rule_faults}
 use Rattle.adya_terms.specs.Machinery.EventIndex.{indexed, unfinished_in, is_done}
 use Rattle.adya_terms.proofs.Firsts.{found_behind, names_front, names_behind}

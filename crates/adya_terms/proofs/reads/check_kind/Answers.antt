@@ -1,13 +1,12 @@
 use Rattle.std.proofs.Common.{◌≡◌, ◌+◌, ◌∙◌, ℕ, List, sym, ap, subst, Some, arith}
 use Rattle.adya_values.specs.declared.event.Version.{Version}
-use Rattle.adya_values.specs.declared.fault.CheckFault.{CheckFault}
 use Rattle.adya_terms.specs.declared.reads.BadRead.{BadRead}
 use Rattle.adya_terms.specs.declared.reads.BadRead.TheVariants.{Aborted, Intermediate}
 use Rattle.adya_values.specs.Meaning.Histories.{event_of}
-use Rattle.adya_values.specs.Computing.Faults.{first, was_written}
+use Rattle.adya_values.specs.Computing.Faults.{Fault, first, was_written}
 use Rattle.adya_terms.specs.Machinery.EventIndex.{indexed, unfinished_in}
 use Rattle.adya_terms.specs.Machinery.Checks.{Names}
-use Rattle.adya_terms.specs.Machinery.Reads.{is_good, fault_of}
+use Rattle.adya_terms.specs.Machinery.Reads.{is_good, fault_of, refusal_of}
 use Rattle.adya_terms.proofs.Refused.{bad_here, bad_later}
 use Rattle.adya_terms.proofs.reads.check_kind.Goals as goal
 use Rattle.lemmas.proofs.Members.{Contains-slice_get}
@@ -15,7 +14,7 @@ use Rattle.lemmas.proofs.Steps.{turn}
 use Rattle.lemmas.proofs.Tests.{all_pass}
 
 -- the fault of a kind is named by what it is
-named : (kind : BadRead) (fs : List CheckFault) (n : ℕ) (v : Version) → first fs ≡ Some (fault_of kind n v) → Names fs (fault_of kind n v)
+named : (kind : BadRead) (fs : List Fault) (n : ℕ) (v : Version) → first fs ≡ Some (fault_of kind n v) → Names fs (refusal_of kind n v)
 named Aborted fs n v e = e
 named Intermediate fs n v e = e
 

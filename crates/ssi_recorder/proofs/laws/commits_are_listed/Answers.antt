@@ -1,5 +1,5 @@
 use Rattle.std.specs.List.{filter_map}
-use Rattle.ssi_recorder.specs.Meaning.Recorded.{commit_of}
+use Rattle.adya_values.specs.Meaning.Events.{commit_of}
 use Rattle.ssi_recorder.proofs.Committed.{distinct_listed}
 use Rattle.ssi_recorder.proofs.laws.commits_are_listed.Goals as goal
 

@@ -5,4 +5,4 @@ use Rattle.lemmas.proofs.Options.{none_from}
 
 pub returns-clause-checked : goal.returns-clause-checked
 returns-clause-checked c =
-    c.checked_where_no_fault.ensures.sound (history_of c.args.self.now.history.now) (none_from (first_fault (history_of c.args.self.now.history.now)) c.args.self.now.checked)
+    c.checked_iff_no_fault.ensures.sound (history_of c.args.self.now.history.now) (none_from (first_fault (history_of c.args.self.now.history.now)) c.args.self.now.checked)

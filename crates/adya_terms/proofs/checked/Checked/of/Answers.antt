@@ -36,12 +36,12 @@ invariant_of-result c =
 
 pub returns-in-Ok-clause-checked : goal.returns-in-Ok-clause-checked
 returns-in-Ok-clause-checked c =
-    c.checked_where_no_fault.ensures.sound (history_of c.args.history.now)
+    c.checked_iff_no_fault.ensures.sound (history_of c.args.history.now)
     (faultless_whole c.args.history.now c.events.result.now c.unfinished.result.now c.orders.result.now c.finals.result.now
     c.events.ensures c.unfinished.ensures.value c.orders.ensures.value c.finals.ensures c.in-Ok.ensures.faults)
 
 pub returns-in-Err-clause-refused : goal.returns-in-Err-clause-refused
 returns-in-Err-clause-refused c =
-    refused_when_found c.checked_where_no_fault.ensures.exact (history_of c.args.history.now) c.args.history.now.shape c.in-Err.fault
+    refused_when_found c.checked_iff_no_fault.ensures.exact (history_of c.args.history.now) c.args.history.now.shape c.in-Err.fault
     (found_whole c.args.history.now c.events.result.now c.unfinished.result.now c.orders.result.now c.finals.result.now
     c.events.ensures c.unfinished.ensures.value c.orders.ensures.value c.finals.ensures c.in-Err.fault c.in-Err.ensures.faults)

@@ -8,7 +8,7 @@ use Rattle.adya_terms.proofs.newest_writes.NewestWrites.keep.Goals as goal
 pub returns-in_ok-insert : goal.returns-in_ok-insert
 returns-in_ok-insert c before m =
     written_write (get key_eq c.args.self.now.writes) (get key_eq c.insert.new.self) before (event_of c.args.event.now) m
-    c.in-Some.new (sym c.wrote.ensures ∙ ap (option_map entry_of) c.in-Some.is) c.in_ok-insert.ensures.updates.0
+    c.in-Some.new (sym c.written.ensures ∙ ap (option_map entry_of) c.in-Some.is) c.in_ok-insert.ensures.updates.0
 
 pub returns-in_default : goal.returns-in_default
 returns-in_default c before m =

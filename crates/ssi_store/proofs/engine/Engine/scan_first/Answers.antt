@@ -2,10 +2,9 @@ use Rattle.std.proofs.Common.{rules, arith, ap, subst, sym, ◌<◌, ◌∙◌, 
 use Rattle.std.specs.Int.NonZero.{non_zero_u16_get}
 use Rattle.adya_values.specs.Meaning.Histories.{entry_of, final_of}
 use Rattle.adya_values.specs.Meaning.Serial.{visible_pairs}
-use Rattle.ssi_snapshot.specs.Meaning.Listings.{up_to}
-use Rattle.ssi_store.specs.Meaning.Acts.{reached}
+use Rattle.ssi_snapshot.specs.Meaning.Listings.{up_to, reached}
 use Rattle.ssi_store.specs.Meaning.Courses.{ScanFirst}
-use Rattle.ssi_store.proofs.KeyOrder.{key_le-from_not}
+use Rattle.adya_values.proofs.KeyOrder.{key_le-from_not}
 use Rattle.ssi_store.proofs.LimitedScans.{first_idle, first_range, first_long, first_memory, first_is}
 use Rattle.ssi_store.proofs.engine.Engine.scan_first.Goals as goal
 

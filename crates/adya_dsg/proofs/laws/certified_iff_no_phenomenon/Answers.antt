@@ -1,5 +1,5 @@
 use Rattle.adya_dsg.proofs.Certificates.{certified}
-use Rattle.adya_dsg.proofs.laws.certified_where_no_phenomenon.Goals as goal
+use Rattle.adya_dsg.proofs.laws.certified_iff_no_phenomenon.Goals as goal
 
 pub returns : goal.returns
 returns c =

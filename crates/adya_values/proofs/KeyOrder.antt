@@ -11,7 +11,7 @@ use Rattle.lemmas.proofs.Orderings.{bytes_eq-from, bytes_lt-trans, less_from_is_
 use Rattle.adya_values.specs.Meaning.Keys.{key_eq, key_le, key_lt, lies_in}
 
 -- of two keys one is below the other, or they are equal
-key_cases : (a b : List ℕ) → (key_lt a b ≡ true) ⊎ ((a ≡ b) ⊎ (key_lt b a ≡ true))
+pub key_cases : (a b : List ℕ) → (key_lt a b ≡ true) ⊎ ((a ≡ b) ⊎ (key_lt b a ≡ true))
 key_cases a b = by_order (slice_cmp nat_cmp a b) refl
   where
     by_order : (o : Ordering) → slice_cmp nat_cmp a b ≡ o → (key_lt a b ≡ true) ⊎ ((a ≡ b) ⊎ (key_lt b a ≡ true))

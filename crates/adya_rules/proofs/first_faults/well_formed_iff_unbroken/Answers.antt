@@ -1,6 +1,6 @@
 use Rattle.std.proofs.lemmas.Bool.{and_parts}
 use Rattle.adya_rules.proofs.WellFormed.{well_formed_when_unbroken, unbroken_when_well_formed}
-use Rattle.adya_rules.proofs.first_faults.well_formed_where_unbroken.Goals as goal
+use Rattle.adya_rules.proofs.first_faults.well_formed_iff_unbroken.Goals as goal
 
 pub returns : goal.returns
 returns c h shape =

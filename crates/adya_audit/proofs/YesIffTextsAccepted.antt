@@ -1,6 +1,5 @@
 -- When a verdict on texts is yes.
-use Rattle.std.proofs.Common.{◌≡◌, ◌↔◌, ℕ, ◌<◌, ◌==◌, true, List, [], ◌∷◌, length, Option, Some, None, IfSome}
-use Rattle.std.proofs.Common.{refl, sym, ◌∙◌, ap, subst, not, arith}
+use Rattle.std.proofs.Common.{◌≡◌, ◌↔◌, ℕ, ◌<◌, ◌==◌, true, List, [], ◌∷◌, length, Option, Some, None, IfSome, refl, sym, ◌∙◌, ap, subst, not, arith}
 use Rattle.std.specs.List.{AllByRecursion, list_all}
 use Rattle.std.proofs.lemmas.Bool.{and_from}
 use Rattle.adya_values.specs.Meaning.Histories.{History, Order}
@@ -13,12 +12,11 @@ use Rattle.adya_text.specs.Meaning.Faults.{IsFaultLine}
 use Rattle.adya_text.specs.Meaning.Laws.{HistoriesDiffer, SerialsDiffer, HasNoFaultWithin}
 use Rattle.adya_audit.specs.declared.verdict.Verdict.{Verdict as VerdictValue}
 use Rattle.adya_audit.specs.declared.verdict.Verdict.TheVariants as Said
-use Rattle.adya_audit.specs.Meaning.Verdicts.{Verdict, Yes, Syntax, Malformed, AbortedRead, IntermediateRead, NotTheCommitted}
-use Rattle.adya_audit.specs.Meaning.Verdicts.{Backward, plain_verdict}
-use Rattle.adya_audit.specs.Meaning.Laws.{YesWhereAccepted, AcceptedIsSerializable}
+use Rattle.adya_audit.specs.Meaning.Verdicts.{Verdict, Yes, Syntax, Malformed, AbortedRead, IntermediateRead, NotTheCommitted, Backward, plain_verdict}
+use Rattle.adya_audit.specs.Meaning.Laws.{YesIffAccepted, AcceptedIsSerializable}
 use Rattle.adya_audit.specs.Meaning.TextVerdicts.{IsTextOf, IsSerialTextOf, HaveVerdict, IsVerdictOn, AreAccepted}
-use Rattle.adya_audit.specs.Meaning.TextLaws.{YesWhereTextsAccepted, AcceptedTextsAreSerializable}
-use Rattle.adya_audit.proofs.YesWhereAccepted.{plain_yes}
+use Rattle.adya_audit.specs.Meaning.TextLaws.{YesIffTextsAccepted, AcceptedTextsAreSerializable, AcceptedTextsGetYes}
+use Rattle.adya_audit.proofs.YesIffAccepted.{plain_yes}
 
 has_writer : (n : ℕ) → 0 < n → not (n == 0) ≡ true
 has_writer n h = grind (arith, h)
@@ -50,7 +48,7 @@ one_history differ text g h is_g is_h = differ g h is_g.is_history is_h.is_histo
 pub one_serial : SerialsDiffer → (text ts us : List ℕ) → IsSerialTextOf text ts → IsSerialTextOf text us → ts ≡ us
 one_serial differ text ts us is_t is_u = differ ts us is_t.is_serial is_u.is_serial (sym is_t.same ∙ is_u.same)
 
-module _ (law : YesWhereAccepted) (histories : HistoriesDiffer) (serials : SerialsDiffer)
+module _ (law : YesIffAccepted) (histories : HistoriesDiffer) (serials : SerialsDiffer)
     (no_history : HasNoFaultWithin AreHistoryLines) (no_serial : HasNoFaultWithin AreSerialLines) (h c : List ℕ) where
   accepted_from_yes : HaveVerdict h c Yes → AreAccepted h c
   accepted_from_yes r =
@@ -86,6 +84,17 @@ module _ (law : YesWhereAccepted) (histories : HistoriesDiffer) (serials : Seria
   yes_texts NotTheCommitted r = (λ e. absurd (cc (e)), yes_from_accepted NotTheCommitted r)
   yes_texts (Backward edge) r = (λ e. absurd (cc (e)), yes_from_accepted (Backward edge) r)
 
+pub yes_on_accepted : YesIffAccepted → AcceptedTextsGetYes
+yes_on_accepted law h c a =
+    record {
+      history = a.history;
+      certificate = a.certificate;
+      history_read = a.history_read;
+      certificate_read = a.certificate_read;
+      same =
+          sym ((law a.history a.certificate (has_shape a.history a.history_read.is_history)).1 a.accepted);
+    }
+
 pub serializable_texts : AcceptedIsSerializable → AcceptedTextsAreSerializable
 serializable_texts law h c a =
     record {
@@ -98,7 +107,7 @@ serializable_texts law h c a =
     }
 
 -- the same of a verdict on two known texts
-pub yes_on_two : YesWhereTextsAccepted → (first second : Option (List ℕ)) (v : VerdictValue)
+pub yes_on_two : YesIffTextsAccepted → (first second : Option (List ℕ)) (v : VerdictValue)
     → IfSome first (λ h. IfSome second (λ c. IsVerdictOn h c (plain_verdict v)))
     → IfSome first (λ h. IfSome second (λ c. (v ≡ Said.Yes) ↔ AreAccepted h c))
 yes_on_two law None second v r = tt
