@@ -3,11 +3,11 @@
 
     scripts/explanations.py [PROGRAM]
 
-PROGRAM is crates/ssi/out/ssi by default; if it isn't built, scripts/reference.py answers in its place. The first sentence
-must fit the example's expected answer, and the sentences of those folders that have a file `explanation`, written by hand,
-must be the ones there. The page must be well-formed, with an arrow for each sentence about two events and with each
-transaction that a sentence names. Wrong arguments and files must end with status 2 and one line. The last line is
-`N passed, M failed`.
+PROGRAM is crates/ssi/out/ssi by default; if it isn't built, scripts/reference.py answers in its place. The first
+sentence must fit the example's expected answer. If a folder has a file `explanation`, which is written by hand, all
+sentences must be the ones there. The page must be well-formed, with an arrow for each sentence about two events, and
+with each transaction that a sentence names. Wrong arguments and files must end with status 2 and one line. The last
+line is `N passed, M failed`.
 """
 import glob
 import html.parser

@@ -3,8 +3,9 @@
 
     scripts/isolation.py
 
-A row says which sessions the store and PostgreSQL abort, and at which command. The files `replies` and `postgres` of its
-folder must say the same, and the page must count right how often the two agree. The last line is `N passed, M failed`.
+A row says which sessions the store and PostgreSQL abort, and at which command. The files `replies` and `postgres` of
+its folder must say the same, and the page must count right how often the two agree. The last line is
+`N passed, M failed`.
 """
 import os
 import re

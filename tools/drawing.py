@@ -18,9 +18,9 @@ RED, FAULTY, NAMED, PLAIN = "#b3261e", "#ffe1a6", "#fff6e0", "#fff"
 STYLE = """body { font: 16px/1.5 sans-serif; margin: 2em; color: #222; background: #fff }
 figure { margin: 0; overflow-x: auto }
 li { margin: .3em 0 }"""
-KEY = """Each row is a transaction: blue if it committed, grey and dashed if it aborted, brown and dashed if it is unfinished.
-The left edges of the boxes are in the order of the events. Dark yellow boxes are the two events of a sentence, light yellow
-ones the other writes that it speaks of."""
+KEY = """Each row is a transaction: blue if it committed, grey and dashed if it aborted, brown and dashed if it is
+unfinished. The left edges of the boxes are in the order of the events. Dark yellow boxes are the two events of a
+sentence, light yellow boxes the other events that it mentions."""
 
 
 def words(event):
@@ -45,8 +45,8 @@ def code(text):
 
 
 class Choice:
-    """Which transactions and events of a history are drawn: those that were asked for, or all of a small history, or those
-    of the answer. Of a transaction that the answer only speaks of, these writes and the end are drawn."""
+    """Which transactions and events of a history are drawn: those that were asked for, or all of a small history, or
+    those of the answer. Of a transaction that the answer only mentions, the mentioned events and the end are drawn."""
 
     def __init__(self, events, found, asked):
         every = list(dict.fromkeys(event.txn for event in events))
@@ -154,8 +154,8 @@ class Page:
             'marker-end="url(#head)"/>' % (start.middle, y1, start.middle, bend, end.middle, bend, end.middle, y2, RED)
 
     def labels(self):
-        """The kind and key of each edge, beside the start of its arrow, on the side that the arrow doesn't take. A second
-        one at this place stands further off."""
+        """The kind and key of each edge, beside the start of its arrow, on the side that the arrow doesn't take. A
+        second one at this place is further off."""
         met = collections.Counter()
         for one in self.arrows:
             start, end = self.boxes[one.first], self.boxes[one.second]

@@ -3,8 +3,9 @@
 
     tools/explain.py [--picture FILE] [--transactions N,N,..] [--program PROGRAM] HISTORY
 
-It runs `PROGRAM order HISTORY` (by default crates/ssi/out/ssi) and prints why there is no serial order: each edge of the
-cycle, or the fault, in a sentence with the lines of the history that make it. If there is a serial order, it prints that.
+It runs `PROGRAM order HISTORY` (by default crates/ssi/out/ssi) and prints why there is no serial order: each edge of
+the cycle, or the fault, in a sentence with the lines of the history that make it. If there is a serial order, it prints
+that.
 
 With --picture it also draws the history: a row for each transaction, its events from left to right, and the edges as
 arrows. A file whose name ends with `.svg` is the drawing alone, any other one an HTML page with the sentences under it.
@@ -12,9 +13,9 @@ A history with more than 12 transactions or 60 events isn't drawn whole, but onl
 answer: those of the cycle and those that its sentences name, or the first of the serial order. --transactions chooses
 others.
 
-If the program isn't built, scripts/reference.py answers in its place. It is slow and isn't proved, and a line on standard
-error says so. Exit status: 0 if there is an answer, whatever it is; 2 if an argument or a file is wrong; that of the
-program if it fails.
+If the program isn't built, scripts/reference.py answers in its place. It is slow and isn't proved, and a line on
+standard error says so. Exit status: 0 if there is an answer, whatever it is; 2 if an argument or a file is wrong; that
+of the program if it fails.
 """
 import argparse
 import os
@@ -28,16 +29,16 @@ import reference  # noqa: E402  (in scripts/)
 
 
 class Told:
-    """A sentence about two events, the first of which comes first in a serial order. It has the kind and key of the edge,
-    the places of the two, and the places of other events that it names."""
+    """A sentence about two events, the first of which comes first in a serial order. It has the kind and key of the
+    edge, the places of the two, and the places of other events that it mentions."""
 
     def __init__(self, text, label, first, second, others=()):
         self.text, self.label, self.first, self.second, self.others = text, label, first, second, others
 
 
 class Explanation:
-    """The first sentence, the sentences about edges or reads, the transactions of a serial order, and the places of events
-    that are at fault by themselves."""
+    """The first sentence, the sentences about edges or reads, the transactions of a serial order, and the places of
+    events that are at fault by themselves."""
 
     def __init__(self, said, told=(), order=(), faulty=()):
         self.said, self.told, self.order, self.faulty = said, told, order, faulty
@@ -74,8 +75,8 @@ class Explainer:
         return history
 
     def place_that_gives(self, edge):
-        """The place of the first event that makes the edge, and that of the write which it reads or selects: None if that
-        is the unborn version."""
+        """The place of the first event that makes the edge, and that of the write which it reads or selects: None if
+        that is the unborn version."""
         start, kind, key, end = edge
         history = self.alone(key)
         for at, e in enumerate(self.events):
@@ -152,8 +153,8 @@ class Explainer:
 
 
 class Malformed:
-    """Says what is wrong with a line that breaks a rule. There is a function for each rule, which is given the place of the
-    line after the head."""
+    """Says what is wrong with a line that breaks a rule. There is a function for each rule, which is given the place of
+    the line after the head."""
 
     def __init__(self, history):
         self.history, self.events = history, history.events
@@ -226,7 +227,8 @@ class Malformed:
         last = {key: txns[-1] for key, txns in self.history.orders}
         values = {key: reference.last_write(self.events, txn, key)[1] for key, txn in last.items()}
         if at == len(self.history.finals):
-            key = min(key for key, value in values.items() if value is not None and (key, value) not in self.history.finals)
+            named = {key for key, _ in self.history.finals}
+            key = min(key for key, value in values.items() if value is not None and key not in named)
             return "a final of `%s` is missing before it" % key
         key = self.history.finals[at][0]
         if key not in last:
