@@ -32,7 +32,11 @@ module _ (h : History) (ts : List ℕ) where
   test_from_listed l = test_from_counts (is_committed h.events) ts h.events l
 
   test_fails : (ListsTheCommitted h ts → ⊥) → lists_the_committed h ts ≡ false
-  test_fails no = elim (cases_Bool (lists_the_committed h ts)) [ inl yes ↦ absurd (no (listed_from_test yes)) | inr e ↦ e ]
+  test_fails none =
+      elim (cases_Bool (lists_the_committed h ts)) [
+        | inl holds ↦ absurd (none (listed_from_test holds))
+        | inr fails ↦ fails
+      ]
 
 pub not_the_committed : CheckedIffNoFault → NotTheCommittedIffUnlisted
 not_the_committed exact h ts shape = (

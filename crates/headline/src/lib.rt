@@ -5,7 +5,9 @@
 ghost use Rattle.std.specs.Prelude.{◌≡◌, IfOk};
 ghost use Rattle.headline.specs.Headline.{CertifiedRunsGetYes, YesMeansSerializable};
 
-use adya_audit::laws::{accepted_texts_are_serializable, accepted_texts_get_yes, yes_iff_texts_accepted};
+use adya_audit::laws::{
+    accepted_texts_are_serializable, accepted_texts_get_yes, yes_iff_texts_accepted,
+};
 use adya_audit::{RunFault, Verdict, run_audit};
 use devices::Watched;
 use ssi_cli::{ScriptFault, run_script};

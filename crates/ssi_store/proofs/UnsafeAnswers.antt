@@ -2,6 +2,7 @@
 -- pivot after that act answers Unsafe too.
 use Rattle.std.proofs.Common.{Bool, List, None, Option, Some, ap, cond, false, nat_le, refl, subst, take, true, ◌≡◌, ◌∷◌, ◌∙◌, nat_lt, ℕ}
 use Rattle.std.proofs.lemmas.Option.{none-some}
+use Rattle.adya_values.specs.Computing.Shapes.{numbers_rise}
 use Rattle.adya_values.specs.Meaning.Events.{shown}
 use Rattle.adya_values.specs.Meaning.Histories.{FinalPair}
 use Rattle.adya_values.specs.Meaning.Keys.{key_le, key_lt}
@@ -9,7 +10,7 @@ use Rattle.ssi_conflict.specs.Computing.Steps.{smallest_ordered_pivot, smallest_
 use Rattle.ssi_conflict.specs.Meaning.Calls.{Call}
 use Rattle.ssi_conflict.specs.Meaning.Pairs.{IsSmallest}
 use Rattle.ssi_snapshot.specs.Meaning.Listings.{reached}
-use Rattle.ssi_store.specs.Meaning.Acts.{Act, Commits, Gets, Scans, acts, is_open, operations}
+use Rattle.ssi_store.specs.Meaning.Acts.{Act, Commits, Gets, Scans, acts, is_open, operations, started}
 use Rattle.ssi_store.specs.Meaning.Courses.{Answer, Begun, Command, Command as Do, Committed, Course, Done, Long, Range, Refusal, Refused, Rows, Spent, Unsafe, next_txn, txn_for}
 use Rattle.ssi_store.specs.Meaning.Laws.{OrderedRefusesNoMore, WouldStand, judged}
 use Rattle.ssi_store.specs.Meaning.Replies.{Follows, conflict, got, reply, reply_for, reply_idle, reply_in, rows, scan_answer, unless_conflict, unless_downward, unless_long, unless_pivot}
@@ -17,10 +18,10 @@ use Rattle.ssi_store.specs.Meaning.Seeing.{sees}
 use Rattle.ssi_store.specs.Meaning.Tracked.{tracked}
 use Rattle.adya_values.proofs.KeyOrder.{key_le-from_not}
 use Rattle.ssi_store.proofs.ReachedKeys.{reached_upward}
-use Rattle.ssi_store.proofs.PivotRules.{IsRule, NamesLess}
+use Rattle.ssi_store.proofs.PivotRules.{IsRule, ordered_names_earlier}
 use Rattle.ssi_store.proofs.SoundLogs.{Sound}
 use Rattle.ssi_store.proofs.SoundCourses.{Stands, course_stands}
-use Rattle.ssi_store.proofs.TrackedCalls.{tracked_allowed}
+use Rattle.ssi_store.proofs.TrackedCalls.{begun_are, tracked_allowed}
 
 -- what an answer says of the tests that it passed
 pivot_through : (o : Option ℕ) (a : Answer) (p : ℕ) → ((x : ℕ) → a ≡ Unsafe x → ⊥) → unless_pivot o a ≡ Unsafe p
@@ -76,29 +77,32 @@ txn_open pivot c s (Do.Abort v) t e = s.opened v t e
 txn_open pivot c s Do.Collect t e = absurd (none-some t e)
 txn_open pivot c s Do.Stat t e = absurd (none-some t e)
 
--- the act that was judged, and that whatever names a pivot after it answers Unsafe
+-- the act that was judged, which starts no transaction, and that whatever names a pivot after it answers Unsafe
 pub record IsJudged (pivot : List Call → Option ℕ) (t : ℕ) (log : List Act) (m : Command) (p : ℕ) : Type 0 where
   pub act : Act
   pub judges : judged t log m ≡ Some act
-  pub sound : Sound (act ∷ log)
+  pub starts : started (act ∷ log) ≡ started log
+  pub sound : is_open t log ≡ true → Sound log → Sound (act ∷ log)
   pub names : pivot (tracked (act ∷ log)) ≡ Some p
   pub likewise : (other : List Call → Option ℕ) (q : ℕ) → other (tracked (act ∷ log)) ≡ Some q
       → reply_in other t log m ≡ Unsafe q
 
-module _ (pivot : List Call → Option ℕ) (t : ℕ) (log : List Act) (live : is_open t log ≡ true) (sound : Sound log) where
-  read_judged : (m : Command) (act : Act) (a : Answer) → judged t log m ≡ Some act → Sound (act ∷ log)
+module _ (pivot : List Call → Option ℕ) (t : ℕ) (log : List Act) where
+  read_judged : (m : Command) (act : Act) (a : Answer) → judged t log m ≡ Some act
+      → started (act ∷ log) ≡ started log → (is_open t log ≡ true → Sound log → Sound (act ∷ log))
       → ((x : ℕ) → a ≡ Unsafe x → ⊥) → (p : ℕ)
       → unless_long t log (unless_pivot (pivot (tracked (act ∷ log))) a) ≡ Unsafe p
       → ((other : List Call → Option ℕ)
       → reply_in other t log m ≡ unless_long t log (unless_pivot (other (tracked (act ∷ log))) a))
       → IsJudged pivot t log m p
-  read_judged m act a judges s never p e is =
+  read_judged m act a judges starts sound never p e is =
       let after : List Call = tracked (act ∷ log) in
       let long = refusal_through (nat_le 65535 (operations t log)) Long (unless_pivot (pivot after) a) p e in
       record {
         act = act;
         judges = judges;
-        sound = s;
+        starts = starts;
+        sound = sound;
         names = pivot_through (pivot after) a p never long.1;
         likewise = λ other q f. is other ∙ ap (λ b. cond b (Refused Long) (unless_pivot (other after) a)) long.0
             ∙ ap (λ o. unless_pivot o a) f;
@@ -113,8 +117,8 @@ module _ (pivot : List Call → Option ℕ) (t : ℕ) (log : List Act) (live : i
   scan_judged m low high up found judges bounds p e is =
       let looked : (List Call → Option ℕ) → Answer = λ other. unless_long t log (scan_answer other t log low up found) in
       let range = refusal_through (key_lt high low) Range (looked pivot) p e in
-      read_judged m (Scans t low up) (Rows found) judges ((live, bounds (key_le-from_not low high range.0)), sound)
-      (λ x h. cc) p range.1
+      read_judged m (Scans t low up) (Rows found) judges refl
+      (λ live sound. ((live, bounds (key_le-from_not low high range.0)), sound)) (λ x h. cc) p range.1
       (λ other. is other ∙ ap (λ b. cond b (Refused Range) (looked other)) range.0)
 
   judged_in : (m : Command) (p : ℕ) → reply_in pivot t log m ≡ Unsafe p → IsJudged pivot t log m p
@@ -126,7 +130,8 @@ module _ (pivot : List Call → Option ℕ) (t : ℕ) (log : List Act) (live : i
   judged_in Do.Stat p e = absurd (cc (e))
   judged_in (Do.Get s k) p e =
       let found : Option (List ℕ) = shown (sees t k log) in
-      read_judged (Do.Get s k) (Gets t k) (got found) refl (live, sound) (got_is_safe found) p e (λ other. refl)
+      read_judged (Do.Get s k) (Gets t k) (got found) refl refl (λ live sound. (live, sound)) (got_is_safe found) p e
+      (λ other. refl)
   judged_in (Do.Scan s low high) p e =
       scan_judged (Do.Scan s low high) low high high (rows t low high log) refl (λ up. up) p e (λ other. refl)
   judged_in (Do.ScanFirst s low high n) p e =
@@ -139,7 +144,8 @@ module _ (pivot : List Call → Option ℕ) (t : ℕ) (log : List Act) (live : i
       record {
         act = Commits t;
         judges = refl;
-        sound = (record { opened = live; no_conflict = none.0 }, sound);
+        starts = refl;
+        sound = λ live sound. (record { opened = live; no_conflict = none.0 }, sound);
         names = pivot_through (pivot after) Committed p (λ x h. cc) none.1;
         likewise = λ other q f. ap (λ k. unless_conflict k log (unless_pivot (other after) Committed)) none.0
             ∙ ap (λ o. unless_pivot o Committed) f;
@@ -151,26 +157,19 @@ pub record IsRefused (pivot : List Call → Option ℕ) (c : Course) (m : Comman
   pub opened : txn_for m c ≡ Some txn
   pub judging : IsJudged pivot txn (acts c) m p
 
--- pivots may be named by another rule than the one that the course follows
-refused_by : (followed pivot : List Call → Option ℕ) (c : Course) → Follows followed c → (m : Command) (p : ℕ)
-    → reply pivot c m ≡ Unsafe p → IsRefused pivot c m p
-refused_by followed pivot c f m p e = by_txn (txn_for m c) refl e
+refused_by : (pivot : List Call → Option ℕ) (c : Course) (m : Command) (p : ℕ) → reply pivot c m ≡ Unsafe p
+    → IsRefused pivot c m p
+refused_by pivot c m p e = by_txn (txn_for m c) refl e
   where
-    stands : Stands followed c
-    stands = course_stands followed c f
-
     by_txn : (o : Option ℕ) → txn_for m c ≡ o → reply_for pivot o c m ≡ Unsafe p → IsRefused pivot c m p
     by_txn None g h = absurd (idle_is_safe c m p h)
-    by_txn (Some t) g h = record {
-      txn = t;
-      opened = g;
-      judging = judged_in pivot t (acts c) (txn_open followed c stands m t g) stands.sound m p h;
-    }
+    by_txn (Some t) g h = record { txn = t; opened = g; judging = judged_in pivot t (acts c) m p h }
 
 pub unsafe_by : (IsStanding : ℕ → List Call → Type 0) (pivot : List Call → Option ℕ) → IsRule IsStanding pivot
     → (c : Course) → Follows pivot c → (m : Command) (p : ℕ) → reply pivot c m ≡ Unsafe p → WouldStand IsStanding c m p
 unsafe_by IsStanding pivot rule c f m p e =
-    let refused = refused_by pivot pivot c f m p e in
+    let stands = course_stands pivot c f in
+    let refused = refused_by pivot c m p e in
     let judging = refused.judging in
     let after : List Act = judging.act ∷ acts c in
     record {
@@ -178,17 +177,18 @@ unsafe_by IsStanding pivot rule c f m p e =
       act = judging.act;
       opened = refused.opened;
       judges = judging.judges;
-      smallest = subst (IsSmallest IsStanding (tracked after)) judging.names
-          (rule.names (tracked after) (tracked_allowed after judging.sound));
+      smallest = subst (IsSmallest IsStanding (tracked after)) judging.names (rule.names (tracked after)
+          (tracked_allowed after
+          (judging.sound (txn_open pivot c stands m refused.txn refused.opened) stands.sound)));
     }
 
-pub ordered_refuses_no_more : NamesLess → OrderedRefusesNoMore
-ordered_refuses_no_more less pivot c f m p e =
-    let refused = refused_by pivot smallest_ordered_pivot c f m p e in
+pub ordered_refuses_no_more : OrderedRefusesNoMore
+ordered_refuses_no_more c m p e =
+    let refused = refused_by smallest_ordered_pivot c m p e in
     let judging = refused.judging in
     let after : List Act = judging.act ∷ acts c in
-    let q = less (tracked after) (tracked_allowed after judging.sound) p judging.names in (
+    let q = ordered_names_earlier (tracked after) p judging.names in (
       q.0,
       ap (λ o. reply_for smallest_pivot o c m) refused.opened ∙ judging.likewise smallest_pivot q.0 q.1,
-      q.2,
+      λ rise. q.2 (ap numbers_rise (begun_are after ∙ judging.starts) ∙ rise),
     )

@@ -327,6 +327,19 @@ phantom_skew_by_two_pairs : answers (by_two_pairs phantom_skew_commands)
     Say.Unsafe 1 ∷ [])
 phantom_skew_by_two_pairs = refl
 
+-- a write skew of transactions whose numbers fall: the two-pair rule names the one that began first, and its number is the
+-- greater one
+abbrev falling_numbers : Course
+falling_numbers =
+    play smallest_ordered_pivot (Then (Then (New 2) (begin "A") (Say.Begun 2)) (begin "B") (Say.Begun 1))
+    (get "A" "x" ∷ get "B" "y" ∷ put "A" "y" "1" ∷ put "B" "x" "1" ∷ commit "A" ∷ [])
+
+falling_numbers_by_commit_order : reply smallest_ordered_pivot falling_numbers (commit "B") ≡ Say.Unsafe 1
+falling_numbers_by_commit_order = refl
+
+falling_numbers_by_two_pairs : reply smallest_pivot falling_numbers (commit "B") ≡ Say.Unsafe 2
+falling_numbers_by_two_pairs = refl
+
 -- a transaction that only reads can make a history unserializable (Fekete, O'Neil and O'Neil 2004)
 abbrev read_only_anomaly_commands : List Command
 read_only_anomaly_commands =

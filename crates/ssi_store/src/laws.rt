@@ -1,11 +1,9 @@
-//! Laws of courses whose answers are the replies, each proved as the contract of a function whose body does nothing but
-//! call the laws of the store's parts.
+//! Laws of courses, each proved as the contract of a function whose body does nothing but call the laws of the store's
+//! parts.
 
 ghost use Rattle.ssi_store.specs.Meaning.Laws.{FinishedAreCovered, OrderedFinishedAreCovered, DumpedAreCovered, OrderedDumpedAreCovered, FinishedRecord, DumpedRecord, CallsAreAllowed, OpenSnapshotsAreHeld, OrderedRefusesNoMore, CollectionsChangeNoReply, UnsafeNamesSmallest, OrderedUnsafeNamesSmallest, SessionsAreInOrder, NoPivotStands, NoOrderedPivotStands, ConflictIsLeast, ScansListSeen, OpenAreCounted};
 
-use ssi_conflict::laws::{
-    ordered_pivots_are_named, ordered_pivots_are_pivots, pivots_are_named, quiet_calls_make_no_pair,
-};
+use ssi_conflict::laws::{ordered_pivots_are_named, pivots_are_named, quiet_calls_make_no_pair};
 use ssi_recorder::laws::commits_are_listed;
 use ssi_versions::laws::held_shows;
 
@@ -70,15 +68,12 @@ pub fn unsafe_names_smallest()
     quiet_calls_make_no_pair();
 }
 
-/// What the commit-order rule answers Unsafe the two-pair rule does too, with the same pivot or a smaller one. So to
-/// look at the order of the commits only saves transactions (Ports and Grittner 2012, section 3.3).
+/// What the commit-order rule answers Unsafe the two-pair rule does too, after any course, and with the same pivot or a
+/// smaller one if the numbers of the transactions rise. So to look at the order of the commits only saves transactions
+/// (Ports and Grittner 2012, section 3.3).
 pub fn ordered_refuses_no_more()
     ensures { OrderedRefusesNoMore }
-{
-    pivots_are_named();
-    ordered_pivots_are_named();
-    ordered_pivots_are_pivots();
-}
+{}
 
 /// After each command no pivot stands, by either rule. So a command that makes no pair is never Unsafe.
 pub fn no_pivot_stands()

@@ -1,4 +1,4 @@
--- What holds of every course whose answers are the replies, by either rule.
+-- What holds of every course, or of every course whose answers are the replies, by either rule.
 use Rattle.std.specs.Prelude.{◌≡◌, ℕ, ◌≤◌, Bool, true, false, List, [], ◌∷◌, take, Option, Some, None, ◌↔◌, ◌<◌, if◌then◌else◌, length, map}
 use Rattle.ssi_conflict.specs.Meaning.Kept.{open_count}
 use Rattle.adya_values.specs.Meaning.Events.{listed}
@@ -76,12 +76,11 @@ abbrev pub OpenSnapshotsAreHeld : Type 0
 OpenSnapshotsAreHeld = (pivot : List Call → Option ℕ) (c : Course) → Follows pivot c → (t : ℕ)
     → is_open t (acts c) ≡ true → IsStillSeen t c
 
--- on one course, what the commit-order rule answers Unsafe the two-pair rule does too, with the same pivot or a smaller
--- one
+-- after any course, whatever was answered in it, what the commit-order rule answers Unsafe the two-pair rule does too;
+-- and with the same pivot or a smaller one, if the numbers of the transactions rise in the order in which they began
 abbrev pub OrderedRefusesNoMore : Type 0
-OrderedRefusesNoMore = (pivot : List Call → Option ℕ) (c : Course) → Follows pivot c → (command : Command) (p : ℕ)
-    → reply smallest_ordered_pivot c command ≡ Unsafe p
-    → (q : ℕ) × (reply smallest_pivot c command ≡ Unsafe q) × (q ≤ p)
+OrderedRefusesNoMore = (c : Course) (command : Command) (p : ℕ) → reply smallest_ordered_pivot c command ≡ Unsafe p
+    → (q : ℕ) × (reply smallest_pivot c command ≡ Unsafe q) × (numbers_rise (started (acts c)) ≡ true → q ≤ p)
 
 -- the log without its collections
 abbrev pub uncollected : List Act → List Act

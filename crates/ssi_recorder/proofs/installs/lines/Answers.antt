@@ -14,7 +14,7 @@ events-preserved c =
     let before = map event_of (take c.events.event-index c.args.events.now) in
     let e = event_of c.event-item.result in
     let more = event-more c.args.events.now c.events.event-index c.event-item.result (omega arith) (Prim.search rules) in
-    elim c.match-wrote.branch [
+    elim c.match-written.branch [
       | in-Some+in-Some-get_index_of+in_ok-put w ↦ record {
         lines = λ q r. ap (λ m. put_at q r m.entries) w.lines-is ∙ w.in_ok-put.ensures.put q r
             ∙ ap (λ o. if key_eq w.in-Some.entry.version.key q && is_at (nat_cmp w.in-Some-get_index_of.place) r then Some (entry_of w.in-Some.entry) else o) (c.events.invariant.lines q r)
