@@ -21,8 +21,8 @@ class History:
         files = [os.path.join(folder, "%s-%d.%s" % (self.name, size, part)) for part in ("history", "serial", "both")]
         if not os.path.exists(files[2]):
             skews = ["--skews", str(max(1, size * self.skews // 1000))] if self.skews else []
-            words = [sys.executable, os.path.join(HERE, "generate.py"), "--transactions", str(size)]
-            subprocess.run(words + self.options + skews + files[:2], check=True, stderr=subprocess.DEVNULL)
+            arguments = [sys.executable, os.path.join(HERE, "generate.py"), "--transactions", str(size)]
+            subprocess.run(arguments + self.options + skews + files[:2], check=True, stderr=subprocess.DEVNULL)
             with open(files[2], "wb") as out:
                 for part in files[:2]:
                     with open(part, "rb") as given:

@@ -11,10 +11,10 @@ RUNS = 3  # each time is the least of so many
 class Run:
     """A command that has run: its processor time (user and system), wall time, peak of resident memory, status."""
 
-    def __init__(self, words, stdin, stdout, limit):
+    def __init__(self, arguments, stdin, stdout, limit):
         with open(stdin, "rb") as given, open(stdout, "wb") as out:
             start = time.perf_counter()
-            child = subprocess.Popen(words, stdin=given, stdout=out, stderr=subprocess.DEVNULL)
+            child = subprocess.Popen(arguments, stdin=given, stdout=out, stderr=subprocess.DEVNULL)
             signal.signal(signal.SIGALRM, lambda *_: child.kill())
             signal.alarm(limit)
             _, status, used = os.wait4(child.pid, 0)
@@ -28,13 +28,13 @@ class Run:
         self.is_told = used.ru_maxrss > 1.05 * resource.getrusage(resource.RUSAGE_SELF).ru_maxrss
 
 
-def least(words, stdin, stdout, limit):
+def least(arguments, stdin, stdout, limit):
     """The run with the least processor time of three. One is enough if it ends late or by an unusual status."""
-    best = Run(words, stdin, stdout, limit)
+    best = Run(arguments, stdin, stdout, limit)
     for _ in range(RUNS - 1):
         if best.is_late or best.status not in (0, 1):
             break
-        best = min(best, Run(words, stdin, stdout, limit), key=lambda run: run.time)
+        best = min(best, Run(arguments, stdin, stdout, limit), key=lambda run: run.time)
     return best
 
 
@@ -43,11 +43,11 @@ def sort_time(path, limit):
     return least(["env", "LC_ALL=C", "sort", "--parallel=1"], path, os.devnull, limit).time
 
 
-def first_line(words):
+def first_line(arguments):
     try:
-        return subprocess.run(words, capture_output=True, text=True).stdout.split("\n")[0]
+        return subprocess.run(arguments, capture_output=True, text=True).stdout.split("\n")[0]
     except OSError:
-        return "%s is not here" % words[0]
+        return "%s is not here" % arguments[0]
 
 
 def machine():

@@ -1,8 +1,7 @@
 #!/usr/bin/env bash
 # Runs the built program on every example, and compares what it writes and its status: on histories by `audit`, by
 # `order` and by one stream; on commands of the store by `script`, whose history and certificate are then audited. Runs
-# the example of a client, and `tools/explain.py` on every history: what it prints is compared with the sentences of those
-# examples that have some, and its page must be well-formed, with an arrow for each sentence after the first. Build the program first: (cd crates/ssi && rt run < stdin). The argument is its path; the
+# the example of a client. Build the program first: (cd crates/ssi && rt run < stdin). The argument is its path; the
 # default is crates/ssi/out/ssi.
 set -u
 top=$(realpath "$(dirname "$0")/..")
@@ -42,25 +41,6 @@ same() { # name; file with the wanted text; file with the actual one
         echo "$1: wanted $2, got '$(head -n 3 "$3" 2>&1)'"
     fi
 }
-
-# The page of a history: `well-formed`, and how many arrows it has.
-cat >"$work/arrows" <<'END'
-import sys, xml.dom.minidom
-paths = xml.dom.minidom.parse(sys.argv[1]).getElementsByTagName("path")
-print("well-formed", sum(path.hasAttribute("marker-end") for path in paths))
-END
-while read -r history; do
-    example=$(dirname "$history")
-    tools/explain.py --program "$ssi" --picture "$work/page" "$history" >"$work/explanation"
-    if [ -f "$example/explanation" ]; then
-        same "explain $example" "$example/explanation" "$work/explanation"
-    fi
-    python3 "$work/arrows" "$work/page" >"$work/found"
-    same "picture of $example" <(echo "well-formed $(($(wc -l <"$work/explanation") - 1))") "$work/found"
-done < <(find examples \( -path examples/store -o -path examples/isolation \) -prune -o -name history -print | sort)
-
-tools/explain.py --program "$ssi" --picture "$work/skew.svg" examples/write-skew/history >"$work/explanation"
-same 'the picture in README' docs/write-skew.svg "$work/skew.svg"
 
 # Each script runs in a new folder, where it leaves its two files. What `dump` replied is audited too.
 echo yes >"$work/yes"

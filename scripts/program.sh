@@ -56,20 +56,12 @@ check 'help order' "$help" "$(streams help order)"
 check 'script --help' "$help" "$(streams script --help)"
 check 'help serve' "$help" "$(streams help serve)"
 "$ssi" --help >text
-for text in audit order script serve 'adya 1' 'serial 1' 'Exit status'; do
+for text in audit order script serve 'Without a command' docs/formats.md; do
     check "--help mentions $text" found "$(grep -q -e "$text" text && echo found)"
 done
-"$ssi" audit --help >text
-for text in 'begins with a hyphen' 'ssi audit -- -x -y' 'ssi audit ./-x ./-y'; do
-    check "audit --help mentions $text" found "$(grep -q -e "$text" text && echo found)"
-done
-"$ssi" order --help >text
-for text in 'begins with a hyphen' 'ssi order -- -x' 'ssi order ./-x'; do
-    check "order --help mentions $text" found "$(grep -q -e "$text" text && echo found)"
-done
-for command in script serve; do
+for command in audit order script serve; do
     "$ssi" "$command" --help >text
-    for text in 'begins with a hyphen' "ssi $command -- -" "ssi $command ./-"; do
+    for text in 'HISTORY' docs/formats.md; do
         check "$command --help mentions $text" found "$(grep -q -e "$text" text && echo found)"
     done
 done

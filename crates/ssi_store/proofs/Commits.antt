@@ -15,7 +15,7 @@ use Rattle.ssi_snapshot.specs.Meaning.Listings.{keys}
 use Rattle.ssi_snapshot.specs.Meaning.Views.{stamp_of, written}
 use Rattle.ssi_store.specs.Meaning.Acts.{Act, Commits, acts}
 use Rattle.ssi_store.specs.Meaning.Courses.{Command as Do, Committed, Conflict, Unsafe, Refused, Idle, Memory, Course, Then}
-use Rattle.ssi_store.specs.Meaning.Replies.{conflict, may_want_memory, reply, reply_for, unless_conflict, unless_pivot}
+use Rattle.ssi_store.specs.Meaning.Replies.{conflict, may_run_out_of_memory, reply, reply_for, unless_conflict, unless_pivot}
 use Rattle.ssi_store.specs.Meaning.Recording.{events}
 use Rattle.ssi_store.specs.Meaning.Seeing.{changed, commit_count, own_keys, snapshot}
 use Rattle.ssi_store.specs.Meaning.Standing.{Parts, StandsFor}
@@ -45,7 +45,7 @@ above_installed n old new ws above added k =
     last (Some w) = All-cons (λ h. h.stamp < n + 1) (record { entry = w; stamp = n }) [] (omega arith) (All-nil (λ h. h.stamp < n + 1))
 
 memory_may : (s : List ℕ) (o : Option (List ℕ)) (p : Option ℕ) (log : List Act)
-    → may_want_memory (Do.Commit s) (unless_conflict o log (unless_pivot p Committed)) ≡ true
+    → may_run_out_of_memory (Do.Commit s) (unless_conflict o log (unless_pivot p Committed)) ≡ true
 memory_may s None None log = refl
 memory_may s None (Some n) log = refl
 memory_may s (Some k) p log = refl

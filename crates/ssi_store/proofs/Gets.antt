@@ -14,7 +14,7 @@ use Rattle.ssi_snapshot.specs.Meaning.Views as View
 use Rattle.ssi_snapshot.specs.Meaning.Views.{stamp_of, own}
 use Rattle.ssi_store.specs.Meaning.Acts.{Act, Gets, acts, act_by, operations}
 use Rattle.ssi_store.specs.Meaning.Courses.{Command as Do, Answer, Unsafe, Refused, Idle, Long, Memory, Course, Then, txn_after, next_txn}
-use Rattle.ssi_store.specs.Meaning.Replies.{reply, reply_for, may_want_memory, unless_pivot, got}
+use Rattle.ssi_store.specs.Meaning.Replies.{reply, reply_for, may_run_out_of_memory, unless_pivot, got}
 use Rattle.ssi_store.specs.Meaning.Recording.{events, get_event}
 use Rattle.ssi_store.specs.Meaning.Seeing.{changed, own_write, sees, snapshot, wrote}
 use Rattle.ssi_store.specs.Meaning.Standing.{Parts, StandsFor}
@@ -35,7 +35,8 @@ pub safe_of : (a : Judged) → ((p : ℕ) → a ≡ Pivot p → ⊥) → a ≡ C
 safe_of Clear f = refl
 safe_of (Pivot p) f = absurd (f p refl)
 
-memory_may : (s k : List ℕ) (p : Option ℕ) (v : Option (List ℕ)) → may_want_memory (Do.Get s k) (unless_pivot p (got v)) ≡ true
+memory_may : (s k : List ℕ) (p : Option ℕ) (v : Option (List ℕ))
+    → may_run_out_of_memory (Do.Get s k) (unless_pivot p (got v)) ≡ true
 memory_may s k None None = refl
 memory_may s k None (Some v) = refl
 memory_may s k (Some p) v = refl

@@ -11,7 +11,7 @@ use Rattle.ssi_snapshot.specs.Meaning.Listings.{IsListing, up_to, within, key_or
 use Rattle.ssi_snapshot.specs.Meaning.Views as View
 use Rattle.ssi_store.specs.Meaning.Acts.{Scans, acts, operations}
 use Rattle.ssi_store.specs.Meaning.Courses.{Command as Do, Answer, Rows, Refused, Idle, Range, Long, Memory, Course, Then}
-use Rattle.ssi_store.specs.Meaning.Replies.{may_want_memory, reply, reply_for, rows, scan_answer, unless_long, unless_downward, unless_pivot}
+use Rattle.ssi_store.specs.Meaning.Replies.{may_run_out_of_memory, reply, reply_for, rows, scan_answer, unless_long, unless_downward, unless_pivot}
 use Rattle.ssi_store.specs.Meaning.Seeing.{scanned, sees}
 use Rattle.ssi_store.specs.Meaning.Standing.{Parts, StandsFor}
 use Rattle.ssi_store.specs.Meaning.Tracked.{tracked}
@@ -83,15 +83,15 @@ module _ {p : Parts} {next : ℕ} {es : Sessions} {c : Course} (st : StandsFor p
             ∙ cond-false {A = Answer} (nat_le 65535 (operations t (acts c))) (Refused Long) answer
             (ap (nat_le 65535) (sym (open_of st s o at).count) ∙ lt-leb 65535 o.operations short)
 
-        wants : (x : Option ℕ) (rs : List FinalPair)
-            → may_want_memory (Do.ScanFirst s low high n) (unless_pivot x (Rows rs)) ≡ true
-        wants None rs = refl
-        wants (Some q) rs = refl
+        may : (x : Option ℕ) (rs : List FinalPair)
+            → may_run_out_of_memory (Do.ScanFirst s low high n) (unless_pivot x (Rows rs)) ≡ true
+        may None rs = refl
+        may (Some q) rs = refl
 
         pub first_memory : StandsFor p next es (Then c (Do.ScanFirst s low high n) (Refused Memory))
         first_memory = refused_same st (Do.ScanFirst s low high n) Memory proper
             (answer_memory st (Do.ScanFirst s low high n) _ reply_short
-            (wants (smallest_ordered_pivot (tracked (Scans t low (reached high n found) ∷ acts c))) found))
+            (may (smallest_ordered_pivot (tracked (Scans t low (reached high n found) ∷ acts c))) found))
 
         pub first_is : Below → (u : ℕ) (to : List ℕ) (ws : List Entry) (rs : List FinalPair) → u ≡ number_of o
             → (all : List Entry) × IsListing (View.sees_between low high o.view p.holds) all × (ws ≡ up_to n all)
@@ -130,5 +130,5 @@ module _ {p : Parts} {next : ℕ} {es : Sessions} {c : Course} (st : StandsFor p
                   ∙ ap (λ x. scan_answer smallest_ordered_pivot x log low to rs) (sym same);
               does = ap (λ x. Scans u low x ∷ []) (sym far);
               aborts = λ x. refl;
-              memory = λ x. wants x rs;
+              memory = λ x. may x rs;
             }

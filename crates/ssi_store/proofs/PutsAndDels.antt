@@ -9,7 +9,7 @@ use Rattle.ssi_snapshot.specs.Meaning.Writes.{next_mod, next_write, put_write}
 use Rattle.ssi_store.specs.Meaning.Acts.{Writes, acts, act_by}
 use Rattle.ssi_store.specs.Meaning.Commands.{written}
 use Rattle.ssi_store.specs.Meaning.Courses.{Answer, Done, Refused, Idle, Long, Memory, Course, Then, is_proper, txn_in, txn_for, next_txn}
-use Rattle.ssi_store.specs.Meaning.Replies.{reply, reply_for, unless_long, may_want_memory}
+use Rattle.ssi_store.specs.Meaning.Replies.{reply, reply_for, unless_long, may_run_out_of_memory}
 use Rattle.ssi_store.specs.Meaning.Recording.{events, write_event}
 use Rattle.ssi_store.specs.Meaning.Standing.{Parts, StandsFor}
 use Rattle.ssi_store.specs.Machinery.Below.{Below}
@@ -22,7 +22,7 @@ record Facts (s k : List ℕ) (x : Content) (c : Course) : Type 0 where
   pub of : txn_for (written s k x) c ≡ txn_in s c
   pub when_idle : reply_for smallest_ordered_pivot None c (written s k x) ≡ Refused Idle
   pub when_open : (t : ℕ) → reply_for smallest_ordered_pivot (Some t) c (written s k x) ≡ unless_long t (acts c) Done
-  pub memory : may_want_memory (written s k x) Done ≡ true
+  pub memory : may_run_out_of_memory (written s k x) Done ≡ true
   pub proper : is_proper (written s k x) ≡ true
   pub does : (t : ℕ) → act_by (Some t) (written s k x) Done ≡ Writes t k x ∷ []
   pub next : next_txn (Then c (written s k x) Done) ≡ next_txn c

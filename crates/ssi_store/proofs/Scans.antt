@@ -13,7 +13,7 @@ use Rattle.ssi_snapshot.specs.Meaning.Listings.{IsListing, within}
 use Rattle.ssi_snapshot.specs.Meaning.Views as View
 use Rattle.ssi_store.specs.Meaning.Acts.{Act, Scans, acts, act_by, operations}
 use Rattle.ssi_store.specs.Meaning.Courses.{Command, Command as Do, Answer, Rows, Unsafe, Refused, Idle, Range, Long, Memory, Course, Then}
-use Rattle.ssi_store.specs.Meaning.Replies.{may_want_memory, reply, reply_for, rows, scan_answer, unless_long, unless_downward, unless_pivot}
+use Rattle.ssi_store.specs.Meaning.Replies.{may_run_out_of_memory, reply, reply_for, rows, scan_answer, unless_long, unless_downward, unless_pivot}
 use Rattle.ssi_store.specs.Meaning.Recording.{events}
 use Rattle.ssi_store.specs.Meaning.Seeing.{keys, scanned, sees}
 use Rattle.ssi_store.specs.Meaning.Standing.{Parts, StandsFor}
@@ -103,12 +103,12 @@ module _ {p : Parts} {next : ℕ} {es : Sessions} {c : Course} (st : StandsFor p
         pub scan_memory : StandsFor p next es (Then c (Do.Scan s low high) (Refused Memory))
         scan_memory = refused_same st (Do.Scan s low high) Memory refl
             (answer_memory st (Do.Scan s low high) _ reply_short
-            (wants (smallest_ordered_pivot (tracked (Scans t low high ∷ acts c))) (rows t low high (acts c))))
+            (may (smallest_ordered_pivot (tracked (Scans t low high ∷ acts c))) (rows t low high (acts c))))
           where
-            wants : (x : Option ℕ) (rs : List FinalPair)
-                → may_want_memory (Do.Scan s low high) (unless_pivot x (Rows rs)) ≡ true
-            wants None rs = refl
-            wants (Some n) rs = refl
+            may : (x : Option ℕ) (rs : List FinalPair)
+                → may_run_out_of_memory (Do.Scan s low high) (unless_pivot x (Rows rs)) ≡ true
+            may None rs = refl
+            may (Some n) rs = refl
 
         pub scan_is : Below → (u : ℕ) (ws : List Entry) (rs : List FinalPair) → u ≡ number_of o
             → IsListing (View.sees_between low high o.view p.holds) ws → rs ≡ visible_pairs ws
@@ -133,13 +133,13 @@ module _ {p : Parts} {next : ℕ} {es : Sessions} {c : Course} (st : StandsFor p
                   ∙ ap (λ x. scan_answer smallest_ordered_pivot x (acts c) low high rs) (sym same);
               does = refl;
               aborts = λ x. refl;
-              memory = wants;
+              memory = may;
             }
           where
-            wants : (x : Option ℕ) → may_want_memory (Do.Scan s low high)
+            may : (x : Option ℕ) → may_run_out_of_memory (Do.Scan s low high)
                 (unless_pivot x (Rows rs)) ≡ true
-            wants None = refl
-            wants (Some n) = refl
+            may None = refl
+            may (Some n) = refl
 
   -- what both kinds of scans share
   module _ (t : ℕ) (low high : List ℕ) (ws : List Entry) (rs : List FinalPair) (m : Command)

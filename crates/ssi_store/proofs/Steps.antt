@@ -8,7 +8,7 @@ use Rattle.adya_values.specs.Meaning.Keys.{key_eq}
 use Rattle.ssi_conflict.specs.Computing.Steps.{smallest_ordered_pivot}
 use Rattle.ssi_store.specs.Meaning.Acts.{Act, acts, act_by, act_of}
 use Rattle.ssi_store.specs.Meaning.Courses.{Command, Command as Do, Answer, Refused, Refusal, Course, Then, is_of, is_proper, txn_in, txn_after, txn_for, next_txn}
-use Rattle.ssi_store.specs.Meaning.Replies.{IsAnswer, reply, may_want_memory}
+use Rattle.ssi_store.specs.Meaning.Replies.{IsAnswer, reply, may_run_out_of_memory}
 use Rattle.ssi_store.specs.Meaning.Standing.{Parts, IsLog, StandsFor}
 use Rattle.ssi_store.specs.Machinery.Opens.{Sessions, open_at, number_of, IsOpen, IsSameOpen, IsCounted, IsReplaced}
 use Rattle.ssi_store.specs.declared.open.Open.{Open}
@@ -96,9 +96,10 @@ module _ {p : Parts} {next : ℕ} {es : Sessions} {c : Course} (st : StandsFor p
   pub same_course : (q : Parts) → IsLog q (acts c) → StandsFor q next es c
   same_course q log = record { follows = st.follows; log = log; next_is = st.next_is; txns = st.txns; views = st.views }
 
-  pub answer_memory : (m : Command) (r : Answer) → reply smallest_ordered_pivot c m ≡ r → may_want_memory m r ≡ true
+  pub answer_memory : (m : Command) (r : Answer) → reply smallest_ordered_pivot c m ≡ r
+      → may_run_out_of_memory m r ≡ true
       → IsAnswer smallest_ordered_pivot c m (Refused Refusal.Memory)
-  answer_memory m r e h = inr (refl, ap (may_want_memory m) e ∙ h)
+  answer_memory m r e h = inr (refl, ap (may_run_out_of_memory m) e ∙ h)
 
   -- a refusal, after which the parts may be others that tell the same
   pub refused : (q : Parts) (fs : Sessions) (m : Command) (x : Refusal) → IsLog q (acts c) → AreSame es fs

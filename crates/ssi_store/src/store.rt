@@ -15,9 +15,9 @@ use std::alloc::{AllocError, Global};
 
 /// A store of keys and values, over a store of versions and a set of marks.
 ///
-/// Commands come as one interleaved list, each of a session or of an operator. A transaction sees the contents at its
-/// begin, with its own writes over them. Of two concurrent transactions that write one key only the first to commit is
-/// committed, and a command after which a pivot would stand aborts its transaction.
+/// Commands come as one interleaved list, each of a session or of an operator. A transaction sees the contents as they
+/// were when it began, with its own writes over them. Of two concurrent transactions that write the same key only the
+/// first to commit does; the other is aborted. So is a transaction whose read or commit would leave a pivot.
 ///
 /// A store always stands for some course, so each history that it gives has a certificate.
 #[derive(Drop)]

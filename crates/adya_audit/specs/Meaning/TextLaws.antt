@@ -18,7 +18,7 @@ AcceptedTextsGetYes = (h c : List ℕ) → AreAccepted h c → IsVerdictOn h c Y
 abbrev pub AcceptedTextsAreSerializable : Type 0
 AcceptedTextsAreSerializable = (h c : List ℕ) → AreAccepted h c → AreSerializable h c
 
--- what a history that has a text is accepted with has a text too, and both texts are accepted
+-- if a history that has a text is accepted with a certificate, that one has a text too, and the two texts are accepted
 abbrev pub AcceptedHaveTexts : Type 0
 AcceptedHaveTexts = (h : History) (ts : List ℕ) → IsHistory h → IsAccepted h ts
     → AreAccepted (history_text h) (serial_text ts)

@@ -5,7 +5,7 @@ use Rattle.adya_values.specs.Meaning.Histories.{Entry, FinalPair}
 use Rattle.ssi_conflict.specs.Computing.Steps.{smallest_ordered_pivot}
 use Rattle.ssi_store.specs.Meaning.Acts.{Scans, Aborts, acts, act_by}
 use Rattle.ssi_store.specs.Meaning.Courses.{Command, Course, Rows, Unsafe, is_of, is_proper, txn_in, txn_for}
-use Rattle.ssi_store.specs.Meaning.Replies.{reply, scan_answer, may_want_memory, unless_pivot}
+use Rattle.ssi_store.specs.Meaning.Replies.{reply, scan_answer, may_run_out_of_memory, unless_pivot}
 use Rattle.ssi_store.specs.Meaning.Seeing.{scanned}
 
 -- the command is a scan of the session's transaction, which looks at this range, lists these entries and shows these rows
@@ -19,4 +19,4 @@ pub record IsScan (s : List ℕ) (t : ℕ) (low high : List ℕ) (es : List Entr
   pub replies : reply smallest_ordered_pivot c m ≡ scan_answer smallest_ordered_pivot t (acts c) low high rs
   pub does : act_by (Some t) m (Rows rs) ≡ Scans t low high ∷ []
   pub aborts : (p : ℕ) → act_by (Some t) m (Unsafe p) ≡ Aborts t ∷ []
-  pub memory : (p : Option ℕ) → may_want_memory m (unless_pivot p (Rows rs)) ≡ true
+  pub memory : (p : Option ℕ) → may_run_out_of_memory m (unless_pivot p (Rows rs)) ≡ true

@@ -116,18 +116,18 @@ abbrev pub reply : (List Call → Option ℕ) → Course → Command → Answer
 reply pivot c command = reply_for pivot (txn_for command c) c command
 
 -- running out of memory may take the place of any reply that is no refusal, except to abort, collect and stat
-abbrev pub may_want_memory : Command → Answer → Bool
-may_want_memory (Do.Abort s) answer = false
-may_want_memory Do.Collect answer = false
-may_want_memory Do.Stat answer = false
-may_want_memory command (Refused r) = false
-may_want_memory command answer = true
+abbrev pub may_run_out_of_memory : Command → Answer → Bool
+may_run_out_of_memory (Do.Abort s) answer = false
+may_run_out_of_memory Do.Collect answer = false
+may_run_out_of_memory Do.Stat answer = false
+may_run_out_of_memory command (Refused r) = false
+may_run_out_of_memory command answer = true
 
 -- the answer is the reply, or that memory ran out if no other refusal applies
 abbrev pub IsAnswer : (List Call → Option ℕ) → Course → Command → Answer → Type 0
 IsAnswer pivot c command answer =
     (answer ≡ reply pivot c command) ⊎
-    ((answer ≡ Refused Memory) × (may_want_memory command (reply pivot c command) ≡ true))
+    ((answer ≡ Refused Memory) × (may_run_out_of_memory command (reply pivot c command) ≡ true))
 
 -- each command may be given, and each answer is one to the command after those before
 abbrev pub Follows : (List Call → Option ℕ) → Course → Type 0
