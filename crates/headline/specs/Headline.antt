@@ -39,10 +39,10 @@ pub record GetYes {H C : Type 0} (course : Course) (in_history : H → Option (L
   pub history_written : Grew in_history old_history new_history (history_text history)
   pub certificate_written : Grew in_certificate old_certificate new_certificate (serial_text certificate)
 
--- Whatever command lines the store is given: what a run over them leaves gets that yes. That a run leaves this of the
--- course of its commands and answers is the contract of `run_script`.
-abbrev pub CertifiedRunsGetYes : Type 0
-CertifiedRunsGetYes = {H C : Type 0} (course : Course) (in_history : H → Option (List ℕ)) (old_history new_history : Watched H)
-    (in_certificate : C → Option (List ℕ)) (old_certificate new_certificate : Watched C)
+-- Whatever command lines the store is given, what a run over them leaves on its two devices gets that yes. That a run
+-- leaves this of the course of its commands and answers is the contract of `run_script`.
+abbrev pub CertifiedRunsGetYes : {H C : Type 0} → (H → Option (List ℕ)) → (C → Option (List ℕ)) → Type 0
+CertifiedRunsGetYes {H = H} {C = C} in_history in_certificate =
+    (course : Course) (old_history new_history : Watched H) (old_certificate new_certificate : Watched C)
     → Certified course in_history old_history new_history in_certificate old_certificate new_certificate
     → GetYes course in_history old_history new_history in_certificate old_certificate new_certificate

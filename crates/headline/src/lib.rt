@@ -12,6 +12,7 @@ use adya_audit::{Verdict, run_audit};
 use devices::Watched;
 use ssi_cli::run_script;
 use std::alloc::{AllocError, Global};
+use std::io::Write;
 
 /// Whenever the verdict on a history text and a certificate text is yes, the history shows neither G1 nor G2, and its
 /// committed transactions, run one at a time in the certificate's order, give every recorded read, every scan and the final
@@ -24,8 +25,8 @@ pub fn yes_means_serializable()
 }
 
 /// What a run over command lines leaves gets the verdict yes, and its history records the answers.
-pub fn certified_runs_get_yes()
-    ensures { CertifiedRunsGetYes }
+pub fn certified_runs_get_yes<H: Write, C: Write>()
+    ensures { CertifiedRunsGetYes H.contents C.contents }
 {
     accepted_texts_get_yes();
 }
