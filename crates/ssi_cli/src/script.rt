@@ -25,6 +25,7 @@ pub fn run_script<S: Source, W: Write, H: Write, C: Write>(
     certificate: &mut Watched<C>,
 ) -> Result<End, ScriptFault>
     ensures run { (ran : Ran W.contents (S.remaining input.old) (S.remaining input.new) output.old output.new)
+        × (ran.end ≢ End.ReadFault → S.is_failed input.new ≡ true → S.is_failed input.old ≡ true)
         × IfOk result (λ end. (end ≡ ran.end)
         × Certified (course_of ran) H.contents history.old history.new C.contents certificate.old certificate.new) }
     ensures read_fault { result ≡ Ok End.ReadFault → S.is_failed input.new ≡ true }

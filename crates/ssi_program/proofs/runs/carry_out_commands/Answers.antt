@@ -3,10 +3,10 @@ use Rattle.ssi_program.proofs.runs.carry_out_commands.Goals as goal
 
 pub returns-in-Ok-Eof-clause-run : goal.returns-in-Ok-Eof-clause-run
 returns-in-Ok-Eof-clause-run g c =
-    let (ran, (same, certified)) = c.in-Ok-Eof.ensures.run in
+    let (ran, unfailed, (same, certified)) = c.in-Ok-Eof.ensures.run in
     (ran, (refl, inl (sym same ∙ c.in-Ok-Eof.field-0-is), certified))
 
 pub returns-in-Ok-Stop-clause-run : goal.returns-in-Ok-Stop-clause-run
 returns-in-Ok-Stop-clause-run g c =
-    let (ran, (same, certified)) = c.in-Ok-Stop.ensures.run in
+    let (ran, unfailed, (same, certified)) = c.in-Ok-Stop.ensures.run in
     (ran, (refl, inr (sym same ∙ c.in-Ok-Stop.field-0-is), certified))
