@@ -1,8 +1,8 @@
 #!/usr/bin/env bash
 # Runs the store of the built program. By `script`: the test cases, the limits of a line, streams and files that fail. By
-# `serve`: clients that come one after the other, wait, or leave too early, and sockets and files that can't be made.
-# Compares what the program prints, its status, both files, and the verdict on them with what is wanted. Build the program
-# first: (cd crates/ssi && rt run < stdin). Usage: serve.sh [PROGRAM], by default crates/ssi/out/ssi.
+# `serve`: clients that come one after the other, wait, or leave too early, sockets and files that can't be made, and
+# sockets that fail. Compares what the program prints, its status, both files, and the verdict on them with what is wanted.
+# Build the program first: (cd crates/ssi && rt run < stdin). Usage: serve.sh [PROGRAM], by default crates/ssi/out/ssi.
 source "$(dirname "$0")/checks.sh"
 cases=$top/crates/ssi_store_tests/data
 server=
@@ -285,6 +285,48 @@ check 'the server at that socket goes on' stopped "$(echo stop | talk socket)"
 finish
 check 'the end of that server' 'status 0' "$ending"
 check 'texts of that server' "$aborted" "$(texts h c)"
+
+# A socket that fails when it is there: a filter of the system refuses each call that accepts a connection. (A limit on open
+# files would refuse the files of the texts, too.) Both texts are written all the same, and the socket's file is removed.
+cat >without_accept <<'END'
+#!/usr/bin/env python3
+"""Runs the program in the variable SSI, whose calls of accept fail as if it had too many open files."""
+import ctypes, os, struct, sys
+
+ACCEPT, ACCEPT4, EMFILE = 43, 288, 24  # of Linux on x86-64
+NO_NEW_PRIVILEGES, SECCOMP, FILTER = 38, 22, 2
+LOAD, RETURN, IF_EQUAL = 0x20, 0x06, 0x15
+ALLOW, REFUSE = 0x7FFF0000, 0x00050000
+# in a step the two numbers in the middle say how many steps are passed over: if equal, and otherwise
+steps = [(LOAD, 0, 0, 0), (IF_EQUAL, 1, 0, ACCEPT), (IF_EQUAL, 0, 1, ACCEPT4)]
+steps += [(RETURN, 0, 0, REFUSE | EMFILE), (RETURN, 0, 0, ALLOW)]
+code = ctypes.create_string_buffer(b"".join(struct.pack("HBBI", *step) for step in steps))
+
+
+class Filter(ctypes.Structure):
+    _fields_ = [("length", ctypes.c_ushort), ("code", ctypes.c_void_p)]
+
+
+control = ctypes.CDLL(None, use_errno=True).prctl
+given = Filter(len(steps), ctypes.addressof(code))
+if control(NO_NEW_PRIVILEGES, 1, 0, 0, 0) or control(SECCOMP, FILTER, ctypes.byref(given)):
+    sys.exit("no filter: " + os.strerror(ctypes.get_errno()))
+os.execv(os.environ["SSI"], [os.environ["SSI"], *sys.argv[1:]])
+END
+chmod +x without_accept
+refused() { # the arguments; as `run`, without accept
+    SSI=$ssi ssi=./without_accept run "$@"
+}
+
+fault=$'err: ssi: socket fault: socket\nstatus 3'
+check 'a socket that fails' "$fault" "$(refused serve socket h c)"
+check 'no file of a socket that has failed' '' "$(left socket)"
+check 'texts after a socket that fails' "$none" "$(texts h c)"
+check 'a socket that fails, and the history' "$fault" "$(refused serve socket folder c)"
+check 'no certificate if both fail' '' "$(left c)"
+check 'a socket that fails, and the certificate' "$fault" "$(refused serve socket h folder)"
+check 'the history if both fail' $'adya 1\nend' "$(cat h)"
+rm -f h
 
 # Files of a server that can't be written.
 for path in folder nowhere/file /dev/full ''; do

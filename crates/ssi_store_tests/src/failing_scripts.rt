@@ -218,11 +218,18 @@ fn is_certificate_fault(worked: &Worked, made: &Made<'_>) -> bool {
         && made.replies() == worked.replies.as_slice()
 }
 
-/// Whether a reply that isn't taken is one that failed. The first line of the course begins a transaction.
+/// Whether a reply that isn't taken is one that failed, also where all lines come at once. The first line of the course
+/// begins a transaction, and no other line is carried out.
 pub(crate) fn is_full_output(alloc: Global, worked: &Worked) -> bool {
     let faults = Faults::of(Device::Output, Fault::Full);
-    let made = run(alloc, &worked.commands, faults);
+    is_begun_alone(&run(alloc, &worked.commands, faults))
+        && is_begun_alone(&run_in(alloc, &worked.commands, usize::MAX, faults))
+}
+
+/// Whether one transaction is begun, nothing else is carried out, and its reply isn't written.
+fn is_begun_alone(made: &Made<'_>) -> bool {
     made.ended == Ok(End::WriteFault)
+        && made.replies().is_empty()
         && made.history() == b"adya 1\na1\nend\n".as_slice()
         && made.certificate() == b"serial 1\nend\n".as_slice()
 }

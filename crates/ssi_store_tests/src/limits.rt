@@ -25,7 +25,8 @@ pub(crate) fn longest_transaction(alloc: Global) -> bool {
     ) == Some(true)
 }
 
-/// Whether each of 65,535 operations that come as lines is answered, and no other one is carried out.
+/// Whether each of 65,535 operations that come as lines is answered, and no other one is carried out. Commands that are
+/// refused are none of them.
 pub(crate) fn longest_script(alloc: Global) -> bool {
     let (Ok(script), Ok(replies)) = (longest(alloc), longest_replies(alloc)) else {
         return false;
@@ -36,7 +37,7 @@ pub(crate) fn longest_script(alloc: Global) -> bool {
 fn longest(alloc: Global) -> Result<Vec<u8>, AllocError> {
     repeated(
         alloc,
-        b"begin A\n",
+        b"begin A\nbegin A\nget B x\nscan B m a\nscan A m a\n",
         b"get A x\n",
         b"get A x\nput A x 1\ncommit A\n",
     )
@@ -45,7 +46,7 @@ fn longest(alloc: Global) -> Result<Vec<u8>, AllocError> {
 fn longest_replies(alloc: Global) -> Result<Vec<u8>, AllocError> {
     repeated(
         alloc,
-        b"begun 1\n",
+        b"begun 1\n! 1 busy\n! 2 idle\n! 2 idle\n! 3 range\n",
         b"absent\n",
         b"! 4 long\n! 4 long\ncommitted\n",
     )

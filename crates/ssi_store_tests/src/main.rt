@@ -94,7 +94,12 @@ fn write_scripts(rt: &HostRuntime) -> io::Result<()> {
     )?;
     write_line(rt, "second input", scripts::are_sessions_the_stores(alloc))?;
     write_line(rt, "socket", scripts::are_peers_answered(rt)?)?;
-    write_line(rt, "socket with texts", scripts::are_peers_recorded(rt)?)
+    write_line(rt, "socket with texts", scripts::are_peers_recorded(rt)?)?;
+    write_line(
+        rt,
+        "socket that fails",
+        scripts::are_peers_recorded_at_a_fault(rt)?,
+    )
 }
 
 fn write_hostile_lines(rt: &HostRuntime) -> io::Result<()> {

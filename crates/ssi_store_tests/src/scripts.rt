@@ -10,6 +10,7 @@ use ssi_cli::{Served, run_script, run_socket, serve_socket};
 use ssi_line::{End, serve};
 use std::alloc::{AllocError, Global};
 use std::io::{Read, Write};
+use std::net::Shutdown;
 use std::os::unix::net::{UnixListener, UnixStream};
 use std::{fs, io};
 
@@ -178,14 +179,31 @@ pub(crate) fn are_peers_answered(rt: &HostRuntime) -> io::Result<bool> {
 /// Whether what a peer has asked for is in the texts at the end.
 pub(crate) fn are_peers_recorded(rt: &HostRuntime) -> io::Result<bool> {
     let (listener, _peer) = peer_with(rt, b"begin A\nput A x 5\ncommit A\nstop\n")?;
+    Ok(is_recorded(rt, &listener, Served::Stopped))
+}
+
+/// Whether it is in the texts too if the socket fails when the peer has left: accepting another connection would wait,
+/// and the socket is one that doesn't.
+pub(crate) fn are_peers_recorded_at_a_fault(rt: &HostRuntime) -> io::Result<bool> {
+    let (listener, mut peer) = peer_with(rt, b"begin A\nput A x 5\ncommit A\n")?;
+    peer.shutdown(Shutdown::Write)?;
+    listener.set_nonblocking(true)?;
+    if !is_recorded(rt, &listener, Served::SocketFault) {
+        return Ok(false);
+    }
+    let mut replies = Vec::new(rt.alloc());
+    peer.read_to_end(&mut replies)?;
+    Ok(replies.as_slice() == b"begun 1\ndone\ncommitted\n".as_slice())
+}
+
+/// Whether a run over the socket ends so, and writes the texts of a transaction that has put 5 at `x`.
+fn is_recorded(rt: &HostRuntime, listener: &UnixListener, end: Served) -> bool {
     let mut history = Watched::new(Vec::new(rt.alloc()));
     let mut certificate = Watched::new(Vec::new(rt.alloc()));
-    let (served, written) = run_socket(rt.alloc(), &listener, &mut history, &mut certificate);
-    Ok(
-        served == Served::Stopped
-            && written.is_ok()
-            && history.into_inner().as_slice()
-                == b"adya 1\nw1(x.1:1,5)\nc1\n[x:1]\n{x,5}\nend\n".as_slice()
-            && certificate.into_inner().as_slice() == b"serial 1\n1\nend\n".as_slice(),
-    )
+    let (served, written) = run_socket(rt.alloc(), listener, &mut history, &mut certificate);
+    served == end
+        && written.is_ok()
+        && history.into_inner().as_slice()
+            == b"adya 1\nw1(x.1:1,5)\nc1\n[x:1]\n{x,5}\nend\n".as_slice()
+        && certificate.into_inner().as_slice() == b"serial 1\n1\nend\n".as_slice()
 }
