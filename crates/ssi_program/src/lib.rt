@@ -13,6 +13,9 @@ mod tasks;
 
 pub use arguments::{NoTask, Task, given_arguments, task_of};
 pub use fault::Fault;
-pub use runs::{CommandsFault, carry_out_commands, judge_stream, judge_texts, order_text};
+pub use runs::{
+    CommandsFault, ServingFault, carry_out_commands, judge_stream, judge_texts, order_text,
+    status_of_serving,
+};
 pub use status::Status;
 pub use tasks::run;

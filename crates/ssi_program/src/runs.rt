@@ -1,6 +1,6 @@
 //! Runs over any readers and writers, and their exit status.
 
-ghost use Rattle.std.specs.Prelude.{◌≡◌, ◌↔◌, ◌⊎◌, true, List, ℕ, IfOk, IfSome, IsErrOf};
+ghost use Rattle.std.specs.Prelude.{◌≡◌, ◌↔◌, ◌⊎◌, true, List, ℕ, IfOk, IsOk, Ok, IfSome, IsErrOf};
 ghost use Rattle.std.specs.Io.KnownBytes.{Appends};
 ghost use Rattle.devices.specs.Meaning.Watched.{has_failed, watched_remaining, watched_contents};
 ghost use Rattle.adya_audit.specs.Meaning.TextVerdicts.{IsAcceptedStream, IsSerializableStream, AreAccepted, AreSerializable};
@@ -10,7 +10,7 @@ ghost use Rattle.ssi_cli.specs.Meaning.Scripts.{Ran, Certified, course_of};
 use crate::status::Status;
 use adya_audit::{RunFault, run_audit, run_order, run_pipe};
 use devices::{Source, Watched};
-use ssi_cli::{ScriptFault, run_script};
+use ssi_cli::{ScriptFault, Served, run_script};
 use ssi_line::End;
 use std::alloc::Global;
 use std::io::{Read, Write};
@@ -108,5 +108,30 @@ pub fn carry_out_commands<S: Source, W: Write, H: Write, C: Write>(
         Err(_) if input.failed() => Err(CommandsFault::Input),
         Err(_) if out.failed() => Err(CommandsFault::Output),
         Err(fault) => Err(CommandsFault::Texts(fault)),
+    }
+}
+
+/// The first fault of a run over a socket.
+#[derive(Clone, Copy, Debug, PartialEq, Eq)]
+pub enum ServingFault {
+    /// The socket failed.
+    Socket,
+    /// A client ended the run, but the history and its certificate are not both written.
+    Texts(ScriptFault),
+}
+
+/// Returns the status of a run over a socket, by how it ended and whether both texts are written: `Fine` if and only if a
+/// client ended it and they are; otherwise the first fault.
+pub fn status_of_serving(
+    served: Served,
+    written: Result<(), ScriptFault>,
+) -> Result<Status, ServingFault>
+    ensures fine { (result ≡ Ok Status.Fine) ↔ ((served ≡ Served.Stopped) × IsOk written) }
+    ensures socket { IsErrOf result ServingFault.Socket ↔ (served ≡ Served.SocketFault) }
+{
+    match (served, written) {
+        (Served::SocketFault, _) => Err(ServingFault::Socket),
+        (Served::Stopped, Err(fault)) => Err(ServingFault::Texts(fault)),
+        (Served::Stopped, Ok(())) => Ok(Status::Fine),
     }
 }

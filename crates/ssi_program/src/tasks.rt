@@ -7,11 +7,13 @@ ghost use Rattle.clap.specs.declared.error.kind.ErrorKind.TheVariants.{DisplayHe
 use crate::arguments::{NoTask, Task, given_arguments, task_of};
 use crate::fault::Fault;
 use crate::late_file::LateFile;
-use crate::runs::{carry_out_commands, judge_stream, judge_texts, order_text};
+use crate::runs::{
+    ServingFault, carry_out_commands, judge_stream, judge_texts, order_text, status_of_serving,
+};
 use crate::status::Status;
 use clap::Error;
 use devices::Watched;
-use ssi_cli::{Served, run_socket};
+use ssi_cli::run_socket;
 use std::fs::Files;
 use std::io::BufWriter;
 use std::net::Net;
@@ -127,10 +129,10 @@ fn serve_connections<'a, R: Runtime + Net + AllocGlobal>(
     );
     // A file that can't be removed is no fault.
     let _ = fs::remove_file(rt, socket);
-    match (served, written) {
-        (Served::SocketFault, _) => Err(Fault::Socket(socket)),
-        (Served::Stopped, Err(fault)) => Err(Fault::of_texts(fault, history, certificate)),
-        (Served::Stopped, Ok(())) => Ok(Status::Fine),
+    match status_of_serving(served, written) {
+        Ok(status) => Ok(status),
+        Err(ServingFault::Socket) => Err(Fault::Socket(socket)),
+        Err(ServingFault::Texts(fault)) => Err(Fault::of_texts(fault, history, certificate)),
     }
 }
 

@@ -4,8 +4,10 @@ ghost use Rattle.std.specs.Prelude.{◌<◌};
 
 use crate::answers::{answers_over_all, new_store};
 use crate::texts::{are_accepted, texts_of};
+use adya_audit::Verdict;
 use adya_testing::Pieces;
 use devices::Watched;
+use headline::audited_run;
 use ssi_cli::{Served, run_script, run_socket, serve_socket};
 use ssi_line::{End, serve};
 use std::alloc::{AllocError, Global};
@@ -57,12 +59,13 @@ fn is_stopped(end: End) -> Option<bool> {
 }
 
 /// Returns what the script makes; nothing if it isn't the same in pieces of 1, of 7 and of all bytes, and over each pair of
-/// representations.
+/// representations, or if the auditor doesn't say yes to it.
 pub(crate) fn of_script(alloc: Global, script: &[u8]) -> Option<Written> {
     let whole = in_pieces(alloc, script, usize::MAX)?;
     let are_same = whole == in_pieces(alloc, script, 1)?
         && whole == in_pieces(alloc, script, 7)?
-        && whole == over_all_pairs(alloc, script)?;
+        && whole == over_all_pairs(alloc, script)?
+        && matches!(audited_run(alloc, script), Ok(Verdict::Yes));
     if are_same { Some(whole) } else { None }
 }
 
