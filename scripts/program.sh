@@ -114,7 +114,7 @@ check 'a transaction of the certificate above them' $'out: no 1 syntax serial 2\
 
 # A first line without end. The bound on memory ends a program that keeps all of it.
 endless() { # as `run`
-    (ulimit -v 1000000; run "$@")
+    (ulimit -v "${kibibytes:-1000000}"; run "$@")
 }
 history=$'out: no 1 syntax history 1\nstatus 1'
 certificate=$'out: no 1 syntax serial 1\nstatus 1'
@@ -129,6 +129,7 @@ value=$(printf 'v%.0s' {1..60})
 entries() { yes "k.4294967295:65535,$value" | head -n 1260000 | paste -sd ';' | tr -d '\n'; }
 scan() { (printf 'adya 1\ns1(a,z;'; entries; printf '%s\n' "$1" c1 end 'serial 1' 1 end) | endless; }
 check 'a scan of a hundred million bytes' $'out: no 2 malformed 2 M3\nstatus 1' "$(scan ')')"
+check 'a scan that is too long for the memory' $'err: ssi: memory\nstatus 3' "$(kibibytes=100000 scan ')')"
 check 'a scan of a hundred million bytes that has no end' $'out: no 1 syntax history 2\nstatus 1' "$(scan '')"
 
 # Standard input and output.

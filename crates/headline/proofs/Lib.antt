@@ -1,1 +1,2 @@
 pub mod Yes
+pub mod Runs

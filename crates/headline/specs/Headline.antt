@@ -8,18 +8,17 @@
 --   adya_audit, specs/Meaning: Verdicts, TextVerdicts (the verdict on two texts)
 --   ssi_store, specs/Meaning: Courses (commands and answers), Acts, Seeing (snapshots), Replies (what is answered),
 --   Recording (the history of a course), Faces (what a history shows of the answers)
---   ssi_line, specs/Meaning: Spelling, Replies, Steps (lines, and what is made of them), Ends
---   ssi_cli, specs/Meaning: Scripts (a run, and what it leaves)
-use Rattle.std.specs.Prelude.{ℕ, List, Option}
+--   ssi_line, specs/Meaning: Spelling, Replies, Steps (lines, and what is made of them), Ends (what ends a run)
+use Rattle.std.specs.Prelude.{◌≡◌, ◌⊎◌, ℕ, List, ◌++◌}
 use Rattle.adya_values.specs.Meaning.Histories.{History}
-use Rattle.devices.specs.declared.watched.Watched.{Watched}
-use Rattle.devices.specs.Meaning.Writing.{Grew}
-use Rattle.adya_text.specs.Meaning.Texts.{history_text, serial_text}
+use Rattle.adya_line.specs.Meaning.Laws.{IsPlain}
+use Rattle.adya_text.specs.Meaning.Texts.{history_text, with_ends}
 use Rattle.adya_audit.specs.Meaning.Verdicts.{Yes}
 use Rattle.adya_audit.specs.Meaning.TextVerdicts.{IsVerdictOn, AreSerializable}
-use Rattle.ssi_store.specs.Meaning.Courses.{Course}
+use Rattle.ssi_store.specs.Meaning.Courses.{New}
 use Rattle.ssi_store.specs.Meaning.Faces.{Records}
-use Rattle.ssi_cli.specs.Meaning.Scripts.{Certified}
+use Rattle.ssi_line.specs.Meaning.Steps.{Step, Stopped, AreSteps, AllMayFollow, course_after, steps_text}
+use Rattle.ssi_line.specs.Meaning.Ends.{EndsWith}
 
 -- Whenever the verdict on a history text and a certificate text is yes, the history shows neither G1 nor G2, and its
 -- committed transactions, run one at a time in the certificate's order, give every recorded read, every scan and the
@@ -28,21 +27,20 @@ abbrev pub YesMeansSerializable : Type 0
 YesMeansSerializable = (history certificate : List ℕ) → IsVerdictOn history certificate Yes
     → AreSerializable history certificate
 
--- two devices were given a history text and a certificate text on which the verdict is yes, and the history records the
--- course
-pub record GetYes {H C : Type 0} (course : Course) (in_history : H → Option (List ℕ)) (old_history new_history : Watched H)
-    (in_certificate : C → Option (List ℕ)) (old_certificate new_certificate : Watched C) : Type 0 where
-  pub history : History
-  pub certificate : List ℕ
-  pub records : Records history course
-  pub yes : IsVerdictOn (history_text history) (serial_text certificate) Yes
-  pub history_written : Grew in_history old_history new_history (history_text history)
-  pub certificate_written : Grew in_certificate old_certificate new_certificate (serial_text certificate)
-
--- Whatever command lines the store is given, what a run over them leaves on its two devices gets that yes. That a run
--- leaves this of the course of its commands and answers is the contract of `run_script`.
-abbrev pub CertifiedRunsGetYes : {H C : Type 0} → (H → Option (List ℕ)) → (C → Option (List ℕ)) → Type 0
-CertifiedRunsGetYes {H = H} {C = C} in_history in_certificate =
-    (course : Course) (old_history new_history : Watched H) (old_certificate new_certificate : Watched C)
-    → Certified course in_history old_history new_history in_certificate old_certificate new_certificate
-    → GetYes course in_history old_history new_history in_certificate old_certificate new_certificate
+-- Whatever command lines a new store is given: each of them made a step, up to one that ended the run or to the end of the
+-- input, and the replies are the texts of these steps; the history text records them, and the verdict on it and the
+-- certificate text is that yes.
+pub record GetsYes (input replies history certificate : List ℕ) : Type 0 where
+  pub lines : List (List ℕ)
+  pub steps : List Step
+  -- the bytes after the last of these lines
+  pub rest : List ℕ
+  pub input_is : input ≡ with_ends lines ++ rest
+  pub made : AreSteps lines steps
+  pub follow : AllMayFollow (New 1) steps
+  pub ended : IsPlain rest ⊎ EndsWith steps Stopped
+  pub replies_are : replies ≡ steps_text steps
+  pub recorded : History
+  pub records : Records recorded (course_after (New 1) steps)
+  pub history_is : history ≡ history_text recorded
+  pub yes : IsVerdictOn history certificate Yes

@@ -15,7 +15,7 @@ pub use arguments::{NoTask, Task, given_arguments, task_of};
 pub use fault::Fault;
 pub use runs::{
     CommandsFault, ServingFault, carry_out_commands, judge_stream, judge_texts, order_text,
-    status_of_serving,
+    serve_commands, status_of_serving,
 };
 pub use status::Status;
 pub use tasks::run;

@@ -1,19 +1,23 @@
 //! Runs over any readers and writers, and their exit status.
 
-ghost use Rattle.std.specs.Prelude.{◌≡◌, ◌↔◌, ◌⊎◌, true, List, ℕ, IfOk, IsOk, Ok, IfSome, IsErrOf};
+ghost use Rattle.std.specs.Prelude.{◌≡◌, ◌↔◌, ◌⊎◌, true, List, ℕ, IfOk, IsOk, Ok, Err, IfSome, IsErrOf};
 ghost use Rattle.std.specs.Io.KnownBytes.{Appends};
 ghost use Rattle.devices.specs.Meaning.Watched.{has_failed, watched_remaining, watched_contents};
 ghost use Rattle.adya_audit.specs.Meaning.TextVerdicts.{IsAcceptedStream, IsSerializableStream, AreAccepted, AreSerializable};
 ghost use Rattle.adya_audit.specs.Meaning.Answers.{Answer, Certificate, IsAnswer, answer_text};
+ghost use Rattle.ssi_store.specs.Meaning.Courses.{New};
+ghost use Rattle.ssi_line.specs.Meaning.Steps.{Step, AllMayFollow, course_after};
+ghost use Rattle.ssi_cli.specs.declared.script_fault.ScriptFault.{ScriptFault};
 ghost use Rattle.ssi_cli.specs.Meaning.Scripts.{Ran, Certified, course_of};
 
 use crate::status::Status;
 use adya_audit::{RunFault, run_audit, run_order, run_pipe};
 use devices::{Source, Watched};
-use ssi_cli::{ScriptFault, Served, run_script};
+use ssi_cli::{ScriptFault, Served, run_script, run_socket};
 use ssi_line::End;
 use std::alloc::Global;
 use std::io::{Read, Write};
+use std::os::unix::net::UnixListener;
 
 /// Audits the history and the certificate that follow one another in the input, and writes the verdict.
 pub fn judge_stream<R: Read, W: Write>(
@@ -120,6 +124,24 @@ pub enum ServingFault {
     Texts(ScriptFault),
 }
 
+/// Carries out the lines of the connections on a new store, and writes its history and a certificate. They are written
+/// also if the socket has failed. Returns the first fault.
+pub fn serve_commands<H: Write, C: Write>(
+    alloc: Global,
+    listener: &UnixListener,
+    history: &mut Watched<H>,
+    certificate: &mut Watched<C>,
+) -> Result<Status, ServingFault>
+    ensures run { IfOk result (λ status. (status ≡ Status.Fine) × ((steps : List Step) × AllMayFollow (New 1) steps
+        × Certified (course_after (New 1) steps) H.contents history.old history.new
+        C.contents certificate.old certificate.new)) }
+    ensures history { IsErrOf result (ServingFault.Texts ScriptFault.History) → has_failed history.new ≡ true }
+    ensures certificate { IsErrOf result (ServingFault.Texts ScriptFault.Certificate) → has_failed certificate.new ≡ true }
+{
+    let (served, written) = run_socket(alloc, listener, history, certificate);
+    status_of_serving(served, written)
+}
+
 /// Returns the status of a run over a socket, by how it ended and whether both texts are written: `Fine` if and only if a
 /// client ended it and they are; otherwise the first fault.
 pub fn status_of_serving(
@@ -127,7 +149,9 @@ pub fn status_of_serving(
     written: Result<(), ScriptFault>,
 ) -> Result<Status, ServingFault>
     ensures fine { (result ≡ Ok Status.Fine) ↔ ((served ≡ Served.Stopped) × IsOk written) }
+    ensures no_other { IfOk result (λ status. status ≡ Status.Fine) }
     ensures socket { IsErrOf result ServingFault.Socket ↔ (served ≡ Served.SocketFault) }
+    ensures texts { (fault : ScriptFault) → IsErrOf result (ServingFault.Texts fault) → written ≡ Err fault }
 {
     match (served, written) {
         (Served::SocketFault, _) => Err(ServingFault::Socket),

@@ -8,12 +8,11 @@ use crate::arguments::{NoTask, Task, given_arguments, task_of};
 use crate::fault::Fault;
 use crate::late_file::LateFile;
 use crate::runs::{
-    ServingFault, carry_out_commands, judge_stream, judge_texts, order_text, status_of_serving,
+    ServingFault, carry_out_commands, judge_stream, judge_texts, order_text, serve_commands,
 };
 use crate::status::Status;
 use clap::Error;
 use devices::Watched;
-use ssi_cli::run_socket;
 use std::fs::Files;
 use std::io::BufWriter;
 use std::net::Net;
@@ -121,7 +120,7 @@ fn serve_connections<'a, R: Runtime + Net + AllocGlobal>(
     let mut history_file = late_file(rt, history)?;
     let mut certificate_file = late_file(rt, certificate)?;
     let listener = bound(rt, socket)?;
-    let (served, written) = run_socket(
+    let served = serve_commands(
         rt.alloc(),
         &listener,
         &mut history_file,
@@ -129,7 +128,7 @@ fn serve_connections<'a, R: Runtime + Net + AllocGlobal>(
     );
     // A file that can't be removed is no fault.
     let _ = fs::remove_file(rt, socket);
-    match status_of_serving(served, written) {
+    match served {
         Ok(status) => Ok(status),
         Err(ServingFault::Socket) => Err(Fault::Socket(socket)),
         Err(ServingFault::Texts(fault)) => Err(Fault::of_texts(fault, history, certificate)),
