@@ -49,20 +49,29 @@ impl<'a> Worked<'a> {
 
 /// Makes all calls.
 pub(crate) fn run(tally: &mut Tally, spare: Spare, worked: &Worked) -> Result<(), &'static str> {
-    let mut stream = spare.history;
-    stream
-        .extend_from_slice(worked.history)
-        .map_err(|_| "no room for the texts")?;
-    stream
-        .extend_from_slice(worked.certificate)
-        .map_err(|_| "no room for the texts")?;
+    let Ok(stream) = stream_of(spare, worked) else {
+        return Err("no room for the texts");
+    };
     events(tally, worked)?;
-    let (history, serial) = texts(tally, worked)?;
+    values(tally, worked)?;
     sources(tally, worked)?;
     one_stream(tally, &stream, worked)?;
-    graph(tally, &history, worked)?;
-    verdict(tally, &history, &serial, worked)?;
     runs(tally, &stream, worked)
+}
+
+/// Returns both texts, the one after the other, in the room of the first.
+fn stream_of(spare: Spare, worked: &Worked) -> Result<Vec<u8>, AllocError> {
+    let mut stream = spare.history;
+    stream.extend_from_slice(worked.history)?;
+    stream.extend_from_slice(worked.certificate)?;
+    Ok(stream)
+}
+
+/// Makes the calls that take values.
+fn values(tally: &mut Tally, worked: &Worked) -> Result<(), &'static str> {
+    let (history, serial) = texts(tally, worked)?;
+    graph(tally, &history, worked)?;
+    verdict(tally, &history, &serial, worked)
 }
 
 /// Reads each event from its line.
@@ -157,14 +166,23 @@ fn graph(tally: &mut Tally, history: &History, worked: &Worked) -> Result<(), &'
         Err(_) if worked.edges.is_empty() => return Ok(()),
         Err(_) => return Err("a fault of the history"),
     };
-    let Ok(edges) = again!(tally, Err(AllocError), edges(tally.alloc(), &checked)) else {
+    edges_of(tally, &checked, worked)?;
+    order_of(tally, &checked, worked)
+}
+
+fn edges_of(tally: &mut Tally, checked: &Checked, worked: &Worked) -> Result<(), &'static str> {
+    let Ok(edges) = again!(tally, Err(AllocError), edges(tally.alloc(), checked)) else {
         return Err("no edges at the second try");
     };
     let mut out = wanting(worked.edges);
     if write_edges(&edges, &mut out).is_err() || !is_met(out) {
         return Err("other edges");
     }
-    let Ok(found) = again!(tally, Err(AllocError), order(tally.alloc(), &checked)) else {
+    Ok(())
+}
+
+fn order_of(tally: &mut Tally, checked: &Checked, worked: &Worked) -> Result<(), &'static str> {
+    let Ok(found) = again!(tally, Err(AllocError), order(tally.alloc(), checked)) else {
         return Err("no order at the second try");
     };
     let mut out = wanting(worked.order);
@@ -228,6 +246,12 @@ fn verdict(
 /// Judges the two texts in two streams and in one, and finds the order. The second try writes where the first did, so
 /// it goes wrong if the first has written something.
 fn runs(tally: &mut Tally, stream: &[u8], worked: &Worked) -> Result<(), &'static str> {
+    on_two_streams(tally, worked)?;
+    on_one_stream(tally, stream, worked)?;
+    ordered(tally, worked)
+}
+
+fn on_two_streams(tally: &mut Tally, worked: &Worked) -> Result<(), &'static str> {
     let mut out = wanting(worked.verdict);
     let _ = again!(
         tally,
@@ -242,6 +266,10 @@ fn runs(tally: &mut Tally, stream: &[u8], worked: &Worked) -> Result<(), &'stati
     if !is_met(out) {
         return Err("another verdict on two streams");
     }
+    Ok(())
+}
+
+fn on_one_stream(tally: &mut Tally, stream: &[u8], worked: &Worked) -> Result<(), &'static str> {
     let mut out = wanting(worked.verdict);
     let _ = again!(
         tally,
@@ -251,6 +279,10 @@ fn runs(tally: &mut Tally, stream: &[u8], worked: &Worked) -> Result<(), &'stati
     if !is_met(out) {
         return Err("another verdict on one stream");
     }
+    Ok(())
+}
+
+fn ordered(tally: &mut Tally, worked: &Worked) -> Result<(), &'static str> {
     let mut out = wanting(worked.order);
     let _ = again!(
         tally,

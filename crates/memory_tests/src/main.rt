@@ -94,10 +94,16 @@ fn pad(alloc: Global, count: u32) -> Result<(), AllocError> {
 fn said_of(tally: &mut Tally, spare: Spare, name: &str, texts: &str) -> Result<(), &'static str> {
     let (kind, _) = name.split_once(" ").unwrap_or((name, ""));
     match kind {
-        "course-over-keys" => courses::over_keys(tally, &Course::of(texts)?),
-        "course-over-lists" => courses::over_lists(tally, &Course::of(texts)?),
         "script" => scripts::run(tally, spare, &Course::of(texts)?),
         "history" => histories::run(tally, spare, &Worked::of(texts)?),
+        _ => said_of_store(tally, kind, texts),
+    }
+}
+
+fn said_of_store(tally: &mut Tally, kind: &str, texts: &str) -> Result<(), &'static str> {
+    match kind {
+        "course-over-keys" => courses::over_keys(tally, &Course::of(texts)?),
+        "course-over-lists" => courses::over_lists(tally, &Course::of(texts)?),
         "versions" => layers::versions(tally, texts),
         "marks" => layers::marks(tally, texts),
         "tracker" => layers::tracker(tally, texts),

@@ -40,13 +40,15 @@ impl Recorded {
         Ok(())
     }
 
-    fn event(&mut self, event: Event) -> Result<(), Fault> {
+    fn event(&mut self, words: &mut Words) -> Result<(), Fault> {
+        let event = event_of(self.alloc, words)?;
         self.recorder.room()?;
         self.recorder.event(event);
         Ok(())
     }
 
-    fn end(&mut self, end: Event) -> Result<(), Fault> {
+    fn end(&mut self, words: &mut Words) -> Result<(), Fault> {
+        let end = event_of(self.alloc, words)?;
         if self.places == 0 {
             return Err(Fault::Now);
         }
@@ -90,8 +92,8 @@ impl Layer for Recorded {
     fn call(&mut self, words: &mut Words, reply: &mut Reply) -> Result<(), Fault> {
         match words.word() {
             "open" => self.open(),
-            "event" => self.event(event_of(self.alloc, words)?),
-            "end" => self.end(event_of(self.alloc, words)?),
+            "event" => self.event(words),
+            "end" => self.end(words),
             "dump" => self.dump(words, reply),
             "finish" => {
                 let active = words.txns(self.alloc)?;

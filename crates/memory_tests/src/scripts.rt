@@ -67,16 +67,16 @@ fn ended(tally: &mut Tally, written: &Spare, course: &Course) -> Result<(), &'st
                 return Err("other replies than one refusal");
             }
         }
-        None => {
-            if text(&written.replies) != course.replies
-                || text(&written.history) != course.history
-                || text(&written.certificate) != course.certificate
-            {
-                return Err("another text");
-            }
-        }
+        None if !are_texts(written, course) => return Err("another text"),
+        None => {}
     }
     audited(tally, &written.history, &written.certificate)
+}
+
+fn are_texts(written: &Spare, course: &Course) -> bool {
+    text(&written.replies) == course.replies
+        && text(&written.history) == course.history
+        && text(&written.certificate) == course.certificate
 }
 
 fn not_ended(tally: &mut Tally, written: &Spare, course: &Course) -> Result<(), &'static str> {

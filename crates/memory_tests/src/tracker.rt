@@ -23,6 +23,10 @@ impl<M: Marks + Drop> Tracked<M> {
         }
     }
 
+    fn begin(&mut self, words: &mut Words) -> Result<(), Fault> {
+        Ok(self.tracker.on_begin(words.txn()?, words.number()?)?)
+    }
+
     fn read(&mut self, words: &mut Words, reply: &mut Reply) -> Result<(), Fault> {
         let answer = self
             .tracker
@@ -34,6 +38,10 @@ impl<M: Marks + Drop> Tracked<M> {
         let txn = words.txn()?;
         let keys = words.keys(self.alloc)?;
         put_answer(self.tracker.judge(txn, &keys)?, reply)
+    }
+
+    fn abort(&mut self, words: &mut Words) -> Result<(), Fault> {
+        Ok(self.tracker.on_abort(words.txn()?))
     }
 
     /// Judges a commit, and carries it out if it is safe.
@@ -52,11 +60,11 @@ impl<M: Marks + Drop> Tracked<M> {
 impl<M: Marks + Drop> Layer for Tracked<M> {
     fn call(&mut self, words: &mut Words, reply: &mut Reply) -> Result<(), Fault> {
         match words.word() {
-            "begin" => Ok(self.tracker.on_begin(words.txn()?, words.number()?)?),
+            "begin" => self.begin(words),
             "read" => self.read(words, reply),
             "judge" => self.judge(words, reply),
             "commit" => self.commit(words, reply),
-            "abort" => Ok(self.tracker.on_abort(words.txn()?)),
+            "abort" => self.abort(words),
             "kept" => Ok(put_number(self.tracker.kept() as u64, reply)?),
             _ => Err(Fault::Call),
         }

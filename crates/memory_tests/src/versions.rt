@@ -43,22 +43,31 @@ impl<C: Chains + Drop> Versions<C> {
         match words.word() {
             "commit" => self.commit(words),
             "install" => self.install(),
-            "collect" => {
-                let snapshots = words.numbers(self.alloc)?;
-                Ok(put_number(self.collect(&snapshots), reply)?)
-            }
-            "at" => put_held(self.chains.at(words.key()?, words.number()?), reply),
+            "collect" => self.collect(words, reply),
+            "at" => self.at(words, reply),
             "last" => put_held(self.chains.last(words.key()?), reply),
-            "range" => {
-                let (low, high) = range(words)?;
-                put_all_held(&self.chains.range_at(low, high, words.number()?)?, reply)
-            }
+            "range" => self.range(words, reply),
             "counts" => put_pair(self.chains.held(), self.chains.keys(), reply),
             _ => Err(Fault::Call),
         }
     }
 
-    fn collect(&mut self, snapshots: &[u64]) -> u64 {
+    fn at(&self, words: &mut Words, reply: &mut Reply) -> Result<(), Fault> {
+        put_held(self.chains.at(words.key()?, words.number()?), reply)
+    }
+
+    fn range(&self, words: &mut Words, reply: &mut Reply) -> Result<(), Fault> {
+        let (low, high) = range(words)?;
+        put_all_held(&self.chains.range_at(low, high, words.number()?)?, reply)
+    }
+
+    fn collect(&mut self, words: &mut Words, reply: &mut Reply) -> Result<(), Fault> {
+        let snapshots = words.numbers(self.alloc)?;
+        let dropped = self.collect_below(&snapshots);
+        Ok(put_number(dropped, reply)?)
+    }
+
+    fn collect_below(&mut self, snapshots: &[u64]) -> u64 {
         self.chains.collect(snapshots)
     }
 
@@ -90,19 +99,23 @@ impl<C: Chains + Drop> Versions<C> {
     /// `owns KEY`, `writes`, `txn`, `stamp` and `count`.
     fn call_view(&mut self, words: &mut Words, reply: &mut Reply) -> Result<(), Fault> {
         match words.word() {
-            "begin" => {
-                self.view = View::new(self.alloc, words.txn()?, words.number()?);
-                Ok(())
-            }
+            "begin" => self.begin(words),
             "put" => put_key(&mut self.view, words, reply),
             "get" => put_seen(self.view.get(&self.chains, words.key()?), reply),
-            "scan" => {
-                let (low, high) = range(words)?;
-                put_all_seen(&self.view.scan(&self.chains, low, high)?, reply)
-            }
+            "scan" => self.scan(words, reply),
             "first" => self.first(words, reply),
             name => ask_view(name, &self.view, words, reply),
         }
+    }
+
+    fn begin(&mut self, words: &mut Words) -> Result<(), Fault> {
+        self.view = View::new(self.alloc, words.txn()?, words.number()?);
+        Ok(())
+    }
+
+    fn scan(&self, words: &mut Words, reply: &mut Reply) -> Result<(), Fault> {
+        let (low, high) = range(words)?;
+        put_all_seen(&self.view.scan(&self.chains, low, high)?, reply)
     }
 
     fn first(&self, words: &mut Words, reply: &mut Reply) -> Result<(), Fault> {

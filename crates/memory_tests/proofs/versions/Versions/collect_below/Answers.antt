@@ -4,7 +4,7 @@ use Rattle.std.specs.List.{All}
 use Rattle.std.proofs.lemmas.List.Elements.{All-filter}
 use Rattle.ssi_versions.specs.Meaning.Chains.{chain_of}
 use Rattle.ssi_versions.specs.Meaning.ChangeLaws.{is_wanted}
-use Rattle.memory_tests.proofs.versions.Versions.collect.Goals as goal
+use Rattle.memory_tests.proofs.versions.Versions.collect_below.Goals as goal
 
 pub invariant_of-self : goal.invariant_of-self
 invariant_of-self g c =
