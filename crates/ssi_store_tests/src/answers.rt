@@ -1,7 +1,8 @@
 //! What a new store makes of one input.
 
 use crate::courses::Pair;
-use crate::texts::{Texts, texts_of};
+use crate::runs::ended;
+use crate::texts::Texts;
 use devices::{Source, Watched};
 use ssi_line::{End, serve};
 use ssi_reads::{IndexMarks, ListMarks, Marks};
@@ -37,13 +38,12 @@ fn answers_of<S: Source, C: Chains + Drop, M: Marks + Drop>(
 ) -> Option<Answers> {
     let mut output = Watched::new(Vec::new(alloc));
     let end = serve(alloc, input, &mut output, &mut store);
-    let Ok(finished) = store.finish() else {
-        return None;
-    };
+    let replies = output.into_inner();
+    let texts = ended(alloc, store)?;
     Some(Answers {
         end,
-        replies: output.into_inner(),
-        texts: texts_of(alloc, &finished)?,
+        replies,
+        texts,
     })
 }
 
@@ -51,22 +51,36 @@ fn answers_of<S: Source, C: Chains + Drop, M: Marks + Drop>(
 /// isn't the same over all of them, or if memory runs out.
 pub(crate) fn answers_over_all(alloc: Global, lines: &[u8]) -> Option<Answers> {
     let answers = answers_over(alloc, Pair::PlainAndList, lines)?;
-    let are_same = answers == answers_over(alloc, Pair::PlainAndIndex, lines)?
-        && answers == answers_over(alloc, Pair::KeysAndList, lines)?
-        && answers == answers_over(alloc, Pair::KeysAndIndex, lines)?;
-    if are_same { Some(answers) } else { None }
+    for pair in [Pair::PlainAndIndex, Pair::KeysAndList, Pair::KeysAndIndex] {
+        if !are_same_over(alloc, pair, lines, &answers) {
+            return None;
+        }
+    }
+    Some(answers)
+}
+
+fn are_same_over(alloc: Global, pair: Pair, lines: &[u8], answers: &Answers) -> bool {
+    match answers_over(alloc, pair, lines) {
+        Some(others) => others == *answers,
+        None => false,
+    }
 }
 
 fn answers_over(alloc: Global, pair: Pair, lines: &[u8]) -> Option<Answers> {
     let mut input = Watched::new(lines);
-    let plain = PlainChains::new(alloc);
-    let keys = KeyChains::new(alloc);
-    let list = ListMarks::new(alloc);
-    let index = IndexMarks::new(alloc);
     match pair {
-        Pair::PlainAndList => answers_of(alloc, Store::new(alloc, plain, list), &mut input),
-        Pair::PlainAndIndex => answers_of(alloc, Store::new(alloc, plain, index), &mut input),
-        Pair::KeysAndList => answers_of(alloc, Store::new(alloc, keys, list), &mut input),
-        Pair::KeysAndIndex => answers_of(alloc, Store::new(alloc, keys, index), &mut input),
+        Pair::PlainAndList => {
+            let store = Store::new(alloc, PlainChains::new(alloc), ListMarks::new(alloc));
+            answers_of(alloc, store, &mut input)
+        }
+        Pair::PlainAndIndex => {
+            let store = Store::new(alloc, PlainChains::new(alloc), IndexMarks::new(alloc));
+            answers_of(alloc, store, &mut input)
+        }
+        Pair::KeysAndList => {
+            let store = Store::new(alloc, KeyChains::new(alloc), ListMarks::new(alloc));
+            answers_of(alloc, store, &mut input)
+        }
+        Pair::KeysAndIndex => answers_of(alloc, new_store(alloc), &mut input),
     }
 }

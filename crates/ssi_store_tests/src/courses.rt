@@ -20,10 +20,13 @@ pub(crate) enum Pair {
 /// the same over all of them, if a dump isn't accepted, or if memory runs out.
 pub(crate) fn over_all(alloc: Global, first: Txn, lines: &[&str], after: After) -> Option<Outcome> {
     let outcome = over(alloc, Pair::PlainAndList, first, lines, after)?;
-    let are_same = outcome == over(alloc, Pair::PlainAndIndex, first, lines, after)?
-        && outcome == over(alloc, Pair::KeysAndList, first, lines, after)?
-        && outcome == over(alloc, Pair::KeysAndIndex, first, lines, after)?;
-    if are_same { Some(outcome) } else { None }
+    for pair in [Pair::PlainAndIndex, Pair::KeysAndList, Pair::KeysAndIndex] {
+        match over(alloc, pair, first, lines, after) {
+            Some(other) if other == outcome => {}
+            _ => return None,
+        }
+    }
+    Some(outcome)
 }
 
 /// Returns what the course makes over this pair, the first transaction being this one; nothing if a dump isn't accepted,

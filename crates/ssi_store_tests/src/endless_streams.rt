@@ -60,9 +60,11 @@ pub(crate) fn runs_a_line(alloc: Global) -> bool {
         &mut history,
         &mut certificate,
     );
-    ended == Ok(End::ReadFault)
+    let history = history.into_inner();
+    let certificate = certificate.into_inner();
+    output.into_inner().is_empty()
+        && ended == Ok(End::ReadFault)
         && input.failed()
-        && output.into_inner().is_empty()
-        && history.into_inner().as_slice() == b"adya 1\nend\n".as_slice()
-        && certificate.into_inner().as_slice() == b"serial 1\nend\n".as_slice()
+        && history.as_slice() == b"adya 1\nend\n".as_slice()
+        && certificate.as_slice() == b"serial 1\nend\n".as_slice()
 }

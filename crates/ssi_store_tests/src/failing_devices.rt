@@ -85,10 +85,13 @@ fn write_case(rt: &HostRuntime, name: &str, case: Case) -> io::Result<()> {
 /// Returns the first call whose fault makes something else than it must, 0 if it isn't the fault of one call; nothing if
 /// all is as defined.
 fn first_other(alloc: Global, worked: &Worked, case: Case) -> Option<u64> {
-    let mut others = KINDS
-        .iter()
-        .filter_map(|kind| first_other_of(alloc, worked, case, *kind));
-    others.next()
+    for kind in KINDS {
+        let other = first_other_of(alloc, worked, case, kind);
+        if other.is_some() {
+            return other;
+        }
+    }
+    None
 }
 
 fn first_other_of(alloc: Global, worked: &Worked, case: Case, kind: ErrorKind) -> Option<u64> {

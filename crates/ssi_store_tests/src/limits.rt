@@ -74,6 +74,17 @@ pub(crate) fn last_transaction(alloc: Global) -> bool {
     ) == Some(true)
 }
 
+/// Returns the lines of a transaction with so many gets, and then these lines.
+fn lines_of<'a>(alloc: Global, gets: u32, last: &[&'a str]) -> Result<Vec<&'a str>, AllocError> {
+    let mut lines = Vec::new(alloc);
+    lines.push("begin A")?;
+    for _ in 0..gets {
+        lines.push("get A x")?;
+    }
+    lines.extend_from_slice(last)?;
+    Ok(lines)
+}
+
 /// Whether a transaction with this number, so many gets and then these lines get these replies to the lines.
 fn are_last_replies(
     alloc: Global,
@@ -82,14 +93,7 @@ fn are_last_replies(
     last: &[&str],
     wanted: &str,
 ) -> Option<bool> {
-    let mut lines = Vec::new(alloc);
-    lines.push("begin A").ok()?;
-    for _ in 0..gets {
-        lines.push("get A x").ok()?;
-    }
-    for line in last {
-        lines.push(*line).ok()?;
-    }
+    let lines = lines_of(alloc, gets, last).ok()?;
     let outcome = over_all(alloc, Txn::new(first).ok()?, &lines, After::Nothing)?;
     Some(outcome.replies.ends_with(wanted.as_bytes()) && are_accepted(&outcome.texts))
 }

@@ -36,14 +36,24 @@ pub(crate) fn outcome_of<C: Chains + Drop, M: Marks + Drop>(
     lines: &[&str],
     after: After,
 ) -> Option<Outcome> {
-    let mut replies = Vec::new(alloc);
-    for line in lines {
-        let said = said(alloc, &mut store, line)?;
-        replies.extend_from_slice(&said).ok()?;
-        follow(alloc, &mut store, after)?;
-    }
+    let replies = replies_of(alloc, &mut store, lines, after)?;
     let texts = ended(alloc, store)?;
     Some(Outcome { replies, texts })
+}
+
+fn replies_of<C: Chains + Drop, M: Marks + Drop>(
+    alloc: Global,
+    store: &mut Store<C, M>,
+    lines: &[&str],
+    after: After,
+) -> Option<Vec<u8>> {
+    let mut replies = Vec::new(alloc);
+    for line in lines {
+        let said = said(alloc, store, line)?;
+        replies.extend_from_slice(&said).ok()?;
+        follow(alloc, store, after)?;
+    }
+    Some(replies)
 }
 
 /// Ends the store and returns its texts.

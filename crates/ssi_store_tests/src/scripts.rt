@@ -2,8 +2,9 @@
 
 ghost use Rattle.std.specs.Prelude.{◌<◌};
 
-use crate::answers::{answers_over_all, new_store};
-use crate::texts::{are_accepted, texts_of};
+use crate::answers::{FastStore, answers_over_all, new_store};
+use crate::runs::ended;
+use crate::texts::are_accepted;
 use adya_audit::Verdict;
 use adya_testing::Pieces;
 use devices::Watched;
@@ -144,15 +145,18 @@ pub(crate) fn are_sessions_the_stores(alloc: Global) -> bool {
         serve(alloc, &mut first, &mut output, &mut store),
         serve(alloc, &mut second, &mut output, &mut store),
     );
-    let Ok(finished) = store.finish() else {
+    let replies = output.into_inner();
+    has_session_texts(alloc, store)
+        && ends == (End::Eof, End::Stop)
+        && replies.as_slice() == b"begun 1\ndone\ncommitted\nstopped\n".as_slice()
+}
+
+/// Whether the store has carried out one session, which has put 1 at `x`.
+fn has_session_texts(alloc: Global, store: FastStore) -> bool {
+    let Some(texts) = ended(alloc, store) else {
         return false;
     };
-    let Some(texts) = texts_of(alloc, &finished) else {
-        return false;
-    };
-    ends == (End::Eof, End::Stop)
-        && output.into_inner().as_slice() == b"begun 1\ndone\ncommitted\nstopped\n".as_slice()
-        && texts.history.as_slice() == b"adya 1\nw1(x.1:1,1)\nc1\n[x:1]\n{x,1}\nend\n".as_slice()
+    texts.history.as_slice() == b"adya 1\nw1(x.1:1,1)\nc1\n[x:1]\n{x,1}\nend\n".as_slice()
         && texts.certificate.as_slice() == b"serial 1\n1\nend\n".as_slice()
         && are_accepted(&texts)
 }
@@ -169,14 +173,17 @@ fn peer_with(rt: &HostRuntime, lines: &[u8]) -> io::Result<(UnixListener, UnixSt
 /// Whether a store answers a peer that has written all its lines.
 pub(crate) fn are_peers_answered(rt: &HostRuntime) -> io::Result<bool> {
     let (listener, mut peer) = peer_with(rt, b"begin A\ncommit A\nstop\n")?;
-    let alloc = rt.alloc();
-    let mut store = new_store(alloc);
-    if serve_socket(alloc, &listener, &mut store) != Served::Stopped {
+    if serve_new_store(rt.alloc(), &listener) != Served::Stopped {
         return Ok(false);
     }
-    let mut replies = Vec::new(alloc);
+    let mut replies = Vec::new(rt.alloc());
     peer.read_to_end(&mut replies)?;
     Ok(replies.as_slice() == b"begun 1\ncommitted\nstopped\n".as_slice())
+}
+
+fn serve_new_store(alloc: Global, listener: &UnixListener) -> Served {
+    let mut store = new_store(alloc);
+    serve_socket(alloc, listener, &mut store)
 }
 
 /// Whether what a peer has asked for is in the texts at the end.

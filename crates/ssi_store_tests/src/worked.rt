@@ -29,16 +29,18 @@ pub(crate) fn worked_in(rt: &HostRuntime, name: &str) -> io::Result<Worked> {
 
 /// Returns the line of a worked course.
 pub(crate) fn line_of(rt: &HostRuntime, name: &str) -> io::Result<String> {
-    let alloc = rt.alloc();
-    let worked = worked_in(rt, name)?;
+    Ok(line(rt.alloc(), name, &worked_in(rt, name)?)?)
+}
+
+fn line(alloc: Global, name: &str, worked: &Worked) -> Result<String, AllocError> {
     let lines = lines_of(alloc, text(&worked.commands))?;
-    let plain = of_course(alloc, &lines, After::Nothing, &worked);
-    let collecting = of_course(alloc, &lines, After::Collect, &worked);
-    let dumping = of_course(alloc, &lines, After::Dump, &worked);
-    let script = as_script(alloc, &worked);
-    Ok(format!(in alloc;
+    let plain = of_course(alloc, &lines, After::Nothing, worked);
+    let collecting = of_course(alloc, &lines, After::Collect, worked);
+    let dumping = of_course(alloc, &lines, After::Dump, worked);
+    let script = as_script(alloc, worked);
+    format!(in alloc;
         "{name}: {plain}, with collections {collecting}, with dumps {dumping}, as a script {script}\n"
-    )?)
+    )
 }
 
 /// Returns the bytes of a file of the worked course.
