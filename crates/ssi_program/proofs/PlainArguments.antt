@@ -1,5 +1,5 @@
 -- How the parser meets an argument that names no subcommand and doesn't begin with a hyphen.
-use Rattle.std.proofs.Common.{◌≡◌, ℕ, ◌==◌, Bool, true, false, not, List, [], ◌∷◌, refl, ap}
+use Rattle.std.proofs.Common.{◌≡◌, ℕ, ◌==◌, true, false, List, [], ◌∷◌, refl, ap}
 use Rattle.std.specs.Prelude.{None}
 use Rattle.std.proofs.lemmas.Bool.{not-true}
 use Rattle.clap.specs.Walk.{Held, Names, Rule, Text, Walk, idle, value, walked, word_met, arg_by_index}

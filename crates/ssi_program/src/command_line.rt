@@ -16,8 +16,25 @@ pub fn command_line<'a>(alloc: Global) -> Result<Command<'a>, AllocError>
     let ssi = Command::new(alloc, "ssi")
         .about(help::ABOUT)
         .after_help(help::MORE);
-    let ssi = with_pair(ssi, audit(alloc)?, order(alloc)?)?;
-    with_pair(ssi, script(alloc)?, serve(alloc)?)
+    with_runs(alloc, with_audits(alloc, ssi)?)
+}
+
+fn with_audits<'a>(alloc: Global, command: Command<'a>) -> Result<Command<'a>, AllocError>
+    ensures { IfOk result (λ c. app_of c
+        ≡ with_subcommand (with_subcommand (app_of command.entry) audit_app.top) order_app.top) }
+{
+    let audit = audit(alloc)?;
+    let order = order(alloc)?;
+    with_pair(command, audit, order)
+}
+
+fn with_runs<'a>(alloc: Global, command: Command<'a>) -> Result<Command<'a>, AllocError>
+    ensures { IfOk result (λ c. app_of c
+        ≡ with_subcommand (with_subcommand (app_of command.entry) script_app.top) serve_app.top) }
+{
+    let script = script(alloc)?;
+    let serve = serve(alloc)?;
+    with_pair(command, script, serve)
 }
 
 fn with_pair<'a>(

@@ -1,4 +1,4 @@
-use Rattle.std.proofs.Common.{◌≡◌, false, refl, subst}
+use Rattle.std.proofs.Common.{rules, ◌≡◌, false, refl, subst}
 use Rattle.ssi_store.specs.Meaning.Commands.{command_of, answer_of}
 use Rattle.ssi_line.specs.Meaning.Spelling.{Do, IsLineOf}
 use Rattle.ssi_line.specs.Meaning.Steps.{Given}
@@ -23,3 +23,6 @@ returns-in-Some-Do-clause-answered g c = λ text is.
       },
       λ course at. ((c.apply-reply.ensures.answers course at, tt), c.apply-reply.ensures.stands course at),
     )
+
+pub returns-in-Some-Stop-clause-answered : goal.returns-in-Some-Stop-clause-answered
+returns-in-Some-Stop-clause-answered g c = search rules

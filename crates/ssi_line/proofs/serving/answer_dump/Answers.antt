@@ -1,4 +1,4 @@
-use Rattle.std.proofs.Common.{refl, ◌++◌, ◌∙◌}
+use Rattle.std.proofs.Common.{rules, refl, ◌++◌, ◌∙◌}
 use Rattle.adya_text.specs.Meaning.Texts.{history_text, serial_text}
 use Rattle.ssi_line.specs.Meaning.Steps.{Dumped}
 use Rattle.ssi_line.proofs.Dumps.{said_same}
@@ -17,3 +17,6 @@ returns-in-Ok-clause-told g c =
       said_same g.W.Write.contents c.args.out.now c.say.new.out c.say.result c.deref.result.now
           (history_text text.history ++ serial_text text.serial) (c.deref.ensures.value ∙ text.is) c.say.ensures.said,
     )
+
+pub returns-in-Err-clause-told : goal.returns-in-Err-clause-told
+returns-in-Err-clause-told g c = search rules

@@ -1,8 +1,8 @@
-use Rattle.std.proofs.Common.{rules, ◌++◌, ◌∷◌, [], true, false, arith}
+use Rattle.std.proofs.Common.{rules, ◌++◌, ◌∷◌, [], true, false, arith, ap, refl}
 use Rattle.ssi_store.specs.Meaning.Stores.{IsAt}
 use Rattle.ssi_line.specs.Meaning.Steps.{Stopped}
 use Rattle.ssi_line.specs.Machinery.Lines.{has_ended}
-use Rattle.ssi_line.proofs.Runs.{took_start, took_more, took_pending, ended_so, told_so, stopped, ends_with}
+use Rattle.ssi_line.proofs.Runs.{took_start, took_more, took_rest, took_pending, ended_so, told_so, stopped, ends_with}
 use Rattle.ssi_line.proofs.Runs.{went_on_more, go_on_more, wrote_none, wrote_more, told_broken, ends_broken}
 use Rattle.ssi_line.proofs.serving.serve.Goals as goal
 
@@ -19,6 +19,33 @@ loop-line-init g c = (
     wrote_none g.W.Write.contents _,
   ),
 )
+
+pub returns-in-Ok-false-clause-run : goal.returns-in-Ok-false-clause-run
+returns-in-Ok-false-clause-run g c =
+    let (stream, unfailed, (lines, steps, took, went_on, go_on, written)) = c.loop-line.invariant in
+    let (rest, plain, room, eaten) = c.next_line.ensures.bytes in
+    let ended = ended_so c.next_line.result _ false c.in-Ok-false.is c.in-Ok-false.field-0-test in
+    let (none, at_end) = c.in-Ok-false.ensures.end c.in-Ok-false.field-0-test in (
+      lines,
+      steps,
+      rest,
+      took_rest _ _ _ lines steps rest c.next_line.new.self (has_ended c.next_line.result) took ended none eaten,
+      went_on,
+      (record { go_on = go_on; unfinished = plain; written = written }, at_end),
+    )
+
+pub returns-in-Err-clause-run : goal.returns-in-Err-clause-run
+returns-in-Err-clause-run g c =
+    let (stream, unfailed, (lines, steps, took, went_on, go_on, written)) = c.loop-line.invariant in
+    let (rest, plain, room, eaten) = c.next_line.ensures.bytes in (
+      lines,
+      steps,
+      rest,
+      took_rest _ _ _ lines steps rest c.next_line.new.self (has_ended c.next_line.result) took
+          (ap has_ended c.in-Err.is) (c.in-Err.ensures.broken refl) eaten,
+      went_on,
+      record { go_on = go_on; unfinished = plain; written = written },
+    )
 
 pub returns-in-Ok-true-answer-clause-run : goal.returns-in-Ok-true-answer-clause-run
 returns-in-Ok-true-answer-clause-run g c =
