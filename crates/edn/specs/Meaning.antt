@@ -10,3 +10,4 @@ pub mod Tokens
 pub mod Grammar
 pub mod Lexing
 pub mod Readers
+pub mod Reading
