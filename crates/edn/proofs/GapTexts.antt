@@ -75,3 +75,10 @@ gap_passed text = gap_in text
 
 pub rest_after : (front rest : List ℕ) → drop (length (front ++ rest) - length rest) (front ++ rest) ≡ rest
 rest_after front rest = grind (arith, common_steps)
+
+pub gap_split : (text rest : List ℕ) → rest ≡ after_gap text
+    → (gap : List ℕ) × IsGap gap × (text ≡ gap ++ drop (length text - length rest) text)
+gap_split text rest e =
+    let (gap, g, whole) = gap_passed text in
+    let all : text ≡ gap ++ rest = whole ∙ ap (λ x. gap ++ x) (sym e) in
+    (gap, g, all ∙ ap (λ x. gap ++ x) (sym (subst (λ x. drop (length x - length rest) x ≡ rest) (sym all) (rest_after gap rest))))

@@ -7,3 +7,4 @@ pub mod LexedTexts
 pub mod Spans
 pub mod Lexed
 pub mod GapTexts
+pub mod TokensRead

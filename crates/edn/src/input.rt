@@ -1,7 +1,12 @@
 //! Tokens read from a source.
 
-ghost use Rattle.std.specs.Prelude.{◌≡◌, ◌≤◌, ◌<◌, ◌+◌, ◌⊎◌, drop, length, IfOk, OnOk, IsSome};
+ghost use Rattle.std.specs.Prelude.{◌≡◌, ◌≤◌, ◌<◌, ◌+◌, ◌++◌, ℕ, List, [], drop, length, IfOk, IfSome, OnOk, IsSome};
+ghost use Rattle.std.specs.Io.KnownBytes.{Consumes, prepend_known};
+ghost use Rattle.edn.specs.Meaning.Lexing.{IsGap};
+ghost use Rattle.edn.specs.Meaning.Reading.{IsLinked, ReadsToken};
+ghost use Rattle.edn.specs.Computing.Tokens.{token_of};
 ghost use Rattle.edn.specs.Machinery.Inputs.{work_left, to_meet};
+ghost use Rattle.edn.specs.declared.token.Beyond.TheVariants.{Unread};
 
 use crate::gap::after_gap;
 use crate::pending::Pending;
@@ -64,6 +69,11 @@ impl Input {
     ) -> Result<Option<Token>, ReadFault>
         ensures less { IfOk result (λ o. IsSome o
             → work_left (S.left source.new) self.new.pending < work_left (S.left source.old) self.old.pending) }
+        ensures token { IsLinked self.old.beyond (S.remaining source.old) → IfOk result (λ o. IfSome o
+            (λ t. ReadsToken (prepend_known self.old.pending (S.remaining source.old))
+            (prepend_known self.new.pending (S.remaining source.new)) (token_of t))) }
+        ensures linked { IsLinked self.old.beyond (S.remaining source.old)
+            → OnOk result (IsLinked self.new.beyond (S.remaining source.new)) }
     {
         loop {
             self.pass_gap();
@@ -84,6 +94,7 @@ impl Input {
     fn pass_gap(&mut self)
         ensures beyond { self.new.beyond ≡ self.old.beyond }
         ensures within { length self.new.pending ≤ length self.old.pending }
+        ensures passed { (gap : List ℕ) × IsGap gap × (self.old.pending ≡ gap ++ self.new.pending) }
     {
         let bytes = self.pending.bytes();
         let gap = bytes.len() - after_gap(bytes).len();
@@ -103,8 +114,12 @@ impl Input {
 
     /// Reads until at least twice as many bytes are pending as were, so that a long token is looked at few times.
     fn fill<S: Source>(&mut self, source: &mut S) -> Result<(), ReadFault>
+        requires { self.old.beyond ≡ Unread }
         ensures work { OnOk result (work_left (S.left source.new) self.new.pending ≤ work_left (S.left source.old) self.old.pending) }
         ensures left { OnOk result (S.left source.new + to_meet self.new.beyond < S.left source.old + 1) }
+        ensures same { OnOk result (Consumes (prepend_known self.old.pending (S.remaining source.old))
+            (prepend_known self.new.pending (S.remaining source.new)) []) }
+        ensures linked { OnOk result (IsLinked self.new.beyond (S.remaining source.new)) }
     {
         let enough = 2 * self.pending.bytes().len();
         loop {
@@ -117,8 +132,12 @@ impl Input {
 
     /// Reads once from the source.
     fn pull<S: Source>(&mut self, source: &mut S) -> Result<(), ReadFault>
+        requires { self.old.beyond ≡ Unread }
         ensures work { OnOk result (work_left (S.left source.new) self.new.pending ≤ work_left (S.left source.old) self.old.pending) }
         ensures left { OnOk result (S.left source.new + to_meet self.new.beyond < S.left source.old + 1) }
+        ensures same { OnOk result (Consumes (prepend_known self.old.pending (S.remaining source.old))
+            (prepend_known self.new.pending (S.remaining source.new)) []) }
+        ensures linked { OnOk result (IsLinked self.new.beyond (S.remaining source.new)) }
     {
         match source.pull(&mut self.piece) {
             Ok(0) => self.beyond = Beyond::Nothing,

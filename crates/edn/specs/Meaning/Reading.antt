@@ -12,6 +12,12 @@ abbrev pub IsLinked : Beyond → Option (List ℕ) → Type 0
 IsLinked Unread left = Unit {0}
 IsLinked Nothing left = IsAtEnd left
 
+-- of the text, if it is known, a gap was passed over
+abbrev pub PassesGap : Option (List ℕ) → Option (List ℕ) → Type 0
+PassesGap None left = Unit {0}
+PassesGap (Some text) None = ⊥
+PassesGap (Some text) (Some rest) = (gap : List ℕ) × IsGap gap × (text ≡ gap ++ rest)
+
 -- the text, if it is known, begins with a gap and the token
 abbrev pub ReadsToken : Option (List ℕ) → Option (List ℕ) → Token → Type 0
 ReadsToken None left t = Unit {0}
