@@ -8,3 +8,4 @@ pub mod Spans
 pub mod Lexed
 pub mod GapTexts
 pub mod TokensRead
+pub mod FormsRead

@@ -3,3 +3,4 @@ pub mod Strings
 pub mod Tokens
 pub mod Gaps
 pub mod Building
+pub mod Stages

@@ -31,7 +31,10 @@ pub(crate) struct Input {
 
 impl Input {
     /// The input of a source of which nothing was read.
-    pub(crate) fn new(alloc: Global) -> Input {
+    pub(crate) fn new(alloc: Global) -> Input
+        ensures beyond { result.beyond ≡ Unread }
+        ensures pending { result.pending ≡ [] }
+    {
         Input {
             alloc,
             pending: Pending::new(alloc),
@@ -42,7 +45,9 @@ impl Input {
     }
 
     /// The input of a source of which these bytes, the first ones of its text, were read before.
-    pub(crate) fn after(alloc: Global, front: &[u8]) -> Result<Input, AllocError> {
+    pub(crate) fn after(alloc: Global, front: &[u8]) -> Result<Input, AllocError>
+        ensures { IfOk result (λ i. (i.beyond ≡ Unread) × (i.pending ≡ front.now)) }
+    {
         let mut input = Input::new(alloc);
         input.pending.add(alloc, front)?;
         Ok(input)

@@ -1,7 +1,13 @@
 //! Reading a text form by form.
 
-ghost use Rattle.std.specs.Prelude.{◌≡◌, ◌<◌, IfOk, IsSome};
-ghost use Rattle.edn.specs.Meaning.Readers.{left_to_do};
+ghost use Rattle.std.specs.Prelude.{◌≡◌, ◌<◌, List, ℕ, Option, true, IfOk, IfSome, OnOk, IsSome, option_map};
+ghost use Rattle.std.specs.Io.KnownBytes.{prepend_known};
+ghost use Rattle.edn.specs.Meaning.Forms.{form_of};
+ghost use Rattle.edn.specs.Meaning.Readers.{IsReady, ReadsForm, left_to_do, text_left};
+ghost use Rattle.edn.specs.Computing.Building.{is_top, stack_of};
+ghost use Rattle.edn.specs.Computing.Stages.{Built, Takes};
+ghost use Rattle.edn.specs.Computing.Tokens.{token_of};
+ghost use Rattle.edn.specs.declared.reader.Stage.TheVariants.{Start, Elements};
 
 use crate::builder::Builder;
 use crate::form::Form;
@@ -38,7 +44,10 @@ pub struct Reader {
 
 impl Reader {
     /// A reader for a source of which nothing was read.
-    pub fn new(alloc: Global) -> Reader {
+    pub fn new(alloc: Global) -> Reader
+        ensures ready { (left : Option (List ℕ)) → IsReady result left }
+        ensures text { (left : Option (List ℕ)) → text_left result left ≡ left }
+    {
         Reader {
             input: Input::new(alloc),
             builder: Builder::new(alloc),
@@ -47,7 +56,10 @@ impl Reader {
     }
 
     /// A reader for a source of which these bytes, the first ones of its text, were read before.
-    pub fn after(alloc: Global, front: &[u8]) -> Result<Reader, AllocError> {
+    pub fn after(alloc: Global, front: &[u8]) -> Result<Reader, AllocError>
+        ensures ready { IfOk result (λ r. (left : Option (List ℕ)) → IsReady r left) }
+        ensures text { IfOk result (λ r. (left : Option (List ℕ)) → text_left r left ≡ prepend_known front.now left) }
+    {
         Ok(Reader {
             input: Input::after(alloc, front)?,
             builder: Builder::new(alloc),
@@ -66,6 +78,10 @@ impl Reader {
     pub fn next_form<S: Source>(&mut self, source: &mut S) -> Result<Option<Form>, ReadFault>
         ensures less { IfOk result (λ o. IsSome o
             → left_to_do (S.left source.new) self.new < left_to_do (S.left source.old) self.old) }
+        ensures form { IsReady self.old (S.remaining source.old) → IfOk result (λ o. IfSome o (λ f.
+            ReadsForm self.old.stage (text_left self.old (S.remaining source.old))
+            (text_left self.new (S.remaining source.new)) (form_of f))) }
+        ensures ready { IsReady self.old (S.remaining source.old) → OnOk result (IsReady self.new (S.remaining source.new)) }
     {
         if let Stage::Failed(fault) = self.stage {
             return Err(fault);
@@ -80,6 +96,10 @@ impl Reader {
     fn read_form<S: Source>(&mut self, source: &mut S) -> Result<Option<Form>, ReadFault>
         ensures less { IfOk result (λ o. IsSome o
             → left_to_do (S.left source.new) self.new < left_to_do (S.left source.old) self.old) }
+        ensures form { IsReady self.old (S.remaining source.old) → IfOk result (λ o. IfSome o (λ f.
+            ReadsForm self.old.stage (text_left self.old (S.remaining source.old))
+            (text_left self.new (S.remaining source.new)) (form_of f))) }
+        ensures ready { IsReady self.old (S.remaining source.old) → OnOk result (IsReady self.new (S.remaining source.new)) }
     {
         while let Some(token) = self.input.next_token(source)? {
             if let Some(form) = self.take(token)? {
@@ -93,6 +113,8 @@ impl Reader {
     /// Takes the next token. Returns the form that ends with it, if one does.
     fn take(&mut self, token: Token) -> Result<Option<Form>, ReadFault>
         ensures input { self.new.input ≡ self.old.input }
+        ensures takes { IfOk result (λ o. Takes self.old.stage (token_of token) self.new.stage
+            (stack_of self.old.builder) (stack_of self.new.builder) (option_map form_of o)) }
     {
         match self.stage {
             Stage::Start => self.take_first(token),
@@ -105,6 +127,8 @@ impl Reader {
 
     fn take_first(&mut self, token: Token) -> Result<Option<Form>, ReadFault>
         ensures input { self.new.input ≡ self.old.input }
+        ensures takes { IfOk result (λ o. Takes Start (token_of token) self.new.stage
+            (stack_of self.old.builder) (stack_of self.new.builder) (option_map form_of o)) }
     {
         if matches!(token, Token::Open(Opening::Vector)) {
             self.stage = Stage::Elements;
@@ -116,6 +140,8 @@ impl Reader {
 
     fn take_in_vector(&mut self, token: Token) -> Result<Option<Form>, ReadFault>
         ensures input { self.new.input ≡ self.old.input }
+        ensures takes { self.old.stage ≡ Elements → IfOk result (λ o. Takes Elements (token_of token) self.new.stage
+            (stack_of self.old.builder) (stack_of self.new.builder) (option_map form_of o)) }
     {
         if self.builder.is_idle() && matches!(token, Token::Close(Closing::Square)) {
             self.stage = Stage::Closed;
@@ -126,6 +152,9 @@ impl Reader {
 
     fn build(&mut self, token: Token) -> Result<Option<Form>, ReadFault>
         ensures input { self.new.input ≡ self.old.input }
+        ensures stage { self.new.stage ≡ self.old.stage }
+        ensures built { IfOk result (λ o. Built (stack_of self.old.builder) (token_of token)
+            (stack_of self.new.builder) (option_map form_of o)) }
     {
         match self.builder.take(token) {
             Ok(form) => Ok(form),
@@ -135,7 +164,9 @@ impl Reader {
     }
 
     /// Returns the fault of a text that ends here, if it is none.
-    fn end(&self) -> Result<(), ReadFault> {
+    fn end(&self) -> Result<(), ReadFault>
+        ensures { OnOk result (is_top (stack_of self.now.builder) ≡ true) }
+    {
         if !self.builder.is_idle() {
             return Err(self.input.fault(self.builder.problem_at_end()));
         }
