@@ -1,15 +1,15 @@
 -- The tokens of a form are read up to its last one.
-use Rattle.std.proofs.Common.{◌≡◌, ◌⊎◌, inl, inr, List, [], ◌∷◌, ◌++◌, ℕ, true, false, Option, None, Some, Result, Ok, Err, refl, sym, ap, ◌∙◌, subst}
+use Rattle.std.proofs.Common.{◌≡◌, ◌⊎◌, inl, inr, List, [], ◌∷◌, ◌++◌, ℕ, true, false, Option, None, Some, refl, sym, ap, ◌∙◌, subst}
 use Rattle.edn.specs.declared.reader.Stage.{Stage}
 use Rattle.edn.specs.declared.reader.Stage.TheVariants.{Start, Forms, Elements, Closed, Failed}
 use Rattle.edn.specs.declared.token.Opening.TheVariants as opening
 use Rattle.edn.specs.Meaning.Forms.{Form}
 use Rattle.edn.specs.Meaning.Tokens.{Token, opens}
 use Rattle.edn.specs.Meaning.Grammar.{IsItem}
-use Rattle.edn.specs.Meaning.Lexing.{Lexes, no_tokens}
+use Rattle.edn.specs.Meaning.Lexing.{no_tokens}
 use Rattle.edn.specs.Meaning.Reading.{ReadsToken, ReadsTokens}
 use Rattle.edn.specs.Meaning.Readers.{IsFormAt, ReadsForm}
-use Rattle.edn.specs.Computing.Building.{Frame, top, tagged, discarding, in_list, in_vector, in_set, in_map, is_top, step}
+use Rattle.edn.specs.Computing.Building.{Frame, top, tagged, discarding, in_list, in_vector, in_set, in_map, is_top}
 use Rattle.edn.specs.Computing.Stages.{Built, Takes}
 use Rattle.edn.proofs.Held.{Holds, Outcome, StepHolds, step_holds, AreDiscarded, none_more}
 use Rattle.edn.proofs.LexedTexts.{lexes_more}
@@ -74,9 +74,14 @@ idle_at_end first (Failed fault) ts stack h e = h
 pub leads_on : (first stage next : Stage) (ts : List Token) (t : Token) (old new : List Frame) (o : Option Form) → o ≡ None
     → Leads first stage ts old → Takes stage t next old new o → Leads first next (ts ++ t ∷ []) new
 leads_on first Start next ts t old new o none (is, empty, idle) (inl (vector, to, same, _)) =
-    subst (λ n. Leads first n (ts ++ t ∷ []) new) (sym to)
-    (inl is, ([], subst (λ s. IsBehind s (ts ++ t ∷ []) []) (sym is) (ap (λ xs. xs ++ t ∷ []) empty ∙ ap (λ x. x ∷ []) vector),
-    holds_start new [] refl (same ∙ idle)))
+    subst (λ n. Leads first n (ts ++ t ∷ []) new) (sym to) (
+      inl is,
+      (
+        [],
+        subst (λ s. IsBehind s (ts ++ t ∷ []) []) (sym is) (ap (λ xs. xs ++ t ∷ []) empty ∙ ap (λ x. x ∷ []) vector),
+        holds_start new [] refl (same ∙ idle),
+      ),
+    )
 leads_on first Start next ts t old new o none (is, empty, idle) (inr (to, built)) =
     subst (λ n. Leads first n (ts ++ t ∷ []) new) (sym to)
     (inl is, held_step old new t None ts (holds_start old ts empty idle) (subst (Built old t new) none built))
@@ -86,9 +91,14 @@ leads_on first Forms next ts t old new o none (from, h) (to, built) =
 leads_on first Elements next ts t old new o none (from, (us, behind, h)) (inl (to, is_idle, same, _)) =
     subst (λ n. Leads first n (ts ++ t ∷ []) new) (sym to) (same ∙ only_top old us h is_idle)
 leads_on first Elements next ts t old new o none (from, (us, behind, h)) (inr (to, built)) =
-    subst (λ n. Leads first n (ts ++ t ∷ []) new) (sym to)
-    (from, (us ++ t ∷ [], behind_more first ts us t behind,
-    held_step old new t None us h (subst (Built old t new) none built)))
+    subst (λ n. Leads first n (ts ++ t ∷ []) new) (sym to) (
+      from,
+      (
+        us ++ t ∷ [],
+        behind_more first ts us t behind,
+        held_step old new t None us h (subst (Built old t new) none built),
+      ),
+    )
 leads_on first Closed next ts t old new o none h takes = absurd takes
 leads_on first (Failed fault) next ts t old new o none h takes = absurd takes
 

@@ -1,5 +1,5 @@
 -- What the stack holds is what the tokens so far have made.
-use Rattle.std.proofs.Common.{◌≡◌, List, [], ◌∷◌, ◌++◌, Option, Some, None, Result, Ok, Err, refl, sym, ap, ◌∙◌, subst, append_assoc, append-nil}
+use Rattle.std.proofs.Common.{◌≡◌, List, [], ◌∷◌, ◌++◌, Some, None, Result, Ok, Err, refl, sym, ap, ◌∙◌, subst, append_assoc, append-nil}
 use Rattle.edn.specs.declared.token.Opening.TheVariants as opening
 use Rattle.edn.specs.declared.token.Closing.{Closing}
 use Rattle.edn.specs.declared.token.Closing.TheVariants as closing
@@ -134,13 +134,25 @@ put_holds (in_vector fs ∷ outer) ts vs f (us, ws, h, r, e) q =
     (us, ws ++ vs, h, items_append r (one_item q), more_after ts us ws (opens opening.Vector) e vs)
 put_holds (in_set fs ∷ outer) ts vs f (us, ws, h, r, e) q =
     (us, ws ++ vs, h, items_append r (one_item q), more_after ts us ws (opens opening.Set) e vs)
-put_holds (in_map ps None ∷ outer) ts vs f (us, ws, h, r, e) q =
-    (us, ws, vs, [], h, r, q, none_more,
-    more_after ts us ws (opens opening.Map) e vs
-    ∙ ap (λ xs. us ++ opens opening.Map ∷ (ws ++ xs)) (sym (append-nil vs)))
-put_holds (in_map ps (Some k) ∷ outer) ts vs f (us, xs, ws, ds, h, r, a, d, e) q =
-    (us, xs ++ (ws ++ (ds ++ vs)), h, pairs_append r (last_pair a (later_item d q)),
-    more_after_key ts us xs ws ds (opens opening.Map) e vs)
+put_holds (in_map ps None ∷ outer) ts vs f (us, ws, h, r, e) q = (
+  us,
+  ws,
+  vs,
+  [],
+  h,
+  r,
+  q,
+  none_more,
+  more_after ts us ws (opens opening.Map) e vs
+      ∙ ap (λ xs. us ++ opens opening.Map ∷ (ws ++ xs)) (sym (append-nil vs)),
+)
+put_holds (in_map ps (Some k) ∷ outer) ts vs f (us, xs, ws, ds, h, r, a, d, e) q = (
+  us,
+  xs ++ (ws ++ (ds ++ vs)),
+  h,
+  pairs_append r (last_pair a (later_item d q)),
+  more_after_key ts us xs ws ds (opens opening.Map) e vs,
+)
 
 abbrev pub StepHolds : Result Step Problem → List Token → Type 0
 StepHolds (Ok o) ts = Outcome o ts

@@ -1,9 +1,8 @@
 -- The tokens of a form make that form, wherever they stand.
-use Rattle.std.proofs.Common.{◌≡◌, List, [], ◌∷◌, ◌++◌, Option, Some, None, Ok, refl, sym, ap, ◌∙◌, append_assoc, append-nil}
-use Rattle.edn.specs.declared.token.Opening.TheVariants as opening
+use Rattle.std.proofs.Common.{◌≡◌, List, [], ◌∷◌, ◌++◌, Some, None, Ok, refl, sym, ap, ◌∙◌, append_assoc, append-nil}
 use Rattle.edn.specs.declared.token.Closing.TheVariants as closing
 use Rattle.edn.specs.Meaning.Forms.{Form}
-use Rattle.edn.specs.Meaning.Tokens.{Token, opens, closes, discard, tag, leaf}
+use Rattle.edn.specs.Meaning.Tokens.{Token, closes}
 use Rattle.edn.specs.Meaning.Grammar.{IsItem, a_leaf, a_tagged, a_later, a_list, a_vector, a_set, a_map}
 use Rattle.edn.specs.Meaning.Grammar.{AreItems, no_items, no_item, an_item, ArePairs, no_pairs, no_pair, a_pair}
 use Rattle.edn.specs.Computing.Building.{Frame, in_list, in_vector, in_set, in_map, tagged, discarding, put, step, run, resume}

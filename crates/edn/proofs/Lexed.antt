@@ -1,23 +1,22 @@
 -- The token that is read is the one with which the text begins.
-use Rattle.std.proofs.Common.{◌≡◌, ◌≢◌, ℕ, zero, suc, ◌+◌, ◌==◌, Bool, true, false, cond, List, [], ◌∷◌, ◌++◌, length, take, drop, Option, Some, None}
-use Rattle.std.proofs.Common.{◌⊎◌, inl, inr, refl, sym, ap, ◌∙◌, subst, append_assoc, append-nil, take-append-drop, arith}
-use Rattle.std.specs.Prelude.{not, ◌&&◌, ◌||◌}
+use Rattle.std.proofs.Common.{◌≡◌, ◌≢◌, ℕ, zero, suc, ◌+◌, ◌==◌, Bool, true, false, List, [], ◌∷◌, ◌++◌, take, drop, Option, Some, None}
+use Rattle.std.proofs.Common.{inl, inr, refl, sym, ap, ◌∙◌, subst, append_assoc, take-append-drop, arith}
+use Rattle.std.specs.Prelude.{not, ◌||◌}
 use Rattle.std.specs.List.{prefix_len}
 use Rattle.std.proofs.lemmas.Bool.{eqb-true}
 use Rattle.edn.specs.declared.token.Opening.TheVariants as opening
-use Rattle.edn.specs.declared.token.Closing.TheVariants as closing
 use Rattle.edn.specs.declared.token.Beyond.{Beyond}
 use Rattle.edn.specs.declared.token.Beyond.TheVariants.{Unread, Nothing}
 use Rattle.edn.specs.Meaning.Bytes.{is_space, is_word_byte}
 use Rattle.edn.specs.Meaning.Characters.{is_character}
 use Rattle.edn.specs.Meaning.Forms.{Form, string, character}
 use Rattle.edn.specs.Meaning.Names.{is_tag}
-use Rattle.edn.specs.Meaning.Tokens.{Token, opens, closes, discard, tag, leaf}
+use Rattle.edn.specs.Meaning.Tokens.{Token, opens, discard, tag, leaf}
 use Rattle.edn.specs.Meaning.Words.{word_of}
 use Rattle.edn.specs.Meaning.Lexing.{Ends, IsWord, Begins, round_opens, square_opens, curly_opens, set_opens, round_closes, square_closes, curly_closes, discards, tags, quotes, characters, words}
 use Rattle.edn.specs.Computing.Strings.{Quoted, closed, open_, bad as no_string, quoted_at}
-use Rattle.edn.specs.Computing.Tokens.{Lexed, token, end, more, bad, no_token, unfinished, may_go_on, after_string, string_token}
-use Rattle.edn.specs.Computing.Tokens.{character_at, character_token, tag_at, tag_token, dispatched, of_word, word_at, word_token, token_at}
+use Rattle.edn.specs.Computing.Tokens.{token, more, bad, no_token, unfinished, may_go_on, after_string}
+use Rattle.edn.specs.Computing.Tokens.{character_at, character_token, tag_token, dispatched, of_word, word_token, token_at}
 use Rattle.edn.proofs.Choices.{chosen, ne_from}
 use Rattle.edn.proofs.StringTexts.{string_read}
 use Rattle.edn.proofs.Spans.{span_ends, span_word}
@@ -75,11 +74,11 @@ tag_so beyond text after t rest b e =
     elim (chosen (may_go_on (drop n text) beyond) _ _ _ e) [
       | inl w ↦ absurd (let no : more ≡ token t rest = w.1 in cc)
       | inr w ↦ elim (chosen (is_tag (take n text)) _ _ _ w.1) [
-          | inl v ↦ same tag t (drop n text) rest v.1 (35 ∷ (text ++ after)) after
-              (subst (λ x. Begins tag (35 ∷ x) (drop n text ++ after)) (sym (parted n text after))
-              (tags (take n text) (span_word text) v.0 (ended beyond (drop n text) after b (span_ends text) w.0)))
-          | inr v ↦ absurd (let no : bad _ ≡ token t rest = v.1 in cc)
-        ]
+        | inl v ↦ same tag t (drop n text) rest v.1 (35 ∷ (text ++ after)) after
+            (subst (λ x. Begins tag (35 ∷ x) (drop n text ++ after)) (sym (parted n text after))
+            (tags (take n text) (span_word text) v.0 (ended beyond (drop n text) after b (span_ends text) w.0)))
+        | inr v ↦ absurd (let no : bad _ ≡ token t rest = v.1 in cc)
+      ]
     ]
 
 dispatched_so : (beyond : Beyond) (text after : List ℕ) (t : Token) (rest : List ℕ) → IsBeyond beyond after
@@ -90,10 +89,10 @@ dispatched_so beyond (c ∷ bs) after t rest b e =
       | inl w ↦ same (opens opening.Set) t bs rest w.1 _ after
           (subst (λ x. Begins (opens opening.Set) (35 ∷ x ∷ (bs ++ after)) (bs ++ after)) (sym (eqb-true c 123 w.0)) set_opens)
       | inr w ↦ elim (chosen (c == 95) _ _ _ w.1) [
-          | inl v ↦ same discard t bs rest v.1 _ after
-              (subst (λ x. Begins discard (35 ∷ x ∷ (bs ++ after)) (bs ++ after)) (sym (eqb-true c 95 v.0)) discards)
-          | inr v ↦ tag_so beyond (c ∷ bs) after t rest b v.1
-        ]
+        | inl v ↦ same discard t bs rest v.1 _ after
+            (subst (λ x. Begins discard (35 ∷ x ∷ (bs ++ after)) (bs ++ after)) (sym (eqb-true c 95 v.0)) discards)
+        | inr v ↦ tag_so beyond (c ∷ bs) after t rest b v.1
+      ]
     ]
 
 word_from : (beyond : Beyond) (name r after : List ℕ) (t : Token) (rest : List ℕ) (o : Option Form) → word_of name ≡ o
@@ -137,14 +136,14 @@ character_so beyond (b ∷ bs) after t rest h e =
     elim (chosen (may_go_on (drop n bs) beyond) _ _ _ read) [
       | inl w ↦ absurd (let no : more ≡ token t rest = w.1 in cc)
       | inr w ↦ elim (chosen (is_space b || not (is_character (b ∷ take n bs))) _ _ _ w.1) [
-          | inl v ↦ absurd (let no : bad _ ≡ token t rest = v.1 in cc)
-          | inr v ↦
-              let good = or_false (is_space b) (is_character (b ∷ take n bs)) v.0 in
-              same (leaf (character (b ∷ take n bs))) t (drop n bs) rest v.1 (92 ∷ b ∷ (bs ++ after)) after
-              (subst (λ x. Begins (leaf (character (b ∷ take n bs))) (92 ∷ b ∷ x) (drop n bs ++ after))
-              (sym (parted n bs after))
-              (characters good.0 (span_word bs) good.1 (ended beyond (drop n bs) after h (span_ends bs) w.0)))
-        ]
+        | inl v ↦ absurd (let no : bad _ ≡ token t rest = v.1 in cc)
+        | inr v ↦
+            let good = or_false (is_space b) (is_character (b ∷ take n bs)) v.0 in
+            same (leaf (character (b ∷ take n bs))) t (drop n bs) rest v.1 (92 ∷ b ∷ (bs ++ after)) after
+            (subst (λ x. Begins (leaf (character (b ∷ take n bs))) (92 ∷ b ∷ x) (drop n bs ++ after))
+            (sym (parted n bs after))
+            (characters good.0 (span_word bs) good.1 (ended beyond (drop n bs) after h (span_ends bs) w.0)))
+      ]
     ]
 
 -- the byte at the front is this one
@@ -157,24 +156,44 @@ pub token_so : (beyond : Beyond) (bytes after : List ℕ) (t : Token) (rest : Li
 unfolding token_at
 token_so beyond [] after t rest h e = absurd (none_so beyond t rest e)
 token_so beyond (b ∷ bs) after t rest h e =
-    elim (chosen (b == 59) _ _ _ e) [ | inl w ↦ absurd (none_so beyond t rest w.1) | inr w1 ↦
-    elim (chosen (b == 34) _ _ _ w1.1) [
-      | inl w ↦ front b 34 bs t rest after w.0 (string_so beyond bs after (quoted_at false bs) t rest refl w.1) | inr w2 ↦
-    elim (chosen (b == 92) _ _ _ w2.1) [
-      | inl w ↦ front b 92 bs t rest after w.0 (character_so beyond bs after t rest h w.1) | inr w3 ↦
-    elim (chosen (b == 35) _ _ _ w3.1) [
-      | inl w ↦ front b 35 bs t rest after w.0 (dispatched_so beyond bs after t rest h w.1) | inr w4 ↦
-    elim (chosen (b == 40) _ _ _ w4.1) [
-      | inl w ↦ front b 40 bs t rest after w.0 (same _ t bs rest w.1 _ after round_opens) | inr w5 ↦
-    elim (chosen (b == 91) _ _ _ w5.1) [
-      | inl w ↦ front b 91 bs t rest after w.0 (same _ t bs rest w.1 _ after square_opens) | inr w6 ↦
-    elim (chosen (b == 123) _ _ _ w6.1) [
-      | inl w ↦ front b 123 bs t rest after w.0 (same _ t bs rest w.1 _ after curly_opens) | inr w7 ↦
-    elim (chosen (b == 41) _ _ _ w7.1) [
-      | inl w ↦ front b 41 bs t rest after w.0 (same _ t bs rest w.1 _ after round_closes) | inr w8 ↦
-    elim (chosen (b == 93) _ _ _ w8.1) [
-      | inl w ↦ front b 93 bs t rest after w.0 (same _ t bs rest w.1 _ after square_closes) | inr w9 ↦
-    elim (chosen (b == 125) _ _ _ w9.1) [
-      | inl w ↦ front b 125 bs t rest after w.0 (same _ t bs rest w.1 _ after curly_closes) | inr w10 ↦
-      word_so beyond b bs after t rest h (ne_from b 35 w4.0) w10.1
-    ] ] ] ] ] ] ] ] ] ]
+    elim (chosen (b == 59) _ _ _ e) [
+      | inl w ↦ absurd (none_so beyond t rest w.1)
+      | inr w1 ↦
+          elim (chosen (b == 34) _ _ _ w1.1) [
+            | inl w ↦ front b 34 bs t rest after w.0 (string_so beyond bs after (quoted_at false bs) t rest refl w.1)
+            | inr w2 ↦
+                elim (chosen (b == 92) _ _ _ w2.1) [
+                  | inl w ↦ front b 92 bs t rest after w.0 (character_so beyond bs after t rest h w.1)
+                  | inr w3 ↦
+                      elim (chosen (b == 35) _ _ _ w3.1) [
+                        | inl w ↦ front b 35 bs t rest after w.0 (dispatched_so beyond bs after t rest h w.1)
+                        | inr w4 ↦
+                            elim (chosen (b == 40) _ _ _ w4.1) [
+                              | inl w ↦ front b 40 bs t rest after w.0 (same _ t bs rest w.1 _ after round_opens)
+                              | inr w5 ↦
+                                  elim (chosen (b == 91) _ _ _ w5.1) [
+                                    | inl w ↦ front b 91 bs t rest after w.0 (same _ t bs rest w.1 _ after square_opens)
+                                    | inr w6 ↦
+                                        elim (chosen (b == 123) _ _ _ w6.1) [
+                                          | inl w ↦ front b 123 bs t rest after w.0 (same _ t bs rest w.1 _ after curly_opens)
+                                          | inr w7 ↦
+                                              elim (chosen (b == 41) _ _ _ w7.1) [
+                                                | inl w ↦ front b 41 bs t rest after w.0 (same _ t bs rest w.1 _ after round_closes)
+                                                | inr w8 ↦
+                                                    elim (chosen (b == 93) _ _ _ w8.1) [
+                                                      | inl w ↦ front b 93 bs t rest after w.0 (same _ t bs rest w.1 _ after square_closes)
+                                                      | inr w9 ↦
+                                                          elim (chosen (b == 125) _ _ _ w9.1) [
+                                                            | inl w ↦ front b 125 bs t rest after w.0 (same _ t bs rest w.1 _ after curly_closes)
+                                                            | inr w10 ↦
+                                                                word_so beyond b bs after t rest h (ne_from b 35 w4.0) w10.1
+                                                          ]
+                                                    ]
+                                              ]
+                                        ]
+                                  ]
+                            ]
+                      ]
+                ]
+          ]
+    ]

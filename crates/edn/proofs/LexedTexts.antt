@@ -1,5 +1,5 @@
 -- A text has the tokens that were read of it one by one.
-use Rattle.std.proofs.Common.{◌≡◌, ℕ, List, [], ◌∷◌, ◌++◌, refl, subst, sym}
+use Rattle.std.proofs.Common.{◌≡◌, ℕ, List, [], ◌∷◌, ◌++◌, subst, sym}
 use Rattle.edn.specs.Meaning.Tokens.{Token}
 use Rattle.edn.specs.Meaning.Lexing.{IsGap, Begins, Lexes, no_tokens, next}
 

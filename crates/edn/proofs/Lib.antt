@@ -9,3 +9,4 @@ pub mod Lexed
 pub mod GapTexts
 pub mod TokensRead
 pub mod FormsRead
+pub mod OneReading

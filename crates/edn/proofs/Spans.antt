@@ -1,5 +1,5 @@
 -- The word at the front of a text.
-use Rattle.std.proofs.Common.{◌≡◌, ℕ, suc, ◌+◌, Bool, true, false, cond, List, [], ◌∷◌, ◌++◌, length, take, drop, refl, sym, ap, ◌∙◌, subst, arith}
+use Rattle.std.proofs.Common.{◌≡◌, ℕ, suc, ◌+◌, Bool, true, false, cond, List, [], ◌∷◌, take, drop, refl, ap, ◌∙◌, subst, arith}
 use Rattle.std.specs.List.{prefix_len, list_all}
 use Rattle.std.specs.Prelude.{not, ◌&&◌}
 use Rattle.edn.specs.Meaning.Bytes.{is_end, is_word_byte}

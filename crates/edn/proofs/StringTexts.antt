@@ -1,6 +1,6 @@
 -- A string is read up to its closing quote, and its bytes are those that its text stands for.
-use Rattle.std.proofs.Common.{◌≡◌, ◌≢◌, ℕ, ◌==◌, Bool, true, false, cond, eqb, List, [], ◌∷◌, ◌++◌, Option, Some, None, ◌⊎◌, inl, inr, refl, sym, ap, ◌∙◌, subst}
-use Rattle.std.proofs.lemmas.Bool.{eqb-true, eqb-false, ne_eqb}
+use Rattle.std.proofs.Common.{◌≡◌, ℕ, ◌==◌, Bool, true, false, List, [], ◌∷◌, ◌++◌, Option, Some, None, inl, inr, refl, sym, ap, ◌∙◌, subst}
+use Rattle.std.proofs.lemmas.Bool.{eqb-true, ne_eqb}
 use Rattle.edn.specs.Meaning.Strings.{unescaped, IsInside, nothing, plain, escaped}
 use Rattle.edn.specs.Computing.Strings.{Quoted, closed, open_, bad, with_bytes, with_escape, quoted_at}
 use Rattle.edn.proofs.Choices.{chosen, ne_from}
@@ -44,15 +44,17 @@ string_read false (b ∷ text) bytes rest e =
           let same : text ≡ rest = cc in
           ([], subst (IsInside []) none nothing, ap (λ x. x ∷ text) (eqb-true b 34 w.0) ∙ ap (λ l. 34 ∷ l) same)
       | inr w ↦ elim (chosen (b == 92) _ _ _ w.1) [
-          | inl v ↦
-              let (inside, good, whole) = string_read true text bytes rest v.1 in
-              (92 ∷ inside, good, ap (λ x. x ∷ text) (eqb-true b 92 v.0) ∙ ap (λ l. 92 ∷ l) whole)
-          | inr v ↦
-              let (more, inner, bytes_are) = with_front b (quoted_at false text) bytes rest v.1 in
-              let (inside, good, whole) = string_read false text more rest inner in
-              (b ∷ inside, subst (IsInside (b ∷ inside)) (sym bytes_are) (plain (ne_from b 34 w.0) (ne_from b 92 v.0) good),
-              ap (λ l. b ∷ l) whole)
-        ]
+        | inl v ↦
+            let (inside, good, whole) = string_read true text bytes rest v.1 in
+            (92 ∷ inside, good, ap (λ x. x ∷ text) (eqb-true b 92 v.0) ∙ ap (λ l. 92 ∷ l) whole)
+        | inr v ↦
+            let (more, inner, bytes_are) = with_front b (quoted_at false text) bytes rest v.1 in
+            let (inside, good, whole) = string_read false text more rest inner in (
+              b ∷ inside,
+              subst (IsInside (b ∷ inside)) (sym bytes_are) (plain (ne_from b 34 w.0) (ne_from b 92 v.0) good),
+              ap (λ l. b ∷ l) whole,
+            )
+      ]
     ]
 
 -- and what stands inside is read so

@@ -1,6 +1,6 @@
 -- The token that was read is the next one of the text.
 use Rattle.std.proofs.Common.{◌≡◌, ℕ, ◌-◌, List, [], ◌∷◌, ◌++◌, length, drop, Option, None, Some, refl, sym, ap, ◌∙◌, subst, append_assoc, append-nil}
-use Rattle.std.specs.Io.KnownBytes.{Consumes, IsAtEnd, prepend_known}
+use Rattle.std.specs.Io.KnownBytes.{Consumes, prepend_known}
 use Rattle.edn.specs.declared.token.Beyond.{Beyond}
 use Rattle.edn.specs.declared.token.Beyond.TheVariants.{Unread, Nothing}
 use Rattle.edn.specs.Meaning.Tokens.{Token}
@@ -54,10 +54,12 @@ pub more_passed : (p q gap : List ℕ) (start left : Option (List ℕ)) → p �
     → PassesGap start (prepend_known p left) → PassesGap start (prepend_known q left)
 more_passed p q gap None left e g h = tt
 more_passed p q gap (Some text) None e g h = absurd h
-more_passed p q gap (Some text) (Some more) e g (before, b, whole) =
-    (before ++ gap, gap_append b g,
-    whole ∙ ap (λ x. before ++ (x ++ more)) e ∙ ap (λ x. before ++ x) (append_assoc gap q more)
-    ∙ sym (append_assoc before gap (q ++ more)))
+more_passed p q gap (Some text) (Some more) e g (before, b, whole) = (
+  before ++ gap,
+  gap_append b g,
+  whole ∙ ap (λ x. before ++ (x ++ more)) e ∙ ap (λ x. before ++ x) (append_assoc gap q more)
+      ∙ sym (append_assoc before gap (q ++ more)),
+)
 
 pub same_passed : (start old new : Option (List ℕ)) → Consumes old new [] → PassesGap start old → PassesGap start new
 same_passed None old new e h = tt

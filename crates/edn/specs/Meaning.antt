@@ -11,3 +11,4 @@ pub mod Grammar
 pub mod Lexing
 pub mod Readers
 pub mod Reading
+pub mod Laws

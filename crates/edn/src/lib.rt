@@ -7,6 +7,7 @@ mod character;
 mod form;
 mod gap;
 mod input;
+pub mod laws;
 mod names;
 mod number;
 mod pending;

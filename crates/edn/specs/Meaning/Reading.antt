@@ -1,9 +1,8 @@
 -- What was read of a text, of which this is left.
-use Rattle.std.specs.Prelude.{◌≡◌, ◌⊎◌, List, [], ◌∷◌, ◌++◌, ℕ, Option, None, Some}
+use Rattle.std.specs.Prelude.{◌≡◌, List, ◌++◌, ℕ, Option, None, Some}
 use Rattle.std.specs.Io.KnownBytes.{IsAtEnd}
 use Rattle.edn.specs.declared.token.Beyond.{Beyond}
 use Rattle.edn.specs.declared.token.Beyond.TheVariants.{Unread, Nothing}
-use Rattle.edn.specs.Meaning.Forms.{Form}
 use Rattle.edn.specs.Meaning.Tokens.{Token}
 use Rattle.edn.specs.Meaning.Lexing.{IsGap, Begins, Lexes}
 

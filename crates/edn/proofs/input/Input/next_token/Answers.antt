@@ -1,4 +1,4 @@
-use Rattle.std.proofs.Common.{rules, arith, sym, ◌∙◌, subst, ◌≡◌}
+use Rattle.std.proofs.Common.{arith, sym, ◌∙◌, subst, ◌≡◌}
 use Rattle.std.specs.Io.KnownBytes.{prepend_known}
 use Rattle.edn.specs.Meaning.Reading.{IsLinked, ReadsToken}
 use Rattle.edn.specs.Computing.Tokens.{token, token_of, token_at}
@@ -30,8 +30,9 @@ loop-token-preserved g c =
     let (gap, is_gap, e) = c.pass_gap.ensures.passed in
     let left = g.S.Read.remaining c.loop-token.source in (
       omega (arith, c.in_ok-fill-in-More.ensures.work, c.pass_gap.ensures.within, c.loop-token.invariant.0),
-      λ l.
-          (c.in_ok-fill-in-More.ensures.linked,
-          same_passed _ _ _ c.in_ok-fill-in-More.ensures.same
-          (more_passed _ c.pass_gap.new.self.pending gap _ left e is_gap (c.loop-token.invariant.1 l).1)),
+      λ l. (
+        c.in_ok-fill-in-More.ensures.linked,
+        same_passed _ _ _ c.in_ok-fill-in-More.ensures.same
+            (more_passed _ c.pass_gap.new.self.pending gap _ left e is_gap (c.loop-token.invariant.1 l).1),
+      ),
     )

@@ -1,10 +1,8 @@
-use Rattle.std.proofs.Common.{rules, ◌≡◌, ◌∷◌, ◌++◌, [], List, Some, None, option_map, sym, ap, subst, arith}
+use Rattle.std.proofs.Common.{rules, ◌∷◌, ◌++◌, [], option_map, sym, ap, subst, arith}
 use Rattle.std.specs.Io.KnownBytes.{prepend_known}
 use Rattle.edn.specs.Meaning.Forms.{form_of}
-use Rattle.edn.specs.Meaning.Tokens.{Token}
 use Rattle.edn.specs.Meaning.Reading.{IsLinked, ReadsTokens}
-use Rattle.edn.specs.Meaning.Readers.{IsReady, text_left}
-use Rattle.edn.specs.Computing.Building.{stack_of}
+use Rattle.edn.specs.Meaning.Readers.{text_left}
 use Rattle.edn.specs.Computing.Tokens.{token_of}
 use Rattle.edn.proofs.FormsRead.{leads_here, leads_on, form_read, reads_none, reads_more, reads_form}
 use Rattle.edn.proofs.reader.Reader.read_form.Goals as goal
@@ -47,11 +45,14 @@ loop-token-preserved g c =
       search rules,
       λ ready.
           let (linked, (ts, reads, leads)) = c.loop-token.invariant.1 ready in
-          let token = rw c.in-Some.is at (c.in_ok-token.ensures.token linked) in
-          (subst (λ i. IsLinked i.beyond left) (sym c.in_ok-form.ensures.input) (c.in_ok-token.ensures.linked linked),
-          (ts ++ t ∷ [],
-          subst (λ i. ReadsTokens start (prepend_known i.pending left) (ts ++ t ∷ [])) (sym c.in_ok-form.ensures.input)
-          (reads_more start _ _ ts t reads token),
-          leads_on c.args.self.now.stage c.loop-token.self.stage c.take.new.self.stage ts t _ _ _
-          (ap (option_map form_of) c.in_default-2.is) leads c.in_ok-form.ensures.takes)),
+          let token = rw c.in-Some.is at (c.in_ok-token.ensures.token linked) in (
+            subst (λ i. IsLinked i.beyond left) (sym c.in_ok-form.ensures.input) (c.in_ok-token.ensures.linked linked),
+            (
+              ts ++ t ∷ [],
+              subst (λ i. ReadsTokens start (prepend_known i.pending left) (ts ++ t ∷ [])) (sym c.in_ok-form.ensures.input)
+                  (reads_more start _ _ ts t reads token),
+              leads_on c.args.self.now.stage c.loop-token.self.stage c.take.new.self.stage ts t _ _ _
+                  (ap (option_map form_of) c.in_default-2.is) leads c.in_ok-form.ensures.takes,
+            ),
+          ),
     )

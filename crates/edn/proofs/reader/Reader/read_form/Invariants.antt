@@ -1,5 +1,5 @@
 -- The tokens so far have led to what is open, and the text goes on behind them.
-use Rattle.std.proofs.Common.{◌≡◌, ◌≤◌, List}
+use Rattle.std.proofs.Common.{◌≤◌, List}
 use Rattle.edn.specs.Meaning.Tokens.{Token}
 use Rattle.edn.specs.Meaning.Reading.{IsLinked, ReadsTokens}
 use Rattle.edn.specs.Meaning.Readers.{IsReady, left_to_do, text_left}
