@@ -1,1 +1,2 @@
 -- What the promises mean.
+pub mod Steps

@@ -1,5 +1,9 @@
 //! Transactions out of invocations and completions.
 
+ghost use Rattle.std.specs.Prelude.{◌≡◌, ◌++◌, ◌∷◌, [], map, IfOk, OnOk, OnErr};
+ghost use Rattle.append_values.specs.Meaning.Histories.{operation_of, transaction_of};
+ghost use Rattle.append_text.specs.Meaning.Steps as Spec;
+
 use crate::history::{History, Label};
 use crate::name::Names;
 use crate::operation::{Kind, Op};
@@ -71,16 +75,11 @@ impl Pairing {
     }
 
     /// Adds a transaction. Unless it committed, its reads claim nothing.
-    fn add(
-        &mut self,
-        label: Label,
-        outcome: Outcome,
-        steps: Vec<Operation>,
-    ) -> Result<(), Refusal> {
-        let operations = match outcome {
-            Outcome::Committed => steps,
-            Outcome::Aborted | Outcome::Unknown => without_results(self.alloc, &steps)?,
-        };
+    fn add(&mut self, label: Label, outcome: Outcome, steps: Vec<Operation>) -> Result<(), Refusal>
+        ensures { OnOk result (map transaction_of self.new.transactions.items
+            ≡ map transaction_of self.old.transactions.items ++ Spec.told outcome (map operation_of steps.items) ∷ []) }
+    {
+        let operations = known_steps(self.alloc, outcome, steps)?;
         self.transactions.push(Transaction {
             outcome,
             operations,
@@ -106,18 +105,36 @@ impl Pairing {
         let Some(transaction) = self.transactions.get_mut(place) else {
             return Err(Refusal::Problem(Problem::NoInvocation));
         };
-        transaction.outcome = outcome_of(kind);
-        if kind == Kind::Ok {
-            if !are_same(&transaction.operations, &steps) {
-                return Err(Refusal::Problem(Problem::OtherSteps));
-            }
-            transaction.operations = steps;
-        }
+        end_transaction(transaction, kind, steps)?;
         if let Some(known) = self.labels.get_mut(place) {
             *known = label;
         }
         Ok(())
     }
+}
+
+/// Ends an invoked transaction as the operation says. `OtherSteps` if it committed other steps than were invoked, in
+/// which case nothing changes.
+fn end_transaction(
+    transaction: &mut Transaction,
+    kind: Kind,
+    steps: Vec<Operation>,
+) -> Result<(), Refusal>
+    ensures ok { OnOk result (transaction_of transaction.new
+        ≡ Spec.ended kind (transaction_of transaction.old) (map operation_of steps.items)) }
+    ensures err { OnErr result (transaction.new ≡ transaction.old) }
+{
+    match kind {
+        Kind::Ok => {
+            if !are_same(&transaction.operations, &steps) {
+                return Err(Refusal::Problem(Problem::OtherSteps));
+            }
+            transaction.operations = steps;
+        }
+        Kind::Invoke | Kind::Fail | Kind::Info => {}
+    }
+    transaction.outcome = outcome_of(kind);
+    Ok(())
 }
 
 /// Returns how a text has its operations, if its first one is of this kind.
@@ -129,7 +146,9 @@ fn style_of(kind: Kind) -> Style {
 }
 
 /// Returns how a transaction ended after an operation of this kind.
-fn outcome_of(kind: Kind) -> Outcome {
+fn outcome_of(kind: Kind) -> Outcome
+    ensures { result ≡ Spec.outcome_of kind }
+{
     match kind {
         Kind::Ok => Outcome::Committed,
         Kind::Fail => Outcome::Aborted,
@@ -137,8 +156,24 @@ fn outcome_of(kind: Kind) -> Outcome {
     }
 }
 
+/// Returns what is known of the steps of a transaction that ended so.
+fn known_steps(
+    alloc: Global,
+    outcome: Outcome,
+    steps: Vec<Operation>,
+) -> Result<Vec<Operation>, AllocError>
+    ensures { IfOk result (λ v. map operation_of v.items ≡ Spec.known_steps outcome (map operation_of steps.items)) }
+{
+    match outcome {
+        Outcome::Committed => Ok(steps),
+        Outcome::Aborted | Outcome::Unknown => without_results(alloc, &steps),
+    }
+}
+
 /// Returns the steps, with nothing known of what their reads got.
-fn without_results(alloc: Global, steps: &[Operation]) -> Result<Vec<Operation>, AllocError> {
+fn without_results(alloc: Global, steps: &[Operation]) -> Result<Vec<Operation>, AllocError>
+    ensures { IfOk result (λ v. map operation_of v.items ≡ map Spec.without_result (map operation_of steps.now)) }
+{
     let mut kept = Vec::new(alloc);
     for step in steps {
         kept.push(without_result(step))?;
@@ -146,7 +181,9 @@ fn without_results(alloc: Global, steps: &[Operation]) -> Result<Vec<Operation>,
     Ok(kept)
 }
 
-fn without_result(step: &Operation) -> Operation {
+fn without_result(step: &Operation) -> Operation
+    ensures { operation_of result ≡ Spec.without_result (operation_of step.now) }
+{
     match step {
         Operation::Append { key, element } => Operation::Append {
             key: *key,
@@ -167,7 +204,9 @@ fn are_same(some: &[Operation], others: &[Operation]) -> bool {
             .all(|(step, other)| is_same(step, other))
 }
 
-fn is_same(step: &Operation, other: &Operation) -> bool {
+fn is_same(step: &Operation, other: &Operation) -> bool
+    ensures { result ≡ Spec.is_same (operation_of step.now) (operation_of other.now) }
+{
     match (step, other) {
         (
             Operation::Append { key, element },

@@ -1,0 +1,2 @@
+-- What all promises are made of.
+pub mod Histories
