@@ -1,5 +1,5 @@
 -- What an operation of a text says of its transaction.
-use Rattle.std.specs.Prelude.{ℕ, Bool, true, false, ◌&&◌, ◌==◌, List, map}
+use Rattle.std.specs.Prelude.{Bool, false, ◌&&◌, ◌==◌, List, map}
 use Rattle.append_values.specs.declared.transaction.Outcome.{Outcome}
 use Rattle.append_values.specs.declared.transaction.Outcome.TheVariants.{Committed, Aborted, Unknown}
 use Rattle.append_values.specs.Meaning.Histories.{Operation, Append, Read, LostRead, Transaction}
