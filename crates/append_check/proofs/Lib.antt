@@ -1,0 +1,5 @@
+mod Seeing
+mod Running
+mod Listed
+mod Holding
+mod Appending

@@ -1,0 +1,4 @@
+-- What only this crate's loops and tables need.
+pub mod Appending
+pub mod Seeing
+pub mod Running

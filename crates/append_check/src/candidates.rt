@@ -1,0 +1,321 @@
+//! The search for an order, or for a reason against all.
+//!
+//! What is found is looked at once more before it is answered (`replay`, `reasons`), so nothing here has a contract.
+
+ghost use Rattle.std.specs.Prelude.{IfOk, OnOk};
+ghost use Rattle.digraph.specs.Meaning.Graphs.{IsGraph};
+
+use crate::appenders::Appenders;
+use crate::lines::{Found, Lines};
+use crate::links::{Links, Reading};
+use crate::own::Owns;
+use append_values::{Kind, Link, Operation, Outcome, Read, Reason, Transaction};
+use digraph::{Arc, Outcome as Sorted, topological_order};
+use std::alloc::{AllocError, Global};
+use std::collections::HashMap;
+
+/// What the search found.
+#[derive(Drop)]
+pub(crate) enum Candidate {
+    /// An order that should explain the history.
+    Order(Vec<u32>),
+    /// A reason for which no order should.
+    Reason(Reason),
+}
+
+/// The reads of committed transactions so far.
+#[derive(Drop)]
+struct Search {
+    alloc: Global,
+    owns: Owns,
+    lines: Lines,
+    readings: Vec<Reading>,
+}
+
+/// Looks for an order that explains the history, or a reason for which none does.
+pub(crate) fn find_candidate(
+    alloc: Global,
+    transactions: &[Transaction],
+    appenders: &Appenders,
+) -> Result<Candidate, AllocError> {
+    let mut search = Search {
+        alloc,
+        owns: Owns::new(alloc),
+        lines: Lines::new(alloc),
+        readings: Vec::new(alloc),
+    };
+    let mut place = 0u32;
+    'transactions: for transaction in transactions {
+        if transaction.outcome == Outcome::Committed {
+            let operations = transaction.operations.as_slice();
+            if let Some(reason) = search.go_through(transactions, appenders, place, operations)? {
+                return Ok(Candidate::Reason(reason));
+            }
+        }
+        place = place.saturating_add(1);
+    }
+    if let Some(reason) = search.add_tails()? {
+        return Ok(Candidate::Reason(reason));
+    }
+    search.sort(transactions, place)
+}
+
+impl Search {
+    // The steps of a committed transaction.
+    fn go_through(
+        &mut self,
+        transactions: &[Transaction],
+        appenders: &Appenders,
+        place: u32,
+        operations: &[Operation],
+    ) -> Result<Option<Reason>, AllocError> {
+        for (step, operation) in operations.iter().enumerate() {
+            match operation {
+                Operation::Append { key, element } => self.append(place, *key, *element)?,
+                Operation::Read { key, elements } => {
+                    let read = Read {
+                        transaction: place,
+                        step,
+                    };
+                    let broken = self.read(
+                        transactions,
+                        appenders,
+                        *key,
+                        read,
+                        elements.as_slice(),
+                    )?;
+                    if broken.is_some() {
+                        return Ok(broken);
+                    }
+                }
+                Operation::LostRead { .. } => {}
+            }
+        }
+        Ok(None)
+    }
+
+    fn append(&mut self, place: u32, key: u64, element: u64) -> Result<(), AllocError> {
+        let own = self.owns.of(place, key)?;
+        own.appended.push(element)?;
+        if let Some(reading) = own.reading {
+            if let Some(reading) = self.readings.get_mut(reading) {
+                reading.appends = true;
+            }
+        }
+        Ok(())
+    }
+
+    fn read(
+        &mut self,
+        transactions: &[Transaction],
+        appenders: &Appenders,
+        key: u64,
+        read: Read,
+        elements: &[u64],
+    ) -> Result<Option<Reason>, AllocError> {
+        let own = self.owns.of(read.transaction, key)?;
+        let appends = !own.appended.is_empty();
+        if !elements.ends_with(own.appended.as_slice()) {
+            return Ok(Some(Reason::Internal(read)));
+        }
+        let base = &elements[..elements.len() - own.appended.len()];
+        if let Some(first) = own.reading {
+            let Some(first) = self.readings.get(first) else {
+                return Ok(None);
+            };
+            return Ok(unrepeated(transactions, first, read, base));
+        }
+        own.reading = Some(self.readings.len());
+        let length = base.len();
+        match self.lines.take(transactions, appenders, key, read, base)? {
+            Found::Nothing(reason) => Ok(Some(reason)),
+            Found::Blocks { line, writers } => {
+                self.readings.push(Reading {
+                    read,
+                    line,
+                    writers,
+                    length,
+                    appends,
+                })?;
+                Ok(None)
+            }
+        }
+    }
+
+    // The transactions that found the whole list of a key and appended to it come last in its line.
+    fn add_tails(&mut self) -> Result<Option<Reason>, AllocError> {
+        let readings = &self.readings;
+        for reading in readings {
+            if reading.appends {
+                let broken = self
+                    .lines
+                    .append(reading.line, reading.read, reading.writers)?;
+                if broken.is_some() {
+                    return Ok(broken);
+                }
+            }
+        }
+        Ok(None)
+    }
+
+    // An order in which all links go forward, or a cycle of them.
+    fn sort(&self, transactions: &[Transaction], count: u32) -> Result<Candidate, AllocError> {
+        let links = Links::of(
+            self.alloc,
+            transactions,
+            &self.lines,
+            self.readings.as_slice(),
+            count,
+        )?;
+        let (nodes, arcs) = graph(self.alloc, self.nodes(transactions, &links)?, &links)?;
+        match topological_order(self.alloc, nodes.as_slice(), arcs)? {
+            Sorted::Order(order) => {
+                Ok(Candidate::Order(without_helpers(self.alloc, order.as_slice(), count)?))
+            }
+            Sorted::Cycle(cycle) => {
+                let links = contracted(self.alloc, cycle.as_slice(), &links)?;
+                Ok(Candidate::Reason(Reason::Cycle(links)))
+            }
+        }
+    }
+
+    // The committed transactions, the unknown ones of which somebody read an element, and the helpers.
+    fn nodes(&self, transactions: &[Transaction], links: &Links) -> Result<Vec<u32>, AllocError> {
+        let mut nodes = Vec::new(self.alloc);
+        let mut place = 0u32;
+        for transaction in transactions {
+            let stands = match transaction.outcome {
+                Outcome::Committed => true,
+                Outcome::Aborted => false,
+                Outcome::Unknown => self.is_seen(place, transaction.operations.as_slice()),
+            };
+            if stands {
+                nodes.push(place)?;
+            }
+            place = place.saturating_add(1);
+        }
+        for line in 0..self.lines.lines.len() {
+            nodes.push(links.helper(line))?;
+        }
+        Ok(nodes)
+    }
+
+    fn is_seen(&self, place: u32, operations: &[Operation]) -> bool {
+        for operation in operations {
+            if let Operation::Append { key, .. } = operation {
+                if let Some(line) = self.lines.number(*key) {
+                    if self.lines.has(line, place) {
+                        return true;
+                    }
+                }
+            }
+        }
+        false
+    }
+}
+
+// The nodes, with the ends of the links, and the links as arcs.
+fn graph(
+    alloc: Global,
+    mut nodes: Vec<u32>,
+    links: &Links,
+) -> Result<(Vec<u32>, Vec<Arc>), AllocError>
+    ensures { IfOk result (λ g. IsGraph g.0.items g.1.items) }
+{
+    let mut arcs = Vec::new(alloc);
+    'links: for link in &links.links {
+        let arc = Arc {
+            from: link.from,
+            to: link.to,
+        };
+        add_arc(&mut nodes, &mut arcs, arc)?;
+    }
+    Ok((nodes, arcs))
+}
+
+// Adds the arc, and its ends to the nodes.
+fn add_arc(nodes: &mut Vec<u32>, arcs: &mut Vec<Arc>, arc: Arc) -> Result<(), AllocError>
+    ensures { IsGraph nodes.old.items arcs.old.items → OnOk result (IsGraph nodes.new.items arcs.new.items) }
+{
+    nodes.push(arc.from)?;
+    nodes.push(arc.to)?;
+    arcs.push(arc)?;
+    Ok(())
+}
+
+// The reason if a later read of a transaction found another list than its first one.
+fn unrepeated(
+    transactions: &[Transaction],
+    first: &Reading,
+    read: Read,
+    base: &[u64],
+) -> Option<Reason> {
+    let transaction = transactions.get(first.read.transaction as usize)?;
+    let operation = transaction.operations.get(first.read.step)?;
+    if let Operation::Read { elements, .. } = operation {
+        let same = base.len() == first.length && elements.starts_with(base);
+        if !same {
+            return Some(Reason::Unrepeatable(first.read, read));
+        }
+    }
+    None
+}
+
+fn without_helpers(alloc: Global, order: &[u32], count: u32) -> Result<Vec<u32>, AllocError> {
+    let mut places = Vec::new(alloc);
+    for node in order {
+        if *node < count {
+            places.push(*node)?;
+        }
+    }
+    Ok(places)
+}
+
+// The ends of a link.
+#[derive(Clone, Copy, PartialEq, Eq, Hash)]
+struct Ends {
+    from: u32,
+    to: u32,
+}
+
+// The cycle without helpers: a way through one of them is a link of the kind that led to it.
+fn contracted(alloc: Global, cycle: &[Arc], links: &Links) -> Result<Vec<Link>, AllocError> {
+    let mut kinds = HashMap::new(alloc);
+    for link in &links.links {
+        kinds.insert(
+            Ends {
+                from: link.from,
+                to: link.to,
+            },
+            link.kind,
+        )?;
+    }
+    let mut round = Vec::new(alloc);
+    let mut before = None;
+    for arc in cycle {
+        let ends = Ends {
+            from: arc.from,
+            to: arc.to,
+        };
+        let (from, kind) = match before {
+            Some(link) => link,
+            None => {
+                let Some(kind) = kinds.get(&ends) else {
+                    return Ok(round);
+                };
+                (arc.from, *kind)
+            }
+        };
+        if arc.to < links.transactions {
+            round.push(Link {
+                from,
+                to: arc.to,
+                kind,
+            })?;
+            before = None;
+        } else {
+            before = Some((from, kind));
+        }
+    }
+    Ok(round)
+}

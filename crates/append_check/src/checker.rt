@@ -1,0 +1,44 @@
+//! The check.
+
+ghost use Rattle.std.specs.Prelude.{◌<◌, ◌^◌, length, IfOk};
+ghost use Rattle.append_check.specs.Meaning.Verdicts.{history_of, IsRight};
+
+use crate::appenders::{Appenders, Made};
+use crate::candidates::{Candidate, find_candidate};
+use crate::reasons::holds;
+use crate::replay::explains;
+use crate::verdict::Verdict;
+use append_laws::reasons_refute;
+use append_values::Transaction;
+use std::alloc::{AllocError, Global};
+
+/// Says whether an order of the transactions explains the history; `AllocError` if memory runs out.
+pub fn check(alloc: Global, transactions: &[Transaction]) -> Result<Verdict, AllocError>
+    requires { length transactions.now < 2 ^ 31 }
+    ensures { IfOk result (IsRight (history_of transactions.now)) }
+{
+    reasons_refute();
+    let appenders = match Appenders::of(alloc, transactions)? {
+        Made::Table(appenders) => appenders,
+        Made::Twice(item) => {
+            return Ok(Verdict::AppendedTwice {
+                key: item.key,
+                element: item.element,
+            });
+        }
+    };
+    match find_candidate(alloc, transactions, &appenders)? {
+        Candidate::Order(order) => {
+            if explains(alloc, transactions, order.as_slice())? {
+                return Ok(Verdict::Serializable(order));
+            }
+            Ok(Verdict::Unknown)
+        }
+        Candidate::Reason(reason) => {
+            if holds(alloc, transactions, &reason)? {
+                return Ok(Verdict::NotSerializable(reason));
+            }
+            Ok(Verdict::Unknown)
+        }
+    }
+}

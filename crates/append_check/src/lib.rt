@@ -1,0 +1,20 @@
+//! Says whether an order of its transactions explains a list-append history, and why none does.
+#![tactic(auto)]
+
+mod appenders;
+mod candidates;
+mod checker;
+mod item;
+mod lines;
+mod links;
+mod lists;
+mod own;
+mod pieces;
+mod reasons;
+mod replay;
+mod seen;
+mod verdict;
+
+pub use append_values::{Kind, Link, Operation, Outcome, Read, Reason, Transaction};
+pub use checker::check;
+pub use verdict::Verdict;

@@ -1,0 +1,284 @@
+//! The lines of writers: for each key, the transactions whose elements were read, in the order of the longest list.
+
+use crate::appenders::Appenders;
+use crate::seen::own;
+use append_values::{Outcome, Read, Reason, Transaction};
+use std::alloc::{AllocError, Global};
+use std::collections::HashMap;
+
+/// A line, by its number, and a transaction.
+#[derive(Clone, Copy, PartialEq, Eq, Hash)]
+struct Writer {
+    line: usize,
+    transaction: u32,
+}
+
+/// The longest list of a key that committed transactions found, and whose elements it has.
+#[derive(Drop)]
+pub(crate) struct Line {
+    pub key: u64,
+    /// The longest list that a transaction found, without its own appends.
+    chain: Vec<u64>,
+    /// The places of the transactions in the history, each of which appended a block of elements.
+    pub writers: Vec<u32>,
+    /// Where the blocks end in the list.
+    ends: Vec<usize>,
+    /// The read that found the list.
+    pub source: Read,
+    /// The read by a transaction that found the whole list and appended to it: then it is the last writer.
+    pub tail: Option<Read>,
+}
+
+/// What a read adds to the lines.
+#[derive(Drop)]
+pub(crate) enum Found {
+    /// It found the blocks of so many writers of the line with this number.
+    Blocks { line: usize, writers: usize },
+    /// It found what no order explains.
+    Nothing(Reason),
+}
+
+/// A line for each key that was read.
+#[derive(Drop)]
+pub(crate) struct Lines {
+    alloc: Global,
+    numbers: HashMap<u64, usize>,
+    pub lines: Vec<Line>,
+    /// The place of each writer in each line.
+    places: HashMap<Writer, usize>,
+}
+
+impl Line {
+    /// Returns how many blocks the list of this length is made of, if none of them is cut.
+    fn blocks(&self, length: usize) -> Option<usize> {
+        if length == 0 {
+            return Some(0);
+        }
+        match self.ends.binary_search(&length) {
+            Ok(last) => last.checked_add(1),
+            Err(_) => None,
+        }
+    }
+
+    /// Returns the writer of the element at this place of the list.
+    fn writer_at(&self, place: usize) -> Option<u32> {
+        let block = self.ends.partition_point(|end| *end <= place);
+        self.writers.get(block).copied()
+    }
+
+    /// Returns the first element of the writer at this place in the line.
+    fn first_element(&self, writer: usize) -> Option<u64> {
+        let start = match writer.checked_sub(1) {
+            Some(before) => *self.ends.get(before)?,
+            None => 0,
+        };
+        self.chain.get(start).copied()
+    }
+}
+
+impl Lines {
+    /// Begins without lines.
+    pub fn new(alloc: Global) -> Lines {
+        Lines {
+            alloc,
+            numbers: HashMap::new(alloc),
+            lines: Vec::new(alloc),
+            places: HashMap::new(alloc),
+        }
+    }
+
+    /// Returns the number of the line of the key.
+    pub fn number(&self, key: u64) -> Option<usize> {
+        self.numbers.get(&key).copied()
+    }
+
+    /// Returns whether the transaction stands in the line with this number.
+    pub fn has(&self, line: usize, transaction: u32) -> bool {
+        self.places.contains_key(&Writer { line, transaction })
+    }
+
+    /// Returns the number of the line of the key, and makes a line if there is none.
+    fn numbered(&mut self, key: u64, read: Read) -> Result<usize, AllocError> {
+        if let Some(line) = self.number(key) {
+            return Ok(line);
+        }
+        let line = self.lines.len();
+        self.lines.push(Line {
+            key,
+            chain: Vec::new(self.alloc),
+            writers: Vec::new(self.alloc),
+            ends: Vec::new(self.alloc),
+            source: read,
+            tail: None,
+        })?;
+        self.numbers.insert(key, line)?;
+        Ok(line)
+    }
+
+    /// Takes in what a transaction found in the list of the key before its own appends.
+    pub fn take(
+        &mut self,
+        transactions: &[Transaction],
+        appenders: &Appenders,
+        key: u64,
+        read: Read,
+        base: &[u64],
+    ) -> Result<Found, AllocError> {
+        let number = self.numbered(key, read)?;
+        if let Some(line) = self.lines.get(number) {
+            let shared = base.len().min(line.chain.len());
+            if base[..shared] != line.chain[..shared] {
+                return Ok(Found::Nothing(Reason::Incompatible(read, line.source)));
+            }
+            if shared < base.len() {
+                let broken = self.extend(transactions, appenders, number, read, base)?;
+                if let Some(reason) = broken {
+                    return Ok(Found::Nothing(reason));
+                }
+            }
+        }
+        Ok(self.found(number, read, base.len()))
+    }
+
+    /// Goes on with the line by the blocks that the read found after it. Returns a reason if it found something else.
+    fn extend(
+        &mut self,
+        transactions: &[Transaction],
+        appenders: &Appenders,
+        number: usize,
+        read: Read,
+        base: &[u64],
+    ) -> Result<Option<Reason>, AllocError> {
+        let Some(line) = self.lines.get_mut(number) else {
+            return Ok(None);
+        };
+        line.source = read;
+        // each turn adds an element at least
+        'blocks: for _ in 0..base.len() {
+            let start = line.chain.len();
+            if start >= base.len() {
+                return Ok(None);
+            }
+            let rest = &base[start..];
+            let element = base[start];
+            let Some(writer) = appenders.appender(line.key, element) else {
+                return Ok(Some(Reason::Unwritten(read, element)));
+            };
+            if aborted(transactions, writer) {
+                return Ok(Some(Reason::Unwritten(read, element)));
+            }
+            if writer == read.transaction {
+                return Ok(Some(Reason::Future(read, element)));
+            }
+            let key = Writer {
+                line: number,
+                transaction: writer,
+            };
+            if self.places.contains_key(&key) {
+                return Ok(Some(Reason::Twice(read, element)));
+            }
+            let block = own(self.alloc, transactions, line.key, writer)?;
+            if block.is_empty() || !rest.starts_with(block.as_slice()) {
+                let reason = match repeated(self.alloc, base)? {
+                    Some(again) => Reason::Twice(read, again),
+                    None => Reason::Intermediate(read, writer),
+                };
+                return Ok(Some(reason));
+            }
+            self.places.insert(key, line.writers.len())?;
+            line.writers.push(writer)?;
+            line.chain.extend_from_slice(block.as_slice())?;
+            line.ends.push(line.chain.len())?;
+        }
+        Ok(None)
+    }
+
+    /// Returns which blocks a list is made of that begins the line's.
+    fn found(&self, number: usize, read: Read, length: usize) -> Found {
+        let writers = match self.lines.get(number) {
+            Some(line) => {
+                let Some(writers) = line.blocks(length) else {
+                    return Found::Nothing(cut(line, read, length));
+                };
+                writers
+            }
+            None => 0,
+        };
+        let itself = Writer {
+            line: number,
+            transaction: read.transaction,
+        };
+        if let (Some(place), Some(line)) = (self.places.get(&itself), self.lines.get(number)) {
+            if *place < writers {
+                let element = line.first_element(*place).unwrap_or(0);
+                return Found::Nothing(Reason::Future(read, element));
+            }
+        }
+        Found::Blocks {
+            line: number,
+            writers,
+        }
+    }
+
+    /// Takes in that the transaction of this read appended to the list, in which the read found so many blocks. Returns a
+    /// reason if another one comes next in the line.
+    pub fn append(
+        &mut self,
+        number: usize,
+        read: Read,
+        writers: usize,
+    ) -> Result<Option<Reason>, AllocError> {
+        let Some(line) = self.lines.get_mut(number) else {
+            return Ok(None);
+        };
+        if let Some(next) = line.writers.get(writers) {
+            if *next == read.transaction {
+                return Ok(None);
+            }
+            let last = writers + 1 == line.writers.len();
+            let other = match line.tail {
+                Some(tail) if last => tail,
+                _ => line.source,
+            };
+            return Ok(Some(Reason::Incompatible(read, other)));
+        }
+        let itself = Writer {
+            line: number,
+            transaction: read.transaction,
+        };
+        self.places.insert(itself, line.writers.len())?;
+        line.writers.push(read.transaction)?;
+        line.tail = Some(read);
+        Ok(None)
+    }
+}
+
+/// The reason for a list that ends within a block.
+fn cut(line: &Line, read: Read, length: usize) -> Reason {
+    let last = length.saturating_sub(1);
+    let writer = line.writer_at(last).unwrap_or(read.transaction);
+    if writer == read.transaction {
+        let element = line.chain.get(last).copied().unwrap_or(0);
+        return Reason::Future(read, element);
+    }
+    Reason::Intermediate(read, writer)
+}
+
+fn aborted(transactions: &[Transaction], place: u32) -> bool {
+    match transactions.get(place as usize) {
+        Some(transaction) => transaction.outcome == Outcome::Aborted,
+        None => true,
+    }
+}
+
+/// Returns an element that stands twice in the list.
+fn repeated(alloc: Global, elements: &[u64]) -> Result<Option<u64>, AllocError> {
+    let mut sorted = Vec::from_slice(alloc, elements)?;
+    sorted.sort_unstable();
+    for i in 1..sorted.len() {
+        if sorted[i - 1] == sorted[i] {
+            return Ok(Some(sorted[i]));
+        }
+    }
+    Ok(None)
+}

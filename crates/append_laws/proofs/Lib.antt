@@ -1,0 +1,14 @@
+pub mod SerialReads
+pub mod Places
+pub mod Prefixes
+pub mod Fronts
+pub mod Necessity
+pub mod Refutations
+pub mod Rising
+pub mod Exactness
+pub mod Links
+pub mod LinksBack
+pub mod Forks
+pub mod Lines
+pub mod Blocks
+pub mod Reasons

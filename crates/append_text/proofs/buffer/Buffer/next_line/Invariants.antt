@@ -1,0 +1,11 @@
+use Rattle.std.proofs.Common.{◌+◌, ◌≤◌, length}
+use Rattle.append_text.specs.Machinery.Buffers.{work_left}
+use Rattle.append_text.proofs.buffer.Buffer.next_line.Given as goal
+
+abbrev pub invariant-loop-self : goal.invariant-loop-self
+invariant-loop-self g l =
+    work_left (g.S.Source.left l.source) l.self.start l.self.end + length l.line.items
+    ≤ work_left (g.S.Source.left l.initial.source) l.initial.self.start l.initial.self.end
+
+abbrev pub decreases-loop-self : goal.decreases-loop-self
+decreases-loop-self g l = g.S.Source.left l.source

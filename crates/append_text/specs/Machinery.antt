@@ -1,0 +1,2 @@
+-- What only the loops need.
+pub mod Buffers

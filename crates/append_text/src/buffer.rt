@@ -1,0 +1,133 @@
+//! The bytes of a source, one piece at a time.
+
+ghost use Rattle.std.specs.Prelude.{◌≡◌, ◌≤◌, ◌<◌, ◌+◌, ◌-◌, true, length, if◌then◌else◌, IfOk};
+ghost use Rattle.append_text.specs.Machinery.Buffers.{work_left};
+
+use crate::read_fault::ReadFault;
+use crate::text_form::{TextForm, text_form};
+use devices::Source;
+use memchr::memchr;
+use std::alloc::AllocError;
+
+/// The most bytes of one read.
+const ROOM: usize = 8192;
+
+/// The bytes that were read from a source, and not yet taken. One buffer belongs to one source.
+#[derive(Drop)]
+pub(crate) struct Buffer {
+    bytes: [u8; ROOM],
+    start: usize,
+    end: usize,
+    ghost ordered: { start ≤ end },
+    ghost within: { end ≤ 8192 },
+}
+
+impl Buffer {
+    /// A buffer for a source of which nothing was read.
+    pub(crate) fn new() -> Buffer {
+        Buffer {
+            bytes: [0; ROOM],
+            start: 0,
+            end: 0,
+        }
+    }
+
+    /// Returns the bytes.
+    pub(crate) fn pending(&self) -> &[u8] {
+        &self.bytes[self.start..self.end]
+    }
+
+    /// Returns what the text is written in. Reads until that is decided; a text that ends before, or begins with 8192
+    /// blanks, is one of EDN. `Device` if the source failed.
+    pub(crate) fn form<S: Source>(&mut self, source: &mut S) -> Result<TextForm, ReadFault> {
+        loop {
+            if let Some(form) = text_form(self.pending()) {
+                return Ok(form);
+            }
+            if !self.read_more(source)? {
+                return Ok(TextForm::Edn);
+            }
+        }
+    }
+
+    /// Reads more bytes behind those that are pending. Returns whether any came.
+    fn read_more<S: Source>(&mut self, source: &mut S) -> Result<bool, ReadFault>
+        ensures less { IfOk result (λ some. some ≡ true → S.left source.new < S.left source.old) }
+        ensures work { IfOk result (λ _. work_left (S.left source.new) self.new.start self.new.end
+            ≤ work_left (S.left source.old) self.old.start self.old.end) }
+    {
+        match source.pull(&mut self.bytes[self.end..]) {
+            Ok(n) => {
+                self.end += n;
+                Ok(n != 0)
+            }
+            Err(_) => Err(ReadFault::Device),
+        }
+    }
+
+    /// Reads more bytes after all were taken. Returns whether any came; `Device` if the source failed.
+    pub(crate) fn fill<S: Source>(&mut self, source: &mut S) -> Result<bool, ReadFault>
+        ensures less { IfOk result (λ some. some ≡ true → S.left source.new < S.left source.old) }
+        ensures work { IfOk result (λ _. work_left (S.left source.new) self.new.start self.new.end
+            ≤ work_left (S.left source.old) self.old.start self.old.end) }
+    {
+        self.start = 0;
+        self.end = 0;
+        self.read_more(source)
+    }
+
+    /// Moves the bytes up to the next line feed to the end of `line`, and drops the line feed. Returns whether there was
+    /// one; all bytes are taken if there was none.
+    fn take_line(&mut self, line: &mut Vec<u8>) -> Result<bool, AllocError>
+        ensures { IfOk result (λ ended. (self.new.end - self.new.start) + length line.new.items + (if ended then 1 else 0)
+            ≡ (self.old.end - self.old.start) + length line.old.items) }
+    {
+        let pending = &self.bytes[self.start..self.end];
+        match memchr(b'\n', pending) {
+            Some(at) => {
+                line.extend_from_slice(&pending[..at])?;
+                self.start += at + 1;
+                Ok(true)
+            }
+            None => {
+                line.extend_from_slice(pending)?;
+                self.start = self.end;
+                Ok(false)
+            }
+        }
+    }
+
+    /// Reads the next line, without its line feed, in place of what `line` held. Returns false if there is none.
+    pub(crate) fn next_line<S: Source>(
+        &mut self,
+        source: &mut S,
+        line: &mut Vec<u8>,
+    ) -> Result<bool, ReadFault>
+        ensures { IfOk result (λ some. some ≡ true → work_left (S.left source.new) self.new.start self.new.end
+            < work_left (S.left source.old) self.old.start self.old.end) }
+    {
+        line.clear();
+        loop {
+            if self.take_line(line)? {
+                return Ok(true);
+            }
+            if !self.fill(source)? {
+                return Ok(!line.is_empty());
+            }
+        }
+    }
+
+    /// Reads to the end of the input, and adds all of it to `text`.
+    pub(crate) fn read_to_end<S: Source>(
+        &mut self,
+        source: &mut S,
+        text: &mut Vec<u8>,
+    ) -> Result<(), ReadFault> {
+        loop {
+            text.extend_from_slice(self.pending())?;
+            if !self.fill(source)? {
+                return Ok(());
+            }
+        }
+    }
+}

@@ -1,0 +1,48 @@
+//! Values of JSON as data.
+
+use crate::data::Data;
+use crate::name::Name;
+use serde_json::Value;
+use std::alloc::{AllocError, Global};
+
+impl Data for Value {
+    fn field(&self, name: &str) -> Option<&Value> {
+        self.get(name)
+    }
+
+    fn is_map(&self) -> bool {
+        self.is_object()
+    }
+
+    fn elements(&self) -> Option<&[Value]> {
+        match self {
+            Value::Array(values) => Some(values.as_slice()),
+            _ => None,
+        }
+    }
+
+    fn integer(&self) -> Option<i64> {
+        self.as_i64()
+    }
+
+    fn word(&self) -> Option<&[u8]> {
+        match self {
+            Value::String(text) => Some(text.as_bytes()),
+            _ => None,
+        }
+    }
+
+    fn is_nil(&self) -> bool {
+        self.is_null()
+    }
+
+    fn name(&self, alloc: Global) -> Result<Option<Name>, AllocError> {
+        match self {
+            Value::String(text) => Ok(Some(Name::String(text.as_bytes().to_vec(alloc)?))),
+            _ => match self.as_i64() {
+                Some(number) => Ok(Some(Name::Integer(number))),
+                None => Ok(None),
+            },
+        }
+    }
+}

@@ -1,0 +1,156 @@
+//! The operations of a text.
+
+use crate::data::Data;
+use crate::name::{Name, Names};
+use crate::read_fault::{Problem, Refusal};
+use append_values::Operation;
+use std::alloc::Global;
+
+/// What an operation says of its transaction.
+#[derive(Clone, Copy, PartialEq, Eq)]
+pub(crate) enum Kind {
+    /// It begins.
+    Invoke,
+    /// It committed.
+    Ok,
+    /// It aborted.
+    Fail,
+    /// Nobody knows how it ended.
+    Info,
+}
+
+/// An operation of a transaction.
+#[derive(Drop)]
+pub(crate) struct Op {
+    pub(crate) kind: Kind,
+    pub(crate) process: i64,
+    pub(crate) index: Option<u64>,
+    /// The steps. A read of `nil` has no elements.
+    pub(crate) steps: Vec<Operation>,
+}
+
+/// Reads an operation. Returns `None` if it is none of a transaction: if its process is no integer, as that of a nemesis,
+/// or its `:f` isn't `:txn`.
+pub(crate) fn operation<D: Data>(
+    alloc: Global,
+    names: &mut Names,
+    data: &D,
+) -> Result<Option<Op>, Refusal> {
+    if !data.is_map() {
+        return Err(Refusal::Problem(Problem::Map));
+    }
+    if !is_transaction(data) {
+        return Ok(None);
+    }
+    let Some(process) = integer_in(data, "process") else {
+        return Ok(None);
+    };
+    let Some(kind) = kind_in(data) else {
+        return Err(Refusal::Problem(Problem::Type));
+    };
+    let index = integer_in(data, "index").and_then(|index| u64::try_from(index).ok());
+    let steps = steps_in(alloc, names, kind, data)?;
+    Ok(Some(Op {
+        kind,
+        process,
+        index,
+        steps,
+    }))
+}
+
+fn is_transaction<D: Data>(data: &D) -> bool {
+    match data.field("f") {
+        Some(f) => matches!(f.word(), Some(b"txn")),
+        None => false,
+    }
+}
+
+fn integer_in<D: Data>(data: &D, name: &str) -> Option<i64> {
+    data.field(name)?.integer()
+}
+
+fn kind_in<D: Data>(data: &D) -> Option<Kind> {
+    match data.field("type")?.word()? {
+        b"invoke" => Some(Kind::Invoke),
+        b"ok" => Some(Kind::Ok),
+        b"fail" => Some(Kind::Fail),
+        b"info" => Some(Kind::Info),
+        _ => None,
+    }
+}
+
+/// Reads the steps of an operation. A `:fail` and an `:info` may have none.
+fn steps_in<D: Data>(
+    alloc: Global,
+    names: &mut Names,
+    kind: Kind,
+    data: &D,
+) -> Result<Vec<Operation>, Refusal> {
+    let value = data.field("value");
+    let is_missing = match value {
+        Some(value) => value.is_nil(),
+        None => true,
+    };
+    if is_missing && matches!(kind, Kind::Fail | Kind::Info) {
+        return Ok(Vec::new(alloc));
+    }
+    match value {
+        Some(value) => steps(alloc, names, value),
+        None => Err(Refusal::Problem(Problem::Step)),
+    }
+}
+
+/// Reads the steps that are listed.
+fn steps<D: Data>(alloc: Global, names: &mut Names, data: &D) -> Result<Vec<Operation>, Refusal> {
+    let Some(listed) = data.elements() else {
+        return Err(Refusal::Problem(Problem::Step));
+    };
+    let mut steps = Vec::new(alloc);
+    for data in listed {
+        steps.push(step(alloc, names, data)?)?;
+    }
+    Ok(steps)
+}
+
+/// Reads one step.
+fn step<D: Data>(alloc: Global, names: &mut Names, data: &D) -> Result<Operation, Refusal> {
+    let Some([f, key, value]) = data.elements() else {
+        return Err(Refusal::Problem(Problem::Step));
+    };
+    match f.word() {
+        Some(b"append") => {
+            let key = names.key(name(alloc, key)?)?;
+            let element = names.element(name(alloc, value)?)?;
+            Ok(Operation::Append { key, element })
+        }
+        Some(b"r") => {
+            let key = names.key(name(alloc, key)?)?;
+            let elements = elements(alloc, names, value)?;
+            Ok(Operation::Read { key, elements })
+        }
+        _ => Err(Refusal::Problem(Problem::Step)),
+    }
+}
+
+/// Reads the elements of a list. `nil` is the empty one.
+fn elements<D: Data>(alloc: Global, names: &mut Names, data: &D) -> Result<Vec<u64>, Refusal> {
+    let mut elements = Vec::new(alloc);
+    if data.is_nil() {
+        return Ok(elements);
+    }
+    let Some(listed) = data.elements() else {
+        return Err(Refusal::Problem(Problem::Step));
+    };
+    for data in listed {
+        elements.push(names.element(name(alloc, data)?)?)?;
+    }
+    Ok(elements)
+}
+
+/// Reads the name of a key or an element.
+fn name<D: Data>(alloc: Global, data: &D) -> Result<Name, Refusal> {
+    match data.name(alloc)? {
+        Some(name) => Ok(name),
+        None => Err(Refusal::Problem(Problem::Name)),
+    }
+}

@@ -1,0 +1,36 @@
+//! Reading histories.
+
+use crate::buffer::Buffer;
+use crate::edn_text::edn_text;
+use crate::history::History;
+use crate::json_text::json_text;
+use crate::read_fault::ReadFault;
+use crate::text_form::TextForm;
+use devices::Source;
+use std::alloc::Global;
+
+/// Reads a history from all that the source has left, in JSON if its first map has a string as its first key, else in
+/// EDN. `Text` with the place if the text is that of no history, `Device` if the source failed, `Memory` if memory ran
+/// out.
+pub fn read_history<S: Source>(alloc: Global, source: &mut S) -> Result<History, ReadFault> {
+    let mut buffer = Buffer::new();
+    match buffer.form(source)? {
+        TextForm::Edn => edn_text(alloc, &buffer, source),
+        TextForm::Json => json_text(alloc, &mut buffer, source),
+    }
+}
+
+/// Reads a history in EDN from all that the source has left: operations one after another, or one vector of them.
+/// `Text` with the line if the text is that of no history, `Device` if the source failed, `Memory` if memory ran out.
+pub fn read_edn<S: Source>(alloc: Global, source: &mut S) -> Result<History, ReadFault> {
+    edn_text(alloc, &Buffer::new(), source)
+}
+
+/// Reads a history in JSON from all that the source has left: one operation a line, or one array of them. `Text` with
+/// the line, or with the place in the array, if the text is that of no history, `Device` if the source failed, `Memory`
+/// if memory ran out.
+pub fn read_json<S: Source>(alloc: Global, source: &mut S) -> Result<History, ReadFault> {
+    let mut buffer = Buffer::new();
+    buffer.form(source)?;
+    json_text(alloc, &mut buffer, source)
+}

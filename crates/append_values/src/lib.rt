@@ -1,0 +1,11 @@
+//! List-append histories: what transactions appended to lists and read of them, as the clients of a database saw it.
+//!
+//! The definitions that all promises are made of are in `specs/Meaning`: the serial run, when an order explains a
+//! history, and the reasons for which none does.
+#![tactic(auto)]
+
+mod reason;
+mod transaction;
+
+pub use reason::{Kind, Link, Read, Reason};
+pub use transaction::{Operation, Outcome, Transaction};

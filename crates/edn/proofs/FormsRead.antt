@@ -1,0 +1,155 @@
+-- The tokens of a form are read up to its last one.
+use Rattle.std.proofs.Common.{◌≡◌, ◌⊎◌, inl, inr, List, [], ◌∷◌, ◌++◌, ℕ, true, false, Option, None, Some, refl, sym, ap, ◌∙◌, subst}
+use Rattle.edn.specs.declared.reader.Stage.{Stage}
+use Rattle.edn.specs.declared.reader.Stage.TheVariants.{Start, Forms, Elements, Closed, Failed}
+use Rattle.edn.specs.declared.token.Opening.TheVariants as opening
+use Rattle.edn.specs.Meaning.Forms.{Form}
+use Rattle.edn.specs.Meaning.Tokens.{Token, opens}
+use Rattle.edn.specs.Meaning.Grammar.{IsItem}
+use Rattle.edn.specs.Meaning.Lexing.{no_tokens}
+use Rattle.edn.specs.Meaning.Reading.{ReadsToken, ReadsTokens}
+use Rattle.edn.specs.Meaning.Readers.{IsFormAt, ReadsForm}
+use Rattle.edn.specs.Computing.Building.{Frame, top, tagged, discarding, in_list, in_vector, in_set, in_map, is_top}
+use Rattle.edn.specs.Computing.Stages.{Built, Takes}
+use Rattle.edn.proofs.Held.{Holds, Outcome, StepHolds, step_holds, AreDiscarded, none_more}
+use Rattle.edn.proofs.LexedTexts.{lexes_more}
+
+-- these tokens, behind the bracket of the vector if that is among the first ones
+abbrev IsBehind : Stage → List Token → List Token → Type 0
+IsBehind Start ts us = ts ≡ opens opening.Vector ∷ us
+IsBehind Forms ts us = ts ≡ us
+IsBehind Elements ts us = ts ≡ us
+IsBehind Closed ts us = ts ≡ us
+IsBehind (Failed fault) ts us = ts ≡ us
+
+-- how far the tokens have led, from the first stage to the second
+abbrev pub Leads : Stage → Stage → List Token → List Frame → Type 0
+Leads first Start ts stack = (first ≡ Start) × (ts ≡ []) × (stack ≡ top ∷ [])
+Leads first Forms ts stack = ((first ≡ Start) ⊎ (first ≡ Forms)) × Holds stack ts
+Leads first Elements ts stack = ((first ≡ Start) ⊎ (first ≡ Elements)) × ((us : List Token) × IsBehind first ts us × Holds stack us)
+Leads first Closed ts stack = stack ≡ top ∷ []
+Leads first (Failed fault) ts stack = stack ≡ top ∷ []
+
+pub leads_here : (stage : Stage) (stack : List Frame) → stack ≡ top ∷ [] → Leads stage stage [] stack
+leads_here Start stack e = (refl, refl, e)
+leads_here Forms stack e = (inr refl, subst (λ s. Holds s []) (sym e) (refl, none_more))
+leads_here Elements stack e = (inr refl, ([], refl, subst (λ s. Holds s []) (sym e) (refl, none_more)))
+leads_here Closed stack e = e
+leads_here (Failed fault) stack e = e
+
+held_step : (old new : List Frame) (t : Token) (o : Option Form) (ts : List Token) → Holds old ts → Built old t new o
+    → Outcome (new, o) (ts ++ t ∷ [])
+held_step old new t o ts h e = subst (λ r. StepHolds r (ts ++ t ∷ [])) e (step_holds old t ts h)
+
+behind_more : (first : Stage) (ts us : List Token) (t : Token) → IsBehind first ts us → IsBehind first (ts ++ t ∷ []) (us ++ t ∷ [])
+behind_more Start ts us t e = ap (λ xs. xs ++ t ∷ []) e
+behind_more Forms ts us t e = ap (λ xs. xs ++ t ∷ []) e
+behind_more Elements ts us t e = ap (λ xs. xs ++ t ∷ []) e
+behind_more Closed ts us t e = ap (λ xs. xs ++ t ∷ []) e
+behind_more (Failed fault) ts us t e = ap (λ xs. xs ++ t ∷ []) e
+
+holds_start : (stack : List Frame) (ts : List Token) → ts ≡ [] → stack ≡ top ∷ [] → Holds stack ts
+holds_start stack ts e f = subst (λ s. Holds s ts) (sym f) (refl, subst AreDiscarded (sym e) none_more)
+
+-- nothing is open but the text
+only_top : (stack : List Frame) (ts : List Token) → Holds stack ts → is_top stack ≡ true → stack ≡ top ∷ []
+only_top [] ts h e = absurd h
+only_top (top ∷ outer) ts h e = ap (λ o. top ∷ o) h.0
+only_top (tagged ∷ outer) ts h e = absurd (let no : false ≡ true = e in cc)
+only_top (discarding ∷ outer) ts h e = absurd (let no : false ≡ true = e in cc)
+only_top (in_list fs ∷ outer) ts h e = absurd (let no : false ≡ true = e in cc)
+only_top (in_vector fs ∷ outer) ts h e = absurd (let no : false ≡ true = e in cc)
+only_top (in_set fs ∷ outer) ts h e = absurd (let no : false ≡ true = e in cc)
+only_top (in_map ps k ∷ outer) ts h e = absurd (let no : false ≡ true = e in cc)
+
+pub idle_at_end : (first stage : Stage) (ts : List Token) (stack : List Frame) → Leads first stage ts stack
+    → is_top stack ≡ true → stack ≡ top ∷ []
+idle_at_end first Start ts stack h e = h.2
+idle_at_end first Forms ts stack h e = only_top stack ts h.1 e
+idle_at_end first Elements ts stack (from, (us, behind, h)) e = only_top stack us h e
+idle_at_end first Closed ts stack h e = h
+idle_at_end first (Failed fault) ts stack h e = h
+
+-- a token that ends no form of the text
+pub leads_on : (first stage next : Stage) (ts : List Token) (t : Token) (old new : List Frame) (o : Option Form) → o ≡ None
+    → Leads first stage ts old → Takes stage t next old new o → Leads first next (ts ++ t ∷ []) new
+leads_on first Start next ts t old new o none (is, empty, idle) (inl (vector, to, same, _)) =
+    subst (λ n. Leads first n (ts ++ t ∷ []) new) (sym to) (
+      inl is,
+      (
+        [],
+        subst (λ s. IsBehind s (ts ++ t ∷ []) []) (sym is) (ap (λ xs. xs ++ t ∷ []) empty ∙ ap (λ x. x ∷ []) vector),
+        holds_start new [] refl (same ∙ idle),
+      ),
+    )
+leads_on first Start next ts t old new o none (is, empty, idle) (inr (to, built)) =
+    subst (λ n. Leads first n (ts ++ t ∷ []) new) (sym to)
+    (inl is, held_step old new t None ts (holds_start old ts empty idle) (subst (Built old t new) none built))
+leads_on first Forms next ts t old new o none (from, h) (to, built) =
+    subst (λ n. Leads first n (ts ++ t ∷ []) new) (sym to)
+    (from, held_step old new t None ts h (subst (Built old t new) none built))
+leads_on first Elements next ts t old new o none (from, (us, behind, h)) (inl (to, is_idle, same, _)) =
+    subst (λ n. Leads first n (ts ++ t ∷ []) new) (sym to) (same ∙ only_top old us h is_idle)
+leads_on first Elements next ts t old new o none (from, (us, behind, h)) (inr (to, built)) =
+    subst (λ n. Leads first n (ts ++ t ∷ []) new) (sym to) (
+      from,
+      (
+        us ++ t ∷ [],
+        behind_more first ts us t behind,
+        held_step old new t None us h (subst (Built old t new) none built),
+      ),
+    )
+leads_on first Closed next ts t old new o none h takes = absurd takes
+leads_on first (Failed fault) next ts t old new o none h takes = absurd takes
+
+item_at : (first : Stage) (ts : List Token) (f : Form) → (first ≡ Start) ⊎ (first ≡ Forms) → IsItem ts f → IsFormAt first ts f
+item_at first ts f (inl e) h = subst (λ s. IsFormAt s ts f) (sym e) (inl h)
+item_at first ts f (inr e) h = subst (λ s. IsFormAt s ts f) (sym e) h
+
+element_at : (first : Stage) (ts us : List Token) (f : Form) → (first ≡ Start) ⊎ (first ≡ Elements) → IsBehind first ts us
+    → IsItem us f → IsFormAt first ts f
+element_at Start ts us f from behind h = inr (us, behind, h)
+element_at Forms ts us f from behind h = subst (λ xs. IsItem xs f) (sym behind) h
+element_at Elements ts us f from behind h = subst (λ xs. IsItem xs f) (sym behind) h
+element_at Closed ts us f (inl e) behind h = absurd (cc)
+element_at Closed ts us f (inr e) behind h = absurd (cc)
+element_at (Failed fault) ts us f (inl e) behind h = absurd (cc)
+element_at (Failed fault) ts us f (inr e) behind h = absurd (cc)
+
+-- a token that ends a form of the text
+pub form_read : (first stage next : Stage) (ts : List Token) (t : Token) (old new : List Frame) (o : Option Form) (f : Form)
+    → o ≡ Some f → Leads first stage ts old → Takes stage t next old new o
+    → IsFormAt first (ts ++ t ∷ []) f × (new ≡ top ∷ [])
+form_read first Start next ts t old new o f some (is, empty, idle) (inl (vector, to, same, none)) =
+    absurd (let no : None ≡ Some f = sym none ∙ some in cc)
+form_read first Start next ts t old new o f some (is, empty, idle) (inr (to, built)) =
+    let made = held_step old new t (Some f) ts (holds_start old ts empty idle) (subst (Built old t new) some built) in
+    (item_at first _ f (inl is) made.0, made.1)
+form_read first Forms next ts t old new o f some (from, h) (to, built) =
+    let made = held_step old new t (Some f) ts h (subst (Built old t new) some built) in
+    (item_at first _ f from made.0, made.1)
+form_read first Elements next ts t old new o f some (from, (us, behind, h)) (inl (to, is_idle, same, none)) =
+    absurd (let no : None ≡ Some f = sym none ∙ some in cc)
+form_read first Elements next ts t old new o f some (from, (us, behind, h)) (inr (to, built)) =
+    let made = held_step old new t (Some f) us h (subst (Built old t new) some built) in
+    (element_at first _ (us ++ t ∷ []) f from (behind_more first ts us t behind) made.0, made.1)
+form_read first Closed next ts t old new o f some h takes = absurd takes
+form_read first (Failed fault) next ts t old new o f some h takes = absurd takes
+
+-- ---- the text
+
+pub reads_none : (left : Option (List ℕ)) → ReadsTokens left left []
+reads_none None = tt
+reads_none (Some text) = (text, no_tokens, refl)
+
+pub reads_more : (start mid new : Option (List ℕ)) (ts : List Token) (t : Token) → ReadsTokens start mid ts
+    → ReadsToken mid new t → ReadsTokens start new (ts ++ t ∷ [])
+reads_more None mid new ts t h r = tt
+reads_more (Some text) mid new ts t (rest, lexes, is) r =
+    let (gap, front, end, g, b, whole, left) = subst (λ m. ReadsToken m new t) is r in
+    (end, lexes_more lexes gap front end t whole g b, left)
+
+pub reads_form : (stage : Stage) (start new : Option (List ℕ)) (ts : List Token) (f : Form) → ReadsTokens start new ts
+    → IsFormAt stage ts f → ReadsForm stage start new f
+reads_form stage None new ts f h at = tt
+reads_form stage (Some text) new ts f (rest, lexes, is) at = (ts, rest, lexes, at, is)

@@ -1,0 +1,12 @@
+pub mod Choices
+pub mod Gaps
+pub mod Held
+pub mod ItemsRun
+pub mod StringTexts
+pub mod LexedTexts
+pub mod Spans
+pub mod Lexed
+pub mod GapTexts
+pub mod TokensRead
+pub mod FormsRead
+pub mod OneReading

@@ -1,0 +1,248 @@
+-- A text begins with one form at most.
+use Rattle.std.proofs.Common.{◌≡◌, ◌≢◌, ◌⊎◌, inl, inr, ℕ, suc, ◌+◌, ◌==◌, Bool, true, false, List, [], ◌∷◌, ◌++◌, length, take, drop, All, None, Some, Result, Ok, Err, refl, sym, ap, ◌∙◌, subst, append_assoc, append-nil, arith}
+use Rattle.std.specs.Prelude.{not}
+use Rattle.std.specs.List.{prefix_len, list_all}
+use Rattle.std.proofs.lemmas.Bool.{ne_eqb, and_parts}
+use Rattle.std.proofs.lemmas.Grind.{common_steps}
+use Rattle.edn.specs.declared.token.Beyond.TheVariants.{Nothing}
+use Rattle.edn.specs.Meaning.Bytes.{is_space, is_end, is_word_byte}
+use Rattle.edn.specs.declared.read_fault.Problem.{Problem}
+use Rattle.edn.specs.Meaning.Characters.{is_character}
+use Rattle.edn.specs.Meaning.Forms.{Form, character}
+use Rattle.edn.specs.Meaning.Names.{begins_tag, is_symbol, is_tag}
+use Rattle.edn.specs.Meaning.Words.{word_of}
+use Rattle.edn.specs.Meaning.Tokens.{Token, tag, leaf}
+use Rattle.edn.specs.Meaning.Grammar.{IsItem}
+use Rattle.edn.specs.Meaning.Lexing.{IsGap, no_gap, space, comment, Ends, IsWord, Lexes, no_tokens, next}
+use Rattle.edn.specs.Meaning.Lexing.{Begins, round_opens, square_opens, curly_opens, set_opens, round_closes, square_closes, curly_closes, discards, tags, quotes, characters, words}
+use Rattle.edn.specs.Computing.Gaps.{after_gap_in}
+use Rattle.edn.specs.Computing.Tokens.{token, token_at, character_token, tag_token, dispatched, word_token}
+use Rattle.edn.specs.Computing.Building.{Step, top, run, resume, put}
+use Rattle.edn.proofs.StringTexts.{string_again}
+use Rattle.edn.proofs.ItemsRun.{item_runs}
+
+-- ---- the word at the front of a text
+
+word_is : (b : ℕ) (v : Bool) → is_end b ≡ v → not v ≡ true → is_end b ≡ false
+word_is b true e h = absurd (cc)
+word_is b false e h = e
+
+end_is : (b : ℕ) → is_end b ≡ true → is_word_byte b ≡ false
+end_is b e = ap not e
+
+pub span_len : (name rest : List ℕ) → IsWord name → Ends rest → prefix_len is_word_byte (name ++ rest) ≡ length name
+span_len [] [] w h = refl
+span_len [] (b ∷ bs) w h = rw h refl
+span_len (b ∷ bs) rest w h =
+    let both = and_parts (is_word_byte b) (list_all is_word_byte bs) w in
+    let len = span_len bs rest both.1 h in
+    rw both.0 (omega (arith, len))
+
+-- a byte of a word is no byte that ends one
+not_end : (b n : ℕ) → is_word_byte b ≡ true → is_end n ≡ true → (b == n) ≡ false
+not_end b n w h = ne_eqb b n (λ e. let no : true ≡ false = sym w ∙ ap is_word_byte e ∙ end_is n h in cc)
+
+is_space_of : (b : ℕ) (v : Bool) → is_space b ≡ v → is_end b ≡ false → is_space b ≡ false
+unfolding is_end
+is_space_of b true e h = absurd (let no : true ≡ false = sym (rw e refl) ∙ h in cc)
+is_space_of b false e h = e
+
+not_space : (b : ℕ) → is_word_byte b ≡ true → is_space b ≡ false
+unfolding is_end
+not_space b w = is_space_of b (is_space b) refl (word_is b (is_end b) refl w)
+
+not_hash : (b : ℕ) → is_word_byte b ≡ true → (b == 59) ≡ false
+unfolding is_end is_space
+not_hash b w = not_end b 59 w refl
+
+rest_plain : (b : ℕ) (line : List ℕ) → All (λ (c : ℕ). c ≢ 10) (b ∷ line) → All (λ (c : ℕ). c ≢ 10) line
+rest_plain b line all = λ k d below. all (suc k) d (omega arith)
+
+take_name : (name rest : List ℕ) → take (length name) (name ++ rest) ≡ name
+take_name name rest = grind (arith, common_steps)
+
+drop_name : (name rest : List ℕ) → drop (length name) (name ++ rest) ≡ rest
+drop_name name rest = grind (arith, common_steps)
+
+-- ---- a token is read again
+
+e59 : is_end 59 ≡ true
+unfolding is_end is_space
+e59 = refl
+
+e34 : is_end 34 ≡ true
+unfolding is_end is_space
+e34 = refl
+
+e92 : is_end 92 ≡ true
+unfolding is_end is_space
+e92 = refl
+
+e40 : is_end 40 ≡ true
+unfolding is_end is_space
+e40 = refl
+
+e91 : is_end 91 ≡ true
+unfolding is_end is_space
+e91 = refl
+
+e123 : is_end 123 ≡ true
+unfolding is_end is_space
+e123 = refl
+
+e41 : is_end 41 ≡ true
+unfolding is_end is_space
+e41 = refl
+
+e93 : is_end 93 ≡ true
+unfolding is_end is_space
+e93 = refl
+
+e125 : is_end 125 ≡ true
+unfolding is_end is_space
+e125 = refl
+
+tag_text : (name rest : List ℕ) → IsWord name → is_tag name ≡ true → Ends rest
+    → tag_token Nothing (name ++ rest) ≡ token tag rest
+tag_text name rest w g e = rw (span_len name rest w e, take_name name rest, drop_name name rest, g) refl
+
+tag_again : (name rest : List ℕ) → IsWord name → is_tag name ≡ true → Ends rest
+    → dispatched Nothing (name ++ rest) ≡ token tag rest
+tag_again [] rest w g e = absurd (let no : false ≡ true = g in cc)
+tag_again (a ∷ name) rest w g e =
+    let begins = (and_parts (begins_tag (a ∷ name)) (is_symbol (a ∷ name)) g).0 in
+    let not_set : (a == 123) ≡ false =
+    ne_eqb a 123 (λ i. let no : true ≡ false = sym begins ∙ ap (λ x. begins_tag (x ∷ name)) i in cc) in
+    let not_discard : (a == 95) ≡ false =
+    ne_eqb a 95 (λ i. let no : true ≡ false = sym begins ∙ ap (λ x. begins_tag (x ∷ name)) i in cc) in
+    rw (not_set, not_discard) (tag_text (a ∷ name) rest w g e)
+
+character_again : (b : ℕ) (name rest : List ℕ) → is_space b ≡ false → IsWord name → is_character (b ∷ name) ≡ true
+    → Ends rest → character_token Nothing (b ∷ (name ++ rest)) ≡ token (leaf (character (b ∷ name))) rest
+character_again b name rest s w g e =
+    let len : prefix_len is_word_byte (name ++ rest) + 1 ≡ suc (length name) = omega (arith, span_len name rest w e) in
+    rw (len, take_name name rest, drop_name name rest, s, g) refl
+
+word_text : (name rest : List ℕ) (f : Form) → IsWord name → word_of name ≡ Some f → Ends rest
+    → word_token Nothing (name ++ rest) ≡ token (leaf f) rest
+word_text name rest f w is e = rw (span_len name rest w e, take_name name rest, drop_name name rest, is) refl
+
+word_again : (b : ℕ) (name rest : List ℕ) (f : Form) → b ≢ 35 → IsWord (b ∷ name) → word_of (b ∷ name) ≡ Some f
+    → Ends rest → token_at Nothing (b ∷ (name ++ rest)) ≡ token (leaf f) rest
+unfolding token_at
+word_again b name rest f h w is e =
+    let first = (and_parts (is_word_byte b) (list_all is_word_byte name) w).0 in
+    rw (
+      not_end b 59 first e59,
+      not_end b 34 first e34,
+      not_end b 92 first e92,
+      ne_eqb b 35 h,
+      not_end b 40 first e40,
+      not_end b 91 first e91,
+      not_end b 123 first e123,
+      not_end b 41 first e41,
+      not_end b 93 first e93,
+      not_end b 125 first e125,
+    ) (word_text (b ∷ name) rest f w is e)
+
+pub token_again : {t : Token} {text rest : List ℕ} → Begins t text rest → token_at Nothing text ≡ token t rest
+unfolding token_at is_end is_space
+token_again round_opens = refl
+token_again square_opens = refl
+token_again curly_opens = refl
+token_again set_opens = refl
+token_again round_closes = refl
+token_again square_closes = refl
+token_again curly_closes = refl
+token_again discards = refl
+token_again {rest = rest} (tags name w g e) = tag_again name rest w g e
+token_again {rest = rest} (quotes inside h) = rw (string_again h rest) refl
+token_again {rest = rest} (characters {b = b} {name = name} s w g e) = character_again b name rest s w g e
+token_again {rest = rest} (words {f = f} b name h w is e) = word_again b name rest f h w is e
+
+-- ---- a gap ends where the token begins
+
+no_gap_here : {t : Token} {text rest : List ℕ} → Begins t text rest → after_gap_in None text ≡ text
+unfolding is_space
+no_gap_here round_opens = refl
+no_gap_here square_opens = refl
+no_gap_here curly_opens = refl
+no_gap_here set_opens = refl
+no_gap_here round_closes = refl
+no_gap_here square_closes = refl
+no_gap_here curly_closes = refl
+no_gap_here discards = refl
+no_gap_here (tags name w g e) = refl
+no_gap_here (quotes inside h) = refl
+no_gap_here (characters s w g e) = refl
+no_gap_here (words b name h w is e) =
+    let first = (and_parts (is_word_byte b) (list_all is_word_byte name) w).0 in
+    rw (not_space b first, not_hash b first) refl
+
+line_passed : (start line text : List ℕ) → All (λ (b : ℕ). b ≢ 10) line
+    → after_gap_in (Some start) (line ++ 10 ∷ text) ≡ after_gap_in None text
+line_passed start [] text plain = refl
+line_passed start (b ∷ line) text plain =
+    rw (ne_eqb b 10 (plain 0 0 (omega arith))) (line_passed start line text (rest_plain b line plain))
+
+pub gap_again : {gap : List ℕ} → IsGap gap → {t : Token} {text rest : List ℕ} → Begins t text rest
+    → after_gap_in None (gap ++ text) ≡ text
+unfolding is_space
+gap_again no_gap h = no_gap_here h
+gap_again (space e g) h = rw e (gap_again g h)
+gap_again (comment {gap = gap} line plain g) {text = text} h =
+    ap (λ x. after_gap_in (Some (59 ∷ x)) x) (append_assoc line (10 ∷ gap) text)
+    ∙ line_passed _ line (gap ++ text) plain ∙ gap_again g h
+
+-- ---- a text has one list of tokens, and one form
+
+token_parts : (s t : Token) (a b : List ℕ) → token s a ≡ token t b → (s ≡ t) × (a ≡ b)
+token_parts s t a b e = (cc, cc)
+
+one_token : {s t : Token} {gap1 gap2 a b x y : List ℕ} → IsGap gap1 → IsGap gap2 → Begins s a x → Begins t b y
+    → gap1 ++ a ≡ gap2 ++ b → (s ≡ t) × (x ≡ y)
+one_token {s} {t} {x = x} {y = y} g1 g2 h1 h2 e =
+    let same = sym (gap_again g1 h1) ∙ ap (after_gap_in None) e ∙ gap_again g2 h2 in
+    token_parts s t x y (sym (token_again h1) ∙ ap (token_at Nothing) same ∙ token_again h2)
+
+-- of two lists of tokens that a text begins with, one goes on as the other does
+pub same_tokens : {text other rest end : List ℕ} {ts us : List Token} → Lexes text ts rest → Lexes other us end → text ≡ other
+    → ((vs : List Token) × (us ≡ ts ++ vs)) ⊎ ((vs : List Token) × (ts ≡ us ++ vs))
+same_tokens {us = us} no_tokens l e = inl (us, refl)
+same_tokens {ts = ts} (next gap text g b l) no_tokens e = inr (ts, refl)
+same_tokens (next {t = s} {ts = ts} gap1 text1 g1 b1 l1) (next {t = t} {ts = us} gap2 text2 g2 b2 l2) e =
+    let one = one_token g1 g2 b1 b2 e in
+    elim (same_tokens l1 l2 one.1) [
+      | inl (vs, is) ↦ inl (vs, ap (λ xs. t ∷ xs) is ∙ ap (λ x. x ∷ (ts ++ vs)) (sym one.0))
+      | inr (vs, is) ↦ inr (vs, ap (λ xs. s ∷ xs) is ∙ ap (λ x. x ∷ (us ++ vs)) one.0)
+    ]
+
+form_in : Form → Result Step Problem → Form
+form_in d (Ok (stack, Some f)) = f
+form_in d (Ok (stack, None)) = d
+form_in d (Err p) = d
+
+is_made : Result Step Problem → Bool
+is_made (Ok s) = true
+is_made (Err p) = false
+
+alone : (f g : Form) (vs : List Token) → resume (Ok (top ∷ [], Some f)) vs ≡ Ok (top ∷ [], Some g) → f ≡ g
+unfolding form_in is_made
+alone f g [] e = ap (form_in f) e
+alone f g (v ∷ vs) e = absurd (let no : false ≡ true = ap is_made e in cc)
+
+made : {ts : List Token} {f : Form} → IsItem ts f → run (top ∷ []) ts ≡ Ok (top ∷ [], Some f)
+unfolding put
+made {ts} h = ap (run (top ∷ [])) (sym (append-nil ts)) ∙ item_runs h top [] []
+
+begun : (ts vs : List Token) (f g : Form) → IsItem ts f → IsItem (ts ++ vs) g → f ≡ g
+unfolding put
+begun ts vs f g h k = alone f g vs (sym (item_runs h top [] vs) ∙ made k)
+
+pub one_form : (text rest end : List ℕ) (ts us : List Token) (f g : Form) → Lexes text ts rest → Lexes text us end
+    → IsItem ts f → IsItem us g → f ≡ g
+one_form text rest end ts us f g l m h k =
+    elim (same_tokens l m refl) [
+      | inl (vs, e) ↦ begun ts vs f g h (subst (λ xs. IsItem xs g) e k)
+      | inr (vs, e) ↦ sym (begun us vs g f k (subst (λ xs. IsItem xs f) e h))
+    ]

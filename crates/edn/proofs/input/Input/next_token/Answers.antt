@@ -1,0 +1,38 @@
+use Rattle.std.proofs.Common.{arith, sym, ◌∙◌, subst, ◌≡◌}
+use Rattle.std.specs.Io.KnownBytes.{prepend_known}
+use Rattle.edn.specs.Meaning.Reading.{IsLinked, ReadsToken}
+use Rattle.edn.specs.Computing.Tokens.{token, token_of, token_at}
+use Rattle.edn.proofs.TokensRead.{token_rest, none_passed, more_passed, same_passed, token_read}
+use Rattle.edn.proofs.input.Input.next_token.Goals as goal
+
+pub loop-token-init : goal.loop-token-init
+loop-token-init g c = (omega arith, λ l. (l, none_passed _))
+
+pub returns-in-Token-clause-token : goal.returns-in-Token-clause-token
+returns-in-Token-clause-token g c = λ l.
+    let (now, passed) = c.loop-token.invariant.1 l in
+    let (gap, is_gap, e) = c.pass_gap.ensures.passed in
+    let start = prepend_known c.args.self.now.pending (g.S.Read.remaining c.args.source.now) in
+    let left = g.S.Read.remaining c.loop-token.source in
+    let p = c.pass_gap.new.self.pending in
+    let t = token_of c.in-Token.token in
+    let rest = c.in-Token.rest.now in
+    let is : token_at c.pass_gap.new.self.beyond p ≡ token t rest =
+    sym (rw (c.in-Token.is, c.bytes.ensures) at c.in_ok-token.ensures.exact) in
+    let linked = subst (λ b. IsLinked b left) (sym c.pass_gap.ensures.beyond) now in
+    let read = token_read c.pass_gap.new.self.beyond p t rest start left is linked
+    (more_passed _ p gap start left e is_gap passed) in
+    let pending = (rw c.bytes-in-Token.ensures at c.pass.ensures.rest) ∙ token_rest _ p t rest is in
+    subst (λ x. ReadsToken start (prepend_known x left) t) (sym pending) read
+
+pub loop-token-preserved : goal.loop-token-preserved
+loop-token-preserved g c =
+    let (gap, is_gap, e) = c.pass_gap.ensures.passed in
+    let left = g.S.Read.remaining c.loop-token.source in (
+      omega (arith, c.in_ok-fill-in-More.ensures.work, c.pass_gap.ensures.within, c.loop-token.invariant.0),
+      λ l. (
+        c.in_ok-fill-in-More.ensures.linked,
+        same_passed _ _ _ c.in_ok-fill-in-More.ensures.same
+            (more_passed _ c.pass_gap.new.self.pending gap _ left e is_gap (c.loop-token.invariant.1 l).1),
+      ),
+    )

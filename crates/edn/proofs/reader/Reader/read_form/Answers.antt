@@ -1,0 +1,58 @@
+use Rattle.std.proofs.Common.{rules, ◌∷◌, ◌++◌, [], option_map, sym, ap, subst, arith}
+use Rattle.std.specs.Io.KnownBytes.{prepend_known}
+use Rattle.edn.specs.Meaning.Forms.{form_of}
+use Rattle.edn.specs.Meaning.Reading.{IsLinked, ReadsTokens}
+use Rattle.edn.specs.Meaning.Readers.{text_left}
+use Rattle.edn.specs.Computing.Tokens.{token_of}
+use Rattle.edn.proofs.FormsRead.{leads_here, leads_on, form_read, reads_none, reads_more, reads_form}
+use Rattle.edn.proofs.reader.Reader.read_form.Goals as goal
+
+pub loop-token-init : goal.loop-token-init
+loop-token-init g c =
+    (omega arith, λ ready. (ready.linked, ([], reads_none _, leads_here c.args.self.now.stage _ ready.idle)))
+
+pub returns-in-Some-2-clause-form : goal.returns-in-Some-2-clause-form
+returns-in-Some-2-clause-form g c = λ ready.
+    let (linked, (ts, reads, leads)) = c.loop-token.invariant.1 ready in
+    let left = g.S.Read.remaining c.next_token.new.source in
+    let start = text_left c.args.self.now (g.S.Read.remaining c.args.source.now) in
+    let t = token_of c.in-Some.token in
+    let f = form_of c.in-Some-2.form in
+    let token = rw c.in-Some.is at (c.in_ok-token.ensures.token linked) in
+    let more : ReadsTokens start (text_left c.take.new.self left) (ts ++ t ∷ []) =
+    subst (λ i. ReadsTokens start (prepend_known i.pending left) (ts ++ t ∷ [])) (sym c.in_ok-form.ensures.input)
+    (reads_more start _ _ ts t reads token) in
+    let read = form_read c.args.self.now.stage c.loop-token.self.stage c.take.new.self.stage ts t _ _ _ f
+    (ap (option_map form_of) c.in-Some-2.is) leads c.in_ok-form.ensures.takes in
+    reads_form c.args.self.now.stage start (text_left c.take.new.self left) (ts ++ t ∷ []) f more read.0
+
+pub returns-in-Some-2-clause-ready : goal.returns-in-Some-2-clause-ready
+returns-in-Some-2-clause-ready g c = λ ready.
+    let (linked, (ts, reads, leads)) = c.loop-token.invariant.1 ready in
+    let left = g.S.Read.remaining c.next_token.new.source in
+    let read = form_read c.args.self.now.stage c.loop-token.self.stage c.take.new.self.stage ts (token_of c.in-Some.token)
+    _ _ _ (form_of c.in-Some-2.form) (ap (option_map form_of) c.in-Some-2.is) leads c.in_ok-form.ensures.takes in
+    record {
+      linked = subst (λ i. IsLinked i.beyond left) (sym c.in_ok-form.ensures.input) (c.in_ok-token.ensures.linked linked);
+      idle = read.1;
+    }
+
+pub loop-token-preserved : goal.loop-token-preserved
+loop-token-preserved g c =
+    let left = g.S.Read.remaining c.next_token.new.source in
+    let start = text_left c.args.self.now (g.S.Read.remaining c.args.source.now) in
+    let t = token_of c.in-Some.token in (
+      search rules,
+      λ ready.
+          let (linked, (ts, reads, leads)) = c.loop-token.invariant.1 ready in
+          let token = rw c.in-Some.is at (c.in_ok-token.ensures.token linked) in (
+            subst (λ i. IsLinked i.beyond left) (sym c.in_ok-form.ensures.input) (c.in_ok-token.ensures.linked linked),
+            (
+              ts ++ t ∷ [],
+              subst (λ i. ReadsTokens start (prepend_known i.pending left) (ts ++ t ∷ [])) (sym c.in_ok-form.ensures.input)
+                  (reads_more start _ _ ts t reads token),
+              leads_on c.args.self.now.stage c.loop-token.self.stage c.take.new.self.stage ts t _ _ _
+                  (ap (option_map form_of) c.in_default-2.is) leads c.in_ok-form.ensures.takes,
+            ),
+          ),
+    )

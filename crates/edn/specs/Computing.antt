@@ -1,0 +1,6 @@
+-- Reading from left to right.
+pub mod Strings
+pub mod Tokens
+pub mod Gaps
+pub mod Building
+pub mod Stages

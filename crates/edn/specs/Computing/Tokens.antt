@@ -1,0 +1,118 @@
+-- Reading a token.
+use Rattle.std.specs.Prelude.{◌≡◌, ℕ, ◌+◌, ◌<◌, ◌==◌, Bool, false, not, ◌||◌, List, [], ◌∷◌, length, take, drop}
+use Rattle.std.specs.Prelude.{Option, Some, None, if◌then◌else◌}
+use Rattle.std.specs.List.{prefix_len}
+use Rattle.edn.specs.declared.read_fault.Problem.{Problem}
+use Rattle.edn.specs.declared.read_fault.Problem.TheVariants as problem
+use Rattle.edn.specs.declared.token.Opening.TheVariants as opening
+use Rattle.edn.specs.declared.token.Closing.TheVariants as closing
+use Rattle.edn.specs.declared.token.Beyond.{Beyond}
+use Rattle.edn.specs.declared.token.Beyond.TheVariants.{Unread, Nothing}
+use Rattle.edn.specs.declared.token.Token.{Token as TokenValue}
+use Rattle.edn.specs.declared.token.Token.TheVariants as In
+use Rattle.edn.specs.declared.token.Lexed.{Lexed as LexedValue}
+use Rattle.edn.specs.declared.token.Lexed.TheVariants as Read
+use Rattle.edn.specs.Meaning.Bytes.{is_space, is_word_byte}
+use Rattle.edn.specs.Meaning.Characters.{is_character}
+use Rattle.edn.specs.Meaning.Forms.{Form, string, character, form_of}
+use Rattle.edn.specs.Meaning.Names.{is_tag}
+use Rattle.edn.specs.Meaning.Tokens.{Token, opens, closes, discard, tag, leaf}
+use Rattle.edn.specs.Meaning.Words.{word_of}
+use Rattle.edn.specs.Computing.Strings.{Quoted, closed, open_, bad as no_string, quoted_at}
+
+-- a token and what follows; the text ends; more bytes decide; no token
+pub data Lexed : Type 0 where
+  token : Token → List ℕ → Lexed
+  end : Lexed
+  more : Lexed
+  bad : Problem → Lexed
+
+abbrev pub token_of : TokenValue → Token
+token_of (In.Open b) = opens b
+token_of (In.Close b) = closes b
+token_of In.Discard = discard
+token_of In.Tag = tag
+token_of (In.Leaf f) = leaf (form_of f)
+
+abbrev pub lexed_of : LexedValue → Lexed
+lexed_of (Read.Token t rest) = token (token_of t) rest.now
+lexed_of Read.End = end
+lexed_of Read.More = more
+lexed_of (Read.Bad p) = bad p
+
+-- what follows a token is shorter than the bytes; more bytes decide only if there may be more
+abbrev pub IsRest : Beyond → List ℕ → LexedValue → Type 0
+IsRest beyond bytes (Read.Token t rest) = length rest.now < length bytes
+IsRest beyond bytes Read.End = Unit {0}
+IsRest beyond bytes Read.More = beyond ≡ Unread
+IsRest beyond bytes (Read.Bad p) = Unit {0}
+
+abbrev pub no_token : Beyond → Lexed
+no_token Unread = more
+no_token Nothing = end
+
+abbrev pub unfinished : Beyond → Lexed
+unfinished Unread = more
+unfinished Nothing = bad problem.Unclosed
+
+abbrev pub may_go_on : List ℕ → Beyond → Bool
+may_go_on rest Unread = length rest == 0
+may_go_on rest Nothing = false
+
+abbrev pub after_string : Beyond → Quoted → Lexed
+after_string beyond (closed bytes rest) = token (leaf (string bytes)) rest
+after_string beyond open_ = unfinished beyond
+after_string beyond no_string = bad problem.Token
+
+-- after the quote
+abbrev pub string_token : Beyond → List ℕ → Lexed
+string_token beyond text = after_string beyond (quoted_at false text)
+
+abbrev pub character_at : Beyond → ℕ → List ℕ → List ℕ → Lexed
+character_at beyond first name rest =
+    if may_go_on rest beyond then more else
+    if is_space first || not (is_character name) then bad problem.Token else token (leaf (character name)) rest
+
+-- after the backslash
+abbrev pub character_token : Beyond → List ℕ → Lexed
+character_token beyond [] = unfinished beyond
+character_token beyond (b ∷ bs) =
+    character_at beyond b (take (prefix_len is_word_byte bs + 1) (b ∷ bs)) (drop (prefix_len is_word_byte bs + 1) (b ∷ bs))
+
+abbrev pub tag_at : Beyond → List ℕ → List ℕ → Lexed
+tag_at beyond name rest =
+    if may_go_on rest beyond then more else if is_tag name then token tag rest else bad problem.Token
+
+-- after the `#`
+abbrev pub tag_token : Beyond → List ℕ → Lexed
+tag_token beyond text = tag_at beyond (take (prefix_len is_word_byte text) text) (drop (prefix_len is_word_byte text) text)
+
+abbrev pub dispatched : Beyond → List ℕ → Lexed
+dispatched beyond [] = unfinished beyond
+dispatched beyond (b ∷ bs) =
+    if b == 123 then token (opens opening.Set) bs else
+    if b == 95 then token discard bs else tag_token beyond (b ∷ bs)
+
+abbrev pub of_word : Option Form → List ℕ → Lexed
+of_word (Some f) rest = token (leaf f) rest
+of_word None rest = bad problem.Token
+
+abbrev pub word_at : Beyond → List ℕ → List ℕ → Lexed
+word_at beyond name rest = if may_go_on rest beyond then more else of_word (word_of name) rest
+
+abbrev pub word_token : Beyond → List ℕ → Lexed
+word_token beyond text = word_at beyond (take (prefix_len is_word_byte text) text) (drop (prefix_len is_word_byte text) text)
+
+unfoldable pub token_at : Beyond → List ℕ → Lexed
+token_at beyond [] = no_token beyond
+token_at beyond (b ∷ bs) =
+    if b == 59 then no_token beyond else
+    if b == 34 then string_token beyond bs else
+    if b == 92 then character_token beyond bs else
+    if b == 35 then dispatched beyond bs else
+    if b == 40 then token (opens opening.List) bs else
+    if b == 91 then token (opens opening.Vector) bs else
+    if b == 123 then token (opens opening.Map) bs else
+    if b == 41 then token (closes closing.Round) bs else
+    if b == 93 then token (closes closing.Square) bs else
+    if b == 125 then token (closes closing.Curly) bs else word_token beyond (b ∷ bs)

@@ -1,0 +1,3 @@
+-- What only the loops need.
+pub mod Inputs
+pub mod Frames

@@ -1,0 +1,14 @@
+-- What the promises mean.
+pub mod Bytes
+pub mod Names
+pub mod Characters
+pub mod Forms
+pub mod Numbers
+pub mod Strings
+pub mod Words
+pub mod Tokens
+pub mod Grammar
+pub mod Lexing
+pub mod Readers
+pub mod Reading
+pub mod Laws

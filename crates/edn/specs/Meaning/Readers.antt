@@ -1,0 +1,41 @@
+-- What a reader has read of a text.
+use Rattle.std.specs.Prelude.{◌≡◌, ◌⊎◌, ℕ, List, [], ◌∷◌, Option, None, Some}
+use Rattle.std.specs.Io.KnownBytes.{prepend_known}
+use Rattle.edn.specs.declared.reader.Reader.{Reader}
+use Rattle.edn.specs.declared.reader.Stage.{Stage}
+use Rattle.edn.specs.declared.reader.Stage.TheVariants.{Start, Forms, Elements, Closed, Failed}
+use Rattle.edn.specs.declared.token.Opening.TheVariants as opening
+use Rattle.edn.specs.Meaning.Forms.{Form}
+use Rattle.edn.specs.Meaning.Tokens.{Token, opens}
+use Rattle.edn.specs.Meaning.Lexing.{Lexes}
+use Rattle.edn.specs.Meaning.Grammar.{IsItem}
+use Rattle.edn.specs.Meaning.Reading.{IsLinked}
+use Rattle.edn.specs.Computing.Building.{top, stack_of}
+use Rattle.edn.specs.Machinery.Inputs.{work_left}
+
+-- falls with each form: from the reads that the source has left
+abbrev pub left_to_do : ℕ → Reader → ℕ
+left_to_do reads r = work_left reads r.input.pending
+
+-- the text that is to be read, if it is known: from what the source has left
+abbrev pub text_left : Reader → Option (List ℕ) → Option (List ℕ)
+text_left r left = prepend_known r.input.pending left
+
+-- the reader is one for this source, and isn't within a form
+pub record IsReady (r : Reader) (left : Option (List ℕ)) : Type 0 where
+  pub linked : IsLinked r.input.beyond left
+  pub idle : stack_of r.builder ≡ top ∷ []
+
+-- the tokens are those of the form; the first form of a text may stand in a vector, which these tokens open
+abbrev pub IsFormAt : Stage → List Token → Form → Type 0
+IsFormAt Start ts f = IsItem ts f ⊎ ((us : List Token) × (ts ≡ opens opening.Vector ∷ us) × IsItem us f)
+IsFormAt Forms ts f = IsItem ts f
+IsFormAt Elements ts f = IsItem ts f
+IsFormAt Closed ts f = ⊥
+IsFormAt (Failed fault) ts f = ⊥
+
+-- the text, if it is known, begins with the form, and goes on so
+abbrev pub ReadsForm : Stage → Option (List ℕ) → Option (List ℕ) → Form → Type 0
+ReadsForm stage None left f = Unit {0}
+ReadsForm stage (Some text) left f =
+    (ts : List Token) × (rest : List ℕ) × Lexes text ts rest × IsFormAt stage ts f × (left ≡ Some rest)

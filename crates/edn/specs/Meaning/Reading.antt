@@ -1,0 +1,29 @@
+-- What was read of a text, of which this is left.
+use Rattle.std.specs.Prelude.{◌≡◌, List, ◌++◌, ℕ, Option, None, Some}
+use Rattle.std.specs.Io.KnownBytes.{IsAtEnd}
+use Rattle.edn.specs.declared.token.Beyond.{Beyond}
+use Rattle.edn.specs.declared.token.Beyond.TheVariants.{Unread, Nothing}
+use Rattle.edn.specs.Meaning.Tokens.{Token}
+use Rattle.edn.specs.Meaning.Lexing.{IsGap, Begins, Lexes}
+
+-- the source has nothing left if its end was met
+abbrev pub IsLinked : Beyond → Option (List ℕ) → Type 0
+IsLinked Unread left = Unit {0}
+IsLinked Nothing left = IsAtEnd left
+
+-- of the text, if it is known, a gap was passed over
+abbrev pub PassesGap : Option (List ℕ) → Option (List ℕ) → Type 0
+PassesGap None left = Unit {0}
+PassesGap (Some text) None = ⊥
+PassesGap (Some text) (Some rest) = (gap : List ℕ) × IsGap gap × (text ≡ gap ++ rest)
+
+-- the text, if it is known, begins with a gap and the token
+abbrev pub ReadsToken : Option (List ℕ) → Option (List ℕ) → Token → Type 0
+ReadsToken None left t = Unit {0}
+ReadsToken (Some text) left t =
+    (gap front rest : List ℕ) × IsGap gap × Begins t front rest × (text ≡ gap ++ front) × (left ≡ Some rest)
+
+-- it begins with these tokens
+abbrev pub ReadsTokens : Option (List ℕ) → Option (List ℕ) → List Token → Type 0
+ReadsTokens None left ts = Unit {0}
+ReadsTokens (Some text) left ts = (rest : List ℕ) × Lexes text ts rest × (left ≡ Some rest)

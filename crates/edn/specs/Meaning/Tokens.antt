@@ -1,0 +1,12 @@
+-- What a text is made of.
+use Rattle.edn.specs.declared.token.Opening.{Opening}
+use Rattle.edn.specs.declared.token.Closing.{Closing}
+use Rattle.edn.specs.Meaning.Forms.{Form}
+
+-- a bracket, `#_`, a `#` and a symbol, or a form that is no collection
+pub data Token : Type 0 where
+  opens : Opening → Token
+  closes : Closing → Token
+  discard : Token
+  tag : Token
+  leaf : Form → Token

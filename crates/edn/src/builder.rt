@@ -1,0 +1,248 @@
+//! Forms made of tokens.
+
+ghost use Rattle.std.specs.Prelude.{◌≡◌, ◌∷◌, ◌≤◌, [], None, Ok, length, IfOk, IfErr, OnOk, ◌⊎◌, option_map};
+ghost use Rattle.edn.specs.Meaning.Forms.{form_of};
+ghost use Rattle.edn.specs.Computing.Building as Spec;
+ghost use Rattle.edn.specs.Computing.Building.{Refuses, frame_of, map_frame, outer_of, stack_of};
+ghost use Rattle.edn.specs.Computing.Tokens.{token_of};
+
+use crate::form::Form;
+use crate::read_fault::{Problem, Refusal};
+use crate::token::{Closing, Opening, Token};
+use std::alloc::{AllocError, Global};
+use std::mem;
+
+/// How deep collections, tags and `#_` may be nested.
+pub const MAX_DEPTH: usize = 64;
+
+/// What is open around the next token.
+#[derive(Drop)]
+enum Frame {
+    /// Nothing.
+    Top,
+    /// A tag, whose form is to come.
+    Tag,
+    /// A `#_`, whose form is to come.
+    Discard,
+    /// A list with these forms so far.
+    List(Vec<Form>),
+    /// A vector with these forms so far.
+    Vector(Vec<Form>),
+    /// A set with these forms so far.
+    Set(Vec<Form>),
+    /// A map.
+    Map(Entries),
+}
+
+/// The entries of a map so far, and a key whose value is to come.
+#[derive(Drop)]
+struct Entries {
+    entries: Vec<(Form, Form)>,
+    key: Option<Form>,
+}
+
+/// Makes forms of tokens.
+#[derive(Drop)]
+pub(crate) struct Builder {
+    alloc: Global,
+    /// What is open around the next token, and what around that, the outermost first.
+    frame: Frame,
+    outer: Vec<Frame>,
+}
+
+impl Builder {
+    /// A builder that took no token.
+    pub(crate) fn new(alloc: Global) -> Builder
+        ensures { stack_of result ≡ Spec.top ∷ [] }
+    {
+        Builder {
+            alloc,
+            frame: Frame::Top,
+            outer: Vec::new(alloc),
+        }
+    }
+
+    /// Returns whether no form has been begun.
+    pub(crate) fn is_idle(&self) -> bool
+        ensures { result ≡ Spec.is_top (stack_of self.now) }
+    {
+        matches!(self.frame, Frame::Top)
+    }
+
+    /// Takes the next token. Returns the form that ends with it, if one does that is part of no other.
+    #[tactic(auto, unfolding(crate::specs::Computing::Building::step))]
+    pub(crate) fn take(&mut self, token: Token) -> Result<Option<Form>, Refusal>
+        ensures ok { IfOk result (λ o. Spec.step (stack_of self.old) (token_of token)
+            ≡ Ok (stack_of self.new, option_map form_of o)) }
+        ensures refused { IfErr result (λ e. Refuses (stack_of self.old) e (Spec.step (stack_of self.old) (token_of token))) }
+    {
+        match token {
+            Token::Open(bracket) => self.open(opened(self.alloc, bracket)),
+            Token::Tag => self.open(Frame::Tag),
+            Token::Discard => self.open(Frame::Discard),
+            Token::Close(bracket) => self.close(bracket),
+            Token::Leaf(form) => Ok(self.put(form)?),
+        }
+    }
+
+    /// Returns what is wrong if the text ends here, within a form.
+    pub(crate) fn problem_at_end(&self) -> Problem {
+        match self.frame {
+            Frame::Tag | Frame::Discard => Problem::NoForm,
+            _ => Problem::Unclosed,
+        }
+    }
+
+    /// Begins a form.
+    fn open(&mut self, frame: Frame) -> Result<Option<Form>, Refusal>
+        ensures ok { IfOk result (λ o. (o ≡ None) × (stack_of self.new ≡ frame_of frame ∷ stack_of self.old)) }
+        ensures refused { IfErr result (λ e. (e ≡ Refusal.Memory)
+            ⊎ ((e ≡ Refusal.Problem Problem.Depth) × (65 ≤ length (stack_of self.old)))) }
+    {
+        if self.outer.len() >= MAX_DEPTH {
+            return Err(Refusal::Problem(Problem::Depth));
+        }
+        let outer = mem::replace(&mut self.frame, frame);
+        self.outer.push(outer)?;
+        Ok(None)
+    }
+
+    /// Ends the collection that is open.
+    fn close(&mut self, bracket: Closing) -> Result<Option<Form>, Refusal>
+        ensures ok { IfOk result (λ o. Spec.close (stack_of self.old) bracket
+            ≡ Ok (stack_of self.new, option_map form_of o)) }
+        ensures refused { IfErr result (λ e. Refuses (stack_of self.old) e (Spec.close (stack_of self.old) bracket)) }
+    {
+        if let Some(problem) = self.problem_at(bracket) {
+            return Err(Refusal::Problem(problem));
+        }
+        match self.leave().into_form() {
+            Some(form) => Ok(self.put(form)?),
+            None => Err(Refusal::Problem(Problem::NoValue)),
+        }
+    }
+
+    /// Returns what is wrong with this bracket, if it can't come next.
+    fn problem_at(&self, bracket: Closing) -> Option<Problem>
+        ensures { result ≡ Spec.problem_at (frame_of self.now.frame) bracket }
+    {
+        match (&self.frame, bracket) {
+            (Frame::List(_), Closing::Round) => None,
+            (Frame::Vector(_), Closing::Square) => None,
+            (Frame::Set(_), Closing::Curly) => None,
+            (Frame::Map(_), Closing::Curly) => None,
+            (Frame::Tag, _) => Some(Problem::NoForm),
+            (Frame::Discard, _) => Some(Problem::NoForm),
+            _ => Some(Problem::Unopened),
+        }
+    }
+
+    /// Goes on with what is open around the frame, and returns the frame.
+    fn leave(&mut self) -> Frame
+        ensures left { result ≡ self.old.frame }
+        ensures outer { stack_of self.new ≡ Spec.or_top (outer_of self.old.outer.items) }
+    {
+        let outer = self.outer.pop().unwrap_or(Frame::Top);
+        mem::replace(&mut self.frame, outer)
+    }
+
+    /// Goes on with what is open around the tags. Their form has come.
+    fn leave_tags(&mut self)
+        ensures { stack_of self.new ≡ Spec.leave_tags (stack_of self.old) }
+    {
+        while matches!(self.frame, Frame::Tag) {
+            self.frame = self.outer.pop().unwrap_or(Frame::Top);
+        }
+    }
+
+    /// Puts a form where it belongs. Returns it if it is part of no other.
+    #[tactic(auto, unfolding(crate::specs::Computing::Building::put))]
+    fn put(&mut self, form: Form) -> Result<Option<Form>, AllocError>
+        ensures { IfOk result (λ o. Spec.put (stack_of self.old) (form_of form) ≡ (stack_of self.new, option_map form_of o)) }
+    {
+        self.leave_tags();
+        self.add(form)
+    }
+
+    /// Puts a form, behind whose tags this is, where it belongs.
+    fn add(&mut self, form: Form) -> Result<Option<Form>, AllocError>
+        ensures { IfOk result (λ o. Spec.into_stack (stack_of self.old) (form_of form)
+            ≡ (stack_of self.new, option_map form_of o)) }
+    {
+        match &mut self.frame {
+            Frame::List(forms) => {
+                forms.push(form)?;
+                Ok(None)
+            }
+            Frame::Vector(forms) => {
+                forms.push(form)?;
+                Ok(None)
+            }
+            Frame::Set(forms) => {
+                forms.push(form)?;
+                Ok(None)
+            }
+            Frame::Map(entries) => {
+                entries.put(form)?;
+                Ok(None)
+            }
+            Frame::Discard => {
+                let _ = self.leave();
+                Ok(None)
+            }
+            Frame::Top | Frame::Tag => Ok(Some(form)),
+        }
+    }
+}
+
+impl Frame {
+    /// Returns the collection, unless it is a map whose last key has no value.
+    fn into_form(self) -> Option<Form>
+        ensures { option_map form_of result ≡ Spec.collection (frame_of self) }
+    {
+        match self {
+            Frame::List(forms) => Some(Form::List(forms)),
+            Frame::Vector(forms) => Some(Form::Vector(forms)),
+            Frame::Set(forms) => Some(Form::Set(forms)),
+            Frame::Map(entries) => entries.into_form(),
+            Frame::Top | Frame::Tag | Frame::Discard => None,
+        }
+    }
+}
+
+impl Entries {
+    /// Adds a key or the value of the last one.
+    fn put(&mut self, form: Form) -> Result<(), AllocError>
+        ensures { OnOk result (Spec.into_map (map_frame self.old) (form_of form) ≡ map_frame self.new) }
+    {
+        match self.key.take() {
+            Some(key) => self.entries.push((key, form))?,
+            None => self.key = Some(form),
+        }
+        Ok(())
+    }
+
+    fn into_form(self) -> Option<Form>
+        ensures { option_map form_of result ≡ Spec.collection (map_frame self) }
+    {
+        match self.key {
+            Some(_) => None,
+            None => Some(Form::Map(self.entries)),
+        }
+    }
+}
+
+/// What is open after an opening bracket.
+fn opened(alloc: Global, bracket: Opening) -> Frame
+    ensures { frame_of result ≡ Spec.opened bracket }
+{
+    match bracket {
+        Opening::List => Frame::List(Vec::new(alloc)),
+        Opening::Vector => Frame::Vector(Vec::new(alloc)),
+        Opening::Set => Frame::Set(Vec::new(alloc)),
+        Opening::Map => Frame::Map(Entries {
+            entries: Vec::new(alloc),
+            key: None,
+        }),
+    }
+}

@@ -1,0 +1,70 @@
+//! Kinds of bytes.
+
+ghost use Rattle.std.specs.Prelude.{◌≡◌, ◌≤◌, length};
+ghost use Rattle.std.specs.List.{prefix_len};
+ghost use Rattle.std.specs.Char.{is_ascii_digit};
+ghost use Rattle.edn.specs.Meaning.Bytes.{is_space, is_end, is_word_byte, is_symbol_byte};
+
+/// Returns whether the byte is white space, as a comma is.
+#[tactic(auto, unfolding(crate::specs::Meaning::Bytes::is_space))]
+pub(crate) fn is_space(byte: u8) -> bool
+    ensures { result ≡ is_space byte }
+{
+    matches!(byte, b'\t'..=b'\r' | b' ' | b',')
+}
+
+/// Returns whether the byte ends a number, a keyword or a symbol.
+#[tactic(auto, unfolding(crate::specs::Meaning::Bytes::is_end))]
+fn is_end(byte: u8) -> bool
+    ensures { result ≡ is_end byte }
+{
+    is_space(byte) || matches!(byte, b'"' | b'(' | b')' | b';' | b'['..=b']' | b'{' | b'}')
+}
+
+fn is_word_byte(byte: u8) -> bool
+    ensures { result ≡ is_word_byte byte }
+{
+    !is_end(byte)
+}
+
+/// Returns whether the byte may stand in a symbol, beside the `/` between its parts. The standard has letters, digits and
+/// `.*+!-_?$%&=<>:#`; Clojure's own readers also take `'`, `|` and letters beyond ASCII, and so does this one.
+#[tactic(auto, unfolding(crate::specs::Meaning::Bytes::is_symbol_byte))]
+pub(crate) fn is_symbol_byte(byte: u8) -> bool
+    ensures { result ≡ is_symbol_byte byte }
+{
+    matches!(
+        byte,
+        b'!' | b'#'..=b'\''
+            | b'*'
+            | b'+'
+            | b'-'
+            | b'.'
+            | b'0'..=b':'
+            | b'<'..=b'?'
+            | b'A'..=b'Z'
+            | b'_'
+            | b'a'..=b'z'
+            | b'|'
+            | 128..=255
+    )
+}
+
+/// Returns the number of bytes at the front that may belong to one number, keyword or symbol.
+pub(crate) fn word_len(bytes: &[u8]) -> usize
+    ensures value { result ≡ prefix_len is_word_byte bytes.now }
+    ensures within { result ≤ length bytes.now }
+{
+    bytes.iter().take_while(|byte| is_word_byte(**byte)).count()
+}
+
+/// Returns the number of digits at the front.
+pub(crate) fn digits_len(bytes: &[u8]) -> usize
+    ensures value { result ≡ prefix_len is_ascii_digit bytes.now }
+    ensures within { result ≤ length bytes.now }
+{
+    bytes
+        .iter()
+        .take_while(|byte| byte.is_ascii_digit())
+        .count()
+}

@@ -1,0 +1,159 @@
+//! Tokens read from a source.
+
+ghost use Rattle.std.specs.Prelude.{◌≡◌, ◌≤◌, ◌<◌, ◌+◌, ◌++◌, ℕ, List, [], drop, length, IfOk, IfSome, OnOk, IsSome};
+ghost use Rattle.std.specs.Io.KnownBytes.{Consumes, prepend_known};
+ghost use Rattle.edn.specs.Meaning.Lexing.{IsGap};
+ghost use Rattle.edn.specs.Meaning.Reading.{IsLinked, ReadsToken};
+ghost use Rattle.edn.specs.Computing.Tokens.{token_of};
+ghost use Rattle.edn.specs.Machinery.Inputs.{work_left, to_meet};
+ghost use Rattle.edn.specs.declared.token.Beyond.TheVariants.{Unread};
+
+use crate::gap::after_gap;
+use crate::pending::Pending;
+use crate::read_fault::{Problem, ReadFault};
+use crate::token::{Beyond, Lexed, Token, read_token};
+use devices::Source;
+use std::alloc::{AllocError, Global};
+
+/// The most bytes of one read.
+const ROOM: usize = 8192;
+
+/// What was read from a source, and not yet taken as tokens. One input belongs to one source.
+#[derive(Drop)]
+pub(crate) struct Input {
+    alloc: Global,
+    pending: Pending,
+    beyond: Beyond,
+    /// The line, counted from 1, of the first byte that is pending.
+    line: u64,
+    piece: [u8; ROOM],
+}
+
+impl Input {
+    /// The input of a source of which nothing was read.
+    pub(crate) fn new(alloc: Global) -> Input
+        ensures beyond { result.beyond ≡ Unread }
+        ensures pending { result.pending ≡ [] }
+    {
+        Input {
+            alloc,
+            pending: Pending::new(alloc),
+            beyond: Beyond::Unread,
+            line: 1,
+            piece: [0; ROOM],
+        }
+    }
+
+    /// The input of a source of which these bytes, the first ones of its text, were read before.
+    pub(crate) fn after(alloc: Global, front: &[u8]) -> Result<Input, AllocError>
+        ensures { IfOk result (λ i. (i.beyond ≡ Unread) × (i.pending ≡ front.now)) }
+    {
+        let mut input = Input::new(alloc);
+        input.pending.add(alloc, front)?;
+        Ok(input)
+    }
+
+    /// Returns the line, counted from 1, up to which tokens were taken.
+    pub(crate) fn line(&self) -> u64 {
+        self.line
+    }
+
+    /// Returns the fault of this problem at the line up to which tokens were taken.
+    pub(crate) fn fault(&self, problem: Problem) -> ReadFault {
+        ReadFault::Syntax {
+            line: self.line,
+            problem,
+        }
+    }
+
+    /// Reads the next token. Returns `None` if the text ends before it, `Syntax` if no token begins so, `Device` if the
+    /// source failed, `Memory` if memory ran out.
+    pub(crate) fn next_token<S: Source>(
+        &mut self,
+        source: &mut S,
+    ) -> Result<Option<Token>, ReadFault>
+        ensures less { IfOk result (λ o. IsSome o
+            → work_left (S.left source.new) self.new.pending < work_left (S.left source.old) self.old.pending) }
+        ensures token { IsLinked self.old.beyond (S.remaining source.old) → IfOk result (λ o. IfSome o
+            (λ t. ReadsToken (prepend_known self.old.pending (S.remaining source.old))
+            (prepend_known self.new.pending (S.remaining source.new)) (token_of t))) }
+        ensures linked { IsLinked self.old.beyond (S.remaining source.old)
+            → OnOk result (IsLinked self.new.beyond (S.remaining source.new)) }
+    {
+        loop {
+            self.pass_gap();
+            match read_token(self.alloc, self.pending.bytes(), self.beyond)? {
+                Lexed::Token(token, rest) => {
+                    let len = self.pending.bytes().len() - rest.len();
+                    self.pass(len);
+                    return Ok(Some(token));
+                }
+                Lexed::End => return Ok(None),
+                Lexed::More => self.fill(source)?,
+                Lexed::Bad(problem) => return Err(self.fault(problem)),
+            }
+        }
+    }
+
+    /// Takes the white space and the comments at the front.
+    fn pass_gap(&mut self)
+        ensures beyond { self.new.beyond ≡ self.old.beyond }
+        ensures within { length self.new.pending ≤ length self.old.pending }
+        ensures passed { (gap : List ℕ) × IsGap gap × (self.old.pending ≡ gap ++ self.new.pending) }
+    {
+        let bytes = self.pending.bytes();
+        let gap = bytes.len() - after_gap(bytes).len();
+        self.pass(gap);
+    }
+
+    /// Takes this many bytes from the front.
+    fn pass(&mut self, count: usize)
+        requires { count ≤ length self.old.pending }
+        ensures rest { self.new.pending ≡ drop count self.old.pending }
+        ensures beyond { self.new.beyond ≡ self.old.beyond }
+    {
+        let lines = line_feeds(&self.pending.bytes()[..count]);
+        self.line = self.line.saturating_add(lines as u64);
+        self.pending.take(count);
+    }
+
+    /// Reads until at least twice as many bytes are pending as were, so that a long token is looked at few times.
+    fn fill<S: Source>(&mut self, source: &mut S) -> Result<(), ReadFault>
+        requires { self.old.beyond ≡ Unread }
+        ensures work { OnOk result (work_left (S.left source.new) self.new.pending ≤ work_left (S.left source.old) self.old.pending) }
+        ensures left { OnOk result (S.left source.new + to_meet self.new.beyond < S.left source.old + 1) }
+        ensures same { OnOk result (Consumes (prepend_known self.old.pending (S.remaining source.old))
+            (prepend_known self.new.pending (S.remaining source.new)) []) }
+        ensures linked { OnOk result (IsLinked self.new.beyond (S.remaining source.new)) }
+    {
+        let enough = 2 * self.pending.bytes().len();
+        loop {
+            self.pull(source)?;
+            if matches!(self.beyond, Beyond::Nothing) || self.pending.bytes().len() > enough {
+                return Ok(());
+            }
+        }
+    }
+
+    /// Reads once from the source.
+    fn pull<S: Source>(&mut self, source: &mut S) -> Result<(), ReadFault>
+        requires { self.old.beyond ≡ Unread }
+        ensures work { OnOk result (work_left (S.left source.new) self.new.pending ≤ work_left (S.left source.old) self.old.pending) }
+        ensures left { OnOk result (S.left source.new + to_meet self.new.beyond < S.left source.old + 1) }
+        ensures same { OnOk result (Consumes (prepend_known self.old.pending (S.remaining source.old))
+            (prepend_known self.new.pending (S.remaining source.new)) []) }
+        ensures linked { OnOk result (IsLinked self.new.beyond (S.remaining source.new)) }
+    {
+        match source.pull(&mut self.piece) {
+            Ok(0) => self.beyond = Beyond::Nothing,
+            Ok(n) => self.pending.add(self.alloc, &self.piece[..n])?,
+            Err(_) => return Err(ReadFault::Device),
+        }
+        Ok(())
+    }
+}
+
+/// Returns how many line feeds these bytes have.
+fn line_feeds(bytes: &[u8]) -> usize {
+    bytes.iter().filter(|byte| **byte == b'\n').count()
+}

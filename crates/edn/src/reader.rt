@@ -1,0 +1,178 @@
+//! Reading a text form by form.
+
+ghost use Rattle.std.specs.Prelude.{◌≡◌, ◌<◌, List, ℕ, Option, true, IfOk, IfSome, OnOk, IsSome, option_map};
+ghost use Rattle.std.specs.Io.KnownBytes.{prepend_known};
+ghost use Rattle.edn.specs.Meaning.Forms.{form_of};
+ghost use Rattle.edn.specs.Meaning.Readers.{IsReady, ReadsForm, left_to_do, text_left};
+ghost use Rattle.edn.specs.Computing.Building.{is_top, stack_of};
+ghost use Rattle.edn.specs.Computing.Stages.{Built, Takes};
+ghost use Rattle.edn.specs.Computing.Tokens.{token_of};
+ghost use Rattle.edn.specs.declared.reader.Stage.TheVariants.{Start, Elements};
+
+use crate::builder::Builder;
+use crate::form::Form;
+use crate::input::Input;
+use crate::read_fault::{Problem, ReadFault, Refusal};
+use crate::token::{Closing, Opening, Token};
+use devices::Source;
+use std::alloc::{AllocError, Global};
+
+/// What a text turned out to be.
+#[derive(Clone, Copy)]
+enum Stage {
+    /// No token was read.
+    Start,
+    /// Forms, one after another.
+    Forms,
+    /// One vector, which is open.
+    Elements,
+    /// One vector, which is closed.
+    Closed,
+    /// No text of EDN, or none that could be read.
+    Failed(ReadFault),
+}
+
+/// Reads a text form by form. If the text begins with `[`, it has to be one vector, and its elements are read one by one;
+/// else they are the forms of the text, one after another. It keeps the form that it reads and one piece of the text.
+/// One reader belongs to one source.
+#[derive(Drop)]
+pub struct Reader {
+    input: Input,
+    builder: Builder,
+    stage: Stage,
+}
+
+impl Reader {
+    /// A reader for a source of which nothing was read.
+    pub fn new(alloc: Global) -> Reader
+        ensures ready { (left : Option (List ℕ)) → IsReady result left }
+        ensures text { (left : Option (List ℕ)) → text_left result left ≡ left }
+    {
+        Reader {
+            input: Input::new(alloc),
+            builder: Builder::new(alloc),
+            stage: Stage::Start,
+        }
+    }
+
+    /// A reader for a source of which these bytes, the first ones of its text, were read before.
+    pub fn after(alloc: Global, front: &[u8]) -> Result<Reader, AllocError>
+        ensures ready { IfOk result (λ r. (left : Option (List ℕ)) → IsReady r left) }
+        ensures text { IfOk result (λ r. (left : Option (List ℕ)) → text_left r left ≡ prepend_known front.now left) }
+    {
+        Ok(Reader {
+            input: Input::after(alloc, front)?,
+            builder: Builder::new(alloc),
+            stage: Stage::Start,
+        })
+    }
+
+    /// Returns the line, counted from 1, on which the last form ended; after a `Syntax` fault, its line.
+    pub fn line(&self) -> u64 {
+        self.input.line()
+    }
+
+    /// Reads the next form from what the source has left. Returns `None` after the last one, `Syntax` with the line if
+    /// the text is none of EDN there, `Device` if the source failed, `Memory` if memory ran out. After a fault it returns
+    /// that fault again, and reads no more.
+    pub fn next_form<S: Source>(&mut self, source: &mut S) -> Result<Option<Form>, ReadFault>
+        ensures less { IfOk result (λ o. IsSome o
+            → left_to_do (S.left source.new) self.new < left_to_do (S.left source.old) self.old) }
+        ensures form { IsReady self.old (S.remaining source.old) → IfOk result (λ o. IfSome o (λ f.
+            ReadsForm self.old.stage (text_left self.old (S.remaining source.old))
+            (text_left self.new (S.remaining source.new)) (form_of f))) }
+        ensures ready { IsReady self.old (S.remaining source.old) → OnOk result (IsReady self.new (S.remaining source.new)) }
+    {
+        if let Stage::Failed(fault) = self.stage {
+            return Err(fault);
+        }
+        let read = self.read_form(source);
+        if let Err(fault) = &read {
+            self.stage = Stage::Failed(*fault);
+        }
+        read
+    }
+
+    fn read_form<S: Source>(&mut self, source: &mut S) -> Result<Option<Form>, ReadFault>
+        ensures less { IfOk result (λ o. IsSome o
+            → left_to_do (S.left source.new) self.new < left_to_do (S.left source.old) self.old) }
+        ensures form { IsReady self.old (S.remaining source.old) → IfOk result (λ o. IfSome o (λ f.
+            ReadsForm self.old.stage (text_left self.old (S.remaining source.old))
+            (text_left self.new (S.remaining source.new)) (form_of f))) }
+        ensures ready { IsReady self.old (S.remaining source.old) → OnOk result (IsReady self.new (S.remaining source.new)) }
+    {
+        while let Some(token) = self.input.next_token(source)? {
+            if let Some(form) = self.take(token)? {
+                return Ok(Some(form));
+            }
+        }
+        self.end()?;
+        Ok(None)
+    }
+
+    /// Takes the next token. Returns the form that ends with it, if one does.
+    fn take(&mut self, token: Token) -> Result<Option<Form>, ReadFault>
+        ensures input { self.new.input ≡ self.old.input }
+        ensures takes { IfOk result (λ o. Takes self.old.stage (token_of token) self.new.stage
+            (stack_of self.old.builder) (stack_of self.new.builder) (option_map form_of o)) }
+    {
+        match self.stage {
+            Stage::Start => self.take_first(token),
+            Stage::Elements => self.take_in_vector(token),
+            Stage::Closed => Err(self.input.fault(Problem::AfterVector)),
+            Stage::Forms => self.build(token),
+            Stage::Failed(fault) => Err(fault),
+        }
+    }
+
+    fn take_first(&mut self, token: Token) -> Result<Option<Form>, ReadFault>
+        ensures input { self.new.input ≡ self.old.input }
+        ensures takes { IfOk result (λ o. Takes Start (token_of token) self.new.stage
+            (stack_of self.old.builder) (stack_of self.new.builder) (option_map form_of o)) }
+    {
+        if matches!(token, Token::Open(Opening::Vector)) {
+            self.stage = Stage::Elements;
+            return Ok(None);
+        }
+        self.stage = Stage::Forms;
+        self.build(token)
+    }
+
+    fn take_in_vector(&mut self, token: Token) -> Result<Option<Form>, ReadFault>
+        ensures input { self.new.input ≡ self.old.input }
+        ensures takes { self.old.stage ≡ Elements → IfOk result (λ o. Takes Elements (token_of token) self.new.stage
+            (stack_of self.old.builder) (stack_of self.new.builder) (option_map form_of o)) }
+    {
+        if self.builder.is_idle() && matches!(token, Token::Close(Closing::Square)) {
+            self.stage = Stage::Closed;
+            return Ok(None);
+        }
+        self.build(token)
+    }
+
+    fn build(&mut self, token: Token) -> Result<Option<Form>, ReadFault>
+        ensures input { self.new.input ≡ self.old.input }
+        ensures stage { self.new.stage ≡ self.old.stage }
+        ensures built { IfOk result (λ o. Built (stack_of self.old.builder) (token_of token)
+            (stack_of self.new.builder) (option_map form_of o)) }
+    {
+        match self.builder.take(token) {
+            Ok(form) => Ok(form),
+            Err(Refusal::Problem(problem)) => Err(self.input.fault(problem)),
+            Err(Refusal::Memory) => Err(ReadFault::Memory),
+        }
+    }
+
+    /// Returns the fault of a text that ends here, if it is none.
+    fn end(&self) -> Result<(), ReadFault>
+        ensures { OnOk result (is_top (stack_of self.now.builder) ≡ true) }
+    {
+        if !self.builder.is_idle() {
+            return Err(self.input.fault(self.builder.problem_at_end()));
+        }
+        match self.stage {
+            Stage::Elements => Err(self.input.fault(Problem::Unclosed)),
+            _ => Ok(()),
+        }
+    }
+}

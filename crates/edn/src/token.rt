@@ -1,0 +1,205 @@
+//! Tokens.
+
+ghost use Rattle.std.specs.Prelude.{◌≡◌, ◌≤◌, ◌<◌, ◌+◌, ℕ, List, length, take, drop, IfOk};
+ghost use Rattle.std.specs.List.{prefix_len};
+ghost use Rattle.edn.specs.Meaning.Bytes.{is_word_byte};
+ghost use Rattle.edn.specs.Computing.Tokens as Spec;
+ghost use Rattle.edn.specs.Computing.Tokens.{lexed_of, token_of, IsRest};
+
+use crate::bytes::{is_space, word_len};
+use crate::character::is_character;
+use crate::form::Form;
+use crate::names::is_tag;
+use crate::read_fault::Problem;
+use crate::string::{Quoted, string};
+use crate::word::word;
+use std::alloc::{AllocError, Global};
+
+/// A bracket that opens a collection.
+#[derive(Clone, Copy)]
+pub(crate) enum Opening {
+    /// `(`
+    List,
+    /// `[`
+    Vector,
+    /// `#{`
+    Set,
+    /// `{`
+    Map,
+}
+
+/// A bracket that closes a collection.
+#[derive(Clone, Copy)]
+pub(crate) enum Closing {
+    /// `)`
+    Round,
+    /// `]`
+    Square,
+    /// `}`
+    Curly,
+}
+
+/// A part of a text that has no parts.
+#[derive(Drop)]
+pub(crate) enum Token {
+    Open(Opening),
+    Close(Closing),
+    /// `#_`
+    Discard,
+    /// `#` and a symbol
+    Tag,
+    /// A form that is no collection.
+    Leaf(Form),
+}
+
+/// What comes after the bytes that have been read.
+#[derive(Clone, Copy)]
+pub(crate) enum Beyond {
+    /// It hasn't been read yet.
+    Unread,
+    /// The text ends there.
+    Nothing,
+}
+
+/// What the front of some bytes is.
+#[derive(Drop)]
+pub(crate) enum Lexed<'a> {
+    /// A token, and what follows it.
+    Token(Token, &'a [u8]),
+    /// No token; the text ends.
+    End,
+    /// What is to be read decides.
+    More,
+    /// No token begins so.
+    Bad(Problem),
+}
+
+/// Reads the token at the front of the bytes, which don't begin with white space.
+#[tactic(auto, unfolding(crate::specs::Computing::Tokens::token_at))]
+pub(crate) fn read_token(
+    alloc: Global,
+    bytes: &[u8],
+    beyond: Beyond,
+) -> Result<Lexed<'_>, AllocError>
+    ensures exact { IfOk result (λ l. lexed_of l ≡ Spec.token_at beyond bytes.now) }
+    ensures within { IfOk result (IsRest beyond bytes.now) }
+{
+    match bytes {
+        [] | [b';', ..] => Ok(no_token(beyond)),
+        [b'"', text @ ..] => quoted(alloc, text, beyond),
+        [b'\\', text @ ..] => character(alloc, text, beyond),
+        [b'#', text @ ..] => Ok(dispatched(text, beyond)),
+        [b'(', rest @ ..] => Ok(Lexed::Token(Token::Open(Opening::List), rest)),
+        [b'[', rest @ ..] => Ok(Lexed::Token(Token::Open(Opening::Vector), rest)),
+        [b'{', rest @ ..] => Ok(Lexed::Token(Token::Open(Opening::Map), rest)),
+        [b')', rest @ ..] => Ok(Lexed::Token(Token::Close(Closing::Round), rest)),
+        [b']', rest @ ..] => Ok(Lexed::Token(Token::Close(Closing::Square), rest)),
+        [b'}', rest @ ..] => Ok(Lexed::Token(Token::Close(Closing::Curly), rest)),
+        _ => word_token(alloc, bytes, beyond),
+    }
+}
+
+fn no_token<'a>(beyond: Beyond) -> Lexed<'a>
+    ensures exact { lexed_of result ≡ Spec.no_token beyond }
+    ensures within { (bytes : List ℕ) → IsRest beyond bytes result }
+{
+    match beyond {
+        Beyond::Unread => Lexed::More,
+        Beyond::Nothing => Lexed::End,
+    }
+}
+
+/// What a token is that goes up to the end of the bytes, unless more of it is to be read.
+fn unfinished<'a>(beyond: Beyond) -> Lexed<'a>
+    ensures exact { lexed_of result ≡ Spec.unfinished beyond }
+    ensures within { (bytes : List ℕ) → IsRest beyond bytes result }
+{
+    match beyond {
+        Beyond::Unread => Lexed::More,
+        Beyond::Nothing => Lexed::Bad(Problem::Unclosed),
+    }
+}
+
+/// Returns whether a word before `rest` may go on beyond the bytes that were read.
+fn may_go_on(rest: &[u8], beyond: Beyond) -> bool
+    ensures { result ≡ Spec.may_go_on rest.now beyond }
+{
+    match beyond {
+        Beyond::Unread => rest.is_empty(),
+        Beyond::Nothing => false,
+    }
+}
+
+/// Reads a string after its opening quote.
+fn quoted(alloc: Global, text: &[u8], beyond: Beyond) -> Result<Lexed<'_>, AllocError>
+    ensures exact { IfOk result (λ l. lexed_of l ≡ Spec.string_token beyond text.now) }
+    ensures within { IfOk result (IsRest beyond text.now) }
+{
+    let mut bytes = Vec::new(alloc);
+    match string(text, &mut bytes)? {
+        Quoted::Closed(rest) => Ok(Lexed::Token(Token::Leaf(Form::String(bytes)), rest)),
+        Quoted::Open => Ok(unfinished(beyond)),
+        Quoted::Bad => Ok(Lexed::Bad(Problem::Token)),
+    }
+}
+
+/// Reads a character after its backslash.
+fn character(alloc: Global, text: &[u8], beyond: Beyond) -> Result<Lexed<'_>, AllocError>
+    ensures exact { IfOk result (λ l. lexed_of l ≡ Spec.character_token beyond text.now) }
+    ensures within { IfOk result (IsRest beyond text.now) }
+{
+    let [first, others @ ..] = text else {
+        return Ok(unfinished(beyond));
+    };
+    let (name, rest) = text.split_at(word_len(others) + 1);
+    if may_go_on(rest, beyond) {
+        return Ok(Lexed::More);
+    }
+    if is_space(*first) || !is_character(name) {
+        return Ok(Lexed::Bad(Problem::Token));
+    }
+    Ok(Lexed::Token(Token::Leaf(Form::Character(name.to_vec(alloc)?)), rest))
+}
+
+/// Reads what begins with `#`, after it.
+fn dispatched(text: &[u8], beyond: Beyond) -> Lexed<'_>
+    ensures exact { lexed_of result ≡ Spec.dispatched beyond text.now }
+    ensures within { IsRest beyond text.now result }
+{
+    match text {
+        [] => unfinished(beyond),
+        [b'{', rest @ ..] => Lexed::Token(Token::Open(Opening::Set), rest),
+        [b'_', rest @ ..] => Lexed::Token(Token::Discard, rest),
+        _ => tag(text, beyond),
+    }
+}
+
+/// Reads a tag after its `#`.
+fn tag(text: &[u8], beyond: Beyond) -> Lexed<'_>
+    ensures exact { lexed_of result ≡ Spec.tag_token beyond text.now }
+    ensures within { IsRest beyond text.now result }
+{
+    let (name, rest) = text.split_at(word_len(text));
+    if may_go_on(rest, beyond) {
+        return Lexed::More;
+    }
+    if !is_tag(name) {
+        return Lexed::Bad(Problem::Token);
+    }
+    Lexed::Token(Token::Tag, rest)
+}
+
+/// Reads the word at the front.
+fn word_token(alloc: Global, bytes: &[u8], beyond: Beyond) -> Result<Lexed<'_>, AllocError>
+    ensures exact { IfOk result (λ l. lexed_of l ≡ Spec.word_token beyond bytes.now) }
+    ensures within { IfOk result (IsRest beyond bytes.now) }
+{
+    let (name, rest) = bytes.split_at(word_len(bytes));
+    if may_go_on(rest, beyond) {
+        return Ok(Lexed::More);
+    }
+    match word(alloc, name)? {
+        Some(form) => Ok(Lexed::Token(Token::Leaf(form), rest)),
+        None => Ok(Lexed::Bad(Problem::Token)),
+    }
+}
