@@ -44,3 +44,8 @@ abbrev pub ReadsForm : Stage → Option (List ℕ) → Option (List ℕ) → For
 ReadsForm stage None left f = Unit {0}
 ReadsForm stage (Some text) left f =
     (ts : List Token) × (rest : List ℕ) × Lexes text ts rest × IsFormAt stage ts f × (left ≡ Some rest)
+
+-- the text is known, and begins with the form
+abbrev pub BeginsForm : Stage → Option (List ℕ) → Form → Type 0
+BeginsForm stage None f = ⊥
+BeginsForm stage (Some text) f = (ts : List Token) × (rest : List ℕ) × Lexes text ts rest × IsFormAt stage ts f
