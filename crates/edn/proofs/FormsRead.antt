@@ -2,13 +2,12 @@
 use Rattle.std.proofs.Common.{◌≡◌, ◌⊎◌, inl, inr, List, [], ◌∷◌, ◌++◌, ℕ, true, false, Option, None, Some, refl, sym, ap, ◌∙◌, subst}
 use Rattle.edn.specs.declared.reader.Stage.{Stage}
 use Rattle.edn.specs.declared.reader.Stage.TheVariants.{Start, Forms, Elements, Closed, Failed}
-use Rattle.edn.specs.declared.token.Opening.TheVariants as opening
 use Rattle.edn.specs.Meaning.Forms.{Form}
-use Rattle.edn.specs.Meaning.Tokens.{Token, opens}
+use Rattle.edn.specs.Meaning.Tokens.{Token, is_square}
 use Rattle.edn.specs.Meaning.Grammar.{IsItem}
 use Rattle.edn.specs.Meaning.Lexing.{no_tokens}
 use Rattle.edn.specs.Meaning.Reading.{ReadsToken, ReadsTokens}
-use Rattle.edn.specs.Meaning.Readers.{IsFormAt, ReadsForm}
+use Rattle.edn.specs.Meaning.Readers.{IsFirst, IsFormAt, ReadsForm}
 use Rattle.edn.specs.Computing.Building.{Frame, top, tagged, discarding, in_list, in_vector, in_set, in_map, is_top}
 use Rattle.edn.specs.Computing.Stages.{Built, Takes}
 use Rattle.edn.proofs.Held.{Holds, Outcome, StepHolds, step_holds, AreDiscarded, none_more}
@@ -16,16 +15,21 @@ use Rattle.edn.proofs.LexedTexts.{lexes_more}
 
 -- these tokens, behind the bracket of the vector if that is among the first ones
 abbrev IsBehind : Stage → List Token → List Token → Type 0
-IsBehind Start ts us = ts ≡ opens opening.Vector ∷ us
+IsBehind Start ts us = (t : Token) × (is_square t ≡ true) × (ts ≡ t ∷ us)
 IsBehind Forms ts us = ts ≡ us
 IsBehind Elements ts us = ts ≡ us
 IsBehind Closed ts us = ts ≡ us
 IsBehind (Failed fault) ts us = ts ≡ us
 
+-- the first of the tokens is no `[`
+abbrev BeginsOther : List Token → Type 0
+BeginsOther [] = ⊥
+BeginsOther (t ∷ ts) = is_square t ≡ false
+
 -- how far the tokens have led, from the first stage to the second
 abbrev pub Leads : Stage → Stage → List Token → List Frame → Type 0
 Leads first Start ts stack = (first ≡ Start) × (ts ≡ []) × (stack ≡ top ∷ [])
-Leads first Forms ts stack = ((first ≡ Start) ⊎ (first ≡ Forms)) × Holds stack ts
+Leads first Forms ts stack = (((first ≡ Start) × BeginsOther ts) ⊎ (first ≡ Forms)) × Holds stack ts
 Leads first Elements ts stack = ((first ≡ Start) ⊎ (first ≡ Elements)) × ((us : List Token) × IsBehind first ts us × Holds stack us)
 Leads first Closed ts stack = stack ≡ top ∷ []
 Leads first (Failed fault) ts stack = stack ≡ top ∷ []
@@ -42,7 +46,7 @@ held_step : (old new : List Frame) (t : Token) (o : Option Form) (ts : List Toke
 held_step old new t o ts h e = subst (λ r. StepHolds r (ts ++ t ∷ [])) e (step_holds old t ts h)
 
 behind_more : (first : Stage) (ts us : List Token) (t : Token) → IsBehind first ts us → IsBehind first (ts ++ t ∷ []) (us ++ t ∷ [])
-behind_more Start ts us t e = ap (λ xs. xs ++ t ∷ []) e
+behind_more Start ts us t (s, square, e) = (s, square, ap (λ xs. xs ++ t ∷ []) e)
 behind_more Forms ts us t e = ap (λ xs. xs ++ t ∷ []) e
 behind_more Elements ts us t e = ap (λ xs. xs ++ t ∷ []) e
 behind_more Closed ts us t e = ap (λ xs. xs ++ t ∷ []) e
@@ -70,6 +74,15 @@ idle_at_end first Elements ts stack (from, (us, behind, h)) e = only_top stack u
 idle_at_end first Closed ts stack h e = h
 idle_at_end first (Failed fault) ts stack h e = h
 
+other_more : (ts : List Token) (t : Token) → BeginsOther ts → BeginsOther (ts ++ t ∷ [])
+other_more [] t h = absurd h
+other_more (s ∷ ts) t h = h
+
+from_more : (first : Stage) (ts : List Token) (t : Token) → ((first ≡ Start) × BeginsOther ts) ⊎ (first ≡ Forms)
+    → ((first ≡ Start) × BeginsOther (ts ++ t ∷ [])) ⊎ (first ≡ Forms)
+from_more first ts t (inl (e, h)) = inl (e, other_more ts t h)
+from_more first ts t (inr e) = inr e
+
 -- a token that ends no form of the text
 pub leads_on : (first stage next : Stage) (ts : List Token) (t : Token) (old new : List Frame) (o : Option Form) → o ≡ None
     → Leads first stage ts old → Takes stage t next old new o → Leads first next (ts ++ t ∷ []) new
@@ -78,16 +91,16 @@ leads_on first Start next ts t old new o none (is, empty, idle) (inl (vector, to
       inl is,
       (
         [],
-        subst (λ s. IsBehind s (ts ++ t ∷ []) []) (sym is) (ap (λ xs. xs ++ t ∷ []) empty ∙ ap (λ x. x ∷ []) vector),
+        subst (λ s. IsBehind s (ts ++ t ∷ []) []) (sym is) (t, vector, ap (λ xs. xs ++ t ∷ []) empty),
         holds_start new [] refl (same ∙ idle),
       ),
     )
-leads_on first Start next ts t old new o none (is, empty, idle) (inr (to, built)) =
+leads_on first Start next ts t old new o none (is, empty, idle) (inr (other, to, built)) =
     subst (λ n. Leads first n (ts ++ t ∷ []) new) (sym to)
-    (inl is, held_step old new t None ts (holds_start old ts empty idle) (subst (Built old t new) none built))
+    (inl (is, subst (λ xs. BeginsOther (xs ++ t ∷ [])) (sym empty) other), held_step old new t None ts (holds_start old ts empty idle) (subst (Built old t new) none built))
 leads_on first Forms next ts t old new o none (from, h) (to, built) =
     subst (λ n. Leads first n (ts ++ t ∷ []) new) (sym to)
-    (from, held_step old new t None ts h (subst (Built old t new) none built))
+    (from_more first ts t from, held_step old new t None ts h (subst (Built old t new) none built))
 leads_on first Elements next ts t old new o none (from, (us, behind, h)) (inl (to, is_idle, same, _)) =
     subst (λ n. Leads first n (ts ++ t ∷ []) new) (sym to) (same ∙ only_top old us h is_idle)
 leads_on first Elements next ts t old new o none (from, (us, behind, h)) (inr (to, built)) =
@@ -102,13 +115,19 @@ leads_on first Elements next ts t old new o none (from, (us, behind, h)) (inr (t
 leads_on first Closed next ts t old new o none h takes = absurd takes
 leads_on first (Failed fault) next ts t old new o none h takes = absurd takes
 
-item_at : (first : Stage) (ts : List Token) (f : Form) → (first ≡ Start) ⊎ (first ≡ Forms) → IsItem ts f → IsFormAt first ts f
-item_at first ts f (inl e) h = subst (λ s. IsFormAt s ts f) (sym e) (inl h)
+first_item : (ts : List Token) (f : Form) → BeginsOther ts → IsItem ts f → IsFormAt Start ts f
+first_item [] f other h = absurd other
+first_item (t ∷ ts) f other h = subst (λ b. IsFirst b t ts f) (sym other) h
+
+item_at : (first : Stage) (ts : List Token) (f : Form) → ((first ≡ Start) × BeginsOther ts) ⊎ (first ≡ Forms)
+    → IsItem ts f → IsFormAt first ts f
+item_at first ts f (inl (e, other)) h = subst (λ s. IsFormAt s ts f) (sym e) (first_item ts f other h)
 item_at first ts f (inr e) h = subst (λ s. IsFormAt s ts f) (sym e) h
 
 element_at : (first : Stage) (ts us : List Token) (f : Form) → (first ≡ Start) ⊎ (first ≡ Elements) → IsBehind first ts us
     → IsItem us f → IsFormAt first ts f
-element_at Start ts us f from behind h = inr (us, behind, h)
+element_at Start ts us f from (t, square, e) h =
+    subst (λ xs. IsFormAt Start xs f) (sym e) (subst (λ b. IsFirst b t us f) (sym square) h)
 element_at Forms ts us f from behind h = subst (λ xs. IsItem xs f) (sym behind) h
 element_at Elements ts us f from behind h = subst (λ xs. IsItem xs f) (sym behind) h
 element_at Closed ts us f (inl e) behind h = absurd (cc)
@@ -122,12 +141,12 @@ pub form_read : (first stage next : Stage) (ts : List Token) (t : Token) (old ne
     → IsFormAt first (ts ++ t ∷ []) f × (new ≡ top ∷ [])
 form_read first Start next ts t old new o f some (is, empty, idle) (inl (vector, to, same, none)) =
     absurd (let no : None ≡ Some f = sym none ∙ some in cc)
-form_read first Start next ts t old new o f some (is, empty, idle) (inr (to, built)) =
+form_read first Start next ts t old new o f some (is, empty, idle) (inr (other, to, built)) =
     let made = held_step old new t (Some f) ts (holds_start old ts empty idle) (subst (Built old t new) some built) in
-    (item_at first _ f (inl is) made.0, made.1)
+    (item_at first _ f (inl (is, subst (λ xs. BeginsOther (xs ++ t ∷ [])) (sym empty) other)) made.0, made.1)
 form_read first Forms next ts t old new o f some (from, h) (to, built) =
     let made = held_step old new t (Some f) ts h (subst (Built old t new) some built) in
-    (item_at first _ f from made.0, made.1)
+    (item_at first _ f (from_more first ts t from) made.0, made.1)
 form_read first Elements next ts t old new o f some (from, (us, behind, h)) (inl (to, is_idle, same, none)) =
     absurd (let no : None ≡ Some f = sym none ∙ some in cc)
 form_read first Elements next ts t old new o f some (from, (us, behind, h)) (inr (to, built)) =

@@ -1,5 +1,5 @@
 -- A text begins with one form at most.
-use Rattle.std.proofs.Common.{◌≡◌, ◌≢◌, ◌⊎◌, inl, inr, ℕ, suc, ◌+◌, ◌==◌, Bool, true, false, List, [], ◌∷◌, ◌++◌, length, take, drop, All, None, Some, Result, Ok, Err, refl, sym, ap, ◌∙◌, subst, append_assoc, append-nil, arith}
+use Rattle.std.proofs.Common.{Option, ◌≡◌, ◌≢◌, ◌⊎◌, inl, inr, ℕ, suc, ◌+◌, ◌==◌, Bool, true, false, List, [], ◌∷◌, ◌++◌, length, take, drop, All, None, Some, Result, Ok, Err, refl, sym, ap, ◌∙◌, subst, append_assoc, append-nil, arith}
 use Rattle.std.specs.Prelude.{not}
 use Rattle.std.specs.List.{prefix_len, list_all}
 use Rattle.std.proofs.lemmas.Bool.{ne_eqb, and_parts}
@@ -11,7 +11,10 @@ use Rattle.edn.specs.Meaning.Characters.{is_character}
 use Rattle.edn.specs.Meaning.Forms.{Form, character}
 use Rattle.edn.specs.Meaning.Names.{begins_tag, is_symbol, is_tag}
 use Rattle.edn.specs.Meaning.Words.{word_of}
-use Rattle.edn.specs.Meaning.Tokens.{Token, tag, leaf}
+use Rattle.edn.specs.declared.reader.Stage.{Stage}
+use Rattle.edn.specs.declared.reader.Stage.TheVariants.{Start, Forms, Elements, Closed, Failed}
+use Rattle.edn.specs.Meaning.Tokens.{Token, tag, leaf, is_square}
+use Rattle.edn.specs.Meaning.Readers.{IsFirst, IsFormAt, ReadsForm, BeginsForm}
 use Rattle.edn.specs.Meaning.Grammar.{IsItem}
 use Rattle.edn.specs.Meaning.Lexing.{IsGap, no_gap, space, comment, Ends, IsWord, Lexes, no_tokens, next}
 use Rattle.edn.specs.Meaning.Lexing.{Begins, round_opens, square_opens, curly_opens, set_opens, round_closes, square_closes, curly_closes, discards, tags, quotes, characters, words}
@@ -245,4 +248,36 @@ one_form text rest end ts us f g l m h k =
     elim (same_tokens l m refl) [
       | inl (vs, e) ↦ begun ts vs f g h (subst (λ xs. IsItem xs g) e k)
       | inr (vs, e) ↦ sym (begun us vs g f k (subst (λ xs. IsItem xs f) e h))
+    ]
+
+behind_same : (b : Bool) (t : Token) (ts vs : List Token) (f g : Form) → IsFirst b t ts f → IsFirst b t (ts ++ vs) g → f ≡ g
+behind_same true t ts vs f g h k = begun ts vs f g h k
+behind_same false t ts vs f g h k = begun (t ∷ ts) vs f g h k
+
+behind : (t s : Token) (ts us vs : List Token) (f g : Form) → s ∷ us ≡ (t ∷ ts) ++ vs → IsFirst (is_square t) t ts f
+    → IsFirst (is_square s) s us g → f ≡ g
+behind t s ts us vs f g e h k =
+    let one : s ≡ t = cc in
+    let two : us ≡ ts ++ vs = cc in
+    behind_same (is_square t) t ts vs f g h (subst (λ xs. IsFirst (is_square t) t xs g) two
+    (subst (λ x. IsFirst (is_square x) x us g) one k))
+
+begun_at : (stage : Stage) (ts us vs : List Token) (f g : Form) → us ≡ ts ++ vs → IsFormAt stage ts f → IsFormAt stage us g
+    → f ≡ g
+begun_at Start [] us vs f g e h k = absurd h
+begun_at Start (t ∷ ts) [] vs f g e h k = absurd k
+begun_at Start (t ∷ ts) (s ∷ us) vs f g e h k = behind t s ts us vs f g e h k
+begun_at Forms ts us vs f g e h k = begun ts vs f g h (subst (λ xs. IsItem xs g) e k)
+begun_at Elements ts us vs f g e h k = begun ts vs f g h (subst (λ xs. IsItem xs g) e k)
+begun_at Closed ts us vs f g e h k = absurd h
+begun_at (Failed fault) ts us vs f g e h k = absurd h
+
+-- what was read is the form with which the text begins
+pub only_form : (stage : Stage) (start left : Option (List ℕ)) (f g : Form) → ReadsForm stage start left f
+    → BeginsForm stage start g → g ≡ f
+only_form stage None left f g h k = absurd k
+only_form stage (Some text) left f g (ts, rest, l, h, is) (us, end, m, k) =
+    elim (same_tokens l m refl) [
+      | inl (vs, e) ↦ sym (begun_at stage ts us vs f g e h k)
+      | inr (vs, e) ↦ begun_at stage us ts vs g f e k h
     ]

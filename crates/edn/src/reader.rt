@@ -2,8 +2,8 @@
 
 ghost use Rattle.std.specs.Prelude.{◌≡◌, ◌<◌, List, ℕ, Option, true, IfOk, IfSome, OnOk, IsSome, option_map};
 ghost use Rattle.std.specs.Io.KnownBytes.{prepend_known};
-ghost use Rattle.edn.specs.Meaning.Forms.{form_of};
-ghost use Rattle.edn.specs.Meaning.Readers.{IsReady, ReadsForm, left_to_do, text_left};
+ghost use Rattle.edn.specs.Meaning.Forms.{Form as Plain, form_of};
+ghost use Rattle.edn.specs.Meaning.Readers.{BeginsForm, IsReady, ReadsForm, left_to_do, text_left};
 ghost use Rattle.edn.specs.Computing.Building.{is_top, stack_of};
 ghost use Rattle.edn.specs.Computing.Stages.{Built, Takes};
 ghost use Rattle.edn.specs.Computing.Tokens.{token_of};
@@ -74,13 +74,17 @@ impl Reader {
 
     /// Reads the next form from what the source has left. Returns `None` after the last one, `Syntax` with the line if
     /// the text is none of EDN there, `Device` if the source failed, `Memory` if memory ran out. After a fault it returns
-    /// that fault again, and reads no more.
+    /// that fault again, and reads no more. What it returns is the form with which the text that is left begins: its
+    /// tokens follow one another there, with white space and comments between them. No clause says that a text that
+    /// begins with a form is never refused.
     pub fn next_form<S: Source>(&mut self, source: &mut S) -> Result<Option<Form>, ReadFault>
         ensures less { IfOk result (λ o. IsSome o
             → left_to_do (S.left source.new) self.new < left_to_do (S.left source.old) self.old) }
         ensures form { IsReady self.old (S.remaining source.old) → IfOk result (λ o. IfSome o (λ f.
             ReadsForm self.old.stage (text_left self.old (S.remaining source.old))
             (text_left self.new (S.remaining source.new)) (form_of f))) }
+        ensures only { IsReady self.old (S.remaining source.old) → IfOk result (λ o. IfSome o (λ f. (g : Plain)
+            → BeginsForm self.old.stage (text_left self.old (S.remaining source.old)) g → g ≡ form_of f)) }
         ensures ready { IsReady self.old (S.remaining source.old) → OnOk result (IsReady self.new (S.remaining source.new)) }
     {
         if let Stage::Failed(fault) = self.stage {
@@ -99,6 +103,8 @@ impl Reader {
         ensures form { IsReady self.old (S.remaining source.old) → IfOk result (λ o. IfSome o (λ f.
             ReadsForm self.old.stage (text_left self.old (S.remaining source.old))
             (text_left self.new (S.remaining source.new)) (form_of f))) }
+        ensures only { IsReady self.old (S.remaining source.old) → IfOk result (λ o. IfSome o (λ f. (g : Plain)
+            → BeginsForm self.old.stage (text_left self.old (S.remaining source.old)) g → g ≡ form_of f)) }
         ensures ready { IsReady self.old (S.remaining source.old) → OnOk result (IsReady self.new (S.remaining source.new)) }
     {
         while let Some(token) = self.input.next_token(source)? {

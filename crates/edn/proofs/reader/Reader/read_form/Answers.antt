@@ -5,6 +5,7 @@ use Rattle.edn.specs.Meaning.Reading.{IsLinked, ReadsTokens}
 use Rattle.edn.specs.Meaning.Readers.{text_left}
 use Rattle.edn.specs.Computing.Tokens.{token_of}
 use Rattle.edn.proofs.FormsRead.{leads_here, leads_on, form_read, reads_none, reads_more, reads_form}
+use Rattle.edn.proofs.OneReading.{only_form}
 use Rattle.edn.proofs.reader.Reader.read_form.Goals as goal
 
 pub loop-token-init : goal.loop-token-init
@@ -25,6 +26,11 @@ returns-in-Some-2-clause-form g c = λ ready.
     let read = form_read c.args.self.now.stage c.loop-token.self.stage c.take.new.self.stage ts t _ _ _ f
     (ap (option_map form_of) c.in-Some-2.is) leads c.in_ok-form.ensures.takes in
     reads_form c.args.self.now.stage start (text_left c.take.new.self left) (ts ++ t ∷ []) f more read.0
+
+pub returns-in-Some-2-clause-only : goal.returns-in-Some-2-clause-only
+returns-in-Some-2-clause-only g c = λ ready other begins.
+    only_form c.args.self.now.stage (text_left c.args.self.now (g.S.Read.remaining c.args.source.now)) _
+    (form_of c.in-Some-2.form) other (returns-in-Some-2-clause-form g c ready) begins
 
 pub returns-in-Some-2-clause-ready : goal.returns-in-Some-2-clause-ready
 returns-in-Some-2-clause-ready g c = λ ready.
