@@ -1,0 +1,32 @@
+#!/usr/bin/env bash
+# Runs the built program `lists` on every history of examples/lists, and on arguments, files and devices that are wrong.
+# The first line of a history has the answer that is wanted behind `; `. Build the program first:
+# (cd crates/lists && rt run < stdin). Usage: list_examples.sh [PROGRAM], by default crates/lists/out/lists.
+source "$(dirname "$0")/checks.sh" "${1:-$(dirname "$0")/../crates/lists/out/lists}"
+examples=$top/examples/lists
+
+ends() { # the arguments; prints the first line of the answer, and the status
+    run "$@" | sed -n '1p;$p'
+}
+
+for history in "$examples"/*.edn; do
+    answer=$(sed -n '1s/^; //p' "$history")
+    [ "$answer" = serializable ] && status=0 || status=1
+    check "$history" "out: $answer"$'\n'"status $status" "$(ends "$history")"
+    check "$history from standard input" "out: $answer"$'\n'"status $status" "$(ends <"$history")"
+done
+
+# The two committed transactions of the stale read in the only order that explains it, by their indexes.
+run --order order "$examples/stale-read.edn" >answer
+check 'the order of stale-read' $'3\n1' "$(cat order)"
+
+# Arguments, files and devices.
+check 'an unknown option' 'status 2' "$(run --foo | tail -n 1)"
+check 'two files' 'status 2' "$(run a b | tail -n 1)"
+check 'a form that is none' 'status 2' "$(run --format xml "$examples/serial.edn" | tail -n 1)"
+check 'a text of the other form' 'status 2' "$(run --format json "$examples/serial.edn" | tail -n 1)"
+check 'a file that is missing' 'status 3' "$(run missing | tail -n 1)"
+check 'a folder' 'status 3' "$(run folder | tail -n 1)"
+check 'a full device' 'status 3' "$(timeout 60 "$ssi" "$examples/serial.edn" >/dev/full 2>err; echo "status $?")"
+check '--help' 'status 0' "$(run --help | tail -n 1)"
+report
