@@ -36,6 +36,7 @@ class Maker:
         count, keys = self.random.randint(1, 6), self.random.randint(1, 3)
         self.slip = self.random.choice([0, 0, 0.05, 0.3])
         self.isolated = self.happens(0.3)
+        self.outcomes = self.random.choice([[8, 1, 1], [5, 1, 4]])
         self.next = 0
         states, made = [{}], []
         for _ in range(count):
@@ -58,7 +59,7 @@ class Maker:
                 operations.append(("append", key, element))
             else:
                 operations.append(("r", key, self.spoiled(list(here))))
-        outcome = self.random.choices(["ok", "fail", "info"], [8, 1, 1])[0]
+        outcome = self.random.choices(["ok", "fail", "info"], self.outcomes)[0]
         happened = outcome == "ok" or outcome == "info" and self.happens(0.5) or self.happens(self.slip)
         if happened and not self.happens(self.slip / 3):
             newest = {key: list(some) for key, some in states[-1].items()}

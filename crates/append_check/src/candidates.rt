@@ -184,12 +184,7 @@ impl Search {
         let mut nodes = Vec::new(self.alloc);
         let mut place = 0u32;
         for transaction in transactions {
-            let stands = match transaction.outcome {
-                Outcome::Committed => true,
-                Outcome::Aborted => false,
-                Outcome::Unknown => self.is_seen(place, transaction.operations.as_slice()),
-            };
-            if stands {
+            if self.lines.takes_in(place, transaction) {
                 nodes.push(place)?;
             }
             place = place.saturating_add(1);
@@ -198,19 +193,6 @@ impl Search {
             nodes.push(links.helper(line))?;
         }
         Ok(nodes)
-    }
-
-    fn is_seen(&self, place: u32, operations: &[Operation]) -> bool {
-        for operation in operations {
-            if let Operation::Append { key, .. } = operation {
-                if let Some(line) = self.lines.number(*key) {
-                    if self.lines.has(line, place) {
-                        return true;
-                    }
-                }
-            }
-        }
-        false
     }
 }
 

@@ -2,7 +2,7 @@
 
 use crate::appenders::Appenders;
 use crate::seen::own;
-use append_values::{Outcome, Read, Reason, Transaction};
+use append_values::{Operation, Outcome, Read, Reason, Transaction};
 use std::alloc::{AllocError, Global};
 use std::collections::HashMap;
 
@@ -95,6 +95,28 @@ impl Lines {
     /// Returns whether the transaction stands in the line with this number.
     pub fn has(&self, line: usize, transaction: u32) -> bool {
         self.places.contains_key(&Writer { line, transaction })
+    }
+
+    /// Returns whether an order has this transaction: if it committed, or if nobody knows and an element of it was read.
+    pub fn takes_in(&self, place: u32, transaction: &Transaction) -> bool {
+        match transaction.outcome {
+            Outcome::Committed => true,
+            Outcome::Aborted => false,
+            Outcome::Unknown => self.shows(place, transaction.operations.as_slice()),
+        }
+    }
+
+    fn shows(&self, transaction: u32, operations: &[Operation]) -> bool {
+        for operation in operations {
+            if let Operation::Append { key, .. } = operation {
+                if let Some(line) = self.number(*key) {
+                    if self.has(line, transaction) {
+                        return true;
+                    }
+                }
+            }
+        }
+        false
     }
 
     /// Returns the number of the line of the key, and makes a line if there is none.

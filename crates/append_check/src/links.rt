@@ -1,7 +1,7 @@
 //! Which transactions have to come before which: a few links, from which all others follow.
 
 use crate::lines::{Line, Lines};
-use append_values::{Kind, Link, Operation, Outcome, Read, Transaction};
+use append_values::{Kind, Link, Operation, Read, Transaction};
 use std::alloc::{AllocError, Global};
 
 /// The first read of a key by a committed transaction: the number of the key's line, and how many of its writers the read
@@ -49,7 +49,7 @@ impl Links {
         }
         let mut place = 0u32;
         'unseen: for transaction in transactions {
-            if transaction.outcome == Outcome::Committed {
+            if lines.takes_in(place, transaction) {
                 links.add_unseen(lines, place, transaction.operations.as_slice())?;
             }
             place = place.saturating_add(1);
