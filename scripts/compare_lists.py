@@ -23,33 +23,30 @@ from lists_reference import edn_of, explains
 TOP = os.path.dirname(os.path.dirname(os.path.abspath(__file__)))
 
 
-class Maker:
+class Maker(random.Random):
     """Makes histories of a store of lists that makes mistakes."""
 
-    def __init__(self, seed):
-        self.random = random.Random(seed)
-
     def happens(self, chance):
-        return self.random.random() < chance
+        return self.random() < chance
 
     def history(self):
-        count, keys = self.random.randint(1, 6), self.random.randint(1, 3)
-        self.slip = self.random.choice([0, 0, 0.05, 0.3])
+        count, keys = self.randint(1, 6), self.randint(1, 3)
+        self.slip = self.choice([0, 0, 0.05, 0.3])
         self.isolated = self.happens(0.3)
-        self.outcomes = self.random.choice([[8, 1, 1], [5, 1, 4]])
+        self.outcomes = self.choice([[8, 1, 1], [5, 1, 4]])
         self.next = 0
         states, made = [{}], []
         for _ in range(count):
             made.append(self.transaction(states, keys))
-        self.random.shuffle(made)
+        self.shuffle(made)
         return made
 
     def transaction(self, states, keys):
         """A transaction on the newest lists, or on those that an earlier one left."""
-        old = self.random.choice(states) if self.isolated or self.happens(self.slip) else states[-1]
+        old = self.choice(states) if self.isolated or self.happens(self.slip) else states[-1]
         lists, mine, operations = {key: list(some) for key, some in old.items()}, {}, []
-        for _ in range(self.random.randint(1, 4)):
-            key = self.random.randrange(keys)
+        for _ in range(self.randint(1, 4)):
+            key = self.randrange(keys)
             here = lists.setdefault(key, [])
             if self.happens(0.5):
                 self.next += 1
@@ -59,7 +56,7 @@ class Maker:
                 operations.append(("append", key, element))
             else:
                 operations.append(("r", key, self.spoiled(list(here))))
-        outcome = self.random.choices(["ok", "fail", "info"], self.outcomes)[0]
+        outcome = self.choices(["ok", "fail", "info"], self.outcomes)[0]
         happened = outcome == "ok" or outcome == "info" and self.happens(0.5) or self.happens(self.slip)
         if happened and not self.happens(self.slip / 3):
             newest = {key: list(some) for key, some in states[-1].items()}
@@ -74,15 +71,15 @@ class Maker:
         """What a read returns: now and then something is lost, doubled, turned round or made up."""
         if not self.happens(self.slip / 2):
             return elements
-        kind = self.random.randrange(4)
+        kind = self.randrange(4)
         if kind == 0 and elements:
-            elements.pop(self.random.randrange(len(elements)))
+            elements.pop(self.randrange(len(elements)))
         elif kind == 1 and elements:
-            elements.append(self.random.choice(elements))
+            elements.append(self.choice(elements))
         elif kind == 2:
-            self.random.shuffle(elements)
+            self.shuffle(elements)
         else:
-            elements.append(self.random.randint(1, self.next + 2))
+            elements.append(self.randint(1, self.next + 2))
         return elements
 
 
