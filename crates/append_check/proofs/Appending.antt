@@ -1,24 +1,16 @@
 -- What the table of appenders says after more steps.
-use Rattle.std.proofs.Common.{◌≡◌, ◌≢◌, ◌⊎◌, ℕ, zero, suc, ◌+◌, ◌<◌, ◌≤◌, ◌==◌, ◌&&◌, Bool, true, false, cond, List, [], ◌∷◌, ◌++◌, Option, Some, None, Contains, map, take, drop, length, get_or, refl, sym, ◌∙◌, ap, subst, arith, inl, inr}
-use Rattle.std.specs.List.{flat_map, slice_index_or}
+use Rattle.std.proofs.Common.{◌≡◌, ◌≢◌, ◌⊎◌, ℕ, zero, suc, ◌+◌, ◌<◌, ◌≤◌, ◌==◌, ◌&&◌, cond, List, [], ◌∷◌, ◌++◌, Option, Some, None, Contains, take, drop, length, get_or, refl, sym, ◌∙◌, ap, subst, arith, inl, inr}
 use Rattle.std.proofs.lemmas.Bool.{cases_eq, cases_lt, eq-eqb, ne_eqb}
 use Rattle.std.proofs.lemmas.List.{take-append-drop, take_more, take_all, get_or_past, append-nil}
 use Rattle.std.proofs.lemmas.List.Concat.{flat_map-append}
 use Rattle.std.proofs.lemmas.List.Elements.{Contains-append_cases}
 use Rattle.lemmas.proofs.Members.{none_contained, Contains-cases}
-use Rattle.lemmas.proofs.Counts.{count, count-append, count_same, count_other, count_contained}
-use Rattle.append_values.specs.Meaning.Histories.{Operation, Append, Read, LostRead, Transaction, History, nothing}
+use Rattle.lemmas.proofs.Counts.{count, count-append, count_same, count_other}
+use Rattle.append_values.specs.Meaning.Histories.{Operation, Append, Transaction, History, nothing}
 use Rattle.append_values.specs.Meaning.Reads.{appended, own, AppendersDiffer, AppendsOnce}
 use Rattle.append_values.proofs.Appended.{appended-append}
 use Rattle.append_check.specs.declared.item.Item.{Item}
 use Rattle.append_check.specs.Machinery.Appending.{item, item_eq, times, count_in, all_appended, Tells, Adds}
-
-pub adds_nothing : (old : Item → Option ℕ) (place : ℕ) → Adds old old place []
-adds_nothing old place = record {
-  counted = λ k x. omega arith;
-  kept = λ k x t e. e;
-  put = λ k x c. absurd (none_contained x c);
-}
 
 count_in-append : (k x : ℕ) (os ps : List Operation) → count_in k x (os ++ ps) ≡ count_in k x os + count_in k x ps
 count_in-append k x os ps = ap (λ ys. count ys x) (appended-append k os ps) ∙ count-append (appended k os) (appended k ps) x
@@ -47,19 +39,8 @@ again_in_all old mid place os ps rest k x a more =
     let three = count_in-append k x os ps in
     omega (arith, one, two, three, more)
 
--- a step that appends nothing
-pub adds_other : (old : Item → Option ℕ) (place : ℕ) (o : Operation) → ((k : ℕ) → appended k (o ∷ []) ≡ []) → Adds old old place (o ∷ [])
-adds_other old place o none = record {
-  counted = λ k x. let zero' = ap (λ ys. count ys x) (none k) in omega (arith, zero');
-  kept = λ k x t e. e;
-  put = λ k x c. absurd (none_contained x (subst (λ ys. Contains ys x) (none k) c));
-}
-
 abbrev Puts : (old new : Item → Option ℕ) → (k x place : ℕ) → Type 0
 Puts old new k x place = (q : Item) → new q ≡ cond (item_eq (item k x) q) (Some place) (old q)
-
-appended_one : (k j x : ℕ) → appended j (Append k x ∷ []) ≡ cond (k == j) (x ∷ []) []
-appended_one k j x = refl
 
 module _ (old new : Item → Option ℕ) (k x place : ℕ) (puts : Puts old new k x place) where
   put_here : (j y : ℕ) → k ≡ j → x ≡ y → new (item j y) ≡ Some place
@@ -141,12 +122,6 @@ all_more h i k l =
     ap (all_appended k) (take_more h i nothing l) ∙
     (flat_map-append (λ (t : Transaction). appended k t.operations) (take i h) (get_or h i nothing ∷ []) ∙
     ap (λ ys. all_appended k (take i h) ++ ys) (append-nil (appended k (get_or h i nothing).operations)))
-
-pub tells_nothing : (table : Item → Option ℕ) (h : History) → ((q : Item) → table q ≡ None) → Tells table h 0
-tells_nothing table h none = record {
-  counted = λ k x. sym (ap times (none (item k x)));
-  has = λ k x t l c. absurd (omega arith);
-}
 
 pub tells_more : (old new : Item → Option ℕ) (h : History) (i : ℕ) → i < length h → Tells old h i
     → Adds old new i (get_or h i nothing).operations → Tells new h (i + 1)

@@ -70,14 +70,8 @@ claims_of m Unknown os b is all = tt
 pub record Replays (h : History) (first now : Lists) (all rest : List ℕ) : Type 0 where
   pub claims : AllClaims h now rest → AllClaims h first all
 
-pub replay_begins : (h : History) (m n : Lists) (ts : List ℕ) → AreSame n m → Replays h m n ts ts
-replay_begins h m n ts same = record { claims = λ c. all_claims_same h n m ts same c }
-
 pub replay_goes_on : (h : History) (first now next : Lists) (all rest : List ℕ) (t : ℕ) → Replays h first now all (t ∷ rest)
     → Claims now (outcome h t) (operations h t) → AreSame next (run now (operations h t)) → Replays h first next all rest
 replay_goes_on h first now next all rest t r claims same = record {
   claims = λ c. r.claims (claims, all_claims_same h next (run now (operations h t)) rest same c);
 }
-
-pub replay_ends : (h : History) (first now : Lists) (all : List ℕ) → Replays h first now all [] → AllClaims h first all
-replay_ends h first now all r = r.claims tt

@@ -1,12 +1,12 @@
 -- What the code sees of transactions and of their reads.
-use Rattle.std.proofs.Common.{◌≡◌, ℕ, zero, suc, ◌==◌, ◌<◌, ◌≤◌, Bool, true, false, cond, List, [], ◌∷◌, ◌++◌, Option, Some, None, map, take, get_or, ◌+◌, length, slice_get, refl, sym, ◌∙◌, ap}
+use Rattle.std.proofs.Common.{◌≡◌, ℕ, zero, suc, ◌==◌, ◌<◌, ◌≤◌, true, false, cond, List, [], ◌∷◌, ◌++◌, Some, None, map, take, get_or, ◌+◌, length, slice_get, refl, sym, ◌∙◌, ap}
 use Rattle.std.specs.List.{filter_map, cons_option, slice_index_or}
 use Rattle.std.proofs.lemmas.List.{map_more, length-map, get_or_past}
 use Rattle.append_values.specs.declared.transaction.Operation.{Operation as OperationValue}
 use Rattle.append_values.specs.declared.transaction.Operation.TheVariants as In
 use Rattle.append_values.specs.declared.transaction.Transaction.{Transaction as TransactionValue}
 use Rattle.append_values.specs.declared.reason.Read.{Read}
-use Rattle.append_values.specs.Meaning.Histories.{Operation, Read as ReadOf, Transaction, History, operation_of, transaction_of, nothing, outcome}
+use Rattle.append_values.specs.Meaning.Histories.{Transaction, History, operation_of, transaction_of, nothing, outcome}
 use Rattle.append_values.specs.Meaning.Reads.{appended, own}
 use Rattle.append_values.proofs.Appended.{appended-append}
 use Rattle.append_values.specs.Meaning.Reasons.{IsRead}
@@ -33,11 +33,6 @@ pub transaction_at : (ts : List TransactionValue) (t : ℕ) (x : TransactionValu
 transaction_at [] t x e = absurd (cc (e))
 transaction_at (y ∷ ts) zero x e = let same : y ≡ x = cc (e) in ap transaction_of same
 transaction_at (y ∷ ts) (suc t) x e = transaction_at ts t x e
-
-pub no_transaction_at : (ts : List TransactionValue) (t : ℕ) → slice_get ts t ≡ None → slice_index_or (map transaction_of ts) t nothing ≡ nothing
-no_transaction_at [] t e = refl
-no_transaction_at (y ∷ ts) zero e = absurd (cc (e))
-no_transaction_at (y ∷ ts) (suc t) e = no_transaction_at ts t e
 
 -- what is seen of a read says that it is one
 abbrev pub is_read : (h : History) (read : Read) (s : Seen) → IsSeen h read s → IsRead h read
