@@ -3,3 +3,7 @@ mod Running
 mod Listed
 mod Holding
 mod Appending
+mod Each
+mod Unshown
+mod Scanning
+mod Graph

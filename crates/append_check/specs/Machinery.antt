@@ -2,3 +2,5 @@
 pub mod Appending
 pub mod Seeing
 pub mod Running
+pub mod Wholeness
+pub mod Precedences

@@ -5,6 +5,7 @@ ghost use Rattle.append_check.specs.Meaning.Verdicts.{history_of, IsRight};
 
 use crate::appenders::{Appenders, Made};
 use crate::candidates::{Candidate, find_candidate};
+use crate::plain::decide;
 use crate::reasons::holds;
 use crate::replay::explains;
 use crate::verdict::Verdict;
@@ -13,6 +14,9 @@ use append_values::Transaction;
 use std::alloc::{AllocError, Global};
 
 /// Says whether an order of the transactions explains the history; `AllocError` if memory runs out.
+///
+/// A fast search finds an order or a reason, which is looked at once more before it is returned. If it didn't pass this
+/// look, a plain search would answer in its place.
 pub fn check(alloc: Global, transactions: &[Transaction]) -> Result<Verdict, AllocError>
     requires { length transactions.now < 2 ^ 31 }
     ensures { IfOk result (IsRight (history_of transactions.now)) }
@@ -32,13 +36,12 @@ pub fn check(alloc: Global, transactions: &[Transaction]) -> Result<Verdict, All
             if explains(alloc, transactions, order.as_slice())? {
                 return Ok(Verdict::Serializable(order));
             }
-            Ok(Verdict::Unknown)
         }
         Candidate::Reason(reason) => {
             if holds(alloc, transactions, &reason)? {
                 return Ok(Verdict::NotSerializable(reason));
             }
-            Ok(Verdict::Unknown)
         }
     }
+    decide(alloc, transactions)
 }

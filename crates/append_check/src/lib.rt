@@ -2,6 +2,7 @@
 #![tactic(auto)]
 
 mod appenders;
+mod arcs;
 mod candidates;
 mod checker;
 mod item;
@@ -10,10 +11,14 @@ mod links;
 mod lists;
 mod own;
 mod pieces;
+mod plain;
+mod precedences;
 mod reasons;
 mod replay;
 mod seen;
 mod verdict;
+mod whole;
+mod writers;
 
 pub use append_values::{Kind, Link, Operation, Outcome, Read, Reason, Transaction};
 pub use checker::check;

@@ -8,9 +8,11 @@ ghost use Rattle.append_values.specs.Meaning.Histories.{operation_of, transactio
 ghost use Rattle.append_values.specs.Meaning.Reads.{appended, own};
 ghost use Rattle.append_values.specs.Meaning.Reasons.{IsDue, IsRound, Holds};
 ghost use Rattle.append_check.specs.Meaning.Verdicts.{history_of};
+ghost use Rattle.append_check.specs.Machinery.Precedences.{IsNoWriteRead, IsNoReadWrite, IsNoWriteWrite};
 
 use crate::pieces::{begins_with, ends_with, first_of, has, has_block, lacks, meet, same, times};
 use crate::seen::{Seen, appended, look_at, own};
+use crate::writers::writer_of;
 use append_values::{Kind, Link, Operation, Outcome, Read, Reason, Transaction};
 use std::alloc::{AllocError, Global};
 
@@ -103,23 +105,7 @@ fn nobody_appends(transactions: &[Transaction], key: u64, element: u64) -> bool
     ensures { let h = history_of transactions.now in
         result ≡ true → (u : ℕ) → Contains (own h key u) element → outcome h u ≡ Aborted }
 {
-    'transactions: for transaction in transactions {
-        if may_append(transaction, key, element) {
-            return false;
-        }
-    }
-    true
-}
-
-/// Returns false if the transaction is aborted, or doesn't append the element to the list of the key.
-fn may_append(transaction: &Transaction, key: u64, element: u64) -> bool
-    ensures { let t = transaction_of transaction.now in
-        result ≡ false → Contains (appended key t.operations) element → t.outcome ≡ Aborted }
-{
-    if transaction.outcome == Outcome::Aborted {
-        return false;
-    }
-    appends(transaction.operations.as_slice(), key, element)
+    writer_of(transactions, key, element).is_none()
 }
 
 fn future(
@@ -243,14 +229,15 @@ fn is_due(alloc: Global, transactions: &[Transaction], link: &Link) -> Result<bo
 }
 
 /// Returns true if the second transaction read an element of the first one, by this read.
-fn write_read(
+pub(crate) fn write_read(
     alloc: Global,
     transactions: &[Transaction],
     from: u32,
     to: u32,
     read: Read,
 ) -> Result<bool, AllocError>
-    ensures { IfOk result (λ b. b ≡ true → from ≢ to → IsDue (history_of transactions.now) from to (WriteRead read)) }
+    ensures yes { IfOk result (λ b. b ≡ true → from ≢ to → IsDue (history_of transactions.now) from to (WriteRead read)) }
+    ensures no { IfOk result (λ b. b ≡ false → IsNoWriteRead (history_of transactions.now) from to read) }
 {
     let Some(seen) = look_at(transactions, read) else {
         return Ok(false);
@@ -264,14 +251,15 @@ fn write_read(
 }
 
 /// Returns true if the first transaction read a list that lacks an element of the second one, by this read.
-fn read_write(
+pub(crate) fn read_write(
     alloc: Global,
     transactions: &[Transaction],
     from: u32,
     to: u32,
     read: Read,
 ) -> Result<bool, AllocError>
-    ensures { IfOk result (λ b. b ≡ true → from ≢ to → IsDue (history_of transactions.now) from to (ReadWrite read)) }
+    ensures yes { IfOk result (λ b. b ≡ true → from ≢ to → IsDue (history_of transactions.now) from to (ReadWrite read)) }
+    ensures no { IfOk result (λ b. b ≡ false → IsNoReadWrite (history_of transactions.now) from to read) }
 {
     let Some(seen) = look_at(transactions, read) else {
         return Ok(false);
@@ -285,14 +273,15 @@ fn read_write(
 }
 
 /// Returns true if this read returned an element of the first transaction, and none of the second one before it.
-fn write_write(
+pub(crate) fn write_write(
     alloc: Global,
     transactions: &[Transaction],
     from: u32,
     to: u32,
     read: Read,
 ) -> Result<bool, AllocError>
-    ensures { IfOk result (λ b. b ≡ true → from ≢ to → IsDue (history_of transactions.now) from to (WriteWrite read)) }
+    ensures yes { IfOk result (λ b. b ≡ true → from ≢ to → IsDue (history_of transactions.now) from to (WriteWrite read)) }
+    ensures no { IfOk result (λ b. b ≡ false → IsNoWriteWrite (history_of transactions.now) from to read) }
 {
     let Some(seen) = look_at(transactions, read) else {
         return Ok(false);
@@ -305,29 +294,4 @@ fn write_write(
     let part = &seen.elements[..at + 1];
     let shows = lacks(part, later.as_slice());
     Ok(shows)
-}
-
-/// Returns whether one of the steps appends the element to the list of the key.
-fn appends(operations: &[Operation], key: u64, element: u64) -> bool
-    ensures { result ≡ false → Contains (appended key (map operation_of operations.now)) element → ⊥ }
-{
-    'steps: for operation in operations {
-        if appends_it(operation, key, element) {
-            return true;
-        }
-    }
-    false
-}
-
-/// Returns whether the step appends the element to the list of the key.
-fn appends_it(operation: &Operation, key: u64, element: u64) -> bool
-    ensures { result ≡ false → Contains (appended key (operation_of operation.now ∷ [])) element → ⊥ }
-{
-    match operation {
-        Operation::Append {
-            key: to,
-            element: x,
-        } => *to == key && *x == element,
-        _ => false,
-    }
 }

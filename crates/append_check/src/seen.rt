@@ -1,11 +1,11 @@
 //! Reads, with what stands around them.
 
-ghost use Rattle.std.specs.Prelude.{◌≡◌, ◌∷◌, ◌++◌, map, IfOk, IfSome};
+ghost use Rattle.std.specs.Prelude.{◌≡◌, ◌∷◌, ◌++◌, map, IfOk, MatchOption};
 ghost use Rattle.std.specs.List.{filter_map};
 ghost use Rattle.append_values.specs.Meaning.Histories.{operation_of};
 ghost use Rattle.append_values.specs.Meaning.Reads.{appended, own};
 ghost use Rattle.append_check.specs.Meaning.Verdicts.{history_of};
-ghost use Rattle.append_check.specs.Machinery.Seeing.{IsSeen, appended_by};
+ghost use Rattle.append_check.specs.Machinery.Seeing.{IsSeen, IsNoRead, appended_by};
 
 use append_values::{Operation, Outcome, Read, Transaction};
 use std::alloc::{AllocError, Global};
@@ -19,11 +19,13 @@ pub(crate) struct Seen<'a> {
     pub after: &'a [Operation],
 }
 
-/// Returns the read, if it is one of a committed transaction.
+/// Returns the read, if it is one of a committed transaction; `None` only if it isn't.
 pub(crate) fn look_at<'a>(transactions: &'a [Transaction], read: Read) -> Option<Seen<'a>>
-    ensures { IfSome result (IsSeen (history_of transactions.entry.now) read) }
+    ensures { let h = history_of transactions.entry.now in MatchOption result (IsNoRead h read) (IsSeen h read) }
 {
-    let transaction = transactions.get(read.transaction as usize)?;
+    let Some(transaction) = transactions.get(read.transaction as usize) else {
+        return None;
+    };
     if transaction.outcome != Outcome::Committed {
         return None;
     }
@@ -32,7 +34,9 @@ pub(crate) fn look_at<'a>(transactions: &'a [Transaction], read: Read) -> Option
         return None;
     }
     let (before, rest) = operations.split_at(read.step);
-    let (first, after) = rest.split_first()?;
+    let Some((first, after)) = rest.split_first() else {
+        return None;
+    };
     match first {
         Operation::Read { key, elements } => Some(Seen {
             key: *key,
@@ -40,7 +44,8 @@ pub(crate) fn look_at<'a>(transactions: &'a [Transaction], read: Read) -> Option
             before,
             after,
         }),
-        _ => None,
+        Operation::Append { .. } => None,
+        Operation::LostRead { .. } => None,
     }
 }
 

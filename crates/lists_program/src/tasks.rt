@@ -159,7 +159,6 @@ fn tell<W: Write>(
         Verdict::Serializable(_) => ("serializable", Status::Fine),
         Verdict::NotSerializable(reason) => return tell_reason(alloc, history, reason, out),
         Verdict::AppendedTwice { .. } => ("appended twice", Status::Refused),
-        Verdict::Unknown => ("unknown", Status::Refused),
     };
     match put_line(line.as_bytes(), out) {
         Ok(()) => Ok(status),

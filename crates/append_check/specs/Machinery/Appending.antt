@@ -1,9 +1,8 @@
 -- What the table of appenders says of the transactions that it was made of.
-use Rattle.std.specs.Prelude.{◌≡◌, ◌+◌, ◌<◌, ◌==◌, ℕ, Bool, ◌&&◌, List, Option, Some, None, Contains, map, take, flat_map, count_by}
+use Rattle.std.specs.Prelude.{◌≡◌, ◌+◌, ◌<◌, ◌==◌, ℕ, Bool, ◌&&◌, List, Option, Some, None, Contains, take, flat_map, count_by}
 use Rattle.append_values.specs.Meaning.Histories.{Operation, Transaction, History}
 use Rattle.append_values.specs.Meaning.Reads.{appended, own, AppendersDiffer, AppendsOnce}
 use Rattle.append_check.specs.declared.item.Item.{Item}
-use Rattle.append_check.specs.declared.appenders.Appenders.{Appenders}
 use Rattle.append_check.specs.declared.appenders.Made.{Made}
 use Rattle.append_check.specs.declared.appenders.Made.TheVariants.{Table, Twice}
 

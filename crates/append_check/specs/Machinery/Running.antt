@@ -1,6 +1,6 @@
 -- The lists that the code keeps, and a run on them.
-use Rattle.std.specs.Prelude.{◌≡◌, ◌≤◌, ◌==◌, ℕ, Bool, true, false, cond, List, [], Option, Some, None, slice_index_or, count_by}
-use Rattle.std.specs.BTreeMap.{BTreeMap, get}
+use Rattle.std.specs.Prelude.{ℕ, Bool, false, cond, List, [], Option, Some, None, slice_index_or}
+use Rattle.std.specs.BTreeMap.{get}
 use Rattle.std.specs.Global.{Vec}
 use Rattle.std.specs.Ordering.{nat_cmp}
 use Rattle.append_values.specs.Meaning.Runs.{Lists}

@@ -1,5 +1,4 @@
-use Rattle.std.proofs.Common.{◌<◌, arith}
-use Rattle.std.specs.List.{count_by}
+use Rattle.std.proofs.Common.{arith}
 use Rattle.append_check.specs.Meaning.Verdicts.{history_of}
 use Rattle.append_check.proofs.Holding.{twice_holds}
 use Rattle.append_check.proofs.reasons.twice.Goals as goal

@@ -2,7 +2,7 @@ use Rattle.std.proofs.Common.{◌<◌, ◌≤◌, ◌+◌, ◌∷◌, [], ◌++�
 use Rattle.std.specs.HashMap.{get}
 use Rattle.std.proofs.lemmas.List.{take-append-drop, take_all, length-map}
 use Rattle.lemmas.proofs.Steps.{turn}
-use Rattle.append_values.specs.Meaning.Histories.{Operation, operation_of}
+use Rattle.append_values.specs.Meaning.Histories.{operation_of}
 use Rattle.append_check.specs.Machinery.Appending.{item, item_eq, times, count_in, Adds}
 use Rattle.append_check.proofs.Appending.{adds_more, again_in_all}
 use Rattle.append_check.proofs.appenders.Appenders.add.Goals as goal
