@@ -16,7 +16,8 @@ pub(crate) fn command_line<'a>(alloc: Global) -> Result<Command<'a>, AllocError>
     let command = Command::new(alloc, "lists").about(ABOUT).after_help(MORE);
     let command = command.arg(file(alloc))?;
     let command = command.arg(format(alloc))?;
-    command.arg(order(alloc))
+    let command = command.arg(order(alloc))?;
+    command.arg(json(alloc))
 }
 
 fn file<'a>(alloc: Global) -> Arg<'a> {
@@ -37,4 +38,11 @@ fn order<'a>(alloc: Global) -> Arg<'a> {
         .value_name("ORDER")
         .action(ArgAction::Set)
         .help("The file for the order that was found: the index of each transaction, one a line")
+}
+
+fn json<'a>(alloc: Global) -> Arg<'a> {
+    Arg::new(alloc, "json")
+        .long("json")
+        .action(ArgAction::SetTrue)
+        .help("Write the answer as an object of JSON")
 }

@@ -1,25 +1,32 @@
 //! Reasons in words.
 
 use crate::cast::Cast;
-use crate::kinds::appender;
-use crate::page::Page;
+use crate::kinds::{appender, appends};
+use crate::page::{Page, is_long};
 use append_check::{Kind, Link, Operation, Read, Reason};
 use append_text::History;
 use std::alloc::{AllocError, Global};
 
 /// Says in words why no order explains the history, in lines that end with a line feed.
-pub(crate) fn explanation(
+pub(crate) fn reason_in_words(
     alloc: Global,
     history: &History,
     reason: &Reason,
 ) -> Result<Vec<u8>, AllocError> {
-    let mut teller = Teller {
-        alloc,
-        history,
-        cast: Cast::new(alloc),
-        page: Page::new(alloc),
-    };
+    let mut teller = Teller::new(alloc, history);
     teller.reason(reason)?;
+    Ok(teller.page.bytes)
+}
+
+/// Says in words who appended the element to the list of the key more than once, in a line that ends with a line feed.
+pub(crate) fn appends_in_words(
+    alloc: Global,
+    history: &History,
+    key: u64,
+    element: u64,
+) -> Result<Vec<u8>, AllocError> {
+    let mut teller = Teller::new(alloc, history);
+    teller.appenders(key, element)?;
     Ok(teller.page.bytes)
 }
 
@@ -31,7 +38,16 @@ struct Teller<'a> {
     page: Page,
 }
 
-impl Teller<'_> {
+impl<'a> Teller<'a> {
+    fn new(alloc: Global, history: &'a History) -> Teller<'a> {
+        Teller {
+            alloc,
+            history,
+            cast: Cast::new(alloc),
+            page: Page::new(alloc),
+        }
+    }
+
     fn reason(&mut self, reason: &Reason) -> Result<(), AllocError> {
         match reason {
             Reason::Internal(read) => {
@@ -39,12 +55,7 @@ impl Teller<'_> {
                 self.page
                     .words(", which doesn't end with what it had appended itself\n")
             }
-            Reason::Unrepeatable(first, second) => {
-                self.read(*first)?;
-                self.page.words(", and later as ")?;
-                self.found(*second)?;
-                self.page.words("\n")
-            }
+            Reason::Unrepeatable(first, second) => self.unrepeatable(*first, *second),
             Reason::Twice(read, element) => {
                 self.read(*read)?;
                 self.page.words(", with ")?;
@@ -66,14 +77,68 @@ impl Teller<'_> {
                 self.block(*read, *writer)?;
                 self.page.words("\n")
             }
-            Reason::Incompatible(one, other) => {
-                self.left(*one)?;
-                self.page.words(", and ")?;
-                self.left(*other)?;
-                self.page.words(": neither list begins with the other\n")
-            }
+            Reason::Incompatible(one, other) => self.incompatible(*one, *other),
             Reason::Cycle(links) => self.cycle(links.as_slice()),
         }
+    }
+
+    fn unrepeatable(&mut self, first: Read, second: Read) -> Result<(), AllocError> {
+        self.read(first)?;
+        self.page.words(", and later as ")?;
+        self.found(second)?;
+        let before = self.elements(first)?;
+        let after = self.elements(second)?;
+        self.difference(before.as_slice(), after.as_slice())?;
+        self.page.words("\n")
+    }
+
+    fn incompatible(&mut self, one: Read, other: Read) -> Result<(), AllocError> {
+        self.left(one)?;
+        self.page.words(", and ")?;
+        self.left(other)?;
+        self.page.words(": neither list begins with the other")?;
+        let mine = self.left_elements(one)?;
+        let theirs = self.left_elements(other)?;
+        self.difference(mine.as_slice(), theirs.as_slice())?;
+        self.page.words("\n")
+    }
+
+    // where the lists differ first, if they are not shown whole
+    fn difference(&mut self, one: &[u64], other: &[u64]) -> Result<(), AllocError> {
+        if !is_long(one) && !is_long(other) {
+            return Ok(());
+        }
+        for (i, (mine, theirs)) in one.iter().zip(other.iter()).enumerate() {
+            if *mine != *theirs {
+                self.page.words("; element ")?;
+                self.page.number((i as u64).saturating_add(1))?;
+                self.page.words(" is ")?;
+                self.element(*mine)?;
+                self.page.words(" in the first and ")?;
+                self.element(*theirs)?;
+                return self.page.words(" in the second");
+            }
+        }
+        Ok(())
+    }
+
+    // T1 (index 0) appended 4 to key 3, and so did T2 (index 5)
+    fn appenders(&mut self, key: u64, element: u64) -> Result<(), AllocError> {
+        let places = appenders(self.alloc, self.history, key, element)?;
+        let (Some(first), Some(second)) = (places.get(0), places.get(1)) else {
+            return Ok(());
+        };
+        self.who(*first)?;
+        self.page.words(" appended ")?;
+        self.element(element)?;
+        self.page.words(" to key ")?;
+        self.page.name(&self.history.names.keys, key)?;
+        if *first == *second {
+            return self.page.words(" twice\n");
+        }
+        self.page.words(", and so did ")?;
+        self.who(*second)?;
+        self.page.words("\n")
     }
 
     fn unwritten(&mut self, read: Read, element: u64) -> Result<(), AllocError> {
@@ -168,14 +233,24 @@ impl Teller<'_> {
 
     // [1 2]
     fn found(&mut self, read: Read) -> Result<(), AllocError> {
-        let history = self.history;
-        match step_of(history, read) {
-            Some(Operation::Read { elements, .. }) => {
-                self.page
-                    .list(&self.history.names.elements, elements.as_slice())
-            }
-            _ => Ok(()),
+        let elements = self.elements(read)?;
+        self.page
+            .list(&self.history.names.elements, elements.as_slice())
+    }
+
+    fn elements(&self, read: Read) -> Result<Vec<u64>, AllocError> {
+        match step_of(self.history, read) {
+            Some(Operation::Read { elements, .. }) => elements.as_slice().to_vec(self.alloc),
+            _ => Ok(Vec::new(self.alloc)),
         }
+    }
+
+    // what the transaction of the read leaves in the list
+    fn left_elements(&self, read: Read) -> Result<Vec<u64>, AllocError> {
+        let mut elements = self.elements(read)?;
+        let own = self.own(read, read.transaction, read.step.saturating_add(1))?;
+        elements.extend_from_slice(own.as_slice())?;
+        Ok(elements)
     }
 
     // T1 (index 12) read key 3 as [1 2] and appended [4 5] afterwards
@@ -230,6 +305,26 @@ impl Teller<'_> {
             _ => 0,
         }
     }
+}
+
+// The places of the transactions that append the element to the list of the key, one for each append.
+fn appenders(
+    alloc: Global,
+    history: &History,
+    key: u64,
+    element: u64,
+) -> Result<Vec<u32>, AllocError> {
+    let mut places = Vec::new(alloc);
+    let mut place = 0u32;
+    for transaction in &history.transactions {
+        for operation in &transaction.operations {
+            if appends(operation, key, element) {
+                places.push(place)?;
+            }
+        }
+        place = place.saturating_add(1);
+    }
+    Ok(places)
 }
 
 fn step_of(history: &History, read: Read) -> Option<&Operation> {

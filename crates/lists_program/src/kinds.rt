@@ -57,9 +57,7 @@ fn key_read(transactions: &[Transaction], place: u32, step: usize) -> Option<u64
 pub(crate) fn appender(transactions: &[Transaction], key: u64, element: u64) -> Option<u32> {
     let mut place = 0u32;
     for transaction in transactions {
-        if transaction.outcome == Outcome::Aborted
-            && appends(transaction.operations.as_slice(), key, element)
-        {
+        if transaction.outcome == Outcome::Aborted && append_it(transaction, key, element) {
             return Some(place);
         }
         place = place.saturating_add(1);
@@ -67,17 +65,32 @@ pub(crate) fn appender(transactions: &[Transaction], key: u64, element: u64) -> 
     None
 }
 
-fn appends(operations: &[Operation], key: u64, element: u64) -> bool {
-    for operation in operations {
-        if let Operation::Append {
-            key: to,
-            element: x,
-        } = operation
-        {
-            if *to == key && *x == element {
-                return true;
-            }
+fn append_it(transaction: &Transaction, key: u64, element: u64) -> bool {
+    for operation in &transaction.operations {
+        if appends(operation, key, element) {
+            return true;
         }
     }
     false
+}
+
+/// Returns whether the step appends the element to the list of the key.
+pub(crate) fn appends(operation: &Operation, key: u64, element: u64) -> bool {
+    match operation {
+        Operation::Append {
+            key: to,
+            element: x,
+        } => *to == key && *x == element,
+        _ => false,
+    }
+}
+
+/// Returns the name of a link by its kind: `ww` from a writer to the next one, `wr` from a writer to a reader, `rw` from
+/// a reader to a later writer.
+pub(crate) fn kind_of_link(link: &Link) -> &'static str {
+    match link.kind {
+        Kind::WriteWrite(_) => "ww",
+        Kind::WriteRead(_) => "wr",
+        Kind::ReadWrite(_) => "rw",
+    }
 }

@@ -2,6 +2,7 @@
 //! transactions explains it.
 #![tactic(auto)]
 
+mod answer;
 mod arguments;
 mod cast;
 mod explanation;

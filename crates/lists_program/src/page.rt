@@ -8,6 +8,11 @@ use std::alloc::{AllocError, Global};
 /// How many elements of a list are shown at each end, if it has more than twice as many.
 const ENDS: usize = 8;
 
+/// Returns whether a list is shown without its middle.
+pub(crate) fn is_long(elements: &[u64]) -> bool {
+    elements.len() > 2 * ENDS
+}
+
 /// A text.
 #[derive(Drop)]
 pub(crate) struct Page {
@@ -56,7 +61,7 @@ impl Page {
     /// Writes the list, without its middle if it is long.
     pub fn list(&mut self, names: &IndexSet<Name>, elements: &[u64]) -> Result<(), AllocError> {
         self.words("[")?;
-        let long = elements.len() > 2 * ENDS;
+        let long = is_long(elements);
         for i in 0..elements.len() {
             let hidden = long && i >= ENDS && i < elements.len() - ENDS;
             if !hidden {

@@ -1,13 +1,12 @@
 //! What the program does.
 
+use crate::answer::{in_json, in_words};
 use crate::arguments::command_line;
-use crate::explanation::explanation;
-use crate::kinds::kind;
 use crate::status::Status;
-use append_check::{Reason, Verdict, check};
+use append_check::{Verdict, check};
 use append_text::{History, ReadFault, read_edn, read_history, read_json};
 use clap::{ArgMatches, Error};
-use devices::{Source, Watched, put, put_line, put_number};
+use devices::{Source, Watched, put, put_number};
 use std::alloc::{AllocError, Global};
 use std::fs::Files;
 use std::io::{BufWriter, Write};
@@ -95,7 +94,13 @@ fn answered<'a, R: Runtime + AllocGlobal>(
         write_order(rt, path, &history, order.as_slice())?;
     }
     let mut output = Watched::new(io::writer(rt));
-    tell(rt.alloc(), &history, &verdict, &mut output)
+    tell(
+        rt.alloc(),
+        &history,
+        &verdict,
+        given.get_flag("json"),
+        &mut output,
+    )
 }
 
 fn read<'a, S: Source>(
@@ -153,37 +158,26 @@ fn tell<W: Write>(
     alloc: Global,
     history: &History,
     verdict: &Verdict,
+    is_json: bool,
     out: &mut Watched<W>,
 ) -> Result<Status, Fault<'static>> {
-    let (line, status) = match verdict {
-        Verdict::Serializable(_) => ("serializable", Status::Fine),
-        Verdict::NotSerializable(reason) => return tell_reason(alloc, history, reason, out),
-        Verdict::AppendedTwice { .. } => ("appended twice", Status::Refused),
+    let text = if is_json {
+        in_json(alloc, history, verdict)?
+    } else {
+        in_words(alloc, history, verdict)?
     };
-    match put_line(line.as_bytes(), out) {
-        Ok(()) => Ok(status),
-        Err(_) => Err(Fault::Write("stdout")),
+    let written = put(text.as_slice(), out);
+    if written.is_err() || out.flush().is_err() {
+        return Err(Fault::Write("stdout"));
     }
+    Ok(status_of(verdict))
 }
 
-fn tell_reason<W: Write>(
-    alloc: Global,
-    history: &History,
-    reason: &Reason,
-    out: &mut Watched<W>,
-) -> Result<Status, Fault<'static>> {
-    let words = explanation(alloc, history, reason)?;
-    let name = kind(history.transactions.as_slice(), reason);
-    match put_reason(name, words.as_slice(), out) {
-        Ok(()) => Ok(Status::Refused),
-        Err(_) => Err(Fault::Write("stdout")),
+fn status_of(verdict: &Verdict) -> Status {
+    match verdict {
+        Verdict::Serializable(_) => Status::Fine,
+        _ => Status::Refused,
     }
-}
-
-fn put_reason<W: Write>(name: &str, words: &[u8], out: &mut Watched<W>) -> io::Result<()> {
-    put(b"not serializable: ", out)?;
-    put_line(name.as_bytes(), out)?;
-    put(words, out)
 }
 
 // Help is an answer. Whatever else the parser prints is about wrong arguments.
