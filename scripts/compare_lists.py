@@ -18,7 +18,7 @@ import sys
 import tempfile
 
 import lists_reference
-from lists_reference import edn_of, explains
+from lists_reference import edn_of, explains, lists_the_right_ones
 
 TOP = os.path.dirname(os.path.dirname(os.path.abspath(__file__)))
 
@@ -107,9 +107,7 @@ def differs(history, said, status, order):
         return "status %d" % status
     if wanted == "serializable":
         places = [index // 2 for index in order or []]
-        ok = {place for place, (outcome, _) in enumerate(history) if outcome == "ok"}
-        failed = {place for place, (outcome, _) in enumerate(history) if outcome == "fail"}
-        if len(set(places)) < len(places) or not ok <= set(places) or failed & set(places):
+        if not lists_the_right_ones(history, places):
             return "the order lists others: %s" % places
         if not explains(history, places):
             return "the order explains nothing: %s" % places

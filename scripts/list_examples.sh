@@ -1,7 +1,9 @@
 #!/usr/bin/env bash
-# Runs the built program `lists` on every history of examples/lists, and on arguments, files and devices that are wrong.
-# The first line of a history has the answer that is wanted behind `; `. Build the program first:
-# (cd crates/lists && rt run < stdin). Usage: list_examples.sh [PROGRAM], by default crates/lists/out/lists.
+# Runs the built program `lists` on every history of examples/lists, made by hand or recorded, and on arguments, files
+# and devices that are wrong. An EDN history has the answer that is wanted in its first line, after `; `; one in JSON
+# has it in a file of the same name with .stdout. The reason that the program gives, or the order that it writes, is then
+# looked up in the history by scripts/list_witness.py. Build the program first: (cd crates/lists && rt run < stdin).
+# Usage: list_examples.sh [PROGRAM], by default crates/lists/out/lists.
 source "$(dirname "$0")/checks.sh" "${1:-$(dirname "$0")/../crates/lists/out/lists}"
 examples=$top/examples/lists
 
@@ -9,12 +11,19 @@ ends() { # the arguments; prints the first line of the answer, and the status
     run "$@" | sed -n '1p;$p'
 }
 
-for history in "$examples"/*.edn; do
+for history in "$examples"/*.edn "$examples"/recorded/*.edn "$examples"/recorded/*.json; do
     answer=$(sed -n '1s/^; //p' "$history")
+    [ -n "$answer" ] || answer=$(head -n 1 "$history.stdout")
     [ "$answer" = serializable ] && status=0 || status=1
-    check "$history" "out: $answer"$'\n'"status $status" "$(ends "$history")"
+    rm -f order
+    check "$history" "out: $answer"$'\n'"status $status" "$(ends --order order "$history")"
+    check "what is said of $history" holds "$("$top/scripts/list_witness.py" "$history" out order 2>&1)"
     check "$history from standard input" "out: $answer"$'\n'"status $status" "$(ends <"$history")"
 done
+
+# The form of a text may be named.
+check 'a JSON history that is said to be one' 'status 0' \
+    "$(run --format json "$examples/recorded/mariadb-serializable.json" | tail -n 1)"
 
 # The two committed transactions of the stale read in the only order that explains it, by their indexes.
 run --order order "$examples/stale-read.edn" >answer

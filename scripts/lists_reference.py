@@ -30,6 +30,13 @@ def explains(history, order):
     return True
 
 
+def lists_the_right_ones(history, order):
+    """Whether the order lists each transaction that is ok once, the unknown ones at most once, and no other."""
+    ok = {place for place, (outcome, _) in enumerate(history) if outcome == "ok"}
+    failed = {place for place, (outcome, _) in enumerate(history) if outcome == "fail"}
+    return len(set(order)) == len(order) and ok <= set(order) and not failed & set(order)
+
+
 def orders(history):
     """All orders that list the right transactions."""
     certain = [place for place, (outcome, _) in enumerate(history) if outcome == "ok"]

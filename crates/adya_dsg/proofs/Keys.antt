@@ -21,13 +21,6 @@ rise_skip k j (l ∷ ks) h =
     let q = and_parts _ _ p.1 in
     and_from _ _ (bytes_lt-trans k j l p.0 q.0) q.1
 
--- a key below those of the lines has no line
-pub line_of-above : (k : List ℕ) (os : List Order) → keys_rise (k ∷ map (λ o. o.key) os) ≡ true → line_of os k ≡ []
-line_of-above k [] h = refl
-line_of-above k (o ∷ os) h =
-    ap (λ b. cond b o.writers (line_of os k)) (key_eq-gt o.key k (and_parts _ _ h).0) ∙
-    line_of-above k os (rise_skip k o.key (map (λ x. x.key) os) h)
-
 pub rise_at : {Y : Type 0} (view : Y → Order) (k : List ℕ) (ys : List Y) (i : ℕ) (y : Y)
     → keys_rise (k ∷ map (λ o. o.key) (map view ys)) ≡ true → i < length ys → y ≡ get_or ys i y
     → key_lt k (view y).key ≡ true

@@ -111,10 +111,6 @@ fed_stops r past fed failed b =
     let (within, fault) = fed.faulty k is in
     fault_stops AreHistoryLines past k within fault b
 
-pub fed_done : (r : HistoryReader) (past : List (List ℕ)) → IsFed r past → is_done r.stage ≡ true
-    → AreHistoryLines past
-fed_done r past fed done = are_lines r.stage past done (fed.taken (done_going r.stage done)).run
-
 pub fed_undone : LinesTell → (r : HistoryReader) (past : List (List ℕ)) → IsFed r past → is_done r.stage ≡ false
     → AreHistoryLines past → ⊥
 fed_undone tell r past fed undone (h, is, whole) = by_failed (is_failed r.stage) refl

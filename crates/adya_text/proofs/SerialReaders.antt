@@ -85,12 +85,6 @@ fed_stops r past fed failed b =
     let (within, fault) = fed.faulty k is in
     fault_stops AreSerialLines past k within fault b
 
-pub fed_done : (r : SerialReader) (past : List (List ℕ)) → IsFed r past → is_done r.stage ≡ true → AreSerialLines past
-fed_done r past fed done =
-    let is = done_is r.stage done in
-    let going : is_failed r.stage ≡ false = ap is_failed is in
-    are_lines past (rw is at (fed.taken going).run)
-
 pub fed_undone : LinesTell → (r : SerialReader) (past : List (List ℕ)) → IsFed r past → is_done r.stage ≡ false
     → AreSerialLines past → ⊥
 fed_undone tell r past fed undone (h, is, whole) = by_failed (is_failed r.stage) refl

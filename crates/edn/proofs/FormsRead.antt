@@ -66,14 +66,6 @@ only_top (in_vector fs ∷ outer) ts h e = absurd (let no : false ≡ true = e i
 only_top (in_set fs ∷ outer) ts h e = absurd (let no : false ≡ true = e in cc)
 only_top (in_map ps k ∷ outer) ts h e = absurd (let no : false ≡ true = e in cc)
 
-pub idle_at_end : (first stage : Stage) (ts : List Token) (stack : List Frame) → Leads first stage ts stack
-    → is_top stack ≡ true → stack ≡ top ∷ []
-idle_at_end first Start ts stack h e = h.2
-idle_at_end first Forms ts stack h e = only_top stack ts h.1 e
-idle_at_end first Elements ts stack (from, (us, behind, h)) e = only_top stack us h e
-idle_at_end first Closed ts stack h e = h
-idle_at_end first (Failed fault) ts stack h e = h
-
 other_more : (ts : List Token) (t : Token) → BeginsOther ts → BeginsOther (ts ++ t ∷ [])
 other_more [] t h = absurd h
 other_more (s ∷ ts) t h = h

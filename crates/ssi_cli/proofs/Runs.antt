@@ -14,9 +14,6 @@ follow_both : (course : Course) (some more : List Step) → AllMayFollow course 
 follow_both course [] more first then = then
 follow_both course (s ∷ ss) more first then = (first.0, follow_both (course_with course s) ss more first.1 then)
 
-pub went_nowhere : {T : Type 0} (is_at : T → Course → Type 0) (x : T) → WentOn is_at x [] x
-went_nowhere is_at x = λ course at. (tt, at)
-
 pub went_on_both : {T : Type 0} (is_at : T → Course → Type 0) (old mid new : T) (some more : List Step)
     → WentOn is_at old some mid → WentOn is_at mid more new → WentOn is_at old (some ++ more) new
 went_on_both is_at old mid new some more before now = λ course at.

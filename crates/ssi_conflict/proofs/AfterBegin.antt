@@ -1,5 +1,5 @@
 -- A transaction that begins.
-use Rattle.std.proofs.Common.{◌≡◌, ◌≢◌, ℕ, ◌==◌, Bool, true, false, true≢false, ◌&&◌, List, [], ◌∷◌, Option, Some, None, is_some, refl, sym, ◌∙◌, ap, subst, arith, inl, inr}
+use Rattle.std.proofs.Common.{◌≡◌, ◌≢◌, ℕ, ◌==◌, Bool, true, false, ◌&&◌, List, [], ◌∷◌, Option, Some, None, is_some, refl, sym, ◌∙◌, ap, subst, arith, inl, inr}
 use Rattle.std.proofs.lemmas.Bool.{eq-eqb, ne_eqb, cases_eq, cases_Bool, cond-false, cond-true, le-leb, both_ways}
 use Rattle.ssi_conflict.specs.Meaning.Calls.{Call, Begins, Reads, Commits, Aborts, snapshot_of, stamp_of, keys_of, has_begun, is_committed, is_aborted, is_open, meets, AreAllowed}
 use Rattle.ssi_conflict.specs.Meaning.Pairs.{is_at_or_below, precedes, IsPair, IsOrderedPivot}
@@ -149,17 +149,6 @@ module _ (t s : ℕ) (calls : List Call) (ok : AreAllowed (Begins t s ∷ calls)
       both_false true false = refl
       both_false false true = refl
       both_false false false = refl
-
--- nothing stands for no calls
-pub stands_at_first : (row : ℕ → Option Row) (marked : ℕ → List ℕ → Bool) → ((t : ℕ) → row t ≡ None)
-    → ((t : ℕ) (k : List ℕ) → marked t k ≡ false) → StandsFor row marked []
-stands_at_first row marked empty unmarked = record {
-  allowed = tt;
-  no_pivot = λ t p. none-some p.middle p.committed;
-  tells = λ t u e. absurd (true≢false (sym (ap is_some (sym (empty t) ∙ e))));
-  keeps = λ t h. absurd (true≢false (sym h));
-  marks = λ t k. unmarked t k ∙ ap (λ o. is_some o && false) (sym (empty t));
-}
 
 pub new_open : (t s : ℕ) (calls : List Call) (ok : AreAllowed (Begins t s ∷ calls))
     → is_open t (Begins t s ∷ calls) ≡ true

@@ -79,13 +79,6 @@ meet_step t s n done r f now' new before change x =
           (λ v. ap (λ b. if b then met t s n x v else v) (sym same)) (f x))
     ]
 
-pub meet_none : (t s n : ℕ) (f : ℕ → Option Row) (x : ℕ) → f x ≡ option_map (met_if t s n [] x) (f x)
-meet_none t s n f x = by_row (f x)
-  where
-    by_row : (o : Option Row) → o ≡ option_map (met_if t s n [] x) o
-    by_row None = refl
-    by_row (Some v) = refl
-
 -- the rows after the readers' pairs and the commit
 module _ (t s n : ℕ) (ks : List (List ℕ)) (readers : List ℕ) (row met' row' : ℕ → Option Row) (u : Row)
     (own : row t ≡ Some u)

@@ -1,11 +1,10 @@
 -- What is known after calls that may be refused.
-use Rattle.std.proofs.Common.{◌&&◌, ◌≡◌, ℕ, Bool, true, true≢false, List, Option, None, Result, Ok, Err, OnOk, OnErr, IsErr, is_some, refl, sym, ◌∙◌, ap}
+use Rattle.std.proofs.Common.{◌&&◌, ◌≡◌, ℕ, Bool, true≢false, List, Option, Result, Ok, Err, OnOk, OnErr, IsErr, is_some, refl, sym, ◌∙◌, ap}
 use Rattle.std.specs.declared.alloc.AllocError.{AllocError}
-use Rattle.ssi_conflict.specs.Meaning.Calls.{Call, is_open, meets}
+use Rattle.ssi_conflict.specs.Meaning.Calls.{Call, meets}
 use Rattle.ssi_conflict.specs.Machinery.Rows.{Row, StandsFor}
 use Rattle.ssi_conflict.specs.Meaning.Standing.{carried}
 use Rattle.ssi_conflict.specs.declared.answer.Answer.{Answer}
-use Rattle.ssi_conflict.proofs.AllowedCalls.{kept_open}
 
 -- the same rows and marks stand for the same calls
 pub same_stands : (row row' : ℕ → Option Row) (marked marked' : ℕ → List ℕ → Bool) (calls : List Call)
@@ -18,11 +17,6 @@ same_stands row row' marked marked' calls rows marks stands = record {
   keeps = λ t h. ap is_some (rows t) ∙ stands.keeps t h;
   marks = λ t k. marks t k ∙ (stands.marks t k ∙ ap (λ o. is_some o && meets t k calls) (sym (rows t)));
 }
-
--- an open transaction has its row
-pub open_row : (row : ℕ → Option Row) (marked : ℕ → List ℕ → Bool) (calls : List Call) → StandsFor row marked calls
-    → (t : ℕ) → is_open t calls ≡ true → row t ≡ None → ⊥
-open_row row marked calls stands t o e = true≢false (sym (stands.keeps t (kept_open t calls o)) ∙ ap is_some e)
 
 pub carried_refused : (c : Call) (calls : List Call) (r : Result Answer AllocError) → IsErr r
     → carried c calls r ≡ calls

@@ -29,11 +29,6 @@ cut_more n xs i left next x h is some e was =
     ∙ sym (append_assoc (map entry_of (take i xs)) (entry_of x ∷ []) (up_to next rest))
     ∙ ap (λ ys. ys ++ up_to next rest) (sym (ap (map entry_of) (take_more xs i x h ∙ ap (λ y. take i xs ++ y ∷ []) (sym is)) ∙ map_push entry_of (take i xs) x))
 
-pub cut_here : (n : ℕ) (xs : List EntryValue) (i left : ℕ) → left ≡ 0
-    → up_to n (map entry_of xs) ≡ map entry_of (take i xs) ++ up_to left (map entry_of (drop i xs))
-    → map entry_of (take i xs) ≡ up_to n (map entry_of xs)
-cut_here n xs i left none was = sym (was ∙ ap (λ k. map entry_of (take i xs) ++ up_to k (map entry_of (drop i xs))) none ∙ append-nil (map entry_of (take i xs)))
-
 pub cut_all : (n : ℕ) (xs : List EntryValue) (i left : ℕ) → i ≡ length xs
     → up_to n (map entry_of xs) ≡ map entry_of (take i xs) ++ up_to left (map entry_of (drop i xs))
     → map entry_of (take i xs) ≡ up_to n (map entry_of xs)

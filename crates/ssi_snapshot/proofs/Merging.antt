@@ -10,11 +10,10 @@ use Rattle.lemmas.proofs.Steps.{drop_step}
 use Rattle.lemmas.proofs.Orderings.{bytes_eq-same, bytes_eq-itself}
 use Rattle.adya_values.specs.declared.event.Entry.{Entry as EntryValue}
 use Rattle.adya_values.specs.Meaning.Keys.{key_eq, key_lt, keys_rise, lies_in}
-use Rattle.adya_values.specs.Meaning.Histories.{Entry, content_of, entry_of}
+use Rattle.adya_values.specs.Meaning.Histories.{Entry, entry_of}
 use Rattle.adya_values.specs.Meaning.Events.{entry, listed}
 use Rattle.ssi_versions.specs.Meaning.Changes.{Held, otherwise, entry_in}
-use Rattle.ssi_versions.specs.declared.held.Held.{Held as HeldValue}
-use Rattle.ssi_versions.specs.Meaning.Chains.{held_of, write_of, found_in}
+use Rattle.ssi_versions.specs.Meaning.Chains.{write_of}
 use Rattle.ssi_snapshot.specs.Meaning.Listings.{keys}
 use Rattle.ssi_snapshot.specs.Machinery.Stored.{are_keyed, entry_key, Write, stored_at}
 
@@ -44,21 +43,6 @@ keyed_put (e ∷ es) x keyed =
       | Equal ↦ λ t. and_from (key_eq x.version.key e.0) (are_keyed entry_key es) (texts_ties x.version.key e.0 ∙ ap is_eq t) o.1
       | Greater ↦ λ t. and_from (key_eq e.1.version.key e.0) (are_keyed entry_key (insert_entry (slice_cmp nat_cmp) es x.version.key x)) o.0 (keyed_put es x o.1)
     ] refl
-
--- one held version more, from the back
-pub held_more : (key : List ℕ) (hs : List HeldValue) (i j : ℕ) (h : HeldValue) (es fs : Stored) (first : Option Entry)
-    → i < length hs → h ≡ get_or hs i h → j ≡ i + 1
-    → stored_at key fs ≡ (if key_eq h.version.key key then Some (entry h.version (content_of h.content)) else stored_at key es)
-    → stored_at key es ≡ otherwise (entry_in (found_in key (map held_of (drop j hs)))) first
-    → stored_at key fs ≡ otherwise (entry_in (found_in key (map held_of (drop i hs)))) first
-held_more key hs i j h es fs first less is next gives was =
-    gives
-    ∙ elim (key_eq h.version.key key) as (λ b. (if b then Some (entry h.version (content_of h.content)) else stored_at key es)
-    ≡ otherwise (entry_in (if b then Some (held_of h) else found_in key (map held_of (drop (i + 1) hs)))) first) [
-      | true ↦ refl
-      | false ↦ subst (λ n. stored_at key es ≡ otherwise (entry_in (found_in key (map held_of (drop n hs)))) first) next was
-    ]
-    ∙ ap (λ ys. otherwise (entry_in (found_in key (map held_of ys))) first) (sym (drop_step hs i h less is))
 
 -- what the writes show of the key if it lies in the range
 abbrev pub own_in : List ℕ → List ℕ → List ℕ → List Write → Option Entry

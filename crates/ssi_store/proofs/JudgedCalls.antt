@@ -1,18 +1,16 @@
 -- The tracker may be told of a read or a commit before its answer is known.
-use Rattle.std.proofs.Common.{List, Some, subst, take, true, ℕ, ◌∷◌, ◌≡◌, Bool, Option}
+use Rattle.std.proofs.Common.{List, Some, subst, take, true, ℕ, ◌∷◌, ◌≡◌, Bool}
 use Rattle.adya_values.specs.Meaning.Keys.{key_le}
 use Rattle.std.proofs.lemmas.Option.{none-some, same_Some}
-use Rattle.ssi_conflict.specs.Meaning.Calls.{AreAllowed, Call}
+use Rattle.ssi_conflict.specs.Meaning.Calls.{AreAllowed}
 use Rattle.ssi_snapshot.specs.Meaning.Listings.{reached}
-use Rattle.ssi_store.specs.Meaning.Acts.{Act, Gets, Scans, acts, is_open}
-use Rattle.ssi_store.specs.Meaning.Courses.{Command, Command as Do, Course, txn_for}
+use Rattle.ssi_store.specs.Meaning.Acts.{Act, Gets, Scans, is_open}
+use Rattle.ssi_store.specs.Meaning.Courses.{Command, Command as Do}
 use Rattle.ssi_store.specs.Meaning.Laws.{judged}
-use Rattle.ssi_store.specs.Meaning.Replies.{rows, Follows}
+use Rattle.ssi_store.specs.Meaning.Replies.{rows}
 use Rattle.ssi_store.specs.Meaning.Tracked.{tracked}
-use Rattle.ssi_store.proofs.UnsafeAnswers.{txn_open}
 use Rattle.ssi_store.proofs.ReachedKeys.{reached_upward}
 use Rattle.ssi_store.proofs.SoundLogs.{Sound}
-use Rattle.ssi_store.proofs.SoundCourses.{course_stands}
 use Rattle.ssi_store.proofs.TrackedCalls.{may_commit, tracked_allowed}
 
 -- the command has no range that runs downward
@@ -41,10 +39,3 @@ module _ (t : ℕ) (log : List Act) (sound : Sound log) (live : is_open t log �
       ((live, reached_upward t low high n log up), sound))
   allowed_after (Do.Commit s) act e up =
       subst (λ x. AreAllowed (tracked (x ∷ log))) (same_Some _ act e) (may_commit t log live, tracked_allowed log sound)
-
-pub judged_calls_are_allowed : (pivot : List Call → Option ℕ) (c : Course) → Follows pivot c → (m : Command) (t : ℕ)
-    (act : Act) → txn_for m c ≡ Some t → judged t (acts c) m ≡ Some act → is_upward m ≡ true
-    → AreAllowed (tracked (act ∷ acts c))
-judged_calls_are_allowed pivot c f m t act e j up =
-    let stands = course_stands pivot c f in
-    allowed_after t (acts c) stands.sound (txn_open pivot c stands m t e) m act j up

@@ -16,7 +16,7 @@ use Rattle.ssi_snapshot.specs.Meaning.Listings.{reached}
 use Rattle.ssi_store.specs.Meaning.Acts.{Act, Act as Do, act_by, acts, is_open, operations}
 use Rattle.ssi_store.specs.Meaning.Courses.{Aborted, Answer, Begun, Busy, Command, Command as Go, Committed, Conflict, Counts, Course, Done, Idle, Kept, Long, Memory, New, Range, Refusal, Refused, Rows, Spent, Then, Unsafe, is_proper, next_txn, txn_for}
 use Rattle.ssi_store.specs.Meaning.Faces.{Face, Face as Seen, face_by, face_of, faces}
-use Rattle.ssi_store.specs.Meaning.Recording.{close, events, get_event, get_found, recorded, write_event}
+use Rattle.ssi_store.specs.Meaning.Recording.{close, events, get_event, get_found, recorded}
 use Rattle.ssi_store.specs.Meaning.Replies.{Follows, conflict, got, last_writer, reply_for, reply_idle, reply_in, rows, unless_conflict, unless_downward, unless_long, unless_pivot}
 use Rattle.ssi_store.specs.Meaning.Seeing.{changed, sees}
 use Rattle.ssi_store.specs.Meaning.Tracked.{tracked}
@@ -24,10 +24,6 @@ use Rattle.ssi_store.proofs.ReachedKeys.{limited_rows}
 use Rattle.ssi_store.proofs.Recorded.{versions}
 use Rattle.adya_values.proofs.RisingNumbers.{number_below, numbers_rise-tail}
 use Rattle.ssi_store.proofs.SeenByEvents.{sees_is}
-
-write_face : (t : ℕ) (k : List ℕ) (n : ℕ) (c : Content) → face_of (write_event t k n c) ≡ Seen.Wrote t k c
-write_face t k n (Live v) = refl
-write_face t k n Dead = refl
 
 -- what is recorded of the acts of one step shows the face of the step
 abbrev Shows : Option ℕ → Command → Answer → List Act → Type 0

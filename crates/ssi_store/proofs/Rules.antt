@@ -215,16 +215,6 @@ own_written t k (Writes u j c ∷ log) w e =
     ]
 own_written t k (Collects ∷ log) w e = own_written t k log w e
 
-versions_stay : (a : Act) (log : List Act) (w : Entry) → Contains (versions log) w
-    → Contains (versions (a ∷ log)) w
-versions_stay (Starts u) log w c = c
-versions_stay (Gets u j) log w c = c
-versions_stay (Scans u low high) log w c = c
-versions_stay (Commits u) log w c = c
-versions_stay (Aborts u) log w c = c
-versions_stay (Writes u j d) log w c = Contains-append_left (versions log) (made u j d log ∷ []) w c
-versions_stay Collects log w c = c
-
 -- the contents of a key are the last write of their committed writer
 pub record IsCommittedWrite (k : List ℕ) (log : List Act) (w : Entry) : Type 0 where
   pub committed : has_committed w.version.txn log ≡ true

@@ -105,43 +105,6 @@ aborted_started t (Aborts u ∷ log) s e =
     ]
 aborted_started t (Collects ∷ log) s e = aborted_started t log s.1 e
 
-read_started : (t : ℕ) (k : List ℕ) (log : List Act) → Sound log → has_read t k log ≡ true
-    → has_started t log ≡ true
-read_started t k [] s e = absurd (cc (e))
-read_started t k (Starts u ∷ log) s e = or_right (u == t) (has_started t log) (read_started t k log s.1 e)
-read_started t k (Writes u j c ∷ log) s e = read_started t k log s.1 e
-read_started t k (Commits u ∷ log) s e = read_started t k log s.1 e
-read_started t k (Aborts u ∷ log) s e = read_started t k log s.1 e
-read_started t k (Gets u j ∷ log) s e =
-    elim (or_cases ((u == t) && key_eq j k && not (wrote u j log)) (has_read t k log) e) [
-      | inl same ↦ subst (λ x. has_started x log ≡ true) (eqb-true u t (and_parts (u == t) (key_eq j k)
-          (and_parts ((u == t) && key_eq j k) (not (wrote u j log)) same).0).0) (open_from u log s.0).begun
-      | inr there ↦ read_started t k log s.1 there
-    ]
-read_started t k (Scans u low high ∷ log) s e =
-    elim (or_cases ((u == t) && lies_in low high k) (has_read t k log) e) [
-      | inl same ↦ subst (λ x. has_started x log ≡ true)
-          (eqb-true u t (and_parts (u == t) (lies_in low high k) same).0) (open_from u log s.0.0).begun
-      | inr there ↦ read_started t k log s.1 there
-    ]
-read_started t k (Collects ∷ log) s e = read_started t k log s.1 e
-
-wrote_started : (t : ℕ) (k : List ℕ) (log : List Act) → Sound log → wrote t k log ≡ true
-    → has_started t log ≡ true
-wrote_started t k [] s e = absurd (cc (e))
-wrote_started t k (Starts u ∷ log) s e = or_right (u == t) (has_started t log) (wrote_started t k log s.1 e)
-wrote_started t k (Commits u ∷ log) s e = wrote_started t k log s.1 e
-wrote_started t k (Aborts u ∷ log) s e = wrote_started t k log s.1 e
-wrote_started t k (Gets u j ∷ log) s e = wrote_started t k log s.1 e
-wrote_started t k (Scans u low high ∷ log) s e = wrote_started t k log s.1 e
-wrote_started t k (Writes u j c ∷ log) s e =
-    elim (cases_Bool (u == t && key_eq j k)) [
-      | inl same ↦ subst (λ x. has_started x log ≡ true) (eqb-true u t (and_parts _ _ same).0)
-          (open_from u log s.0).begun
-      | inr other ↦ wrote_started t k log s.1 (rw other at e)
-    ]
-wrote_started t k (Collects ∷ log) s e = wrote_started t k log s.1 e
-
 pub fresh : (t : ℕ) (log : List Act) → Allowed (Starts t) log → has_started t log ≡ true → ⊥
 fresh t log a e = let less = a t e in omega (arith, less)
 

@@ -11,14 +11,6 @@ pub all-push : {X : Type 0} (p : X → Bool) (xs : List X) (x : X) → list_all 
 all-push p [] x h g = and_from (p x) true g refl
 all-push p (y ∷ ys) x h g = and_from (p y) (list_all p (ys ++ x ∷ [])) (and_parts (p y) (list_all p ys) h).0 (all-push p ys x (and_parts (p y) (list_all p ys) h).1 g)
 
-pub all-filter : {X : Type 0} (p q : X → Bool) (xs : List X) → list_all p xs ≡ true → list_all p (filter q xs) ≡ true
-all-filter p q [] h = refl
-all-filter p q (x ∷ xs) h =
-    elim (q x) as (λ b. list_all p (cond b (x ∷ filter q xs) (filter q xs)) ≡ true) [
-      | true ↦ and_from (p x) (list_all p (filter q xs)) (and_parts (p x) (list_all p xs) h).0 (all-filter p q xs (and_parts (p x) (list_all p xs) h).1)
-      | false ↦ all-filter p q xs (and_parts (p x) (list_all p xs) h).1
-    ]
-
 pub all_weaker : {X : Type 0} (p q : X → Bool) (xs : List X) → ((x : X) → p x ≡ true → q x ≡ true) → list_all p xs ≡ true → list_all q xs ≡ true
 all_weaker p q [] f h = refl
 all_weaker p q (x ∷ xs) f h =

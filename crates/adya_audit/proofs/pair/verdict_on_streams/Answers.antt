@@ -1,3 +1,4 @@
+use Rattle.std.proofs.Common.{rules}
 use Rattle.adya_audit.proofs.NamesHistoryFault.{fault_named, none_named, verdict_names_none}
 use Rattle.adya_audit.proofs.TextVerdicts.{verdict_on_two}
 use Rattle.adya_audit.proofs.pair.verdict_on_streams.Goals as goal
@@ -22,3 +23,12 @@ pub returns-clause-history_syntax : goal.returns-clause-history_syntax
 returns-clause-history_syntax g c =
     verdict_names_none c.fault_lines.ensures.none_of_history _ c.in-Ok.history c.in-Ok-read_serial_early.serial.txns.items
     _ c.in-Ok.ensures.answer c.in_ok-audit.ensures.verdict
+
+pub returns-in-Err-Device-read_serial_early-clause-verdict : goal.returns-in-Err-Device-read_serial_early-clause-verdict
+returns-in-Err-Device-read_serial_early-clause-verdict g c = search rules
+
+pub returns-in-Err-Device-read_serial_early-clause-history_syntax : goal.returns-in-Err-Device-read_serial_early-clause-history_syntax
+returns-in-Err-Device-read_serial_early-clause-history_syntax g c = search rules
+
+pub returns-in-Err-Device-read_serial_early-clause-certificate_ended : goal.returns-in-Err-Device-read_serial_early-clause-certificate_ended
+returns-in-Err-Device-read_serial_early-clause-certificate_ended g c = search rules

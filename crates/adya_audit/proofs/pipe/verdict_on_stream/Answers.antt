@@ -1,3 +1,4 @@
+use Rattle.std.proofs.Common.{rules}
 use Rattle.adya_audit.proofs.TextVerdicts.{verdict_on_one, fault_on_one}
 use Rattle.adya_audit.proofs.pipe.verdict_on_stream.Goals as goal
 
@@ -9,3 +10,9 @@ returns-in-Err-Syntax-clause-verdict g c =
 
 pub returns-clause-verdict : goal.returns-clause-verdict
 returns-clause-verdict g c = verdict_on_one _ c.in-Ok.texts _ c.in-Ok.ensures.answer c.in_ok-audit.ensures.verdict
+
+pub returns-in-Err-Device-clause-verdict : goal.returns-in-Err-Device-clause-verdict
+returns-in-Err-Device-clause-verdict g c = search rules
+
+pub returns-in-Err-Device-clause-ended : goal.returns-in-Err-Device-clause-ended
+returns-in-Err-Device-clause-ended g c = search rules

@@ -1,4 +1,4 @@
-use Rattle.std.proofs.Common.{◌++◌, not, map, option_map, sym, ◌∙◌, ap}
+use Rattle.std.proofs.Common.{rules, ◌++◌, not, map, option_map, sym, ◌∙◌, ap}
 use Rattle.std.specs.List.{find}
 use Rattle.adya_values.specs.Meaning.Histories.{event_of}
 use Rattle.adya_dsg.specs.Machinery.VersionOrders.{ordered_history}
@@ -21,3 +21,6 @@ returns-then-is_none c =
     ap (option_map edge_of) (none_unless_some c.first_backward.result (c.is_none.ensures ∙ ap not c.if-is_none.true))) in
     sym (none_of_event c.selected_is_installed.ensures h c.requires.checked e c.requires.occurs c.requires.committed ts
     c.requires.writes none)
+
+pub returns : goal.returns
+returns c = search rules

@@ -1,5 +1,6 @@
-use Rattle.std.proofs.Common.{◌∙◌, All, Vec, Global, ℕ, ◌++◌, ◌∷◌, [], ap, sym, subst}
+use Rattle.std.proofs.Common.{◌∙◌, All, Vec, Global, ℕ, ◌++◌, ◌∷◌, [], ap, sym, subst, arith}
 use Rattle.std.proofs.lemmas.List.Elements.{All-push}
+use Rattle.std.proofs.lemmas.Grind.{common_steps}
 use Rattle.adya_values.specs.Meaning.Keys.{IsTxn}
 use Rattle.adya_dsg.proofs.CommittedNodes.{noted_commit, noted_other}
 use Rattle.adya_dsg.proofs.nodes.committed.Goals as goal
@@ -25,3 +26,6 @@ loop-e-preserved c =
             numbers = subst (All IsTxn) (sym same) c.loop-e.invariant.numbers;
           }
     ]
+
+pub returns-clause-value : goal.returns-clause-value
+returns-clause-value c = grind (arith, common_steps)

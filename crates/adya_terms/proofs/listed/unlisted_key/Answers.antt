@@ -1,4 +1,4 @@
-use Rattle.std.proofs.Common.{◌≡◌, ◌∙◌, Some, None, not, sym, ap, subst}
+use Rattle.std.proofs.Common.{rules, ◌≡◌, ◌∙◌, Some, None, not, sym, ap, subst}
 use Rattle.std.proofs.lemmas.Option.{MatchOption-at_none, same_Some}
 use Rattle.adya_values.specs.Meaning.Histories.{Entry, entry_of, event_of}
 use Rattle.adya_terms.specs.Machinery.Places.{IsLeft}
@@ -28,3 +28,6 @@ returns-clause-found c same found k t left =
     let w = entry_of c.in-Some.field-0 in
     let x = writes_it _ _ _ _ all m t k c.args.at (event_of c.args.event.now) left.last_is found (Some w) c.in-Some.ensures in
     ap Some (ap (λ (y : Entry). y.version.key) (same_Some w x.0 x.1) ∙ x.3)
+
+pub returns-then-places-at-ne0-clause-found : goal.returns-then-places-at-ne0-clause-found
+returns-then-places-at-ne0-clause-found c = search rules

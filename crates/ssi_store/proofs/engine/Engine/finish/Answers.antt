@@ -1,4 +1,4 @@
-use Rattle.std.proofs.Common.{sym, subst, ◌∙◌}
+use Rattle.std.proofs.Common.{rules, sym, subst, ◌∙◌}
 use Rattle.std.proofs.Math.Logic.{∥∥₁_map}
 use Rattle.ssi_conflict.specs.Computing.Steps.{smallest_ordered_pivot}
 use Rattle.ssi_conflict.specs.Meaning.Pairs.{IsOrderedPivot}
@@ -29,3 +29,6 @@ invariant_of-result g c = record {
       (finishes at.1 c.open_txns.result.now _ c.open_txns.ensures.all c.in-Ok.ensures.history)
       (c.into_starts.ensures ∙ at.1.log.began) (c.finished_are_covered.ensures.commit_order at.0 at.1.follows));
 }
+
+pub invariant_of-self-in-Err : goal.invariant_of-self-in-Err
+invariant_of-self-in-Err g c = search rules

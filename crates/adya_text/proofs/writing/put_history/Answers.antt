@@ -1,0 +1,8 @@
+use Rattle.std.proofs.Common.{arith}
+use Rattle.std.proofs.lemmas.Grind.{common_steps}
+use Rattle.adya_text.specs.Machinery.TextParts.{history_parts}
+use Rattle.adya_text.proofs.writing.put_history.Goals as goal
+
+pub returns : goal.returns
+unfolding history_parts
+returns g c = grind (arith, common_steps)
