@@ -12,6 +12,7 @@ before. The last line is `N passed, 0 failed`. If an answer differs, the history
 """
 import argparse
 import collections
+import json
 import os
 import re
 import shutil
@@ -24,22 +25,12 @@ from lists_reference import edn_of
 
 TOP = os.path.dirname(os.path.dirname(os.path.abspath(__file__)))
 CHECKER = os.path.join("crates", "append_check", "src", "checker.rt")
-TASKS = os.path.join("crates", "lists_program", "src", "tasks.rt")
 # what each copy changes, in the text of which file
 NO_FAST = [
     (CHECKER, "if explains(alloc, transactions, order.as_slice())? {", "if explains(alloc, transactions, order.as_slice())? && false {"),
     (CHECKER, "if holds(alloc, transactions, &reason)? {", "if holds(alloc, transactions, &reason)? && false {"),
 ]
 NO_PLAIN = [(CHECKER, "    decide(alloc, transactions)\n}", "    Err(AllocError)\n}"), (CHECKER, "use crate::plain::decide;\n", "")]
-# and both write the order before the answer
-ORDER_TOO = [
-    (
-        TASKS,
-        'Verdict::Serializable(_) => ("serializable", Status::Fine),',
-        'Verdict::Serializable(order) => { match put_order(history, order.as_slice(), out) {'
-        ' Ok(()) => {} Err(_) => return Err(Fault::Write("stdout")), } ("serializable", Status::Fine) }',
-    )
-]
 
 
 def copied(folder, changes):
@@ -58,19 +49,20 @@ def copied(folder, changes):
 
 
 def answers(folder, cases):
-    """What the copy writes for each of the texts, as lines."""
+    """What the copy answers for each of the texts: an object of JSON, or nothing."""
     texts = os.path.join(folder, "cases")
     os.mkdir(texts)
     for case, text in cases.items():
-        with open(os.path.join(texts, case), "w", encoding="ascii") as file:
-            file.write(text)
+        for name, words in [(case, text), (case + ".args", "--json")]:
+            with open(os.path.join(texts, name), "w", encoding="ascii") as file:
+                file.write(words)
     call = ["rt", "try", "--steps", "1", "--cases", texts]
     ran = subprocess.run(call, cwd=os.path.join(folder, "crates", "lists"), capture_output=True, text=True)
     parts = re.split(r"^== (\S+).*\n", ran.stdout, flags=re.M)
-    found = dict(zip(parts[1::2], (part.splitlines() for part in parts[2::2])))
-    if len(found) < len(cases):
+    if len(parts) < 1 + 2 * len(cases):
         print(ran.stdout + ran.stderr)
-    return found
+    firsts = ((case, part.split("\n")[0]) for case, part in zip(parts[1::2], parts[2::2]))
+    return {case: json.loads(line) for case, line in firsts if line.startswith("{")}
 
 
 def compared(name, histories, changes):
@@ -78,14 +70,13 @@ def compared(name, histories, changes):
     cases = {"history-%05d" % number: edn_of(history) for number, history in enumerate(histories)}
     kinds = collections.Counter()
     with tempfile.TemporaryDirectory() as folder:
-        copied(folder, changes + ORDER_TOO)
+        copied(folder, changes)
         found = answers(folder, cases)
     failed = 0
     for (case, text), history in zip(cases.items(), histories):
-        lines = found.get(case, [])
-        order = [int(line) for line in lines if line.isdigit()]
-        said = next((line for line in lines if not line.isdigit()), "")
-        wrong = differs(history, said, 0 if said == "serializable" else 1, order)
+        answer = found.get(case, {"answer": ""})
+        said = ": ".join(answer[name] for name in ("answer", "kind") if name in answer)
+        wrong = differs(history, said, 0 if said == "serializable" else 1, answer.get("order"))
         kinds[said] += 1
         if wrong:
             failed += 1

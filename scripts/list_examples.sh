@@ -11,6 +11,10 @@ ends() { # the arguments; prints the first line of the answer, and the status
     run "$@" | sed -n '1p;$p'
 }
 
+told() { # prints the answer of an object of JSON, with its kind
+    python3 -c 'import json, sys; a = json.load(sys.stdin); print(": ".join(a[k] for k in ("answer", "kind") if k in a))'
+}
+
 for history in "$examples"/*.edn "$examples"/recorded/*.edn "$examples"/recorded/*.json; do
     answer=$(sed -n '1s/^; //p' "$history")
     [ -n "$answer" ] || answer=$(head -n 1 "$history.stdout")
@@ -18,6 +22,7 @@ for history in "$examples"/*.edn "$examples"/recorded/*.edn "$examples"/recorded
     rm -f order
     check "$history" "out: $answer"$'\n'"status $status" "$(ends --order order "$history")"
     check "what is said of $history" holds "$("$top/scripts/list_witness.py" "$history" out order 2>&1)"
+    check "$history in JSON" "$answer" "$("$ssi" --json "$history" 2>/dev/null | told)"
     check "$history from standard input" "out: $answer"$'\n'"status $status" "$(ends <"$history")"
 done
 
@@ -28,6 +33,13 @@ check 'a JSON history that is said to be one' 'status 0' \
 # The two committed transactions of the stale read in the only order that explains it, by their indexes.
 run --order order "$examples/stale-read.edn" >answer
 check 'the order of stale-read' $'3\n1' "$(cat order)"
+
+# The whole of an answer in JSON.
+check 'the order of stale-read in JSON' '{"answer":"serializable","order":[3,1]}' \
+    "$("$ssi" --json "$examples/stale-read.edn")"
+check 'the cycle of read-skew in JSON' '0 before 1: wr, 1 before 0: rw' \
+    "$("$ssi" --json "$examples/read-skew.edn" | python3 -c 'import json, sys
+print(", ".join(sorted("%(from)d before %(to)d: %(kind)s" % link for link in json.load(sys.stdin)["cycle"])))')"
 
 # Arguments, files and devices.
 check 'an unknown option' 'status 2' "$(run --foo | tail -n 1)"

@@ -25,6 +25,7 @@ BLOCK = r"(\[[^\]]*\]|\S+)"
 READ = WHO + r" read key (\S+) as " + LIST
 APPENDED = WHO + " appended " + BLOCK + r" to key (\S+)"
 LEFT = READ + r"(?: and appended " + LIST + " afterwards)?"
+DIFFERS = r"(?:; element (\d+) is (\S+) in the first and (\S+) in the second)?"  # of lists that aren't shown whole
 
 
 class Wrong(Exception):
@@ -102,6 +103,14 @@ def is_first(some, others, elements):
     return bool(places) and not set(others) <= set(elements[:min(places)])
 
 
+def differ_so(one, other, place, mine, theirs):
+    """Whether two lists differ first where the sentence says, if it says so."""
+    if place is None:
+        return True
+    at = int(place) - 1
+    return one[:at] == other[:at] and one[at:at + 1] == [mine] != other[at:at + 1] == [theirs]
+
+
 class Witness:
     """The sentences of one answer, and the history."""
 
@@ -168,11 +177,11 @@ class Witness:
         found, steps = self.reads(*read)
         require(not all(ends_with(value, own(steps[:place], read[2])) for place, value in found), "it ends so")
 
-    def unrepeatable(self, number, index, key, elements, later):
+    def unrepeatable(self, number, index, key, elements, later, *differs):
         found, steps = self.reads(number, index, key, elements)
         others, _ = self.reads(number, index, key, later)
         wrong = [place for place, value in found for other, second in others
-                 if place < other and value + own(steps[place:other], key) != second]
+                 if place < other and value + own(steps[place:other], key) != second and differ_so(value, second, *differs)]
         require(wrong, "it found what it had to")
 
     def twice(self, number, index, key, elements, element):
@@ -212,8 +221,9 @@ class Witness:
         return lists
 
     def incompatible(self, *lists):
-        ones, others = self.left(*lists[:5]), self.left(*lists[5:])
-        apart = any(x != y for one in ones for other in others for x, y in zip(one, other))
+        ones, others = self.left(*lists[:5]), self.left(*lists[5:10])
+        apart = any(x != y for one in ones for other in others if differ_so(one, other, *lists[10:])
+                    for x, y in zip(one, other))
         require(lists[2] == lists[7] and apart, "one begins with the other")
 
     def no(self, name, sentences):
@@ -222,13 +232,13 @@ class Witness:
             return self.cycle(name, sentences)
         forms = {
             "internal": (READ + ", which doesn't end with what it had appended itself", self.internal),
-            "unrepeatable": (READ + ", and later as " + LIST, self.unrepeatable),
+            "unrepeatable": (READ + ", and later as " + LIST + DIFFERS, self.unrepeatable),
             "twice": (READ + r", with (\S+) twice", self.twice),
             "unwritten": (READ + r", and nobody appended (\S+)", self.unwritten),
             "G1a": (READ + r", and (\S+) was appended by " + WHO + ", which failed", self.aborted),
             "future": (READ + r", before it appended (\S+) itself", self.future),
             "G1b": (READ + ", and " + WHO + " appended " + BLOCK, self.intermediate),
-            "incompatible": (LEFT + ", and " + LEFT + ": neither list begins with the other", self.incompatible),
+            "incompatible": (LEFT + ", and " + LEFT + ": neither list begins with the other" + DIFFERS, self.incompatible),
         }
         require(name in forms and len(sentences) == 1, "not understood")
         form, judge_it = forms[name]
@@ -247,9 +257,19 @@ def yes(transactions, order):
     require(explains(history, places), "the order explains nothing")
 
 
-def appended_twice(transactions):
-    appends = [(key, value) for _, steps in transactions.values() for name, key, value in steps if name == "append"]
-    require(len(set(appends)) < len(appends), "no element is")
+def appended_twice(transactions, sentences):
+    """Whether the two transactions of the sentence, or the one twice, append the element."""
+    require(len(sentences) == 1, "not understood")
+    if found := re.fullmatch(WHO + r" appended (\S+) to key (\S+) twice", sentences[0]):
+        _, index, element, key = found.groups()
+        indexes = [index, index]
+    else:
+        found = re.fullmatch(WHO + r" appended (\S+) to key (\S+), and so did " + WHO, sentences[0])
+        require(found, "not understood")
+        _, first, element, key, _, second = found.groups()
+        indexes = [first, second]
+    appends = [index for index, (_, steps) in transactions.items() for value in own(steps, key) if value == element]
+    require(all(appends.count(int(index)) >= indexes.count(index) for index in indexes), "they didn't")
 
 
 def judge(history, answer, order=None):
@@ -261,7 +281,7 @@ def judge(history, answer, order=None):
         with open(order, encoding="ascii") as file:
             yes(transactions, [int(line) for line in file])
     elif first == "appended twice":
-        appended_twice(transactions)
+        appended_twice(transactions, sentences)
     else:
         require(first.startswith("not serializable: "), "not understood")
         Witness(transactions).no(first.partition(": ")[2], sentences)
