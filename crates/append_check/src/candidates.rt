@@ -1,6 +1,7 @@
 //! The search for an order, or for a reason against all.
 //!
-//! What is found is looked at once more before it is answered (`replay`, `reasons`), so nothing here has a contract.
+//! What is found is looked at once more before it is answered (`replay`, `reasons`), and if it fails, another search
+//! answers (`plain`). So no contract here says what is found.
 
 ghost use Rattle.std.specs.Prelude.{IfOk, OnOk};
 ghost use Rattle.digraph.specs.Meaning.Graphs.{IsGraph};

@@ -1,7 +1,7 @@
 //! The plain search: all reads are looked at by themselves, and then all transactions two by two.
 //!
-//! It always finds an order or a reason, but takes time that grows with the cube of the history. It is asked only if
-//! what the fast search (`candidates`) found doesn't pass the last look at it. No test shows that this happens.
+//! It finds an order or a reason for each history, but takes time that grows with its cube, or faster. It is asked only
+//! if what the fast search (`candidates`) found doesn't pass the last look at it. No test shows that this happens.
 
 ghost use Rattle.std.specs.Prelude.{◌<◌, ◌^◌, length, IfOk};
 ghost use Rattle.append_values.specs.Meaning.Reads.{AppendersDiffer, AppendsOnce};
@@ -73,6 +73,7 @@ fn links(
     'arcs: for arc in cycle {
         let kind = precedence(alloc, transactions, reads, arc.from, arc.to)?;
         let Some(kind) = kind else {
+            // never: each arc of the cycle is a precedence
             return Ok(links);
         };
         links.push(Link {
