@@ -49,3 +49,35 @@ def run(command, home, user):
 def elements_of(text):
     """The elements of a list that is stored as a text, such as `1,2,3`. `None` is no list yet."""
     return [int(element) for element in text.split(",")] if text else []
+
+
+class Connection:
+    """A client of a server: the statements of a transaction, by an `execute` that sends one and a `cursor` with its answer.
+    A class below it has `BEGIN`, and in `APPEND` and `READ` the statements with their parameters."""
+
+    def begin(self):
+        self.execute(self.BEGIN)
+
+    def append(self, key, element):
+        self.execute(self.APPEND, (key, str(element)))
+
+    def read(self, key):
+        self.execute(self.READ, (key,))
+        rows = self.cursor.fetchall()
+        return elements_of(rows[0][0] if rows else None)
+
+    def commit(self):
+        self.execute("COMMIT")
+
+    def rollback(self):
+        self.execute("ROLLBACK")
+
+
+class OverSocket(Connection):
+    """One over a `socket`, which can break."""
+
+    READ = "SELECT val FROM lists WHERE k = %s"
+
+    def cut(self, way):
+        """Breaks the connection: the way back (`SHUT_RD`), or both ways (`SHUT_RDWR`)."""
+        self.socket.shutdown(way)

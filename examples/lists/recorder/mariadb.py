@@ -7,7 +7,7 @@ import subprocess
 import sys
 import time
 
-from common import Aborted, Lost, as_user, elements_of, new_folder, run
+from common import Aborted, Lost, OverSocket, as_user, new_folder, run
 
 try:
     import pymysql
@@ -17,8 +17,6 @@ except ImportError:
 NAME = "MariaDB"
 SNAPSHOT = "snapshot-isolation"  # repeatable-read with innodb_snapshot_isolation, which is off by default in 10.11
 LEVELS = ["serializable", SNAPSHOT, "repeatable-read", "read-committed", "read-uncommitted"]
-
-APPEND = "INSERT INTO lists VALUES (%s, %s) ON DUPLICATE KEY UPDATE val = CONCAT(val, ',', VALUES(val))"
 
 # 1213: a deadlock, and 1020: with snapshot isolation, a write of what changed since; both end the transaction.
 # 1205: a statement waited too long for a lock, and the transaction is still there; the client rolls it back.
@@ -71,8 +69,11 @@ def wait_for(path, process, log):
         sys.exit("record.py: the server doesn't start:\n" + file.read())
 
 
-class Client:
+class Client(OverSocket):
     """A connection. Its statements are sent as they stand here."""
+
+    BEGIN = "START TRANSACTION"
+    APPEND = "INSERT INTO lists VALUES (%s, %s) ON DUPLICATE KEY UPDATE val = CONCAT(val, ',', VALUES(val))"
 
     def __init__(self, path, level, database=None):
         self.connection = pymysql.connect(user="root", database=database, autocommit=True, defer_connect=True)
@@ -95,27 +96,6 @@ class Client:
             if number in (0, 2006, 2013):
                 raise Lost() from None
             raise
-
-    def begin(self):
-        self.execute("START TRANSACTION")
-
-    def append(self, key, element):
-        self.execute(APPEND, (key, str(element)))
-
-    def read(self, key):
-        self.execute("SELECT val FROM lists WHERE k = %s", (key,))
-        row = self.cursor.fetchone()
-        return elements_of(row[0] if row else None)
-
-    def commit(self):
-        self.execute("COMMIT")
-
-    def rollback(self):
-        self.execute("ROLLBACK")
-
-    def cut(self, way):
-        """Breaks the connection: the way back (`SHUT_RD`), or both ways (`SHUT_RDWR`)."""
-        self.socket.shutdown(way)
 
     def close(self):
         with contextlib.suppress(pymysql.MySQLError):

@@ -6,7 +6,7 @@ import shutil
 import socket
 import sys
 
-from common import Aborted, Lost, as_user, elements_of, new_folder, run
+from common import Aborted, Lost, OverSocket, as_user, new_folder, run
 
 try:
     import psycopg2
@@ -16,9 +16,6 @@ except ImportError:
 
 NAME = "PostgreSQL"
 LEVELS = ["serializable", "repeatable-read", "read-committed"]
-
-APPEND = """INSERT INTO lists VALUES (%s, %s)
-ON CONFLICT (k) DO UPDATE SET val = concat(lists.val, ',', excluded.val)"""
 
 
 def programs():
@@ -52,15 +49,18 @@ def server(level):
             run([pg_ctl, "-D", data, "-m", "fast", "-w", "stop"], home, user)
 
 
-class Client:
+class Client(OverSocket):
     """A connection. Its statements are sent as they stand here."""
+
+    APPEND = """INSERT INTO lists VALUES (%s, %s)
+    ON CONFLICT (k) DO UPDATE SET val = concat(lists.val, ',', excluded.val)"""
 
     def __init__(self, home, level):
         self.connection = psycopg2.connect(host=home, user="postgres", dbname="postgres")
         self.connection.autocommit = True
         self.cursor = self.connection.cursor()
         self.socket = socket.socket(fileno=os.dup(self.connection.fileno()))
-        self.level = level.replace("-", " ").upper()
+        self.BEGIN = "BEGIN ISOLATION LEVEL " + level.replace("-", " ").upper()
 
     def execute(self, statement, values=()):
         try:
@@ -72,28 +72,10 @@ class Client:
         except (psycopg2.OperationalError, psycopg2.InterfaceError):
             raise Lost() from None
 
-    def begin(self):
-        self.execute("BEGIN ISOLATION LEVEL " + self.level)
-
-    def append(self, key, element):
-        self.execute(APPEND, (key, str(element)))
-
-    def read(self, key):
-        self.execute("SELECT val FROM lists WHERE k = %s", (key,))
-        row = self.cursor.fetchone()
-        return elements_of(row[0] if row else None)
-
     def commit(self):
-        self.execute("COMMIT")
+        super().commit()
         if self.cursor.statusmessage != "COMMIT":
             raise RuntimeError("asked to commit, the server answered " + self.cursor.statusmessage)
-
-    def rollback(self):
-        self.execute("ROLLBACK")
-
-    def cut(self, way):
-        """Breaks the connection: the way back (`SHUT_RD`), or both ways (`SHUT_RDWR`)."""
-        self.socket.shutdown(way)
 
     def close(self):
         self.socket.close()

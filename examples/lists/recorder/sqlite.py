@@ -3,12 +3,10 @@ import contextlib
 import os
 import sqlite3
 
-from common import Aborted, elements_of, new_folder
+from common import Aborted, Connection, new_folder
 
 NAME = "SQLite"
 LEVELS = ["serializable", "read-uncommitted"]
-
-APPEND = "INSERT INTO lists VALUES (?, ?) ON CONFLICT (k) DO UPDATE SET val = lists.val || ',' || excluded.val"
 
 REFUSALS = {sqlite3.SQLITE_BUSY: "busy", sqlite3.SQLITE_LOCKED: "locked"}
 
@@ -24,8 +22,12 @@ def server(level):
             yield lambda: Client(path, level), sqlite3.sqlite_version
 
 
-class Client:
+class Client(Connection):
     """A connection. At read-uncommitted all of them share one cache, and see each other's changes there."""
+
+    BEGIN = "BEGIN"
+    APPEND = "INSERT INTO lists VALUES (?, ?) ON CONFLICT (k) DO UPDATE SET val = lists.val || ',' || excluded.val"
+    READ = "SELECT val FROM lists WHERE k = ?"
 
     def __init__(self, path, level):
         shared = level == "read-uncommitted"
@@ -44,23 +46,9 @@ class Client:
                 raise
             raise Aborted(REFUSALS[primary]) from None
 
-    def begin(self):
-        self.execute("BEGIN")
-
-    def append(self, key, element):
-        self.execute(APPEND, (key, str(element)))
-
-    def read(self, key):
-        self.execute("SELECT val FROM lists WHERE k = ?", (key,))
-        rows = self.cursor.fetchall()
-        return elements_of(rows[0][0] if rows else None)
-
-    def commit(self):
-        self.execute("COMMIT")
-
     def rollback(self):
         if self.connection.in_transaction:
-            self.execute("ROLLBACK")
+            super().rollback()
 
     def close(self):
         self.connection.close()
