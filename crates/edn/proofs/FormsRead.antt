@@ -93,7 +93,7 @@ leads_on first Start next ts t old new o none (is, empty, idle) (inr (other, to,
 leads_on first Forms next ts t old new o none (from, h) (to, built) =
     subst (λ n. Leads first n (ts ++ t ∷ []) new) (sym to)
     (from_more first ts t from, held_step old new t None ts h (subst (Built old t new) none built))
-leads_on first Elements next ts t old new o none (from, (us, behind, h)) (inl (to, is_idle, same, _)) =
+leads_on first Elements next ts t old new o none (from, (us, behind, h)) (inl (to, _, is_idle, same, _)) =
     subst (λ n. Leads first n (ts ++ t ∷ []) new) (sym to) (same ∙ only_top old us h is_idle)
 leads_on first Elements next ts t old new o none (from, (us, behind, h)) (inr (to, built)) =
     subst (λ n. Leads first n (ts ++ t ∷ []) new) (sym to) (
@@ -139,7 +139,7 @@ form_read first Start next ts t old new o f some (is, empty, idle) (inr (other, 
 form_read first Forms next ts t old new o f some (from, h) (to, built) =
     let made = held_step old new t (Some f) ts h (subst (Built old t new) some built) in
     (item_at first _ f (from_more first ts t from) made.0, made.1)
-form_read first Elements next ts t old new o f some (from, (us, behind, h)) (inl (to, is_idle, same, none)) =
+form_read first Elements next ts t old new o f some (from, (us, behind, h)) (inl (to, _, is_idle, same, none)) =
     absurd (let no : None ≡ Some f = sym none ∙ some in cc)
 form_read first Elements next ts t old new o f some (from, (us, behind, h)) (inr (to, built)) =
     let made = held_step old new t (Some f) us h (subst (Built old t new) some built) in

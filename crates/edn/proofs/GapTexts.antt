@@ -76,9 +76,50 @@ gap_passed text = gap_in text
 pub rest_after : (front rest : List ℕ) → drop (length (front ++ rest) - length rest) (front ++ rest) ≡ rest
 rest_after front rest = grind (arith, common_steps)
 
+dropped : (text rest : List ℕ) → rest ≡ after_gap text → drop (length text - length rest) text ≡ rest
+dropped text rest e =
+    let (gap, _, whole) = gap_passed text in
+    let all : text ≡ gap ++ rest = whole ∙ ap (λ x. gap ++ x) (sym e) in
+    subst (λ x. drop (length x - length rest) x ≡ rest) (sym all) (rest_after gap rest)
+
 pub gap_split : (text rest : List ℕ) → rest ≡ after_gap text
     → (gap : List ℕ) × IsGap gap × (text ≡ gap ++ drop (length text - length rest) text)
 gap_split text rest e =
     let (gap, g, whole) = gap_passed text in
-    let all : text ≡ gap ++ rest = whole ∙ ap (λ x. gap ++ x) (sym e) in
-    (gap, g, all ∙ ap (λ x. gap ++ x) (sym (subst (λ x. drop (length x - length rest) x ≡ rest) (sym all) (rest_after gap rest))))
+    (gap, g, whole ∙ ap (λ x. gap ++ x) (sym (dropped text rest e ∙ e)))
+
+-- ---- nothing more is passed over
+
+abbrev pub IsPast : List ℕ → Type 0
+IsPast text = after_gap_in None text ≡ text
+
+mutual
+  past_in : (text : List ℕ) → IsPast (after_gap_in None text)
+  past_in [] = refl
+  past_in (b ∷ bs) =
+      either IsPast (is_space b) _ _
+      (λ _. past_in bs)
+      (λ s. either IsPast (b == 59) _ _ (λ c. past_comment (b ∷ bs) bs (rw (s, c) refl)) (λ c. rw (s, c) refl))
+
+  past_comment : (start text : List ℕ) → after_gap_in None start ≡ after_gap_in (Some start) text
+      → IsPast (after_gap_in (Some start) text)
+  past_comment start [] e = e
+  past_comment start (b ∷ bs) e =
+      either IsPast (b == 10) _ _ (λ _. past_in bs) (λ n. past_comment start bs (rw n at e))
+
+pub gap_past : (text rest : List ℕ) → rest ≡ after_gap text → IsPast (drop (length text - length rest) text)
+unfolding after_gap
+gap_past text rest e = subst IsPast (sym (dropped text rest e ∙ e)) (past_in text)
+
+not_longer : (b : ℕ) (gap bs : List ℕ) → bs ≡ gap ++ b ∷ bs → ⊥
+not_longer b gap bs e = grind (arith, common_steps, ap length e)
+
+-- so it doesn't begin with white space
+past_space : (b : ℕ) (bs : List ℕ) (v : Bool) → is_space b ≡ v → IsPast (b ∷ bs) → is_space b ≡ false
+past_space b bs true s past =
+    let (gap, _, whole) = gap_in bs in
+    absurd (not_longer b gap bs (whole ∙ ap (λ x. gap ++ x) (rw s at past)))
+past_space b bs false s past = s
+
+pub past_more : (b : ℕ) (bs more : List ℕ) → (b == 59) ≡ false → IsPast (b ∷ bs) → IsPast (b ∷ (bs ++ more))
+past_more b bs more c past = rw (past_space b bs (is_space b) refl past, c) refl

@@ -46,7 +46,7 @@ unfinished_so Unread t rest e = cc
 unfinished_so Nothing t rest e = cc
 
 -- a word that may not go on has ended
-ended : (beyond : Beyond) (rest after : List ℕ) → IsBeyond beyond after → Ends rest → may_go_on rest beyond ≡ false
+pub ended : (beyond : Beyond) (rest after : List ℕ) → IsBeyond beyond after → Ends rest → may_go_on rest beyond ≡ false
     → Ends (rest ++ after)
 ended Unread [] after b h e = absurd (cc)
 ended Unread (x ∷ rest) after b h e = h
@@ -64,7 +64,7 @@ string_so beyond bs after open_ t rest is e = absurd (unfinished_so beyond t res
 string_so beyond bs after no_string t rest is e = absurd (cc)
 
 -- a text in two parts, and what follows
-parted : (n : ℕ) (text after : List ℕ) → text ++ after ≡ take n text ++ (drop n text ++ after)
+pub parted : (n : ℕ) (text after : List ℕ) → text ++ after ≡ take n text ++ (drop n text ++ after)
 parted n text after = ap (λ x. x ++ after) (sym (take-append-drop n text)) ∙ append_assoc (take n text) (drop n text) after
 
 tag_so : (beyond : Beyond) (text after : List ℕ) (t : Token) (rest : List ℕ) → IsBeyond beyond after

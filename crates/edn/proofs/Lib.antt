@@ -10,3 +10,5 @@ pub mod GapTexts
 pub mod TokensRead
 pub mod FormsRead
 pub mod OneReading
+pub mod NoTokens
+pub mod NoForms

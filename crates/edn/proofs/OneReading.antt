@@ -1,9 +1,8 @@
 -- A text begins with one form at most.
-use Rattle.std.proofs.Common.{Option, ◌≡◌, ◌≢◌, ◌⊎◌, inl, inr, ℕ, suc, ◌+◌, ◌==◌, Bool, true, false, List, [], ◌∷◌, ◌++◌, length, take, drop, All, None, Some, Result, Ok, Err, refl, sym, ap, ◌∙◌, subst, append_assoc, append-nil, arith}
+use Rattle.std.proofs.Common.{Option, ◌≡◌, ◌≢◌, ◌⊎◌, inl, inr, ℕ, suc, ◌==◌, Bool, true, false, List, [], ◌∷◌, ◌++◌, All, None, Some, Result, Ok, Err, refl, sym, ap, ◌∙◌, subst, append_assoc, append-nil, arith}
 use Rattle.std.specs.Prelude.{not}
-use Rattle.std.specs.List.{prefix_len, list_all}
+use Rattle.std.specs.List.{list_all}
 use Rattle.std.proofs.lemmas.Bool.{ne_eqb, and_parts}
-use Rattle.std.proofs.lemmas.Grind.{common_steps}
 use Rattle.edn.specs.declared.token.Beyond.TheVariants.{Nothing}
 use Rattle.edn.specs.Meaning.Bytes.{is_space, is_end, is_word_byte}
 use Rattle.edn.specs.declared.read_fault.Problem.{Problem}
@@ -19,9 +18,10 @@ use Rattle.edn.specs.Meaning.Grammar.{IsItem}
 use Rattle.edn.specs.Meaning.Lexing.{IsGap, no_gap, space, comment, Ends, IsWord, Lexes, no_tokens, next}
 use Rattle.edn.specs.Meaning.Lexing.{Begins, round_opens, square_opens, curly_opens, set_opens, round_closes, square_closes, curly_closes, discards, tags, quotes, characters, words}
 use Rattle.edn.specs.Computing.Gaps.{after_gap_in}
-use Rattle.edn.specs.Computing.Tokens.{token, token_at, character_token, tag_token, dispatched, word_token}
+use Rattle.edn.specs.Computing.Tokens.{token, token_at, character_at, character_token, tag_at, dispatched, word_at}
 use Rattle.edn.specs.Computing.Building.{Step, top, run, resume, put}
 use Rattle.edn.proofs.StringTexts.{string_again}
+use Rattle.edn.proofs.Spans.{end_is, word_parts, character_word}
 use Rattle.edn.proofs.ItemsRun.{item_runs}
 
 -- ---- the word at the front of a text
@@ -29,17 +29,6 @@ use Rattle.edn.proofs.ItemsRun.{item_runs}
 word_is : (b : ℕ) (v : Bool) → is_end b ≡ v → not v ≡ true → is_end b ≡ false
 word_is b true e h = absurd (cc)
 word_is b false e h = e
-
-end_is : (b : ℕ) → is_end b ≡ true → is_word_byte b ≡ false
-end_is b e = ap not e
-
-pub span_len : (name rest : List ℕ) → IsWord name → Ends rest → prefix_len is_word_byte (name ++ rest) ≡ length name
-span_len [] [] w h = refl
-span_len [] (b ∷ bs) w h = rw h refl
-span_len (b ∷ bs) rest w h =
-    let both = and_parts (is_word_byte b) (list_all is_word_byte bs) w in
-    let len = span_len bs rest both.1 h in
-    rw both.0 (omega (arith, len))
 
 -- a byte of a word is no byte that ends one
 not_end : (b n : ℕ) → is_word_byte b ≡ true → is_end n ≡ true → (b == n) ≡ false
@@ -60,12 +49,6 @@ not_hash b w = not_end b 59 w refl
 
 rest_plain : (b : ℕ) (line : List ℕ) → All (λ (c : ℕ). c ≢ 10) (b ∷ line) → All (λ (c : ℕ). c ≢ 10) line
 rest_plain b line all = λ k d below. all (suc k) d (omega arith)
-
-take_name : (name rest : List ℕ) → take (length name) (name ++ rest) ≡ name
-take_name name rest = grind (arith, common_steps)
-
-drop_name : (name rest : List ℕ) → drop (length name) (name ++ rest) ≡ rest
-drop_name name rest = grind (arith, common_steps)
 
 -- ---- a token is read again
 
@@ -105,10 +88,6 @@ e125 : is_end 125 ≡ true
 unfolding is_end is_space
 e125 = refl
 
-tag_text : (name rest : List ℕ) → IsWord name → is_tag name ≡ true → Ends rest
-    → tag_token Nothing (name ++ rest) ≡ token tag rest
-tag_text name rest w g e = rw (span_len name rest w e, take_name name rest, drop_name name rest, g) refl
-
 tag_again : (name rest : List ℕ) → IsWord name → is_tag name ≡ true → Ends rest
     → dispatched Nothing (name ++ rest) ≡ token tag rest
 tag_again [] rest w g e = absurd (let no : false ≡ true = g in cc)
@@ -118,17 +97,12 @@ tag_again (a ∷ name) rest w g e =
     ne_eqb a 123 (λ i. let no : true ≡ false = sym begins ∙ ap (λ x. begins_tag (x ∷ name)) i in cc) in
     let not_discard : (a == 95) ≡ false =
     ne_eqb a 95 (λ i. let no : true ≡ false = sym begins ∙ ap (λ x. begins_tag (x ∷ name)) i in cc) in
-    rw (not_set, not_discard) (tag_text (a ∷ name) rest w g e)
+    rw (not_set, not_discard) (word_parts (tag_at Nothing) (a ∷ name) rest w e ∙ rw g refl)
 
 character_again : (b : ℕ) (name rest : List ℕ) → is_space b ≡ false → IsWord name → is_character (b ∷ name) ≡ true
     → Ends rest → character_token Nothing (b ∷ (name ++ rest)) ≡ token (leaf (character (b ∷ name))) rest
 character_again b name rest s w g e =
-    let len : prefix_len is_word_byte (name ++ rest) + 1 ≡ suc (length name) = omega (arith, span_len name rest w e) in
-    rw (len, take_name name rest, drop_name name rest, s, g) refl
-
-word_text : (name rest : List ℕ) (f : Form) → IsWord name → word_of name ≡ Some f → Ends rest
-    → word_token Nothing (name ++ rest) ≡ token (leaf f) rest
-word_text name rest f w is e = rw (span_len name rest w e, take_name name rest, drop_name name rest, is) refl
+    character_word Nothing b (name ++ rest) ∙ word_parts (λ n r. character_at Nothing b (b ∷ n) r) name rest w e ∙ rw (s, g) refl
 
 word_again : (b : ℕ) (name rest : List ℕ) (f : Form) → b ≢ 35 → IsWord (b ∷ name) → word_of (b ∷ name) ≡ Some f
     → Ends rest → token_at Nothing (b ∷ (name ++ rest)) ≡ token (leaf f) rest
@@ -146,7 +120,7 @@ word_again b name rest f h w is e =
       not_end b 41 first e41,
       not_end b 93 first e93,
       not_end b 125 first e125,
-    ) (word_text (b ∷ name) rest f w is e)
+    ) (word_parts (word_at Nothing) (b ∷ name) rest w e ∙ rw is refl)
 
 pub token_again : {t : Token} {text rest : List ℕ} → Begins t text rest → token_at Nothing text ≡ token t rest
 unfolding token_at is_end is_space
@@ -188,14 +162,17 @@ line_passed start [] text plain = refl
 line_passed start (b ∷ line) text plain =
     rw (ne_eqb b 10 (plain 0 0 (omega arith))) (line_passed start line text (rest_plain b line plain))
 
+pub gap_over : {gap : List ℕ} → IsGap gap → (text : List ℕ) → after_gap_in None (gap ++ text) ≡ after_gap_in None text
+unfolding is_space
+gap_over no_gap text = refl
+gap_over (space e g) text = rw e (gap_over g text)
+gap_over (comment {gap = gap} line plain g) text =
+    ap (λ x. after_gap_in (Some (59 ∷ x)) x) (append_assoc line (10 ∷ gap) text)
+    ∙ line_passed _ line (gap ++ text) plain ∙ gap_over g text
+
 pub gap_again : {gap : List ℕ} → IsGap gap → {t : Token} {text rest : List ℕ} → Begins t text rest
     → after_gap_in None (gap ++ text) ≡ text
-unfolding is_space
-gap_again no_gap h = no_gap_here h
-gap_again (space e g) h = rw e (gap_again g h)
-gap_again (comment {gap = gap} line plain g) {text = text} h =
-    ap (λ x. after_gap_in (Some (59 ∷ x)) x) (append_assoc line (10 ∷ gap) text)
-    ∙ line_passed _ line (gap ++ text) plain ∙ gap_again g h
+gap_again g {text = text} h = gap_over g text ∙ no_gap_here h
 
 -- ---- a text has one list of tokens, and one form
 
@@ -210,14 +187,15 @@ one_token {s} {t} {x = x} {y = y} g1 g2 h1 h2 e =
 
 -- of two lists of tokens that a text begins with, one goes on as the other does
 pub same_tokens : {text other rest end : List ℕ} {ts us : List Token} → Lexes text ts rest → Lexes other us end → text ≡ other
-    → ((vs : List Token) × (us ≡ ts ++ vs)) ⊎ ((vs : List Token) × (ts ≡ us ++ vs))
-same_tokens {us = us} no_tokens l e = inl (us, refl)
-same_tokens {ts = ts} (next gap text g b l) no_tokens e = inr (ts, refl)
+    → ((vs : List Token) × (us ≡ ts ++ vs) × Lexes rest vs end) ⊎ ((vs : List Token) × (ts ≡ us ++ vs) × Lexes end vs rest)
+same_tokens {end = end} {us = us} no_tokens l e = inl (us, refl, subst (λ x. Lexes x us end) (sym e) l)
+same_tokens {rest = rest} {ts = ts} (next gap text g b l) no_tokens e =
+    inr (ts, refl, subst (λ x. Lexes x ts rest) e (next gap text g b l))
 same_tokens (next {t = s} {ts = ts} gap1 text1 g1 b1 l1) (next {t = t} {ts = us} gap2 text2 g2 b2 l2) e =
     let one = one_token g1 g2 b1 b2 e in
     elim (same_tokens l1 l2 one.1) [
-      | inl (vs, is) ↦ inl (vs, ap (λ xs. t ∷ xs) is ∙ ap (λ x. x ∷ (ts ++ vs)) (sym one.0))
-      | inr (vs, is) ↦ inr (vs, ap (λ xs. s ∷ xs) is ∙ ap (λ x. x ∷ (us ++ vs)) one.0)
+      | inl (vs, is, m) ↦ inl (vs, ap (λ xs. t ∷ xs) is ∙ ap (λ x. x ∷ (ts ++ vs)) (sym one.0), m)
+      | inr (vs, is, m) ↦ inr (vs, ap (λ xs. s ∷ xs) is ∙ ap (λ x. x ∷ (us ++ vs)) one.0, m)
     ]
 
 form_in : Form → Result Step Problem → Form
@@ -225,7 +203,7 @@ form_in d (Ok (stack, Some f)) = f
 form_in d (Ok (stack, None)) = d
 form_in d (Err p) = d
 
-is_made : Result Step Problem → Bool
+unfoldable pub is_made : Result Step Problem → Bool
 is_made (Ok s) = true
 is_made (Err p) = false
 
@@ -234,7 +212,7 @@ unfolding form_in is_made
 alone f g [] e = ap (form_in f) e
 alone f g (v ∷ vs) e = absurd (let no : false ≡ true = ap is_made e in cc)
 
-made : {ts : List Token} {f : Form} → IsItem ts f → run (top ∷ []) ts ≡ Ok (top ∷ [], Some f)
+pub made : {ts : List Token} {f : Form} → IsItem ts f → run (top ∷ []) ts ≡ Ok (top ∷ [], Some f)
 unfolding put
 made {ts} h = ap (run (top ∷ [])) (sym (append-nil ts)) ∙ item_runs h top [] []
 
@@ -246,8 +224,8 @@ pub one_form : (text rest end : List ℕ) (ts us : List Token) (f g : Form) → 
     → IsItem ts f → IsItem us g → f ≡ g
 one_form text rest end ts us f g l m h k =
     elim (same_tokens l m refl) [
-      | inl (vs, e) ↦ begun ts vs f g h (subst (λ xs. IsItem xs g) e k)
-      | inr (vs, e) ↦ sym (begun us vs g f k (subst (λ xs. IsItem xs f) e h))
+      | inl (vs, e, _) ↦ begun ts vs f g h (subst (λ xs. IsItem xs g) e k)
+      | inr (vs, e, _) ↦ sym (begun us vs g f k (subst (λ xs. IsItem xs f) e h))
     ]
 
 behind_same : (b : Bool) (t : Token) (ts vs : List Token) (f g : Form) → IsFirst b t ts f → IsFirst b t (ts ++ vs) g → f ≡ g
@@ -278,6 +256,6 @@ pub only_form : (stage : Stage) (start left : Option (List ℕ)) (f g : Form) �
 only_form stage None left f g h k = absurd k
 only_form stage (Some text) left f g (ts, rest, l, h, is) (us, end, m, k) =
     elim (same_tokens l m refl) [
-      | inl (vs, e) ↦ sym (begun_at stage ts us vs f g e h k)
-      | inr (vs, e) ↦ begun_at stage us ts vs g f e k h
+      | inl (vs, e, _) ↦ sym (begun_at stage ts us vs f g e h k)
+      | inr (vs, e, _) ↦ begun_at stage us ts vs g f e k h
     ]

@@ -3,7 +3,7 @@ use Rattle.std.proofs.Common.{◌≡◌, ℕ, ◌==◌, Bool, true, false, List,
 use Rattle.std.proofs.lemmas.Bool.{eqb-true, ne_eqb}
 use Rattle.edn.specs.Meaning.Strings.{unescaped, IsInside, nothing, plain, escaped}
 use Rattle.edn.specs.Computing.Strings.{Quoted, closed, open_, bad, with_bytes, with_escape, quoted_at}
-use Rattle.edn.proofs.Choices.{chosen, ne_from}
+use Rattle.edn.proofs.Choices.{chosen, alike, ne_from}
 
 -- the text is what stands inside these bytes' quotes, the closing quote, and the rest; a backslash may have come before
 abbrev IsRead : Bool → List ℕ → List ℕ → List ℕ → Type 0
@@ -64,3 +64,22 @@ string_again nothing rest = refl
 string_again (plain {b = b} q s r) rest =
     rw (ne_eqb b 34 q, ne_eqb b 92 s, string_again r rest) refl
 string_again (escaped is r) rest = rw (is, string_again r rest) refl
+
+-- an escape that there isn't stays one, whatever follows
+bytes_stay : (c : ℕ) (q r : Quoted) → (q ≡ bad → r ≡ bad) → with_bytes (c ∷ []) q ≡ bad → with_bytes (c ∷ []) r ≡ bad
+bytes_stay c (closed bytes rest) r f e = absurd (let no : closed (c ∷ bytes) rest ≡ bad = e in cc)
+bytes_stay c open_ r f e = absurd (let no : open_ ≡ bad = e in cc)
+bytes_stay c bad r f e = ap (with_bytes (c ∷ [])) (f refl)
+
+escape_stays : (o : Option ℕ) (q r : Quoted) → (q ≡ bad → r ≡ bad) → with_escape o q ≡ bad → with_escape o r ≡ bad
+escape_stays None q r f e = refl
+escape_stays (Some c) q r f e = bytes_stay c q r f e
+
+pub quoted_stays : (escapes : Bool) (text more : List ℕ) → quoted_at escapes text ≡ bad
+    → quoted_at escapes (text ++ more) ≡ bad
+quoted_stays true [] more e = absurd (let no : open_ ≡ bad = e in cc)
+quoted_stays false [] more e = absurd (let no : open_ ≡ bad = e in cc)
+quoted_stays true (b ∷ text) more e = escape_stays (unescaped b) _ _ (quoted_stays false text more) e
+quoted_stays false (b ∷ text) more e =
+    alike (b == 34) bad _ _ _ _ (λ no. absurd (let is : closed [] text ≡ bad = no in cc))
+    (alike (b == 92) bad _ _ _ _ (quoted_stays true text more) (bytes_stay b _ _ (quoted_stays false text more))) e

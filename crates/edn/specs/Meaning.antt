@@ -10,5 +10,6 @@ pub mod Tokens
 pub mod Grammar
 pub mod Lexing
 pub mod Readers
+pub mod Faults
 pub mod Reading
 pub mod Laws

@@ -1,9 +1,11 @@
 //! Tokens read from a source.
 
-ghost use Rattle.std.specs.Prelude.{◌≡◌, ◌≤◌, ◌<◌, ◌+◌, ◌++◌, ℕ, List, [], drop, length, IfOk, IfSome, OnOk, IsSome};
+ghost use Rattle.std.specs.Prelude.{◌≡◌, ◌≤◌, ◌<◌, ◌+◌, ◌++◌, ℕ, List, [], None, drop, length, IfOk, IfErr, IfSome, IfNone, OnOk, IsSome};
 ghost use Rattle.std.specs.Io.KnownBytes.{Consumes, prepend_known};
 ghost use Rattle.edn.specs.Meaning.Lexing.{IsGap};
-ghost use Rattle.edn.specs.Meaning.Reading.{IsLinked, ReadsToken};
+ghost use Rattle.edn.specs.Meaning.Faults.{IsOfText};
+ghost use Rattle.edn.specs.Meaning.Reading.{IsLinked, ReadsToken, HasNoToken};
+ghost use Rattle.edn.specs.Computing.Gaps.{after_gap_in};
 ghost use Rattle.edn.specs.Computing.Tokens.{token_of};
 ghost use Rattle.edn.specs.Machinery.Inputs.{work_left, to_meet};
 ghost use Rattle.edn.specs.declared.token.Beyond.TheVariants.{Unread};
@@ -59,7 +61,9 @@ impl Input {
     }
 
     /// Returns the fault of this problem at the line up to which tokens were taken.
-    pub(crate) fn fault(&self, problem: Problem) -> ReadFault {
+    pub(crate) fn fault(&self, problem: Problem) -> ReadFault
+        ensures { result ≡ ReadFault.Syntax self.now.line problem }
+    {
         ReadFault::Syntax {
             line: self.line,
             problem,
@@ -67,7 +71,7 @@ impl Input {
     }
 
     /// Reads the next token. Returns `None` if the text ends before it, `Syntax` if no token begins so, `Device` if the
-    /// source failed, `Memory` if memory ran out.
+    /// source failed, `Memory` if memory ran out. The text begins with no token if `None` or `Syntax` is returned.
     pub(crate) fn next_token<S: Source>(
         &mut self,
         source: &mut S,
@@ -79,6 +83,10 @@ impl Input {
             (prepend_known self.new.pending (S.remaining source.new)) (token_of t))) }
         ensures linked { IsLinked self.old.beyond (S.remaining source.old)
             → OnOk result (IsLinked self.new.beyond (S.remaining source.new)) }
+        ensures none { IsLinked self.old.beyond (S.remaining source.old)
+            → IfOk result (λ o. IfNone o (HasNoToken (prepend_known self.old.pending (S.remaining source.old)))) }
+        ensures refused { IsLinked self.old.beyond (S.remaining source.old)
+            → IfErr result (λ e. IsOfText e → HasNoToken (prepend_known self.old.pending (S.remaining source.old))) }
     {
         loop {
             self.pass_gap();
@@ -100,6 +108,7 @@ impl Input {
         ensures beyond { self.new.beyond ≡ self.old.beyond }
         ensures within { length self.new.pending ≤ length self.old.pending }
         ensures passed { (gap : List ℕ) × IsGap gap × (self.old.pending ≡ gap ++ self.new.pending) }
+        ensures all { after_gap_in None self.new.pending ≡ self.new.pending }
     {
         let bytes = self.pending.bytes();
         let gap = bytes.len() - after_gap(bytes).len();
@@ -125,6 +134,7 @@ impl Input {
         ensures same { OnOk result (Consumes (prepend_known self.old.pending (S.remaining source.old))
             (prepend_known self.new.pending (S.remaining source.new)) []) }
         ensures linked { OnOk result (IsLinked self.new.beyond (S.remaining source.new)) }
+        ensures text { IfErr result (λ e. ¬ IsOfText e) }
     {
         let enough = 2 * self.pending.bytes().len();
         loop {
@@ -143,6 +153,7 @@ impl Input {
         ensures same { OnOk result (Consumes (prepend_known self.old.pending (S.remaining source.old))
             (prepend_known self.new.pending (S.remaining source.new)) []) }
         ensures linked { OnOk result (IsLinked self.new.beyond (S.remaining source.new)) }
+        ensures text { IfErr result (λ e. ¬ IsOfText e) }
     {
         match source.pull(&mut self.piece) {
             Ok(0) => self.beyond = Beyond::Nothing,

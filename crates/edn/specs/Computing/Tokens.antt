@@ -40,10 +40,11 @@ lexed_of Read.End = end
 lexed_of Read.More = more
 lexed_of (Read.Bad p) = bad p
 
--- what follows a token is shorter than the bytes; more bytes decide only if there may be more
+-- what follows a token is shorter than the bytes; the text ends only if nothing comes after them, and more bytes decide
+-- only if there may be more
 abbrev pub IsRest : Beyond → List ℕ → LexedValue → Type 0
 IsRest beyond bytes (Read.Token t rest) = length rest.now < length bytes
-IsRest beyond bytes Read.End = Unit {0}
+IsRest beyond bytes Read.End = beyond ≡ Nothing
 IsRest beyond bytes Read.More = beyond ≡ Unread
 IsRest beyond bytes (Read.Bad p) = Unit {0}
 

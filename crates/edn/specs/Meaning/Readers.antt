@@ -49,3 +49,7 @@ ReadsForm stage (Some text) left f =
 abbrev pub BeginsForm : Stage → Option (List ℕ) → Form → Type 0
 BeginsForm stage None f = ⊥
 BeginsForm stage (Some text) f = (ts : List Token) × (rest : List ℕ) × Lexes text ts rest × IsFormAt stage ts f
+
+-- the text doesn't begin with a form, or isn't known
+abbrev pub HasNoForm : Stage → Option (List ℕ) → Type 0
+HasNoForm stage text = (f : Form) → BeginsForm stage text f → ⊥

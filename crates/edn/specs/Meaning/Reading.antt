@@ -1,5 +1,5 @@
 -- What was read of a text, of which this is left.
-use Rattle.std.specs.Prelude.{◌≡◌, List, ◌++◌, ℕ, Option, None, Some}
+use Rattle.std.specs.Prelude.{◌≡◌, List, [], ◌∷◌, ◌++◌, ℕ, Option, None, Some}
 use Rattle.std.specs.Io.KnownBytes.{IsAtEnd}
 use Rattle.edn.specs.declared.token.Beyond.{Beyond}
 use Rattle.edn.specs.declared.token.Beyond.TheVariants.{Unread, Nothing}
@@ -22,6 +22,11 @@ abbrev pub ReadsToken : Option (List ℕ) → Option (List ℕ) → Token → Ty
 ReadsToken None left t = Unit {0}
 ReadsToken (Some text) left t =
     (gap front rest : List ℕ) × IsGap gap × Begins t front rest × (text ≡ gap ++ front) × (left ≡ Some rest)
+
+-- it doesn't begin with a token
+abbrev pub HasNoToken : Option (List ℕ) → Type 0
+HasNoToken None = Unit {0}
+HasNoToken (Some text) = (t : Token) (rest : List ℕ) → Lexes text (t ∷ []) rest → ⊥
 
 -- it begins with these tokens
 abbrev pub ReadsTokens : Option (List ℕ) → Option (List ℕ) → List Token → Type 0

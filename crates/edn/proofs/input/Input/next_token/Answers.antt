@@ -1,8 +1,10 @@
 use Rattle.std.proofs.Common.{arith, sym, ◌∙◌, subst, ◌≡◌}
 use Rattle.std.specs.Io.KnownBytes.{prepend_known}
 use Rattle.edn.specs.Meaning.Reading.{IsLinked, ReadsToken}
-use Rattle.edn.specs.Computing.Tokens.{token, token_of, token_at}
+use Rattle.edn.specs.declared.token.Beyond.TheVariants.{Nothing}
+use Rattle.edn.specs.Computing.Tokens.{token, end, bad, token_of, token_at}
 use Rattle.edn.proofs.TokensRead.{token_rest, none_passed, more_passed, same_passed, token_read}
+use Rattle.edn.proofs.NoTokens.{no_token, none_at_end, none_at_bad}
 use Rattle.edn.proofs.input.Input.next_token.Goals as goal
 
 pub loop-token-init : goal.loop-token-init
@@ -36,3 +38,30 @@ loop-token-preserved g c =
             (more_passed _ c.pass_gap.new.self.pending gap _ left e is_gap (c.loop-token.invariant.1 l).1),
       ),
     )
+
+pub returns-in-End-clause-none : goal.returns-in-End-clause-none
+returns-in-End-clause-none g c = λ l.
+    let (now, passed) = c.loop-token.invariant.1 l in
+    let (gap, is_gap, e) = c.pass_gap.ensures.passed in
+    let start = prepend_known c.args.self.now.pending (g.S.Read.remaining c.args.source.now) in
+    let left = g.S.Read.remaining c.loop-token.source in
+    let p = c.pass_gap.new.self.pending in
+    let over : c.pass_gap.new.self.beyond ≡ Nothing = rw c.in-End.is at c.in_ok-token.ensures.within in
+    let is : token_at Nothing p ≡ end =
+    sym (rw (c.in-End.is, c.bytes.ensures, over) at c.in_ok-token.ensures.exact) in
+    let linked = subst (λ b. IsLinked b left) (sym c.pass_gap.ensures.beyond ∙ over) now in
+    no_token Nothing p start left (none_at_end p c.pass_gap.ensures.all is) linked
+    (more_passed _ p gap start left e is_gap passed)
+
+pub returns-in-Bad-clause-refused : goal.returns-in-Bad-clause-refused
+returns-in-Bad-clause-refused g c = λ l _.
+    let (now, passed) = c.loop-token.invariant.1 l in
+    let (gap, is_gap, e) = c.pass_gap.ensures.passed in
+    let start = prepend_known c.args.self.now.pending (g.S.Read.remaining c.args.source.now) in
+    let left = g.S.Read.remaining c.loop-token.source in
+    let p = c.pass_gap.new.self.pending in
+    let is : token_at c.pass_gap.new.self.beyond p ≡ bad c.in-Bad.problem =
+    sym (rw (c.in-Bad.is, c.bytes.ensures) at c.in_ok-token.ensures.exact) in
+    let linked = subst (λ b. IsLinked b left) (sym c.pass_gap.ensures.beyond) now in
+    no_token c.pass_gap.new.self.beyond p start left (none_at_bad _ p _ c.pass_gap.ensures.all is) linked
+    (more_passed _ p gap start left e is_gap passed)

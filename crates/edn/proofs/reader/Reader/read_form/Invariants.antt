@@ -5,6 +5,7 @@ use Rattle.edn.specs.Meaning.Reading.{IsLinked, ReadsTokens}
 use Rattle.edn.specs.Meaning.Readers.{IsReady, left_to_do, text_left}
 use Rattle.edn.specs.Computing.Building.{stack_of}
 use Rattle.edn.proofs.FormsRead.{Leads}
+use Rattle.edn.proofs.NoForms.{Goes}
 use Rattle.edn.proofs.reader.Reader.read_form.Given as goal
 
 abbrev pub invariant-loop-token : goal.invariant-loop-token
@@ -14,7 +15,9 @@ invariant-loop-token g l =
     → IsLinked l.self.input.beyond (g.S.Read.remaining l.source)
     × ((ts : List Token) × ReadsTokens (text_left l.initial.self (g.S.Read.remaining l.initial.source))
     (text_left l.self (g.S.Read.remaining l.source)) ts
-    × Leads l.initial.self.stage l.self.stage ts (stack_of l.self.builder)))
+    × Leads l.initial.self.stage l.self.stage ts (stack_of l.self.builder)
+    × Goes l.initial.self.stage l.self.stage (text_left l.initial.self (g.S.Read.remaining l.initial.source)) ts
+    (stack_of l.self.builder)))
 
 abbrev pub decreases-loop-token : goal.decreases-loop-token
 decreases-loop-token g l = left_to_do (g.S.Source.left l.source) l.self
