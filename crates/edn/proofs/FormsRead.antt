@@ -7,14 +7,14 @@ use Rattle.edn.specs.Meaning.Tokens.{Token, is_square}
 use Rattle.edn.specs.Meaning.Grammar.{IsItem}
 use Rattle.edn.specs.Meaning.Lexing.{no_tokens}
 use Rattle.edn.specs.Meaning.Reading.{ReadsToken, ReadsTokens}
-use Rattle.edn.specs.Meaning.Readers.{IsFirst, IsFormAt, ReadsForm}
+use Rattle.edn.specs.Meaning.Readers.{AreFirst, AreNext, IsFormAt, ReadsForm}
 use Rattle.edn.specs.Computing.Building.{Frame, top, tagged, discarding, in_list, in_vector, in_set, in_map, is_top}
 use Rattle.edn.specs.Computing.Stages.{Built, Takes}
 use Rattle.edn.proofs.Held.{Holds, Outcome, StepHolds, step_holds, AreDiscarded, none_more}
 use Rattle.edn.proofs.LexedTexts.{lexes_more}
 
 -- these tokens, behind the bracket of the vector if that is among the first ones
-abbrev IsBehind : Stage → List Token → List Token → Type 0
+abbrev pub IsBehind : Stage → List Token → List Token → Type 0
 IsBehind Start ts us = (t : Token) × (is_square t ≡ true) × (ts ≡ t ∷ us)
 IsBehind Forms ts us = ts ≡ us
 IsBehind Elements ts us = ts ≡ us
@@ -22,7 +22,7 @@ IsBehind Closed ts us = ts ≡ us
 IsBehind (Failed fault) ts us = ts ≡ us
 
 -- the first of the tokens is no `[`
-abbrev BeginsOther : List Token → Type 0
+abbrev pub BeginsOther : List Token → Type 0
 BeginsOther [] = ⊥
 BeginsOther (t ∷ ts) = is_square t ≡ false
 
@@ -32,27 +32,27 @@ Leads first Start ts stack = (first ≡ Start) × (ts ≡ []) × (stack ≡ top 
 Leads first Forms ts stack = (((first ≡ Start) × BeginsOther ts) ⊎ (first ≡ Forms)) × Holds stack ts
 Leads first Elements ts stack = ((first ≡ Start) ⊎ (first ≡ Elements)) × ((us : List Token) × IsBehind first ts us × Holds stack us)
 Leads first Closed ts stack = stack ≡ top ∷ []
-Leads first (Failed fault) ts stack = stack ≡ top ∷ []
+Leads first (Failed fault) ts stack = (first ≡ Failed fault) × (stack ≡ top ∷ [])
 
 pub leads_here : (stage : Stage) (stack : List Frame) → stack ≡ top ∷ [] → Leads stage stage [] stack
 leads_here Start stack e = (refl, refl, e)
 leads_here Forms stack e = (inr refl, subst (λ s. Holds s []) (sym e) (refl, none_more))
 leads_here Elements stack e = (inr refl, ([], refl, subst (λ s. Holds s []) (sym e) (refl, none_more)))
 leads_here Closed stack e = e
-leads_here (Failed fault) stack e = e
+leads_here (Failed fault) stack e = (refl, e)
 
-held_step : (old new : List Frame) (t : Token) (o : Option Form) (ts : List Token) → Holds old ts → Built old t new o
+pub held_step : (old new : List Frame) (t : Token) (o : Option Form) (ts : List Token) → Holds old ts → Built old t new o
     → Outcome (new, o) (ts ++ t ∷ [])
 held_step old new t o ts h e = subst (λ r. StepHolds r (ts ++ t ∷ [])) e (step_holds old t ts h)
 
-behind_more : (first : Stage) (ts us : List Token) (t : Token) → IsBehind first ts us → IsBehind first (ts ++ t ∷ []) (us ++ t ∷ [])
+pub behind_more : (first : Stage) (ts us : List Token) (t : Token) → IsBehind first ts us → IsBehind first (ts ++ t ∷ []) (us ++ t ∷ [])
 behind_more Start ts us t (s, square, e) = (s, square, ap (λ xs. xs ++ t ∷ []) e)
 behind_more Forms ts us t e = ap (λ xs. xs ++ t ∷ []) e
 behind_more Elements ts us t e = ap (λ xs. xs ++ t ∷ []) e
 behind_more Closed ts us t e = ap (λ xs. xs ++ t ∷ []) e
 behind_more (Failed fault) ts us t e = ap (λ xs. xs ++ t ∷ []) e
 
-holds_start : (stack : List Frame) (ts : List Token) → ts ≡ [] → stack ≡ top ∷ [] → Holds stack ts
+pub holds_start : (stack : List Frame) (ts : List Token) → ts ≡ [] → stack ≡ top ∷ [] → Holds stack ts
 holds_start stack ts e f = subst (λ s. Holds s ts) (sym f) (refl, subst AreDiscarded (sym e) none_more)
 
 -- nothing is open but the text
@@ -66,11 +66,11 @@ only_top (in_vector fs ∷ outer) ts h e = absurd (let no : false ≡ true = e i
 only_top (in_set fs ∷ outer) ts h e = absurd (let no : false ≡ true = e in cc)
 only_top (in_map ps k ∷ outer) ts h e = absurd (let no : false ≡ true = e in cc)
 
-other_more : (ts : List Token) (t : Token) → BeginsOther ts → BeginsOther (ts ++ t ∷ [])
+pub other_more : (ts : List Token) (t : Token) → BeginsOther ts → BeginsOther (ts ++ t ∷ [])
 other_more [] t h = absurd h
 other_more (s ∷ ts) t h = h
 
-from_more : (first : Stage) (ts : List Token) (t : Token) → ((first ≡ Start) × BeginsOther ts) ⊎ (first ≡ Forms)
+pub from_more : (first : Stage) (ts : List Token) (t : Token) → ((first ≡ Start) × BeginsOther ts) ⊎ (first ≡ Forms)
     → ((first ≡ Start) × BeginsOther (ts ++ t ∷ [])) ⊎ (first ≡ Forms)
 from_more first ts t (inl (e, h)) = inl (e, other_more ts t h)
 from_more first ts t (inr e) = inr e
@@ -107,25 +107,25 @@ leads_on first Elements next ts t old new o none (from, (us, behind, h)) (inr (t
 leads_on first Closed next ts t old new o none h takes = absurd takes
 leads_on first (Failed fault) next ts t old new o none h takes = absurd takes
 
-first_item : (ts : List Token) (f : Form) → BeginsOther ts → IsItem ts f → IsFormAt Start ts f
-first_item [] f other h = absurd other
-first_item (t ∷ ts) f other h = subst (λ b. IsFirst b t ts f) (sym other) h
+first_at : (ts : List Token) (P : List Token → Type 0) → BeginsOther ts → P ts → AreNext Start ts P
+first_at [] P other h = absurd other
+first_at (t ∷ ts) P other h = subst (λ b. AreFirst b t ts P) (sym other) h
 
-item_at : (first : Stage) (ts : List Token) (f : Form) → ((first ≡ Start) × BeginsOther ts) ⊎ (first ≡ Forms)
-    → IsItem ts f → IsFormAt first ts f
-item_at first ts f (inl (e, other)) h = subst (λ s. IsFormAt s ts f) (sym e) (first_item ts f other h)
-item_at first ts f (inr e) h = subst (λ s. IsFormAt s ts f) (sym e) h
+pub form_at : (first : Stage) (ts : List Token) (P : List Token → Type 0)
+    → ((first ≡ Start) × BeginsOther ts) ⊎ (first ≡ Forms) → P ts → AreNext first ts P
+form_at first ts P (inl (e, other)) h = subst (λ s. AreNext s ts P) (sym e) (first_at ts P other h)
+form_at first ts P (inr e) h = subst (λ s. AreNext s ts P) (sym e) h
 
-element_at : (first : Stage) (ts us : List Token) (f : Form) → (first ≡ Start) ⊎ (first ≡ Elements) → IsBehind first ts us
-    → IsItem us f → IsFormAt first ts f
-element_at Start ts us f from (t, square, e) h =
-    subst (λ xs. IsFormAt Start xs f) (sym e) (subst (λ b. IsFirst b t us f) (sym square) h)
-element_at Forms ts us f from behind h = subst (λ xs. IsItem xs f) (sym behind) h
-element_at Elements ts us f from behind h = subst (λ xs. IsItem xs f) (sym behind) h
-element_at Closed ts us f (inl e) behind h = absurd (cc)
-element_at Closed ts us f (inr e) behind h = absurd (cc)
-element_at (Failed fault) ts us f (inl e) behind h = absurd (cc)
-element_at (Failed fault) ts us f (inr e) behind h = absurd (cc)
+pub element_at : (first : Stage) (ts us : List Token) (P : List Token → Type 0) → (first ≡ Start) ⊎ (first ≡ Elements)
+    → IsBehind first ts us → P us → AreNext first ts P
+element_at Start ts us P from (t, square, e) h =
+    subst (λ xs. AreNext Start xs P) (sym e) (subst (λ b. AreFirst b t us P) (sym square) h)
+element_at Forms ts us P from behind h = subst P (sym behind) h
+element_at Elements ts us P from behind h = subst P (sym behind) h
+element_at Closed ts us P (inl e) behind h = absurd (cc)
+element_at Closed ts us P (inr e) behind h = absurd (cc)
+element_at (Failed fault) ts us P (inl e) behind h = absurd (cc)
+element_at (Failed fault) ts us P (inr e) behind h = absurd (cc)
 
 -- a token that ends a form of the text
 pub form_read : (first stage next : Stage) (ts : List Token) (t : Token) (old new : List Frame) (o : Option Form) (f : Form)
@@ -135,15 +135,15 @@ form_read first Start next ts t old new o f some (is, empty, idle) (inl (vector,
     absurd (let no : None ≡ Some f = sym none ∙ some in cc)
 form_read first Start next ts t old new o f some (is, empty, idle) (inr (other, to, built)) =
     let made = held_step old new t (Some f) ts (holds_start old ts empty idle) (subst (Built old t new) some built) in
-    (item_at first _ f (inl (is, subst (λ xs. BeginsOther (xs ++ t ∷ [])) (sym empty) other)) made.0, made.1)
+    (form_at first _ (λ us. IsItem us f) (inl (is, subst (λ xs. BeginsOther (xs ++ t ∷ [])) (sym empty) other)) made.0, made.1)
 form_read first Forms next ts t old new o f some (from, h) (to, built) =
     let made = held_step old new t (Some f) ts h (subst (Built old t new) some built) in
-    (item_at first _ f (from_more first ts t from) made.0, made.1)
+    (form_at first _ (λ us. IsItem us f) (from_more first ts t from) made.0, made.1)
 form_read first Elements next ts t old new o f some (from, (us, behind, h)) (inl (to, _, is_idle, same, none)) =
     absurd (let no : None ≡ Some f = sym none ∙ some in cc)
 form_read first Elements next ts t old new o f some (from, (us, behind, h)) (inr (to, built)) =
     let made = held_step old new t (Some f) us h (subst (Built old t new) some built) in
-    (element_at first _ (us ++ t ∷ []) f from (behind_more first ts us t behind) made.0, made.1)
+    (element_at first _ (us ++ t ∷ []) (λ xs. IsItem xs f) from (behind_more first ts us t behind) made.0, made.1)
 form_read first Closed next ts t old new o f some h takes = absurd takes
 form_read first (Failed fault) next ts t old new o f some h takes = absurd takes
 

@@ -52,7 +52,7 @@ discarded_append none_more r = r
 discarded_append {ys = bs} (one_more {ds = ds} {ts = ts} d q) r =
     subst (λ xs. AreDiscarded (discard ∷ xs)) (sym (append_assoc ds ts bs)) (one_more d (discarded_append q r))
 
-no_forms_in : {ds : List Token} → AreDiscarded ds → AreItems ds []
+pub no_forms_in : {ds : List Token} → AreDiscarded ds → AreItems ds []
 no_forms_in none_more = no_items
 no_forms_in (one_more d r) = no_item d (no_forms_in r)
 
@@ -60,7 +60,7 @@ no_pairs_in : {ds : List Token} → AreDiscarded ds → ArePairs ds []
 no_pairs_in none_more = no_pairs
 no_pairs_in (one_more d r) = no_pair d (no_pairs_in r)
 
-one_item : {ts : List Token} {f : Form} → IsItem ts f → AreItems ts (f ∷ [])
+pub one_item : {ts : List Token} {f : Form} → IsItem ts f → AreItems ts (f ∷ [])
 one_item {ts} {f} q = subst (λ xs. AreItems xs (f ∷ [])) (append-nil ts) (an_item q no_items)
 
 pub later_item : {ds ts : List Token} {f : Form} → AreDiscarded ds → IsItem ts f → IsItem (ds ++ ts) f

@@ -12,3 +12,4 @@ pub mod FormsRead
 pub mod OneReading
 pub mod NoTokens
 pub mod NoForms
+pub mod Nested

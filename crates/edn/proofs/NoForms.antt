@@ -3,16 +3,19 @@ use Rattle.std.proofs.Common.{◌≡◌, inl, inr, ℕ, Bool, true, false, List,
 use Rattle.edn.specs.declared.read_fault.Problem.{Problem}
 use Rattle.edn.specs.declared.read_fault.Problem.TheVariants.{Unopened}
 use Rattle.edn.specs.declared.read_fault.ReadFault.{ReadFault}
+use Rattle.edn.specs.declared.read_fault.ReadFault.TheVariants.{Syntax, Device, Memory}
 use Rattle.edn.specs.declared.reader.Stage.{Stage}
 use Rattle.edn.specs.declared.reader.Stage.TheVariants.{Start, Forms, Elements, Closed, Failed}
 use Rattle.edn.specs.declared.token.Closing.TheVariants.{Square}
+use Rattle.edn.specs.Meaning.Faults.{IsOfText}
 use Rattle.edn.specs.Meaning.Forms.{Form}
+use Rattle.edn.specs.Meaning.Grammar.{IsItem}
 use Rattle.edn.specs.Meaning.Tokens.{Token, closes, is_square}
 use Rattle.edn.specs.Meaning.Lexing.{Lexes, no_tokens, next}
 use Rattle.edn.specs.Meaning.Reading.{HasNoToken, ReadsToken, ReadsTokens}
-use Rattle.edn.specs.Meaning.Readers.{IsFirst, IsFormAt, HasNoForm}
+use Rattle.edn.specs.Meaning.Readers.{AreFirst, IsFormAt, HasNoForm}
 use Rattle.edn.specs.Computing.Building.{Frame, top, Step, step, go_on, run, resume}
-use Rattle.edn.specs.Computing.Stages.{Built, Stops, Takes}
+use Rattle.edn.specs.Computing.Stages.{Built, Refused, Stops, Takes}
 use Rattle.edn.proofs.FormsRead.{Leads}
 use Rattle.edn.proofs.OneReading.{same_tokens, made, is_made}
 
@@ -72,7 +75,8 @@ runs_append Elements ts us begun = run_append (top ∷ []) ts us
 runs_append Closed ts us begun = run_append (top ∷ []) ts us
 runs_append (Failed fault) ts us begun = run_append (top ∷ []) ts us
 
-first_runs : (b : Bool) (t : Token) (ts : List Token) (f : Form) → IsFirst b t ts f → run_first b t ts ≡ Ok (top ∷ [], Some f)
+first_runs : (b : Bool) (t : Token) (ts : List Token) (f : Form) → AreFirst b t ts (λ us. IsItem us f)
+    → run_first b t ts ≡ Ok (top ∷ [], Some f)
 first_runs true t ts f h = made h
 first_runs false t ts f h = made h
 
@@ -96,14 +100,14 @@ unfolding is_stack
 no_stack f [] stack e = let no : false ≡ true = ap is_stack e in cc
 no_stack f (t ∷ ts) stack e = let no : false ≡ true = ap is_stack e in cc
 
--- so no others lead only to a stack if those of a form are at their front
+-- so tokens that begin with those of a form lead to more than a stack
 past_form : (first : Stage) (ts us : List Token) (f : Form) (stack : List Frame) → IsFormAt first ts f
     → runs first (ts ++ us) ≡ Ok (stack, None) → ⊥
 past_form first ts us f stack h e =
     let (begun, is) = form_runs first ts f h in
     no_stack f us stack (ap (λ r. resume r us) (sym is) ∙ sym (runs_append first ts us begun) ∙ e)
 
--- and none at the front of a form's are refused
+-- and the first tokens of a form aren't refused
 before_refused : (first : Stage) (ts us : List Token) (f : Form) (p : Problem) → IsBegun first ts → runs first ts ≡ Err p
     → IsFormAt first (ts ++ us) f → ⊥
 unfolding is_made
@@ -114,7 +118,7 @@ before_refused first ts us f p begun e h =
 
 -- ---- the text
 
--- no form has these tokens and then one with which the text goes on
+-- no form has these tokens, and then one with which the text goes on
 abbrev Bars : Stage → List Token → Option (List ℕ) → Type 0
 Bars first ts None = Unit {0}
 Bars first ts (Some text) =
@@ -237,23 +241,33 @@ start_leads : (first : Stage) (ts : List Token) (stack : List Frame) → (first 
 start_leads first ts stack (is, empty, idle) =
     ap (λ s. runs s ts) is ∙ ap (runs Start) empty ∙ ap (λ s. Ok (s, None)) (sym idle)
 
+refused_of : (stack : List Frame) (t : Token) (fault : ReadFault) → Refused stack t fault → IsOfText fault
+    → (p : Problem) × (step stack t ≡ Err p)
+refused_of stack t (Syntax line p) (inl is) of_text = (p, is)
+refused_of stack t (Syntax line p) (inr deep) of_text = absurd (of_text deep.0)
+refused_of stack t Device refused of_text = absurd of_text
+refused_of stack t Memory refused of_text = absurd of_text
+
 -- a token that is refused
 pub stopped : (first stage : Stage) (start mid new : Option (List ℕ)) (ts : List Token) (t : Token) (stack : List Frame)
-    → Goes first stage start ts stack → ReadsTokens start mid ts → ReadsToken mid new t → Stops stage t stack
-    → HasNoForm first start
-stopped first Start start mid new ts t stack goes reads token (other, (p, e)) =
+    (fault : ReadFault) → Goes first stage start ts stack → ReadsTokens start mid ts → ReadsToken mid new t
+    → Stops stage t stack fault → IsOfText fault → HasNoForm first start
+stopped first Start start mid new ts t stack fault goes reads token (other, refused) of_text =
+    let (p, e) = refused_of stack t fault refused of_text in
     no_form first start mid ts stack (start_leads first ts stack goes) reads
     (refuses first ts mid new t p (first_leads first ts t stack goes other ∙ ap (λ r. resume r []) e) token)
-stopped first Forms start mid new ts t stack goes reads token (p, e) =
+stopped first Forms start mid new ts t stack fault goes reads token refused of_text =
+    let (p, e) = refused_of stack t fault refused of_text in
     no_form first start mid ts stack goes.1 reads
     (refuses first ts mid new t p (next_leads first ts t stack goes ∙ ap (λ r. resume r []) e) token)
-stopped first Elements start mid new ts t stack goes reads token (p, e) =
+stopped first Elements start mid new ts t stack fault goes reads token refused of_text =
+    let (p, e) = refused_of stack t fault refused of_text in
     no_form first start mid ts stack goes.1 reads
     (refuses first ts mid new t p (next_leads first ts t stack goes ∙ ap (λ r. resume r []) e) token)
-stopped first Closed start mid new ts t stack goes reads token stops = goes
-stopped first (Failed fault) start mid new ts t stack goes reads token stops = goes
+stopped first Closed start mid new ts t stack fault goes reads token stops of_text = goes
+stopped first (Failed before) start mid new ts t stack fault goes reads token stops of_text = goes
 
--- no token that follows
+-- no token follows
 pub ended : (first stage : Stage) (start left : Option (List ℕ)) (ts : List Token) (stack : List Frame)
     → Goes first stage start ts stack → ReadsTokens start left ts → HasNoToken left → HasNoForm first start
 ended first Start start left ts stack goes reads none =

@@ -13,7 +13,7 @@ use Rattle.edn.specs.Meaning.Words.{word_of}
 use Rattle.edn.specs.declared.reader.Stage.{Stage}
 use Rattle.edn.specs.declared.reader.Stage.TheVariants.{Start, Forms, Elements, Closed, Failed}
 use Rattle.edn.specs.Meaning.Tokens.{Token, tag, leaf, is_square}
-use Rattle.edn.specs.Meaning.Readers.{IsFirst, IsFormAt, ReadsForm, BeginsForm}
+use Rattle.edn.specs.Meaning.Readers.{AreFirst, IsFormAt, ReadsForm, BeginsForm}
 use Rattle.edn.specs.Meaning.Grammar.{IsItem}
 use Rattle.edn.specs.Meaning.Lexing.{IsGap, no_gap, space, comment, Ends, IsWord, Lexes, no_tokens, next}
 use Rattle.edn.specs.Meaning.Lexing.{Begins, round_opens, square_opens, curly_opens, set_opens, round_closes, square_closes, curly_closes, discards, tags, quotes, characters, words}
@@ -228,17 +228,15 @@ one_form text rest end ts us f g l m h k =
       | inr (vs, e, _) ↦ sym (begun us vs g f k (subst (λ xs. IsItem xs f) e h))
     ]
 
-behind_same : (b : Bool) (t : Token) (ts vs : List Token) (f g : Form) → IsFirst b t ts f → IsFirst b t (ts ++ vs) g → f ≡ g
+behind_same : (b : Bool) (t : Token) (ts vs : List Token) (f g : Form) → AreFirst b t ts (λ us. IsItem us f)
+    → AreFirst b t (ts ++ vs) (λ us. IsItem us g) → f ≡ g
 behind_same true t ts vs f g h k = begun ts vs f g h k
 behind_same false t ts vs f g h k = begun (t ∷ ts) vs f g h k
 
-behind : (t s : Token) (ts us vs : List Token) (f g : Form) → s ∷ us ≡ (t ∷ ts) ++ vs → IsFirst (is_square t) t ts f
-    → IsFirst (is_square s) s us g → f ≡ g
+behind : (t s : Token) (ts us vs : List Token) (f g : Form) → s ∷ us ≡ (t ∷ ts) ++ vs → IsFormAt Start (t ∷ ts) f
+    → IsFormAt Start (s ∷ us) g → f ≡ g
 behind t s ts us vs f g e h k =
-    let one : s ≡ t = cc in
-    let two : us ≡ ts ++ vs = cc in
-    behind_same (is_square t) t ts vs f g h (subst (λ xs. IsFirst (is_square t) t xs g) two
-    (subst (λ x. IsFirst (is_square x) x us g) one k))
+    behind_same (is_square t) t ts vs f g h (subst (λ xs. IsFormAt Start xs g) e k)
 
 begun_at : (stage : Stage) (ts us vs : List Token) (f g : Form) → us ≡ ts ++ vs → IsFormAt stage ts f → IsFormAt stage us g
     → f ≡ g

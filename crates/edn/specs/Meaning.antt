@@ -8,6 +8,7 @@ pub mod Strings
 pub mod Words
 pub mod Tokens
 pub mod Grammar
+pub mod Nesting
 pub mod Lexing
 pub mod Readers
 pub mod Faults

@@ -1,6 +1,6 @@
 //! Forms made of tokens.
 
-ghost use Rattle.std.specs.Prelude.{◌≡◌, ◌∷◌, ◌≤◌, [], None, Ok, length, IfOk, IfErr, OnOk, ◌⊎◌, option_map};
+ghost use Rattle.std.specs.Prelude.{◌≡◌, ◌≢◌, ◌∷◌, ◌≤◌, [], None, Ok, length, IfOk, IfErr, OnOk, ◌⊎◌, option_map};
 ghost use Rattle.edn.specs.Meaning.Forms.{form_of};
 ghost use Rattle.edn.specs.Computing.Building as Spec;
 ghost use Rattle.edn.specs.Computing.Building.{Refuses, frame_of, map_frame, outer_of, stack_of};
@@ -86,7 +86,9 @@ impl Builder {
     }
 
     /// Returns what is wrong if the text ends here, within a form.
-    pub(crate) fn problem_at_end(&self) -> Problem {
+    pub(crate) fn problem_at_end(&self) -> Problem
+        ensures { result ≢ Problem.Depth }
+    {
         match self.frame {
             Frame::Tag | Frame::Discard => Problem::NoForm,
             _ => Problem::Unclosed,

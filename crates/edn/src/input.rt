@@ -3,7 +3,7 @@
 ghost use Rattle.std.specs.Prelude.{◌≡◌, ◌≤◌, ◌<◌, ◌+◌, ◌++◌, ℕ, List, [], None, drop, length, IfOk, IfErr, IfSome, IfNone, OnOk, IsSome};
 ghost use Rattle.std.specs.Io.KnownBytes.{Consumes, prepend_known};
 ghost use Rattle.edn.specs.Meaning.Lexing.{IsGap};
-ghost use Rattle.edn.specs.Meaning.Faults.{IsOfText};
+ghost use Rattle.edn.specs.Meaning.Faults.{IsOfDepth, IsOfText};
 ghost use Rattle.edn.specs.Meaning.Reading.{IsLinked, ReadsToken, HasNoToken};
 ghost use Rattle.edn.specs.Computing.Gaps.{after_gap_in};
 ghost use Rattle.edn.specs.Computing.Tokens.{token_of};
@@ -87,6 +87,7 @@ impl Input {
             → IfOk result (λ o. IfNone o (HasNoToken (prepend_known self.old.pending (S.remaining source.old)))) }
         ensures refused { IsLinked self.old.beyond (S.remaining source.old)
             → IfErr result (λ e. IsOfText e → HasNoToken (prepend_known self.old.pending (S.remaining source.old))) }
+        ensures shallow { IfErr result (λ e. ¬ IsOfDepth e) }
     {
         loop {
             self.pass_gap();
@@ -135,6 +136,7 @@ impl Input {
             (prepend_known self.new.pending (S.remaining source.new)) []) }
         ensures linked { OnOk result (IsLinked self.new.beyond (S.remaining source.new)) }
         ensures text { IfErr result (λ e. ¬ IsOfText e) }
+        ensures shallow { IfErr result (λ e. ¬ IsOfDepth e) }
     {
         let enough = 2 * self.pending.bytes().len();
         loop {
@@ -154,6 +156,7 @@ impl Input {
             (prepend_known self.new.pending (S.remaining source.new)) []) }
         ensures linked { OnOk result (IsLinked self.new.beyond (S.remaining source.new)) }
         ensures text { IfErr result (λ e. ¬ IsOfText e) }
+        ensures shallow { IfErr result (λ e. ¬ IsOfDepth e) }
     {
         match source.pull(&mut self.piece) {
             Ok(0) => self.beyond = Beyond::Nothing,

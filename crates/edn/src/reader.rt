@@ -1,10 +1,10 @@
 //! Reading a text form by form.
 
-ghost use Rattle.std.specs.Prelude.{◌≡◌, ◌<◌, List, ℕ, Option, true, IfOk, IfErr, IfSome, IfNone, OnOk, IsSome, option_map};
+ghost use Rattle.std.specs.Prelude.{◌≡◌, ◌⊎◌, ◌<◌, List, ℕ, Option, true, IfOk, IfErr, IfSome, IfNone, OnOk, IsSome, option_map};
 ghost use Rattle.std.specs.Io.KnownBytes.{prepend_known};
 ghost use Rattle.edn.specs.Meaning.Forms.{Form as Plain, form_of};
-ghost use Rattle.edn.specs.Meaning.Faults.{IsOfText};
-ghost use Rattle.edn.specs.Meaning.Readers.{BeginsForm, HasNoForm, IsReady, ReadsForm, left_to_do, text_left};
+ghost use Rattle.edn.specs.Meaning.Faults.{IsOfDepth, IsOfText};
+ghost use Rattle.edn.specs.Meaning.Readers.{BeginsForm, HasNoForm, IsReady, IsTooDeep, ReadsForm, left_to_do, text_left};
 ghost use Rattle.edn.specs.Computing.Building.{is_top, stack_of};
 ghost use Rattle.edn.specs.Computing.Stages.{Built, Refused, Stops, Takes};
 ghost use Rattle.edn.specs.Computing.Tokens.{token_of};
@@ -77,7 +77,8 @@ impl Reader {
     /// the text is none of EDN there, `Device` if the source failed, `Memory` if memory ran out. After a fault it returns
     /// that fault again, and reads no more. What it returns is the form with which the text that is left begins: its
     /// tokens follow one another there, with white space and comments between them. If a form is there, it is returned:
-    /// `None` says that the text doesn't begin with one, and so does `Syntax`, unless its problem is `Depth`.
+    /// `None` says that the text doesn't begin with one, and so does `Syntax`, unless its problem is `Depth`: then more
+    /// than [`MAX_DEPTH`](crate::MAX_DEPTH) forms are nested there.
     pub fn next_form<S: Source>(&mut self, source: &mut S) -> Result<Option<Form>, ReadFault>
         ensures less { IfOk result (λ o. IsSome o
             → left_to_do (S.left source.new) self.new < left_to_do (S.left source.old) self.old) }
@@ -91,6 +92,8 @@ impl Reader {
             IfNone o (HasNoForm self.old.stage (text_left self.old (S.remaining source.old)))) }
         ensures refused { IsReady self.old (S.remaining source.old) → IfErr result (λ e. IsOfText e
             → HasNoForm self.old.stage (text_left self.old (S.remaining source.old))) }
+        ensures deep { IsReady self.old (S.remaining source.old) → IfErr result (λ e. IsOfDepth e
+            → (self.old.stage ≡ Stage.Failed e) ⊎ IsTooDeep self.old.stage (text_left self.old (S.remaining source.old))) }
     {
         if let Stage::Failed(fault) = self.stage {
             return Err(fault);
@@ -115,6 +118,8 @@ impl Reader {
             IfNone o (HasNoForm self.old.stage (text_left self.old (S.remaining source.old)))) }
         ensures refused { IsReady self.old (S.remaining source.old) → IfErr result (λ e. IsOfText e
             → HasNoForm self.old.stage (text_left self.old (S.remaining source.old))) }
+        ensures deep { IsReady self.old (S.remaining source.old) → IfErr result (λ e. IsOfDepth e
+            → (self.old.stage ≡ Stage.Failed e) ⊎ IsTooDeep self.old.stage (text_left self.old (S.remaining source.old))) }
     {
         while let Some(token) = self.input.next_token(source)? {
             if let Some(form) = self.take(token)? {
@@ -130,7 +135,7 @@ impl Reader {
         ensures input { self.new.input ≡ self.old.input }
         ensures takes { IfOk result (λ o. Takes self.old.stage (token_of token) self.new.stage
             (stack_of self.old.builder) (stack_of self.new.builder) (option_map form_of o)) }
-        ensures stops { IfErr result (λ e. IsOfText e → Stops self.old.stage (token_of token) (stack_of self.old.builder)) }
+        ensures stops { IfErr result (Stops self.old.stage (token_of token) (stack_of self.old.builder)) }
     {
         match self.stage {
             Stage::Start => self.take_first(token),
@@ -145,7 +150,7 @@ impl Reader {
         ensures input { self.new.input ≡ self.old.input }
         ensures takes { IfOk result (λ o. Takes Start (token_of token) self.new.stage
             (stack_of self.old.builder) (stack_of self.new.builder) (option_map form_of o)) }
-        ensures stops { IfErr result (λ e. IsOfText e → Stops Start (token_of token) (stack_of self.old.builder)) }
+        ensures stops { IfErr result (Stops Start (token_of token) (stack_of self.old.builder)) }
     {
         if matches!(token, Token::Open(Opening::Vector)) {
             self.stage = Stage::Elements;
@@ -159,7 +164,7 @@ impl Reader {
         ensures input { self.new.input ≡ self.old.input }
         ensures takes { self.old.stage ≡ Elements → IfOk result (λ o. Takes Elements (token_of token) self.new.stage
             (stack_of self.old.builder) (stack_of self.new.builder) (option_map form_of o)) }
-        ensures stops { IfErr result (λ e. IsOfText e → Stops Elements (token_of token) (stack_of self.old.builder)) }
+        ensures stops { IfErr result (Stops Elements (token_of token) (stack_of self.old.builder)) }
     {
         if self.builder.is_idle() && matches!(token, Token::Close(Closing::Square)) {
             self.stage = Stage::Closed;
@@ -173,7 +178,7 @@ impl Reader {
         ensures stage { self.new.stage ≡ self.old.stage }
         ensures built { IfOk result (λ o. Built (stack_of self.old.builder) (token_of token)
             (stack_of self.new.builder) (option_map form_of o)) }
-        ensures refused { IfErr result (λ e. IsOfText e → Refused (stack_of self.old.builder) (token_of token)) }
+        ensures refused { IfErr result (Refused (stack_of self.old.builder) (token_of token)) }
     {
         match self.builder.take(token) {
             Ok(form) => Ok(form),
@@ -184,7 +189,8 @@ impl Reader {
 
     /// Returns the fault of a text that ends here, if it is none.
     fn end(&self) -> Result<(), ReadFault>
-        ensures { OnOk result (is_top (stack_of self.now.builder) ≡ true) }
+        ensures idle { OnOk result (is_top (stack_of self.now.builder) ≡ true) }
+        ensures shallow { IfErr result (λ e. ¬ IsOfDepth e) }
     {
         if !self.builder.is_idle() {
             return Err(self.input.fault(self.builder.problem_at_end()));

@@ -158,10 +158,18 @@ step stack discard = Ok (discarding ∷ stack, None)
 step stack tag = Ok (tagged ∷ stack, None)
 step stack (leaf f) = Ok (put stack f)
 
--- a refused token is refused by this step, or is nested too deep; or memory ran out
+-- one more is open
+abbrev pub Deepens : List Frame → Result Step Problem → Type 0
+Deepens stack (Err p) = ⊥
+Deepens stack (Ok ([], o)) = ⊥
+Deepens stack (Ok (f ∷ outer, None)) = outer ≡ stack
+Deepens stack (Ok (f ∷ outer, Some g)) = ⊥
+
+-- a refused token is refused by this step, or opens what is nested too deep; or memory ran out
 abbrev pub Refuses : List Frame → Refusal → Result Step Problem → Type 0
 Refuses stack refusal.Memory outcome = Unit {0}
-Refuses stack (refusal.Problem p) outcome = (outcome ≡ Err p) ⊎ ((p ≡ problem.Depth) × (65 ≤ length stack))
+Refuses stack (refusal.Problem p) outcome =
+    (outcome ≡ Err p) ⊎ ((p ≡ problem.Depth) × (65 ≤ length stack) × Deepens stack outcome)
 
 -- the step's outcome, and then the tokens that follow it, up to the form that ends with the last of them
 abbrev pub go_on : Result Step Problem → (List Frame → Result Step Problem) → List Token → Result Step Problem

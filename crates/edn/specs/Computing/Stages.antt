@@ -1,26 +1,32 @@
 -- What a token does to a reader.
-use Rattle.std.specs.Prelude.{◌≡◌, ◌⊎◌, List, true, false, Option, None, Ok, Err}
-use Rattle.edn.specs.declared.read_fault.Problem.{Problem}
+use Rattle.std.specs.Prelude.{◌≡◌, ◌⊎◌, List, true, false, Option, None, Ok}
+use Rattle.edn.specs.declared.read_fault.ReadFault.{ReadFault}
+use Rattle.edn.specs.declared.read_fault.ReadFault.TheVariants.{Syntax, Device, Memory}
+use Rattle.edn.specs.declared.read_fault.Refusal.TheVariants.{Problem}
 use Rattle.edn.specs.declared.reader.Stage.{Stage}
 use Rattle.edn.specs.declared.reader.Stage.TheVariants.{Start, Forms, Elements, Closed, Failed}
-use Rattle.edn.specs.Meaning.Forms.{Form}
 use Rattle.edn.specs.declared.token.Closing.TheVariants.{Square}
+use Rattle.edn.specs.Meaning.Faults.{IsOfDepth}
+use Rattle.edn.specs.Meaning.Forms.{Form}
 use Rattle.edn.specs.Meaning.Tokens.{Token, closes, is_square}
-use Rattle.edn.specs.Computing.Building.{Frame, is_top, step}
+use Rattle.edn.specs.Computing.Building.{Frame, Refuses, is_top, step}
 
 abbrev pub Built : List Frame → Token → List Frame → Option Form → Type 0
 Built old t new o = step old t ≡ Ok (new, o)
 
--- a token that can't come next
-abbrev pub Refused : List Frame → Token → Type 0
-Refused stack t = (p : Problem) × (step stack t ≡ Err p)
+-- the builder may refuse the token with this fault
+abbrev pub Refused : List Frame → Token → ReadFault → Type 0
+Refused stack t (Syntax line p) = Refuses stack (Problem p) (step stack t)
+Refused stack t Device = Unit {0}
+Refused stack t Memory = Unit {0}
 
-abbrev pub Stops : Stage → Token → List Frame → Type 0
-Stops Start t stack = (is_square t ≡ false) × Refused stack t
-Stops Forms t stack = Refused stack t
-Stops Elements t stack = Refused stack t
-Stops Closed t stack = Unit {0}
-Stops (Failed fault) t stack = Unit {0}
+-- so may the reader at this stage
+abbrev pub Stops : Stage → Token → List Frame → ReadFault → Type 0
+Stops Start t stack fault = (is_square t ≡ false) × Refused stack t fault
+Stops Forms t stack fault = Refused stack t fault
+Stops Elements t stack fault = Refused stack t fault
+Stops Closed t stack fault = ¬ IsOfDepth fault
+Stops (Failed before) t stack fault = fault ≡ before
 
 abbrev pub Takes : Stage → Token → Stage → List Frame → List Frame → Option Form → Type 0
 Takes Start t next old new o =

@@ -1,5 +1,5 @@
 -- Reading a token.
-use Rattle.std.specs.Prelude.{◌≡◌, ℕ, ◌+◌, ◌<◌, ◌==◌, Bool, false, not, ◌||◌, List, [], ◌∷◌, length, take, drop}
+use Rattle.std.specs.Prelude.{◌≡◌, ◌≢◌, ℕ, ◌+◌, ◌<◌, ◌==◌, Bool, false, not, ◌||◌, List, [], ◌∷◌, length, take, drop}
 use Rattle.std.specs.Prelude.{Option, Some, None, if◌then◌else◌}
 use Rattle.std.specs.List.{prefix_len}
 use Rattle.edn.specs.declared.read_fault.Problem.{Problem}
@@ -41,12 +41,12 @@ lexed_of Read.More = more
 lexed_of (Read.Bad p) = bad p
 
 -- what follows a token is shorter than the bytes; the text ends only if nothing comes after them, and more bytes decide
--- only if there may be more
+-- only if there may be more; nothing is nested in a token
 abbrev pub IsRest : Beyond → List ℕ → LexedValue → Type 0
 IsRest beyond bytes (Read.Token t rest) = length rest.now < length bytes
 IsRest beyond bytes Read.End = beyond ≡ Nothing
 IsRest beyond bytes Read.More = beyond ≡ Unread
-IsRest beyond bytes (Read.Bad p) = Unit {0}
+IsRest beyond bytes (Read.Bad p) = p ≢ problem.Depth
 
 abbrev pub no_token : Beyond → Lexed
 no_token Unread = more

@@ -8,6 +8,7 @@ use Rattle.edn.specs.Meaning.Forms.{Form}
 use Rattle.edn.specs.Meaning.Tokens.{Token, is_square}
 use Rattle.edn.specs.Meaning.Lexing.{Lexes}
 use Rattle.edn.specs.Meaning.Grammar.{IsItem}
+use Rattle.edn.specs.Meaning.Nesting.{AreTooDeep}
 use Rattle.edn.specs.Meaning.Reading.{IsLinked}
 use Rattle.edn.specs.Computing.Building.{top, stack_of}
 use Rattle.edn.specs.Machinery.Inputs.{work_left}
@@ -25,19 +26,23 @@ pub record IsReady (r : Reader) (left : Option (List ℕ)) : Type 0 where
   pub linked : IsLinked r.input.beyond left
   pub idle : stack_of r.builder ≡ top ∷ []
 
--- behind a `[` that the text begins with the tokens are those of the form, else all of them
-abbrev pub IsFirst : Bool → Token → List Token → Form → Type 0
-IsFirst true t ts f = IsItem ts f
-IsFirst false t ts f = IsItem (t ∷ ts) f
+-- P holds of the tokens behind the `[` that the text begins with, or else of all of them
+abbrev pub AreFirst : Bool → Token → List Token → (List Token → Type 0) → Type 0
+AreFirst true t ts P = P ts
+AreFirst false t ts P = P (t ∷ ts)
+
+-- P holds of the tokens that come next; if the text begins with `[`, they come within that vector
+abbrev pub AreNext : Stage → List Token → (List Token → Type 0) → Type 0
+AreNext Start [] P = ⊥
+AreNext Start (t ∷ ts) P = AreFirst (is_square t) t ts P
+AreNext Forms ts P = P ts
+AreNext Elements ts P = P ts
+AreNext Closed ts P = ⊥
+AreNext (Failed fault) ts P = ⊥
 
 -- the tokens are those of the form that comes next; if the text begins with `[`, it is an element of that vector
 abbrev pub IsFormAt : Stage → List Token → Form → Type 0
-IsFormAt Start [] f = ⊥
-IsFormAt Start (t ∷ ts) f = IsFirst (is_square t) t ts f
-IsFormAt Forms ts f = IsItem ts f
-IsFormAt Elements ts f = IsItem ts f
-IsFormAt Closed ts f = ⊥
-IsFormAt (Failed fault) ts f = ⊥
+IsFormAt stage ts f = AreNext stage ts (λ us. IsItem us f)
 
 -- the text, if it is known, begins with the form, and goes on so
 abbrev pub ReadsForm : Stage → Option (List ℕ) → Option (List ℕ) → Form → Type 0
@@ -53,3 +58,8 @@ BeginsForm stage (Some text) f = (ts : List Token) × (rest : List ℕ) × Lexes
 -- the text doesn't begin with a form, or isn't known
 abbrev pub HasNoForm : Stage → Option (List ℕ) → Type 0
 HasNoForm stage text = (f : Form) → BeginsForm stage text f → ⊥
+
+-- the text, if it is known, begins with tokens of forms that are nested too deep
+abbrev pub IsTooDeep : Stage → Option (List ℕ) → Type 0
+IsTooDeep stage None = Unit {0}
+IsTooDeep stage (Some text) = (ts : List Token) × (rest : List ℕ) × Lexes text ts rest × AreNext stage ts AreTooDeep

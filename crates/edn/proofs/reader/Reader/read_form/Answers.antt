@@ -7,6 +7,7 @@ use Rattle.edn.specs.Meaning.Readers.{text_left}
 use Rattle.edn.specs.Computing.Tokens.{token_of}
 use Rattle.edn.proofs.FormsRead.{leads_here, leads_on, form_read, reads_none, reads_more, reads_form}
 use Rattle.edn.proofs.NoForms.{goes_here, goes_on, stopped, ended}
+use Rattle.edn.proofs.Nested.{too_deep}
 use Rattle.edn.proofs.OneReading.{only_form}
 use Rattle.edn.proofs.reader.Reader.read_form.Goals as goal
 
@@ -86,8 +87,16 @@ returns-in_err-form-clause-refused g c = λ ready.
     let (linked, (ts, reads, leads, goes)) = c.loop-token.invariant.1 ready in
     let token = rw c.in-Some.is at (c.in_ok-token.ensures.token linked) in
     let p = err_from_is_err_and c.from_residual-in_err-form.result c.from_residual-in_err-form.ensures.1 in
-    rw (p.1, p.2) (λ of_text. stopped c.args.self.now.stage c.loop-token.self.stage _ _ _ ts (token_of c.in-Some.token) _ goes
-    reads token (c.in_err-form.ensures.stops of_text))
+    rw (p.1, p.2) (λ of_text. stopped c.args.self.now.stage c.loop-token.self.stage _ _ _ ts (token_of c.in-Some.token) _ _ goes
+    reads token c.in_err-form.ensures.stops of_text)
+
+pub returns-in_err-form-clause-deep : goal.returns-in_err-form-clause-deep
+returns-in_err-form-clause-deep g c = λ ready.
+    let (linked, (ts, reads, leads, goes)) = c.loop-token.invariant.1 ready in
+    let token = rw c.in-Some.is at (c.in_ok-token.ensures.token linked) in
+    let p = err_from_is_err_and c.from_residual-in_err-form.result c.from_residual-in_err-form.ensures.1 in
+    rw (p.1, p.2) (λ deep. too_deep c.args.self.now.stage c.loop-token.self.stage _ _ _ ts (token_of c.in-Some.token) _ _ leads
+    reads token c.in_err-form.ensures.stops deep)
 
 pub returns-in_err-end-clause-refused : goal.returns-in_err-end-clause-refused
 returns-in_err-end-clause-refused g c = λ ready.

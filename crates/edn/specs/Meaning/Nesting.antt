@@ -1,0 +1,25 @@
+-- How deep forms are nested.
+use Rattle.std.specs.Prelude.{ℕ, suc, ◌<◌, List, [], ◌∷◌, ◌++◌}
+use Rattle.edn.specs.declared.builder.TheConstants.{MAX_DEPTH}
+use Rattle.edn.specs.Meaning.Forms.{Form}
+use Rattle.edn.specs.Meaning.Grammar.{AreItems}
+use Rattle.edn.specs.Meaning.Tokens.{Token, opens, closes, discard, tag, leaf}
+
+-- it opens a collection, or stands before a form as its tag or to discard it
+abbrev pub IsOpening : Token → Type 0
+IsOpening (opens b) = Unit {0}
+IsOpening discard = Unit {0}
+IsOpening tag = Unit {0}
+IsOpening (closes b) = ⊥
+IsOpening (leaf f) = ⊥
+
+-- after these tokens so much is open, one within the other: collections without their closing brackets, tags and `#_`
+-- without their forms; whole forms may stand in between
+pub data Nests : ℕ → List Token → Type 0 where
+  none_open : {ts : List Token} → AreItems ts [] → Nests 0 ts
+  one_open : {n : ℕ} {ts us : List Token} {fs : List Form} (t : Token) → Nests n ts → IsOpening t → AreItems us fs
+      → Nests (suc n) (ts ++ t ∷ us)
+
+-- more is open than may be
+abbrev pub AreTooDeep : List Token → Type 0
+AreTooDeep ts = (n : ℕ) × Nests n ts × (MAX_DEPTH < n)
