@@ -1,4 +1,4 @@
-"""What the scripts of this folder share: a command that has run, the least of three, and what machine this is."""
+"""What the scripts of this folder share: a command that has run, the least of three, its bounds, and what machine this is."""
 import os
 import resource
 import signal
@@ -41,6 +41,34 @@ def least(arguments, stdin, stdout, limit):
 def sort_time(path, limit):
     """The processor time of sorting the lines of a file."""
     return least(["env", "LC_ALL=C", "sort", "--parallel=1"], path, os.devnull, limit).time
+
+
+class Bounds:
+    """How much a command may take at most: times the sort of what it reads, times what it took for a tenth of the
+    transactions, and bytes for each byte that it reads."""
+
+    def __init__(self, time, growth, memory):
+        self.time, self.growth, self.memory = time, growth, memory
+
+    def broken(self, ran, sorting, growth, size_in):
+        """The names of those that are broken."""
+        broken = ["time"] * (ran.time > self.time * sorting)
+        broken += ["growth"] * (growth is not None and growth > self.growth)
+        return broken + ["memory"] * (ran.is_told and ran.memory > self.memory * size_in)
+
+    HEAD = "%8s %8s %7s %8s %6s %7s %8s %7s  bounds" % (
+        "time s", "wall s", "MB/s", "peak MB", "B/B", "growth", "sort s", "x sort")
+
+    def row(self, ran, sorting, growth, size_in, is_meant):
+        """The figures, under HEAD. What is said of the bounds stands in brackets if they aren't meant for this line."""
+        broken = self.broken(ran, sorting, growth, size_in)
+        said = "breaks " + ", ".join(broken) if broken else "holds"
+        return "%8.3f %8.3f %7.1f %8s %6s %7s %8.3f %7.1f  %s" % (
+            ran.time, ran.wall, size_in / 1e6 / ran.time,
+            "%s%.1f" % ("" if ran.is_told else "<", ran.memory / 1e6),
+            "%.1f" % (ran.memory / size_in) if ran.is_told else "-",
+            "%.1f" % growth if growth else "-", sorting, ran.time / sorting,
+            said if is_meant else "(%s)" % said)
 
 
 def first_line(arguments):
