@@ -8,8 +8,9 @@ ghost use Rattle.digraph.specs.Meaning.Graphs.{IsGraph};
 
 use crate::appenders::Appenders;
 use crate::lines::{Found, Lines};
-use crate::links::{Links, Reading};
+use crate::links::{Links, Reading, Sink};
 use crate::own::Owns;
+use crate::sorting::forward;
 use append_values::{Kind, Link, Operation, Outcome, Read, Reason, Transaction};
 use digraph::{Arc, Outcome as Sorted, topological_order};
 use std::alloc::{AllocError, Global};
@@ -161,21 +162,30 @@ impl Search {
 
     // An order in which all links go forward, or a cycle of them.
     fn sort(&self, transactions: &[Transaction], count: u32) -> Result<Candidate, AllocError> {
-        let links = Links::of(
-            self.alloc,
-            transactions,
-            &self.lines,
-            self.readings.as_slice(),
-            count,
-        )?;
-        let (nodes, arcs) = graph(self.alloc, self.nodes(transactions, &links)?, &links)?;
+        let links = Links {
+            lines: &self.lines,
+            transactions: count,
+        };
+        let mut arcs = Arcs {
+            arcs: Vec::new(self.alloc),
+        };
+        links.give(transactions, self.readings.as_slice(), &mut arcs)?;
+        let nodes = self.nodes(transactions, &links)?;
+        let most = (count as usize).saturating_add(self.lines.lines.len());
+        let order = forward(self.alloc, most, nodes.as_slice(), arcs.arcs.as_slice())?;
+        if order.len() == nodes.len() {
+            return Ok(Candidate::Order(without_helpers(self.alloc, order.as_slice(), count)?));
+        }
+        let (nodes, arcs) = graph(self.alloc, nodes, arcs.arcs.as_slice())?;
         match topological_order(self.alloc, nodes.as_slice(), arcs)? {
             Sorted::Order(order) => {
                 Ok(Candidate::Order(without_helpers(self.alloc, order.as_slice(), count)?))
             }
             Sorted::Cycle(cycle) => {
-                let links = contracted(self.alloc, cycle.as_slice(), &links)?;
-                Ok(Candidate::Reason(Reason::Cycle(links)))
+                let mut kinds = Kinds::of(self.alloc, cycle.as_slice())?;
+                links.give(transactions, self.readings.as_slice(), &mut kinds)?;
+                let round = contracted(self.alloc, cycle.as_slice(), &kinds, count)?;
+                Ok(Candidate::Reason(Reason::Cycle(round)))
             }
         }
     }
@@ -201,17 +211,13 @@ impl Search {
 fn graph(
     alloc: Global,
     mut nodes: Vec<u32>,
-    links: &Links,
+    links: &[Arc],
 ) -> Result<(Vec<u32>, Vec<Arc>), AllocError>
     ensures { IfOk result (λ g. IsGraph g.0.items g.1.items) }
 {
     let mut arcs = Vec::new(alloc);
-    'links: for link in &links.links {
-        let arc = Arc {
-            from: link.from,
-            to: link.to,
-        };
-        add_arc(&mut nodes, &mut arcs, arc)?;
+    'links: for link in links {
+        add_arc(&mut nodes, &mut arcs, *link)?;
     }
     Ok((nodes, arcs))
 }
@@ -254,6 +260,22 @@ fn without_helpers(alloc: Global, order: &[u32], count: u32) -> Result<Vec<u32>,
     Ok(places)
 }
 
+// Links without their kinds.
+#[derive(Drop)]
+struct Arcs {
+    arcs: Vec<Arc>,
+}
+
+impl Sink for Arcs {
+    fn take(&mut self, link: Link) -> Result<(), AllocError> {
+        self.arcs.push(Arc {
+            from: link.from,
+            to: link.to,
+        })?;
+        Ok(())
+    }
+}
+
 // The ends of a link.
 #[derive(Clone, Copy, PartialEq, Eq, Hash)]
 struct Ends {
@@ -261,35 +283,67 @@ struct Ends {
     to: u32,
 }
 
-// The cycle without helpers: a way through one of them is a link of the kind that led to it.
-fn contracted(alloc: Global, cycle: &[Arc], links: &Links) -> Result<Vec<Link>, AllocError> {
-    let mut kinds = HashMap::new(alloc);
-    for link in &links.links {
-        kinds.insert(
-            Ends {
-                from: link.from,
-                to: link.to,
-            },
-            link.kind,
-        )?;
+// The kinds of links that lead as the arcs of a cycle do.
+#[derive(Drop)]
+struct Kinds {
+    by_ends: HashMap<Ends, Option<Kind>>,
+}
+
+impl Kinds {
+    // The links are to come.
+    fn of(alloc: Global, cycle: &[Arc]) -> Result<Kinds, AllocError> {
+        let mut by_ends = HashMap::new(alloc);
+        for arc in cycle {
+            by_ends.insert(ends_of(arc), None)?;
+        }
+        Ok(Kinds { by_ends })
     }
+
+    fn of_arc(&self, arc: &Arc) -> Option<Kind> {
+        *self.by_ends.get(&ends_of(arc))?
+    }
+}
+
+impl Sink for Kinds {
+    fn take(&mut self, link: Link) -> Result<(), AllocError> {
+        let between = Ends {
+            from: link.from,
+            to: link.to,
+        };
+        if let Some(kind) = self.by_ends.get_mut(&between) {
+            *kind = Some(link.kind);
+        }
+        Ok(())
+    }
+}
+
+fn ends_of(arc: &Arc) -> Ends {
+    Ends {
+        from: arc.from,
+        to: arc.to,
+    }
+}
+
+// The cycle without helpers: a way through one of them is a link of the kind that led to it.
+fn contracted(
+    alloc: Global,
+    cycle: &[Arc],
+    kinds: &Kinds,
+    count: u32,
+) -> Result<Vec<Link>, AllocError> {
     let mut round = Vec::new(alloc);
     let mut before = None;
     for arc in cycle {
-        let ends = Ends {
-            from: arc.from,
-            to: arc.to,
-        };
         let (from, kind) = match before {
             Some(link) => link,
             None => {
-                let Some(kind) = kinds.get(&ends) else {
+                let Some(kind) = kinds.of_arc(arc) else {
                     return Ok(round);
                 };
-                (arc.from, *kind)
+                (arc.from, kind)
             }
         };
-        if arc.to < links.transactions {
+        if arc.to < count {
             round.push(Link {
                 from,
                 to: arc.to,

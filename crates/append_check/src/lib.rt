@@ -16,6 +16,7 @@ mod precedences;
 mod reasons;
 mod replay;
 mod seen;
+mod sorting;
 mod verdict;
 mod whole;
 mod writers;

@@ -60,6 +60,14 @@ impl Line {
         }
     }
 
+    /// Adds a writer with its elements.
+    fn add(&mut self, writer: u32, block: &[u64]) -> Result<(), AllocError> {
+        self.writers.push(writer)?;
+        self.chain.extend_from_slice(block)?;
+        self.ends.push(self.chain.len())?;
+        Ok(())
+    }
+
     /// Returns the writer of the element at this place of the list.
     fn writer_at(&self, place: usize) -> Option<u32> {
         let block = self.ends.partition_point(|end| *end <= place);
@@ -171,47 +179,80 @@ impl Lines {
         read: Read,
         base: &[u64],
     ) -> Result<Option<Reason>, AllocError> {
+        if let Some(line) = self.lines.get_mut(number) {
+            line.source = read;
+        }
+        // each turn adds an element at least
+        'blocks: for _ in 0..base.len() {
+            let Some(next) = self.next_element(number, base) else {
+                return Ok(None);
+            };
+            let writer = match self.next_writer(transactions, appenders, number, read, next) {
+                Ok(writer) => writer,
+                Err(reason) => return Ok(Some(reason)),
+            };
+            let broken = self.add_block(transactions, number, read, base, writer)?;
+            if broken.is_some() {
+                return Ok(broken);
+            }
+        }
+        Ok(None)
+    }
+
+    /// Returns the key of the line and the first element that the list has after the line's.
+    fn next_element(&self, number: usize, base: &[u64]) -> Option<(u64, u64)> {
+        let line = self.lines.get(number)?;
+        let element = base.get(line.chain.len())?;
+        Some((line.key, *element))
+    }
+
+    /// Returns the transaction that comes next in the line, as it appends this element of this key. Returns a reason if
+    /// none can.
+    fn next_writer(
+        &self,
+        transactions: &[Transaction],
+        appenders: &Appenders,
+        number: usize,
+        read: Read,
+        (key, element): (u64, u64),
+    ) -> Result<u32, Reason> {
+        let Some(writer) = appenders.appender(key, element) else {
+            return Err(Reason::Unwritten(read, element));
+        };
+        if aborted(transactions, writer) {
+            return Err(Reason::Unwritten(read, element));
+        }
+        if writer == read.transaction {
+            return Err(Reason::Future(read, element));
+        }
+        if self.has(number, writer) {
+            return Err(Reason::Twice(read, element));
+        }
+        Ok(writer)
+    }
+
+    /// Adds the writer and its block to the line. Returns a reason if the list doesn't go on with the whole block.
+    fn add_block(
+        &mut self,
+        transactions: &[Transaction],
+        number: usize,
+        read: Read,
+        base: &[u64],
+        writer: u32,
+    ) -> Result<Option<Reason>, AllocError> {
         let Some(line) = self.lines.get_mut(number) else {
             return Ok(None);
         };
-        line.source = read;
-        // each turn adds an element at least
-        'blocks: for _ in 0..base.len() {
-            let start = line.chain.len();
-            if start >= base.len() {
-                return Ok(None);
-            }
-            let rest = &base[start..];
-            let element = base[start];
-            let Some(writer) = appenders.appender(line.key, element) else {
-                return Ok(Some(Reason::Unwritten(read, element)));
-            };
-            if aborted(transactions, writer) {
-                return Ok(Some(Reason::Unwritten(read, element)));
-            }
-            if writer == read.transaction {
-                return Ok(Some(Reason::Future(read, element)));
-            }
-            let key = Writer {
-                line: number,
-                transaction: writer,
-            };
-            if self.places.contains_key(&key) {
-                return Ok(Some(Reason::Twice(read, element)));
-            }
-            let block = own(self.alloc, transactions, line.key, writer)?;
-            if block.is_empty() || !rest.starts_with(block.as_slice()) {
-                let reason = match repeated(self.alloc, base)? {
-                    Some(again) => Reason::Twice(read, again),
-                    None => Reason::Intermediate(read, writer),
-                };
-                return Ok(Some(reason));
-            }
-            self.places.insert(key, line.writers.len())?;
-            line.writers.push(writer)?;
-            line.chain.extend_from_slice(block.as_slice())?;
-            line.ends.push(line.chain.len())?;
+        let block = own(self.alloc, transactions, line.key, writer)?;
+        if !goes_on(base, line.chain.len(), block.as_slice()) {
+            return Ok(Some(not_whole(self.alloc, read, base, writer)?));
         }
+        let itself = Writer {
+            line: number,
+            transaction: writer,
+        };
+        self.places.insert(itself, line.writers.len())?;
+        line.add(writer, block.as_slice())?;
         Ok(None)
     }
 
@@ -290,6 +331,22 @@ fn aborted(transactions: &[Transaction], place: u32) -> bool {
     match transactions.get(place as usize) {
         Some(transaction) => transaction.outcome == Outcome::Aborted,
         None => true,
+    }
+}
+
+/// Returns whether the list has the block at this place. No block is empty.
+fn goes_on(list: &[u64], place: usize, block: &[u64]) -> bool {
+    match list.get(place..) {
+        Some(rest) => !block.is_empty() && rest.starts_with(block),
+        None => false,
+    }
+}
+
+/// The reason for a list that has an element of the writer where its block should stand.
+fn not_whole(alloc: Global, read: Read, base: &[u64], writer: u32) -> Result<Reason, AllocError> {
+    match repeated(alloc, base)? {
+        Some(again) => Ok(Reason::Twice(read, again)),
+        None => Ok(Reason::Intermediate(read, writer)),
     }
 }
 

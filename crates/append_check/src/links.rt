@@ -17,44 +17,45 @@ pub(crate) struct Reading {
     pub appends: bool,
 }
 
-/// Links between transactions, and from and to a helper node for the end of each line. The kind of a link to a helper
-/// is that of the link to each transaction to which one leads from it.
+/// Takes links, one after another.
+pub(crate) trait Sink {
+    /// Takes the link.
+    fn take(&mut self, link: Link) -> Result<(), AllocError>;
+}
+
+/// Makes links between transactions, and from and to a helper node for the end of each line. The kind of a link to a
+/// helper is that of the link to each transaction to which one leads from it.
 #[derive(Drop)]
-pub(crate) struct Links {
-    pub links: Vec<Link>,
+pub(crate) struct Links<'a> {
+    pub lines: &'a Lines,
     /// How many transactions there are: the helper of the line with number n is this much above n.
     pub transactions: u32,
 }
 
-impl Links {
-    /// Returns the links of the lines and of the readings.
-    pub fn of(
-        alloc: Global,
+impl Links<'_> {
+    /// Gives the links of the lines and of the readings to the sink.
+    pub fn give<K: Sink>(
+        &self,
         transactions: &[Transaction],
-        lines: &Lines,
         readings: &[Reading],
-        count: u32,
-    ) -> Result<Links, AllocError> {
-        let mut links = Links {
-            links: Vec::new(alloc),
-            transactions: count,
-        };
-        'lines: for (number, line) in lines.lines.iter().enumerate() {
-            links.add_line(line, number)?;
+        sink: &mut K,
+    ) -> Result<(), AllocError> {
+        'lines: for (number, line) in self.lines.lines.iter().enumerate() {
+            self.give_line(line, number, sink)?;
         }
         'readings: for reading in readings {
-            if let Some(line) = lines.lines.get(reading.line) {
-                links.add_reading(line, reading)?;
+            if let Some(line) = self.lines.lines.get(reading.line) {
+                self.give_reading(line, reading, sink)?;
             }
         }
         let mut place = 0u32;
         'unseen: for transaction in transactions {
-            if lines.takes_in(place, transaction) {
-                links.add_unseen(lines, place, transaction.operations.as_slice())?;
+            if self.lines.takes_in(place, transaction) {
+                self.give_unseen(place, transaction.operations.as_slice(), sink)?;
             }
             place = place.saturating_add(1);
         }
-        Ok(links)
+        Ok(())
     }
 
     /// Returns the helper node of the line with this number.
@@ -64,7 +65,12 @@ impl Links {
     }
 
     // From each writer to the next one, and from the last one to the helper.
-    fn add_line(&mut self, line: &Line, number: usize) -> Result<(), AllocError> {
+    fn give_line<K: Sink>(
+        &self,
+        line: &Line,
+        number: usize,
+        sink: &mut K,
+    ) -> Result<(), AllocError> {
         let mut before = None;
         'writers: for writer in &line.writers {
             if let Some(from) = before {
@@ -72,7 +78,7 @@ impl Links {
                     Some(tail) if tail.transaction == *writer => Kind::WriteRead(tail),
                     _ => Kind::WriteWrite(line.source),
                 };
-                self.links.push(Link {
+                sink.take(Link {
                     from,
                     to: *writer,
                     kind,
@@ -86,17 +92,22 @@ impl Links {
                 None => Kind::WriteWrite(line.source),
             };
             let to = self.helper(number);
-            self.links.push(Link { from, to, kind })?;
+            sink.take(Link { from, to, kind })?;
         }
         Ok(())
     }
 
     // From the last writer that the read shows to the reader, and from the reader to the next one.
-    fn add_reading(&mut self, line: &Line, reading: &Reading) -> Result<(), AllocError> {
+    fn give_reading<K: Sink>(
+        &self,
+        line: &Line,
+        reading: &Reading,
+        sink: &mut K,
+    ) -> Result<(), AllocError> {
         let reader = reading.read.transaction;
         if let Some(last) = reading.writers.checked_sub(1) {
             if let Some(writer) = line.writers.get(last) {
-                self.links.push(Link {
+                sink.take(Link {
                     from: *writer,
                     to: reader,
                     kind: Kind::WriteRead(reading.read),
@@ -108,7 +119,7 @@ impl Links {
             None => self.helper(reading.line),
         };
         if to != reader {
-            self.links.push(Link {
+            sink.take(Link {
                 from: reader,
                 to,
                 kind: Kind::ReadWrite(reading.read),
@@ -118,22 +129,22 @@ impl Links {
     }
 
     // From the helper to a transaction that appends to the key and whose elements nobody read. The kind is of no account.
-    fn add_unseen(
-        &mut self,
-        lines: &Lines,
+    fn give_unseen<K: Sink>(
+        &self,
         place: u32,
         operations: &[Operation],
+        sink: &mut K,
     ) -> Result<(), AllocError> {
         'steps: for operation in operations {
             if let Operation::Append { key, .. } = operation {
-                if let Some(line) = lines.number(*key) {
-                    if !lines.has(line, place) {
+                if let Some(line) = self.lines.number(*key) {
+                    if !self.lines.has(line, place) {
                         let from = self.helper(line);
                         let read = Read {
                             transaction: place,
                             step: 0,
                         };
-                        self.links.push(Link {
+                        sink.take(Link {
                             from,
                             to: place,
                             kind: Kind::ReadWrite(read),
