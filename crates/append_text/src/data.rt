@@ -1,7 +1,6 @@
 //! What the forms of EDN and the values of JSON have in common.
 
 use crate::name::Name;
-use std::alloc::{AllocError, Global};
 
 /// A form of EDN or a value of JSON.
 pub(crate) trait Data {
@@ -24,5 +23,5 @@ pub(crate) trait Data {
     fn is_nil(&self) -> bool;
 
     /// Returns the name of a key or an element, if this is one.
-    fn name(&self, alloc: Global) -> Result<Option<Name>, AllocError>;
+    fn name(&self) -> Option<Name<'_>>;
 }

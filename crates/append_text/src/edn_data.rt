@@ -3,7 +3,6 @@
 use crate::data::Data;
 use crate::name::Name;
 use edn::Form;
-use std::alloc::{AllocError, Global};
 
 impl Data for Form {
     fn field(&self, name: &str) -> Option<&Form> {
@@ -47,12 +46,12 @@ impl Data for Form {
         matches!(self, Form::Nil)
     }
 
-    fn name(&self, alloc: Global) -> Result<Option<Name>, AllocError> {
+    fn name(&self) -> Option<Name<'_>> {
         match self {
-            Form::Integer(number) => Ok(Some(Name::Integer(*number))),
-            Form::String(bytes) => Ok(Some(Name::String(bytes.clone()?))),
-            Form::Keyword(name) => Ok(Some(Name::Keyword(name.clone()?))),
-            _ => Ok(None),
+            Form::Integer(number) => Some(Name::Integer(*number)),
+            Form::String(bytes) => Some(Name::String(bytes.as_slice())),
+            Form::Keyword(name) => Some(Name::Keyword(name.as_slice())),
+            _ => None,
         }
     }
 }

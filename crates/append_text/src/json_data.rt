@@ -3,7 +3,6 @@
 use crate::data::Data;
 use crate::name::Name;
 use serde_json::Value;
-use std::alloc::{AllocError, Global};
 
 impl Data for Value {
     fn field(&self, name: &str) -> Option<&Value> {
@@ -36,13 +35,10 @@ impl Data for Value {
         self.is_null()
     }
 
-    fn name(&self, alloc: Global) -> Result<Option<Name>, AllocError> {
+    fn name(&self) -> Option<Name<'_>> {
         match self {
-            Value::String(text) => Ok(Some(Name::String(text.as_bytes().to_vec(alloc)?))),
-            _ => match self.as_i64() {
-                Some(number) => Ok(Some(Name::Integer(number))),
-                None => Ok(None),
-            },
+            Value::String(text) => Some(Name::String(text.as_bytes())),
+            _ => Some(Name::Integer(self.as_i64()?)),
         }
     }
 }

@@ -4,44 +4,71 @@ use indexmap::IndexSet;
 use std::alloc::{AllocError, Global};
 
 /// A key or an element, as the text has it. `1`, `"1"` and `:1` are three names.
-#[derive(PartialEq, Eq, Hash, Drop)]
-pub enum Name {
+#[derive(Clone, Copy, PartialEq, Eq)]
+pub enum Name<'a> {
     /// An integer.
     Integer(i64),
     /// The bytes of a string.
-    String(Vec<u8>),
+    String(&'a [u8]),
     /// The name of a keyword, without its colon.
+    Keyword(&'a [u8]),
+}
+
+/// A name that isn't an integer from 0 up.
+#[derive(PartialEq, Eq, Hash, Drop)]
+enum Kept {
+    /// An integer below 0.
+    Integer(i64),
+    /// The bytes of a string.
+    String(Vec<u8>),
+    /// The name of a keyword.
     Keyword(Vec<u8>),
 }
 
-/// The names of a history. A key's number is its place among the keys, from 0, in the order in which the text first has
-/// them, and so is an element's among the elements; an element has one number under all keys.
+/// The names of a history. The number of an integer from 0 up is twice the integer. Other names have odd numbers, in the
+/// order in which the text first has them; keys and elements are numbered together.
 #[derive(Drop)]
 pub struct Names {
-    /// The names of the keys.
-    pub keys: IndexSet<Name>,
-    /// The names of the elements.
-    pub elements: IndexSet<Name>,
+    alloc: Global,
+    kept: IndexSet<Kept>,
 }
 
 impl Names {
     /// No names.
     pub(crate) fn new(alloc: Global) -> Names {
         Names {
-            keys: IndexSet::new(alloc),
-            elements: IndexSet::new(alloc),
+            alloc,
+            kept: IndexSet::new(alloc),
         }
     }
 
-    /// Returns the number of the key, which may be new.
-    pub(crate) fn key(&mut self, name: Name) -> Result<u64, AllocError> {
-        let (number, _) = self.keys.insert_full(name)?;
-        Ok(number as u64)
+    /// Returns the number of the name, which may be new.
+    pub(crate) fn number(&mut self, name: Name<'_>) -> Result<u64, AllocError> {
+        match name {
+            Name::Integer(integer) => match u64::try_from(integer) {
+                Ok(size) => Ok(size * 2),
+                Err(_) => self.keep(Kept::Integer(integer)),
+            },
+            Name::String(bytes) => self.keep(Kept::String(bytes.to_vec(self.alloc)?)),
+            Name::Keyword(bytes) => self.keep(Kept::Keyword(bytes.to_vec(self.alloc)?)),
+        }
     }
 
-    /// Returns the number of the element, which may be new.
-    pub(crate) fn element(&mut self, name: Name) -> Result<u64, AllocError> {
-        let (number, _) = self.elements.insert_full(name)?;
-        Ok(number as u64)
+    /// Returns the number of a name that may be new.
+    fn keep(&mut self, name: Kept) -> Result<u64, AllocError> {
+        let (place, _) = self.kept.insert_full(name)?;
+        Ok((place as u64).saturating_mul(2).saturating_add(1))
+    }
+
+    /// Returns the name with this number. `None` if it is odd and no name of the history has it.
+    pub fn name(&self, number: u64) -> Option<Name<'_>> {
+        if number % 2 == 0 {
+            return Some(Name::Integer((number / 2) as i64));
+        }
+        match self.kept.get_index((number / 2) as usize)? {
+            Kept::Integer(integer) => Some(Name::Integer(*integer)),
+            Kept::String(bytes) => Some(Name::String(bytes.as_slice())),
+            Kept::Keyword(bytes) => Some(Name::Keyword(bytes.as_slice())),
+        }
     }
 }

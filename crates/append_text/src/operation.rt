@@ -1,7 +1,7 @@
 //! The operations of a text.
 
 use crate::data::Data;
-use crate::name::{Name, Names};
+use crate::name::Names;
 use crate::read_fault::{Problem, Refusal};
 use append_values::Operation;
 use std::alloc::Global;
@@ -119,12 +119,12 @@ fn step<D: Data>(alloc: Global, names: &mut Names, data: &D) -> Result<Operation
     };
     match f.word() {
         Some(b"append") => {
-            let key = names.key(name(alloc, key)?)?;
-            let element = names.element(name(alloc, value)?)?;
+            let key = number(names, key)?;
+            let element = number(names, value)?;
             Ok(Operation::Append { key, element })
         }
         Some(b"r") => {
-            let key = names.key(name(alloc, key)?)?;
+            let key = number(names, key)?;
             let elements = elements(alloc, names, value)?;
             Ok(Operation::Read { key, elements })
         }
@@ -134,23 +134,23 @@ fn step<D: Data>(alloc: Global, names: &mut Names, data: &D) -> Result<Operation
 
 /// Reads the elements of a list. `nil` is the empty one.
 fn elements<D: Data>(alloc: Global, names: &mut Names, data: &D) -> Result<Vec<u64>, Refusal> {
-    let mut elements = Vec::new(alloc);
     if data.is_nil() {
-        return Ok(elements);
+        return Ok(Vec::new(alloc));
     }
     let Some(listed) = data.elements() else {
         return Err(Refusal::Problem(Problem::Step));
     };
+    let mut elements = Vec::with_capacity(alloc, listed.len())?;
     for data in listed {
-        elements.push(names.element(name(alloc, data)?)?)?;
+        elements.push(number(names, data)?)?;
     }
     Ok(elements)
 }
 
-/// Reads the name of a key or an element.
-fn name<D: Data>(alloc: Global, data: &D) -> Result<Name, Refusal> {
-    match data.name(alloc)? {
-        Some(name) => Ok(name),
+/// Returns the number of the key or the element that this names.
+fn number<D: Data>(names: &mut Names, data: &D) -> Result<u64, Refusal> {
+    match data.name() {
+        Some(name) => Ok(names.number(name)?),
         None => Err(Refusal::Problem(Problem::Name)),
     }
 }

@@ -1,9 +1,15 @@
 //! The program `lists`: says whether a list-append history is serializable.
 #![tactic(auto)]
 
-use lists_program::run;
+use lists_program::{Progress, run};
+use std::io::IsTerminal;
 use std::process::ExitCode;
 
 fn main(rt: HostRuntime) -> ExitCode {
-    ExitCode::from(run(&rt))
+    let progress = if rt.stderr().is_terminal() {
+        Progress::Shown
+    } else {
+        Progress::Hidden
+    };
+    ExitCode::from(run(&rt, progress))
 }

@@ -1,7 +1,7 @@
 //! The answer, as people read it and as programs do.
 
 use crate::explanation::{appends_in_words, reason_in_words};
-use crate::kinds::{kind, kind_of_link};
+use crate::phenomenon::{Phenomenon, name_of_link};
 use append_check::{Link, Reason, Verdict};
 use append_text::History;
 use serde_json::{Value, json, push};
@@ -16,7 +16,7 @@ pub(crate) fn in_words(
     let mut text = Vec::new(alloc);
     text.extend_from_slice(first_words(verdict).as_bytes())?;
     if let Verdict::NotSerializable(reason) = verdict {
-        let name = kind(history.transactions.as_slice(), reason);
+        let name = Phenomenon::of(history.transactions.as_slice(), reason).name();
         text.extend_from_slice(b": ")?;
         text.extend_from_slice(name.as_bytes())?;
     }
@@ -77,7 +77,7 @@ fn with_reason(
     verdict: &Verdict,
     reason: &Reason,
 ) -> Result<Value, AllocError> {
-    let name = kind(history.transactions.as_slice(), reason);
+    let name = Phenomenon::of(history.transactions.as_slice(), reason).name();
     let lines = lines(alloc, why(alloc, history, verdict)?.as_slice())?;
     match reason {
         Reason::Cycle(links) => {
@@ -110,7 +110,7 @@ fn cycle(alloc: Global, history: &History, links: &[Link]) -> Result<Vec<Value>,
     for link in links {
         let from = index(history, link.from);
         let to = index(history, link.to);
-        let kind = kind_of_link(link);
+        let kind = name_of_link(link);
         push(
             &mut cycle,
             json!(in alloc; {"from": from, "to": to, "kind": kind})?,

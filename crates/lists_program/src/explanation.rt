@@ -1,8 +1,8 @@
 //! Reasons in words.
 
 use crate::cast::Cast;
-use crate::kinds::{appender, appends};
 use crate::page::{Page, is_long};
+use crate::phenomenon::{appends, appends_in_vain};
 use append_check::{Kind, Link, Operation, Read, Reason};
 use append_text::History;
 use std::alloc::{AllocError, Global};
@@ -132,7 +132,7 @@ impl<'a> Teller<'a> {
         self.page.words(" appended ")?;
         self.element(element)?;
         self.page.words(" to key ")?;
-        self.page.name(&self.history.names.keys, key)?;
+        self.page.name(&self.history.names, key)?;
         if *first == *second {
             return self.page.words(" twice\n");
         }
@@ -145,11 +145,16 @@ impl<'a> Teller<'a> {
         self.read(read)?;
         self.page.words(", and ")?;
         let key = self.key_of(read);
-        match appender(self.history.transactions.as_slice(), key, element) {
+        let writer = self
+            .history
+            .transactions
+            .iter()
+            .position(|transaction| appends_in_vain(transaction, key, element));
+        match writer {
             Some(writer) => {
                 self.element(element)?;
                 self.page.words(" was appended by ")?;
-                self.who(writer)?;
+                self.who(u32::try_from(writer).unwrap_or(u32::MAX))?;
                 self.page.words(", which failed\n")
             }
             None => {
@@ -213,13 +218,13 @@ impl<'a> Teller<'a> {
     }
 
     fn element(&mut self, element: u64) -> Result<(), AllocError> {
-        self.page.name(&self.history.names.elements, element)
+        self.page.name(&self.history.names, element)
     }
 
     fn key(&mut self, read: Read) -> Result<(), AllocError> {
         let key = self.key_of(read);
         self.page.words("key ")?;
-        self.page.name(&self.history.names.keys, key)
+        self.page.name(&self.history.names, key)
     }
 
     // T1 (index 12) read key 3 as [1 2]
@@ -234,8 +239,7 @@ impl<'a> Teller<'a> {
     // [1 2]
     fn found(&mut self, read: Read) -> Result<(), AllocError> {
         let elements = self.elements(read)?;
-        self.page
-            .list(&self.history.names.elements, elements.as_slice())
+        self.page.list(&self.history.names, elements.as_slice())
     }
 
     fn elements(&self, read: Read) -> Result<Vec<u64>, AllocError> {
@@ -259,8 +263,7 @@ impl<'a> Teller<'a> {
         let own = self.own(read, read.transaction, read.step.saturating_add(1))?;
         if !own.is_empty() {
             self.page.words(" and appended ")?;
-            self.page
-                .list(&self.history.names.elements, own.as_slice())?;
+            self.page.list(&self.history.names, own.as_slice())?;
             self.page.words(" afterwards")?;
         }
         Ok(())
@@ -281,7 +284,7 @@ impl<'a> Teller<'a> {
         if own.len() == 1 {
             return self.element(own[0]);
         }
-        self.page.list(&self.history.names.elements, own.as_slice())
+        self.page.list(&self.history.names, own.as_slice())
     }
 
     fn own(&self, read: Read, place: u32, from: usize) -> Result<Vec<u64>, AllocError> {

@@ -6,11 +6,13 @@ mod answer;
 mod arguments;
 mod cast;
 mod explanation;
-mod kinds;
 mod page;
+mod phenomenon;
+mod progress;
 mod status;
 mod tasks;
 
-pub use kinds::kind;
+pub use phenomenon::Phenomenon;
+pub use progress::Progress;
 pub use status::Status;
 pub use tasks::run;

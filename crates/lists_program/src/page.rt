@@ -1,7 +1,6 @@
 //! A text that is written bit by bit.
 
-use append_text::Name;
-use indexmap::IndexSet;
+use append_text::{Name, Names};
 use itoa::Buffer;
 use std::alloc::{AllocError, Global};
 
@@ -39,27 +38,27 @@ impl Page {
     }
 
     /// Writes the name with this number as EDN has it.
-    pub fn name(&mut self, names: &IndexSet<Name>, number: u64) -> Result<(), AllocError> {
-        match names.get_index(number as usize) {
+    pub fn name(&mut self, names: &Names, number: u64) -> Result<(), AllocError> {
+        match names.name(number) {
             Some(Name::Integer(n)) => {
                 self.bytes
-                    .extend_from_slice(Buffer::new().format(*n).as_bytes())
+                    .extend_from_slice(Buffer::new().format(n).as_bytes())
             }
             Some(Name::String(bytes)) => {
                 self.words("\"")?;
-                self.bytes.extend_from_slice(bytes.as_slice())?;
+                self.bytes.extend_from_slice(bytes)?;
                 self.words("\"")
             }
             Some(Name::Keyword(bytes)) => {
                 self.words(":")?;
-                self.bytes.extend_from_slice(bytes.as_slice())
+                self.bytes.extend_from_slice(bytes)
             }
             None => self.number(number),
         }
     }
 
     /// Writes the list, without its middle if it is long.
-    pub fn list(&mut self, names: &IndexSet<Name>, elements: &[u64]) -> Result<(), AllocError> {
+    pub fn list(&mut self, names: &Names, elements: &[u64]) -> Result<(), AllocError> {
         self.words("[")?;
         let long = is_long(elements);
         for i in 0..elements.len() {

@@ -1,5 +1,10 @@
 //! How the program ends.
 
+ghost use Rattle.std.specs.Prelude.{◌≡◌};
+ghost use Rattle.std.specs.Process.{exit_status};
+ghost use Rattle.lists_program.specs.Meaning.Status.{code_of, status_of};
+
+use append_check::Verdict;
 use std::process::ExitCode;
 
 /// How the program ends, each with an exit status of its own.
@@ -15,7 +20,21 @@ pub enum Status {
     Failed,
 }
 
+impl Status {
+    /// The status of a verdict: `Fine` for an order, `Refused` for anything else.
+    pub fn of_verdict(verdict: &Verdict) -> Status
+        ensures { result ≡ status_of verdict.now }
+    {
+        match verdict {
+            Verdict::Serializable(_) => Status::Fine,
+            Verdict::NotSerializable(_) | Verdict::AppendedTwice { .. } => Status::Refused,
+        }
+    }
+}
+
 impl From<Status> for ExitCode {
+    ghost from_gives = { λ status exit. exit_status exit ≡ code_of status };
+
     fn from(status: Status) -> ExitCode {
         match status {
             Status::Fine => ExitCode::from(0),

@@ -2,6 +2,7 @@
 
 use crate::answer::{in_json, in_words};
 use crate::arguments::command_line;
+use crate::progress::{Counted, Progress, Reporter};
 use crate::status::Status;
 use append_check::{Verdict, check};
 use append_text::{History, ReadFault, read_edn, read_history, read_json};
@@ -38,8 +39,9 @@ impl From<AllocError> for Fault<'_> {
     }
 }
 
-/// Does what the arguments ask for, and prints a fault on standard error.
-pub fn run<R: Runtime + AllocGlobal>(rt: &R) -> Status {
+/// Does what the arguments ask for, and prints a fault on standard error. If the progress is shown, and the work takes
+/// more than two seconds, standard error also says how much has been read.
+pub fn run<R: Runtime + AllocGlobal>(rt: &R, progress: Progress) -> Status {
     let Ok(arguments) = env::args(rt) else {
         let _ = eprintln!(rt; "lists: the arguments can't be read");
         return Status::Wrong;
@@ -51,7 +53,7 @@ pub fn run<R: Runtime + AllocGlobal>(rt: &R) -> Status {
         return failed(rt, Fault::Memory);
     };
     match command.try_get_matches_from(&arguments) {
-        Ok(given) => match answered(rt, &given) {
+        Ok(given) => match answered(rt, &given, progress) {
             Ok(status) => status,
             Err(fault) => failed(rt, fault),
         },
@@ -62,7 +64,9 @@ pub fn run<R: Runtime + AllocGlobal>(rt: &R) -> Status {
 fn answered<'a, R: Runtime + AllocGlobal>(
     rt: &'a R,
     given: &ArgMatches<'a>,
+    progress: Progress,
 ) -> Result<Status, Fault<'a>> {
+    let mut reporter = Reporter::new(rt, progress);
     let history = match given.get_str("FILE") {
         Some(path) => {
             let Ok(file) = fs::open(rt, path) else {
@@ -70,13 +74,13 @@ fn answered<'a, R: Runtime + AllocGlobal>(
             };
             read(
                 rt.alloc(),
-                &mut Watched::new(file),
+                &mut Watched::new(Counted::new(&mut reporter, file)),
                 path,
                 given.get_str("format"),
             )?
         }
         None => {
-            let mut input = Watched::new(rt.reader());
+            let mut input = Watched::new(Counted::new(&mut reporter, rt.reader()));
             read(rt.alloc(), &mut input, "stdin", given.get_str("format"))?
         }
     };
@@ -89,6 +93,7 @@ fn answered<'a, R: Runtime + AllocGlobal>(
             history.passed_over
         );
     }
+    reporter.transactions(history.transactions.len());
     let verdict = check(rt.alloc(), history.transactions.as_slice())?;
     if let (Verdict::Serializable(order), Some(path)) = (&verdict, given.get_str("order")) {
         write_order(rt, path, &history, order.as_slice())?;
@@ -170,14 +175,7 @@ fn tell<W: Write>(
     if written.is_err() || out.flush().is_err() {
         return Err(Fault::Write("stdout"));
     }
-    Ok(status_of(verdict))
-}
-
-fn status_of(verdict: &Verdict) -> Status {
-    match verdict {
-        Verdict::Serializable(_) => Status::Fine,
-        _ => Status::Refused,
-    }
+    Ok(Status::of_verdict(verdict))
 }
 
 // Help is an answer. Whatever else the parser prints is about wrong arguments.

@@ -1,0 +1,3 @@
+-- What the promises mean.
+pub mod Phenomena
+pub mod Status

@@ -1,0 +1,87 @@
+-- What a reason is an instance of (Adya 1999, sections 3.1 and 4.2).
+use Rattle.std.specs.Prelude.{ℕ, zero, suc, ◌==◌, ◌&&◌, Bool, true, false, List, Option, Some, None, count_by, slice_get, if◌then◌else◌}
+use Rattle.std.specs.List.{list_any}
+use Rattle.append_values.specs.declared.transaction.Outcome.{Outcome}
+use Rattle.append_values.specs.declared.transaction.Outcome.TheVariants.{Committed, Aborted, Unknown}
+use Rattle.append_values.specs.declared.transaction.Operation.{Operation}
+use Rattle.append_values.specs.declared.transaction.Operation.TheVariants.{Append, Read as ReadOf, LostRead}
+use Rattle.append_values.specs.declared.transaction.Transaction.{Transaction}
+use Rattle.append_values.specs.declared.reason.Read.{Read}
+use Rattle.append_values.specs.declared.reason.Link.{Link}
+use Rattle.append_values.specs.declared.reason.Kind.{Kind}
+use Rattle.append_values.specs.declared.reason.Kind.TheVariants as By
+use Rattle.append_values.specs.declared.reason.Reason.{Reason}
+use Rattle.append_values.specs.declared.reason.Reason.TheVariants as For
+use Rattle.lists_program.specs.declared.phenomenon.Phenomenon.{Phenomenon}
+use Rattle.lists_program.specs.declared.phenomenon.Phenomenon.TheVariants as It
+
+abbrev pub is_anti_kind : Kind → Bool
+is_anti_kind (By.ReadWrite read) = true
+is_anti_kind (By.WriteRead read) = false
+is_anti_kind (By.WriteWrite read) = false
+
+abbrev pub is_read_kind : Kind → Bool
+is_read_kind (By.WriteRead read) = true
+is_read_kind (By.ReadWrite read) = false
+is_read_kind (By.WriteWrite read) = false
+
+-- an anti-dependency, and a read dependency
+abbrev pub is_anti : Link → Bool
+is_anti link = is_anti_kind link.kind
+
+abbrev pub is_read : Link → Bool
+is_read link = is_read_kind link.kind
+
+-- by the numbers of its anti-dependencies and of its read dependencies
+abbrev pub of_counts : ℕ → ℕ → Phenomenon
+of_counts zero zero = It.WriteCycle
+of_counts zero (suc reads) = It.InformationCycle
+of_counts (suc zero) reads = It.SingleAntiDependency
+of_counts (suc (suc more)) reads = It.AntiDependencies
+
+abbrev pub of_cycle : List Link → Phenomenon
+of_cycle links = of_counts (count_by is_anti links) (count_by is_read links)
+
+abbrev pub appends : ℕ → ℕ → Operation → Bool
+appends key element (Append k x) = (k == key) && (x == element)
+appends key element (ReadOf k xs) = false
+appends key element (LostRead k) = false
+
+abbrev pub is_aborted : Outcome → Bool
+is_aborted Committed = false
+is_aborted Aborted = true
+is_aborted Unknown = false
+
+abbrev pub is_aborted_append : ℕ → ℕ → Transaction → Bool
+is_aborted_append key element t = is_aborted t.outcome && list_any (appends key element) t.operations.items
+
+abbrev pub key_of : Option Operation → Option ℕ
+key_of None = None
+key_of (Some (ReadOf k xs)) = Some k
+key_of (Some (Append k x)) = None
+key_of (Some (LostRead k)) = None
+
+abbrev pub step_of : Option Transaction → ℕ → Option Operation
+step_of None step = None
+step_of (Some t) step = slice_get t.operations.items step
+
+abbrev pub key_read : List Transaction → Read → Option ℕ
+key_read ts read = key_of (step_of (slice_get ts read.transaction) read.step)
+
+-- an element that an aborted transaction appended to the key that was read, or nobody
+abbrev pub of_append : List Transaction → Option ℕ → ℕ → Phenomenon
+of_append ts None element = It.Unwritten
+of_append ts (Some key) element = if list_any (is_aborted_append key element) ts then It.AbortedRead else It.Unwritten
+
+abbrev pub of_unwritten : List Transaction → Read → ℕ → Phenomenon
+of_unwritten ts read element = of_append ts (key_read ts read) element
+
+abbrev pub phenomenon_of : List Transaction → Reason → Phenomenon
+phenomenon_of ts (For.Internal read) = It.Internal
+phenomenon_of ts (For.Unrepeatable first second) = It.Unrepeatable
+phenomenon_of ts (For.Twice read element) = It.Twice
+phenomenon_of ts (For.Unwritten read element) = of_unwritten ts read element
+phenomenon_of ts (For.Future read element) = It.Future
+phenomenon_of ts (For.Intermediate read writer) = It.IntermediateRead
+phenomenon_of ts (For.Incompatible one other) = It.Incompatible
+phenomenon_of ts (For.Cycle links) = of_cycle links.items
