@@ -136,7 +136,8 @@ fn one_stream(tally: &mut Tally, stream: &[u8], worked: &Worked) -> Result<(), &
     Ok(())
 }
 
-fn source(text: &[u8]) -> Watched<Pieces<'_>> {
+/// Returns a source that gives a few bytes at a time.
+pub(crate) fn source(text: &[u8]) -> Watched<Pieces<'_>> {
     Watched::new(Pieces::new(text, MOST))
 }
 

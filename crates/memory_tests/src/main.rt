@@ -1,4 +1,5 @@
-//! Calls of the auditor, of the store and of its layers, of which one is refused memory. `scripts/memory.py` writes the
+//! Calls of the auditor, of the store and of its layers, and of the check of list-append histories, of which one is
+//! refused memory. `scripts/memory.py` writes the
 //! tests, refuses one growth after the other, and says how.
 //!
 //! Standard input holds tests. The first line of a test is a number n, a kind and a name; then come the texts that the
@@ -11,6 +12,7 @@
 mod courses;
 mod histories;
 mod layers;
+mod list_histories;
 mod marks;
 mod recorder;
 mod reply;
@@ -96,6 +98,7 @@ fn said_of(tally: &mut Tally, spare: Spare, name: &str, texts: &str) -> Result<(
     match kind {
         "script" => scripts::run(tally, spare, &Course::of(texts)?),
         "history" => histories::run(tally, spare, &Worked::of(texts)?),
+        "list-history" => list_histories::run(tally, texts),
         _ => said_of_store(tally, kind, texts),
     }
 }
