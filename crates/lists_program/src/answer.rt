@@ -1,9 +1,9 @@
 //! The answer, as people read it and as programs do.
 
 use crate::explanation::{appends_in_words, reason_in_words};
-use crate::phenomenon::{Phenomenon, name_of_link};
 use append_check::{Link, Reason, Verdict};
 use append_text::History;
+use lists_verdicts::{Phenomenon, name_of_link};
 use serde_json::{Value, json, push};
 use std::alloc::{AllocError, Global};
 

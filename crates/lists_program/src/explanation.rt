@@ -2,9 +2,9 @@
 
 use crate::cast::Cast;
 use crate::page::{Page, is_long};
-use crate::phenomenon::{appends, appends_in_vain};
 use append_check::{Kind, Link, Operation, Read, Reason};
 use append_text::History;
+use lists_verdicts::{appends, appends_in_vain};
 use std::alloc::{AllocError, Global};
 
 /// Says in words why no order explains the history, in lines that end with a line feed.

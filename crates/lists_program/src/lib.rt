@@ -7,12 +7,8 @@ mod arguments;
 mod cast;
 mod explanation;
 mod page;
-mod phenomenon;
 mod progress;
-mod status;
 mod tasks;
 
-pub use phenomenon::Phenomenon;
 pub use progress::Progress;
-pub use status::Status;
 pub use tasks::run;

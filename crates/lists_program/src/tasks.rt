@@ -3,11 +3,11 @@
 use crate::answer::{in_json, in_words};
 use crate::arguments::command_line;
 use crate::progress::{Counted, Progress, Reporter};
-use crate::status::Status;
 use append_check::{Verdict, check};
 use append_text::{History, ReadFault, read_edn, read_history, read_json};
 use clap::{ArgMatches, Error};
 use devices::{Source, Watched, put, put_number};
+use lists_verdicts::Status;
 use std::alloc::{AllocError, Global};
 use std::fs::Files;
 use std::io::{BufWriter, Write};

@@ -2,7 +2,7 @@
 
 ghost use Rattle.std.specs.Prelude.{◌≡◌};
 ghost use Rattle.std.specs.Process.{exit_status};
-ghost use Rattle.lists_program.specs.Meaning.Status.{code_of, status_of};
+ghost use Rattle.lists_verdicts.specs.Meaning.Status.{code_of, status_of};
 
 use append_check::Verdict;
 use std::process::ExitCode;

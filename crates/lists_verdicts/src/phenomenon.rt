@@ -2,7 +2,7 @@
 
 ghost use Rattle.std.specs.Prelude.{◌≡◌};
 ghost use Rattle.std.specs.List.{list_any};
-ghost use Rattle.lists_program.specs.Meaning.Phenomena as Spec;
+ghost use Rattle.lists_verdicts.specs.Meaning.Phenomena as Spec;
 
 use append_check::{Kind, Link, Operation, Outcome, Read, Reason, Transaction};
 
@@ -107,7 +107,7 @@ fn is_aborted_append(transactions: &[Transaction], key: u64, element: u64) -> bo
 }
 
 /// Returns whether the transaction aborted, and appends the element to the list of the key.
-pub(crate) fn appends_in_vain(transaction: &Transaction, key: u64, element: u64) -> bool
+pub fn appends_in_vain(transaction: &Transaction, key: u64, element: u64) -> bool
     ensures { result ≡ Spec.is_aborted_append key element transaction.now }
 {
     is_aborted(transaction.outcome) && is_appended(transaction.operations.as_slice(), key, element)
@@ -131,7 +131,7 @@ fn is_appended(operations: &[Operation], key: u64, element: u64) -> bool
 }
 
 /// Returns whether the step appends the element to the list of the key.
-pub(crate) fn appends(operation: &Operation, key: u64, element: u64) -> bool
+pub fn appends(operation: &Operation, key: u64, element: u64) -> bool
     ensures { result ≡ Spec.appends key element operation.now }
 {
     match operation {
@@ -176,7 +176,7 @@ fn is_read(link: &Link) -> bool
 
 /// Returns the name of a link by its kind: `ww` from a writer to the next one, `wr` from a writer to a reader, `rw` from
 /// a reader to a later writer.
-pub(crate) fn name_of_link(link: &Link) -> &'static str {
+pub fn name_of_link(link: &Link) -> &'static str {
     match link.kind {
         Kind::WriteWrite(_) => "ww",
         Kind::WriteRead(_) => "wr",

@@ -12,8 +12,8 @@ use Rattle.append_values.specs.declared.reason.Kind.{Kind}
 use Rattle.append_values.specs.declared.reason.Kind.TheVariants as By
 use Rattle.append_values.specs.declared.reason.Reason.{Reason}
 use Rattle.append_values.specs.declared.reason.Reason.TheVariants as For
-use Rattle.lists_program.specs.declared.phenomenon.Phenomenon.{Phenomenon}
-use Rattle.lists_program.specs.declared.phenomenon.Phenomenon.TheVariants as It
+use Rattle.lists_verdicts.specs.declared.phenomenon.Phenomenon.{Phenomenon}
+use Rattle.lists_verdicts.specs.declared.phenomenon.Phenomenon.TheVariants as It
 
 abbrev pub is_anti_kind : Kind → Bool
 is_anti_kind (By.ReadWrite read) = true

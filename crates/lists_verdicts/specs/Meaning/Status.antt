@@ -2,8 +2,8 @@
 use Rattle.std.specs.Prelude.{ℕ}
 use Rattle.append_check.specs.declared.verdict.Verdict.{Verdict}
 use Rattle.append_check.specs.declared.verdict.Verdict.TheVariants.{Serializable, NotSerializable, AppendedTwice}
-use Rattle.lists_program.specs.declared.status.Status.{Status}
-use Rattle.lists_program.specs.declared.status.Status.TheVariants.{Fine, Refused, Wrong, Failed}
+use Rattle.lists_verdicts.specs.declared.status.Status.{Status}
+use Rattle.lists_verdicts.specs.declared.status.Status.TheVariants.{Fine, Refused, Wrong, Failed}
 
 -- the number that the process ends with
 abbrev pub code_of : Status → ℕ
