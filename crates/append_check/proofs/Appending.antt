@@ -8,7 +8,7 @@ use Rattle.lemmas.proofs.Members.{none_contained, Contains-cases}
 use Rattle.lemmas.proofs.Counts.{count, count-append, count_same, count_other}
 use Rattle.append_values.specs.Meaning.Histories.{Operation, Append, Transaction, History, nothing}
 use Rattle.append_values.specs.Meaning.Reads.{appended, own, AppendersDiffer, AppendsOnce}
-use Rattle.append_values.proofs.Appended.{appended-append}
+use Rattle.append_values.proofs.AppendedElements.{appended-append}
 use Rattle.append_check.specs.declared.item.Item.{Item}
 use Rattle.append_check.specs.Machinery.Appending.{item, item_eq, times, count_in, all_appended, Tells, Adds}
 

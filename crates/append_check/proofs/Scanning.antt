@@ -13,7 +13,7 @@ use Rattle.append_values.specs.declared.reason.Reason.TheVariants.{Unwritten, Fu
 use Rattle.append_values.specs.Meaning.Histories.{Operation, Read as ReadOf, History, operation_of, outcome}
 use Rattle.append_values.specs.Meaning.Reads.{appended, own, AppendersDiffer}
 use Rattle.append_values.specs.Meaning.Reasons.{Holds}
-use Rattle.append_values.proofs.Appended.{appended-append}
+use Rattle.append_values.proofs.AppendedElements.{appended-append}
 use Rattle.append_laws.specs.Meaning.Laws.{BrokenBlocks}
 use Rattle.append_check.specs.declared.seen.Seen.{Seen}
 use Rattle.append_check.specs.Machinery.Seeing.{IsNoRead}

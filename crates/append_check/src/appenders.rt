@@ -7,6 +7,7 @@ ghost use Rattle.append_check.specs.Meaning.Verdicts.{history_of};
 ghost use Rattle.append_check.specs.Machinery.Appending.{item_eq, IsAdded, IsMade};
 
 use crate::item::Item;
+use append_search::Writers;
 use append_values::{Operation, Transaction};
 use std::alloc::{AllocError, Global};
 use std::collections::HashMap;
@@ -75,9 +76,10 @@ impl Appenders {
             None => Ok(None),
         }
     }
+}
 
-    /// Returns the transaction that appends the element to the list of the key.
-    pub fn appender(&self, key: u64, element: u64) -> Option<u32> {
+impl Writers for Appenders {
+    fn writer(&self, key: u64, element: u64) -> Option<u32> {
         self.by_item.get(&Item { key, element }).copied()
     }
 }

@@ -4,12 +4,12 @@ ghost use Rattle.std.specs.Prelude.{◌<◌, ◌^◌, length, IfOk};
 ghost use Rattle.append_check.specs.Meaning.Verdicts.{history_of, IsRight};
 
 use crate::appenders::{Appenders, Made};
-use crate::candidates::{Candidate, find_candidate};
 use crate::plain::decide;
 use crate::reasons::holds;
 use crate::replay::explains;
 use crate::verdict::Verdict;
 use append_laws::reasons_refute;
+use append_search::{Candidate, find_candidate};
 use append_values::Transaction;
 use std::alloc::{AllocError, Global};
 

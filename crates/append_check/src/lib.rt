@@ -3,20 +3,15 @@
 
 mod appenders;
 mod arcs;
-mod candidates;
 mod checker;
 mod item;
-mod lines;
-mod links;
 mod lists;
-mod own;
 mod pieces;
 mod plain;
 mod precedences;
 mod reasons;
 mod replay;
 mod seen;
-mod sorting;
 mod verdict;
 mod whole;
 mod writers;

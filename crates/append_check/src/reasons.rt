@@ -11,9 +11,9 @@ ghost use Rattle.append_check.specs.Meaning.Verdicts.{history_of};
 ghost use Rattle.append_check.specs.Machinery.Precedences.{IsNoWriteRead, IsNoReadWrite, IsNoWriteWrite};
 
 use crate::pieces::{begins_with, ends_with, first_of, has, has_block, lacks, meet, same, times};
-use crate::seen::{Seen, appended, look_at, own};
+use crate::seen::{Seen, look_at, own};
 use crate::writers::writer_of;
-use append_values::{Kind, Link, Operation, Outcome, Read, Reason, Transaction};
+use append_values::{Kind, Link, Operation, Outcome, Read, Reason, Transaction, appended};
 use std::alloc::{AllocError, Global};
 
 /// Returns true if the reason is there.

@@ -10,7 +10,7 @@ use Rattle.append_values.specs.declared.transaction.Outcome.TheVariants.{Committ
 use Rattle.append_values.specs.Meaning.Histories.{Operation, Read, History, outcome}
 use Rattle.append_values.specs.Meaning.Runs.{empty, AllClaims, Occurs, Explains}
 use Rattle.append_values.specs.Meaning.Reads.{appended, own, HasRead, IsPrefixOf}
-use Rattle.append_values.proofs.Appended.{appended-append}
+use Rattle.append_values.proofs.AppendedElements.{appended-append}
 use Rattle.append_laws.proofs.SerialReads.{read_at}
 use Rattle.append_laws.proofs.Places.{at}
 

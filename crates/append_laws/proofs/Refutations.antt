@@ -11,7 +11,7 @@ use Rattle.append_values.specs.declared.transaction.Outcome.TheVariants.{Committ
 use Rattle.append_values.specs.Meaning.Histories.{Operation, Read, History, outcome}
 use Rattle.append_values.specs.Meaning.Reads.{appended, own, HasRead, AppendersDiffer, AppendsOnce, IsPrefixOf}
 use Rattle.append_values.specs.Meaning.Reasons.{HasNoOrder}
-use Rattle.append_values.proofs.Appended.{appended-append}
+use Rattle.append_values.proofs.AppendedElements.{appended-append}
 use Rattle.append_laws.proofs.Prefixes.{both_begin}
 use Rattle.append_laws.proofs.Places.{at_contained}
 use Rattle.append_laws.proofs.Fronts.{once, aborted_never, placed, read_begins, source}

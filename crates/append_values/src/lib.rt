@@ -5,7 +5,9 @@
 #![tactic(auto)]
 
 mod reason;
+mod steps;
 mod transaction;
 
 pub use reason::{Kind, Link, Read, Reason};
+pub use steps::appended;
 pub use transaction::{Operation, Outcome, Transaction};

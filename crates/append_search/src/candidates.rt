@@ -1,16 +1,15 @@
 //! The search for an order, or for a reason against all.
 //!
-//! What is found is looked at once more before it is answered (`replay`, `reasons`), and if it fails, another search
-//! answers (`plain`). So no contract here says what is found.
+//! No contract says that what is found is right.
 
 ghost use Rattle.std.specs.Prelude.{IfOk, OnOk};
 ghost use Rattle.digraph.specs.Meaning.Graphs.{IsGraph};
 
-use crate::appenders::Appenders;
 use crate::lines::{Found, Lines};
 use crate::links::{Links, Reading, Sink};
 use crate::own::Owns;
 use crate::sorting::forward;
+use crate::writers::Writers;
 use append_values::{Kind, Link, Operation, Outcome, Read, Reason, Transaction};
 use digraph::{Arc, Outcome as Sorted, topological_order};
 use std::alloc::{AllocError, Global};
@@ -18,7 +17,7 @@ use std::collections::HashMap;
 
 /// What the search found.
 #[derive(Drop)]
-pub(crate) enum Candidate {
+pub enum Candidate {
     /// An order that should explain the history.
     Order(Vec<u32>),
     /// A reason for which no order should.
@@ -34,11 +33,12 @@ struct Search {
     readings: Vec<Reading>,
 }
 
-/// Looks for an order that explains the history, or a reason for which none does.
-pub(crate) fn find_candidate(
+/// Looks for an order that explains the history, or a reason for which none does; `AllocError` if memory runs out. The
+/// time it takes is nearly linear in the size of the history. Nothing is promised of what it finds.
+pub fn find_candidate<W: Writers>(
     alloc: Global,
     transactions: &[Transaction],
-    appenders: &Appenders,
+    writers: &W,
 ) -> Result<Candidate, AllocError> {
     let mut search = Search {
         alloc,
@@ -50,7 +50,7 @@ pub(crate) fn find_candidate(
     'transactions: for transaction in transactions {
         if transaction.outcome == Outcome::Committed {
             let operations = transaction.operations.as_slice();
-            if let Some(reason) = search.go_through(transactions, appenders, place, operations)? {
+            if let Some(reason) = search.go_through(transactions, writers, place, operations)? {
                 return Ok(Candidate::Reason(reason));
             }
         }
@@ -64,10 +64,10 @@ pub(crate) fn find_candidate(
 
 impl Search {
     // The steps of a committed transaction.
-    fn go_through(
+    fn go_through<W: Writers>(
         &mut self,
         transactions: &[Transaction],
-        appenders: &Appenders,
+        writers: &W,
         place: u32,
         operations: &[Operation],
     ) -> Result<Option<Reason>, AllocError> {
@@ -79,13 +79,7 @@ impl Search {
                         transaction: place,
                         step,
                     };
-                    let broken = self.read(
-                        transactions,
-                        appenders,
-                        *key,
-                        read,
-                        elements.as_slice(),
-                    )?;
+                    let broken = self.read(transactions, writers, *key, read, elements.as_slice())?;
                     if broken.is_some() {
                         return Ok(broken);
                     }
@@ -107,10 +101,10 @@ impl Search {
         Ok(())
     }
 
-    fn read(
+    fn read<W: Writers>(
         &mut self,
         transactions: &[Transaction],
-        appenders: &Appenders,
+        writers: &W,
         key: u64,
         read: Read,
         elements: &[u64],
@@ -129,7 +123,7 @@ impl Search {
         }
         own.reading = Some(self.readings.len());
         let length = base.len();
-        match self.lines.take(transactions, appenders, key, read, base)? {
+        match self.lines.take(transactions, writers, key, read, base)? {
             Found::Nothing(reason) => Ok(Some(reason)),
             Found::Blocks { line, writers } => {
                 self.readings.push(Reading {

@@ -1,5 +1,5 @@
 use Rattle.digraph.specs.Meaning.Graphs.{IsGraph}
-use Rattle.append_check.proofs.candidates.graph.Given as goal
+use Rattle.append_search.proofs.candidates.graph.Given as goal
 
 abbrev pub invariant-links : goal.invariant-links
 invariant-links l = IsGraph l.nodes.items l.arcs.items

@@ -1,8 +1,7 @@
 //! The lines of writers: for each key, the transactions whose elements were read, in the order of the longest list.
 
-use crate::appenders::Appenders;
-use crate::seen::own;
-use append_values::{Operation, Outcome, Read, Reason, Transaction};
+use crate::writers::Writers;
+use append_values::{Operation, Outcome, Read, Reason, Transaction, appended};
 use std::alloc::{AllocError, Global};
 use std::collections::HashMap;
 
@@ -146,10 +145,10 @@ impl Lines {
     }
 
     /// Takes in what a transaction found in the list of the key before its own appends.
-    pub fn take(
+    pub fn take<W: Writers>(
         &mut self,
         transactions: &[Transaction],
-        appenders: &Appenders,
+        writers: &W,
         key: u64,
         read: Read,
         base: &[u64],
@@ -161,7 +160,7 @@ impl Lines {
                 return Ok(Found::Nothing(Reason::Incompatible(read, line.source)));
             }
             if shared < base.len() {
-                let broken = self.extend(transactions, appenders, number, read, base)?;
+                let broken = self.extend(transactions, writers, number, read, base)?;
                 if let Some(reason) = broken {
                     return Ok(Found::Nothing(reason));
                 }
@@ -171,10 +170,10 @@ impl Lines {
     }
 
     /// Goes on with the line by the blocks that the read found after it. Returns a reason if it found something else.
-    fn extend(
+    fn extend<W: Writers>(
         &mut self,
         transactions: &[Transaction],
-        appenders: &Appenders,
+        writers: &W,
         number: usize,
         read: Read,
         base: &[u64],
@@ -187,7 +186,7 @@ impl Lines {
             let Some(next) = self.next_element(number, base) else {
                 return Ok(None);
             };
-            let writer = match self.next_writer(transactions, appenders, number, read, next) {
+            let writer = match self.next_writer(transactions, writers, number, read, next) {
                 Ok(writer) => writer,
                 Err(reason) => return Ok(Some(reason)),
             };
@@ -208,15 +207,15 @@ impl Lines {
 
     /// Returns the transaction that comes next in the line, as it appends this element of this key. Returns a reason if
     /// none can.
-    fn next_writer(
+    fn next_writer<W: Writers>(
         &self,
         transactions: &[Transaction],
-        appenders: &Appenders,
+        writers: &W,
         number: usize,
         read: Read,
         (key, element): (u64, u64),
     ) -> Result<u32, Reason> {
-        let Some(writer) = appenders.appender(key, element) else {
+        let Some(writer) = writers.writer(key, element) else {
             return Err(Reason::Unwritten(read, element));
         };
         if aborted(transactions, writer) {
@@ -243,7 +242,10 @@ impl Lines {
         let Some(line) = self.lines.get_mut(number) else {
             return Ok(None);
         };
-        let block = own(self.alloc, transactions, line.key, writer)?;
+        let Some(transaction) = transactions.get(writer as usize) else {
+            return Ok(None);
+        };
+        let block = appended(self.alloc, line.key, transaction.operations.as_slice())?;
         if !goes_on(base, line.chain.len(), block.as_slice()) {
             return Ok(Some(not_whole(self.alloc, read, base, writer)?));
         }

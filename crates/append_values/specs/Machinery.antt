@@ -1,0 +1,2 @@
+-- What single functions promise each other.
+pub mod Appended
