@@ -1,2 +1,3 @@
 -- What the promises mean.
+pub mod Names
 pub mod Steps

@@ -1,5 +1,8 @@
 //! Names of keys and elements.
 
+ghost use Rattle.std.specs.Prelude.{◌≡◌, option_map};
+ghost use Rattle.append_text.specs.Meaning.Names.{kept_name, name_of, named};
+
 use indexmap::IndexSet;
 use std::alloc::{AllocError, Global};
 
@@ -61,14 +64,27 @@ impl Names {
     }
 
     /// Returns the name with this number. `None` if it is odd and no name of the history has it.
-    pub fn name(&self, number: u64) -> Option<Name<'_>> {
+    pub fn name(&self, number: u64) -> Option<Name<'_>>
+        ensures { option_map name_of result ≡ named self.now.kept.keys number }
+    {
         if number % 2 == 0 {
             return Some(Name::Integer((number / 2) as i64));
         }
-        match self.kept.get_index((number / 2) as usize)? {
-            Kept::Integer(integer) => Some(Name::Integer(*integer)),
-            Kept::String(bytes) => Some(Name::String(bytes.as_slice())),
-            Kept::Keyword(bytes) => Some(Name::Keyword(bytes.as_slice())),
+        match self.kept.get_index((number / 2) as usize) {
+            Some(kept) => Some(kept.name()),
+            None => None,
+        }
+    }
+}
+
+impl Kept {
+    fn name(&self) -> Name<'_>
+        ensures { name_of result ≡ kept_name self.now }
+    {
+        match self {
+            Kept::Integer(integer) => Name::Integer(*integer),
+            Kept::String(bytes) => Name::String(bytes.as_slice()),
+            Kept::Keyword(bytes) => Name::Keyword(bytes.as_slice()),
         }
     }
 }

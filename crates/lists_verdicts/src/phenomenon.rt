@@ -54,7 +54,9 @@ impl Phenomenon {
     }
 
     /// Returns the name: that of Adya if it has one there.
-    pub fn name(self) -> &'static str {
+    pub fn name(self) -> &'static str
+        ensures { result.now ≡ Spec.name_of self }
+    {
         match self {
             Phenomenon::Internal => "internal",
             Phenomenon::Unrepeatable => "unrepeatable",
@@ -176,7 +178,9 @@ fn is_read(link: &Link) -> bool
 
 /// Returns the name of a link by its kind: `ww` from a writer to the next one, `wr` from a writer to a reader, `rw` from
 /// a reader to a later writer.
-pub fn name_of_link(link: &Link) -> &'static str {
+pub fn name_of_link(link: &Link) -> &'static str
+    ensures { result.now ≡ Spec.name_of_kind link.now.kind }
+{
     match link.kind {
         Kind::WriteWrite(_) => "ww",
         Kind::WriteRead(_) => "wr",

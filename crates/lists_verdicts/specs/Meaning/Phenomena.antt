@@ -1,5 +1,5 @@
 -- What a reason is an instance of (Adya 1999, sections 3.1 and 4.2).
-use Rattle.std.specs.Prelude.{ℕ, zero, suc, ◌==◌, ◌&&◌, Bool, true, false, List, Option, Some, None, count_by, slice_get, if◌then◌else◌}
+use Rattle.std.specs.Prelude.{ℕ, zero, suc, ◌==◌, ◌&&◌, Bool, true, false, List, Option, Some, None, count_by, slice_get, codes, if◌then◌else◌}
 use Rattle.std.specs.List.{list_any}
 use Rattle.append_values.specs.declared.transaction.Outcome.{Outcome}
 use Rattle.append_values.specs.declared.transaction.Outcome.TheVariants.{Committed, Aborted, Unknown}
@@ -85,3 +85,23 @@ phenomenon_of ts (For.Future read element) = It.Future
 phenomenon_of ts (For.Intermediate read writer) = It.IntermediateRead
 phenomenon_of ts (For.Incompatible one other) = It.Incompatible
 phenomenon_of ts (For.Cycle links) = of_cycle links.items
+
+abbrev pub name_of : Phenomenon → List ℕ
+name_of It.Internal = codes "internal"
+name_of It.Unrepeatable = codes "unrepeatable"
+name_of It.Twice = codes "twice"
+name_of It.Unwritten = codes "unwritten"
+name_of It.AbortedRead = codes "G1a"
+name_of It.Future = codes "future"
+name_of It.IntermediateRead = codes "G1b"
+name_of It.Incompatible = codes "incompatible"
+name_of It.WriteCycle = codes "G0"
+name_of It.InformationCycle = codes "G1c"
+name_of It.SingleAntiDependency = codes "G-single"
+name_of It.AntiDependencies = codes "G2"
+
+-- of a link, by its kind
+abbrev pub name_of_kind : Kind → List ℕ
+name_of_kind (By.WriteWrite read) = codes "ww"
+name_of_kind (By.WriteRead read) = codes "wr"
+name_of_kind (By.ReadWrite read) = codes "rw"
