@@ -6,34 +6,23 @@ use Rattle.adya_values.specs.Meaning.Events.{shown}
 use Rattle.ssi_versions.specs.Meaning.Chains.{chain_of}
 use Rattle.ssi_versions.specs.Meaning.Changes.{otherwise, entry_in, newest_within}
 use Rattle.ssi_conflict.specs.Computing.Steps.{smallest_ordered_pivot}
-use Rattle.ssi_conflict.specs.Meaning.Calls.{Call, Reads, IsAllowed, AreAllowed}
-use Rattle.ssi_conflict.specs.Meaning.Pairs.{IsOrderedPivot, IsSmallest}
-use Rattle.ssi_conflict.specs.declared.answer.Answer.{Answer as Judged}
-use Rattle.ssi_conflict.specs.declared.answer.Answer.TheVariants.{Safe as Clear, Unsafe as Pivot}
+use Rattle.ssi_conflict.specs.Meaning.Calls.{Call, Reads, AreAllowed}
 use Rattle.ssi_snapshot.specs.Meaning.Views as View
 use Rattle.ssi_snapshot.specs.Meaning.Views.{stamp_of, own}
 use Rattle.ssi_store.specs.Meaning.Acts.{Act, Gets, acts, act_by, operations}
-use Rattle.ssi_store.specs.Meaning.Courses.{Command as Do, Answer, Unsafe, Refused, Idle, Long, Memory, Course, Then, txn_after, next_txn}
+use Rattle.ssi_store.specs.Meaning.Courses.{Command as Do, Answer, Refused, Idle, Long, Memory, Course, Then, txn_after, next_txn}
 use Rattle.ssi_store.specs.Meaning.Replies.{reply, reply_for, may_run_out_of_memory, unless_pivot, got}
-use Rattle.ssi_store.specs.Meaning.Recording.{events, get_event}
+use Rattle.ssi_store.specs.Meaning.Recording.{get_event}
 use Rattle.ssi_store.specs.Meaning.Seeing.{changed, own_write, sees, snapshot, wrote}
 use Rattle.ssi_store.specs.Meaning.Standing.{Parts, StandsFor}
 use Rattle.ssi_store.specs.Meaning.Tracked.{tracked}
 use Rattle.ssi_store.specs.Machinery.Below.{Below}
-use Rattle.ssi_store.specs.Machinery.Ends.{IsEnd}
-use Rattle.ssi_store.specs.Machinery.Opens.{Sessions, open_at, number_of, AreCounted}
+use Rattle.ssi_store.specs.Machinery.Looks.{IsLook}
+use Rattle.ssi_store.specs.Machinery.Opens.{Sessions, open_at, number_of}
 use Rattle.ssi_store.specs.declared.open.Open.{Open}
 use Rattle.ssi_store.proofs.ChangesAllowed.{changed_installable, open_protected}
-use Rattle.ssi_store.proofs.NoPivot.{no_pivot}
-use Rattle.ssi_store.proofs.Opens.{open_got}
-use Rattle.ssi_store.proofs.PivotRules.{commit_order_rule}
-use Rattle.ssi_store.proofs.Steps.{settled, opened, idle, open_of, answer_memory, same_course, refused_same, worked}
+use Rattle.ssi_store.proofs.Steps.{settled, opened, idle, open_of, answer_memory, refused_same}
 use Rattle.ssi_store.proofs.TrackedCalls.{tracked_allowed}
-
--- an answer of a tracker that names no pivot
-pub safe_of : (a : Judged) → ((p : ℕ) → a ≡ Pivot p → ⊥) → a ≡ Clear
-safe_of Clear f = refl
-safe_of (Pivot p) f = absurd (f p refl)
 
 memory_may : (s k : List ℕ) (p : Option ℕ) (v : Option (List ℕ))
     → may_run_out_of_memory (Do.Get s k) (unless_pivot p (got v)) ≡ true
@@ -87,16 +76,6 @@ module _ {p : Parts} {next : ℕ} {es : Sessions} {c : Course} (st : StandsFor p
         ∙ cond-true {A = Answer} (nat_le 65535 (operations t log)) (Refused Long) unless
         (ap (nat_le 65535) (sym (open_of st s o at).count) ∙ le-leb 65535 o.operations long))))
 
-    -- the tracker is told of a get of a key that the transaction has not written
-    told_get : is_some (own k o.view) ≡ false
-        → tracked (Gets (number_of o) k ∷ acts c) ≡ Reads (number_of o) k k ∷ tracked (acts c)
-    told_get other = cond-false {A = List Call} (wrote t k log) (tracked log) (Reads t k k ∷ tracked log)
-        (sym (ap is_some ((open_of st s o at).own k)) ∙ other)
-
-    pub may_get : (u : ℕ) → u ≡ number_of o → is_some (own k o.view) ≡ false → IsAllowed (Reads u k k) (tracked (acts c))
-    may_get u same other = subst (λ n. IsAllowed (Reads n k k) (tracked log)) (sym same)
-        (subst AreAllowed (told_get other) allowed).0
-
     module _ (short : o.operations < 65535) where
       reply_is : reply smallest_ordered_pivot c (Do.Get s k) ≡ unless_pivot (smallest_ordered_pivot
           (tracked (Gets (number_of o) k ∷ acts c))) (got (shown (sees (number_of o) k (acts c))))
@@ -104,85 +83,54 @@ module _ {p : Parts} {next : ℕ} {es : Sessions} {c : Course} (st : StandsFor p
           ∙ cond-false {A = Answer} (nat_le 65535 (operations t log)) (Refused Long) unless
           (ap (nat_le 65535) (sym (open_of st s o at).count) ∙ lt-leb 65535 o.operations short)
 
-      pub get_memory : (told' : List Call → Type 0) (recorded' : List Event) → told' (tracked (acts c))
-          → recorded' ≡ p.recorded
-          → StandsFor (record p { told = told'; recorded = recorded' }) next es (Then c (Do.Get s k) (Refused Memory))
-      get_memory told' recorded' tells now =
-          refused_same (same_course st (record p { told = told'; recorded = recorded' }) (record {
-            commits = st.log.commits;
-            chains = st.log.chains;
-            tracker = tells;
-            events = now ∙ st.log.events;
-            opened = st.log.opened;
-            began = st.log.began;
-          })) (Do.Get s k) Memory refl
+      pub get_memory : StandsFor p next es (Then c (Do.Get s k) (Refused Memory))
+      get_memory =
+          refused_same st (Do.Get s k) Memory refl
           (answer_memory st (Do.Get s k) _ reply_is
           (memory_may s k (smallest_ordered_pivot (tracked (Gets t k ∷ log))) (shown (sees t k log))))
 
-      -- a get that a pivot forbids
-      pub get_ends : Below → (u n : ℕ) → u ≡ number_of o → is_some (own k o.view) ≡ false
-          → IsSmallest IsOrderedPivot (Reads u k k ∷ tracked (acts c)) (Some n) → IsEnd s u c (Do.Get s k) (Unsafe n)
-      get_ends b u n same other found =
-          let least = subst (λ y. IsSmallest IsOrderedPivot (Reads y k k ∷ tracked log) (Some n)) same found in
-          let named : smallest_ordered_pivot (tracked (Gets t k ∷ log)) ≡ Some n =
-          (b.named (tracked (Gets t k ∷ log)) allowed (Some n)).1
-          (subst (λ l. IsSmallest IsOrderedPivot l (Some n)) (sym (told_get other)) least) in
+      get_is : Below → (calls : List Call) → tracked (Gets (number_of o) k ∷ acts c) ≡ calls ++ tracked (acts c) → (e : Event)
+          → e ≡ get_event (number_of o) k (View.sees k o.view p.holds) → (a : Answer)
+          → a ≡ got (shown (View.sees k o.view p.holds)) → IsLook s (number_of o) calls e a c (Do.Get s k)
+      get_is b calls tells e event a answer =
+          let same : a ≡ got (shown (sees t k log)) = answer ∙ ap (λ w. got (shown w)) (sees_is b) in
           record {
+            act = Gets t k;
+            looks = refl;
             session = λ r. refl;
             txn = refl;
-            here = opened st s o at ∙ ap Some (sym same);
-            does = refl;
-            drops = λ x. refl;
-            next = refl;
+            here = opened st s o at;
             proper = refl;
-            answers = inl (sym (reply_is ∙ ap (λ y. unless_pivot y (got (shown (sees t k log)))) named));
+            told = tells;
+            allowed = allowed;
+            records = ap (λ w. get_event t k w ∷ []) (sym (sees_is b)) ∙ ap (λ x. x ∷ []) (sym event);
+            replies = reply_is ∙ ap (unless_pivot (smallest_ordered_pivot (tracked (Gets t k ∷ log)))) (sym same);
+            does = ap (act_by (Some t) (Do.Get s k)) same ∙ got_does t s k (shown (sees t k log));
+            keeps = λ y. ap (txn_after y) same ∙ got_keeps (shown (sees t k log)) y;
+            next = ap (λ x. next_txn (Then c (Do.Get s k) x)) same ∙ got_next c s k (shown (sees t k log));
+            aborts = λ n. refl;
+            memory = λ n. ap (λ x. may_run_out_of_memory (Do.Get s k) (unless_pivot n x)) same
+                ∙ memory_may s k n (shown (sees t k log));
           }
 
-      module _ (b : Below) (told' : List Call → Type 0) (recorded' : List Event) (fs : Sessions) (v : Option (List ℕ))
-          (counts : AreCounted s es fs) (is : v ≡ shown (View.sees k o.view p.holds))
-          (now : recorded' ≡ p.recorded ++ get_event (number_of o) k (View.sees k o.view p.holds) ∷ []) where
-        get_done : smallest_ordered_pivot (tracked (Gets (number_of o) k ∷ acts c)) ≡ None
-            → told' (tracked (Gets (number_of o) k ∷ acts c))
-            → StandsFor (record p { told = told'; recorded = recorded' }) next fs (Then c (Do.Get s k) (got v))
-        get_done none tells =
-            let u = counts o at in
-            worked st (record p { told = told'; recorded = recorded' }) fs s o u.0 (Gets t k) (Do.Get s k) (got v) at u.2
-            (ap View.txn_of u.1.view) (open_got k log o u.0 (open_of st s o at) u.1) refl (got_does t s k v) refl (got_keeps v)
-            (got_next c s k v)
-            (record {
-              commits = st.log.commits;
-              chains = st.log.chains;
-              tracker = tells;
-              events = now ∙ ap (λ l. l ++ get_event t k (View.sees k o.view p.holds) ∷ []) st.log.events
-                  ∙ ap (λ w. events log ++ get_event t k w ∷ []) (sees_is b);
-              opened = st.log.opened;
-              began = st.log.began;
-            }) refl
-            (inl (ap got (is ∙ ap shown (sees_is b))
-            ∙ sym (reply_is ∙ ap (λ y. unless_pivot y (got (shown (sees t k log)))) none)))
+      -- a get of a key that the transaction has not written
+      pub get_other : Below → (u : ℕ) → u ≡ number_of o → is_some (own k o.view) ≡ false → (e : Event)
+          → e ≡ get_event (number_of o) k (View.sees k o.view p.holds) → (a : Answer) → a ≡ got (shown (View.sees k o.view p.holds))
+          → IsLook s u (Reads u k k ∷ []) e a c (Do.Get s k)
+      get_other b u same other e event a answer =
+          subst (λ x. IsLook s x (Reads x k k ∷ []) e a c (Do.Get s k)) (sym same)
+          (get_is b (Reads t k k ∷ [])
+          (cond-false {A = List Call} (wrote t k log) (tracked log) (Reads t k k ∷ tracked log)
+          (sym (ap is_some ((open_of st s o at).own k)) ∙ other))
+          e event a answer)
 
-        -- a get that is answered from the own writes
-        pub get_own : is_some (own k o.view) ≡ true → told' (tracked (acts c))
-            → StandsFor (record p { told = told'; recorded = recorded' }) next fs (Then c (Do.Get s k) (got v))
-        get_own mine tells =
-            let same : tracked (Gets t k ∷ log) ≡ tracked log =
-            cond-true {A = List Call} (wrote t k log) (tracked log) (Reads t k k ∷ tracked log)
-            (sym (ap is_some ((open_of st s o at).own k)) ∙ mine) in
-            let rule = commit_order_rule b.begins b.aborts b.named in
-            let none : smallest_ordered_pivot (tracked log) ≡ None =
-            (b.named (tracked log) (tracked_allowed log (settled st).sound) None).1
-            (no_pivot IsOrderedPivot smallest_ordered_pivot rule log (settled st).sound (settled st).safe) in
-            get_done (ap smallest_ordered_pivot same ∙ none) (subst told' (sym same) tells)
-
-        -- a get that the tracker has recorded
-        pub get_read : (u : ℕ) → u ≡ number_of o → is_some (own k o.view) ≡ false
-            → IsSmallest IsOrderedPivot (Reads u k k ∷ tracked (acts c)) None → told' (Reads u k k ∷ tracked (acts c))
-            → StandsFor (record p { told = told'; recorded = recorded' }) next fs (Then c (Do.Get s k) (got v))
-        get_read u is_u other found told_u =
-            let least = subst (λ y. IsSmallest IsOrderedPivot (Reads y k k ∷ tracked log) None) is_u found in
-            let tells = subst (λ y. told' (Reads y k k ∷ tracked log)) is_u told_u in
-            let same = told_get other in
-            let none : smallest_ordered_pivot (tracked (Gets t k ∷ log)) ≡ None =
-            (b.named (tracked (Gets t k ∷ log)) allowed None).1
-            (subst (λ l. IsSmallest IsOrderedPivot l None) (sym same) least) in
-            get_done none (subst told' (sym same) tells)
+      -- a get that is answered from the own writes
+      pub get_own : Below → (u : ℕ) → u ≡ number_of o → is_some (own k o.view) ≡ true → (e : Event)
+          → e ≡ get_event (number_of o) k (View.sees k o.view p.holds) → (a : Answer) → a ≡ got (shown (View.sees k o.view p.holds))
+          → IsLook s u [] e a c (Do.Get s k)
+      get_own b u same mine e event a answer =
+          subst (λ x. IsLook s x [] e a c (Do.Get s k)) (sym same)
+          (get_is b []
+          (cond-true {A = List Call} (wrote t k log) (tracked log) (Reads t k k ∷ tracked log)
+          (sym (ap is_some ((open_of st s o at).own k)) ∙ mine))
+          e event a answer)

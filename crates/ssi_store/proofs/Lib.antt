@@ -36,6 +36,7 @@ pub mod Steps
 pub mod Begins
 pub mod Ends
 pub mod PutsAndDels
+pub mod Looks
 pub mod Gets
 pub mod Overtaking
 pub mod Commits

@@ -3,9 +3,10 @@ use Rattle.std.proofs.Common.{List, None, Option, Some, ap, false, true, if◌th
 use Rattle.std.proofs.lemmas.Bool.{cond-false, cond-true, le-leb, lt-leb, lt-ltb}
 use Rattle.adya_values.specs.Meaning.Events.{last}
 use Rattle.adya_values.specs.Meaning.Keys.{key_le, key_lt, lies_in}
-use Rattle.adya_values.specs.Meaning.Histories.{Entry, FinalPair}
+use Rattle.adya_values.specs.Meaning.Histories.{Entry, FinalPair, Scan as Listed}
 use Rattle.adya_values.specs.Meaning.Serial.{visible_pairs}
 use Rattle.ssi_conflict.specs.Computing.Steps.{smallest_ordered_pivot}
+use Rattle.ssi_conflict.specs.Meaning.Calls.{Reads}
 use Rattle.ssi_snapshot.specs.Meaning.Listings as Listing
 use Rattle.ssi_snapshot.specs.Meaning.Listings.{IsListing, up_to, within, key_or, reached}
 use Rattle.ssi_snapshot.specs.Meaning.Views as View
@@ -17,12 +18,12 @@ use Rattle.ssi_store.specs.Meaning.Standing.{Parts, StandsFor}
 use Rattle.ssi_store.specs.Meaning.Tracked.{tracked}
 use Rattle.ssi_store.specs.Machinery.Below.{Below}
 use Rattle.ssi_store.specs.Machinery.Opens.{Sessions, open_at, number_of}
-use Rattle.ssi_store.specs.Machinery.Scans.{IsScan}
+use Rattle.ssi_store.specs.Machinery.Looks.{IsLook}
 use Rattle.ssi_store.specs.declared.open.Open.{Open}
 use Rattle.ssi_store.proofs.Gets.{sees_is}
 use Rattle.adya_values.proofs.KeyOrder.{key_le-from_not}
 use Rattle.ssi_store.proofs.ReachedKeys.{reached_upward}
-use Rattle.ssi_store.proofs.Scans.{scan_listing}
+use Rattle.ssi_store.proofs.Scans.{scan_listing, scan_allowed}
 use Rattle.ssi_store.proofs.Steps.{opened, idle, open_of, answer_memory, refused_same}
 
 -- both definitions of how far a scan looked are the same
@@ -96,7 +97,7 @@ module _ {p : Parts} {next : ℕ} {es : Sessions} {c : Course} (st : StandsFor p
         pub first_is : Below → (u : ℕ) (to : List ℕ) (ws : List Entry) (rs : List FinalPair) → u ≡ number_of o
             → (all : List Entry) × IsListing (View.sees_between low high o.view p.holds) all × (ws ≡ up_to n all)
             → rs ≡ visible_pairs ws → to ≡ reached high n rs
-            → IsScan s u low to ws rs c (Do.ScanFirst s low high n)
+            → IsLook s u (Reads u low to ∷ []) (Listed u low to ws) (Rows rs) c (Do.ScanFirst s low high n)
         first_is b u to ws rs same seen shown far =
             let log = acts c in
             let whole : seen.0 ≡ scanned t low high log = b.unique (within low high (λ k. sees t k log)) seen.0
@@ -117,18 +118,24 @@ module _ {p : Parts} {next : ℕ} {es : Sessions} {c : Course} (st : StandsFor p
             ∙ b.unique (within low to (λ k. sees t k log)) (up_to n (scanned t low high log)) (scanned t low to log)
             (subst (λ x. IsListing (within low x (λ k. sees t k log)) (up_to n (scanned t low high log))) looked limited)
             (scan_listing t low to log) in
-            record {
+            subst (λ x. IsLook s x (Reads x low to ∷ []) (Listed x low to ws) (Rows rs) c (Do.ScanFirst s low high n)) (sym same)
+            (record {
+              act = Scans t low to;
+              looks = refl;
               session = λ r. refl;
               txn = refl;
-              here = opened st s o at ∙ ap Some (sym same);
+              here = opened st s o at;
               proper = proper;
-              upward = subst (λ x. key_le low x ≡ true) (sym end) (reached_upward t low high n log (key_le-from_not low high up));
-              lists = listed ∙ ap (λ x. scanned x low to log) (sym same);
+              told = refl;
+              allowed = scan_allowed st s t low to (opened st s o at)
+                  (subst (λ x. key_le low x ≡ true) (sym end) (reached_upward t low high n log (key_le-from_not low high up)));
+              records = ap (λ x. Listed t low to x ∷ []) (sym listed);
               replies = reply_short
                   ∙ ap (λ x. scan_answer smallest_ordered_pivot t log low x found) (sym end)
-                  ∙ ap (λ x. scan_answer smallest_ordered_pivot t log low to x) (sym rows_are)
-                  ∙ ap (λ x. scan_answer smallest_ordered_pivot x log low to rs) (sym same);
-              does = ap (λ x. Scans u low x ∷ []) (sym far);
+                  ∙ ap (λ x. scan_answer smallest_ordered_pivot t log low to x) (sym rows_are);
+              does = ap (λ x. Scans t low x ∷ []) (sym far);
+              keeps = λ y. refl;
+              next = refl;
               aborts = λ x. refl;
               memory = λ x. may x rs;
-            }
+            })

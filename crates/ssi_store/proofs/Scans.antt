@@ -1,35 +1,31 @@
 -- Scan and limited scan.
 use Rattle.std.specs.List.{Contains}
-use Rattle.std.proofs.Common.{List, None, Option, Some, ap, false, true, if◌then◌else◌, inl, inr, nat_le, option_map, refl, subst, sym, ◌≡◌, ◌⊎◌, ◌∷◌, ◌++◌, ◌<◌, ◌≤◌, ◌∙◌, ℕ, []}
+use Rattle.std.proofs.Common.{List, None, Option, Some, ap, false, true, if◌then◌else◌, inl, inr, nat_le, refl, subst, sym, ◌≡◌, ◌⊎◌, ◌∷◌, ◌<◌, ◌≤◌, ◌∙◌, ℕ, []}
 use Rattle.std.proofs.lemmas.Bool.{cases_Bool, cond-false, cond-true, le-leb, lt-leb}
-use Rattle.std.proofs.lemmas.Option.{none-some, same_Some}
-use Rattle.adya_values.specs.Meaning.Keys.{key_lt, lies_in}
-use Rattle.adya_values.specs.Meaning.Histories.{Entry, Event, FinalPair, Scan as Listed}
+use Rattle.std.proofs.lemmas.Option.{none-some}
+use Rattle.adya_values.specs.Meaning.Keys.{key_le, key_lt, lies_in}
+use Rattle.adya_values.specs.Meaning.Histories.{Entry, FinalPair, Scan as Listed}
 use Rattle.adya_values.specs.Meaning.Serial.{visible_pairs}
 use Rattle.ssi_conflict.specs.Computing.Steps.{smallest_ordered_pivot}
-use Rattle.ssi_conflict.specs.Meaning.Calls.{Call, Reads, IsAllowed, AreAllowed}
-use Rattle.ssi_conflict.specs.Meaning.Pairs.{IsOrderedPivot, IsSmallest}
+use Rattle.ssi_conflict.specs.Meaning.Calls.{Reads, AreAllowed}
 use Rattle.ssi_snapshot.specs.Meaning.Listings.{IsListing, within}
 use Rattle.ssi_snapshot.specs.Meaning.Views as View
-use Rattle.ssi_store.specs.Meaning.Acts.{Act, Scans, acts, act_by, operations}
-use Rattle.ssi_store.specs.Meaning.Courses.{Command, Command as Do, Answer, Rows, Unsafe, Refused, Idle, Range, Long, Memory, Course, Then}
+use Rattle.ssi_store.specs.Meaning.Acts.{Act, Scans, acts, operations}
+use Rattle.ssi_store.specs.Meaning.Courses.{Command as Do, Answer, Rows, Refused, Idle, Range, Long, Memory, Course, Then, txn_in}
 use Rattle.ssi_store.specs.Meaning.Replies.{may_run_out_of_memory, reply, reply_for, rows, scan_answer, unless_long, unless_downward, unless_pivot}
-use Rattle.ssi_store.specs.Meaning.Recording.{events}
 use Rattle.ssi_store.specs.Meaning.Seeing.{keys, scanned, sees}
 use Rattle.ssi_store.specs.Meaning.Standing.{Parts, StandsFor}
 use Rattle.ssi_store.specs.Meaning.Tracked.{tracked}
 use Rattle.ssi_store.specs.Machinery.Below.{Below}
-use Rattle.ssi_store.specs.Machinery.Ends.{IsEnd}
-use Rattle.ssi_store.specs.Machinery.Opens.{Sessions, open_at, number_of, AreCounted}
-use Rattle.ssi_store.specs.Machinery.Scans.{IsScan}
+use Rattle.ssi_store.specs.Machinery.Looks.{IsLook}
+use Rattle.ssi_store.specs.Machinery.Opens.{Sessions, open_at, number_of}
 use Rattle.ssi_store.specs.declared.open.Open.{Open}
 use Rattle.ssi_store.proofs.Gets.{sees_is}
 use Rattle.adya_values.proofs.KeyOrder.{key_le-from_not}
 use Rattle.ssi_store.proofs.Lists.{option_cases}
-use Rattle.ssi_store.proofs.Opens.{open_scanned}
 use Rattle.ssi_store.proofs.RisingKeys.{listed_made, made_rises}
 use Rattle.ssi_store.proofs.SeenByEvents.{sees_is as seen_key}
-use Rattle.ssi_store.proofs.Steps.{settled, opened, idle, open_of, answer_memory, same_course, refused_same, worked}
+use Rattle.ssi_store.proofs.Steps.{settled, opened, idle, open_of, answer_memory, refused_same}
 use Rattle.ssi_store.proofs.TrackedCalls.{tracked_allowed}
 use Rattle.ssi_store.proofs.OwnWrites.{keys_of_log_rise}
 
@@ -60,6 +56,11 @@ module _ (t : ℕ) (low high : List ℕ) (log : List Act) where
     rising = made_rises (λ w. w.version.key) shows own_key (keys log) (keys_of_log_rise log);
     each = λ k. listed_made shows own_key (keys log) k (there k);
   }
+
+pub scan_allowed : {p : Parts} {next : ℕ} {es : Sessions} {c : Course} (st : StandsFor p next es c) (s : List ℕ) (t : ℕ)
+    (low high : List ℕ) → txn_in s c ≡ Some t → key_le low high ≡ true → AreAllowed (tracked (Scans t low high ∷ acts c))
+scan_allowed {c = c} st s t low high here up =
+    tracked_allowed (Scans t low high ∷ acts c) (((settled st).opened s t here, up), (settled st).sound)
 
 module _ {p : Parts} {next : ℕ} {es : Sessions} {c : Course} (st : StandsFor p next es c) (s : List ℕ) where
   pub scan_idle : (low high : List ℕ) → open_at s es ≡ None
@@ -112,7 +113,7 @@ module _ {p : Parts} {next : ℕ} {es : Sessions} {c : Course} (st : StandsFor p
 
         pub scan_is : Below → (u : ℕ) (ws : List Entry) (rs : List FinalPair) → u ≡ number_of o
             → IsListing (View.sees_between low high o.view p.holds) ws → rs ≡ visible_pairs ws
-            → IsScan s u low high ws rs c (Do.Scan s low high)
+            → IsLook s u (Reads u low high ∷ []) (Listed u low high ws) (Rows rs) c (Do.Scan s low high)
         scan_is b u ws rs same found shown =
             let are : ws ≡ scanned t low high (acts c) = b.unique (within low high (λ k. sees t k (acts c))) ws
             (scanned t low high (acts c))
@@ -121,91 +122,26 @@ module _ {p : Parts} {next : ℕ} {es : Sessions} {c : Course} (st : StandsFor p
               each = λ k. found.each k
                   ∙ ap (λ w. if lies_in low high k then w else None) (sees_is st s k o at b);
             }) (scan_listing t low high (acts c)) in
-            record {
+            subst (λ x. IsLook s x (Reads x low high ∷ []) (Listed x low high ws) (Rows rs) c (Do.Scan s low high)) (sym same)
+            (record {
+              act = Scans t low high;
+              looks = refl;
               session = λ r. refl;
               txn = refl;
-              here = opened st s o at ∙ ap Some (sym same);
+              here = opened st s o at;
               proper = refl;
-              upward = key_le-from_not low high up;
-              lists = are ∙ ap (λ x. scanned x low high (acts c)) (sym same);
+              told = refl;
+              allowed = scan_allowed st s t low high (opened st s o at) (key_le-from_not low high up);
+              records = ap (λ x. Listed t low high x ∷ []) (sym are);
               replies = reply_short
-                  ∙ ap (λ x. scan_answer smallest_ordered_pivot t (acts c) low high x) (sym (shown ∙ ap visible_pairs are))
-                  ∙ ap (λ x. scan_answer smallest_ordered_pivot x (acts c) low high rs) (sym same);
+                  ∙ ap (λ x. scan_answer smallest_ordered_pivot t (acts c) low high x) (sym (shown ∙ ap visible_pairs are));
               does = refl;
+              keeps = λ y. refl;
+              next = refl;
               aborts = λ x. refl;
               memory = may;
-            }
+            })
           where
-            may : (x : Option ℕ) → may_run_out_of_memory (Do.Scan s low high)
-                (unless_pivot x (Rows rs)) ≡ true
+            may : (x : Option ℕ) → may_run_out_of_memory (Do.Scan s low high) (unless_pivot x (Rows rs)) ≡ true
             may None = refl
             may (Some n) = refl
-
-  -- what both kinds of scans share
-  module _ (t : ℕ) (low high : List ℕ) (ws : List Entry) (rs : List FinalPair) (m : Command)
-      (is : IsScan s t low high ws rs c m) where
-    allowed : AreAllowed (tracked (Scans t low high ∷ acts c))
-    allowed = tracked_allowed (Scans t low high ∷ acts c)
-        (((settled st).opened s t is.here, is.upward), (settled st).sound)
-
-    pub may_scan : IsAllowed (Reads t low high) (tracked (acts c))
-    may_scan = allowed.0
-
-    pub show_memory : (told' : List Call → Type 0) (recorded' : List Event) → told' (tracked (acts c))
-        → recorded' ≡ p.recorded
-        → StandsFor (record p { told = told'; recorded = recorded' }) next es (Then c m (Refused Memory))
-    show_memory told' recorded' tells now =
-        refused_same (same_course st (record p { told = told'; recorded = recorded' }) (record {
-          commits = st.log.commits;
-          chains = st.log.chains;
-          tracker = tells;
-          events = now ∙ st.log.events;
-          opened = st.log.opened;
-          began = st.log.began;
-        })) m Memory is.proper
-        (answer_memory st m _ is.replies (is.memory (smallest_ordered_pivot (tracked (Scans t low high ∷ acts c)))))
-
-    named : Below → (l : Option ℕ) → IsSmallest IsOrderedPivot (Reads t low high ∷ tracked (acts c)) l
-        → reply smallest_ordered_pivot c m ≡ unless_pivot l (Rows rs)
-    named b l least = is.replies ∙ ap (λ y. unless_pivot y (Rows rs))
-        ((b.named (tracked (Scans t low high ∷ acts c)) allowed l).1 least)
-
-    pub show_ends : Below → (n : ℕ) → IsSmallest IsOrderedPivot (Reads t low high ∷ tracked (acts c)) (Some n)
-        → IsEnd s t c m (Unsafe n)
-    show_ends b n least = record {
-      session = is.session;
-      txn = is.txn;
-      here = is.here;
-      does = is.aborts n;
-      drops = λ x. refl;
-      next = refl;
-      proper = is.proper;
-      answers = inl (sym (named b (Some n) least));
-    }
-
-    open_here : (o : Option Open) → open_at s es ≡ o → option_map number_of o ≡ Some t
-        → (v : Open) × (open_at s es ≡ Some v) × (number_of v ≡ t)
-    open_here None at e = absurd (none-some t e)
-    open_here (Some v) at e = (v, at, same_Some (number_of v) t e)
-
-    pub shown : Below → (told' : List Call → Type 0) (recorded' : List Event) (fs : Sessions) → AreCounted s es fs
-        → IsSmallest IsOrderedPivot (Reads t low high ∷ tracked (acts c)) None
-        → told' (Reads t low high ∷ tracked (acts c)) → recorded' ≡ p.recorded ++ Listed t low high ws ∷ []
-        → StandsFor (record p { told = told'; recorded = recorded' }) next fs (Then c m (Rows rs))
-    shown b told' recorded' fs counts least tells now =
-        let o = open_here (open_at s es) refl (st.txns s ∙ is.here) in
-        let u = counts o.0 o.1 in
-        let n : number_of o.0 ≡ t = o.2 in
-        worked st (record p { told = told'; recorded = recorded' }) fs s o.0 u.0 (Scans (number_of o.0) low high) m (Rows rs)
-        o.1 u.2 (ap View.txn_of u.1.view) (open_scanned low high (acts c) o.0 u.0 (open_of st s o.0 o.1) u.1) refl
-        (ap (λ x. act_by (Some x) m (Rows rs)) n ∙ is.does ∙ ap (λ x. Scans x low high ∷ []) (sym n)) is.txn (λ y. refl) refl
-        (record {
-          commits = st.log.commits;
-          chains = st.log.chains;
-          tracker = subst (λ x. told' (Reads x low high ∷ tracked (acts c))) (sym n) tells;
-          events = now ∙ ap (λ l. l ++ Listed t low high ws ∷ []) st.log.events
-              ∙ ap (λ l. events (acts c) ++ Listed t low high l ∷ []) is.lists
-              ∙ ap (λ x. events (acts c) ++ Listed x low high (scanned x low high (acts c)) ∷ []) (sym n);
-          opened = st.log.opened;
-          began = st.log.began;
-        }) is.proper (inl (sym (named b None least)))

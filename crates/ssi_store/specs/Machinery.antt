@@ -5,11 +5,11 @@
 -- Rosters: the numbers of open transactions.
 -- RosterRoom: the room of a roster.
 -- Overtaken: the keys by which a commit is refused.
--- Scans: what both kinds of scans share.
+-- Looks: what a get and both kinds of scans share.
 pub mod Below
 pub mod Opens
 pub mod Ends
 pub mod Rosters
 pub mod RosterRoom
 pub mod Overtaken
-pub mod Scans
+pub mod Looks

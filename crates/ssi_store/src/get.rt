@@ -1,9 +1,9 @@
 //! Get.
 
-ghost use Rattle.std.specs.Prelude.{◌≡◌, IfOk, option_map};
-ghost use Rattle.adya_values.specs.Meaning.Histories.{event_of, value_of};
+ghost use Rattle.std.specs.Prelude.{◌≡◌, IfOk};
 ghost use Rattle.adya_values.specs.Meaning.Events.{shown};
-ghost use Rattle.ssi_snapshot.specs.Meaning.Views.{txn_of, sees};
+ghost use Rattle.adya_values.specs.Meaning.Histories.{event_of};
+ghost use Rattle.ssi_snapshot.specs.Meaning.Views.{sees, txn_of};
 ghost use Rattle.ssi_store.specs.Meaning.Commands.{reply_of};
 ghost use Rattle.ssi_store.specs.Meaning.Recording.{get_event};
 ghost use Rattle.ssi_store.specs.Meaning.Replies.{got};
@@ -11,10 +11,8 @@ ghost use Rattle.ssi_store.specs.Meaning.Replies.{got};
 use crate::below::laws_below;
 use crate::engine::Engine;
 use crate::open::MAX_OPERATIONS;
-use crate::sessions::count_at;
 use crate::{Refusal, Reply, Session};
-use adya_values::{Content, Event, Key, Value};
-use ssi_conflict::Answer;
+use adya_values::{Content, Event, Key};
 use ssi_reads::Marks;
 use ssi_snapshot::View;
 use ssi_versions::Chains;
@@ -39,85 +37,44 @@ impl<C: Chains + Drop, M: Marks + Drop> Engine<C, M> {
         }
         let txn = open.view.txn();
         let owns = open.view.owns(key);
-        let value = value_seen(&open.view, &self.chains, key);
-        let Ok(event) = read_event(self.alloc, &open.view, &self.chains, key) else {
-            return Err(Refusal::Memory);
-        };
-        let Ok(()) = self.recorder.room() else {
+        let Ok((event, reply)) = look_up(self.alloc, &open.view, &self.chains, key) else {
             return Err(Refusal::Memory);
         };
         if owns {
-            self.recorder.event(event);
-            count_at(&mut self.sessions, session);
-            return Ok(reply_to(value));
+            return self.show_own(session, event, reply);
         }
-        let Ok(answer) = self.tracker.on_read(txn, key, key) else {
-            return Err(Refusal::Memory);
-        };
-        if let Answer::Unsafe { pivot } = answer {
-            self.drop_txn(session, txn);
-            return Ok(Reply::Unsafe { pivot });
-        }
-        self.recorder.event(event);
-        count_at(&mut self.sessions, session);
-        Ok(reply_to(value))
+        self.show(session, txn, key, key, event, reply)
     }
 }
 
-/// Returns the reply to a get.
-fn reply_to(value: Option<Value>) -> Reply
-    ensures { reply_of result ≡ got (option_map value_of value) }
-{
-    match value {
-        Some(value) => Reply::Value { value },
-        None => Reply::Absent,
-    }
-}
-
-/// Returns the value that the transaction sees.
-fn value_seen<C: Chains>(view: &View, chains: &C, key: Key) -> Option<Value>
-    ensures { option_map value_of result ≡ shown (sees key view.now (C.held chains.now)) }
-{
-    let entry = view.get(chains, key)?;
-    match entry.content {
-        Content::Live(value) => Some(value),
-        Content::Dead => None,
-    }
-}
-
-/// Returns the event of a get. A get that finds no value is a scan of the key alone.
-fn read_event<C: Chains>(
+/// Returns the event and the reply of a get. One that finds no value is recorded as a scan of the key alone.
+fn look_up<C: Chains>(
     alloc: Global,
     view: &View,
     chains: &C,
     key: Key,
-) -> Result<Event, AllocError>
-    ensures { IfOk result (λ e. event_of e ≡ get_event (txn_of view.now) key (sees key view.now (C.held chains.now))) }
+) -> Result<(Event, Reply), AllocError>
+    ensures event { IfOk result (λ r. event_of r.0 ≡ get_event (txn_of view.now) key (sees key view.now (C.held chains.now))) }
+    ensures reply { IfOk result (λ r. reply_of r.1 ≡ got (shown (sees key view.now (C.held chains.now)))) }
 {
     let txn = view.txn();
     let mut entries = Vec::new(alloc);
-    let Some(entry) = view.get(chains, key) else {
-        return Ok(Event::Scan {
-            txn,
-            lo: key,
-            hi: key,
-            entries,
-        });
-    };
-    match entry.content {
-        Content::Live(value) => Ok(Event::Read {
-            txn,
-            version: entry.version,
-            value,
-        }),
-        Content::Dead => {
-            entries.push(entry)?;
-            Ok(Event::Scan {
+    if let Some(entry) = view.get(chains, key) {
+        if let Content::Live(value) = entry.content {
+            let event = Event::Read {
                 txn,
-                lo: key,
-                hi: key,
-                entries,
-            })
+                version: entry.version,
+                value,
+            };
+            return Ok((event, Reply::Value { value }));
         }
+        entries.push(entry)?;
     }
+    let event = Event::Scan {
+        txn,
+        lo: key,
+        hi: key,
+        entries,
+    };
+    Ok((event, Reply::Absent))
 }

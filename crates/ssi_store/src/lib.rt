@@ -24,6 +24,7 @@ mod roster;
 mod scan;
 mod session;
 mod sessions;
+mod show;
 mod store;
 mod write;
 

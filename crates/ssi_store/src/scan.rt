@@ -1,6 +1,6 @@
 //! Scan and limited scan.
 
-ghost use Rattle.std.specs.Prelude.{◌≡◌, ◌++◌, ◌∷◌, [], ◌<◌, map, IfSome, IfOk, OnOk};
+ghost use Rattle.std.specs.Prelude.{◌≡◌, ◌++◌, ◌∷◌, [], map, IfOk, OnOk};
 ghost use Rattle.adya_values.specs.Meaning.Histories.{entry_of, final_of};
 ghost use Rattle.adya_values.specs.Meaning.Serial.{visible_pairs};
 ghost use Rattle.std.specs.Int.NonZero.{non_zero_u16_get};
@@ -9,10 +9,8 @@ ghost use Rattle.ssi_snapshot.specs.Meaning.Listings.{reached};
 use crate::below::laws_below;
 use crate::engine::Engine;
 use crate::open::MAX_OPERATIONS;
-use crate::sessions::count_at;
 use crate::{Refusal, Reply, Session};
-use adya_values::{Content, Entry, Event, FinalPair, Key, Txn};
-use ssi_conflict::Answer;
+use adya_values::{Content, Entry, Event, FinalPair, Key};
 use ssi_reads::Marks;
 use ssi_versions::Chains;
 use std::alloc::{AllocError, Global};
@@ -22,8 +20,6 @@ impl<C: Chains + Drop, M: Marks + Drop> Engine<C, M> {
     ghost use Rattle.ssi_store.specs.Meaning.Courses.{Course, Then, Command as Do};
     ghost use Rattle.ssi_store.specs.Meaning.Commands.{answer_of};
     ghost use Rattle.ssi_store.specs.Meaning.Standing.{IsAt};
-    ghost use Rattle.ssi_store.specs.Machinery.Opens.{open_at};
-    ghost use Rattle.ssi_store.specs.Machinery.Scans.{IsScan};
 
     /// Reads the keys from `lo` to `hi`, both included.
     pub(crate) fn scan(&mut self, session: Session, lo: Key, hi: Key) -> Result<Reply, Refusal>
@@ -46,7 +42,13 @@ impl<C: Chains + Drop, M: Marks + Drop> Engine<C, M> {
         let Ok(rows) = rows_of(self.alloc, entries.as_slice()) else {
             return Err(Refusal::Memory);
         };
-        self.show(session, txn, lo, hi, entries, rows)
+        let event = Event::Scan {
+            txn,
+            lo,
+            hi,
+            entries,
+        };
+        self.show(session, txn, lo, hi, event, Reply::Rows { rows })
     }
 
     /// Reads the keys from `lo` to `hi` up to a number of visible ones. If so many are found, the scan looked only as far
@@ -79,43 +81,13 @@ impl<C: Chains + Drop, M: Marks + Drop> Engine<C, M> {
             return Err(Refusal::Memory);
         };
         let last = reached(hi, n, rows.as_slice());
-        self.show(session, txn, lo, last, entries, rows)
-    }
-
-    /// Records a scan, and counts it, unless a pivot would stand.
-    fn show(
-        &mut self,
-        session: Session,
-        txn: Txn,
-        lo: Key,
-        hi: Key,
-        entries: Vec<Entry>,
-        rows: Vec<FinalPair>,
-    ) -> Result<Reply, Refusal>
-        requires { IfSome (open_at session self.old.sessions.entries) (λ o. o.operations < 65535) }
-        ensures stands { (c : Course) (m : Do) → IsAt C.held M.marked self.old c
-            → IsScan session txn lo hi (map entry_of entries.items) (map final_of rows.items) c m
-            → IsAt C.held M.marked self.new (Then c m (answer_of result)) }
-    {
-        laws_below();
-        let Ok(()) = self.recorder.room() else {
-            return Err(Refusal::Memory);
-        };
-        let Ok(answer) = self.tracker.on_read(txn, lo, hi) else {
-            return Err(Refusal::Memory);
-        };
-        if let Answer::Unsafe { pivot } = answer {
-            self.drop_txn(session, txn);
-            return Ok(Reply::Unsafe { pivot });
-        }
-        self.recorder.event(Event::Scan {
+        let event = Event::Scan {
             txn,
             lo,
-            hi,
+            hi: last,
             entries,
-        });
-        count_at(&mut self.sessions, session);
-        Ok(Reply::Rows { rows })
+        };
+        self.show(session, txn, lo, last, event, Reply::Rows { rows })
     }
 }
 

@@ -8,7 +8,7 @@ use Rattle.ssi_store.specs.Meaning.Acts.{acts}
 use Rattle.ssi_store.specs.Meaning.Courses.{Commit, Conflict, Unsafe}
 use Rattle.ssi_store.specs.Meaning.Tracked.{tracked}
 use Rattle.ssi_store.proofs.Commits.{commit_idle, commit_memory, found_conflict, conflict_ends, may_commit, commit_ends, committed, above_installed}
-use Rattle.ssi_store.proofs.Gets.{safe_of}
+use Rattle.ssi_store.proofs.Looks.{safe_of}
 use Rattle.ssi_store.proofs.Overtaking.{written_keys}
 use Rattle.ssi_store.proofs.RisingOpens.{below_without}
 use Rattle.ssi_store.proofs.Steps.{same_course}
