@@ -1,9 +1,9 @@
 //! Forms made of tokens.
 
-ghost use Rattle.std.specs.Prelude.{◌≡◌, ◌≢◌, ◌∷◌, ◌≤◌, [], None, Ok, length, IfOk, IfErr, OnOk, ◌⊎◌, option_map};
+ghost use Rattle.std.specs.Prelude.{◌≡◌, ◌≢◌, ◌∷◌, ◌≤◌, [], Some, None, Ok, length, map, IfOk, IfErr, OnOk, ◌⊎◌, option_map};
 ghost use Rattle.edn.specs.Meaning.Forms.{form_of};
 ghost use Rattle.edn.specs.Computing.Building as Spec;
-ghost use Rattle.edn.specs.Computing.Building.{Refuses, frame_of, map_frame, outer_of, stack_of};
+ghost use Rattle.edn.specs.Computing.Building.{Refuses, frame_of, map_frame, outer_of, row_frame, stack_of};
 ghost use Rattle.edn.specs.Computing.Tokens.{token_of};
 
 use crate::form::Form;
@@ -15,6 +15,14 @@ use std::mem;
 /// How deep collections, tags and `#_` may be nested.
 pub const MAX_DEPTH: usize = 64;
 
+/// A collection of single forms.
+#[derive(Clone, Copy)]
+enum Row {
+    List,
+    Vector,
+    Set,
+}
+
 /// What is open around the next token.
 #[derive(Drop)]
 enum Frame {
@@ -24,12 +32,8 @@ enum Frame {
     Tag,
     /// A `#_`, whose form is to come.
     Discard,
-    /// A list with these forms so far.
-    List(Vec<Form>),
-    /// A vector with these forms so far.
-    Vector(Vec<Form>),
-    /// A set with these forms so far.
-    Set(Vec<Form>),
+    /// A list, a vector or a set with these forms so far.
+    Row(Row, Vec<Form>),
     /// A map.
     Map(Entries),
 }
@@ -129,9 +133,9 @@ impl Builder {
         ensures { result ≡ Spec.problem_at (frame_of self.now.frame) bracket }
     {
         match (&self.frame, bracket) {
-            (Frame::List(_), Closing::Round) => None,
-            (Frame::Vector(_), Closing::Square) => None,
-            (Frame::Set(_), Closing::Curly) => None,
+            (Frame::Row(Row::List, _), Closing::Round) => None,
+            (Frame::Row(Row::Vector, _), Closing::Square) => None,
+            (Frame::Row(Row::Set, _), Closing::Curly) => None,
             (Frame::Map(_), Closing::Curly) => None,
             (Frame::Tag, _) => Some(Problem::NoForm),
             (Frame::Discard, _) => Some(Problem::NoForm),
@@ -172,15 +176,7 @@ impl Builder {
             ≡ (stack_of self.new, option_map form_of o)) }
     {
         match &mut self.frame {
-            Frame::List(forms) => {
-                forms.push(form)?;
-                Ok(None)
-            }
-            Frame::Vector(forms) => {
-                forms.push(form)?;
-                Ok(None)
-            }
-            Frame::Set(forms) => {
+            Frame::Row(_, forms) => {
                 forms.push(form)?;
                 Ok(None)
             }
@@ -203,11 +199,21 @@ impl Frame {
         ensures { option_map form_of result ≡ Spec.collection (frame_of self) }
     {
         match self {
-            Frame::List(forms) => Some(Form::List(forms)),
-            Frame::Vector(forms) => Some(Form::Vector(forms)),
-            Frame::Set(forms) => Some(Form::Set(forms)),
+            Frame::Row(row, forms) => Some(row.into_form(forms)),
             Frame::Map(entries) => entries.into_form(),
             Frame::Top | Frame::Tag | Frame::Discard => None,
+        }
+    }
+}
+
+impl Row {
+    fn into_form(self, forms: Vec<Form>) -> Form
+        ensures { Some (form_of result) ≡ Spec.collection (row_frame self (map form_of forms.items)) }
+    {
+        match self {
+            Row::List => Form::List(forms),
+            Row::Vector => Form::Vector(forms),
+            Row::Set => Form::Set(forms),
         }
     }
 }
@@ -239,9 +245,9 @@ fn opened(alloc: Global, bracket: Opening) -> Frame
     ensures { frame_of result ≡ Spec.opened bracket }
 {
     match bracket {
-        Opening::List => Frame::List(Vec::new(alloc)),
-        Opening::Vector => Frame::Vector(Vec::new(alloc)),
-        Opening::Set => Frame::Set(Vec::new(alloc)),
+        Opening::List => Frame::Row(Row::List, Vec::new(alloc)),
+        Opening::Vector => Frame::Row(Row::Vector, Vec::new(alloc)),
+        Opening::Set => Frame::Row(Row::Set, Vec::new(alloc)),
         Opening::Map => Frame::Map(Entries {
             entries: Vec::new(alloc),
             key: None,

@@ -3,6 +3,8 @@ use Rattle.std.specs.Prelude.{◌≡◌, ◌≤◌, List, [], ◌∷◌, ◌++�
 use Rattle.edn.specs.declared.builder.Builder.{Builder}
 use Rattle.edn.specs.declared.builder.Frame.{Frame as FrameValue}
 use Rattle.edn.specs.declared.builder.Frame.TheVariants as In
+use Rattle.edn.specs.declared.builder.Row.{Row}
+use Rattle.edn.specs.declared.builder.Row.TheVariants as Of
 use Rattle.edn.specs.declared.builder.Entries.{Entries}
 use Rattle.edn.specs.declared.form.Form.{Form as FormValue}
 use Rattle.edn.specs.declared.read_fault.Problem.{Problem}
@@ -32,13 +34,16 @@ pair_of p = (form_of p.0, form_of p.1)
 abbrev pub map_frame : Entries → Frame
 map_frame e = in_map (map pair_of e.entries.items) (option_map form_of e.key)
 
+abbrev pub row_frame : Row → List Form → Frame
+row_frame Of.List fs = in_list fs
+row_frame Of.Vector fs = in_vector fs
+row_frame Of.Set fs = in_set fs
+
 abbrev pub frame_of : FrameValue → Frame
 frame_of In.Top = top
 frame_of In.Tag = tagged
 frame_of In.Discard = discarding
-frame_of (In.List v) = in_list (map form_of v.items)
-frame_of (In.Vector v) = in_vector (map form_of v.items)
-frame_of (In.Set v) = in_set (map form_of v.items)
+frame_of (In.Row row v) = row_frame row (map form_of v.items)
 frame_of (In.Map e) = map_frame e
 
 -- the frames around the innermost one
