@@ -1,4 +1,3 @@
 -- What the promises mean.
 pub mod Status
-pub mod Arguments
 pub mod Fault

@@ -2,16 +2,12 @@
 //! and runs the store.
 #![tactic(auto)]
 
-mod arguments;
-mod command_line;
 mod fault;
-mod help;
 mod late_file;
 mod runs;
 mod status;
 mod tasks;
 
-pub use arguments::{NoTask, Task, given_arguments, task_of};
 pub use fault::Fault;
 pub use runs::{
     CommandsFault, ServingFault, carry_out_commands, judge_stream, judge_texts, order_text,

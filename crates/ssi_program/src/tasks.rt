@@ -4,7 +4,6 @@ ghost use Rattle.std.specs.Prelude.{◌≡◌, ◌≢◌, ◌⊎◌};
 ghost use Rattle.clap.specs.Words.{kind_of};
 ghost use Rattle.clap.specs.declared.error.kind.ErrorKind.TheVariants.{DisplayHelp, DisplayVersion};
 
-use crate::arguments::{NoTask, Task, given_arguments, task_of};
 use crate::fault::Fault;
 use crate::late_file::LateFile;
 use crate::runs::{
@@ -13,6 +12,7 @@ use crate::runs::{
 use crate::status::Status;
 use clap::Error;
 use devices::Watched;
+use ssi_arguments::{NoTask, Task, given_arguments, task_of};
 use std::fs::Files;
 use std::io::BufWriter;
 use std::net::Net;

@@ -2,7 +2,7 @@ use Rattle.std.proofs.Common.{◌≡◌, ◌∙◌, ℕ, List, Option, Some, Non
 use Rattle.std.specs.Prelude.{unwrap_or}
 use Rattle.clap.specs.Words.{found_of}
 use Rattle.clap.proofs.WalkLemmas.{first_value-rows}
-use Rattle.ssi_program.proofs.arguments.path.Goals as goal
+use Rattle.ssi_arguments.proofs.arguments.path.Goals as goal
 
 unwrap_or-map : {X Y : Type 0} (f : X → Y) (o : Option X) (x : X) → f (unwrap_or o x) ≡ unwrap_or (option_map f o) (f x)
 unwrap_or-map f None x = refl

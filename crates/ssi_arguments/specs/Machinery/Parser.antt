@@ -2,7 +2,7 @@
 use Rattle.std.specs.Prelude.{true, List, Option, Some, None, codes, unwrap_or, if◌then◌else◌}
 use Rattle.std.specs.Str.{bytes_eq}
 use Rattle.clap.specs.Words.{App, Row, Rule, Text, first_of, new_app, new_rule, with_rule, with_subcommand}
-use Rattle.ssi_program.specs.Meaning.Arguments.{Request, pipe, audit, order, script, serve}
+use Rattle.ssi_arguments.specs.Meaning.Arguments.{Request, pipe, audit, order, script, serve}
 
 -- a path that must be there
 abbrev pub file_rule : Text → Rule

@@ -7,7 +7,7 @@ use Rattle.clap.specs.Walk.{after_step, subcommand_met, to_positional}
 use Rattle.clap.specs.Simple.{Shape}
 use Rattle.clap.specs.Takes.{step_passes, turn_passes}
 use Rattle.clap.specs.Faults.{step_fault, turn_fault}
-use Rattle.ssi_program.specs.Meaning.Arguments.{is_plain}
+use Rattle.ssi_arguments.specs.Meaning.Arguments.{is_plain}
 
 -- a walk that waits for nothing
 abbrev pub at : Held → ℕ → Walk

@@ -1,7 +1,7 @@
 -- What the arguments ask for.
 use Rattle.std.specs.Prelude.{ℕ, ◌==◌, ◌&&◌, Bool, true, not, List, [], ◌∷◌, codes}
-use Rattle.ssi_program.specs.declared.arguments.Task.{Task}
-use Rattle.ssi_program.specs.declared.arguments.Task.TheVariants as task
+use Rattle.ssi_arguments.specs.declared.arguments.Task.{Task}
+use Rattle.ssi_arguments.specs.declared.arguments.Task.TheVariants as task
 
 -- to audit the two texts on standard input, to audit a history and a certificate, to order a history, to carry out the
 -- commands on standard input, or to carry out those of a socket's connections; the last two write a history and a

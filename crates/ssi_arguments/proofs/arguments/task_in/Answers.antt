@@ -1,7 +1,7 @@
 use Rattle.std.proofs.Common.{refl}
 use Rattle.clap.specs.Words.{found_of, rows_of}
-use Rattle.ssi_program.proofs.Subcommands.{rows_of_subcommand}
-use Rattle.ssi_program.proofs.arguments.task_in.Goals as goal
+use Rattle.ssi_arguments.proofs.Subcommands.{rows_of_subcommand}
+use Rattle.ssi_arguments.proofs.arguments.task_in.Goals as goal
 
 pub returns-in-Some : goal.returns-in-Some
 returns-in-Some c =

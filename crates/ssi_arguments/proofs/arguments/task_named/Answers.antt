@@ -1,5 +1,5 @@
 use Rattle.std.proofs.Common.{rules}
-use Rattle.ssi_program.proofs.arguments.task_named.Goals as goal
+use Rattle.ssi_arguments.proofs.arguments.task_named.Goals as goal
 
 pub returns-in-script : goal.returns-in-script
 returns-in-script c = search rules

@@ -3,7 +3,7 @@
 ghost use Rattle.std.specs.Prelude.{◌≡◌, false, IfOk};
 ghost use Rattle.clap.specs.Words.{app_of, rule_of, with_subcommand};
 ghost use Rattle.clap.specs.declared.builder.command.Command.TheViews.{out-Command as fields_of};
-ghost use Rattle.ssi_program.specs.Machinery.Parser.{file_rule, audit_app, order_app, script_app, serve_app, ssi_app};
+ghost use Rattle.ssi_arguments.specs.Machinery.Parser.{file_rule, audit_app, order_app, script_app, serve_app, ssi_app};
 
 use crate::help;
 use clap::{Arg, Command};

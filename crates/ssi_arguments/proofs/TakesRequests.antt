@@ -8,11 +8,11 @@ use Rattle.clap.specs.Simple.{Shape, entered, is_simple, subcommand_of}
 use Rattle.clap.specs.Takes.{built_takes, default_passes, is_valid, level_passes, settle_passes, takes, turn_passes}
 use Rattle.clap.specs.Takes.{walk_passes}
 use Rattle.clap.proofs.OnLiterals.{clap_on_literals}
-use Rattle.ssi_program.specs.Meaning.Arguments.{Request, pipe, audit, order, script, serve, are_plain, is_plain, arguments_of}
-use Rattle.ssi_program.specs.Machinery.Parser.{request_in, ssi_app}
-use Rattle.ssi_program.proofs.CommandWalks.{audits, names, orders, pairs, parser, scripts, serves, top_walk}
-use Rattle.ssi_program.proofs.CommandWalks.{stops_at_audit, stops_at_order, stops_at_script, stops_at_serve}
-use Rattle.ssi_program.proofs.PlainArguments.{at, turn_passes-plain, walked-plain}
+use Rattle.ssi_arguments.specs.Meaning.Arguments.{Request, pipe, audit, order, script, serve, are_plain, is_plain, arguments_of}
+use Rattle.ssi_arguments.specs.Machinery.Parser.{request_in, ssi_app}
+use Rattle.ssi_arguments.proofs.CommandWalks.{audits, names, orders, pairs, parser, scripts, serves, top_walk}
+use Rattle.ssi_arguments.proofs.CommandWalks.{stops_at_audit, stops_at_order, stops_at_script, stops_at_serve}
+use Rattle.ssi_arguments.proofs.PlainArguments.{at, turn_passes-plain, walked-plain}
 
 pub simple : is_simple ssi_app ≡ true
 unfolding clap_on_literals

@@ -6,8 +6,8 @@ use Rattle.std.specs.List.{fold}
 use Rattle.clap.specs.Walk.{Names, Rule, Text, Walk, nothing_held, walk, walked}
 use Rattle.clap.specs.Simple.{App, Shape, built, names_of}
 use Rattle.clap.proofs.OnLiterals.{clap_on_literals}
-use Rattle.ssi_program.specs.Machinery.Parser.{ssi_app}
-use Rattle.ssi_program.proofs.PlainArguments.{at}
+use Rattle.ssi_arguments.specs.Machinery.Parser.{ssi_app}
+use Rattle.ssi_arguments.proofs.PlainArguments.{at}
 
 abbrev pub parser : App
 parser = built ssi_app

@@ -1,11 +1,11 @@
 use Rattle.std.proofs.Common.{◌∙◌, ap, sym, map, string_bytes, Result, Ok, Err, MatchResult}
 use Rattle.std.specs.Prelude.{IsErrAnd}
 use Rattle.clap.specs.Words.{fault_of, is_simple, is_simple_and_free, subcommand_of, takes}
-use Rattle.ssi_program.specs.Machinery.Parser.{request_in}
-use Rattle.ssi_program.specs.Meaning.Arguments.{arguments_of}
-use Rattle.ssi_program.proofs.NoOtherRequests.{asks_request, simple_and_free}
-use Rattle.ssi_program.proofs.TakesRequests.{simple, takes_request}
-use Rattle.ssi_program.proofs.arguments.task_of.Goals as goal
+use Rattle.ssi_arguments.specs.Machinery.Parser.{request_in}
+use Rattle.ssi_arguments.specs.Meaning.Arguments.{arguments_of}
+use Rattle.ssi_arguments.proofs.NoOtherRequests.{asks_request, simple_and_free}
+use Rattle.ssi_arguments.proofs.TakesRequests.{simple, takes_request}
+use Rattle.ssi_arguments.proofs.arguments.task_of.Goals as goal
 
 told : {X E : Type 0} (r : Result X E) (A B : Type 0) (P : X → Type 0) (Q R : E → Type 0) → A
     → IsErrAnd r (λ e. (A → Q e) × (B → R e)) → MatchResult r P Q

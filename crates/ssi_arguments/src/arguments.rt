@@ -3,9 +3,9 @@
 ghost use Rattle.std.specs.Prelude.{◌≡◌, ◌≢◌, true, map, drop, string_bytes, IfOk, MatchResult};
 ghost use Rattle.clap.specs.Words.{rows_of, found_of, kind_of, subcommand_rows_of};
 ghost use Rattle.clap.specs.declared.error.kind.ErrorKind.TheVariants.{OutOfMemory};
-ghost use Rattle.ssi_program.specs.Machinery.Parser.{path_in, request_in, request_named};
-ghost use Rattle.ssi_program.specs.Meaning.Arguments.{Request, request_of, arguments_of, are_plain};
-ghost use Rattle.ssi_program.specs.declared.arguments.NoTask.TheVariants.{Text, Memory};
+ghost use Rattle.ssi_arguments.specs.Machinery.Parser.{path_in, request_in, request_named};
+ghost use Rattle.ssi_arguments.specs.Meaning.Arguments.{Request, request_of, arguments_of, are_plain};
+ghost use Rattle.ssi_arguments.specs.declared.arguments.NoTask.TheVariants.{Text, Memory};
 
 use crate::command_line::command_line;
 use clap::error::ErrorKind;

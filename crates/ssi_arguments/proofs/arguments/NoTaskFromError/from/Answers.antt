@@ -1,5 +1,5 @@
 use Rattle.std.proofs.Common.{rules}
-use Rattle.ssi_program.proofs.arguments.NoTaskFromError.from.Goals as goal
+use Rattle.ssi_arguments.proofs.arguments.NoTaskFromError.from.Goals as goal
 
 pub returns-in_default : goal.returns-in_default
 returns-in_default c = search rules

@@ -1,6 +1,6 @@
 use Rattle.clap.specs.Words.{app_of}
-use Rattle.ssi_program.proofs.Subcommands.{with_both}
-use Rattle.ssi_program.proofs.command_line.with_audits.Goals as goal
+use Rattle.ssi_arguments.proofs.Subcommands.{with_both}
+use Rattle.ssi_arguments.proofs.command_line.with_audits.Goals as goal
 
 pub returns : goal.returns
 returns c =

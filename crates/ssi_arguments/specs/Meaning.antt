@@ -1,0 +1,2 @@
+-- What the promises mean.
+pub mod Arguments

@@ -1,0 +1,8 @@
+//! The arguments of the program `ssi`, and what they ask for.
+#![tactic(auto)]
+
+mod arguments;
+mod command_line;
+mod help;
+
+pub use arguments::{NoTask, Task, given_arguments, task_of};
