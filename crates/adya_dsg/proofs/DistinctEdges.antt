@@ -59,12 +59,11 @@ inserted ks e =
     push_unless-plain (list_any (same e) ks) ks e ∙
     ap (λ b. cond b (map edge_of ks) (map edge_of ks ++ edge_of e ∷ [])) (any_same-plain e ks)
 
--- what holds of a list of edges holds of its copy
+-- the edges of a copy
 pub copied : {E : Type 0} (r : Result (Vec EdgeValue Global) E) (ks : List EdgeValue) (es : List Edge)
-    (holds : List Edge → Type 0) → IfOk r (λ v. v.items ≡ ks) → map edge_of ks ≡ es → holds es
-    → IfOk r (λ v. holds (map edge_of v.items))
-copied (Ok v) ks es holds same plain held = subst holds (sym (ap (map edge_of) same ∙ plain)) held
-copied (Err e) ks es holds same plain held = tt
+    → IfOk r (λ v. v.items ≡ ks) → map edge_of ks ≡ es → IfOk r (λ v. map edge_of v.items ≡ es)
+copied (Ok v) ks es same plain = ap (map edge_of) same ∙ plain
+copied (Err e) ks es same plain = tt
 
 -- loops that add the edges of each item: what one turn adds comes off what is left to add
 module _ {X Y : Type 0} (view : Y → X) (ys : List Y) (i : ℕ) (y : Y) (l : i < length ys) (at : y ≡ get_or ys i y)

@@ -12,4 +12,3 @@ pub mod SerialReaders
 pub mod TextLaws
 pub mod WrittenTexts
 pub mod HaveTexts
-pub mod Buffers

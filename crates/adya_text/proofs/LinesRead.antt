@@ -8,7 +8,7 @@ use Rattle.std.proofs.KnownBytes.{Consumes-nil, Consumes-trans, prepend_known-ni
 use Rattle.adya_text.specs.Meaning.Texts.{with_ends}
 use Rattle.adya_line.specs.Meaning.Laws.{IsPlain}
 use Rattle.adya_text.specs.Meaning.Faults.{IsCut, HasFront}
-use Rattle.adya_text.specs.Machinery.Buffers.{line_end}
+use Rattle.devices.specs.Meaning.Lines.{line_end}
 use Rattle.adya_text.specs.Machinery.LongLines.{HasStart}
 use Rattle.adya_text.proofs.LineLists.{ends_append}
 

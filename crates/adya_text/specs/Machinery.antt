@@ -1,5 +1,5 @@
 -- What only this crate's loops and tables need.
-pub mod Buffers
+pub mod LineFaults
 pub mod LongLines
 pub mod HistoryReaders
 pub mod SerialReaders

@@ -3,17 +3,13 @@
 ghost use Rattle.std.specs.Prelude.{◌≡◌, ◌≢◌, ◌↔◌, ◌⊎◌, ℕ, ◌+◌, ◌*◌, ◌<◌, ◌≤◌, List, [], ◌∷◌, ◌++◌, length, All, true};
 ghost use Rattle.std.specs.Prelude.{false, if◌then◌else◌, IfOk, OnOk, IfSome, IsErrOf, IsTrue, slice_range};
 ghost use Rattle.std.specs.Io.KnownBytes.{Consumes, IsAtEnd, prepend_known};
-ghost use Rattle.adya_text.specs.Machinery.Buffers.{work_left, line_end};
+ghost use Rattle.devices.specs.Meaning.Lines.{work_left, line_end};
 ghost use Rattle.adya_text.specs.Machinery.LongLines.{IsLonger};
 
-use devices::Source;
-use memchr::memchr;
+use devices::{LineBuffer, Source, SourceFault};
 use std::alloc::AllocError;
 use std::marker::Model;
 use thiserror::Error;
-
-/// The most bytes of one read.
-const ROOM: usize = 8192;
 
 /// Why no line came.
 #[derive(Clone, Copy, Debug, PartialEq, Eq, Error, Drop)]
@@ -26,35 +22,39 @@ pub(crate) enum LineFault {
     Memory,
 }
 
-/// The bytes that were read from a source, and not yet taken as lines. One buffer belongs to one source.
+impl From<SourceFault> for LineFault {
+    ghost use Rattle.adya_text.specs.declared.lines.LineFault.TheVariants.{Device};
+
+    ghost from_gives = { λ _ e. e ≡ Device };
+
+    fn from(_: SourceFault) -> LineFault {
+        LineFault::Device
+    }
+}
+
+/// The lines of a source, of which these bytes were read and not yet taken. It belongs to one source.
 #[derive(Drop)]
-pub(crate) struct LineBuffer {
-    bytes: [u8; ROOM],
-    start: usize,
-    end: usize,
+pub(crate) struct Lines {
+    buffer: LineBuffer,
     /// Whether the last line was given up before it ended.
     is_cut: bool,
 }
 
-impl Model for LineBuffer {
-    ghost use Rattle.std.specs.Prelude.{List, ℕ, ◌≤◌, slice_range};
+impl Model for Lines {
+    ghost use Rattle.std.specs.Prelude.{List, ℕ};
 
     ghost Value = { List ℕ };
 
-    ghost view = { λ b. slice_range b.bytes b.start b.end };
-
-    ghost invariant = { λ b. (b.start ≤ b.end) × (b.end ≤ 8192) };
+    ghost view = { λ l. l.buffer };
 }
 
-impl LineBuffer {
-    /// A buffer for a source of which nothing was read.
-    pub(crate) fn new() -> LineBuffer
+impl Lines {
+    /// The lines of a source of which nothing was read.
+    pub(crate) fn new() -> Lines
         ensures { result ≡ [] }
     {
-        LineBuffer {
-            bytes: [0; ROOM],
-            start: 0,
-            end: 0,
+        Lines {
+            buffer: LineBuffer::new(),
             is_cut: false,
         }
     }
@@ -68,44 +68,21 @@ impl LineBuffer {
         ensures less { IfOk result (λ ended. ended ≡ true → length self.new < length self.old) }
         ensures short { OnOk result (length line.new.items ≤ length line.old.items + 8192) }
     {
-        let pending = &self.bytes[self.start..self.end];
-        match memchr(b'\n', pending) {
-            Some(at) => {
-                line.extend_from_slice(&pending[..at])?;
-                self.start += at + 1;
-                Ok(true)
-            }
-            None => {
-                line.extend_from_slice(pending)?;
-                self.start = self.end;
-                Ok(false)
-            }
-        }
+        let (front, ended) = self.buffer.front();
+        line.extend_from_slice(front)?;
+        let count = front.len();
+        self.buffer.take(count, ended);
+        Ok(ended)
     }
 
-    /// Reads more bytes after all were taken. Returns whether any came.
-    fn fill<S: Source>(&mut self, source: &mut S) -> Result<bool, LineFault>
-        requires { self.old ≡ [] }
-        ensures bytes { OnOk result (Consumes (S.remaining source.old) (S.remaining source.new) self.new) }
-        ensures short { length self.new ≤ 8192 }
-        ensures end { IfOk result (λ some. some ≡ false → (self.new ≡ []) × IsAtEnd (S.remaining source.new)) }
-        ensures fault { IsErrOf result LineFault.Device ↔ (S.is_failed source.new ≡ true) }
-        ensures memory { IsErrOf result LineFault.Memory → ⊥ }
-        ensures works { OnOk result (S.is_failed source.new ≡ false) }
-        ensures kept { S.is_failed source.old ≡ true → S.is_failed source.new ≡ true }
-        ensures less { IfOk result (λ some. some ≡ true → S.left source.new < S.left source.old) }
-        ensures no_more { S.left source.new ≤ S.left source.old }
-        ensures stream { S.same source.old source.new }
+    /// Drops the bytes up to the next line feed, and the line feed. Returns whether there was one.
+    fn drop_line(&mut self) -> bool
+        ensures { result ≡ false → self.new ≡ [] }
     {
-        self.start = 0;
-        self.end = 0;
-        match source.pull(&mut self.bytes) {
-            Ok(n) => {
-                self.end = n;
-                Ok(n != 0)
-            }
-            Err(_) => Err(LineFault::Device),
-        }
+        let (front, ended) = self.buffer.front();
+        let count = front.len();
+        self.buffer.take(count, ended);
+        ended
     }
 
     /// Reads the next line, without its line feed, in place of what `line` held; it may have any length if `longest` is
@@ -142,7 +119,7 @@ impl LineBuffer {
                 self.is_cut = true;
                 return Ok(false);
             }
-            if !self.fill(source)? {
+            if !self.buffer.fill(source)? {
                 return Ok(false);
             }
         }
@@ -157,14 +134,11 @@ impl LineBuffer {
         ensures stream { S.same source.old source.new }
     {
         while self.is_cut {
-            let pending = &self.bytes[self.start..self.end];
-            if let Some(at) = memchr(b'\n', pending) {
-                self.start += at + 1;
+            if self.drop_line() {
                 self.is_cut = false;
                 return Ok(());
             }
-            self.start = self.end;
-            if !self.fill(source)? {
+            if !self.buffer.fill(source)? {
                 return Ok(());
             }
         }

@@ -41,7 +41,7 @@ impl From<AllocError> for ReadFault {
 }
 
 impl From<LineFault> for ReadFault {
-    ghost use Rattle.adya_text.specs.Machinery.Buffers.{fault_of};
+    ghost use Rattle.adya_text.specs.Machinery.LineFaults.{fault_of};
 
     ghost from_gives = { λ e f. f ≡ fault_of e };
 

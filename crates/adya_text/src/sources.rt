@@ -10,7 +10,7 @@ ghost use Rattle.adya_text.specs.Meaning.Streams.{history_part, serial_part};
 
 use crate::history_reader::HistoryReader;
 use crate::line_reader::LineReader;
-use crate::lines::LineBuffer;
+use crate::lines::Lines;
 use crate::read_fault::ReadFault;
 use crate::serial_reader::SerialReader;
 use adya_line::is_tail;
@@ -35,10 +35,10 @@ pub fn read_history_from<S: Source>(alloc: Global, source: &mut S) -> Result<His
     ensures stream { S.same source.old source.new }
 {
     history_lines();
-    let mut buffer = LineBuffer::new();
-    let read = read_rest(alloc, HistoryReader::new(alloc), &mut buffer, source);
+    let mut lines = Lines::new();
+    let read = read_rest(alloc, HistoryReader::new(alloc), &mut lines, source);
     if read.is_err() {
-        buffer.pass_over(source)?;
+        lines.pass_over(source)?;
     }
     read
 }
@@ -59,10 +59,10 @@ pub fn read_serial_from<S: Source>(alloc: Global, source: &mut S) -> Result<Seri
     ensures stream { S.same source.old source.new }
 {
     serial_lines();
-    let mut buffer = LineBuffer::new();
-    let read = read_rest(alloc, SerialReader::new(alloc), &mut buffer, source);
+    let mut lines = Lines::new();
+    let read = read_rest(alloc, SerialReader::new(alloc), &mut lines, source);
     if read.is_err() {
-        buffer.pass_over(source)?;
+        lines.pass_over(source)?;
     }
     read
 }
@@ -80,8 +80,8 @@ pub fn read_history_early<S: Source>(alloc: Global, source: &mut S) -> Result<Hi
     ensures stream { S.same source.old source.new }
 {
     history_lines();
-    let mut buffer = LineBuffer::new();
-    read_rest(alloc, HistoryReader::new(alloc), &mut buffer, source)
+    let mut lines = Lines::new();
+    read_rest(alloc, HistoryReader::new(alloc), &mut lines, source)
 }
 
 /// Reads the text of a certificate as [`read_serial_from`] does, but reads no further than it needs: a first line of more
@@ -97,8 +97,8 @@ pub fn read_serial_early<S: Source>(alloc: Global, source: &mut S) -> Result<Ser
     ensures stream { S.same source.old source.new }
 {
     serial_lines();
-    let mut buffer = LineBuffer::new();
-    read_rest(alloc, SerialReader::new(alloc), &mut buffer, source)
+    let mut lines = Lines::new();
+    read_rest(alloc, SerialReader::new(alloc), &mut lines, source)
 }
 
 /// Reads the two texts of one stream: a history's, up to and with the first line `end`, and then a certificate's, to
@@ -118,32 +118,32 @@ pub fn read_texts_from<S: Source>(
     ensures works { IsOfText result → S.is_failed source.new ≡ false }
     ensures stream { S.same source.old source.new }
 {
-    let mut buffer = LineBuffer::new();
-    let history = read_history_part(alloc, &mut buffer, source)?;
-    let serial = read_serial_rest(alloc, &mut buffer, source)?;
+    let mut lines = Lines::new();
+    let history = read_history_part(alloc, &mut lines, source)?;
+    let serial = read_serial_rest(alloc, &mut lines, source)?;
     Ok((history, serial))
 }
 
 /// Reads the first text of a stream: the history's, up to and with the first line `end`, or all if there is no such line.
-/// The stream is what `buffer` holds and then what the source has left; on `Ok` they hold what follows. After a fault
+/// The stream is what `lines` holds and then what the source has left; on `Ok` they hold what follows. After a fault
 /// nothing is said of what they hold. Faults are those of [`read_history_early`].
 fn read_history_part<S: Source>(
     alloc: Global,
-    buffer: &mut LineBuffer,
+    lines: &mut Lines,
     source: &mut S,
 ) -> Result<History, ReadFault>
-    ensures answer { IfSome (prepend_known buffer.old (S.remaining source.old))
+    ensures answer { IfSome (prepend_known lines.old (S.remaining source.old))
         (λ stream. ReadsHistory (history_part stream) result) }
-    ensures rest { OnOk result (IfSome (prepend_known buffer.old (S.remaining source.old))
-        (λ stream. prepend_known buffer.new (S.remaining source.new) ≡ Some (serial_part stream))) }
+    ensures rest { OnOk result (IfSome (prepend_known lines.old (S.remaining source.old))
+        (λ stream. prepend_known lines.new (S.remaining source.new) ≡ Some (serial_part stream))) }
     ensures fault { IsErrOf result ReadFault.Device → S.is_failed source.new ≡ true }
     ensures unfailed { (IsErrOf result ReadFault.Device → ⊥) → S.is_failed source.new ≡ S.is_failed source.old }
-    ensures works { buffer.old ≡ [] → IsOfText result → S.is_failed source.new ≡ false }
+    ensures works { lines.old ≡ [] → IsOfText result → S.is_failed source.new ≡ false }
     ensures stream { S.same source.old source.new }
 {
     let mut reader = HistoryReader::new(alloc);
     let mut line = Vec::new(alloc);
-    while buffer.next_line(source, &mut line, reader.longest_line())? {
+    while lines.next_line(source, &mut line, reader.longest_line())? {
         reader.line(&line)?;
         if is_tail(&line) {
             return reader.finish(b"");
@@ -155,41 +155,41 @@ fn read_history_part<S: Source>(
     reader.finish(&line)
 }
 
-/// Reads the text of a certificate from what `buffer` holds and then all that the source has left: the second text of a
+/// Reads the text of a certificate from what `lines` holds and then all that the source has left: the second text of a
 /// stream, after [`read_history_part`]. Otherwise it does as [`read_serial_early`].
 fn read_serial_rest<S: Source>(
     alloc: Global,
-    buffer: &mut LineBuffer,
+    lines: &mut Lines,
     source: &mut S,
 ) -> Result<Serial, ReadFault>
-    ensures answer { IfSome (prepend_known buffer.old (S.remaining source.old)) (λ text. ReadsSerial text result) }
-    ensures ended { OnOk result ((buffer.new ≡ []) × IsAtEnd (S.remaining source.new)) }
+    ensures answer { IfSome (prepend_known lines.old (S.remaining source.old)) (λ text. ReadsSerial text result) }
+    ensures ended { OnOk result ((lines.new ≡ []) × IsAtEnd (S.remaining source.new)) }
     ensures fault { IsErrOf result ReadFault.Device → S.is_failed source.new ≡ true }
     ensures unfailed { (IsErrOf result ReadFault.Device → ⊥) → S.is_failed source.new ≡ S.is_failed source.old }
-    ensures works { buffer.old ≡ [] → IsOfText result → S.is_failed source.new ≡ false }
+    ensures works { lines.old ≡ [] → IsOfText result → S.is_failed source.new ≡ false }
     ensures stream { S.same source.old source.new }
 {
-    read_rest(alloc, SerialReader::new(alloc), buffer, source)
+    read_rest(alloc, SerialReader::new(alloc), lines, source)
 }
 
-/// Feeds the reader with the lines of what `buffer` holds and then of what the source has left.
+/// Feeds the reader with the lines of what `lines` holds and then of what the source has left.
 fn read_rest<S: Source, R: LineReader>(
     alloc: Global,
     reader: R,
-    buffer: &mut LineBuffer,
+    lines: &mut Lines,
     source: &mut S,
 ) -> Result<R::Value, ReadFault>
     requires { R.is_fed reader [] }
-    ensures answer { IfSome (prepend_known buffer.old (S.remaining source.old)) (λ text. R.reads text result) }
-    ensures ended { OnOk result ((buffer.new ≡ []) × IsAtEnd (S.remaining source.new)) }
+    ensures answer { IfSome (prepend_known lines.old (S.remaining source.old)) (λ text. R.reads text result) }
+    ensures ended { OnOk result ((lines.new ≡ []) × IsAtEnd (S.remaining source.new)) }
     ensures fault { IsErrOf result ReadFault.Device → S.is_failed source.new ≡ true }
     ensures unfailed { (IsErrOf result ReadFault.Device → ⊥) → S.is_failed source.new ≡ S.is_failed source.old }
-    ensures works { buffer.old ≡ [] → IsOfText result → S.is_failed source.new ≡ false }
+    ensures works { lines.old ≡ [] → IsOfText result → S.is_failed source.new ≡ false }
     ensures stream { S.same source.old source.new }
 {
     let mut reader = reader;
     let mut line = Vec::new(alloc);
-    while buffer.next_line(source, &mut line, reader.longest_line())? {
+    while lines.next_line(source, &mut line, reader.longest_line())? {
         reader.line(&line)?;
         if reader.has_failed() {
             return reader.finish(b"");

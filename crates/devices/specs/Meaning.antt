@@ -1,3 +1,4 @@
 -- What the promises mean.
 pub mod Watched
 pub mod Writing
+pub mod Lines

@@ -20,7 +20,7 @@ begun_there t (Begins u s ∷ calls) e =
       | inr other ↦ Contains-append_left (begun calls) (u ∷ []) t (begun_there t calls (rw other at e))
     ]
 
-there_begun : (t : ℕ) (calls : List Call) → Contains (begun calls) t → has_begun t calls ≡ true
+pub there_begun : (t : ℕ) (calls : List Call) → Contains (begun calls) t → has_begun t calls ≡ true
 there_begun t [] c = absurd (none_contained t c)
 there_begun t (Reads u low high ∷ calls) c = there_begun t calls c
 there_begun t (Commits u n ks ∷ calls) c = there_begun t calls c

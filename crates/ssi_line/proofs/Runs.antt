@@ -15,7 +15,8 @@ use Rattle.ssi_line.specs.Meaning.Steps.{Step, Given, Dumped, NotDumped, Stopped
 use Rattle.ssi_line.specs.Meaning.Steps.{step_text, steps_text, course_with, course_after, MayFollow, AllMayFollow}
 use Rattle.ssi_line.specs.Meaning.Steps.{is_stop, AllGoOn}
 use Rattle.ssi_line.specs.Meaning.Ends.{WentOn, Took, EndsWith, EndsBroken}
-use Rattle.ssi_line.specs.Machinery.Lines.{has_ended, line_end}
+use Rattle.devices.specs.Meaning.Lines.{line_end}
+use Rattle.ssi_line.specs.Machinery.Lines.{has_ended}
 use Rattle.ssi_line.specs.Machinery.Answering.{Said, Told}
 
 -- ---- lists of steps

@@ -9,11 +9,11 @@ ghost use Rattle.ssi_line.specs.Machinery.Lines.{kept};
 ghost use Rattle.ssi_line.specs.Machinery.Answering.{Answered, IsDump, Said};
 
 use crate::dump::dump_text;
-use crate::lines::LineBuffer;
+use crate::lines::next_line;
 use crate::short_line::ShortLine;
 use crate::{End, Line, read_line, write_reply};
 use adya_text::WriteFault;
-use devices::{Source, Watched, put};
+use devices::{LineBuffer, Source, Watched, put};
 use ssi_reads::Marks;
 use ssi_store::{Refusal, Store};
 use ssi_versions::Chains;
@@ -45,7 +45,7 @@ pub fn serve<S: Source, W: Write, C: Chains + Drop, M: Marks + Drop>(
     let mut buffer = LineBuffer::new();
     let mut line = ShortLine::new();
     loop {
-        match buffer.next_line(reader, &mut line) {
+        match next_line(&mut buffer, reader, &mut line) {
             Ok(true) => {}
             Ok(false) => return End::Eof,
             Err(_) => return End::ReadFault,

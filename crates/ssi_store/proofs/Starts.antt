@@ -14,7 +14,7 @@ use Rattle.ssi_store.specs.Meaning.Laws.{start_of}
 use Rattle.ssi_store.specs.Meaning.Recording.{start_in}
 use Rattle.ssi_store.specs.Meaning.Seeing.{commit_count, snapshot}
 use Rattle.ssi_store.specs.Meaning.Tracked.{tracked}
-use Rattle.ssi_store.proofs.Calls.{begun_rise, there_begun}
+use Rattle.ssi_conflict.proofs.Begun.{begun_rise, there_begun}
 use Rattle.ssi_store.proofs.SoundLogs.{Sound, started_there}
 use Rattle.ssi_store.proofs.TrackedCalls.{begun_are, begun_told, tracked_allowed}
 

@@ -33,4 +33,4 @@ listed c =
 pub returns : goal.returns
 returns c =
     let all = edge_list (ordered_history c.args.versions.now) in
-    copied c.from_slice.result c.as_slice.result.now all (λ es. es ≡ all) c.from_slice.ensures.items (listed c) refl
+    copied c.from_slice.result c.as_slice.result.now all c.from_slice.ensures.items (listed c)

@@ -8,6 +8,6 @@ use Rattle.adya_text.proofs.sources.read_history_early.Goals as goal
 pub returns-clause-only : goal.returns-clause-only
 returns-clause-only g c = λ value is known.
     let laws = c.history_lines.ensures in
-    let reads = of_known _ _ (history_text value) (λ text. ReadsHistory text c.read_rest.result) c.new-buffer.ensures
+    let reads = of_known _ _ (history_text value) (λ text. ReadsHistory text c.read_rest.result) c.new-lines.ensures
     known c.read_rest.ensures.answer in
     only_history laws.one_text laws.no_line_feed (history_text value) c.read_rest.result reads value is refl

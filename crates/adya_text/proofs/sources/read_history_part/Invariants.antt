@@ -3,7 +3,7 @@ use Rattle.std.proofs.Common.{◌≡◌, ◌≢◌, ◌⊎◌, ℕ, List, [], Al
 use Rattle.std.specs.Io.KnownBytes.{prepend_known}
 use Rattle.adya_line.specs.Meaning.Spelling.{tail}
 use Rattle.adya_text.specs.Machinery.HistoryReaders.{IsFed}
-use Rattle.adya_text.specs.Machinery.Buffers.{work_left}
+use Rattle.devices.specs.Meaning.Lines.{work_left}
 use Rattle.adya_text.proofs.LinesRead.{WereRead}
 use Rattle.adya_text.proofs.sources.read_history_part.Given as goal
 
@@ -11,10 +11,10 @@ abbrev pub invariant-loop-line : goal.invariant-loop-line
 invariant-loop-line g l =
     (g.S.Source.same l.fn.source l.source)
     × (g.S.Source.is_failed l.source ≡ g.S.Source.is_failed l.fn.source)
-    × (l.fn.buffer ≡ [] → (l.buffer ≡ []) ⊎ (g.S.Source.is_failed l.source ≡ false))
+    × (l.fn.lines ≡ [] → (l.lines ≡ []) ⊎ (g.S.Source.is_failed l.source ≡ false))
     × ((past : List (List ℕ)) × IsFed l.reader past × All (λ line. line ≢ tail) past
-    × WereRead (prepend_known l.fn.buffer (g.S.Read.remaining l.fn.source)) past
-    (prepend_known l.buffer (g.S.Read.remaining l.source)))
+    × WereRead (prepend_known l.fn.lines (g.S.Read.remaining l.fn.source)) past
+    (prepend_known l.lines (g.S.Read.remaining l.source)))
 
 abbrev pub decreases-loop-line : goal.decreases-loop-line
-decreases-loop-line g l = work_left (g.S.Source.left l.source) l.buffer
+decreases-loop-line g l = work_left (g.S.Source.left l.source) l.lines

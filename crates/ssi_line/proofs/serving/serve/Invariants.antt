@@ -5,7 +5,7 @@ use Rattle.devices.specs.Meaning.Writing.{Grew}
 use Rattle.ssi_store.specs.Meaning.Stores.{IsAt}
 use Rattle.ssi_line.specs.Meaning.Steps.{Step, AllGoOn, steps_text}
 use Rattle.ssi_line.specs.Meaning.Ends.{WentOn, Took}
-use Rattle.ssi_line.specs.Machinery.Lines.{work_left}
+use Rattle.devices.specs.Meaning.Lines.{work_left}
 use Rattle.ssi_line.proofs.serving.serve.Given as goal
 
 abbrev pub invariant-loop-line : goal.invariant-loop-line

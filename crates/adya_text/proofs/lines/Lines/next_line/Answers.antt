@@ -1,6 +1,6 @@
 use Rattle.std.proofs.Common.{arith}
 use Rattle.std.proofs.lemmas.Grind.{common_steps}
-use Rattle.adya_text.proofs.lines.LineBuffer.next_line.Goals as goal
+use Rattle.adya_text.proofs.lines.Lines.next_line.Goals as goal
 
 pub loop-line-preserved : goal.loop-line-preserved
 loop-line-preserved g c = grind (arith, common_steps)

@@ -1,5 +1,5 @@
 use Rattle.std.proofs.Common.{rules}
-use Rattle.adya_text.proofs.lines.LineBuffer.fill.Goals as goal
+use Rattle.devices.proofs.line_buffer.LineBuffer.fill.Goals as goal
 
 pub returns-in-Ok-clause-end : goal.returns-in-Ok-clause-end
 returns-in-Ok-clause-end g c = search rules
@@ -9,6 +9,3 @@ returns-in-Err-clause-end g c = search rules
 
 pub returns-in-Err-clause-fault : goal.returns-in-Err-clause-fault
 returns-in-Err-clause-fault g c = search rules
-
-pub returns-in-Err-clause-works : goal.returns-in-Err-clause-works
-returns-in-Err-clause-works g c = search rules

@@ -1,7 +1,7 @@
 use Rattle.std.proofs.Common.{◌≡◌, ◌≢◌, ◌≤◌, ◌⊎◌, [], false, All, IfSome, length}
 use Rattle.std.specs.Io.KnownBytes.{Consumes, prepend_known}
-use Rattle.adya_text.specs.Machinery.Buffers.{work_left}
-use Rattle.adya_text.proofs.lines.LineBuffer.next_line.Given as goal
+use Rattle.devices.specs.Meaning.Lines.{work_left}
+use Rattle.adya_text.proofs.lines.Lines.next_line.Given as goal
 
 abbrev pub invariant-loop-line : goal.invariant-loop-line
 invariant-loop-line g l =

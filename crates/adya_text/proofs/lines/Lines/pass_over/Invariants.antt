@@ -1,6 +1,6 @@
 -- The source hasn't failed since.
 use Rattle.std.proofs.Common.{◌≡◌}
-use Rattle.adya_text.proofs.lines.LineBuffer.pass_over.Given as goal
+use Rattle.adya_text.proofs.lines.Lines.pass_over.Given as goal
 
 abbrev pub invariant-loop-self : goal.invariant-loop-self
 invariant-loop-self g l =
