@@ -6,7 +6,7 @@ use Rattle.adya_values.specs.declared.history.History.{History}
 use Rattle.adya_values.specs.declared.serial.Serial.{Serial}
 use Rattle.adya_values.specs.Meaning.Histories.{History as Plain}
 use Rattle.adya_values.specs.Meaning.Edges.{Edge}
-use Rattle.adya_values.specs.Meaning.Values.{history_of}
+use Rattle.adya_values.specs.Mirror.{history_of}
 use Rattle.adya_values.specs.Computing.Faults.{Fault, first_fault}
 use Rattle.adya_values.specs.Computing.Certificates.{lists_the_committed, first_backward}
 use Rattle.adya_text.specs.declared.read_fault.ReadFault.TheVariants.{Syntax}

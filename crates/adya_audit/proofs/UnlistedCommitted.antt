@@ -11,9 +11,9 @@ use Rattle.adya_values.specs.Computing.Faults as faults
 use Rattle.adya_values.specs.Computing.Certificates.{lists_the_committed, first_backward}
 use Rattle.adya_values.proofs.ListsExactly.{counts_from_test, test_from_counts}
 use Rattle.adya_values.proofs.Writes.{committed_source}
-use Rattle.adya_rules.specs.Meaning.Laws.{CheckedIffNoFault}
+use Rattle.adya_rules.specs.Laws.Faults.{CheckedIffNoFault}
 use Rattle.adya_audit.specs.Meaning.Verdicts.{NotTheCommitted, edge_verdict, certificate_verdict, fault_verdict, verdict_of}
-use Rattle.adya_audit.specs.Meaning.Laws.{NotTheCommittedIffUnlisted}
+use Rattle.adya_audit.specs.Laws.Verdicts.{NotTheCommittedIffUnlisted}
 
 unlisted : (f : Option Fault) (b : Bool) (o : Option Edge)
     → fault_verdict f (cond b (edge_verdict o) NotTheCommitted) ≡ NotTheCommitted → (f ≡ None) × (b ≡ false)

@@ -9,13 +9,14 @@ use Rattle.adya_values.specs.Meaning.Edges.{Edge}
 use Rattle.adya_values.specs.Computing.Faults.{Fault, first_fault}
 use Rattle.adya_values.specs.Computing.Certificates.{lists_the_committed, first_backward}
 use Rattle.adya_values.specs.Meaning.Acceptance.{IsAccepted}
-use Rattle.adya_rules.specs.Meaning.Laws.{CheckedIfNoFault, CheckedIffNoFault}
-use Rattle.adya_laws.specs.Meaning.Laws.{AcceptedIffForward}
+use Rattle.adya_rules.specs.Laws.Faults.{CheckedIfNoFault, CheckedIffNoFault}
+use Rattle.adya_laws.specs.Laws.{AcceptedIffForward}
 use Rattle.adya_audit.specs.declared.verdict.Verdict.{Verdict as VerdictValue}
 use Rattle.adya_audit.specs.declared.verdict.Verdict.TheVariants as Said
 use Rattle.adya_audit.specs.Meaning.Verdicts.{Verdict, Yes, NotTheCommitted, plain_verdict, edge_verdict, certificate_verdict}
 use Rattle.adya_audit.specs.Meaning.Verdicts.{fault_verdict, verdict_of}
-use Rattle.adya_audit.specs.Meaning.Laws.{IsSerializableBy, YesIffAccepted, AcceptedIsSerializable}
+use Rattle.adya_audit.specs.Laws.Verdicts.{YesIffAccepted, AcceptedIsSerializable}
+use Rattle.adya_audit.specs.Meaning.Serializable.{IsSerializableBy}
 
 certificate_yes : (b : Bool) (o : Option Edge) → cond b (edge_verdict o) NotTheCommitted ≡ Yes → (b ≡ true) × (o ≡ None)
 certificate_yes true None e = (refl, refl)

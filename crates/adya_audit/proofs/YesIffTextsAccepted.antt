@@ -9,13 +9,13 @@ use Rattle.adya_line.specs.Meaning.Limits.{IsOrder}
 use Rattle.adya_text.specs.declared.read_fault.Text.TheVariants as Of
 use Rattle.adya_text.specs.Meaning.Texts.{IsHistory, history_lines, serial_lines, AreHistoryLines, AreSerialLines}
 use Rattle.adya_text.specs.Meaning.Faults.{IsFaultLine}
-use Rattle.adya_text.specs.Meaning.Laws.{HistoriesDiffer, SerialsDiffer, HasNoFaultWithin}
+use Rattle.adya_text.specs.Laws.{HistoriesDiffer, SerialsDiffer, HasNoFaultWithin}
 use Rattle.adya_audit.specs.declared.verdict.Verdict.{Verdict as VerdictValue}
 use Rattle.adya_audit.specs.declared.verdict.Verdict.TheVariants as Said
 use Rattle.adya_audit.specs.Meaning.Verdicts.{Verdict, Yes, Syntax, Malformed, AbortedRead, IntermediateRead, NotTheCommitted, Backward, plain_verdict}
-use Rattle.adya_audit.specs.Meaning.Laws.{YesIffAccepted, AcceptedIsSerializable}
+use Rattle.adya_audit.specs.Laws.Verdicts.{YesIffAccepted, AcceptedIsSerializable}
 use Rattle.adya_audit.specs.Meaning.TextVerdicts.{IsTextOf, IsSerialTextOf, HaveVerdict, IsVerdictOn, AreAccepted}
-use Rattle.adya_audit.specs.Meaning.TextLaws.{YesIffTextsAccepted, AcceptedTextsAreSerializable, AcceptedTextsGetYes}
+use Rattle.adya_audit.specs.Laws.Texts.{YesIffTextsAccepted, AcceptedTextsAreSerializable, AcceptedTextsGetYes}
 use Rattle.adya_audit.proofs.YesIffAccepted.{plain_yes}
 
 has_writer : (n : ℕ) → 0 < n → not (n == 0) ≡ true

@@ -1,7 +1,6 @@
 -- What the promises mean.
 pub mod Verdicts
+pub mod Serializable
 pub mod TextVerdicts
 pub mod Answers
 pub mod Output
-pub mod Laws
-pub mod TextLaws

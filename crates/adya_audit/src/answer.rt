@@ -1,7 +1,7 @@
 //! A certificate of a history, a cycle, or the verdict on it: finding it and writing it.
 
 ghost use Rattle.std.specs.Prelude.{IfOk};
-ghost use Rattle.adya_values.specs.Meaning.Values.{history_of};
+ghost use Rattle.adya_values.specs.Mirror.{history_of};
 ghost use Rattle.devices.specs.Meaning.Writing.{Wrote};
 ghost use Rattle.adya_audit.specs.Meaning.Answers.{Tells, IsAnswerOn, answer_of, answer_text};
 

@@ -2,7 +2,7 @@
 
 ghost use Rattle.std.specs.Prelude.{◌≡◌, IfOk};
 ghost use Rattle.adya_terms.specs.Meaning.Checked.{checked_history};
-ghost use Rattle.adya_values.specs.Meaning.Values.{serial_txns};
+ghost use Rattle.adya_values.specs.Mirror.{serial_txns};
 ghost use Rattle.adya_audit.specs.Meaning.Verdicts.{plain_verdict, certificate_verdict};
 
 use crate::Verdict;

@@ -1,7 +1,7 @@
 //! When a verdict is yes, and what that implies. Each law is the contract of a function that does nothing.
 
-ghost use Rattle.adya_audit.specs.Meaning.Laws.{YesIffAccepted, AcceptedIsSerializable, NotTheCommittedIffUnlisted};
-ghost use Rattle.adya_audit.specs.Meaning.TextLaws.{YesIffTextsAccepted, AcceptedTextsGetYes, AcceptedTextsAreSerializable, AcceptedHaveTexts};
+ghost use Rattle.adya_audit.specs.Laws.Verdicts.{YesIffAccepted, AcceptedIsSerializable, NotTheCommittedIffUnlisted};
+ghost use Rattle.adya_audit.specs.Laws.Texts.{YesIffTextsAccepted, AcceptedTextsGetYes, AcceptedTextsAreSerializable, AcceptedHaveTexts};
 
 use adya_laws::{accepted_agrees, accepted_has_no_phenomenon, accepted_iff_forward};
 use adya_terms::laws::checked_iff_no_fault;

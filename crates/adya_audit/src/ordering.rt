@@ -1,7 +1,7 @@
 //! A certificate, a cycle or a verdict for a history text.
 
 ghost use Rattle.std.specs.Prelude.{◌≡◌, ◌≢◌, false, true, IfOk, IfErr, IfSome, OnOk, IsErrOf};
-ghost use Rattle.devices.specs.Meaning.Watched.{has_failed, watched_remaining};
+ghost use Rattle.devices.specs.Mirror.{has_failed, watched_remaining};
 ghost use Rattle.devices.specs.Meaning.Writing.{Grew};
 ghost use Rattle.adya_audit.specs.Meaning.Answers.{Answer as Plain, Tells, IsAnswer, answer_of, answer_text};
 

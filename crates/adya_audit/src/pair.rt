@@ -1,7 +1,7 @@
 //! The verdict on a history text and a certificate text in two streams.
 
 ghost use Rattle.std.specs.Prelude.{◌≡◌, ◌≢◌, ◌↔◌, ◌⊎◌, ℕ, false, true, IfOk, IfErr, IfSome, OnOk, IsErrOf};
-ghost use Rattle.devices.specs.Meaning.Watched.{has_failed, watched_remaining};
+ghost use Rattle.devices.specs.Mirror.{has_failed, watched_remaining};
 ghost use Rattle.devices.specs.Meaning.Writing.{Grew};
 ghost use Rattle.adya_audit.specs.Meaning.Verdicts.{plain_verdict};
 ghost use Rattle.adya_audit.specs.Meaning.Output.{verdict_line};

@@ -3,7 +3,7 @@
 ghost use Rattle.std.specs.Prelude.{◌++◌, codes, decimal};
 ghost use Rattle.devices.specs.Meaning.Writing.{Wrote};
 ghost use Rattle.adya_line.specs.Meaning.Spelling.{version_text};
-ghost use Rattle.adya_dsg.specs.Meaning.Values.{kind_of, edge_of};
+ghost use Rattle.adya_dsg.specs.Mirror.{kind_of, edge_of};
 ghost use Rattle.adya_audit.specs.Meaning.Verdicts.{plain_verdict};
 ghost use Rattle.adya_audit.specs.Meaning.Output.{text_name, rule_name, kind_name, edge_text, verdict_text, verdict_line};
 

@@ -8,7 +8,7 @@ use Rattle.indexmap.specs.IndexSet.{insert_key}
 use Rattle.adya_values.specs.Meaning.Keys.{key_eq}
 use Rattle.adya_values.specs.Meaning.Edges.{Edge}
 use Rattle.adya_values.specs.Computing.EdgeList.{kind_eq, edge_eq, with_edge}
-use Rattle.adya_dsg.specs.Meaning.Values.{kind_of, edge_of}
+use Rattle.adya_dsg.specs.Mirror.{kind_of, edge_of}
 use Rattle.adya_dsg.specs.contracts.edge.EdgePartialEq.TheImpl as edges
 use Rattle.adya_dsg.specs.contracts.edge.KindPartialEq.TheImpl as kinds
 use Rattle.adya_dsg.specs.declared.edge.Kind.{Kind as KindValue}

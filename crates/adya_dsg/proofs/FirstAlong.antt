@@ -16,7 +16,7 @@ use Rattle.digraph.specs.declared.arc.Arc.{Arc}
 use Rattle.adya_dsg.specs.declared.edge.Edge.{Edge as EdgeValue}
 use Rattle.adya_dsg.specs.Machinery.Along.{joins, first_along, ends_cmp}
 use Rattle.adya_dsg.specs.Machinery.Arcs.{ends}
-use Rattle.adya_dsg.specs.Meaning.Values.{edge_of}
+use Rattle.adya_dsg.specs.Mirror.{edge_of}
 
 abbrev arc : ℕ → ℕ → Arc
 arc s t = record { from = s; to = t }

@@ -14,10 +14,10 @@ use Rattle.adya_values.specs.Meaning.Edges.{Wr, Rw, Edge}
 use Rattle.adya_values.specs.Computing.EdgeList.{places, joined, write_edges, read_edges, overwrite_edges, place_edges, event_edges, dependencies, edge_list}
 use Rattle.adya_values.specs.Meaning.Acceptance.{IsChecked, IsBefore}
 use Rattle.adya_values.specs.Computing.Certificates.{first_backward}
-use Rattle.adya_laws.specs.Meaning.Laws.{EdgeListKeepsFirst, SelectedIsInstalled}
+use Rattle.adya_laws.specs.Laws.{EdgeListKeepsFirst, SelectedIsInstalled}
 use Rattle.digraph.specs.declared.arc.Arc.{Arc}
 use Rattle.adya_dsg.specs.declared.edge.Edge.{Edge as EdgeValue}
-use Rattle.adya_dsg.specs.Meaning.Values.{edge_of}
+use Rattle.adya_dsg.specs.Mirror.{edge_of}
 use Rattle.adya_dsg.specs.Machinery.Choices.{Choice, choice, choices}
 use Rattle.adya_dsg.specs.Machinery.Links.{installer_at, choice_links, event_links, links}
 use Rattle.adya_dsg.specs.Machinery.PartEdges.{line_edges, is_backward}

@@ -14,7 +14,7 @@ use Rattle.adya_values.specs.Computing.EdgeList.{write_edges, event_edges, depen
 use Rattle.digraph.specs.declared.arc.Arc.{Arc}
 use Rattle.adya_dsg.specs.declared.edge.Edge.{Edge as EdgeValue}
 use Rattle.adya_dsg.specs.Machinery.Arcs.{ends}
-use Rattle.adya_dsg.specs.Meaning.Values.{edge_of}
+use Rattle.adya_dsg.specs.Mirror.{edge_of}
 use Rattle.adya_dsg.specs.Machinery.PartEdges.{line_edges, committed_edges, parts, part_edges}
 use Rattle.lemmas.proofs.Members.{Contains-map}
 use Rattle.adya_dsg.proofs.FlatMaps.{filtered}

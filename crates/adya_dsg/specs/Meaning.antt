@@ -1,4 +1,2 @@
 -- What the promises mean.
 pub mod Found
-pub mod Laws
-pub mod Values

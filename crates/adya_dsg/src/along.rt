@@ -4,7 +4,7 @@ ghost use Rattle.std.specs.Prelude.{◌≡◌, ◌++◌, List, Some, map, IfOk};
 ghost use Rattle.adya_values.specs.Meaning.Edges.{Edge as PlainEdge};
 ghost use Rattle.adya_values.specs.Computing.EdgeList.{dependencies, edge_list};
 ghost use Rattle.adya_dsg.specs.Machinery.VersionOrders.{ordered_history};
-ghost use Rattle.adya_dsg.specs.Meaning.Values.{edge_of};
+ghost use Rattle.adya_dsg.specs.Mirror.{edge_of};
 ghost use Rattle.adya_dsg.specs.Machinery.Arcs.{AreEnds};
 ghost use Rattle.adya_dsg.specs.Machinery.Along.{HasFirst, Wants, first_along};
 

@@ -2,7 +2,7 @@
 
 ghost use Rattle.std.specs.Prelude.{◌≡◌, ◌++◌, OnOk, map};
 ghost use Rattle.adya_values.specs.Computing.EdgeList.{joined};
-ghost use Rattle.adya_dsg.specs.Meaning.Values.{kind_of, edge_of};
+ghost use Rattle.adya_dsg.specs.Mirror.{kind_of, edge_of};
 ghost use Rattle.adya_dsg.specs.Machinery.Arcs.{ends};
 
 use adya_values::{Key, Txn};

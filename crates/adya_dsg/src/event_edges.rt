@@ -5,7 +5,7 @@ ghost use Rattle.adya_values.specs.Meaning.Histories.{event_of};
 ghost use Rattle.adya_values.specs.Meaning.Selections.{is_scan};
 ghost use Rattle.adya_values.specs.Computing.EdgeList.{event_edges, read_edges, overwrite_edges};
 ghost use Rattle.adya_dsg.specs.Machinery.VersionOrders.{ordered_history, order_lines};
-ghost use Rattle.adya_dsg.specs.Meaning.Values.{edge_of};
+ghost use Rattle.adya_dsg.specs.Mirror.{edge_of};
 ghost use Rattle.adya_dsg.specs.Machinery.Choices.{choice_of, key_at};
 ghost use Rattle.adya_dsg.specs.Machinery.PartEdges.{choice_edges};
 

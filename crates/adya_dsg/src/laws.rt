@@ -1,6 +1,6 @@
 //! Laws of the graph of a history, each proved as the contract of a function that does nothing.
 
-ghost use Rattle.adya_dsg.specs.Meaning.Laws.{CycleExcludesCertificates, EdgesJoinCommitted, CertifiedIffNoPhenomenon, BadReadExcludesCertificates};
+ghost use Rattle.adya_dsg.specs.Laws.{CycleExcludesCertificates, EdgesJoinCommitted, CertifiedIffNoPhenomenon, BadReadExcludesCertificates};
 
 use adya_laws::{accepted_has_no_phenomenon, edge_list_is_exact};
 use digraph::{cycle_excludes_order, order_or_cycle_exists};

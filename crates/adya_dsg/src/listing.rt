@@ -5,7 +5,7 @@ ghost use Rattle.std.specs.List.{AllPairs};
 ghost use Rattle.adya_values.specs.Computing.EdgeList.{with_edge, edge_list};
 ghost use Rattle.adya_terms.specs.Meaning.Checked.{checked_history};
 ghost use Rattle.adya_dsg.specs.Machinery.VersionOrders.{ordered_history};
-ghost use Rattle.adya_dsg.specs.Meaning.Values.{edge_of, AreEdges};
+ghost use Rattle.adya_dsg.specs.Mirror.{edge_of, AreEdges};
 
 use crate::Edge;
 use crate::part_edges::{count_parts, push_part_edges};

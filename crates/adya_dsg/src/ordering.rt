@@ -9,7 +9,7 @@ ghost use Rattle.adya_values.specs.Meaning.Acceptance.{IsChecked};
 ghost use Rattle.adya_values.specs.Meaning.Phenomena.{HasG1, HasG2};
 ghost use Rattle.adya_terms.specs.Meaning.Checked.{checked_history};
 ghost use Rattle.adya_dsg.specs.Machinery.Arcs.{ends};
-ghost use Rattle.adya_dsg.specs.Meaning.Values.{edge_of};
+ghost use Rattle.adya_dsg.specs.Mirror.{edge_of};
 ghost use Rattle.adya_dsg.specs.Machinery.VersionOrders.{ordered_history};
 ghost use Rattle.adya_dsg.specs.Machinery.Nodes.{committed};
 ghost use Rattle.adya_dsg.specs.Meaning.Found.{IsFound, NoneBesideCycle, HasCertificate};

@@ -2,7 +2,7 @@
 
 ghost use Rattle.std.specs.Prelude.{◌≡◌, ◌<◌, ◌++◌, length, map, OnOk};
 ghost use Rattle.adya_dsg.specs.Machinery.VersionOrders.{ordered_history};
-ghost use Rattle.adya_dsg.specs.Meaning.Values.{edge_of};
+ghost use Rattle.adya_dsg.specs.Mirror.{edge_of};
 ghost use Rattle.adya_dsg.specs.Machinery.PartEdges.{parts, part_edges};
 
 use crate::Edge;

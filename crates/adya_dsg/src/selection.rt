@@ -42,10 +42,10 @@ pub(crate) fn selections(
         }
         Event::Scan {
             txn,
-            lo,
-            hi,
+            low,
+            high,
             entries,
-        } => of_scan(alloc, versions, *txn, *lo, *hi, entries),
+        } => of_scan(alloc, versions, *txn, *low, *high, entries),
         _ => Ok(Vec::new(alloc)),
     }
 }
@@ -69,19 +69,19 @@ fn of_scan(
     alloc: Global,
     versions: &VersionOrders,
     txn: Txn,
-    lo: Key,
-    hi: Key,
+    low: Key,
+    high: Key,
     entries: &[Entry],
 ) -> Result<Vec<Selection>, AllocError>
     requires { keys_rise (map (λ w. w.version.key) (map entry_of entries.now)) ≡ true }
     ensures within { IfOk result (λ v. All (λ s. s.line < length (order_lines versions.now)) v.items) }
     ensures choices { let h = ordered_history versions.now in
-        IfOk result (λ v. map (choice_of h) v.items ≡ choices h (Scan txn lo hi (map entry_of entries.now))) }
+        IfOk result (λ v. map (choice_of h) v.items ≡ choices h (Scan txn low high (map entry_of entries.now))) }
 {
     let mut selections = Vec::new(alloc);
-    for line in versions.lines_below(lo)..versions.orders().len() {
+    for line in versions.lines_below(low)..versions.orders().len() {
         let key = versions.order(line).key;
-        if is_below(hi, key) {
+        if is_below(high, key) {
             return Ok(selections);
         }
         if let Some(place) = selected(versions, txn, line, listed(entries, key)) {

@@ -4,7 +4,7 @@ ghost use Rattle.std.specs.Prelude.{◌≡◌, IfOk, map, option_map};
 ghost use Rattle.std.specs.List.{find};
 ghost use Rattle.adya_values.specs.Meaning.Orders.{place};
 ghost use Rattle.adya_values.specs.Computing.Certificates.{is_forward};
-ghost use Rattle.adya_dsg.specs.Meaning.Values.{edge_of};
+ghost use Rattle.adya_dsg.specs.Mirror.{edge_of};
 ghost use Rattle.adya_dsg.specs.Machinery.Places.{HasPlaces};
 ghost use Rattle.adya_dsg.specs.Machinery.PartEdges.{is_backward};
 

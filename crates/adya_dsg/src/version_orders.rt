@@ -7,7 +7,7 @@ ghost use Rattle.std.specs.List.Sorted.{IsPartitionPoint};
 ghost use Rattle.adya_values.specs.Meaning.Keys.{key_eq, key_lt, keys_rise};
 ghost use Rattle.adya_values.specs.Meaning.Histories.{event_of, order_of};
 ghost use Rattle.adya_values.specs.Meaning.Events.{txn_of, is_committed};
-ghost use Rattle.adya_values.specs.Meaning.Values.{events_in, orders_in};
+ghost use Rattle.adya_values.specs.Mirror.{events_in, orders_in};
 ghost use Rattle.adya_values.specs.Meaning.Orders.{writers, place, installer, is_visible_at};
 ghost use Rattle.adya_terms.specs.Meaning.Checked.{checked_history, history_in};
 ghost use Rattle.adya_dsg.specs.Machinery.Choices.{key_at};

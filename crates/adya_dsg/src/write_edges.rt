@@ -1,7 +1,7 @@
 //! The edges of an order line: its write dependencies.
 
 ghost use Rattle.std.specs.Prelude.{◌≡◌, ◌++◌, map, OnOk};
-ghost use Rattle.adya_dsg.specs.Meaning.Values.{edge_of};
+ghost use Rattle.adya_dsg.specs.Mirror.{edge_of};
 ghost use Rattle.adya_dsg.specs.Machinery.PartEdges.{line_edges};
 
 use crate::edge::push_edge;

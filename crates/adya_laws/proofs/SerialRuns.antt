@@ -64,8 +64,8 @@ run_own t k (Read u r v ∷ es) m =
       | true ↦ run_own t k es m
       | false ↦ run_own t k es m
     ]
-run_own t k (Scan u lo hi l ∷ es) m =
-    elim (u == t) as (λ b. run m (cond b (Scan u lo hi l ∷ events_of es t) (events_of es t)) k ≡
+run_own t k (Scan u low high l ∷ es) m =
+    elim (u == t) as (λ b. run m (cond b (Scan u low high l ∷ events_of es t) (events_of es t)) k ≡
     over (last_write t k es) (m k)) [
       | true ↦ run_own t k es m
       | false ↦ run_own t k es m

@@ -2,7 +2,7 @@
 //! function that does nothing.
 #![tactic(auto)]
 
-ghost use Rattle.adya_laws.specs.Meaning.Laws.{EdgeListIsExact, EdgeListIsDistinct, EdgeListKeepsFirst, AcceptedHasNoPhenomenon, AcceptedIffForward, AcceptedAgrees, SelectedIsInstalled};
+ghost use Rattle.adya_laws.specs.Laws.{EdgeListIsExact, EdgeListIsDistinct, EdgeListKeepsFirst, AcceptedHasNoPhenomenon, AcceptedIffForward, AcceptedAgrees, SelectedIsInstalled};
 
 pub use adya_rules::first_faults;
 

@@ -11,7 +11,7 @@ use Rattle.adya_line.specs.Meaning.Spelling.{version_text, event_text, unfinishe
 use Rattle.adya_line.specs.Meaning.Limits.{IsVersion, IsEvent}
 use Rattle.adya_line.specs.Computing.Reading.{Gives, ◌>>=◌, after, txn_at_line, write_at, delete_at, read_at, event_at}
 use Rattle.adya_line.specs.Computing.Reading.{unfinished_at}
-use Rattle.adya_line.specs.Meaning.Views.{view}
+use Rattle.adya_line.specs.Mirror.{view}
 use Rattle.adya_line.specs.declared.event_ref.EventRef.{EventRef}
 use Rattle.adya_line.proofs.LineParts.{Only, found, then, weaken, if_then, by_byte, nothing, ended}
 use Rattle.adya_line.proofs.LineParts.{after_takes, text_takes, text_again, txn_takes, txn_again, line_takes, line_again}

@@ -9,7 +9,7 @@ use Rattle.adya_line.specs.Meaning.Spelling.{history_head, second_head, tail, un
 use Rattle.adya_line.specs.Meaning.Limits.{IsOrder, IsFinal}
 use Rattle.adya_line.specs.Computing.Reading.{after, none_or, key_between, txn_at, txn_at_line}
 use Rattle.adya_line.specs.Computing.Reading.{event_at, unfinished_at, order_at, final_at}
-use Rattle.adya_line.specs.Meaning.Laws.{IsOneText, HasPlainTexts}
+use Rattle.adya_line.specs.Laws.{IsOneText, HasPlainTexts}
 use Rattle.adya_line.specs.Meaning.HistoryLines.{Line, HeadLine, EventLine, UnfinishedLine, OrderLine, FinalLine, TailLine}
 use Rattle.adya_line.specs.Meaning.HistoryLines.{IsLine, line_text, IsNoLine, IsOnlyLineOf}
 use Rattle.adya_line.proofs.Events.{event_again, unfinished_again}

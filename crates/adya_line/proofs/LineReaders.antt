@@ -5,7 +5,7 @@ use Rattle.adya_values.specs.Meaning.Keys.{IsTxn}
 use Rattle.adya_line.specs.Meaning.Spelling.{event_text, unfinished_text, order_text, final_text, txn_text}
 use Rattle.adya_line.specs.Meaning.Limits.{IsEvent, IsOrder, IsFinal}
 use Rattle.adya_line.specs.Computing.Reading.{event_at, unfinished_at, order_at, final_at, txn_at_line}
-use Rattle.adya_line.specs.Meaning.Laws.{IsReaderOf, IsOneText}
+use Rattle.adya_line.specs.Laws.{IsReaderOf, IsOneText}
 use Rattle.adya_line.proofs.LineParts.{Only, line_takes, line_again}
 use Rattle.adya_line.proofs.Events.{event_takes, event_again, unfinished_takes, unfinished_again}
 use Rattle.adya_line.proofs.Orders.{order_takes, order_again}

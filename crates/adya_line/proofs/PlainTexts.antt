@@ -15,7 +15,8 @@ use Rattle.adya_line.specs.Meaning.Spelling.{history_head, second_head, serial_h
 use Rattle.adya_line.specs.Meaning.Spelling.{entry_text, event_text, unfinished_text, later_text, writers_text, order_text}
 use Rattle.adya_line.specs.Meaning.Spelling.{final_text}
 use Rattle.adya_line.specs.Meaning.Limits.{IsVersion, IsContent, IsEntry, IsEvent, IsOrder, IsFinal}
-use Rattle.adya_line.specs.Meaning.Laws.{IsPlain, HasPlainTexts}
+use Rattle.adya_line.specs.Laws.{HasPlainTexts}
+use Rattle.adya_line.specs.Meaning.Lines.{IsPlain}
 use Rattle.adya_line.proofs.Digits.{model, list_all-is}
 
 -- a record, so that antt finds the bytes

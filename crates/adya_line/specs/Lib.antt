@@ -1,3 +1,5 @@
 pub mod Meaning
 pub mod Computing
 pub mod Machinery
+pub mod Laws
+pub mod Mirror

@@ -4,5 +4,3 @@ pub mod Limits
 pub mod Lines
 pub mod HistoryLines
 pub mod SerialLines
-pub mod Views
-pub mod Laws

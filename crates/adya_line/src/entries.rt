@@ -3,7 +3,7 @@
 ghost use Rattle.std.specs.Prelude.{◌≡◌, ◌++◌, map, IfOk, OnOk};
 ghost use Rattle.adya_values.specs.Meaning.Histories.{entry_of};
 ghost use Rattle.adya_line.specs.Computing.Reading.{Gives, content_at, entry_at, entries_of, after_entries};
-ghost use Rattle.adya_line.specs.Meaning.Views.{view_content, view_entry, entries_left};
+ghost use Rattle.adya_line.specs.Mirror.{view_content, view_entry, entries_left};
 
 use crate::entry_ref::{ContentRef, EntryRef, ValueRef};
 use crate::fields::{after, value_at, version_at};
@@ -26,7 +26,7 @@ impl<'a> Entries<'a> {
 
 impl<'a> Iterator for Entries<'a> {
     ghost use Rattle.std.specs.Iterator.{item_count};
-    ghost use Rattle.adya_line.specs.Meaning.Views.{entries_left, GivesEntry};
+    ghost use Rattle.adya_line.specs.Mirror.{entries_left, GivesEntry};
 
     type Item = EntryRef<'a>;
 

@@ -34,7 +34,7 @@ pub struct EntryRef<'a> {
 
 impl EntryRef<'_> {
     ghost use Rattle.adya_values.specs.Meaning.Histories.{entry_of};
-    ghost use Rattle.adya_line.specs.Meaning.Views.{view_entry};
+    ghost use Rattle.adya_line.specs.Mirror.{view_entry};
 
     /// Returns the entry by itself.
     pub(crate) fn to_entry(&self) -> Entry
@@ -49,7 +49,7 @@ impl EntryRef<'_> {
 
 impl ContentRef<'_> {
     ghost use Rattle.adya_values.specs.Meaning.Histories.{content_of};
-    ghost use Rattle.adya_line.specs.Meaning.Views.{view_content};
+    ghost use Rattle.adya_line.specs.Mirror.{view_content};
 
     fn to_content(&self) -> Content
         ensures { content_of result ≡ view_content self.now }

@@ -6,7 +6,7 @@ ghost use Rattle.adya_line.specs.Computing.Reading.{Gives, write_at, delete_at, 
 ghost use Rattle.adya_line.specs.Machinery.Fronts.{scan_after};
 ghost use Rattle.adya_line.specs.Meaning.Spelling.{event_text};
 ghost use Rattle.adya_line.specs.Meaning.Limits.{IsEvent};
-ghost use Rattle.adya_line.specs.Meaning.Views.{view};
+ghost use Rattle.adya_line.specs.Mirror.{view};
 
 use crate::entries::{after_entries, read_entries};
 use crate::event_ref::{DeleteRef, EndRef, EventRef, ReadRef, ScanRef, WriteRef};
@@ -72,17 +72,17 @@ fn read_at(bytes: &[u8]) -> Option<EventRef<'_>>
 #[tactic(auto, unfolding(crate::specs::Computing::Reading::scan_at))]
 fn scan_front(bytes: &[u8]) -> Option<ScanRef<'_>>
     ensures { MatchOption result (scan_at bytes.now ≡ None) (λ s.
-        scan_at bytes.now ≡ scan_after s.txn s.lo.now s.hi.now s.listed.now) }
+        scan_at bytes.now ≡ scan_after s.txn s.low.now s.high.now s.listed.now) }
 {
     let (txn, rest) = txn_at(bytes)?;
     let rest = after(b'(', rest)?;
-    let (lo, rest) = key_at(rest)?;
+    let (low, rest) = key_at(rest)?;
     let rest = after(b',', rest)?;
-    let (hi, listed) = key_at(rest)?;
+    let (high, listed) = key_at(rest)?;
     Some(ScanRef {
         txn,
-        lo,
-        hi,
+        low,
+        high,
         listed,
     })
 }

@@ -58,14 +58,14 @@ pub struct ScanRef<'a> {
     /// Who scans, from 1 on.
     pub txn: u32,
     /// The bytes of the first key of the range, 1 to 32.
-    pub lo: &'a [u8],
+    pub low: &'a [u8],
     /// The bytes of the last key of the range, 1 to 32; the range has both.
-    pub hi: &'a [u8],
+    pub high: &'a [u8],
     /// The line from the first entry's `;` on, or from the closing bracket on if there is no entry.
     pub listed: &'a [u8],
     pub ghost is_txn: { IsTxn txn },
-    pub ghost is_lo: { is_key lo.now ≡ true },
-    pub ghost is_hi: { is_key hi.now ≡ true },
+    pub ghost is_lo: { is_key low.now ≡ true },
+    pub ghost is_hi: { is_key high.now ≡ true },
 }
 
 /// A commit or an abort.
@@ -86,7 +86,7 @@ pub enum EventRef<'a> {
     Delete(DeleteRef<'a>),
     /// The transaction reads a version and finds the value.
     Read(ReadRef<'a>),
-    /// The transaction scans the keys from `lo` to `hi`, both included, and is shown the entries.
+    /// The transaction scans the keys from `low` to `high`, both included, and is shown the entries.
     Scan(ScanRef<'a>),
     /// The transaction commits.
     Commit(EndRef),
@@ -97,7 +97,7 @@ pub enum EventRef<'a> {
 impl<'a> EventRef<'a> {
     ghost use Rattle.std.specs.Prelude.{IfOk};
     ghost use Rattle.adya_values.specs.Meaning.Histories.{event_of};
-    ghost use Rattle.adya_line.specs.Meaning.Views.{view, entries_in, entries_left};
+    ghost use Rattle.adya_line.specs.Mirror.{view, entries_in, entries_left};
 
     /// Walks the entries of a scan, in the order of the line; their keys and values are slices of the line. Other
     /// events have none.
@@ -145,7 +145,7 @@ impl<'a> ScanRef<'a> {
     ghost use Rattle.std.specs.Prelude.{map, IfOk};
     ghost use Rattle.adya_values.specs.Meaning.Histories.{Scan, entry_of, event_of};
     ghost use Rattle.adya_line.specs.Computing.Reading.{entries_of};
-    ghost use Rattle.adya_line.specs.Meaning.Views.{entries_left};
+    ghost use Rattle.adya_line.specs.Mirror.{entries_left};
 
     /// Walks the entries, in the order of the line.
     pub fn entries(&self) -> Entries<'a>
@@ -156,12 +156,12 @@ impl<'a> ScanRef<'a> {
 
     /// Returns the scan by itself, with these entries.
     pub(crate) fn with_entries(&self, entries: Vec<Entry>) -> Event
-        ensures { event_of result ≡ Scan self.now.txn self.now.lo.now self.now.hi.now (map entry_of entries.items) }
+        ensures { event_of result ≡ Scan self.now.txn self.now.low.now self.now.high.now (map entry_of entries.items) }
     {
         Event::Scan {
             txn: txn_of(self.txn),
-            lo: key_of(self.lo),
-            hi: key_of(self.hi),
+            low: key_of(self.low),
+            high: key_of(self.high),
             entries,
         }
     }
@@ -179,7 +179,7 @@ impl<'a> ScanRef<'a> {
 }
 
 impl VersionRef<'_> {
-    ghost use Rattle.adya_line.specs.Meaning.Views.{view_version};
+    ghost use Rattle.adya_line.specs.Mirror.{view_version};
 
     pub(crate) fn version(&self) -> Version
         ensures { result ≡ view_version self.now }

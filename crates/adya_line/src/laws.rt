@@ -7,7 +7,7 @@ ghost use Rattle.adya_values.specs.Meaning.Histories.{entry_of, event_of, order_
 ghost use Rattle.adya_line.specs.Meaning.Spelling.{event_text, unfinished_text, order_text, final_text, txn_text};
 ghost use Rattle.adya_line.specs.Meaning.Limits.{IsEntry, IsEvent, IsOrder, IsFinal};
 ghost use Rattle.adya_line.specs.Computing.Reading.{event_at, unfinished_at, order_at, final_at, txn_at_line};
-ghost use Rattle.adya_line.specs.Meaning.Laws.{IsReaderOf, IsOneText, HasPlainTexts};
+ghost use Rattle.adya_line.specs.Laws.{IsReaderOf, IsOneText, HasPlainTexts};
 ghost use Rattle.adya_line.specs.Meaning.HistoryLines.{IsLine as IsHistoryLine, line_text as history_line_text};
 ghost use Rattle.adya_line.specs.Meaning.SerialLines.{IsLine as IsSerialLine, line_text as serial_line_text};
 
@@ -84,13 +84,13 @@ pub fn event_within(event: &Event)
         }
         Event::Scan {
             txn,
-            lo,
-            hi,
+            low,
+            high,
             entries,
         } => {
             let _ = txn.get();
-            let _ = lo.bytes();
-            let _ = hi.bytes();
+            let _ = low.bytes();
+            let _ = high.bytes();
             entries_within(entries);
         }
         Event::Commit { txn } | Event::Abort { txn } => {

@@ -42,10 +42,10 @@ pub fn write_event<W: Write>(event: &Event, out: &mut Watched<W>) -> io::Result<
         } => put_access(b"r", *txn, version, value.bytes(), out),
         Event::Scan {
             txn,
-            lo,
-            hi,
+            low,
+            high,
             entries,
-        } => put_scan(*txn, lo, hi, entries, out),
+        } => put_scan(*txn, low, high, entries, out),
         Event::Commit { txn } => put_end(b"c", *txn, out),
         Event::Abort { txn } => put_end(b"a", *txn, out),
     }
@@ -162,27 +162,27 @@ fn put_entries<W: Write>(entries: &[Entry], out: &mut Watched<W>) -> io::Result<
 }
 
 /// Writes the bounds of a scan.
-fn put_range<W: Write>(lo: &Key, hi: &Key, out: &mut Watched<W>) -> io::Result<()>
-    ensures { Wrote W.contents out.old out.new (lo.now ++ codes "," ++ hi.now) result }
+fn put_range<W: Write>(low: &Key, high: &Key, out: &mut Watched<W>) -> io::Result<()>
+    ensures { Wrote W.contents out.old out.new (low.now ++ codes "," ++ high.now) result }
 {
-    put(lo.bytes(), out)?;
+    put(low.bytes(), out)?;
     put(b",", out)?;
-    put(hi.bytes(), out)
+    put(high.bytes(), out)
 }
 
 /// Writes a scan.
 fn put_scan<W: Write>(
     txn: Txn,
-    lo: &Key,
-    hi: &Key,
+    low: &Key,
+    high: &Key,
     entries: &[Entry],
     out: &mut Watched<W>,
 ) -> io::Result<()>
-    ensures { Wrote W.contents out.old out.new (front_text (codes "s") txn ++ (lo.now ++ codes "," ++ hi.now) ++
+    ensures { Wrote W.contents out.old out.new (front_text (codes "s") txn ++ (low.now ++ codes "," ++ high.now) ++
         flat_map entry_text (map entry_of entries.now) ++ codes ")") result }
 {
     put_front(b"s", txn, out)?;
-    put_range(lo, hi, out)?;
+    put_range(low, high, out)?;
     put_entries(entries, out)?;
     put(b")", out)
 }

@@ -1,4 +1,2 @@
 -- What the promises mean.
 pub mod FirstFaults
-pub mod FirstFaultLaws
-pub mod Laws

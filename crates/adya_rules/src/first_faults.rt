@@ -1,7 +1,7 @@
 //! The named fault of a history is the first one, and so is the named edge of a certificate. Each law is the contract
 //! of a function that does nothing.
 
-ghost use Rattle.adya_rules.specs.Meaning.FirstFaultLaws.{WellFormedIffUnbroken, FirstMalformedIsNamed, NamedAbortedReadIsFirst, FirstAbortedReadIsNamed, NamedIntermediateReadIsFirst, FirstIntermediateReadIsNamed, FirstBackwardIsNamed};
+ghost use Rattle.adya_rules.specs.Laws.FirstFaults.{WellFormedIffUnbroken, FirstMalformedIsNamed, NamedAbortedReadIsFirst, FirstAbortedReadIsNamed, NamedIntermediateReadIsFirst, FirstIntermediateReadIsNamed, FirstBackwardIsNamed};
 
 /// A history is well-formed exactly if it breaks no rule at any line. Only one direction needs that its orders and
 /// finals rise by key, as those of every history do.

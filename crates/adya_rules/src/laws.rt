@@ -1,6 +1,6 @@
 //! The list of faults is empty exactly for checked histories. The law is the contract of a function that does nothing.
 
-ghost use Rattle.adya_rules.specs.Meaning.Laws.{CheckedIfNoFault, CheckedIffNoFault};
+ghost use Rattle.adya_rules.specs.Laws.Faults.{CheckedIfNoFault, CheckedIffNoFault};
 
 /// A history has no fault exactly if it is well-formed without aborted and intermediate reads (Adya 1999, G1a and
 /// G1b). That a history without faults is checked holds whatever its shape. The other direction needs that its orders

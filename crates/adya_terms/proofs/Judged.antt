@@ -7,7 +7,7 @@ use Rattle.adya_values.specs.Computing.Shapes.{is_shape}
 use Rattle.adya_values.specs.Meaning.Acceptance.{IsChecked}
 use Rattle.adya_values.specs.Computing.Faults.{Fault, first_fault}
 use Rattle.adya_terms.specs.Meaning.Faults.{IsFault}
-use Rattle.adya_rules.specs.Meaning.Laws.{CheckedIffNoFault}
+use Rattle.adya_rules.specs.Laws.Faults.{CheckedIffNoFault}
 
 -- a fault that was found is there
 found_is : (found : Option Fault) (e : CheckFault) → found ≡ None → IsFault found e → e ≢ Memory → ⊥

@@ -4,7 +4,7 @@ use Rattle.adya_values.specs.declared.event.Event.{Event as EventValue}
 use Rattle.adya_values.specs.declared.order.Order.{Order as OrderValue}
 use Rattle.adya_values.specs.declared.order.FinalPair.{FinalPair as FinalValue}
 use Rattle.adya_values.specs.declared.history.History.{History as HistoryValue}
-use Rattle.adya_values.specs.Meaning.Values.{history_of}
+use Rattle.adya_values.specs.Mirror.{history_of}
 use Rattle.adya_values.specs.Meaning.Histories.{History}
 use Rattle.adya_values.specs.Computing.Faults.{Fault, first, first_fault, malformed, check_faults, event_faults, fault_unless, unfinished_faults, all_end, order_faults, has_lines, unfinished_line, orders_line, finals_line}
 use Rattle.adya_terms.specs.Meaning.Faults.{IsFault}

@@ -4,7 +4,7 @@ ghost use Rattle.std.specs.Prelude.{◌≡◌, ◌≢◌, ◌^◌, ◌<◌, [], 
 ghost use Rattle.adya_values.specs.Meaning.Keys.{keys_rise};
 ghost use Rattle.adya_values.specs.Meaning.Histories.{entry_of, order_of, final_of};
 ghost use Rattle.adya_values.specs.Meaning.Events.{is_committed};
-ghost use Rattle.adya_values.specs.Meaning.Values.{history_of};
+ghost use Rattle.adya_values.specs.Mirror.{history_of};
 ghost use Rattle.adya_values.specs.Computing.Faults.{first_fault, check_faults};
 ghost use Rattle.adya_values.specs.Meaning.Acceptance.{IsChecked};
 ghost use Rattle.adya_terms.specs.Meaning.Faults.{IsFault};

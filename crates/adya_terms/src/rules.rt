@@ -101,10 +101,10 @@ fn sees_own(writes: &OpenWrites, events: &[Event], event: &Event) -> bool
         },
         Event::Scan {
             txn,
-            lo,
-            hi,
+            low,
+            high,
             entries,
-        } => lists_own(writes.of(*txn), events, *lo, *hi, entries),
+        } => lists_own(writes.of(*txn), events, *low, *high, entries),
         Event::Write { .. } => true,
         Event::Delete { .. } => true,
         Event::Commit { .. } => true,
@@ -118,11 +118,11 @@ fn is_rising(event: &Event) -> bool
 {
     match event {
         Event::Scan {
-            lo,
-            hi,
+            low,
+            high,
             entries,
             ..
-        } => *lo <= *hi && keys_rise(entries) && all_lie_in(*lo, *hi, entries),
+        } => *low <= *high && keys_rise(entries) && all_lie_in(*low, *high, entries),
         Event::Read { .. } => true,
         Event::Write { .. } => true,
         Event::Delete { .. } => true,

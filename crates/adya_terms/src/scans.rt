@@ -15,19 +15,19 @@ use crate::tables::{Tables, wrote_at};
 use crate::{Entry, Event, Key};
 use std::collections::BTreeMap;
 
-fn lies_in(lo: Key, hi: Key, key: Key) -> bool
-    ensures { result ≡ keys.lies_in lo hi key }
+fn lies_in(low: Key, high: Key, key: Key) -> bool
+    ensures { result ≡ keys.lies_in low high key }
 {
-    lo <= key && key <= hi
+    low <= key && key <= high
 }
 
 /// Returns whether each key lies between the two, both included.
-pub(crate) fn all_lie_in(lo: Key, hi: Key, entries: &[Entry]) -> bool
-    ensures { result ≡ list_all (λ w. keys.lies_in lo hi w.version.key) entries.now }
+pub(crate) fn all_lie_in(low: Key, high: Key, entries: &[Entry]) -> bool
+    ensures { result ≡ list_all (λ w. keys.lies_in low high w.version.key) entries.now }
 {
     entries
         .iter()
-        .all(|entry| lies_in(lo, hi, entry.version.key))
+        .all(|entry| lies_in(low, high, entry.version.key))
 }
 
 /// Returns whether each key is below the next.
@@ -105,25 +105,25 @@ impl ScanList<'_> {
 pub(crate) fn lists_own(
     own: Option<&BTreeMap<Key, usize>>,
     events: &[Event],
-    lo: Key,
-    hi: Key,
+    low: Key,
+    high: Key,
     entries: &[Entry],
 ) -> bool
     ensures { (t : ℕ) (before : List EventValue)
         → HasOwn (option_map (λ m. m.now) own.entry) t (map event_of events.now) before
-        → result ≡ sees_own before (Scan t lo hi (map entry_of entries.now)) }
+        → result ≡ sees_own before (Scan t low high (map entry_of entries.now)) }
 {
     let Some(own) = own else {
         return true;
     };
-    if hi < lo {
+    if high < low {
         return true;
     }
     let listed = ScanList {
         entries,
         rising: keys_rise(entries),
     };
-    for (_, at) in own.range(lo..=hi) {
+    for (_, at) in own.range(low..=high) {
         if !listed.has_write(events, *at) {
             return false;
         }

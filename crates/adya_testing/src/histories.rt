@@ -1,7 +1,7 @@
 //! Small histories and certificates from short arguments.
 
 ghost use Rattle.std.specs.Prelude.{◌≡◌, IfOk, map};
-ghost use Rattle.adya_values.specs.Meaning.Values.{events_in, orders_in, finals_in, serial_txns};
+ghost use Rattle.adya_values.specs.Mirror.{events_in, orders_in, finals_in, serial_txns};
 ghost use Rattle.adya_values.specs.Meaning.Histories.{Write, Delete, Read, Scan, Commit, Abort, event_of, entry_of, order_of, final_of};
 ghost use Rattle.adya_values.specs.Meaning.Histories.{Live, Dead};
 
@@ -97,14 +97,14 @@ pub fn read(txn: u64, version: Version, value: &str) -> Result<Event, BadHistory
     })
 }
 
-/// Makes the event that the transaction scans the keys from `lo` to `hi` and is shown the entries.
-pub fn scan(txn: u64, lo: &str, hi: &str, entries: Vec<Entry>) -> Result<Event, BadHistory>
-    ensures { IfOk result (λ e. event_of e ≡ Scan txn lo.now hi.now (map entry_of entries.items)) }
+/// Makes the event that the transaction scans the keys from `low` to `high` and is shown the entries.
+pub fn scan(txn: u64, low: &str, high: &str, entries: Vec<Entry>) -> Result<Event, BadHistory>
+    ensures { IfOk result (λ e. event_of e ≡ Scan txn low.now high.now (map entry_of entries.items)) }
 {
     Ok(Event::Scan {
         txn: Txn::new(txn)?,
-        lo: Key::new(lo.as_bytes())?,
-        hi: Key::new(hi.as_bytes())?,
+        low: Key::new(low.as_bytes())?,
+        high: Key::new(high.as_bytes())?,
         entries,
     })
 }

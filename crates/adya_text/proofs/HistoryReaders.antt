@@ -9,7 +9,7 @@ use Rattle.std.proofs.lemmas.Bool.Decides.{nat_tests}
 use Rattle.std.proofs.lemmas.List.{length-append, length-map}
 use Rattle.std.proofs.lemmas.List.Elements.{filter_map-append}
 use Rattle.adya_values.specs.Computing.Shapes.{is_shape, fits_edition}
-use Rattle.adya_values.specs.Meaning.Values.{history_of}
+use Rattle.adya_values.specs.Mirror.{history_of}
 use Rattle.adya_values.specs.Meaning.Histories.{Event, Order, FinalPair, History, event_of, order_of, final_of}
 use Rattle.adya_values.specs.declared.history.History.{History as HistoryValue}
 use Rattle.adya_line.specs.Meaning.Limits.{IsOrder}

@@ -12,7 +12,7 @@ use Rattle.adya_line.specs.Meaning.Spelling.{head_text, tail, event_text, unfini
 use Rattle.adya_line.specs.Meaning.Limits.{IsEvent, IsOrder, IsFinal}
 use Rattle.adya_text.specs.Meaning.Texts.{IsHistory, history_lines, AreHistoryLines}
 use Rattle.adya_text.specs.Computing.Runs.{IsRun, end_of, HasRun}
-use Rattle.adya_line.specs.Meaning.Laws.{IsOneText, HasPlainTexts}
+use Rattle.adya_line.specs.Laws.{IsOneText, HasPlainTexts}
 use Rattle.adya_line.specs.Meaning.HistoryLines.{Line, HeadLine, EventLine, UnfinishedLine, OrderLine, FinalLine, TailLine}
 use Rattle.adya_line.specs.Meaning.HistoryLines.{IsLine, line_text}
 use Rattle.adya_text.specs.Computing.HistoryRuns.{allows, edition_at, stage_after}

@@ -2,7 +2,7 @@
 use Rattle.std.proofs.Common.{◌≡◌, ℕ, Bool, true, List, [], ◌∷◌, ◌++◌, map, refl, sym, ap, ◌∙◌}
 use Rattle.std.proofs.lemmas.List.{map_push, map-append}
 use Rattle.std.specs.List.{AllByRecursion}
-use Rattle.adya_line.specs.Meaning.Laws.{IsOneText}
+use Rattle.adya_line.specs.Laws.{IsOneText}
 use Rattle.adya_text.specs.Computing.Runs.{IsRun, end_of, HasRun}
 
 pub run_push : {S L : Type 0} (allows : S → L → Bool) (after : S → L → S) (s : S) (xs : List L) (x : L)

@@ -5,7 +5,7 @@ use Rattle.adya_values.specs.Meaning.Keys.{IsTxn}
 use Rattle.adya_line.specs.Meaning.Spelling.{serial_head, tail, txn_text}
 use Rattle.adya_text.specs.Meaning.Texts.{IsSerial, serial_lines, AreSerialLines}
 use Rattle.adya_text.specs.Computing.Runs.{IsRun, end_of, HasRun}
-use Rattle.adya_line.specs.Meaning.Laws.{IsOneText, HasPlainTexts}
+use Rattle.adya_line.specs.Laws.{IsOneText, HasPlainTexts}
 use Rattle.adya_line.specs.Meaning.SerialLines.{Line, HeadLine, TxnLine, TailLine, IsLine, line_text}
 use Rattle.adya_text.specs.Computing.SerialRuns.{allows, next_stage}
 use Rattle.adya_text.specs.declared.serial_reader.Stage.{Stage}

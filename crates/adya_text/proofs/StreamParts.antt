@@ -9,10 +9,10 @@ use Rattle.std.proofs.lemmas.List.Elements.{All-tail}
 use Rattle.std.proofs.Math.Seq.{take-append-add, drop-append-add, take-length, drop-length}
 use Rattle.adya_line.specs.Meaning.Spelling.{tail}
 use Rattle.adya_text.specs.Meaning.Texts.{with_ends}
-use Rattle.adya_line.specs.Meaning.Laws.{IsPlain}
+use Rattle.adya_line.specs.Meaning.Lines.{IsPlain}
 use Rattle.adya_text.specs.Meaning.Faults.{IsCut, HasFront}
 use Rattle.adya_text.specs.Meaning.Streams.{history_part, serial_part}
-use Rattle.adya_text.specs.Meaning.Laws.{HasNoEnd, IsCutAfterEnd, IsWholeWithoutEnd}
+use Rattle.adya_text.specs.Laws.{HasNoEnd, IsCutAfterEnd, IsWholeWithoutEnd}
 use Rattle.adya_text.specs.Machinery.LongLines.{HasStart}
 use Rattle.adya_text.specs.Computing.Streams.{begins_with, end_of_history}
 use Rattle.adya_text.proofs.LineLists.{ends_append}

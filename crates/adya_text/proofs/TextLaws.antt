@@ -5,14 +5,14 @@ use Rattle.std.specs.Prelude.{MatchResult, IsErrOf}
 use Rattle.std.specs.List.{AllByRecursion, filter_map}
 use Rattle.std.proofs.lemmas.List.Elements.{All-nil, All-cons}
 use Rattle.adya_values.specs.Meaning.Histories.{History}
-use Rattle.adya_values.specs.Meaning.Values.{history_of}
+use Rattle.adya_values.specs.Mirror.{history_of}
 use Rattle.adya_values.specs.declared.history.History.{History as HistoryValue}
 use Rattle.adya_values.specs.declared.serial.Serial.{Serial}
 use Rattle.adya_text.specs.Meaning.Texts.{IsHistory, IsSerial, history_lines, serial_lines, history_text, serial_text}
 use Rattle.adya_text.specs.Meaning.Texts.{with_ends, AreHistoryLines, AreSerialLines}
-use Rattle.adya_line.specs.Meaning.Laws.{IsPlain}
+use Rattle.adya_line.specs.Meaning.Lines.{IsPlain}
 use Rattle.adya_text.specs.Meaning.Faults.{IsFaultLine, IsFirstFaulty}
-use Rattle.adya_line.specs.Meaning.Laws.{HasPlainTexts}
+use Rattle.adya_line.specs.Laws.{HasPlainTexts}
 use Rattle.adya_line.specs.Meaning.HistoryLines as H
 use Rattle.adya_line.specs.Meaning.SerialLines as S
 use Rattle.adya_text.specs.Computing.HistoryRuns as HR

@@ -3,4 +3,3 @@ pub mod Texts
 pub mod Faults
 pub mod Streams
 pub mod Reading
-pub mod Laws

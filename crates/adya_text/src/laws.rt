@@ -4,11 +4,11 @@ ghost use Rattle.std.specs.Prelude.{◌<◌, length, map};
 ghost use Rattle.std.specs.List.{AllByRecursion};
 ghost use Rattle.adya_values.specs.Meaning.Keys.{IsTxn};
 ghost use Rattle.adya_values.specs.Meaning.Histories.{event_of, order_of, final_of};
-ghost use Rattle.adya_values.specs.Meaning.Values.{history_of, serial_txns};
+ghost use Rattle.adya_values.specs.Mirror.{history_of, serial_txns};
 ghost use Rattle.adya_line.specs.Meaning.Limits.{IsEvent, IsOrder, IsFinal};
 ghost use Rattle.adya_text.specs.Meaning.Texts.{IsHistory, IsSerial, AreHistoryLines, AreSerialLines};
-ghost use Rattle.adya_text.specs.Meaning.Laws.{HistoriesDiffer, SerialsDiffer, NoHistoryBegins, NoSerialBegins};
-ghost use Rattle.adya_text.specs.Meaning.Laws.{HasOneFaultLine, HasNoFaultWithin, IsCutAfterEnd, IsWholeWithoutEnd};
+ghost use Rattle.adya_text.specs.Laws.{HistoriesDiffer, SerialsDiffer, NoHistoryBegins, NoSerialBegins};
+ghost use Rattle.adya_text.specs.Laws.{HasOneFaultLine, HasNoFaultWithin, IsCutAfterEnd, IsWholeWithoutEnd};
 
 use adya_line::laws::{event_within, final_within, history_lines, order_within, serial_lines};
 use adya_values::{Event, FinalPair, History, Order, Serial, Txn};

@@ -2,7 +2,7 @@
 
 ghost use Rattle.std.specs.Prelude.{◌≡◌, List, [], ℕ, MatchResult, IsErrOf};
 ghost use Rattle.adya_values.specs.Meaning.Histories.{History as Plain};
-ghost use Rattle.adya_values.specs.Meaning.Values.{history_of, serial_txns};
+ghost use Rattle.adya_values.specs.Mirror.{history_of, serial_txns};
 ghost use Rattle.adya_text.specs.Meaning.Texts.{IsHistory, IsSerial, history_text, serial_text};
 ghost use Rattle.adya_text.specs.Meaning.Reading.{ReadsHistory, ReadsSerial};
 

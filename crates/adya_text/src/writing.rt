@@ -2,7 +2,7 @@
 
 ghost use Rattle.std.specs.Prelude.{map};
 ghost use Rattle.adya_values.specs.Meaning.Histories.{event_of, order_of, final_of};
-ghost use Rattle.adya_values.specs.Meaning.Values.{history_of, serial_txns};
+ghost use Rattle.adya_values.specs.Mirror.{history_of, serial_txns};
 ghost use Rattle.devices.specs.Meaning.Writing.{Wrote};
 ghost use Rattle.adya_line.specs.Meaning.Spelling.{head_text, tail};
 ghost use Rattle.adya_line.specs.Meaning.Spelling.{event_text, unfinished_text, order_text, final_text, txn_text};

@@ -1,5 +1,5 @@
 -- What the promises mean. A reading order:
--- Keys and Histories: what histories are made of, as plain values, and Values: what the values of the code hold.
+-- Keys and Histories: what histories are made of, as plain values.
 -- Events and Orders: what events write and see, and the versions of a key in their order.
 -- Selections and Edges: which version of a key an event sees, and the dependencies between transactions.
 -- Rules and Phenomena: when a history is well-formed, and what isolation level PL-3 rules out.
@@ -7,7 +7,6 @@
 -- Serial and Acceptance: agreement with a serial run, and when a certificate is accepted.
 pub mod Keys
 pub mod Histories
-pub mod Values
 pub mod Events
 pub mod Orders
 pub mod Selections

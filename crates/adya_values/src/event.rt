@@ -89,12 +89,12 @@ pub enum Event {
         version: Version,
         value: Value,
     },
-    /// The transaction scans the keys from `lo` to `hi`, both included, and gets these versions. Of a key in the
+    /// The transaction scans the keys from `low` to `high`, both included, and gets these versions. Of a key in the
     /// range that isn't listed it sees the unborn version.
     Scan {
         txn: Txn,
-        lo: Key,
-        hi: Key,
+        low: Key,
+        high: Key,
         entries: Vec<Entry>,
     },
     /// The transaction commits.
@@ -177,13 +177,13 @@ impl Event {
             },
             Event::Scan {
                 txn,
-                lo,
-                hi,
+                low,
+                high,
                 entries,
             } => Event::Scan {
                 txn: *txn,
-                lo: *lo,
-                hi: *hi,
+                low: *low,
+                high: *high,
                 entries: Vec::from_slice(alloc, entries)?,
             },
             Event::Commit { txn } => Event::Commit { txn: *txn },

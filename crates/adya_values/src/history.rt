@@ -47,7 +47,7 @@ pub struct History {
 }
 
 impl History {
-    ghost use Rattle.adya_values.specs.Meaning.Values.{history_of, edition_in, events_in, unfinished_in, orders_in, finals_in};
+    ghost use Rattle.adya_values.specs.Mirror.{history_of, edition_in, events_in, unfinished_in, orders_in, finals_in};
 
     /// Makes a history of the first edition. Returns `BadShape` with the lists if an order has no writer, or the
     /// keys of the orders or of the finals don't strictly rise.

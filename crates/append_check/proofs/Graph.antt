@@ -17,7 +17,7 @@ use Rattle.append_values.specs.Meaning.Histories.{Read as ReadOf, History, outco
 use Rattle.append_values.specs.Meaning.Runs.{Occurs, Explains}
 use Rattle.append_values.specs.Meaning.Reads.{AppendersDiffer, AppendsOnce}
 use Rattle.append_values.specs.Meaning.Reasons.{Precedes, IsDue, IsChain, IsRound}
-use Rattle.append_laws.specs.Meaning.Laws.{ExplainsExactly}
+use Rattle.append_laws.specs.Laws.Explanations.{ExplainsExactly}
 use Rattle.digraph.specs.declared.arc.Arc.{Arc}
 use Rattle.digraph.specs.Meaning.Graphs.{IsGraph, place, IsBefore, IsTopologicalOrder, IsPath}
 use Rattle.append_check.specs.Machinery.Precedences.{place_of, AreListed, arc, IsArc, AreArcs, AreMore, HasArc, AreNodes, IsCycleOf}

@@ -11,7 +11,7 @@ use Rattle.append_values.specs.Meaning.Histories.{Operation, History}
 use Rattle.append_values.specs.Meaning.Runs.{empty, Explains}
 use Rattle.append_values.specs.Meaning.Reads.{appended, own, HasRead, AppendersDiffer}
 use Rattle.append_values.specs.Meaning.Reasons.{Precedes}
-use Rattle.append_laws.specs.Meaning.Laws.{IsWhole, AreWhole}
+use Rattle.append_laws.specs.Laws.Explanations.{IsWhole, AreWhole}
 use Rattle.append_laws.proofs.SerialReads.{all_claims}
 use Rattle.append_laws.proofs.Places.{before_at, after_at, in_front}
 use Rattle.append_laws.proofs.Fronts.{IsListed, once, placed, own_contains}

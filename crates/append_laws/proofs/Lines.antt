@@ -11,8 +11,8 @@ use Rattle.lemmas.proofs.Counts.{count, count-append, count-cons, Contains-count
 use Rattle.append_values.specs.Meaning.Histories.{Operation, History}
 use Rattle.append_values.specs.Meaning.Reads.{appended, own, HasRead, AppendersDiffer, IsPrefixOf}
 use Rattle.append_values.specs.Meaning.Reads.{left}
-use Rattle.append_laws.specs.Meaning.Laws.{IsWhole}
-use Rattle.append_laws.specs.Meaning.Links.{IsInLine, IsLine, IsLeft, IsLongest}
+use Rattle.append_laws.specs.Laws.Explanations.{IsWhole}
+use Rattle.append_laws.specs.Laws.Links.{IsInLine, IsLine, IsLeft, IsLongest}
 use Rattle.append_laws.proofs.Fronts.{own_splits}
 
 abbrev AllAppend : History → ℕ → List ℕ → Type 0

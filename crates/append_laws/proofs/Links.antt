@@ -12,8 +12,8 @@ use Rattle.append_values.specs.Meaning.Histories.{Operation, Transaction, Histor
 use Rattle.append_values.specs.Meaning.Runs.{Explains}
 use Rattle.append_values.specs.Meaning.Reads.{appended, own, HasRead, AppendersDiffer, IsPrefixOf}
 use Rattle.append_values.specs.Meaning.Reasons.{Precedes}
-use Rattle.append_laws.specs.Meaning.Laws.{IsWhole}
-use Rattle.append_laws.specs.Meaning.Links.{IsInLine, IsLine, GoesForward, AllGoForward, without_helpers}
+use Rattle.append_laws.specs.Laws.Explanations.{IsWhole}
+use Rattle.append_laws.specs.Laws.Links.{IsInLine, IsLine, GoesForward, AllGoForward, without_helpers}
 use Rattle.append_laws.proofs.Prefixes.{both_begin, prefix_more, prefix_contains}
 use Rattle.append_laws.proofs.Places.{at_contained, place_same, place_other}
 use Rattle.append_laws.proofs.Fronts.{IsListed, own_splits, own_contains}

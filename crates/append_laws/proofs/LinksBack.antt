@@ -10,7 +10,7 @@ use Rattle.lemmas.proofs.Counts.{count, count-append, count-cons, count_same, co
 use Rattle.append_values.specs.Meaning.Histories.{Operation, History}
 use Rattle.append_values.specs.Meaning.Reads.{appended, own, HasRead, AppendersDiffer}
 use Rattle.append_values.specs.Meaning.Reasons.{Precedes}
-use Rattle.append_laws.specs.Meaning.Links.{IsInLine, IsLine, IsLeft, ArePrecedences}
+use Rattle.append_laws.specs.Laws.Links.{IsInLine, IsLine, IsLeft, ArePrecedences}
 use Rattle.append_laws.proofs.Fronts.{own_contains}
 
 -- the last elements of equal lists are equal, and so is what comes before

@@ -1,8 +1,8 @@
 //! Laws of list-append histories, each proved as the contract of a function that does nothing.
 #![tactic(auto)]
 
-ghost use Rattle.append_laws.specs.Meaning.Laws.{ReasonsRefute, ReadsShowWhatCameBefore, PrecedencesAreNecessary, CyclesRefute, ExplainsExactly, UnwrittenRefutes, IncompatibleRefutes, InternalRefutes, FutureRefutes, TwiceRefutes, IntermediateRefutes, UnrepeatableRefutes, ForkRefutes, BrokenBlocks};
-ghost use Rattle.append_laws.specs.Meaning.Links.{LinksSuffice, LinksExplain, LinksArePrecedences, LinesExist};
+ghost use Rattle.append_laws.specs.Laws.Explanations.{ReasonsRefute, ReadsShowWhatCameBefore, PrecedencesAreNecessary, CyclesRefute, ExplainsExactly, UnwrittenRefutes, IncompatibleRefutes, InternalRefutes, FutureRefutes, TwiceRefutes, IntermediateRefutes, UnrepeatableRefutes, ForkRefutes, BrokenBlocks};
+ghost use Rattle.append_laws.specs.Laws.Links.{LinksSuffice, LinksExplain, LinksArePrecedences, LinesExist};
 
 use digraph::cycle_excludes_order;
 

@@ -2,7 +2,7 @@
 ghost use Rattle.std.specs.Prelude.{◌≡◌, ◌↔◌, ℕ, ◌+◌, ◌<◌, ◌≤◌, Bool, true, IsErr, IfOk, OnOk};
 ghost use Rattle.std.specs.Io.{ReadsAtMost};
 ghost use Rattle.std.specs.Io.KnownBytes.{ReadConsumes};
-ghost use Rattle.devices.specs.Meaning.Watched.{has_failed, reads_left, watched_remaining};
+ghost use Rattle.devices.specs.Mirror.{has_failed, reads_left, watched_remaining};
 
 use crate::Watched;
 use std::io;

@@ -1,3 +1,2 @@
 -- What the promises mean.
 pub mod Graphs
-pub mod Laws

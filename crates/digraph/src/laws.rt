@@ -1,6 +1,6 @@
 //! Laws of directed graphs, each proved as the contract of a function that does nothing.
 
-ghost use Rattle.digraph.specs.Meaning.Laws.{CycleExcludesOrder, OrderOrCycleExists};
+ghost use Rattle.digraph.specs.Laws.{CycleExcludesOrder, OrderOrCycleExists};
 
 /// If arcs form a cycle, no list of nodes has each of them go forward.
 pub fn cycle_excludes_order()

@@ -13,4 +13,3 @@ pub mod Lexing
 pub mod Readers
 pub mod Faults
 pub mod Reading
-pub mod Laws

@@ -1,6 +1,6 @@
 //! Laws of texts and forms. The functions do nothing: each is proved to keep what its clause says.
 
-ghost use Rattle.edn.specs.Meaning.Laws.{FormsAreMade, OneForm, TokensAreRead};
+ghost use Rattle.edn.specs.Laws.{FormsAreMade, OneForm, TokensAreRead};
 
 /// A text begins with one form at most: two forms with which it begins are the same, however they are read.
 pub fn one_form()

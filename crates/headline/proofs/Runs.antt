@@ -4,11 +4,11 @@ use Rattle.std.proofs.lemmas.List.{append-nil}
 use Rattle.std.specs.Io.KnownBytes.{Appends, Consumes, IsAtEnd}
 use Rattle.devices.specs.declared.watched.Watched.{Watched}
 use Rattle.devices.specs.Meaning.Writing.{Grew}
-use Rattle.adya_line.specs.Meaning.Laws.{IsPlain}
+use Rattle.adya_line.specs.Meaning.Lines.{IsPlain}
 use Rattle.adya_text.specs.Meaning.Texts.{history_text, serial_text, with_ends}
 use Rattle.adya_audit.specs.Meaning.Verdicts.{Yes}
 use Rattle.adya_audit.specs.Meaning.TextVerdicts.{IsVerdictOn}
-use Rattle.adya_audit.specs.Meaning.TextLaws.{AcceptedTextsGetYes}
+use Rattle.adya_audit.specs.Laws.Texts.{AcceptedTextsGetYes}
 use Rattle.ssi_line.specs.Meaning.Steps.{Step, Stopped, steps_text}
 use Rattle.ssi_line.specs.Meaning.Ends.{EndsAs, EndsWith}
 use Rattle.ssi_line.specs.declared.end.End.{End}

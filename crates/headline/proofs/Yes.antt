@@ -1,7 +1,7 @@
 -- A yes means serializable.
 use Rattle.std.proofs.Common.{refl}
 use Rattle.adya_audit.specs.Meaning.Verdicts.{Yes}
-use Rattle.adya_audit.specs.Meaning.TextLaws.{YesIffTextsAccepted, AcceptedTextsAreSerializable}
+use Rattle.adya_audit.specs.Laws.Texts.{YesIffTextsAccepted, AcceptedTextsAreSerializable}
 use Rattle.headline.specs.Headline.{YesMeansSerializable}
 
 pub means_serializable : YesIffTextsAccepted → AcceptedTextsAreSerializable → YesMeansSerializable

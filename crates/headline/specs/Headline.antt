@@ -11,7 +11,7 @@
 --   ssi_line, specs/Meaning: Spelling, Replies, Steps (lines, and what is made of them), Ends (what ends a run)
 use Rattle.std.specs.Prelude.{◌≡◌, ◌⊎◌, ℕ, List, ◌++◌}
 use Rattle.adya_values.specs.Meaning.Histories.{History}
-use Rattle.adya_line.specs.Meaning.Laws.{IsPlain}
+use Rattle.adya_line.specs.Meaning.Lines.{IsPlain}
 use Rattle.adya_text.specs.Meaning.Texts.{history_text, with_ends}
 use Rattle.adya_audit.specs.Meaning.Verdicts.{Yes}
 use Rattle.adya_audit.specs.Meaning.TextVerdicts.{IsVerdictOn, AreSerializable}

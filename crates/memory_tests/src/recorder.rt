@@ -1,7 +1,7 @@
 //! A recorder of a store's history.
 
 ghost use Rattle.std.specs.Prelude.{◌≡◌};
-ghost use Rattle.ssi_recorder.specs.Meaning.Recorder.{places_of};
+ghost use Rattle.ssi_recorder.specs.Mirror.{places_of};
 
 use crate::layers::Layer;
 use crate::reply::Reply;

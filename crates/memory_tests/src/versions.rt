@@ -2,7 +2,7 @@
 
 ghost use Rattle.std.specs.Prelude.{◌≡◌, [], true, IfOk};
 ghost use Rattle.adya_values.specs.Meaning.Keys.{key_le};
-ghost use Rattle.ssi_versions.specs.Meaning.Chains.{IsAbove};
+ghost use Rattle.ssi_versions.specs.Mirror.{IsAbove};
 
 use crate::layers::Layer;
 use crate::reply::{Reply, part, put_empty, put_entry, put_pair};
@@ -96,7 +96,7 @@ impl<C: Chains + Drop> Versions<C> {
     }
 
     /// `begin TXN SNAPSHOT`, which is a new view, `put KEY VALUE`, `get KEY`, `scan LOW HIGH`, `first N LOW HIGH`,
-    /// `owns KEY`, `writes`, `txn`, `stamp` and `count`.
+    /// `owns KEY`, `writes`, `txn`, `snapshot` and `count`.
     fn call_view(&mut self, words: &mut Words, reply: &mut Reply) -> Result<(), Fault> {
         match words.word() {
             "begin" => self.begin(words),
@@ -166,7 +166,7 @@ fn ask_view(name: &str, view: &View, words: &mut Words, reply: &mut Reply) -> Re
         "owns" => Ok(put(b"no", reply)?),
         "writes" => put_writes(view.writes(), reply),
         "txn" => Ok(put_number(u64::from(view.txn().get()), reply)?),
-        "stamp" => Ok(put_number(view.stamp(), reply)?),
+        "snapshot" => Ok(put_number(view.snapshot(), reply)?),
         "count" => Ok(put_number(u64::from(view.count()), reply)?),
         _ => Err(Fault::Call),
     }

@@ -1,7 +1,5 @@
 -- What the promises mean. A reading order:
 -- Snapshots: snapshot histories, dangerous structures and safe histories.
 -- Cycles: when a cycle holds a dangerous structure.
--- Laws: which cycles a snapshot history can have.
 pub mod Snapshots
 pub mod Cycles
-pub mod Laws

@@ -1,6 +1,6 @@
 //! Laws of snapshot histories, each proved as the contract of a function that does nothing.
 
-ghost use Rattle.snapshot_histories.specs.Meaning.Laws.{CyclesAreDangerous, SafeHistoriesHaveNoCycle};
+ghost use Rattle.snapshot_histories.specs.Laws.{CyclesAreDangerous, SafeHistoriesHaveNoCycle};
 
 /// Each cycle in the graph of a checked snapshot history holds a dangerous structure, and the transaction at its end is
 /// the first of the cycle to commit (Fekete, Liarokapis, O'Neil, O'Neil and Shasha 2005; the commit order as in Ports and

@@ -5,7 +5,7 @@ use Rattle.std.proofs.lemmas.List.Elements.{All-nil, All-cons, All-append, All-f
 use Rattle.adya_values.specs.Meaning.Histories.{Entry}
 use Rattle.adya_values.specs.Meaning.Events.{listed}
 use Rattle.ssi_versions.specs.Meaning.Changes.{Held, listing, stamped}
-use Rattle.ssi_versions.specs.Meaning.Chains.{chain_of, IsAbove}
+use Rattle.ssi_versions.specs.Mirror.{chain_of, IsAbove}
 
 above_listing : (n : ℕ) (o : Option Entry) → All (λ h. h.stamp < suc n) (listing (stamped n o))
 above_listing n None = All-nil (λ h. h.stamp < suc n)

@@ -1,7 +1,7 @@
 //! Commits over chains: each reads four keys and installs a version of one.
 
 ghost use Rattle.std.specs.Prelude.{◌≡◌, [], suc};
-ghost use Rattle.ssi_versions.specs.Meaning.Chains.{IsAbove};
+ghost use Rattle.ssi_versions.specs.Mirror.{IsAbove};
 
 use crate::work::{Done, Work, key_of, txn_of};
 use adya_values::{Content, Mod, Version};

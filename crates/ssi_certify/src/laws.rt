@@ -1,6 +1,6 @@
 //! Laws of certificates of snapshot histories, each proved as the contract of a function that does nothing.
 
-ghost use Rattle.ssi_certify.specs.Meaning.Laws.{SafeHistoriesAreAccepted};
+ghost use Rattle.ssi_certify.specs.Laws.{SafeHistoriesAreAccepted};
 
 use adya_dsg::certified_iff_no_phenomenon;
 pub use snapshot_histories::laws::{cycles_are_dangerous, safe_histories_have_no_cycle};

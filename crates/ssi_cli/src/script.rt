@@ -1,7 +1,7 @@
 //! A run over a script.
 
 ghost use Rattle.std.specs.Prelude.{◌≡◌, ◌≢◌, true, false, Ok, Err, IfOk};
-ghost use Rattle.devices.specs.Meaning.Watched.{has_failed};
+ghost use Rattle.devices.specs.Mirror.{has_failed};
 ghost use Rattle.ssi_cli.specs.Meaning.Scripts.{Ran, Certified, course_of};
 
 use crate::ScriptFault;

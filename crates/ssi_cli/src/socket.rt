@@ -1,9 +1,9 @@
 //! A run over the connections of a socket.
 
 ghost use Rattle.std.specs.Prelude.{◌≡◌, List, true, Err, IfOk};
-ghost use Rattle.devices.specs.Meaning.Watched.{has_failed};
+ghost use Rattle.devices.specs.Mirror.{has_failed};
 ghost use Rattle.ssi_store.specs.Meaning.Courses.{New};
-ghost use Rattle.ssi_store.specs.Meaning.Stores.{IsAt};
+ghost use Rattle.ssi_store.specs.Mirror.Stores.{IsAt};
 ghost use Rattle.ssi_line.specs.Meaning.Steps.{Step, AllMayFollow, course_after};
 ghost use Rattle.ssi_line.specs.Meaning.Ends.{WentOn};
 ghost use Rattle.ssi_cli.specs.Meaning.Scripts.{Certified};

@@ -1,7 +1,7 @@
 //! The store that a run begins with.
 
 ghost use Rattle.ssi_store.specs.Meaning.Courses.{New};
-ghost use Rattle.ssi_store.specs.Meaning.Stores.{IsAt};
+ghost use Rattle.ssi_store.specs.Mirror.Stores.{IsAt};
 
 use ssi_reads::{IndexMarks, Marks};
 use ssi_store::Store;

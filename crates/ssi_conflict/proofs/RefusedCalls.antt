@@ -3,7 +3,7 @@ use Rattle.std.proofs.Common.{◌&&◌, ◌≡◌, ℕ, Bool, true≢false, List
 use Rattle.std.specs.declared.alloc.AllocError.{AllocError}
 use Rattle.ssi_conflict.specs.Meaning.Calls.{Call, meets}
 use Rattle.ssi_conflict.specs.Machinery.Rows.{Row, StandsFor}
-use Rattle.ssi_conflict.specs.Meaning.Standing.{carried}
+use Rattle.ssi_conflict.specs.Mirror.{carried}
 use Rattle.ssi_conflict.specs.declared.answer.Answer.{Answer}
 
 -- the same rows and marks stand for the same calls

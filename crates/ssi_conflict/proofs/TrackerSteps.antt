@@ -4,7 +4,7 @@ use Rattle.std.proofs.lemmas.Bool.{cases_eq}
 use Rattle.ssi_conflict.specs.Meaning.Calls.{Call, Begins, stamp_of, has_begun, is_open, AreAllowed}
 use Rattle.ssi_conflict.specs.Meaning.Kept.{is_kept}
 use Rattle.ssi_conflict.specs.Machinery.Rows.{Row, StandsFor, with_later}
-use Rattle.ssi_conflict.specs.Meaning.Standing.{Stands}
+use Rattle.ssi_conflict.specs.Mirror.{Stands}
 use Rattle.ssi_conflict.specs.declared.tracker.Tracker.{Tracker}
 use Rattle.ssi_conflict.proofs.AllowedCalls.{open_from, kept_open}
 use Rattle.ssi_conflict.proofs.RefusedCalls.{same_stands}

@@ -1,7 +1,7 @@
 //! Laws of the calls of a conflict tracker, each proved as the contract of a function that does nothing: which pairs
 //! and pivots stand, which of them a call can make, and which transactions need not be remembered.
 
-ghost use Rattle.ssi_conflict.specs.Meaning.Laws.{PairsAreFound, PivotsAreNamed, OrderedPivotsAreNamed, OrderedPivotsArePivots, PairsStay, BeginsMakeNoPair, AbortsMakeNoPair, NewPairsAreKept, ForgottenForGood, NewPivotsAreKept, NewOrderedPivotsAreKept, CommitMakesOwnPivot, ReadMakesWritersPivots, ReadMakesWritersOrderedPivots};
+ghost use Rattle.ssi_conflict.specs.Laws.{PairsAreFound, PivotsAreNamed, OrderedPivotsAreNamed, OrderedPivotsArePivots, PairsStay, BeginsMakeNoPair, AbortsMakeNoPair, NewPairsAreKept, ForgottenForGood, NewPivotsAreKept, NewOrderedPivotsAreKept, CommitMakesOwnPivot, ReadMakesWritersPivots, ReadMakesWritersOrderedPivots};
 
 /// The pairs that the calls add one by one are exactly those that one finds by looking back over all calls. So the
 /// anti-dependencies between concurrent transactions (Cahill, Röhm and Fekete 2008, section 3) can be noted as they

@@ -6,7 +6,7 @@ ghost use Rattle.ssi_reads.specs.Meaning.Marks.{has_txn, with_mark, IsEmpty, IsS
 ghost use Rattle.ssi_conflict.specs.Meaning.Calls.{Call, Begins, Reads, Commits, Aborts, IsAllowed};
 ghost use Rattle.ssi_conflict.specs.Meaning.Pairs.{IsOrderedPivot, IsSmallest};
 ghost use Rattle.ssi_conflict.specs.Meaning.Kept.{kept_count};
-ghost use Rattle.ssi_conflict.specs.Meaning.Standing.{Holds, Stands, IsReady, pivot_of, carried};
+ghost use Rattle.ssi_conflict.specs.Mirror.{Holds, Stands, IsReady, pivot_of, carried};
 ghost use Rattle.ssi_conflict.specs.Machinery.Tables.{row_at, met_if, any_pivots};
 
 use crate::answer::Answer;
@@ -35,15 +35,15 @@ pub struct Tracker<M> {
     readers: Vec<Txn>,
 }
 
-/// Adds a mark over the keys from `lo` to `hi`.
-fn mark<M: Marks>(marks: &mut M, txn: Txn, lo: Key, hi: Key) -> Result<(), AllocError>
-    ensures marks { OnOk result (IsSame (M.marked marks.new) (with_mark txn lo hi (M.marked marks.old))) }
+/// Adds a mark over the keys from `low` to `high`.
+fn mark<M: Marks>(marks: &mut M, txn: Txn, low: Key, high: Key) -> Result<(), AllocError>
+    ensures marks { OnOk result (IsSame (M.marked marks.new) (with_mark txn low high (M.marked marks.old))) }
     ensures refused { OnErr result (IsSame (M.marked marks.new) (M.marked marks.old)) }
 {
-    if lo == hi {
-        marks.mark_key(txn, lo)
+    if low == high {
+        marks.mark_key(txn, low)
     } else {
-        marks.mark_range(txn, lo, hi)
+        marks.mark_range(txn, low, high)
     }
 }
 
@@ -116,30 +116,30 @@ impl<M: Marks> Tracker<M> {
         self.table.open(self.alloc, txn, snapshot)
     }
 
-    /// Records that an open transaction reads the keys from `lo` to `hi`, both included. Returns `Unsafe` with the
+    /// Records that an open transaction reads the keys from `low` to `high`, both included. Returns `Unsafe` with the
     /// smallest pivot that would stand, and records nothing then. `AllocError` if out of memory: all is as before then.
     ///
     /// It walks the writes of kept transactions: of a single key only those that came after the snapshot, of a range
     /// all. Each takes logarithmic time.
-    pub fn on_read(&mut self, txn: Txn, lo: Key, hi: Key) -> Result<Answer, AllocError>
-        ensures stands { (calls : List Call) → Stands M.marked self.old calls → IsAllowed (Reads txn lo hi) calls
-            → Stands M.marked self.new (carried (Reads txn lo hi) calls result) }
-        ensures answer { (calls : List Call) → Stands M.marked self.old calls → IsAllowed (Reads txn lo hi) calls
-            → IfOk result (λ a. IsSmallest IsOrderedPivot (Reads txn lo hi ∷ calls) (pivot_of a)) }
+    pub fn on_read(&mut self, txn: Txn, low: Key, high: Key) -> Result<Answer, AllocError>
+        ensures stands { (calls : List Call) → Stands M.marked self.old calls → IsAllowed (Reads txn low high) calls
+            → Stands M.marked self.new (carried (Reads txn low high) calls result) }
+        ensures answer { (calls : List Call) → Stands M.marked self.old calls → IsAllowed (Reads txn low high) calls
+            → IfOk result (λ a. IsSmallest IsOrderedPivot (Reads txn low high ∷ calls) (pivot_of a)) }
     {
         let Some(kept) = self.table.get(txn) else {
             return Ok(Answer::Safe);
         };
         let reading = Reading {
             snapshot: kept.snapshot,
-            low: lo,
-            high: hi,
+            low,
+            high,
         };
         let met = self.table.met(&reading);
         if let Some(pivot) = met.pivot {
             return Ok(Answer::Unsafe { pivot });
         }
-        mark(&mut self.marks, txn, lo, hi)?;
+        mark(&mut self.marks, txn, low, high)?;
         self.table.add_out(txn, met.first);
         Ok(Answer::Safe)
     }

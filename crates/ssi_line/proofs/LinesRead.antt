@@ -5,7 +5,7 @@ use Rattle.std.proofs.lemmas.Bool.{ltb-true, lt-ltb}
 use Rattle.std.proofs.lemmas.Option.{same_Some, none-some}
 use Rattle.adya_values.specs.Meaning.Keys.{is_key, is_value, IsTxn, IsMod}
 use Rattle.adya_line.specs.Meaning.Spelling.{txn_text}
-use Rattle.adya_line.specs.Meaning.Laws.{IsReaderOf}
+use Rattle.adya_line.specs.Laws.{IsReaderOf}
 use Rattle.adya_line.specs.Computing.Reading.{Gives, txn_at_line}
 use Rattle.ssi_store.specs.Meaning.Sessions.{is_session}
 use Rattle.ssi_store.specs.Meaning.Courses.{Command, Begin, Get, Put, Del, Scan, ScanFirst, Commit, Abort, Collect, Stat}

@@ -6,9 +6,9 @@ use Rattle.std.specs.Io.KnownBytes.{Consumes, Appends, prepend_known}
 use Rattle.std.proofs.KnownBytes.{Consumes-trans, Consumes-nil, Appends-nil, Appends-trans, prepend_known-nil}
 use Rattle.std.proofs.lemmas.List.Elements.{All-push}
 use Rattle.devices.specs.declared.watched.Watched.{Watched}
-use Rattle.devices.specs.Meaning.Watched.{watched_contents}
+use Rattle.devices.specs.Mirror.{watched_contents}
 use Rattle.devices.specs.Meaning.Writing.{Grew, Broke}
-use Rattle.adya_line.specs.Meaning.Laws.{IsPlain}
+use Rattle.adya_line.specs.Meaning.Lines.{IsPlain}
 use Rattle.adya_text.specs.Meaning.Texts.{with_ends}
 use Rattle.ssi_store.specs.Meaning.Courses.{Course}
 use Rattle.ssi_line.specs.Meaning.Steps.{Step, Given, Dumped, NotDumped, Stopped, NotRead, TooLong, IsStep, AreSteps}

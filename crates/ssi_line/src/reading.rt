@@ -3,7 +3,7 @@
 ghost use Rattle.std.specs.Prelude.{◌≡◌, option_map, MatchOption};
 ghost use Rattle.std.specs.Int.NonZero.{non_zero_u16_get};
 ghost use Rattle.adya_line.specs.Computing.Reading.{Gives};
-ghost use Rattle.ssi_store.specs.Meaning.Commands.{command_of};
+ghost use Rattle.ssi_store.specs.Mirror.Commands.{command_of};
 ghost use Rattle.ssi_line.specs.Meaning.Spelling.{line_of, IsNoLine, IsOnlyLineOf};
 ghost use Rattle.ssi_line.specs.Computing.Reading.{cut, one_word, of_session, of_key, limit_at, limited, scan_at, of_more};
 ghost use Rattle.ssi_line.specs.Computing.Reading.{with_key, command_at, line_at};
@@ -138,17 +138,17 @@ fn of_more(word: &[u8], session: Session, key: Key, rest: &[u8]) -> Option<Comma
 }
 
 #[tactic(auto, unfolding(crate::specs::Computing::Reading::scan_at))]
-fn scan_at(session: Session, lo: Key, rest: &[u8]) -> Option<Command>
-    ensures { Gives command_of result (scan_at session lo rest.now) }
+fn scan_at(session: Session, low: Key, rest: &[u8]) -> Option<Command>
+    ensures { Gives command_of result (scan_at session low rest.now) }
 {
     let (name, rest) = cut(rest);
-    let hi = Key::new(name).ok()?;
+    let high = Key::new(name).ok()?;
     match rest {
-        None => Some(Command::Scan { session, lo, hi }),
+        None => Some(Command::Scan { session, low, high }),
         Some(rest) => Some(Command::ScanFirst {
             session,
-            lo,
-            hi,
+            low,
+            high,
             limit: limit_at(rest)?,
         }),
     }

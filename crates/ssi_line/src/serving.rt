@@ -1,8 +1,8 @@
 //! A run over an input.
 
 ghost use Rattle.std.specs.Prelude.{◌≡◌, List, [], ◌∷◌, ℕ, IsErr, true, false};
-ghost use Rattle.devices.specs.Meaning.Watched.{has_failed};
-ghost use Rattle.ssi_store.specs.Meaning.Stores.{IsAt};
+ghost use Rattle.devices.specs.Mirror.{has_failed};
+ghost use Rattle.ssi_store.specs.Mirror.Stores.{IsAt};
 ghost use Rattle.ssi_line.specs.Meaning.Steps.{Step, step_text};
 ghost use Rattle.ssi_line.specs.Meaning.Ends.{WentOn, Took, EndsAs};
 ghost use Rattle.ssi_line.specs.Machinery.Lines.{kept};

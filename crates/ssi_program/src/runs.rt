@@ -2,7 +2,7 @@
 
 ghost use Rattle.std.specs.Prelude.{◌≡◌, ◌↔◌, ◌⊎◌, true, List, ℕ, IfOk, IsOk, Ok, Err, IfSome, IsErrOf};
 ghost use Rattle.std.specs.Io.KnownBytes.{Appends};
-ghost use Rattle.devices.specs.Meaning.Watched.{has_failed, watched_remaining, watched_contents};
+ghost use Rattle.devices.specs.Mirror.{has_failed, watched_remaining, watched_contents};
 ghost use Rattle.adya_audit.specs.Meaning.TextVerdicts.{IsAcceptedStream, IsSerializableStream, AreAccepted, AreSerializable};
 ghost use Rattle.adya_audit.specs.Meaning.Answers.{Answer, Certificate, IsAnswer, answer_text};
 ghost use Rattle.ssi_store.specs.Meaning.Courses.{New};

@@ -45,8 +45,8 @@ impl Marks for IndexMarks {
         self.keys.mark(txn, key)
     }
 
-    fn mark_range(&mut self, txn: Txn, lo: Key, hi: Key) -> Result<(), AllocError> {
-        self.ranges.mark(txn, lo, hi)
+    fn mark_range(&mut self, txn: Txn, low: Key, high: Key) -> Result<(), AllocError> {
+        self.ranges.mark(txn, low, high)
     }
 
     fn readers_of(&self, key: Key) -> Result<Vec<Txn>, AllocError> {

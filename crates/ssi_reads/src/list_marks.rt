@@ -60,8 +60,8 @@ impl Marks for ListMarks {
         self.mark_range(txn, key, key)
     }
 
-    fn mark_range(&mut self, txn: Txn, lo: Key, hi: Key) -> Result<(), AllocError> {
-        let span = Span { low: lo, high: hi };
+    fn mark_range(&mut self, txn: Txn, low: Key, high: Key) -> Result<(), AllocError> {
+        let span = Span { low, high };
         self.marks.push(Mark { txn, span })?;
         Ok(())
     }

@@ -18,10 +18,10 @@ pub trait Marks {
         ensures marks { OnOk result (IsSame (marked self.new) (with_mark txn key key (marked self.old))) }
         ensures refused { OnErr result (IsSame (marked self.new) (marked self.old)) };
 
-    /// Adds a mark of the transaction over each key from `lo` to `hi`, both included; over none if `hi` is below `lo`.
+    /// Adds a mark of the transaction over each key from `low` to `high`, both included; over none if `high` is below `low`.
     /// `AllocError` if out of memory: the set is as before then.
-    fn mark_range(&mut self, txn: Txn, lo: Key, hi: Key) -> Result<(), AllocError>
-        ensures marks { OnOk result (IsSame (marked self.new) (with_mark txn lo hi (marked self.old))) }
+    fn mark_range(&mut self, txn: Txn, low: Key, high: Key) -> Result<(), AllocError>
+        ensures marks { OnOk result (IsSame (marked self.new) (with_mark txn low high (marked self.old))) }
         ensures refused { OnErr result (IsSame (marked self.new) (marked self.old)) };
 
     /// Returns the transactions with a mark over the key, by rising number, each once. `AllocError` if out of memory.

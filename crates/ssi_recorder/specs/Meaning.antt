@@ -1,6 +1,2 @@
--- What a recorder holds and what it returns. A reading order:
--- Recorded: the history that a list of events makes. Recorder: what is seen of a
--- recorder. Laws: what follows from the definitions.
+-- What a recorder returns. Recorded: the history that a list of events makes.
 pub mod Recorded
-pub mod Recorder
-pub mod Laws

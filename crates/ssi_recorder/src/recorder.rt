@@ -2,7 +2,7 @@
 
 ghost use Rattle.std.specs.Prelude.{◌≡◌, [], ◌∷◌, ◌++◌, ◌+◌, ◌<◌, ◌≤◌, map, OnOk, OnErr, IfOk, IfErr, vec_len, vec_capacity, length, true};
 ghost use Rattle.adya_values.specs.Meaning.Histories.{event_of, Abort};
-ghost use Rattle.adya_values.specs.Meaning.Values.{history_of};
+ghost use Rattle.adya_values.specs.Mirror.{history_of};
 ghost use Rattle.adya_values.specs.Computing.Shapes.{numbers_rise};
 ghost use Rattle.adya_values.specs.declared.edition.Edition.TheVariants as Edition;
 ghost use Rattle.ssi_recorder.specs.Meaning.Recorded.{history_of_events};
@@ -21,7 +21,7 @@ pub struct Recorder {
 }
 
 impl Recorder {
-    ghost use Rattle.ssi_recorder.specs.Meaning.Recorder.{events_of, places_of, HasRoom, IsAsBefore};
+    ghost use Rattle.ssi_recorder.specs.Mirror.{events_of, places_of, HasRoom, IsAsBefore};
 
     /// Makes a recorder with no events and no kept places. It takes no memory.
     pub fn new(alloc: Global) -> Self

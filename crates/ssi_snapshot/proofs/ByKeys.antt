@@ -8,7 +8,7 @@ use Rattle.adya_values.specs.Meaning.Histories.{Entry}
 use Rattle.adya_values.specs.Meaning.Events.{listed}
 use Rattle.ssi_versions.specs.Meaning.Changes.{AreApart}
 use Rattle.ssi_snapshot.specs.Meaning.Listings.{keys}
-use Rattle.ssi_snapshot.specs.Meaning.Laws.{ListIsByKey}
+use Rattle.ssi_snapshot.specs.Laws.{ListIsByKey}
 
 -- the first of a list is of another key than the later ones
 head_apart : (v : Entry) (vs : List Entry) (w : Entry) → AreApart (v ∷ vs) → Contains vs w → key_eq v.version.key w.version.key ≡ false

@@ -13,7 +13,7 @@ use Rattle.adya_values.specs.Meaning.Keys.{key_eq, key_lt, keys_rise, lies_in}
 use Rattle.adya_values.specs.Meaning.Histories.{Entry, entry_of}
 use Rattle.adya_values.specs.Meaning.Events.{entry, listed}
 use Rattle.ssi_versions.specs.Meaning.Changes.{Held, otherwise, entry_in}
-use Rattle.ssi_versions.specs.Meaning.Chains.{write_of}
+use Rattle.ssi_versions.specs.Mirror.{write_of}
 use Rattle.ssi_snapshot.specs.Meaning.Listings.{keys}
 use Rattle.ssi_snapshot.specs.Machinery.Stored.{are_keyed, entry_key, Write, stored_at}
 
@@ -46,40 +46,40 @@ keyed_put (e ∷ es) x keyed =
 
 -- what the writes show of the key if it lies in the range
 abbrev pub own_in : List ℕ → List ℕ → List ℕ → List Write → Option Entry
-own_in lo hi key ws = if lies_in lo hi key then listed key (map write_of ws) else None
+own_in low high key ws = if lies_in low high key then listed key (map write_of ws) else None
 
 -- one own write more, from the back
-pub own_more : (lo hi key : List ℕ) (ws : List Write) (i j : ℕ) (w : Write) (es fs : Stored) (first : Option Entry)
-    → i < length ws → w ≡ get_or ws i w → j ≡ i + 1 → lies_in lo hi w.0.key ≡ true
+pub own_more : (low high key : List ℕ) (ws : List Write) (i j : ℕ) (w : Write) (es fs : Stored) (first : Option Entry)
+    → i < length ws → w ≡ get_or ws i w → j ≡ i + 1 → lies_in low high w.0.key ≡ true
     → stored_at key fs ≡ (if key_eq w.0.key key then Some (write_of w) else stored_at key es)
-    → stored_at key es ≡ otherwise (own_in lo hi key (drop j ws)) first
-    → stored_at key fs ≡ otherwise (own_in lo hi key (drop i ws)) first
-own_more lo hi key ws i j w es fs first less is next inside gives was =
+    → stored_at key es ≡ otherwise (own_in low high key (drop j ws)) first
+    → stored_at key fs ≡ otherwise (own_in low high key (drop i ws)) first
+own_more low high key ws i j w es fs first less is next inside gives was =
     let rest = listed key (map write_of (drop (i + 1) ws)) in
     gives
     ∙ elim (key_eq w.0.key key) as (λ b. key_eq w.0.key key ≡ b → (if b then Some (write_of w) else stored_at key es)
-    ≡ otherwise (if lies_in lo hi key then (if b then Some (write_of w) else rest) else None) first) [
-      | true ↦ λ t. ap (λ m. otherwise (if m then Some (write_of w) else None) first) (sym (ap (lies_in lo hi) (sym (bytes_eq-same w.0.key key t)) ∙ inside))
-      | false ↦ λ f. subst (λ n. stored_at key es ≡ otherwise (own_in lo hi key (drop n ws)) first) next was
+    ≡ otherwise (if lies_in low high key then (if b then Some (write_of w) else rest) else None) first) [
+      | true ↦ λ t. ap (λ m. otherwise (if m then Some (write_of w) else None) first) (sym (ap (lies_in low high) (sym (bytes_eq-same w.0.key key t)) ∙ inside))
+      | false ↦ λ f. subst (λ n. stored_at key es ≡ otherwise (own_in low high key (drop n ws)) first) next was
     ] refl
-    ∙ ap (λ ys. otherwise (own_in lo hi key ys) first) (sym (drop_step ws i w less is))
+    ∙ ap (λ ys. otherwise (own_in low high key ys) first) (sym (drop_step ws i w less is))
 
 -- and one that isn't in the range
-pub own_less : (lo hi key : List ℕ) (ws : List Write) (i j : ℕ) (w : Write) (es : Stored) (first : Option Entry)
-    → i < length ws → w ≡ get_or ws i w → j ≡ i + 1 → lies_in lo hi w.0.key ≡ false
-    → stored_at key es ≡ otherwise (own_in lo hi key (drop j ws)) first
-    → stored_at key es ≡ otherwise (own_in lo hi key (drop i ws)) first
-own_less lo hi key ws i j w es first less is next outside was =
+pub own_less : (low high key : List ℕ) (ws : List Write) (i j : ℕ) (w : Write) (es : Stored) (first : Option Entry)
+    → i < length ws → w ≡ get_or ws i w → j ≡ i + 1 → lies_in low high w.0.key ≡ false
+    → stored_at key es ≡ otherwise (own_in low high key (drop j ws)) first
+    → stored_at key es ≡ otherwise (own_in low high key (drop i ws)) first
+own_less low high key ws i j w es first less is next outside was =
     let rest = listed key (map write_of (drop (i + 1) ws)) in
-    let was' : stored_at key es ≡ otherwise (if lies_in lo hi key then rest else None) first =
-    subst (λ n. stored_at key es ≡ otherwise (own_in lo hi key (drop n ws)) first) next was in
-    elim (key_eq w.0.key key) as (λ b. key_eq w.0.key key ≡ b → stored_at key es ≡ otherwise (if lies_in lo hi key then (if b then Some (write_of w) else rest) else None) first) [
+    let was' : stored_at key es ≡ otherwise (if lies_in low high key then rest else None) first =
+    subst (λ n. stored_at key es ≡ otherwise (own_in low high key (drop n ws)) first) next was in
+    elim (key_eq w.0.key key) as (λ b. key_eq w.0.key key ≡ b → stored_at key es ≡ otherwise (if lies_in low high key then (if b then Some (write_of w) else rest) else None) first) [
       | true ↦ λ t.
-          let out : lies_in lo hi key ≡ false = ap (lies_in lo hi) (sym (bytes_eq-same w.0.key key t)) ∙ outside in
+          let out : lies_in low high key ≡ false = ap (lies_in low high) (sym (bytes_eq-same w.0.key key t)) ∙ outside in
           was' ∙ ap (λ m. otherwise (if m then rest else None) first) out ∙ ap (λ m. otherwise (if m then Some (write_of w) else None) first) (sym out)
       | false ↦ λ f. was'
     ] refl
-    ∙ ap (λ ys. otherwise (own_in lo hi key ys) first) (sym (drop_step ws i w less is))
+    ∙ ap (λ ys. otherwise (own_in low high key ys) first) (sym (drop_step ws i w less is))
 
 -- the map as a list
 pub listed_values : (q : List ℕ) (es : Stored) → are_keyed entry_key es ≡ true → listed q (map entry_of (values_of es)) ≡ stored_at q es

@@ -17,7 +17,7 @@ use Rattle.adya_values.specs.Meaning.Serial.{pair, visible_pair_of, visible_pair
 use Rattle.adya_values.proofs.Keys.{keys_rise-tail}
 use Rattle.adya_values.proofs.KeyLookups.{listed_found}
 use Rattle.ssi_snapshot.specs.Meaning.Listings.{keys, within, IsListing, up_to, key_or, reached}
-use Rattle.ssi_snapshot.specs.Meaning.Laws.{LimitListsItsRange}
+use Rattle.ssi_snapshot.specs.Laws.{LimitListsItsRange}
 use Rattle.ssi_snapshot.proofs.Unique.{skip, below}
 
 -- ---- at or below

@@ -7,7 +7,7 @@ use Rattle.adya_values.specs.Meaning.Histories.{Entry}
 use Rattle.adya_values.specs.Meaning.Events.{listed}
 use Rattle.ssi_snapshot.specs.Meaning.Writes.{put_write, mod_of}
 use Rattle.ssi_snapshot.specs.Meaning.Listings.{keys}
-use Rattle.ssi_snapshot.specs.Meaning.Laws.{PutIsFound, PutKeepsOrder}
+use Rattle.ssi_snapshot.specs.Laws.{PutIsFound, PutKeepsOrder}
 
 pub put_found : PutIsFound
 put_found w [] key = refl

@@ -1,6 +1,6 @@
 //! Laws of lists of writes and of what a scan lists, each proved as the contract of a function that does nothing.
 
-ghost use Rattle.ssi_snapshot.specs.Meaning.Laws.{PutIsFound, PutKeepsOrder, ListIsByKey, ListingIsUnique, LimitTakesFirst, LimitListsItsRange};
+ghost use Rattle.ssi_snapshot.specs.Laws.{PutIsFound, PutKeepsOrder, ListIsByKey, ListingIsUnique, LimitTakesFirst, LimitListsItsRange};
 
 /// After a write the list has this write of its key, and of every other key what it had.
 pub fn put_is_found()

@@ -8,7 +8,7 @@ ghost use Rattle.adya_values.specs.Meaning.Keys.{key_eq, lies_in};
 ghost use Rattle.adya_values.specs.Meaning.Histories.{entry_of};
 ghost use Rattle.adya_values.specs.Meaning.Events.{listed};
 ghost use Rattle.ssi_versions.specs.Meaning.Changes.{otherwise, entry_in};
-ghost use Rattle.ssi_versions.specs.Meaning.Chains.{held_of, write_of, found_in};
+ghost use Rattle.ssi_versions.specs.Mirror.{held_of, write_of, found_in};
 ghost use Rattle.ssi_snapshot.specs.Machinery.Stored.{are_keyed, entry_key, stored_at};
 
 use adya_values::{Content, Entry, Key, Version};
@@ -44,22 +44,22 @@ pub(crate) fn put_held(seen: &mut BTreeMap<Key, Entry>, held: &[Held]) -> Result
     Ok(())
 }
 
-/// Puts each write of a key from `lo` to `hi` under its key.
+/// Puts each write of a key from `low` to `high` under its key.
 pub(crate) fn put_own(
     seen: &mut BTreeMap<Key, Entry>,
     writes: &[(Version, Content)],
-    lo: Key,
-    hi: Key,
+    low: Key,
+    high: Key,
 ) -> Result<(), AllocError>
     ensures stored { OnOk result ((key : List ℕ) → stored_at key seen.new.entries
-        ≡ otherwise (if lies_in lo hi key then listed key (map write_of writes.now) else None)
+        ≡ otherwise (if lies_in low high key then listed key (map write_of writes.now) else None)
         (stored_at key seen.old.entries)) }
     ensures keyed { are_keyed entry_key seen.old.entries ≡ true → are_keyed entry_key seen.new.entries ≡ true }
 {
     let n = writes.len();
     'back: for k in 0..n {
         let write = &writes[n - 1 - k];
-        if lies_in(lo, hi, write.0.key) {
+        if lies_in(low, high, write.0.key) {
             let entry = Entry {
                 version: write.0,
                 content: write.1,
@@ -71,10 +71,10 @@ pub(crate) fn put_own(
 }
 
 /// Returns whether the key lies between the two, both included.
-fn lies_in(lo: Key, hi: Key, key: Key) -> bool
-    ensures { result ≡ lies_in lo hi key }
+fn lies_in(low: Key, high: Key, key: Key) -> bool
+    ensures { result ≡ lies_in low high key }
 {
-    lo <= key && key <= hi
+    low <= key && key <= high
 }
 
 /// Returns the entries by rising key.

@@ -5,7 +5,7 @@ ghost use Rattle.adya_values.specs.Meaning.Keys.{key_le};
 ghost use Rattle.adya_values.specs.Meaning.Histories.{Entry as PlainEntry, content_of, entry_of};
 ghost use Rattle.adya_values.specs.Meaning.Events.{listed};
 ghost use Rattle.ssi_versions.specs.Meaning.Changes.{AreApart};
-ghost use Rattle.ssi_versions.specs.Meaning.Chains.{write_of};
+ghost use Rattle.ssi_versions.specs.Mirror.{write_of};
 ghost use Rattle.ssi_snapshot.specs.Meaning.Writes.{mod_of, next_mod, next_write, put_write};
 ghost use Rattle.ssi_snapshot.specs.Meaning.Listings.{IsListing, up_to};
 ghost use Rattle.ssi_snapshot.specs.Machinery.Stored.{are_keyed, write_key, stored_writes};
@@ -25,7 +25,7 @@ use std::collections::BTreeMap;
 pub struct View {
     alloc: Global,
     txn: Txn,
-    stamp: u64,
+    snapshot: u64,
     count: u16,
     writes: IndexMap<Key, (Version, Content)>,
     ghost keyed: { are_keyed write_key writes.entries ≡ true },
@@ -33,19 +33,19 @@ pub struct View {
 }
 
 impl View {
-    ghost use Rattle.ssi_snapshot.specs.Meaning.Views.{txn_of, stamp_of, count_of, written, own, sees, sees_between, IsAsBefore};
+    ghost use Rattle.ssi_snapshot.specs.Mirror.{txn_of, snapshot_of, count_of, written, own, sees, sees_between, IsAsBefore};
 
-    /// Makes the view of a transaction that has written nothing, with a snapshot at this stamp. Takes no memory.
-    pub fn new(alloc: Global, txn: Txn, stamp: u64) -> Self
+    /// Makes the view of a transaction that has written nothing, with this snapshot. Takes no memory.
+    pub fn new(alloc: Global, txn: Txn, snapshot: u64) -> Self
         ensures txn { txn_of result ≡ txn }
-        ensures stamp { stamp_of result ≡ stamp }
+        ensures snapshot { snapshot_of result ≡ snapshot }
         ensures count { count_of result ≡ 0 }
         ensures written { written result ≡ [] }
     {
         View {
             alloc,
             txn,
-            stamp,
+            snapshot,
             count: 0,
             writes: IndexMap::new(alloc),
         }
@@ -58,11 +58,11 @@ impl View {
         self.txn
     }
 
-    /// Returns the stamp of the snapshot.
-    pub fn stamp(&self) -> u64
-        ensures { result ≡ stamp_of self.now }
+    /// Returns the snapshot: the stamp of the last commit before the transaction began.
+    pub fn snapshot(&self) -> u64
+        ensures { result ≡ snapshot_of self.now }
     {
-        self.stamp
+        self.snapshot
     }
 
     /// Returns how often the transaction has written.
@@ -82,7 +82,7 @@ impl View {
         ensures written { OnOk result (written self.new
             ≡ put_write (next_write (txn_of self.old) key (content_of content) (written self.old)) (written self.old)) }
         ensures count { OnOk result (count_of self.new ≡ suc (count_of self.old)) }
-        ensures same { (txn_of self.new ≡ txn_of self.old) × (stamp_of self.new ≡ stamp_of self.old) }
+        ensures same { (txn_of self.new ≡ txn_of self.old) × (snapshot_of self.new ≡ snapshot_of self.old) }
         ensures err { OnErr result (IsAsBefore self.old self.new) }
     {
         let m = self.next_mod(key);
@@ -104,25 +104,25 @@ impl View {
         if let Some(write) = self.own_write(key) {
             return Some(write);
         }
-        let held = chains.at(key, self.stamp)?;
+        let held = chains.at(key, self.snapshot)?;
         Some(Entry {
             version: held.version,
             content: held.content,
         })
     }
 
-    /// Returns by rising key what the transaction sees of each key from `lo` to `hi`, both included. A dead version is
-    /// listed, and a key of which the transaction sees no version is left out. `lo` may not be above `hi`.
+    /// Returns by rising key what the transaction sees of each key from `low` to `high`, both included. A dead version is
+    /// listed, and a key of which the transaction sees no version is left out. `low` may not be above `high`.
     ///
     /// Returns an error if memory runs out.
-    pub fn scan<C: Chains>(&self, chains: &C, lo: Key, hi: Key) -> Result<Vec<Entry>, AllocError>
-        requires { key_le lo hi ≡ true }
-        ensures { IfOk result (λ v. IsListing (sees_between lo hi self.now (C.held chains.now)) (map entry_of v.items)) }
+    pub fn scan<C: Chains>(&self, chains: &C, low: Key, high: Key) -> Result<Vec<Entry>, AllocError>
+        requires { key_le low high ≡ true }
+        ensures { IfOk result (λ v. IsListing (sees_between low high self.now (C.held chains.now)) (map entry_of v.items)) }
     {
-        let held = chains.range_at(lo, hi, self.stamp)?;
+        let held = chains.range_at(low, high, self.snapshot)?;
         let mut seen = BTreeMap::new(self.alloc);
         put_held(&mut seen, held.as_slice())?;
-        put_own(&mut seen, self.writes(), lo, hi)?;
+        put_own(&mut seen, self.writes(), low, high)?;
         let entries = all_values(self.alloc, &seen)?;
         Ok(entries)
     }
@@ -134,17 +134,17 @@ impl View {
     pub fn scan_first<C: Chains>(
         &self,
         chains: &C,
-        lo: Key,
-        hi: Key,
+        low: Key,
+        high: Key,
         n: u16,
     ) -> Result<Vec<Entry>, AllocError>
-        requires range { key_le lo hi ≡ true }
+        requires range { key_le low high ≡ true }
         requires some { 0 < n }
         ensures { IfOk result (λ v. (all : List PlainEntry)
-            × IsListing (sees_between lo hi self.now (C.held chains.now)) all
+            × IsListing (sees_between low high self.now (C.held chains.now)) all
             × (map entry_of v.items ≡ up_to n all)) }
     {
-        let mut entries = self.scan(chains, lo, hi)?;
+        let mut entries = self.scan(chains, low, high)?;
         keep_first(&mut entries, n);
         Ok(entries)
     }

@@ -9,13 +9,13 @@ use Rattle.adya_values.specs.Meaning.Keys.{key_eq}
 use Rattle.adya_values.specs.Meaning.Histories.{Event}
 use Rattle.ssi_conflict.specs.Computing.Steps.{smallest_ordered_pivot}
 use Rattle.ssi_conflict.specs.Meaning.Calls.{Call, Begins, IsAllowed}
-use Rattle.ssi_snapshot.specs.Meaning.Views.{stamp_of, written}
+use Rattle.ssi_snapshot.specs.Mirror.{snapshot_of, written}
 use Rattle.ssi_store.specs.Meaning.Acts.{Starts, acts, act_by, has_started}
 use Rattle.ssi_store.specs.Meaning.Courses.{Command as Do, Answer, Begun, Refused, Busy, Spent, Memory, Course, Then, txn_in, next_txn}
 use Rattle.ssi_store.specs.Meaning.Replies.{reply, reply_for}
 use Rattle.ssi_store.specs.Meaning.Recording.{events}
 use Rattle.ssi_store.specs.Meaning.Seeing.{commit_count}
-use Rattle.ssi_store.specs.Meaning.Standing.{Parts, IsLog, StandsFor}
+use Rattle.ssi_store.specs.Mirror.Standing.{Parts, IsLog, StandsFor}
 use Rattle.ssi_store.specs.Meaning.Tracked.{tracked}
 use Rattle.ssi_store.specs.Machinery.Opens.{Sessions, open_at, number_of, IsOpen, IsReplaced}
 use Rattle.ssi_store.specs.declared.open.Open.{Open}
@@ -78,7 +78,7 @@ module _ {p : Parts} {next : ℕ} {es : Sessions} {c : Course} (st : StandsFor p
         (o : Open) → IsReplaced s o es fs → recorded' ≡ p.recorded → opened' ≡ insert_entry nat_eq p.opened next p.commits
         → began' ≡ p.began ++ (next, p.commits) ∷ []
         → ((calls : List Call) → p.told calls → IsAllowed (Begins next p.commits) calls → told' (Begins next p.commits ∷ calls))
-        → number_of o ≡ next → stamp_of o.view ≡ p.commits → o.operations ≡ 0 → written o.view ≡ []
+        → number_of o ≡ next → snapshot_of o.view ≡ p.commits → o.operations ≡ 0 → written o.view ≡ []
         → StandsFor (record p { told = told'; recorded = recorded'; opened = opened'; began = began' }) (next + 1) fs
         (Then c (Do.Begin s) (Begun next))
     begun_next told' recorded' opened' began' fs o gives now_events now_opened now_began tells txn stamp count none =
@@ -127,7 +127,7 @@ module _ {p : Parts} {next : ℕ} {es : Sessions} {c : Course} (st : StandsFor p
         (o : Open) (t : ℕ) → t ≡ next → IsReplaced s o es fs → recorded' ≡ p.recorded
         → opened' ≡ insert_entry nat_eq p.opened t p.commits → began' ≡ p.began ++ (t, p.commits) ∷ []
         → ((calls : List Call) → p.told calls → IsAllowed (Begins t p.commits) calls → told' (Begins t p.commits ∷ calls))
-        → number_of o ≡ t → stamp_of o.view ≡ p.commits → o.operations ≡ 0 → written o.view ≡ []
+        → number_of o ≡ t → snapshot_of o.view ≡ p.commits → o.operations ≡ 0 → written o.view ≡ []
         → StandsFor (record p { told = told'; recorded = recorded'; opened = opened'; began = began' }) (next + 1) fs
         (Then c (Do.Begin s) (Begun t))
     begun told' recorded' opened' began' fs o t is gives now_events now_opened now_began tells txn stamp count none =

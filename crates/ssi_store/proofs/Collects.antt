@@ -5,16 +5,15 @@ use Rattle.std.proofs.lemmas.List.{append-nil}
 use Rattle.std.proofs.lemmas.List.Elements.{All-filter}
 use Rattle.lemmas.proofs.Filters.{filter-source}
 use Rattle.lemmas.proofs.Members.{map-source}
-use Rattle.ssi_versions.specs.Meaning.Changes.{Held, held, held_count, IsProtected}
-use Rattle.ssi_versions.specs.Meaning.ChangeLaws.{is_wanted}
-use Rattle.ssi_versions.specs.Meaning.Chains.{chain_of, key_total, IsAbove}
+use Rattle.ssi_versions.specs.Meaning.Changes.{Held, held, held_count, IsProtected, is_wanted}
+use Rattle.ssi_versions.specs.Mirror.{chain_of, key_total, IsAbove}
 use Rattle.ssi_conflict.specs.Meaning.Calls.{is_aborted, is_committed, is_open as is_open_told}
 use Rattle.ssi_conflict.specs.Meaning.Kept.{kept_count, open_count}
 use Rattle.ssi_store.specs.Meaning.Acts.{Act, Collects, acts, has_committed, has_started, is_open, open_txns, started}
 use Rattle.ssi_store.specs.Meaning.Courses.{Command as Do, Counts, Course, Kept, Then}
 use Rattle.ssi_store.specs.Meaning.Recording.{events}
 use Rattle.ssi_store.specs.Meaning.Seeing.{changed, open_snapshots, snapshot}
-use Rattle.ssi_store.specs.Meaning.Standing.{Parts, StandsFor, with_snapshots}
+use Rattle.ssi_store.specs.Mirror.Standing.{Parts, StandsFor, with_snapshots}
 use Rattle.ssi_store.specs.Meaning.Tracked.{tracked}
 use Rattle.ssi_store.specs.Machinery.Below.{Below}
 use Rattle.ssi_store.specs.Machinery.Opens.{Sessions, open_at, IsOpen}

@@ -6,19 +6,19 @@ use Rattle.indexmap.specs.IndexMap.{shift_remove_entry}
 use Rattle.adya_values.specs.Meaning.Keys.{key_eq}
 use Rattle.adya_values.specs.Meaning.Histories.{Entry, Event, Commit as Done}
 use Rattle.adya_values.specs.Meaning.Events.{listed}
-use Rattle.ssi_versions.specs.Meaning.Chains.{chain_of, IsAbove}
+use Rattle.ssi_versions.specs.Mirror.{chain_of, IsAbove}
 use Rattle.ssi_versions.specs.Meaning.Changes.{Held, held, listing, stamped}
 use Rattle.ssi_conflict.specs.Computing.Steps.{smallest_ordered_pivot}
 use Rattle.ssi_conflict.specs.Meaning.Calls.{Call, Commits as Ends, IsAllowed, AreAllowed}
 use Rattle.ssi_conflict.specs.Meaning.Pairs.{IsOrderedPivot, IsSmallest}
 use Rattle.ssi_snapshot.specs.Meaning.Listings.{keys}
-use Rattle.ssi_snapshot.specs.Meaning.Views.{stamp_of, written}
+use Rattle.ssi_snapshot.specs.Mirror.{snapshot_of, written}
 use Rattle.ssi_store.specs.Meaning.Acts.{Act, Commits, acts}
 use Rattle.ssi_store.specs.Meaning.Courses.{Command as Do, Committed, Conflict, Unsafe, Refused, Idle, Memory, Course, Then}
 use Rattle.ssi_store.specs.Meaning.Replies.{conflict, may_run_out_of_memory, reply, reply_for, unless_conflict, unless_pivot}
 use Rattle.ssi_store.specs.Meaning.Recording.{events}
 use Rattle.ssi_store.specs.Meaning.Seeing.{changed, commit_count, own_keys, snapshot}
-use Rattle.ssi_store.specs.Meaning.Standing.{Parts, StandsFor}
+use Rattle.ssi_store.specs.Mirror.Standing.{Parts, StandsFor}
 use Rattle.ssi_store.specs.Meaning.Tracked.{tracked}
 use Rattle.ssi_store.specs.Machinery.Below.{Below}
 use Rattle.ssi_store.specs.Machinery.Ends.{IsEnd}
@@ -84,7 +84,7 @@ module _ {p : Parts} {next : ℕ} {es : Sessions} {c : Course} (st : StandsFor p
         (answer_memory st (Do.Commit s) _ reply_is (memory_may s (conflict t log) after log))
 
     -- the log tells of the conflict what the store has found
-    pub found_conflict : Below → (n : ℕ) (ws : List Entry) (l : Option (List ℕ)) → n ≡ stamp_of o.view → ws ≡ written o.view
+    pub found_conflict : Below → (n : ℕ) (ws : List Entry) (l : Option (List ℕ)) → n ≡ snapshot_of o.view → ws ≡ written o.view
         → IsLeast (is_passed n p.holds) (keys ws) l → conflict (number_of o) (acts c) ≡ l
     found_conflict b n ws l is_n are least =
         conflict_is b p.holds log st.log.chains t l

@@ -10,7 +10,7 @@ use Rattle.adya_values.proofs.Keys.{keys_rise-tail}
 use Rattle.ssi_store.specs.Meaning.Acts.{Act}
 use Rattle.ssi_store.specs.Meaning.Replies.{conflict, is_overtaken}
 use Rattle.ssi_store.specs.Meaning.Seeing.{keys, wrote}
-use Rattle.ssi_store.specs.Meaning.Laws.{ConflictIsLeast, IsLeastOvertaken}
+use Rattle.ssi_store.specs.Laws.{ConflictIsLeast, IsLeastOvertaken}
 use Rattle.adya_values.proofs.KeyOrder.{key_le-anti, key_le-from_eq, key_le-from_lt}
 use Rattle.adya_values.proofs.InsertedKeys.{head_below}
 use Rattle.ssi_store.proofs.OwnWrites.{keys_of_log_rise, wrote_key}

@@ -14,15 +14,15 @@ use Rattle.adya_values.specs.Meaning.Histories.{Order}
 use Rattle.adya_values.specs.Meaning.Serial.{visible_pair_of}
 use Rattle.adya_values.specs.declared.edition.Edition.{Edition}
 use Rattle.adya_values.specs.declared.edition.Edition.TheVariants.{One, Two}
-use Rattle.ssi_recorder.specs.Meaning.Laws.{CommitsAreListed}
+use Rattle.ssi_recorder.specs.Laws.{CommitsAreListed}
 use Rattle.ssi_recorder.specs.Meaning.Recorded.{history_of_events, order_line}
 use Rattle.ssi_conflict.specs.Meaning.Calls.{Call}
-use Rattle.ssi_conflict.specs.Meaning.Laws.{AbortsMakeNoPair}
+use Rattle.ssi_conflict.specs.Laws.{AbortsMakeNoPair}
 use Rattle.ssi_conflict.specs.Meaning.Pairs.{IsOrderedPivot, IsPair, IsPivot}
 use Rattle.snapshot_histories.specs.Meaning.Snapshots.{IsDangerous}
 use Rattle.ssi_store.specs.Meaning.Acts.{Aborts, Act, acts, is_open, open_txns, started}
 use Rattle.ssi_store.specs.Meaning.Courses.{Course}
-use Rattle.ssi_store.specs.Meaning.Laws.{IsCovered, start_of}
+use Rattle.ssi_store.specs.Meaning.Coverage.{start_of, IsCovered}
 use Rattle.ssi_store.specs.Meaning.Recording.{close, closed, dumped, events, finished}
 use Rattle.ssi_store.specs.Meaning.Seeing.{commit_count, committed, keys, snapshot}
 use Rattle.ssi_store.specs.Meaning.Tracked.{tracked}

@@ -8,7 +8,7 @@ use Rattle.ssi_conflict.specs.Meaning.Calls.{Call, IsAllowed, Aborts as Drops}
 use Rattle.ssi_store.specs.Meaning.Acts.{Aborts, acts}
 use Rattle.ssi_store.specs.Meaning.Courses.{Command, Command as Do, Answer, Aborted, Refused, Idle, Course, Then}
 use Rattle.ssi_store.specs.Meaning.Replies.{reply_for}
-use Rattle.ssi_store.specs.Meaning.Standing.{Parts, StandsFor}
+use Rattle.ssi_store.specs.Mirror.Standing.{Parts, StandsFor}
 use Rattle.ssi_store.specs.Meaning.Tracked.{tracked}
 use Rattle.ssi_store.specs.Machinery.Ends.{IsEnd}
 use Rattle.ssi_store.specs.Machinery.Opens.{Sessions, open_at, number_of}

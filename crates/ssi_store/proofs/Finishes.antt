@@ -11,9 +11,9 @@ use Rattle.ssi_recorder.specs.Meaning.Recorded.{history_of_events}
 use Rattle.ssi_store.specs.Meaning.Acts.{Aborts, Act, acts, is_open, open_txns, started}
 use Rattle.ssi_store.specs.Meaning.Courses.{Course}
 use Rattle.ssi_store.specs.Meaning.Recording.{close, dumped, events, finished, start_in, starts}
-use Rattle.ssi_store.specs.Meaning.Laws.{IsCovered}
+use Rattle.ssi_store.specs.Meaning.Coverage.{IsCovered}
 use Rattle.ssi_store.specs.Meaning.Seeing.{snapshot}
-use Rattle.ssi_store.specs.Meaning.Standing.{Parts, StandsFor}
+use Rattle.ssi_store.specs.Mirror.Standing.{Parts, StandsFor}
 use Rattle.ssi_store.specs.Machinery.Opens.{Sessions}
 use Rattle.ssi_store.proofs.Collects.{first_halves}
 use Rattle.ssi_store.proofs.Lists.{filter_within}

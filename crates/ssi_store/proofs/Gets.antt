@@ -3,18 +3,18 @@ use Rattle.std.proofs.Common.{List, None, Option, Some, ap, false, true, inl, is
 use Rattle.std.proofs.lemmas.Bool.{cond-false, cond-true, le-leb, lt-leb}
 use Rattle.adya_values.specs.Meaning.Histories.{Event}
 use Rattle.adya_values.specs.Meaning.Events.{shown}
-use Rattle.ssi_versions.specs.Meaning.Chains.{chain_of}
+use Rattle.ssi_versions.specs.Mirror.{chain_of}
 use Rattle.ssi_versions.specs.Meaning.Changes.{otherwise, entry_in, newest_within}
 use Rattle.ssi_conflict.specs.Computing.Steps.{smallest_ordered_pivot}
 use Rattle.ssi_conflict.specs.Meaning.Calls.{Call, Reads, AreAllowed}
-use Rattle.ssi_snapshot.specs.Meaning.Views as View
-use Rattle.ssi_snapshot.specs.Meaning.Views.{stamp_of, own}
+use Rattle.ssi_snapshot.specs.Mirror as View
+use Rattle.ssi_snapshot.specs.Mirror.{snapshot_of, own}
 use Rattle.ssi_store.specs.Meaning.Acts.{Act, Gets, acts, act_by, operations}
 use Rattle.ssi_store.specs.Meaning.Courses.{Command as Do, Answer, Refused, Idle, Long, Memory, Course, Then, txn_after, next_txn}
 use Rattle.ssi_store.specs.Meaning.Replies.{reply, reply_for, may_run_out_of_memory, unless_pivot, got}
 use Rattle.ssi_store.specs.Meaning.Recording.{get_event}
 use Rattle.ssi_store.specs.Meaning.Seeing.{changed, own_write, sees, snapshot, wrote}
-use Rattle.ssi_store.specs.Meaning.Standing.{Parts, StandsFor}
+use Rattle.ssi_store.specs.Mirror.Standing.{Parts, StandsFor}
 use Rattle.ssi_store.specs.Meaning.Tracked.{tracked}
 use Rattle.ssi_store.specs.Machinery.Below.{Below}
 use Rattle.ssi_store.specs.Machinery.Looks.{IsLook}
@@ -60,7 +60,7 @@ module _ {p : Parts} {next : ℕ} {es : Sessions} {c : Course} (st : StandsFor p
     -- what the view sees is what the log says
     pub sees_is : Below → View.sees k o.view p.holds ≡ sees (number_of o) k (acts c)
     sees_is b =
-        ap (λ w. otherwise w (entry_in (newest_within (stamp_of o.view) (chain_of k p.holds)))) ((open_of st s o at).own k)
+        ap (λ w. otherwise w (entry_in (newest_within (snapshot_of o.view) (chain_of k p.holds)))) ((open_of st s o at).own k)
         ∙ ap (λ n. otherwise (own_write t k log) (entry_in (newest_within n (chain_of k p.holds)))) (open_of st s o at).stamp
         ∙ ap (λ hs. otherwise (own_write t k log) (entry_in (newest_within (snapshot t log) hs))) (st.log.chains k)
         ∙ ap (λ h. otherwise (own_write t k log) (entry_in h))

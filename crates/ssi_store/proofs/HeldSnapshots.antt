@@ -1,7 +1,7 @@
 -- The store keeps to the conditions of its parts, and what open transactions see is held.
-use Rattle.ssi_versions.specs.Meaning.ChangeLaws.{HeldShows}
+use Rattle.ssi_versions.specs.Laws.Changes.{HeldShows}
 use Rattle.ssi_store.specs.Meaning.Acts.{acts}
-use Rattle.ssi_store.specs.Meaning.Laws.{CallsAreAllowed, OpenSnapshotsAreHeld}
+use Rattle.ssi_store.specs.Laws.{CallsAreAllowed, OpenSnapshotsAreHeld}
 use Rattle.ssi_store.specs.Meaning.Seeing.{changed, snapshot}
 use Rattle.ssi_store.proofs.ChangesAllowed.{changed_installable, open_protected}
 use Rattle.ssi_store.proofs.SoundCourses.{course_stands}

@@ -6,7 +6,7 @@ use Rattle.ssi_conflict.specs.Meaning.Calls.{AreAllowed}
 use Rattle.ssi_snapshot.specs.Meaning.Listings.{reached}
 use Rattle.ssi_store.specs.Meaning.Acts.{Act, Gets, Scans, is_open}
 use Rattle.ssi_store.specs.Meaning.Courses.{Command, Command as Do}
-use Rattle.ssi_store.specs.Meaning.Laws.{judged}
+use Rattle.ssi_store.specs.Laws.{judged}
 use Rattle.ssi_store.specs.Meaning.Replies.{rows}
 use Rattle.ssi_store.specs.Meaning.Tracked.{tracked}
 use Rattle.ssi_store.proofs.ReachedKeys.{reached_upward}

@@ -9,12 +9,12 @@ use Rattle.ssi_conflict.specs.Computing.Steps.{smallest_ordered_pivot}
 use Rattle.ssi_conflict.specs.Meaning.Calls.{Reads}
 use Rattle.ssi_snapshot.specs.Meaning.Listings as Listing
 use Rattle.ssi_snapshot.specs.Meaning.Listings.{IsListing, up_to, within, key_or, reached}
-use Rattle.ssi_snapshot.specs.Meaning.Views as View
+use Rattle.ssi_snapshot.specs.Mirror as View
 use Rattle.ssi_store.specs.Meaning.Acts.{Scans, acts, operations}
 use Rattle.ssi_store.specs.Meaning.Courses.{Command as Do, Answer, Rows, Refused, Idle, Range, Long, Memory, Course, Then}
 use Rattle.ssi_store.specs.Meaning.Replies.{may_run_out_of_memory, reply, reply_for, rows, scan_answer, unless_long, unless_downward, unless_pivot}
 use Rattle.ssi_store.specs.Meaning.Seeing.{scanned, sees}
-use Rattle.ssi_store.specs.Meaning.Standing.{Parts, StandsFor}
+use Rattle.ssi_store.specs.Mirror.Standing.{Parts, StandsFor}
 use Rattle.ssi_store.specs.Meaning.Tracked.{tracked}
 use Rattle.ssi_store.specs.Machinery.Below.{Below}
 use Rattle.ssi_store.specs.Machinery.Opens.{Sessions, open_at, number_of}

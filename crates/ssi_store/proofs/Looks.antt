@@ -7,12 +7,12 @@ use Rattle.ssi_conflict.specs.Meaning.Calls.{Call, Reads, IsAllowed, AreAllowed}
 use Rattle.ssi_conflict.specs.Meaning.Pairs.{IsOrderedPivot, IsSmallest}
 use Rattle.ssi_conflict.specs.declared.answer.Answer.{Answer as Judged}
 use Rattle.ssi_conflict.specs.declared.answer.Answer.TheVariants.{Safe as Clear, Unsafe as Pivot}
-use Rattle.ssi_snapshot.specs.Meaning.Views.{txn_of}
+use Rattle.ssi_snapshot.specs.Mirror.{txn_of}
 use Rattle.ssi_store.specs.Meaning.Acts.{Act, Starts, Writes, Gets, Scans, Commits, Aborts, Collects, acts, act_by}
 use Rattle.ssi_store.specs.Meaning.Courses.{Command, Answer, Refused, Memory, Unsafe, Course, Then}
 use Rattle.ssi_store.specs.Meaning.Recording.{events}
 use Rattle.ssi_store.specs.Meaning.Replies.{unless_pivot}
-use Rattle.ssi_store.specs.Meaning.Standing.{Parts, IsLog, StandsFor}
+use Rattle.ssi_store.specs.Mirror.Standing.{Parts, IsLog, StandsFor}
 use Rattle.ssi_store.specs.Meaning.Tracked.{tracked}
 use Rattle.ssi_store.specs.Machinery.Below.{Below}
 use Rattle.ssi_store.specs.Machinery.Ends.{IsEnd}

@@ -15,7 +15,7 @@ use Rattle.adya_values.specs.Meaning.KeySets.{insert}
 use Rattle.adya_values.specs.Meaning.Orders.{value_at, shown_by, writers}
 use Rattle.adya_values.specs.Meaning.Serial.{visible_pair_of}
 use Rattle.adya_values.specs.declared.edition.Edition.{Edition}
-use Rattle.ssi_recorder.specs.Meaning.Laws.{CommitsAreListed}
+use Rattle.ssi_recorder.specs.Laws.{CommitsAreListed}
 use Rattle.ssi_recorder.specs.Meaning.Recorded.{by_commit, history_of_events, last_shown, order_line, writers_by_commit, written_keys}
 use Rattle.ssi_store.specs.Meaning.Acts.{Aborts, Act, Collects, Commits, Gets, Scans, Starts, Writes, has_committed}
 use Rattle.ssi_store.specs.Meaning.Recording.{events}

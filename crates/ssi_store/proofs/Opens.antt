@@ -6,7 +6,7 @@ use Rattle.adya_values.specs.Meaning.Keys.{key_eq}
 use Rattle.adya_values.specs.Meaning.Histories.{Content, Entry}
 use Rattle.adya_values.specs.Meaning.Events.{version, entry, listed}
 use Rattle.ssi_snapshot.specs.Meaning.Listings.{keys}
-use Rattle.ssi_snapshot.specs.Meaning.Views.{txn_of, stamp_of, written, own}
+use Rattle.ssi_snapshot.specs.Mirror.{txn_of, snapshot_of, written, own}
 use Rattle.ssi_snapshot.specs.Meaning.Writes.{mod_of, next_mod, next_write, put_write}
 use Rattle.ssi_store.specs.Meaning.Acts.{Act, Starts, Writes, Gets, Scans, Commits, Aborts, Collects, has_started, is_open, operations}
 use Rattle.ssi_store.specs.Meaning.Seeing.{commit_count, snapshot, write_count, own_write, own_keys, wrote}
@@ -147,7 +147,7 @@ blank t (Collects ∷ log) s f = let b = blank t log s.1 f in record { count = b
 
 -- a transaction that begins
 pub open_begun : (t : ℕ) (log : List Act) (o : Open) → Sound log → has_started t log ≡ false → number_of o ≡ t
-    → stamp_of o.view ≡ commit_count log → o.operations ≡ 0 → written o.view ≡ [] → IsOpen (Starts t ∷ log) o
+    → snapshot_of o.view ≡ commit_count log → o.operations ≡ 0 → written o.view ≡ [] → IsOpen (Starts t ∷ log) o
 open_begun t log o s f txn stamp count none =
     let b = blank t log s f in
     record {
@@ -160,7 +160,7 @@ open_begun t log o s f txn stamp count none =
 
 -- a transaction that writes
 pub open_written : Below → (j : List ℕ) (c : Content) (log : List Act) (o p : Open) → IsOpen log o
-    → number_of p ≡ number_of o → stamp_of p.view ≡ stamp_of o.view → p.operations ≡ suc o.operations
+    → number_of p ≡ number_of o → snapshot_of p.view ≡ snapshot_of o.view → p.operations ≡ suc o.operations
     → written p.view ≡ put_write (next_write (number_of o) j c (written o.view)) (written o.view)
     → IsOpen (Writes (number_of o) j c ∷ log) p
 open_written b j c log o p is txn stamp count puts =
@@ -221,7 +221,7 @@ pub open_got : (k : List ℕ) (log : List Act) (o p : Open) → IsOpen log o →
 open_got k log o p is same =
     let txn = ap txn_of same.view in
     record {
-      stamp = ap stamp_of same.view ∙ is.stamp ∙ ap (λ x. snapshot x log) (sym txn);
+      stamp = ap snapshot_of same.view ∙ is.stamp ∙ ap (λ x. snapshot x log) (sym txn);
       count = counted log o p is same;
       own = λ j. ap (own j) same.view ∙ is.own j ∙ ap (λ x. own_write x j log) (sym txn);
       keys = ap (λ v. keys (written v)) same.view ∙ is.keys ∙ ap (λ x. own_keys x log) (sym txn);

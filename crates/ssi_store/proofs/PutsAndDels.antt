@@ -3,15 +3,15 @@ use Rattle.std.proofs.Common.{List, None, Option, Some, ap, cond, true, inl, nat
 use Rattle.std.proofs.lemmas.Bool.{cond-false, cond-true, le-leb, lt-leb}
 use Rattle.adya_values.specs.Meaning.Histories.{Content, Live, Dead, Event}
 use Rattle.ssi_conflict.specs.Computing.Steps.{smallest_ordered_pivot}
-use Rattle.ssi_snapshot.specs.Meaning.Views.{stamp_of}
-use Rattle.ssi_snapshot.specs.Meaning.Views as View
+use Rattle.ssi_snapshot.specs.Mirror.{snapshot_of}
+use Rattle.ssi_snapshot.specs.Mirror as View
 use Rattle.ssi_snapshot.specs.Meaning.Writes.{next_mod, next_write, put_write}
 use Rattle.ssi_store.specs.Meaning.Acts.{Writes, acts, act_by}
-use Rattle.ssi_store.specs.Meaning.Commands.{written}
+use Rattle.ssi_store.specs.Mirror.Commands.{written}
 use Rattle.ssi_store.specs.Meaning.Courses.{Answer, Done, Refused, Idle, Long, Memory, Course, Then, is_proper, txn_in, txn_for, next_txn}
 use Rattle.ssi_store.specs.Meaning.Replies.{reply, reply_for, unless_long, may_run_out_of_memory}
 use Rattle.ssi_store.specs.Meaning.Recording.{events, write_event}
-use Rattle.ssi_store.specs.Meaning.Standing.{Parts, StandsFor}
+use Rattle.ssi_store.specs.Mirror.Standing.{Parts, StandsFor}
 use Rattle.ssi_store.specs.Machinery.Below.{Below}
 use Rattle.ssi_store.specs.Machinery.Opens.{Sessions, open_at, number_of, IsSameOpen, IsReplaced}
 use Rattle.ssi_store.specs.declared.open.Open.{Open}
@@ -96,7 +96,7 @@ module _ {p : Parts} {next : ℕ} {es : Sessions} {c : Course} (st : StandsFor p
 
       pub write_done : Below → (recorded' : List Event) (fs : Sessions) (t m : ℕ) (v : Open) → IsReplaced s v es fs
           → t ≡ number_of v → m ≡ next_mod k (View.written o.view) → recorded' ≡ p.recorded ++ write_event t k m x ∷ []
-          → (number_of v ≡ number_of o) × (stamp_of v.view ≡ stamp_of o.view) → v.operations ≡ suc o.operations
+          → (number_of v ≡ number_of o) × (snapshot_of v.view ≡ snapshot_of o.view) → v.operations ≡ suc o.operations
           → View.written v.view ≡ put_write (next_write (number_of o) k x (View.written o.view)) (View.written o.view)
           → StandsFor (record p { recorded = recorded' }) next fs (Then c (written s k x) Done)
       write_done b recorded' fs t m v gives is_t is_m now same count puts =

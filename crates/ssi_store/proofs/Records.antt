@@ -2,7 +2,7 @@
 use Rattle.std.proofs.Common.{ap, map, refl, ◌++◌, ◌∙◌}
 use Rattle.ssi_store.specs.Meaning.Acts.{acts, open_txns, started}
 use Rattle.ssi_store.specs.Meaning.Faces.{Face as Seen}
-use Rattle.ssi_store.specs.Meaning.Laws.{DumpedRecord, FinishedRecord}
+use Rattle.ssi_store.specs.Laws.{DumpedRecord, FinishedRecord}
 use Rattle.ssi_store.proofs.RecordedCourses.{close_faces, faces_are}
 use Rattle.ssi_store.proofs.SoundCourses.{course_stands}
 use Rattle.ssi_store.proofs.Starts.{started_rise}

@@ -10,7 +10,7 @@ use Rattle.lemmas.proofs.Members.{Contains-cons, Contains-head}
 use Rattle.adya_values.specs.Computing.Shapes.{numbers_rise}
 use Rattle.ssi_store.specs.Meaning.Acts.{Aborts, Act, Commits, Starts, has_aborted, has_committed, has_started, is_open, open_txns, started}
 use Rattle.ssi_store.specs.Meaning.Seeing.{commit_count, snapshot}
-use Rattle.ssi_store.specs.Meaning.Standing.{with_snapshots}
+use Rattle.ssi_store.specs.Mirror.Standing.{with_snapshots}
 use Rattle.ssi_store.proofs.Lists.{filter_within}
 use Rattle.adya_values.proofs.RisingNumbers.{number_below, numbers_rise-filter, numbers_rise-tail}
 use Rattle.ssi_store.proofs.SoundLogs.{Sound, aborted_started, committed_started}

@@ -10,7 +10,7 @@ use Rattle.adya_values.specs.Meaning.Histories.{History}
 use Rattle.snapshot_histories.specs.Meaning.Snapshots.{AreConcurrent, IsDangerous, IsNewestWithin, IsSnapshotHistory}
 use Rattle.ssi_store.specs.Meaning.Acts.{Aborts, Act, Commits, Gets, Scans, Starts, acts, has_started, started}
 use Rattle.ssi_store.specs.Meaning.Courses.{Course}
-use Rattle.ssi_store.specs.Meaning.Laws.{start_of}
+use Rattle.ssi_store.specs.Meaning.Coverage.{start_of}
 use Rattle.ssi_store.specs.Meaning.Recording.{start_in}
 use Rattle.ssi_store.specs.Meaning.Seeing.{commit_count, snapshot}
 use Rattle.ssi_store.specs.Meaning.Tracked.{tracked}

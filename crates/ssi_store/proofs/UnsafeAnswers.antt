@@ -12,7 +12,7 @@ use Rattle.ssi_conflict.specs.Meaning.Pairs.{IsSmallest}
 use Rattle.ssi_snapshot.specs.Meaning.Listings.{reached}
 use Rattle.ssi_store.specs.Meaning.Acts.{Act, Commits, Gets, Scans, acts, is_open, operations, started}
 use Rattle.ssi_store.specs.Meaning.Courses.{Answer, Begun, Command, Command as Do, Committed, Course, Done, Long, Range, Refusal, Refused, Rows, Spent, Unsafe, next_txn, txn_for}
-use Rattle.ssi_store.specs.Meaning.Laws.{OrderedRefusesNoMore, WouldStand, judged}
+use Rattle.ssi_store.specs.Laws.{OrderedRefusesNoMore, WouldStand, judged}
 use Rattle.ssi_store.specs.Meaning.Replies.{Follows, conflict, got, reply, reply_for, reply_idle, reply_in, rows, scan_answer, unless_conflict, unless_downward, unless_long, unless_pivot}
 use Rattle.ssi_store.specs.Meaning.Seeing.{sees}
 use Rattle.ssi_store.specs.Meaning.Tracked.{tracked}

@@ -12,7 +12,7 @@ use Rattle.ssi_conflict.specs.Meaning.Calls.{Aborts as Drops, Begins, Call, Comm
 use Rattle.ssi_snapshot.specs.Meaning.Listings.{reached}
 use Rattle.ssi_store.specs.Meaning.Acts.{Aborts, Act, Collects, Commits, Gets, Scans, Starts, Writes, operations}
 use Rattle.ssi_store.specs.Meaning.Courses.{Answer, Command, Command as Do, Committed, Long, Refused, Rows}
-use Rattle.ssi_store.specs.Meaning.Laws.{is_count, uncollected}
+use Rattle.ssi_store.specs.Laws.{is_count, uncollected}
 use Rattle.ssi_store.specs.Meaning.Replies.{conflict, got, is_overtaken, reply_in, rows, scan_answer, unless_conflict, unless_downward, unless_long, unless_pivot, writer_in}
 use Rattle.ssi_store.specs.Meaning.Seeing.{changed, commit_count, keys, last_writes, own_keys, own_write, sees, snapshot, write_count, wrote}
 use Rattle.ssi_store.specs.Meaning.Tracked.{tracked}

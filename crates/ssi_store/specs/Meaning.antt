@@ -6,12 +6,8 @@
 -- Replies: the answer to each command.
 -- Recording: what is recorded of each act, and the history of a course.
 -- Faces: when a history records a course.
--- Laws: what holds of every course whose answers are the replies.
+-- Coverage: what the history of a course is, by a rule whose pivots never stand.
 -- Sessions: the names of sessions.
--- Commands: the commands and answers of the code, as those of a course.
--- Standing: when the engine of a store stands for a course.
--- Stores: when a store stands for a course.
--- Finished: what is seen of a finished store.
 pub mod Courses
 pub mod Acts
 pub mod Seeing
@@ -19,9 +15,5 @@ pub mod Tracked
 pub mod Replies
 pub mod Recording
 pub mod Faces
-pub mod Laws
+pub mod Coverage
 pub mod Sessions
-pub mod Commands
-pub mod Standing
-pub mod Stores
-pub mod Finished

@@ -8,8 +8,8 @@ use ssi_versions::Chains;
 
 impl<C: Chains + Drop, M: Marks + Drop> Engine<C, M> {
     ghost use Rattle.ssi_store.specs.Meaning.Courses.{Course, Then, Command as Do};
-    ghost use Rattle.ssi_store.specs.Meaning.Commands.{answer_of};
-    ghost use Rattle.ssi_store.specs.Meaning.Standing.{IsAt};
+    ghost use Rattle.ssi_store.specs.Mirror.Commands.{answer_of};
+    ghost use Rattle.ssi_store.specs.Mirror.Standing.{IsAt};
 
     /// Drops the versions that are neither the last of their key nor seen by an open transaction. Takes no memory.
     pub(crate) fn collect(&mut self) -> Result<Reply, Refusal>

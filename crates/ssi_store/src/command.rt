@@ -27,17 +27,17 @@ pub enum Command {
         session: Session,
         key: Key,
     },
-    /// Reads the keys from `lo` to `hi`, both included.
+    /// Reads the keys from `low` to `high`, both included.
     Scan {
         session: Session,
-        lo: Key,
-        hi: Key,
+        low: Key,
+        high: Key,
     },
-    /// Reads the keys from `lo` to `hi`, both included, up to so many keys and values that are seen.
+    /// Reads the keys from `low` to `high`, both included, up to so many keys and values that are seen.
     ScanFirst {
         session: Session,
-        lo: Key,
-        hi: Key,
+        low: Key,
+        high: Key,
         limit: NonZeroU16,
     },
     /// Commits the transaction.

@@ -16,8 +16,8 @@ use std::alloc::{AllocError, Global};
 
 impl<C: Chains + Drop, M: Marks + Drop> Engine<C, M> {
     ghost use Rattle.ssi_store.specs.Meaning.Courses.{Course, Then, Command as Do};
-    ghost use Rattle.ssi_store.specs.Meaning.Commands.{answer_of};
-    ghost use Rattle.ssi_store.specs.Meaning.Standing.{IsAt};
+    ghost use Rattle.ssi_store.specs.Mirror.Commands.{answer_of};
+    ghost use Rattle.ssi_store.specs.Mirror.Standing.{IsAt};
 
     /// Commits the session's transaction. All growths come before the first change.
     pub(crate) fn commit(&mut self, session: Session) -> Result<Reply, Refusal>
@@ -29,7 +29,7 @@ impl<C: Chains + Drop, M: Marks + Drop> Engine<C, M> {
         };
         let txn = open.view.txn();
         let writes = open.view.writes();
-        if let Some(least) = least_overtaken(&self.chains, open.view.stamp(), writes) {
+        if let Some(least) = least_overtaken(&self.chains, open.view.snapshot(), writes) {
             self.drop_txn(session, txn);
             return Ok(Reply::Conflict {
                 key: least.key,

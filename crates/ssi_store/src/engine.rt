@@ -2,9 +2,9 @@
 
 ghost use Rattle.std.specs.Prelude.{◌≡◌, ◌<◌, ◌≤◌, ◌+◌, [], true};
 ghost use Rattle.indexmap.specs.IndexMap.{index_map_len};
-ghost use Rattle.ssi_versions.specs.Meaning.Chains.{IsAbove};
+ghost use Rattle.ssi_versions.specs.Mirror.{IsAbove};
 ghost use Rattle.ssi_reads.specs.Meaning.Marks.{IsEmpty};
-ghost use Rattle.ssi_recorder.specs.Meaning.Recorder.{places_of};
+ghost use Rattle.ssi_recorder.specs.Mirror.{places_of};
 ghost use Rattle.ssi_conflict.specs.Computing.Steps.{smallest_ordered_pivot};
 ghost use Rattle.ssi_store.specs.Machinery.Rosters.{AreBelow};
 ghost use Rattle.ssi_store.specs.Machinery.RosterRoom.{opened_in};
@@ -41,8 +41,8 @@ pub(crate) struct Engine<C: Chains + Drop, M: Marks + Drop> {
 impl<C: Chains + Drop, M: Marks + Drop> Engine<C, M> {
     ghost use Rattle.ssi_store.specs.Meaning.Courses.{Course, New, Then};
     ghost use Rattle.ssi_store.specs.Meaning.Replies.{IsAnswer};
-    ghost use Rattle.ssi_store.specs.Meaning.Commands.{command_of, answer_of};
-    ghost use Rattle.ssi_store.specs.Meaning.Standing.{IsAt};
+    ghost use Rattle.ssi_store.specs.Mirror.Commands.{command_of, answer_of};
+    ghost use Rattle.ssi_store.specs.Mirror.Standing.{IsAt};
 
     /// Makes an empty engine whose first transaction has this number. Takes no memory.
     pub(crate) fn with_next(alloc: Global, chains: C, marks: M, next: Txn) -> Self
@@ -75,13 +75,13 @@ impl<C: Chains + Drop, M: Marks + Drop> Engine<C, M> {
                 value,
             } => self.write(session, key, Content::Live(value)),
             Command::Del { session, key } => self.write(session, key, Content::Dead),
-            Command::Scan { session, lo, hi } => self.scan(session, lo, hi),
+            Command::Scan { session, low, high } => self.scan(session, low, high),
             Command::ScanFirst {
                 session,
-                lo,
-                hi,
+                low,
+                high,
                 limit,
-            } => self.scan_first(session, lo, hi, limit),
+            } => self.scan_first(session, low, high, limit),
             Command::Commit { session } => self.commit(session),
             Command::Abort { session } => self.abort(session),
             Command::Collect => self.collect(),

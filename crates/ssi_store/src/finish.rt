@@ -2,11 +2,11 @@
 
 ghost use Rattle.std.specs.Prelude.{◌≡◌, IfOk, IfErr};
 ghost use Rattle.snapshot_histories.specs.Meaning.Snapshots.{IsSafe};
-ghost use Rattle.adya_values.specs.Meaning.Values.{history_of};
+ghost use Rattle.adya_values.specs.Mirror.{history_of};
 ghost use Rattle.ssi_conflict.specs.Meaning.Pairs.{IsOrderedPivot};
 ghost use Rattle.ssi_store.specs.Meaning.Recording.{finished, dumped, starts, start_in};
 ghost use Rattle.ssi_store.specs.Meaning.Faces.{Records, RecordsSoFar};
-ghost use Rattle.ssi_store.specs.Meaning.Laws.{IsCovered};
+ghost use Rattle.ssi_store.specs.Meaning.Coverage.{IsCovered};
 
 use crate::engine::Engine;
 use crate::laws::{courses_are_recorded, dumped_are_covered, finished_are_covered};
@@ -25,7 +25,7 @@ pub struct Finished {
 }
 
 impl Finished {
-    ghost use Rattle.ssi_store.specs.Meaning.Finished.{recorded_in, began_in};
+    ghost use Rattle.ssi_store.specs.Mirror.Finished.{recorded_in, began_in};
 
     /// Returns the history.
     pub fn history(&self) -> &History
@@ -45,8 +45,8 @@ impl Finished {
 
 impl<C: Chains + Drop, M: Marks + Drop> Engine<C, M> {
     ghost use Rattle.ssi_store.specs.Meaning.Courses.{Course};
-    ghost use Rattle.ssi_store.specs.Meaning.Standing.{IsAt, HasCourse};
-    ghost use Rattle.ssi_store.specs.Meaning.Finished.{recorded_in, began_in};
+    ghost use Rattle.ssi_store.specs.Mirror.Standing.{IsAt, HasCourse};
+    ghost use Rattle.ssi_store.specs.Mirror.Finished.{recorded_in, began_in};
 
     /// Ends the engine, with an abort of each open transaction at the end of its history.
     pub(crate) fn finish(mut self) -> Result<Finished, (Engine<C, M>, AllocError)>

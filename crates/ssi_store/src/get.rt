@@ -3,8 +3,8 @@
 ghost use Rattle.std.specs.Prelude.{◌≡◌, IfOk};
 ghost use Rattle.adya_values.specs.Meaning.Events.{shown};
 ghost use Rattle.adya_values.specs.Meaning.Histories.{event_of};
-ghost use Rattle.ssi_snapshot.specs.Meaning.Views.{sees, txn_of};
-ghost use Rattle.ssi_store.specs.Meaning.Commands.{reply_of};
+ghost use Rattle.ssi_snapshot.specs.Mirror.{sees, txn_of};
+ghost use Rattle.ssi_store.specs.Mirror.Commands.{reply_of};
 ghost use Rattle.ssi_store.specs.Meaning.Recording.{get_event};
 ghost use Rattle.ssi_store.specs.Meaning.Replies.{got};
 
@@ -20,8 +20,8 @@ use std::alloc::{AllocError, Global};
 
 impl<C: Chains + Drop, M: Marks + Drop> Engine<C, M> {
     ghost use Rattle.ssi_store.specs.Meaning.Courses.{Course, Then, Command as Do};
-    ghost use Rattle.ssi_store.specs.Meaning.Commands.{answer_of};
-    ghost use Rattle.ssi_store.specs.Meaning.Standing.{IsAt};
+    ghost use Rattle.ssi_store.specs.Mirror.Commands.{answer_of};
+    ghost use Rattle.ssi_store.specs.Mirror.Standing.{IsAt};
 
     /// Reads the key. A key that the transaction has written is read from its own writes, and meets no other
     /// transaction.
@@ -72,8 +72,8 @@ fn look_up<C: Chains>(
     }
     let event = Event::Scan {
         txn,
-        lo: key,
-        hi: key,
+        low: key,
+        high: key,
         entries,
     };
     Ok((event, Reply::Absent))

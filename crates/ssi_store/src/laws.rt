@@ -1,7 +1,7 @@
 //! Laws of courses, each proved as the contract of a function whose body does nothing but call the laws of the store's
 //! parts.
 
-ghost use Rattle.ssi_store.specs.Meaning.Laws.{FinishedAreCovered, OrderedFinishedAreCovered, DumpedAreCovered, OrderedDumpedAreCovered, FinishedRecord, DumpedRecord, CallsAreAllowed, OpenSnapshotsAreHeld, OrderedRefusesNoMore, CollectionsChangeNoReply, UnsafeNamesSmallest, OrderedUnsafeNamesSmallest, SessionsAreInOrder, NoPivotStands, NoOrderedPivotStands, ConflictIsLeast, ScansListSeen, OpenAreCounted};
+ghost use Rattle.ssi_store.specs.Laws.{FinishedAreCovered, OrderedFinishedAreCovered, DumpedAreCovered, OrderedDumpedAreCovered, FinishedRecord, DumpedRecord, CallsAreAllowed, OpenSnapshotsAreHeld, OrderedRefusesNoMore, CollectionsChangeNoReply, UnsafeNamesSmallest, OrderedUnsafeNamesSmallest, SessionsAreInOrder, NoPivotStands, NoOrderedPivotStands, ConflictIsLeast, ScansListSeen, OpenAreCounted};
 
 use ssi_conflict::laws::{ordered_pivots_are_named, pivots_are_named, quiet_calls_make_no_pair};
 use ssi_recorder::laws::commits_are_listed;

@@ -2,7 +2,7 @@
 
 ghost use Rattle.std.specs.Prelude.{◌≡◌, ◌≤◌, ◌<◌, [], suc, OnOk, OnErr, IfOk};
 ghost use Rattle.adya_values.specs.Meaning.Histories.{content_of};
-ghost use Rattle.ssi_snapshot.specs.Meaning.Views.{count_of, txn_of, stamp_of, written};
+ghost use Rattle.ssi_snapshot.specs.Mirror.{count_of, txn_of, snapshot_of, written};
 ghost use Rattle.ssi_snapshot.specs.Meaning.Writes.{next_mod, next_write, put_write};
 
 use adya_values::{Content, Key, Mod, Txn};
@@ -23,14 +23,14 @@ pub(crate) struct Open {
 impl Open {
     ghost use Rattle.ssi_store.specs.Machinery.Opens.{IsSameOpen, IsCounted};
 
-    pub fn new(alloc: Global, txn: Txn, stamp: u64) -> Open
+    pub fn new(alloc: Global, txn: Txn, snapshot: u64) -> Open
         ensures txn { txn_of result.view ≡ txn }
-        ensures stamp { stamp_of result.view ≡ stamp }
+        ensures snapshot { snapshot_of result.view ≡ snapshot }
         ensures written { written result.view ≡ [] }
         ensures count { result.operations ≡ 0 }
     {
         Open {
-            view: View::new(alloc, txn, stamp),
+            view: View::new(alloc, txn, snapshot),
             operations: 0,
         }
     }
@@ -42,7 +42,7 @@ impl Open {
         ensures written { OnOk result (written self.new.view
             ≡ put_write (next_write (txn_of self.old.view) key (content_of content) (written self.old.view)) (written self.old.view)) }
         ensures count { OnOk result (self.new.operations ≡ suc self.old.operations) }
-        ensures same { (txn_of self.new.view ≡ txn_of self.old.view) × (stamp_of self.new.view ≡ stamp_of self.old.view) }
+        ensures same { (txn_of self.new.view ≡ txn_of self.old.view) × (snapshot_of self.new.view ≡ snapshot_of self.old.view) }
         ensures err { OnErr result (IsSameOpen self.old self.new) }
     {
         let m = self.view.put(key, content)?;

@@ -2,7 +2,7 @@
 //! committed a version since it began.
 
 ghost use Rattle.std.specs.Prelude.{◌≡◌, Some, None, if◌then◌else◌, map, option_map, IfSome};
-ghost use Rattle.ssi_versions.specs.Meaning.Chains.{write_of};
+ghost use Rattle.ssi_versions.specs.Mirror.{write_of};
 ghost use Rattle.ssi_snapshot.specs.Meaning.Listings.{keys};
 ghost use Rattle.ssi_store.specs.Machinery.Overtaken.{is_passed, passed_by, key_of, lesser, IsLeast};
 

@@ -18,7 +18,7 @@ pub(crate) struct Roster {
 }
 
 impl Roster {
-    ghost use Rattle.ssi_store.specs.Meaning.Standing.{opened_of, began_of};
+    ghost use Rattle.ssi_store.specs.Mirror.Standing.{opened_of, began_of};
     ghost use Rattle.ssi_store.specs.Machinery.RosterRoom.{HasRoom};
 
     pub fn new(alloc: Global) -> Roster

@@ -18,25 +18,25 @@ use std::num::NonZeroU16;
 
 impl<C: Chains + Drop, M: Marks + Drop> Engine<C, M> {
     ghost use Rattle.ssi_store.specs.Meaning.Courses.{Course, Then, Command as Do};
-    ghost use Rattle.ssi_store.specs.Meaning.Commands.{answer_of};
-    ghost use Rattle.ssi_store.specs.Meaning.Standing.{IsAt};
+    ghost use Rattle.ssi_store.specs.Mirror.Commands.{answer_of};
+    ghost use Rattle.ssi_store.specs.Mirror.Standing.{IsAt};
 
-    /// Reads the keys from `lo` to `hi`, both included.
-    pub(crate) fn scan(&mut self, session: Session, lo: Key, hi: Key) -> Result<Reply, Refusal>
-        ensures stands { (c : Course) → IsAt C.held M.marked self.old c → IsAt C.held M.marked self.new (Then c (Do.Scan session lo hi) (answer_of result)) }
+    /// Reads the keys from `low` to `high`, both included.
+    pub(crate) fn scan(&mut self, session: Session, low: Key, high: Key) -> Result<Reply, Refusal>
+        ensures stands { (c : Course) → IsAt C.held M.marked self.old c → IsAt C.held M.marked self.new (Then c (Do.Scan session low high) (answer_of result)) }
     {
         laws_below();
         let Some(open) = self.sessions.get(&session) else {
             return Err(Refusal::Idle);
         };
-        if hi < lo {
+        if high < low {
             return Err(Refusal::Range);
         }
         if open.operations >= MAX_OPERATIONS {
             return Err(Refusal::Long);
         }
         let txn = open.view.txn();
-        let Ok(entries) = open.view.scan(&self.chains, lo, hi) else {
+        let Ok(entries) = open.view.scan(&self.chains, low, high) else {
             return Err(Refusal::Memory);
         };
         let Ok(rows) = rows_of(self.alloc, entries.as_slice()) else {
@@ -44,50 +44,50 @@ impl<C: Chains + Drop, M: Marks + Drop> Engine<C, M> {
         };
         let event = Event::Scan {
             txn,
-            lo,
-            hi,
+            low,
+            high,
             entries,
         };
-        self.show(session, txn, lo, hi, event, Reply::Rows { rows })
+        self.show(session, txn, low, high, event, Reply::Rows { rows })
     }
 
-    /// Reads the keys from `lo` to `hi` up to a number of visible ones. If so many are found, the scan looked only as far
+    /// Reads the keys from `low` to `high` up to a number of visible ones. If so many are found, the scan looked only as far
     /// as the last of them.
     pub(crate) fn scan_first(
         &mut self,
         session: Session,
-        lo: Key,
-        hi: Key,
+        low: Key,
+        high: Key,
         limit: NonZeroU16,
     ) -> Result<Reply, Refusal>
-        ensures stands { (c : Course) → IsAt C.held M.marked self.old c → IsAt C.held M.marked self.new (Then c (Do.ScanFirst session lo hi (non_zero_u16_get limit)) (answer_of result)) }
+        ensures stands { (c : Course) → IsAt C.held M.marked self.old c → IsAt C.held M.marked self.new (Then c (Do.ScanFirst session low high (non_zero_u16_get limit)) (answer_of result)) }
     {
         laws_below();
         let n = limit.get();
         let Some(open) = self.sessions.get(&session) else {
             return Err(Refusal::Idle);
         };
-        if hi < lo {
+        if high < low {
             return Err(Refusal::Range);
         }
         if open.operations >= MAX_OPERATIONS {
             return Err(Refusal::Long);
         }
         let txn = open.view.txn();
-        let Ok(entries) = open.view.scan_first(&self.chains, lo, hi, n) else {
+        let Ok(entries) = open.view.scan_first(&self.chains, low, high, n) else {
             return Err(Refusal::Memory);
         };
         let Ok(rows) = rows_of(self.alloc, entries.as_slice()) else {
             return Err(Refusal::Memory);
         };
-        let last = reached(hi, n, rows.as_slice());
+        let last = reached(high, n, rows.as_slice());
         let event = Event::Scan {
             txn,
-            lo,
-            hi: last,
+            low,
+            high: last,
             entries,
         };
-        self.show(session, txn, lo, last, event, Reply::Rows { rows })
+        self.show(session, txn, low, last, event, Reply::Rows { rows })
     }
 }
 
@@ -119,14 +119,14 @@ fn rows_of(alloc: Global, entries: &[Entry]) -> Result<Vec<FinalPair>, AllocErro
 }
 
 /// Returns how far a limited scan looked that found these rows.
-fn reached(hi: Key, n: u16, rows: &[FinalPair]) -> Key
-    ensures { result ≡ reached hi n (map final_of rows.now) }
+fn reached(high: Key, n: u16, rows: &[FinalPair]) -> Key
+    ensures { result ≡ reached high n (map final_of rows.now) }
 {
     if rows.len() != usize::from(n) {
-        return hi;
+        return high;
     }
     match rows.last() {
         Some(row) => row.key,
-        None => hi,
+        None => high,
     }
 }

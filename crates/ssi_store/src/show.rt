@@ -3,7 +3,7 @@
 ghost use Rattle.std.specs.Prelude.{◌∷◌, [], ℕ, ◌<◌, IfSome};
 ghost use Rattle.adya_values.specs.Meaning.Histories.{event_of};
 ghost use Rattle.ssi_conflict.specs.Meaning.Calls.{Reads};
-ghost use Rattle.ssi_store.specs.Meaning.Commands.{reply_of};
+ghost use Rattle.ssi_store.specs.Mirror.Commands.{reply_of};
 
 use crate::below::laws_below;
 use crate::engine::Engine;
@@ -16,32 +16,32 @@ use ssi_versions::Chains;
 
 impl<C: Chains + Drop, M: Marks + Drop> Engine<C, M> {
     ghost use Rattle.ssi_store.specs.Meaning.Courses.{Course, Then, Command as Do};
-    ghost use Rattle.ssi_store.specs.Meaning.Commands.{answer_of};
-    ghost use Rattle.ssi_store.specs.Meaning.Standing.{IsAt};
+    ghost use Rattle.ssi_store.specs.Mirror.Commands.{answer_of};
+    ghost use Rattle.ssi_store.specs.Mirror.Standing.{IsAt};
     ghost use Rattle.ssi_store.specs.Machinery.Opens.{open_at};
     ghost use Rattle.ssi_store.specs.Machinery.Looks.{IsLook};
 
-    /// Tells the tracker that the transaction has looked at the keys from `lo` to `hi`. Records the event, counts the
+    /// Tells the tracker that the transaction has looked at the keys from `low` to `high`. Records the event, counts the
     /// operation and returns the reply, unless a pivot would stand.
     pub(crate) fn show(
         &mut self,
         session: Session,
         txn: Txn,
-        lo: Key,
-        hi: Key,
+        low: Key,
+        high: Key,
         event: Event,
         reply: Reply,
     ) -> Result<Reply, Refusal>
         requires { IfSome (open_at session self.old.sessions.entries) (λ o. o.operations < 65535) }
         ensures stands { (c : Course) (m : Do) → IsAt C.held M.marked self.old c
-            → IsLook session txn (Reads txn lo hi ∷ []) (event_of event) (reply_of reply) c m
+            → IsLook session txn (Reads txn low high ∷ []) (event_of event) (reply_of reply) c m
             → IsAt C.held M.marked self.new (Then c m (answer_of result)) }
     {
         laws_below();
         let Ok(()) = self.recorder.room() else {
             return Err(Refusal::Memory);
         };
-        let Ok(answer) = self.tracker.on_read(txn, lo, hi) else {
+        let Ok(answer) = self.tracker.on_read(txn, low, high) else {
             return Err(Refusal::Memory);
         };
         if let Answer::Unsafe { pivot } = answer {

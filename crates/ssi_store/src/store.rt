@@ -4,7 +4,7 @@ ghost use Rattle.std.specs.Prelude.{◌≡◌, [], IfOk, IfErr};
 ghost use Rattle.ssi_reads.specs.Meaning.Marks.{IsEmpty};
 ghost use Rattle.ssi_conflict.specs.Meaning.Pairs.{IsOrderedPivot};
 ghost use Rattle.ssi_conflict.specs.Computing.Steps.{smallest_ordered_pivot};
-ghost use Rattle.ssi_store.specs.Meaning.Standing.{HasCourse};
+ghost use Rattle.ssi_store.specs.Mirror.Standing.{HasCourse};
 
 use crate::engine::Engine;
 use crate::{Command, Finished, Refusal, Reply};
@@ -29,12 +29,12 @@ pub struct Store<C: Chains + Drop, M: Marks + Drop> {
 impl<C: Chains + Drop, M: Marks + Drop> Store<C, M> {
     ghost use Rattle.ssi_store.specs.Meaning.Courses.{Course, New, Then};
     ghost use Rattle.ssi_store.specs.Meaning.Replies.{IsAnswer};
-    ghost use Rattle.ssi_store.specs.Meaning.Commands.{command_of, answer_of};
+    ghost use Rattle.ssi_store.specs.Mirror.Commands.{command_of, answer_of};
     ghost use Rattle.ssi_store.specs.Meaning.Recording.{finished, dumped, starts};
     ghost use Rattle.ssi_store.specs.Meaning.Faces.{Records, RecordsSoFar};
-    ghost use Rattle.ssi_store.specs.Meaning.Laws.{IsCovered};
-    ghost use Rattle.ssi_store.specs.Meaning.Finished.{recorded_in, began_in};
-    ghost use Rattle.ssi_store.specs.Meaning.Stores.{IsAt};
+    ghost use Rattle.ssi_store.specs.Meaning.Coverage.{IsCovered};
+    ghost use Rattle.ssi_store.specs.Mirror.Finished.{recorded_in, began_in};
+    ghost use Rattle.ssi_store.specs.Mirror.Stores.{IsAt};
 
     /// Makes an empty store over versions and marks that are empty; the first transaction has number 1. Takes no memory.
     pub fn new(alloc: Global, chains: C, marks: M) -> Self

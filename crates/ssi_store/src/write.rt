@@ -14,8 +14,8 @@ use ssi_versions::Chains;
 
 impl<C: Chains + Drop, M: Marks + Drop> Engine<C, M> {
     ghost use Rattle.ssi_store.specs.Meaning.Courses.{Course, Then};
-    ghost use Rattle.ssi_store.specs.Meaning.Commands.{answer_of, written};
-    ghost use Rattle.ssi_store.specs.Meaning.Standing.{IsAt};
+    ghost use Rattle.ssi_store.specs.Mirror.Commands.{answer_of, written};
+    ghost use Rattle.ssi_store.specs.Mirror.Standing.{IsAt};
 
     /// Writes the key; dead content deletes it.
     pub(crate) fn write(

@@ -12,7 +12,7 @@ use Rattle.adya_values.specs.Meaning.Histories.{Entry}
 use Rattle.adya_values.specs.Meaning.Events.{listed}
 use Rattle.ssi_versions.specs.Meaning.Changes.{Held, otherwise, newest, newest_within, listing, stamped, IsByStamp, AreApart}
 use Rattle.ssi_versions.specs.declared.held.Held.{Held as HeldValue}
-use Rattle.ssi_versions.specs.Meaning.Chains.{held_of, write_of, is_of, chain_of, key_total, IsAbove}
+use Rattle.ssi_versions.specs.Mirror.{held_of, write_of, is_of, chain_of, key_total, IsAbove}
 use Rattle.ssi_versions.specs.Computing.Kept.{next_stamp}
 use Rattle.ssi_versions.specs.Machinery.Plain.{as_held}
 use Rattle.ssi_versions.proofs.Lists.{split}

@@ -9,8 +9,8 @@ use Rattle.lemmas.proofs.Members.{none_contained, Contains-head, Contains-cons, 
 use Rattle.lemmas.proofs.Filters.{filter-source, Contains-filter}
 use Rattle.adya_values.specs.Meaning.Keys.{key_eq}
 use Rattle.ssi_versions.specs.Meaning.Changes.{Change, Held, held, held_count, key_count, installed_keys}
-use Rattle.ssi_versions.specs.Meaning.Chains.{is_of, chain_of, key_total}
-use Rattle.ssi_versions.specs.Meaning.CountLaws.{Holds}
+use Rattle.ssi_versions.specs.Mirror.{is_of, chain_of, key_total}
+use Rattle.ssi_versions.specs.Laws.Counts.{Holds}
 use Rattle.ssi_versions.specs.Machinery.Keyed.{is_filled}
 use Rattle.ssi_versions.proofs.Lists.{pairs_head, pairs_tail}
 use Rattle.ssi_versions.proofs.InstalledKeys.{installed_distinct, held_installed, AreDistinct}

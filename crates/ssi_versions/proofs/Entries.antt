@@ -26,7 +26,7 @@ use Rattle.ssi_versions.specs.Meaning.Changes.{Held, listing, stamped, AreApart,
 use Rattle.ssi_versions.specs.Machinery.Plain.{as_held}
 use Rattle.ssi_versions.proofs.ByKey.{installed}
 use Rattle.ssi_versions.specs.declared.place.Place.{Place}
-use Rattle.ssi_versions.specs.Meaning.Chains.{held_of, write_of, is_of, chain_of, key_total}
+use Rattle.ssi_versions.specs.Mirror.{held_of, write_of, is_of, chain_of, key_total}
 use Rattle.ssi_versions.specs.Machinery.Keyed.{Chain, placed, held_in, kept_at, held_under, held_at, versions, AreByStamp, is_owned, is_filled, filled_count, HasRoomAt}
 use Rattle.ssi_versions.proofs.Lists.{all-push}
 use Rattle.ssi_versions.proofs.Ranges.{tied}
@@ -325,10 +325,10 @@ pub chains_by_stamp : (es : List Chain) → is_owned es ≡ true → IsStrictlyS
 chains_by_stamp es owned sorted by =
     by_stamp_distinct es owned (IsDistinct-from_sorted (slice_cmp nat_cmp) (keys_of es) sorted) (λ q. subst IsByStamp (chain_get q es owned sorted) (by q))
 
-pub range_by_stamp : (lo hi : List ℕ) (es : List Chain) → AreByStamp es → AreByStamp (entries_between (slice_cmp nat_cmp) (Included lo) (Included hi) es)
-range_by_stamp lo hi [] by = by
-range_by_stamp lo hi (e ∷ es) by =
-    elim (range_contains (slice_cmp nat_cmp) (Included lo) (Included hi) e.0) as (λ b. AreByStamp (cond b (e ∷ entries_between (slice_cmp nat_cmp) (Included lo) (Included hi) es) (entries_between (slice_cmp nat_cmp) (Included lo) (Included hi) es))) [
-      | true ↦ (by.0, range_by_stamp lo hi es by.1)
-      | false ↦ range_by_stamp lo hi es by.1
+pub range_by_stamp : (low high : List ℕ) (es : List Chain) → AreByStamp es → AreByStamp (entries_between (slice_cmp nat_cmp) (Included low) (Included high) es)
+range_by_stamp low high [] by = by
+range_by_stamp low high (e ∷ es) by =
+    elim (range_contains (slice_cmp nat_cmp) (Included low) (Included high) e.0) as (λ b. AreByStamp (cond b (e ∷ entries_between (slice_cmp nat_cmp) (Included low) (Included high) es) (entries_between (slice_cmp nat_cmp) (Included low) (Included high) es))) [
+      | true ↦ (by.0, range_by_stamp low high es by.1)
+      | false ↦ range_by_stamp low high es by.1
     ]

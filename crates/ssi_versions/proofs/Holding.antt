@@ -12,9 +12,7 @@ use Rattle.std.specs.List.{AllPairs, Contains, filter, list_any}
 use Rattle.lemmas.proofs.Members.{Contains-cons, Contains-head, none_contained}
 use Rattle.adya_values.specs.Meaning.Events.{listed}
 use Rattle.adya_values.specs.Meaning.Histories.{Entry}
-use Rattle.ssi_versions.specs.Meaning.ChangeLaws.{is_above, is_wanted}
-use Rattle.ssi_versions.specs.Meaning.Changes.{AreInstallable, IsByStamp, IsProtected, contents, has_stamp, held, is_installed_above, is_needed, last_installed, last_version, listing, newest, newest_within, otherwise, stamped}
-use Rattle.ssi_versions.specs.Meaning.Changes.{Change, Installs, Collects, Held}
+use Rattle.ssi_versions.specs.Meaning.Changes.{is_wanted, is_above, AreInstallable, IsByStamp, IsProtected, contents, has_stamp, held, is_installed_above, is_needed, last_installed, last_version, listing, newest, newest_within, otherwise, stamped, Change, Installs, Collects, Held}
 use Rattle.std.proofs.lemmas.List.Kept.{AllPairs-filter}
 
 -- versions stand by stamp, and none is above n

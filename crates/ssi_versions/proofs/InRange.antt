@@ -18,7 +18,7 @@ use Rattle.std.proofs.lemmas.Map.Keys.{IsDistinct-tail, IsDistinct-from_sorted}
 use Rattle.std.proofs.lemmas.Map.Entries.{none_past_head}
 use Rattle.adya_values.specs.Meaning.Keys.{key_eq, key_le, keys_rise, lies_in}
 use Rattle.ssi_versions.specs.Meaning.Changes.{Held, otherwise, newest_within}
-use Rattle.ssi_versions.specs.Meaning.Chains.{is_of, chain_of, found_in, key_in}
+use Rattle.ssi_versions.specs.Mirror.{is_of, chain_of, found_in, key_in}
 use Rattle.ssi_versions.specs.Machinery.Keyed.{Chain, held_in, kept_at, held_under, held_at, versions, is_owned, seen_between}
 use Rattle.ssi_versions.proofs.ByKey.{alone}
 use Rattle.ssi_versions.proofs.Ranges.{tied, keys_rise-from_sorted}
@@ -29,8 +29,8 @@ not_above Less = refl
 not_above Equal = refl
 not_above Greater = refl
 
-same_range : (lo hi k : List ℕ) → range_contains (slice_cmp nat_cmp) (Included lo) (Included hi) k ≡ lies_in lo hi k
-same_range lo hi k = ap (λ b. key_le lo k && b) (ap (λ o. not (is_lt o)) (nat_list_cmp_total.antisymm hi k) ∙ not_above (slice_cmp nat_cmp k hi))
+same_range : (low high k : List ℕ) → range_contains (slice_cmp nat_cmp) (Included low) (Included high) k ≡ lies_in low high k
+same_range low high k = ap (λ b. key_le low k && b) (ap (λ o. not (is_lt o)) (nat_list_cmp_total.antisymm high k) ∙ not_above (slice_cmp nat_cmp k high))
 
 -- the newest of a key's versions is of that key
 newest_is_of : (k : List ℕ) (s : ℕ) (hs : List Held) (h : Held) → list_all (is_of k) hs ≡ true → newest_within s hs ≡ Some h → is_of k h ≡ true
@@ -64,74 +64,74 @@ there q k s hs rest other mine =
       | Some h ↦ λ e. ap (λ b. if b then Some h else found_in q rest) (subst (λ x. key_eq x q ≡ false) (sym (same_text h.entry.version.key k (sym (newest_is_of k s hs h mine e)))) other)
     ] refl
 
-found_in_listing : (lo hi : List ℕ) (s : ℕ) (q : List ℕ) (es : List Chain) → is_owned es ≡ true → IsDistinct (eq_by_cmp (slice_cmp nat_cmp)) (keys_of es)
-    → found_in q (seen_between lo hi s es) ≡ (if lies_in lo hi q then newest_within s (held_at q es) else None)
-found_in_listing lo hi s q [] owned apart =
-    elim (lies_in lo hi q) as (λ b. ◌≡◌ {A = Option Held} None (if b then None else None)) [
+found_in_listing : (low high : List ℕ) (s : ℕ) (q : List ℕ) (es : List Chain) → is_owned es ≡ true → IsDistinct (eq_by_cmp (slice_cmp nat_cmp)) (keys_of es)
+    → found_in q (seen_between low high s es) ≡ (if lies_in low high q then newest_within s (held_at q es) else None)
+found_in_listing low high s q [] owned apart =
+    elim (lies_in low high q) as (λ b. ◌≡◌ {A = Option Held} None (if b then None else None)) [
       | true ↦ refl
       | false ↦ refl
     ]
-found_in_listing lo hi s q (e ∷ es) owned apart =
+found_in_listing low high s q (e ∷ es) owned apart =
     let o = and_parts (list_all (is_of e.0) (held_in e.1)) (is_owned es) owned in
-    let again = found_in_listing lo hi s q es o.1 (IsDistinct-tail (eq_by_cmp (slice_cmp nat_cmp)) e.0 (keys_of es) apart) in
-    let rest = seen_between lo hi s es in
-    let inside = range_contains (slice_cmp nat_cmp) (Included lo) (Included hi) e.0 in
-    elim (is_at (slice_cmp nat_cmp q) e.0) as (λ b. is_at (slice_cmp nat_cmp q) e.0 ≡ b → found_in q (seen_between lo hi s (e ∷ es)) ≡ (if lies_in lo hi q then newest_within s (held_under (cond b (Some e.1) (kept_at q es))) else None)) [
+    let again = found_in_listing low high s q es o.1 (IsDistinct-tail (eq_by_cmp (slice_cmp nat_cmp)) e.0 (keys_of es) apart) in
+    let rest = seen_between low high s es in
+    let inside = range_contains (slice_cmp nat_cmp) (Included low) (Included high) e.0 in
+    elim (is_at (slice_cmp nat_cmp q) e.0) as (λ b. is_at (slice_cmp nat_cmp q) e.0 ≡ b → found_in q (seen_between low high s (e ∷ es)) ≡ (if lies_in low high q then newest_within s (held_under (cond b (Some e.1) (kept_at q es))) else None)) [
       | true ↦ λ t.
           let same : q ≡ e.0 = same_text q e.0 (sym (sym (tied q e.0) ∙ t)) in
           let gone : kept_at q es ≡ None = lookup-none (is_at (slice_cmp nat_cmp q)) es (none_past_head (eq_by_cmp_equiv nat_list_cmp_total) q e es apart t) in
-          let nothing : found_in q rest ≡ None = again ∙ ap (λ k. if lies_in lo hi q then newest_within s (held_under k) else None) gone
-          ∙ elim (lies_in lo hi q) as (λ b. ◌≡◌ {A = Option Held} (if b then None else None) None) [ true ↦ refl | false ↦ refl ] in
-          let range : inside ≡ lies_in lo hi q = same_range lo hi e.0 ∙ ap (lies_in lo hi) (sym same) in
-          elim inside as (λ b. found_in q (filter_map (λ x. newest_within s (held_in x.1)) (cond b (e ∷ entries_between (slice_cmp nat_cmp) (Included lo) (Included hi) es) (entries_between (slice_cmp nat_cmp) (Included lo) (Included hi) es))) ≡ (if b then newest_within s (held_in e.1) else None)) [
+          let nothing : found_in q rest ≡ None = again ∙ ap (λ k. if lies_in low high q then newest_within s (held_under k) else None) gone
+          ∙ elim (lies_in low high q) as (λ b. ◌≡◌ {A = Option Held} (if b then None else None) None) [ true ↦ refl | false ↦ refl ] in
+          let range : inside ≡ lies_in low high q = same_range low high e.0 ∙ ap (lies_in low high) (sym same) in
+          elim inside as (λ b. found_in q (filter_map (λ x. newest_within s (held_in x.1)) (cond b (e ∷ entries_between (slice_cmp nat_cmp) (Included low) (Included high) es) (entries_between (slice_cmp nat_cmp) (Included low) (Included high) es))) ≡ (if b then newest_within s (held_in e.1) else None)) [
             | true ↦ here q e.0 s (held_in e.1) rest same o.0 nothing
             | false ↦ nothing
           ] ∙ ap (λ b. if b then newest_within s (held_in e.1) else None) range
       | false ↦ λ t.
           let other : key_eq e.0 q ≡ false = nat_list_eq_equiv.symm e.0 q ∙ sym (tied q e.0) ∙ t in
-          elim inside as (λ b. found_in q (filter_map (λ x. newest_within s (held_in x.1)) (cond b (e ∷ entries_between (slice_cmp nat_cmp) (Included lo) (Included hi) es) (entries_between (slice_cmp nat_cmp) (Included lo) (Included hi) es))) ≡ found_in q rest) [
+          elim inside as (λ b. found_in q (filter_map (λ x. newest_within s (held_in x.1)) (cond b (e ∷ entries_between (slice_cmp nat_cmp) (Included low) (Included high) es) (entries_between (slice_cmp nat_cmp) (Included low) (Included high) es))) ≡ found_in q rest) [
             | true ↦ there q e.0 s (held_in e.1) rest other o.0
             | false ↦ refl
           ] ∙ again
     ] refl
 
-pub found_between : (lo hi : List ℕ) (s : ℕ) (q : List ℕ) (es : List Chain) → is_owned es ≡ true → IsStrictlySortedBy (slice_cmp nat_cmp) (keys_of es)
-    → found_in q (seen_between lo hi s es) ≡ (if lies_in lo hi q then newest_within s (chain_of q (versions es)) else None)
-found_between lo hi s q es owned sorted =
-    found_in_listing lo hi s q es owned (IsDistinct-from_sorted (slice_cmp nat_cmp) (keys_of es) sorted)
-    ∙ ap (λ hs. if lies_in lo hi q then newest_within s hs else None) (sym (chain_get q es owned sorted))
+pub found_between : (low high : List ℕ) (s : ℕ) (q : List ℕ) (es : List Chain) → is_owned es ≡ true → IsStrictlySortedBy (slice_cmp nat_cmp) (keys_of es)
+    → found_in q (seen_between low high s es) ≡ (if lies_in low high q then newest_within s (chain_of q (versions es)) else None)
+found_between low high s q es owned sorted =
+    found_in_listing low high s q es owned (IsDistinct-from_sorted (slice_cmp nat_cmp) (keys_of es) sorted)
+    ∙ ap (λ hs. if lies_in low high q then newest_within s hs else None) (sym (chain_get q es owned sorted))
 
 -- the listed keys are keys of the map, in its order
-all_between : (P : List ℕ → Type 0) (lo hi : List ℕ) (s : ℕ) (es : List Chain) → is_owned es ≡ true → AllByRecursion P (keys_of es) → AllByRecursion P (map key_in (seen_between lo hi s es))
-all_between P lo hi s [] owned all = all
-all_between P lo hi s (e ∷ es) owned all =
+all_between : (P : List ℕ → Type 0) (low high : List ℕ) (s : ℕ) (es : List Chain) → is_owned es ≡ true → AllByRecursion P (keys_of es) → AllByRecursion P (map key_in (seen_between low high s es))
+all_between P low high s [] owned all = all
+all_between P low high s (e ∷ es) owned all =
     let o = and_parts (list_all (is_of e.0) (held_in e.1)) (is_owned es) owned in
-    let again = all_between P lo hi s es o.1 all.1 in
-    elim (range_contains (slice_cmp nat_cmp) (Included lo) (Included hi) e.0) as (λ b. AllByRecursion P (map key_in (filter_map (λ x. newest_within s (held_in x.1)) (cond b (e ∷ entries_between (slice_cmp nat_cmp) (Included lo) (Included hi) es) (entries_between (slice_cmp nat_cmp) (Included lo) (Included hi) es))))) [
-      | true ↦ elim (newest_within s (held_in e.1)) as (λ r. newest_within s (held_in e.1) ≡ r → AllByRecursion P (map key_in (before r (seen_between lo hi s es)))) [
+    let again = all_between P low high s es o.1 all.1 in
+    elim (range_contains (slice_cmp nat_cmp) (Included low) (Included high) e.0) as (λ b. AllByRecursion P (map key_in (filter_map (λ x. newest_within s (held_in x.1)) (cond b (e ∷ entries_between (slice_cmp nat_cmp) (Included low) (Included high) es) (entries_between (slice_cmp nat_cmp) (Included low) (Included high) es))))) [
+      | true ↦ elim (newest_within s (held_in e.1)) as (λ r. newest_within s (held_in e.1) ≡ r → AllByRecursion P (map key_in (before r (seen_between low high s es)))) [
         | None ↦ λ r. again
         | Some h ↦ λ r. (subst P (sym (same_text h.entry.version.key e.0 (sym (newest_is_of e.0 s (held_in e.1) h o.0 r)))) all.0, again)
       ] refl
       | false ↦ again
     ]
 
-sorted_between : (lo hi : List ℕ) (s : ℕ) (es : List Chain) → is_owned es ≡ true → IsStrictlySortedBy (slice_cmp nat_cmp) (keys_of es) → IsStrictlySortedBy (slice_cmp nat_cmp) (map key_in (seen_between lo hi s es))
+sorted_between : (low high : List ℕ) (s : ℕ) (es : List Chain) → is_owned es ≡ true → IsStrictlySortedBy (slice_cmp nat_cmp) (keys_of es) → IsStrictlySortedBy (slice_cmp nat_cmp) (map key_in (seen_between low high s es))
 unfolding IsStrictlySortedBy
-sorted_between lo hi s [] owned sorted = sorted
-sorted_between lo hi s (e ∷ es) owned sorted =
+sorted_between low high s [] owned sorted = sorted
+sorted_between low high s (e ∷ es) owned sorted =
     let o = and_parts (list_all (is_of e.0) (held_in e.1)) (is_owned es) owned in
-    let again = sorted_between lo hi s es o.1 sorted.1 in
-    elim (range_contains (slice_cmp nat_cmp) (Included lo) (Included hi) e.0) as (λ b. IsStrictlySortedBy (slice_cmp nat_cmp) (map key_in (filter_map (λ x. newest_within s (held_in x.1)) (cond b (e ∷ entries_between (slice_cmp nat_cmp) (Included lo) (Included hi) es) (entries_between (slice_cmp nat_cmp) (Included lo) (Included hi) es))))) [
-      | true ↦ elim (newest_within s (held_in e.1)) as (λ r. newest_within s (held_in e.1) ≡ r → IsStrictlySortedBy (slice_cmp nat_cmp) (map key_in (before r (seen_between lo hi s es)))) [
+    let again = sorted_between low high s es o.1 sorted.1 in
+    elim (range_contains (slice_cmp nat_cmp) (Included low) (Included high) e.0) as (λ b. IsStrictlySortedBy (slice_cmp nat_cmp) (map key_in (filter_map (λ x. newest_within s (held_in x.1)) (cond b (e ∷ entries_between (slice_cmp nat_cmp) (Included low) (Included high) es) (entries_between (slice_cmp nat_cmp) (Included low) (Included high) es))))) [
+      | true ↦ elim (newest_within s (held_in e.1)) as (λ r. newest_within s (held_in e.1) ≡ r → IsStrictlySortedBy (slice_cmp nat_cmp) (map key_in (before r (seen_between low high s es)))) [
         | None ↦ λ r. again
         | Some h ↦ λ r. (
-          subst (λ k. AllByRecursion (λ y. slice_cmp nat_cmp k y ≡ Less) (map key_in (seen_between lo hi s es))) (sym (same_text h.entry.version.key e.0 (sym (newest_is_of e.0 s (held_in e.1) h o.0 r))))
-              (all_between (λ y. slice_cmp nat_cmp e.0 y ≡ Less) lo hi s es o.1 sorted.0),
+          subst (λ k. AllByRecursion (λ y. slice_cmp nat_cmp k y ≡ Less) (map key_in (seen_between low high s es))) (sym (same_text h.entry.version.key e.0 (sym (newest_is_of e.0 s (held_in e.1) h o.0 r))))
+              (all_between (λ y. slice_cmp nat_cmp e.0 y ≡ Less) low high s es o.1 sorted.0),
           again,
         )
       ] refl
       | false ↦ again
     ]
 
-pub rising_between : (lo hi : List ℕ) (s : ℕ) (es : List Chain) → is_owned es ≡ true → IsStrictlySortedBy (slice_cmp nat_cmp) (keys_of es) → keys_rise (map key_in (seen_between lo hi s es)) ≡ true
-rising_between lo hi s es owned sorted = keys_rise-from_sorted (map key_in (seen_between lo hi s es)) (sorted_between lo hi s es owned sorted)
+pub rising_between : (low high : List ℕ) (s : ℕ) (es : List Chain) → is_owned es ≡ true → IsStrictlySortedBy (slice_cmp nat_cmp) (keys_of es) → keys_rise (map key_in (seen_between low high s es)) ≡ true
+rising_between low high s es owned sorted = keys_rise-from_sorted (map key_in (seen_between low high s es)) (sorted_between low high s es owned sorted)

@@ -75,4 +75,4 @@ letter = refl
 
 pub within_more : {X : Type 0} (P Q : X → Type 0) (xs : List X) (i : ℕ) (x : X) → i < length xs → x ≡ get_or xs i x → ((y : X) → P y → Q y) → AllWithin P xs 0 i → Q x → AllWithin Q xs 0 (i + 1)
 within_more P Q xs i x h is keeps before here =
-    AllWithin-more Q xs 0 i (λ k d lo hi. keeps (get_or xs k d) (before k d lo hi)) (λ d. subst Q (is ∙ get_or_default xs i x d h) here)
+    AllWithin-more Q xs 0 i (λ k d low high. keeps (get_or xs k d) (before k d low high)) (λ d. subst Q (is ∙ get_or_default xs i x d h) here)

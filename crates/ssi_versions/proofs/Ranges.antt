@@ -10,7 +10,7 @@ use Rattle.std.proofs.lemmas.Bool.{and_parts, and_from}
 use Rattle.adya_values.specs.Meaning.Keys.{key_eq, key_lt, keys_rise, lies_in}
 use Rattle.ssi_versions.specs.Meaning.Changes.{Held, otherwise, newest_within}
 use Rattle.ssi_versions.specs.declared.held.Held.{Held as HeldValue}
-use Rattle.ssi_versions.specs.Meaning.Chains.{held_of, is_of, chain_of, found_in, key_in}
+use Rattle.ssi_versions.specs.Mirror.{held_of, is_of, chain_of, found_in, key_in}
 use Rattle.ssi_versions.proofs.ByKey.{alone, newest_within-append, chain-more}
 
 -- the map's test of keys is equality
@@ -18,55 +18,55 @@ pub tied : (k q : List ℕ) → is_at (slice_cmp nat_cmp k) q ≡ key_eq k q
 tied k q = sym (texts_ties k q)
 
 abbrev pub seen_at : List ℕ → List ℕ → ℕ → List ℕ → List HeldValue → Option Held
-seen_at lo hi s key xs = if lies_in lo hi key then newest_within s (chain_of key (map held_of xs)) else None
+seen_at low high s key xs = if lies_in low high key then newest_within s (chain_of key (map held_of xs)) else None
 
-seen_more : (lo hi : List ℕ) (s : ℕ) (key : List ℕ) (xs : List HeldValue) (i : ℕ) (x : HeldValue) → i < length xs → x ≡ get_or xs i x
-    → seen_at lo hi s key (take (i + 1) xs) ≡ cond (key_eq x.version.key key && (lies_in lo hi x.version.key && nat_le x.stamp s)) (Some (held_of x)) (seen_at lo hi s key (take i xs))
-seen_more lo hi s key xs i x h is =
+seen_more : (low high : List ℕ) (s : ℕ) (key : List ℕ) (xs : List HeldValue) (i : ℕ) (x : HeldValue) → i < length xs → x ≡ get_or xs i x
+    → seen_at low high s key (take (i + 1) xs) ≡ cond (key_eq x.version.key key && (lies_in low high x.version.key && nat_le x.stamp s)) (Some (held_of x)) (seen_at low high s key (take i xs))
+seen_more low high s key xs i x h is =
     let chain = chain_of key (map held_of (take i xs)) in
     let before = newest_within s chain in
-    ap (λ o. if lies_in lo hi key then o else None) (ap (newest_within s) (chain-more key xs i x h is) ∙ newest_within-append s chain (chain_of key (held_of x ∷ [])))
+    ap (λ o. if lies_in low high key then o else None) (ap (newest_within s) (chain-more key xs i x h is) ∙ newest_within-append s chain (chain_of key (held_of x ∷ [])))
     ∙ elim (key_eq x.version.key key) as (λ b. key_eq x.version.key key ≡ b
-    → (if lies_in lo hi key then otherwise (newest_within s (cond b (held_of x ∷ []) [])) before else None)
-    ≡ cond (b && (lies_in lo hi x.version.key && nat_le x.stamp s)) (Some (held_of x)) (if lies_in lo hi key then before else None)) [
+    → (if lies_in low high key then otherwise (newest_within s (cond b (held_of x ∷ []) [])) before else None)
+    ≡ cond (b && (lies_in low high x.version.key && nat_le x.stamp s)) (Some (held_of x)) (if lies_in low high key then before else None)) [
       | true ↦ λ t.
-          elim (lies_in lo hi key) as (λ m. (if m then otherwise (alone s (held_of x)) before else None) ≡ cond (m && nat_le x.stamp s) (Some (held_of x)) (if m then before else None)) [
+          elim (lies_in low high key) as (λ m. (if m then otherwise (alone s (held_of x)) before else None) ≡ cond (m && nat_le x.stamp s) (Some (held_of x)) (if m then before else None)) [
             | true ↦ elim (nat_le x.stamp s) as (λ b. otherwise (cond b (Some (held_of x)) None) before ≡ cond b (Some (held_of x)) before) [
               | true ↦ refl
               | false ↦ refl
             ]
             | false ↦ refl
-          ] ∙ ap (λ k. cond (lies_in lo hi k && nat_le x.stamp s) (Some (held_of x)) (if lies_in lo hi key then before else None)) (sym (same_text x.version.key key (sym t)))
+          ] ∙ ap (λ k. cond (lies_in low high k && nat_le x.stamp s) (Some (held_of x)) (if lies_in low high key then before else None)) (sym (same_text x.version.key key (sym t)))
       | false ↦ λ t. refl
     ] refl
 
-pub seen_then : (lo hi : List ℕ) (s : ℕ) (key : List ℕ) (xs : List HeldValue) (i : ℕ) (x : HeldValue) (es fs : List (List ℕ × HeldValue)) → i < length xs → x ≡ get_or xs i x
-    → (lies_in lo hi x.version.key && nat_le x.stamp s) ≡ true
+pub seen_then : (low high : List ℕ) (s : ℕ) (key : List ℕ) (xs : List HeldValue) (i : ℕ) (x : HeldValue) (es fs : List (List ℕ × HeldValue)) → i < length xs → x ≡ get_or xs i x
+    → (lies_in low high x.version.key && nat_le x.stamp s) ≡ true
     → lookup (is_at (slice_cmp nat_cmp key)) fs ≡ cond (is_at (slice_cmp nat_cmp x.version.key) key) (Some x) (lookup (is_at (slice_cmp nat_cmp key)) es)
-    → option_map held_of (lookup (is_at (slice_cmp nat_cmp key)) es) ≡ seen_at lo hi s key (take i xs)
-    → option_map held_of (lookup (is_at (slice_cmp nat_cmp key)) fs) ≡ seen_at lo hi s key (take (i + 1) xs)
-seen_then lo hi s key xs i x es fs h is fits gives was =
+    → option_map held_of (lookup (is_at (slice_cmp nat_cmp key)) es) ≡ seen_at low high s key (take i xs)
+    → option_map held_of (lookup (is_at (slice_cmp nat_cmp key)) fs) ≡ seen_at low high s key (take (i + 1) xs)
+seen_then low high s key xs i x es fs h is fits gives was =
     let old = lookup (is_at (slice_cmp nat_cmp key)) es in
     ap (option_map held_of) (gives ∙ ap (λ b. cond b (Some x) old) (tied x.version.key key))
-    ∙ elim (key_eq x.version.key key) as (λ b. option_map held_of (cond b (Some x) old) ≡ cond (b && true) (Some (held_of x)) (seen_at lo hi s key (take i xs))) [
+    ∙ elim (key_eq x.version.key key) as (λ b. option_map held_of (cond b (Some x) old) ≡ cond (b && true) (Some (held_of x)) (seen_at low high s key (take i xs))) [
       | true ↦ refl
       | false ↦ was
     ]
-    ∙ ap (λ b. cond (key_eq x.version.key key && b) (Some (held_of x)) (seen_at lo hi s key (take i xs))) (sym fits)
-    ∙ sym (seen_more lo hi s key xs i x h is)
+    ∙ ap (λ b. cond (key_eq x.version.key key && b) (Some (held_of x)) (seen_at low high s key (take i xs))) (sym fits)
+    ∙ sym (seen_more low high s key xs i x h is)
 
-pub seen_else : (lo hi : List ℕ) (s : ℕ) (key : List ℕ) (xs : List HeldValue) (i : ℕ) (x : HeldValue) (es : List (List ℕ × HeldValue)) → i < length xs → x ≡ get_or xs i x
-    → (lies_in lo hi x.version.key && nat_le x.stamp s) ≡ false
-    → option_map held_of (lookup (is_at (slice_cmp nat_cmp key)) es) ≡ seen_at lo hi s key (take i xs)
-    → option_map held_of (lookup (is_at (slice_cmp nat_cmp key)) es) ≡ seen_at lo hi s key (take (i + 1) xs)
-seen_else lo hi s key xs i x es h is fits was =
+pub seen_else : (low high : List ℕ) (s : ℕ) (key : List ℕ) (xs : List HeldValue) (i : ℕ) (x : HeldValue) (es : List (List ℕ × HeldValue)) → i < length xs → x ≡ get_or xs i x
+    → (lies_in low high x.version.key && nat_le x.stamp s) ≡ false
+    → option_map held_of (lookup (is_at (slice_cmp nat_cmp key)) es) ≡ seen_at low high s key (take i xs)
+    → option_map held_of (lookup (is_at (slice_cmp nat_cmp key)) es) ≡ seen_at low high s key (take (i + 1) xs)
+seen_else low high s key xs i x es h is fits was =
     was
-    ∙ elim (key_eq x.version.key key) as (λ b. seen_at lo hi s key (take i xs) ≡ cond (b && false) (Some (held_of x)) (seen_at lo hi s key (take i xs))) [
+    ∙ elim (key_eq x.version.key key) as (λ b. seen_at low high s key (take i xs) ≡ cond (b && false) (Some (held_of x)) (seen_at low high s key (take i xs))) [
       | true ↦ refl
       | false ↦ refl
     ]
-    ∙ ap (λ b. cond (key_eq x.version.key key && b) (Some (held_of x)) (seen_at lo hi s key (take i xs))) (sym fits)
-    ∙ sym (seen_more lo hi s key xs i x h is)
+    ∙ ap (λ b. cond (key_eq x.version.key key && b) (Some (held_of x)) (seen_at low high s key (take i xs))) (sym fits)
+    ∙ sym (seen_more low high s key xs i x h is)
 
 -- each version is stored under its own key
 abbrev pub are_owned : List (List ℕ × HeldValue) → Bool

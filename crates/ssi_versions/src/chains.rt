@@ -3,9 +3,8 @@
 ghost use Rattle.std.specs.Prelude.{◌≡◌, ◌++◌, ℕ, List, None, if◌then◌else◌, true, length, map, filter, option_map, OnOk, OnErr, IfOk};
 ghost use Rattle.adya_values.specs.Meaning.Keys.{key_le, keys_rise, lies_in};
 ghost use Rattle.adya_values.specs.Meaning.Events.{listed};
-ghost use Rattle.ssi_versions.specs.Meaning.Changes.{Held as HeldVersion, listing, stamped, newest, newest_within, IsByStamp, AreApart};
-ghost use Rattle.ssi_versions.specs.Meaning.ChangeLaws.{is_wanted};
-ghost use Rattle.ssi_versions.specs.Meaning.Chains.{held_of, write_of, chain_of, key_total, found_in, key_in, IsAbove};
+ghost use Rattle.ssi_versions.specs.Meaning.Changes.{Held as HeldVersion, listing, stamped, newest, newest_within, IsByStamp, AreApart, is_wanted};
+ghost use Rattle.ssi_versions.specs.Mirror.{held_of, write_of, chain_of, key_total, found_in, key_in, IsAbove};
 
 use crate::Held;
 use adya_values::{Content, Key, Version};
@@ -35,15 +34,15 @@ pub trait Chains {
     fn at(&self, key: Key, stamp: u64) -> Option<Held>
         ensures { option_map held_of result ≡ newest_within stamp (chain_of key (held self.now)) };
 
-    /// Returns by rising key what a snapshot at this stamp sees of each key from `lo` to `hi`, both included. A key of
-    /// which it sees no version is left out. `lo` may not be above `hi`.
+    /// Returns by rising key what a snapshot at this stamp sees of each key from `low` to `high`, both included. A key of
+    /// which it sees no version is left out. `low` may not be above `high`.
     ///
     /// Returns an error if memory runs out.
-    fn range_at(&self, lo: Key, hi: Key, stamp: u64) -> Result<Vec<Held>, AllocError>
-        requires { key_le lo hi ≡ true }
+    fn range_at(&self, low: Key, high: Key, stamp: u64) -> Result<Vec<Held>, AllocError>
+        requires { key_le low high ≡ true }
         ensures rising { IfOk result (λ v. keys_rise (map key_in (map held_of v.items)) ≡ true) }
         ensures found { IfOk result (λ v. (key : List ℕ) → found_in key (map held_of v.items)
-            ≡ if lies_in lo hi key then newest_within stamp (chain_of key (held self.now)) else None) };
+            ≡ if lies_in low high key then newest_within stamp (chain_of key (held self.now)) else None) };
 
     /// Returns the newest held version of the key, or none if no version of it is held. Takes no memory.
     fn last(&self, key: Key) -> Option<Held>

@@ -9,7 +9,7 @@ ghost use Rattle.std.specs.Ordering.{nat_cmp};
 ghost use Rattle.std.specs.Cmp.Lexicographic.{slice_cmp};
 ghost use Rattle.adya_values.specs.Meaning.Keys.{key_eq, key_le};
 ghost use Rattle.ssi_versions.specs.Meaning.Changes.{newest, newest_within, IsByStamp, AreApart};
-ghost use Rattle.ssi_versions.specs.Meaning.Chains.{held_of, write_of, chain_of};
+ghost use Rattle.ssi_versions.specs.Mirror.{held_of, write_of, chain_of};
 ghost use Rattle.ssi_versions.specs.Machinery.Plain.{as_held};
 ghost use Rattle.ssi_versions.specs.Computing.Kept.{is_kept_before, next_stamp};
 ghost use Rattle.ssi_versions.specs.Machinery.Keyed.{versions, placed, AreByStamp, kept_places, held_at, held_in, is_owned, filled_count, seen_between, kept_vec, HasRoomAt};
@@ -75,9 +75,9 @@ impl Chains for KeyChains {
         }
     }
 
-    fn range_at(&self, lo: Key, hi: Key, stamp: u64) -> Result<Vec<Held>, AllocError> {
+    fn range_at(&self, low: Key, high: Key, stamp: u64) -> Result<Vec<Held>, AllocError> {
         let _ordered = self.chains.len();
-        let found = seen_between(self.alloc, &self.chains, lo, hi, stamp)?;
+        let found = seen_between(self.alloc, &self.chains, low, high, stamp)?;
         Ok(found)
     }
 
@@ -218,20 +218,20 @@ fn newest(chain: &[Place]) -> Option<Held>
     Some(chain[n - 1].held)
 }
 
-/// Of each key from `lo` to `hi` the newest version at or below the stamp.
+/// Of each key from `low` to `high` the newest version at or below the stamp.
 fn seen_between(
     alloc: Global,
     chains: &BTreeMap<Key, SmallVec<Place, 4>>,
-    lo: Key,
-    hi: Key,
+    low: Key,
+    high: Key,
     stamp: u64,
 ) -> Result<Vec<Held>, AllocError>
-    requires ordered { key_le lo hi ≡ true }
-    requires rising { AreByStamp (entries_between (slice_cmp nat_cmp) (Included lo) (Included hi) chains.now.entries) }
-    ensures { IfOk result (λ v. map held_of v.items ≡ seen_between lo hi stamp chains.now.entries) }
+    requires ordered { key_le low high ≡ true }
+    requires rising { AreByStamp (entries_between (slice_cmp nat_cmp) (Included low) (Included high) chains.now.entries) }
+    ensures { IfOk result (λ v. map held_of v.items ≡ seen_between low high stamp chains.now.entries) }
 {
     let mut found = Vec::new(alloc);
-    'chains: for (_, chain) in chains.range(lo..=hi) {
+    'chains: for (_, chain) in chains.range(low..=high) {
         if let Some(held) = newest_at(chain.as_slice(), stamp) {
             found.push(held)?;
         }

@@ -1,8 +1,8 @@
 //! Laws of what a store of versions is told, each proved as the contract of a function that does nothing: collections
 //! drop nothing that is still asked for, and the lengths of a store's list of held versions are counts of the changes.
 
-ghost use Rattle.ssi_versions.specs.Meaning.ChangeLaws.{HeldRises, LastIsHeld, HeldShows, LastIsAbove, CollectsHeld, CollectKeepsSeen};
-ghost use Rattle.ssi_versions.specs.Meaning.CountLaws.{CountsHeld, CountsKeys};
+ghost use Rattle.ssi_versions.specs.Laws.Changes.{HeldRises, LastIsHeld, HeldShows, LastIsAbove, CollectsHeld, CollectKeepsSeen};
+ghost use Rattle.ssi_versions.specs.Laws.Counts.{CountsHeld, CountsKeys};
 
 /// The held versions of a key stand by stamp.
 pub fn held_rises()

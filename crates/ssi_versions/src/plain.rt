@@ -11,7 +11,7 @@ ghost use Rattle.std.specs.Ordering.{nat_cmp};
 ghost use Rattle.std.specs.Cmp.Lexicographic.{slice_cmp};
 ghost use Rattle.adya_values.specs.Meaning.Keys.{key_le, keys_rise, lies_in};
 ghost use Rattle.ssi_versions.specs.Meaning.Changes.{newest, newest_within, IsByStamp};
-ghost use Rattle.ssi_versions.specs.Meaning.Chains.{held_of, write_of, chain_of, found_in, key_in, key_total, is_of};
+ghost use Rattle.ssi_versions.specs.Mirror.{held_of, write_of, chain_of, found_in, key_in, key_total, is_of};
 ghost use Rattle.ssi_versions.specs.Computing.Kept.{is_kept_before, next_stamp, kept_in};
 ghost use Rattle.ssi_versions.specs.Machinery.Plain.{as_held};
 
@@ -53,8 +53,8 @@ impl Chains for PlainChains {
         newest_at(&self.items, key, stamp)
     }
 
-    fn range_at(&self, lo: Key, hi: Key, stamp: u64) -> Result<Vec<Held>, AllocError> {
-        let seen = seen_in(self.alloc, &self.items, lo, hi, stamp)?;
+    fn range_at(&self, low: Key, high: Key, stamp: u64) -> Result<Vec<Held>, AllocError> {
+        let seen = seen_in(self.alloc, &self.items, low, high, stamp)?;
         let found = listed(self.alloc, &seen)?;
         Ok(found)
     }
@@ -128,27 +128,27 @@ fn newest(items: &[Held], key: Key) -> Option<Held>
 }
 
 /// Whether the version is of the range, and at or below the stamp.
-fn is_seen(held: &Held, lo: Key, hi: Key, stamp: u64) -> bool
-    ensures { result ≡ (lies_in lo hi held.now.version.key && nat_le held.now.stamp stamp) }
+fn is_seen(held: &Held, low: Key, high: Key, stamp: u64) -> bool
+    ensures { result ≡ (lies_in low high held.now.version.key && nat_le held.now.stamp stamp) }
 {
-    lo <= held.version.key && held.version.key <= hi && held.stamp <= stamp
+    low <= held.version.key && held.version.key <= high && held.stamp <= stamp
 }
 
-/// Of each key from `lo` to `hi` the newest version at or below the stamp.
+/// Of each key from `low` to `high` the newest version at or below the stamp.
 fn seen_in(
     alloc: Global,
     items: &[Held],
-    lo: Key,
-    hi: Key,
+    low: Key,
+    high: Key,
     stamp: u64,
 ) -> Result<BTreeMap<Key, Held>, AllocError>
     ensures seen { IfOk result (λ m. (key : List ℕ) → option_map held_of (lookup (is_at (slice_cmp nat_cmp key)) m.entries)
-        ≡ if lies_in lo hi key then newest_within stamp (chain_of key (map held_of items.now)) else None) }
+        ≡ if lies_in low high key then newest_within stamp (chain_of key (map held_of items.now)) else None) }
     ensures owned { IfOk result (λ m. list_all (λ e. is_of e.0 (held_of e.1)) m.entries ≡ true) }
 {
     let mut seen = BTreeMap::new(alloc);
     'items: for held in items {
-        if is_seen(held, lo, hi, stamp) {
+        if is_seen(held, low, high, stamp) {
             seen.insert(held.version.key, *held)?;
         }
     }

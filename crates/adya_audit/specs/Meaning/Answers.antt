@@ -1,12 +1,12 @@
 -- The answers of a search for a certificate.
 use Rattle.std.specs.Prelude.{◌≡◌, ℕ, List, map}
-use Rattle.adya_values.specs.Meaning.Values.{serial_txns}
+use Rattle.adya_values.specs.Mirror.{serial_txns}
 use Rattle.adya_values.specs.Meaning.Histories.{History}
 use Rattle.adya_values.specs.Meaning.Edges.{Edge, IsCycle}
 use Rattle.adya_values.specs.Meaning.Acceptance.{IsAccepted}
 use Rattle.adya_text.specs.declared.read_fault.Text.TheVariants as Of
 use Rattle.adya_text.specs.Meaning.Texts.{IsSerial, serial_text}
-use Rattle.adya_dsg.specs.Meaning.Values.{edge_of}
+use Rattle.adya_dsg.specs.Mirror.{edge_of}
 use Rattle.adya_dsg.specs.Meaning.Found.{HasCertificate}
 use Rattle.adya_audit.specs.declared.answer.Answer.{Answer as AnswerValue}
 use Rattle.adya_audit.specs.declared.answer.Answer.TheVariants as Holds

@@ -8,7 +8,7 @@ use Rattle.adya_text.specs.Meaning.Faults.{IsFaultLine}
 use Rattle.adya_audit.specs.Meaning.Verdicts.{Verdict, Yes, Syntax, Malformed, AbortedRead, IntermediateRead, NotTheCommitted}
 use Rattle.adya_audit.specs.Meaning.Verdicts.{Backward, verdict_of}
 use Rattle.adya_text.specs.Meaning.Streams.{history_part, serial_part}
-use Rattle.adya_audit.specs.Meaning.Laws.{IsSerializableBy}
+use Rattle.adya_audit.specs.Meaning.Serializable.{IsSerializableBy}
 
 -- the text is that of the history
 pub record IsTextOf (text : List ℕ) (h : History) : Type 0 where

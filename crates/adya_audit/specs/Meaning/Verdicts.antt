@@ -10,7 +10,7 @@ use Rattle.adya_values.specs.Computing.Certificates.{lists_the_committed, first_
 use Rattle.adya_text.specs.declared.read_fault.Text.{Text}
 use Rattle.adya_audit.specs.declared.verdict.Verdict.{Verdict as VerdictValue}
 use Rattle.adya_audit.specs.declared.verdict.Verdict.TheVariants as Said
-use Rattle.adya_dsg.specs.Meaning.Values.{edge_of}
+use Rattle.adya_dsg.specs.Mirror.{edge_of}
 
 pub data Verdict : Type 0 where
   Yes : Verdict

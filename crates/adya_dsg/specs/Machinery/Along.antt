@@ -8,7 +8,7 @@ use Rattle.std.specs.declared.cmp.Ordering.{Ordering}
 use Rattle.digraph.specs.declared.arc.Arc.{Arc}
 use Rattle.adya_values.specs.Meaning.Edges.{Edge}
 use Rattle.adya_dsg.specs.declared.edge.Edge.{Edge as EdgeValue}
-use Rattle.adya_dsg.specs.Meaning.Values.{edge_of}
+use Rattle.adya_dsg.specs.Mirror.{edge_of}
 
 -- the edge has the ends of the arc
 abbrev pub joins : Arc → Edge → Bool

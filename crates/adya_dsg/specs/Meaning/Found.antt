@@ -3,8 +3,8 @@ use Rattle.std.specs.Prelude.{ℕ, List, map}
 use Rattle.adya_values.specs.Meaning.Histories.{History}
 use Rattle.adya_values.specs.Meaning.Edges.{IsCycle}
 use Rattle.adya_values.specs.Meaning.Acceptance.{IsAccepted}
-use Rattle.adya_values.specs.Meaning.Values.{serial_txns}
-use Rattle.adya_dsg.specs.Meaning.Values.{edge_of}
+use Rattle.adya_values.specs.Mirror.{serial_txns}
+use Rattle.adya_dsg.specs.Mirror.{edge_of}
 use Rattle.adya_dsg.specs.declared.found.Found.{Found}
 use Rattle.adya_dsg.specs.declared.found.Found.TheVariants.{Serial, Cycle}
 

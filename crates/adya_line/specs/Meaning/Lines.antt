@@ -1,5 +1,10 @@
 -- Lines and their texts, whatever the kinds of lines are: which of them are within their limits, and the text of each.
-use Rattle.std.specs.Prelude.{◌≡◌, ℕ, List}
+use Rattle.std.specs.Prelude.{◌≡◌, ◌≢◌, ℕ, List}
+use Rattle.std.specs.List.{All}
+
+-- no line feed is among the bytes
+abbrev pub IsPlain : List ℕ → Type 0
+IsPlain bytes = All (λ b. b ≢ 10) bytes
 
 -- the text is that of the line
 pub record Spells {L : Type 0} (IsLine : L → Type 0) (line_text : L → List ℕ) (x : L) (text : List ℕ) : Type 0 where

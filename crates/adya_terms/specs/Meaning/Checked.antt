@@ -3,7 +3,7 @@ use Rattle.std.specs.Prelude.{ℕ, Option, option_and_then, slice_get}
 use Rattle.adya_values.specs.declared.history.History.{History as HistoryValue}
 use Rattle.adya_values.specs.Meaning.Histories.{Entry, History}
 use Rattle.adya_values.specs.Meaning.Events.{last_write}
-use Rattle.adya_values.specs.Meaning.Values.{history_of}
+use Rattle.adya_values.specs.Mirror.{history_of}
 use Rattle.adya_terms.specs.declared.checked.Checked.{Checked}
 
 -- the history of the code

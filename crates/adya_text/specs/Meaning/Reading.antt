@@ -1,7 +1,7 @@
 -- What a call that reads a text returns.
 use Rattle.std.specs.Prelude.{◌≡◌, List, ℕ, Result, Ok, Err}
 use Rattle.adya_values.specs.Meaning.Histories.{History}
-use Rattle.adya_values.specs.Meaning.Values.{history_of, serial_txns}
+use Rattle.adya_values.specs.Mirror.{history_of, serial_txns}
 use Rattle.adya_values.specs.declared.history.History.{History as HistoryValue}
 use Rattle.adya_values.specs.declared.serial.Serial.{Serial}
 use Rattle.adya_text.specs.Meaning.Texts.{IsHistory, IsSerial, history_text, serial_text, AreHistoryLines, AreSerialLines}

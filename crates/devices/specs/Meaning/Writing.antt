@@ -2,7 +2,7 @@
 use Rattle.std.specs.Prelude.{◌≡◌, ℕ, ◌<◌, List, ◌++◌, length, true, Option, Result, MatchResult}
 use Rattle.std.specs.Io.KnownBytes.{Appends}
 use Rattle.devices.specs.declared.watched.Watched.{Watched}
-use Rattle.devices.specs.Meaning.Watched.{has_failed, watched_contents}
+use Rattle.devices.specs.Mirror.{has_failed, watched_contents}
 
 -- exactly these bytes were appended, and the device has failed exactly if it had before
 pub record Grew {D : Type 0} (contents : D → Option (List ℕ)) (old new : Watched D) (bytes : List ℕ) : Type 0 where

@@ -64,3 +64,7 @@ pub record IsSafe (h : History) (starts : ℕ → ℕ) : Type 0 where
   pub checked : IsChecked h
   pub snapshots : IsSnapshotHistory h starts
   pub no_danger : (into out : Edge) → IsDangerous h starts into out → ⊥
+
+-- with some snapshots of its transactions, the history is a checked snapshot history without a dangerous structure
+abbrev pub IsSafeHistory : History → Type 0
+IsSafeHistory h = (starts : ℕ → ℕ) × IsSafe h starts

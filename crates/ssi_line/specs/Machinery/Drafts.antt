@@ -2,7 +2,7 @@
 use Rattle.std.specs.Prelude.{◌≡◌, ◌++◌, ℕ, List, true, false, Option}
 use Rattle.std.specs.Io.KnownBytes.{Appends}
 use Rattle.devices.specs.declared.watched.Watched.{Watched}
-use Rattle.devices.specs.Meaning.Watched.{has_failed, watched_contents}
+use Rattle.devices.specs.Mirror.{has_failed, watched_contents}
 use Rattle.devices.specs.Meaning.Writing.{Broke}
 
 -- of the bytes all but those of the draft were appended

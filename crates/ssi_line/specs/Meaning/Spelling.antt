@@ -2,7 +2,7 @@
 use Rattle.std.specs.Prelude.{◌≡◌, ℕ, true, List, [], ◌∷◌, ◌++◌, codes, decimal}
 use Rattle.adya_values.specs.Meaning.Keys.{is_key, is_value, IsMod}
 use Rattle.ssi_store.specs.Meaning.Sessions.{is_session}
-use Rattle.ssi_store.specs.Meaning.Commands.{command_of}
+use Rattle.ssi_store.specs.Mirror.Commands.{command_of}
 use Rattle.ssi_store.specs.Meaning.Courses.{Command, Begin, Get, Put, Del, Scan, ScanFirst, Commit, Abort, Collect, Stat}
 use Rattle.ssi_line.specs.declared.line.Line.{Line as LineValue}
 use Rattle.ssi_line.specs.declared.line.Line.TheVariants as Of

@@ -10,7 +10,7 @@ use Rattle.adya_values.specs.declared.event.Content.{Content}
 use Rattle.adya_values.specs.declared.event.Entry.{Entry as EntryValue}
 use Rattle.adya_values.specs.Meaning.Keys.{key_eq}
 use Rattle.adya_values.specs.Meaning.Histories.{Entry, entry_of}
-use Rattle.ssi_versions.specs.Meaning.Chains.{write_of}
+use Rattle.ssi_versions.specs.Mirror.{write_of}
 
 -- what is stored under each key is of this key
 abbrev pub are_keyed : {X : Type 0} → (X → List ℕ) → List (List ℕ × X) → Bool

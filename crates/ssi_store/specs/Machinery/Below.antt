@@ -1,8 +1,8 @@
 -- The laws of the parts that the proofs of the store's code rest on, in one record.
-use Rattle.ssi_versions.specs.Meaning.ChangeLaws.{LastIsHeld, HeldShows, LastIsAbove, CollectsHeld}
-use Rattle.ssi_versions.specs.Meaning.CountLaws.{CountsHeld, CountsKeys}
-use Rattle.ssi_snapshot.specs.Meaning.Laws.{PutIsFound, PutKeepsOrder, ListingIsUnique, LimitTakesFirst, LimitListsItsRange}
-use Rattle.ssi_conflict.specs.Meaning.Laws.{OrderedPivotsAreNamed, BeginsMakeNoPair, AbortsMakeNoPair}
+use Rattle.ssi_versions.specs.Laws.Changes.{LastIsHeld, HeldShows, LastIsAbove, CollectsHeld}
+use Rattle.ssi_versions.specs.Laws.Counts.{CountsHeld, CountsKeys}
+use Rattle.ssi_snapshot.specs.Laws.{PutIsFound, PutKeepsOrder, ListingIsUnique, LimitTakesFirst, LimitListsItsRange}
+use Rattle.ssi_conflict.specs.Laws.{OrderedPivotsAreNamed, BeginsMakeNoPair, AbortsMakeNoPair}
 
 pub record Below : Type 0 where
   pub shows : HeldShows

@@ -3,7 +3,7 @@ use Rattle.std.specs.Prelude.{◌≡◌, ℕ, suc, cond, List, Option, Some}
 use Rattle.std.specs.Map.{lookup}
 use Rattle.adya_values.specs.Meaning.Keys.{key_eq}
 use Rattle.ssi_snapshot.specs.Meaning.Listings.{keys}
-use Rattle.ssi_snapshot.specs.Meaning.Views.{txn_of, stamp_of, written, own, IsAsBefore}
+use Rattle.ssi_snapshot.specs.Mirror.{txn_of, snapshot_of, written, own, IsAsBefore}
 use Rattle.ssi_store.specs.Meaning.Acts.{Act, operations}
 use Rattle.ssi_store.specs.Meaning.Seeing.{snapshot, own_write, own_keys}
 use Rattle.ssi_store.specs.declared.open.Open.{Open}
@@ -20,7 +20,7 @@ number_of o = txn_of o.view
 
 -- it is what the log says of the transaction
 pub record IsOpen (log : List Act) (o : Open) : Type 0 where
-  pub stamp : stamp_of o.view ≡ snapshot (number_of o) log
+  pub stamp : snapshot_of o.view ≡ snapshot (number_of o) log
   pub count : o.operations ≡ operations (number_of o) log
   pub own : (k : List ℕ) → own k o.view ≡ own_write (number_of o) k log
   pub keys : keys (written o.view) ≡ own_keys (number_of o) log

@@ -4,7 +4,7 @@ use Rattle.std.specs.List.{list_all}
 use Rattle.ssi_versions.specs.Machinery.Snapshots.{is_between}
 use Rattle.ssi_versions.specs.Meaning.Changes.{Held}
 use Rattle.ssi_versions.specs.declared.held.Held.{Held as HeldValue}
-use Rattle.ssi_versions.specs.Meaning.Chains.{held_of, chain_of}
+use Rattle.ssi_versions.specs.Mirror.{held_of, chain_of}
 
 -- the stamp of the first one
 abbrev pub next_stamp : List Held → Option ℕ

@@ -10,7 +10,7 @@ use Rattle.std.specs.declared.ops.Bound.TheVariants.{Included}
 use Rattle.smallvec.specs.SmallVec.{SmallVec, HasRoomFor}
 use Rattle.ssi_versions.specs.Meaning.Changes.{Held, newest_within, IsByStamp}
 use Rattle.ssi_versions.specs.declared.place.Place.{Place}
-use Rattle.ssi_versions.specs.Meaning.Chains.{held_of, is_of}
+use Rattle.ssi_versions.specs.Mirror.{held_of, is_of}
 use Rattle.ssi_versions.specs.Computing.Kept.{is_kept_before, next_stamp}
 
 -- the version in a place of a chain
@@ -60,7 +60,7 @@ filled_count (e ∷ es) = if is_filled (held_in e.1) then suc (filled_count es) 
 
 -- what a snapshot at the stamp sees of the keys of the range
 abbrev pub seen_between : List ℕ → List ℕ → ℕ → List Chain → List Held
-seen_between lo hi s es = filter_map (λ e. newest_within s (held_in e.1)) (entries_between (slice_cmp nat_cmp) (Included lo) (Included hi) es)
+seen_between low high s es = filter_map (λ e. newest_within s (held_in e.1)) (entries_between (slice_cmp nat_cmp) (Included low) (Included high) es)
 
 -- each chain stands by stamp
 abbrev pub AreByStamp : List Chain → Type 0

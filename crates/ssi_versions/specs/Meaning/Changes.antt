@@ -124,3 +124,12 @@ abbrev pub IsProtected : ℕ → List Change → Type 0
 IsProtected s [] = Unit {0}
 IsProtected s (Installs n ws ∷ changes) = IsProtected s changes
 IsProtected s (Collects ss ∷ changes) = (Contains ss s ⊎ (last_installed changes ≤ s)) × IsProtected s changes
+
+-- there is a version, and its stamp is above s
+abbrev pub is_above : ℕ → Option Held → Bool
+is_above s None = false
+is_above s (Some h) = nat_lt s h.stamp
+
+-- of versions that stand by stamp, the last one or one that a snapshot sees
+abbrev pub is_wanted : List ℕ → List Held → Held → Bool
+is_wanted ss hs h = has_stamp h.stamp (newest hs) || list_any (λ s. has_stamp h.stamp (newest_within s hs)) ss

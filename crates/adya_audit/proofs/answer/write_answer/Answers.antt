@@ -1,5 +1,5 @@
 use Rattle.std.proofs.Common.{map, ap}
-use Rattle.adya_dsg.specs.Meaning.Values.{edge_of}
+use Rattle.adya_dsg.specs.Mirror.{edge_of}
 use Rattle.adya_audit.specs.Meaning.Answers.{answer_of}
 use Rattle.adya_audit.proofs.answer.write_answer.Goals as goal
 

@@ -2,7 +2,7 @@
 use Rattle.std.proofs.Common.{take, map}
 use Rattle.std.specs.Prelude.{flat_map}
 use Rattle.devices.specs.Meaning.Writing.{Grew}
-use Rattle.adya_dsg.specs.Meaning.Values.{edge_of}
+use Rattle.adya_dsg.specs.Mirror.{edge_of}
 use Rattle.adya_audit.specs.Meaning.Output.{edge_line}
 use Rattle.adya_audit.proofs.cycle.put_edges.Given as goal
 

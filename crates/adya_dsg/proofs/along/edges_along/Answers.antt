@@ -4,7 +4,7 @@ use Rattle.digraph.specs.declared.arc.Arc.{Arc}
 use Rattle.adya_values.specs.Computing.EdgeList.{edge_list}
 use Rattle.adya_dsg.specs.Machinery.VersionOrders.{ordered_history}
 use Rattle.adya_dsg.specs.Machinery.Along.{joins}
-use Rattle.adya_dsg.specs.Meaning.Values.{edge_of}
+use Rattle.adya_dsg.specs.Mirror.{edge_of}
 use Rattle.adya_dsg.proofs.FirstAlong.{ends_equal, first_found, along_more, is_some-option_map}
 use Rattle.adya_dsg.proofs.along.edges_along.Goals as goal
 

@@ -1,7 +1,7 @@
 use Rattle.std.proofs.Common.{◌≡◌, Some, map, take}
 use Rattle.adya_values.specs.Computing.EdgeList.{edge_list}
 use Rattle.adya_dsg.specs.Machinery.VersionOrders.{ordered_history}
-use Rattle.adya_dsg.specs.Meaning.Values.{edge_of}
+use Rattle.adya_dsg.specs.Mirror.{edge_of}
 use Rattle.adya_dsg.specs.Machinery.Along.{first_along}
 use Rattle.adya_dsg.proofs.along.edges_along.Given as goal
 

@@ -4,7 +4,7 @@ use Rattle.std.proofs.lemmas.List.{take_all}
 use Rattle.std.specs.Ordering.{is_eq}
 use Rattle.std.specs.BTreeMap.{get}
 use Rattle.digraph.specs.declared.arc.Arc.{Arc}
-use Rattle.adya_dsg.specs.Meaning.Values.{edge_of}
+use Rattle.adya_dsg.specs.Mirror.{edge_of}
 use Rattle.adya_dsg.specs.Machinery.Along.{ends_cmp, first_along}
 use Rattle.adya_dsg.proofs.FirstAlong.{noted, had_before, unwanted, front_more}
 use Rattle.adya_dsg.proofs.along.note_first.Goals as goal

@@ -1,7 +1,7 @@
 use Rattle.std.proofs.Common.{◌++◌, List, map, take}
 use Rattle.digraph.specs.declared.arc.Arc.{Arc}
 use Rattle.adya_values.specs.Meaning.Edges.{Edge}
-use Rattle.adya_dsg.specs.Meaning.Values.{edge_of}
+use Rattle.adya_dsg.specs.Mirror.{edge_of}
 use Rattle.adya_dsg.specs.Machinery.Along.{HasFirst, Wants}
 use Rattle.adya_dsg.proofs.along.note_first.Given as goal
 

@@ -2,7 +2,7 @@ use Rattle.std.proofs.Common.{rules, ◌++◌, not, map, option_map, sym, ◌∙
 use Rattle.std.specs.List.{find}
 use Rattle.adya_values.specs.Meaning.Histories.{event_of}
 use Rattle.adya_dsg.specs.Machinery.VersionOrders.{ordered_history}
-use Rattle.adya_dsg.specs.Meaning.Values.{edge_of}
+use Rattle.adya_dsg.specs.Mirror.{edge_of}
 use Rattle.adya_dsg.specs.Machinery.PartEdges.{is_backward}
 use Rattle.adya_dsg.specs.Machinery.Links.{event_links}
 use Rattle.lemmas.proofs.Options.{none_unless_some}

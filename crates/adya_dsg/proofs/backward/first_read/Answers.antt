@@ -4,7 +4,7 @@ use Rattle.adya_values.specs.Meaning.Histories.{Event, event_of}
 use Rattle.adya_values.specs.Meaning.Events.{txn_of, is_committed}
 use Rattle.adya_values.specs.Computing.EdgeList.{event_edges}
 use Rattle.adya_dsg.specs.Machinery.VersionOrders.{ordered_history}
-use Rattle.adya_dsg.specs.Meaning.Values.{edge_of}
+use Rattle.adya_dsg.specs.Mirror.{edge_of}
 use Rattle.adya_dsg.specs.Machinery.PartEdges.{is_backward}
 use Rattle.adya_dsg.proofs.FlatMaps.{from_kept, from_left_out, found_in_front, none_in_front}
 use Rattle.adya_dsg.proofs.backward.first_read.Goals as goal

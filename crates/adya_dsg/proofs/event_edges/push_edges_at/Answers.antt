@@ -2,7 +2,7 @@ use Rattle.std.proofs.Common.{◌++◌, map, sym, ◌∙◌, ap}
 use Rattle.std.proofs.lemmas.Result.{on_ok_weaker}
 use Rattle.adya_values.specs.Meaning.Histories.{event_of}
 use Rattle.adya_dsg.specs.Machinery.VersionOrders.{ordered_history}
-use Rattle.adya_dsg.specs.Meaning.Values.{edge_of}
+use Rattle.adya_dsg.specs.Mirror.{edge_of}
 use Rattle.adya_dsg.specs.Machinery.Choices.{key_at}
 use Rattle.adya_dsg.proofs.ChoiceEdges.{item_edges_are}
 use Rattle.adya_dsg.proofs.event_edges.push_edges_at.Goals as goal

@@ -2,7 +2,7 @@ use Rattle.std.proofs.Common.{◌≡◌, ◌++◌, map, drop, flat_map}
 use Rattle.adya_values.specs.Meaning.Histories.{event_of}
 use Rattle.adya_values.specs.Computing.EdgeList.{event_edges}
 use Rattle.adya_dsg.specs.Machinery.VersionOrders.{ordered_history}
-use Rattle.adya_dsg.specs.Meaning.Values.{edge_of}
+use Rattle.adya_dsg.specs.Mirror.{edge_of}
 use Rattle.adya_dsg.specs.Machinery.Choices.{choice_of}
 use Rattle.adya_dsg.specs.Machinery.PartEdges.{choice_edges}
 use Rattle.adya_dsg.proofs.event_edges.push_event_edges.Given as goal

@@ -3,7 +3,7 @@ use Rattle.adya_values.specs.Meaning.Orders.{installer}
 use Rattle.adya_values.specs.Meaning.Edges.{Rw}
 use Rattle.adya_values.specs.Computing.EdgeList.{joined}
 use Rattle.adya_dsg.specs.Machinery.VersionOrders.{ordered_history}
-use Rattle.adya_dsg.specs.Meaning.Values.{edge_of}
+use Rattle.adya_dsg.specs.Mirror.{edge_of}
 use Rattle.adya_dsg.specs.Machinery.Choices.{key_at}
 use Rattle.adya_dsg.proofs.event_edges.push_overwriters.Given as goal
 

@@ -2,7 +2,7 @@ use Rattle.std.proofs.Common.{◌<◌, ◌+◌, ◌++◌, List, map, drop, flat_
 use Rattle.adya_values.specs.Meaning.Histories.{event_of}
 use Rattle.adya_dsg.specs.Machinery.VersionOrders.{ordered_history, order_lines}
 use Rattle.adya_dsg.specs.declared.selection.Selection.{Selection}
-use Rattle.adya_dsg.specs.Meaning.Values.{edge_of}
+use Rattle.adya_dsg.specs.Mirror.{edge_of}
 use Rattle.adya_dsg.specs.Machinery.Choices.{choice_of}
 use Rattle.adya_dsg.specs.Machinery.Links.{choice_links}
 use Rattle.lemmas.proofs.Steps.{flat_map_step}

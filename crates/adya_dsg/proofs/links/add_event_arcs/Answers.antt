@@ -3,7 +3,7 @@ use Rattle.adya_values.specs.Meaning.Histories.{Event, event_of}
 use Rattle.adya_values.specs.Meaning.Events.{txn_of, is_committed}
 use Rattle.digraph.specs.declared.arc.Arc.{Arc}
 use Rattle.adya_dsg.specs.Machinery.VersionOrders.{ordered_history}
-use Rattle.adya_dsg.specs.Meaning.Values.{edge_of}
+use Rattle.adya_dsg.specs.Mirror.{edge_of}
 use Rattle.adya_dsg.specs.Machinery.Arcs.{ends}
 use Rattle.adya_dsg.specs.Machinery.Links.{event_links}
 use Rattle.adya_dsg.proofs.FlatMaps.{from_kept, from_left_out, added_front}

@@ -1,7 +1,7 @@
 use Rattle.std.proofs.Common.{◌+◌, List, map, fold, drop, sym, ap, ◌∙◌}
 use Rattle.adya_values.specs.Meaning.Edges.{Edge}
 use Rattle.adya_values.specs.Computing.EdgeList.{with_edge}
-use Rattle.adya_dsg.specs.Meaning.Values.{edge_of}
+use Rattle.adya_dsg.specs.Mirror.{edge_of}
 use Rattle.adya_dsg.specs.declared.edge.Edge.{Edge as EdgeValue}
 use Rattle.lemmas.proofs.Steps.{drop_step}
 use Rattle.adya_dsg.proofs.DistinctEdges.{inserted}

@@ -1,6 +1,6 @@
 use Rattle.std.proofs.Common.{◌≡◌, map, fold, drop}
 use Rattle.adya_values.specs.Computing.EdgeList.{with_edge}
-use Rattle.adya_dsg.specs.Meaning.Values.{edge_of}
+use Rattle.adya_dsg.specs.Mirror.{edge_of}
 use Rattle.adya_dsg.proofs.listing.add.Given as goal
 
 abbrev pub invariant-loop-edge : goal.invariant-loop-edge

@@ -4,7 +4,7 @@ use Rattle.adya_values.specs.Meaning.Edges.{Edge}
 use Rattle.adya_values.specs.Computing.EdgeList.{with_edge, edge_list}
 use Rattle.adya_dsg.specs.Machinery.VersionOrders.{ordered_history}
 use Rattle.adya_dsg.specs.Machinery.PartEdges.{part_edges}
-use Rattle.adya_dsg.specs.Meaning.Values.{edge_of}
+use Rattle.adya_dsg.specs.Mirror.{edge_of}
 use Rattle.adya_dsg.specs.declared.edge.Edge.{Edge as EdgeValue}
 use Rattle.adya_dsg.proofs.DistinctEdges.{copied}
 use Rattle.adya_dsg.proofs.Parts.{edges_before, one_more, all_parts, pushed}

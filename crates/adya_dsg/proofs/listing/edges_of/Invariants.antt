@@ -1,7 +1,7 @@
 use Rattle.std.proofs.Common.{◌≡◌, [], map, fold}
 use Rattle.adya_values.specs.Computing.EdgeList.{with_edge}
 use Rattle.adya_dsg.specs.Machinery.VersionOrders.{ordered_history}
-use Rattle.adya_dsg.specs.Meaning.Values.{edge_of}
+use Rattle.adya_dsg.specs.Mirror.{edge_of}
 use Rattle.adya_dsg.proofs.Parts.{edges_before}
 use Rattle.adya_dsg.proofs.listing.edges_of.Given as goal
 

@@ -4,7 +4,7 @@ use Rattle.adya_values.specs.Meaning.Keys.{keys_rise}
 use Rattle.adya_values.specs.Meaning.Histories.{Order, event_of, order_of}
 use Rattle.adya_values.specs.Meaning.Edges.{Edge}
 use Rattle.adya_dsg.specs.Machinery.VersionOrders.{ordered_history}
-use Rattle.adya_dsg.specs.Meaning.Values.{edge_of}
+use Rattle.adya_dsg.specs.Mirror.{edge_of}
 use Rattle.adya_dsg.proofs.Parts.{of_line, occurs, of_committed, of_other}
 use Rattle.adya_dsg.proofs.part_edges.push_part_edges.Goals as goal
 

@@ -7,7 +7,7 @@ use Rattle.adya_values.specs.declared.order.Order.{Order as OrderValue}
 use Rattle.adya_values.specs.Meaning.Keys.{key_lt}
 use Rattle.adya_values.specs.Meaning.Histories.{Scan, order_of, entry_of}
 use Rattle.adya_values.specs.Meaning.Events.{listed}
-use Rattle.adya_values.specs.Meaning.Values.{history_of}
+use Rattle.adya_values.specs.Mirror.{history_of}
 use Rattle.adya_values.specs.Meaning.Selections.{selected, place_of}
 use Rattle.adya_terms.specs.Meaning.Checked.{history_in}
 use Rattle.adya_dsg.specs.Machinery.VersionOrders.{ordered_history, order_lines}
@@ -21,14 +21,14 @@ pub loop-line-init : goal.loop-line-init
 loop-line-init c =
     let h = ordered_history c.args.versions.now in
     let os = order_lines c.args.versions.now in
-    let e = Scan c.args.txn c.args.lo c.args.hi (map entry_of c.args.entries.now) in
+    let e = Scan c.args.txn c.args.low c.args.high (map entry_of c.args.entries.now) in
     let n = c.lines_below-line.result in
     let none = c.new-selections.ensures.items in record {
       within = subst (λ zs. (k : ℕ) (d : Selection) → k < length zs → (get_or zs k d).line < length os) (sym none)
           (All-nil (λ (s : Selection). s.line < length os));
       choices =
           ap (λ zs. map (choice_of h) zs ++ chosen_in (selected h e) (drop n h.orders)) none ∙
-          scan_starts h c.args.txn c.args.lo c.args.hi (map entry_of c.args.entries.now) n c.lines_below-line.ensures.below;
+          scan_starts h c.args.txn c.args.low c.args.high (map entry_of c.args.entries.now) n c.lines_below-line.ensures.below;
     }
 
 pub returns-then-is_below-clause-choices : goal.returns-then-is_below-clause-choices
@@ -37,10 +37,10 @@ returns-then-is_below-clause-choices c =
     let h = history_of history in
     let rise = (and_parts _ _ (and_parts _ _ history.shape).0).1 in
     let done = map (choice_of h) c.loop-line.selections.items in
-    let above = ap (key_lt c.args.hi) (sym c.order.ensures.key) ∙ (sym c.is_below.ensures ∙ c.if-is_below.true) in
+    let above = ap (key_lt c.args.high) (sym c.order.ensures.key) ∙ (sym c.is_below.ensures ∙ c.if-is_below.true) in
     sym (append-nil done) ∙
     (ap (λ zs. done ++ zs)
-    (sym (scan_ends h c.args.txn c.args.lo c.args.hi (map entry_of c.args.entries.now) rise c.loop-line.line above)) ∙
+    (sym (scan_ends h c.args.txn c.args.low c.args.high (map entry_of c.args.entries.now) rise c.loop-line.line above)) ∙
     c.loop-line.invariant.choices)
 
 pub loop-line-preserved : goal.loop-line-preserved
@@ -54,12 +54,12 @@ loop-line-preserved c =
     let within : i < length os = subst (λ (zs : List OrderValue). i < length zs) c.orders-line-end.ensures.value c.loop-line-test.true in
     let there : i < length h.orders = subst (λ (n : ℕ). i < n) (sym (length-map os order_of)) within in
     let low = c.lines_below-line.ensures.others i c.loop-line.auto.line within in
-    let high = ap (key_lt c.args.hi) (sym c.order.ensures.key) ∙ (sym c.is_below.ensures ∙ c.if-is_below.false) in
-    let gives : selected h (Scan c.args.txn c.args.lo c.args.hi es) k ≡ c.selected.result =
-    inside h c.args.txn c.args.lo c.args.hi es k low high ∙
+    let high = ap (key_lt c.args.high) (sym c.order.ensures.key) ∙ (sym c.is_below.ensures ∙ c.if-is_below.false) in
+    let gives : selected h (Scan c.args.txn c.args.low c.args.high es) k ≡ c.selected.result =
+    inside h c.args.txn c.args.low c.args.high es k low high ∙
     (ap (λ j. place_of h c.args.txn k (listed j es)) (sym c.order.ensures.key) ∙
     (ap (place_of h c.args.txn k) (sym c.listed.ensures) ∙ sym c.selected.ensures)) in
-    let f = selected h (Scan c.args.txn c.args.lo c.args.hi es) in
+    let f = selected h (Scan c.args.txn c.args.low c.args.high es) in
     let done = map (choice_of h) c.loop-line.selections.items in
     let rest = chosen_in f (drop (i + 1) h.orders) in
     let in_lines = λ (s : Selection). s.line < length os in

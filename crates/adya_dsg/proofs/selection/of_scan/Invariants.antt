@@ -9,7 +9,7 @@ use Rattle.adya_dsg.proofs.selection.of_scan.Given as goal
 abbrev pub invariant-loop-line : goal.invariant-loop-line
 invariant-loop-line l =
     let h = ordered_history l.versions in
-    let e = Scan l.txn l.fn.lo l.hi (map entry_of l.entries) in record {
+    let e = Scan l.txn l.fn.low l.high (map entry_of l.entries) in record {
       within : All (λ s. s.line < length (order_lines l.versions)) l.selections.items;
       choices : map (choice_of h) l.selections.items ++ chosen_in (selected h e) (drop l.line h.orders) ≡ choices h e;
     }

@@ -1,7 +1,7 @@
 use Rattle.std.proofs.Common.{◌∙◌, ◌+◌, ◌++◌, ◌-◌, ◌∷◌, Some, map, take, drop, length, sym, ap, append_assoc}
 use Rattle.adya_values.specs.Meaning.Edges.{Ww}
 use Rattle.adya_values.specs.Computing.EdgeList.{joined}
-use Rattle.adya_dsg.specs.Meaning.Values.{edge_of}
+use Rattle.adya_dsg.specs.Mirror.{edge_of}
 use Rattle.adya_dsg.specs.Machinery.PartEdges.{line_edges}
 use Rattle.lemmas.proofs.Steps.{drop_step}
 use Rattle.adya_dsg.proofs.write_edges.push_write_edges.Goals as goal

@@ -26,5 +26,5 @@ returns-in-Scan c before m is_open =
     let t = c.in-Scan.txn in
     let not_ended : has_ended before t ≡ false = not-true _ (ap (λ e. faults.is_open before (event_of e)) (sym c.in-Scan.is) ∙ is_open) in
     c.lists_own.ensures t before (subst (λ own. HasOwn own t all before) (sym c.of.ensures) (m t not_ended)) ∙
-    (ap (λ es. faults.sees_own before (Scan t c.in-Scan.lo c.in-Scan.hi (map entry_of es))) c.deref.ensures.value ∙
+    (ap (λ es. faults.sees_own before (Scan t c.in-Scan.low c.in-Scan.high (map entry_of es))) c.deref.ensures.value ∙
     ap (λ e. faults.sees_own before (event_of e)) (sym c.in-Scan.is))

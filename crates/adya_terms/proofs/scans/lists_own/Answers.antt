@@ -13,17 +13,17 @@ use Rattle.lemmas.proofs.Tests.{list_all_when}
 pub returns-in_default : goal.returns-in_default
 returns-in_default c t before m =
     let all = map event_of c.args.events.now in
-    sym (nothing_own t all before c.args.lo c.args.hi (map entry_of c.args.entries.now)
+    sym (nothing_own t all before c.args.low c.args.high (map entry_of c.args.entries.now)
     (subst (λ o. HasOwn (option_map (λ m'. m'.now) o) t all before) c.in_default.is m))
 
 pub returns-then-lt : goal.returns-then-lt
 returns-then-lt c t before m =
     sym (list_all_when _ (filter_map written before)
-    (λ w d. or_left _ _ (ap not (nothing_between c.args.lo c.args.hi w.version.key (sym c.lt.ensures ∙ c.if-lt.true)))))
+    (λ w d. or_left _ _ (ap not (nothing_between c.args.low c.args.high w.version.key (sym c.lt.ensures ∙ c.if-lt.true)))))
 
 pub range-at-items-requires : goal.range-at-items-requires
 range-at-items-requires c =
-    rw c.new.ensures.start (rw c.new.ensures.end (runs_forward c.args.lo c.args.hi (sym c.lt.ensures ∙ c.if-lt.false)))
+    rw c.new.ensures.start (rw c.new.ensures.end (runs_forward c.args.low c.args.high (sym c.lt.ensures ∙ c.if-lt.false)))
 
 pub returns-then-not-has_write : goal.returns-then-not-has_write
 returns-then-not-has_write c t before m =
@@ -31,7 +31,7 @@ returns-then-not-has_write c t before m =
     let all = map event_of c.args.events.now in
     let items = c.range-at-items.result in
     let test : List ℕ × ℕ → Bool = λ e. none_or_lists_only es (written_at all (Some e.1)) in
-    let shown = scan_shows c.in-Some.own.now c.args.lo c.args.hi items c.new.result.start c.new.result.end c.new.ensures.start c.new.ensures.end
+    let shown = scan_shows c.in-Some.own.now c.args.low c.args.high items c.new.result.start c.new.result.end c.new.ensures.start c.new.ensures.end
     (c.range-at-items.ensures.between c.new.ensures.exhausted) c.range-at-items.ensures.ordered (c.range-at-items.ensures.in_range c.new.ensures.exhausted).0
     t all before es (subst (λ o. HasOwn (option_map (λ m'. m'.now) o) t all before) c.in-Some.is m) in
     let same : list_all test items ≡ list_all test c.into_iter-at-iterator.result = ap (list_all test) (sym c.into_iter-at-iterator.ensures.into_iter_gives) in
@@ -45,7 +45,7 @@ returns c t before m =
     let all = map event_of c.args.events.now in
     let items = c.range-at-items.result in
     let test : List ℕ × ℕ → Bool = λ e. none_or_lists_only es (written_at all (Some e.1)) in
-    let shown = scan_shows c.in-Some.own.now c.args.lo c.args.hi items c.new.result.start c.new.result.end c.new.ensures.start c.new.ensures.end
+    let shown = scan_shows c.in-Some.own.now c.args.low c.args.high items c.new.result.start c.new.result.end c.new.ensures.start c.new.ensures.end
     (c.range-at-items.ensures.between c.new.ensures.exhausted) c.range-at-items.ensures.ordered (c.range-at-items.ensures.in_range c.new.ensures.exhausted).0
     t all before es (subst (λ o. HasOwn (option_map (λ m'. m'.now) o) t all before) c.in-Some.is m) in
     let same : list_all test items ≡ list_all test c.into_iter-at-iterator.result = ap (list_all test) (sym c.into_iter-at-iterator.ensures.into_iter_gives) in

@@ -10,7 +10,7 @@ use Rattle.adya_text.specs.Meaning.Reading.{ReadsHistory}
 use Rattle.adya_text.specs.Meaning.Streams.{history_part, serial_part}
 use Rattle.std.proofs.lemmas.List.Elements.{All-push}
 use Rattle.adya_text.proofs.LinesRead.{line_read, rest_unread, prefix_read, start_read, all_read, on_ok, on_err}
-use Rattle.adya_text.specs.Meaning.Laws.{HasNoEnd}
+use Rattle.adya_text.specs.Laws.{HasNoEnd}
 use Rattle.adya_text.proofs.StreamParts.{part_front, part_start, part_at_end, part_of_all}
 use Rattle.adya_text.proofs.sources.read_history_part.Goals as goal
 

@@ -1,4 +1,4 @@
-use Rattle.ssi_versions.specs.Meaning.Chains.{IsAbove}
+use Rattle.ssi_versions.specs.Mirror.{IsAbove}
 use Rattle.ssi_bench.proofs.chain_work.run.Given as goal
 
 abbrev pub invariant-loop-stamp : goal.invariant-loop-stamp

@@ -1,5 +1,5 @@
 use Rattle.std.proofs.Common.{◌++◌}
-use Rattle.ssi_store.specs.Meaning.Stores.{IsAt}
+use Rattle.ssi_store.specs.Mirror.Stores.{IsAt}
 use Rattle.ssi_cli.proofs.Runs.{went_on_both}
 use Rattle.ssi_cli.proofs.socket.serve_socket.Goals as goal
 

@@ -1,6 +1,6 @@
 -- The store has gone on with the lines of the connections so far.
 use Rattle.std.proofs.Common.{List}
-use Rattle.ssi_store.specs.Meaning.Stores.{IsAt}
+use Rattle.ssi_store.specs.Mirror.Stores.{IsAt}
 use Rattle.ssi_line.specs.Meaning.Steps.{Step}
 use Rattle.ssi_line.specs.Meaning.Ends.{WentOn}
 use Rattle.ssi_cli.proofs.socket.serve_socket.Given as goal

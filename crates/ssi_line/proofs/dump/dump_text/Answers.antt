@@ -1,6 +1,6 @@
-use Rattle.adya_values.specs.Meaning.Values.{history_of, serial_txns}
-use Rattle.ssi_store.specs.Meaning.Finished.{recorded_in}
-use Rattle.ssi_store.specs.Meaning.Stores.{IsAt}
+use Rattle.adya_values.specs.Mirror.{history_of, serial_txns}
+use Rattle.ssi_store.specs.Mirror.Finished.{recorded_in}
+use Rattle.ssi_store.specs.Mirror.Stores.{IsAt}
 use Rattle.ssi_line.proofs.Dumps.{dump_told}
 use Rattle.ssi_line.proofs.dump.dump_text.Goals as goal
 

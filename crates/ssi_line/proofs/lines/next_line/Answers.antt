@@ -26,7 +26,7 @@ returns-in_err-fill-clause-bytes g c =
       same_bytes _ _ _ _
           (without_feed past taken c.take_line.result c.if-take_line.false
           ∙ fault_ends c.from_residual.result (past ++ taken) c.from_residual.ensures.0)
-          (read_more _ _ _ _ c.fill.new.buffer c.take_line.new.buffer empty front c.fill.ensures.bytes),
+          (read_more _ _ _ _ c.fill.new.self c.take_line.new.buffer empty front c.fill.ensures.bytes),
     )
 
 pub returns-then-not-branch-clause-bytes : goal.returns-then-not-branch-clause-bytes
@@ -40,7 +40,7 @@ returns-then-not-branch-clause-bytes g c =
       keeps past is,
       same_bytes _ _ _ _
           (without_feed past taken c.take_line.result c.if-take_line.false ∙ sym (append-nil (past ++ taken)))
-          (read_more _ _ _ _ c.fill.new.buffer c.take_line.new.buffer empty front c.fill.ensures.bytes),
+          (read_more _ _ _ _ c.fill.new.self c.take_line.new.buffer empty front c.fill.ensures.bytes),
     )
 
 pub loop-buffer-preserved : goal.loop-buffer-preserved
@@ -57,6 +57,6 @@ loop-buffer-preserved g c =
         plain_both past taken plain plain_taken,
         keeps past is,
         same_bytes _ _ _ _ (without_feed past taken c.take_line.result c.if-take_line.false)
-            (read_more _ _ _ _ c.fill.new.buffer c.take_line.new.buffer empty front c.fill.ensures.bytes),
+            (read_more _ _ _ _ c.fill.new.self c.take_line.new.buffer empty front c.fill.ensures.bytes),
       ),
     )

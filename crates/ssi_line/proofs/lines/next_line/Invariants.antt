@@ -1,7 +1,7 @@
 -- A part of the line was taken, which is all that came so far.
 use Rattle.std.proofs.Common.{◌≡◌, ◌≤◌, List, ℕ, true}
 use Rattle.std.specs.Io.KnownBytes.{Consumes, prepend_known}
-use Rattle.adya_line.specs.Meaning.Laws.{IsPlain}
+use Rattle.adya_line.specs.Meaning.Lines.{IsPlain}
 use Rattle.devices.specs.Meaning.Lines.{work_left}
 use Rattle.ssi_line.specs.Machinery.Lines.{kept}
 use Rattle.ssi_line.proofs.lines.next_line.Given as goal

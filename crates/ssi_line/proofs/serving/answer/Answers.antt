@@ -1,5 +1,5 @@
 use Rattle.std.proofs.Common.{rules, ◌≡◌, false, refl, subst}
-use Rattle.ssi_store.specs.Meaning.Commands.{command_of, answer_of}
+use Rattle.ssi_store.specs.Mirror.Commands.{command_of, answer_of}
 use Rattle.ssi_line.specs.Meaning.Spelling.{Do, IsLineOf}
 use Rattle.ssi_line.specs.Meaning.Steps.{Given}
 use Rattle.ssi_line.proofs.Drafts.{said}

@@ -1,5 +1,5 @@
 use Rattle.std.proofs.Common.{rules, ◌++◌, ◌∷◌, [], true, false, arith, ap, refl}
-use Rattle.ssi_store.specs.Meaning.Stores.{IsAt}
+use Rattle.ssi_store.specs.Mirror.Stores.{IsAt}
 use Rattle.ssi_line.specs.Meaning.Steps.{Stopped}
 use Rattle.ssi_line.specs.Machinery.Lines.{has_ended}
 use Rattle.ssi_line.proofs.Runs.{took_start, took_more, took_rest, took_pending, ended_so, told_so, stopped, ends_with}
@@ -29,7 +29,7 @@ returns-in-Ok-false-clause-run g c =
       lines,
       steps,
       rest,
-      took_rest _ _ _ lines steps rest c.next_line.new.self (has_ended c.next_line.result) took ended none eaten,
+      took_rest _ _ _ lines steps rest c.next_line.new.buffer (has_ended c.next_line.result) took ended none eaten,
       went_on,
       (record { go_on = go_on; unfinished = plain; written = written }, at_end),
     )
@@ -41,7 +41,7 @@ returns-in-Err-clause-run g c =
       lines,
       steps,
       rest,
-      took_rest _ _ _ lines steps rest c.next_line.new.self (has_ended c.next_line.result) took
+      took_rest _ _ _ lines steps rest c.next_line.new.buffer (has_ended c.next_line.result) took
           (ap has_ended c.in-Err.is) (c.in-Err.ensures.broken refl) eaten,
       went_on,
       record { go_on = go_on; unfinished = plain; written = written },
@@ -56,8 +56,8 @@ returns-in-Ok-true-answer-clause-run g c =
     let told = told_so g.W.Write.contents c.answer.result _ true step _ _ c.in-Ok-true-answer.is c.in-Ok-true-answer.field-0-test answered.told in (
       lines ++ text ∷ [],
       steps ++ step ∷ [],
-      c.next_line.new.self,
-      took_pending _ _ _ _ c.next_line.new.self
+      c.next_line.new.buffer,
+      took_pending _ _ _ _ c.next_line.new.buffer
           (took_more _ _ _ lines steps text step (has_ended c.next_line.result) took ended plain eaten answered.made),
       went_on_more (IsAt {g = g.C.Chains} {h = g.M.Marks} g.C.Chains.held g.M.Marks.marked) c.args.store.now c.loop-line.store
           c.answer.new.store steps step went_on goes,
@@ -95,8 +95,8 @@ returns-in-Err-answer-clause-run g c =
     let ended = ended_so c.next_line.result _ true c.in-Ok-true.is c.in-Ok-true.field-0-test in (
       lines ++ text ∷ [],
       steps ++ step ∷ [],
-      c.next_line.new.self,
-      took_pending _ _ _ _ c.next_line.new.self
+      c.next_line.new.buffer,
+      took_pending _ _ _ _ c.next_line.new.buffer
           (took_more _ _ _ lines steps text step (has_ended c.next_line.result) took ended plain eaten answered.made),
       went_on_more (IsAt {g = g.C.Chains} {h = g.M.Marks} g.C.Chains.held g.M.Marks.marked) c.args.store.now c.loop-line.store
           c.answer.new.store steps step went_on goes,

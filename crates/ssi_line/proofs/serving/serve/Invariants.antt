@@ -2,7 +2,7 @@
 use Rattle.std.proofs.Common.{◌≡◌, List, ℕ, [], true}
 use Rattle.std.specs.Io.KnownBytes.{prepend_known}
 use Rattle.devices.specs.Meaning.Writing.{Grew}
-use Rattle.ssi_store.specs.Meaning.Stores.{IsAt}
+use Rattle.ssi_store.specs.Mirror.Stores.{IsAt}
 use Rattle.ssi_line.specs.Meaning.Steps.{Step, AllGoOn, steps_text}
 use Rattle.ssi_line.specs.Meaning.Ends.{WentOn, Took}
 use Rattle.devices.specs.Meaning.Lines.{work_left}

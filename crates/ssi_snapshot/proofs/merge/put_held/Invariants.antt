@@ -1,6 +1,6 @@
 use Rattle.std.proofs.Common.{◌≡◌, ◌-◌, ℕ, List, true, map, drop}
 use Rattle.ssi_versions.specs.Meaning.Changes.{otherwise, entry_in}
-use Rattle.ssi_versions.specs.Meaning.Chains.{held_of, found_in}
+use Rattle.ssi_versions.specs.Mirror.{held_of, found_in}
 use Rattle.ssi_snapshot.specs.Machinery.Stored.{are_keyed, entry_key, stored_at}
 use Rattle.ssi_snapshot.proofs.merge.put_held.Given as goal
 

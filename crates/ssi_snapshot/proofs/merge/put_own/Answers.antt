@@ -8,8 +8,8 @@ use Rattle.ssi_snapshot.proofs.merge.put_own.Goals.{then-lies_in+in_ok-put, else
 pub back-preserved : goal.back-preserved
 back-preserved c =
     let ws = c.args.writes.now in
-    let lo = c.args.lo in
-    let hi = c.args.hi in
+    let low = c.args.low in
+    let high = c.args.high in
     let n = length ws in
     let old = c.args.seen.now.entries in
     record {
@@ -17,11 +17,11 @@ back-preserved c =
           elim c.if-lies_in.branch [
             | then-lies_in+in_ok-put w ↦
                 ap (λ m. stored_at key m.entries) w.seen-is
-                ∙ own_more lo hi key ws (n - (c.back.k + 1)) (n - c.back.k) c.index-writes-n.result c.back.seen.entries w.put.new.seen.entries (stored_at key old)
+                ∙ own_more low high key ws (n - (c.back.k + 1)) (n - c.back.k) c.index-writes-n.result c.back.seen.entries w.put.new.seen.entries (stored_at key old)
                 (omega arith) (Prim.search rules) (omega arith) (Prim.search rules) (w.in_ok-put.ensures.stored key) (c.back.invariant.stored key)
             | else-lies_in w ↦
                 ap (λ m. stored_at key m.entries) w.seen-is
-                ∙ own_less lo hi key ws (n - (c.back.k + 1)) (n - c.back.k) c.index-writes-n.result c.back.seen.entries (stored_at key old)
+                ∙ own_less low high key ws (n - (c.back.k + 1)) (n - c.back.k) c.index-writes-n.result c.back.seen.entries (stored_at key old)
                 (omega arith) (Prim.search rules) (omega arith) (Prim.search rules) (c.back.invariant.stored key)
           ];
       keyed = λ keyed.
@@ -35,4 +35,4 @@ pub returns-clause-stored : goal.returns-clause-stored
 returns-clause-stored c = λ key.
     let end : length c.args.writes.now - c.back.k ≡ 0 = omega arith in
     c.back.invariant.stored key
-    ∙ ap (λ n. otherwise (own_in c.args.lo c.args.hi key (drop n c.args.writes.now)) (stored_at key c.args.seen.now.entries)) end
+    ∙ ap (λ n. otherwise (own_in c.args.low c.args.high key (drop n c.args.writes.now)) (stored_at key c.args.seen.now.entries)) end

@@ -6,6 +6,6 @@ use Rattle.ssi_snapshot.proofs.merge.put_own.Given as goal
 
 abbrev pub invariant-back : goal.invariant-back
 invariant-back l = record {
-  stored : (key : List ℕ) → stored_at key l.seen.entries ≡ otherwise (own_in l.lo l.hi key (drop (l.n - l.k) l.writes)) (stored_at key l.fn.seen.entries);
+  stored : (key : List ℕ) → stored_at key l.seen.entries ≡ otherwise (own_in l.low l.high key (drop (l.n - l.k) l.writes)) (stored_at key l.fn.seen.entries);
   keyed : are_keyed entry_key l.fn.seen.entries ≡ true → are_keyed entry_key l.seen.entries ≡ true;
 }

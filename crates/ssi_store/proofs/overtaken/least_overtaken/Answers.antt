@@ -1,6 +1,6 @@
 use Rattle.std.proofs.Common.{arith, ◌≡◌, ◌+◌, map, option_map, take, ◌++◌, ◌∷◌, [], sym, subst, ap, ◌∙◌, IfSome}
 use Rattle.std.proofs.lemmas.Grind.{common_steps}
-use Rattle.ssi_versions.specs.Meaning.Chains.{write_of}
+use Rattle.ssi_versions.specs.Mirror.{write_of}
 use Rattle.ssi_snapshot.specs.Meaning.Listings.{keys}
 use Rattle.ssi_store.specs.Machinery.Overtaken.{is_passed, passed_by, key_of, lesser, IsLeast}
 use Rattle.ssi_store.specs.declared.overtaken.Overtaken.{Overtaken}

@@ -1,5 +1,5 @@
 use Rattle.std.proofs.Common.{rules, arith, ◌<◌, ◌+◌, length, ◌∙◌, ap, take, map, if◌then◌else◌}
-use Rattle.ssi_versions.specs.Meaning.Chains.{held_of, chain_of}
+use Rattle.ssi_versions.specs.Mirror.{held_of, chain_of}
 use Rattle.ssi_versions.specs.Machinery.Plain.{as_held}
 use Rattle.ssi_versions.specs.Machinery.Keyed.{held_at, filled_count}
 use Rattle.ssi_versions.proofs.ByKey.{installed-more, other_write}
@@ -18,8 +18,8 @@ writes-preserved c =
           (chain_of q (map held_of (map (as_held c.args.stamp) (take (c.writes.write-index + 1) c.args.writes.now)))) _
           (c.put.ensures.added q) (c.writes.invariant.added q)
           (installed-more q c.args.stamp c.args.writes.now c.writes.write-index c.write-item.result h (Prim.search rules));
-      room = λ k d lo hi. c.put.ensures.keeps _ (other_write c.args.writes.now c.writes.write-index k c.write-item.result d (Prim.search rules) (omega arith) hi c.requires.apart)
-          (c.writes.invariant.room k d (omega arith) hi);
+      room = λ k d low high. c.put.ensures.keeps _ (other_write c.args.writes.now c.writes.write-index k c.write-item.result d (Prim.search rules) (omega arith) high c.requires.apart)
+          (c.writes.invariant.room k d (omega arith) high);
       owned = c.put.ensures.owned c.writes.invariant.owned;
       count = omega (arith, c.put.ensures.count, c.writes.invariant.count);
       filled = elim c.if-put.branch [

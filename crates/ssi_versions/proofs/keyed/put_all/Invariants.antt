@@ -1,6 +1,6 @@
 use Rattle.std.proofs.Common.{◌≡◌, ◌++◌, ◌+◌, ◌≤◌, ℕ, List, take, map, length, true}
 use Rattle.std.specs.List.{AllWithin}
-use Rattle.ssi_versions.specs.Meaning.Chains.{held_of, chain_of}
+use Rattle.ssi_versions.specs.Mirror.{held_of, chain_of}
 use Rattle.ssi_versions.specs.Machinery.Plain.{as_held}
 use Rattle.ssi_versions.specs.Machinery.Keyed.{held_at, is_owned, versions, filled_count, HasRoomAt}
 use Rattle.ssi_versions.proofs.keyed.put_all.Given as goal

@@ -1,7 +1,7 @@
 use Rattle.std.proofs.Common.{arith, rules, length, ◌-◌, ◌+◌, ◌≡◌, sym, ◌∙◌, ap, if◌then◌else◌, suc, map, drop, true, false}
 use Rattle.std.specs.List.{list_any}
 use Rattle.std.proofs.lemmas.List.{take_rest}
-use Rattle.ssi_versions.specs.Meaning.Chains.{held_of, key_total, is_of}
+use Rattle.ssi_versions.specs.Mirror.{held_of, key_total, is_of}
 use Rattle.ssi_versions.proofs.ByKey.{total_more}
 use Rattle.ssi_versions.proofs.plain.key_total.Goals as goal
 use Rattle.ssi_versions.proofs.plain.key_total.Goals.{then-not-has_key, else-not-has_key}

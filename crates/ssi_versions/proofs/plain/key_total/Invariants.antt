@@ -1,5 +1,5 @@
 use Rattle.std.proofs.Common.{◌≡◌, ◌≤◌, ◌-◌, drop, map}
-use Rattle.ssi_versions.specs.Meaning.Chains.{held_of, key_total}
+use Rattle.ssi_versions.specs.Mirror.{held_of, key_total}
 use Rattle.ssi_versions.proofs.plain.key_total.Given as goal
 
 abbrev pub invariant-back : goal.invariant-back

@@ -1,6 +1,6 @@
 use Rattle.std.proofs.Common.{◌≡◌, ◌-◌, None, drop, map}
 use Rattle.ssi_versions.specs.Meaning.Changes.{newest_within}
-use Rattle.ssi_versions.specs.Meaning.Chains.{held_of, chain_of}
+use Rattle.ssi_versions.specs.Mirror.{held_of, chain_of}
 use Rattle.ssi_versions.proofs.plain.newest_at.Given as goal
 
 abbrev pub invariant-back : goal.invariant-back

@@ -1,5 +1,5 @@
 use Rattle.std.proofs.Common.{◌≡◌, [], take, map}
-use Rattle.ssi_versions.specs.Meaning.Chains.{held_of, chain_of}
+use Rattle.ssi_versions.specs.Mirror.{held_of, chain_of}
 use Rattle.ssi_versions.proofs.plain.next_of.Given as goal
 
 abbrev pub invariant-later : goal.invariant-later

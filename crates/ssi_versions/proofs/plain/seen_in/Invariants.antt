@@ -6,12 +6,12 @@ use Rattle.std.specs.Ordering.{nat_cmp}
 use Rattle.std.specs.Cmp.Lexicographic.{slice_cmp}
 use Rattle.adya_values.specs.Meaning.Keys.{lies_in}
 use Rattle.ssi_versions.specs.Meaning.Changes.{newest_within}
-use Rattle.ssi_versions.specs.Meaning.Chains.{held_of, chain_of, is_of}
+use Rattle.ssi_versions.specs.Mirror.{held_of, chain_of, is_of}
 use Rattle.ssi_versions.proofs.plain.seen_in.Given as goal
 
 abbrev pub invariant-items : goal.invariant-items
 invariant-items l = record {
   seen : (key : List ℕ) → option_map held_of (lookup (is_at (slice_cmp nat_cmp key)) l.seen.entries)
-      ≡ (if lies_in l.lo l.hi key then newest_within l.stamp (chain_of key (map held_of (take l.held-index l.items))) else None);
+      ≡ (if lies_in l.low l.high key then newest_within l.stamp (chain_of key (map held_of (take l.held-index l.items))) else None);
   owned : list_all (λ e. is_of e.0 (held_of e.1)) l.seen.entries ≡ true;
 }

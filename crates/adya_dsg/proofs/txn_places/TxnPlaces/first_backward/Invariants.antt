@@ -1,5 +1,5 @@
 use Rattle.std.proofs.Common.{◌≡◌, map, drop, find}
-use Rattle.adya_dsg.specs.Meaning.Values.{edge_of}
+use Rattle.adya_dsg.specs.Mirror.{edge_of}
 use Rattle.adya_dsg.specs.Machinery.PartEdges.{is_backward}
 use Rattle.adya_dsg.proofs.txn_places.TxnPlaces.first_backward.Given as goal
 

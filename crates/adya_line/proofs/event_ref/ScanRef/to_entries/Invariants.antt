@@ -1,7 +1,7 @@
 use Rattle.std.proofs.Common.{◌≡◌, ◌++◌, length, map}
 use Rattle.adya_values.specs.Meaning.Histories.{entry_of}
 use Rattle.adya_line.specs.Computing.Reading.{entries_of}
-use Rattle.adya_line.specs.Meaning.Views.{entries_left}
+use Rattle.adya_line.specs.Mirror.{entries_left}
 use Rattle.adya_line.proofs.event_ref.ScanRef.to_entries.Given as goal
 
 abbrev pub invariant-loop-entry : goal.invariant-loop-entry

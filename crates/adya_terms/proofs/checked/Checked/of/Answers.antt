@@ -9,7 +9,7 @@ use Rattle.adya_terms.specs.Machinery.Tables.{own, written_at, KnowsCommitted}
 use Rattle.adya_terms.specs.Machinery.EventIndex.{indexed, last_in}
 use Rattle.adya_terms.specs.Machinery.Places.{AreWrites}
 use Rattle.adya_terms.proofs.InstalledWrites.{installed_if_last}
-use Rattle.adya_values.specs.Meaning.Values.{history_of}
+use Rattle.adya_values.specs.Mirror.{history_of}
 use Rattle.adya_terms.proofs.checked.Checked.of.Goals as goal
 
 pub returns-in-Err-clause-found : goal.returns-in-Err-clause-found

@@ -1,7 +1,7 @@
 -- What is gone from `rest` was appended, and nothing failed since; a device that had failed is as it was.
 use Rattle.std.proofs.Common.{◌≡◌, List, ℕ, true, ◌++◌, length}
 use Rattle.std.specs.Io.KnownBytes.{Appends}
-use Rattle.devices.specs.Meaning.Watched.{has_failed, reads_left, watched_contents}
+use Rattle.devices.specs.Mirror.{has_failed, reads_left, watched_contents}
 use Rattle.devices.proofs.watched.WatchedWrite.write_all.Given as goal
 
 abbrev pub invariant-loop-rest : goal.invariant-loop-rest

@@ -1,7 +1,7 @@
 use Rattle.std.proofs.Common.{Some, None, option_map, refl, sym, ◌∙◌, ap, subst}
 use Rattle.std.specs.Option.{option_copied}
 use Rattle.ssi_conflict.specs.Meaning.Calls.{Reads}
-use Rattle.ssi_conflict.specs.Meaning.Standing.{Stands}
+use Rattle.ssi_conflict.specs.Mirror.{Stands}
 use Rattle.ssi_conflict.specs.Machinery.Rows.{IsSmallestRow, read_pivot, with_sooner}
 use Rattle.ssi_conflict.specs.Machinery.Records.{row_of}
 use Rattle.ssi_conflict.specs.Machinery.Index.{writer_in}
@@ -16,15 +16,15 @@ pub returns-in-Some-pivot-clause-answer : goal.returns-in-Some-pivot-clause-answ
 returns-in-Some-pivot-clause-answer g c calls stands ok =
     let kept = row_of c.in-Some.kept.now in
     let own = sym c.get.ensures ∙ ap (λ o. option_map row_of (option_copied o)) c.in-Some.is in
-    read_answer (row_at c.args.self.now.table) _ calls stands.holds.rows c.args.txn c.args.lo c.args.hi
+    read_answer (row_at c.args.self.now.table) _ calls stands.holds.rows c.args.txn c.args.low c.args.high
     (ok, stands.holds.rows.allowed) kept own (Some c.in-Some-pivot.pivot)
-    (subst (IsSmallestRow (row_at c.args.self.now.table) (read_pivot kept.snapshot c.args.lo c.args.hi))
+    (subst (IsSmallestRow (row_at c.args.self.now.table) (read_pivot kept.snapshot c.args.low c.args.high))
     c.in-Some-pivot.is (c.met-met.ensures.pivot stands.holds.tidy))
 
 pub returns-in_err-mark-clause-stands : goal.returns-in_err-mark-clause-stands
 returns-in_err-mark-clause-stands g c calls stands ok =
     subst (Stands g.M.Marks.marked _) (sym
-    (carried_refused (Reads c.args.txn c.args.lo c.args.hi) calls _ c.from_residual.ensures.0))
+    (carried_refused (Reads c.args.txn c.args.low c.args.high) calls _ c.from_residual.ensures.0))
     (same_tracker g.M.Marks.marked c.args.self.now _ calls (λ t. refl) (λ t. t) refl c.in_err-mark.ensures.refused
     stands)
 
@@ -34,12 +34,12 @@ returns-clause-stands g c calls stands ok =
     let rows = stands.holds.rows in
     let kept = row_of c.in-Some.kept.now in
     let own = sym c.get.ensures ∙ ap (λ o. option_map row_of (option_copied o)) c.in-Some.is in
-    let safe = read_answer (row_at m) _ calls rows c.args.txn c.args.lo c.args.hi (ok, rows.allowed) kept own None
-    (subst (IsSmallestRow (row_at m) (read_pivot kept.snapshot c.args.lo c.args.hi)) c.in_default-pivot.is
+    let safe = read_answer (row_at m) _ calls rows c.args.txn c.args.low c.args.high (ok, rows.allowed) kept own None
+    (subst (IsSmallestRow (row_at m) (read_pivot kept.snapshot c.args.low c.args.high)) c.in_default-pivot.is
     (c.met-met.ensures.pivot stands.holds.tidy)) in
     record {
       holds = record {
-        rows = stands_after_read (row_at m) _ calls rows c.args.txn c.args.lo c.args.hi (ok, rows.allowed) kept own
+        rows = stands_after_read (row_at m) _ calls rows c.args.txn c.args.low c.args.high (ok, rows.allowed) kept own
             c.met-met.result.first (c.met-met.ensures.first stands.holds.tidy)
             (row_at c.add_out.new.self) _ (c.add_out.ensures.rows.here ∙ ap
             (option_map (with_sooner c.met-met.result.first)) own) c.add_out.ensures.rows.others
@@ -58,7 +58,7 @@ pub returns-clause-answer : goal.returns-clause-answer
 returns-clause-answer g c calls stands ok =
     let kept = row_of c.in-Some.kept.now in
     let own = sym c.get.ensures ∙ ap (λ o. option_map row_of (option_copied o)) c.in-Some.is in
-    read_answer (row_at c.args.self.now.table) _ calls stands.holds.rows c.args.txn c.args.lo c.args.hi
+    read_answer (row_at c.args.self.now.table) _ calls stands.holds.rows c.args.txn c.args.low c.args.high
     (ok, stands.holds.rows.allowed) kept own None
-    (subst (IsSmallestRow (row_at c.args.self.now.table) (read_pivot kept.snapshot c.args.lo c.args.hi))
+    (subst (IsSmallestRow (row_at c.args.self.now.table) (read_pivot kept.snapshot c.args.low c.args.high))
     c.in_default-pivot.is (c.met-met.ensures.pivot stands.holds.tidy))

@@ -1,7 +1,7 @@
 use Rattle.std.proofs.Common.{List}
 use Rattle.std.specs.VecDeque.{deque_len}
 use Rattle.ssi_conflict.specs.Meaning.Calls.{Call}
-use Rattle.ssi_conflict.specs.Meaning.Standing.{Holds}
+use Rattle.ssi_conflict.specs.Mirror.{Holds}
 use Rattle.ssi_conflict.proofs.tracker.Tracker.retire.Given as goal
 
 abbrev pub invariant-loop-txn : goal.invariant-loop-txn

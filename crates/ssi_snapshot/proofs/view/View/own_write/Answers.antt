@@ -1,5 +1,5 @@
 use Rattle.std.proofs.Common.{◌∙◌, ap, option_map}
-use Rattle.ssi_versions.specs.Meaning.Chains.{write_of}
+use Rattle.ssi_versions.specs.Mirror.{write_of}
 use Rattle.ssi_snapshot.proofs.Storing.{stored_found}
 use Rattle.ssi_snapshot.proofs.view.View.own_write.Goals as goal
 

@@ -1,7 +1,7 @@
 use Rattle.std.proofs.Common.{◌∙◌, ap, is_some, nat_eq}
 use Rattle.std.specs.Map.{lookup}
 use Rattle.std.specs.Cmp.Lexicographic.{pointwise}
-use Rattle.ssi_versions.specs.Meaning.Chains.{write_of}
+use Rattle.ssi_versions.specs.Mirror.{write_of}
 use Rattle.ssi_snapshot.proofs.Storing.{stored_found, some_mapped}
 use Rattle.ssi_snapshot.proofs.view.View.owns.Goals as goal
 

@@ -3,9 +3,9 @@ use Rattle.adya_values.specs.Meaning.Keys.{keys_rise, lies_in}
 use Rattle.adya_values.specs.Meaning.Histories.{entry_of}
 use Rattle.adya_values.specs.Meaning.Events.{listed}
 use Rattle.ssi_versions.specs.Meaning.Changes.{otherwise, entry_in, newest_within}
-use Rattle.ssi_versions.specs.Meaning.Chains.{held_of, found_in, chain_of}
+use Rattle.ssi_versions.specs.Mirror.{held_of, found_in, chain_of}
 use Rattle.ssi_snapshot.specs.Meaning.Listings.{keys}
-use Rattle.ssi_snapshot.specs.Meaning.Views.{own}
+use Rattle.ssi_snapshot.specs.Mirror.{own}
 use Rattle.ssi_snapshot.specs.Machinery.Stored.{are_keyed, entry_key, stored_at}
 use Rattle.ssi_snapshot.proofs.Merging.{rising_values, listed_values, both_shown}
 use Rattle.ssi_snapshot.proofs.view.View.scan.Goals as goal
@@ -17,9 +17,9 @@ returns g c =
     record {
       rising = ap (λ ws. keys_rise (keys (map entry_of ws))) c.in_ok-entries.ensures.all ∙ rising_values es keyed c.in_ok-entries.ensures.ordered;
       each = λ key.
-          let inside = lies_in c.args.lo c.args.hi key in
+          let inside = lies_in c.args.low c.args.high key in
           let mine = own key c.args.self.now in
-          let held = newest_within c.args.self.now.stamp (chain_of key (g.C.Chains.held c.args.chains.now)) in
+          let held = newest_within c.args.self.now.snapshot (chain_of key (g.C.Chains.held c.args.chains.now)) in
           let committed : stored_at key c.put_held.new.seen.entries ≡ otherwise (entry_in (if inside then held else None)) None =
           c.in_ok-put_held.ensures.stored key
           ∙ ap (λ xs. otherwise (entry_in (found_in key (map held_of c.as_slice.result.now))) (stored_at key xs)) c.new-seen.ensures.empty

@@ -21,7 +21,7 @@ returns g c = record {
       (λ q. c.add.ensures.added q
       ∙ ap (λ es. cond (key_eq c.args.session q) (Some c.new-2.result) (open_at q es)) c.reserve.ensures.entries)
       c.open.ensures.events (Prim.search rules) (Prim.search rules) c.in-Ok-on_begin.ensures.begun c.new-2.ensures.txn
-      c.new-2.ensures.stamp c.new-2.ensures.count c.new-2.ensures.written;
+      c.new-2.ensures.snapshot c.new-2.ensures.count c.new-2.ensures.written;
 }
 
 pub begin-requires-clause-above : goal.begin-requires-clause-above

@@ -1,9 +1,9 @@
 use Rattle.std.proofs.Common.{rules, refl, ap, sym, subst, ◌+◌, ◌∙◌, ◌∷◌, map, Some, None}
-use Rattle.ssi_versions.specs.Meaning.Chains.{write_of}
+use Rattle.ssi_versions.specs.Mirror.{write_of}
 use Rattle.ssi_snapshot.specs.Meaning.Listings.{keys}
 use Rattle.ssi_conflict.specs.Meaning.Calls.{Commits as Ends}
 use Rattle.ssi_conflict.specs.Meaning.Pairs.{IsOrderedPivot, IsSmallest}
-use Rattle.ssi_conflict.specs.Meaning.Standing.{pivot_of}
+use Rattle.ssi_conflict.specs.Mirror.{pivot_of}
 use Rattle.ssi_store.specs.Meaning.Acts.{acts}
 use Rattle.ssi_store.specs.Meaning.Courses.{Commit, Conflict, Unsafe}
 use Rattle.ssi_store.specs.Meaning.Tracked.{tracked}
@@ -26,8 +26,8 @@ returns-in-Some-least_overtaken g c = record {
       c.in-Some-least_overtaken.least.writer) st
       (conflict_ends st c.args.session o at c.laws_below.ensures c.txn-txn.result c.in-Some-least_overtaken.least.key
       c.in-Some-least_overtaken.least.writer c.txn-txn.ensures
-      (found_conflict st c.args.session o at c.laws_below.ensures c.stamp.result (map write_of c.writes-writes.result.now)
-      (Some c.in-Some-least_overtaken.least.key) c.stamp.ensures c.writes-writes.ensures.all
+      (found_conflict st c.args.session o at c.laws_below.ensures c.snapshot.result (map write_of c.writes-writes.result.now)
+      (Some c.in-Some-least_overtaken.least.key) c.snapshot.ensures c.writes-writes.ensures.all
       c.in-Some-least_overtaken.ensures.least)
       c.in-Some-least_overtaken.ensures.writer);
 }
@@ -42,8 +42,8 @@ returns-in-Unsafe g c = record {
   stands = λ course st.
       let at = sym c.in-Some.ensures.value in
       let o = c.in-Some.open.now in
-      let free = found_conflict st c.args.session o at c.laws_below.ensures c.stamp.result
-      (map write_of c.writes-writes.result.now) None c.stamp.ensures c.writes-writes.ensures.all
+      let free = found_conflict st c.args.session o at c.laws_below.ensures c.snapshot.result
+      (map write_of c.writes-writes.result.now) None c.snapshot.ensures c.writes-writes.ensures.all
       c.in_default-least_overtaken.ensures.least in
       let keys_are = c.as_slice-keys.ensures.value ∙ c.in-Ok.ensures ∙ written_keys c.writes-writes.result.now
       ∙ ap keys c.writes-writes.ensures.all in
@@ -70,8 +70,8 @@ returns g c = record {
   stands = λ course st.
       let at = sym c.in-Some.ensures.value in
       let o = c.in-Some.open.now in
-      let free = found_conflict st c.args.session o at c.laws_below.ensures c.stamp.result
-      (map write_of c.writes-writes.result.now) None c.stamp.ensures c.writes-writes.ensures.all
+      let free = found_conflict st c.args.session o at c.laws_below.ensures c.snapshot.result
+      (map write_of c.writes-writes.result.now) None c.snapshot.ensures c.writes-writes.ensures.all
       c.in_default-least_overtaken.ensures.least in
       let keys_are = c.as_slice-keys.ensures.value ∙ c.in-Ok.ensures ∙ written_keys c.writes-writes.result.now
       ∙ ap keys c.writes-writes.ensures.all in

@@ -2,9 +2,9 @@ use Rattle.std.proofs.Common.{ap, subst, ◌∙◌, ◌++◌, ◌∷◌, [], Ok}
 use Rattle.adya_values.specs.Meaning.Histories.{event_of}
 use Rattle.ssi_conflict.specs.Meaning.Calls.{Reads}
 use Rattle.ssi_conflict.specs.Meaning.Pairs.{IsOrderedPivot, IsSmallest}
-use Rattle.ssi_conflict.specs.Meaning.Standing.{Stands, carried, pivot_of}
+use Rattle.ssi_conflict.specs.Mirror.{Stands, carried, pivot_of}
 use Rattle.ssi_store.specs.Meaning.Acts.{acts}
-use Rattle.ssi_store.specs.Meaning.Commands.{reply_of}
+use Rattle.ssi_store.specs.Mirror.Commands.{reply_of}
 use Rattle.ssi_store.specs.Meaning.Courses.{Unsafe}
 use Rattle.ssi_store.specs.Meaning.Tracked.{tracked}
 use Rattle.ssi_store.proofs.Looks.{safe_of, may_look, look_memory, look_ends, looked}
@@ -14,52 +14,52 @@ use Rattle.ssi_store.proofs.engine.Engine.show.Goals as goal
 pub returns-in_default : goal.returns-in_default
 returns-in_default g c = record {
   stands = λ course m st is.
-      look_memory st c.args.session c.args.txn (Reads c.args.txn c.args.lo c.args.hi ∷ []) (event_of c.args.event)
+      look_memory st c.args.session c.args.txn (Reads c.args.txn c.args.low c.args.high ∷ []) (event_of c.args.event)
       (reply_of c.args.reply) m is _ _ st.log.tracker c.room.ensures.same.0;
 }
 
 pub returns-in_default-on_read : goal.returns-in_default-on_read
 returns-in_default-on_read g c = record {
   stands = λ course m st is.
-      look_memory st c.args.session c.args.txn (Reads c.args.txn c.args.lo c.args.hi ∷ []) (event_of c.args.event)
+      look_memory st c.args.session c.args.txn (Reads c.args.txn c.args.low c.args.high ∷ []) (event_of c.args.event)
       (reply_of c.args.reply) m is _ _
       (c.in_default-on_read.ensures.stands (tracked (acts course)) st.log.tracker
-      (may_look st c.args.session c.args.txn c.args.lo c.args.hi (event_of c.args.event) (reply_of c.args.reply) m is))
+      (may_look st c.args.session c.args.txn c.args.low c.args.high (event_of c.args.event) (reply_of c.args.reply) m is))
       c.room.ensures.same.0;
 }
 
 pub returns-in-Unsafe : goal.returns-in-Unsafe
 returns-in-Unsafe g c = record {
   stands = λ course m st is.
-      let may = may_look st c.args.session c.args.txn c.args.lo c.args.hi (event_of c.args.event) (reply_of c.args.reply) m is in
+      let may = may_look st c.args.session c.args.txn c.args.low c.args.high (event_of c.args.event) (reply_of c.args.reply) m is in
       c.drop_txn.ensures.stands course m (Unsafe c.in-Unsafe.pivot)
       (same_course st _ (record {
         commits = st.log.commits;
         chains = st.log.chains;
         tracker = subst (λ a. Stands g.M.Marks.marked c.on_read.new.self
-            (carried (Reads c.args.txn c.args.lo c.args.hi) (tracked (acts course)) (Ok a))) c.in-Unsafe.is
+            (carried (Reads c.args.txn c.args.low c.args.high) (tracked (acts course)) (Ok a))) c.in-Unsafe.is
             (c.in-Ok-on_read.ensures.stands (tracked (acts course)) st.log.tracker may);
         events = c.room.ensures.same.0 ∙ st.log.events;
         opened = st.log.opened;
         began = st.log.began;
       }))
-      (look_ends st c.args.session c.args.txn c.args.lo c.args.hi (event_of c.args.event) (reply_of c.args.reply) m is
+      (look_ends st c.args.session c.args.txn c.args.low c.args.high (event_of c.args.event) (reply_of c.args.reply) m is
       c.laws_below.ensures c.in-Unsafe.pivot
-      (subst (λ a. IsSmallest IsOrderedPivot (Reads c.args.txn c.args.lo c.args.hi ∷ tracked (acts course)) (pivot_of a))
+      (subst (λ a. IsSmallest IsOrderedPivot (Reads c.args.txn c.args.low c.args.high ∷ tracked (acts course)) (pivot_of a))
       c.in-Unsafe.is (c.in-Ok-on_read.ensures.answer (tracked (acts course)) st.log.tracker may)));
 }
 
 pub returns : goal.returns
 returns g c = record {
   stands = λ course m st is.
-      let may = may_look st c.args.session c.args.txn c.args.lo c.args.hi (event_of c.args.event) (reply_of c.args.reply) m is in
+      let may = may_look st c.args.session c.args.txn c.args.low c.args.high (event_of c.args.event) (reply_of c.args.reply) m is in
       let safe = safe_of c.in-Ok-on_read.answer c.in_default-answer.not-Unsafe in
-      looked st c.args.session c.args.txn c.args.lo c.args.hi (event_of c.args.event) (reply_of c.args.reply) m is
+      looked st c.args.session c.args.txn c.args.low c.args.high (event_of c.args.event) (reply_of c.args.reply) m is
       c.laws_below.ensures _ _ _ c.count_at.ensures.counted
-      (subst (λ a. IsSmallest IsOrderedPivot (Reads c.args.txn c.args.lo c.args.hi ∷ tracked (acts course)) (pivot_of a))
+      (subst (λ a. IsSmallest IsOrderedPivot (Reads c.args.txn c.args.low c.args.high ∷ tracked (acts course)) (pivot_of a))
       safe (c.in-Ok-on_read.ensures.answer (tracked (acts course)) st.log.tracker may))
       (subst (λ a. Stands g.M.Marks.marked c.on_read.new.self
-      (carried (Reads c.args.txn c.args.lo c.args.hi) (tracked (acts course)) (Ok a))) safe
+      (carried (Reads c.args.txn c.args.low c.args.high) (tracked (acts course)) (Ok a))) safe
       (c.in-Ok-on_read.ensures.stands (tracked (acts course)) st.log.tracker may))
       (c.event.ensures.events ∙ ap (λ l. l ++ event_of c.args.event ∷ []) c.room.ensures.same.0);
 }

@@ -1,8 +1,7 @@
 use Rattle.std.proofs.Common.{arith, subst, ◌<◌, ◌∙◌, ap, sym, length}
-use Rattle.ssi_versions.specs.Meaning.ChangeLaws.{is_wanted}
-use Rattle.ssi_versions.specs.Meaning.Chains.{chain_of}
+use Rattle.ssi_versions.specs.Meaning.Changes.{is_wanted, IsByStamp}
+use Rattle.ssi_versions.specs.Mirror.{chain_of}
 use Rattle.ssi_versions.specs.Machinery.Keyed.{versions, is_owned, filled_count}
-use Rattle.ssi_versions.specs.Meaning.Changes.{IsByStamp}
 use Rattle.std.proofs.lemmas.List.Kept.{AllPairs-filter}
 use Rattle.ssi_versions.proofs.Collected.{collected, owned-collected, filled-collected, shorter-collected, wanted-collected}
 use Rattle.ssi_versions.proofs.keyed.KeyChainsChains.collect.Goals as goal

@@ -1,5 +1,5 @@
 use Rattle.std.proofs.Common.{arith, ◌∙◌, ap, map, length}
-use Rattle.ssi_versions.specs.Meaning.Chains.{write_of}
+use Rattle.ssi_versions.specs.Mirror.{write_of}
 use Rattle.ssi_versions.specs.Machinery.Keyed.{versions}
 use Rattle.ssi_versions.proofs.ByKey.{still_by_stamp}
 use Rattle.ssi_versions.proofs.Entries.{chain_added}

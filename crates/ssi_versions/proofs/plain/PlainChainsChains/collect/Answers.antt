@@ -1,9 +1,8 @@
 use Rattle.std.proofs.Common.{ap, subst, sym, ◌<◌, ◌∙◌, map}
-use Rattle.ssi_versions.specs.Meaning.Chains.{held_of, chain_of}
-use Rattle.ssi_versions.specs.Meaning.ChangeLaws.{is_wanted}
+use Rattle.ssi_versions.specs.Mirror.{held_of, chain_of}
+use Rattle.ssi_versions.specs.Meaning.Changes.{is_wanted, IsByStamp}
 use Rattle.ssi_versions.proofs.Keeping.{kept_chain, kept_of}
 use Rattle.std.proofs.lemmas.List.Kept.{AllPairs-filter}
-use Rattle.ssi_versions.specs.Meaning.Changes.{IsByStamp}
 use Rattle.ssi_versions.proofs.plain.PlainChainsChains.collect.Goals as goal
 
 pub invariant_of-self : goal.invariant_of-self

@@ -1,5 +1,5 @@
 use Rattle.std.proofs.Common.{subst, sym, ◌≡◌, ◌++◌, map, Ok, Err, OnOk, OnErr}
-use Rattle.ssi_versions.specs.Meaning.Chains.{held_of, write_of, chain_of}
+use Rattle.ssi_versions.specs.Mirror.{held_of, write_of, chain_of}
 use Rattle.ssi_versions.specs.Meaning.Changes.{IsByStamp}
 use Rattle.ssi_versions.specs.Machinery.Plain.{as_held}
 use Rattle.ssi_versions.proofs.ByKey.{added, still_by_stamp}

@@ -3,11 +3,10 @@ use Rattle.std.specs.Prelude.{◌≡◌, ℕ, ◌≤◌, Bool, true, false, List
 use Rattle.ssi_conflict.specs.Meaning.Kept.{open_count}
 use Rattle.adya_values.specs.Meaning.Events.{listed}
 use Rattle.adya_values.specs.Meaning.Keys.{key_le, keys_rise, lies_in}
-use Rattle.adya_values.specs.Meaning.Histories.{History, Entry}
-use Rattle.adya_values.specs.Computing.Shapes.{is_shape, fits_edition, numbers_rise}
-use Rattle.adya_values.specs.Meaning.Edges.{Rw, Edge, IsEdge}
+use Rattle.adya_values.specs.Meaning.Histories.{Entry}
+use Rattle.adya_values.specs.Computing.Shapes.{numbers_rise}
 use Rattle.ssi_conflict.specs.Meaning.Calls.{Call, AreAllowed}
-use Rattle.ssi_conflict.specs.Meaning.Pairs.{IsPair, IsPivot, IsOrderedPivot, IsSmallest}
+use Rattle.ssi_conflict.specs.Meaning.Pairs.{IsPivot, IsOrderedPivot, IsSmallest}
 use Rattle.ssi_conflict.specs.Computing.Steps.{smallest_pivot, smallest_ordered_pivot}
 use Rattle.ssi_versions.specs.Meaning.Changes.{contents, held, newest_within, AreInstallable, IsProtected}
 use Rattle.ssi_store.specs.Meaning.Courses.{Command, Get, Scan, ScanFirst, Commit, Collect, Stat, Course, Unsafe, txn_for, txn_in, next_txn}
@@ -16,25 +15,9 @@ use Rattle.ssi_store.specs.Meaning.Acts.{Act, Gets, Scans, Commits, Collects, ac
 use Rattle.ssi_store.specs.Meaning.Seeing.{snapshot, changed, sees, scanned}
 use Rattle.ssi_store.specs.Meaning.Tracked.{tracked}
 use Rattle.ssi_store.specs.Meaning.Replies.{rows, reply_in, reply, Follows, is_overtaken, conflict}
-use Rattle.ssi_store.specs.Meaning.Recording.{finished, dumped, starts, start_in}
+use Rattle.ssi_store.specs.Meaning.Recording.{finished, dumped}
 use Rattle.ssi_store.specs.Meaning.Faces.{Records, RecordsSoFar}
-use Rattle.snapshot_histories.specs.Meaning.Snapshots.{AreConcurrent, IsSafe}
-
--- the snapshot of a transaction of the course
-abbrev pub start_of : Course → ℕ → ℕ
-start_of c t = start_in (starts c) t
-
--- what a history of the course is, by a rule whose pivots never stand
-pub record IsCovered (IsStanding : ℕ → List Call → Type 0) (c : Course) (h : History) : Type 0 where
-  -- the history is checked, a snapshot history, and without a dangerous structure
-  pub safe : IsSafe h (start_of c)
-  -- its orders and finals are as a history's must be, and so are its unfinished transactions for its edition
-  pub shaped : is_shape h.orders h.finals ≡ true
-  pub fits : fits_edition h.edition h.unfinished ≡ true
-  -- each anti-dependency between concurrent transactions is a pair
-  pub pairs : (e : Edge) → IsEdge h e → e.kind ≡ Rw → AreConcurrent h (start_of c) e.from e.to
-      → IsPair e.from e.to (tracked (acts c))
-  pub no_pivot : (t : ℕ) → IsStanding t (tracked (acts c)) → ⊥
+use Rattle.ssi_store.specs.Meaning.Coverage.{IsCovered}
 
 -- by the two-pair rule, when the course is over
 abbrev pub FinishedAreCovered : Type 0

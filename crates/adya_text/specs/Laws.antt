@@ -1,7 +1,7 @@
 -- What holds of texts.
 use Rattle.std.specs.Prelude.{◌≡◌, ◌≢◌, ℕ, List, [], ◌∷◌, ◌++◌, All}
 use Rattle.adya_line.specs.Meaning.Spelling.{tail}
-use Rattle.adya_line.specs.Meaning.Laws.{IsPlain}
+use Rattle.adya_line.specs.Meaning.Lines.{IsPlain}
 use Rattle.adya_values.specs.Meaning.Histories.{History}
 use Rattle.adya_text.specs.Meaning.Texts.{IsHistory, IsSerial, with_ends, history_text, serial_text}
 use Rattle.adya_text.specs.Meaning.Faults.{IsCut, IsFaultLine}

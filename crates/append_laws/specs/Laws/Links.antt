@@ -5,7 +5,7 @@ use Rattle.append_values.specs.Meaning.Runs.{Occurs, Explains}
 use Rattle.append_values.specs.Meaning.Reads.{appended, own, HasRead, AppendersDiffer, IsPrefixOf}
 use Rattle.append_values.specs.Meaning.Reasons.{Precedes}
 use Rattle.append_values.specs.Meaning.Reads.{left}
-use Rattle.append_laws.specs.Meaning.Laws.{IsWhole}
+use Rattle.append_laws.specs.Laws.Explanations.{IsWhole}
 use Rattle.digraph.specs.Meaning.Graphs.{IsBefore}
 
 -- a read shows the first writers of a line, whole, and then its transaction's own appends so far. If its transaction appends

@@ -1,7 +1,6 @@
 -- That collections drop nothing that is still asked for.
-use Rattle.std.specs.Prelude.{◌≡◌, ℕ, Bool, false, nat_lt, ◌||◌, List, ◌∷◌, Option, Some, None, filter, Contains}
-use Rattle.std.specs.List.{list_any}
-use Rattle.ssi_versions.specs.Meaning.Changes.{Change, Collects, Held, contents, last_version, is_installed_above, has_stamp, held, newest, newest_within, IsByStamp, AreInstallable, IsProtected}
+use Rattle.std.specs.Prelude.{◌≡◌, ℕ, List, ◌∷◌, filter, Contains}
+use Rattle.ssi_versions.specs.Meaning.Changes.{Change, Collects, contents, last_version, is_installed_above, is_above, is_wanted, held, newest, newest_within, IsByStamp, AreInstallable, IsProtected}
 
 -- held versions of a key stand by stamp
 abbrev pub HeldRises : Type 0
@@ -16,18 +15,9 @@ abbrev pub HeldShows : Type 0
 HeldShows = (changes : List Change) → AreInstallable changes → (k : List ℕ) (s : ℕ) → IsProtected s changes
     → newest_within s (held k changes) ≡ contents k s changes
 
--- there is a version, and its stamp is above s
-abbrev pub is_above : ℕ → Option Held → Bool
-is_above s None = false
-is_above s (Some h) = nat_lt s h.stamp
-
 -- whether a version above s was installed can be told from the last one
 abbrev pub LastIsAbove : Type 0
 LastIsAbove = (changes : List Change) → AreInstallable changes → (k : List ℕ) (s : ℕ) → is_installed_above k s changes ≡ is_above s (last_version k changes)
-
--- of versions that stand by stamp, the last one or one that a snapshot sees
-abbrev pub is_wanted : List ℕ → List Held → Held → Bool
-is_wanted ss hs h = has_stamp h.stamp (newest hs) || list_any (λ s. has_stamp h.stamp (newest_within s hs)) ss
 
 -- what a collection keeps can be told from the held versions, where no snapshot that it names was left out before
 abbrev pub CollectsHeld : Type 0

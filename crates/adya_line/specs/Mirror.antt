@@ -26,7 +26,7 @@ abbrev pub view : EventRef → Event
 view (Write w) = plain.Write w.version.txn w.version.key.now w.version.m w.value.now
 view (Delete d) = plain.Delete d.version.txn d.version.key.now d.version.m
 view (Read r) = plain.Read r.txn (view_version r.version) r.value.now
-view (Scan s) = plain.Scan s.txn s.lo.now s.hi.now (entries_of s.listed.now)
+view (Scan s) = plain.Scan s.txn s.low.now s.high.now (entries_of s.listed.now)
 view (Commit e) = plain.Commit e.txn
 view (Abort e) = plain.Abort e.txn
 

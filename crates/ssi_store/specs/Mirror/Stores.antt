@@ -4,7 +4,7 @@ use Rattle.ssi_versions.specs.Meaning.Changes.{Held}
 use Rattle.ssi_versions.specs.declared.chains.Chains.{Ghosts as HeldBy}
 use Rattle.ssi_reads.specs.declared.marks.Marks.{Ghosts as MarkedBy}
 use Rattle.ssi_store.specs.Meaning.Courses.{Course}
-use Rattle.ssi_store.specs.Meaning.Standing.{IsAt as IsEngineAt}
+use Rattle.ssi_store.specs.Mirror.Standing.{IsAt as IsEngineAt}
 use Rattle.ssi_store.specs.declared.store.Store.{Store}
 
 -- its engine stands for the course

@@ -3,13 +3,13 @@
 use Rattle.std.specs.Prelude.{◌≡◌, ℕ, Bool, List, map, option_map, IfSome}
 use Rattle.adya_values.specs.Meaning.Histories.{Event}
 use Rattle.ssi_versions.specs.Meaning.Changes.{Held, held}
-use Rattle.ssi_versions.specs.Meaning.Chains.{chain_of}
+use Rattle.ssi_versions.specs.Mirror.{chain_of}
 use Rattle.ssi_versions.specs.declared.chains.Chains.{Ghosts as HeldBy}
 use Rattle.ssi_reads.specs.declared.marks.Marks.{Ghosts as MarkedBy}
 use Rattle.ssi_conflict.specs.Meaning.Calls.{Call}
-use Rattle.ssi_conflict.specs.Meaning.Standing.{Stands}
+use Rattle.ssi_conflict.specs.Mirror.{Stands}
 use Rattle.ssi_conflict.specs.Computing.Steps.{smallest_ordered_pivot}
-use Rattle.ssi_recorder.specs.Meaning.Recorder.{events_of}
+use Rattle.ssi_recorder.specs.Mirror.{events_of}
 use Rattle.ssi_store.specs.Meaning.Courses.{Course, txn_in, next_txn}
 use Rattle.ssi_store.specs.Meaning.Acts.{Act, acts, started, open_txns}
 use Rattle.ssi_store.specs.Meaning.Seeing.{commit_count, snapshot, changed}

@@ -1,7 +1,7 @@
 -- How many versions are held, and of how many keys, told from a list that agrees with what is held key by key.
 use Rattle.std.specs.Prelude.{◌≡◌, ℕ, List, length}
 use Rattle.ssi_versions.specs.Meaning.Changes.{Change, Held, held, held_count, key_count}
-use Rattle.ssi_versions.specs.Meaning.Chains.{chain_of, key_total}
+use Rattle.ssi_versions.specs.Mirror.{chain_of, key_total}
 
 -- the list has of each key the held versions
 abbrev pub Holds : List Held → List Change → Type 0

@@ -3,7 +3,7 @@ use Rattle.std.specs.Prelude.{◌≡◌, ℕ, List, map, Option}
 use Rattle.adya_values.specs.Meaning.Histories.{Entry}
 use Rattle.adya_values.specs.Meaning.Events.{listed}
 use Rattle.ssi_versions.specs.Meaning.Changes.{Held, otherwise, entry_in, newest_within}
-use Rattle.ssi_versions.specs.Meaning.Chains.{write_of, chain_of}
+use Rattle.ssi_versions.specs.Mirror.{write_of, chain_of}
 use Rattle.indexmap.specs.IndexMap.{values}
 use Rattle.ssi_snapshot.specs.Meaning.Listings.{within}
 use Rattle.ssi_snapshot.specs.declared.view.View.{View}
@@ -12,9 +12,9 @@ use Rattle.ssi_snapshot.specs.declared.view.View.{View}
 abbrev pub txn_of : View → ℕ
 txn_of v = v.txn
 
--- the stamp of its snapshot
-abbrev pub stamp_of : View → ℕ
-stamp_of v = v.stamp
+-- its snapshot, which is the stamp of the last commit before it began
+abbrev pub snapshot_of : View → ℕ
+snapshot_of v = v.snapshot
 
 -- how often it has written
 abbrev pub count_of : View → ℕ
@@ -30,13 +30,13 @@ own key v = listed key (written v)
 
 -- what it sees of the key: its own last write, or else the newest version at its snapshot
 abbrev pub sees : List ℕ → View → List Held → Option Entry
-sees key v held = otherwise (own key v) (entry_in (newest_within v.stamp (chain_of key held)))
+sees key v held = otherwise (own key v) (entry_in (newest_within v.snapshot (chain_of key held)))
 
 -- the same of the keys of a range
 abbrev pub sees_between : List ℕ → List ℕ → View → List Held → List ℕ → Option Entry
-sees_between lo hi v held = within lo hi (λ key. sees key v held)
+sees_between low high v held = within low high (λ key. sees key v held)
 
 -- the same transaction, snapshot and writes
 abbrev pub IsAsBefore : View → View → Type 0
-IsAsBefore old new = (txn_of new ≡ txn_of old) × (stamp_of new ≡ stamp_of old) × (count_of new ≡ count_of old)
+IsAsBefore old new = (txn_of new ≡ txn_of old) × (snapshot_of new ≡ snapshot_of old) × (count_of new ≡ count_of old)
     × (written new ≡ written old)

@@ -2,17 +2,9 @@
 use Rattle.std.specs.Prelude.{◌≡◌, ◌↔◌, ℕ, true, List}
 use Rattle.adya_values.specs.Meaning.Histories.{History}
 use Rattle.adya_values.specs.Computing.Shapes.{is_shape}
-use Rattle.adya_values.specs.Meaning.Phenomena.{HasG1, HasG2}
-use Rattle.adya_values.specs.Meaning.Serial.{Agrees}
 use Rattle.adya_values.specs.Meaning.Acceptance.{IsChecked, IsAccepted, ListsTheCommitted}
 use Rattle.adya_audit.specs.Meaning.Verdicts.{Yes, NotTheCommitted, verdict_of}
-
--- the history has neither G1 nor G2, and its committed transactions, run serially in this order, give all reads and
--- scans that it records, and its final contents
-pub record IsSerializableBy (h : History) (ts : List ℕ) : Type 0 where
-  pub no_g1 : HasG1 h → ⊥
-  pub no_g2 : HasG2 h → ⊥
-  pub agrees : Agrees h ts
+use Rattle.adya_audit.specs.Meaning.Serializable.{IsSerializableBy}
 
 -- the verdict is yes if and only if the history and the certificate are accepted
 abbrev pub YesIffAccepted : Type 0

@@ -1,6 +1,6 @@
 -- What holds of the lines of each kind.
-use Rattle.std.specs.Prelude.{◌≡◌, ◌≢◌, ◌↔◌, ℕ, List, Option, Some}
-use Rattle.std.specs.List.{All}
+use Rattle.std.specs.Prelude.{◌≡◌, ◌↔◌, ℕ, List, Option, Some}
+use Rattle.adya_line.specs.Meaning.Lines.{IsPlain}
 
 -- reading gives x exactly if x is within its limits and the line is its text
 abbrev pub IsReaderOf : {X : Type 0} → (List ℕ → Option X) → (X → Type 0) → (X → List ℕ) → Type 0
@@ -9,10 +9,6 @@ IsReaderOf {X} read Is text = (line : List ℕ) (x : X) → (read line ≡ Some 
 -- different values have different texts
 abbrev pub IsOneText : {X : Type 0} → (X → Type 0) → (X → List ℕ) → Type 0
 IsOneText {X} Is text = (x y : X) → Is x → Is y → text x ≡ text y → x ≡ y
-
--- no line feed is among the bytes
-abbrev pub IsPlain : List ℕ → Type 0
-IsPlain bytes = All (λ b. b ≢ 10) bytes
 
 -- no text of the kind has a line feed
 abbrev pub HasPlainTexts : {X : Type 0} → (X → Type 0) → (X → List ℕ) → Type 0
