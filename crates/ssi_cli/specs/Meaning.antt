@@ -1,2 +1,4 @@
 -- What the promises mean.
 pub mod Scripts
+pub mod Status
+pub mod Fault

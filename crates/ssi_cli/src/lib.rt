@@ -1,16 +1,25 @@
-//! The runs of the transaction store: over a script, and over the connections of a socket. After a run the store's
-//! history is written, and a certificate of it.
+//! What the program does, over any readers and writers: audits, searches for certificates, and runs of the transaction
+//! store over a script or over the connections of a socket; with the exit status of each, and the line that names a fault.
 //!
-//! Whatever the lines of a script are, the history records what they were answered, and the auditor says yes to both
-//! texts.
+//! After a run of the store its history is written, and a certificate of it. Whatever the lines of a script are, the
+//! history records what they were answered, and the auditor says yes to both texts.
 #![tactic(auto)]
 
+mod fault;
+mod runs;
 mod script;
 mod script_fault;
 mod socket;
+mod status;
 mod store;
 mod texts;
 
+pub use fault::Fault;
+pub use runs::{
+    CommandsFault, ServingFault, carry_out_commands, judge_stream, judge_texts, order_text,
+    serve_commands, status_of_serving,
+};
 pub use script::run_script;
 pub use script_fault::ScriptFault;
 pub use socket::{Served, run_socket, serve_socket};
+pub use status::Status;

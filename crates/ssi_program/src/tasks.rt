@@ -4,15 +4,14 @@ ghost use Rattle.std.specs.Prelude.{◌≡◌, ◌≢◌, ◌⊎◌};
 ghost use Rattle.clap.specs.Words.{kind_of};
 ghost use Rattle.clap.specs.declared.error.kind.ErrorKind.TheVariants.{DisplayHelp, DisplayVersion};
 
-use crate::fault::Fault;
 use crate::late_file::LateFile;
-use crate::runs::{
-    ServingFault, carry_out_commands, judge_stream, judge_texts, order_text, serve_commands,
-};
-use crate::status::Status;
 use clap::Error;
 use devices::Watched;
 use ssi_arguments::{NoTask, Task, given_arguments, task_of};
+use ssi_cli::{
+    Fault, ServingFault, Status, carry_out_commands, judge_stream, judge_texts, order_text,
+    serve_commands,
+};
 use std::fs::Files;
 use std::io::BufWriter;
 use std::net::Net;
@@ -32,7 +31,7 @@ pub fn run<R: Runtime + Net + AllocGlobal>(rt: &R) -> Status {
     };
     match carry_out(rt, task) {
         Ok(status) => status,
-        Err(fault) => failed(rt, fault),
+        Err(fault) => fault.report(rt),
     }
 }
 
@@ -171,7 +170,7 @@ fn without_task<R: Print + Eprint>(rt: &R, none: NoTask) -> Status
             let _ = eprintln!(rt; "ssi: the arguments are not UTF-8");
             Status::WrongArguments
         }
-        NoTask::Memory => failed(rt, Fault::Memory),
+        NoTask::Memory => Fault::Memory.report(rt),
     }
 }
 
@@ -187,14 +186,6 @@ fn printed<R: Print + Eprint>(rt: &R, text: &Error) -> Status
     }
     match done {
         Ok(()) => Status::Fine,
-        Err(_) => failed(rt, Fault::Write("stdout")),
+        Err(_) => Fault::Write("stdout").report(rt),
     }
-}
-
-// If standard error fails too, only the status shows the fault.
-fn failed<R: Eprint>(rt: &R, fault: Fault<'_>) -> Status
-    ensures { result ≡ Status.Failed }
-{
-    let _ = eprintln!(rt; "{fault}");
-    Status::Failed
 }

@@ -1,6 +1,6 @@
 use Rattle.std.proofs.Common.{◌++◌}
 use Rattle.ssi_store.specs.Mirror.Stores.{IsAt}
-use Rattle.ssi_cli.proofs.Runs.{went_on_both}
+use Rattle.ssi_cli.proofs.ScriptRuns.{went_on_both}
 use Rattle.ssi_cli.proofs.socket.serve_socket.Goals as goal
 
 pub returns-in-Stop : goal.returns-in-Stop

@@ -1,0 +1,11 @@
+use Rattle.std.proofs.Common.{◌↔◌, ℕ, List, Option, Some, None, IfSome}
+use Rattle.adya_audit.specs.Meaning.TextVerdicts.{IsAcceptedStream}
+use Rattle.ssi_cli.proofs.runs.judge_stream.Goals as goal
+
+accepted : {Said Told : Type 0} → Said ↔ Told → (a : Option (List ℕ)) → IfSome a (λ s. Told ↔ IsAcceptedStream s)
+    → IfSome a (λ s. Said ↔ IsAcceptedStream s)
+accepted told None p = p
+accepted told (Some s) p = (λ said. p.0 (told.0 said), λ are. told.1 (p.1 are))
+
+pub returns-clause-accepted : goal.returns-clause-accepted
+returns-clause-accepted g c = accepted c.of_verdict.ensures.fine _ c.in_ok-verdict.ensures.yes

@@ -1,0 +1,163 @@
+//! Runs over any readers and writers, and their exit status.
+
+ghost use Rattle.std.specs.Prelude.{◌≡◌, ◌↔◌, ◌⊎◌, true, List, ℕ, IfOk, IsOk, Ok, Err, IfSome, IsErrOf};
+ghost use Rattle.std.specs.Io.KnownBytes.{Appends};
+ghost use Rattle.devices.specs.Mirror.{has_failed, watched_remaining, watched_contents};
+ghost use Rattle.adya_audit.specs.Meaning.TextVerdicts.{IsAcceptedStream, IsSerializableStream, AreAccepted, AreSerializable};
+ghost use Rattle.adya_audit.specs.Meaning.Answers.{Answer, Certificate, IsAnswer, answer_text};
+ghost use Rattle.ssi_store.specs.Meaning.Courses.{New};
+ghost use Rattle.ssi_line.specs.Meaning.Steps.{Step, AllMayFollow, course_after};
+ghost use Rattle.ssi_cli.specs.declared.script_fault.ScriptFault.{ScriptFault};
+ghost use Rattle.ssi_cli.specs.Meaning.Scripts.{Ran, Certified, course_of};
+
+use crate::ScriptFault;
+use crate::script::run_script;
+use crate::socket::{Served, run_socket};
+use crate::status::Status;
+use adya_audit::{RunFault, run_audit, run_order, run_pipe};
+use devices::{Source, Watched};
+use ssi_line::End;
+use std::alloc::Global;
+use std::io::{Read, Write};
+use std::os::unix::net::UnixListener;
+
+/// Audits the history and the certificate that follow one another in the input, and writes the verdict.
+pub fn judge_stream<R: Read, W: Write>(
+    alloc: Global,
+    input: &mut Watched<R>,
+    out: &mut Watched<W>,
+) -> Result<Status, RunFault>
+    ensures accepted { IfOk result (λ status. IfSome (watched_remaining R.remaining input.old)
+        (λ stream. (status ≡ Status.Fine) ↔ IsAcceptedStream stream)) }
+    ensures serializable { IfOk result (λ status. IfSome (watched_remaining R.remaining input.old)
+        (λ stream. status ≡ Status.Fine → IsSerializableStream stream)) }
+    ensures read_fault { IsErrOf result RunFault.ReadHistory → has_failed input.new ≡ true }
+    ensures write_fault { IsErrOf result RunFault.Write → has_failed out.new ≡ true }
+    ensures no_other { IsErrOf result RunFault.ReadSerial → ⊥ }
+{
+    let verdict = run_pipe(alloc, input, out)?;
+    Ok(Status::of_verdict(&verdict))
+}
+
+/// Audits the history by the certificate, and writes the verdict.
+pub fn judge_texts<H: Read, C: Read, W: Write>(
+    alloc: Global,
+    history: &mut Watched<H>,
+    certificate: &mut Watched<C>,
+    out: &mut Watched<W>,
+) -> Result<Status, RunFault>
+    ensures accepted { IfOk result (λ status. IfSome (watched_remaining H.remaining history.old)
+        (λ h. IfSome (watched_remaining C.remaining certificate.old)
+        (λ c. (status ≡ Status.Fine) ↔ AreAccepted h c))) }
+    ensures serializable { IfOk result (λ status. IfSome (watched_remaining H.remaining history.old)
+        (λ h. IfSome (watched_remaining C.remaining certificate.old)
+        (λ c. status ≡ Status.Fine → AreSerializable h c))) }
+    ensures history_fault { IsErrOf result RunFault.ReadHistory → has_failed history.new ≡ true }
+    ensures certificate_fault { IsErrOf result RunFault.ReadSerial → has_failed certificate.new ≡ true }
+    ensures write_fault { IsErrOf result RunFault.Write → has_failed out.new ≡ true }
+{
+    let verdict = run_audit(alloc, history, certificate, out)?;
+    Ok(Status::of_verdict(&verdict))
+}
+
+/// Finds a certificate of the history, or a cycle, and writes it.
+pub fn order_text<H: Read, W: Write>(
+    alloc: Global,
+    history: &mut Watched<H>,
+    out: &mut Watched<W>,
+) -> Result<Status, RunFault>
+    ensures answer { IfOk result (λ status. (a : Answer)
+        × ((status ≡ Status.Fine) ↔ ((ts : List ℕ) × (a ≡ Certificate ts)))
+        × IfSome (watched_remaining H.remaining history.old) (λ text. IsAnswer text a)
+        × Appends (watched_contents W.contents out.old) (watched_contents W.contents out.new) (answer_text a)) }
+    ensures read_fault { IsErrOf result RunFault.ReadHistory → has_failed history.new ≡ true }
+    ensures write_fault { IsErrOf result RunFault.Write → has_failed out.new ≡ true }
+    ensures no_other { IsErrOf result RunFault.ReadSerial → ⊥ }
+{
+    let ordered = run_order(alloc, history, out)?;
+    Ok(Status::of_ordered(&ordered))
+}
+
+/// The first fault of a run over commands.
+#[derive(Clone, Copy, Debug, PartialEq, Eq)]
+pub enum CommandsFault {
+    /// Reading the commands failed.
+    Input,
+    /// Writing an answer failed.
+    Output,
+    /// The commands were carried out, but the history and its certificate are not both written.
+    Texts(ScriptFault),
+}
+
+/// Carries out the commands on a new store, and writes its history and a certificate. They are written also if reading or
+/// answering the commands failed. Returns the first fault.
+pub fn carry_out_commands<S: Source, W: Write, H: Write, C: Write>(
+    alloc: Global,
+    input: &mut S,
+    out: &mut Watched<W>,
+    history: &mut Watched<H>,
+    certificate: &mut Watched<C>,
+) -> Result<Status, CommandsFault>
+    ensures run { (ran : Ran W.contents (S.remaining input.old) (S.remaining input.new) out.old out.new)
+        × IfOk result (λ status. (status ≡ Status.Fine) × ((ran.end ≡ End.Eof) ⊎ (ran.end ≡ End.Stop))
+        × Certified (course_of ran) H.contents history.old history.new C.contents certificate.old certificate.new) }
+    ensures input { IsErrOf result CommandsFault.Input → S.is_failed input.new ≡ true }
+    ensures output { IsErrOf result CommandsFault.Output → has_failed out.new ≡ true }
+    ensures history { IsErrOf result (CommandsFault.Texts ScriptFault.History) → has_failed history.new ≡ true }
+    ensures certificate { IsErrOf result (CommandsFault.Texts ScriptFault.Certificate) → has_failed certificate.new ≡ true }
+{
+    match run_script(alloc, input, out, history, certificate) {
+        Ok(End::Eof) => Ok(Status::Fine),
+        Ok(End::Stop) => Ok(Status::Fine),
+        Ok(End::ReadFault) => Err(CommandsFault::Input),
+        Ok(End::WriteFault) => Err(CommandsFault::Output),
+        Err(_) if input.failed() => Err(CommandsFault::Input),
+        Err(_) if out.failed() => Err(CommandsFault::Output),
+        Err(fault) => Err(CommandsFault::Texts(fault)),
+    }
+}
+
+/// The first fault of a run over a socket.
+#[derive(Clone, Copy, Debug, PartialEq, Eq)]
+pub enum ServingFault {
+    /// The socket failed.
+    Socket,
+    /// A client ended the run, but the history and its certificate are not both written.
+    Texts(ScriptFault),
+}
+
+/// Carries out the lines of the connections on a new store, and writes its history and a certificate. They are written
+/// also if the socket has failed. Returns the first fault.
+pub fn serve_commands<H: Write, C: Write>(
+    alloc: Global,
+    listener: &UnixListener,
+    history: &mut Watched<H>,
+    certificate: &mut Watched<C>,
+) -> Result<Status, ServingFault>
+    ensures run { IfOk result (λ status. (status ≡ Status.Fine) × ((steps : List Step) × AllMayFollow (New 1) steps
+        × Certified (course_after (New 1) steps) H.contents history.old history.new
+        C.contents certificate.old certificate.new)) }
+    ensures history { IsErrOf result (ServingFault.Texts ScriptFault.History) → has_failed history.new ≡ true }
+    ensures certificate { IsErrOf result (ServingFault.Texts ScriptFault.Certificate) → has_failed certificate.new ≡ true }
+{
+    let (served, written) = run_socket(alloc, listener, history, certificate);
+    status_of_serving(served, written)
+}
+
+/// Returns the status of a run over a socket, by how it ended and whether both texts are written: `Fine` if and only if a
+/// client ended it and they are; otherwise the first fault.
+pub fn status_of_serving(
+    served: Served,
+    written: Result<(), ScriptFault>,
+) -> Result<Status, ServingFault>
+    ensures fine { (result ≡ Ok Status.Fine) ↔ ((served ≡ Served.Stopped) × IsOk written) }
+    ensures no_other { IfOk result (λ status. status ≡ Status.Fine) }
+    ensures socket { IsErrOf result ServingFault.Socket ↔ (served ≡ Served.SocketFault) }
+    ensures texts { (fault : ScriptFault) → IsErrOf result (ServingFault.Texts fault) → written ≡ Err fault }
+{
+    match (served, written) {
+        (Served::SocketFault, _) => Err(ServingFault::Socket),
+        (Served::Stopped, Err(fault)) => Err(ServingFault::Texts(fault)),
+        (Served::Stopped, Ok(())) => Ok(Status::Fine),
+    }
+}

@@ -1,5 +1,0 @@
-use Rattle.std.proofs.Common.{rules}
-use Rattle.ssi_program.proofs.runs.status_of_serving.Goals as goal
-
-pub returns-in-SocketFault-default-clause-fine : goal.returns-in-SocketFault-default-clause-fine
-returns-in-SocketFault-default-clause-fine c = search rules

@@ -1,3 +1,0 @@
--- What the promises mean.
-pub mod Status
-pub mod Fault
