@@ -1,7 +1,7 @@
 //! Abort, and the ends of transactions by an abort.
 
 use crate::engine::Engine;
-use crate::sessions::remove;
+use crate::sessions::{open_of, remove};
 use crate::{Refusal, Reply, Session};
 use adya_values::{Event, Txn};
 use ssi_reads::Marks;
@@ -17,9 +17,7 @@ impl<C: Chains + Drop, M: Marks + Drop> Engine<C, M> {
     pub(crate) fn abort(&mut self, session: Session) -> Result<Reply, Refusal>
         ensures stands { (c : Course) → IsAt C.held M.marked self.old c → IsAt C.held M.marked self.new (Then c (Do.Abort session) (answer_of result)) }
     {
-        let Some(open) = self.sessions.get(&session) else {
-            return Err(Refusal::Idle);
-        };
+        let open = open_of(&self.sessions, session)?;
         let txn = open.view.txn();
         self.drop_txn(session, txn);
         Ok(Reply::Aborted)

@@ -23,18 +23,10 @@ impl<C: Chains + Drop, M: Marks + Drop> Engine<C, M> {
         let Ok(txn) = Txn::new(self.next) else {
             return Err(Refusal::Spent);
         };
-        let Ok(()) = self.sessions.reserve(1) else {
-            return Err(Refusal::Memory);
-        };
-        let Ok(()) = self.roster.room() else {
-            return Err(Refusal::Memory);
-        };
-        let Ok(()) = self.recorder.open() else {
-            return Err(Refusal::Memory);
-        };
-        let Ok(()) = self.tracker.on_begin(txn, self.commits) else {
-            return Err(Refusal::Memory);
-        };
+        self.sessions.reserve(1)?;
+        self.roster.room()?;
+        self.recorder.open()?;
+        self.tracker.on_begin(txn, self.commits)?;
         add(
             &mut self.sessions,
             session,

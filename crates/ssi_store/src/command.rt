@@ -1,7 +1,11 @@
 //! Commands, replies and refusals.
 
+ghost use Rattle.std.specs.Prelude.{◌≡◌};
+ghost use Rattle.ssi_store.specs.declared.command.Refusal.TheVariants.{Memory};
+
 use crate::Session;
 use adya_values::{FinalPair, Key, Txn, Value};
+use std::alloc::AllocError;
 use std::num::NonZeroU16;
 
 /// What a session, or an operator, asks of a store.
@@ -114,4 +118,12 @@ pub enum Refusal {
     Spent,
     /// Memory ran out.
     Memory,
+}
+
+impl From<AllocError> for Refusal {
+    ghost from_gives = { λ _ r. r ≡ Memory };
+
+    fn from(_: AllocError) -> Refusal {
+        Refusal::Memory
+    }
 }

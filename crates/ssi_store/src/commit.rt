@@ -6,7 +6,7 @@ ghost use Rattle.ssi_store.specs.Machinery.Overtaken.{written_key};
 use crate::below::laws_below;
 use crate::engine::Engine;
 use crate::overtaken::least_overtaken;
-use crate::sessions::remove;
+use crate::sessions::{open_of, remove};
 use crate::{Refusal, Reply, Session};
 use adya_values::{Content, Event, Key, Version};
 use ssi_conflict::Answer;
@@ -24,9 +24,7 @@ impl<C: Chains + Drop, M: Marks + Drop> Engine<C, M> {
         ensures stands { (c : Course) → IsAt C.held M.marked self.old c → IsAt C.held M.marked self.new (Then c (Do.Commit session) (answer_of result)) }
     {
         laws_below();
-        let Some(open) = self.sessions.get(&session) else {
-            return Err(Refusal::Idle);
-        };
+        let open = open_of(&self.sessions, session)?;
         let txn = open.view.txn();
         let writes = open.view.writes();
         if let Some(least) = least_overtaken(&self.chains, open.view.snapshot(), writes) {
@@ -36,20 +34,14 @@ impl<C: Chains + Drop, M: Marks + Drop> Engine<C, M> {
                 writer: least.writer,
             });
         }
-        let Ok(listed) = keys_in(self.alloc, writes) else {
-            return Err(Refusal::Memory);
-        };
+        let listed = keys_in(self.alloc, writes)?;
         let keys = listed.as_slice();
-        let Ok(answer) = self.tracker.judge(txn, keys) else {
-            return Err(Refusal::Memory);
-        };
+        let answer = self.tracker.judge(txn, keys)?;
         if let Answer::Unsafe { pivot } = answer {
             self.drop_txn(session, txn);
             return Ok(Reply::Unsafe { pivot });
         }
-        let Ok(()) = self.chains.install(self.commits + 1, writes) else {
-            return Err(Refusal::Memory);
-        };
+        self.chains.install(self.commits + 1, writes)?;
         self.tracker.on_commit(txn, self.commits + 1, keys);
         let _there = remove(&mut self.sessions, session);
         self.roster.end(txn);

@@ -10,7 +10,7 @@ ghost use Rattle.ssi_store.specs.Meaning.Replies.{got};
 
 use crate::below::laws_below;
 use crate::engine::Engine;
-use crate::open::MAX_OPERATIONS;
+use crate::sessions::open_of;
 use crate::{Refusal, Reply, Session};
 use adya_values::{Content, Event, Key};
 use ssi_reads::Marks;
@@ -29,17 +29,11 @@ impl<C: Chains + Drop, M: Marks + Drop> Engine<C, M> {
         ensures stands { (c : Course) → IsAt C.held M.marked self.old c → IsAt C.held M.marked self.new (Then c (Do.Get session key) (answer_of result)) }
     {
         laws_below();
-        let Some(open) = self.sessions.get(&session) else {
-            return Err(Refusal::Idle);
-        };
-        if open.operations >= MAX_OPERATIONS {
-            return Err(Refusal::Long);
-        }
+        let open = open_of(&self.sessions, session)?;
+        open.may_go_on()?;
         let txn = open.view.txn();
         let owns = open.view.owns(key);
-        let Ok((event, reply)) = look_up(self.alloc, &open.view, &self.chains, key) else {
-            return Err(Refusal::Memory);
-        };
+        let (event, reply) = look_up(self.alloc, &open.view, &self.chains, key)?;
         if owns {
             return self.show_own(session, event, reply);
         }

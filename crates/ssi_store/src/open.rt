@@ -1,16 +1,18 @@
 //! The open transaction of a session.
 
-ghost use Rattle.std.specs.Prelude.{◌≡◌, ◌≤◌, ◌<◌, [], suc, OnOk, OnErr, IfOk};
+ghost use Rattle.std.specs.Prelude.{◌≡◌, ◌≤◌, ◌<◌, [], suc, OnOk, OnErr, IfOk, IfErr};
 ghost use Rattle.adya_values.specs.Meaning.Histories.{content_of};
 ghost use Rattle.ssi_snapshot.specs.Mirror.{count_of, txn_of, snapshot_of, written};
 ghost use Rattle.ssi_snapshot.specs.Meaning.Writes.{next_mod, next_write, put_write};
+ghost use Rattle.ssi_store.specs.declared.command.Refusal.TheVariants.{Long};
 
+use crate::Refusal;
 use adya_values::{Content, Key, Mod, Txn};
 use ssi_snapshot::View;
 use std::alloc::{AllocError, Global};
 
 /// How many operations a transaction may carry out, so that each of its writes of a key has a number.
-pub(crate) const MAX_OPERATIONS: u16 = 65_535;
+const MAX_OPERATIONS: u16 = 65_535;
 
 /// What a transaction sees, and how many operations it has carried out.
 #[derive(Drop)]
@@ -33,6 +35,17 @@ impl Open {
             view: View::new(alloc, txn, snapshot),
             operations: 0,
         }
+    }
+
+    /// Returns `Long` if the transaction has carried out all operations that it may.
+    pub fn may_go_on(&self) -> Result<(), Refusal>
+        ensures short { OnOk result (self.now.operations < 65535) }
+        ensures long { IfErr result (λ r. (r ≡ Long) × (65535 ≤ self.now.operations)) }
+    {
+        if self.operations >= MAX_OPERATIONS {
+            return Err(Refusal::Long);
+        }
+        Ok(())
     }
 
     /// Writes the key, and returns the number of the write. As before if memory runs out.

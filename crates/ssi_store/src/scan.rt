@@ -8,7 +8,7 @@ ghost use Rattle.ssi_snapshot.specs.Meaning.Listings.{reached};
 
 use crate::below::laws_below;
 use crate::engine::Engine;
-use crate::open::MAX_OPERATIONS;
+use crate::sessions::open_of;
 use crate::{Refusal, Reply, Session};
 use adya_values::{Content, Entry, Event, FinalPair, Key};
 use ssi_reads::Marks;
@@ -26,22 +26,14 @@ impl<C: Chains + Drop, M: Marks + Drop> Engine<C, M> {
         ensures stands { (c : Course) → IsAt C.held M.marked self.old c → IsAt C.held M.marked self.new (Then c (Do.Scan session low high) (answer_of result)) }
     {
         laws_below();
-        let Some(open) = self.sessions.get(&session) else {
-            return Err(Refusal::Idle);
-        };
+        let open = open_of(&self.sessions, session)?;
         if high < low {
             return Err(Refusal::Range);
         }
-        if open.operations >= MAX_OPERATIONS {
-            return Err(Refusal::Long);
-        }
+        open.may_go_on()?;
         let txn = open.view.txn();
-        let Ok(entries) = open.view.scan(&self.chains, low, high) else {
-            return Err(Refusal::Memory);
-        };
-        let Ok(rows) = rows_of(self.alloc, entries.as_slice()) else {
-            return Err(Refusal::Memory);
-        };
+        let entries = open.view.scan(&self.chains, low, high)?;
+        let rows = rows_of(self.alloc, entries.as_slice())?;
         let event = Event::Scan {
             txn,
             low,
@@ -64,22 +56,14 @@ impl<C: Chains + Drop, M: Marks + Drop> Engine<C, M> {
     {
         laws_below();
         let n = limit.get();
-        let Some(open) = self.sessions.get(&session) else {
-            return Err(Refusal::Idle);
-        };
+        let open = open_of(&self.sessions, session)?;
         if high < low {
             return Err(Refusal::Range);
         }
-        if open.operations >= MAX_OPERATIONS {
-            return Err(Refusal::Long);
-        }
+        open.may_go_on()?;
         let txn = open.view.txn();
-        let Ok(entries) = open.view.scan_first(&self.chains, low, high, n) else {
-            return Err(Refusal::Memory);
-        };
-        let Ok(rows) = rows_of(self.alloc, entries.as_slice()) else {
-            return Err(Refusal::Memory);
-        };
+        let entries = open.view.scan_first(&self.chains, low, high, n)?;
+        let rows = rows_of(self.alloc, entries.as_slice())?;
         let last = reached(high, n, rows.as_slice());
         let event = Event::Scan {
             txn,

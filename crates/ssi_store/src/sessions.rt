@@ -1,13 +1,28 @@
 //! The open transactions of the sessions.
 
-ghost use Rattle.std.specs.Prelude.{◌≡◌, ◌<◌, ◌≤◌, ◌+◌, List, ℕ, None, cond, is_some, if◌then◌else◌, IfSome};
+ghost use Rattle.std.specs.Prelude.{◌≡◌, ◌<◌, ◌≤◌, ◌+◌, List, ℕ, Some, None, cond, is_some, if◌then◌else◌, IfSome, IfOk, IfErr};
 ghost use Rattle.indexmap.specs.IndexMap.{index_map_len, spare};
 ghost use Rattle.adya_values.specs.Meaning.Keys.{key_eq};
 ghost use Rattle.ssi_store.specs.Machinery.Opens.{open_at, AreCounted, IsReplaced};
+ghost use Rattle.ssi_store.specs.declared.command.Refusal.TheVariants.{Idle};
 
-use crate::Session;
 use crate::open::Open;
+use crate::{Refusal, Session};
 use indexmap::IndexMap;
+
+/// Returns the session's transaction. `Idle` if it has none.
+pub(crate) fn open_of(
+    sessions: &IndexMap<Session, Open>,
+    session: Session,
+) -> Result<&Open, Refusal>
+    ensures open { IfOk result (λ o. open_at session sessions.now.entries ≡ Some o.now) }
+    ensures idle { IfErr result (λ r. (r ≡ Idle) × (open_at session sessions.now.entries ≡ None)) }
+{
+    match sessions.get(&session) {
+        Some(open) => Ok(open),
+        None => Err(Refusal::Idle),
+    }
+}
 
 /// Counts one more operation of the session's transaction.
 pub(crate) fn count_at(sessions: &mut IndexMap<Session, Open>, session: Session)

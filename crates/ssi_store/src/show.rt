@@ -38,12 +38,8 @@ impl<C: Chains + Drop, M: Marks + Drop> Engine<C, M> {
             → IsAt C.held M.marked self.new (Then c m (answer_of result)) }
     {
         laws_below();
-        let Ok(()) = self.recorder.room() else {
-            return Err(Refusal::Memory);
-        };
-        let Ok(answer) = self.tracker.on_read(txn, low, high) else {
-            return Err(Refusal::Memory);
-        };
+        self.recorder.room()?;
+        let answer = self.tracker.on_read(txn, low, high)?;
         if let Answer::Unsafe { pivot } = answer {
             self.drop_txn(session, txn);
             return Ok(Reply::Unsafe { pivot });
@@ -67,9 +63,7 @@ impl<C: Chains + Drop, M: Marks + Drop> Engine<C, M> {
             → IsAt C.held M.marked self.new (Then c m (answer_of result)) }
     {
         laws_below();
-        let Ok(()) = self.recorder.room() else {
-            return Err(Refusal::Memory);
-        };
+        self.recorder.room()?;
         self.recorder.event(event);
         count_at(&mut self.sessions, session);
         Ok(reply)

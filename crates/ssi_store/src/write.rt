@@ -6,7 +6,6 @@ ghost use Rattle.ssi_store.specs.Meaning.Recording.{write_event as recorded_writ
 
 use crate::below::laws_below;
 use crate::engine::Engine;
-use crate::open::MAX_OPERATIONS;
 use crate::{Refusal, Reply, Session};
 use adya_values::{Content, Event, Key, Mod, Txn};
 use ssi_reads::Marks;
@@ -30,15 +29,9 @@ impl<C: Chains + Drop, M: Marks + Drop> Engine<C, M> {
         let Some(open) = self.sessions.get_mut(&session) else {
             return Err(Refusal::Idle);
         };
-        if open.operations >= MAX_OPERATIONS {
-            return Err(Refusal::Long);
-        }
-        let Ok(()) = self.recorder.room() else {
-            return Err(Refusal::Memory);
-        };
-        let Ok(m) = open.write(key, content) else {
-            return Err(Refusal::Memory);
-        };
+        open.may_go_on()?;
+        self.recorder.room()?;
+        let m = open.write(key, content)?;
         let txn = open.view.txn();
         self.recorder.event(write_event(txn, key, m, content));
         Ok(Reply::Done)

@@ -1,4 +1,5 @@
-use Rattle.std.proofs.Common.{rules, refl, ap, sym, subst, ◌+◌, ◌∙◌, ◌∷◌, map, Some, None}
+use Rattle.std.proofs.Common.{refl, ap, subst, ◌+◌, ◌∙◌, ◌∷◌, map, Some, None}
+use Rattle.std.proofs.lemmas.Result.{err_from_is_err_and}
 use Rattle.ssi_versions.specs.Mirror.{write_of}
 use Rattle.ssi_snapshot.specs.Meaning.Listings.{keys}
 use Rattle.ssi_conflict.specs.Meaning.Calls.{Commits as Ends}
@@ -14,38 +15,42 @@ use Rattle.ssi_store.proofs.RisingOpens.{below_without}
 use Rattle.ssi_store.proofs.Steps.{same_course}
 use Rattle.ssi_store.proofs.engine.Engine.commit.Goals as goal
 
-pub returns-in_default : goal.returns-in_default
-returns-in_default g c = record { stands = λ course st. commit_idle st c.args.session (Prim.search rules) }
-
-pub returns-in-Some-least_overtaken : goal.returns-in-Some-least_overtaken
-returns-in-Some-least_overtaken g c = record {
+pub returns-in_err-open : goal.returns-in_err-open
+returns-in_err-open g c = record {
   stands = λ course st.
-      let at = sym c.in-Some.ensures.value in
-      let o = c.in-Some.open.now in
-      c.drop_txn.ensures.stands course (Commit c.args.session) (Conflict c.in-Some-least_overtaken.least.key
-      c.in-Some-least_overtaken.least.writer) st
-      (conflict_ends st c.args.session o at c.laws_below.ensures c.txn-txn.result c.in-Some-least_overtaken.least.key
-      c.in-Some-least_overtaken.least.writer c.txn-txn.ensures
+      let p = err_from_is_err_and c.from_residual.result c.from_residual.ensures.1 in
+      rw (p.1, p.2, c.in_err-open.ensures.idle.0) (commit_idle st c.args.session c.in_err-open.ensures.idle.1);
+}
+
+pub returns-in-Some : goal.returns-in-Some
+returns-in-Some g c = record {
+  stands = λ course st.
+      let at = c.in_ok-open.ensures.open in
+      let o = c.in_ok-open.open.now in
+      c.drop_txn.ensures.stands course (Commit c.args.session) (Conflict c.in-Some.least.key
+      c.in-Some.least.writer) st
+      (conflict_ends st c.args.session o at c.laws_below.ensures c.txn-txn.result c.in-Some.least.key
+      c.in-Some.least.writer c.txn-txn.ensures
       (found_conflict st c.args.session o at c.laws_below.ensures c.snapshot.result (map write_of c.writes-writes.result.now)
-      (Some c.in-Some-least_overtaken.least.key) c.snapshot.ensures c.writes-writes.ensures.all
-      c.in-Some-least_overtaken.ensures.least)
-      c.in-Some-least_overtaken.ensures.writer);
+      (Some c.in-Some.least.key) c.snapshot.ensures c.writes-writes.ensures.all
+      c.in-Some.ensures.least)
+      c.in-Some.ensures.writer);
 }
 
 pub invariant_of-self-2-clause-above : goal.invariant_of-self-2-clause-above
 invariant_of-self-2-clause-above g c =
     above_installed (c.args.self.now.commits + 1) _ _ (map write_of c.writes-writes.result.now) c.args.self.now.above
-    c.in-Ok-install.ensures.added
+    c.in_ok-install.ensures.added
 
 pub returns-in-Unsafe : goal.returns-in-Unsafe
 returns-in-Unsafe g c = record {
   stands = λ course st.
-      let at = sym c.in-Some.ensures.value in
-      let o = c.in-Some.open.now in
+      let at = c.in_ok-open.ensures.open in
+      let o = c.in_ok-open.open.now in
       let free = found_conflict st c.args.session o at c.laws_below.ensures c.snapshot.result
       (map write_of c.writes-writes.result.now) None c.snapshot.ensures c.writes-writes.ensures.all
-      c.in_default-least_overtaken.ensures.least in
-      let keys_are = c.as_slice-keys.ensures.value ∙ c.in-Ok.ensures ∙ written_keys c.writes-writes.result.now
+      c.in_default.ensures.least in
+      let keys_are = c.as_slice-keys.ensures.value ∙ c.in_ok-listed.ensures ∙ written_keys c.writes-writes.result.now
       ∙ ap keys c.writes-writes.ensures.all in
       let may = may_commit st c.args.session o at c.laws_below.ensures free c.txn-txn.result c.as_slice-keys.result.now
       c.txn-txn.ensures keys_are in
@@ -62,30 +67,30 @@ returns-in-Unsafe g c = record {
       keys_are c.in-Unsafe.pivot
       (subst (λ a. IsSmallest IsOrderedPivot
       (Ends c.txn-txn.result (c.args.self.now.commits + 1) c.as_slice-keys.result.now ∷ tracked (acts course)) (pivot_of a))
-      c.in-Unsafe.is (c.in-Ok-judge.ensures.answer (tracked (acts course)) (c.args.self.now.commits + 1) st.log.tracker may)));
+      c.in-Unsafe.is (c.in_ok-answer.ensures.answer (tracked (acts course)) (c.args.self.now.commits + 1) st.log.tracker may)));
 }
 
 pub returns : goal.returns
 returns g c = record {
   stands = λ course st.
-      let at = sym c.in-Some.ensures.value in
-      let o = c.in-Some.open.now in
+      let at = c.in_ok-open.ensures.open in
+      let o = c.in_ok-open.open.now in
       let free = found_conflict st c.args.session o at c.laws_below.ensures c.snapshot.result
       (map write_of c.writes-writes.result.now) None c.snapshot.ensures c.writes-writes.ensures.all
-      c.in_default-least_overtaken.ensures.least in
-      let keys_are = c.as_slice-keys.ensures.value ∙ c.in-Ok.ensures ∙ written_keys c.writes-writes.result.now
+      c.in_default.ensures.least in
+      let keys_are = c.as_slice-keys.ensures.value ∙ c.in_ok-listed.ensures ∙ written_keys c.writes-writes.result.now
       ∙ ap keys c.writes-writes.ensures.all in
       let may = may_commit st c.args.session o at c.laws_below.ensures free c.txn-txn.result c.as_slice-keys.result.now
       c.txn-txn.ensures keys_are in
-      let safe = safe_of c.in-Ok-judge.answer c.in_default-answer.not-Unsafe in
+      let safe = safe_of c.in_ok-answer.answer c.in_default-answer.not-Unsafe in
       committed st c.args.session o at c.laws_below.ensures free c.txn-txn.result c.as_slice-keys.result.now c.txn-txn.ensures
       keys_are _ _ _ _ _ _ (map write_of c.writes-writes.result.now)
       (subst (λ a. IsSmallest IsOrderedPivot
       (Ends c.txn-txn.result (c.args.self.now.commits + 1) c.as_slice-keys.result.now ∷ tracked (acts course)) (pivot_of a))
-      safe (c.in-Ok-judge.ensures.answer (tracked (acts course)) (c.args.self.now.commits + 1) st.log.tracker may))
-      c.writes-writes.ensures.all c.in-Ok-install.ensures.added
+      safe (c.in_ok-answer.ensures.answer (tracked (acts course)) (c.args.self.now.commits + 1) st.log.tracker may))
+      c.writes-writes.ensures.all c.in_ok-install.ensures.added
       (c.on_commit.ensures (tracked (acts course)) (c.judge.ensures.stands (tracked (acts course)) st.log.tracker) may
-      (c.in-Ok-judge.ensures.ready safe))
+      (c.in_ok-answer.ensures.ready safe))
       c.end-2.ensures.events c.end.ensures.opened c.end.ensures.began c.remove-there.ensures.gone;
 }
 
@@ -93,23 +98,26 @@ pub invariant_of-self-2-clause-early : goal.invariant_of-self-2-clause-early
 invariant_of-self-2-clause-early g c =
     below_without _ _ c.txn-txn.result c.args.self.now.next c.args.self.now.roster.rising c.args.self.now.early c.end.ensures.opened
 
-pub returns-in_default-keys_in : goal.returns-in_default-keys_in
-returns-in_default-keys_in g c = record {
+pub returns-in_err-listed : goal.returns-in_err-listed
+returns-in_err-listed g c = record {
   stands = λ course st.
-      commit_memory st c.args.session c.in-Some.open.now (sym c.in-Some.ensures.value) _ _
-      refl st.log.tracker;
+      let p = err_from_is_err_and c.from_residual-in_err-listed.result c.from_residual-in_err-listed.ensures.1 in
+      rw (p.1, p.2) (commit_memory st c.args.session c.in_ok-open.open.now (c.in_ok-open.ensures.open) _ _
+      refl st.log.tracker);
 }
 
-pub returns-in_default-judge : goal.returns-in_default-judge
-returns-in_default-judge g c = record {
+pub returns-in_err-answer : goal.returns-in_err-answer
+returns-in_err-answer g c = record {
   stands = λ course st.
-      commit_memory st c.args.session c.in-Some.open.now (sym c.in-Some.ensures.value) _ _
-      refl (c.judge.ensures.stands (tracked (acts course)) st.log.tracker);
+      let p = err_from_is_err_and c.from_residual-in_err-answer.result c.from_residual-in_err-answer.ensures.1 in
+      rw (p.1, p.2) (commit_memory st c.args.session c.in_ok-open.open.now (c.in_ok-open.ensures.open) _ _
+      refl (c.judge.ensures.stands (tracked (acts course)) st.log.tracker));
 }
 
-pub returns-in_default-install : goal.returns-in_default-install
-returns-in_default-install g c = record {
+pub returns-in_err-install : goal.returns-in_err-install
+returns-in_err-install g c = record {
   stands = λ course st.
-      commit_memory st c.args.session c.in-Some.open.now (sym c.in-Some.ensures.value) _ _
-      c.in_default-install.ensures.err (c.judge.ensures.stands (tracked (acts course)) st.log.tracker);
+      let p = err_from_is_err_and c.from_residual-in_err-install.result c.from_residual-in_err-install.ensures.1 in
+      rw (p.1, p.2) (commit_memory st c.args.session c.in_ok-open.open.now (c.in_ok-open.ensures.open) _ _
+      c.in_err-install.ensures.err (c.judge.ensures.stands (tracked (acts course)) st.log.tracker));
 }

@@ -1,4 +1,5 @@
-use Rattle.std.proofs.Common.{rules, arith, ap, subst, sym, ◌<◌, ◌∙◌, map}
+use Rattle.std.proofs.Common.{rules, ap, subst, ◌<◌, ◌∙◌, map}
+use Rattle.std.proofs.lemmas.Result.{err_from_is_err_and}
 use Rattle.std.specs.Int.NonZero.{non_zero_u16_get}
 use Rattle.adya_values.specs.Meaning.Histories.{entry_of, final_of}
 use Rattle.adya_values.specs.Meaning.Serial.{visible_pairs}
@@ -8,11 +9,12 @@ use Rattle.adya_values.proofs.KeyOrder.{key_le-from_not}
 use Rattle.ssi_store.proofs.LimitedScans.{first_idle, first_range, first_long, first_memory, first_is}
 use Rattle.ssi_store.proofs.engine.Engine.scan_first.Goals as goal
 
-pub returns-in_default : goal.returns-in_default
-returns-in_default g c = record {
+pub returns-in_err-open : goal.returns-in_err-open
+returns-in_err-open g c = record {
   stands = λ course st.
-      first_idle st c.args.session c.args.low c.args.high (non_zero_u16_get c.args.limit)
-      (subst (λ x. 0 < x) c.get-n.ensures.value c.get-n.ensures.nonzero) (Prim.search rules);
+      let p = err_from_is_err_and c.from_residual.result c.from_residual.ensures.1 in
+      rw (p.1, p.2, c.in_err-open.ensures.idle.0) (first_idle st c.args.session c.args.low c.args.high (non_zero_u16_get c.args.limit)
+      (subst (λ x. 0 < x) c.get-n.ensures.value c.get-n.ensures.nonzero) c.in_err-open.ensures.idle.1);
 }
 
 pub scan_first-requires-clause-range : goal.scan_first-requires-clause-range
@@ -24,43 +26,46 @@ returns g c = record {
       let n = non_zero_u16_get c.args.limit in
       let same = c.get-n.ensures.value in
       c.show.ensures.stands course (ScanFirst c.args.session c.args.low c.args.high n) st
-      (first_is st c.args.session c.args.low c.args.high n (subst (λ x. 0 < x) same c.get-n.ensures.nonzero) c.in-Some.open.now
-      (sym c.in-Some.ensures.value) (Prim.search rules) (omega arith) c.laws_below.ensures c.txn-txn.result c.reached-last.result
-      (map entry_of c.in-Ok.entries.items) (map final_of c.in-Ok-rows_of.rows.items) c.txn-txn.ensures
-      (c.in-Ok.ensures.0, c.in-Ok.ensures.1, c.in-Ok.ensures.2 ∙ ap (λ x. up_to x c.in-Ok.ensures.0) same)
-      (c.in-Ok-rows_of.ensures ∙ ap (λ ws. visible_pairs (map entry_of ws)) c.as_slice.ensures.value)
+      (first_is st c.args.session c.args.low c.args.high n (subst (λ x. 0 < x) same c.get-n.ensures.nonzero) c.in_ok-open.open.now
+      (c.in_ok-open.ensures.open) (Prim.search rules) c.in_ok-may_go_on.ensures.short c.laws_below.ensures c.txn-txn.result c.reached-last.result
+      (map entry_of c.in_ok-entries.entries.items) (map final_of c.in_ok-rows.rows.items) c.txn-txn.ensures
+      (c.in_ok-entries.ensures.0, c.in_ok-entries.ensures.1, c.in_ok-entries.ensures.2 ∙ ap (λ x. up_to x c.in_ok-entries.ensures.0) same)
+      (c.in_ok-rows.ensures ∙ ap (λ ws. visible_pairs (map entry_of ws)) c.as_slice.ensures.value)
       (c.reached-last.ensures ∙ ap (λ rs. reached c.args.high c.get-n.result (map final_of rs)) c.as_slice-2.ensures.value
-      ∙ ap (λ x. reached c.args.high x (map final_of c.in-Ok-rows_of.rows.items)) same));
+      ∙ ap (λ x. reached c.args.high x (map final_of c.in_ok-rows.rows.items)) same));
 }
 
 pub returns-then-lt : goal.returns-then-lt
 returns-then-lt g c = record {
   stands = λ course st.
       first_range st c.args.session c.args.low c.args.high (non_zero_u16_get c.args.limit)
-      (subst (λ x. 0 < x) c.get-n.ensures.value c.get-n.ensures.nonzero) c.in-Some.open.now (sym c.in-Some.ensures.value)
+      (subst (λ x. 0 < x) c.get-n.ensures.value c.get-n.ensures.nonzero) c.in_ok-open.open.now (c.in_ok-open.ensures.open)
       (Prim.search rules);
 }
 
-pub returns-then-open-ge-MAX_OPERATIONS : goal.returns-then-open-ge-MAX_OPERATIONS
-returns-then-open-ge-MAX_OPERATIONS g c = record {
+pub returns-in_err-may_go_on : goal.returns-in_err-may_go_on
+returns-in_err-may_go_on g c = record {
   stands = λ course st.
-      first_long st c.args.session c.args.low c.args.high (non_zero_u16_get c.args.limit)
-      (subst (λ x. 0 < x) c.get-n.ensures.value c.get-n.ensures.nonzero) c.in-Some.open.now (sym c.in-Some.ensures.value)
-      (Prim.search rules) (omega arith);
+      let p = err_from_is_err_and c.from_residual-in_err-may_go_on.result c.from_residual-in_err-may_go_on.ensures.1 in
+      rw (p.1, p.2, c.in_err-may_go_on.ensures.long.0) (first_long st c.args.session c.args.low c.args.high (non_zero_u16_get c.args.limit)
+      (subst (λ x. 0 < x) c.get-n.ensures.value c.get-n.ensures.nonzero) c.in_ok-open.open.now (c.in_ok-open.ensures.open)
+      (Prim.search rules) c.in_err-may_go_on.ensures.long.1);
 }
 
-pub returns-in_default-scan_first : goal.returns-in_default-scan_first
-returns-in_default-scan_first g c = record {
+pub returns-in_err-entries : goal.returns-in_err-entries
+returns-in_err-entries g c = record {
   stands = λ course st.
-      first_memory st c.args.session c.args.low c.args.high (non_zero_u16_get c.args.limit)
-      (subst (λ x. 0 < x) c.get-n.ensures.value c.get-n.ensures.nonzero) c.in-Some.open.now (sym c.in-Some.ensures.value)
-      (Prim.search rules) (omega arith);
+      let p = err_from_is_err_and c.from_residual-in_err-entries.result c.from_residual-in_err-entries.ensures.1 in
+      rw (p.1, p.2) (first_memory st c.args.session c.args.low c.args.high (non_zero_u16_get c.args.limit)
+      (subst (λ x. 0 < x) c.get-n.ensures.value c.get-n.ensures.nonzero) c.in_ok-open.open.now (c.in_ok-open.ensures.open)
+      (Prim.search rules) c.in_ok-may_go_on.ensures.short);
 }
 
-pub returns-in_default-rows_of : goal.returns-in_default-rows_of
-returns-in_default-rows_of g c = record {
+pub returns-in_err-rows : goal.returns-in_err-rows
+returns-in_err-rows g c = record {
   stands = λ course st.
-      first_memory st c.args.session c.args.low c.args.high (non_zero_u16_get c.args.limit)
-      (subst (λ x. 0 < x) c.get-n.ensures.value c.get-n.ensures.nonzero) c.in-Some.open.now (sym c.in-Some.ensures.value)
-      (Prim.search rules) (omega arith);
+      let p = err_from_is_err_and c.from_residual-in_err-rows.result c.from_residual-in_err-rows.ensures.1 in
+      rw (p.1, p.2) (first_memory st c.args.session c.args.low c.args.high (non_zero_u16_get c.args.limit)
+      (subst (λ x. 0 < x) c.get-n.ensures.value c.get-n.ensures.nonzero) c.in_ok-open.open.now (c.in_ok-open.ensures.open)
+      (Prim.search rules) c.in_ok-may_go_on.ensures.short);
 }

@@ -1,4 +1,5 @@
 use Rattle.std.proofs.Common.{ap, subst, ◌∙◌, ◌++◌, ◌∷◌, [], Ok}
+use Rattle.std.proofs.lemmas.Result.{err_from_is_err_and}
 use Rattle.adya_values.specs.Meaning.Histories.{event_of}
 use Rattle.ssi_conflict.specs.Meaning.Calls.{Reads}
 use Rattle.ssi_conflict.specs.Meaning.Pairs.{IsOrderedPivot, IsSmallest}
@@ -11,21 +12,23 @@ use Rattle.ssi_store.proofs.Looks.{safe_of, may_look, look_memory, look_ends, lo
 use Rattle.ssi_store.proofs.Steps.{same_course}
 use Rattle.ssi_store.proofs.engine.Engine.show.Goals as goal
 
-pub returns-in_default : goal.returns-in_default
-returns-in_default g c = record {
+pub returns-in_err-room : goal.returns-in_err-room
+returns-in_err-room g c = record {
   stands = λ course m st is.
-      look_memory st c.args.session c.args.txn (Reads c.args.txn c.args.low c.args.high ∷ []) (event_of c.args.event)
-      (reply_of c.args.reply) m is _ _ st.log.tracker c.room.ensures.same.0;
+      let p = err_from_is_err_and c.from_residual.result c.from_residual.ensures.1 in
+      rw (p.1, p.2) (look_memory st c.args.session c.args.txn (Reads c.args.txn c.args.low c.args.high ∷ []) (event_of c.args.event)
+      (reply_of c.args.reply) m is _ _ st.log.tracker c.room.ensures.same.0);
 }
 
-pub returns-in_default-on_read : goal.returns-in_default-on_read
-returns-in_default-on_read g c = record {
+pub returns-in_err-answer : goal.returns-in_err-answer
+returns-in_err-answer g c = record {
   stands = λ course m st is.
-      look_memory st c.args.session c.args.txn (Reads c.args.txn c.args.low c.args.high ∷ []) (event_of c.args.event)
+      let p = err_from_is_err_and c.from_residual-in_err-answer.result c.from_residual-in_err-answer.ensures.1 in
+      rw (p.1, p.2) (look_memory st c.args.session c.args.txn (Reads c.args.txn c.args.low c.args.high ∷ []) (event_of c.args.event)
       (reply_of c.args.reply) m is _ _
-      (c.in_default-on_read.ensures.stands (tracked (acts course)) st.log.tracker
+      (c.in_err-answer.ensures.stands (tracked (acts course)) st.log.tracker
       (may_look st c.args.session c.args.txn c.args.low c.args.high (event_of c.args.event) (reply_of c.args.reply) m is))
-      c.room.ensures.same.0;
+      c.room.ensures.same.0);
 }
 
 pub returns-in-Unsafe : goal.returns-in-Unsafe
@@ -38,7 +41,7 @@ returns-in-Unsafe g c = record {
         chains = st.log.chains;
         tracker = subst (λ a. Stands g.M.Marks.marked c.on_read.new.self
             (carried (Reads c.args.txn c.args.low c.args.high) (tracked (acts course)) (Ok a))) c.in-Unsafe.is
-            (c.in-Ok-on_read.ensures.stands (tracked (acts course)) st.log.tracker may);
+            (c.in_ok-answer.ensures.stands (tracked (acts course)) st.log.tracker may);
         events = c.room.ensures.same.0 ∙ st.log.events;
         opened = st.log.opened;
         began = st.log.began;
@@ -46,20 +49,20 @@ returns-in-Unsafe g c = record {
       (look_ends st c.args.session c.args.txn c.args.low c.args.high (event_of c.args.event) (reply_of c.args.reply) m is
       c.laws_below.ensures c.in-Unsafe.pivot
       (subst (λ a. IsSmallest IsOrderedPivot (Reads c.args.txn c.args.low c.args.high ∷ tracked (acts course)) (pivot_of a))
-      c.in-Unsafe.is (c.in-Ok-on_read.ensures.answer (tracked (acts course)) st.log.tracker may)));
+      c.in-Unsafe.is (c.in_ok-answer.ensures.answer (tracked (acts course)) st.log.tracker may)));
 }
 
 pub returns : goal.returns
 returns g c = record {
   stands = λ course m st is.
       let may = may_look st c.args.session c.args.txn c.args.low c.args.high (event_of c.args.event) (reply_of c.args.reply) m is in
-      let safe = safe_of c.in-Ok-on_read.answer c.in_default-answer.not-Unsafe in
+      let safe = safe_of c.in_ok-answer.answer c.in_default.not-Unsafe in
       looked st c.args.session c.args.txn c.args.low c.args.high (event_of c.args.event) (reply_of c.args.reply) m is
       c.laws_below.ensures _ _ _ c.count_at.ensures.counted
       (subst (λ a. IsSmallest IsOrderedPivot (Reads c.args.txn c.args.low c.args.high ∷ tracked (acts course)) (pivot_of a))
-      safe (c.in-Ok-on_read.ensures.answer (tracked (acts course)) st.log.tracker may))
+      safe (c.in_ok-answer.ensures.answer (tracked (acts course)) st.log.tracker may))
       (subst (λ a. Stands g.M.Marks.marked c.on_read.new.self
       (carried (Reads c.args.txn c.args.low c.args.high) (tracked (acts course)) (Ok a))) safe
-      (c.in-Ok-on_read.ensures.stands (tracked (acts course)) st.log.tracker may))
+      (c.in_ok-answer.ensures.stands (tracked (acts course)) st.log.tracker may))
       (c.event.ensures.events ∙ ap (λ l. l ++ event_of c.args.event ∷ []) c.room.ensures.same.0);
 }

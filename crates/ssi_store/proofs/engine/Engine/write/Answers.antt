@@ -1,4 +1,5 @@
-use Rattle.std.proofs.Common.{rules, arith, ap, sym, ◌∙◌, ◌++◌, ◌∷◌, []}
+use Rattle.std.proofs.Common.{rules, ap, sym, ◌∙◌, ◌++◌, ◌∷◌, []}
+use Rattle.std.proofs.lemmas.Result.{err_from_is_err_and}
 use Rattle.adya_values.specs.Meaning.Histories.{event_of, content_of}
 use Rattle.ssi_recorder.specs.Mirror.{events_of}
 use Rattle.ssi_store.proofs.PutsAndDels.{write_idle, write_long, write_memory, write_done, same_as}
@@ -10,36 +11,39 @@ returns-in_default g c = record {
       write_idle st c.args.session c.args.key (content_of c.args.content) _ (Prim.search rules) (Prim.search rules);
 }
 
-pub returns-then-open-ge-MAX_OPERATIONS : goal.returns-then-open-ge-MAX_OPERATIONS
-returns-then-open-ge-MAX_OPERATIONS g c = record {
+pub returns-in_err-may_go_on : goal.returns-in_err-may_go_on
+returns-in_err-may_go_on g c = record {
   stands = λ course st.
-      write_long st c.args.session c.args.key (content_of c.args.content) c.in-Some.open.now (sym c.in-Some.ensures.value) _
-      (((c.get_mut.follows.holds c.in-Some.open.now).3 (Prim.search rules)).0) (omega arith);
+      let p = err_from_is_err_and c.from_residual.result c.from_residual.ensures.1 in
+      rw (p.1, p.2, c.in_err-may_go_on.ensures.long.0) (write_long st c.args.session c.args.key (content_of c.args.content) c.in-Some.open.now (sym c.in-Some.ensures.value) _
+      (((c.get_mut.follows.holds c.in-Some.open.now).3 (Prim.search rules)).0) c.in_err-may_go_on.ensures.long.1);
 }
 
-pub returns-in_default-room : goal.returns-in_default-room
-returns-in_default-room g c = record {
+pub returns-in_err-room : goal.returns-in_err-room
+returns-in_err-room g c = record {
   stands = λ course st.
-      write_memory st c.args.session c.args.key (content_of c.args.content) c.in-Some.open.now (sym c.in-Some.ensures.value)
-      (omega arith) _ _ c.in-Some.open.now (((c.get_mut.follows.holds c.in-Some.open.now).3 (Prim.search rules)).0)
-      (same_as c.in-Some.open.now) c.room.ensures.same.0;
+      let p = err_from_is_err_and c.from_residual-in_err-room.result c.from_residual-in_err-room.ensures.1 in
+      rw (p.1, p.2) (write_memory st c.args.session c.args.key (content_of c.args.content) c.in-Some.open.now (sym c.in-Some.ensures.value)
+      c.in_ok-may_go_on.ensures.short _ _ c.in-Some.open.now (((c.get_mut.follows.holds c.in-Some.open.now).3 (Prim.search rules)).0)
+      (same_as c.in-Some.open.now) c.room.ensures.same.0);
 }
 
-pub returns-in_default-write : goal.returns-in_default-write
-returns-in_default-write g c = record {
+pub returns-in_err-m : goal.returns-in_err-m
+returns-in_err-m g c = record {
   stands = λ course st.
-      write_memory st c.args.session c.args.key (content_of c.args.content) c.in-Some.open.now (sym c.in-Some.ensures.value)
-      (omega arith) _ _ c.write.new.self (((c.get_mut.follows.holds c.write.new.self).3 (Prim.search rules)).0)
-      c.in_default-write.ensures.err c.room.ensures.same.0;
+      let p = err_from_is_err_and c.from_residual-in_err-m.result c.from_residual-in_err-m.ensures.1 in
+      rw (p.1, p.2) (write_memory st c.args.session c.args.key (content_of c.args.content) c.in-Some.open.now (sym c.in-Some.ensures.value)
+      c.in_ok-may_go_on.ensures.short _ _ c.write.new.self (((c.get_mut.follows.holds c.write.new.self).3 (Prim.search rules)).0)
+      c.in_err-m.ensures.err c.room.ensures.same.0);
 }
 
 pub returns : goal.returns
 returns g c = record {
   stands = λ course st.
       write_done st c.args.session c.args.key (content_of c.args.content) c.in-Some.open.now (sym c.in-Some.ensures.value)
-      (omega arith) c.laws_below.ensures _ _ _ _ c.write.new.self
-      (((c.get_mut.follows.holds c.write.new.self).3 (Prim.search rules)).0) c.txn-txn.ensures c.in-Ok-write.ensures.m
+      c.in_ok-may_go_on.ensures.short c.laws_below.ensures _ _ _ _ c.write.new.self
+      (((c.get_mut.follows.holds c.write.new.self).3 (Prim.search rules)).0) c.txn-txn.ensures c.in_ok-m.ensures.m
       (c.event.ensures.events ∙ ap (λ l. l ++ event_of c.write_event.result ∷ []) c.room.ensures.same.0
       ∙ ap (λ e. events_of c.args.self.now.recorder ++ e ∷ []) c.write_event.ensures)
-      c.write.ensures.same c.in-Ok-write.ensures.count c.in-Ok-write.ensures.written;
+      c.write.ensures.same c.in_ok-m.ensures.count c.in_ok-m.ensures.written;
 }
