@@ -1,9 +1,9 @@
 //! The command line: its commands, their files and their help.
 
 ghost use Rattle.std.specs.Prelude.{◌≡◌, false, IfOk};
-ghost use Rattle.clap.specs.Words.{app_of, rule_of, with_subcommand};
+ghost use Rattle.clap.specs.Words.{app_of, new_app, rule_of, with_rule, with_subcommand};
 ghost use Rattle.clap.specs.declared.builder.command.Command.TheViews.{out-Command as fields_of};
-ghost use Rattle.ssi_arguments.specs.Machinery.Parser.{file_rule, audit_app, order_app, script_app, serve_app, ssi_app};
+ghost use Rattle.ssi_arguments.specs.Machinery.Parser.{file_rule, with_texts, audit_app, order_app, script_app, serve_app, ssi_app};
 
 use crate::help;
 use clap::{Arg, Command};
@@ -13,9 +13,7 @@ use std::alloc::{AllocError, Global};
 pub fn command_line<'a>(alloc: Global) -> Result<Command<'a>, AllocError>
     ensures { IfOk result (λ c. app_of c ≡ ssi_app) }
 {
-    let ssi = Command::new(alloc, "ssi")
-        .about(help::ABOUT)
-        .after_help(help::MORE);
+    let ssi = bare(alloc, "ssi", help::ABOUT, help::MORE);
     with_runs(alloc, with_audits(alloc, ssi)?)
 }
 
@@ -52,47 +50,67 @@ fn audit<'a>(alloc: Global) -> Result<Command<'a>, AllocError>
     ensures app { IfOk result (λ c. app_of c ≡ audit_app) }
     ensures local { IfOk result (λ c. (fields_of c).has_globals ≡ false) }
 {
-    let command = Command::new(alloc, "audit")
-        .about(help::AUDIT)
-        .after_help(help::AUDIT_MORE);
-    command
-        .arg(file(alloc, "HISTORY", help::HISTORY))?
-        .arg(file(alloc, "CERTIFICATE", help::CERTIFICATE))
+    let audit = bare(alloc, "audit", help::AUDIT, help::AUDIT_MORE);
+    with_texts(alloc, audit, help::HISTORY, help::CERTIFICATE)
 }
 
 fn order<'a>(alloc: Global) -> Result<Command<'a>, AllocError>
     ensures app { IfOk result (λ c. app_of c ≡ order_app) }
     ensures local { IfOk result (λ c. (fields_of c).has_globals ≡ false) }
 {
-    let command = Command::new(alloc, "order")
-        .about(help::ORDER)
-        .after_help(help::ORDER_MORE);
-    command.arg(file(alloc, "HISTORY", help::HISTORY))
+    let order = bare(alloc, "order", help::ORDER, help::ORDER_MORE);
+    with_file(alloc, order, "HISTORY", help::HISTORY)
 }
 
 fn script<'a>(alloc: Global) -> Result<Command<'a>, AllocError>
     ensures app { IfOk result (λ c. app_of c ≡ script_app) }
     ensures local { IfOk result (λ c. (fields_of c).has_globals ≡ false) }
 {
-    let command = Command::new(alloc, "script")
-        .about(help::SCRIPT)
-        .after_help(help::SCRIPT_MORE);
-    command
-        .arg(file(alloc, "HISTORY", help::NEW_HISTORY))?
-        .arg(file(alloc, "CERTIFICATE", help::NEW_CERTIFICATE))
+    let script = bare(alloc, "script", help::SCRIPT, help::SCRIPT_MORE);
+    with_texts(alloc, script, help::NEW_HISTORY, help::NEW_CERTIFICATE)
 }
 
 fn serve<'a>(alloc: Global) -> Result<Command<'a>, AllocError>
     ensures app { IfOk result (λ c. app_of c ≡ serve_app) }
     ensures local { IfOk result (λ c. (fields_of c).has_globals ≡ false) }
 {
-    let command = Command::new(alloc, "serve")
-        .about(help::SERVE)
-        .after_help(help::SERVE_MORE);
-    command
-        .arg(file(alloc, "SOCKET", help::SOCKET))?
-        .arg(file(alloc, "HISTORY", help::NEW_HISTORY))?
-        .arg(file(alloc, "CERTIFICATE", help::NEW_CERTIFICATE))
+    let serve = bare(alloc, "serve", help::SERVE, help::SERVE_MORE);
+    let serve = with_file(alloc, serve, "SOCKET", help::SOCKET)?;
+    with_texts(alloc, serve, help::NEW_HISTORY, help::NEW_CERTIFICATE)
+}
+
+/// A command without files.
+fn bare<'a>(alloc: Global, name: &'a str, about: &'a str, more: &'a str) -> Command<'a>
+    ensures app { app_of result ≡ new_app name.entry.now }
+    ensures local { (fields_of result).has_globals ≡ false }
+{
+    Command::new(alloc, name).about(about).after_help(more)
+}
+
+/// Adds the files of a history and a certificate, with their help.
+fn with_texts<'a>(
+    alloc: Global,
+    command: Command<'a>,
+    history: &'a str,
+    certificate: &'a str,
+) -> Result<Command<'a>, AllocError>
+    ensures app { IfOk result (λ c. app_of c ≡ with_texts (app_of command.entry)) }
+    ensures local { (fields_of command.entry).has_globals ≡ false → IfOk result (λ c. (fields_of c).has_globals ≡ false) }
+{
+    let command = with_file(alloc, command, "HISTORY", history)?;
+    with_file(alloc, command, "CERTIFICATE", certificate)
+}
+
+fn with_file<'a>(
+    alloc: Global,
+    command: Command<'a>,
+    name: &'a str,
+    help: &'a str,
+) -> Result<Command<'a>, AllocError>
+    ensures app { IfOk result (λ c. app_of c ≡ with_rule (app_of command.entry) (file_rule name.entry.now)) }
+    ensures local { (fields_of command.entry).has_globals ≡ false → IfOk result (λ c. (fields_of c).has_globals ≡ false) }
+{
+    command.arg(file(alloc, name, help))
 }
 
 fn file<'a>(alloc: Global, name: &'a str, help: &'a str) -> Arg<'a>

@@ -9,7 +9,7 @@ abbrev pub file_rule : Text → Rule
 file_rule name = record (new_rule name) { required = true }
 
 -- a history and a certificate
-abbrev with_texts : App → App
+abbrev pub with_texts : App → App
 with_texts app = with_rule (with_rule app (file_rule (codes "HISTORY"))) (file_rule (codes "CERTIFICATE"))
 
 abbrev pub audit_app : App
