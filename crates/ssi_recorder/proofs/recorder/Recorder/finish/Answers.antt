@@ -17,3 +17,6 @@ returns-clause-history c =
     let finals : map final_of made.finals.items ≡ finals_of_events events = Prim.search rules in
     same_history is_one has_events none_unfinished (orders ∙ orders_ended events c.args.active.now)
     (finals ∙ finals_ended events c.args.active.now)
+
+pub returns-in-Err-clause-err : goal.returns-in-Err-clause-err
+returns-in-Err-clause-err c = search rules

@@ -1,0 +1,5 @@
+use Rattle.std.proofs.Common.{rules}
+use Rattle.ssi_reads.proofs.span.Span.covers.Goals as goal
+
+pub returns-then-le : goal.returns-then-le
+returns-then-le c = search rules
