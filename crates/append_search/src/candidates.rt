@@ -6,8 +6,9 @@ ghost use Rattle.std.specs.Prelude.{IfOk, OnOk};
 ghost use Rattle.digraph.specs.Meaning.Graphs.{IsGraph};
 
 use crate::lines::{Found, Lines};
-use crate::links::{Links, Reading, Sink};
+use crate::links::{Links, Sink};
 use crate::own::Owns;
+use crate::reading::Reading;
 use crate::sorting::forward;
 use crate::writers::Writers;
 use append_values::{Kind, Link, Operation, Outcome, Read, Reason, Transaction};
@@ -44,7 +45,7 @@ pub fn find_candidate<W: Writers>(
         alloc,
         owns: Owns::new(alloc),
         lines: Lines::new(alloc),
-        readings: Vec::new(alloc),
+        readings: Vec::with_capacity(alloc, reads_in(transactions))?,
     };
     let mut place = 0u32;
     'transactions: for transaction in transactions {
@@ -126,13 +127,8 @@ impl Search {
         match self.lines.take(transactions, writers, key, read, base)? {
             Found::Nothing(reason) => Ok(Some(reason)),
             Found::Blocks { line, writers } => {
-                self.readings.push(Reading {
-                    read,
-                    line,
-                    writers,
-                    length,
-                    appends,
-                })?;
+                self.readings
+                    .push(Reading::new(read, line, writers, length, appends))?;
                 Ok(None)
             }
         }
@@ -145,7 +141,7 @@ impl Search {
             if reading.appends {
                 let broken = self
                     .lines
-                    .append(reading.line, reading.read, reading.writers)?;
+                    .append(reading.line(), reading.read(), reading.writers())?;
                 if broken.is_some() {
                     return Ok(broken);
                 }
@@ -161,7 +157,7 @@ impl Search {
             transactions: count,
         };
         let mut arcs = Arcs {
-            arcs: Vec::new(self.alloc),
+            arcs: Vec::with_capacity(self.alloc, self.most_links())?,
         };
         links.give(transactions, self.readings.as_slice(), &mut arcs)?;
         let nodes = self.nodes(transactions, &links)?;
@@ -184,6 +180,12 @@ impl Search {
         }
     }
 
+    // About as many as the lines and the readings have: one from each writer, one to each reader, and one from it.
+    fn most_links(&self) -> usize {
+        let readings = self.readings.len().saturating_mul(2);
+        self.lines.writer_count().saturating_add(readings)
+    }
+
     // The committed transactions, the unknown ones of which somebody read an element, and the helpers.
     fn nodes(&self, transactions: &[Transaction], links: &Links) -> Result<Vec<u32>, AllocError> {
         let mut nodes = Vec::new(self.alloc);
@@ -199,6 +201,22 @@ impl Search {
         }
         Ok(nodes)
     }
+}
+
+// How many reads committed transactions have.
+fn reads_in(transactions: &[Transaction]) -> usize {
+    let mut reads = 0usize;
+    for transaction in transactions {
+        if transaction.outcome == Outcome::Committed {
+            let operations = transaction.operations.iter();
+            reads = reads.saturating_add(operations.filter(|operation| is_read(operation)).count());
+        }
+    }
+    reads
+}
+
+fn is_read(operation: &Operation) -> bool {
+    matches!(operation, Operation::Read { .. })
 }
 
 // The nodes, with the ends of the links, and the links as arcs.
@@ -233,12 +251,13 @@ fn unrepeated(
     read: Read,
     base: &[u64],
 ) -> Option<Reason> {
-    let transaction = transactions.get(first.read.transaction as usize)?;
-    let operation = transaction.operations.get(first.read.step)?;
+    let read_first = first.read();
+    let transaction = transactions.get(read_first.transaction as usize)?;
+    let operation = transaction.operations.get(read_first.step)?;
     if let Operation::Read { elements, .. } = operation {
-        let same = base.len() == first.length && elements.starts_with(base);
+        let same = base.len() == first.length() && elements.starts_with(base);
         if !same {
-            return Some(Reason::Unrepeatable(first.read, read));
+            return Some(Reason::Unrepeatable(read_first, read));
         }
     }
     None

@@ -8,6 +8,7 @@ mod candidates;
 mod lines;
 mod links;
 mod own;
+mod reading;
 mod sorting;
 mod writers;
 

@@ -1,5 +1,6 @@
 //! The lines of writers: for each key, the transactions whose elements were read, in the order of the longest list.
 
+use crate::reading::small;
 use crate::writers::Writers;
 use append_values::{Operation, Outcome, Read, Reason, Transaction, appended};
 use std::alloc::{AllocError, Global};
@@ -8,7 +9,7 @@ use std::collections::HashMap;
 /// A line, by its number, and a transaction.
 #[derive(Clone, Copy, PartialEq, Eq, Hash)]
 struct Writer {
-    line: usize,
+    line: u32,
     transaction: u32,
 }
 
@@ -44,7 +45,7 @@ pub(crate) struct Lines {
     numbers: HashMap<u64, usize>,
     pub lines: Vec<Line>,
     /// The place of each writer in each line.
-    places: HashMap<Writer, usize>,
+    places: HashMap<Writer, u32>,
 }
 
 impl Line {
@@ -99,9 +100,14 @@ impl Lines {
         self.numbers.get(&key).copied()
     }
 
+    /// Returns how many writers all lines have.
+    pub fn writer_count(&self) -> usize {
+        self.places.len()
+    }
+
     /// Returns whether the transaction stands in the line with this number.
     pub fn has(&self, line: usize, transaction: u32) -> bool {
-        self.places.contains_key(&Writer { line, transaction })
+        self.places.contains_key(&writer_in(line, transaction))
     }
 
     /// Returns whether an order has this transaction: if it committed, or if nobody knows and an element of it was read.
@@ -249,11 +255,8 @@ impl Lines {
         if !goes_on(base, line.chain.len(), block.as_slice()) {
             return Ok(Some(not_whole(self.alloc, read, base, writer)?));
         }
-        let itself = Writer {
-            line: number,
-            transaction: writer,
-        };
-        self.places.insert(itself, line.writers.len())?;
+        let itself = writer_in(number, writer);
+        self.places.insert(itself, small(line.writers.len()))?;
         line.add(writer, block.as_slice())?;
         Ok(None)
     }
@@ -269,13 +272,11 @@ impl Lines {
             }
             None => 0,
         };
-        let itself = Writer {
-            line: number,
-            transaction: read.transaction,
-        };
+        let itself = writer_in(number, read.transaction);
         if let (Some(place), Some(line)) = (self.places.get(&itself), self.lines.get(number)) {
-            if *place < writers {
-                let element = line.first_element(*place).unwrap_or(0);
+            let place = *place as usize;
+            if place < writers {
+                let element = line.first_element(place).unwrap_or(0);
                 return Found::Nothing(Reason::Future(read, element));
             }
         }
@@ -307,14 +308,18 @@ impl Lines {
             };
             return Ok(Some(Reason::Incompatible(read, other)));
         }
-        let itself = Writer {
-            line: number,
-            transaction: read.transaction,
-        };
-        self.places.insert(itself, line.writers.len())?;
+        let itself = writer_in(number, read.transaction);
+        self.places.insert(itself, small(line.writers.len()))?;
         line.writers.push(read.transaction)?;
         line.tail = Some(read);
         Ok(None)
+    }
+}
+
+fn writer_in(line: usize, transaction: u32) -> Writer {
+    Writer {
+        line: small(line),
+        transaction,
     }
 }
 

@@ -1,21 +1,9 @@
 //! Which transactions have to come before which: a few links, from which all others follow.
 
 use crate::lines::{Line, Lines};
+use crate::reading::{Reading, small};
 use append_values::{Kind, Link, Operation, Read, Transaction};
 use std::alloc::{AllocError, Global};
-
-/// The first read of a key by a committed transaction: the number of the key's line, and how many of its writers the read
-/// shows.
-#[derive(Clone, Copy)]
-pub(crate) struct Reading {
-    pub read: Read,
-    pub line: usize,
-    pub writers: usize,
-    /// How many elements the read found before its transaction's own.
-    pub length: usize,
-    /// Whether the transaction appends to the list.
-    pub appends: bool,
-}
 
 /// Takes links, one after another.
 pub(crate) trait Sink {
@@ -44,7 +32,7 @@ impl Links<'_> {
             self.give_line(line, number, sink)?;
         }
         'readings: for reading in readings {
-            if let Some(line) = self.lines.lines.get(reading.line) {
+            if let Some(line) = self.lines.lines.get(reading.line()) {
                 self.give_reading(line, reading, sink)?;
             }
         }
@@ -60,8 +48,7 @@ impl Links<'_> {
 
     /// Returns the helper node of the line with this number.
     pub fn helper(&self, line: usize) -> u32 {
-        self.transactions
-            .saturating_add(u32::try_from(line).unwrap_or(u32::MAX))
+        self.transactions.saturating_add(small(line))
     }
 
     // From each writer to the next one, and from the last one to the helper.
@@ -104,25 +91,26 @@ impl Links<'_> {
         reading: &Reading,
         sink: &mut K,
     ) -> Result<(), AllocError> {
-        let reader = reading.read.transaction;
-        if let Some(last) = reading.writers.checked_sub(1) {
+        let read = reading.read();
+        let reader = read.transaction;
+        if let Some(last) = reading.writers().checked_sub(1) {
             if let Some(writer) = line.writers.get(last) {
                 sink.take(Link {
                     from: *writer,
                     to: reader,
-                    kind: Kind::WriteRead(reading.read),
+                    kind: Kind::WriteRead(read),
                 })?;
             }
         }
-        let to = match line.writers.get(reading.writers) {
+        let to = match line.writers.get(reading.writers()) {
             Some(next) => *next,
-            None => self.helper(reading.line),
+            None => self.helper(reading.line()),
         };
         if to != reader {
             sink.take(Link {
                 from: reader,
                 to,
-                kind: Kind::ReadWrite(reading.read),
+                kind: Kind::ReadWrite(read),
             })?;
         }
         Ok(())
