@@ -3,7 +3,8 @@ use Rattle.std.proofs.Common.{◌≡◌, ◌⊎◌, inl, inr, List, [], ◌∷�
 use Rattle.edn.specs.declared.reader.Stage.{Stage}
 use Rattle.edn.specs.declared.reader.Stage.TheVariants.{Start, Forms, Elements, Closed, Failed}
 use Rattle.edn.specs.Meaning.Forms.{Form}
-use Rattle.edn.specs.Meaning.Tokens.{Token, is_square}
+use Rattle.edn.specs.declared.token.Closing.TheVariants.{Square}
+use Rattle.edn.specs.Meaning.Tokens.{Token, closes, is_square}
 use Rattle.edn.specs.Meaning.Grammar.{IsItem}
 use Rattle.edn.specs.Meaning.Lexing.{no_tokens}
 use Rattle.edn.specs.Meaning.Reading.{ReadsToken, ReadsTokens}
@@ -26,20 +27,26 @@ abbrev pub BeginsOther : List Token → Type 0
 BeginsOther [] = ⊥
 BeginsOther (t ∷ ts) = is_square t ≡ false
 
+-- the last of the tokens has closed the vector, behind discarded forms
+abbrev pub HasClosed : Stage → List Token → Type 0
+HasClosed first ts =
+    ((first ≡ Start) ⊎ (first ≡ Elements)) × ((us ds : List Token) × IsBehind first ts us × AreDiscarded ds
+    × (us ≡ ds ++ closes Square ∷ []))
+
 -- how far the tokens have led, from the first stage to the second
 abbrev pub Leads : Stage → Stage → List Token → List Frame → Type 0
 Leads first Start ts stack = (first ≡ Start) × (ts ≡ []) × (stack ≡ top ∷ [])
 Leads first Forms ts stack = (((first ≡ Start) × BeginsOther ts) ⊎ (first ≡ Forms)) × Holds stack ts
 Leads first Elements ts stack = ((first ≡ Start) ⊎ (first ≡ Elements)) × ((us : List Token) × IsBehind first ts us × Holds stack us)
-Leads first Closed ts stack = stack ≡ top ∷ []
-Leads first (Failed fault) ts stack = (first ≡ Failed fault) × (stack ≡ top ∷ [])
+Leads first Closed ts stack = (stack ≡ top ∷ []) × (((first ≡ Closed) × (ts ≡ [])) ⊎ HasClosed first ts)
+Leads first (Failed fault) ts stack = (first ≡ Failed fault) × (stack ≡ top ∷ []) × (ts ≡ [])
 
 pub leads_here : (stage : Stage) (stack : List Frame) → stack ≡ top ∷ [] → Leads stage stage [] stack
 leads_here Start stack e = (refl, refl, e)
 leads_here Forms stack e = (inr refl, subst (λ s. Holds s []) (sym e) (refl, none_more))
 leads_here Elements stack e = (inr refl, ([], refl, subst (λ s. Holds s []) (sym e) (refl, none_more)))
-leads_here Closed stack e = e
-leads_here (Failed fault) stack e = (refl, e)
+leads_here Closed stack e = (e, inl (refl, refl))
+leads_here (Failed fault) stack e = (refl, e, refl)
 
 pub held_step : (old new : List Frame) (t : Token) (o : Option Form) (ts : List Token) → Holds old ts → Built old t new o
     → Outcome (new, o) (ts ++ t ∷ [])
@@ -56,7 +63,7 @@ pub holds_start : (stack : List Frame) (ts : List Token) → ts ≡ [] → stack
 holds_start stack ts e f = subst (λ s. Holds s ts) (sym f) (refl, subst AreDiscarded (sym e) none_more)
 
 -- nothing is open but the text
-only_top : (stack : List Frame) (ts : List Token) → Holds stack ts → is_top stack ≡ true → stack ≡ top ∷ []
+pub only_top : (stack : List Frame) (ts : List Token) → Holds stack ts → is_top stack ≡ true → stack ≡ top ∷ []
 only_top [] ts h e = absurd h
 only_top (top ∷ outer) ts h e = ap (λ o. top ∷ o) h.0
 only_top (tagged ∷ outer) ts h e = absurd (let no : false ≡ true = e in cc)
@@ -65,6 +72,9 @@ only_top (in_list fs ∷ outer) ts h e = absurd (let no : false ≡ true = e in 
 only_top (in_vector fs ∷ outer) ts h e = absurd (let no : false ≡ true = e in cc)
 only_top (in_set fs ∷ outer) ts h e = absurd (let no : false ≡ true = e in cc)
 only_top (in_map ps k ∷ outer) ts h e = absurd (let no : false ≡ true = e in cc)
+
+pub discarded_only : (stack : List Frame) (ts : List Token) → Holds stack ts → is_top stack ≡ true → AreDiscarded ts
+discarded_only stack ts h e = (subst (λ s. Holds s ts) (only_top stack ts h e) h).1
 
 pub other_more : (ts : List Token) (t : Token) → BeginsOther ts → BeginsOther (ts ++ t ∷ [])
 other_more [] t h = absurd h
@@ -93,8 +103,20 @@ leads_on first Start next ts t old new o none (is, empty, idle) (inr (other, to,
 leads_on first Forms next ts t old new o none (from, h) (to, built) =
     subst (λ n. Leads first n (ts ++ t ∷ []) new) (sym to)
     (from_more first ts t from, held_step old new t None ts h (subst (Built old t new) none built))
-leads_on first Elements next ts t old new o none (from, (us, behind, h)) (inl (to, _, is_idle, same, _)) =
-    subst (λ n. Leads first n (ts ++ t ∷ []) new) (sym to) (same ∙ only_top old us h is_idle)
+leads_on first Elements next ts t old new o none (from, (us, behind, h)) (inl (to, square, is_idle, same, _)) =
+    subst (λ n. Leads first n (ts ++ t ∷ []) new) (sym to) (
+      same ∙ only_top old us h is_idle,
+      inr (
+        from,
+        (
+          us ++ t ∷ [],
+          us,
+          behind_more first ts us t behind,
+          discarded_only old us h is_idle,
+          ap (λ x. us ++ x ∷ []) square,
+        ),
+      ),
+    )
 leads_on first Elements next ts t old new o none (from, (us, behind, h)) (inr (to, built)) =
     subst (λ n. Leads first n (ts ++ t ∷ []) new) (sym to) (
       from,

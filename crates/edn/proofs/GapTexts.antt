@@ -18,7 +18,7 @@ either P true x y f g = f refl
 either P false x y f g = g refl
 
 -- the text is a gap and what follows it
-abbrev HasGap : List ℕ → List ℕ → Type 0
+abbrev pub HasGap : List ℕ → List ℕ → Type 0
 HasGap text rest = (gap : List ℕ) × IsGap gap × (text ≡ gap ++ rest)
 
 -- in a comment that doesn't end, or one that does, with a gap after it
@@ -50,7 +50,7 @@ end_comment b start bs rest e (gap, g, is) =
     inr ([], gap, no_feeds, g, ap (λ x. x ∷ bs) (eqb-true b 10 e) ∙ ap (λ x. 10 ∷ x) is)
 
 mutual
-  gap_in : (text : List ℕ) → HasGap text (after_gap_in None text)
+  pub gap_in : (text : List ℕ) → HasGap text (after_gap_in None text)
   gap_in [] = ([], no_gap, refl)
   gap_in (b ∷ bs) =
       either (HasGap (b ∷ bs)) (is_space b) _ _

@@ -13,3 +13,5 @@ pub mod OneReading
 pub mod NoTokens
 pub mod NoForms
 pub mod Nested
+pub mod TextOver
+pub mod Made

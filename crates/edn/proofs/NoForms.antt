@@ -225,7 +225,7 @@ goes_on first Forms following start mid new ts t old stack o none goes reads tok
     subst (λ n. Goes first n start (ts ++ t ∷ []) stack) (sym to)
     (begun_more first ts t, next_leads first ts t old goes ∙ stepped old t stack o none built)
 goes_on first Elements following start mid new ts t old stack o none goes reads token (inl (to, square, _, same, _)) leads =
-    let idle : old ≡ top ∷ [] = sym same ∙ subst (λ n. Leads first n (ts ++ t ∷ []) stack) to leads in
+    let idle : old ≡ top ∷ [] = sym same ∙ (subst (λ n. Leads first n (ts ++ t ∷ []) stack) to leads).0 in
     subst (λ n. Goes first n start (ts ++ t ∷ []) stack) (sym to)
     (no_form first start mid ts old goes.1 reads
     (refuses first ts mid new t Unopened

@@ -73,19 +73,25 @@ impl Builder {
         matches!(self.frame, Frame::Top)
     }
 
-    /// Takes the next token. Returns the form that ends with it, if one does that is part of no other.
+    /// Takes the next token, with the form if it is a leaf. Puts the form that ends with it, if one does that is part of no other, into `made`.
     #[tactic(auto, unfolding(crate::specs::Computing::Building::step))]
-    pub(crate) fn take(&mut self, token: Token) -> Result<Option<Form>, Refusal>
-        ensures ok { IfOk result (λ o. Spec.step (stack_of self.old) (token_of token)
-            ≡ Ok (stack_of self.new, option_map form_of o)) }
-        ensures refused { IfErr result (λ e. Refuses (stack_of self.old) e (Spec.step (stack_of self.old) (token_of token))) }
+    pub(crate) fn take(
+        &mut self,
+        token: Token,
+        leaf: &mut Form,
+        made: &mut Option<Form>,
+    ) -> Result<(), Refusal>
+        requires { made.old ≡ None }
+        ensures ok { OnOk result (Spec.step (stack_of self.old) (token_of leaf.old token)
+            ≡ Ok (stack_of self.new, option_map form_of made.new)) }
+        ensures refused { IfErr result (λ e. Refuses (stack_of self.old) e (Spec.step (stack_of self.old) (token_of leaf.old token))) }
     {
         match token {
             Token::Open(bracket) => self.open(opened(self.alloc, bracket)),
             Token::Tag => self.open(Frame::Tag),
             Token::Discard => self.open(Frame::Discard),
-            Token::Close(bracket) => self.close(bracket),
-            Token::Leaf(form) => Ok(self.put(form)?),
+            Token::Close(bracket) => self.close(bracket, made),
+            Token::Leaf => Ok(self.put(mem::replace(leaf, Form::Nil), made)?),
         }
     }
 
@@ -100,8 +106,8 @@ impl Builder {
     }
 
     /// Begins a form.
-    fn open(&mut self, frame: Frame) -> Result<Option<Form>, Refusal>
-        ensures ok { IfOk result (λ o. (o ≡ None) × (stack_of self.new ≡ frame_of frame ∷ stack_of self.old)) }
+    fn open(&mut self, frame: Frame) -> Result<(), Refusal>
+        ensures ok { OnOk result (stack_of self.new ≡ frame_of frame ∷ stack_of self.old) }
         ensures refused { IfErr result (λ e. (e ≡ Refusal.Memory)
             ⊎ ((e ≡ Refusal.Problem Problem.Depth) × (65 ≤ length (stack_of self.old)))) }
     {
@@ -110,20 +116,21 @@ impl Builder {
         }
         let outer = mem::replace(&mut self.frame, frame);
         self.outer.push(outer)?;
-        Ok(None)
+        Ok(())
     }
 
     /// Ends the collection that is open.
-    fn close(&mut self, bracket: Closing) -> Result<Option<Form>, Refusal>
-        ensures ok { IfOk result (λ o. Spec.close (stack_of self.old) bracket
-            ≡ Ok (stack_of self.new, option_map form_of o)) }
+    fn close(&mut self, bracket: Closing, made: &mut Option<Form>) -> Result<(), Refusal>
+        requires { made.old ≡ None }
+        ensures ok { OnOk result (Spec.close (stack_of self.old) bracket
+            ≡ Ok (stack_of self.new, option_map form_of made.new)) }
         ensures refused { IfErr result (λ e. Refuses (stack_of self.old) e (Spec.close (stack_of self.old) bracket)) }
     {
         if let Some(problem) = self.problem_at(bracket) {
             return Err(Refusal::Problem(problem));
         }
         match self.leave().into_form() {
-            Some(form) => Ok(self.put(form)?),
+            Some(form) => Ok(self.put(form, made)?),
             None => Err(Refusal::Problem(Problem::NoValue)),
         }
     }
@@ -161,35 +168,32 @@ impl Builder {
         }
     }
 
-    /// Puts a form where it belongs. Returns it if it is part of no other.
+    /// Puts a form where it belongs: into `made` if it is part of no other.
     #[tactic(auto, unfolding(crate::specs::Computing::Building::put))]
-    fn put(&mut self, form: Form) -> Result<Option<Form>, AllocError>
-        ensures { IfOk result (λ o. Spec.put (stack_of self.old) (form_of form) ≡ (stack_of self.new, option_map form_of o)) }
+    fn put(&mut self, form: Form, made: &mut Option<Form>) -> Result<(), AllocError>
+        requires { made.old ≡ None }
+        ensures { OnOk result (Spec.put (stack_of self.old) (form_of form)
+            ≡ (stack_of self.new, option_map form_of made.new)) }
     {
         self.leave_tags();
-        self.add(form)
+        self.add(form, made)
     }
 
     /// Puts a form, behind whose tags this is, where it belongs.
-    fn add(&mut self, form: Form) -> Result<Option<Form>, AllocError>
-        ensures { IfOk result (λ o. Spec.into_stack (stack_of self.old) (form_of form)
-            ≡ (stack_of self.new, option_map form_of o)) }
+    fn add(&mut self, form: Form, made: &mut Option<Form>) -> Result<(), AllocError>
+        requires { made.old ≡ None }
+        ensures { OnOk result (Spec.into_stack (stack_of self.old) (form_of form)
+            ≡ (stack_of self.new, option_map form_of made.new)) }
     {
         match &mut self.frame {
-            Frame::Row(_, forms) => {
-                forms.push(form)?;
-                Ok(None)
-            }
-            Frame::Map(entries) => {
-                entries.put(form)?;
-                Ok(None)
-            }
+            Frame::Row(_, forms) => forms.push(form)?,
+            Frame::Map(entries) => entries.put(form)?,
             Frame::Discard => {
                 let _ = self.leave();
-                Ok(None)
             }
-            Frame::Top | Frame::Tag => Ok(Some(form)),
+            Frame::Top | Frame::Tag => *made = Some(form),
         }
+        Ok(())
     }
 }
 

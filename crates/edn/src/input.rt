@@ -4,15 +4,16 @@ ghost use Rattle.std.specs.Prelude.{◌≡◌, ◌≤◌, ◌<◌, ◌+◌, ◌+
 ghost use Rattle.std.specs.Io.KnownBytes.{Consumes, prepend_known};
 ghost use Rattle.edn.specs.Meaning.Lexing.{IsGap};
 ghost use Rattle.edn.specs.Meaning.Faults.{IsOfDepth, IsOfText};
-ghost use Rattle.edn.specs.Meaning.Reading.{IsLinked, ReadsToken, HasNoToken};
+ghost use Rattle.edn.specs.Meaning.Reading.{IsLinked, ReadsToken, HasNoToken, IsBlankLeft};
 ghost use Rattle.edn.specs.Computing.Gaps.{after_gap_in};
 ghost use Rattle.edn.specs.Computing.Tokens.{token_of};
 ghost use Rattle.edn.specs.Machinery.Inputs.{work_left, to_meet};
 ghost use Rattle.edn.specs.declared.token.Beyond.TheVariants.{Unread};
 
+use crate::form::Form;
 use crate::gap::after_gap;
 use crate::pending::Pending;
-use crate::read_fault::{Problem, ReadFault};
+use crate::read_fault::{ReadFault, syntax};
 use crate::token::{Beyond, Lexed, Token, read_token};
 use devices::Source;
 use std::alloc::{AllocError, Global};
@@ -26,7 +27,7 @@ pub(crate) struct Input {
     alloc: Global,
     pending: Pending,
     beyond: Beyond,
-    /// The line, counted from 1, of the first byte that is pending.
+    /// The line, counted from 1, of the first byte that `pending` has, taken or not.
     line: u64,
     piece: [u8; ROOM],
 }
@@ -57,41 +58,35 @@ impl Input {
 
     /// Returns the line, counted from 1, up to which tokens were taken.
     pub(crate) fn line(&self) -> u64 {
-        self.line
+        self.line.saturating_add(line_feeds(self.pending.taken()))
     }
 
-    /// Returns the fault of this problem at the line up to which tokens were taken.
-    pub(crate) fn fault(&self, problem: Problem) -> ReadFault
-        ensures { result ≡ ReadFault.Syntax self.now.line problem }
-    {
-        ReadFault::Syntax {
-            line: self.line,
-            problem,
-        }
-    }
-
-    /// Reads the next token. Returns `None` if the text ends before it, `Syntax` if no token begins so, `Device` if the
-    /// source failed, `Memory` if memory ran out. The text begins with no token if `None` or `Syntax` is returned.
+    /// Reads the next token, and puts the form of a leaf into `leaf`. Returns `None` if the text ends before it, `Syntax` if
+    /// no token begins so, `Device` if the source failed, `Memory` if memory ran out. The text begins with no token if `None`
+    /// or `Syntax` is returned; if `None`, it has white space and comments alone.
     pub(crate) fn next_token<S: Source>(
         &mut self,
         source: &mut S,
+        leaf: &mut Form,
     ) -> Result<Option<Token>, ReadFault>
         ensures less { IfOk result (λ o. IsSome o
             → work_left (S.left source.new) self.new.pending < work_left (S.left source.old) self.old.pending) }
         ensures token { IsLinked self.old.beyond (S.remaining source.old) → IfOk result (λ o. IfSome o
             (λ t. ReadsToken (prepend_known self.old.pending (S.remaining source.old))
-            (prepend_known self.new.pending (S.remaining source.new)) (token_of t))) }
+            (prepend_known self.new.pending (S.remaining source.new)) (token_of leaf.new t))) }
         ensures linked { IsLinked self.old.beyond (S.remaining source.old)
             → OnOk result (IsLinked self.new.beyond (S.remaining source.new)) }
         ensures none { IsLinked self.old.beyond (S.remaining source.old)
             → IfOk result (λ o. IfNone o (HasNoToken (prepend_known self.old.pending (S.remaining source.old)))) }
+        ensures blank { IsLinked self.old.beyond (S.remaining source.old)
+            → IfOk result (λ o. IfNone o (IsBlankLeft (prepend_known self.old.pending (S.remaining source.old)))) }
         ensures refused { IsLinked self.old.beyond (S.remaining source.old)
             → IfErr result (λ e. IsOfText e → HasNoToken (prepend_known self.old.pending (S.remaining source.old))) }
         ensures shallow { IfErr result (λ e. ¬ IsOfDepth e) }
     {
         loop {
             self.pass_gap();
-            match read_token(self.alloc, self.pending.bytes(), self.beyond)? {
+            match read_token(self.alloc, self.pending.bytes(), self.beyond, leaf)? {
                 Lexed::Token(token, rest) => {
                     let len = self.pending.bytes().len() - rest.len();
                     self.pass(len);
@@ -99,7 +94,7 @@ impl Input {
                 }
                 Lexed::End => return Ok(None),
                 Lexed::More => self.fill(source)?,
-                Lexed::Bad(problem) => return Err(self.fault(problem)),
+                Lexed::Bad(problem) => return Err(syntax(self.line(), problem)),
             }
         }
     }
@@ -122,8 +117,6 @@ impl Input {
         ensures rest { self.new.pending ≡ drop count self.old.pending }
         ensures beyond { self.new.beyond ≡ self.old.beyond }
     {
-        let lines = line_feeds(&self.pending.bytes()[..count]);
-        self.line = self.line.saturating_add(lines as u64);
         self.pending.take(count);
     }
 
@@ -160,7 +153,11 @@ impl Input {
     {
         match source.pull(&mut self.piece) {
             Ok(0) => self.beyond = Beyond::Nothing,
-            Ok(n) => self.pending.add(self.alloc, &self.piece[..n])?,
+            Ok(n) => {
+                // what was taken is dropped
+                self.line = self.line();
+                self.pending.add(self.alloc, &self.piece[..n])?;
+            }
             Err(_) => return Err(ReadFault::Device),
         }
         Ok(())
@@ -168,6 +165,6 @@ impl Input {
 }
 
 /// Returns how many line feeds these bytes have.
-fn line_feeds(bytes: &[u8]) -> usize {
-    bytes.iter().filter(|byte| **byte == b'\n').count()
+fn line_feeds(bytes: &[u8]) -> u64 {
+    bytes.iter().filter(|byte| **byte == b'\n').count() as u64
 }

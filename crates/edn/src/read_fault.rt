@@ -46,6 +46,13 @@ pub enum ReadFault {
     Memory,
 }
 
+/// The fault of a text that has this problem on this line.
+pub(crate) fn syntax(line: u64, problem: Problem) -> ReadFault
+    ensures { result ≡ ReadFault.Syntax line problem }
+{
+    ReadFault::Syntax { line, problem }
+}
+
 /// Why a token was not taken.
 #[derive(Clone, Copy, Debug, PartialEq, Eq, Error, Drop)]
 pub(crate) enum Refusal {

@@ -1,10 +1,10 @@
 //! Reading a text form by form.
 
-ghost use Rattle.std.specs.Prelude.{◌≡◌, ◌⊎◌, ◌<◌, List, ℕ, Option, true, IfOk, IfErr, IfSome, IfNone, OnOk, IsSome, option_map};
+ghost use Rattle.std.specs.Prelude.{◌≡◌, ◌≢◌, ◌⊎◌, ◌<◌, List, ℕ, Option, None, true, IfOk, IfErr, IfSome, IfNone, OnOk, IsSome, option_map};
 ghost use Rattle.std.specs.Io.KnownBytes.{prepend_known};
 ghost use Rattle.edn.specs.Meaning.Forms.{Form as Plain, form_of};
 ghost use Rattle.edn.specs.Meaning.Faults.{IsOfDepth, IsOfText};
-ghost use Rattle.edn.specs.Meaning.Readers.{BeginsForm, HasNoForm, IsReady, IsTooDeep, ReadsForm, left_to_do, text_left};
+ghost use Rattle.edn.specs.Meaning.Readers.{BeginsForm, HasNoForm, IsOver, IsReady, IsTooDeep, ReadsForm, left_to_do, text_left};
 ghost use Rattle.edn.specs.Computing.Building.{is_top, stack_of};
 ghost use Rattle.edn.specs.Computing.Stages.{Built, Refused, Stops, Takes};
 ghost use Rattle.edn.specs.Computing.Tokens.{token_of};
@@ -13,7 +13,7 @@ ghost use Rattle.edn.specs.declared.reader.Stage.TheVariants.{Start, Elements};
 use crate::builder::Builder;
 use crate::form::Form;
 use crate::input::Input;
-use crate::read_fault::{Problem, ReadFault, Refusal};
+use crate::read_fault::{Problem, ReadFault, Refusal, syntax};
 use crate::token::{Closing, Opening, Token};
 use devices::Source;
 use std::alloc::{AllocError, Global};
@@ -78,7 +78,8 @@ impl Reader {
     /// that fault again, and reads no more. What it returns is the form with which the text that is left begins: its
     /// tokens follow one another there, with white space and comments between them. If a form is there, it is returned:
     /// `None` says that the text doesn't begin with one, and so does `Syntax`, unless its problem is `Depth`: then more
-    /// than [`MAX_DEPTH`](crate::MAX_DEPTH) forms are nested there.
+    /// than [`MAX_DEPTH`](crate::MAX_DEPTH) forms are nested there. `None` says also that only discarded forms, the bracket
+    /// that closes the vector, white space and comments were left of the text.
     pub fn next_form<S: Source>(&mut self, source: &mut S) -> Result<Option<Form>, ReadFault>
         ensures less { IfOk result (λ o. IsSome o
             → left_to_do (S.left source.new) self.new < left_to_do (S.left source.old) self.old) }
@@ -90,6 +91,8 @@ impl Reader {
         ensures ready { IsReady self.old (S.remaining source.old) → OnOk result (IsReady self.new (S.remaining source.new)) }
         ensures none { IsReady self.old (S.remaining source.old) → IfOk result (λ o.
             IfNone o (HasNoForm self.old.stage (text_left self.old (S.remaining source.old)))) }
+        ensures end { IsReady self.old (S.remaining source.old) → IfOk result (λ o.
+            IfNone o (IsOver self.old.stage (text_left self.old (S.remaining source.old)))) }
         ensures refused { IsReady self.old (S.remaining source.old) → IfErr result (λ e. IsOfText e
             → HasNoForm self.old.stage (text_left self.old (S.remaining source.old))) }
         ensures deep { IsReady self.old (S.remaining source.old) → IfErr result (λ e. IsOfDepth e
@@ -116,73 +119,102 @@ impl Reader {
         ensures ready { IsReady self.old (S.remaining source.old) → OnOk result (IsReady self.new (S.remaining source.new)) }
         ensures none { IsReady self.old (S.remaining source.old) → IfOk result (λ o.
             IfNone o (HasNoForm self.old.stage (text_left self.old (S.remaining source.old)))) }
+        ensures end { IsReady self.old (S.remaining source.old) → IfOk result (λ o.
+            IfNone o (IsOver self.old.stage (text_left self.old (S.remaining source.old)))) }
         ensures refused { IsReady self.old (S.remaining source.old) → IfErr result (λ e. IsOfText e
             → HasNoForm self.old.stage (text_left self.old (S.remaining source.old))) }
         ensures deep { IsReady self.old (S.remaining source.old) → IfErr result (λ e. IsOfDepth e
             → (self.old.stage ≡ Stage.Failed e) ⊎ IsTooDeep self.old.stage (text_left self.old (S.remaining source.old))) }
     {
-        while let Some(token) = self.input.next_token(source)? {
-            if let Some(form) = self.take(token)? {
-                return Ok(Some(form));
+        let mut leaf = Form::Nil;
+        let mut made = None;
+        'token: while let Some(token) = self.input.next_token(source, &mut leaf)? {
+            self.take(token, &mut leaf, &mut made)?;
+            if made.is_some() {
+                return Ok(made);
             }
         }
         self.end()?;
         Ok(None)
     }
 
-    /// Takes the next token. Returns the form that ends with it, if one does.
-    fn take(&mut self, token: Token) -> Result<Option<Form>, ReadFault>
+    /// Takes the next token. Puts the form that ends with it, if one does, into `made`.
+    fn take(
+        &mut self,
+        token: Token,
+        leaf: &mut Form,
+        made: &mut Option<Form>,
+    ) -> Result<(), ReadFault>
+        requires { made.old ≡ None }
         ensures input { self.new.input ≡ self.old.input }
-        ensures takes { IfOk result (λ o. Takes self.old.stage (token_of token) self.new.stage
-            (stack_of self.old.builder) (stack_of self.new.builder) (option_map form_of o)) }
-        ensures stops { IfErr result (Stops self.old.stage (token_of token) (stack_of self.old.builder)) }
+        ensures takes { OnOk result (Takes self.old.stage (token_of leaf.old token) self.new.stage
+            (stack_of self.old.builder) (stack_of self.new.builder) (option_map form_of made.new)) }
+        ensures stops { IfErr result (Stops self.old.stage (token_of leaf.old token) (stack_of self.old.builder)) }
     {
         match self.stage {
-            Stage::Start => self.take_first(token),
-            Stage::Elements => self.take_in_vector(token),
-            Stage::Closed => Err(self.input.fault(Problem::AfterVector)),
-            Stage::Forms => self.build(token),
+            Stage::Start => self.take_first(token, leaf, made),
+            Stage::Elements => self.take_in_vector(token, leaf, made),
+            Stage::Closed => Err(syntax(self.input.line(), Problem::AfterVector)),
+            Stage::Forms => self.build(token, leaf, made),
             Stage::Failed(fault) => Err(fault),
         }
     }
 
-    fn take_first(&mut self, token: Token) -> Result<Option<Form>, ReadFault>
+    fn take_first(
+        &mut self,
+        token: Token,
+        leaf: &mut Form,
+        made: &mut Option<Form>,
+    ) -> Result<(), ReadFault>
+        requires { made.old ≡ None }
         ensures input { self.new.input ≡ self.old.input }
-        ensures takes { IfOk result (λ o. Takes Start (token_of token) self.new.stage
-            (stack_of self.old.builder) (stack_of self.new.builder) (option_map form_of o)) }
-        ensures stops { IfErr result (Stops Start (token_of token) (stack_of self.old.builder)) }
+        ensures takes { OnOk result (Takes Start (token_of leaf.old token) self.new.stage
+            (stack_of self.old.builder) (stack_of self.new.builder) (option_map form_of made.new)) }
+        ensures stops { IfErr result (Stops Start (token_of leaf.old token) (stack_of self.old.builder)) }
     {
         if matches!(token, Token::Open(Opening::Vector)) {
             self.stage = Stage::Elements;
-            return Ok(None);
+            return Ok(());
         }
         self.stage = Stage::Forms;
-        self.build(token)
+        self.build(token, leaf, made)
     }
 
-    fn take_in_vector(&mut self, token: Token) -> Result<Option<Form>, ReadFault>
+    fn take_in_vector(
+        &mut self,
+        token: Token,
+        leaf: &mut Form,
+        made: &mut Option<Form>,
+    ) -> Result<(), ReadFault>
+        requires { made.old ≡ None }
         ensures input { self.new.input ≡ self.old.input }
-        ensures takes { self.old.stage ≡ Elements → IfOk result (λ o. Takes Elements (token_of token) self.new.stage
-            (stack_of self.old.builder) (stack_of self.new.builder) (option_map form_of o)) }
-        ensures stops { IfErr result (Stops Elements (token_of token) (stack_of self.old.builder)) }
+        ensures takes { self.old.stage ≡ Elements → OnOk result (Takes Elements (token_of leaf.old token) self.new.stage
+            (stack_of self.old.builder) (stack_of self.new.builder) (option_map form_of made.new)) }
+        ensures stops { IfErr result (Stops Elements (token_of leaf.old token) (stack_of self.old.builder)) }
     {
         if self.builder.is_idle() && matches!(token, Token::Close(Closing::Square)) {
             self.stage = Stage::Closed;
-            return Ok(None);
+            return Ok(());
         }
-        self.build(token)
+        self.build(token, leaf, made)
     }
 
-    fn build(&mut self, token: Token) -> Result<Option<Form>, ReadFault>
+    fn build(
+        &mut self,
+        token: Token,
+        leaf: &mut Form,
+        made: &mut Option<Form>,
+    ) -> Result<(), ReadFault>
+        requires { made.old ≡ None }
         ensures input { self.new.input ≡ self.old.input }
         ensures stage { self.new.stage ≡ self.old.stage }
-        ensures built { IfOk result (λ o. Built (stack_of self.old.builder) (token_of token)
-            (stack_of self.new.builder) (option_map form_of o)) }
-        ensures refused { IfErr result (Refused (stack_of self.old.builder) (token_of token)) }
+        ensures built { OnOk result (Built (stack_of self.old.builder) (token_of leaf.old token)
+            (stack_of self.new.builder) (option_map form_of made.new)) }
+        ensures refused { IfErr result (Refused (stack_of self.old.builder) (token_of leaf.old token)) }
     {
-        match self.builder.take(token) {
-            Ok(form) => Ok(form),
-            Err(Refusal::Problem(problem)) => Err(self.input.fault(problem)),
+        match self.builder.take(token, leaf, made) {
+            Ok(()) => Ok(()),
+            Err(Refusal::Problem(problem)) => Err(syntax(self.input.line(), problem)),
             Err(Refusal::Memory) => Err(ReadFault::Memory),
         }
     }
@@ -190,13 +222,14 @@ impl Reader {
     /// Returns the fault of a text that ends here, if it is none.
     fn end(&self) -> Result<(), ReadFault>
         ensures idle { OnOk result (is_top (stack_of self.now.builder) ≡ true) }
+        ensures closed { OnOk result (self.now.stage ≢ Elements) }
         ensures shallow { IfErr result (λ e. ¬ IsOfDepth e) }
     {
         if !self.builder.is_idle() {
-            return Err(self.input.fault(self.builder.problem_at_end()));
+            return Err(syntax(self.input.line(), self.builder.problem_at_end()));
         }
         match self.stage {
-            Stage::Elements => Err(self.input.fault(Problem::Unclosed)),
+            Stage::Elements => Err(syntax(self.input.line(), Problem::Unclosed)),
             _ => Ok(()),
         }
     }

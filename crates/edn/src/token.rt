@@ -4,7 +4,8 @@ ghost use Rattle.std.specs.Prelude.{◌≡◌, ◌≤◌, ◌<◌, ◌+◌, ℕ,
 ghost use Rattle.std.specs.List.{prefix_len};
 ghost use Rattle.edn.specs.Meaning.Bytes.{is_word_byte};
 ghost use Rattle.edn.specs.Computing.Tokens as Spec;
-ghost use Rattle.edn.specs.Computing.Tokens.{lexed_of, token_of, IsRest};
+ghost use Rattle.edn.specs.declared.form.Form.{Form as FormValue};
+ghost use Rattle.edn.specs.Computing.Tokens.{lexed_of, token_of, BeginsComment, IsRest, IsWithin};
 
 use crate::bytes::{is_space, word_len};
 use crate::character::is_character;
@@ -40,7 +41,7 @@ pub(crate) enum Closing {
 }
 
 /// A part of a text that has no parts.
-#[derive(Drop)]
+#[derive(Clone, Copy)]
 pub(crate) enum Token {
     Open(Opening),
     Close(Closing),
@@ -48,8 +49,8 @@ pub(crate) enum Token {
     Discard,
     /// `#` and a symbol
     Tag,
-    /// A form that is no collection.
-    Leaf(Form),
+    /// A form that is no collection; whoever reads the token says where to put it.
+    Leaf,
 }
 
 /// What comes after the bytes that have been read.
@@ -62,7 +63,7 @@ pub(crate) enum Beyond {
 }
 
 /// What the front of some bytes is.
-#[derive(Drop)]
+#[derive(Clone, Copy)]
 pub(crate) enum Lexed<'a> {
     /// A token, and what follows it.
     Token(Token, &'a [u8]),
@@ -74,20 +75,22 @@ pub(crate) enum Lexed<'a> {
     Bad(Problem),
 }
 
-/// Reads the token at the front of the bytes, which don't begin with white space.
+/// Reads the token at the front of the bytes, which don't begin with white space. If it is a leaf, its form is put into
+/// `leaf`.
 #[tactic(auto, unfolding(crate::specs::Computing::Tokens::token_at))]
-pub(crate) fn read_token(
+pub(crate) fn read_token<'a>(
     alloc: Global,
-    bytes: &[u8],
+    bytes: &'a [u8],
     beyond: Beyond,
-) -> Result<Lexed<'_>, AllocError>
-    ensures exact { IfOk result (λ l. lexed_of l ≡ Spec.token_at beyond bytes.now) }
+    leaf: &mut Form,
+) -> Result<Lexed<'a>, AllocError>
+    ensures exact { IfOk result (λ l. lexed_of leaf.new l ≡ Spec.token_at beyond bytes.now) }
     ensures within { IfOk result (IsRest beyond bytes.now) }
 {
     match bytes {
         [] | [b';', ..] => Ok(no_token(beyond)),
-        [b'"', text @ ..] => quoted(alloc, text, beyond),
-        [b'\\', text @ ..] => character(alloc, text, beyond),
+        [b'"', text @ ..] => quoted(alloc, text, beyond, leaf),
+        [b'\\', text @ ..] => character(alloc, text, beyond, leaf),
         [b'#', text @ ..] => Ok(dispatched(text, beyond)),
         [b'(', rest @ ..] => Ok(Lexed::Token(Token::Open(Opening::List), rest)),
         [b'[', rest @ ..] => Ok(Lexed::Token(Token::Open(Opening::Vector), rest)),
@@ -95,13 +98,13 @@ pub(crate) fn read_token(
         [b')', rest @ ..] => Ok(Lexed::Token(Token::Close(Closing::Round), rest)),
         [b']', rest @ ..] => Ok(Lexed::Token(Token::Close(Closing::Square), rest)),
         [b'}', rest @ ..] => Ok(Lexed::Token(Token::Close(Closing::Curly), rest)),
-        _ => word_token(alloc, bytes, beyond),
+        _ => word_token(alloc, bytes, beyond, leaf),
     }
 }
 
 fn no_token<'a>(beyond: Beyond) -> Lexed<'a>
-    ensures exact { lexed_of result ≡ Spec.no_token beyond }
-    ensures within { (bytes : List ℕ) → IsRest beyond bytes result }
+    ensures exact { (f : FormValue) → lexed_of f result ≡ Spec.no_token beyond }
+    ensures within { (bytes : List ℕ) → BeginsComment bytes → IsRest beyond bytes result }
 {
     match beyond {
         Beyond::Unread => Lexed::More,
@@ -111,8 +114,8 @@ fn no_token<'a>(beyond: Beyond) -> Lexed<'a>
 
 /// What a token is that goes up to the end of the bytes, unless more of it is to be read.
 fn unfinished<'a>(beyond: Beyond) -> Lexed<'a>
-    ensures exact { lexed_of result ≡ Spec.unfinished beyond }
-    ensures within { (bytes : List ℕ) → IsRest beyond bytes result }
+    ensures exact { (f : FormValue) → lexed_of f result ≡ Spec.unfinished beyond }
+    ensures within { (bytes : List ℕ) → IsWithin beyond bytes result }
 {
     match beyond {
         Beyond::Unread => Lexed::More,
@@ -130,23 +133,43 @@ fn may_go_on(rest: &[u8], beyond: Beyond) -> bool
     }
 }
 
+/// Puts the form into this place.
+fn put(place: &mut Form, form: Form)
+    ensures { place.new ≡ form }
+{
+    *place = form;
+}
+
 /// Reads a string after its opening quote.
-fn quoted(alloc: Global, text: &[u8], beyond: Beyond) -> Result<Lexed<'_>, AllocError>
-    ensures exact { IfOk result (λ l. lexed_of l ≡ Spec.string_token beyond text.now) }
-    ensures within { IfOk result (IsRest beyond text.now) }
+fn quoted<'a>(
+    alloc: Global,
+    text: &'a [u8],
+    beyond: Beyond,
+    leaf: &mut Form,
+) -> Result<Lexed<'a>, AllocError>
+    ensures exact { IfOk result (λ l. lexed_of leaf.new l ≡ Spec.string_token beyond text.now) }
+    ensures within { IfOk result (IsWithin beyond text.now) }
 {
     let mut bytes = Vec::new(alloc);
     match string(text, &mut bytes)? {
-        Quoted::Closed(rest) => Ok(Lexed::Token(Token::Leaf(Form::String(bytes)), rest)),
+        Quoted::Closed(rest) => {
+            put(leaf, Form::String(bytes));
+            Ok(Lexed::Token(Token::Leaf, rest))
+        }
         Quoted::Open => Ok(unfinished(beyond)),
         Quoted::Bad => Ok(Lexed::Bad(Problem::Token)),
     }
 }
 
 /// Reads a character after its backslash.
-fn character(alloc: Global, text: &[u8], beyond: Beyond) -> Result<Lexed<'_>, AllocError>
-    ensures exact { IfOk result (λ l. lexed_of l ≡ Spec.character_token beyond text.now) }
-    ensures within { IfOk result (IsRest beyond text.now) }
+fn character<'a>(
+    alloc: Global,
+    text: &'a [u8],
+    beyond: Beyond,
+    leaf: &mut Form,
+) -> Result<Lexed<'a>, AllocError>
+    ensures exact { IfOk result (λ l. lexed_of leaf.new l ≡ Spec.character_token beyond text.now) }
+    ensures within { IfOk result (IsWithin beyond text.now) }
 {
     let [first, others @ ..] = text else {
         return Ok(unfinished(beyond));
@@ -158,13 +181,14 @@ fn character(alloc: Global, text: &[u8], beyond: Beyond) -> Result<Lexed<'_>, Al
     if is_space(*first) || !is_character(name) {
         return Ok(Lexed::Bad(Problem::Token));
     }
-    Ok(Lexed::Token(Token::Leaf(Form::Character(name.to_vec(alloc)?)), rest))
+    put(leaf, Form::Character(name.to_vec(alloc)?));
+    Ok(Lexed::Token(Token::Leaf, rest))
 }
 
 /// Reads what begins with `#`, after it.
 fn dispatched(text: &[u8], beyond: Beyond) -> Lexed<'_>
-    ensures exact { lexed_of result ≡ Spec.dispatched beyond text.now }
-    ensures within { IsRest beyond text.now result }
+    ensures exact { (f : FormValue) → lexed_of f result ≡ Spec.dispatched beyond text.now }
+    ensures within { IsWithin beyond text.now result }
 {
     match text {
         [] => unfinished(beyond),
@@ -176,8 +200,8 @@ fn dispatched(text: &[u8], beyond: Beyond) -> Lexed<'_>
 
 /// Reads a tag after its `#`.
 fn tag(text: &[u8], beyond: Beyond) -> Lexed<'_>
-    ensures exact { lexed_of result ≡ Spec.tag_token beyond text.now }
-    ensures within { IsRest beyond text.now result }
+    ensures exact { (f : FormValue) → lexed_of f result ≡ Spec.tag_token beyond text.now }
+    ensures within { IsWithin beyond text.now result }
 {
     let (name, rest) = text.split_at(word_len(text));
     if may_go_on(rest, beyond) {
@@ -190,16 +214,24 @@ fn tag(text: &[u8], beyond: Beyond) -> Lexed<'_>
 }
 
 /// Reads the word at the front.
-fn word_token(alloc: Global, bytes: &[u8], beyond: Beyond) -> Result<Lexed<'_>, AllocError>
-    ensures exact { IfOk result (λ l. lexed_of l ≡ Spec.word_token beyond bytes.now) }
-    ensures within { IfOk result (IsRest beyond bytes.now) }
+fn word_token<'a>(
+    alloc: Global,
+    bytes: &'a [u8],
+    beyond: Beyond,
+    leaf: &mut Form,
+) -> Result<Lexed<'a>, AllocError>
+    ensures exact { IfOk result (λ l. lexed_of leaf.new l ≡ Spec.word_token beyond bytes.now) }
+    ensures within { IfOk result (IsWithin beyond bytes.now) }
 {
     let (name, rest) = bytes.split_at(word_len(bytes));
     if may_go_on(rest, beyond) {
         return Ok(Lexed::More);
     }
     match word(alloc, name)? {
-        Some(form) => Ok(Lexed::Token(Token::Leaf(form), rest)),
+        Some(form) => {
+            put(leaf, form);
+            Ok(Lexed::Token(Token::Leaf, rest))
+        }
         None => Ok(Lexed::Bad(Problem::Token)),
     }
 }

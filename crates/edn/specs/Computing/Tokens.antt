@@ -8,6 +8,7 @@ use Rattle.edn.specs.declared.token.Opening.TheVariants as opening
 use Rattle.edn.specs.declared.token.Closing.TheVariants as closing
 use Rattle.edn.specs.declared.token.Beyond.{Beyond}
 use Rattle.edn.specs.declared.token.Beyond.TheVariants.{Unread, Nothing}
+use Rattle.edn.specs.declared.form.Form.{Form as FormValue}
 use Rattle.edn.specs.declared.token.Token.{Token as TokenValue}
 use Rattle.edn.specs.declared.token.Token.TheVariants as In
 use Rattle.edn.specs.declared.token.Lexed.{Lexed as LexedValue}
@@ -27,24 +28,38 @@ pub data Lexed : Type 0 where
   more : Lexed
   bad : Problem → Lexed
 
-abbrev pub token_of : TokenValue → Token
-token_of (In.Open b) = opens b
-token_of (In.Close b) = closes b
-token_of In.Discard = discard
-token_of In.Tag = tag
-token_of (In.Leaf f) = leaf (form_of f)
+-- the form is that of a leaf
+abbrev pub token_of : FormValue → TokenValue → Token
+token_of f (In.Open b) = opens b
+token_of f (In.Close b) = closes b
+token_of f In.Discard = discard
+token_of f In.Tag = tag
+token_of f In.Leaf = leaf (form_of f)
 
-abbrev pub lexed_of : LexedValue → Lexed
-lexed_of (Read.Token t rest) = token (token_of t) rest.now
-lexed_of Read.End = end
-lexed_of Read.More = more
-lexed_of (Read.Bad p) = bad p
+abbrev pub lexed_of : FormValue → LexedValue → Lexed
+lexed_of f (Read.Token t rest) = token (token_of f t) rest.now
+lexed_of f Read.End = end
+lexed_of f Read.More = more
+lexed_of f (Read.Bad p) = bad p
 
--- what follows a token is shorter than the bytes; the text ends only if nothing comes after them, and more bytes decide
--- only if there may be more; nothing is nested in a token
+-- nothing, or the beginning of a comment
+abbrev pub BeginsComment : List ℕ → Type 0
+BeginsComment [] = Unit {0}
+BeginsComment (b ∷ bs) = b ≡ 59
+
+-- what follows a token that has begun is shorter than the bytes; more bytes decide only if there may be more; nothing is
+-- nested in a token
+abbrev pub IsWithin : Beyond → List ℕ → LexedValue → Type 0
+IsWithin beyond bytes (Read.Token t rest) = length rest.now < length bytes
+IsWithin beyond bytes Read.End = ⊥
+IsWithin beyond bytes Read.More = beyond ≡ Unread
+IsWithin beyond bytes (Read.Bad p) = p ≢ problem.Depth
+
+-- the same of a token that may begin there; the text ends only if nothing comes after the bytes, and they are none, or
+-- begin a comment
 abbrev pub IsRest : Beyond → List ℕ → LexedValue → Type 0
 IsRest beyond bytes (Read.Token t rest) = length rest.now < length bytes
-IsRest beyond bytes Read.End = beyond ≡ Nothing
+IsRest beyond bytes Read.End = (beyond ≡ Nothing) × BeginsComment bytes
 IsRest beyond bytes Read.More = beyond ≡ Unread
 IsRest beyond bytes (Read.Bad p) = p ≢ problem.Depth
 

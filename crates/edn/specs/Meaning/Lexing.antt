@@ -17,6 +17,15 @@ pub data IsGap : List ℕ → Type 0 where
   space : {b : ℕ} {gap : List ℕ} → is_space b ≡ true → IsGap gap → IsGap (b ∷ gap)
   comment : {gap : List ℕ} (line : List ℕ) → All (λ b. b ≢ 10) line → IsGap gap → IsGap (59 ∷ (line ++ 10 ∷ gap))
 
+-- nothing, or a comment that the text ends in
+abbrev pub IsLastLine : List ℕ → Type 0
+IsLastLine [] = Unit {0}
+IsLastLine (b ∷ bs) = (b ≡ 59) × All (λ c. c ≢ 10) bs
+
+-- the text has white space and comments alone
+abbrev pub IsBlank : List ℕ → Type 0
+IsBlank text = (gap line : List ℕ) × IsGap gap × IsLastLine line × (text ≡ gap ++ line)
+
 -- the text ends, or goes on with a byte that ends a word
 abbrev pub Ends : List ℕ → Type 0
 Ends [] = Unit {0}

@@ -1,13 +1,14 @@
 -- What a reader has read of a text.
-use Rattle.std.specs.Prelude.{◌≡◌, ℕ, Bool, true, false, List, [], ◌∷◌, Option, None, Some}
+use Rattle.std.specs.Prelude.{◌≡◌, ℕ, Bool, true, false, List, [], ◌∷◌, ◌++◌, Option, None, Some}
 use Rattle.std.specs.Io.KnownBytes.{prepend_known}
 use Rattle.edn.specs.declared.reader.Reader.{Reader}
 use Rattle.edn.specs.declared.reader.Stage.{Stage}
 use Rattle.edn.specs.declared.reader.Stage.TheVariants.{Start, Forms, Elements, Closed, Failed}
 use Rattle.edn.specs.Meaning.Forms.{Form}
-use Rattle.edn.specs.Meaning.Tokens.{Token, is_square}
-use Rattle.edn.specs.Meaning.Lexing.{Lexes}
-use Rattle.edn.specs.Meaning.Grammar.{IsItem}
+use Rattle.edn.specs.declared.token.Closing.TheVariants.{Square}
+use Rattle.edn.specs.Meaning.Tokens.{Token, closes, is_square}
+use Rattle.edn.specs.Meaning.Lexing.{IsBlank, Lexes}
+use Rattle.edn.specs.Meaning.Grammar.{IsItem, AreItems}
 use Rattle.edn.specs.Meaning.Nesting.{AreTooDeep}
 use Rattle.edn.specs.Meaning.Reading.{IsLinked}
 use Rattle.edn.specs.Computing.Building.{top, stack_of}
@@ -63,3 +64,26 @@ HasNoForm stage text = (f : Form) → BeginsForm stage text f → ⊥
 abbrev pub IsTooDeep : Stage → Option (List ℕ) → Type 0
 IsTooDeep stage None = Unit {0}
 IsTooDeep stage (Some text) = (ts : List Token) × (rest : List ℕ) × Lexes text ts rest × AreNext stage ts AreTooDeep
+
+-- the tokens are those of discarded forms, and the bracket that closes the vector
+abbrev pub CloseVector : List Token → Type 0
+CloseVector ts = (us : List Token) × AreItems us [] × (ts ≡ us ++ closes Square ∷ [])
+
+abbrev pub AreLastBehind : Bool → Token → List Token → Type 0
+AreLastBehind true t ts = CloseVector ts
+AreLastBehind false t ts = AreItems (t ∷ ts) []
+
+-- the tokens that come next are the last ones, and no form: those of discarded forms, and of a vector that the text is, its
+-- closing bracket; behind that there are none, nor is anything read after a fault
+abbrev pub AreLast : Stage → List Token → Type 0
+AreLast Start [] = Unit {0}
+AreLast Start (t ∷ ts) = AreLastBehind (is_square t) t ts
+AreLast Forms ts = AreItems ts []
+AreLast Elements ts = CloseVector ts
+AreLast Closed ts = ts ≡ []
+AreLast (Failed fault) ts = ts ≡ []
+
+-- the text, if it is known, has no other form: it has these tokens, and then white space and comments alone
+abbrev pub IsOver : Stage → Option (List ℕ) → Type 0
+IsOver stage None = Unit {0}
+IsOver stage (Some text) = (ts : List Token) × (rest : List ℕ) × Lexes text ts rest × AreLast stage ts × IsBlank rest

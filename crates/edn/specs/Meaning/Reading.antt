@@ -4,7 +4,7 @@ use Rattle.std.specs.Io.KnownBytes.{IsAtEnd}
 use Rattle.edn.specs.declared.token.Beyond.{Beyond}
 use Rattle.edn.specs.declared.token.Beyond.TheVariants.{Unread, Nothing}
 use Rattle.edn.specs.Meaning.Tokens.{Token}
-use Rattle.edn.specs.Meaning.Lexing.{IsGap, Begins, Lexes}
+use Rattle.edn.specs.Meaning.Lexing.{IsGap, IsBlank, Begins, Lexes}
 
 -- the source has nothing left if its end was met
 abbrev pub IsLinked : Beyond → Option (List ℕ) → Type 0
@@ -27,6 +27,11 @@ ReadsToken (Some text) left t =
 abbrev pub HasNoToken : Option (List ℕ) → Type 0
 HasNoToken None = Unit {0}
 HasNoToken (Some text) = (t : Token) (rest : List ℕ) → Lexes text (t ∷ []) rest → ⊥
+
+-- it has white space and comments alone
+abbrev pub IsBlankLeft : Option (List ℕ) → Type 0
+IsBlankLeft None = Unit {0}
+IsBlankLeft (Some text) = IsBlank text
 
 -- it begins with these tokens
 abbrev pub ReadsTokens : Option (List ℕ) → Option (List ℕ) → List Token → Type 0

@@ -5,6 +5,7 @@ use Rattle.edn.specs.declared.token.Beyond.TheVariants.{Nothing}
 use Rattle.edn.specs.Computing.Tokens.{token, end, bad, token_of, token_at}
 use Rattle.edn.proofs.TokensRead.{token_rest, none_passed, more_passed, same_passed, token_read}
 use Rattle.edn.proofs.NoTokens.{no_token, none_at_end, none_at_bad}
+use Rattle.edn.proofs.TextOver.{blank_left}
 use Rattle.edn.proofs.input.Input.next_token.Goals as goal
 
 pub loop-token-init : goal.loop-token-init
@@ -17,7 +18,7 @@ returns-in-Token-clause-token g c = λ l.
     let start = prepend_known c.args.self.now.pending (g.S.Read.remaining c.args.source.now) in
     let left = g.S.Read.remaining c.loop-token.source in
     let p = c.pass_gap.new.self.pending in
-    let t = token_of c.in-Token.token in
+    let t = token_of c.read_token.new.leaf c.in-Token.token in
     let rest = c.in-Token.rest.now in
     let is : token_at c.pass_gap.new.self.beyond p ≡ token t rest =
     sym (rw (c.in-Token.is, c.bytes.ensures) at c.in_ok-token.ensures.exact) in
@@ -46,12 +47,23 @@ returns-in-End-clause-none g c = λ l.
     let start = prepend_known c.args.self.now.pending (g.S.Read.remaining c.args.source.now) in
     let left = g.S.Read.remaining c.loop-token.source in
     let p = c.pass_gap.new.self.pending in
-    let over : c.pass_gap.new.self.beyond ≡ Nothing = rw c.in-End.is at c.in_ok-token.ensures.within in
+    let over : c.pass_gap.new.self.beyond ≡ Nothing = (rw c.in-End.is at c.in_ok-token.ensures.within).0 in
     let is : token_at Nothing p ≡ end =
     sym (rw (c.in-End.is, c.bytes.ensures, over) at c.in_ok-token.ensures.exact) in
     let linked = subst (λ b. IsLinked b left) (sym c.pass_gap.ensures.beyond ∙ over) now in
     no_token Nothing p start left (none_at_end p c.pass_gap.ensures.all is) linked
     (more_passed _ p gap start left e is_gap passed)
+
+pub returns-in-End-clause-blank : goal.returns-in-End-clause-blank
+returns-in-End-clause-blank g c = λ l.
+    let (now, passed) = c.loop-token.invariant.1 l in
+    let (gap, is_gap, e) = c.pass_gap.ensures.passed in
+    let start = prepend_known c.args.self.now.pending (g.S.Read.remaining c.args.source.now) in
+    let left = g.S.Read.remaining c.loop-token.source in
+    let p = c.pass_gap.new.self.pending in
+    let within = rw (c.in-End.is, c.bytes.ensures) at c.in_ok-token.ensures.within in
+    let linked = subst (λ b. IsLinked b left) (sym c.pass_gap.ensures.beyond ∙ within.0) now in
+    blank_left p start left c.pass_gap.ensures.all within.1 linked (more_passed _ p gap start left e is_gap passed)
 
 pub returns-in-Bad-clause-refused : goal.returns-in-Bad-clause-refused
 returns-in-Bad-clause-refused g c = λ l _.

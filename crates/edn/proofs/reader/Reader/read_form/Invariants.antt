@@ -1,5 +1,5 @@
 -- The tokens so far have led to what is open, and the text goes on behind them.
-use Rattle.std.proofs.Common.{◌≤◌, List}
+use Rattle.std.proofs.Common.{◌≡◌, ◌≤◌, List, None}
 use Rattle.edn.specs.Meaning.Tokens.{Token}
 use Rattle.edn.specs.Meaning.Reading.{IsLinked, ReadsTokens}
 use Rattle.edn.specs.Meaning.Readers.{IsReady, left_to_do, text_left}
@@ -8,9 +8,10 @@ use Rattle.edn.proofs.FormsRead.{Leads}
 use Rattle.edn.proofs.NoForms.{Goes}
 use Rattle.edn.proofs.reader.Reader.read_form.Given as goal
 
-abbrev pub invariant-loop-token : goal.invariant-loop-token
-invariant-loop-token g l =
-    (left_to_do (g.S.Source.left l.source) l.self ≤ left_to_do (g.S.Source.left l.initial.source) l.initial.self)
+abbrev pub invariant-token : goal.invariant-token
+invariant-token g l =
+    (l.made ≡ None)
+    × (left_to_do (g.S.Source.left l.source) l.self ≤ left_to_do (g.S.Source.left l.initial.source) l.initial.self)
     × (IsReady l.initial.self (g.S.Read.remaining l.initial.source)
     → IsLinked l.self.input.beyond (g.S.Read.remaining l.source)
     × ((ts : List Token) × ReadsTokens (text_left l.initial.self (g.S.Read.remaining l.initial.source))
@@ -19,5 +20,5 @@ invariant-loop-token g l =
     × Goes l.initial.self.stage l.self.stage (text_left l.initial.self (g.S.Read.remaining l.initial.source)) ts
     (stack_of l.self.builder)))
 
-abbrev pub decreases-loop-token : goal.decreases-loop-token
-decreases-loop-token g l = left_to_do (g.S.Source.left l.source) l.self
+abbrev pub decreases-token : goal.decreases-token
+decreases-token g l = left_to_do (g.S.Source.left l.source) l.self
