@@ -1,9 +1,18 @@
-//! The program `lists`: says whether a list-append history is serializable.
+//! The program `lists`: reads a list-append history and says whether an order of the transactions explains it.
 #![tactic(auto)]
 
-use lists_program::{Progress, run};
+mod answer;
+mod arguments;
+mod cast;
+mod explanation;
+mod page;
+mod progress;
+mod tasks;
+
+use progress::Progress;
 use std::io::IsTerminal;
 use std::process::ExitCode;
+use tasks::run;
 
 fn main(rt: HostRuntime) -> ExitCode {
     let progress = if rt.stderr().is_terminal() {

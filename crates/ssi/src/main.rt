@@ -1,8 +1,11 @@
 //! The program `ssi`: audits histories by certificates, finds certificates or cycles, and runs the store.
 #![tactic(auto)]
 
-use ssi_program::run;
+mod late_file;
+mod tasks;
+
 use std::process::ExitCode;
+use tasks::run;
 
 fn main(rt: HostRuntime) -> ExitCode {
     ExitCode::from(run(&rt))
