@@ -1,6 +1,6 @@
 -- Which histories have a certificate with which they are accepted, and what a cycle implies.
-use Rattle.std.specs.Prelude.{◌≡◌, ◌⊎◌, ◌↔◌, ℕ, true, List}
-use Rattle.adya_values.specs.Meaning.Histories.{History}
+use Rattle.std.specs.Prelude.{◌≡◌, ◌⊎◌, ◌↔◌, true, List}
+use Rattle.adya_values.specs.Meaning.Histories.{Txns, History}
 use Rattle.adya_values.specs.Meaning.Events.{is_committed}
 use Rattle.adya_values.specs.Meaning.Edges.{Edge, IsEdge, IsCycle}
 use Rattle.adya_values.specs.Meaning.Rules.{IsWellFormed}
@@ -11,7 +11,7 @@ use Rattle.adya_dsg.specs.Meaning.Found.{HasCertificate}
 -- if there is a cycle, each edge goes forward in no list of transactions
 abbrev pub CycleExcludesCertificates : Type 0
 CycleExcludesCertificates = (h : History) (es : List Edge) → IsCycle h es
-    → (ts : List ℕ) → ((e : Edge) → IsEdge h e → IsBefore ts e.from e.to) → ⊥
+    → (ts : Txns) → ((e : Edge) → IsEdge h e → IsBefore ts e.from e.to) → ⊥
 
 -- the ends of each edge of a checked history are committed transactions
 abbrev pub EdgesJoinCommitted : Type 0

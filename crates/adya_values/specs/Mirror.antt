@@ -1,12 +1,12 @@
 -- What a history and a certificate of the code hold: the plain history, and each list.
-use Rattle.std.specs.Prelude.{ℕ, List, map}
+use Rattle.std.specs.Prelude.{List, map}
 use Rattle.adya_values.specs.declared.edition.Edition.{Edition}
 use Rattle.adya_values.specs.declared.event.Event.{Event as EventValue}
 use Rattle.adya_values.specs.declared.order.Order.{Order as OrderValue}
 use Rattle.adya_values.specs.declared.order.FinalPair.{FinalPair as FinalValue}
 use Rattle.adya_values.specs.declared.history.History.{History as HistoryValue}
 use Rattle.adya_values.specs.declared.serial.Serial.{Serial as SerialValue}
-use Rattle.adya_values.specs.Meaning.Histories.{History, event_of, order_of, final_of}
+use Rattle.adya_values.specs.Meaning.Histories.{Txns, History, event_of, order_of, final_of}
 
 -- the plain history
 abbrev pub history_of : HistoryValue → History
@@ -24,7 +24,7 @@ edition_in h = h.edition
 abbrev pub events_in : HistoryValue → List EventValue
 events_in h = h.events.items
 
-abbrev pub unfinished_in : HistoryValue → List ℕ
+abbrev pub unfinished_in : HistoryValue → Txns
 unfinished_in h = h.unfinished.items
 
 abbrev pub orders_in : HistoryValue → List OrderValue
@@ -34,5 +34,5 @@ abbrev pub finals_in : HistoryValue → List FinalValue
 finals_in h = h.finals.items
 
 -- the transactions of a certificate, in order
-abbrev pub serial_txns : SerialValue → List ℕ
+abbrev pub serial_txns : SerialValue → Txns
 serial_txns s = s.txns.items

@@ -9,7 +9,8 @@
 --   ssi_store, specs/Meaning: Courses (commands and answers), Acts, Seeing (snapshots), Replies (what is answered),
 --   Recording (the history of a course), Faces (what a history shows of the answers)
 --   ssi_line, specs/Meaning: Spelling, Replies, Steps (lines, and what is made of them), Ends (what ends a run)
-use Rattle.std.specs.Prelude.{◌≡◌, ◌⊎◌, ℕ, List, ◌++◌}
+use Rattle.std.specs.Prelude.{◌≡◌, ◌⊎◌, List, ◌++◌}
+use Rattle.adya_values.specs.Meaning.Keys.{Bytes}
 use Rattle.adya_values.specs.Meaning.Histories.{History}
 use Rattle.adya_line.specs.Meaning.Lines.{IsPlain}
 use Rattle.adya_text.specs.Meaning.Texts.{history_text, with_ends}
@@ -24,17 +25,17 @@ use Rattle.ssi_line.specs.Meaning.Ends.{EndsWith}
 -- committed transactions, run one at a time in the certificate's order, give every recorded read, every scan and the
 -- final contents.
 abbrev pub YesMeansSerializable : Type 0
-YesMeansSerializable = (history certificate : List ℕ) → IsVerdictOn history certificate Yes
+YesMeansSerializable = (history certificate : Bytes) → IsVerdictOn history certificate Yes
     → AreSerializable history certificate
 
 -- Whatever command lines a new store is given: each of them made a step, up to one that ended the run or to the end of the
 -- input, and the replies are the texts of these steps; the history text records them, and the verdict on it and the
 -- certificate text is that yes.
-pub record GetsYes (input replies history certificate : List ℕ) : Type 0 where
-  pub lines : List (List ℕ)
+pub record GetsYes (input replies history certificate : Bytes) : Type 0 where
+  pub lines : List Bytes
   pub steps : List Step
   -- the bytes after the last of these lines
-  pub rest : List ℕ
+  pub rest : Bytes
   pub input_is : input ≡ with_ends lines ++ rest
   pub made : AreSteps lines steps
   pub follow : AllMayFollow (New 1) steps

@@ -1,6 +1,7 @@
 -- What ties pairs and pivots call by call to those that look back over all calls, that each pivot of the commit-order
 -- rule is one of the two-pair rule, and why transactions that aren't kept can be forgotten.
 use Rattle.std.specs.Prelude.{◌≡◌, ◌↔◌, ℕ, true, false, List, ◌∷◌, Option}
+use Rattle.adya_values.specs.Meaning.Keys.{Key}
 use Rattle.ssi_conflict.specs.Meaning.Calls.{Call, Begins, Reads, Commits, Aborts, AreAllowed, has_begun}
 use Rattle.ssi_conflict.specs.Meaning.Pairs.{IsPair, IsPivot, IsOrderedPivot, IsSmallest}
 use Rattle.ssi_conflict.specs.Computing.Steps.{adds, is_pair, smallest_pivot, smallest_ordered_pivot}
@@ -58,15 +59,15 @@ NewOrderedPivotsAreKept = (c : Call) (calls : List Call) → AreAllowed (c ∷ c
 
 -- by the commit-order rule a commit makes no pivot but of its own transaction
 abbrev pub CommitMakesOwnPivot : Type 0
-CommitMakesOwnPivot = (t n : ℕ) (ks : List (List ℕ)) (calls : List Call) → AreAllowed (Commits t n ks ∷ calls) → (p : ℕ)
+CommitMakesOwnPivot = (t n : ℕ) (ks : List Key) (calls : List Call) → AreAllowed (Commits t n ks ∷ calls) → (p : ℕ)
     → IsOrderedPivot p (Commits t n ks ∷ calls) → (IsOrderedPivot p calls → ⊥) → p ≡ t
 
 -- a read makes only pivots of writers with which it makes a pair
 abbrev pub ReadMakesWritersPivots : Type 0
-ReadMakesWritersPivots = (t : ℕ) (low high : List ℕ) (calls : List Call) → AreAllowed (Reads t low high ∷ calls) → (p : ℕ)
+ReadMakesWritersPivots = (t : ℕ) (low high : Key) (calls : List Call) → AreAllowed (Reads t low high ∷ calls) → (p : ℕ)
     → IsPivot p (Reads t low high ∷ calls) → (IsPivot p calls → ⊥) → adds (Reads t low high) calls t p ≡ true
 
 -- likewise by the commit-order rule
 abbrev pub ReadMakesWritersOrderedPivots : Type 0
-ReadMakesWritersOrderedPivots = (t : ℕ) (low high : List ℕ) (calls : List Call) → AreAllowed (Reads t low high ∷ calls) → (p : ℕ)
+ReadMakesWritersOrderedPivots = (t : ℕ) (low high : Key) (calls : List Call) → AreAllowed (Reads t low high ∷ calls) → (p : ℕ)
     → IsOrderedPivot p (Reads t low high ∷ calls) → (IsOrderedPivot p calls → ⊥) → adds (Reads t low high) calls t p ≡ true

@@ -2,6 +2,7 @@
 use Rattle.std.specs.Prelude.{◌≡◌, ℕ, Bool, true, List, ◌∷◌, Option, Some, None, Result, Ok, Err, is_some}
 use Rattle.std.specs.List.{list_any}
 use Rattle.std.specs.declared.alloc.AllocError.{AllocError}
+use Rattle.adya_values.specs.Meaning.Keys.{Key}
 use Rattle.ssi_reads.specs.Meaning.Marks.{has_txn}
 use Rattle.ssi_conflict.specs.Meaning.Calls.{Call, Commits, IsAllowed, last_stamp}
 use Rattle.ssi_conflict.specs.Meaning.Pairs.{IsOrderedPivot}
@@ -24,19 +25,19 @@ carried c calls (Ok (Unsafe p)) = calls
 carried c calls (Err e) = calls
 
 -- the table is in order, and its rows and the marks stand for the calls
-pub record Holds {M : Type 0} (marked : M → ℕ → List ℕ → Bool) (tracker : Tracker M) (calls : List Call) : Type 0 where
+pub record Holds {M : Type 0} (marked : M → ℕ → Key → Bool) (tracker : Tracker M) (calls : List Call) : Type 0 where
   pub rows : StandsFor (row_at tracker.table) (marked tracker.marks) calls
   pub tidy : IsTidy tracker.table
   pub last : tracker.table.last ≡ last_stamp calls
 
 -- the tracker stands for the calls: no pivot stands after them, what the tracker has of each transaction is what the
 -- calls say of it, and it has exactly the kept ones
-pub record Stands {M : Type 0} (marked : M → ℕ → List ℕ → Bool) (tracker : Tracker M) (calls : List Call) : Type 0 where
+pub record Stands {M : Type 0} (marked : M → ℕ → Key → Bool) (tracker : Tracker M) (calls : List Call) : Type 0 where
   pub holds : Holds marked tracker calls
   pub exact : (t : ℕ) → is_some (row_at tracker.table t) ≡ true → is_kept t calls ≡ true
 
 -- the tracker is ready for the commit of t with these keys: that takes no memory, and no pivot would stand after it
-pub record IsReady {M : Type 0} (marked : M → ℕ → List ℕ → Bool) (tracker : Tracker M) (t : ℕ) (ks : List (List ℕ)) :
+pub record IsReady {M : Type 0} (marked : M → ℕ → Key → Bool) (tracker : Tracker M) (t : ℕ) (ks : List Key) :
     Type 0 where
   pub prepared : IsPrepared tracker.table t ks
   pub readers : (r : ℕ) → has_txn tracker.readers.items r ≡ list_any (marked tracker.marks r) ks

@@ -1,7 +1,7 @@
 -- What follows from the definitions.
 use Rattle.std.specs.Prelude.{◌≡◌, ◌<◌, ℕ, if◌then◌else◌, List, [], ◌∷◌, ◌++◌, take, Option, Some, is_some}
 use Rattle.std.specs.List.{filter_map}
-use Rattle.adya_values.specs.Meaning.Keys.{key_eq}
+use Rattle.adya_values.specs.Meaning.Keys.{Key, key_eq}
 use Rattle.adya_values.specs.Meaning.Histories.{Entry}
 use Rattle.adya_values.specs.Meaning.Events.{listed}
 use Rattle.adya_values.specs.Meaning.Serial.{visible_pairs}
@@ -11,7 +11,7 @@ use Rattle.ssi_snapshot.specs.Meaning.Listings.{keys, within, IsListing, up_to, 
 
 -- the list with a write has this write of its key, and of every other key what it had
 abbrev pub PutIsFound : Type 0
-PutIsFound = (w : Entry) (ws : List Entry) (key : List ℕ)
+PutIsFound = (w : Entry) (ws : List Entry) (key : Key)
     → listed key (put_write w ws) ≡ (if key_eq w.version.key key then Some w else listed key ws)
 
 -- the keys stay if there was a write of the key, and otherwise it comes last
@@ -25,7 +25,7 @@ ListIsByKey = (ws : List Entry) → AreApart ws → filter_map (λ k. listed k w
 
 -- two lists by rising key that have the same of each key are the same
 abbrev pub ListingIsUnique : Type 0
-ListingIsUnique = (shows : List ℕ → Option Entry) (vs ws : List Entry)
+ListingIsUnique = (shows : Key → Option Entry) (vs ws : List Entry)
     → IsListing shows vs → IsListing shows ws → vs ≡ ws
 
 -- the visible pairs of a limited scan are the first ones of the whole scan
@@ -34,6 +34,6 @@ LimitTakesFirst = (n : ℕ) (ws : List Entry) → visible_pairs (up_to n ws) ≡
 
 -- and it lists all that is shown of the keys as far as it looked
 abbrev pub LimitListsItsRange : Type 0
-LimitListsItsRange = (shows : List ℕ → Option Entry) (low high : List ℕ) (n : ℕ) (ws : List Entry)
+LimitListsItsRange = (shows : Key → Option Entry) (low high : Key) (n : ℕ) (ws : List Entry)
     → 0 < n → IsListing (within low high shows) ws
     → IsListing (within low (reached high n (visible_pairs (up_to n ws))) shows) (up_to n ws)

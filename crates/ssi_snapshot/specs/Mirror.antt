@@ -1,5 +1,6 @@
 -- What is said of a view, and what its transaction sees.
 use Rattle.std.specs.Prelude.{◌≡◌, ℕ, List, map, Option}
+use Rattle.adya_values.specs.Meaning.Keys.{Key}
 use Rattle.adya_values.specs.Meaning.Histories.{Entry}
 use Rattle.adya_values.specs.Meaning.Events.{listed}
 use Rattle.ssi_versions.specs.Meaning.Changes.{Held, otherwise, entry_in, newest_within}
@@ -25,15 +26,15 @@ abbrev pub written : View → List Entry
 written v = map write_of (values v.writes)
 
 -- its last write of the key
-abbrev pub own : List ℕ → View → Option Entry
+abbrev pub own : Key → View → Option Entry
 own key v = listed key (written v)
 
 -- what it sees of the key: its own last write, or else the newest version at its snapshot
-abbrev pub sees : List ℕ → View → List Held → Option Entry
+abbrev pub sees : Key → View → List Held → Option Entry
 sees key v held = otherwise (own key v) (entry_in (newest_within v.snapshot (chain_of key held)))
 
 -- the same of the keys of a range
-abbrev pub sees_between : List ℕ → List ℕ → View → List Held → List ℕ → Option Entry
+abbrev pub sees_between : Key → Key → View → List Held → Key → Option Entry
 sees_between low high v held = within low high (λ key. sees key v held)
 
 -- the same transaction, snapshot and writes

@@ -2,7 +2,7 @@
 use Rattle.std.specs.Prelude.{◌≡◌, ℕ, ◌≤◌, Bool, true, false, List, [], ◌∷◌, take, Option, Some, None, ◌↔◌, ◌<◌, if◌then◌else◌, length, map}
 use Rattle.ssi_conflict.specs.Meaning.Kept.{open_count}
 use Rattle.adya_values.specs.Meaning.Events.{listed}
-use Rattle.adya_values.specs.Meaning.Keys.{key_le, keys_rise, lies_in}
+use Rattle.adya_values.specs.Meaning.Keys.{Key, Bytes, key_le, keys_rise, lies_in}
 use Rattle.adya_values.specs.Meaning.Histories.{Entry}
 use Rattle.adya_values.specs.Computing.Shapes.{numbers_rise}
 use Rattle.ssi_conflict.specs.Meaning.Calls.{Call, AreAllowed}
@@ -51,7 +51,7 @@ CallsAreAllowed = (pivot : List Call → Option ℕ) (c : Course) → Follows pi
 -- no collection left out the snapshot of an open transaction, so what that sees is held
 pub record IsStillSeen (t : ℕ) (c : Course) : Type 0 where
   pub protected : IsProtected (snapshot t (acts c)) (changed (acts c))
-  pub is_held : (k : List ℕ) → newest_within (snapshot t (acts c)) (held k (changed (acts c))) ≡ contents k
+  pub is_held : (k : Key) → newest_within (snapshot t (acts c)) (held k (changed (acts c))) ≡ contents k
       (snapshot t (acts c)) (changed (acts c))
 
 -- what an open transaction sees is held, whatever was collected
@@ -112,11 +112,11 @@ OrderedUnsafeNamesSmallest = (c : Course) → Follows smallest_ordered_pivot c �
 -- the transactions of a course and its sessions
 pub record AreInOrder (c : Course) : Type 0 where
   -- a session's transaction is open
-  pub opened : (s : List ℕ) (t : ℕ) → txn_in s c ≡ Some t → is_open t (acts c) ≡ true
+  pub opened : (s : Bytes) (t : ℕ) → txn_in s c ≡ Some t → is_open t (acts c) ≡ true
   -- each open transaction is a session's
-  pub held : (t : ℕ) → is_open t (acts c) ≡ true → (s : List ℕ) × (txn_in s c ≡ Some t)
+  pub held : (t : ℕ) → is_open t (acts c) ≡ true → (s : Bytes) × (txn_in s c ≡ Some t)
   -- and of one session alone
-  pub apart : (r s : List ℕ) (t : ℕ) → txn_in r c ≡ Some t → txn_in s c ≡ Some t → r ≡ s
+  pub apart : (r s : Bytes) (t : ℕ) → txn_in r c ≡ Some t → txn_in s c ≡ Some t → r ≡ s
   -- numbers rise, and the next one is above all
   pub rising : numbers_rise (started (acts c)) ≡ true
   pub below : (t : ℕ) → has_started t (acts c) ≡ true → t < next_txn c
@@ -135,24 +135,24 @@ NoOrderedPivotStands = (c : Course) → Follows smallest_ordered_pivot c
     → smallest_ordered_pivot (tracked (acts c)) ≡ None
 
 -- the smallest overtaken key of the transaction, or nothing if no key is overtaken
-abbrev pub IsLeastOvertaken : ℕ → List Act → Option (List ℕ) → Type 0
-IsLeastOvertaken t log None = (k : List ℕ) → is_overtaken t log k ≡ false
+abbrev pub IsLeastOvertaken : ℕ → List Act → Option Key → Type 0
+IsLeastOvertaken t log None = (k : Key) → is_overtaken t log k ≡ false
 IsLeastOvertaken t log (Some k) =
-    (is_overtaken t log k ≡ true) × ((j : List ℕ) → is_overtaken t log j ≡ true → key_le k j ≡ true)
+    (is_overtaken t log k ≡ true) × ((j : Key) → is_overtaken t log j ≡ true → key_le k j ≡ true)
 
 -- the conflict is that key, and no other answer is right
 abbrev pub ConflictIsLeast : Type 0
-ConflictIsLeast = (t : ℕ) (log : List Act) (found : Option (List ℕ))
+ConflictIsLeast = (t : ℕ) (log : List Act) (found : Option Key)
     → (conflict t log ≡ found) ↔ IsLeastOvertaken t log found
 
 -- what a scan lists: of each key of the range what is seen of it, by rising key
-pub record ListsSeen (t : ℕ) (low high : List ℕ) (log : List Act) (found : List Entry) : Type 0 where
+pub record ListsSeen (t : ℕ) (low high : Key) (log : List Act) (found : List Entry) : Type 0 where
   pub rising : keys_rise (map (λ w. w.version.key) found) ≡ true
-  pub each : (k : List ℕ) → listed k found ≡ (if lies_in low high k then sees t k log else None)
+  pub each : (k : Key) → listed k found ≡ (if lies_in low high k then sees t k log else None)
 
 -- it lists exactly that
 abbrev pub ScansListSeen : Type 0
-ScansListSeen = (t : ℕ) (low high : List ℕ) (log : List Act) → ListsSeen t low high log (scanned t low high log)
+ScansListSeen = (t : ℕ) (low high : Key) (log : List Act) → ListsSeen t low high log (scanned t low high log)
 
 -- the tracker counts the open transactions of a log
 abbrev pub OpenAreCounted : Type 0

@@ -1,6 +1,7 @@
 -- The verdict on a history text and a certificate text.
-use Rattle.std.specs.Prelude.{◌≡◌, ◌↔◌, ℕ, List}
-use Rattle.adya_values.specs.Meaning.Histories.{History}
+use Rattle.std.specs.Prelude.{◌≡◌, ◌↔◌, ℕ}
+use Rattle.adya_values.specs.Meaning.Keys.{Bytes}
+use Rattle.adya_values.specs.Meaning.Histories.{Txns, History}
 use Rattle.adya_values.specs.Meaning.Acceptance.{IsAccepted}
 use Rattle.adya_text.specs.declared.read_fault.Text.TheVariants as Of
 use Rattle.adya_text.specs.Meaning.Texts.{IsHistory, IsSerial, history_text, serial_text, AreHistoryLines, AreSerialLines}
@@ -11,25 +12,25 @@ use Rattle.adya_text.specs.Meaning.Streams.{history_part, serial_part}
 use Rattle.adya_audit.specs.Meaning.Serializable.{IsSerializableBy}
 
 -- the text is that of the history
-pub record IsTextOf (text : List ℕ) (h : History) : Type 0 where
+pub record IsTextOf (text : Bytes) (h : History) : Type 0 where
   pub is_history : IsHistory h
   pub same : text ≡ history_text h
 
 -- the text is that of the certificate
-pub record IsSerialTextOf (text : List ℕ) (ts : List ℕ) : Type 0 where
+pub record IsSerialTextOf (text : Bytes) (ts : Txns) : Type 0 where
   pub is_serial : IsSerial ts
   pub same : text ≡ serial_text ts
 
 -- the texts are those of a history and a certificate on which this is the verdict
-pub record HaveVerdict (history_bytes serial_bytes : List ℕ) (v : Verdict) : Type 0 where
+pub record HaveVerdict (history_bytes serial_bytes : Bytes) (v : Verdict) : Type 0 where
   pub history : History
-  pub certificate : List ℕ
+  pub certificate : Txns
   pub history_read : IsTextOf history_bytes history
   pub certificate_read : IsSerialTextOf serial_bytes certificate
   pub same : v ≡ verdict_of history certificate
 
 -- the verdict on two texts: a fault of the first, else one of the second, else the verdict on what they hold
-abbrev pub IsVerdictOn : List ℕ → List ℕ → Verdict → Type 0
+abbrev pub IsVerdictOn : Bytes → Bytes → Verdict → Type 0
 IsVerdictOn h c (Syntax Of.History k) = IsFaultLine AreHistoryLines h k
 IsVerdictOn h c (Syntax Of.Serial k) = ((x : History) × IsTextOf h x) × IsFaultLine AreSerialLines c k
 IsVerdictOn h c Yes = HaveVerdict h c Yes
@@ -40,31 +41,31 @@ IsVerdictOn h c NotTheCommitted = HaveVerdict h c NotTheCommitted
 IsVerdictOn h c (Backward edge) = HaveVerdict h c (Backward edge)
 
 -- the verdict names a syntax fault of the history text, with its line, exactly if the text has one
-abbrev pub NamesHistoryFault : List ℕ → Verdict → Type 0
+abbrev pub NamesHistoryFault : Bytes → Verdict → Type 0
 NamesHistoryFault h v = (k : ℕ) → (v ≡ Syntax Of.History k) ↔ IsFaultLine AreHistoryLines h k
 
 -- the texts are those of a history and a certificate that are accepted
-pub record AreAccepted (history_bytes serial_bytes : List ℕ) : Type 0 where
+pub record AreAccepted (history_bytes serial_bytes : Bytes) : Type 0 where
   pub history : History
-  pub certificate : List ℕ
+  pub certificate : Txns
   pub history_read : IsTextOf history_bytes history
   pub certificate_read : IsSerialTextOf serial_bytes certificate
   pub accepted : IsAccepted history certificate
 
 -- the texts are those of a history and a certificate by which it is serializable
-pub record AreSerializable (history_bytes serial_bytes : List ℕ) : Type 0 where
+pub record AreSerializable (history_bytes serial_bytes : Bytes) : Type 0 where
   pub history : History
-  pub certificate : List ℕ
+  pub certificate : Txns
   pub history_read : IsTextOf history_bytes history
   pub certificate_read : IsSerialTextOf serial_bytes certificate
   pub serializable : IsSerializableBy history certificate
 
 -- the same of one stream, which is cut after its first line `end`
-abbrev pub IsVerdictOnStream : List ℕ → Verdict → Type 0
+abbrev pub IsVerdictOnStream : Bytes → Verdict → Type 0
 IsVerdictOnStream stream v = IsVerdictOn (history_part stream) (serial_part stream) v
 
-abbrev pub IsAcceptedStream : List ℕ → Type 0
+abbrev pub IsAcceptedStream : Bytes → Type 0
 IsAcceptedStream stream = AreAccepted (history_part stream) (serial_part stream)
 
-abbrev pub IsSerializableStream : List ℕ → Type 0
+abbrev pub IsSerializableStream : Bytes → Type 0
 IsSerializableStream stream = AreSerializable (history_part stream) (serial_part stream)

@@ -1,9 +1,9 @@
 -- Verdicts as plain values, and what the verdict on a history and a certificate is.
-use Rattle.std.specs.Prelude.{◌≡◌, ℕ, if◌then◌else◌, List, Option, Some, None}
+use Rattle.std.specs.Prelude.{◌≡◌, ℕ, if◌then◌else◌, Option, Some, None}
 use Rattle.adya_values.specs.declared.event.Version.{Version}
 use Rattle.adya_values.specs.declared.fault.Rule.{Rule}
 use Rattle.adya_values.specs.Computing.Faults as faults
-use Rattle.adya_values.specs.Meaning.Histories.{History}
+use Rattle.adya_values.specs.Meaning.Histories.{Txns, History}
 use Rattle.adya_values.specs.Meaning.Edges.{Edge}
 use Rattle.adya_values.specs.Computing.Faults.{Fault, first_fault}
 use Rattle.adya_values.specs.Computing.Certificates.{lists_the_committed, first_backward}
@@ -36,7 +36,7 @@ edge_verdict None = Yes
 edge_verdict (Some e) = Backward e
 
 -- the verdict on a certificate of a history that has no fault
-abbrev pub certificate_verdict : History → List ℕ → Verdict
+abbrev pub certificate_verdict : History → Txns → Verdict
 certificate_verdict h ts = if lists_the_committed h ts then edge_verdict (first_backward h ts) else NotTheCommitted
 
 -- the verdict on the fault of a history, else that on the certificate
@@ -47,5 +47,5 @@ fault_verdict (Some (faults.AbortedRead line version)) v = AbortedRead line vers
 fault_verdict (Some (faults.IntermediateRead line version)) v = IntermediateRead line version
 
 -- the verdict on a history and a certificate
-abbrev pub verdict_of : History → List ℕ → Verdict
+abbrev pub verdict_of : History → Txns → Verdict
 verdict_of h ts = fault_verdict (first_fault h) (certificate_verdict h ts)

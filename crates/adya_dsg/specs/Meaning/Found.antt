@@ -1,6 +1,6 @@
 -- What is found of a history: a certificate, or a cycle of its graph.
-use Rattle.std.specs.Prelude.{ℕ, List, map}
-use Rattle.adya_values.specs.Meaning.Histories.{History}
+use Rattle.std.specs.Prelude.{map}
+use Rattle.adya_values.specs.Meaning.Histories.{Txns, History}
 use Rattle.adya_values.specs.Meaning.Edges.{IsCycle}
 use Rattle.adya_values.specs.Meaning.Acceptance.{IsAccepted}
 use Rattle.adya_values.specs.Mirror.{serial_txns}
@@ -10,7 +10,7 @@ use Rattle.adya_dsg.specs.declared.found.Found.TheVariants.{Serial, Cycle}
 
 -- the history is accepted with some certificate
 abbrev pub HasCertificate : History → Type 0
-HasCertificate h = (ts : List ℕ) × IsAccepted h ts
+HasCertificate h = (ts : Txns) × IsAccepted h ts
 
 -- the history is accepted with the certificate, or its graph has the cycle
 abbrev pub IsFound : History → Found → Type 0

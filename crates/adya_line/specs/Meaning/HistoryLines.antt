@@ -1,7 +1,7 @@
 -- The lines of a history text, by their kind.
-use Rattle.std.specs.Prelude.{ℕ, List}
+use Rattle.std.specs.Prelude.{ℕ}
 use Rattle.adya_values.specs.declared.edition.Edition.{Edition}
-use Rattle.adya_values.specs.Meaning.Keys.{IsTxn}
+use Rattle.adya_values.specs.Meaning.Keys.{Bytes, IsTxn}
 use Rattle.adya_values.specs.Meaning.Histories.{Event, Order, FinalPair, event_of, order_of, final_of}
 use Rattle.adya_line.specs.Meaning.Spelling.{head_text, tail, event_text, unfinished_text, order_text, final_text}
 use Rattle.adya_line.specs.Meaning.Limits.{IsEvent, IsOrder, IsFinal}
@@ -26,7 +26,7 @@ line_of (In.Order o) = OrderLine (order_of o)
 line_of (In.Final f) = FinalLine (final_of f)
 line_of In.Tail = TailLine
 
-abbrev pub line_text : Line → List ℕ
+abbrev pub line_text : Line → Bytes
 line_text (HeadLine e) = head_text e
 line_text (EventLine v) = event_text v
 line_text (UnfinishedLine t) = unfinished_text t
@@ -44,11 +44,11 @@ IsLine (FinalLine f) = IsFinal f
 IsLine TailLine = Unit {0}
 
 -- the text is that of the line; of no line; of this line, and of no other
-abbrev pub IsLineOf : Line → List ℕ → Type 0
+abbrev pub IsLineOf : Line → Bytes → Type 0
 IsLineOf = Spells IsLine line_text
 
-abbrev pub IsNoLine : List ℕ → Type 0
+abbrev pub IsNoLine : Bytes → Type 0
 IsNoLine = SpellsNone IsLine line_text
 
-abbrev pub IsOnlyLineOf : Line → List ℕ → Type 0
+abbrev pub IsOnlyLineOf : Line → Bytes → Type 0
 IsOnlyLineOf = SpellsOnly IsLine line_text

@@ -1,21 +1,22 @@
 -- Lines and their texts, whatever the kinds of lines are: which of them are within their limits, and the text of each.
-use Rattle.std.specs.Prelude.{◌≡◌, ◌≢◌, ℕ, List}
+use Rattle.std.specs.Prelude.{◌≡◌, ◌≢◌}
 use Rattle.std.specs.List.{All}
+use Rattle.adya_values.specs.Meaning.Keys.{Bytes}
 
 -- no line feed is among the bytes
-abbrev pub IsPlain : List ℕ → Type 0
+abbrev pub IsPlain : Bytes → Type 0
 IsPlain bytes = All (λ b. b ≢ 10) bytes
 
 -- the text is that of the line
-pub record Spells {L : Type 0} (IsLine : L → Type 0) (line_text : L → List ℕ) (x : L) (text : List ℕ) : Type 0 where
+pub record Spells {L : Type 0} (IsLine : L → Type 0) (line_text : L → Bytes) (x : L) (text : Bytes) : Type 0 where
   pub good : IsLine x
   pub same : text ≡ line_text x
 
 -- the text is that of no line
-abbrev pub SpellsNone : {L : Type 0} → (L → Type 0) → (L → List ℕ) → List ℕ → Type 0
+abbrev pub SpellsNone : {L : Type 0} → (L → Type 0) → (L → Bytes) → Bytes → Type 0
 SpellsNone {L = L} IsLine line_text text = (x : L) → Spells IsLine line_text x text → ⊥
 
 -- the text is that of this line, and of no other
-pub record SpellsOnly {L : Type 0} (IsLine : L → Type 0) (line_text : L → List ℕ) (x : L) (text : List ℕ) : Type 0 where
+pub record SpellsOnly {L : Type 0} (IsLine : L → Type 0) (line_text : L → Bytes) (x : L) (text : Bytes) : Type 0 where
   pub line : Spells IsLine line_text x text
   pub only : (y : L) → Spells IsLine line_text y text → y ≡ x

@@ -1,6 +1,6 @@
 -- The lines of a certificate text, by their kind.
-use Rattle.std.specs.Prelude.{ℕ, List}
-use Rattle.adya_values.specs.Meaning.Keys.{IsTxn}
+use Rattle.std.specs.Prelude.{ℕ}
+use Rattle.adya_values.specs.Meaning.Keys.{Bytes, IsTxn}
 use Rattle.adya_line.specs.Meaning.Spelling.{serial_head, tail, txn_text}
 use Rattle.adya_line.specs.declared.serial_lines.SerialLine.{SerialLine as LineValue}
 use Rattle.adya_line.specs.declared.serial_lines.SerialLine.TheVariants as In
@@ -17,7 +17,7 @@ line_of In.Head = HeadLine
 line_of (In.Txn t) = TxnLine t
 line_of In.Tail = TailLine
 
-abbrev pub line_text : Line → List ℕ
+abbrev pub line_text : Line → Bytes
 line_text HeadLine = serial_head
 line_text (TxnLine t) = txn_text t
 line_text TailLine = tail
@@ -29,11 +29,11 @@ IsLine (TxnLine t) = IsTxn t
 IsLine TailLine = Unit {0}
 
 -- the text is that of the line; of no line; of this line, and of no other
-abbrev pub IsLineOf : Line → List ℕ → Type 0
+abbrev pub IsLineOf : Line → Bytes → Type 0
 IsLineOf = Spells IsLine line_text
 
-abbrev pub IsNoLine : List ℕ → Type 0
+abbrev pub IsNoLine : Bytes → Type 0
 IsNoLine = SpellsNone IsLine line_text
 
-abbrev pub IsOnlyLineOf : Line → List ℕ → Type 0
+abbrev pub IsOnlyLineOf : Line → Bytes → Type 0
 IsOnlyLineOf = SpellsOnly IsLine line_text

@@ -1,45 +1,46 @@
 -- The one line of each event, unfinished transaction, order, final and transaction number, without its line feed.
-use Rattle.std.specs.Prelude.{ℕ, List, [], ◌∷◌, ◌++◌, codes, decimal, flat_map}
+use Rattle.std.specs.Prelude.{ℕ, [], ◌∷◌, ◌++◌, codes, decimal, flat_map}
 use Rattle.adya_values.specs.declared.edition.Edition.{Edition}
 use Rattle.adya_values.specs.declared.edition.Edition.TheVariants.{One, Two}
 use Rattle.adya_values.specs.declared.event.Version.{Version}
-use Rattle.adya_values.specs.Meaning.Histories.{Content, Live, Dead, Entry, Event, Write, Delete, Read, Scan, Commit, Abort}
+use Rattle.adya_values.specs.Meaning.Keys.{Bytes}
+use Rattle.adya_values.specs.Meaning.Histories.{Txns, Content, Live, Dead, Entry, Event, Write, Delete, Read, Scan, Commit, Abort}
 use Rattle.adya_values.specs.Meaning.Histories.{Order, FinalPair}
 
-abbrev pub history_head : List ℕ
+abbrev pub history_head : Bytes
 history_head = codes "adya 1"
 
 -- of an edition with unfinished transactions
-abbrev pub second_head : List ℕ
+abbrev pub second_head : Bytes
 second_head = codes "adya 2"
 
 -- the first line of a history of the edition
-abbrev pub head_text : Edition → List ℕ
+abbrev pub head_text : Edition → Bytes
 head_text One = history_head
 head_text Two = second_head
 
-abbrev pub serial_head : List ℕ
+abbrev pub serial_head : Bytes
 serial_head = codes "serial 1"
 
 -- ends a history and a certificate
-abbrev pub tail : List ℕ
+abbrev pub tail : Bytes
 tail = codes "end"
 
 -- K.T:M
-unfoldable pub version_text : Version → List ℕ
+unfoldable pub version_text : Version → Bytes
 version_text v = v.key ++ codes "." ++ decimal v.txn ++ codes ":" ++ decimal v.m
 
 -- V or !
-abbrev pub content_text : Content → List ℕ
+abbrev pub content_text : Content → Bytes
 content_text (Live value) = value
 content_text Dead = codes "!"
 
 -- ;K.T:M,V or ;K.T:M,!
-abbrev pub entry_text : Entry → List ℕ
+abbrev pub entry_text : Entry → Bytes
 entry_text e = codes ";" ++ version_text e.version ++ codes "," ++ content_text e.content
 
 -- wT(K.T:M,V), dT(K.T:M), rT(K.T:M,V), sT(K,K;K.T:M,V;..), cT and aT
-unfoldable pub event_text : Event → List ℕ
+unfoldable pub event_text : Event → Bytes
 event_text (Write t k m v) =
     codes "w" ++ decimal t ++ codes "(" ++ version_text (record { key = k; txn = t; m = m }) ++
     codes "," ++ v ++ codes ")"
@@ -52,26 +53,26 @@ event_text (Commit t) = codes "c" ++ decimal t
 event_text (Abort t) = codes "a" ++ decimal t
 
 -- uT
-abbrev pub unfinished_text : ℕ → List ℕ
+abbrev pub unfinished_text : ℕ → Bytes
 unfinished_text t = codes "u" ++ decimal t
 
 -- <<T
-abbrev pub later_text : ℕ → List ℕ
+abbrev pub later_text : ℕ → Bytes
 later_text t = codes "<<" ++ decimal t
 
 -- T<<T<<..
-abbrev pub writers_text : List ℕ → List ℕ
+abbrev pub writers_text : Txns → Bytes
 writers_text [] = []
 writers_text (t ∷ ts) = decimal t ++ flat_map later_text ts
 
 -- [K:T<<T<<..]
-unfoldable pub order_text : Order → List ℕ
+unfoldable pub order_text : Order → Bytes
 order_text o = codes "[" ++ o.key ++ codes ":" ++ writers_text o.writers ++ codes "]"
 
 -- {K,V}
-unfoldable pub final_text : FinalPair → List ℕ
+unfoldable pub final_text : FinalPair → Bytes
 final_text f = codes "{" ++ f.key ++ codes "," ++ f.value ++ codes "}"
 
 -- T
-abbrev pub txn_text : ℕ → List ℕ
+abbrev pub txn_text : ℕ → Bytes
 txn_text t = decimal t

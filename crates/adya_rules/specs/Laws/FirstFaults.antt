@@ -1,9 +1,9 @@
 -- The named fault is the first one: broken rules come before aborted reads, and these before intermediate reads.
-use Rattle.std.specs.Prelude.{◌≡◌, ◌↔◌, ℕ, true, List, Some}
+use Rattle.std.specs.Prelude.{◌≡◌, ◌↔◌, ℕ, true, Some}
 use Rattle.adya_values.specs.declared.event.Version.{Version}
 use Rattle.adya_values.specs.declared.fault.Rule.{Rule}
 use Rattle.adya_values.specs.Computing.Faults.{Malformed, AbortedRead, IntermediateRead, first_fault}
-use Rattle.adya_values.specs.Meaning.Histories.{History}
+use Rattle.adya_values.specs.Meaning.Histories.{Txns, History}
 use Rattle.adya_values.specs.Computing.Shapes.{is_shape}
 use Rattle.adya_values.specs.Meaning.Edges.{Edge}
 use Rattle.adya_values.specs.Meaning.Rules.{IsWellFormed}
@@ -44,4 +44,4 @@ FirstIntermediateReadIsNamed = (h : History) (line : ℕ) (v : Version) → is_s
 
 -- an edge is named exactly if it is the first that doesn't go forward
 abbrev pub FirstBackwardIsNamed : Type 0
-FirstBackwardIsNamed = (h : History) (ts : List ℕ) (e : Edge) → (first_backward h ts ≡ Some e) ↔ IsFirstBackward h ts e
+FirstBackwardIsNamed = (h : History) (ts : Txns) (e : Edge) → (first_backward h ts ≡ Some e) ↔ IsFirstBackward h ts e

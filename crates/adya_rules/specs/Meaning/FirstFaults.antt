@@ -4,7 +4,8 @@ use Rattle.std.specs.Prelude.{◌≡◌, ◌≢◌, ◌⊎◌, ℕ, ◌+◌, ◌
 use Rattle.adya_values.specs.declared.event.Version.{Version}
 use Rattle.adya_values.specs.declared.fault.Rule.{Rule}
 use Rattle.adya_values.specs.declared.fault.Rule.TheVariants.{M1, M2, M3, M4, M5, M6, M7, M8}
-use Rattle.adya_values.specs.Meaning.Histories.{Entry, Event, Order, FinalPair, History}
+use Rattle.adya_values.specs.Meaning.Keys.{Key, Bytes}
+use Rattle.adya_values.specs.Meaning.Histories.{Txns, Entry, Event, Order, FinalPair, History}
 use Rattle.adya_values.specs.Meaning.Events.{txn_of, observed, last_write, is_committed, has_ended, is_unfinished, is_aborted}
 use Rattle.adya_values.specs.Meaning.Edges.{Edge}
 use Rattle.adya_values.specs.Computing.EdgeList.{edge_list}
@@ -44,7 +45,7 @@ ListsWriters h o = (t : ℕ) → count_by (λ u. u == t) o.writers ≡ cond (ins
 -- there is no order line for a key that a committed transaction wrote
 abbrev pub LacksOrder : History → Type 0
 LacksOrder h =
-    (k : List ℕ) × (t : ℕ) × (installs h.events k t ≡ true) × ((o : Order) → Contains h.orders o → o.key ≢ k)
+    (k : Key) × (t : ℕ) × (installs h.events k t ≡ true) × ((o : Order) → Contains h.orders o → o.key ≢ k)
 
 -- the last version of the final line's key is visible and has the line's value
 abbrev pub ShowsLast : History → FinalPair → Type 0
@@ -53,7 +54,7 @@ ShowsLast h f = last_value h f.key ≡ Some f.value
 -- there is no final line for a key with a visible last version
 abbrev pub LacksFinal : History → Type 0
 LacksFinal h =
-    (k v : List ℕ) × (last_value h k ≡ Some v) × ((f : FinalPair) → Contains h.finals f → f.key ≢ k)
+    (k : Key) × (v : Bytes) × (last_value h k ≡ Some v) × ((f : FinalPair) → Contains h.finals f → f.key ≢ k)
 
 -- the history breaks the rule at the line. A missing line counts for the first line after the part that it belongs to
 abbrev pub BreaksRule : History → ℕ → Rule → Type 0
@@ -120,7 +121,7 @@ abbrev pub IsFirstIntermediateRead : History → ℕ → Version → Type 0
 IsFirstIntermediateRead h line v = IsFirstRead (ReadsIntermediate h) line v
 
 -- the edge doesn't go forward in the certificate, and each edge before it in the list does
-pub record IsFirstBackward (h : History) (ts : List ℕ) (e : Edge) : Type 0 where
+pub record IsFirstBackward (h : History) (ts : Txns) (e : Edge) : Type 0 where
   pub front : List Edge
   pub back : List Edge
   pub splits : edge_list h ≡ front ++ e ∷ back

@@ -1,5 +1,6 @@
 -- What a call that reads a text returns.
-use Rattle.std.specs.Prelude.{◌≡◌, List, ℕ, Result, Ok, Err}
+use Rattle.std.specs.Prelude.{◌≡◌, Result, Ok, Err}
+use Rattle.adya_values.specs.Meaning.Keys.{Bytes}
 use Rattle.adya_values.specs.Meaning.Histories.{History}
 use Rattle.adya_values.specs.Mirror.{history_of, serial_txns}
 use Rattle.adya_values.specs.declared.history.History.{History as HistoryValue}
@@ -19,7 +20,7 @@ IsOfText (Err Device) = ⊥
 IsOfText (Err Memory) = ⊥
 
 -- the history whose text it is, or the line of its fault
-abbrev pub ReadsHistory : List ℕ → Result HistoryValue ReadFault → Type 0
+abbrev pub ReadsHistory : Bytes → Result HistoryValue ReadFault → Type 0
 ReadsHistory text (Ok h) = IsHistory (history_of h) × (text ≡ history_text (history_of h))
 ReadsHistory text (Err (Syntax Of.History k)) = IsFaultLine AreHistoryLines text k
 ReadsHistory text (Err (Syntax Of.Serial k)) = ⊥
@@ -27,7 +28,7 @@ ReadsHistory text (Err Device) = Unit {0}
 ReadsHistory text (Err Memory) = Unit {0}
 
 -- the certificate whose text it is, or the line of its fault
-abbrev pub ReadsSerial : List ℕ → Result Serial ReadFault → Type 0
+abbrev pub ReadsSerial : Bytes → Result Serial ReadFault → Type 0
 ReadsSerial text (Ok s) = IsSerial (serial_txns s) × (text ≡ serial_text (serial_txns s))
 ReadsSerial text (Err (Syntax Of.Serial k)) = IsFaultLine AreSerialLines text k
 ReadsSerial text (Err (Syntax Of.History k)) = ⊥
@@ -36,7 +37,7 @@ ReadsSerial text (Err Memory) = Unit {0}
 
 -- the history and the certificate whose texts the two parts of the stream are, or the line of the first part's fault,
 -- or else that of the second's
-abbrev pub ReadsTexts : List ℕ → Result (HistoryValue × Serial) ReadFault → Type 0
+abbrev pub ReadsTexts : Bytes → Result (HistoryValue × Serial) ReadFault → Type 0
 ReadsTexts stream (Ok both) =
     ReadsHistory (history_part stream) (Ok both.0) × ReadsSerial (serial_part stream) (Ok both.1)
 ReadsTexts stream (Err (Syntax Of.History k)) = IsFaultLine AreHistoryLines (history_part stream) k

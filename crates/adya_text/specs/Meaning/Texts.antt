@@ -1,9 +1,9 @@
 -- The texts of histories and of certificates.
-use Rattle.std.specs.Prelude.{◌≡◌, ℕ, true, List, [], ◌∷◌, ◌++◌, map}
+use Rattle.std.specs.Prelude.{◌≡◌, true, List, [], ◌∷◌, ◌++◌, map}
 use Rattle.std.specs.List.{AllByRecursion}
-use Rattle.adya_values.specs.Meaning.Keys.{IsTxn, keys_rise}
+use Rattle.adya_values.specs.Meaning.Keys.{Bytes, IsTxn, keys_rise}
 use Rattle.adya_values.specs.Computing.Shapes.{fits_edition}
-use Rattle.adya_values.specs.Meaning.Histories.{History}
+use Rattle.adya_values.specs.Meaning.Histories.{Txns, History}
 use Rattle.adya_line.specs.Meaning.Spelling.{head_text, serial_head, tail}
 use Rattle.adya_line.specs.Meaning.Spelling.{event_text, unfinished_text, order_text, final_text, txn_text}
 use Rattle.adya_line.specs.Meaning.Limits.{IsEvent, IsOrder, IsFinal}
@@ -19,33 +19,33 @@ pub record IsHistory (h : History) : Type 0 where
   pub finals_rise : keys_rise (map (λ f. f.key) h.finals) ≡ true
 
 -- a certificate that has a text
-abbrev pub IsSerial : List ℕ → Type 0
+abbrev pub IsSerial : Txns → Type 0
 IsSerial ts = AllByRecursion IsTxn ts
 
 -- the head, the events, the unfinished transactions, the orders, the finals and the tail
-abbrev pub history_lines : History → List (List ℕ)
+abbrev pub history_lines : History → List Bytes
 history_lines h = head_text h.edition ∷ (map event_text h.events ++ (map unfinished_text h.unfinished
     ++ (map order_text h.orders ++ (map final_text h.finals ++ tail ∷ []))))
 
 -- the head, the transactions and the tail
-abbrev pub serial_lines : List ℕ → List (List ℕ)
+abbrev pub serial_lines : Txns → List Bytes
 serial_lines ts = serial_head ∷ (map txn_text ts ++ tail ∷ [])
 
 -- each line with a line feed
-abbrev pub with_ends : List (List ℕ) → List ℕ
+abbrev pub with_ends : List Bytes → Bytes
 with_ends [] = []
 with_ends (l ∷ ls) = l ++ (10 ∷ with_ends ls)
 
-abbrev pub history_text : History → List ℕ
+abbrev pub history_text : History → Bytes
 history_text h = with_ends (history_lines h)
 
-abbrev pub serial_text : List ℕ → List ℕ
+abbrev pub serial_text : Txns → Bytes
 serial_text ts = with_ends (serial_lines ts)
 
 -- the lines of a history
-abbrev pub AreHistoryLines : List (List ℕ) → Type 0
+abbrev pub AreHistoryLines : List Bytes → Type 0
 AreHistoryLines lines = (h : History) × IsHistory h × (lines ≡ history_lines h)
 
 -- the lines of a certificate
-abbrev pub AreSerialLines : List (List ℕ) → Type 0
-AreSerialLines lines = (ts : List ℕ) × IsSerial ts × (lines ≡ serial_lines ts)
+abbrev pub AreSerialLines : List Bytes → Type 0
+AreSerialLines lines = (ts : Txns) × IsSerial ts × (lines ≡ serial_lines ts)

@@ -2,6 +2,7 @@
 -- (Adya 1999, section 3.1.4), and the cycles of that graph.
 use Rattle.std.specs.Prelude.{◌≡◌, ◌≢◌, ℕ, suc, true, List, [], ◌∷◌, Some, Contains}
 use Rattle.std.specs.List.{AllByRecursion}
+use Rattle.adya_values.specs.Meaning.Keys.{Key}
 use Rattle.adya_values.specs.Meaning.Histories.{Event, History}
 use Rattle.adya_values.specs.Meaning.Events.{txn_of, is_committed}
 use Rattle.adya_values.specs.Meaning.Orders.{installer}
@@ -16,15 +17,15 @@ pub data Kind : Type 0 where
 pub record Edge : Type 0 where
   pub from : ℕ
   pub kind : Kind
-  pub key : List ℕ
+  pub key : Key
   pub to : ℕ
 
 -- in the version order of the key, to comes right after from
-abbrev pub DependsByWrite : History → List ℕ → ℕ → ℕ → Type 0
+abbrev pub DependsByWrite : History → Key → ℕ → ℕ → Type 0
 DependsByWrite h k from to = (q : ℕ) × (installer h k q ≡ Some from) × (installer h k (suc q) ≡ Some to)
 
 -- an event of to, which is committed, sees or depends on what from installed
-pub record DependsByRead (h : History) (k : List ℕ) (from to : ℕ) : Type 0 where
+pub record DependsByRead (h : History) (k : Key) (from to : ℕ) : Type 0 where
   pub event : Event
   pub place : ℕ
   pub source : ℕ
@@ -36,7 +37,7 @@ pub record DependsByRead (h : History) (k : List ℕ) (from to : ℕ) : Type 0 w
   pub installs : installer h k source ≡ Some from
 
 -- an event of from, which is committed, sees what a version of to overwrites
-pub record DependsByOverwrite (h : History) (k : List ℕ) (from to : ℕ) : Type 0 where
+pub record DependsByOverwrite (h : History) (k : Key) (from to : ℕ) : Type 0 where
   pub event : Event
   pub place : ℕ
   pub next : ℕ
@@ -47,7 +48,7 @@ pub record DependsByOverwrite (h : History) (k : List ℕ) (from to : ℕ) : Typ
   pub overwritten : overwritten_by h event k place next ≡ true
   pub installs : installer h k next ≡ Some to
 
-abbrev pub Depends : History → Kind → List ℕ → ℕ → ℕ → Type 0
+abbrev pub Depends : History → Kind → Key → ℕ → ℕ → Type 0
 Depends h Ww k from to = DependsByWrite h k from to
 Depends h Wr k from to = DependsByRead h k from to
 Depends h Rw k from to = DependsByOverwrite h k from to

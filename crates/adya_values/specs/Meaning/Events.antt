@@ -2,7 +2,7 @@
 use Rattle.std.specs.Prelude.{ℕ, ◌==◌, Bool, false, ◌&&◌, ◌||◌, if◌then◌else◌, List, [], ◌∷◌, Option, Some, None, filter, filter_map}
 use Rattle.std.specs.List.{list_any}
 use Rattle.adya_values.specs.declared.event.Version.{Version}
-use Rattle.adya_values.specs.Meaning.Keys.{key_eq}
+use Rattle.adya_values.specs.Meaning.Keys.{Key, Bytes, key_eq}
 use Rattle.adya_values.specs.Meaning.Histories.{Content, Live, Dead, Entry, Event, Write, Delete, Read, Scan, Commit, Abort, History}
 
 -- the transaction that the event belongs to
@@ -14,7 +14,7 @@ txn_of (Scan t low high es) = t
 txn_of (Commit t) = t
 txn_of (Abort t) = t
 
-abbrev pub version : List ℕ → ℕ → ℕ → Version
+abbrev pub version : Key → ℕ → ℕ → Version
 version k t m = record { key = k; txn = t; m = m }
 
 abbrev pub entry : Version → Content → Entry
@@ -24,22 +24,16 @@ entry r c = record { version = r; content = c }
 abbrev pub written : Event → Option Entry
 written (Write t k m v) = Some (entry (version k t m) (Live v))
 written (Delete t k m) = Some (entry (version k t m) Dead)
-written (Read t r v) = None
-written (Scan t low high es) = None
-written (Commit t) = None
-written (Abort t) = None
+written _ = None
 
 -- what the event reads or lists
 abbrev pub observed : Event → List Entry
-observed (Write t k m v) = []
-observed (Delete t k m) = []
 observed (Read t r v) = entry r (Live v) ∷ []
 observed (Scan t low high es) = es
-observed (Commit t) = []
-observed (Abort t) = []
+observed _ = []
 
 -- what the transaction wrote of the key, in order
-abbrev pub writes_of : ℕ → List ℕ → List Event → List Entry
+abbrev pub writes_of : ℕ → Key → List Event → List Entry
 writes_of t k events = filter (λ w. w.version.txn == t && key_eq w.version.key k) (filter_map written events)
 
 abbrev pub last : {X : Type 0} → List X → Option X
@@ -48,7 +42,7 @@ last (x ∷ []) = Some x
 last (x ∷ y ∷ ys) = last (y ∷ ys)
 
 -- the transaction's last write of the key
-abbrev pub last_write : ℕ → List ℕ → List Event → Option Entry
+abbrev pub last_write : ℕ → Key → List Event → Option Entry
 last_write t k events = last (writes_of t k events)
 
 -- the transaction that the event commits, if it is a commit
@@ -79,16 +73,16 @@ abbrev pub is_aborted : History → ℕ → Bool
 is_aborted h t = list_any (aborts t) h.events || is_unfinished h t
 
 -- what the list of a scan has of the key
-abbrev pub listed : List ℕ → List Entry → Option Entry
+abbrev pub listed : Key → List Entry → Option Entry
 listed k [] = None
 listed k (w ∷ ws) = if key_eq w.version.key k then Some w else listed k ws
 
 -- the value that a reader gets of a version; none of a dead one
-abbrev pub visible : Content → Option (List ℕ)
+abbrev pub visible : Content → Option Bytes
 visible (Live v) = Some v
 visible Dead = None
 
 -- the same of a version that may be unborn, which has no entry
-abbrev pub shown : Option Entry → Option (List ℕ)
+abbrev pub shown : Option Entry → Option Bytes
 shown None = None
 shown (Some w) = visible w.content

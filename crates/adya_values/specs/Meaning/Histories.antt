@@ -11,10 +11,15 @@ use Rattle.adya_values.specs.declared.event.Event.{Event as EventValue}
 use Rattle.adya_values.specs.declared.event.Event.TheVariants as In
 use Rattle.adya_values.specs.declared.order.Order.{Order as OrderValue}
 use Rattle.adya_values.specs.declared.order.FinalPair.{FinalPair as FinalValue}
+use Rattle.adya_values.specs.Meaning.Keys.{Key, Bytes}
+
+-- transactions, by their numbers
+abbrev pub Txns : Type 0
+Txns = List ℕ
 
 -- what a version holds: a value, or nothing if a delete made it
 pub data Content : Type 0 where
-  Live : (value : List ℕ) → Content
+  Live : (value : Bytes) → Content
   Dead : Content
 
 -- a version with its content, as a scan lists it
@@ -23,33 +28,33 @@ pub record Entry : Type 0 where
   pub content : Content
 
 pub data Event : Type 0 where
-  Write : (txn : ℕ) (key : List ℕ) (m : ℕ) (value : List ℕ) → Event
-  Delete : (txn : ℕ) (key : List ℕ) (m : ℕ) → Event
-  Read : (txn : ℕ) (version : Version) (value : List ℕ) → Event
-  Scan : (txn : ℕ) (low high : List ℕ) (entries : List Entry) → Event
+  Write : (txn : ℕ) (key : Key) (m : ℕ) (value : Bytes) → Event
+  Delete : (txn : ℕ) (key : Key) (m : ℕ) → Event
+  Read : (txn : ℕ) (version : Version) (value : Bytes) → Event
+  Scan : (txn : ℕ) (low high : Key) (entries : List Entry) → Event
   Commit : (txn : ℕ) → Event
   Abort : (txn : ℕ) → Event
 
 -- the version order of a key
 pub record Order : Type 0 where
-  pub key : List ℕ
-  pub writers : List ℕ
+  pub key : Key
+  pub writers : Txns
 
 -- the final value of a key
 pub record FinalPair : Type 0 where
-  pub key : List ℕ
-  pub value : List ℕ
+  pub key : Key
+  pub value : Bytes
 
 -- the unfinished transactions may still go on; a history of edition One has none
 pub record History : Type 0 where
   pub edition : Edition
   pub events : List Event
-  pub unfinished : List ℕ
+  pub unfinished : Txns
   pub orders : List Order
   pub finals : List FinalPair
 
 -- the bytes of a value
-abbrev pub value_of : Value → List ℕ
+abbrev pub value_of : Value → Bytes
 value_of v = take v.len v.bytes
 
 abbrev pub content_of : ContentValue → Content

@@ -1,8 +1,8 @@
 -- When a history is well-formed: one definition for each rule.
 use Rattle.std.specs.Prelude.{◌≡◌, ℕ, suc, ◌==◌, Bool, true, false, cond, ◌&&◌, ◌||◌, if◌then◌else◌, List, [], ◌∷◌, ◌++◌, length, Option, Some, None, is_some, IfSome, count_by, map, All, Contains}
 use Rattle.std.specs.List.{filter_map}
-use Rattle.adya_values.specs.Meaning.Keys.{key_eq, key_le, lies_in, keys_rise}
-use Rattle.adya_values.specs.Meaning.Histories.{Live, Entry, Event, Write, Delete, Read, Scan, Commit, Abort, FinalPair, History}
+use Rattle.adya_values.specs.Meaning.Keys.{Key, Bytes, key_eq, key_le, lies_in, keys_rise}
+use Rattle.adya_values.specs.Meaning.Histories.{Live, Entry, Event, Read, Scan, FinalPair, History}
 use Rattle.adya_values.specs.Meaning.Events.{txn_of, entry, written, observed, writes_of, last_write, is_committed, has_ended, is_unfinished}
 use Rattle.adya_values.specs.Meaning.Orders.{writers, value_at}
 
@@ -30,21 +30,14 @@ ListsOnly es w = Contains es w × All (λ x. key_eq x.version.key w.version.key 
 -- M4: a transaction that has written a key sees only its own latest version of it
 abbrev pub SeesOwnWrites : List Event → Event → Type 0
 SeesOwnWrites before (Read t r v) = IfSome (last_write t r.key before) (λ w. entry r (Live v) ≡ w)
-SeesOwnWrites before (Scan t low high es) = (k : List ℕ) → lies_in low high k ≡ true → IfSome (last_write t k before) (ListsOnly es)
-SeesOwnWrites before (Write t k m v) = Unit {0}
-SeesOwnWrites before (Delete t k m) = Unit {0}
-SeesOwnWrites before (Commit t) = Unit {0}
-SeesOwnWrites before (Abort t) = Unit {0}
+SeesOwnWrites before (Scan t low high es) = (k : Key) → lies_in low high k ≡ true → IfSome (last_write t k before) (ListsOnly es)
+SeesOwnWrites before _ = Unit {0}
 
 -- M5: the bounds of a scan are in order, and its list has rising keys within the bounds
 abbrev pub IsRising : Event → Type 0
 IsRising (Scan t low high es) =
     (key_le low high ≡ true) × (keys_rise (map (λ w. w.version.key) es) ≡ true) × All (λ w. lies_in low high w.version.key ≡ true) es
-IsRising (Read t r v) = Unit {0}
-IsRising (Write t k m v) = Unit {0}
-IsRising (Delete t k m) = Unit {0}
-IsRising (Commit t) = Unit {0}
-IsRising (Abort t) = Unit {0}
+IsRising _ = Unit {0}
 
 -- M6: each transaction either ends or is listed as unfinished
 pub record AllEnd (h : History) : Type 0 where
@@ -52,21 +45,21 @@ pub record AllEnd (h : History) : Type 0 where
   pub unended : All (λ t. has_ended h.events t ≡ false) h.unfinished
 
 -- the transaction is a committed writer of the key
-abbrev pub installs : List Event → List ℕ → ℕ → Bool
+abbrev pub installs : List Event → Key → ℕ → Bool
 installs events k t = is_committed events t && is_some (last_write t k events)
 
 -- M7: the order line of a key names exactly its committed writers, without repeats
 abbrev pub OrdersList : History → Type 0
-OrdersList h = (k : List ℕ) (t : ℕ) → count_by (λ u. u == t) (writers h k) ≡ cond (installs h.events k t) 1 0
+OrdersList h = (k : Key) (t : ℕ) → count_by (λ u. u == t) (writers h k) ≡ cond (installs h.events k t) 1 0
 
 -- the value that the finals have for the key
-abbrev pub final_value : List FinalPair → List ℕ → Option (List ℕ)
+abbrev pub final_value : List FinalPair → Key → Option Bytes
 final_value [] k = None
 final_value (f ∷ fs) k = if key_eq f.key k then Some f.value else final_value fs k
 
 -- M8: the finals have for each key the value of its last version, if that has one
 abbrev pub FinalsShow : History → Type 0
-FinalsShow h = (k : List ℕ) → final_value h.finals k ≡ value_at h k (length (writers h k))
+FinalsShow h = (k : Key) → final_value h.finals k ≡ value_at h k (length (writers h k))
 
 pub record IsWellFormed (h : History) : Type 0 where
   pub open_until_end : EachAfter IsOpen [] h.events

@@ -39,11 +39,8 @@ ended kind.Info t steps = record t { outcome = outcome_of kind.Info }
 -- the same append, or reads of the same key
 abbrev pub is_same : Operation → Operation → Bool
 is_same (Append k x) (Append l y) = (k == l) && (x == y)
-is_same (Append k x) (Read l ys) = false
-is_same (Append k x) (LostRead l) = false
-is_same (Read k xs) (Append l y) = false
 is_same (Read k xs) (Read l ys) = k == l
 is_same (Read k xs) (LostRead l) = k == l
-is_same (LostRead k) (Append l y) = false
 is_same (LostRead k) (Read l ys) = k == l
 is_same (LostRead k) (LostRead l) = k == l
+is_same _ _ = false

@@ -3,15 +3,13 @@ use Rattle.std.specs.Prelude.{ℕ, suc, ◌<◌, List, [], ◌∷◌, ◌++◌}
 use Rattle.edn.specs.declared.builder.TheConstants.{MAX_DEPTH}
 use Rattle.edn.specs.Meaning.Forms.{Form}
 use Rattle.edn.specs.Meaning.Grammar.{AreItems}
-use Rattle.edn.specs.Meaning.Tokens.{Token, opens, closes, discard, tag, leaf}
+use Rattle.edn.specs.Meaning.Tokens.{Token, closes, leaf}
 
 -- it opens a collection, or stands before a form as its tag or to discard it
 abbrev pub IsOpening : Token → Type 0
-IsOpening (opens b) = Unit {0}
-IsOpening discard = Unit {0}
-IsOpening tag = Unit {0}
 IsOpening (closes b) = ⊥
 IsOpening (leaf f) = ⊥
+IsOpening _ = Unit {0}
 
 -- after these tokens so much is open, one within the other: collections without their closing brackets, tags and `#_`
 -- without their forms; whole forms may stand in between

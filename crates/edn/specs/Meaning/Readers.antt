@@ -34,12 +34,10 @@ AreFirst false t ts P = P (t ∷ ts)
 
 -- P holds of the tokens that come next; if the text begins with `[`, they come within that vector
 abbrev pub AreNext : Stage → List Token → (List Token → Type 0) → Type 0
-AreNext Start [] P = ⊥
 AreNext Start (t ∷ ts) P = AreFirst (is_square t) t ts P
 AreNext Forms ts P = P ts
 AreNext Elements ts P = P ts
-AreNext Closed ts P = ⊥
-AreNext (Failed fault) ts P = ⊥
+AreNext _ _ P = ⊥
 
 -- the tokens are those of the form that comes next; if the text begins with `[`, it is an element of that vector
 abbrev pub IsFormAt : Stage → List Token → Form → Type 0

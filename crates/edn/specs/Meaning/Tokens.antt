@@ -1,7 +1,7 @@
 -- What a text is made of.
 use Rattle.std.specs.Prelude.{Bool, true, false}
 use Rattle.edn.specs.declared.token.Opening.{Opening}
-use Rattle.edn.specs.declared.token.Opening.TheVariants.{List, Vector, Set, Map}
+use Rattle.edn.specs.declared.token.Opening.TheVariants.{Vector}
 use Rattle.edn.specs.declared.token.Closing.{Closing}
 use Rattle.edn.specs.Meaning.Forms.{Form}
 
@@ -15,11 +15,5 @@ pub data Token : Type 0 where
 
 -- `[`
 abbrev pub is_square : Token → Bool
-is_square (opens List) = false
 is_square (opens Vector) = true
-is_square (opens Set) = false
-is_square (opens Map) = false
-is_square (closes b) = false
-is_square discard = false
-is_square tag = false
-is_square (leaf f) = false
+is_square _ = false

@@ -1,8 +1,9 @@
 -- Snapshot histories and dangerous structures (Cahill, Röhm and Fekete 2008). Time is counted in
 -- commits: a transaction's stamp is the place of its commit among the commits, and its snapshot is the stamp of the last
 -- commit before it started. A history doesn't record when a transaction started, so `starts` gives its snapshot.
-use Rattle.std.specs.Prelude.{◌≡◌, ◌≢◌, ℕ, zero, suc, ◌<◌, ◌≤◌, true, List, Option, Some, None, Contains}
+use Rattle.std.specs.Prelude.{◌≡◌, ◌≢◌, ℕ, zero, suc, ◌<◌, ◌≤◌, true, Some, Contains}
 use Rattle.std.specs.List.{filter_map}
+use Rattle.adya_values.specs.Meaning.Keys.{Key}
 use Rattle.adya_values.specs.Meaning.Histories.{Event, History}
 use Rattle.adya_values.specs.Meaning.Events.{txn_of, is_committed, commit_of}
 use Rattle.adya_values.specs.Meaning.Orders.{place, installer}
@@ -21,14 +22,14 @@ pub record AreConcurrent (h : History) (starts : ℕ → ℕ) (t u : ℕ) : Type
   pub starts_before : starts t < stamp_in h u
 
 -- of the versions of the key with a stamp at or below the limit, that at the place has the greatest
-pub record IsGreatestWithin (h : History) (k : List ℕ) (limit p : ℕ) : Type 0 where
+pub record IsGreatestWithin (h : History) (k : Key) (limit p : ℕ) : Type 0 where
   pub who : ℕ
   pub installs : installer h k p ≡ Some who
   pub within : stamp_in h who ≤ limit
   pub greatest : (q u : ℕ) → installer h k q ≡ Some u → stamp_in h u ≤ limit → stamp_in h u ≤ stamp_in h who
 
 -- the version at the place is the newest that the snapshot sees; the unborn one if it sees none
-abbrev pub IsNewestWithin : History → List ℕ → ℕ → ℕ → Type 0
+abbrev pub IsNewestWithin : History → Key → ℕ → ℕ → Type 0
 IsNewestWithin h k limit zero = (q u : ℕ) → installer h k q ≡ Some u → limit < stamp_in h u
 IsNewestWithin h k limit (suc p) = IsGreatestWithin h k limit (suc p)
 
@@ -37,13 +38,13 @@ pub record IsSnapshotHistory (h : History) (starts : ℕ → ℕ) : Type 0 where
   pub starts_first : (t : ℕ) → is_committed h.events t ≡ true → starts t < stamp_in h t
   -- if an event reads or selects a version that its transaction hasn't written, that is the newest one that its snapshot
   -- sees
-  pub sees_snapshot : (e : Event) (k : List ℕ) (p : ℕ) → Contains h.events e → selected h e k ≡ Some p
+  pub sees_snapshot : (e : Event) (k : Key) (p : ℕ) → Contains h.events e → selected h e k ≡ Some p
       → IsNewestWithin h k (starts (txn_of e)) p
   -- no two committed writers of a key are concurrent
-  pub first_wins : (k : List ℕ) (p q t u : ℕ) → installer h k p ≡ Some t → installer h k q ≡ Some u
+  pub first_wins : (k : Key) (p q t u : ℕ) → installer h k p ≡ Some t → installer h k q ≡ Some u
       → AreConcurrent h starts t u → ⊥
   -- the versions of a key are in the order of their stamps
-  pub by_stamp : (k : List ℕ) (p q t u : ℕ) → installer h k p ≡ Some t → installer h k q ≡ Some u → p < q
+  pub by_stamp : (k : Key) (p q t u : ℕ) → installer h k p ≡ Some t → installer h k q ≡ Some u → p < q
       → stamp_in h t < stamp_in h u
 
 -- two consecutive anti-dependencies, each between concurrent transactions. The last of the three transactions committed

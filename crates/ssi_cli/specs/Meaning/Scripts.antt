@@ -1,6 +1,7 @@
 -- What a run over a script has done when it ends, and what is written of it.
-use Rattle.std.specs.Prelude.{◌≡◌, ℕ, List, Option}
-use Rattle.adya_values.specs.Meaning.Histories.{History}
+use Rattle.std.specs.Prelude.{◌≡◌, List, Option}
+use Rattle.adya_values.specs.Meaning.Keys.{Bytes}
+use Rattle.adya_values.specs.Meaning.Histories.{Txns, History}
 use Rattle.adya_values.specs.Meaning.Acceptance.{IsAccepted}
 use Rattle.devices.specs.declared.watched.Watched.{Watched}
 use Rattle.devices.specs.Meaning.Writing.{Grew}
@@ -15,27 +16,27 @@ use Rattle.ssi_line.specs.declared.end.End.{End}
 
 -- the lines of an input made these steps of a new store, each of which may follow those before it, and the run ended so:
 -- what is left of the input, and what was written
-pub record Ran {D : Type 0} (contents : D → Option (List ℕ)) (input left : Option (List ℕ)) (old new : Watched D) :
+pub record Ran {D : Type 0} (contents : D → Option Bytes) (input left : Option Bytes) (old new : Watched D) :
     Type 0 where
   pub end : End
-  pub lines : List (List ℕ)
+  pub lines : List Bytes
   pub steps : List Step
   -- the bytes after the last line
-  pub after : List ℕ
+  pub after : Bytes
   pub took : Took input lines steps after left
   pub follow : AllMayFollow (New 1) steps
   pub ends : EndsAs end contents steps after left old new
 
 -- the course of the store at the end of the run
-abbrev pub course_of : {D : Type 0} → {contents : D → Option (List ℕ)} → {input left : Option (List ℕ)}
+abbrev pub course_of : {D : Type 0} → {contents : D → Option Bytes} → {input left : Option Bytes}
     → {old new : Watched D} → Ran contents input left old new → Course
 course_of ran = course_after (New 1) ran.steps
 
 -- the history of the course is written, and a certificate that it is accepted with
-pub record Certified {H C : Type 0} (course : Course) (in_history : H → Option (List ℕ)) (old_history new_history : Watched H)
-    (in_certificate : C → Option (List ℕ)) (old_certificate new_certificate : Watched C) : Type 0 where
+pub record Certified {H C : Type 0} (course : Course) (in_history : H → Option Bytes) (old_history new_history : Watched H)
+    (in_certificate : C → Option Bytes) (old_certificate new_certificate : Watched C) : Type 0 where
   pub history : History
-  pub certificate : List ℕ
+  pub certificate : Txns
   pub is : history ≡ finished course
   pub records : Records history course
   pub accepted : IsAccepted history certificate

@@ -1,5 +1,6 @@
 -- Concurrent transactions, pairs and pivots (Cahill, Röhm and Fekete 2008), looking back over all calls of a tracker.
 use Rattle.std.specs.Prelude.{◌≡◌, ℕ, ◌==◌, ◌<◌, ◌≤◌, Bool, true, false, not, ◌&&◌, nat_le, List, Option, Some, None, Contains}
+use Rattle.adya_values.specs.Meaning.Keys.{Key}
 use Rattle.ssi_conflict.specs.Meaning.Calls.{Call, snapshot_of, stamp_of, keys_of, is_committed, is_aborted, meets, before_commit}
 
 -- there are a stamp and a snapshot, and the stamp is not above the snapshot
@@ -19,7 +20,7 @@ are_concurrent t u calls = not (t == u) && (not (precedes t u calls) && not (pre
 -- r and the committed u are concurrent, and r read a key that u wrote, so r may have to come before u in a serial
 -- order; a transaction that was aborted before u committed is in no pair with u
 pub record IsPair (r u : ℕ) (calls : List Call) : Type 0 where
-  pub key : List ℕ
+  pub key : Key
   pub committed : is_committed u calls ≡ true
   pub concurrent : are_concurrent r u calls ≡ true
   pub met : meets r key calls ≡ true

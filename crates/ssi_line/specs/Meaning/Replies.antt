@@ -1,15 +1,16 @@
 -- The one line of each answer.
-use Rattle.std.specs.Prelude.{ℕ, List, ◌++◌, codes, decimal, flat_map, length}
+use Rattle.std.specs.Prelude.{◌++◌, codes, decimal, flat_map, length}
+use Rattle.adya_values.specs.Meaning.Keys.{Bytes}
 use Rattle.adya_values.specs.Meaning.Histories.{FinalPair}
 use Rattle.ssi_store.specs.Meaning.Courses.{Refusal, Busy, Idle, Range, Long, Spent, Memory}
 use Rattle.ssi_store.specs.Meaning.Courses.{Answer, Begun, Value, Absent, Done, Rows, Committed, Aborted, Conflict, Unsafe}
 use Rattle.ssi_store.specs.Meaning.Courses.{Kept, Counts, Refused}
 
 -- a space and K,V
-abbrev pub row_text : FinalPair → List ℕ
+abbrev pub row_text : FinalPair → Bytes
 row_text f = codes " " ++ f.key ++ codes "," ++ f.value
 
-abbrev pub refusal_text : Refusal → List ℕ
+abbrev pub refusal_text : Refusal → Bytes
 refusal_text Busy = codes "! 1 busy"
 refusal_text Idle = codes "! 2 idle"
 refusal_text Range = codes "! 3 range"
@@ -18,7 +19,7 @@ refusal_text Spent = codes "! 5 spent"
 refusal_text Memory = codes "! 6 memory"
 
 -- a scan is answered with the number of its rows and then with the rows
-abbrev pub answer_text : Answer → List ℕ
+abbrev pub answer_text : Answer → Bytes
 answer_text (Begun t) = codes "begun " ++ decimal t
 answer_text (Value v) = codes "value " ++ v
 answer_text Absent = codes "absent"
@@ -35,5 +36,5 @@ answer_text (Counts active kept versions keys) =
 answer_text (Refused r) = refusal_text r
 
 -- with its line feed
-abbrev pub answer_line : Answer → List ℕ
+abbrev pub answer_line : Answer → Bytes
 answer_line answer = answer_text answer ++ codes "\n"

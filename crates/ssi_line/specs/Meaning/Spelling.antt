@@ -1,6 +1,6 @@
 -- The lines of the protocol, each without its line feed.
-use Rattle.std.specs.Prelude.{◌≡◌, ℕ, true, List, [], ◌∷◌, ◌++◌, codes, decimal}
-use Rattle.adya_values.specs.Meaning.Keys.{is_key, is_value, IsMod}
+use Rattle.std.specs.Prelude.{◌≡◌, true, List, [], ◌∷◌, ◌++◌, codes, decimal}
+use Rattle.adya_values.specs.Meaning.Keys.{Bytes, is_key, is_value, IsMod}
 use Rattle.ssi_store.specs.Meaning.Sessions.{is_session}
 use Rattle.ssi_store.specs.Mirror.Commands.{command_of}
 use Rattle.ssi_store.specs.Meaning.Courses.{Command, Begin, Get, Put, Del, Scan, ScanFirst, Commit, Abort, Collect, Stat}
@@ -9,13 +9,13 @@ use Rattle.ssi_line.specs.declared.line.Line.TheVariants as Of
 use Rattle.adya_line.specs.Meaning.Lines.{Spells, SpellsNone, SpellsOnly}
 
 -- words with one space between them
-abbrev pub spaced : List (List ℕ) → List ℕ
+abbrev pub spaced : List Bytes → Bytes
 spaced [] = []
 spaced (w ∷ []) = w
 spaced (w ∷ v ∷ ws) = w ++ (32 ∷ spaced (v ∷ ws))
 
 -- the line of a command
-abbrev pub command_text : Command → List ℕ
+abbrev pub command_text : Command → Bytes
 command_text (Begin s) = spaced (codes "begin" ∷ s ∷ [])
 command_text (Get s k) = spaced (codes "get" ∷ s ∷ k ∷ [])
 command_text (Put s k v) = spaced (codes "put" ∷ s ∷ k ∷ v ∷ [])
@@ -54,7 +54,7 @@ line_of (Of.Do c) = Do (command_of c)
 line_of Of.Stop = Stop
 line_of Of.Dump = Dump
 
-abbrev pub line_text : Line → List ℕ
+abbrev pub line_text : Line → Bytes
 line_text (Do c) = command_text c
 line_text Stop = codes "stop"
 line_text Dump = codes "dump"
@@ -65,11 +65,11 @@ IsLine Stop = Unit {0}
 IsLine Dump = Unit {0}
 
 -- the text is that of the line; of no line; of this line, and of no other
-abbrev pub IsLineOf : Line → List ℕ → Type 0
+abbrev pub IsLineOf : Line → Bytes → Type 0
 IsLineOf = Spells IsLine line_text
 
-abbrev pub IsNoLine : List ℕ → Type 0
+abbrev pub IsNoLine : Bytes → Type 0
 IsNoLine = SpellsNone IsLine line_text
 
-abbrev pub IsOnlyLineOf : Line → List ℕ → Type 0
+abbrev pub IsOnlyLineOf : Line → Bytes → Type 0
 IsOnlyLineOf = SpellsOnly IsLine line_text

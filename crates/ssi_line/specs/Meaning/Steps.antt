@@ -1,6 +1,7 @@
 -- What is made of each line of an input, what is written for it, and how the course of the store goes on.
-use Rattle.std.specs.Prelude.{◌≡◌, ℕ, ◌<◌, ◌≤◌, Bool, true, false, List, [], ◌∷◌, ◌++◌, codes, length, flat_map, All}
-use Rattle.adya_values.specs.Meaning.Histories.{History}
+use Rattle.std.specs.Prelude.{◌≡◌, ◌<◌, ◌≤◌, Bool, true, false, List, [], ◌∷◌, ◌++◌, codes, length, flat_map, All}
+use Rattle.adya_values.specs.Meaning.Keys.{Bytes}
+use Rattle.adya_values.specs.Meaning.Histories.{Txns, History}
 use Rattle.adya_values.specs.Meaning.Acceptance.{IsAccepted}
 use Rattle.adya_text.specs.Meaning.Texts.{history_text, serial_text}
 use Rattle.ssi_conflict.specs.Computing.Steps.{smallest_ordered_pivot}
@@ -15,7 +16,7 @@ pub data Step : Type 0 where
   -- the store was given a command, and answered it
   Given : (command : Command) (answer : Answer) → Step
   -- the history so far and a certificate were given
-  Dumped : (history : History) (serial : List ℕ) → Step
+  Dumped : (history : History) (serial : Txns) → Step
   -- memory ran out before that
   NotDumped : Step
   -- the run ends
@@ -26,7 +27,7 @@ pub data Step : Type 0 where
   TooLong : Step
 
 -- the line makes this step; the history of a dump is accepted with its certificate
-abbrev pub IsStep : List ℕ → Step → Type 0
+abbrev pub IsStep : Bytes → Step → Type 0
 IsStep line (Given c a) = IsLineOf (Do c) line
 IsStep line (Dumped h ts) = (line ≡ line_text Dump) × IsAccepted h ts
 IsStep line NotDumped = line ≡ line_text Dump
@@ -35,14 +36,14 @@ IsStep line NotRead = (length line ≤ 4096) × IsNoLine line
 IsStep line TooLong = 4096 < length line
 
 -- each line makes its step
-abbrev pub AreSteps : List (List ℕ) → List Step → Type 0
+abbrev pub AreSteps : List Bytes → List Step → Type 0
 AreSteps [] [] = Unit {0}
 AreSteps [] (s ∷ ss) = ⊥
 AreSteps (l ∷ ls) [] = ⊥
 AreSteps (l ∷ ls) (s ∷ ss) = IsStep l s × AreSteps ls ss
 
 -- what is written for a step
-abbrev pub step_text : Step → List ℕ
+abbrev pub step_text : Step → Bytes
 step_text (Given c a) = answer_line a
 step_text (Dumped h ts) = history_text h ++ serial_text ts
 step_text NotDumped = answer_line (Refused Memory)
@@ -50,17 +51,13 @@ step_text Stopped = codes "stopped\n"
 step_text NotRead = codes "? syntax\n"
 step_text TooLong = codes "? long\n"
 
-abbrev pub steps_text : List Step → List ℕ
+abbrev pub steps_text : List Step → Bytes
 steps_text steps = flat_map step_text steps
 
 -- the course with the step: only a command goes into it
 abbrev pub course_with : Course → Step → Course
 course_with course (Given c a) = Then course c a
-course_with course (Dumped h ts) = course
-course_with course NotDumped = course
-course_with course Stopped = course
-course_with course NotRead = course
-course_with course TooLong = course
+course_with course _ = course
 
 -- the course with the steps, one after the other
 abbrev pub course_after : Course → List Step → Course
@@ -72,10 +69,7 @@ course_after course (s ∷ ss) = course_after (course_with course s) ss
 abbrev pub MayFollow : Course → Step → Type 0
 MayFollow course (Given c a) = IsAnswer smallest_ordered_pivot course c a
 MayFollow course (Dumped h ts) = (h ≡ dumped course) × RecordsSoFar h course
-MayFollow course NotDumped = Unit {0}
-MayFollow course Stopped = Unit {0}
-MayFollow course NotRead = Unit {0}
-MayFollow course TooLong = Unit {0}
+MayFollow course _ = Unit {0}
 
 -- each step may follow the course with the steps before it
 abbrev pub AllMayFollow : Course → List Step → Type 0
@@ -84,11 +78,7 @@ AllMayFollow course (s ∷ ss) = MayFollow course s × AllMayFollow (course_with
 
 abbrev pub is_stop : Step → Bool
 is_stop Stopped = true
-is_stop (Given c a) = false
-is_stop (Dumped h ts) = false
-is_stop NotDumped = false
-is_stop NotRead = false
-is_stop TooLong = false
+is_stop _ = false
 
 -- no step ends the run
 abbrev pub AllGoOn : List Step → Type 0

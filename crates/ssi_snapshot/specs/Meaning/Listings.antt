@@ -1,21 +1,21 @@
 -- What a scan lists: entries by rising key.
 use Rattle.std.specs.Prelude.{◌≡◌, ℕ, zero, suc, ◌==◌, true, if◌then◌else◌, List, [], ◌∷◌, map, length, Option, Some, None, is_some}
-use Rattle.adya_values.specs.Meaning.Keys.{keys_rise, lies_in}
+use Rattle.adya_values.specs.Meaning.Keys.{Key, keys_rise, lies_in}
 use Rattle.adya_values.specs.Meaning.Histories.{Entry, FinalPair}
 use Rattle.adya_values.specs.Meaning.Events.{last, listed, visible}
 
 -- the keys of the entries
-abbrev pub keys : List Entry → List (List ℕ)
+abbrev pub keys : List Entry → List Key
 keys ws = map (λ w. w.version.key) ws
 
 -- what is shown of the keys from low to high, both included, and nothing of the others
-abbrev pub within : List ℕ → List ℕ → (List ℕ → Option Entry) → List ℕ → Option Entry
+abbrev pub within : Key → Key → (Key → Option Entry) → Key → Option Entry
 within low high shows key = if lies_in low high key then shows key else None
 
 -- the list has exactly what is shown of each key, by rising key
-pub record IsListing (shows : List ℕ → Option Entry) (ws : List Entry) : Type 0 where
+pub record IsListing (shows : Key → Option Entry) (ws : List Entry) : Type 0 where
   pub rising : keys_rise (keys ws) ≡ true
-  pub each : (key : List ℕ) → listed key ws ≡ shows key
+  pub each : (key : Key) → listed key ws ≡ shows key
 
 -- the entries up to the nth visible one and with it, or all if fewer are visible
 abbrev pub up_to : ℕ → List Entry → List Entry
@@ -24,11 +24,11 @@ up_to (suc n) [] = []
 up_to (suc n) (w ∷ ws) = w ∷ (if is_some (visible w.content) then up_to n ws else up_to (suc n) ws)
 
 -- the key of the pair, or this key if there is none
-abbrev pub key_or : List ℕ → Option FinalPair → List ℕ
+abbrev pub key_or : Key → Option FinalPair → Key
 key_or high None = high
 key_or high (Some p) = p.key
 
 -- how far a scan looked that was limited to n visible pairs and found these: to the last of them if it found n, and else
 -- to the end of its range
-abbrev pub reached : List ℕ → ℕ → List FinalPair → List ℕ
+abbrev pub reached : Key → ℕ → List FinalPair → Key
 reached high n ps = if length ps == n then key_or high (last ps) else high

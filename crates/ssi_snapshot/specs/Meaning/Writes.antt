@@ -1,6 +1,6 @@
 -- The writes of a transaction: its last write of each key, in the order of its first writes of the keys.
 use Rattle.std.specs.Prelude.{ℕ, suc, if◌then◌else◌, List, [], ◌∷◌, Option, Some, None}
-use Rattle.adya_values.specs.Meaning.Keys.{key_eq}
+use Rattle.adya_values.specs.Meaning.Keys.{Key, key_eq}
 use Rattle.adya_values.specs.Meaning.Histories.{Content, Entry}
 use Rattle.adya_values.specs.Meaning.Events.{version, entry, listed}
 
@@ -15,9 +15,9 @@ mod_of None = 0
 mod_of (Some w) = w.version.m
 
 -- the number of the next write of the key
-abbrev pub next_mod : List ℕ → List Entry → ℕ
+abbrev pub next_mod : Key → List Entry → ℕ
 next_mod key ws = suc (mod_of (listed key ws))
 
 -- the transaction's next write of the key
-abbrev pub next_write : ℕ → List ℕ → Content → List Entry → Entry
+abbrev pub next_write : ℕ → Key → Content → List Entry → Entry
 next_write txn key content ws = entry (version key txn (next_mod key ws)) content

@@ -1,16 +1,17 @@
 -- What the transactions of a course did, without sessions and answers. The newest act stands first, so that the tail of
 -- a log is what was before.
 use Rattle.std.specs.Prelude.{ℕ, suc, ◌==◌, Bool, false, not, ◌&&◌, ◌||◌, if◌then◌else◌, List, [], ◌∷◌, ◌++◌, Option, Some, None, filter}
-use Rattle.adya_values.specs.Meaning.Histories.{Content, Live, Dead}
+use Rattle.adya_values.specs.Meaning.Keys.{Key}
+use Rattle.adya_values.specs.Meaning.Histories.{Txns, Content, Live, Dead}
 use Rattle.ssi_snapshot.specs.Meaning.Listings.{reached}
 use Rattle.ssi_store.specs.Meaning.Courses.{Command, Command as Do, Answer, Begun, Value, Absent, Done, Rows, Committed, Aborted, Conflict, Unsafe, Kept, Course, New, Then, txn_for}
 
 -- a transaction starts, writes a key, gets a key, scans a range, commits or aborts; and old versions are collected
 pub data Act : Type 0 where
   Starts : (txn : ℕ) → Act
-  Writes : (txn : ℕ) (key : List ℕ) (content : Content) → Act
-  Gets : (txn : ℕ) (key : List ℕ) → Act
-  Scans : (txn : ℕ) (low high : List ℕ) → Act
+  Writes : (txn : ℕ) (key : Key) (content : Content) → Act
+  Gets : (txn : ℕ) (key : Key) → Act
+  Scans : (txn : ℕ) (low high : Key) → Act
   Commits : (txn : ℕ) → Act
   Aborts : (txn : ℕ) → Act
   Collects : Act
@@ -64,13 +65,13 @@ abbrev pub is_open : ℕ → List Act → Bool
 is_open t log = has_started t log && not (has_committed t log || has_aborted t log)
 
 -- the transactions, in the order in which they started
-abbrev pub started : List Act → List ℕ
+abbrev pub started : List Act → Txns
 started [] = []
 started (Starts t ∷ log) = started log ++ t ∷ []
 started (a ∷ log) = started log
 
 -- the open ones, by rising number
-abbrev pub open_txns : List Act → List ℕ
+abbrev pub open_txns : List Act → Txns
 open_txns log = filter (λ t. is_open t log) (started log)
 
 -- how many operations the transaction has carried out

@@ -1,20 +1,20 @@
 -- Commands, answers and courses of a store, and which transaction a session has.
 use Rattle.std.specs.Prelude.{ℕ, suc, Bool, true, false, nat_lt, if◌then◌else◌, List, Option, Some, None}
-use Rattle.adya_values.specs.Meaning.Keys.{key_eq}
+use Rattle.adya_values.specs.Meaning.Keys.{Key, Bytes, key_eq}
 use Rattle.adya_values.specs.Meaning.Histories.{FinalPair}
 
 -- what a session, or an operator, asks of a store; sessions, keys and values are lists of bytes
 pub data Command : Type 0 where
-  Begin : (session : List ℕ) → Command
-  Get : (session key : List ℕ) → Command
-  Put : (session key value : List ℕ) → Command
-  Del : (session key : List ℕ) → Command
+  Begin : (session : Bytes) → Command
+  Get : (session : Bytes) (key : Key) → Command
+  Put : (session : Bytes) (key : Key) (value : Bytes) → Command
+  Del : (session : Bytes) (key : Key) → Command
   -- all visible pairs of the range
-  Scan : (session low high : List ℕ) → Command
+  Scan : (session : Bytes) (low high : Key) → Command
   -- the first of them, at most as many as the limit
-  ScanFirst : (session low high : List ℕ) (limit : ℕ) → Command
-  Commit : (session : List ℕ) → Command
-  Abort : (session : List ℕ) → Command
+  ScanFirst : (session : Bytes) (low high : Key) (limit : ℕ) → Command
+  Commit : (session : Bytes) → Command
+  Abort : (session : Bytes) → Command
   -- drop the versions that nobody can see any more
   Collect : Command
   -- count transactions, versions and keys
@@ -38,7 +38,7 @@ pub data Refusal : Type 0 where
 -- what a store answers; a row is a visible pair, as a history's final values are
 pub data Answer : Type 0 where
   Begun : (txn : ℕ) → Answer
-  Value : (value : List ℕ) → Answer
+  Value : (value : Bytes) → Answer
   Absent : Answer
   -- the write is carried out
   Done : Answer
@@ -46,7 +46,7 @@ pub data Answer : Type 0 where
   Committed : Answer
   Aborted : Answer
   -- the transaction is aborted: another one has committed a write of the key since it began
-  Conflict : (key : List ℕ) (writer : ℕ) → Answer
+  Conflict : (key : Key) (writer : ℕ) → Answer
   -- the transaction is aborted: this pivot would stand
   Unsafe : (pivot : ℕ) → Answer
   -- how many versions a collection has kept
@@ -60,7 +60,7 @@ pub data Course : Type 0 where
   Then : (course : Course) (command : Command) (answer : Answer) → Course
 
 -- the command is one of the session
-abbrev pub is_of : List ℕ → Command → Bool
+abbrev pub is_of : Bytes → Command → Bool
 is_of s (Begin r) = key_eq r s
 is_of s (Get r k) = key_eq r s
 is_of s (Put r k v) = key_eq r s
@@ -79,16 +79,10 @@ txn_after t Committed = None
 txn_after t Aborted = None
 txn_after t (Conflict k w) = None
 txn_after t (Unsafe p) = None
-txn_after t (Value v) = t
-txn_after t Absent = t
-txn_after t Done = t
-txn_after t (Rows rs) = t
-txn_after t (Kept n) = t
-txn_after t (Counts active kept versions keys) = t
-txn_after t (Refused r) = t
+txn_after t _ = t
 
 -- the open transaction of the session
-abbrev pub txn_in : List ℕ → Course → Option ℕ
+abbrev pub txn_in : Bytes → Course → Option ℕ
 txn_in s (New first) = None
 txn_in s (Then c command answer) = if is_of s command then txn_after (txn_in s c) answer else txn_in s c
 

@@ -1,5 +1,6 @@
 -- What the steps of a course and the events of a history show to the outside, and when a history records a course.
 use Rattle.std.specs.Prelude.{◌≡◌, ℕ, List, [], ◌∷◌, ◌++◌, Option, Some, None, map}
+use Rattle.adya_values.specs.Meaning.Keys.{Key, Bytes}
 use Rattle.adya_values.specs.Meaning.Histories.{Content, Live, Dead, Event, Write, Delete, Read, Scan, Commit, Abort, FinalPair, History}
 use Rattle.adya_values.specs.Meaning.Serial.{visible_pairs}
 use Rattle.ssi_store.specs.Meaning.Courses.{Command, Command as Do, Answer, Value, Absent, Done, Rows, Committed, Aborted, Conflict, Unsafe, Course, New, Then, txn_for}
@@ -8,9 +9,9 @@ use Rattle.ssi_store.specs.Meaning.Acts.{acts, open_txns}
 
 -- what a step or an event shows to the outside
 pub data Face : Type 0 where
-  Wrote : (txn : ℕ) (key : List ℕ) (content : Content) → Face
-  Got : (txn : ℕ) (key value : List ℕ) → Face
-  Listed : (txn : ℕ) (low high : List ℕ) (rows : List FinalPair) → Face
+  Wrote : (txn : ℕ) (key : Key) (content : Content) → Face
+  Got : (txn : ℕ) (key : Key) (value : Bytes) → Face
+  Listed : (txn : ℕ) (low high : Key) (rows : List FinalPair) → Face
   Commits : (txn : ℕ) → Face
   Aborts : (txn : ℕ) → Face
 

@@ -1,24 +1,25 @@
 -- What is recorded of the acts of a course, and its history.
 use Rattle.std.specs.Prelude.{ℕ, suc, ◌==◌, if◌then◌else◌, List, [], ◌∷◌, ◌++◌, map, Option, Some, None}
 use Rattle.adya_values.specs.declared.edition.Edition.TheVariants.{One, Two}
-use Rattle.adya_values.specs.Meaning.Histories.{Entry, Content, Live, Dead, Event, Write, Delete, Read, Scan, Commit, Abort, History}
+use Rattle.adya_values.specs.Meaning.Keys.{Key}
+use Rattle.adya_values.specs.Meaning.Histories.{Txns, Entry, Content, Live, Dead, Event, Write, Delete, Read, Scan, Commit, Abort, History}
 use Rattle.ssi_recorder.specs.Meaning.Recorded.{history_of_events}
 use Rattle.ssi_store.specs.Meaning.Courses.{Course}
 use Rattle.ssi_store.specs.Meaning.Acts.{Act, Starts, Writes, Gets, Scans, Commits, Aborts, Collects, acts, started, is_open, open_txns}
 use Rattle.ssi_store.specs.Meaning.Seeing.{snapshot, write_count, sees, scanned}
 
 -- a write of the version with that number
-abbrev pub write_event : ℕ → List ℕ → ℕ → Content → Event
+abbrev pub write_event : ℕ → Key → ℕ → Content → Event
 write_event t k m (Live v) = Write t k m v
 write_event t k m Dead = Delete t k m
 
 -- what is recorded of a get that finds this version
-abbrev pub get_found : ℕ → List ℕ → Entry → Content → Event
+abbrev pub get_found : ℕ → Key → Entry → Content → Event
 get_found t k w (Live v) = Read t w.version v
 get_found t k w Dead = Scan t k k (w ∷ [])
 
 -- a get that finds a visible version is a read, and any other a scan of the key alone
-abbrev pub get_event : ℕ → List ℕ → Option Entry → Event
+abbrev pub get_event : ℕ → Key → Option Entry → Event
 get_event t k None = Scan t k k []
 get_event t k (Some w) = get_found t k w w.content
 
@@ -38,7 +39,7 @@ events [] = []
 events (a ∷ log) = events log ++ recorded a log
 
 -- the log after an abort of each of these transactions that is open
-abbrev pub close : List ℕ → List Act → List Act
+abbrev pub close : Txns → List Act → List Act
 close [] log = log
 close (t ∷ ts) log = close ts (if is_open t log then Aborts t ∷ log else log)
 

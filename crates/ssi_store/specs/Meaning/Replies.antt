@@ -3,7 +3,7 @@
 -- `smallest_ordered_pivot` (Ports and Grittner 2012, section 3.3).
 use Rattle.std.specs.Prelude.{◌≡◌, ◌⊎◌, ℕ, Bool, true, false, ◌&&◌, nat_lt, nat_le, if◌then◌else◌, List, ◌∷◌, take, Option, Some, None}
 use Rattle.std.specs.List.{find}
-use Rattle.adya_values.specs.Meaning.Keys.{key_lt}
+use Rattle.adya_values.specs.Meaning.Keys.{Key, Bytes, key_lt}
 use Rattle.adya_values.specs.Meaning.Histories.{FinalPair}
 use Rattle.adya_values.specs.Meaning.Events.{shown}
 use Rattle.adya_values.specs.Meaning.Serial.{visible_pairs}
@@ -17,11 +17,11 @@ use Rattle.ssi_store.specs.Meaning.Seeing.{snapshot, wrote, sees, keys, scanned,
 use Rattle.ssi_store.specs.Meaning.Tracked.{tracked}
 
 -- t wrote the key, and a version of it was committed after t started; the first committer wins
-abbrev pub is_overtaken : ℕ → List Act → List ℕ → Bool
+abbrev pub is_overtaken : ℕ → List Act → Key → Bool
 is_overtaken t log k = wrote t k log && is_installed_above k (snapshot t log) (changed log)
 
 -- the smallest key of t that was overtaken
-abbrev pub conflict : ℕ → List Act → Option (List ℕ)
+abbrev pub conflict : ℕ → List Act → Option Key
 conflict t log = find (is_overtaken t log) (keys log)
 
 -- whose version it is, 0 if there is none
@@ -30,16 +30,16 @@ writer_in None = 0
 writer_in (Some h) = h.entry.version.txn
 
 -- the key's last writer, 0 if it has none
-abbrev pub last_writer : List ℕ → List Act → ℕ
+abbrev pub last_writer : Key → List Act → ℕ
 last_writer k log = writer_in (last_version k (changed log))
 
 -- the answer to a get that found this value or none
-abbrev pub got : Option (List ℕ) → Answer
+abbrev pub got : Option Bytes → Answer
 got None = Absent
 got (Some v) = Value v
 
 -- the visible pairs of the range, by rising key
-abbrev pub rows : ℕ → List ℕ → List ℕ → List Act → List FinalPair
+abbrev pub rows : ℕ → Key → Key → List Act → List FinalPair
 rows t low high log = visible_pairs (scanned t low high log)
 
 -- the answer, unless a pivot would stand
@@ -48,7 +48,7 @@ unless_pivot None answer = answer
 unless_pivot (Some p) answer = Unsafe p
 
 -- the answer, unless this key was overtaken
-abbrev pub unless_conflict : Option (List ℕ) → List Act → Answer → Answer
+abbrev pub unless_conflict : Option Key → List Act → Answer → Answer
 unless_conflict None log answer = answer
 unless_conflict (Some k) log answer = Conflict k (last_writer k log)
 
@@ -58,11 +58,11 @@ abbrev pub unless_long : ℕ → List Act → Answer → Answer
 unless_long t log answer = if nat_le 65535 (operations t log) then Refused Long else answer
 
 -- the answer, if the range doesn't run downward
-abbrev pub unless_downward : List ℕ → List ℕ → Answer → Answer
+abbrev pub unless_downward : Key → Key → Answer → Answer
 unless_downward low high answer = if key_lt high low then Refused Range else answer
 
 -- the answer to a scan that looks at the range and gives these rows
-abbrev pub scan_answer : (List Call → Option ℕ) → ℕ → List Act → List ℕ → List ℕ → List FinalPair → Answer
+abbrev pub scan_answer : (List Call → Option ℕ) → ℕ → List Act → Key → Key → List FinalPair → Answer
 scan_answer pivot t log low high found = unless_pivot (pivot (tracked (Scans t low high ∷ log))) (Rows found)
 
 -- how many versions are held after a collection
@@ -96,15 +96,9 @@ reply_in pivot t log Do.Stat = counts_answer log
 -- 4294967295
 abbrev pub reply_idle : Course → Command → Answer
 reply_idle c (Do.Begin s) = if nat_lt 4294967295 (next_txn c) then Refused Spent else Begun (next_txn c)
-reply_idle c (Do.Get s k) = Refused Idle
-reply_idle c (Do.Put s k v) = Refused Idle
-reply_idle c (Do.Del s k) = Refused Idle
-reply_idle c (Do.Scan s low high) = Refused Idle
-reply_idle c (Do.ScanFirst s low high n) = Refused Idle
-reply_idle c (Do.Commit s) = Refused Idle
-reply_idle c (Do.Abort s) = Refused Idle
 reply_idle c Do.Collect = kept_answer (acts c)
 reply_idle c Do.Stat = counts_answer (acts c)
+reply_idle c _ = Refused Idle
 
 -- the answer to a command whose session has this transaction, or none
 abbrev pub reply_for : (List Call → Option ℕ) → Option ℕ → Course → Command → Answer

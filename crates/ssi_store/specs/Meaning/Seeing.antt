@@ -1,7 +1,7 @@
 -- Snapshots, own writes, and what a transaction sees. The nth commit of a log has stamp n.
 use Rattle.std.specs.Prelude.{ℕ, suc, ◌==◌, Bool, not, ◌&&◌, if◌then◌else◌, List, [], ◌∷◌, ◌++◌, Option, Some, None, is_some, map}
 use Rattle.std.specs.List.{filter_map}
-use Rattle.adya_values.specs.Meaning.Keys.{key_eq, lies_in}
+use Rattle.adya_values.specs.Meaning.Keys.{Key, key_eq, lies_in}
 use Rattle.adya_values.specs.Meaning.Histories.{Entry}
 use Rattle.adya_values.specs.Meaning.Events.{version, entry}
 use Rattle.adya_values.specs.Meaning.KeySets.{insert}
@@ -25,24 +25,24 @@ abbrev pub open_snapshots : List Act → List ℕ
 open_snapshots log = map (λ t. snapshot t log) (open_txns log)
 
 -- how often the transaction has written the key
-abbrev pub write_count : ℕ → List ℕ → List Act → ℕ
+abbrev pub write_count : ℕ → Key → List Act → ℕ
 write_count t k [] = 0
 write_count t k (Writes u j c ∷ log) = if u == t && key_eq j k then suc (write_count t k log) else write_count t k log
 write_count t k (a ∷ log) = write_count t k log
 
 -- the transaction's last write of the key
-abbrev pub own_write : ℕ → List ℕ → List Act → Option Entry
+abbrev pub own_write : ℕ → Key → List Act → Option Entry
 own_write t k [] = None
 own_write t k (Writes u j c ∷ log) = if u == t && key_eq j k then Some
     (entry (version k t (suc (write_count t k log))) c) else own_write t k log
 own_write t k (a ∷ log) = own_write t k log
 
 -- the transaction has written the key
-abbrev pub wrote : ℕ → List ℕ → List Act → Bool
+abbrev pub wrote : ℕ → Key → List Act → Bool
 wrote t k log = is_some (own_write t k log)
 
 -- the keys that the transaction has written, in the order of their first writes
-abbrev pub own_keys : ℕ → List Act → List (List ℕ)
+abbrev pub own_keys : ℕ → List Act → List Key
 own_keys t [] = []
 own_keys t (Writes u k c ∷ log) = if u == t && not (wrote t k log) then own_keys t log ++ k ∷ [] else own_keys t log
 own_keys t (a ∷ log) = own_keys t log
@@ -59,19 +59,19 @@ changed (Collects ∷ log) = Drops (open_snapshots log) ∷ changed log
 changed (a ∷ log) = changed log
 
 -- the version of the key after the first s commits
-abbrev pub committed : List ℕ → ℕ → List Act → Option Entry
+abbrev pub committed : Key → ℕ → List Act → Option Entry
 committed k s log = entry_in (contents k s (changed log))
 
 -- the transaction sees its own last write of a key, and else the contents at its snapshot
-abbrev pub sees : ℕ → List ℕ → List Act → Option Entry
+abbrev pub sees : ℕ → Key → List Act → Option Entry
 sees t k log = otherwise (own_write t k log) (committed k (snapshot t log) log)
 
 -- all keys that were written, rising
-abbrev pub keys : List Act → List (List ℕ)
+abbrev pub keys : List Act → List Key
 keys [] = []
 keys (Writes t k c ∷ log) = insert k (keys log)
 keys (a ∷ log) = keys log
 
 -- the versions that a scan lists, dead ones included: what is seen of each key of the range
-abbrev pub scanned : ℕ → List ℕ → List ℕ → List Act → List Entry
+abbrev pub scanned : ℕ → Key → Key → List Act → List Entry
 scanned t low high log = filter_map (λ k. if lies_in low high k then sees t k log else None) (keys log)

@@ -1,6 +1,7 @@
 -- The commands and answers of the code, as those of a course.
-use Rattle.std.specs.Prelude.{ℕ, List, map, Result, Ok, Err}
+use Rattle.std.specs.Prelude.{map, Result, Ok, Err}
 use Rattle.std.specs.Int.NonZero.{non_zero_u16_get}
+use Rattle.adya_values.specs.Meaning.Keys.{Key, Bytes}
 use Rattle.adya_values.specs.Meaning.Histories.{Content, Live, Dead, value_of, final_of}
 use Rattle.ssi_store.specs.Meaning.Courses.{Command, Command as Do, Answer, Answer as Is, Refusal, Refusal as Why}
 use Rattle.ssi_store.specs.declared.command.Command.{Command as CommandValue}
@@ -49,6 +50,6 @@ answer_of (Ok reply) = reply_of reply
 answer_of (Err refusal) = Is.Refused (refusal_of refusal)
 
 -- the command that writes this
-abbrev pub written : List ℕ → List ℕ → Content → Command
+abbrev pub written : Bytes → Key → Content → Command
 written s k (Live v) = Do.Put s k v
 written s k Dead = Do.Del s k

@@ -1,7 +1,8 @@
 -- When the engine of a store stands for a course: the course is one of replies, each part of the engine was told of the
 -- acts of the course, and each session has the transaction that it has in the course.
 use Rattle.std.specs.Prelude.{◌≡◌, ℕ, Bool, List, map, option_map, IfSome}
-use Rattle.adya_values.specs.Meaning.Histories.{Event}
+use Rattle.adya_values.specs.Meaning.Keys.{Key, Bytes}
+use Rattle.adya_values.specs.Meaning.Histories.{Txns, Event}
 use Rattle.ssi_versions.specs.Meaning.Changes.{Held, held}
 use Rattle.ssi_versions.specs.Mirror.{chain_of}
 use Rattle.ssi_versions.specs.declared.chains.Chains.{Ghosts as HeldBy}
@@ -21,7 +22,7 @@ use Rattle.ssi_store.specs.declared.roster.Roster.{Roster}
 use Rattle.ssi_store.specs.declared.engine.Engine.{Engine}
 
 -- each of these transactions with its snapshot
-abbrev pub with_snapshots : List ℕ → List Act → List (ℕ × ℕ)
+abbrev pub with_snapshots : Txns → List Act → List (ℕ × ℕ)
 with_snapshots ts log = map (λ t. (t, snapshot t log)) ts
 
 -- what is seen of the parts of an engine
@@ -39,7 +40,7 @@ pub record Parts : Type 1 where
 -- each part was told of these acts
 pub record IsLog (p : Parts) (log : List Act) : Type 0 where
   pub commits : p.commits ≡ commit_count log
-  pub chains : (k : List ℕ) → chain_of k p.holds ≡ held k (changed log)
+  pub chains : (k : Key) → chain_of k p.holds ≡ held k (changed log)
   pub tracker : p.told (tracked log)
   pub events : p.recorded ≡ events log
   pub opened : p.opened ≡ with_snapshots (open_txns log) log
@@ -52,8 +53,8 @@ pub record StandsFor (p : Parts) (next : ℕ) (es : Sessions) (c : Course) : Typ
   pub log : IsLog p (acts c)
   pub next_is : next ≡ next_txn c
   -- each session has the transaction that it has in the course
-  pub txns : (s : List ℕ) → option_map number_of (open_at s es) ≡ txn_in s c
-  pub views : (s : List ℕ) → IfSome (open_at s es) (IsOpen (acts c))
+  pub txns : (s : Bytes) → option_map number_of (open_at s es) ≡ txn_in s c
+  pub views : (s : Bytes) → IfSome (open_at s es) (IsOpen (acts c))
 
 -- the open transactions of a roster with their snapshots, in the order in which they began
 abbrev pub opened_of : Roster → List (ℕ × ℕ)
@@ -63,7 +64,7 @@ opened_of r = r.active.entries
 abbrev pub began_of : Roster → List (ℕ × ℕ)
 began_of r = r.starts.items
 
-module _ {C M : Type 0} {g : HeldBy C} {h : MarkedBy M} (holds : C → List Held) (marked : M → ℕ → List ℕ → Bool) where
+module _ {C M : Type 0} {g : HeldBy C} {h : MarkedBy M} (holds : C → List Held) (marked : M → ℕ → Key → Bool) where
   abbrev pub parts_of : Engine C M g h → Parts
   parts_of s = record {
     holds = holds s.chains;

@@ -1,11 +1,12 @@
 -- How many versions are held, and of how many keys, told from a list that agrees with what is held key by key.
-use Rattle.std.specs.Prelude.{◌≡◌, ℕ, List, length}
+use Rattle.std.specs.Prelude.{◌≡◌, List, length}
+use Rattle.adya_values.specs.Meaning.Keys.{Key}
 use Rattle.ssi_versions.specs.Meaning.Changes.{Change, Held, held, held_count, key_count}
 use Rattle.ssi_versions.specs.Mirror.{chain_of, key_total}
 
 -- the list has of each key the held versions
 abbrev pub Holds : List Held → List Change → Type 0
-Holds hs changes = (key : List ℕ) → chain_of key hs ≡ held key changes
+Holds hs changes = (key : Key) → chain_of key hs ≡ held key changes
 
 -- such a list is as long as there are held versions
 abbrev pub CountsHeld : Type 0

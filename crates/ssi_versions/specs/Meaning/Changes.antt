@@ -2,7 +2,7 @@
 -- time. The newest change stands first. Everything here looks back over all installs; only `held` depends on collections.
 use Rattle.std.specs.Prelude.{◌≡◌, ℕ, ◌==◌, ◌<◌, ◌≤◌, ◌⊎◌, Bool, false, not, ◌&&◌, ◌||◌, nat_lt, nat_le, if◌then◌else◌, List, [], ◌∷◌, ◌++◌, length, Option, Some, None, is_some, filter, flat_map, Contains}
 use Rattle.std.specs.List.{list_any, AllPairs}
-use Rattle.adya_values.specs.Meaning.Keys.{key_eq}
+use Rattle.adya_values.specs.Meaning.Keys.{Key, key_eq}
 use Rattle.adya_values.specs.Meaning.Histories.{Entry}
 use Rattle.adya_values.specs.Meaning.Events.{listed}
 use Rattle.adya_values.specs.Meaning.KeySets.{insert}
@@ -33,19 +33,19 @@ otherwise (Some x) o = Some x
 otherwise None o = o
 
 -- the key's contents after the first s commits: the newest version whose stamp is not above s
-abbrev pub contents : List ℕ → ℕ → List Change → Option Held
+abbrev pub contents : Key → ℕ → List Change → Option Held
 contents k s [] = None
 contents k s (Installs n ws ∷ changes) = if nat_le n s then otherwise (stamped n (listed k ws)) (contents k s changes) else contents k s changes
 contents k s (Collects ss ∷ changes) = contents k s changes
 
 -- the version of the key that was installed last
-abbrev pub last_version : List ℕ → List Change → Option Held
+abbrev pub last_version : Key → List Change → Option Held
 last_version k [] = None
 last_version k (Installs n ws ∷ changes) = otherwise (stamped n (listed k ws)) (last_version k changes)
 last_version k (Collects ss ∷ changes) = last_version k changes
 
 -- a version of the key with a stamp above s was installed
-abbrev pub is_installed_above : List ℕ → ℕ → List Change → Bool
+abbrev pub is_installed_above : Key → ℕ → List Change → Bool
 is_installed_above k s [] = false
 is_installed_above k s (Installs n ws ∷ changes) = (nat_lt s n && is_some (listed k ws)) || is_installed_above k s changes
 is_installed_above k s (Collects ss ∷ changes) = is_installed_above k s changes
@@ -56,7 +56,7 @@ has_stamp n None = false
 has_stamp n (Some h) = h.stamp == n
 
 -- the version of the key is its last one, or one of the snapshots sees it
-abbrev pub is_needed : List ℕ → List ℕ → List Change → Held → Bool
+abbrev pub is_needed : Key → List ℕ → List Change → Held → Bool
 is_needed k ss changes h = has_stamp h.stamp (last_version k changes) || list_any (λ s. has_stamp h.stamp (contents k s changes)) ss
 
 -- a list of one version, or of none
@@ -65,18 +65,18 @@ listing None = []
 listing (Some h) = h ∷ []
 
 -- the held versions of the key, by stamp: those that were needed at every collection since they were installed
-abbrev pub held : List ℕ → List Change → List Held
+abbrev pub held : Key → List Change → List Held
 held k [] = []
 held k (Installs n ws ∷ changes) = held k changes ++ listing (stamped n (listed k ws))
 held k (Collects ss ∷ changes) = filter (is_needed k ss changes) (held k changes)
 
 -- the keys of these versions among rising keys
-abbrev pub insert_keys : List Entry → List (List ℕ) → List (List ℕ)
+abbrev pub insert_keys : List Entry → List Key → List Key
 insert_keys [] ks = ks
 insert_keys (w ∷ ws) ks = insert w.version.key (insert_keys ws ks)
 
 -- all keys of which a version was installed, rising
-abbrev pub installed_keys : List Change → List (List ℕ)
+abbrev pub installed_keys : List Change → List Key
 installed_keys [] = []
 installed_keys (Installs n ws ∷ changes) = insert_keys ws (installed_keys changes)
 installed_keys (Collects ss ∷ changes) = installed_keys changes
