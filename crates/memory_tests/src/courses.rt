@@ -134,12 +134,12 @@ fn counts<C: Chains + Drop, M: Marks + Drop>(
     match store.apply(Command::Stat) {
         Ok(
             Reply::Stat {
-                active,
+                open_txns,
                 kept,
                 versions,
                 keys,
             },
-        ) => Some((active, kept, versions, keys)),
+        ) => Some((open_txns, kept, versions, keys)),
         _ => None,
     }
 }

@@ -58,8 +58,8 @@ impl Recorded {
     }
 
     fn dump(&self, words: &mut Words, reply: &mut Reply) -> Result<(), Fault> {
-        let active = words.txns(self.alloc)?;
-        let dumped = match active.as_slice() {
+        let open_txns = words.txns(self.alloc)?;
+        let dumped = match open_txns.as_slice() {
             [] => self.recorder.dump(&[])?,
             [one] => self.recorder.dump(&[*one])?,
             [one, two] if one < two => self.recorder.dump(&[*one, *two])?,
@@ -69,14 +69,14 @@ impl Recorded {
     }
 
     /// Ends the recorder; if it is refused memory, it goes on with what was handed back.
-    fn finish(&mut self, active: &[Txn], reply: &mut Reply) -> Result<(), Fault> {
+    fn finish(&mut self, open_txns: &[Txn], reply: &mut Reply) -> Result<(), Fault> {
         let new = Recorded::new(self.alloc);
         let Recorded {
             recorder,
             places,
             ..
         } = std::mem::replace(self, new);
-        match recorder.finish(active) {
+        match recorder.finish(open_txns) {
             Ok(history) => put_history(&history, reply),
             Err((recorder, _)) => {
                 self.recorder = recorder;
@@ -96,8 +96,8 @@ impl Layer for Recorded {
             "end" => self.end(words),
             "dump" => self.dump(words, reply),
             "finish" => {
-                let active = words.txns(self.alloc)?;
-                self.finish(&active, reply)
+                let open_txns = words.txns(self.alloc)?;
+                self.finish(&open_txns, reply)
             }
             _ => Err(Fault::Call),
         }

@@ -1,4 +1,4 @@
--- Every cycle of a snapshot history holds a dangerous structure: an edge leads to a transaction that started later, or
+-- Every cycle of a snapshot history holds a dangerous structure: an edge leads to a transaction that began later, or
 -- is an anti-dependency between concurrent ones. So the two edges to the first of the cycle to commit are of that kind.
 use Rattle.std.proofs.Common.{◌≡◌, ◌≢◌, ℕ, zero, suc, ◌==◌, ◌<◌, ◌≤◌, ◌⊎◌, Bool, true, false, cond, ◌&&◌, ◌||◌, nat_lt, List, [], ◌∷◌, Some, refl, sym, ◌∙◌, ap, subst, arith, inl, inr}
 use Rattle.std.specs.List.{Contains}
@@ -31,7 +31,7 @@ next_above : (h : History) (k : List ℕ) (p q : ℕ) (scan : Bool)
 next_above h k p q true t = ltb-true p q (and_parts _ _ t).0
 next_above h k p q false t = let same = eqb-true q (suc p) t in omega (arith, same)
 
-module _ (h : History) (starts : ℕ → ℕ) (checked : IsChecked h) (snap : IsSnapshotHistory h starts) where
+module _ (h : History) (snapshot_of : ℕ → ℕ) (checked : IsChecked h) (snap : IsSnapshotHistory h snapshot_of) where
   -- a snapshot sees the versions up to the newest one that it sees
   seen_within : (k : List ℕ) (limit p q a : ℕ) → IsNewestWithin h k limit p → installer h k q ≡ Some a
       → (q ≡ p) ⊎ (q < p) → stamp_in h a ≤ limit
@@ -59,32 +59,32 @@ module _ (h : History) (starts : ℕ → ℕ) (checked : IsChecked h) (snap : Is
             omega (arith, le, rises))
       ]
 
-  -- an edge leads from a transaction that committed before the other started, or is an anti-dependency between
+  -- an edge leads from a transaction that committed before the other began, or is an anti-dependency between
   -- concurrent ones
   step : (kind : Kind) (k : List ℕ) (a b : ℕ) → a ≢ b → Depends h kind k a b
-      → (stamp_in h a ≤ starts b) ⊎ ((kind ≡ Rw) × AreConcurrent h starts a b)
+      → (stamp_in h a ≤ snapshot_of b) ⊎ ((kind ≡ Rw) × AreConcurrent h snapshot_of a b)
   step Ww k a b ne (q, at, next) =
-      let first = snap.starts_first a (installer_committed h checked k q a at) in
+      let first = snap.begins_first a (installer_committed h checked k q a at) in
       let rises = snap.by_stamp k q (suc q) a b at next (omega arith) in
-      elim (cases_lt (starts b) (stamp_in h a)) [
+      elim (cases_lt (snapshot_of b) (stamp_in h a)) [
         | inl less ↦ absurd (snap.first_wins k q (suc q) a b at next
-            (record { differ = ne; ends_after = less; starts_before = omega (arith, first, rises) }))
+            (record { differ = ne; ends_after = less; begins_before = omega (arith, first, rises) }))
         | inr more ↦ inl more
       ]
   step Wr k a b ne d = inl (
       let newest = snap.sees_snapshot d.event k d.place d.occurs d.selects in
       let source = source_within h d.event k d.place d.source d.from_source in
-      let le = seen_within k (starts (txn_of d.event)) d.place d.source a newest d.installs source in
-      let limit = ap starts d.reader in
+      let le = seen_within k (snapshot_of (txn_of d.event)) d.place d.source a newest d.installs source in
+      let limit = ap snapshot_of d.reader in
       omega (arith, le, limit))
   step Rw k a b ne d =
       let newest = snap.sees_snapshot d.event k d.place d.occurs d.selects in
       let above = next_above h k d.place d.next (is_scan d.event) d.overwritten in
-      let beyond = seen_before k (starts (txn_of d.event)) d.place d.next b newest d.installs above in
-      let limit = ap starts d.reader in
-      let later : starts a < stamp_in h b = omega (arith, beyond, limit) in
-      elim (cases_lt (starts b) (stamp_in h a)) [
-        | inl less ↦ inr (refl, record { differ = ne; ends_after = less; starts_before = later })
+      let beyond = seen_before k (snapshot_of (txn_of d.event)) d.place d.next b newest d.installs above in
+      let limit = ap snapshot_of d.reader in
+      let later : snapshot_of a < stamp_in h b = omega (arith, beyond, limit) in
+      elim (cases_lt (snapshot_of b) (stamp_in h a)) [
+        | inl less ↦ inr (refl, record { differ = ne; ends_after = less; begins_before = later })
         | inr more ↦ inl more
       ]
 
@@ -122,17 +122,17 @@ module _ (h : History) (starts : ℕ → ℕ) (checked : IsChecked h) (snap : Is
 
   -- a turn whose end commits no later than the other two is a dangerous structure
   danger : (t : Turn) → IsTurn h t → stamp_in h t.out.to ≤ stamp_in h t.out.from
-      → stamp_in h t.out.to ≤ stamp_in h t.into.from → IsDangerous h starts t.into t.out
+      → stamp_in h t.out.to ≤ stamp_in h t.into.from → IsDangerous h snapshot_of t.into t.out
   danger t is middle first =
       let out = step t.out.kind t.out.key t.out.from t.out.to is.out_edge.0 is.out_edge.1 in
       let into = step t.into.kind t.into.key t.into.from t.into.to is.into_edge.0 is.into_edge.1 in
       let ends = committed_ends h checked t.out.kind t.out.key t.out.from t.out.to is.out_edge.1 in
-      let own = snap.starts_first t.out.to ends.1 in
-      let meet = ap starts is.meet in
+      let own = snap.begins_first t.out.to ends.1 in
+      let meet = ap snapshot_of is.meet in
       elim out [
         | inl early ↦ absurd (omega (arith, early, own, middle))
         | inr found ↦ elim into [
-          | inl early ↦ absurd (let after = found.1.starts_before in omega (arith, early, after, meet, first))
+          | inl early ↦ absurd (let after = found.1.begins_before in omega (arith, early, after, meet, first))
           | inr also ↦ record {
             into_edge = is.into_edge;
             out_edge = is.out_edge;
@@ -147,7 +147,7 @@ module _ (h : History) (starts : ℕ → ℕ) (checked : IsChecked h) (snap : Is
         ]
       ]
 
-  pub cycle_is_dangerous : (cycle : List Edge) → IsCycle h cycle → HasDanger h starts cycle
+  pub cycle_is_dangerous : (cycle : List Edge) → IsCycle h cycle → HasDanger h snapshot_of cycle
   cycle_is_dangerous [] c = absurd c
   cycle_is_dangerous (e ∷ es) c =
       let made = turns_made e es in
@@ -173,7 +173,7 @@ module _ (h : History) (starts : ℕ → ℕ) (checked : IsChecked h) (snap : Is
       }
 
 -- so a history without dangerous structures has no cycle
-pub safe_no_cycle : (h : History) (starts : ℕ → ℕ) → IsSafe h starts → (cycle : List Edge) → IsCycle h cycle → ⊥
-safe_no_cycle h starts s cycle c =
-    let d = cycle_is_dangerous h starts s.checked s.snapshots cycle c in
+pub safe_no_cycle : (h : History) (snapshot_of : ℕ → ℕ) → IsSafe h snapshot_of → (cycle : List Edge) → IsCycle h cycle → ⊥
+safe_no_cycle h snapshot_of s cycle c =
+    let d = cycle_is_dangerous h snapshot_of s.checked s.snapshots cycle c in
     s.no_danger d.turn.into d.turn.out d.dangerous

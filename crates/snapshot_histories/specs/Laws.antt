@@ -8,9 +8,9 @@ use Rattle.snapshot_histories.specs.Meaning.Cycles.{HasDanger}
 
 -- each cycle of a checked snapshot history holds a dangerous structure
 abbrev pub CyclesAreDangerous : Type 0
-CyclesAreDangerous = (h : History) (starts : ℕ → ℕ) → IsChecked h → IsSnapshotHistory h starts
-    → (cycle : List Edge) → IsCycle h cycle → HasDanger h starts cycle
+CyclesAreDangerous = (h : History) (snapshot_of : ℕ → ℕ) → IsChecked h → IsSnapshotHistory h snapshot_of
+    → (cycle : List Edge) → IsCycle h cycle → HasDanger h snapshot_of cycle
 
 -- so a safe history has no cycle
 abbrev pub SafeHistoriesHaveNoCycle : Type 0
-SafeHistoriesHaveNoCycle = (h : History) (starts : ℕ → ℕ) → IsSafe h starts → (cycle : List Edge) → IsCycle h cycle → ⊥
+SafeHistoriesHaveNoCycle = (h : History) (snapshot_of : ℕ → ℕ) → IsSafe h snapshot_of → (cycle : List Edge) → IsCycle h cycle → ⊥

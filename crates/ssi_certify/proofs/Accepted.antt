@@ -22,16 +22,16 @@ use Rattle.snapshot_histories.specs.Meaning.Snapshots.{IsSafe, IsSafeHistory}
 
 pub safe_accepted : SafeHistoriesHaveNoCycle → CertifiedIffNoPhenomenon → (h : History) → IsSafeHistory h
     → HasCertificate h
-safe_accepted no_cycle certified h (starts, safe) =
+safe_accepted no_cycle certified h (snapshot_of, safe) =
     (certified h safe.checked.well_formed).1 (
       λ g. elim g [
         | inl a ↦ safe.checked.no_aborted_read a
         | inr rest ↦ elim rest [
           | inl b ↦ safe.checked.no_intermediate_read b
-          | inr c ↦ no_cycle h starts safe c.0 c.1
+          | inr c ↦ no_cycle h snapshot_of safe c.0 c.1
         ]
       ],
-      λ g. no_cycle h starts safe g.0 g.1,
+      λ g. no_cycle h snapshot_of safe g.0 g.1,
     )
 
 pub no_cycle_found : SafeHistoriesHaveNoCycle → (lent own : HistoryValue) → lent ≡ own
@@ -47,6 +47,6 @@ texts_accepted have_texts lent own same has_text found s is accepted =
     have_texts (history_of own) (serial_txns s) has_text
     (subst (λ h. IsAccepted (history_of h) (serial_txns s)) same (subst (IsFound (history_of lent)) is accepted))
 
--- whatever the starts are called
-pub safe_by : (h g : History) (starts : ℕ → ℕ) → h ≡ g → ∥ IsSafe g starts ∥₁ → ∥ IsSafeHistory h ∥₁
-safe_by h g starts is safe = ∥∥₁_map safe (λ s. (starts, subst (λ x. IsSafe x starts) (sym is) s))
+-- whatever the snapshots are called
+pub safe_by : (h g : History) (snapshot_of : ℕ → ℕ) → h ≡ g → ∥ IsSafe g snapshot_of ∥₁ → ∥ IsSafeHistory h ∥₁
+safe_by h g snapshot_of is safe = ∥∥₁_map safe (λ s. (snapshot_of, subst (λ x. IsSafe x snapshot_of) (sym is) s))

@@ -80,25 +80,25 @@ fn put_reply<W: Write>(reply: &Reply, draft: &mut Draft, out: &mut Watched<W>)
         Reply::Unsafe { pivot } => put_count(b"unsafe ", u64::from(pivot.get()), draft, out),
         Reply::Kept { versions } => put_count(b"kept ", *versions, draft, out),
         Reply::Stat {
-            active,
+            open_txns,
             kept,
             versions,
             keys,
-        } => put_stat(*active, *kept, *versions, *keys, draft, out),
+        } => put_stat(*open_txns, *kept, *versions, *keys, draft, out),
     }
 }
 
 fn put_stat<W: Write>(
-    active: u64,
+    open_txns: u64,
     kept: u64,
     versions: u64,
     keys: u64,
     draft: &mut Draft,
     out: &mut Watched<W>,
 )
-    ensures { Added W.contents out.old draft.old out.new draft.new (answer_text (Counts active kept versions keys)) }
+    ensures { Added W.contents out.old draft.old out.new draft.new (answer_text (Counts open_txns kept versions keys)) }
 {
-    put_count(b"stat open ", active, draft, out);
+    put_count(b"stat open ", open_txns, draft, out);
     put_count(b" kept ", kept, draft, out);
     put_count(b" versions ", versions, draft, out);
     put_count(b" keys ", keys, draft, out);

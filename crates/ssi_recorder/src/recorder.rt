@@ -80,41 +80,41 @@ impl Recorder {
 
     /// Returns the history of the first edition that these events make, with an abort at the end for each of the
     /// active transactions. Hands the recorder back as it was if memory runs out.
-    pub fn finish(mut self, active: &[Txn]) -> Result<History, (Recorder, AllocError)>
-        ensures history { IfOk result (λ h. history_of h ≡ history_of_events Edition.One [] (events_of self ++ map Abort active.now)) }
+    pub fn finish(mut self, open_txns: &[Txn]) -> Result<History, (Recorder, AllocError)>
+        ensures history { IfOk result (λ h. history_of h ≡ history_of_events Edition.One [] (events_of self ++ map Abort open_txns.now)) }
         ensures err { IfErr result (λ e. IsAsBefore self e.0) }
     {
         let lists = match installed(self.alloc, self.events.as_slice()) {
             Ok(lists) => lists,
             Err(e) => return Err((self, e)),
         };
-        if let Err(e) = self.events.reserve(active.len()) {
+        if let Err(e) = self.events.reserve(open_txns.len()) {
             return Err((self, e));
         }
-        let events = with_aborts(self.events, active);
+        let events = with_aborts(self.events, open_txns);
         Ok(History::new(events, lists.orders, lists.finals).unwrap())
     }
 
     /// Returns the history of the second edition that these events make, with the active transactions, which have to
     /// rise, as the unfinished ones. Returns `AllocError` if memory runs out. The recorder stays as it is.
-    pub fn dump(&self, active: &[Txn]) -> Result<History, AllocError>
-        requires { numbers_rise active.now ≡ true }
-        ensures { IfOk result (λ h. history_of h ≡ history_of_events Edition.Two active.now (events_of self.now)) }
+    pub fn dump(&self, open_txns: &[Txn]) -> Result<History, AllocError>
+        requires { numbers_rise open_txns.now ≡ true }
+        ensures { IfOk result (λ h. history_of h ≡ history_of_events Edition.Two open_txns.now (events_of self.now)) }
     {
         let lists = installed(self.alloc, self.events.as_slice())?;
         let events = copies(self.alloc, self.events.as_slice())?;
-        let unfinished = Vec::from_slice(self.alloc, active)?;
+        let unfinished = Vec::from_slice(self.alloc, open_txns)?;
         let history = History::new_two(events, unfinished, lists.orders, lists.finals).unwrap();
         Ok(history)
     }
 }
 
 /// Adds an abort for each of the transactions, in reserved room.
-fn with_aborts(mut events: Vec<Event>, active: &[Txn]) -> Vec<Event>
-    requires { vec_len events + length active.now ≤ vec_capacity events }
-    ensures { map event_of result.items ≡ map event_of events.items ++ map Abort active.now }
+fn with_aborts(mut events: Vec<Event>, open_txns: &[Txn]) -> Vec<Event>
+    requires { vec_len events + length open_txns.now ≤ vec_capacity events }
+    ensures { map event_of result.items ≡ map event_of events.items ++ map Abort open_txns.now }
 {
-    'active: for txn in active {
+    'open_txns: for txn in open_txns {
         events.push_reserved(Event::Abort { txn: *txn });
     }
     events

@@ -8,9 +8,9 @@ use Rattle.lemmas.proofs.Options.{none_unless_some, some_value}
 use Rattle.adya_values.specs.Meaning.Keys.{key_eq}
 use Rattle.adya_values.specs.Meaning.Histories.{Event}
 use Rattle.ssi_conflict.specs.Computing.Steps.{smallest_ordered_pivot}
-use Rattle.ssi_conflict.specs.Meaning.Calls.{Call, Begins, IsAllowed}
+use Rattle.ssi_conflict.specs.Meaning.Calls.{Call, Begins as Enters, IsAllowed}
 use Rattle.ssi_snapshot.specs.Mirror.{snapshot_of, written}
-use Rattle.ssi_store.specs.Meaning.Acts.{Starts, acts, act_by, has_started}
+use Rattle.ssi_store.specs.Meaning.Acts.{Begins, acts, act_by, has_begun}
 use Rattle.ssi_store.specs.Meaning.Courses.{Command as Do, Answer, Begun, Refused, Busy, Spent, Memory, Course, Then, txn_in, next_txn}
 use Rattle.ssi_store.specs.Meaning.Replies.{reply, reply_for}
 use Rattle.ssi_store.specs.Meaning.Recording.{events}
@@ -20,7 +20,7 @@ use Rattle.ssi_store.specs.Meaning.Tracked.{tracked}
 use Rattle.ssi_store.specs.Machinery.Opens.{Sessions, open_at, number_of, IsOpen, IsReplaced}
 use Rattle.ssi_store.specs.declared.open.Open.{Open}
 use Rattle.ssi_store.proofs.Opens.{other_open, open_begun}
-use Rattle.ssi_store.proofs.Rosters.{began_then, opened_then}
+use Rattle.ssi_store.proofs.Rosters.{snapshots_then, opened_then}
 use Rattle.ssi_store.proofs.SoundLogs.{open_from}
 use Rattle.ssi_store.proofs.Steps.{both, settled, opened, idle, unchanged, answer_memory, refused, refused_same}
 use Rattle.ssi_store.proofs.TrackedCalls.{tracked_allowed}
@@ -50,58 +50,58 @@ module _ {p : Parts} {next : ℕ} {es : Sessions} {c : Course} (st : StandsFor p
         ∙ cond-false {A = Answer} (nat_lt 4294967295 next) (Refused Spent) (Begun next)
         (le-ltb 4294967295 next (omega (arith, few)))
 
-    fresh : (u : ℕ) → has_started u (acts c) ≡ true → u < next
+    fresh : (u : ℕ) → has_begun u (acts c) ≡ true → u < next
     fresh u f = subst (λ n. u < n) (sym st.next_is) ((settled st).below u f)
 
-    may_begin : IsAllowed (Begins next p.commits) (tracked (acts c))
-    may_begin = subst (λ n. IsAllowed (Begins next n) (tracked (acts c))) (sym st.log.commits)
-        (tracked_allowed (Starts next ∷ acts c) (fresh, (settled st).sound)).0
+    may_begin : IsAllowed (Enters next p.commits) (tracked (acts c))
+    may_begin = subst (λ n. IsAllowed (Enters next n) (tracked (acts c))) (sym st.log.commits)
+        (tracked_allowed (Begins next ∷ acts c) (fresh, (settled st).sound)).0
 
-    pub begin_memory : (told' : List Call → Type 0) (recorded' : List Event) (opened' began' : List (ℕ × ℕ)) (fs : Sessions)
-        (t : ℕ) → t ≡ next → fs ≡ es → recorded' ≡ p.recorded → opened' ≡ p.opened → began' ≡ p.began
-        → ((calls : List Call) → p.told calls → IsAllowed (Begins t p.commits) calls → told' calls)
-        → StandsFor (record p { told = told'; recorded = recorded'; opened = opened'; began = began' }) next fs
+    pub begin_memory : (told' : List Call → Type 0) (recorded' : List Event) (opened' snapshots' : List (ℕ × ℕ)) (fs : Sessions)
+        (t : ℕ) → t ≡ next → fs ≡ es → recorded' ≡ p.recorded → opened' ≡ p.opened → snapshots' ≡ p.snapshots
+        → ((calls : List Call) → p.told calls → IsAllowed (Enters t p.commits) calls → told' calls)
+        → StandsFor (record p { told = told'; recorded = recorded'; opened = opened'; snapshots = snapshots' }) next fs
         (Then c (Do.Begin s) (Refused Memory))
-    begin_memory told' recorded' opened' began' fs t is same now_events now_opened now_began tells =
-        refused st (record p { told = told'; recorded = recorded'; opened = opened'; began = began' }) fs (Do.Begin s) Memory
+    begin_memory told' recorded' opened' snapshots' fs t is same now_events now_opened now_snapshots tells =
+        refused st (record p { told = told'; recorded = recorded'; opened = opened'; snapshots = snapshots' }) fs (Do.Begin s) Memory
         (record {
           commits = st.log.commits;
           chains = st.log.chains;
           tracker = tells (tracked (acts c)) st.log.tracker
-              (subst (λ n. IsAllowed (Begins n p.commits) (tracked (acts c))) (sym is) may_begin);
+              (subst (λ n. IsAllowed (Enters n p.commits) (tracked (acts c))) (sym is) may_begin);
           events = now_events ∙ st.log.events;
           opened = now_opened ∙ st.log.opened;
-          began = now_began ∙ st.log.began;
+          snapshots = now_snapshots ∙ st.log.snapshots;
         }) (unchanged es fs same) refl (answer_memory st (Do.Begin s) (Begun next) reply_is refl)
 
-    begun_next : (told' : List Call → Type 0) (recorded' : List Event) (opened' began' : List (ℕ × ℕ)) (fs : Sessions)
+    begun_next : (told' : List Call → Type 0) (recorded' : List Event) (opened' snapshots' : List (ℕ × ℕ)) (fs : Sessions)
         (o : Open) → IsReplaced s o es fs → recorded' ≡ p.recorded → opened' ≡ insert_entry nat_eq p.opened next p.commits
-        → began' ≡ p.began ++ (next, p.commits) ∷ []
-        → ((calls : List Call) → p.told calls → IsAllowed (Begins next p.commits) calls → told' (Begins next p.commits ∷ calls))
+        → snapshots' ≡ p.snapshots ++ (next, p.commits) ∷ []
+        → ((calls : List Call) → p.told calls → IsAllowed (Enters next p.commits) calls → told' (Enters next p.commits ∷ calls))
         → number_of o ≡ next → snapshot_of o.view ≡ p.commits → o.operations ≡ 0 → written o.view ≡ []
-        → StandsFor (record p { told = told'; recorded = recorded'; opened = opened'; began = began' }) (next + 1) fs
+        → StandsFor (record p { told = told'; recorded = recorded'; opened = opened'; snapshots = snapshots' }) (next + 1) fs
         (Then c (Do.Begin s) (Begun next))
-    begun_next told' recorded' opened' began' fs o gives now_events now_opened now_began tells txn stamp count none =
-        let q : Parts = record p { told = told'; recorded = recorded'; opened = opened'; began = began' } in
+    begun_next told' recorded' opened' snapshots' fs o gives now_events now_opened now_snapshots tells txn stamp count none =
+        let q : Parts = record p { told = told'; recorded = recorded'; opened = opened'; snapshots = snapshots' } in
         let at : open_at s es ≡ None = none_unless_some _ there in
-        let acts_are : acts (Then c (Do.Begin s) (Begun next)) ≡ Starts next ∷ acts c =
+        let acts_are : acts (Then c (Do.Begin s) (Begun next)) ≡ Begins next ∷ acts c =
         ap (λ (y : Option ℕ). act_by y (Do.Begin s) (Begun next) ++ acts c) (idle st s at) in
-        let new : has_started next (acts c) ≡ false =
-        false_from_ne_true (has_started next (acts c)) (λ f. (let less = fresh next f in omega (arith, less))) in
+        let new : has_begun next (acts c) ≡ false =
+        false_from_ne_true (has_begun next (acts c)) (λ f. (let less = fresh next f in omega (arith, less))) in
         record {
           follows = (refl, inl (sym reply_is), st.follows);
           log = subst (IsLog q) (sym acts_are) (record {
             commits = st.log.commits;
             chains = st.log.chains;
-            tracker = subst (λ n. told' (Begins next n ∷ tracked (acts c))) st.log.commits
+            tracker = subst (λ n. told' (Enters next n ∷ tracked (acts c))) st.log.commits
                 (tells (tracked (acts c)) st.log.tracker may_begin);
             events = now_events ∙ st.log.events ∙ sym (append-nil (events (acts c)));
             opened = now_opened ∙ ap (λ n. insert_entry nat_eq p.opened next n) st.log.commits
                 ∙ ap (λ l. insert_entry nat_eq l next (commit_count (acts c))) st.log.opened
                 ∙ opened_then next (acts c) (settled st).sound new;
-            began = now_began ∙ ap (λ n. p.began ++ (next, n) ∷ []) st.log.commits
-                ∙ ap (λ l. l ++ (next, commit_count (acts c)) ∷ []) st.log.began
-                ∙ began_then next (acts c) (settled st).sound new;
+            snapshots = now_snapshots ∙ ap (λ n. p.snapshots ++ (next, n) ∷ []) st.log.commits
+                ∙ ap (λ l. l ++ (next, commit_count (acts c)) ∷ []) st.log.snapshots
+                ∙ snapshots_then next (acts c) (settled st).sound new;
           });
           next_is = add-one next;
           txns = λ r. ap (option_map number_of) (gives r) ∙ elim (cases_Bool (key_eq s r)) [
@@ -111,30 +111,30 @@ module _ {p : Parts} {next : ℕ} {es : Sessions} {c : Course} (st : StandsFor p
                 ∙ sym (ap (λ b. cond b (Some next) (txn_in r c)) other)
           ];
           views = λ r. subst (λ l. IfSome (open_at r fs) (IsOpen l)) (sym acts_are)
-              (subst (λ y. IfSome y (IsOpen (Starts next ∷ acts c))) (sym (gives r)) (elim (cases_Bool (key_eq s r)) [
-                | inl same ↦ subst (λ b. IfSome (cond b (Some o) (open_at r es)) (IsOpen (Starts next ∷ acts c))) (sym same)
+              (subst (λ y. IfSome y (IsOpen (Begins next ∷ acts c))) (sym (gives r)) (elim (cases_Bool (key_eq s r)) [
+                | inl same ↦ subst (λ b. IfSome (cond b (Some o) (open_at r es)) (IsOpen (Begins next ∷ acts c))) (sym same)
                     (open_begun next (acts c) o (settled st).sound new txn (stamp ∙ st.log.commits) count none)
-                | inr other ↦ subst (λ b. IfSome (cond b (Some o) (open_at r es)) (IsOpen (Starts next ∷ acts c))) (sym other)
-                    (both (IsOpen (acts c)) (IsOpen (Starts next ∷ acts c)) (open_at r es)
-                    (λ v here old. other_open next (Starts next) (acts c) v refl
+                | inr other ↦ subst (λ b. IfSome (cond b (Some o) (open_at r es)) (IsOpen (Begins next ∷ acts c))) (sym other)
+                    (both (IsOpen (acts c)) (IsOpen (Begins next ∷ acts c)) (open_at r es)
+                    (λ v here old. other_open next (Begins next) (acts c) v refl
                     (λ e. (let less = fresh (number_of v)
                     (open_from (number_of v) (acts c) ((settled st).opened r (number_of v) (opened st r v here))).begun in
                     omega (arith, less, e))) old) (st.views r))
               ]));
         }
 
-    pub begun : (told' : List Call → Type 0) (recorded' : List Event) (opened' began' : List (ℕ × ℕ)) (fs : Sessions)
+    pub begun : (told' : List Call → Type 0) (recorded' : List Event) (opened' snapshots' : List (ℕ × ℕ)) (fs : Sessions)
         (o : Open) (t : ℕ) → t ≡ next → IsReplaced s o es fs → recorded' ≡ p.recorded
-        → opened' ≡ insert_entry nat_eq p.opened t p.commits → began' ≡ p.began ++ (t, p.commits) ∷ []
-        → ((calls : List Call) → p.told calls → IsAllowed (Begins t p.commits) calls → told' (Begins t p.commits ∷ calls))
+        → opened' ≡ insert_entry nat_eq p.opened t p.commits → snapshots' ≡ p.snapshots ++ (t, p.commits) ∷ []
+        → ((calls : List Call) → p.told calls → IsAllowed (Enters t p.commits) calls → told' (Enters t p.commits ∷ calls))
         → number_of o ≡ t → snapshot_of o.view ≡ p.commits → o.operations ≡ 0 → written o.view ≡ []
-        → StandsFor (record p { told = told'; recorded = recorded'; opened = opened'; began = began' }) (next + 1) fs
+        → StandsFor (record p { told = told'; recorded = recorded'; opened = opened'; snapshots = snapshots' }) (next + 1) fs
         (Then c (Do.Begin s) (Begun t))
-    begun told' recorded' opened' began' fs o t is gives now_events now_opened now_began tells txn stamp count none =
-        subst (λ a. StandsFor (record p { told = told'; recorded = recorded'; opened = opened'; began = began' }) (next + 1) fs
+    begun told' recorded' opened' snapshots' fs o t is gives now_events now_opened now_snapshots tells txn stamp count none =
+        subst (λ a. StandsFor (record p { told = told'; recorded = recorded'; opened = opened'; snapshots = snapshots' }) (next + 1) fs
         (Then c (Do.Begin s) (Begun a))) (sym is)
-        (begun_next told' recorded' opened' began' fs o gives now_events
+        (begun_next told' recorded' opened' snapshots' fs o gives now_events
         (subst (λ n. opened' ≡ insert_entry nat_eq p.opened n p.commits) is now_opened)
-        (subst (λ n. began' ≡ p.began ++ (n, p.commits) ∷ []) is now_began)
-        (subst (λ n. (calls : List Call) → p.told calls → IsAllowed (Begins n p.commits) calls
-        → told' (Begins n p.commits ∷ calls)) is tells) (txn ∙ is) stamp count none)
+        (subst (λ n. snapshots' ≡ p.snapshots ++ (n, p.commits) ∷ []) is now_snapshots)
+        (subst (λ n. (calls : List Call) → p.told calls → IsAllowed (Enters n p.commits) calls
+        → told' (Enters n p.commits ∷ calls)) is tells) (txn ∙ is) stamp count none)

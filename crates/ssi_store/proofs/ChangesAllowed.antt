@@ -8,17 +8,17 @@ use Rattle.lemmas.proofs.Members.{All-from_contained, Contains-map}
 use Rattle.adya_values.specs.Meaning.Histories.{Entry}
 use Rattle.adya_values.specs.Meaning.Keys.{key_eq}
 use Rattle.ssi_versions.specs.Meaning.Changes.{AreInstallable, IsProtected, last_installed}
-use Rattle.ssi_store.specs.Meaning.Acts.{Aborts, Act, Collects, Commits, Gets, Scans, Starts, Writes, has_aborted, has_committed, is_open, open_txns, started}
+use Rattle.ssi_store.specs.Meaning.Acts.{Aborts, Act, Collects, Commits, Gets, Scans, Begins, Writes, has_aborted, has_committed, is_open, open_txns, begun}
 use Rattle.ssi_store.specs.Meaning.Seeing.{changed, commit_count, own_keys, own_write, snapshot}
 use Rattle.ssi_store.proofs.Closing.{open_to}
 use Rattle.ssi_store.proofs.Lists.{pairs_head, pairs_tail}
-use Rattle.ssi_store.proofs.SoundLogs.{Sound, open_from, started_there}
+use Rattle.ssi_store.proofs.SoundLogs.{Sound, open_from, begun_there}
 use Rattle.ssi_store.proofs.TrackedCalls.{own_keys_apart}
 use Rattle.ssi_store.proofs.OwnWrites.{own_write_is}
 
 last_installed_is : (log : List Act) → last_installed (changed log) ≡ commit_count log
 last_installed_is [] = refl
-last_installed_is (Starts u ∷ log) = last_installed_is log
+last_installed_is (Begins u ∷ log) = last_installed_is log
 last_installed_is (Writes u k c ∷ log) = last_installed_is log
 last_installed_is (Gets u k ∷ log) = last_installed_is log
 last_installed_is (Scans u low high ∷ log) = last_installed_is log
@@ -48,7 +48,7 @@ made_apart f own (k ∷ ks) a = by_first (f k) refl
 
 pub changed_installable : (log : List Act) → AreInstallable (changed log)
 changed_installable [] = tt
-changed_installable (Starts u ∷ log) = changed_installable log
+changed_installable (Begins u ∷ log) = changed_installable log
 changed_installable (Writes u k c ∷ log) = changed_installable log
 changed_installable (Gets u k ∷ log) = changed_installable log
 changed_installable (Scans u low high ∷ log) = changed_installable log
@@ -63,7 +63,7 @@ changed_installable (Commits u ∷ log) = (
 -- a snapshot at or above all stamps so far was left out by no collection
 late_protected : (s : ℕ) (log : List Act) → commit_count log ≤ s → IsProtected s (changed log)
 late_protected s [] l = tt
-late_protected s (Starts u ∷ log) l = late_protected s log l
+late_protected s (Begins u ∷ log) l = late_protected s log l
 late_protected s (Writes u k c ∷ log) l = late_protected s log l
 late_protected s (Gets u k ∷ log) l = late_protected s log l
 late_protected s (Scans u low high ∷ log) l = late_protected s log l
@@ -73,8 +73,8 @@ late_protected s (Collects ∷ log) l =
     (inr (let at = last_installed_is log in omega (arith, at, l)), late_protected s log l)
 
 pub open_there : (t : ℕ) (log : List Act) → is_open t log ≡ true → Contains (open_txns log) t
-open_there t log e = Contains-filter (λ u. is_open u log) (started log) t
-    (started_there t log (open_from t log e).begun) e
+open_there t log e = Contains-filter (λ u. is_open u log) (begun log) t
+    (begun_there t log (open_from t log e).begun) e
 
 -- no collection leaves out the snapshot of a transaction that is still open
 pub open_protected : (log : List Act) → Sound log → (t : ℕ) → is_open t log ≡ true
@@ -101,8 +101,8 @@ open_protected (Commits u ∷ log) s t e =
     }))
 open_protected (Collects ∷ log) s t e =
     (inl (Contains-map (λ x. snapshot x log) (open_txns log) t (open_there t log e)), open_protected log s.1 t e)
-open_protected (Starts u ∷ log) s t e =
-    let o = open_from t (Starts u ∷ log) e in
+open_protected (Begins u ∷ log) s t e =
+    let o = open_from t (Begins u ∷ log) e in
     elim (cases_Bool (u == t)) [
       | inl same ↦ subst (λ n. IsProtected n (changed log))
           (sym (cond-true {A = ℕ} (u == t) (commit_count log) (snapshot t log) same))

@@ -16,14 +16,14 @@ use Rattle.adya_values.specs.Meaning.Phenomena.{ReadsCommitted}
 use Rattle.adya_values.specs.Meaning.Rules.{IsRising, IsWellFormed, final_value}
 use Rattle.adya_values.specs.Meaning.Serial.{visible_pair_of}
 use Rattle.adya_values.specs.declared.edition.Edition.{Edition}
-use Rattle.ssi_store.specs.Meaning.Acts.{Aborts, Act, Collects, Commits, Gets, Scans, Starts, Writes, has_aborted, has_committed, has_started, is_open}
+use Rattle.ssi_store.specs.Meaning.Acts.{Aborts, Act, Collects, Commits, Gets, Scans, Begins, Writes, has_aborted, has_committed, has_begun, is_open}
 use Rattle.ssi_store.specs.Meaning.Recording.{events}
 use Rattle.ssi_store.specs.Meaning.Seeing.{commit_count, committed, keys, own_write, wrote}
 use Rattle.ssi_store.proofs.Installed.{writers_are}
 use Rattle.ssi_store.proofs.Lists.{option_cases}
 use Rattle.ssi_store.proofs.LoggedHistories.{history_of_log, installers}
 use Rattle.ssi_store.proofs.Recorded.{aborted_events, committed_events, own_of_events}
-use Rattle.ssi_store.proofs.Rules.{contents_own, each_recorded, event_started, numbered, observed_right, open_until, own_writes, rising, was_written}
+use Rattle.ssi_store.proofs.Rules.{contents_own, each_recorded, event_begun, numbered, observed_right, open_until, own_writes, rising, was_written}
 use Rattle.ssi_store.proofs.SeenByEvents.{contents_is}
 use Rattle.ssi_store.proofs.SoundLogs.{Sound, committed_stamp, not_both, not_open, open_from, stamp_above}
 use Rattle.ssi_store.proofs.Stamps.{NewestOf, contents_newest, installer_is, installers_rise}
@@ -32,7 +32,7 @@ use Rattle.ssi_store.proofs.Stamps.{NewestOf, contents_newest, installer_is, ins
 installed_once : (k : List ℕ) (t : ℕ) (log : List Act) → Sound log
     → count (installers k log) t ≡ cond (has_committed t log && wrote t k log) 1 0
 installed_once k t [] s = refl
-installed_once k t (Starts u ∷ log) s = installed_once k t log s.1
+installed_once k t (Begins u ∷ log) s = installed_once k t log s.1
 installed_once k t (Gets u j ∷ log) s = installed_once k t log s.1
 installed_once k t (Scans u low high ∷ log) s = installed_once k t log s.1
 installed_once k t (Aborts u ∷ log) s = installed_once k t log s.1
@@ -139,9 +139,9 @@ last_value edition unfinished k log s (Some w) e newest (suc n) l =
     ap (shown_by k (history_of_log edition unfinished log).events) who
     ∙ ap shown (own_of_events w.version.txn k log ∙ (contents_own k (commit_count log) log w s e).own)
 
-ended : (t : ℕ) (log : List Act) → has_started t log ≡ true → is_open t log ≡ false
+ended : (t : ℕ) (log : List Act) → has_begun t log ≡ true → is_open t log ≡ false
     → (has_committed t log || has_aborted t log) ≡ true
-ended t log b e = elim (and_cases (has_started t log) (not (has_committed t log || has_aborted t log)) e) [
+ended t log b e = elim (and_cases (has_begun t log) (not (has_committed t log || has_aborted t log)) e) [
   | inl never ↦ absurd (both_ways _ never b)
   | inr done ↦ not-false _ done
 ]
@@ -159,7 +159,7 @@ module _ (edition : Edition) (unfinished : List ℕ) (log : List Act) (sound : S
       elim (cases_Bool (is_open (txn_of e) log)) [
         | inl live ↦ or_right (has_ended (events log) (txn_of e)) _ (covers (txn_of e) live)
         | inr done ↦ or_left _ (list_any (λ u. u == txn_of e) unfinished)
-            (has_ended_is (txn_of e) ∙ ended (txn_of e) log (event_started log sound e c) done)
+            (has_ended_is (txn_of e) ∙ ended (txn_of e) log (event_begun log sound e c) done)
       ]
 
   no_end : (t : ℕ) → Contains unfinished t → has_ended (events log) t ≡ false

@@ -4,9 +4,9 @@ use Rattle.std.proofs.Common.{List, Option, [], arith, cond, false, inl, inr, su
 use Rattle.std.proofs.lemmas.Bool.{and_from, both_ways, cases_Bool, eq-eqb, false_from_ne_true, not_from_false, or_from, or_parts}
 use Rattle.lemmas.proofs.Members.{none_contained}
 use Rattle.ssi_conflict.specs.Meaning.Calls.{Call}
-use Rattle.ssi_store.specs.Meaning.Acts.{Aborts, Act, has_aborted, is_open, started}
+use Rattle.ssi_store.specs.Meaning.Acts.{Aborts, Act, has_aborted, is_open, begun}
 use Rattle.ssi_store.specs.Meaning.Recording.{close, closed}
-use Rattle.ssi_store.proofs.SoundLogs.{Open, Safe, Sound, open_from, started_there}
+use Rattle.ssi_store.proofs.SoundLogs.{Open, Safe, Sound, open_from, begun_there}
 
 pub open_to : (t : ℕ) (log : List Act) → Open t log → is_open t log ≡ true
 open_to t log o = and_from _ _ o.begun (not_from_false _ (or_from _ _ o.uncommitted o.unaborted))
@@ -62,9 +62,9 @@ close_ends t (u ∷ ts) log (suc i, l, f) e = close_ends t ts (cond (is_open u l
     (i, omega (arith, l), f) e
 
 pub closed_sound : (log : List Act) → Sound log → Sound (closed log)
-closed_sound log s = close_sound (started log) log s
+closed_sound log s = close_sound (begun log) log s
 
 pub closed_ended : (log : List Act) → (t : ℕ) → is_open t (closed log) ≡ false
 closed_ended log = λ t. false_from_ne_true _ (λ e.
-    close_ends t (started log) log
-    (started_there t log (open_from t log (close_opens t (started log) log e)).begun) e)
+    close_ends t (begun log) log
+    (begun_there t log (open_from t log (close_opens t (begun log) log e)).begun) e)

@@ -9,7 +9,7 @@ use Rattle.ssi_versions.specs.Meaning.Changes.{Held, held, held_count, IsProtect
 use Rattle.ssi_versions.specs.Mirror.{chain_of, key_total, IsAbove}
 use Rattle.ssi_conflict.specs.Meaning.Calls.{is_aborted, is_committed, is_open as is_open_told}
 use Rattle.ssi_conflict.specs.Meaning.Kept.{kept_count, open_count}
-use Rattle.ssi_store.specs.Meaning.Acts.{Act, Collects, acts, has_committed, has_started, is_open, open_txns, started}
+use Rattle.ssi_store.specs.Meaning.Acts.{Act, Collects, acts, has_committed, has_begun, is_open, open_txns, begun}
 use Rattle.ssi_store.specs.Meaning.Courses.{Command as Do, Counts, Course, Kept, Then}
 use Rattle.ssi_store.specs.Meaning.Recording.{events}
 use Rattle.ssi_store.specs.Meaning.Seeing.{changed, open_snapshots, snapshot}
@@ -45,8 +45,8 @@ above_kept n ss old new above kept k =
 open_told : (t : ℕ) (log : List Act) → is_open_told t (tracked log) ≡ is_open t log
 open_told t log =
     ap (λ b. b && not (is_committed t (tracked log) || is_aborted t (tracked log))) (begun_told t log)
-    ∙ ap (λ b. has_started t log && not (b || is_aborted t (tracked log))) (is_committed_told t log)
-    ∙ ap (λ b. has_started t log && not (has_committed t log || b)) (aborted_told t log)
+    ∙ ap (λ b. has_begun t log && not (b || is_aborted t (tracked log))) (is_committed_told t log)
+    ∙ ap (λ b. has_begun t log && not (has_committed t log || b)) (aborted_told t log)
 
 module _ {p : Parts} {next : ℕ} {es : Sessions} {c : Course} (st : StandsFor p next es c) (b : Below) where
   snapshots_are : map (λ (e : ℕ × ℕ). e.1) p.opened ≡ open_snapshots (acts c)
@@ -57,7 +57,7 @@ module _ {p : Parts} {next : ℕ} {es : Sessions} {c : Course} (st : StandsFor p
       let t = map-source (λ x. snapshot x (acts c)) (open_txns (acts c)) s d in
       subst (λ n. IsProtected n (changed (acts c))) t.2
       (open_protected (acts c) (settled st).sound t.0
-      (filter-source (λ u. is_open u (acts c)) (started (acts c)) t.0 t.1).1)
+      (filter-source (λ u. is_open u (acts c)) (begun (acts c)) t.0 t.1).1)
 
   pub collected : (holds' : List Held) (n : ℕ) (ss : List ℕ) → ss ≡ map (λ (e : ℕ × ℕ). e.1) p.opened → n ≡ length holds'
       → ((k : List ℕ) → chain_of k holds' ≡ filter (is_wanted ss (chain_of k p.holds)) (chain_of k p.holds))
@@ -76,7 +76,7 @@ module _ {p : Parts} {next : ℕ} {es : Sessions} {c : Course} (st : StandsFor p
           tracker = st.log.tracker;
           events = st.log.events ∙ sym (append-nil (events log));
           opened = st.log.opened;
-          began = st.log.began;
+          snapshots = st.log.snapshots;
         };
         next_is = st.next_is;
         txns = st.txns;
@@ -84,15 +84,15 @@ module _ {p : Parts} {next : ℕ} {es : Sessions} {c : Course} (st : StandsFor p
             (λ o at is. record { stamp = is.stamp; count = is.count; own = is.own; keys = is.keys }) (st.views s);
       }
 
-  pub counted : (active kept versions keys : ℕ) → active ≡ length p.opened → kept ≡ kept_count (tracked (acts c))
+  pub counted : (n kept versions keys : ℕ) → n ≡ length p.opened → kept ≡ kept_count (tracked (acts c))
       → versions ≡ length p.holds → keys ≡ key_total p.holds
-      → StandsFor p next es (Then c Do.Stat (Counts active kept versions keys))
-  counted active kept versions keys are_active are_kept are_versions are_keys =
+      → StandsFor p next es (Then c Do.Stat (Counts n kept versions keys))
+  counted n kept versions keys are_open are_kept are_versions are_keys =
       let log : List Act = acts c in
-      let opened : active ≡ open_count (tracked log) = are_active ∙ ap length st.log.opened
+      let opened : n ≡ open_count (tracked log) = are_open ∙ ap length st.log.opened
       ∙ as_many (open_txns log) log
       ∙ sym (ap (λ ts. length (filter (λ t. is_open_told t (tracked log)) ts)) (begun_are log)
-      ∙ ap length (filter_within (λ t. is_open_told t (tracked log)) (λ t. is_open t log) (started log)
+      ∙ ap length (filter_within (λ t. is_open_told t (tracked log)) (λ t. is_open t log) (begun log)
       (λ t d. open_told t log))) in
       record {
         follows = (

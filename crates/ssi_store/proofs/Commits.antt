@@ -79,7 +79,7 @@ module _ {p : Parts} {next : ℕ} {es : Sessions} {c : Course} (st : StandsFor p
           tracker = tells;
           events = st.log.events;
           opened = st.log.opened;
-          began = st.log.began;
+          snapshots = st.log.snapshots;
         })) (Do.Commit s) Memory refl
         (answer_memory st (Do.Commit s) _ reply_is (memory_may s (conflict t log) after log))
 
@@ -142,11 +142,11 @@ module _ {p : Parts} {next : ℕ} {es : Sessions} {c : Course} (st : StandsFor p
         }
 
         pub committed : (holds' : List Held) (told' : List Call → Type 0) (recorded' : List Event)
-            (opened' began' : List (ℕ × ℕ)) (fs : Sessions) (ws : List Entry)
+            (opened' snapshots' : List (ℕ × ℕ)) (fs : Sessions) (ws : List Entry)
             → IsSmallest IsOrderedPivot (Ends u (p.commits + 1) ks ∷ tracked (acts c)) None → ws ≡ written o.view
             → ((k : List ℕ) → chain_of k holds' ≡ chain_of k p.holds ++ listing (stamped (p.commits + 1) (listed k ws)))
             → told' (Ends u (p.commits + 1) ks ∷ tracked (acts c)) → recorded' ≡ p.recorded ++ Done u ∷ []
-            → opened' ≡ shift_remove_entry (nat_eq u) p.opened → began' ≡ p.began
+            → opened' ≡ shift_remove_entry (nat_eq u) p.opened → snapshots' ≡ p.snapshots
             → ((q : List ℕ) → open_at q fs ≡ cond (key_eq s q) None (open_at q es))
             → StandsFor (record {
               holds = holds';
@@ -154,16 +154,16 @@ module _ {p : Parts} {next : ℕ} {es : Sessions} {c : Course} (st : StandsFor p
               recorded = recorded';
               commits = p.commits + 1;
               opened = opened';
-              began = began';
+              snapshots = snapshots';
             }) next fs (Then c (Do.Commit s) Committed)
-        committed holds' told' recorded' opened' began' fs ws least are added tells now_events now_opened now_began gives =
+        committed holds' told' recorded' opened' snapshots' fs ws least are added tells now_events now_opened now_snapshots gives =
             ended st (record {
               holds = holds';
               told = told';
               recorded = recorded';
               commits = p.commits + 1;
               opened = opened';
-              began = began';
+              snapshots = snapshots';
             }) fs s t (Commits t) (Do.Commit s) Committed (opened st s o at) gives refl refl refl (λ r. refl)
             (λ y. refl) refl
             (record {
@@ -178,5 +178,5 @@ module _ {p : Parts} {next : ℕ} {es : Sessions} {c : Course} (st : StandsFor p
                   ∙ ap (λ x. events log ++ Done x ∷ []) is_u;
               opened = now_opened ∙ ap (λ x. shift_remove_entry (nat_eq x) p.opened) is_u
                   ∙ ap (shift_remove_entry (nat_eq t)) st.log.opened ∙ after_commit t log (settled st).sound;
-              began = now_began ∙ st.log.began;
+              snapshots = now_snapshots ∙ st.log.snapshots;
             }) refl (inl (sym (named None least)))

@@ -20,9 +20,9 @@ use Rattle.ssi_conflict.specs.Meaning.Calls.{Call}
 use Rattle.ssi_conflict.specs.Laws.{AbortsMakeNoPair}
 use Rattle.ssi_conflict.specs.Meaning.Pairs.{IsOrderedPivot, IsPair, IsPivot}
 use Rattle.snapshot_histories.specs.Meaning.Snapshots.{IsDangerous}
-use Rattle.ssi_store.specs.Meaning.Acts.{Aborts, Act, acts, is_open, open_txns, started}
+use Rattle.ssi_store.specs.Meaning.Acts.{Aborts, Act, acts, is_open, open_txns, begun}
 use Rattle.ssi_store.specs.Meaning.Courses.{Course}
-use Rattle.ssi_store.specs.Meaning.Coverage.{start_of, IsCovered}
+use Rattle.ssi_store.specs.Meaning.Coverage.{course_snapshot, IsCovered}
 use Rattle.ssi_store.specs.Meaning.Recording.{close, closed, dumped, events, finished}
 use Rattle.ssi_store.specs.Meaning.Seeing.{commit_count, committed, keys, snapshot}
 use Rattle.ssi_store.specs.Meaning.Tracked.{tracked}
@@ -38,7 +38,7 @@ use Rattle.ssi_store.proofs.RisingKeys.{made_rises}
 use Rattle.adya_values.proofs.RisingNumbers.{numbers_rise-filter}
 use Rattle.ssi_store.proofs.SoundLogs.{Safe, Sound}
 use Rattle.ssi_store.proofs.SoundCourses.{Stands}
-use Rattle.ssi_store.proofs.Starts.{concurrent_same, danger_same, snapshots_same, start_is, started_rise}
+use Rattle.ssi_store.proofs.Snapshots.{concurrent_same, danger_same, snapshots_same, snapshot_is, begun_rise}
 use Rattle.ssi_store.proofs.CheckedHistories.{is_checked}
 use Rattle.ssi_store.proofs.OwnWrites.{keys_of_log_rise}
 
@@ -103,7 +103,7 @@ module _ (listed : CommitsAreListed) (aborts : AbortsMakeNoPair) (IsStanding : �
   -- of a log that has the course's snapshots and no other pairs
   covered : (edition : Edition) (unfinished : List ℕ) (log : List Act) → Sound log → Safe pivot log
       → IsChecked (history_of_log edition unfinished log) → fits_edition edition unfinished ≡ true
-      → ((t : ℕ) → snapshot t log ≡ start_of c t)
+      → ((t : ℕ) → snapshot t log ≡ course_snapshot c t)
       → ((r u : ℕ) → IsPair r u (tracked log) → IsPair r u (tracked (acts c)))
       → IsCovered IsStanding c (history_of_events edition unfinished (events log))
   covered edition unfinished log sound safe checked fits at back =
@@ -112,27 +112,27 @@ module _ (listed : CommitsAreListed) (aborts : AbortsMakeNoPair) (IsStanding : �
       subst (IsCovered IsStanding c) (sym (recorder_makes listed edition unfinished log sound)) (record {
         safe = record {
           checked = checked;
-          snapshots = snapshots_same h start (start_of c) at (is_snapshot_history edition unfinished log sound);
+          snapshots = snapshots_same h start (course_snapshot c) at (is_snapshot_history edition unfinished log sound);
           no_danger = λ into out d. no_pivot IsStanding pivot rule log sound safe out.from
-              (dangers edition unfinished log sound checked into out (danger_same h start (start_of c) at into out d));
+              (dangers edition unfinished log sound checked into out (danger_same h start (course_snapshot c) at into out d));
         };
         shaped = is_shaped edition unfinished log;
         fits = fits;
         pairs = λ e i kind apart. back e.from e.to
             (edge_pair_by edition unfinished log sound e.kind e.key e.from e.to kind i.0 i.1
-            (concurrent_same h start (start_of c) at e.from e.to apart));
+            (concurrent_same h start (course_snapshot c) at e.from e.to apart));
         no_pivot = no_pivot IsStanding pivot rule (acts c) stands.sound stands.safe;
       })
 
   pub finished_covered : IsCovered IsStanding c (finished c)
   finished_covered =
       let sound = closed_sound (acts c) stands.sound in
-      covered One [] (closed (acts c)) sound (close_safe pivot (started (acts c)) (acts c) stands.safe)
+      covered One [] (closed (acts c)) sound (close_safe pivot (begun (acts c)) (acts c) stands.safe)
       (is_checked One [] (closed (acts c)) sound (λ t e. absurd (both_ways _ (closed_ended (acts c) t) e))
       (λ t d. absurd (none_contained t d)))
       refl
-      (λ t. close_snapshot t (started (acts c)) (acts c) ∙ sym (start_is c t))
-      (λ r u p. close_pair aborts r u (started (acts c)) (acts c) p)
+      (λ t. close_snapshot t (begun (acts c)) (acts c) ∙ sym (snapshot_is c t))
+      (λ r u p. close_pair aborts r u (begun (acts c)) (acts c) p)
 
   pub dumped_covered : IsCovered IsStanding c (dumped c)
   dumped_covered =
@@ -140,7 +140,7 @@ module _ (listed : CommitsAreListed) (aborts : AbortsMakeNoPair) (IsStanding : �
       covered Two (open_txns (acts c)) (acts c) stands.sound stands.safe
       (is_checked Two (open_txns (acts c)) (acts c) stands.sound
       (λ t e. list_any_when (λ u. u == t) (open_txns (acts c)) t (open_there t (acts c) e) (eq-eqb t t refl))
-      (λ t d. (filter-source is_open_one (started (acts c)) t d).1))
-      (numbers_rise-filter is_open_one (started (acts c)) (started_rise (acts c) stands.sound))
-      (λ t. sym (start_is c t))
+      (λ t d. (filter-source is_open_one (begun (acts c)) t d).1))
+      (numbers_rise-filter is_open_one (begun (acts c)) (begun_rise (acts c) stands.sound))
+      (λ t. sym (snapshot_is c t))
       (λ r u p. p)

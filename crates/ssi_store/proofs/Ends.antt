@@ -34,13 +34,13 @@ module _ {p : Parts} {next : ℕ} {es : Sessions} {c : Course} (st : StandsFor p
     answers = inl (sym (ap (λ (x : Option ℕ). reply_for smallest_ordered_pivot x c (Do.Abort s)) (opened st s o at)));
   }
 
-  pub dropped : (told' : List Call → Type 0) (recorded' : List Event) (opened' began' : List (ℕ × ℕ)) (fs : Sessions) (t : ℕ)
+  pub dropped : (told' : List Call → Type 0) (recorded' : List Event) (opened' snapshots' : List (ℕ × ℕ)) (fs : Sessions) (t : ℕ)
       (m : Command) (a : Answer) → IsEnd s t c m a → ((q : List ℕ) → open_at q fs ≡ cond (key_eq s q) None (open_at q es))
-      → recorded' ≡ p.recorded ++ Ended t ∷ [] → opened' ≡ shift_remove_entry (nat_eq t) p.opened → began' ≡ p.began
+      → recorded' ≡ p.recorded ++ Ended t ∷ [] → opened' ≡ shift_remove_entry (nat_eq t) p.opened → snapshots' ≡ p.snapshots
       → ((calls : List Call) → p.told calls → IsAllowed (Drops t) calls → told' (Drops t ∷ calls))
-      → StandsFor (record p { told = told'; recorded = recorded'; opened = opened'; began = began' }) next fs (Then c m a)
-  dropped told' recorded' opened' began' fs t m a end gives now_events now_opened now_began tells =
-      ended st (record p { told = told'; recorded = recorded'; opened = opened'; began = began' }) fs s t (Aborts t) m a
+      → StandsFor (record p { told = told'; recorded = recorded'; opened = opened'; snapshots = snapshots' }) next fs (Then c m a)
+  dropped told' recorded' opened' snapshots' fs t m a end gives now_events now_opened now_snapshots tells =
+      ended st (record p { told = told'; recorded = recorded'; opened = opened'; snapshots = snapshots' }) fs s t (Aborts t) m a
       end.here gives refl end.does end.txn end.session end.drops end.next
       (record {
         commits = st.log.commits;
@@ -49,5 +49,5 @@ module _ {p : Parts} {next : ℕ} {es : Sessions} {c : Course} (st : StandsFor p
             (tracked_allowed (Aborts t ∷ acts c) ((settled st).opened s t end.here, (settled st).sound)).0;
         events = now_events ∙ ap (λ l. l ++ Ended t ∷ []) st.log.events;
         opened = now_opened ∙ ap (shift_remove_entry (nat_eq t)) st.log.opened ∙ after_abort t (acts c) (settled st).sound;
-        began = now_began ∙ st.log.began;
+        snapshots = now_snapshots ∙ st.log.snapshots;
       }) end.proper end.answers

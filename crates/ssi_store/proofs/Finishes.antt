@@ -8,9 +8,9 @@ use Rattle.adya_values.specs.declared.edition.Edition.TheVariants.{One, Two}
 use Rattle.snapshot_histories.specs.Meaning.Snapshots.{IsSafe}
 use Rattle.ssi_conflict.specs.Meaning.Pairs.{IsOrderedPivot}
 use Rattle.ssi_recorder.specs.Meaning.Recorded.{history_of_events}
-use Rattle.ssi_store.specs.Meaning.Acts.{Aborts, Act, acts, is_open, open_txns, started}
+use Rattle.ssi_store.specs.Meaning.Acts.{Aborts, Act, acts, is_open, open_txns, begun}
 use Rattle.ssi_store.specs.Meaning.Courses.{Course}
-use Rattle.ssi_store.specs.Meaning.Recording.{close, dumped, events, finished, start_in, starts}
+use Rattle.ssi_store.specs.Meaning.Recording.{close, dumped, events, finished, snapshot_in, snapshots}
 use Rattle.ssi_store.specs.Meaning.Coverage.{IsCovered}
 use Rattle.ssi_store.specs.Meaning.Seeing.{snapshot}
 use Rattle.ssi_store.specs.Mirror.Standing.{Parts, StandsFor}
@@ -18,7 +18,7 @@ use Rattle.ssi_store.specs.Machinery.Opens.{Sessions}
 use Rattle.ssi_store.proofs.Collects.{first_halves}
 use Rattle.ssi_store.proofs.Lists.{filter_within}
 use Rattle.adya_values.proofs.RisingNumbers.{number_below, numbers_rise-tail}
-use Rattle.ssi_store.proofs.Starts.{started_rise}
+use Rattle.ssi_store.proofs.Snapshots.{begun_rise}
 use Rattle.ssi_store.proofs.Steps.{settled, same_course}
 
 close_events : (ts : List ℕ) (log : List Act) → numbers_rise ts ≡ true
@@ -41,30 +41,30 @@ close_events (t ∷ ts) log r = elim (cases_Bool (is_open t log)) [
       (sym fails)
 ]
 
--- a history of the course is safe by the starts of the course, whatever they are called
-pub safe_by : (c : Course) (h g : History) (began : List (ℕ × ℕ)) → h ≡ g → began ≡ starts c → IsCovered IsOrderedPivot c g
-    → IsSafe h (start_in began)
-safe_by c h g began is since covered =
-    subst (λ x. IsSafe x (start_in began)) (sym is) (subst (λ l. IsSafe g (start_in l)) (sym since) covered.safe)
+-- a history of the course is safe by the snapshots of the course, whatever they are called
+pub safe_by : (c : Course) (h g : History) (ss : List (ℕ × ℕ)) → h ≡ g → ss ≡ snapshots c → IsCovered IsOrderedPivot c g
+    → IsSafe h (snapshot_in ss)
+safe_by c h g ss is since covered =
+    subst (λ x. IsSafe x (snapshot_in ss)) (sym is) (subst (λ l. IsSafe g (snapshot_in l)) (sym since) covered.safe)
 
 module _ {p : Parts} {next : ℕ} {es : Sessions} {c : Course} (st : StandsFor p next es c) where
-  active_are : (active : List ℕ) → active ≡ map (λ (e : ℕ × ℕ). e.0) p.opened → active ≡ open_txns (acts c)
-  active_are active are = are ∙ ap (map (λ (e : ℕ × ℕ). e.0)) st.log.opened
+  open_are : (ts : List ℕ) → ts ≡ map (λ (e : ℕ × ℕ). e.0) p.opened → ts ≡ open_txns (acts c)
+  open_are ts are = are ∙ ap (map (λ (e : ℕ × ℕ). e.0)) st.log.opened
       ∙ first_halves (λ t. snapshot t (acts c)) (open_txns (acts c))
 
-  pub finishes : (active : List ℕ) (h : History) → active ≡ map (λ (e : ℕ × ℕ). e.0) p.opened
-      → h ≡ history_of_events One [] (p.recorded ++ map Ended active) → h ≡ finished c
-  finishes active h are is = is
-      ∙ ap (λ l. history_of_events One [] (l ++ map Ended active)) st.log.events
-      ∙ ap (λ l. history_of_events One [] (events (acts c) ++ map Ended l)) (active_are active are)
+  pub finishes : (ts : List ℕ) (h : History) → ts ≡ map (λ (e : ℕ × ℕ). e.0) p.opened
+      → h ≡ history_of_events One [] (p.recorded ++ map Ended ts) → h ≡ finished c
+  finishes ts h are is = is
+      ∙ ap (λ l. history_of_events One [] (l ++ map Ended ts)) st.log.events
+      ∙ ap (λ l. history_of_events One [] (events (acts c) ++ map Ended l)) (open_are ts are)
       ∙ ap (history_of_events One [])
-      (sym (close_events (started (acts c)) (acts c) (started_rise (acts c) (settled st).sound)))
+      (sym (close_events (begun (acts c)) (acts c) (begun_rise (acts c) (settled st).sound)))
 
-  pub dumps : (active : List ℕ) (h : History) → active ≡ map (λ (e : ℕ × ℕ). e.0) p.opened
-      → h ≡ history_of_events Two active p.recorded → h ≡ dumped c
-  dumps active h are is = is
-      ∙ ap (history_of_events Two active) st.log.events
-      ∙ ap (λ l. history_of_events Two l (events (acts c))) (active_are active are)
+  pub dumps : (ts : List ℕ) (h : History) → ts ≡ map (λ (e : ℕ × ℕ). e.0) p.opened
+      → h ≡ history_of_events Two ts p.recorded → h ≡ dumped c
+  dumps ts h are is = is
+      ∙ ap (history_of_events Two ts) st.log.events
+      ∙ ap (λ l. history_of_events Two l (events (acts c))) (open_are ts are)
 
   -- the store that is handed back stands for the same course
   pub handed_back : (recorded' : List Event) → recorded' ≡ p.recorded
@@ -75,5 +75,5 @@ module _ {p : Parts} {next : ℕ} {es : Sessions} {c : Course} (st : StandsFor p
     tracker = st.log.tracker;
     events = same ∙ st.log.events;
     opened = st.log.opened;
-    began = st.log.began;
+    snapshots = st.log.snapshots;
   })

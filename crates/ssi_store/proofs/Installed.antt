@@ -9,7 +9,7 @@ use Rattle.adya_values.specs.Meaning.Keys.{key_eq}
 use Rattle.adya_values.specs.Meaning.Orders.{line_of, writers}
 use Rattle.adya_values.specs.declared.edition.Edition.{Edition}
 use Rattle.ssi_recorder.specs.Meaning.Recorded.{order_line}
-use Rattle.ssi_store.specs.Meaning.Acts.{Aborts, Act, Collects, Commits, Gets, Scans, Starts, Writes}
+use Rattle.ssi_store.specs.Meaning.Acts.{Aborts, Act, Collects, Commits, Gets, Scans, Begins, Writes}
 use Rattle.ssi_store.specs.Meaning.Seeing.{keys, wrote}
 use Rattle.ssi_store.proofs.LoggedHistories.{history_of_log, installers}
 use Rattle.adya_values.proofs.InsertedKeys.{Contains-inserted}
@@ -38,7 +38,7 @@ line_made f (j ∷ js) k (inl (suc i, l, s)) = line_step f j k _ (f j) refl
 -- a key without writes has no installers
 installers_key : (k : List ℕ) (log : List Act) → Contains (keys log) k ⊎ (installers k log ≡ [])
 installers_key k [] = inr refl
-installers_key k (Starts u ∷ log) = installers_key k log
+installers_key k (Begins u ∷ log) = installers_key k log
 installers_key k (Gets u j ∷ log) = installers_key k log
 installers_key k (Scans u low high ∷ log) = installers_key k log
 installers_key k (Aborts u ∷ log) = installers_key k log

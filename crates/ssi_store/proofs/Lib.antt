@@ -21,7 +21,7 @@ pub mod SnapshotHistories
 pub mod SoundCourses
 pub mod RecordedCourses
 pub mod ChangesAllowed
-pub mod Starts
+pub mod Snapshots
 pub mod Covered
 pub mod Records
 pub mod HeldSnapshots

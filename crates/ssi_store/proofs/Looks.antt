@@ -8,7 +8,7 @@ use Rattle.ssi_conflict.specs.Meaning.Pairs.{IsOrderedPivot, IsSmallest}
 use Rattle.ssi_conflict.specs.declared.answer.Answer.{Answer as Judged}
 use Rattle.ssi_conflict.specs.declared.answer.Answer.TheVariants.{Safe as Clear, Unsafe as Pivot}
 use Rattle.ssi_snapshot.specs.Mirror.{txn_of}
-use Rattle.ssi_store.specs.Meaning.Acts.{Act, Starts, Writes, Gets, Scans, Commits, Aborts, Collects, acts, act_by}
+use Rattle.ssi_store.specs.Meaning.Acts.{Act, Begins, Writes, Gets, Scans, Commits, Aborts, Collects, acts, act_by}
 use Rattle.ssi_store.specs.Meaning.Courses.{Command, Answer, Refused, Memory, Unsafe, Course, Then}
 use Rattle.ssi_store.specs.Meaning.Recording.{events}
 use Rattle.ssi_store.specs.Meaning.Replies.{unless_pivot}
@@ -33,7 +33,7 @@ safe_of (Pivot p) f = absurd (f p refl)
 look_by : (t : ℕ) (a : Act) → IsLookOf t a → IsBy t a
 look_by t (Gets u k) l = l
 look_by t (Scans u low high) l = l
-look_by t (Starts u) l = absurd l
+look_by t (Begins u) l = absurd l
 look_by t (Writes u k c) l = absurd l
 look_by t (Commits u) l = absurd l
 look_by t (Aborts u) l = absurd l
@@ -44,7 +44,7 @@ look_open : (a : Act) (log : List Act) (o v : Open) → IsLookOf (number_of o) a
 look_open (Gets u k) log o v l is same = subst (λ x. IsOpen (Gets x k ∷ log) v) (sym l) (open_got k log o v is same)
 look_open (Scans u low high) log o v l is same =
     subst (λ x. IsOpen (Scans x low high ∷ log) v) (sym l) (open_scanned low high log o v is same)
-look_open (Starts u) log o v l is same = absurd l
+look_open (Begins u) log o v l is same = absurd l
 look_open (Writes u k c) log o v l is same = absurd l
 look_open (Commits u) log o v l is same = absurd l
 look_open (Aborts u) log o v l is same = absurd l
@@ -60,7 +60,7 @@ look_log p log t (Gets u k) told' recorded' l is tells now = record {
   tracker = tells;
   events = now;
   opened = is.opened;
-  began = is.began;
+  snapshots = is.snapshots;
 }
 look_log p log t (Scans u low high) told' recorded' l is tells now = record {
   commits = is.commits;
@@ -68,9 +68,9 @@ look_log p log t (Scans u low high) told' recorded' l is tells now = record {
   tracker = tells;
   events = now;
   opened = is.opened;
-  began = is.began;
+  snapshots = is.snapshots;
 }
-look_log p log t (Starts u) told' recorded' l is tells now = absurd l
+look_log p log t (Begins u) told' recorded' l is tells now = absurd l
 look_log p log t (Writes u k c) told' recorded' l is tells now = absurd l
 look_log p log t (Commits u) told' recorded' l is tells now = absurd l
 look_log p log t (Aborts u) told' recorded' l is tells now = absurd l
@@ -87,7 +87,7 @@ module _ {p : Parts} {next : ℕ} {es : Sessions} {c : Course} (st : StandsFor p
         tracker = tells;
         events = now ∙ st.log.events;
         opened = st.log.opened;
-        began = st.log.began;
+        snapshots = st.log.snapshots;
       })) m Memory is.proper
       (answer_memory st m _ is.replies (is.memory (smallest_ordered_pivot (tracked (is.act ∷ acts c)))))
 

@@ -17,7 +17,7 @@ use Rattle.adya_values.specs.Meaning.Serial.{visible_pair_of}
 use Rattle.adya_values.specs.declared.edition.Edition.{Edition}
 use Rattle.ssi_recorder.specs.Laws.{CommitsAreListed}
 use Rattle.ssi_recorder.specs.Meaning.Recorded.{by_commit, history_of_events, last_shown, order_line, writers_by_commit, written_keys}
-use Rattle.ssi_store.specs.Meaning.Acts.{Aborts, Act, Collects, Commits, Gets, Scans, Starts, Writes, has_committed}
+use Rattle.ssi_store.specs.Meaning.Acts.{Aborts, Act, Collects, Commits, Gets, Scans, Begins, Writes, has_committed}
 use Rattle.ssi_store.specs.Meaning.Recording.{events}
 use Rattle.ssi_store.specs.Meaning.Seeing.{commit_count, committed, keys, wrote}
 use Rattle.ssi_store.proofs.Installed.{writers_are}
@@ -31,7 +31,7 @@ use Rattle.ssi_store.proofs.CheckedHistories.{last_value}
 
 keys_of_versions : (log : List Act) → fold (λ ks w. insert w.version.key ks) [] (versions log) ≡ keys log
 keys_of_versions [] = refl
-keys_of_versions (Starts u ∷ log) = keys_of_versions log
+keys_of_versions (Begins u ∷ log) = keys_of_versions log
 keys_of_versions (Gets u k ∷ log) = keys_of_versions log
 keys_of_versions (Scans u low high ∷ log) = keys_of_versions log
 keys_of_versions (Commits u ∷ log) = keys_of_versions log
@@ -47,7 +47,7 @@ written_keys_are log = ap (λ ws. fold (λ ks w. insert w.version.key ks) [] ws)
 
 committer_committed : (t : ℕ) (log : List Act) → Contains (committers log) t → has_committed t log ≡ true
 committer_committed t [] c = absurd (none_contained t c)
-committer_committed t (Starts u ∷ log) c = committer_committed t log c
+committer_committed t (Begins u ∷ log) c = committer_committed t log c
 committer_committed t (Writes u k d ∷ log) c = committer_committed t log c
 committer_committed t (Gets u k ∷ log) c = committer_committed t log c
 committer_committed t (Scans u low high ∷ log) c = committer_committed t log c
@@ -62,7 +62,7 @@ committer_committed t (Commits u ∷ log) c =
 writers_of_committers : (k : List ℕ) (log : List Act) → Sound log
     → filter (λ t. wrote t k log) (committers log) ≡ installers k log
 writers_of_committers k [] s = refl
-writers_of_committers k (Starts u ∷ log) s = writers_of_committers k log s.1
+writers_of_committers k (Begins u ∷ log) s = writers_of_committers k log s.1
 writers_of_committers k (Gets u j ∷ log) s = writers_of_committers k log s.1
 writers_of_committers k (Scans u low high ∷ log) s = writers_of_committers k log s.1
 writers_of_committers k (Aborts u ∷ log) s = writers_of_committers k log s.1

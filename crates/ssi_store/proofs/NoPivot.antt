@@ -4,7 +4,7 @@ use Rattle.ssi_store.specs.Meaning.Courses.{Course}
 use Rattle.std.proofs.Common.{List, None, Option, Some, [], refl, subst, ℕ, ◌∷◌, ◌≡◌}
 use Rattle.ssi_conflict.specs.Meaning.Calls.{Call}
 use Rattle.ssi_conflict.specs.Meaning.Pairs.{IsSmallest}
-use Rattle.ssi_store.specs.Meaning.Acts.{Aborts, Act, Collects, Commits, Gets, Scans, Starts, Writes, acts}
+use Rattle.ssi_store.specs.Meaning.Acts.{Aborts, Act, Collects, Commits, Gets, Scans, Begins, Writes, acts}
 use Rattle.ssi_store.specs.Meaning.Seeing.{commit_count}
 use Rattle.ssi_store.specs.Meaning.Tracked.{tracked}
 use Rattle.ssi_store.proofs.PivotRules.{IsRule}
@@ -18,8 +18,8 @@ module _ (IsStanding : ℕ → List Call → Type 0) (pivot : List Call → Opti
 
   pub no_pivot : (log : List Act) → Sound log → Safe pivot log → (p : ℕ) → IsStanding p (tracked log) → ⊥
   no_pivot [] s f p h = rule.none_first p h
-  no_pivot (Starts t ∷ log) s f p h = no_pivot log s.1 f.1 p
-      (rule.before_begin t (commit_count log) p (tracked log) (tracked_allowed (Starts t ∷ log) s) h)
+  no_pivot (Begins t ∷ log) s f p h = no_pivot log s.1 f.1 p
+      (rule.before_begin t (commit_count log) p (tracked log) (tracked_allowed (Begins t ∷ log) s) h)
   no_pivot (Writes t k c ∷ log) s f p h = no_pivot log s.1 f.1 p h
   no_pivot (Gets t k ∷ log) s f p h = none_from (Gets t k ∷ log) s f.0 p h
   no_pivot (Scans t low high ∷ log) s f p h = none_from (Scans t low high ∷ log) s f.0 p h

@@ -8,7 +8,7 @@ use Rattle.adya_values.specs.Meaning.Events.{version, entry, listed}
 use Rattle.ssi_snapshot.specs.Meaning.Listings.{keys}
 use Rattle.ssi_snapshot.specs.Mirror.{txn_of, snapshot_of, written, own}
 use Rattle.ssi_snapshot.specs.Meaning.Writes.{mod_of, next_mod, next_write, put_write}
-use Rattle.ssi_store.specs.Meaning.Acts.{Act, Starts, Writes, Gets, Scans, Commits, Aborts, Collects, has_started, is_open, operations}
+use Rattle.ssi_store.specs.Meaning.Acts.{Act, Begins, Writes, Gets, Scans, Commits, Aborts, Collects, has_begun, is_open, operations}
 use Rattle.ssi_store.specs.Meaning.Seeing.{commit_count, snapshot, write_count, own_write, own_keys, wrote}
 use Rattle.ssi_store.specs.Machinery.Below.{Below}
 use Rattle.ssi_store.specs.Machinery.Opens.{number_of, IsOpen, IsSameOpen, IsCounted}
@@ -17,7 +17,7 @@ use Rattle.ssi_store.proofs.SoundLogs.{Sound, open_from}
 
 -- whose act it is
 abbrev pub IsBy : ℕ → Act → Type 0
-IsBy t (Starts u) = u ≡ t
+IsBy t (Begins u) = u ≡ t
 IsBy t (Writes u k c) = u ≡ t
 IsBy t (Gets u k) = u ≡ t
 IsBy t (Scans u low high) = u ≡ t
@@ -39,7 +39,7 @@ same_open log o p same is =
 -- an act of another transaction changes nothing of it
 pub other_open : (t : ℕ) (x : Act) (log : List Act) (o : Open) → IsBy t x → (t ≡ number_of o → ⊥) → IsOpen log o
     → IsOpen (x ∷ log) o
-other_open t (Starts u) log o by ne is =
+other_open t (Begins u) log o by ne is =
     let apart : (u == number_of o) ≡ false = ne_eqb u (number_of o) (λ e. ne (sym by ∙ e)) in
     record {
       stamp = is.stamp
@@ -86,7 +86,7 @@ other_open t Collects log o by ne is = record { stamp = is.stamp; count = is.cou
 -- how often the key was written is the number of the last write
 mod_is : (t : ℕ) (k : List ℕ) (log : List Act) → mod_of (own_write t k log) ≡ write_count t k log
 mod_is t k [] = refl
-mod_is t k (Starts u ∷ log) = mod_is t k log
+mod_is t k (Begins u ∷ log) = mod_is t k log
 mod_is t k (Gets u j ∷ log) = mod_is t k log
 mod_is t k (Scans u low high ∷ log) = mod_is t k log
 mod_is t k (Commits u ∷ log) = mod_is t k log
@@ -100,20 +100,20 @@ pub next_mod_is : (j : List ℕ) (log : List Act) (o : Open) → IsOpen log o
     → next_mod j (written o.view) ≡ suc (write_count (number_of o) j log)
 next_mod_is j log o is = ap (λ w. suc (mod_of w)) (is.own j) ∙ ap suc (mod_is (number_of o) j log)
 
--- nothing is known of a transaction that has not started
+-- nothing is known of a transaction that has not begun
 record Blank (t : ℕ) (log : List Act) : Type 0 where
   pub count : operations t log ≡ 0
   pub own : (k : List ℕ) → own_write t k log ≡ None
   pub keys : own_keys t log ≡ []
 
-not_it : (u t : ℕ) (log : List Act) → is_open u log ≡ true → has_started t log ≡ false → (u == t) ≡ false
+not_it : (u t : ℕ) (log : List Act) → is_open u log ≡ true → has_begun t log ≡ false → (u == t) ≡ false
 not_it u t log opened fresh = false_from_ne_true (u == t)
-    (λ e. both_ways _ fresh (subst (λ x. has_started x log ≡ true) (eqb-true u t e) (open_from u log opened).begun))
+    (λ e. both_ways _ fresh (subst (λ x. has_begun x log ≡ true) (eqb-true u t e) (open_from u log opened).begun))
 
-blank : (t : ℕ) (log : List Act) → Sound log → has_started t log ≡ false → Blank t log
+blank : (t : ℕ) (log : List Act) → Sound log → has_begun t log ≡ false → Blank t log
 blank t [] s f = record { count = refl; own = λ k. refl; keys = refl }
-blank t (Starts u ∷ log) s f =
-    let b = blank t log s.1 (or_parts (u == t) (has_started t log) f).1 in
+blank t (Begins u ∷ log) s f =
+    let b = blank t log s.1 (or_parts (u == t) (has_begun t log) f).1 in
     record { count = b.count; own = b.own; keys = b.keys }
 blank t (Writes u j c ∷ log) s f =
     let apart = not_it u t log s.0 f in
@@ -146,8 +146,8 @@ blank t (Aborts u ∷ log) s f = let b = blank t log s.1 f in record { count = b
 blank t (Collects ∷ log) s f = let b = blank t log s.1 f in record { count = b.count; own = b.own; keys = b.keys }
 
 -- a transaction that begins
-pub open_begun : (t : ℕ) (log : List Act) (o : Open) → Sound log → has_started t log ≡ false → number_of o ≡ t
-    → snapshot_of o.view ≡ commit_count log → o.operations ≡ 0 → written o.view ≡ [] → IsOpen (Starts t ∷ log) o
+pub open_begun : (t : ℕ) (log : List Act) (o : Open) → Sound log → has_begun t log ≡ false → number_of o ≡ t
+    → snapshot_of o.view ≡ commit_count log → o.operations ≡ 0 → written o.view ≡ [] → IsOpen (Begins t ∷ log) o
 open_begun t log o s f txn stamp count none =
     let b = blank t log s f in
     record {

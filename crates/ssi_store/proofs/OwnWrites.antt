@@ -12,7 +12,7 @@ use Rattle.adya_values.specs.Meaning.Histories.{Content, Entry}
 use Rattle.adya_values.specs.Meaning.KeySets.{insert}
 use Rattle.adya_values.specs.Meaning.Keys.{key_eq, keys_rise}
 use Rattle.ssi_versions.specs.Meaning.Changes.{contents, entry_in, otherwise, stamped}
-use Rattle.ssi_store.specs.Meaning.Acts.{Aborts, Act, Collects, Commits, Gets, Scans, Starts, Writes}
+use Rattle.ssi_store.specs.Meaning.Acts.{Aborts, Act, Collects, Commits, Gets, Scans, Begins, Writes}
 use Rattle.ssi_store.specs.Meaning.Seeing.{changed, commit_count, committed, keys, last_writes, own_keys, own_write, write_count, wrote}
 use Rattle.ssi_store.proofs.Lists.{option_cases}
 use Rattle.adya_values.proofs.InsertedKeys.{Contains-insert, Contains-inserted, insert_rises}
@@ -21,7 +21,7 @@ use Rattle.ssi_store.proofs.RisingKeys.{listed_made}
 pub own_write_is : (t : ℕ) (k : List ℕ) (log : List Act) (w : Entry) → own_write t k log ≡ Some w
     → (w.version.txn ≡ t) × (w.version.key ≡ k)
 own_write_is t k [] w e = absurd (none-some w e)
-own_write_is t k (Starts u ∷ log) w e = own_write_is t k log w e
+own_write_is t k (Begins u ∷ log) w e = own_write_is t k log w e
 own_write_is t k (Gets u j ∷ log) w e = own_write_is t k log w e
 own_write_is t k (Scans u low high ∷ log) w e = own_write_is t k log w e
 own_write_is t k (Commits u ∷ log) w e = own_write_is t k log w e
@@ -37,7 +37,7 @@ own_write_is t k (Writes u j c ∷ log) w e =
 -- every key that was written is among the keys
 pub wrote_key : (t : ℕ) (k : List ℕ) (log : List Act) → wrote t k log ≡ true → Contains (keys log) k
 wrote_key t k [] e = absurd (cc (e))
-wrote_key t k (Starts u ∷ log) e = wrote_key t k log e
+wrote_key t k (Begins u ∷ log) e = wrote_key t k log e
 wrote_key t k (Gets u j ∷ log) e = wrote_key t k log e
 wrote_key t k (Scans u low high ∷ log) e = wrote_key t k log e
 wrote_key t k (Commits u ∷ log) e = wrote_key t k log e
@@ -72,7 +72,7 @@ wrote_before t k u j c log e =
 
 pub own_key_there : (t : ℕ) (k : List ℕ) (log : List Act) → wrote t k log ≡ true → Contains (own_keys t log) k
 own_key_there t k [] e = absurd (cc (e))
-own_key_there t k (Starts u ∷ log) e = own_key_there t k log e
+own_key_there t k (Begins u ∷ log) e = own_key_there t k log e
 own_key_there t k (Gets u j ∷ log) e = own_key_there t k log e
 own_key_there t k (Scans u low high ∷ log) e = own_key_there t k log e
 own_key_there t k (Commits u ∷ log) e = own_key_there t k log e
@@ -99,7 +99,7 @@ own_key_there t k (Writes u j c ∷ log) e =
 
 pub own_key_written : (t : ℕ) (k : List ℕ) (log : List Act) → Contains (own_keys t log) k → wrote t k log ≡ true
 own_key_written t k [] c = absurd (none_contained k c)
-own_key_written t k (Starts u ∷ log) c = own_key_written t k log c
+own_key_written t k (Begins u ∷ log) c = own_key_written t k log c
 own_key_written t k (Gets u j ∷ log) c = own_key_written t k log c
 own_key_written t k (Scans u low high ∷ log) c = own_key_written t k log c
 own_key_written t k (Commits u ∷ log) c = own_key_written t k log c
@@ -160,7 +160,7 @@ committed_step k s u log =
 -- all keys that were written rise
 pub keys_of_log_rise : (log : List Act) → keys_rise (keys log) ≡ true
 keys_of_log_rise [] = refl
-keys_of_log_rise (Starts u ∷ log) = keys_of_log_rise log
+keys_of_log_rise (Begins u ∷ log) = keys_of_log_rise log
 keys_of_log_rise (Gets u k ∷ log) = keys_of_log_rise log
 keys_of_log_rise (Scans u low high ∷ log) = keys_of_log_rise log
 keys_of_log_rise (Commits u ∷ log) = keys_of_log_rise log

@@ -90,7 +90,7 @@ module _ {p : Parts} {next : ℕ} {es : Sessions} {c : Course} (st : StandsFor p
             tracker = st.log.tracker;
             events = now ∙ st.log.events;
             opened = st.log.opened;
-            began = st.log.began;
+            snapshots = st.log.snapshots;
           }) (replaced s o v es fs at same gives) f.proper
           (answer_memory st (written s k x) Done is_done f.memory)
 
@@ -113,5 +113,5 @@ module _ {p : Parts} {next : ℕ} {es : Sessions} {c : Course} (st : StandsFor p
                 ∙ ap (λ u. events (acts c) ++ write_event u k m x ∷ []) (is_t ∙ same.0)
                 ∙ ap (λ n. events (acts c) ++ write_event (number_of o) k n x ∷ []) (is_m ∙ next_mod_is k (acts c) o is);
             opened = st.log.opened;
-            began = st.log.began;
+            snapshots = st.log.snapshots;
           }) f.proper (inl (sym is_done))

@@ -10,7 +10,7 @@ use Rattle.adya_values.specs.Meaning.Events.{aborts, commits, entry, is_committe
 use Rattle.adya_values.specs.Meaning.Histories.{Abort, Commit, Content, Dead, Delete, Entry, Event, Live, Read, Scan, Write}
 use Rattle.adya_values.specs.Meaning.Keys.{key_eq}
 use Rattle.adya_values.specs.declared.event.Version.{Version}
-use Rattle.ssi_store.specs.Meaning.Acts.{Aborts, Act, Collects, Commits, Gets, Scans, Starts, Writes, has_aborted, has_committed}
+use Rattle.ssi_store.specs.Meaning.Acts.{Aborts, Act, Collects, Commits, Gets, Scans, Begins, Writes, has_aborted, has_committed}
 use Rattle.ssi_store.specs.Meaning.Recording.{events, get_event, get_found, write_event}
 use Rattle.ssi_store.specs.Meaning.Seeing.{own_write, sees, write_count}
 
@@ -53,7 +53,7 @@ any_quiet f xs e b h i = any_more f xs e b false h i ∙ or_nothing b
 
 pub committed_events : (t : ℕ) (log : List Act) → is_committed (events log) t ≡ has_committed t log
 committed_events t [] = refl
-committed_events t (Starts u ∷ log) = ap (list_any (commits t)) (append-nil (events log)) ∙ committed_events t log
+committed_events t (Begins u ∷ log) = ap (list_any (commits t)) (append-nil (events log)) ∙ committed_events t log
 committed_events t (Writes u k c ∷ log) = any_quiet (commits t) (events log) _ _
     (of_write (commits t) false (λ u k n v. refl) (λ u k n. refl) u k _ c) (committed_events t log)
 committed_events t (Gets u k ∷ log) = any_quiet (commits t) (events log) _ _
@@ -66,7 +66,7 @@ committed_events t (Collects ∷ log) = ap (list_any (commits t)) (append-nil (e
 
 pub aborted_events : (t : ℕ) (log : List Act) → list_any (aborts t) (events log) ≡ has_aborted t log
 aborted_events t [] = refl
-aborted_events t (Starts u ∷ log) = ap (list_any (aborts t)) (append-nil (events log)) ∙ aborted_events t log
+aborted_events t (Begins u ∷ log) = ap (list_any (aborts t)) (append-nil (events log)) ∙ aborted_events t log
 aborted_events t (Writes u k c ∷ log) = any_quiet (aborts t) (events log) _ _
     (of_write (aborts t) false (λ u k n v. refl) (λ u k n. refl) u k _ c) (aborted_events t log)
 aborted_events t (Gets u k ∷ log) = any_quiet (aborts t) (events log) _ _
@@ -95,7 +95,7 @@ committers (a ∷ log) = committers log
 
 pub commits_of_events : (log : List Act) → filter_map commit_of (events log) ≡ committers log
 commits_of_events [] = refl
-commits_of_events (Starts u ∷ log) = ap (filter_map commit_of) (append-nil (events log)) ∙ commits_of_events log
+commits_of_events (Begins u ∷ log) = ap (filter_map commit_of) (append-nil (events log)) ∙ commits_of_events log
 commits_of_events (Writes u k c ∷ log) = map_quiet commit_of (events log) _ _
     (of_write commit_of None (λ u k n v. refl) (λ u k n. refl) u k _ c) (commits_of_events log)
 commits_of_events (Gets u k ∷ log) = map_quiet commit_of (events log) _ _
@@ -122,7 +122,7 @@ written_write t k n Dead = refl
 
 pub versions_of_events : (log : List Act) → filter_map written (events log) ≡ versions log
 versions_of_events [] = refl
-versions_of_events (Starts u ∷ log) = ap (filter_map written) (append-nil (events log)) ∙ versions_of_events log
+versions_of_events (Begins u ∷ log) = ap (filter_map written) (append-nil (events log)) ∙ versions_of_events log
 versions_of_events (Writes u k c ∷ log) = map_more written (events log) _ _ (made u k c log) (written_write u k _ c)
     (versions_of_events log)
 versions_of_events (Gets u k ∷ log) = map_quiet written (events log) _ _
@@ -155,7 +155,7 @@ pub record IsOwn (t : ℕ) (k : List ℕ) (log : List Act) : Type 0 where
 
 own_of_versions : (t : ℕ) (k : List ℕ) (log : List Act) → IsOwn t k log
 own_of_versions t k [] = record { last_is = refl; count_is = refl }
-own_of_versions t k (Starts u ∷ log) = let r = own_of_versions t k log in record
+own_of_versions t k (Begins u ∷ log) = let r = own_of_versions t k log in record
     { last_is = r.last_is; count_is = r.count_is }
 own_of_versions t k (Gets u j ∷ log) = let r = own_of_versions t k log in record
     { last_is = r.last_is; count_is = r.count_is }

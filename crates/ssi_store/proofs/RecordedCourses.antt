@@ -102,12 +102,12 @@ shows_collected None n log = ap (map face_of) (append-nil (events log)) ∙ sym 
 shows_collected (Some t) n log = ap (map face_of) (append-nil (events log))
     ∙ sym (append-nil (map face_of (events log)))
 
-shows_counted : (o : Option ℕ) (active kept versions keys : ℕ) (log : List Act)
-    → Shows o Go.Stat (Counts active kept versions keys) log
-shows_counted None active kept versions keys log = nothing_more None Go.Stat
-    (Counts active kept versions keys) log refl refl
-shows_counted (Some t) active kept versions keys log = nothing_more (Some t) Go.Stat
-    (Counts active kept versions keys) log refl refl
+shows_counted : (o : Option ℕ) (n kept versions keys : ℕ) (log : List Act)
+    → Shows o Go.Stat (Counts n kept versions keys) log
+shows_counted None n kept versions keys log = nothing_more None Go.Stat
+    (Counts n kept versions keys) log refl refl
+shows_counted (Some t) n kept versions keys log = nothing_more (Some t) Go.Stat
+    (Counts n kept versions keys) log refl refl
 
 shows_idle : (c : Course) (m : Command) → Shows None m (reply_idle c m) (acts c)
 shows_idle c (Go.Begin s) =

@@ -15,13 +15,13 @@ use Rattle.adya_values.specs.Meaning.Keys.{key_eq, key_le, lies_in}
 use Rattle.adya_values.specs.Meaning.Rules.{EachAfter, IsNumbered, IsOpen, IsRising, ListsOnly, SeesOwnWrites, WasWritten}
 use Rattle.adya_values.proofs.KeyLookups.{listed_from}
 use Rattle.ssi_versions.specs.Meaning.Changes.{otherwise}
-use Rattle.ssi_store.specs.Meaning.Acts.{Aborts, Act, Collects, Commits, Gets, Scans, Starts, Writes, has_committed, has_started}
+use Rattle.ssi_store.specs.Meaning.Acts.{Aborts, Act, Collects, Commits, Gets, Scans, Begins, Writes, has_committed, has_begun}
 use Rattle.ssi_store.specs.Meaning.Recording.{events, get_event, get_found, recorded, write_event}
 use Rattle.ssi_store.specs.Meaning.Seeing.{commit_count, committed, keys, own_write, scanned, sees, snapshot, write_count, wrote}
 use Rattle.adya_values.proofs.KeyOrder.{key_le-itself, lies_in-itself}
 use Rattle.ssi_store.proofs.Lists.{option_cases}
 use Rattle.ssi_store.proofs.Recorded.{aborted_events, committed_events, count_of_events, made, of_get, of_write, own_of_events, versions, versions_of_events, written_write}
-use Rattle.ssi_store.proofs.SeenByEvents.{all_seen, get_shows, get_txn, otherwise_cases, scanned_is, scanned_rises, sees_is, shows, started_stays}
+use Rattle.ssi_store.proofs.SeenByEvents.{all_seen, get_shows, get_txn, otherwise_cases, scanned_is, scanned_rises, sees_is, shows, begun_stays}
 use Rattle.ssi_store.proofs.SoundLogs.{Open, Sound, not_open, open_from}
 use Rattle.ssi_store.proofs.Stamps.{committed_stays}
 use Rattle.ssi_store.proofs.OwnWrites.{committed_step, own_write_is}
@@ -39,7 +39,7 @@ pub each_recorded : (P : List Event → Event → Type 0)
     → ((a : Act) (log : List Act) → Sound (a ∷ log) → (e : Event) → Contains (recorded a log) e → P (events log) e)
     → (log : List Act) → Sound log → EachAfter P [] (events log)
 each_recorded P h [] s = tt
-each_recorded P h (Starts t ∷ log) s = subst (EachAfter P []) (sym (append-nil (events log)))
+each_recorded P h (Begins t ∷ log) s = subst (EachAfter P []) (sym (append-nil (events log)))
     (each_recorded P h log s.1)
 each_recorded P h (Writes t k c ∷ log) s = each_more P [] (events log) _ (each_recorded P h log s.1)
     (h (Writes t k c) log s _ (Contains-head _ []))
@@ -70,7 +70,7 @@ write_txn t k n Dead = refl
 -- M1
 recorded_open : (a : Act) (log : List Act) → Sound (a ∷ log) → (e : Event) → Contains (recorded a log) e
     → Open (txn_of e) log
-recorded_open (Starts t) log s e c = absurd (none_contained e c)
+recorded_open (Begins t) log s e c = absurd (none_contained e c)
 recorded_open (Writes t k d) log s e c = subst (λ x. Open (txn_of x) log) (only_one _ e c)
     (subst (λ x. Open x log) (sym (write_txn t k (suc (write_count t k log)) d)) (open_from t log s.0))
 recorded_open (Gets t k) log s e c = subst (λ x. Open (txn_of x) log) (only_one _ e c)
@@ -95,7 +95,7 @@ if_some P o x e p = subst (λ y. IfSome y P) (sym e) p
 
 pub numbered : (a : Act) (log : List Act) → Sound (a ∷ log) → (e : Event) → Contains (recorded a log) e
     → IsNumbered (events log) e
-numbered (Starts t) log s e c = absurd (none_contained e c)
+numbered (Begins t) log s e c = absurd (none_contained e c)
 numbered (Writes t k d) log s e c =
     subst (IsNumbered (events log)) (only_one _ e c)
     (if_some (λ w. w.version.m ≡ suc (length (writes_of w.version.txn w.version.key (events log)))) _ (made t k d log)
@@ -112,7 +112,7 @@ numbered Collects log s e c = absurd (none_contained e c)
 -- what a new event shows of a key is what its transaction sees of it
 new_shows : (a : Act) (log : List Act) → Sound (a ∷ log) → (e : Event) → Contains (recorded a log) e
     → (k : List ℕ) (o : Option Entry) → shows e k ≡ Some o → sees (txn_of e) k log ≡ o
-new_shows (Starts t) log s e c k o f = absurd (none_contained e c)
+new_shows (Begins t) log s e c k o f = absurd (none_contained e c)
 new_shows (Commits t) log s e c k o f = absurd (none-some o (ap (λ x. shows x k) (only_one _ e c) ∙ f))
 new_shows (Aborts t) log s e c k o f = absurd (none-some o (ap (λ x. shows x k) (only_one _ e c) ∙ f))
 new_shows (Writes t j n) log s e c k o f =
@@ -167,7 +167,7 @@ scanned_source t low high log o c =
 
 observed_shows : (a : Act) (log : List Act) → Sound (a ∷ log) → (e : Event) → Contains (recorded a log) e
     → (o : Entry) → Contains (observed e) o → shows e o.version.key ≡ Some (Some o)
-observed_shows (Starts t) log s e c o d = absurd (none_contained e c)
+observed_shows (Begins t) log s e c o d = absurd (none_contained e c)
 observed_shows (Commits t) log s e c o d = absurd
     (none_contained o (subst (λ x. Contains (observed x) o) (sym (only_one _ e c)) d))
 observed_shows (Aborts t) log s e c o d = absurd
@@ -194,7 +194,7 @@ observed_shows Collects log s e c o d = absurd (none_contained e c)
 own_written : (t : ℕ) (k : List ℕ) (log : List Act) (w : Entry) → own_write t k log ≡ Some w
     → Contains (versions log) w
 own_written t k [] w e = absurd (none-some w e)
-own_written t k (Starts u ∷ log) w e = own_written t k log w e
+own_written t k (Begins u ∷ log) w e = own_written t k log w e
 own_written t k (Gets u j ∷ log) w e = own_written t k log w e
 own_written t k (Scans u low high ∷ log) w e = own_written t k log w e
 own_written t k (Commits u ∷ log) w e = own_written t k log w e
@@ -222,7 +222,7 @@ pub record IsCommittedWrite (k : List ℕ) (log : List Act) (w : Entry) : Type 0
 
 pub own_stays : (t : ℕ) (k : List ℕ) (a : Act) (log : List Act) → Sound (a ∷ log) → has_committed t log ≡ true
     → own_write t k (a ∷ log) ≡ own_write t k log
-own_stays t k (Starts u) log s c = refl
+own_stays t k (Begins u) log s c = refl
 own_stays t k (Gets u j) log s c = refl
 own_stays t k (Scans u low high) log s c = refl
 own_stays t k (Commits u) log s c = refl
@@ -245,7 +245,7 @@ write_stays k a log w s i = record {
 pub contents_own : (k : List ℕ) (s : ℕ) (log : List Act) (w : Entry) → Sound log → committed k s log ≡ Some w
     → IsCommittedWrite k log w
 contents_own k s [] w sound e = absurd (none-some w e)
-contents_own k s (Starts u ∷ log) w sound e = write_stays k (Starts u) log w sound (contents_own k s log w sound.1 e)
+contents_own k s (Begins u ∷ log) w sound e = write_stays k (Begins u) log w sound (contents_own k s log w sound.1 e)
 contents_own k s (Gets u j ∷ log) w sound e = write_stays k (Gets u j) log w sound (contents_own k s log w sound.1 e)
 contents_own k s (Scans u low high ∷ log) w sound e = write_stays k (Scans u low high) log w sound
     (contents_own k s log w sound.1 e)
@@ -374,7 +374,7 @@ scan_rising t low high log le = (
 )
 
 pub rising : (a : Act) (log : List Act) → Sound (a ∷ log) → (e : Event) → Contains (recorded a log) e → IsRising e
-rising (Starts t) log s e c = absurd (none_contained e c)
+rising (Begins t) log s e c = absurd (none_contained e c)
 rising (Writes t k d) log s e c = subst IsRising (only_one _ e c) (write_rising t k _ d)
 rising (Gets t k) log s e c = subst IsRising (only_one _ e c)
     (get_rising t k (sees t k log) (λ w f. (sees_is t k log w f).0))
@@ -383,14 +383,14 @@ rising (Commits t) log s e c = subst IsRising (only_one _ e c) tt
 rising (Aborts t) log s e c = subst IsRising (only_one _ e c) tt
 rising Collects log s e c = absurd (none_contained e c)
 
--- every event's transaction has started
-pub event_started : (log : List Act) → Sound log → (e : Event) → Contains (events log) e
-    → has_started (txn_of e) log ≡ true
-event_started [] s e c = absurd (none_contained e c)
-event_started (a ∷ log) s e c =
+-- every event's transaction has begun
+pub event_begun : (log : List Act) → Sound log → (e : Event) → Contains (events log) e
+    → has_begun (txn_of e) log ≡ true
+event_begun [] s e c = absurd (none_contained e c)
+event_begun (a ∷ log) s e c =
     elim (Contains-append_cases (events log) (recorded a log) e c) [
-      | inl old ↦ started_stays (txn_of e) a log (event_started log s.1 e old)
-      | inr new ↦ started_stays (txn_of e) a log (recorded_open a log s e new).begun
+      | inl old ↦ begun_stays (txn_of e) a log (event_begun log s.1 e old)
+      | inr new ↦ begun_stays (txn_of e) a log (recorded_open a log s e new).begun
     ]
 
 -- what is read or listed at last: own, or a committed transaction's last write

@@ -11,7 +11,7 @@ use Rattle.adya_values.specs.Meaning.Events.{entry, listed, txn_of}
 use Rattle.adya_values.specs.Meaning.Histories.{Abort, Commit, Content, Dead, Delete, Entry, Event, Live, Read, Scan, Write}
 use Rattle.adya_values.specs.Meaning.Keys.{key_eq, keys_rise, lies_in}
 use Rattle.ssi_versions.specs.Meaning.Changes.{otherwise}
-use Rattle.ssi_store.specs.Meaning.Acts.{Aborts, Act, Collects, Commits, Gets, Scans, Starts, Writes, has_started}
+use Rattle.ssi_store.specs.Meaning.Acts.{Aborts, Act, Collects, Commits, Gets, Scans, Begins, Writes, has_begun}
 use Rattle.ssi_store.specs.Meaning.Recording.{events, get_event, get_found, recorded}
 use Rattle.ssi_store.specs.Meaning.Seeing.{commit_count, committed, keys, own_write, scanned, sees, snapshot, write_count, wrote}
 use Rattle.adya_values.proofs.KeyOrder.{lies_in-one}
@@ -45,7 +45,7 @@ SeenRight t k o log = IsOwnEntry t o ⊎ IsSnapshots t k o log
 pub contents_is : (k : List ℕ) (s : ℕ) (log : List Act) (w : Entry) → committed k s log ≡ Some w
     → (w.version.key ≡ k) × Contains (keys log) k
 contents_is k s [] w e = absurd (none-some w e)
-contents_is k s (Starts u ∷ log) w e = contents_is k s log w e
+contents_is k s (Begins u ∷ log) w e = contents_is k s log w e
 contents_is k s (Gets u j ∷ log) w e = contents_is k s log w e
 contents_is k s (Scans u low high ∷ log) w e = contents_is k s log w e
 contents_is k s (Aborts u ∷ log) w e = contents_is k s log w e
@@ -154,7 +154,7 @@ scanned_rises t low high log =
 
 read_stays : (t : ℕ) (k : List ℕ) (a : Act) (log : List Act) → has_read t k log ≡ true
     → has_read t k (a ∷ log) ≡ true
-read_stays t k (Starts u) log e = e
+read_stays t k (Begins u) log e = e
 read_stays t k (Writes u j c) log e = e
 read_stays t k (Commits u) log e = e
 read_stays t k (Aborts u) log e = e
@@ -164,7 +164,7 @@ read_stays t k Collects log e = e
 
 contents_stay : (k : List ℕ) (s : ℕ) (a : Act) (log : List Act) → s ≤ commit_count log
     → committed k s (a ∷ log) ≡ committed k s log
-contents_stay k s (Starts u) log l = refl
+contents_stay k s (Begins u) log l = refl
 contents_stay k s (Writes u j c) log l = refl
 contents_stay k s (Gets u j) log l = refl
 contents_stay k s (Scans u low high) log l = refl
@@ -176,9 +176,9 @@ contents_stay k s (Commits u) log l =
     (and_left _ _ (le-ltb (commit_count log) s l))
 contents_stay k s Collects log l = refl
 
-pub snapshot_stays : (t : ℕ) (a : Act) (log : List Act) → Sound (a ∷ log) → has_started t log ≡ true
+pub snapshot_stays : (t : ℕ) (a : Act) (log : List Act) → Sound (a ∷ log) → has_begun t log ≡ true
     → snapshot t (a ∷ log) ≡ snapshot t log
-snapshot_stays t (Starts u) log s b = cond-false {A = ℕ} (u == t) (commit_count log) (snapshot t log)
+snapshot_stays t (Begins u) log s b = cond-false {A = ℕ} (u == t) (commit_count log) (snapshot t log)
     (not_fresh u t log s.0 b)
 snapshot_stays t (Writes u j c) log s b = refl
 snapshot_stays t (Gets u j) log s b = refl
@@ -188,7 +188,7 @@ snapshot_stays t (Aborts u) log s b = refl
 snapshot_stays t Collects log s b = refl
 
 seen_stays : (t : ℕ) (k : List ℕ) (o : Option Entry) (a : Act) (log : List Act) → Sound (a ∷ log)
-    → has_started t log ≡ true → SeenRight t k o log → SeenRight t k o (a ∷ log)
+    → has_begun t log ≡ true → SeenRight t k o log → SeenRight t k o (a ∷ log)
 seen_stays t k o a log s b (inl own) = inl own
 seen_stays t k o a log s b (inr snap) = inr (record {
   read = read_stays t k a log snap.read;
@@ -196,17 +196,17 @@ seen_stays t k o a log s b (inr snap) = inr (record {
       ∙ ap (λ n. committed k n (a ∷ log)) (sym (snapshot_stays t a log s b)));
 })
 
-pub started_stays : (t : ℕ) (a : Act) (log : List Act) → has_started t log ≡ true → has_started t (a ∷ log) ≡ true
-started_stays t (Starts u) log e = or_right (u == t) (has_started t log) e
-started_stays t (Writes u j c) log e = e
-started_stays t (Gets u j) log e = e
-started_stays t (Scans u low high) log e = e
-started_stays t (Commits u) log e = e
-started_stays t (Aborts u) log e = e
-started_stays t Collects log e = e
+pub begun_stays : (t : ℕ) (a : Act) (log : List Act) → has_begun t log ≡ true → has_begun t (a ∷ log) ≡ true
+begun_stays t (Begins u) log e = or_right (u == t) (has_begun t log) e
+begun_stays t (Writes u j c) log e = e
+begun_stays t (Gets u j) log e = e
+begun_stays t (Scans u low high) log e = e
+begun_stays t (Commits u) log e = e
+begun_stays t (Aborts u) log e = e
+begun_stays t Collects log e = e
 
 pub record SeenBy (e : Event) (k : List ℕ) (o : Option Entry) (log : List Act) : Type 0 where
-  pub begun : has_started (txn_of e) log ≡ true
+  pub begun : has_begun (txn_of e) log ≡ true
   pub right : SeenRight (txn_of e) k o log
 
 new_get : (t : ℕ) (j : List ℕ) (log : List Act) → Sound (Gets t j ∷ log) → (k : List ℕ) (o : Option Entry)
@@ -219,7 +219,7 @@ new_get t j log s k o e =
     or_left ((t == t) && key_eq j j && not (wrote t j log)) (has_read t j log)
     (and_from _ _ (and_from _ _ (eq-eqb t t refl) (bytes_eq-itself j)) (not_from_false _ (ap is_some none)))) in
     record {
-      begun = subst (λ x. has_started x log ≡ true) (sym txn) begun;
+      begun = subst (λ x. has_begun x log ≡ true) (sym txn) begun;
       right = subst (λ x. SeenRight x k o (Gets t j ∷ log)) (sym txn)
           (subst (λ x. SeenRight t x o (Gets t j ∷ log)) parts.0
           (subst (λ x. SeenRight t j x (Gets t j ∷ log)) parts.1 now));
@@ -241,7 +241,7 @@ new_scan t low high log s k o e =
 
 new_seen : (a : Act) (log : List Act) → Sound (a ∷ log) → (e : Event) → Contains (recorded a log) e
     → (k : List ℕ) (o : Option Entry) → shows e k ≡ Some o → SeenBy e k o (a ∷ log)
-new_seen (Starts t) log s e c k o f = absurd (none_contained e c)
+new_seen (Begins t) log s e c k o f = absurd (none_contained e c)
 new_seen (Commits t) log s e c k o f = absurd (none-some o (ap (λ x. shows x k) (only_one _ e c) ∙ f))
 new_seen (Aborts t) log s e c k o f = absurd (none-some o (ap (λ x. shows x k) (only_one _ e c) ∙ f))
 new_seen (Writes t j n) log s e c k o f =
@@ -264,7 +264,7 @@ all_seen (a ∷ log) s e c k o f =
       | inl old ↦
           let r = all_seen log s.1 e old k o f in
           record {
-            begun = started_stays (txn_of e) a log r.begun;
+            begun = begun_stays (txn_of e) a log r.begun;
             right = seen_stays (txn_of e) k o a log s r.begun r.right;
           }
       | inr new ↦ new_seen a log s e new k o f

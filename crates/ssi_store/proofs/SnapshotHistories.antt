@@ -16,7 +16,7 @@ use Rattle.adya_values.proofs.Places.{place_get}
 use Rattle.ssi_conflict.specs.Meaning.Calls.{snapshot_of}
 use Rattle.ssi_conflict.specs.Meaning.Pairs.{IsAtMost, IsOrderedPivot, IsPair, IsPivot, is_at_or_below, precedes}
 use Rattle.snapshot_histories.specs.Meaning.Snapshots.{AreConcurrent, IsDangerous, IsNewestWithin, IsSnapshotHistory, stamp_in}
-use Rattle.ssi_store.specs.Meaning.Acts.{Act, has_committed, has_started}
+use Rattle.ssi_store.specs.Meaning.Acts.{Act, has_committed, has_begun}
 use Rattle.ssi_store.specs.Meaning.Recording.{events}
 use Rattle.ssi_store.specs.Meaning.Seeing.{committed, snapshot}
 use Rattle.ssi_store.specs.Meaning.Tracked.{tracked}
@@ -26,7 +26,7 @@ use Rattle.ssi_store.proofs.EdgeEnds.{committed_ends}
 use Rattle.ssi_store.proofs.LoggedHistories.{history_of_log, installers}
 use Rattle.ssi_store.proofs.Recorded.{committed_events}
 use Rattle.ssi_store.proofs.SeenByEvents.{IsOwnEntry, all_seen, shows}
-use Rattle.ssi_store.proofs.SoundLogs.{Sound, committed_stamp, committed_started, has_read, is_before, is_upto, not_both, stamp, stamp_above}
+use Rattle.ssi_store.proofs.SoundLogs.{Sound, committed_stamp, committed_begun, has_read, is_before, is_upto, not_both, stamp, stamp_above}
 use Rattle.ssi_store.proofs.Stamps.{IsInstaller, NewestOf, contents_newest, installer_is, installers_apart, installers_rise, stamp_in_log}
 use Rattle.ssi_store.proofs.TrackedCalls.{aborted_told, is_committed_told, keys_told, read_told, snapshot_told, stamp_told}
 
@@ -194,7 +194,7 @@ module _ (edition : Edition) (unfinished : List ℕ) (log : List Act) (sound : S
       let one = m.2 in
       let two = n.2 in
       let after = c.ends_after in
-      let before = c.starts_before in
+      let before = c.begins_before in
       elim (installers_apart k p q t u log sound at_t at_u c.differ) [
         | inl early ↦ (let le = before_in t u m.0 m.1 early in absurd (omega (arith, le, one, after)))
         | inr late ↦ (let le = before_in u t n.0 n.1 late in absurd (omega (arith, le, two, before)))
@@ -202,7 +202,7 @@ module _ (edition : Edition) (unfinished : List ℕ) (log : List Act) (sound : S
 
   pub is_snapshot_history : IsSnapshotHistory (history_of_log edition unfinished log) (λ x. snapshot x log)
   is_snapshot_history = record {
-    starts_first = λ t c. let n = committed_has_stamp t c in let above =
+    begins_first = λ t c. let n = committed_has_stamp t c in let above =
         (stamp_above t n.0 log sound n.1).0 in let same = n.2 in omega (arith, above, same);
     sees_snapshot = snapshots_seen;
     first_wins = first_commits;
@@ -210,7 +210,7 @@ module _ (edition : Edition) (unfinished : List ℕ) (log : List Act) (sound : S
   }
 
   -- who hasn't committed at or below the snapshot doesn't precede
-  not_preceding : (t u n : ℕ) → stamp t log ≡ Some n → has_started u log ≡ true → snapshot u log < n
+  not_preceding : (t u n : ℕ) → stamp t log ≡ Some n → has_begun u log ≡ true → snapshot u log < n
       → precedes t u (tracked log) ≡ false
   not_preceding t u n e b l =
       ap (λ o. is_at_or_below o (snapshot_of u (tracked log))) (stamp_told t log ∙ e) ∙
@@ -228,9 +228,9 @@ module _ (edition : Edition) (unfinished : List ℕ) (log : List Act) (sound : S
       let one = m.2 in
       let two = stamp_in_log edition unfinished b n.0 log sound n.1 in
       let after = c.ends_after in
-      let before = c.starts_before in
-      let begun_a = committed_started a log sound (committed_in a d.committed) in
-      let begun_b = committed_started b log sound into.committed in
+      let before = c.begins_before in
+      let begun_a = committed_begun a log sound (committed_in a d.committed) in
+      let begun_b = committed_begun b log sound into.committed in
       record {
         key = k;
         committed = is_committed_told b log ∙ into.committed;

@@ -8,7 +8,7 @@ use Rattle.adya_values.specs.Meaning.Histories.{Dead, FinalPair, Live}
 use Rattle.adya_values.specs.Meaning.Keys.{key_eq, key_le, key_lt}
 use Rattle.ssi_conflict.specs.Meaning.Calls.{Call}
 use Rattle.ssi_snapshot.specs.Meaning.Listings.{reached}
-use Rattle.ssi_store.specs.Meaning.Acts.{Aborts, Act, Collects, Commits, Gets, Scans, Starts, Writes, act_by, act_of, acts, has_aborted, has_committed, has_started, is_open, operations}
+use Rattle.ssi_store.specs.Meaning.Acts.{Aborts, Act, Collects, Commits, Gets, Scans, Begins, Writes, act_by, act_of, acts, has_aborted, has_committed, has_begun, is_open, operations}
 use Rattle.ssi_store.specs.Meaning.Courses.{Aborted, Absent, Answer, Begun, Busy, Command, Command as Do, Committed, Conflict, Counts, Course, Done, Idle, Kept, Long, Memory, New, Range, Refusal, Refused, Rows, Spent, Then, Unsafe, Value, is_of, next_txn, txn_after, txn_for, txn_in}
 use Rattle.ssi_store.specs.Meaning.Replies.{Follows, conflict, got, last_writer, reply_for, reply_idle, reply_in, rows, unless_conflict, unless_downward, unless_long, unless_pivot}
 use Rattle.ssi_store.specs.Meaning.Seeing.{sees}
@@ -17,7 +17,7 @@ use Rattle.ssi_store.proofs.Closing.{open_to}
 use Rattle.adya_values.proofs.KeyOrder.{key_le-from_not}
 use Rattle.ssi_store.proofs.ReachedKeys.{reached_upward}
 use Rattle.ssi_store.proofs.Recorded.{versions}
-use Rattle.ssi_store.proofs.SoundLogs.{Allowed, Safe, SafeAct, Sound, aborted_started, committed_started, open_from}
+use Rattle.ssi_store.proofs.SoundLogs.{Allowed, Safe, SafeAct, Sound, aborted_begun, committed_begun, open_from}
 
 module _ (pivot : List Call → Option ℕ) where
   pub record Stands (c : Course) : Type 0 where
@@ -27,7 +27,7 @@ module _ (pivot : List Call → Option ℕ) where
     pub opened : (s : List ℕ) (t : ℕ) → txn_in s c ≡ Some t → is_open t (acts c) ≡ true
     pub apart : (r s : List ℕ) (t : ℕ) → txn_in r c ≡ Some t → txn_in s c ≡ Some t → r ≡ s
     pub held : (t : ℕ) → is_open t (acts c) ≡ true → (s : List ℕ) × (txn_in s c ≡ Some t)
-    pub below : (u : ℕ) → has_started u (acts c) ≡ true → u < next_txn c
+    pub below : (u : ℕ) → has_begun u (acts c) ≡ true → u < next_txn c
 
   -- a command does nothing
   pub record Quiet (o : Option ℕ) (c : Course) (m : Command) (a : Answer) : Type 0 where
@@ -44,7 +44,7 @@ module _ (pivot : List Call → Option ℕ) where
     pub keeps : (x : Option ℕ) → txn_after x a ≡ x
     pub next_is : next_txn (Then c m a) ≡ next_txn c
     pub still : (u : ℕ) → is_open u (act ∷ acts c) ≡ is_open u (acts c)
-    pub starts : (u : ℕ) → has_started u (act ∷ acts c) ≡ has_started u (acts c)
+    pub same_begun : (u : ℕ) → has_begun u (act ∷ acts c) ≡ has_begun u (acts c)
 
   -- a command of the session s
   pub record IsOf (s : List ℕ) (c : Course) (m : Command) : Type 0 where
@@ -61,7 +61,7 @@ module _ (pivot : List Call → Option ℕ) where
     pub next_is : next_txn (Then c m a) ≡ next_txn c
     pub still : (u : ℕ) → (t ≡ u → ⊥) → is_open u (acts c) ≡ true → is_open u (act ∷ acts c) ≡ true
     pub others : (u : ℕ) → is_open u (act ∷ acts c) ≡ true → (t ≡ u → ⊥) × (is_open u (acts c) ≡ true)
-    pub starts : (u : ℕ) → has_started u (act ∷ acts c) ≡ has_started u (acts c)
+    pub same_begun : (u : ℕ) → has_begun u (act ∷ acts c) ≡ has_begun u (acts c)
 
   txn_kept : (c : Course) (m : Command) (a : Answer) → ((x : Option ℕ) → txn_after x a ≡ x) → (r : List ℕ)
       → txn_in r (Then c m a) ≡ txn_in r c
@@ -97,7 +97,7 @@ module _ (pivot : List Call → Option ℕ) where
         apart = λ r v t f g. s.apart r v t (sym (txn_kept c m a q.keeps r) ∙ f) (sym (txn_kept c m a q.keeps v) ∙ g);
         held = λ u f.
             let h = s.held u (subst (λ l. is_open u l ≡ true) same f) in (h.0, txn_kept c m a q.keeps h.0 ∙ h.1);
-        below = λ u f. subst (λ n. u < n) (sym q.next_is) (s.below u (subst (λ l. has_started u l ≡ true) same f));
+        below = λ u f. subst (λ n. u < n) (sym q.next_is) (s.below u (subst (λ l. has_begun u l ≡ true) same f));
       }
 
   after_work : (o : Option ℕ) (c : Course) (m : Command) (a : Answer) → txn_for m c ≡ o → Stands c
@@ -115,7 +115,7 @@ module _ (pivot : List Call → Option ℕ) where
             let h = s.held u (sym (q.still u) ∙ subst (λ l. is_open u l ≡ true) same f) in
             (h.0, txn_kept c m a q.keeps h.0 ∙ h.1);
         below = λ u f. subst (λ n. u < n) (sym q.next_is)
-            (s.below u (sym (q.starts u) ∙ subst (λ l. has_started u l ≡ true) same f));
+            (s.below u (sym (q.same_begun u) ∙ subst (λ l. has_begun u l ≡ true) same f));
       }
 
   after_end : (t : ℕ) (s : List ℕ) (c : Course) (m : Command) (a : Answer) → IsOf s c m → txn_in s c ≡ Some t
@@ -139,7 +139,7 @@ module _ (pivot : List Call → Option ℕ) where
             before.0 (same_Some t u (sym e ∙ (ap (λ x. txn_in x c) w ∙ h.1)))) in
             (h.0, cond-false {A = Option ℕ} (is_of h.0 m) (txn_after (txn_in h.0 c) a) (txn_in h.0 c) other ∙ h.1);
         below = λ u f. subst (λ n. u < n) (sym q.next_is)
-            (s.below u (sym (q.starts u) ∙ subst (λ l. has_started u l ≡ true) same f));
+            (s.below u (sym (q.same_begun u) ∙ subst (λ l. has_begun u l ≡ true) same f));
       }
 
   pub refused : (c : Course) (m : Command) (r : Answer) (x : Refusal) → r ≡ Refused x → Stands c → Stands (Then c m r)
@@ -186,7 +186,7 @@ module _ (pivot : List Call → Option ℕ) where
           λ same. both_ways _ both.0 (eq-eqb t u same),
           open_to u (acts c) (record { begun = o.begun; uncommitted = o.uncommitted; unaborted = both.1 }),
         );
-    starts = λ u. refl;
+    same_begun = λ u. refl;
   })
 
   -- a read or a write, after which no pivot would stand
@@ -194,8 +194,8 @@ module _ (pivot : List Call → Option ℕ) where
       → act_by (Some t) m a ≡ x ∷ [] → Allowed x (acts c) → SafeAct pivot x (acts c)
       → ((y : Option ℕ) → txn_after y a ≡ y) → next_txn (Then c m a) ≡ next_txn c
       → ((u : ℕ) → is_open u (x ∷ acts c) ≡ is_open u (acts c))
-      → ((u : ℕ) → has_started u (x ∷ acts c) ≡ has_started u (acts c)) → Stands (Then c m a)
-  work_done t c m a x e s f allowed clear keeps next still starts = after_work (Some t) c m a e s (record {
+      → ((u : ℕ) → has_begun u (x ∷ acts c) ≡ has_begun u (acts c)) → Stands (Then c m a)
+  work_done t c m a x e s f allowed clear keeps next still same_begun = after_work (Some t) c m a e s (record {
     act = x;
     acts_are = f;
     allowed = allowed;
@@ -203,7 +203,7 @@ module _ (pivot : List Call → Option ℕ) where
     keeps = keeps;
     next_is = next;
     still = still;
-    starts = starts;
+    same_begun = same_begun;
   })
 
   get_judged : (t : ℕ) (s k : List ℕ) (c : Course) → txn_in s c ≡ Some t → Stands c → (p : Option ℕ)
@@ -262,7 +262,7 @@ module _ (pivot : List Call → Option ℕ) where
               λ same. both_ways _ both.0 (eq-eqb t u same),
               open_to u (acts c) (record { begun = o.begun; uncommitted = both.1; unaborted = o.unaborted }),
             );
-        starts = λ u. refl;
+        same_begun = λ u. refl;
       })
 
   -- whether the test holds or not
@@ -295,19 +295,19 @@ module _ (pivot : List Call → Option ℕ) where
   pub begun : (s : List ℕ) (c : Course) → txn_in s c ≡ None → Stands c
       → Stands (Then c (Do.Begin s) (Begun (next_txn c)))
   begun s c e st =
-      let same : acts (Then c (Do.Begin s) (Begun (next_txn c))) ≡ Starts (next_txn c) ∷ acts c = ap
+      let same : acts (Then c (Do.Begin s) (Begun (next_txn c))) ≡ Begins (next_txn c) ∷ acts c = ap
       (λ x. act_by x (Do.Begin s) (Begun (next_txn c)) ++ acts c) e in
       record {
         sound = subst Sound (sym same) (st.below, st.sound);
         safe = subst (Safe pivot) (sym same) (tt, st.safe);
         opened = λ r t f. subst (λ l. is_open t l ≡ true) (sym same) (
             elim (txn_now s c (next_txn c) r t f) [
-              | inl new ↦ subst (λ x. is_open x (Starts (next_txn c) ∷ acts c) ≡ true) new.1 open_new
+              | inl new ↦ subst (λ x. is_open x (Begins (next_txn c) ∷ acts c) ≡ true) new.1 open_new
               | inr old ↦
                   let o = open_from t (acts c) (st.opened r t old) in
-                  open_to t (Starts (next_txn c) ∷ acts c)
+                  open_to t (Begins (next_txn c) ∷ acts c)
                   (record {
-                    begun = or_right (next_txn c == t) (has_started t (acts c)) o.begun;
+                    begun = or_right (next_txn c == t) (has_begun t (acts c)) o.begun;
                     uncommitted = o.uncommitted;
                     unaborted = o.unaborted;
                   })
@@ -324,8 +324,8 @@ module _ (pivot : List Call → Option ℕ) where
               ]
             ];
         held = λ u f.
-            let o = open_from u (Starts (next_txn c) ∷ acts c) (subst (λ l. is_open u l ≡ true) same f) in
-            elim (or_cases (next_txn c == u) (has_started u (acts c)) o.begun) [
+            let o = open_from u (Begins (next_txn c) ∷ acts c) (subst (λ l. is_open u l ≡ true) same f) in
+            elim (or_cases (next_txn c == u) (has_begun u (acts c)) o.begun) [
               | inl new ↦ (
                 s,
                 cond-true {A = Option ℕ} (key_eq s s) (Some (next_txn c)) (txn_in s c) (bytes_eq-itself s)
@@ -338,28 +338,28 @@ module _ (pivot : List Call → Option ℕ) where
                   none-some u (sym e ∙ (ap (λ x. txn_in x c) w ∙ h.1))) in
                   (h.0, cond-false {A = Option ℕ} (key_eq s h.0) (Some (next_txn c)) (txn_in h.0 c) other ∙ h.1)
             ];
-        below = λ u f. elim (or_cases (next_txn c == u) (has_started u (acts c))
-            (subst (λ l. has_started u l ≡ true) same f)) [
+        below = λ u f. elim (or_cases (next_txn c == u) (has_begun u (acts c))
+            (subst (λ l. has_begun u l ≡ true) same f)) [
               | inl new ↦ (let at = eqb-true (next_txn c) u new in omega (arith, at))
               | inr old ↦ (let less = st.below u old in omega (arith, less))
             ];
       }
     where
-      never : has_started (next_txn c) (acts c) ≡ true → ⊥
+      never : has_begun (next_txn c) (acts c) ≡ true → ⊥
       never f = let less = st.below (next_txn c) f in omega (arith, less)
 
       not_held : (r : List ℕ) (t : ℕ) → next_txn c ≡ t → txn_in r c ≡ Some t → ⊥
-      not_held r t same f = never (subst (λ x. has_started x (acts c) ≡ true) (sym same)
+      not_held r t same f = never (subst (λ x. has_begun x (acts c) ≡ true) (sym same)
           (open_from t (acts c) (st.opened r t f)).begun)
 
-      open_new : is_open (next_txn c) (Starts (next_txn c) ∷ acts c) ≡ true
-      open_new = open_to (next_txn c) (Starts (next_txn c) ∷ acts c) (record {
-        begun = or_left (next_txn c == next_txn c) (has_started (next_txn c) (acts c))
+      open_new : is_open (next_txn c) (Begins (next_txn c) ∷ acts c) ≡ true
+      open_new = open_to (next_txn c) (Begins (next_txn c) ∷ acts c) (record {
+        begun = or_left (next_txn c == next_txn c) (has_begun (next_txn c) (acts c))
             (eq-eqb (next_txn c) (next_txn c) refl);
         uncommitted = false_from_ne_true (has_committed (next_txn c) (acts c))
-            (λ f. never (committed_started (next_txn c) (acts c) st.sound f));
+            (λ f. never (committed_begun (next_txn c) (acts c) st.sound f));
         unaborted = false_from_ne_true (has_aborted (next_txn c) (acts c))
-            (λ f. never (aborted_started (next_txn c) (acts c) st.sound f));
+            (λ f. never (aborted_begun (next_txn c) (acts c) st.sound f));
       })
 
   -- a collection, and a count
@@ -372,12 +372,12 @@ module _ (pivot : List Call → Option ℕ) where
     keeps = λ x. refl;
     next_is = refl;
     still = λ u. refl;
-    starts = λ u. refl;
+    same_begun = λ u. refl;
   })
 
-  pub counted : (c : Course) (active kept versions keys : ℕ) → Stands c
-      → Stands (Then c Do.Stat (Counts active kept versions keys))
-  counted c active kept versions keys st = after_quiet None c Do.Stat (Counts active kept versions keys) refl st
+  pub counted : (c : Course) (n kept versions keys : ℕ) → Stands c
+      → Stands (Then c Do.Stat (Counts n kept versions keys))
+  counted c n kept versions keys st = after_quiet None c Do.Stat (Counts n kept versions keys) refl st
       (record { acts_are = refl; keeps = λ x. refl; next_is = refl })
 
   idle_stands : (c : Course) (m : Command) → txn_for m c ≡ None → Stands c → Stands (Then c m (reply_idle c m))

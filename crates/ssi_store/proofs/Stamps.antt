@@ -12,18 +12,18 @@ use Rattle.adya_values.specs.declared.edition.Edition.{Edition}
 use Rattle.adya_values.proofs.Places.{place_at, place_other, place_same}
 use Rattle.ssi_versions.specs.Meaning.Changes.{is_installed_above}
 use Rattle.snapshot_histories.specs.Meaning.Snapshots.{stamp_in}
-use Rattle.ssi_store.specs.Meaning.Acts.{Aborts, Act, Collects, Commits, Gets, Scans, Starts, Writes, has_committed, has_started}
+use Rattle.ssi_store.specs.Meaning.Acts.{Aborts, Act, Collects, Commits, Gets, Scans, Begins, Writes, has_committed, has_begun}
 use Rattle.ssi_store.specs.Meaning.Replies.{is_overtaken}
 use Rattle.ssi_store.specs.Meaning.Seeing.{changed, commit_count, committed, keys, last_writes, own_write, snapshot, wrote}
 use Rattle.ssi_store.proofs.LoggedHistories.{history_of_log, installers}
 use Rattle.ssi_store.proofs.Recorded.{commits_of_events, committers, length_more}
 use Rattle.ssi_store.proofs.SeenByEvents.{snapshot_stays}
-use Rattle.ssi_store.proofs.SoundLogs.{Allowed, Sound, committed_stamp, committed_started, is_before, is_upto, not_open, open_from, stamp, stamp_above, stamp_committed}
+use Rattle.ssi_store.proofs.SoundLogs.{Allowed, Sound, committed_stamp, committed_begun, is_before, is_upto, not_open, open_from, stamp, stamp_above, stamp_committed}
 use Rattle.ssi_store.proofs.OwnWrites.{committed_step, last_writes_of, own_write_is, wrote_key}
 
 committers_length : (log : List Act) → length (committers log) ≡ commit_count log
 committers_length [] = refl
-committers_length (Starts u ∷ log) = committers_length log
+committers_length (Begins u ∷ log) = committers_length log
 committers_length (Writes u k c ∷ log) = committers_length log
 committers_length (Gets u k ∷ log) = committers_length log
 committers_length (Scans u low high ∷ log) = committers_length log
@@ -35,7 +35,7 @@ committers_length (Collects ∷ log) = committers_length log
 pub committers_count : (t : ℕ) (log : List Act) → Sound log
     → count (committers log) t ≡ cond (has_committed t log) 1 0
 committers_count t [] s = refl
-committers_count t (Starts u ∷ log) s = committers_count t log s.1
+committers_count t (Begins u ∷ log) s = committers_count t log s.1
 committers_count t (Writes u k c ∷ log) s = committers_count t log s.1
 committers_count t (Gets u k ∷ log) s = committers_count t log s.1
 committers_count t (Scans u low high ∷ log) s = committers_count t log s.1
@@ -73,7 +73,7 @@ place_front (x ∷ xs) ys t l =
 
 stamp_is : (t n : ℕ) (log : List Act) → Sound log → stamp t log ≡ Some n → suc (place (committers log) t) ≡ n
 stamp_is t n [] s e = absurd (none-some n e)
-stamp_is t n (Starts u ∷ log) s e = stamp_is t n log s.1 e
+stamp_is t n (Begins u ∷ log) s e = stamp_is t n log s.1 e
 stamp_is t n (Writes u k c ∷ log) s e = stamp_is t n log s.1 e
 stamp_is t n (Gets u k ∷ log) s e = stamp_is t n log s.1 e
 stamp_is t n (Scans u low high ∷ log) s e = stamp_is t n log s.1 e
@@ -102,7 +102,7 @@ stamp_in_log edition unfinished t n log s e = ap (λ l. suc (place l t)) (commit
 -- who has committed keeps its stamp
 stamp_stays : (t : ℕ) (a : Act) (log : List Act) → Sound (a ∷ log) → has_committed t log ≡ true
     → stamp t (a ∷ log) ≡ stamp t log
-stamp_stays t (Starts u) log s c = refl
+stamp_stays t (Begins u) log s c = refl
 stamp_stays t (Writes u j d) log s c = refl
 stamp_stays t (Gets u j) log s c = refl
 stamp_stays t (Scans u low high) log s c = refl
@@ -120,7 +120,7 @@ slice_more (x ∷ xs) y (suc p) t e =
     elim (slice_more xs y p t e) [ inl old ↦ inl old | inr new ↦ inr (ap suc new.0, new.1) ]
 
 wrote_stays : (t : ℕ) (k : List ℕ) (a : Act) (log : List Act) → wrote t k log ≡ true → wrote t k (a ∷ log) ≡ true
-wrote_stays t k (Starts u) log e = e
+wrote_stays t k (Begins u) log e = e
 wrote_stays t k (Gets u j) log e = e
 wrote_stays t k (Scans u low high) log e = e
 wrote_stays t k (Commits u) log e = e
@@ -131,7 +131,7 @@ wrote_stays t k Collects log e = e
 
 pub committed_stays : (t : ℕ) (a : Act) (log : List Act) → has_committed t log ≡ true
     → has_committed t (a ∷ log) ≡ true
-committed_stays t (Starts u) log e = e
+committed_stays t (Begins u) log e = e
 committed_stays t (Writes u j c) log e = e
 committed_stays t (Gets u j) log e = e
 committed_stays t (Scans u low high) log e = e
@@ -148,7 +148,7 @@ installed_cases : (k : List ℕ) (p t : ℕ) (a : Act) (log : List Act)
     → slice_get (installers k (a ∷ log)) p ≡ Some t
     → (slice_get (installers k log) p ≡ Some t) ⊎
     ((p ≡ length (installers k log)) × (a ≡ Commits t) × (wrote t k log ≡ true))
-installed_cases k p t (Starts u) log e = inl e
+installed_cases k p t (Begins u) log e = inl e
 installed_cases k p t (Writes u j c) log e = inl e
 installed_cases k p t (Gets u j) log e = inl e
 installed_cases k p t (Scans u low high) log e = inl e
@@ -207,14 +207,14 @@ installers_rise k p q t u m n (a ∷ log) s e f g i l =
     ]
 
 before_stays : (t u : ℕ) (a : Act) (log : List Act) → Sound (a ∷ log) → has_committed t log ≡ true
-    → has_started u log ≡ true → is_before t u log ≡ true → is_before t u (a ∷ log) ≡ true
+    → has_begun u log ≡ true → is_before t u log ≡ true → is_before t u (a ∷ log) ≡ true
 before_stays t u a log s c b e =
     ap (λ o. is_upto o (snapshot u (a ∷ log))) (stamp_stays t a log s c)
     ∙ (ap (λ n. is_upto (stamp t log) n) (snapshot_stays u a log s b) ∙ e)
 
 above_stays : (k : List ℕ) (s : ℕ) (a : Act) (log : List Act) → is_installed_above k s (changed log) ≡ true
     → is_installed_above k s (changed (a ∷ log)) ≡ true
-above_stays k s (Starts u) log e = e
+above_stays k s (Begins u) log e = e
 above_stays k s (Writes u j c) log e = e
 above_stays k s (Gets u j) log e = e
 above_stays k s (Scans u low high) log e = e
@@ -264,11 +264,11 @@ installers_apart k p q t u (a ∷ log) s e f ne =
     elim (installed_cases k p t a log e) [
       | inl old_t ↦
           let c = (installer_is k p t log old_t).committed in
-          let b = committed_started t log s.1 c in
+          let b = committed_begun t log s.1 c in
           elim (installed_cases k q u a log f) [
             | inl old_u ↦
                 let d = (installer_is k q u log old_u).committed in
-                let g = committed_started u log s.1 d in
+                let g = committed_begun u log s.1 d in
                 elim (installers_apart k p q t u log s.1 old_t old_u ne) [
                   | inl early ↦ inl (before_stays t u a log s c g early)
                   | inr late ↦ inr (before_stays u t a log s d b late)
@@ -376,7 +376,7 @@ newest_now k s u log sound low holds (Some w) e =
 
 pub contents_newest : (k : List ℕ) (s : ℕ) (log : List Act) → Sound log → NewestOf k s log (committed k s log)
 contents_newest k s [] sound = λ q u m e. absurd (none-some u e)
-contents_newest k s (Starts u ∷ log) sound = newest_keeps k s (Starts u) log sound refl _
+contents_newest k s (Begins u ∷ log) sound = newest_keeps k s (Begins u) log sound refl _
     (contents_newest k s log sound.1)
 contents_newest k s (Writes u j c ∷ log) sound = newest_keeps k s (Writes u j c) log sound refl _
     (contents_newest k s log sound.1)

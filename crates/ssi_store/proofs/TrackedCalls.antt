@@ -6,8 +6,8 @@ use Rattle.std.proofs.lemmas.List.Elements.{Contains-get_or}
 use Rattle.std.proofs.lemmas.List.Quantifiers.{all_pairs_push}
 use Rattle.lemmas.proofs.Orderings.{bytes_eq-from, bytes_eq-other, bytes_eq-same}
 use Rattle.adya_values.specs.Meaning.Keys.{key_eq, lies_in}
-use Rattle.ssi_conflict.specs.Meaning.Calls.{AreAllowed, MayCommit, begun, has_begun, is_aborted, is_committed as committed_told, is_open as open_told, keys_of, last_stamp, meets, snapshot_of, stamp_of}
-use Rattle.ssi_store.specs.Meaning.Acts.{Aborts, Act, Collects, Commits, Gets, Scans, Starts, Writes, has_aborted, has_committed, has_started, is_open, started}
+use Rattle.ssi_conflict.specs.Meaning.Calls.{AreAllowed, MayCommit, begun as told_begun, has_begun as has_told_begun, is_aborted, is_committed as committed_told, is_open as open_told, keys_of, last_stamp, meets, snapshot_of, stamp_of}
+use Rattle.ssi_store.specs.Meaning.Acts.{Aborts, Act, Collects, Commits, Gets, Scans, Begins, Writes, has_aborted, has_committed, has_begun, is_open, begun}
 use Rattle.ssi_store.specs.Meaning.Seeing.{commit_count, own_keys, snapshot, wrote}
 use Rattle.ssi_store.specs.Meaning.Tracked.{tracked}
 use Rattle.adya_values.proofs.KeyOrder.{key_le-itself, lies_in-itself, lies_in-one}
@@ -24,7 +24,7 @@ lies_in-is j k =
 
 pub stamp_told : (t : ℕ) (log : List Act) → stamp_of t (tracked log) ≡ stamp t log
 stamp_told t [] = refl
-stamp_told t (Starts u ∷ log) = stamp_told t log
+stamp_told t (Begins u ∷ log) = stamp_told t log
 stamp_told t (Writes u k c ∷ log) = stamp_told t log
 stamp_told t (Gets u k ∷ log) =
     elim (cases_Bool (wrote u k log)) [ inl own ↦ rw own (stamp_told t log) | inr other ↦ rw other (stamp_told t log) ]
@@ -35,7 +35,7 @@ stamp_told t (Collects ∷ log) = stamp_told t log
 
 committed_is_stamped : (t : ℕ) (log : List Act) → is_some (stamp t log) ≡ has_committed t log
 committed_is_stamped t [] = refl
-committed_is_stamped t (Starts u ∷ log) = committed_is_stamped t log
+committed_is_stamped t (Begins u ∷ log) = committed_is_stamped t log
 committed_is_stamped t (Writes u k c ∷ log) = committed_is_stamped t log
 committed_is_stamped t (Gets u k ∷ log) = committed_is_stamped t log
 committed_is_stamped t (Scans u low high ∷ log) = committed_is_stamped t log
@@ -49,7 +49,7 @@ is_committed_told t log = ap is_some (stamp_told t log) ∙ committed_is_stamped
 
 pub aborted_told : (t : ℕ) (log : List Act) → is_aborted t (tracked log) ≡ has_aborted t log
 aborted_told t [] = refl
-aborted_told t (Starts u ∷ log) = aborted_told t log
+aborted_told t (Begins u ∷ log) = aborted_told t log
 aborted_told t (Writes u k c ∷ log) = aborted_told t log
 aborted_told t (Gets u k ∷ log) =
     elim (cases_Bool (wrote u k log)) [ inl own ↦ rw own (aborted_told t log) | inr other ↦ rw other (aborted_told t log) ]
@@ -58,9 +58,9 @@ aborted_told t (Commits u ∷ log) = aborted_told t log
 aborted_told t (Aborts u ∷ log) = ap (λ b. (u == t) || b) (aborted_told t log)
 aborted_told t (Collects ∷ log) = aborted_told t log
 
-pub begun_told : (t : ℕ) (log : List Act) → has_begun t (tracked log) ≡ has_started t log
+pub begun_told : (t : ℕ) (log : List Act) → has_told_begun t (tracked log) ≡ has_begun t log
 begun_told t [] = refl
-begun_told t (Starts u ∷ log) =
+begun_told t (Begins u ∷ log) =
     elim (cases_Bool (u == t)) [ inl same ↦ rw same refl | inr other ↦ rw other (begun_told t log) ]
 begun_told t (Writes u k c ∷ log) = begun_told t log
 begun_told t (Gets u k ∷ log) =
@@ -73,13 +73,13 @@ begun_told t (Collects ∷ log) = begun_told t log
 pub is_open_told : (t : ℕ) (log : List Act) → open_told t (tracked log) ≡ is_open t log
 is_open_told t log =
     ap (λ b. b && not (committed_told t (tracked log) || is_aborted t (tracked log))) (begun_told t log) ∙
-    (ap (λ b. has_started t log && not (b || is_aborted t (tracked log))) (is_committed_told t log) ∙
-    ap (λ b. has_started t log && not (has_committed t log || b)) (aborted_told t log))
+    (ap (λ b. has_begun t log && not (b || is_aborted t (tracked log))) (is_committed_told t log) ∙
+    ap (λ b. has_begun t log && not (has_committed t log || b)) (aborted_told t log))
 
-pub snapshot_told : (t : ℕ) (log : List Act) → has_started t log ≡ true
+pub snapshot_told : (t : ℕ) (log : List Act) → has_begun t log ≡ true
     → snapshot_of t (tracked log) ≡ Some (snapshot t log)
 snapshot_told t [] b = absurd (cc (b))
-snapshot_told t (Starts u ∷ log) b =
+snapshot_told t (Begins u ∷ log) b =
     elim (cases_Bool (u == t)) [
       | inl same ↦ rw same refl
       | inr other ↦ rw other (snapshot_told t log (rw other at b))
@@ -97,7 +97,7 @@ snapshot_told t (Collects ∷ log) b = snapshot_told t log b
 
 pub read_told : (t : ℕ) (k : List ℕ) (log : List Act) → meets t k (tracked log) ≡ has_read t k log
 read_told t k [] = refl
-read_told t k (Starts u ∷ log) = read_told t k log
+read_told t k (Begins u ∷ log) = read_told t k log
 read_told t k (Writes u j c ∷ log) = read_told t k log
 read_told t k (Gets u j ∷ log) =
     elim (cases_Bool (wrote u j log)) [
@@ -121,7 +121,7 @@ read_told t k (Collects ∷ log) = read_told t k log
 pub keys_told : (u : ℕ) (log : List Act) → Sound log → has_committed u log ≡ true → (k : List ℕ)
     → wrote u k log ≡ true → Contains (keys_of u (tracked log)) k
 keys_told u [] s c k w = absurd (cc (c))
-keys_told u (Starts t ∷ log) s c k w = keys_told u log s.1 c k w
+keys_told u (Begins t ∷ log) s c k w = keys_told u log s.1 c k w
 keys_told u (Writes t j d ∷ log) s c k w =
     keys_told u log s.1 c k (rw (and_left (t == u) (key_eq j k) (not_open t u log s.0 c)) at w)
 keys_told u (Gets t j ∷ log) s c k w =
@@ -141,7 +141,7 @@ keys_told u (Commits t ∷ log) s c k w =
 
 last_stamp_told : (log : List Act) → last_stamp (tracked log) ≡ commit_count log
 last_stamp_told [] = refl
-last_stamp_told (Starts u ∷ log) = last_stamp_told log
+last_stamp_told (Begins u ∷ log) = last_stamp_told log
 last_stamp_told (Writes u k c ∷ log) = last_stamp_told log
 last_stamp_told (Gets u k ∷ log) =
     elim (cases_Bool (wrote u k log)) [
@@ -153,9 +153,9 @@ last_stamp_told (Commits u ∷ log) = refl
 last_stamp_told (Aborts u ∷ log) = last_stamp_told log
 last_stamp_told (Collects ∷ log) = last_stamp_told log
 
-pub begun_are : (log : List Act) → begun (tracked log) ≡ started log
+pub begun_are : (log : List Act) → told_begun (tracked log) ≡ begun log
 begun_are [] = refl
-begun_are (Starts u ∷ log) = ap (λ l. l ++ u ∷ []) (begun_are log)
+begun_are (Begins u ∷ log) = ap (λ l. l ++ u ∷ []) (begun_are log)
 begun_are (Writes u k c ∷ log) = begun_are log
 begun_are (Gets u k ∷ log) =
     elim (cases_Bool (wrote u k log)) [ inl own ↦ rw own (begun_are log) | inr other ↦ rw other (begun_are log) ]
@@ -166,7 +166,7 @@ begun_are (Collects ∷ log) = begun_are log
 
 pub own_keys_apart : (t : ℕ) (log : List Act) → AllPairs (λ j k. key_eq j k ≡ false) (own_keys t log)
 own_keys_apart t [] = λ i j d l m. absurd (omega (arith, m))
-own_keys_apart t (Starts u ∷ log) = own_keys_apart t log
+own_keys_apart t (Begins u ∷ log) = own_keys_apart t log
 own_keys_apart t (Gets u j ∷ log) = own_keys_apart t log
 own_keys_apart t (Scans u low high ∷ log) = own_keys_apart t log
 own_keys_apart t (Commits u ∷ log) = own_keys_apart t log
@@ -195,7 +195,7 @@ may_commit t log live = record {
 -- the store keeps to the conditions of the tracker
 pub tracked_allowed : (log : List Act) → Sound log → AreAllowed (tracked log)
 tracked_allowed [] s = tt
-tracked_allowed (Starts t ∷ log) s = (
+tracked_allowed (Begins t ∷ log) s = (
   record { above = λ u b. s.0 u (sym (begun_told u log) ∙ b); current = sym (last_stamp_told log) },
   tracked_allowed log s.1,
 )

@@ -10,7 +10,7 @@ use Rattle.ssi_conflict.specs.Computing.Steps.{smallest_ordered_pivot, smallest_
 use Rattle.ssi_conflict.specs.Meaning.Calls.{Call}
 use Rattle.ssi_conflict.specs.Meaning.Pairs.{IsSmallest}
 use Rattle.ssi_snapshot.specs.Meaning.Listings.{reached}
-use Rattle.ssi_store.specs.Meaning.Acts.{Act, Commits, Gets, Scans, acts, is_open, operations, started}
+use Rattle.ssi_store.specs.Meaning.Acts.{Act, Commits, Gets, Scans, acts, is_open, operations, begun}
 use Rattle.ssi_store.specs.Meaning.Courses.{Answer, Begun, Command, Command as Do, Committed, Course, Done, Long, Range, Refusal, Refused, Rows, Spent, Unsafe, next_txn, txn_for}
 use Rattle.ssi_store.specs.Laws.{OrderedRefusesNoMore, WouldStand, judged}
 use Rattle.ssi_store.specs.Meaning.Replies.{Follows, conflict, got, reply, reply_for, reply_idle, reply_in, rows, scan_answer, unless_conflict, unless_downward, unless_long, unless_pivot}
@@ -77,11 +77,11 @@ txn_open pivot c s (Do.Abort v) t e = s.opened v t e
 txn_open pivot c s Do.Collect t e = absurd (none-some t e)
 txn_open pivot c s Do.Stat t e = absurd (none-some t e)
 
--- the act that was judged, which starts no transaction, and that whatever names a pivot after it answers Unsafe
+-- the act that was judged, which begins no transaction, and that whatever names a pivot after it answers Unsafe
 pub record IsJudged (pivot : List Call → Option ℕ) (t : ℕ) (log : List Act) (m : Command) (p : ℕ) : Type 0 where
   pub act : Act
   pub judges : judged t log m ≡ Some act
-  pub starts : started (act ∷ log) ≡ started log
+  pub same_begun : begun (act ∷ log) ≡ begun log
   pub sound : is_open t log ≡ true → Sound log → Sound (act ∷ log)
   pub names : pivot (tracked (act ∷ log)) ≡ Some p
   pub likewise : (other : List Call → Option ℕ) (q : ℕ) → other (tracked (act ∷ log)) ≡ Some q
@@ -89,19 +89,19 @@ pub record IsJudged (pivot : List Call → Option ℕ) (t : ℕ) (log : List Act
 
 module _ (pivot : List Call → Option ℕ) (t : ℕ) (log : List Act) where
   read_judged : (m : Command) (act : Act) (a : Answer) → judged t log m ≡ Some act
-      → started (act ∷ log) ≡ started log → (is_open t log ≡ true → Sound log → Sound (act ∷ log))
+      → begun (act ∷ log) ≡ begun log → (is_open t log ≡ true → Sound log → Sound (act ∷ log))
       → ((x : ℕ) → a ≡ Unsafe x → ⊥) → (p : ℕ)
       → unless_long t log (unless_pivot (pivot (tracked (act ∷ log))) a) ≡ Unsafe p
       → ((other : List Call → Option ℕ)
       → reply_in other t log m ≡ unless_long t log (unless_pivot (other (tracked (act ∷ log))) a))
       → IsJudged pivot t log m p
-  read_judged m act a judges starts sound never p e is =
+  read_judged m act a judges same_begun sound never p e is =
       let after : List Call = tracked (act ∷ log) in
       let long = refusal_through (nat_le 65535 (operations t log)) Long (unless_pivot (pivot after) a) p e in
       record {
         act = act;
         judges = judges;
-        starts = starts;
+        same_begun = same_begun;
         sound = sound;
         names = pivot_through (pivot after) a p never long.1;
         likewise = λ other q f. is other ∙ ap (λ b. cond b (Refused Long) (unless_pivot (other after) a)) long.0
@@ -144,7 +144,7 @@ module _ (pivot : List Call → Option ℕ) (t : ℕ) (log : List Act) where
       record {
         act = Commits t;
         judges = refl;
-        starts = refl;
+        same_begun = refl;
         sound = λ live sound. (record { opened = live; no_conflict = none.0 }, sound);
         names = pivot_through (pivot after) Committed p (λ x h. cc) none.1;
         likewise = λ other q f. ap (λ k. unless_conflict k log (unless_pivot (other after) Committed)) none.0
@@ -190,5 +190,5 @@ ordered_refuses_no_more c m p e =
     let q = ordered_names_earlier (tracked after) p judging.names in (
       q.0,
       ap (λ o. reply_for smallest_pivot o c m) refused.opened ∙ judging.likewise smallest_pivot q.0 q.1,
-      λ rise. q.2 (ap numbers_rise (begun_are after ∙ judging.starts) ∙ rise),
+      λ rise. q.2 (ap numbers_rise (begun_are after ∙ judging.same_begun) ∙ rise),
     )

@@ -8,9 +8,9 @@ use Rattle.adya_values.specs.Meaning.KeySets.{insert}
 use Rattle.adya_values.specs.Meaning.Keys.{key_eq, lies_in}
 use Rattle.adya_values.specs.Meaning.Serial.{visible_pairs}
 use Rattle.ssi_versions.specs.Meaning.Changes.{contents, entry_in, is_installed_above, last_version, otherwise, stamped}
-use Rattle.ssi_conflict.specs.Meaning.Calls.{Aborts as Drops, Begins, Call, Commits as Ends, Reads}
+use Rattle.ssi_conflict.specs.Meaning.Calls.{Aborts as Drops, Begins as Enters, Call, Commits as Ends, Reads}
 use Rattle.ssi_snapshot.specs.Meaning.Listings.{reached}
-use Rattle.ssi_store.specs.Meaning.Acts.{Aborts, Act, Collects, Commits, Gets, Scans, Starts, Writes, operations}
+use Rattle.ssi_store.specs.Meaning.Acts.{Aborts, Act, Collects, Commits, Gets, Scans, Begins, Writes, operations}
 use Rattle.ssi_store.specs.Meaning.Courses.{Answer, Command, Command as Do, Committed, Long, Refused, Rows}
 use Rattle.ssi_store.specs.Laws.{is_count, uncollected}
 use Rattle.ssi_store.specs.Meaning.Replies.{conflict, got, is_overtaken, reply_in, rows, scan_answer, unless_conflict, unless_downward, unless_long, unless_pivot, writer_in}
@@ -20,7 +20,7 @@ use Rattle.ssi_store.proofs.Lists.{filter_map_same}
 
 operations_same : (t : ℕ) (log : List Act) → operations t (uncollected log) ≡ operations t log
 operations_same t [] = refl
-operations_same t (Starts u ∷ log) = operations_same t log
+operations_same t (Begins u ∷ log) = operations_same t log
 operations_same t (Writes u j c ∷ log) = ap (λ n. cond (u == t) (suc n) n) (operations_same t log)
 operations_same t (Gets u j ∷ log) = ap (λ n. cond (u == t) (suc n) n) (operations_same t log)
 operations_same t (Scans u low high ∷ log) = ap (λ n. cond (u == t) (suc n) n) (operations_same t log)
@@ -30,7 +30,7 @@ operations_same t (Collects ∷ log) = operations_same t log
 
 pub commits_same : (log : List Act) → commit_count (uncollected log) ≡ commit_count log
 commits_same [] = refl
-commits_same (Starts u ∷ log) = commits_same log
+commits_same (Begins u ∷ log) = commits_same log
 commits_same (Writes u j c ∷ log) = commits_same log
 commits_same (Gets u j ∷ log) = commits_same log
 commits_same (Scans u low high ∷ log) = commits_same log
@@ -40,7 +40,7 @@ commits_same (Collects ∷ log) = commits_same log
 
 snapshot_same : (t : ℕ) (log : List Act) → snapshot t (uncollected log) ≡ snapshot t log
 snapshot_same t [] = refl
-snapshot_same t (Starts u ∷ log) = ap (λ n. cond (u == t) n (snapshot t (uncollected log))) (commits_same log)
+snapshot_same t (Begins u ∷ log) = ap (λ n. cond (u == t) n (snapshot t (uncollected log))) (commits_same log)
     ∙ ap (cond (u == t) (commit_count log)) (snapshot_same t log)
 snapshot_same t (Writes u j c ∷ log) = snapshot_same t log
 snapshot_same t (Gets u j ∷ log) = snapshot_same t log
@@ -52,7 +52,7 @@ snapshot_same t (Collects ∷ log) = snapshot_same t log
 count_same_writes : (t : ℕ) (k : List ℕ) (log : List Act)
     → write_count t k (uncollected log) ≡ write_count t k log
 count_same_writes t k [] = refl
-count_same_writes t k (Starts u ∷ log) = count_same_writes t k log
+count_same_writes t k (Begins u ∷ log) = count_same_writes t k log
 count_same_writes t k (Writes u j c ∷ log) = ap (λ n. cond (u == t && key_eq j k) (suc n) n)
     (count_same_writes t k log)
 count_same_writes t k (Gets u j ∷ log) = count_same_writes t k log
@@ -63,7 +63,7 @@ count_same_writes t k (Collects ∷ log) = count_same_writes t k log
 
 own_same : (t : ℕ) (k : List ℕ) (log : List Act) → own_write t k (uncollected log) ≡ own_write t k log
 own_same t k [] = refl
-own_same t k (Starts u ∷ log) = own_same t k log
+own_same t k (Begins u ∷ log) = own_same t k log
 own_same t k (Writes u j c ∷ log) = ap
     (λ n. cond (u == t && key_eq j k) (Some (entry (version k t (suc n)) c)) (own_write t k (uncollected log)))
     (count_same_writes t k log) ∙ ap
@@ -76,7 +76,7 @@ own_same t k (Collects ∷ log) = own_same t k log
 
 own_keys_same : (t : ℕ) (log : List Act) → own_keys t (uncollected log) ≡ own_keys t log
 own_keys_same t [] = refl
-own_keys_same t (Starts u ∷ log) = own_keys_same t log
+own_keys_same t (Begins u ∷ log) = own_keys_same t log
 own_keys_same t (Writes u j c ∷ log) = ap
     (λ o. cond (u == t && not (is_some o)) (own_keys t (uncollected log) ++ j ∷ []) (own_keys t (uncollected log)))
     (own_same t j log) ∙ ap (λ l. cond (u == t && not (wrote t j log)) (l ++ j ∷ []) l) (own_keys_same t log)
@@ -88,7 +88,7 @@ own_keys_same t (Collects ∷ log) = own_keys_same t log
 
 keys_same : (log : List Act) → keys (uncollected log) ≡ keys log
 keys_same [] = refl
-keys_same (Starts u ∷ log) = keys_same log
+keys_same (Begins u ∷ log) = keys_same log
 keys_same (Writes u j c ∷ log) = ap (insert j) (keys_same log)
 keys_same (Gets u j ∷ log) = keys_same log
 keys_same (Scans u low high ∷ log) = keys_same log
@@ -109,7 +109,7 @@ three f {x} {x2} {y} {y2} {z} {z2} e g h = ap (λ a. f a y z) e ∙ (ap (λ b. f
 contents_same : (k : List ℕ) (s : ℕ) (log : List Act)
     → contents k s (changed (uncollected log)) ≡ contents k s (changed log)
 contents_same k s [] = refl
-contents_same k s (Starts u ∷ log) = contents_same k s log
+contents_same k s (Begins u ∷ log) = contents_same k s log
 contents_same k s (Writes u j c ∷ log) = contents_same k s log
 contents_same k s (Gets u j ∷ log) = contents_same k s log
 contents_same k s (Scans u low high ∷ log) = contents_same k s log
@@ -122,7 +122,7 @@ contents_same k s (Collects ∷ log) = contents_same k s log
 last_same : (k : List ℕ) (log : List Act)
     → last_version k (changed (uncollected log)) ≡ last_version k (changed log)
 last_same k [] = refl
-last_same k (Starts u ∷ log) = last_same k log
+last_same k (Begins u ∷ log) = last_same k log
 last_same k (Writes u j c ∷ log) = last_same k log
 last_same k (Gets u j ∷ log) = last_same k log
 last_same k (Scans u low high ∷ log) = last_same k log
@@ -134,7 +134,7 @@ last_same k (Collects ∷ log) = last_same k log
 above_same : (k : List ℕ) (s : ℕ) (log : List Act)
     → is_installed_above k s (changed (uncollected log)) ≡ is_installed_above k s (changed log)
 above_same k s [] = refl
-above_same k s (Starts u ∷ log) = above_same k s log
+above_same k s (Begins u ∷ log) = above_same k s log
 above_same k s (Writes u j c ∷ log) = above_same k s log
 above_same k s (Gets u j ∷ log) = above_same k s log
 above_same k s (Scans u low high ∷ log) = above_same k s log
@@ -145,8 +145,8 @@ above_same k s (Collects ∷ log) = above_same k s log
 
 tracked_same : (log : List Act) → tracked (uncollected log) ≡ tracked log
 tracked_same [] = refl
-tracked_same (Starts u ∷ log) = ap (λ n. Begins u n ∷ tracked (uncollected log)) (commits_same log)
-    ∙ ap (λ l. Begins u (commit_count log) ∷ l) (tracked_same log)
+tracked_same (Begins u ∷ log) = ap (λ n. Enters u n ∷ tracked (uncollected log)) (commits_same log)
+    ∙ ap (λ l. Enters u (commit_count log) ∷ l) (tracked_same log)
 tracked_same (Writes u j c ∷ log) = tracked_same log
 tracked_same (Gets u j ∷ log) = ap
     (λ o. cond (is_some o) (tracked (uncollected log)) (Reads u j j ∷ tracked (uncollected log))) (own_same u j log)

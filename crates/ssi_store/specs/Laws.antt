@@ -11,7 +11,7 @@ use Rattle.ssi_conflict.specs.Computing.Steps.{smallest_pivot, smallest_ordered_
 use Rattle.ssi_versions.specs.Meaning.Changes.{contents, held, newest_within, AreInstallable, IsProtected}
 use Rattle.ssi_store.specs.Meaning.Courses.{Command, Get, Scan, ScanFirst, Commit, Collect, Stat, Course, Unsafe, txn_for, txn_in, next_txn}
 use Rattle.ssi_snapshot.specs.Meaning.Listings.{reached}
-use Rattle.ssi_store.specs.Meaning.Acts.{Act, Gets, Scans, Commits, Collects, acts, is_open, has_started, started, open_txns}
+use Rattle.ssi_store.specs.Meaning.Acts.{Act, Gets, Scans, Commits, Collects, acts, is_open, has_begun, begun, open_txns}
 use Rattle.ssi_store.specs.Meaning.Seeing.{snapshot, changed, sees, scanned}
 use Rattle.ssi_store.specs.Meaning.Tracked.{tracked}
 use Rattle.ssi_store.specs.Meaning.Replies.{rows, reply_in, reply, Follows, is_overtaken, conflict}
@@ -63,7 +63,7 @@ OpenSnapshotsAreHeld = (pivot : List Call → Option ℕ) (c : Course) → Follo
 -- and with the same pivot or a smaller one, if the numbers of the transactions rise in the order in which they began
 abbrev pub OrderedRefusesNoMore : Type 0
 OrderedRefusesNoMore = (c : Course) (command : Command) (p : ℕ) → reply smallest_ordered_pivot c command ≡ Unsafe p
-    → (q : ℕ) × (reply smallest_pivot c command ≡ Unsafe q) × (numbers_rise (started (acts c)) ≡ true → q ≤ p)
+    → (q : ℕ) × (reply smallest_pivot c command ≡ Unsafe q) × (numbers_rise (begun (acts c)) ≡ true → q ≤ p)
 
 -- the log without its collections
 abbrev pub uncollected : List Act → List Act
@@ -118,8 +118,8 @@ pub record AreInOrder (c : Course) : Type 0 where
   -- and of one session alone
   pub apart : (r s : Bytes) (t : ℕ) → txn_in r c ≡ Some t → txn_in s c ≡ Some t → r ≡ s
   -- numbers rise, and the next one is above all
-  pub rising : numbers_rise (started (acts c)) ≡ true
-  pub below : (t : ℕ) → has_started t (acts c) ≡ true → t < next_txn c
+  pub rising : numbers_rise (begun (acts c)) ≡ true
+  pub below : (t : ℕ) → has_begun t (acts c) ≡ true → t < next_txn c
 
 -- by whatever rule, sessions and transactions are in order
 abbrev pub SessionsAreInOrder : Type 0

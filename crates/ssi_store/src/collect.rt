@@ -26,7 +26,7 @@ impl<C: Chains + Drop, M: Marks + Drop> Engine<C, M> {
     {
         laws_below();
         Ok(Reply::Stat {
-            active: self.roster.open_count() as u64,
+            open_txns: self.roster.open_count() as u64,
             kept: self.tracker.kept() as u64,
             versions: self.chains.held(),
             keys: self.chains.keys(),

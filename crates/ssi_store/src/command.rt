@@ -96,7 +96,7 @@ pub enum Reply {
     },
     /// To stat: how many transactions are open and kept, and how many versions and keys are held.
     Stat {
-        active: u64,
+        open_txns: u64,
         kept: u64,
         versions: u64,
         keys: u64,

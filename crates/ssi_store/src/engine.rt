@@ -7,7 +7,7 @@ ghost use Rattle.ssi_reads.specs.Meaning.Marks.{IsEmpty};
 ghost use Rattle.ssi_recorder.specs.Mirror.{places_of};
 ghost use Rattle.ssi_conflict.specs.Computing.Steps.{smallest_ordered_pivot};
 ghost use Rattle.ssi_store.specs.Machinery.Rosters.{AreBelow};
-ghost use Rattle.ssi_store.specs.Machinery.RosterRoom.{opened_in};
+ghost use Rattle.ssi_store.specs.Mirror.Rosters.{open_in};
 
 use crate::open::Open;
 use crate::roster::Roster;
@@ -34,7 +34,7 @@ pub(crate) struct Engine<C: Chains + Drop, M: Marks + Drop> {
     pub(crate) ghost room: { commits + index_map_len sessions < next },
     pub(crate) ghost few: { next ≤ 4294967296 },
     pub(crate) ghost above: { IsAbove (commits + 1) (C.held chains) },
-    pub(crate) ghost early: { AreBelow next (opened_in roster) },
+    pub(crate) ghost early: { AreBelow next (open_in roster) },
     pub(crate) ghost places: { index_map_len sessions ≤ places_of recorder },
 }
 

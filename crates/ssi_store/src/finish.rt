@@ -4,7 +4,7 @@ ghost use Rattle.std.specs.Prelude.{◌≡◌, IfOk, IfErr};
 ghost use Rattle.snapshot_histories.specs.Meaning.Snapshots.{IsSafe};
 ghost use Rattle.adya_values.specs.Mirror.{history_of};
 ghost use Rattle.ssi_conflict.specs.Meaning.Pairs.{IsOrderedPivot};
-ghost use Rattle.ssi_store.specs.Meaning.Recording.{finished, dumped, starts, start_in};
+ghost use Rattle.ssi_store.specs.Meaning.Recording.{finished, dumped, snapshots, snapshot_in};
 ghost use Rattle.ssi_store.specs.Meaning.Faces.{Records, RecordsSoFar};
 ghost use Rattle.ssi_store.specs.Meaning.Coverage.{IsCovered};
 
@@ -20,39 +20,39 @@ use std::alloc::AllocError;
 #[derive(Drop)]
 pub struct Finished {
     pub(crate) history: History,
-    pub(crate) starts: Vec<(Txn, u64)>,
-    pub(crate) ghost safe: { ∥ IsSafe (history_of history) (start_in starts.items) ∥₁ },
+    pub(crate) snapshots: Vec<(Txn, u64)>,
+    pub(crate) ghost safe: { ∥ IsSafe (history_of history) (snapshot_in snapshots.items) ∥₁ },
 }
 
 impl Finished {
-    ghost use Rattle.ssi_store.specs.Mirror.Finished.{recorded_in, began_in};
+    ghost use Rattle.ssi_store.specs.Mirror.Finished.{recorded_in, snapshots_in};
 
     /// Returns the history.
     pub fn history(&self) -> &History
         ensures same { history_of result.now ≡ recorded_in self.now }
-        ensures safe { ∥ IsSafe (recorded_in self.now) (start_in (began_in self.now)) ∥₁ }
+        ensures safe { ∥ IsSafe (recorded_in self.now) (snapshot_in (snapshots_in self.now)) ∥₁ }
     {
         &self.history
     }
 
     /// Returns each transaction with its snapshot: the stamp of the last commit before it began.
-    pub fn starts(&self) -> &[(Txn, u64)]
-        ensures { result.now ≡ began_in self.now }
+    pub fn snapshots(&self) -> &[(Txn, u64)]
+        ensures { result.now ≡ snapshots_in self.now }
     {
-        self.starts.as_slice()
+        self.snapshots.as_slice()
     }
 }
 
 impl<C: Chains + Drop, M: Marks + Drop> Engine<C, M> {
     ghost use Rattle.ssi_store.specs.Meaning.Courses.{Course};
     ghost use Rattle.ssi_store.specs.Mirror.Standing.{IsAt, HasCourse};
-    ghost use Rattle.ssi_store.specs.Mirror.Finished.{recorded_in, began_in};
+    ghost use Rattle.ssi_store.specs.Mirror.Finished.{recorded_in, snapshots_in};
 
     /// Ends the engine, with an abort of each open transaction at the end of its history.
     pub(crate) fn finish(mut self) -> Result<Finished, (Engine<C, M>, AllocError)>
         requires { HasCourse C.held M.marked self }
         ensures history { IfOk result (λ f. (c : Course) → IsAt C.held M.marked self c → recorded_in f ≡ finished c) }
-        ensures starts { IfOk result (λ f. (c : Course) → IsAt C.held M.marked self c → began_in f ≡ starts c) }
+        ensures snapshots { IfOk result (λ f. (c : Course) → IsAt C.held M.marked self c → snapshots_in f ≡ snapshots c) }
         ensures records { IfOk result (λ f. (c : Course) → IsAt C.held M.marked self c → Records (recorded_in f) c) }
         ensures covered { IfOk result (λ f. (c : Course) → IsAt C.held M.marked self c → IsCovered IsOrderedPivot c (recorded_in f)) }
         ensures err { IfErr result (λ e. (c : Course) → IsAt C.held M.marked self c → IsAt C.held M.marked e.0 c) }
@@ -62,7 +62,7 @@ impl<C: Chains + Drop, M: Marks + Drop> Engine<C, M> {
         match self.recorder.finish(self.roster.open_txns()) {
             Ok(history) => Ok(Finished {
                 history,
-                starts: self.roster.into_starts(),
+                snapshots: self.roster.into_snapshots(),
             }),
             Err((recorder, e)) => {
                 self.recorder = recorder;
@@ -75,15 +75,15 @@ impl<C: Chains + Drop, M: Marks + Drop> Engine<C, M> {
     pub(crate) fn dump(&self) -> Result<Finished, AllocError>
         requires { HasCourse C.held M.marked self.now }
         ensures history { IfOk result (λ f. (c : Course) → IsAt C.held M.marked self.now c → recorded_in f ≡ dumped c) }
-        ensures starts { IfOk result (λ f. (c : Course) → IsAt C.held M.marked self.now c → began_in f ≡ starts c) }
+        ensures snapshots { IfOk result (λ f. (c : Course) → IsAt C.held M.marked self.now c → snapshots_in f ≡ snapshots c) }
         ensures records { IfOk result (λ f. (c : Course) → IsAt C.held M.marked self.now c → RecordsSoFar (recorded_in f) c) }
         ensures covered { IfOk result (λ f. (c : Course) → IsAt C.held M.marked self.now c → IsCovered IsOrderedPivot c (recorded_in f)) }
     {
         dumped_are_covered();
         courses_are_recorded();
         let history = self.recorder.dump(self.roster.open_txns())?;
-        let starts = self.roster.copy_starts(self.alloc)?;
-        let finished = Finished { history, starts };
+        let snapshots = self.roster.copy_snapshots(self.alloc)?;
+        let finished = Finished { history, snapshots };
         Ok(finished)
     }
 }

@@ -92,7 +92,7 @@ pub fn sessions_are_in_order()
 {}
 
 /// The key of a conflict is the smallest one that the transaction wrote and another one has committed since it
-/// started. So only the keys of the transaction itself can be in conflict.
+/// began. So only the keys of the transaction itself can be in conflict.
 pub fn conflict_is_least()
     ensures { ConflictIsLeast }
 {}

@@ -30,10 +30,10 @@ impl<C: Chains + Drop, M: Marks + Drop> Store<C, M> {
     ghost use Rattle.ssi_store.specs.Meaning.Courses.{Course, New, Then};
     ghost use Rattle.ssi_store.specs.Meaning.Replies.{IsAnswer};
     ghost use Rattle.ssi_store.specs.Mirror.Commands.{command_of, answer_of};
-    ghost use Rattle.ssi_store.specs.Meaning.Recording.{finished, dumped, starts};
+    ghost use Rattle.ssi_store.specs.Meaning.Recording.{finished, dumped, snapshots};
     ghost use Rattle.ssi_store.specs.Meaning.Faces.{Records, RecordsSoFar};
     ghost use Rattle.ssi_store.specs.Meaning.Coverage.{IsCovered};
-    ghost use Rattle.ssi_store.specs.Mirror.Finished.{recorded_in, began_in};
+    ghost use Rattle.ssi_store.specs.Mirror.Finished.{recorded_in, snapshots_in};
     ghost use Rattle.ssi_store.specs.Mirror.Stores.{IsAt};
 
     /// Makes an empty store over versions and marks that are empty; the first transaction has number 1. Takes no memory.
@@ -68,11 +68,11 @@ impl<C: Chains + Drop, M: Marks + Drop> Store<C, M> {
 
     /// Ends the store. Its history has an abort of each open transaction at its end, by rising number.
     ///
-    /// The history records the course of the store. It is a checked snapshot history by these starts, without a dangerous
+    /// The history records the course of the store. It is a checked snapshot history by these snapshots, without a dangerous
     /// structure. Hands the store back as it was if memory runs out.
     pub fn finish(self) -> Result<Finished, (Store<C, M>, AllocError)>
         ensures history { IfOk result (λ f. (c : Course) → IsAt C.held M.marked self c → recorded_in f ≡ finished c) }
-        ensures starts { IfOk result (λ f. (c : Course) → IsAt C.held M.marked self c → began_in f ≡ starts c) }
+        ensures snapshots { IfOk result (λ f. (c : Course) → IsAt C.held M.marked self c → snapshots_in f ≡ snapshots c) }
         ensures records { IfOk result (λ f. (c : Course) → IsAt C.held M.marked self c → Records (recorded_in f) c) }
         ensures covered { IfOk result (λ f. (c : Course) → IsAt C.held M.marked self c → IsCovered IsOrderedPivot c (recorded_in f)) }
         ensures err { IfErr result (λ e. (c : Course) → IsAt C.held M.marked self c → IsAt C.held M.marked e.0 c) }
@@ -85,11 +85,11 @@ impl<C: Chains + Drop, M: Marks + Drop> Store<C, M> {
 
     /// Returns the history so far. Its open transactions are unfinished. The store stays as it is.
     ///
-    /// The history records the course of the store. It is a checked snapshot history by these starts, without a dangerous
+    /// The history records the course of the store. It is a checked snapshot history by these snapshots, without a dangerous
     /// structure. Returns `AllocError` if memory runs out.
     pub fn dump(&self) -> Result<Finished, AllocError>
         ensures history { IfOk result (λ f. (c : Course) → IsAt C.held M.marked self.now c → recorded_in f ≡ dumped c) }
-        ensures starts { IfOk result (λ f. (c : Course) → IsAt C.held M.marked self.now c → began_in f ≡ starts c) }
+        ensures snapshots { IfOk result (λ f. (c : Course) → IsAt C.held M.marked self.now c → snapshots_in f ≡ snapshots c) }
         ensures records { IfOk result (λ f. (c : Course) → IsAt C.held M.marked self.now c → RecordsSoFar (recorded_in f) c) }
         ensures covered { IfOk result (λ f. (c : Course) → IsAt C.held M.marked self.now c → IsCovered IsOrderedPivot c (recorded_in f)) }
     {

@@ -22,8 +22,8 @@ turns (e ∷ es) = turns_to e (e ∷ es)
 
 -- two consecutive edges of the cycle are a dangerous structure, and the transaction at its end is the first of the cycle
 -- to commit
-pub record HasDanger (h : History) (starts : ℕ → ℕ) (cycle : List Edge) : Type 0 where
+pub record HasDanger (h : History) (snapshot_of : ℕ → ℕ) (cycle : List Edge) : Type 0 where
   pub turn : Turn
   pub there : Contains (turns cycle) turn
-  pub dangerous : IsDangerous h starts turn.into turn.out
+  pub dangerous : IsDangerous h snapshot_of turn.into turn.out
   pub first : (e : Edge) → Contains cycle e → stamp_in h turn.out.to ≤ stamp_in h e.from

@@ -30,8 +30,8 @@ answer_text Aborted = codes "aborted"
 answer_text (Conflict k t) = codes "conflict " ++ k ++ codes " " ++ decimal t
 answer_text (Unsafe t) = codes "unsafe " ++ decimal t
 answer_text (Kept n) = codes "kept " ++ decimal n
-answer_text (Counts active kept versions keys) =
-    codes "stat open " ++ decimal active ++ codes " kept " ++ decimal kept ++
+answer_text (Counts open_txns kept versions keys) =
+    codes "stat open " ++ decimal open_txns ++ codes " kept " ++ decimal kept ++
     codes " versions " ++ decimal versions ++ codes " keys " ++ decimal keys
 answer_text (Refused r) = refusal_text r
 

@@ -4,7 +4,7 @@ use Rattle.adya_values.specs.Meaning.Keys.{key_eq}
 use Rattle.adya_values.specs.Meaning.Histories.{Event}
 use Rattle.ssi_conflict.specs.Computing.Steps.{smallest_ordered_pivot}
 use Rattle.ssi_conflict.specs.Meaning.Calls.{Call, AreAllowed}
-use Rattle.ssi_store.specs.Meaning.Acts.{Act, Starts, Writes, Gets, Scans, Commits, Aborts, Collects, acts, act_by}
+use Rattle.ssi_store.specs.Meaning.Acts.{Act, Begins, Writes, Gets, Scans, Commits, Aborts, Collects, acts, act_by}
 use Rattle.ssi_store.specs.Meaning.Courses.{Command, Answer, Course, Then, Unsafe, is_of, is_proper, txn_in, txn_for, txn_after, next_txn}
 use Rattle.ssi_store.specs.Meaning.Recording.{recorded}
 use Rattle.ssi_store.specs.Meaning.Replies.{reply, may_run_out_of_memory, unless_pivot}
@@ -14,7 +14,7 @@ use Rattle.ssi_store.specs.Meaning.Tracked.{tracked}
 abbrev pub IsLookOf : ℕ → Act → Type 0
 IsLookOf t (Gets u k) = u ≡ t
 IsLookOf t (Scans u low high) = u ≡ t
-IsLookOf t (Starts u) = ⊥
+IsLookOf t (Begins u) = ⊥
 IsLookOf t (Writes u k c) = ⊥
 IsLookOf t (Commits u) = ⊥
 IsLookOf t (Aborts u) = ⊥

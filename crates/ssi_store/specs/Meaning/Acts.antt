@@ -6,9 +6,9 @@ use Rattle.adya_values.specs.Meaning.Histories.{Txns, Content, Live, Dead}
 use Rattle.ssi_snapshot.specs.Meaning.Listings.{reached}
 use Rattle.ssi_store.specs.Meaning.Courses.{Command, Command as Do, Answer, Begun, Value, Absent, Done, Rows, Committed, Aborted, Conflict, Unsafe, Kept, Course, New, Then, txn_for}
 
--- a transaction starts, writes a key, gets a key, scans a range, commits or aborts; and old versions are collected
+-- a transaction begins, writes a key, gets a key, scans a range, commits or aborts; and old versions are collected
 pub data Act : Type 0 where
-  Starts : (txn : ℕ) → Act
+  Begins : (txn : ℕ) → Act
   Writes : (txn : ℕ) (key : Key) (content : Content) → Act
   Gets : (txn : ℕ) (key : Key) → Act
   Scans : (txn : ℕ) (low high : Key) → Act
@@ -32,7 +32,7 @@ act_of t command answer = []
 
 -- the act of a step, if the session of the command had this transaction before
 abbrev pub act_by : Option ℕ → Command → Answer → List Act
-act_by t command (Begun n) = Starts n ∷ []
+act_by t command (Begun n) = Begins n ∷ []
 act_by t command (Kept n) = Collects ∷ []
 act_by (Some t) command answer = act_of t command answer
 act_by None command answer = []
@@ -42,11 +42,11 @@ abbrev pub acts : Course → List Act
 acts (New first) = []
 acts (Then c command answer) = act_by (txn_for command c) command answer ++ acts c
 
--- the transaction has started
-abbrev pub has_started : ℕ → List Act → Bool
-has_started t [] = false
-has_started t (Starts u ∷ log) = (u == t) || has_started t log
-has_started t (a ∷ log) = has_started t log
+-- the transaction has begun
+abbrev pub has_begun : ℕ → List Act → Bool
+has_begun t [] = false
+has_begun t (Begins u ∷ log) = (u == t) || has_begun t log
+has_begun t (a ∷ log) = has_begun t log
 
 -- it has committed
 abbrev pub has_committed : ℕ → List Act → Bool
@@ -60,19 +60,19 @@ has_aborted t [] = false
 has_aborted t (Aborts u ∷ log) = (u == t) || has_aborted t log
 has_aborted t (a ∷ log) = has_aborted t log
 
--- it has started, and has neither committed nor aborted
+-- it has begun, and has neither committed nor aborted
 abbrev pub is_open : ℕ → List Act → Bool
-is_open t log = has_started t log && not (has_committed t log || has_aborted t log)
+is_open t log = has_begun t log && not (has_committed t log || has_aborted t log)
 
--- the transactions, in the order in which they started
-abbrev pub started : List Act → Txns
-started [] = []
-started (Starts t ∷ log) = started log ++ t ∷ []
-started (a ∷ log) = started log
+-- the transactions, in the order in which they began
+abbrev pub begun : List Act → Txns
+begun [] = []
+begun (Begins t ∷ log) = begun log ++ t ∷ []
+begun (a ∷ log) = begun log
 
 -- the open ones, by rising number
 abbrev pub open_txns : List Act → Txns
-open_txns log = filter (λ t. is_open t log) (started log)
+open_txns log = filter (λ t. is_open t log) (begun log)
 
 -- how many operations the transaction has carried out
 abbrev pub operations : ℕ → List Act → ℕ

@@ -51,7 +51,7 @@ pub data Answer : Type 0 where
   Unsafe : (pivot : ℕ) → Answer
   -- how many versions a collection has kept
   Kept : (versions : ℕ) → Answer
-  Counts : (active kept versions keys : ℕ) → Answer
+  Counts : (open_txns kept versions keys : ℕ) → Answer
   Refused : (refusal : Refusal) → Answer
 
 -- a first transaction number, and then commands with their answers

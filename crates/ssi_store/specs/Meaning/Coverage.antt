@@ -8,21 +8,21 @@ use Rattle.ssi_conflict.specs.Meaning.Pairs.{IsPair}
 use Rattle.snapshot_histories.specs.Meaning.Snapshots.{AreConcurrent, IsSafe}
 use Rattle.ssi_store.specs.Meaning.Courses.{Course}
 use Rattle.ssi_store.specs.Meaning.Acts.{acts}
-use Rattle.ssi_store.specs.Meaning.Recording.{starts, start_in}
+use Rattle.ssi_store.specs.Meaning.Recording.{snapshots, snapshot_in}
 use Rattle.ssi_store.specs.Meaning.Tracked.{tracked}
 
 -- the snapshot of a transaction of the course
-abbrev pub start_of : Course → ℕ → ℕ
-start_of c t = start_in (starts c) t
+abbrev pub course_snapshot : Course → ℕ → ℕ
+course_snapshot c t = snapshot_in (snapshots c) t
 
 -- what a history of the course is, by a rule whose pivots never stand
 pub record IsCovered (IsStanding : ℕ → List Call → Type 0) (c : Course) (h : History) : Type 0 where
   -- the history is checked, a snapshot history, and without a dangerous structure
-  pub safe : IsSafe h (start_of c)
+  pub safe : IsSafe h (course_snapshot c)
   -- its orders and finals are as a history's must be, and so are its unfinished transactions for its edition
   pub shaped : is_shape h.orders h.finals ≡ true
   pub fits : fits_edition h.edition h.unfinished ≡ true
   -- each anti-dependency between concurrent transactions is a pair
-  pub pairs : (e : Edge) → IsEdge h e → e.kind ≡ Rw → AreConcurrent h (start_of c) e.from e.to
+  pub pairs : (e : Edge) → IsEdge h e → e.kind ≡ Rw → AreConcurrent h (course_snapshot c) e.from e.to
       → IsPair e.from e.to (tracked (acts c))
   pub no_pivot : (t : ℕ) → IsStanding t (tracked (acts c)) → ⊥

@@ -5,7 +5,7 @@ use Rattle.adya_values.specs.Meaning.Keys.{Key}
 use Rattle.adya_values.specs.Meaning.Histories.{Txns, Entry, Content, Live, Dead, Event, Write, Delete, Read, Scan, Commit, Abort, History}
 use Rattle.ssi_recorder.specs.Meaning.Recorded.{history_of_events}
 use Rattle.ssi_store.specs.Meaning.Courses.{Course}
-use Rattle.ssi_store.specs.Meaning.Acts.{Act, Starts, Writes, Gets, Scans, Commits, Aborts, Collects, acts, started, is_open, open_txns}
+use Rattle.ssi_store.specs.Meaning.Acts.{Act, Begins, Writes, Gets, Scans, Commits, Aborts, Collects, acts, begun, is_open, open_txns}
 use Rattle.ssi_store.specs.Meaning.Seeing.{snapshot, write_count, sees, scanned}
 
 -- a write of the version with that number
@@ -25,7 +25,7 @@ get_event t k (Some w) = get_found t k w w.content
 
 -- what is recorded of an act after those before it
 abbrev pub recorded : Act → List Act → List Event
-recorded (Starts t) log = []
+recorded (Begins t) log = []
 recorded (Writes t k c) log = write_event t k (suc (write_count t k log)) c ∷ []
 recorded (Gets t k) log = get_event t k (sees t k log) ∷ []
 recorded (Scans t low high) log = Scan t low high (scanned t low high log) ∷ []
@@ -45,7 +45,7 @@ close (t ∷ ts) log = close ts (if is_open t log then Aborts t ∷ log else log
 
 -- the log after its end: whoever is still open aborts, the smallest number first
 abbrev pub closed : List Act → List Act
-closed log = close (started log) log
+closed log = close (begun log) log
 
 -- the history of a course that is over: its open transactions are aborted
 abbrev pub finished : Course → History
@@ -56,10 +56,10 @@ abbrev pub dumped : Course → History
 dumped c = history_of_events Two (open_txns (acts c)) (events (acts c))
 
 -- each transaction with its snapshot, by number
-abbrev pub starts : Course → List (ℕ × ℕ)
-starts c = map (λ t. (t, snapshot t (acts c))) (started (acts c))
+abbrev pub snapshots : Course → List (ℕ × ℕ)
+snapshots c = map (λ t. (t, snapshot t (acts c))) (begun (acts c))
 
 -- the snapshot of the transaction in such a list, 0 if it isn't there
-abbrev pub start_in : List (ℕ × ℕ) → ℕ → ℕ
-start_in [] t = 0
-start_in (s ∷ ss) t = if s.0 == t then s.1 else start_in ss t
+abbrev pub snapshot_in : List (ℕ × ℕ) → ℕ → ℕ
+snapshot_in [] t = 0
+snapshot_in (s ∷ ss) t = if s.0 == t then s.1 else snapshot_in ss t

@@ -16,7 +16,7 @@ use Rattle.ssi_store.specs.Meaning.Acts.{Act, Gets, Scans, Commits, Collects, ac
 use Rattle.ssi_store.specs.Meaning.Seeing.{snapshot, wrote, sees, keys, scanned, changed}
 use Rattle.ssi_store.specs.Meaning.Tracked.{tracked}
 
--- t wrote the key, and a version of it was committed after t started; the first committer wins
+-- t wrote the key, and a version of it was committed after t began; the first committer wins
 abbrev pub is_overtaken : ℕ → List Act → Key → Bool
 is_overtaken t log k = wrote t k log && is_installed_above k (snapshot t log) (changed log)
 

@@ -6,7 +6,7 @@ use Rattle.adya_values.specs.Meaning.Histories.{Entry}
 use Rattle.adya_values.specs.Meaning.Events.{version, entry}
 use Rattle.adya_values.specs.Meaning.KeySets.{insert}
 use Rattle.ssi_versions.specs.Meaning.Changes.{Change, Installs, Collects as Drops, entry_in, otherwise, contents}
-use Rattle.ssi_store.specs.Meaning.Acts.{Act, Starts, Writes, Commits, Collects, open_txns}
+use Rattle.ssi_store.specs.Meaning.Acts.{Act, Begins, Writes, Commits, Collects, open_txns}
 
 -- how many commits there were
 abbrev pub commit_count : List Act → ℕ
@@ -14,10 +14,10 @@ commit_count [] = 0
 commit_count (Commits t ∷ log) = suc (commit_count log)
 commit_count (a ∷ log) = commit_count log
 
--- the number of commits before the transaction started
+-- the number of commits before the transaction began
 abbrev pub snapshot : ℕ → List Act → ℕ
 snapshot t [] = 0
-snapshot t (Starts u ∷ log) = if u == t then commit_count log else snapshot t log
+snapshot t (Begins u ∷ log) = if u == t then commit_count log else snapshot t log
 snapshot t (a ∷ log) = snapshot t log
 
 -- the snapshots of the open transactions

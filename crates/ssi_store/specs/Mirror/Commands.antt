@@ -42,7 +42,7 @@ reply_of Gives.Aborted = Is.Aborted
 reply_of (Gives.Conflict k t) = Is.Conflict k t
 reply_of (Gives.Unsafe p) = Is.Unsafe p
 reply_of (Gives.Kept n) = Is.Kept n
-reply_of (Gives.Stat active kept versions keys) = Is.Counts active kept versions keys
+reply_of (Gives.Stat open_txns kept versions keys) = Is.Counts open_txns kept versions keys
 
 -- what was answered: a reply or a refusal
 abbrev pub answer_of : Result Reply RefusalValue → Answer

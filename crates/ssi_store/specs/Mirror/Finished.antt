@@ -9,5 +9,5 @@ abbrev pub recorded_in : Finished → History
 recorded_in f = history_of f.history
 
 -- its transactions with their snapshots
-abbrev pub began_in : Finished → List (ℕ × ℕ)
-began_in f = f.starts.items
+abbrev pub snapshots_in : Finished → List (ℕ × ℕ)
+snapshots_in f = f.snapshots.items

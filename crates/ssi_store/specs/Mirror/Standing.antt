@@ -12,13 +12,13 @@ use Rattle.ssi_conflict.specs.Mirror.{Stands}
 use Rattle.ssi_conflict.specs.Computing.Steps.{smallest_ordered_pivot}
 use Rattle.ssi_recorder.specs.Mirror.{events_of}
 use Rattle.ssi_store.specs.Meaning.Courses.{Course, txn_in, next_txn}
-use Rattle.ssi_store.specs.Meaning.Acts.{Act, acts, started, open_txns}
+use Rattle.ssi_store.specs.Meaning.Acts.{Act, acts, begun, open_txns}
 use Rattle.ssi_store.specs.Meaning.Seeing.{commit_count, snapshot, changed}
 use Rattle.ssi_store.specs.Meaning.Tracked.{tracked}
 use Rattle.ssi_store.specs.Meaning.Replies.{Follows}
 use Rattle.ssi_store.specs.Meaning.Recording.{events}
 use Rattle.ssi_store.specs.Machinery.Opens.{Sessions, open_at, number_of, IsOpen}
-use Rattle.ssi_store.specs.declared.roster.Roster.{Roster}
+use Rattle.ssi_store.specs.Mirror.Rosters.{open_in, snapshots_of}
 use Rattle.ssi_store.specs.declared.engine.Engine.{Engine}
 
 -- each of these transactions with its snapshot
@@ -35,7 +35,7 @@ pub record Parts : Type 1 where
   pub commits : ℕ
   -- the open transactions and all transactions, with their snapshots
   pub opened : List (ℕ × ℕ)
-  pub began : List (ℕ × ℕ)
+  pub snapshots : List (ℕ × ℕ)
 
 -- each part was told of these acts
 pub record IsLog (p : Parts) (log : List Act) : Type 0 where
@@ -44,7 +44,7 @@ pub record IsLog (p : Parts) (log : List Act) : Type 0 where
   pub tracker : p.told (tracked log)
   pub events : p.recorded ≡ events log
   pub opened : p.opened ≡ with_snapshots (open_txns log) log
-  pub began : p.began ≡ with_snapshots (started log) log
+  pub snapshots : p.snapshots ≡ with_snapshots (begun log) log
 
 -- parts, the next transaction number and sessions stand for the course
 pub record StandsFor (p : Parts) (next : ℕ) (es : Sessions) (c : Course) : Type 0 where
@@ -56,14 +56,6 @@ pub record StandsFor (p : Parts) (next : ℕ) (es : Sessions) (c : Course) : Typ
   pub txns : (s : Bytes) → option_map number_of (open_at s es) ≡ txn_in s c
   pub views : (s : Bytes) → IfSome (open_at s es) (IsOpen (acts c))
 
--- the open transactions of a roster with their snapshots, in the order in which they began
-abbrev pub opened_of : Roster → List (ℕ × ℕ)
-opened_of r = r.active.entries
-
--- all its transactions with their snapshots
-abbrev pub began_of : Roster → List (ℕ × ℕ)
-began_of r = r.starts.items
-
 module _ {C M : Type 0} {g : HeldBy C} {h : MarkedBy M} (holds : C → List Held) (marked : M → ℕ → Key → Bool) where
   abbrev pub parts_of : Engine C M g h → Parts
   parts_of s = record {
@@ -71,8 +63,8 @@ module _ {C M : Type 0} {g : HeldBy C} {h : MarkedBy M} (holds : C → List Held
     told = Stands marked s.tracker;
     recorded = events_of s.recorder;
     commits = s.commits;
-    opened = opened_of s.roster;
-    began = began_of s.roster;
+    opened = open_in s.roster;
+    snapshots = snapshots_of s.roster;
   }
 
   -- the engine stands for the course

@@ -5,7 +5,7 @@ use Rattle.ssi_line.proofs.replies.put_stat.Goals as goal
 
 pub returns : goal.returns
 returns g c =
-    let first = codes "stat open " ++ decimal c.args.active in
+    let first = codes "stat open " ++ decimal c.args.open_txns in
     let second = first ++ codes " kept " ++ decimal c.args.kept in
     let third = second ++ codes " versions " ++ decimal c.args.versions in
     added_then_both g.W.Write.contents _ _ _ _ _ _ third (codes " keys ") (decimal c.args.keys)

@@ -1,6 +1,6 @@
 use Rattle.ssi_store.specs.Meaning.Acts.{acts}
 use Rattle.ssi_store.proofs.SoundCourses.{course_stands}
-use Rattle.ssi_store.proofs.Starts.{started_rise}
+use Rattle.ssi_store.proofs.Snapshots.{begun_rise}
 use Rattle.ssi_store.proofs.laws.sessions_are_in_order.Goals as goal
 
 pub returns : goal.returns
@@ -10,6 +10,6 @@ returns c pivot d f =
       opened = stands.opened;
       held = stands.held;
       apart = stands.apart;
-      rising = started_rise (acts d) stands.sound;
+      rising = begun_rise (acts d) stands.sound;
       below = stands.below;
     }

@@ -12,7 +12,7 @@ returns c =
     let events = events_of c.args.self.now in
     let is_two : made.edition ≡ Edition.Two = Prim.search rules in
     let has_events : map event_of made.events.items ≡ events = Prim.search rules in
-    let names_unfinished : made.unfinished.items ≡ c.args.active.now = Prim.search rules in
+    let names_unfinished : made.unfinished.items ≡ c.args.open_txns.now = Prim.search rules in
     let orders : map order_of made.orders.items ≡ orders_of_events events = Prim.search rules in
     let finals : map final_of made.finals.items ≡ finals_of_events events = Prim.search rules in
     same_history is_two has_events names_unfinished orders finals

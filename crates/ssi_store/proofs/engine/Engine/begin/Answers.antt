@@ -12,7 +12,7 @@ returns-in_err-on_begin g c = record {
       let p = err_from_is_err_and c.from_residual-in_err-on_begin.result c.from_residual-in_err-on_begin.ensures.1 in
       rw (p.1, p.2) (begin_memory st c.args.session (Prim.search rules) (let l = c.in-Ok.ensures.limits.0 refl in omega (arith, l)) _ _ _ _ _
       c.in-Ok.txn c.in-Ok.ensures.same c.reserve.ensures.entries c.open.ensures.events c.room.ensures.opened
-      c.room.ensures.began (λ calls old may. c.in_err-on_begin.ensures.refused calls old may));
+      c.room.ensures.snapshots (λ calls old may. c.in_err-on_begin.ensures.refused calls old may));
 }
 
 pub returns : goal.returns
@@ -52,7 +52,7 @@ returns-in_err-room g c = record {
   stands = λ course st.
       let p = err_from_is_err_and c.from_residual-in_err-room.result c.from_residual-in_err-room.ensures.1 in
       rw (p.1, p.2) (begin_memory st c.args.session (Prim.search rules) (let l = c.in-Ok.ensures.limits.0 refl in omega (arith, l)) _ _ _ _ _
-      c.in-Ok.txn c.in-Ok.ensures.same c.reserve.ensures.entries refl c.room.ensures.opened c.room.ensures.began
+      c.in-Ok.txn c.in-Ok.ensures.same c.reserve.ensures.entries refl c.room.ensures.opened c.room.ensures.snapshots
       (λ calls old may. old));
 }
 
@@ -61,7 +61,7 @@ returns-in_err-open g c = record {
   stands = λ course st.
       let p = err_from_is_err_and c.from_residual-in_err-open.result c.from_residual-in_err-open.ensures.1 in
       rw (p.1, p.2) (begin_memory st c.args.session (Prim.search rules) (let l = c.in-Ok.ensures.limits.0 refl in omega (arith, l)) _ _ _ _ _
-      c.in-Ok.txn c.in-Ok.ensures.same c.reserve.ensures.entries c.open.ensures.events c.room.ensures.opened c.room.ensures.began
+      c.in-Ok.txn c.in-Ok.ensures.same c.reserve.ensures.entries c.open.ensures.events c.room.ensures.opened c.room.ensures.snapshots
       (λ calls old may. old));
 }
 

@@ -61,7 +61,7 @@ returns-in-Unsafe g c = record {
         tracker = c.judge.ensures.stands (tracked (acts course)) st.log.tracker;
         events = st.log.events;
         opened = st.log.opened;
-        began = st.log.began;
+        snapshots = st.log.snapshots;
       }))
       (commit_ends st c.args.session o at c.laws_below.ensures free c.txn-txn.result c.as_slice-keys.result.now c.txn-txn.ensures
       keys_are c.in-Unsafe.pivot
@@ -91,7 +91,7 @@ returns g c = record {
       c.writes-writes.ensures.all c.in_ok-install.ensures.added
       (c.on_commit.ensures (tracked (acts course)) (c.judge.ensures.stands (tracked (acts course)) st.log.tracker) may
       (c.in_ok-answer.ensures.ready safe))
-      c.end-2.ensures.events c.end.ensures.opened c.end.ensures.began c.remove-there.ensures.gone;
+      c.end-2.ensures.events c.end.ensures.opened c.end.ensures.snapshots c.remove-there.ensures.gone;
 }
 
 pub invariant_of-self-2-clause-early : goal.invariant_of-self-2-clause-early

@@ -26,7 +26,7 @@ returns-clause-covered g c = λ course st.
 pub invariant_of-finished : goal.invariant_of-finished
 invariant_of-finished g c = record {
   safe = ∥∥₁_map c.requires (λ at.
-      safe_by at.0 _ _ c.in_ok-starts.starts.items
+      safe_by at.0 _ _ c.in_ok-snapshots.snapshots.items
       (dumps at.1 c.open_txns.result.now _ c.open_txns.ensures.all c.in_ok-history.ensures)
-      (c.in_ok-starts.ensures ∙ at.1.log.began) (c.dumped_are_covered.ensures.commit_order at.0 at.1.follows));
+      (c.in_ok-snapshots.ensures ∙ at.1.log.snapshots) (c.dumped_are_covered.ensures.commit_order at.0 at.1.follows));
 }

@@ -25,9 +25,9 @@ returns-in-Ok-clause-covered g c = λ course st.
 pub invariant_of-result : goal.invariant_of-result
 invariant_of-result g c = record {
   safe = ∥∥₁_map c.requires (λ at.
-      safe_by at.0 _ _ c.into_starts.result.items
+      safe_by at.0 _ _ c.into_snapshots.result.items
       (finishes at.1 c.open_txns.result.now _ c.open_txns.ensures.all c.in-Ok.ensures.history)
-      (c.into_starts.ensures ∙ at.1.log.began) (c.finished_are_covered.ensures.commit_order at.0 at.1.follows));
+      (c.into_snapshots.ensures ∙ at.1.log.snapshots) (c.finished_are_covered.ensures.commit_order at.0 at.1.follows));
 }
 
 pub invariant_of-self-in-Err : goal.invariant_of-self-in-Err

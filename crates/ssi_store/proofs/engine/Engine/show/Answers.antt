@@ -44,7 +44,7 @@ returns-in-Unsafe g c = record {
             (c.in_ok-answer.ensures.stands (tracked (acts course)) st.log.tracker may);
         events = c.room.ensures.same.0 ∙ st.log.events;
         opened = st.log.opened;
-        began = st.log.began;
+        snapshots = st.log.snapshots;
       }))
       (look_ends st c.args.session c.args.txn c.args.low c.args.high (event_of c.args.event) (reply_of c.args.reply) m is
       c.laws_below.ensures c.in-Unsafe.pivot
