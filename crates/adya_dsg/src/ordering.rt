@@ -5,10 +5,11 @@ ghost use Rattle.std.specs.List.{list_any};
 ghost use Rattle.adya_values.specs.Meaning.Keys.{IsTxn};
 ghost use Rattle.adya_values.specs.Meaning.Histories.{event_of};
 ghost use Rattle.adya_values.specs.Meaning.Selections.{is_scan};
+ghost use Rattle.adya_values.specs.Computing.EdgeList.{edge_list};
 ghost use Rattle.adya_values.specs.Meaning.Acceptance.{IsChecked};
 ghost use Rattle.adya_values.specs.Meaning.Phenomena.{HasG1, HasG2};
 ghost use Rattle.adya_terms.specs.Meaning.Checked.{checked_history};
-ghost use Rattle.adya_dsg.specs.Machinery.Arcs.{ends};
+ghost use Rattle.adya_dsg.specs.Machinery.Arcs.{IsSorted};
 ghost use Rattle.adya_dsg.specs.Mirror.{edge_of};
 ghost use Rattle.adya_dsg.specs.Machinery.VersionOrders.{ordered_history};
 ghost use Rattle.adya_dsg.specs.Machinery.Nodes.{committed};
@@ -44,42 +45,37 @@ pub fn order(alloc: Global, checked: &Checked) -> Result<Found, AllocError>
     cycle_excludes_certificates();
     let nodes = committed(alloc, checked.history().events())?;
     let versions = VersionOrders::of(alloc, checked)?;
-    by_links(alloc, &versions, &nodes)
+    found(alloc, &versions, &nodes)
 }
 
-/// By the links, which are few. If they have a cycle, by all edges; without scans these have no other ends.
-fn by_links(alloc: Global, versions: &VersionOrders, nodes: &[u32]) -> Result<Found, AllocError>
+/// Makes a certificate of an order, and of a cycle the first edges along it.
+fn found(alloc: Global, versions: &VersionOrders, nodes: &[u32]) -> Result<Found, AllocError>
     requires checked { IsChecked (ordered_history versions.now) }
     requires nodes { nodes.now ≡ committed (ordered_history versions.now).events }
     requires numbers { All IsTxn nodes.now }
     ensures { IfOk result (IsFound (ordered_history versions.now)) }
 {
     edge_list_is_exact();
-    edges_join_committed();
-    match topological_order(alloc, nodes, links(alloc, versions)?)? {
-        Outcome::Order(order) => Ok(Found::Serial(serial_of(alloc, &order)?)),
-        Outcome::Cycle(cycle) => {
-            if has_scans(versions.events()) {
-                return by_edges(alloc, versions, nodes);
-            }
-            Ok(Found::Cycle(edges_along(alloc, versions, &cycle)?))
-        }
-    }
-}
-
-/// By all edges.
-fn by_edges(alloc: Global, versions: &VersionOrders, nodes: &[u32]) -> Result<Found, AllocError>
-    requires checked { IsChecked (ordered_history versions.now) }
-    requires nodes { nodes.now ≡ committed (ordered_history versions.now).events }
-    requires numbers { All IsTxn nodes.now }
-    ensures { IfOk result (IsFound (ordered_history versions.now)) }
-{
-    edge_list_is_exact();
-    edges_join_committed();
-    match topological_order(alloc, nodes, arcs_of_edges(alloc, versions)?)? {
+    match sorted(alloc, versions, nodes)? {
         Outcome::Order(order) => Ok(Found::Serial(serial_of(alloc, &order)?)),
         Outcome::Cycle(cycle) => Ok(Found::Cycle(edges_along(alloc, versions, &cycle)?)),
     }
+}
+
+/// Sorts the nodes by the links, which are few. If these have a cycle, by all edges; without scans these have no other
+/// ends.
+fn sorted(alloc: Global, versions: &VersionOrders, nodes: &[u32]) -> Result<Outcome, AllocError>
+    requires checked { IsChecked (ordered_history versions.now) }
+    requires nodes { nodes.now ≡ committed (ordered_history versions.now).events }
+    ensures { IfOk result (IsSorted (edge_list (ordered_history versions.now)) nodes.now) }
+{
+    edge_list_is_exact();
+    edges_join_committed();
+    let outcome = topological_order(alloc, nodes, links(alloc, versions)?)?;
+    if matches!(outcome, Outcome::Order(_)) || !has_scans(versions.events()) {
+        return Ok(outcome);
+    }
+    topological_order(alloc, nodes, arcs_of_edges(alloc, versions)?)
 }
 
 /// Returns whether an event is a scan.

@@ -17,7 +17,7 @@ decided law own lent same checked =
 pub returns-clause-refused : goal.returns-clause-refused
 returns-clause-refused c =
     none_beside_result c.cycle_excludes_certificates.ensures (checked_history c.args.checked.now)
-    c.by_links.result (subst (λ (g : HistoryValue). IfOk c.by_links.result (IsFound (history_of g))) c.in_ok-versions.ensures.same c.by_links.ensures)
+    c.found.result (subst (λ (g : HistoryValue). IfOk c.found.result (IsFound (history_of g))) c.in_ok-versions.ensures.same c.found.ensures)
 
 pub returns-clause-decided : goal.returns-clause-decided
 returns-clause-decided c =
