@@ -2,5 +2,6 @@
 pub mod Verdicts
 pub mod Serializable
 pub mod TextVerdicts
+pub mod Inputs
 pub mod Answers
 pub mod Output

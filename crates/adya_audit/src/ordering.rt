@@ -1,8 +1,9 @@
 //! A certificate, a cycle or a verdict for a history text.
 
-ghost use Rattle.std.specs.Prelude.{◌≡◌, ◌≢◌, false, true, IfOk, IfErr, IfSome, OnOk, IsErrOf};
-ghost use Rattle.devices.specs.Mirror.{has_failed, watched_remaining};
+ghost use Rattle.std.specs.Prelude.{◌≡◌, ◌≢◌, false, true, IfOk, IfErr, OnOk, IsErrOf};
+ghost use Rattle.devices.specs.Mirror.{has_failed};
 ghost use Rattle.devices.specs.Meaning.Writing.{Grew};
+ghost use Rattle.adya_audit.specs.Meaning.Inputs.{OnText};
 ghost use Rattle.adya_audit.specs.Meaning.Answers.{Answer as Plain, Tells, IsAnswer, answer_of, answer_text};
 
 use crate::answer::{Answer, answer_on, write_answer};
@@ -28,7 +29,7 @@ pub fn run_order<H: Read, W: Write>(
 ) -> Result<Ordered, RunFault>
     ensures answer { IfOk result (λ o. (a : Plain)
         × Tells o a
-        × IfSome (watched_remaining H.remaining history.old) (λ text. IsAnswer text a)
+        × OnText H.remaining history.old (λ text. IsAnswer text a)
         × Grew W.contents out.old out.new (answer_text a)) }
     ensures ended { OnOk result (has_failed history.new ≡ false) }
     ensures read_fault { IsErrOf result RunFault.ReadHistory → has_failed history.new ≡ true }
@@ -41,7 +42,7 @@ pub fn run_order<H: Read, W: Write>(
 }
 
 fn answer_on_stream<H: Read>(alloc: Global, history: &mut Watched<H>) -> Result<Answer, RunFault>
-    ensures answer { IfOk result (λ a. IfSome (watched_remaining H.remaining history.old)
+    ensures answer { IfOk result (λ a. OnText H.remaining history.old
         (λ text. IsAnswer text (answer_of a))) }
     ensures ended { OnOk result (has_failed history.new ≡ false) }
     ensures read_fault { IsErrOf result RunFault.ReadHistory → has_failed history.new ≡ true }

@@ -1,8 +1,9 @@
 //! The verdict on a history text and a certificate text in two streams.
 
-ghost use Rattle.std.specs.Prelude.{◌≡◌, ◌≢◌, ◌↔◌, ◌⊎◌, ℕ, false, true, IfOk, IfErr, IfSome, OnOk, IsErrOf};
-ghost use Rattle.devices.specs.Mirror.{has_failed, watched_remaining};
+ghost use Rattle.std.specs.Prelude.{◌≡◌, ◌≢◌, ◌↔◌, ◌⊎◌, ℕ, false, true, IfOk, IfErr, OnOk, IsErrOf};
+ghost use Rattle.devices.specs.Mirror.{has_failed};
 ghost use Rattle.devices.specs.Meaning.Writing.{Grew};
+ghost use Rattle.adya_audit.specs.Meaning.Inputs.{OnText, OnTexts};
 ghost use Rattle.adya_audit.specs.Meaning.Verdicts.{plain_verdict};
 ghost use Rattle.adya_audit.specs.Meaning.Output.{verdict_line};
 ghost use Rattle.adya_audit.specs.Meaning.TextVerdicts.{IsVerdictOn, NamesHistoryFault, AreAccepted, AreSerializable};
@@ -27,15 +28,15 @@ pub fn run_audit<H: Read, C: Read, W: Write>(
     certificate: &mut Watched<C>,
     out: &mut Watched<W>,
 ) -> Result<Verdict, RunFault>
-    ensures verdict { IfOk result (λ v. IfSome (watched_remaining H.remaining history.old)
-        (λ h. IfSome (watched_remaining C.remaining certificate.old) (λ c. IsVerdictOn h c (plain_verdict v)))) }
+    ensures verdict { IfOk result (λ v. OnTexts H.remaining history.old C.remaining certificate.old
+        (λ h c. IsVerdictOn h c (plain_verdict v))) }
     // A syntax fault of the history is the verdict even if nothing is known of the certificate's bytes.
-    ensures history_syntax { IfOk result (λ v. IfSome (watched_remaining H.remaining history.old)
+    ensures history_syntax { IfOk result (λ v. OnText H.remaining history.old
         (λ h. NamesHistoryFault h (plain_verdict v))) }
-    ensures yes { IfOk result (λ v. IfSome (watched_remaining H.remaining history.old)
-        (λ h. IfSome (watched_remaining C.remaining certificate.old) (λ c. (v ≡ Verdict.Yes) ↔ AreAccepted h c))) }
-    ensures promise { IfOk result (λ v. IfSome (watched_remaining H.remaining history.old)
-        (λ h. IfSome (watched_remaining C.remaining certificate.old) (λ c. v ≡ Verdict.Yes → AreSerializable h c))) }
+    ensures yes { IfOk result (λ v. OnTexts H.remaining history.old C.remaining certificate.old
+        (λ h c. (v ≡ Verdict.Yes) ↔ AreAccepted h c)) }
+    ensures promise { IfOk result (λ v. OnTexts H.remaining history.old C.remaining certificate.old
+        (λ h c. v ≡ Verdict.Yes → AreSerializable h c)) }
     ensures written { IfOk result (λ v. Grew W.contents out.old out.new (verdict_line (plain_verdict v))) }
     ensures history_ended { OnOk result (has_failed history.new ≡ false) }
     // The certificate isn't needed if the history has a syntax fault.
@@ -58,9 +59,9 @@ fn verdict_on_streams<H: Read, C: Read>(
     history: &mut Watched<H>,
     certificate: &mut Watched<C>,
 ) -> Result<Verdict, RunFault>
-    ensures verdict { IfOk result (λ v. IfSome (watched_remaining H.remaining history.old)
-        (λ h. IfSome (watched_remaining C.remaining certificate.old) (λ c. IsVerdictOn h c (plain_verdict v)))) }
-    ensures history_syntax { IfOk result (λ v. IfSome (watched_remaining H.remaining history.old)
+    ensures verdict { IfOk result (λ v. OnTexts H.remaining history.old C.remaining certificate.old
+        (λ h c. IsVerdictOn h c (plain_verdict v))) }
+    ensures history_syntax { IfOk result (λ v. OnText H.remaining history.old
         (λ h. NamesHistoryFault h (plain_verdict v))) }
     ensures history_ended { OnOk result (has_failed history.new ≡ false) }
     ensures certificate_ended { IfOk result

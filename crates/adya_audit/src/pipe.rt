@@ -1,8 +1,9 @@
 //! The verdict on a history text and a certificate text in one stream.
 
-ghost use Rattle.std.specs.Prelude.{◌≡◌, ◌≢◌, ◌↔◌, false, true, IfOk, IfErr, IfSome, OnOk, IsErrOf};
-ghost use Rattle.devices.specs.Mirror.{has_failed, watched_remaining};
+ghost use Rattle.std.specs.Prelude.{◌≡◌, ◌≢◌, ◌↔◌, false, true, IfOk, IfErr, OnOk, IsErrOf};
+ghost use Rattle.devices.specs.Mirror.{has_failed};
 ghost use Rattle.devices.specs.Meaning.Writing.{Grew};
+ghost use Rattle.adya_audit.specs.Meaning.Inputs.{OnText};
 ghost use Rattle.adya_audit.specs.Meaning.Verdicts.{plain_verdict};
 ghost use Rattle.adya_audit.specs.Meaning.Output.{verdict_line};
 ghost use Rattle.adya_audit.specs.Meaning.TextVerdicts.{IsVerdictOnStream, IsAcceptedStream, IsSerializableStream};
@@ -25,11 +26,11 @@ pub fn run_pipe<R: Read, W: Write>(
     input: &mut Watched<R>,
     out: &mut Watched<W>,
 ) -> Result<Verdict, RunFault>
-    ensures verdict { IfOk result (λ v. IfSome (watched_remaining R.remaining input.old)
+    ensures verdict { IfOk result (λ v. OnText R.remaining input.old
         (λ stream. IsVerdictOnStream stream (plain_verdict v))) }
-    ensures yes { IfOk result (λ v. IfSome (watched_remaining R.remaining input.old)
+    ensures yes { IfOk result (λ v. OnText R.remaining input.old
         (λ stream. (v ≡ Verdict.Yes) ↔ IsAcceptedStream stream)) }
-    ensures promise { IfOk result (λ v. IfSome (watched_remaining R.remaining input.old)
+    ensures promise { IfOk result (λ v. OnText R.remaining input.old
         (λ stream. v ≡ Verdict.Yes → IsSerializableStream stream)) }
     ensures written { IfOk result (λ v. Grew W.contents out.old out.new (verdict_line (plain_verdict v))) }
     ensures ended { OnOk result (has_failed input.new ≡ false) }
@@ -46,7 +47,7 @@ pub fn run_pipe<R: Read, W: Write>(
 }
 
 fn verdict_on_stream<R: Read>(alloc: Global, input: &mut Watched<R>) -> Result<Verdict, RunFault>
-    ensures verdict { IfOk result (λ v. IfSome (watched_remaining R.remaining input.old)
+    ensures verdict { IfOk result (λ v. OnText R.remaining input.old
         (λ stream. IsVerdictOnStream stream (plain_verdict v))) }
     ensures ended { OnOk result (has_failed input.new ≡ false) }
     ensures read_fault { IsErrOf result RunFault.ReadHistory → has_failed input.new ≡ true }

@@ -1,8 +1,9 @@
 //! Runs over any readers and writers, and their exit status.
 
-ghost use Rattle.std.specs.Prelude.{◌≡◌, ◌↔◌, ◌⊎◌, true, List, ℕ, IfOk, IsOk, Ok, Err, IfSome, IsErrOf};
+ghost use Rattle.std.specs.Prelude.{◌≡◌, ◌↔◌, ◌⊎◌, true, List, ℕ, IfOk, IsOk, Ok, Err, IsErrOf};
 ghost use Rattle.std.specs.Io.KnownBytes.{Appends};
-ghost use Rattle.devices.specs.Mirror.{has_failed, watched_remaining, watched_contents};
+ghost use Rattle.devices.specs.Mirror.{has_failed, watched_contents};
+ghost use Rattle.adya_audit.specs.Meaning.Inputs.{OnText, OnTexts};
 ghost use Rattle.adya_audit.specs.Meaning.TextVerdicts.{IsAcceptedStream, IsSerializableStream, AreAccepted, AreSerializable};
 ghost use Rattle.adya_audit.specs.Meaning.Answers.{Answer, Certificate, IsAnswer, answer_text};
 ghost use Rattle.ssi_store.specs.Meaning.Courses.{New};
@@ -27,9 +28,9 @@ pub fn judge_stream<R: Read, W: Write>(
     input: &mut Watched<R>,
     out: &mut Watched<W>,
 ) -> Result<Status, RunFault>
-    ensures accepted { IfOk result (λ status. IfSome (watched_remaining R.remaining input.old)
+    ensures accepted { IfOk result (λ status. OnText R.remaining input.old
         (λ stream. (status ≡ Status.Fine) ↔ IsAcceptedStream stream)) }
-    ensures serializable { IfOk result (λ status. IfSome (watched_remaining R.remaining input.old)
+    ensures serializable { IfOk result (λ status. OnText R.remaining input.old
         (λ stream. status ≡ Status.Fine → IsSerializableStream stream)) }
     ensures read_fault { IsErrOf result RunFault.ReadHistory → has_failed input.new ≡ true }
     ensures write_fault { IsErrOf result RunFault.Write → has_failed out.new ≡ true }
@@ -46,12 +47,10 @@ pub fn judge_texts<H: Read, C: Read, W: Write>(
     certificate: &mut Watched<C>,
     out: &mut Watched<W>,
 ) -> Result<Status, RunFault>
-    ensures accepted { IfOk result (λ status. IfSome (watched_remaining H.remaining history.old)
-        (λ h. IfSome (watched_remaining C.remaining certificate.old)
-        (λ c. (status ≡ Status.Fine) ↔ AreAccepted h c))) }
-    ensures serializable { IfOk result (λ status. IfSome (watched_remaining H.remaining history.old)
-        (λ h. IfSome (watched_remaining C.remaining certificate.old)
-        (λ c. status ≡ Status.Fine → AreSerializable h c))) }
+    ensures accepted { IfOk result (λ status. OnTexts H.remaining history.old C.remaining certificate.old
+        (λ h c. (status ≡ Status.Fine) ↔ AreAccepted h c)) }
+    ensures serializable { IfOk result (λ status. OnTexts H.remaining history.old C.remaining certificate.old
+        (λ h c. status ≡ Status.Fine → AreSerializable h c)) }
     ensures history_fault { IsErrOf result RunFault.ReadHistory → has_failed history.new ≡ true }
     ensures certificate_fault { IsErrOf result RunFault.ReadSerial → has_failed certificate.new ≡ true }
     ensures write_fault { IsErrOf result RunFault.Write → has_failed out.new ≡ true }
@@ -68,7 +67,7 @@ pub fn order_text<H: Read, W: Write>(
 ) -> Result<Status, RunFault>
     ensures answer { IfOk result (λ status. (a : Answer)
         × ((status ≡ Status.Fine) ↔ ((ts : List ℕ) × (a ≡ Certificate ts)))
-        × IfSome (watched_remaining H.remaining history.old) (λ text. IsAnswer text a)
+        × OnText H.remaining history.old (λ text. IsAnswer text a)
         × Appends (watched_contents W.contents out.old) (watched_contents W.contents out.new) (answer_text a)) }
     ensures read_fault { IsErrOf result RunFault.ReadHistory → has_failed history.new ≡ true }
     ensures write_fault { IsErrOf result RunFault.Write → has_failed out.new ≡ true }

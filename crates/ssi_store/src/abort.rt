@@ -10,12 +10,12 @@ use ssi_versions::Chains;
 impl<C: Chains + Drop, M: Marks + Drop> Engine<C, M> {
     ghost use Rattle.ssi_store.specs.Meaning.Courses.{Course, Then, Command as Do, Answer as Is};
     ghost use Rattle.ssi_store.specs.Mirror.Commands.{answer_of};
-    ghost use Rattle.ssi_store.specs.Mirror.Standing.{IsAt};
+    ghost use Rattle.ssi_store.specs.Mirror.Standing.{IsAt, GoesOn};
     ghost use Rattle.ssi_store.specs.Machinery.Ends.{IsEnd};
 
     /// Aborts the session's transaction. Takes no memory.
     pub(crate) fn abort(&mut self, session: Session) -> Result<Reply, Refusal>
-        ensures stands { (c : Course) → IsAt C.held M.marked self.old c → IsAt C.held M.marked self.new (Then c (Do.Abort session) (answer_of result)) }
+        ensures stands { GoesOn C.held M.marked self.old self.new (Do.Abort session) (answer_of result) }
     {
         let open = open_of(&self.sessions, session)?;
         let txn = open.view.txn();

@@ -9,13 +9,13 @@ use ssi_reads::Marks;
 use ssi_versions::Chains;
 
 impl<C: Chains + Drop, M: Marks + Drop> Engine<C, M> {
-    ghost use Rattle.ssi_store.specs.Meaning.Courses.{Course, Then, Command as Do};
+    ghost use Rattle.ssi_store.specs.Meaning.Courses.{Command as Do};
     ghost use Rattle.ssi_store.specs.Mirror.Commands.{answer_of};
-    ghost use Rattle.ssi_store.specs.Mirror.Standing.{IsAt};
+    ghost use Rattle.ssi_store.specs.Mirror.Standing.{GoesOn};
 
     /// Opens a transaction. All growths come before the first change.
     pub(crate) fn begin(&mut self, session: Session) -> Result<Reply, Refusal>
-        ensures stands { (c : Course) → IsAt C.held M.marked self.old c → IsAt C.held M.marked self.new (Then c (Do.Begin session) (answer_of result)) }
+        ensures stands { GoesOn C.held M.marked self.old self.new (Do.Begin session) (answer_of result) }
     {
         if self.sessions.contains_key(&session) {
             return Err(Refusal::Busy);

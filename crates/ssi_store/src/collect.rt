@@ -7,13 +7,13 @@ use ssi_reads::Marks;
 use ssi_versions::Chains;
 
 impl<C: Chains + Drop, M: Marks + Drop> Engine<C, M> {
-    ghost use Rattle.ssi_store.specs.Meaning.Courses.{Course, Then, Command as Do};
+    ghost use Rattle.ssi_store.specs.Meaning.Courses.{Command as Do};
     ghost use Rattle.ssi_store.specs.Mirror.Commands.{answer_of};
-    ghost use Rattle.ssi_store.specs.Mirror.Standing.{IsAt};
+    ghost use Rattle.ssi_store.specs.Mirror.Standing.{GoesOn};
 
     /// Drops the versions that are neither the last of their key nor seen by an open transaction. Takes no memory.
     pub(crate) fn collect(&mut self) -> Result<Reply, Refusal>
-        ensures stands { (c : Course) → IsAt C.held M.marked self.old c → IsAt C.held M.marked self.new (Then c Do.Collect (answer_of result)) }
+        ensures stands { GoesOn C.held M.marked self.old self.new Do.Collect (answer_of result) }
     {
         laws_below();
         let versions = self.chains.collect(self.roster.open_snapshots());
@@ -22,7 +22,7 @@ impl<C: Chains + Drop, M: Marks + Drop> Engine<C, M> {
 
     /// Counts transactions, versions and keys. Takes no memory.
     pub(crate) fn stat(&self) -> Result<Reply, Refusal>
-        ensures stands { (c : Course) → IsAt C.held M.marked self.now c → IsAt C.held M.marked self.now (Then c Do.Stat (answer_of result)) }
+        ensures stands { GoesOn C.held M.marked self.now self.now Do.Stat (answer_of result) }
     {
         laws_below();
         Ok(Reply::Stat {

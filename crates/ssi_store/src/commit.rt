@@ -15,13 +15,13 @@ use ssi_versions::Chains;
 use std::alloc::{AllocError, Global};
 
 impl<C: Chains + Drop, M: Marks + Drop> Engine<C, M> {
-    ghost use Rattle.ssi_store.specs.Meaning.Courses.{Course, Then, Command as Do};
+    ghost use Rattle.ssi_store.specs.Meaning.Courses.{Command as Do};
     ghost use Rattle.ssi_store.specs.Mirror.Commands.{answer_of};
-    ghost use Rattle.ssi_store.specs.Mirror.Standing.{IsAt};
+    ghost use Rattle.ssi_store.specs.Mirror.Standing.{GoesOn};
 
     /// Commits the session's transaction. All growths come before the first change.
     pub(crate) fn commit(&mut self, session: Session) -> Result<Reply, Refusal>
-        ensures stands { (c : Course) → IsAt C.held M.marked self.old c → IsAt C.held M.marked self.new (Then c (Do.Commit session) (answer_of result)) }
+        ensures stands { GoesOn C.held M.marked self.old self.new (Do.Commit session) (answer_of result) }
     {
         laws_below();
         let open = open_of(&self.sessions, session)?;

@@ -39,10 +39,10 @@ pub(crate) struct Engine<C: Chains + Drop, M: Marks + Drop> {
 }
 
 impl<C: Chains + Drop, M: Marks + Drop> Engine<C, M> {
-    ghost use Rattle.ssi_store.specs.Meaning.Courses.{Course, New, Then};
+    ghost use Rattle.ssi_store.specs.Meaning.Courses.{Course, New};
     ghost use Rattle.ssi_store.specs.Meaning.Replies.{IsAnswer};
     ghost use Rattle.ssi_store.specs.Mirror.Commands.{command_of, answer_of};
-    ghost use Rattle.ssi_store.specs.Mirror.Standing.{IsAt};
+    ghost use Rattle.ssi_store.specs.Mirror.Standing.{IsAt, GoesOn};
 
     /// Makes an empty engine whose first transaction has this number. Takes no memory.
     pub(crate) fn with_next(alloc: Global, chains: C, marks: M, next: Txn) -> Self
@@ -63,7 +63,7 @@ impl<C: Chains + Drop, M: Marks + Drop> Engine<C, M> {
 
     /// Carries out one command.
     pub(crate) fn apply(&mut self, command: Command) -> Result<Reply, Refusal>
-        ensures stands { (c : Course) → IsAt C.held M.marked self.old c → IsAt C.held M.marked self.new (Then c (command_of command) (answer_of result)) }
+        ensures stands { GoesOn C.held M.marked self.old self.new (command_of command) (answer_of result) }
         ensures answers { (c : Course) → IsAt C.held M.marked self.old c → IsAnswer smallest_ordered_pivot c (command_of command) (answer_of result) }
     {
         match command {

@@ -19,14 +19,14 @@ use ssi_versions::Chains;
 use std::alloc::{AllocError, Global};
 
 impl<C: Chains + Drop, M: Marks + Drop> Engine<C, M> {
-    ghost use Rattle.ssi_store.specs.Meaning.Courses.{Course, Then, Command as Do};
+    ghost use Rattle.ssi_store.specs.Meaning.Courses.{Command as Do};
     ghost use Rattle.ssi_store.specs.Mirror.Commands.{answer_of};
-    ghost use Rattle.ssi_store.specs.Mirror.Standing.{IsAt};
+    ghost use Rattle.ssi_store.specs.Mirror.Standing.{GoesOn};
 
     /// Reads the key. A key that the transaction has written is read from its own writes, and meets no other
     /// transaction.
     pub(crate) fn get(&mut self, session: Session, key: Key) -> Result<Reply, Refusal>
-        ensures stands { (c : Course) → IsAt C.held M.marked self.old c → IsAt C.held M.marked self.new (Then c (Do.Get session key) (answer_of result)) }
+        ensures stands { GoesOn C.held M.marked self.old self.new (Do.Get session key) (answer_of result) }
     {
         laws_below();
         let open = open_of(&self.sessions, session)?;

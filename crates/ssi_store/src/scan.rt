@@ -17,13 +17,13 @@ use std::alloc::{AllocError, Global};
 use std::num::NonZeroU16;
 
 impl<C: Chains + Drop, M: Marks + Drop> Engine<C, M> {
-    ghost use Rattle.ssi_store.specs.Meaning.Courses.{Course, Then, Command as Do};
+    ghost use Rattle.ssi_store.specs.Meaning.Courses.{Command as Do};
     ghost use Rattle.ssi_store.specs.Mirror.Commands.{answer_of};
-    ghost use Rattle.ssi_store.specs.Mirror.Standing.{IsAt};
+    ghost use Rattle.ssi_store.specs.Mirror.Standing.{GoesOn};
 
     /// Reads the keys from `low` to `high`, both included.
     pub(crate) fn scan(&mut self, session: Session, low: Key, high: Key) -> Result<Reply, Refusal>
-        ensures stands { (c : Course) → IsAt C.held M.marked self.old c → IsAt C.held M.marked self.new (Then c (Do.Scan session low high) (answer_of result)) }
+        ensures stands { GoesOn C.held M.marked self.old self.new (Do.Scan session low high) (answer_of result) }
     {
         laws_below();
         let open = open_of(&self.sessions, session)?;
@@ -52,7 +52,7 @@ impl<C: Chains + Drop, M: Marks + Drop> Engine<C, M> {
         high: Key,
         limit: NonZeroU16,
     ) -> Result<Reply, Refusal>
-        ensures stands { (c : Course) → IsAt C.held M.marked self.old c → IsAt C.held M.marked self.new (Then c (Do.ScanFirst session low high (non_zero_u16_get limit)) (answer_of result)) }
+        ensures stands { GoesOn C.held M.marked self.old self.new (Do.ScanFirst session low high (non_zero_u16_get limit)) (answer_of result) }
     {
         laws_below();
         let n = limit.get();

@@ -27,14 +27,14 @@ pub struct Store<C: Chains + Drop, M: Marks + Drop> {
 }
 
 impl<C: Chains + Drop, M: Marks + Drop> Store<C, M> {
-    ghost use Rattle.ssi_store.specs.Meaning.Courses.{Course, New, Then};
+    ghost use Rattle.ssi_store.specs.Meaning.Courses.{Course, New};
     ghost use Rattle.ssi_store.specs.Meaning.Replies.{IsAnswer};
     ghost use Rattle.ssi_store.specs.Mirror.Commands.{command_of, answer_of};
     ghost use Rattle.ssi_store.specs.Meaning.Recording.{finished, dumped, snapshots};
     ghost use Rattle.ssi_store.specs.Meaning.Faces.{Records, RecordsSoFar};
     ghost use Rattle.ssi_store.specs.Meaning.Coverage.{IsCovered};
     ghost use Rattle.ssi_store.specs.Mirror.Finished.{recorded_in, snapshots_in};
-    ghost use Rattle.ssi_store.specs.Mirror.Stores.{IsAt};
+    ghost use Rattle.ssi_store.specs.Mirror.Stores.{IsAt, GoesOn};
 
     /// Makes an empty store over versions and marks that are empty; the first transaction has number 1. Takes no memory.
     pub fn new(alloc: Global, chains: C, marks: M) -> Self
@@ -60,7 +60,7 @@ impl<C: Chains + Drop, M: Marks + Drop> Store<C, M> {
     /// The answer is the reply that the commands before give to this one. Out of memory is answered only to a command
     /// that no other refusal applies to, and never to abort, collect and stat.
     pub fn apply(&mut self, command: Command) -> Result<Reply, Refusal>
-        ensures stands { (c : Course) → IsAt C.held M.marked self.old c → IsAt C.held M.marked self.new (Then c (command_of command) (answer_of result)) }
+        ensures stands { GoesOn C.held M.marked self.old self.new (command_of command) (answer_of result) }
         ensures answers { (c : Course) → IsAt C.held M.marked self.old c → IsAnswer smallest_ordered_pivot c (command_of command) (answer_of result) }
     {
         self.engine.apply(command)

@@ -12,9 +12,8 @@ use ssi_reads::Marks;
 use ssi_versions::Chains;
 
 impl<C: Chains + Drop, M: Marks + Drop> Engine<C, M> {
-    ghost use Rattle.ssi_store.specs.Meaning.Courses.{Course, Then};
     ghost use Rattle.ssi_store.specs.Mirror.Commands.{answer_of, written};
-    ghost use Rattle.ssi_store.specs.Mirror.Standing.{IsAt};
+    ghost use Rattle.ssi_store.specs.Mirror.Standing.{GoesOn};
 
     /// Writes the key; dead content deletes it.
     pub(crate) fn write(
@@ -23,7 +22,7 @@ impl<C: Chains + Drop, M: Marks + Drop> Engine<C, M> {
         key: Key,
         content: Content,
     ) -> Result<Reply, Refusal>
-        ensures stands { (c : Course) → IsAt C.held M.marked self.old c → IsAt C.held M.marked self.new (Then c (written session key (content_of content)) (answer_of result)) }
+        ensures stands { GoesOn C.held M.marked self.old self.new (written session key (content_of content)) (answer_of result) }
     {
         laws_below();
         let Some(open) = self.sessions.get_mut(&session) else {

@@ -11,7 +11,7 @@ use Rattle.ssi_conflict.specs.Meaning.Calls.{Call}
 use Rattle.ssi_conflict.specs.Mirror.{Stands}
 use Rattle.ssi_conflict.specs.Computing.Steps.{smallest_ordered_pivot}
 use Rattle.ssi_recorder.specs.Mirror.{events_of}
-use Rattle.ssi_store.specs.Meaning.Courses.{Course, txn_in, next_txn}
+use Rattle.ssi_store.specs.Meaning.Courses.{Command, Answer, Course, Then, txn_in, next_txn}
 use Rattle.ssi_store.specs.Meaning.Acts.{Act, acts, begun, open_txns}
 use Rattle.ssi_store.specs.Meaning.Seeing.{commit_count, snapshot, changed}
 use Rattle.ssi_store.specs.Meaning.Tracked.{tracked}
@@ -70,6 +70,10 @@ module _ {C M : Type 0} {g : HeldBy C} {h : MarkedBy M} (holds : C → List Held
   -- the engine stands for the course
   abbrev pub IsAt : Engine C M g h → Course → Type 0
   IsAt s c = StandsFor (parts_of s) s.next s.sessions.entries c
+
+  -- whatever course the old engine stood for, the new one stands for it with this answer to this command
+  abbrev pub GoesOn : Engine C M g h → Engine C M g h → Command → Answer → Type 0
+  GoesOn old new command answer = (c : Course) → IsAt old c → IsAt new (Then c command answer)
 
   -- the engine stands for some course
   abbrev pub HasCourse : Engine C M g h → Type 0
