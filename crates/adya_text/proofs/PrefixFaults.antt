@@ -7,6 +7,7 @@ use Rattle.std.proofs.lemmas.List.Elements.{All-nil, All-cons, All-append, All-p
 use Rattle.adya_text.specs.Meaning.Texts.{with_ends}
 use Rattle.adya_line.specs.Meaning.Lines.{IsPlain}
 use Rattle.adya_text.specs.Meaning.Faults.{IsCut, HasFront, Begins, IsFirstFaulty, IsFaultLine}
+use Rattle.adya_text.specs.Machinery.LineReaders.{Shows, complete, stopped, long}
 use Rattle.adya_text.specs.Machinery.LongLines.{HasStart, StartsNoLine}
 use Rattle.adya_text.proofs.LineLists.{ends_append}
 use Rattle.adya_text.proofs.FaultLines.{Grammar, front_begins, whole_begins, fault_at, fault_stays, fault_stops}
@@ -77,7 +78,7 @@ front_cut text past rest lines back plain whole c = record {
 }
 
 -- a fault in the front is that of the text
-pub front_fault : (grammar : Grammar) (text : List ℕ) (past : List (List ℕ)) (k : ℕ) → k ≤ length past
+front_fault : (grammar : Grammar) (text : List ℕ) (past : List (List ℕ)) (k : ℕ) → k ≤ length past
     → IsFirstFaulty grammar past k → HasFront text past → IsFaultLine grammar text k
 front_fault grammar text past k within fault front =
     let back = cut_of front.rest in
@@ -92,19 +93,8 @@ front_fault grammar text past k within fault front =
 
 -- ---- the fault of a text that is cut into its lines
 
--- one of the lines is faulty
-pub fault_within : (grammar : Grammar) (text : List ℕ) (past : List (List ℕ)) (rest : List ℕ) (k : ℕ) → k ≤ length past
-    → IsFirstFaulty grammar past k → IsCut text past rest → IsFaultLine grammar text k
-fault_within grammar text past rest k within fault cut = record {
-  lines = past;
-  rest = rest;
-  cut = cut;
-  outside = λ are none. fault_stops grammar past k within fault (whole_begins grammar past are);
-  first = fault;
-}
-
 -- the lines begin a text and are none, or more follows them
-pub fault_after : (grammar : Grammar) (text : List ℕ) (past : List (List ℕ)) (rest : List ℕ) → Begins grammar past
+fault_after : (grammar : Grammar) (text : List ℕ) (past : List (List ℕ)) (rest : List ℕ) → Begins grammar past
     → (grammar past → rest ≡ [] → ⊥) → IsCut text past rest → IsFaultLine grammar text (suc (length past))
 fault_after grammar text past rest begins outside cut = record {
   lines = past;
@@ -116,7 +106,7 @@ fault_after grammar text past rest begins outside cut = record {
 
 -- ---- the fault of a text with the start of a line that cannot come there
 
-pub front_of : (text : List ℕ) (past : List (List ℕ)) (bytes : List ℕ) → HasStart text past bytes → HasFront text past
+front_of : (text : List ℕ) (past : List (List ℕ)) (bytes : List ℕ) → HasStart text past bytes → HasFront text past
 front_of text past bytes start = record { plain = start.plain; rest = bytes ++ start.rest; whole = start.whole }
 
 empty_front : (bytes rest : List ℕ) → bytes ++ rest ≡ [] → bytes ≡ []
@@ -132,7 +122,7 @@ longer_line bytes l ls rest =
     ∙ sym (append_assoc (bytes ++ l) (10 ∷ []) (with_ends ls ++ rest))
 
 -- the line, if it ends, begins no text with those before it, and else it is missing
-pub fault_at_start : (grammar : Grammar) (text : List ℕ) (past : List (List ℕ)) (bytes : List ℕ) → Begins grammar past
+fault_at_start : (grammar : Grammar) (text : List ℕ) (past : List (List ℕ)) (bytes : List ℕ) → Begins grammar past
     → StartsNoLine grammar past bytes → HasStart text past bytes → IsFaultLine grammar text (suc (length past))
 fault_at_start grammar text past bytes begins none start =
     let c = cut_of start.rest in by_lines c.lines c.rest c.cut
@@ -159,3 +149,20 @@ fault_at_start grammar text past bytes begins none start =
               ∙ sym (append_assoc (with_ends past) (with_ends (line ∷ [])) (with_ends ls ++ rest))
               ∙ ap (λ (r : List ℕ). r ++ (with_ends ls ++ rest)) (sym (ends_append past (line ∷ [])));
         })
+
+-- ---- the fault of a text of which lines show what it is
+
+pub fault_shown : (grammar : Grammar) (text : List ℕ) (past : List (List ℕ)) (rest : List ℕ) (k : ℕ) → k ≤ length past
+    → IsFirstFaulty grammar past k → Shows grammar text past rest → IsFaultLine grammar text k
+fault_shown grammar text past rest k within fault (complete cut) =
+    front_fault grammar text past k within fault (record { plain = cut.plain; rest = rest; whole = cut.whole })
+fault_shown grammar text past rest k within fault (stopped stops front) = front_fault grammar text past k within fault front
+fault_shown grammar text past rest k within fault (long starts start) =
+    front_fault grammar text past k within fault (front_of text past rest start)
+
+pub missing_shown : (grammar : Grammar) (text : List ℕ) (past : List (List ℕ)) (rest : List ℕ) → Begins grammar past
+    → (grammar past → rest ≡ [] → ⊥) → Shows grammar text past rest → IsFaultLine grammar text (suc (length past))
+missing_shown grammar text past rest begins outside (complete cut) = fault_after grammar text past rest begins outside cut
+missing_shown grammar text past rest begins outside (stopped stops front) = absurd (stops begins)
+missing_shown grammar text past rest begins outside (long starts start) =
+    fault_at_start grammar text past rest begins starts start

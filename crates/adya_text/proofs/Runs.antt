@@ -1,25 +1,27 @@
 -- Runs of lines, which the texts of their lines determine.
-use Rattle.std.proofs.Common.{◌≡◌, ℕ, Bool, true, List, [], ◌∷◌, ◌++◌, map, refl, sym, ap, ◌∙◌}
+use Rattle.std.proofs.Common.{◌≡◌, ℕ, true, false, List, [], ◌∷◌, ◌++◌, map, refl, sym, ap, ◌∙◌}
+use Rattle.std.proofs.Common.{append_assoc, append-nil}
 use Rattle.std.proofs.lemmas.List.{map_push, map-append}
 use Rattle.std.specs.List.{AllByRecursion}
 use Rattle.adya_line.specs.Laws.{IsOneText}
-use Rattle.adya_text.specs.Computing.Runs.{IsRun, end_of, HasRun}
+use Rattle.adya_line.specs.Meaning.Lines.{SpellsOnly}
+use Rattle.adya_text.specs.Computing.Runs.{Machine, IsRun, end_of, HasRun, IsRefused, IsAllowed}
 
-pub run_push : {S L : Type 0} (allows : S → L → Bool) (after : S → L → S) (s : S) (xs : List L) (x : L)
-    → IsRun allows after s xs → allows (end_of after s xs) x ≡ true → IsRun allows after s (xs ++ x ∷ [])
-run_push allows after s [] x run ok = (ok, tt)
-run_push allows after s (y ∷ ys) x run ok = (run.0, run_push allows after (after s y) ys x run.1 ok)
+run_push : {S H L : Type 0} (m : Machine S H L) (s : S) (xs : List L) (x : L) → IsRun m s xs
+    → m.allows (end_of m.after s xs) x ≡ true → IsRun m s (xs ++ x ∷ [])
+run_push m s [] x run ok = (ok, tt)
+run_push m s (y ∷ ys) x run ok = (run.0, run_push m (m.after s y) ys x run.1 ok)
 
-pub end_push : {S L : Type 0} (after : S → L → S) (s : S) (xs : List L) (x : L)
+end_push : {S L : Type 0} (after : S → L → S) (s : S) (xs : List L) (x : L)
     → end_of after s (xs ++ x ∷ []) ≡ after (end_of after s xs) x
 end_push after s [] x = refl
 end_push after s (y ∷ ys) x = end_push after (after s y) ys x
 
 -- what follows a front was allowed there
-pub run_next : {S L : Type 0} (allows : S → L → Bool) (after : S → L → S) (s : S) (xs : List L) (x : L) (ys : List L)
-    → IsRun allows after s (xs ++ x ∷ ys) → allows (end_of after s xs) x ≡ true
-run_next allows after s [] x ys run = run.0
-run_next allows after s (z ∷ zs) x ys run = run_next allows after (after s z) zs x ys run.1
+run_next : {S H L : Type 0} (m : Machine S H L) (s : S) (xs : List L) (x : L) (ys : List L)
+    → IsRun m s (xs ++ x ∷ ys) → m.allows (end_of m.after s xs) x ≡ true
+run_next m s [] x ys run = run.0
+run_next m s (z ∷ zs) x ys run = run_next m (m.after s z) zs x ys run.1
 
 pub all_push : {L : Type 0} (P : L → Type 0) (xs : List L) (x : L) → AllByRecursion P xs → P x
     → AllByRecursion P (xs ++ x ∷ [])
@@ -80,33 +82,38 @@ texts_tell text good tells (a ∷ more_a) (b ∷ more_b) ga gb e =
     cc (tells a b ga.0 gb.0 here, texts_tell text good tells more_a more_b ga.1 gb.1 later)
 
 -- the text of a line that is not allowed after the run doesn't go on with it
-pub refused : {S L : Type 0} (allows : S → L → Bool) (after : S → L → S) (text : L → List ℕ) (good : L → Type 0)
-    → IsOneText good text → (start here done : S) (lines : List (List ℕ)) (l : List ℕ) (more : List (List ℕ))
-    → HasRun allows after text good start here lines → HasRun allows after text good start done (lines ++ l ∷ more)
-    → ((x : L) → good x → text x ≡ l → allows here x ≡ true → ⊥) → ⊥
-refused allows after text good tells start here done lines l more front whole none =
-    let same : map text whole.items ≡ map text front.items ++ l ∷ more = cc (whole.same, front.same) in
-    let s = split text good tells whole.items front.items l more whole.goods front.goods same in
-    let allowed = run_next allows after start front.items s.line s.rest (rw s.whole at whole.runs) in
-    none s.line s.is s.same (rw front.ends at allowed)
+pub refused : {S H L : Type 0} (m : Machine S H L) → IsOneText m.good m.text → (s end : S) (held more_held : H)
+    (lines : List (List ℕ)) (l : List ℕ) (more : List (List ℕ))
+    → HasRun m s held lines → HasRun m end more_held (lines ++ l ∷ more) → IsRefused m s l → ⊥
+refused m tells s end held more_held lines l more front whole none =
+    let same : map m.text whole.items ≡ map m.text front.items ++ l ∷ more = cc (whole.same, front.same) in
+    let s = split m.text m.good tells whole.items front.items l more whole.goods front.goods same in
+    let allowed = run_next m m.start front.items s.line s.rest (rw s.whole at whole.runs) in
+    none s.line (record { good = s.is; same = sym s.same }) (rw front.ends at allowed)
+
+pub refused_by : {S H L : Type 0} (m : Machine S H L) (s : S) (text : List ℕ) (x : L)
+    → SpellsOnly m.good m.text x text → m.allows s x ≡ false → IsRefused m s text
+refused_by m s text x here never y there ok =
+    let allowed : m.allows s x ≡ true = ap (m.allows s) (sym (here.only y there)) ∙ ok in
+    absurd cc
 
 -- a run goes on with a line that is allowed after it
-unfoldable pub taken : {S L : Type 0} (allows : S → L → Bool) (after : S → L → S) (text : L → List ℕ)
-    (good : L → Type 0) (start here : S) (lines : List (List ℕ)) (x : L)
-    → HasRun allows after text good start here lines → good x → allows here x ≡ true
-    → HasRun allows after text good start (after here x) (lines ++ text x ∷ [])
-taken allows after text good start here lines x front is ok = record {
+pub taken : {S H L : Type 0} {m : Machine S H L} {s new : S} {held new_held : H} {lines : List (List ℕ)} {l : List ℕ}
+    {x : L} → HasRun m s held lines → IsAllowed m s l x → new ≡ m.after s x → new_held ≡ m.with_line held x
+    → HasRun m new new_held (lines ++ l ∷ [])
+taken {m = m} {x = x} front allowed stage holds = record {
   items = front.items ++ x ∷ [];
-  goods = all_push good front.items x front.goods is;
-  runs = run_push allows after start front.items x front.runs (rw front.ends ok);
-  ends = end_push after start front.items x ∙ ap (λ s. after s x) front.ends;
-  same = cc (front.same, map_push text front.items x);
+  goods = all_push m.good front.items x front.goods allowed.0.good;
+  runs = run_push m m.start front.items x front.runs (rw front.ends allowed.1);
+  ends = end_push m.after m.start front.items x ∙ ap (λ s. m.after s x) front.ends ∙ sym stage;
+  holds = end_push m.with_line m.nothing front.items x ∙ ap (λ h. m.with_line h x) front.holds ∙ sym holds;
+  same = cc (front.same, allowed.0.same, map_push m.text front.items x);
 }
 
-run_append : {S L : Type 0} (allows : S → L → Bool) (after : S → L → S) (s : S) (xs ys : List L)
-    → IsRun allows after s xs → IsRun allows after (end_of after s xs) ys → IsRun allows after s (xs ++ ys)
-run_append allows after s [] ys front back = back
-run_append allows after s (x ∷ xs) ys front back = (front.0, run_append allows after (after s x) xs ys front.1 back)
+run_append : {S H L : Type 0} (m : Machine S H L) (s : S) (xs ys : List L) → IsRun m s xs
+    → IsRun m (end_of m.after s xs) ys → IsRun m s (xs ++ ys)
+run_append m s [] ys front back = back
+run_append m s (x ∷ xs) ys front back = (front.0, run_append m (m.after s x) xs ys front.1 back)
 
 end_append : {S L : Type 0} (after : S → L → S) (s : S) (xs ys : List L)
     → end_of after s (xs ++ ys) ≡ end_of after (end_of after s xs) ys
@@ -114,23 +121,47 @@ end_append after s [] ys = refl
 end_append after s (x ∷ xs) ys = end_append after (after s x) xs ys
 
 -- a run goes on with a run from its end
-pub run_join : {S L : Type 0} (allows : S → L → Bool) (after : S → L → S) (text : L → List ℕ) (good : L → Type 0)
-    (start here end : S) (lines : List (List ℕ)) (ys : List L)
-    → HasRun allows after text good start here lines → AllByRecursion good ys → IsRun allows after here ys
-    → end_of after here ys ≡ end → HasRun allows after text good start end (lines ++ map text ys)
-run_join allows after text good start here end lines ys front goods runs ends = record {
+pub run_join : {S H L : Type 0} (m : Machine S H L) (s end : S) (held : H) (lines : List (List ℕ)) (ys : List L)
+    → HasRun m s held lines → AllByRecursion m.good ys → IsRun m s ys → end_of m.after s ys ≡ end
+    → HasRun m end (end_of m.with_line held ys) (lines ++ map m.text ys)
+run_join m s end held lines ys front goods runs ends = record {
   items = front.items ++ ys;
-  goods = all_append good front.items ys front.goods goods;
-  runs = run_append allows after start front.items ys front.runs (rw front.ends runs);
-  ends = end_append after start front.items ys ∙ (rw front.ends ends);
-  same = ap (λ (r : List (List ℕ)). r ++ map text ys) front.same ∙ sym (map-append text front.items ys);
+  goods = all_append m.good front.items ys front.goods goods;
+  runs = run_append m m.start front.items ys front.runs (rw front.ends runs);
+  ends = end_append m.after m.start front.items ys ∙ (rw front.ends ends);
+  holds = end_append m.with_line m.nothing front.items ys ∙ (rw front.holds refl);
+  same = ap (λ (r : List (List ℕ)). r ++ map m.text ys) front.same ∙ sym (map-append m.text front.items ys);
 }
 
--- one list of lines leads to one stage
-pub one_end : {S L : Type 0} (allows : S → L → Bool) (after : S → L → S) (text : L → List ℕ) (good : L → Type 0)
-    → IsOneText good text → (start a b : S) (lines : List (List ℕ))
-    → HasRun allows after text good start a lines → HasRun allows after text good start b lines → a ≡ b
-one_end allows after text good tells start a b lines left right =
+-- one list of lines leads to one stage, and holds one value
+pub one_end : {S H L : Type 0} (m : Machine S H L) → IsOneText m.good m.text → (a b : S) (g h : H)
+    (lines : List (List ℕ)) → HasRun m a g lines → HasRun m b h lines → (a ≡ b) × (g ≡ h)
+one_end m tells a b g h lines left right =
     let same : left.items ≡ right.items =
-    texts_tell text good tells left.items right.items left.goods right.goods (sym left.same ∙ right.same) in
-    sym left.ends ∙ ap (end_of after start) same ∙ right.ends
+    texts_tell m.text m.good tells left.items right.items left.goods right.goods (sym left.same ∙ right.same) in (
+      sym left.ends ∙ ap (end_of m.after m.start) same ∙ right.ends,
+      sym left.holds ∙ ap (end_of m.with_line m.nothing) same ∙ right.holds,
+    )
+
+-- ---- lines of one kind, one for each value of a list
+
+-- whatever comes before lines that end at a stage from any other, they end there
+pub front_ends : {S L : Type 0} (after : S → L → S) (end : S) (ys : List L) → ((s : S) → end_of after s ys ≡ end)
+    → (xs : List L) (s : S) → end_of after s (xs ++ ys) ≡ end
+front_ends after end ys each [] s = each s
+front_ends after end ys each (x ∷ xs) s = front_ends after end ys each xs (after s x)
+
+pub map_texts : {X L : Type 0} (text : L → List ℕ) (of : X → L) (text_of : X → List ℕ)
+    → ((x : X) → text (of x) ≡ text_of x) → (xs : List X) (ys : List L) (more : List (List ℕ)) → map text ys ≡ more
+    → map text (map of xs ++ ys) ≡ map text_of xs ++ more
+map_texts text of text_of each [] ys more rest = rest
+map_texts text of text_of each (x ∷ xs) ys more rest = cc (each x, map_texts text of text_of each xs ys more rest)
+
+-- where each line puts its value at the end of a list, the lines put theirs there in order
+pub all_put : {H L X : Type 0} (hold : H → L → H) (of : X → L) (put : List X → H)
+    → ((xs : List X) (x : X) → hold (put xs) (of x) ≡ put (xs ++ x ∷ [])) → (xs ys : List X) (more : List L)
+    → end_of hold (put xs) (map of ys ++ more) ≡ end_of hold (put (xs ++ ys)) more
+all_put hold of put each xs [] more = ap (λ l. end_of hold (put l) more) (sym (append-nil xs))
+all_put hold of put each xs (y ∷ ys) more =
+    ap (λ h. end_of hold h (map of ys ++ more)) (each xs y) ∙ all_put hold of put each (xs ++ y ∷ []) ys more
+    ∙ ap (λ l. end_of hold (put l) more) (append_assoc xs (y ∷ []) ys)

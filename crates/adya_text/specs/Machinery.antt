@@ -1,6 +1,7 @@
 -- What only this crate's loops and tables need.
 pub mod LineFaults
 pub mod LongLines
-pub mod HistoryReaders
-pub mod SerialReaders
+pub mod LineReaders
+pub mod HistoryDrafts
+pub mod SerialDrafts
 pub mod TextParts

@@ -1,13 +1,13 @@
 //! The texts of histories and of certificates: reading, writing, and the line of a fault.
 #![tactic(auto)]
 
-mod history_reader;
+mod history_draft;
 pub mod laws;
 mod line_reader;
 mod lines;
 mod read_fault;
 mod reading;
-mod serial_reader;
+mod serial_draft;
 mod sources;
 mod writing;
 

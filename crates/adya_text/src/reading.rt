@@ -6,10 +6,10 @@ ghost use Rattle.adya_values.specs.Mirror.{history_of, serial_txns};
 ghost use Rattle.adya_text.specs.Meaning.Texts.{IsHistory, IsSerial, history_text, serial_text};
 ghost use Rattle.adya_text.specs.Meaning.Reading.{ReadsHistory, ReadsSerial};
 
-use crate::history_reader::HistoryReader;
-use crate::line_reader::LineReader;
+use crate::history_draft::HistoryDraft;
+use crate::line_reader::{Draft, LineReader};
 use crate::read_fault::ReadFault;
-use crate::serial_reader::SerialReader;
+use crate::serial_draft::SerialDraft;
 use adya_line::laws::{history_lines, serial_lines};
 use adya_values::{History, Serial};
 use memchr::memchr;
@@ -24,7 +24,7 @@ pub fn read_history(alloc: Global, text: &[u8]) -> Result<History, ReadFault>
         MatchResult result (λ v. history_of v ≡ h) (λ e. e ≡ ReadFault.Memory) }
 {
     history_lines();
-    read_lines(HistoryReader::new(alloc), text)
+    read_lines(HistoryDraft::new(alloc), text)
 }
 
 /// Reads the text of a certificate. Returns `Syntax` exactly if the text is that of no certificate, with the line of the
@@ -37,16 +37,16 @@ pub fn read_serial(alloc: Global, text: &[u8]) -> Result<Serial, ReadFault>
         MatchResult result (λ v. serial_txns v ≡ ts) (λ e. e ≡ ReadFault.Memory) }
 {
     serial_lines();
-    read_lines(SerialReader::new(alloc), text)
+    read_lines(SerialDraft::new(alloc), text)
 }
 
-/// Feeds the reader with the lines of the text.
-fn read_lines<R: LineReader>(reader: R, text: &[u8]) -> Result<R::Value, ReadFault>
-    requires { R.is_fed reader [] }
-    ensures answer { R.reads text.now result }
+/// Feeds a reader with the lines of the text, and returns its result.
+fn read_lines<D: Draft>(draft: D, text: &[u8]) -> Result<D::Value, ReadFault>
+    requires { D.has_lines draft [] }
+    ensures answer { D.reads text.now result }
     ensures no_device { IsErrOf result ReadFault.Device → ⊥ }
 {
-    let mut reader = reader;
+    let mut reader = LineReader::new(draft);
     let mut rest = text;
     'lines: while let Some(at) = memchr(b'\n', rest) {
         reader.line(&rest[..at])?;

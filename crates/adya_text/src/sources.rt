@@ -8,11 +8,11 @@ ghost use Rattle.adya_text.specs.Meaning.Texts.{IsHistory, IsSerial, history_tex
 ghost use Rattle.adya_text.specs.Meaning.Reading.{IsOfText, ReadsHistory, ReadsSerial, ReadsTexts};
 ghost use Rattle.adya_text.specs.Meaning.Streams.{history_part, serial_part};
 
-use crate::history_reader::HistoryReader;
-use crate::line_reader::LineReader;
+use crate::history_draft::HistoryDraft;
+use crate::line_reader::{Draft, LineReader};
 use crate::lines::Lines;
 use crate::read_fault::ReadFault;
-use crate::serial_reader::SerialReader;
+use crate::serial_draft::SerialDraft;
 use adya_line::is_tail;
 use adya_line::laws::{history_lines, serial_lines};
 use adya_values::{History, Serial};
@@ -36,7 +36,7 @@ pub fn read_history_from<S: Source>(alloc: Global, source: &mut S) -> Result<His
 {
     history_lines();
     let mut lines = Lines::new();
-    let read = read_rest(alloc, HistoryReader::new(alloc), &mut lines, source);
+    let read = read_rest(alloc, HistoryDraft::new(alloc), &mut lines, source);
     if read.is_err() {
         lines.pass_over(source)?;
     }
@@ -60,7 +60,7 @@ pub fn read_serial_from<S: Source>(alloc: Global, source: &mut S) -> Result<Seri
 {
     serial_lines();
     let mut lines = Lines::new();
-    let read = read_rest(alloc, SerialReader::new(alloc), &mut lines, source);
+    let read = read_rest(alloc, SerialDraft::new(alloc), &mut lines, source);
     if read.is_err() {
         lines.pass_over(source)?;
     }
@@ -81,7 +81,7 @@ pub fn read_history_early<S: Source>(alloc: Global, source: &mut S) -> Result<Hi
 {
     history_lines();
     let mut lines = Lines::new();
-    read_rest(alloc, HistoryReader::new(alloc), &mut lines, source)
+    read_rest(alloc, HistoryDraft::new(alloc), &mut lines, source)
 }
 
 /// Reads the text of a certificate as [`read_serial_from`] does, but reads no further than it needs: a first line of more
@@ -98,7 +98,7 @@ pub fn read_serial_early<S: Source>(alloc: Global, source: &mut S) -> Result<Ser
 {
     serial_lines();
     let mut lines = Lines::new();
-    read_rest(alloc, SerialReader::new(alloc), &mut lines, source)
+    read_rest(alloc, SerialDraft::new(alloc), &mut lines, source)
 }
 
 /// Reads the two texts of one stream: a history's, up to and with the first line `end`, and then a certificate's, to
@@ -141,7 +141,7 @@ fn read_history_part<S: Source>(
     ensures works { lines.old ≡ [] → IsOfText result → S.is_failed source.new ≡ false }
     ensures stream { S.same source.old source.new }
 {
-    let mut reader = HistoryReader::new(alloc);
+    let mut reader = LineReader::new(HistoryDraft::new(alloc));
     let mut line = Vec::new(alloc);
     while lines.next_line(source, &mut line, reader.longest_line())? {
         reader.line(&line)?;
@@ -169,25 +169,25 @@ fn read_serial_rest<S: Source>(
     ensures works { lines.old ≡ [] → IsOfText result → S.is_failed source.new ≡ false }
     ensures stream { S.same source.old source.new }
 {
-    read_rest(alloc, SerialReader::new(alloc), lines, source)
+    read_rest(alloc, SerialDraft::new(alloc), lines, source)
 }
 
-/// Feeds the reader with the lines of what `lines` holds and then of what the source has left.
-fn read_rest<S: Source, R: LineReader>(
+/// Feeds a reader with the lines of what `lines` holds and then of what the source has left, and returns its result.
+fn read_rest<S: Source, D: Draft>(
     alloc: Global,
-    reader: R,
+    draft: D,
     lines: &mut Lines,
     source: &mut S,
-) -> Result<R::Value, ReadFault>
-    requires { R.is_fed reader [] }
-    ensures answer { IfSome (prepend_known lines.old (S.remaining source.old)) (λ text. R.reads text result) }
+) -> Result<D::Value, ReadFault>
+    requires { D.has_lines draft [] }
+    ensures answer { IfSome (prepend_known lines.old (S.remaining source.old)) (λ text. D.reads text result) }
     ensures ended { OnOk result ((lines.new ≡ []) × IsAtEnd (S.remaining source.new)) }
     ensures fault { IsErrOf result ReadFault.Device → S.is_failed source.new ≡ true }
     ensures unfailed { (IsErrOf result ReadFault.Device → ⊥) → S.is_failed source.new ≡ S.is_failed source.old }
     ensures works { lines.old ≡ [] → IsOfText result → S.is_failed source.new ≡ false }
     ensures stream { S.same source.old source.new }
 {
-    let mut reader = reader;
+    let mut reader = LineReader::new(draft);
     let mut line = Vec::new(alloc);
     while lines.next_line(source, &mut line, reader.longest_line())? {
         reader.line(&line)?;

@@ -1,19 +1,16 @@
--- Which line of a certificate text may come next, by the stage that the lines before have led to.
-use Rattle.std.specs.Prelude.{ℕ, Bool, true, false, Option, Some, None}
-use Rattle.adya_line.specs.Meaning.SerialLines.{Line, HeadLine, TxnLine, TailLine}
-use Rattle.adya_text.specs.declared.serial_reader.Stage.{Stage}
-use Rattle.adya_text.specs.declared.serial_reader.Stage.TheVariants.{Head, Txns, Done, Failed}
+-- Which line of a certificate text may come next, by the stage that the lines before have led to, and what lines hold.
+use Rattle.std.specs.Prelude.{ℕ, Bool, true, false, List, [], ◌∷◌, ◌++◌}
+use Rattle.adya_line.specs.Meaning.SerialLines.{Line, HeadLine, TxnLine, TailLine, IsLine, line_text}
+use Rattle.adya_text.specs.Computing.Runs.{Machine}
+use Rattle.adya_text.specs.declared.serial_draft.Stage.{Stage}
+use Rattle.adya_text.specs.declared.serial_draft.Stage.TheVariants.{Head, Txns, Done}
 
 -- the head comes first, and the tail last
 abbrev pub allows : Stage → Line → Bool
 allows Head HeadLine = true
-allows Head (TxnLine t) = false
-allows Head TailLine = false
-allows Txns HeadLine = false
 allows Txns (TxnLine t) = true
 allows Txns TailLine = true
-allows Done x = false
-allows (Failed k) x = false
+allows s x = false
 
 -- the stage after a line
 abbrev pub stage_after : Line → Stage
@@ -21,12 +18,20 @@ stage_after HeadLine = Txns
 stage_after (TxnLine t) = Txns
 stage_after TailLine = Done
 
--- the same, whatever the stage before the line
-abbrev pub next_stage : Stage → Line → Stage
-next_stage s x = stage_after x
+-- the transactions, and the one that the line holds
+abbrev pub with_line : List ℕ → Line → List ℕ
+with_line ts (TxnLine t) = ts ++ t ∷ []
+with_line ts HeadLine = ts
+with_line ts TailLine = ts
 
--- what a line holds
-abbrev pub txn_in : Line → Option ℕ
-txn_in (TxnLine t) = Some t
-txn_in HeadLine = None
-txn_in TailLine = None
+abbrev pub serial_machine : Machine Stage (List ℕ) Line
+serial_machine = record {
+  allows = allows;
+  after = λ s x. stage_after x;
+  with_line = with_line;
+  text = line_text;
+  good = IsLine;
+  start = Head;
+  done = Done;
+  nothing = [];
+}

@@ -1,6 +1,7 @@
 use Rattle.std.proofs.Common.{◌+◌, ◌++◌, ◌∷◌, [], drop, take, sym, subst}
 use Rattle.std.proofs.lemmas.Bool.{eqb-true}
 use Rattle.std.proofs.lemmas.List.{take_rest}
+use Rattle.adya_text.specs.Machinery.LineReaders.{complete}
 use Rattle.adya_text.proofs.LineLists.{IsAt, at_line, at_end}
 use Rattle.adya_text.proofs.reading.read_lines.Goals as goal
 
@@ -21,4 +22,4 @@ pub returns-clause-answer : goal.returns-clause-answer
 returns-clause-answer g c =
     let (past, at, fed) = c.lines.invariant in
     c.finish.ensures.answer past fed c.args.text.now
-    (at_end c.args.text.now past c.lines.rest.now at c.in_default.ensures)
+    (complete (at_end c.args.text.now past c.lines.rest.now at c.in_default.ensures))

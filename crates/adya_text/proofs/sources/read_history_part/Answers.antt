@@ -3,29 +3,32 @@ use Rattle.std.specs.Io.KnownBytes.{prepend_known}
 use Rattle.std.proofs.lemmas.Bool.{false≢true}
 use Rattle.adya_line.specs.Meaning.Spelling.{tail}
 use Rattle.adya_text.specs.Meaning.Faults.{IsCut}
-use Rattle.adya_text.specs.Machinery.HistoryReaders.{IsFed}
+use Rattle.adya_text.specs.Machinery.LineReaders.{complete, stopped, long}
 use Rattle.adya_text.specs.Machinery.LongLines.{HasStart, StartsNoLine}
 use Rattle.adya_text.specs.Meaning.Texts.{AreHistoryLines}
 use Rattle.adya_text.specs.Meaning.Reading.{ReadsHistory}
 use Rattle.adya_text.specs.Meaning.Streams.{history_part, serial_part}
-use Rattle.std.proofs.lemmas.List.Elements.{All-push}
-use Rattle.adya_text.proofs.LinesRead.{line_read, rest_unread, prefix_read, start_read, all_read, on_ok, on_err}
+use Rattle.std.proofs.lemmas.List.Elements.{All-nil, All-push}
+use Rattle.adya_text.proofs.LinesRead.{none_read, line_read, rest_unread, prefix_read, start_read, all_read, on_ok, on_err}
 use Rattle.adya_text.specs.Laws.{HasNoEnd}
 use Rattle.adya_text.proofs.StreamParts.{part_front, part_start, part_at_end, part_of_all}
 use Rattle.adya_text.proofs.sources.read_history_part.Goals as goal
+
+pub loop-line-init : goal.loop-line-init
+loop-line-init g c =
+    (search rules, search rules, search rules, ([], c.new-reader.ensures [] c.new.ensures, All-nil _, none_read))
 
 pub returns-then-is_tail-clause-answer : goal.returns-then-is_tail-clause-answer
 returns-then-is_tail-clause-answer g c =
     let (stream, same, works, (past, fed, other, read)) = c.loop-line.invariant in
     let line = c.next_line.new.line.items in
     let next = c.in_ok-next_line.ensures in
-    let more : IsFed c.line.new.self (past ++ line ∷ []) =
-    subst (λ l. IsFed c.line.new.self (past ++ l ∷ [])) c.deref.ensures.value (c.in_ok-line.ensures past fed) in
+    let more = rw c.deref.ensures.value at (c.in_ok-line.ensures past fed) in
     let after = line_read _ line read c.if-branch.true next.plain next.bytes in
     let is_end : line ≡ tail = sym c.deref-in-loop-line.ensures.value ∙ c.if-is_tail.ensures.0 refl in
     rest_unread (λ stream. ReadsHistory (history_part stream) c.finish.result) after
     (λ rest left. c.finish.ensures.answer (past ++ line ∷ []) more _
-    (part_at_end past line rest other is_end after.plain read.plain).0)
+    (complete (part_at_end past line rest other is_end after.plain read.plain).0))
 
 pub returns-then-is_tail-clause-rest : goal.returns-then-is_tail-clause-rest
 returns-then-is_tail-clause-rest g c =
@@ -45,15 +48,14 @@ returns-then-has_failed-clause-answer g c =
     let (stream, same, works, (past, fed, other, read)) = c.loop-line.invariant in
     let line = c.next_line.new.line.items in
     let next = c.in_ok-next_line.ensures in
-    let more : IsFed c.line.new.self (past ++ line ∷ []) =
-    subst (λ l. IsFed c.line.new.self (past ++ l ∷ [])) c.deref.ensures.value (c.in_ok-line.ensures past fed) in
+    let more = rw c.deref.ensures.value at (c.in_ok-line.ensures past fed) in
     let no_end : HasNoEnd (past ++ line ∷ []) = All-push (λ l. l ≢ tail) past line other
     (λ is. false≢true (c.if-is_tail.ensures.1 (c.deref-in-loop-line.ensures.value ∙ is))) in
     prefix_read (λ stream. ReadsHistory (history_part stream) c.finish-then-has_failed.result)
     (line_read _ line read c.if-branch.true next.plain next.bytes)
-    (λ stream front. c.finish-then-has_failed.ensures.early (past ++ line ∷ []) more
-    (c.if-has_failed.ensures.stops (past ++ line ∷ []) more) (history_part stream)
-    (part_front stream (past ++ line ∷ []) no_end front))
+    (λ stream front. c.finish-then-has_failed.ensures.answer (past ++ line ∷ []) more (history_part stream)
+    (stopped (c.if-has_failed.ensures.stops (past ++ line ∷ []) more)
+    (part_front stream (past ++ line ∷ []) no_end front)))
 
 pub loop-line-preserved : goal.loop-line-preserved
 loop-line-preserved g c =
@@ -65,7 +67,7 @@ loop-line-preserved g c =
       search rules,
       (
         past ++ line ∷ [],
-        subst (λ l. IsFed c.line.new.self (past ++ l ∷ [])) c.deref.ensures.value (c.in_ok-line.ensures past fed),
+        rw c.deref.ensures.value at (c.in_ok-line.ensures past fed),
         All-push (λ l. l ≢ tail) past line other
             (λ is. false≢true (c.if-is_tail.ensures.1 (c.deref-in-loop-line.ensures.value ∙ is))),
         line_read _ line read c.if-branch.true next.plain next.bytes,
@@ -83,9 +85,9 @@ returns-clause-answer g c =
           (c.longest_line.ensures past fed line longer) in
           start_read _ line (λ stream. ReadsHistory (history_part stream) c.finish-2.result) read c.if-branch.false
           next.plain next.bytes
-          (λ stream start. c.finish-2.ensures.long past fed none (history_part stream)
-          (subst (HasStart (history_part stream) past) (sym c.deref-2.ensures.value)
-          (part_start stream past line other start)))
+          (λ stream start. c.finish-2.ensures.answer past fed (history_part stream)
+          (long none (subst (HasStart (history_part stream) past) (sym c.deref-2.ensures.value)
+          (part_start stream past line other start))))
       | inr end ↦
           all_read _ _ line (λ stream. ReadsHistory (history_part stream) c.finish-2.result) read c.if-branch.false
           next.plain next.bytes end
@@ -93,7 +95,7 @@ returns-clause-answer g c =
           let here : IsCut (history_part stream) past line =
           subst (λ t. IsCut t past line) (sym (part_of_all stream past line other cut).0) cut in
           c.finish-2.ensures.answer past fed (history_part stream)
-          (subst (IsCut (history_part stream) past) (sym c.deref-2.ensures.value) here))
+          (complete (subst (IsCut (history_part stream) past) (sym c.deref-2.ensures.value) here)))
     ]
 
 pub returns-clause-rest : goal.returns-clause-rest
@@ -103,9 +105,9 @@ returns-clause-rest g c =
     let next = c.in_ok-next_line.ensures in
     let left = prepend_known c.next_line.new.self (g.S.Read.remaining c.next_line.new.source) in
     elim (next.end c.if-branch.false) [
-      | inl longer ↦ on_err _ c.finish-2.result (c.finish-2.ensures.long_refused past fed
-          (subst (StartsNoLine AreHistoryLines past) (sym c.deref-2.ensures.value)
-          (c.longest_line.ensures past fed line longer)))
+      | inl longer ↦ on_err _ c.finish-2.result (c.finish-2.ensures.refused past fed
+          (inr (subst (StartsNoLine AreHistoryLines past) (sym c.deref-2.ensures.value)
+          (c.longest_line.ensures past fed line longer))))
       | inr end ↦
           on_ok c.finish-2.result
           (all_read _ _ line (λ stream. left ≡ Some (serial_part stream)) read c.if-branch.false next.plain next.bytes

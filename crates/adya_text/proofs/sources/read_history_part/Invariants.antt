@@ -2,7 +2,9 @@
 use Rattle.std.proofs.Common.{◌≡◌, ◌≢◌, ◌⊎◌, ℕ, List, [], All, false}
 use Rattle.std.specs.Io.KnownBytes.{prepend_known}
 use Rattle.adya_line.specs.Meaning.Spelling.{tail}
-use Rattle.adya_text.specs.Machinery.HistoryReaders.{IsFed}
+use Rattle.adya_text.specs.Meaning.Texts.{AreHistoryLines}
+use Rattle.adya_text.specs.Machinery.HistoryDrafts.{HasLines}
+use Rattle.adya_text.specs.Machinery.LineReaders.{IsFed}
 use Rattle.devices.specs.Meaning.Lines.{work_left}
 use Rattle.adya_text.proofs.LinesRead.{WereRead}
 use Rattle.adya_text.proofs.sources.read_history_part.Given as goal
@@ -12,8 +14,8 @@ invariant-loop-line g l =
     (g.S.Source.same l.fn.source l.source)
     × (g.S.Source.is_failed l.source ≡ g.S.Source.is_failed l.fn.source)
     × (l.fn.lines ≡ [] → (l.lines ≡ []) ⊎ (g.S.Source.is_failed l.source ≡ false))
-    × ((past : List (List ℕ)) × IsFed l.reader past × All (λ line. line ≢ tail) past
-    × WereRead (prepend_known l.fn.lines (g.S.Read.remaining l.fn.source)) past
+    × ((past : List (List ℕ)) × IsFed AreHistoryLines HasLines l.reader.draft l.reader.fault past
+    × All (λ line. line ≢ tail) past × WereRead (prepend_known l.fn.lines (g.S.Read.remaining l.fn.source)) past
     (prepend_known l.lines (g.S.Read.remaining l.source)))
 
 abbrev pub decreases-loop-line : goal.decreases-loop-line

@@ -1,23 +1,23 @@
 use Rattle.std.proofs.Common.{rules, [], ◌∷◌, ◌++◌, sym, subst, inl, inr}
 use Rattle.adya_text.specs.Meaning.Faults.{IsCut}
+use Rattle.adya_text.specs.Machinery.LineReaders.{complete, stopped, long}
 use Rattle.adya_text.specs.Machinery.LongLines.{HasStart, StartsNoLine}
 use Rattle.adya_text.proofs.LinesRead.{none_read, line_read, prefix_read, start_read, all_read, on_ok, on_err}
 use Rattle.adya_text.proofs.sources.read_rest.Goals as goal
 
 pub loop-line-init : goal.loop-line-init
-loop-line-init g c = (search rules, search rules, search rules, ([], c.requires, none_read))
+loop-line-init g c = (search rules, search rules, search rules, ([], c.new-reader.ensures [] c.requires, none_read))
 
 pub returns-then-has_failed-clause-answer : goal.returns-then-has_failed-clause-answer
 returns-then-has_failed-clause-answer g c =
     let (stream, same, works, (past, fed, read)) = c.loop-line.invariant in
     let line = c.next_line.new.line.items in
     let next = c.in_ok-next_line.ensures in
-    let more : g.R.LineReader.is_fed c.line.new.self (past ++ line ∷ []) =
-    subst (λ l. g.R.LineReader.is_fed c.line.new.self (past ++ l ∷ [])) c.deref.ensures.value
-    (c.in_ok-line.ensures past fed) in
-    prefix_read (λ text. g.R.LineReader.reads text c.finish.result)
+    let more = rw c.deref.ensures.value at (c.in_ok-line.ensures past fed) in
+    prefix_read (λ text. g.D.Draft.reads text c.finish.result)
     (line_read _ line read c.if-branch.true next.plain next.bytes)
-    (c.finish.ensures.early (past ++ line ∷ []) more (c.if-has_failed.ensures.stops (past ++ line ∷ []) more))
+    (λ text front. c.finish.ensures.answer (past ++ line ∷ []) more text
+    (stopped (c.if-has_failed.ensures.stops (past ++ line ∷ []) more) front))
 
 pub loop-line-preserved : goal.loop-line-preserved
 loop-line-preserved g c =
@@ -29,8 +29,7 @@ loop-line-preserved g c =
       search rules,
       (
         past ++ line ∷ [],
-        subst (λ l. g.R.LineReader.is_fed c.line.new.self (past ++ l ∷ [])) c.deref.ensures.value
-            (c.in_ok-line.ensures past fed),
+        rw c.deref.ensures.value at (c.in_ok-line.ensures past fed),
         line_read _ line read c.if-branch.true next.plain next.bytes,
       ),
     )
@@ -42,17 +41,17 @@ returns-clause-answer g c =
     let next = c.in_ok-next_line.ensures in
     elim (next.end c.if-branch.false) [
       | inl longer ↦
-          let none = subst (StartsNoLine g.R.LineReader.grammar past) (sym c.deref-2.ensures.value)
+          let none = subst (StartsNoLine g.D.Draft.grammar past) (sym c.deref-2.ensures.value)
           (c.longest_line.ensures past fed line longer) in
-          start_read _ line (λ text. g.R.LineReader.reads text c.finish-2.result) read c.if-branch.false next.plain
+          start_read _ line (λ text. g.D.Draft.reads text c.finish-2.result) read c.if-branch.false next.plain
           next.bytes
-          (λ text start. c.finish-2.ensures.long past fed none text
-          (subst (HasStart text past) (sym c.deref-2.ensures.value) start))
+          (λ text start. c.finish-2.ensures.answer past fed text
+          (long none (subst (HasStart text past) (sym c.deref-2.ensures.value) start)))
       | inr end ↦
-          all_read _ _ line (λ text. g.R.LineReader.reads text c.finish-2.result) read c.if-branch.false next.plain
+          all_read _ _ line (λ text. g.D.Draft.reads text c.finish-2.result) read c.if-branch.false next.plain
           next.bytes end
           (λ text cut left. c.finish-2.ensures.answer past fed text
-          (subst (IsCut text past) (sym c.deref-2.ensures.value) cut))
+          (complete (subst (IsCut text past) (sym c.deref-2.ensures.value) cut)))
     ]
 
 pub returns-clause-ended : goal.returns-clause-ended
@@ -60,8 +59,8 @@ returns-clause-ended g c =
     let (stream, same, works, (past, fed, read)) = c.loop-line.invariant in
     let line = c.next_line.new.line.items in
     elim (c.in_ok-next_line.ensures.end c.if-branch.false) [
-      | inl longer ↦ on_err _ c.finish-2.result (c.finish-2.ensures.long_refused past fed
-          (subst (StartsNoLine g.R.LineReader.grammar past) (sym c.deref-2.ensures.value)
-          (c.longest_line.ensures past fed line longer)))
+      | inl longer ↦ on_err _ c.finish-2.result (c.finish-2.ensures.refused past fed
+          (inr (subst (StartsNoLine g.D.Draft.grammar past) (sym c.deref-2.ensures.value)
+          (c.longest_line.ensures past fed line longer))))
       | inr end ↦ on_ok c.finish-2.result end
     ]

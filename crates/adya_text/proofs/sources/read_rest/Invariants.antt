@@ -2,6 +2,7 @@
 use Rattle.std.proofs.Common.{◌≡◌, ◌⊎◌, ℕ, List, [], false}
 use Rattle.std.specs.Io.KnownBytes.{prepend_known}
 use Rattle.devices.specs.Meaning.Lines.{work_left}
+use Rattle.adya_text.specs.Machinery.LineReaders.{IsFed}
 use Rattle.adya_text.proofs.LinesRead.{WereRead}
 use Rattle.adya_text.proofs.sources.read_rest.Given as goal
 
@@ -10,7 +11,7 @@ invariant-loop-line g l =
     (g.S.Source.same l.fn.source l.source)
     × (g.S.Source.is_failed l.source ≡ g.S.Source.is_failed l.fn.source)
     × (l.fn.lines ≡ [] → (l.lines ≡ []) ⊎ (g.S.Source.is_failed l.source ≡ false))
-    × ((past : List (List ℕ)) × g.R.LineReader.is_fed l.reader past
+    × ((past : List (List ℕ)) × IsFed g.D.Draft.grammar g.D.Draft.has_lines l.reader.draft l.reader.fault past
     × WereRead (prepend_known l.fn.lines (g.S.Read.remaining l.fn.source)) past
     (prepend_known l.lines (g.S.Read.remaining l.source)))
 
