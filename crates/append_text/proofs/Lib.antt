@@ -1,0 +1,3 @@
+pub mod Pairings
+pub mod PairingSteps
+pub mod SameSteps

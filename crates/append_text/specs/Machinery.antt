@@ -1,2 +1,3 @@
 -- What only the loops need.
 pub mod Buffers
+pub mod Pairings

@@ -33,8 +33,8 @@ impl Collector {
 
     /// Takes the next operation.
     pub(crate) fn take<D: Data>(&mut self, data: &D) -> Result<(), Refusal> {
-        match operation(self.alloc, &mut self.names, data)? {
-            Some(op) => self.pairing.take(op, self.taken)?,
+        match operation(self.alloc, &mut self.names, self.taken, data)? {
+            Some(op) => self.pairing.take(op)?,
             None => self.passed_over = self.passed_over.saturating_add(1),
         }
         self.taken = self.taken.saturating_add(1);

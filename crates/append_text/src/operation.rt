@@ -1,6 +1,7 @@
 //! The operations of a text.
 
 use crate::data::Data;
+use crate::history::Label;
 use crate::name::Names;
 use crate::read_fault::{Problem, Refusal};
 use append_values::Operation;
@@ -23,17 +24,17 @@ pub(crate) enum Kind {
 #[derive(Drop)]
 pub(crate) struct Op {
     pub(crate) kind: Kind,
-    pub(crate) process: i64,
-    pub(crate) index: Option<u64>,
+    pub(crate) label: Label,
     /// The steps. A read of `nil` has no elements.
     pub(crate) steps: Vec<Operation>,
 }
 
-/// Reads an operation. Returns `None` if it is none of a transaction: if its process is no integer, as that of a nemesis,
+/// Reads the operation of this number in its text. Returns `None` if it is none of a transaction: if its process is no integer, as that of a nemesis,
 /// or its `:f` isn't `:txn`.
 pub(crate) fn operation<D: Data>(
     alloc: Global,
     names: &mut Names,
+    number: u64,
     data: &D,
 ) -> Result<Option<Op>, Refusal> {
     if !data.is_map() {
@@ -49,13 +50,12 @@ pub(crate) fn operation<D: Data>(
         return Err(Refusal::Problem(Problem::Type));
     };
     let index = integer_in(data, "index").and_then(|index| u64::try_from(index).ok());
-    let steps = steps_in(alloc, names, kind, data)?;
-    Ok(Some(Op {
-        kind,
+    let label = Label {
+        index: index.unwrap_or(number),
         process,
-        index,
-        steps,
-    }))
+    };
+    let steps = steps_in(alloc, names, kind, data)?;
+    Ok(Some(Op { kind, label, steps }))
 }
 
 fn is_transaction<D: Data>(data: &D) -> bool {

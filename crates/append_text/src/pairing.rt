@@ -1,8 +1,14 @@
 //! Transactions out of invocations and completions.
 
-ghost use Rattle.std.specs.Prelude.{◌≡◌, ◌++◌, ◌∷◌, [], map, IfOk, OnOk, OnErr};
+ghost use Rattle.std.specs.Prelude.{◌≡◌, ◌⊎◌, ◌++◌, ◌∷◌, [], List, Some, None, length, map, true, is_some, IfOk, IfErr, OnOk, OnErr};
+ghost use Rattle.std.specs.Bool.{OnTrue, OnFalse};
+ghost use Rattle.std.specs.Ordering.{int_cmp};
+ghost use Rattle.std.specs.BTreeMap.{get, Updates};
+ghost use Rattle.append_values.specs.declared.transaction.Outcome.TheVariants.{Unknown};
 ghost use Rattle.append_values.specs.Meaning.Histories.{operation_of, transaction_of};
 ghost use Rattle.append_text.specs.Meaning.Steps as Spec;
+ghost use Rattle.append_text.specs.Meaning.Pairing.{Op as Plain, is_invoke, AreSame, MayEnd, MayFollow};
+ghost use Rattle.append_text.specs.Machinery.Pairings.{op_of, style_or_by, is_alone, HasTaken, Ends, MayNotEnd};
 
 use crate::history::{History, Label};
 use crate::name::Names;
@@ -31,41 +37,48 @@ pub(crate) struct Pairing {
     transactions: Vec<Transaction>,
     labels: Vec<Label>,
     /// The place of the transaction that a process has invoked and not completed.
-    open: BTreeMap<i64, usize>,
+    waiting: BTreeMap<i64, usize>,
 }
 
 impl Pairing {
     /// A pairing of no operations.
-    pub(crate) fn new(alloc: Global) -> Pairing {
+    pub(crate) fn new(alloc: Global) -> Pairing
+        ensures { HasTaken result [] }
+    {
         Pairing {
             alloc,
             style: Style::Undecided,
             transactions: Vec::new(alloc),
             labels: Vec::new(alloc),
-            open: BTreeMap::new(alloc),
+            waiting: BTreeMap::new(alloc),
         }
     }
 
-    /// Takes the next operation, which is the one of this number in the text.
-    pub(crate) fn take(&mut self, op: Op, number: u64) -> Result<(), Refusal> {
-        let label = Label {
-            index: op.index.unwrap_or(number),
-            process: op.process,
-        };
-        let is_invocation = op.kind == Kind::Invoke;
-        if matches!(self.style, Style::Undecided) {
-            self.style = style_of(op.kind);
+    /// Takes the next operation, unless it can't come after those before or memory runs out.
+    pub(crate) fn take(&mut self, op: Op) -> Result<(), Refusal>
+        ensures taken { OnOk result ((ops : List Plain) → HasTaken self.old ops
+            → MayFollow ops (op_of op) × HasTaken self.new (ops ++ op_of op ∷ [])) }
+        ensures refused { IfErr result (λ e. (ops : List Plain) → HasTaken self.old ops
+            → (e ≡ Refusal.Memory) ⊎ (MayFollow ops (op_of op) → ⊥)) }
+    {
+        self.style = self.style.or_by(op.kind);
+        let is_invocation = is_invoke(op.kind);
+        if self.style.is_alone() {
+            if is_invocation {
+                return Err(Refusal::Problem(Problem::LateInvocation));
+            }
+            return Ok(self.add(op.label, outcome_of(op.kind), op.steps)?);
         }
-        match self.style {
-            Style::Completed if is_invocation => Err(Refusal::Problem(Problem::LateInvocation)),
-            Style::Completed => self.add(label, outcome_of(op.kind), op.steps),
-            _ if is_invocation => self.invoke(label, op.steps),
-            _ => self.complete(label, op.kind, op.steps),
+        if is_invocation {
+            return self.invoke(op.label, op.steps);
         }
+        self.complete(op)
     }
 
     /// Returns the history of the operations so far.
-    pub(crate) fn finish(self, names: Names, passed_over: u64) -> History {
+    pub(crate) fn finish(self, names: Names, passed_over: u64) -> History
+        ensures { (result.transactions ≡ self.transactions) × (result.labels ≡ self.labels) }
+    {
         History {
             transactions: self.transactions,
             labels: self.labels,
@@ -75,9 +88,16 @@ impl Pairing {
     }
 
     /// Adds a transaction. Unless it committed, its reads claim nothing.
-    fn add(&mut self, label: Label, outcome: Outcome, steps: Vec<Operation>) -> Result<(), Refusal>
-        ensures { OnOk result (map transaction_of self.new.transactions.items
+    fn add(
+        &mut self,
+        label: Label,
+        outcome: Outcome,
+        steps: Vec<Operation>,
+    ) -> Result<(), AllocError>
+        ensures transactions { OnOk result (map transaction_of self.new.transactions.items
             ≡ map transaction_of self.old.transactions.items ++ Spec.told outcome (map operation_of steps.items) ∷ []) }
+        ensures labels { OnOk result (self.new.labels.items ≡ self.old.labels.items ++ label ∷ []) }
+        ensures others { (self.new.waiting ≡ self.old.waiting) × (self.new.style ≡ self.old.style) }
     {
         let operations = known_steps(self.alloc, outcome, steps)?;
         self.transactions.push(Transaction {
@@ -88,26 +108,44 @@ impl Pairing {
         Ok(())
     }
 
-    fn invoke(&mut self, label: Label, steps: Vec<Operation>) -> Result<(), Refusal> {
-        if self.open.contains_key(&label.process) {
+    /// Adds a transaction that its process invokes.
+    fn invoke(&mut self, label: Label, steps: Vec<Operation>) -> Result<(), Refusal>
+        ensures transactions { OnOk result (map transaction_of self.new.transactions.items
+            ≡ map transaction_of self.old.transactions.items ++ Spec.told Unknown (map operation_of steps.items) ∷ []) }
+        ensures labels { OnOk result (self.new.labels.items ≡ self.old.labels.items ++ label ∷ []) }
+        ensures style { self.new.style ≡ self.old.style }
+        ensures waited { OnOk result (get int_cmp self.old.waiting label.process ≡ None) }
+        ensures waits { OnOk result (Updates int_cmp self.old.waiting self.new.waiting label.process
+            (Some (length self.old.transactions.items))) }
+        ensures refused { IfErr result (λ e. (e ≡ Refusal.Memory)
+            ⊎ (is_some (get int_cmp self.old.waiting label.process) ≡ true)) }
+    {
+        if self.waiting.contains_key(&label.process) {
             return Err(Refusal::Problem(Problem::TwoInvocations));
         }
+        let process = label.process;
         let place = self.transactions.len();
         self.add(label, Outcome::Unknown, steps)?;
-        self.open.insert(label.process, place)?;
+        self.waiting.insert(process, place)?;
         Ok(())
     }
 
-    fn complete(&mut self, label: Label, kind: Kind, steps: Vec<Operation>) -> Result<(), Refusal> {
-        let Some(place) = self.open.remove(&label.process) else {
+    /// Completes the transaction that the process of the operation has invoked.
+    fn complete(&mut self, op: Op) -> Result<(), Refusal>
+        ensures style { self.new.style ≡ self.old.style }
+        ensures waits { OnOk result (Updates int_cmp self.old.waiting self.new.waiting op.label.process None) }
+        ensures ended { OnOk result (Ends self.old self.new (op_of op)) }
+        ensures refused { IfErr result (λ e. MayNotEnd self.old (op_of op)) }
+    {
+        let Some(place) = self.waiting.remove(&op.label.process) else {
             return Err(Refusal::Problem(Problem::NoInvocation));
         };
         let Some(transaction) = self.transactions.get_mut(place) else {
             return Err(Refusal::Problem(Problem::NoInvocation));
         };
-        end_transaction(transaction, kind, steps)?;
+        end_transaction(transaction, op.kind, op.steps)?;
         if let Some(known) = self.labels.get_mut(place) {
-            *known = label;
+            *known = op.label;
         }
         Ok(())
     }
@@ -122,7 +160,9 @@ fn end_transaction(
 ) -> Result<(), Refusal>
     ensures ok { OnOk result (transaction_of transaction.new
         ≡ Spec.ended kind (transaction_of transaction.old) (map operation_of steps.items)) }
+    ensures may { OnOk result (MayEnd kind (map operation_of transaction.old.operations.items) (map operation_of steps.items)) }
     ensures err { OnErr result (transaction.new ≡ transaction.old) }
+    ensures may_not { OnErr result (MayEnd kind (map operation_of transaction.old.operations.items) (map operation_of steps.items) → ⊥) }
 {
     match kind {
         Kind::Ok => {
@@ -137,12 +177,30 @@ fn end_transaction(
     Ok(())
 }
 
-/// Returns how a text has its operations, if its first one is of this kind.
-fn style_of(kind: Kind) -> Style {
-    match kind {
-        Kind::Invoke => Style::Invoked,
-        Kind::Ok | Kind::Fail | Kind::Info => Style::Completed,
+impl Style {
+    /// Returns this style; if it is undecided, that of a text whose first operation is of this kind.
+    fn or_by(self, kind: Kind) -> Style
+        ensures { result ≡ style_or_by self kind }
+    {
+        match self {
+            Style::Undecided if is_invoke(kind) => Style::Invoked,
+            Style::Undecided => Style::Completed,
+            decided => decided,
+        }
     }
+
+    /// Returns whether operations stand for their transactions alone.
+    fn is_alone(&self) -> bool
+        ensures { result ≡ is_alone self.now }
+    {
+        matches!(self, Style::Completed)
+    }
+}
+
+fn is_invoke(kind: Kind) -> bool
+    ensures { result ≡ is_invoke kind }
+{
+    matches!(kind, Kind::Invoke)
 }
 
 /// Returns how a transaction ended after an operation of this kind.
@@ -196,12 +254,19 @@ fn without_result(step: &Operation) -> Operation
 }
 
 /// Returns whether these are the same steps but for what reads got.
-fn are_same(some: &[Operation], others: &[Operation]) -> bool {
-    some.len() == others.len()
-        && some
-            .iter()
-            .zip(others)
-            .all(|(step, other)| is_same(step, other))
+fn are_same(some: &[Operation], others: &[Operation]) -> bool
+    ensures same { OnTrue result (AreSame (map operation_of some.now) (map operation_of others.now)) }
+    ensures differ { OnFalse result (AreSame (map operation_of some.now) (map operation_of others.now) → ⊥) }
+{
+    if some.len() != others.len() {
+        return false;
+    }
+    for i in 0..some.len() {
+        if !is_same(&some[i], &others[i]) {
+            return false;
+        }
+    }
+    true
 }
 
 fn is_same(step: &Operation, other: &Operation) -> bool

@@ -1,6 +1,7 @@
 //! Why no history is read from a text.
 
 ghost use Rattle.std.specs.Prelude.{◌≡◌};
+ghost use Rattle.append_text.specs.declared.read_fault.Refusal.TheVariants.{Memory};
 
 use std::alloc::{AllocError, AllocFailed};
 use std::fmt;
@@ -107,12 +108,16 @@ impl From<AllocError> for ReadFault {
 }
 
 impl From<AllocError> for Refusal {
+    ghost from_gives = { λ _ r. r ≡ Memory };
+
     fn from(_: AllocError) -> Refusal {
         Refusal::Memory
     }
 }
 
 impl<T: Drop> From<AllocFailed<T>> for Refusal {
+    ghost from_gives = { λ _ r. r ≡ Memory };
+
     fn from(_: AllocFailed<T>) -> Refusal {
         Refusal::Memory
     }
