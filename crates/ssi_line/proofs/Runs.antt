@@ -17,7 +17,8 @@ use Rattle.ssi_line.specs.Meaning.Steps.{is_stop, AllGoOn}
 use Rattle.ssi_line.specs.Meaning.Ends.{WentOn, Took, EndsWith, EndsBroken}
 use Rattle.devices.specs.Meaning.Lines.{line_end}
 use Rattle.ssi_line.specs.Machinery.Lines.{has_ended}
-use Rattle.ssi_line.specs.Machinery.Answering.{Said, Told}
+use Rattle.ssi_line.specs.Machinery.Answering.{Said}
+use Rattle.ssi_line.specs.Meaning.Answers.{Told}
 
 -- ---- lists of steps
 

@@ -2,4 +2,5 @@
 pub mod Spelling
 pub mod Replies
 pub mod Steps
+pub mod Answers
 pub mod Ends

@@ -36,4 +36,4 @@ pub use end::End;
 pub use line::Line;
 pub use reading::read_line;
 pub use replies::write_reply;
-pub use serving::serve;
+pub use serving::{answer, serve};

@@ -1,12 +1,13 @@
 //! A run over an input.
 
 ghost use Rattle.std.specs.Prelude.{◌≡◌, List, [], ◌∷◌, ℕ, IsErr, true, false};
+ghost use Rattle.std.specs.Option.{option_copied};
 ghost use Rattle.devices.specs.Mirror.{has_failed};
 ghost use Rattle.ssi_store.specs.Mirror.Stores.{IsAt};
 ghost use Rattle.ssi_line.specs.Meaning.Steps.{Step, step_text};
 ghost use Rattle.ssi_line.specs.Meaning.Ends.{WentOn, Took, EndsAs};
-ghost use Rattle.ssi_line.specs.Machinery.Lines.{kept};
-ghost use Rattle.ssi_line.specs.Machinery.Answering.{Answered, IsDump, Said};
+ghost use Rattle.ssi_line.specs.Meaning.Answers.{kept, Answered};
+ghost use Rattle.ssi_line.specs.Machinery.Answering.{IsDump, Said};
 
 use crate::dump::dump_text;
 use crate::lines::next_line;
@@ -50,7 +51,7 @@ pub fn serve<S: Source, W: Write, C: Chains + Drop, M: Marks + Drop>(
             Ok(false) => return End::Eof,
             Err(_) => return End::ReadFault,
         }
-        match answer(alloc, &line, writer, store) {
+        match answer(alloc, line.text(), writer, store) {
             Ok(false) => {}
             Ok(true) => return End::Stop,
             Err(_) => return End::WriteFault,
@@ -58,19 +59,24 @@ pub fn serve<S: Source, W: Write, C: Chains + Drop, M: Marks + Drop>(
     }
 }
 
-/// Answers one line, and returns whether it ends the run.
-fn answer<W: Write, C: Chains + Drop, M: Marks + Drop>(
+/// Carries out one line, given without its line feed, or `None` if it has more than 4096 bytes. It writes the answer to
+/// `out`, and returns whether the line ends the run.
+///
+/// Returns `WriteFault` only if the device has failed. The line has been carried out then, too, and the device took a front
+/// of the answer, but not all. Beside what the store takes for its commands, only `dump` takes memory; if that runs out,
+/// `! 6 memory` is answered.
+pub fn answer<W: Write, C: Chains + Drop, M: Marks + Drop>(
     alloc: Global,
-    line: &ShortLine,
+    line: Option<&[u8]>,
     out: &mut Watched<W>,
     store: &mut Store<C, M>,
 ) -> Result<bool, WriteFault>
-    ensures answered { (text : List ℕ) → line.now ≡ kept text → (step : Step)
+    ensures answered { (text : List ℕ) → option_copied line.entry ≡ kept text → (step : Step)
         × Answered W.contents text step result out.old out.new
         × WentOn (IsAt C.held M.marked) store.old (step ∷ []) store.new }
     ensures fault { IsErr result → has_failed out.new ≡ true }
 {
-    let Some(text) = line.text() else {
+    let Some(text) = line else {
         return say(b"? long\n", out).and(Ok(false));
     };
     match read_line(text) {

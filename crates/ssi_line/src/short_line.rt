@@ -1,7 +1,8 @@
 //! Room for one line.
 
-ghost use Rattle.std.specs.Prelude.{◌≡◌, ◌≤◌, ◌++◌, List, ℕ, [], Some, None, MatchOption};
-ghost use Rattle.ssi_line.specs.Machinery.Lines.{kept};
+ghost use Rattle.std.specs.Prelude.{◌≡◌, ◌≤◌, ◌++◌, List, ℕ, [], Some};
+ghost use Rattle.std.specs.Option.{option_copied};
+ghost use Rattle.ssi_line.specs.Meaning.Answers.{kept};
 
 use std::marker::Model;
 
@@ -61,7 +62,7 @@ impl ShortLine {
 
     /// Returns the line, if it isn't too long.
     pub(crate) fn text(&self) -> Option<&[u8]>
-        ensures { MatchOption result (self.now ≡ None) (λ text. self.now ≡ Some text.now) }
+        ensures { option_copied result ≡ self.now }
     {
         if self.is_long {
             return None;

@@ -1,5 +1,5 @@
--- What is done with one line.
-use Rattle.std.specs.Prelude.{◌≡◌, ◌++◌, ℕ, List, Bool, false, Option, Result, Ok, Err, MatchResult}
+-- What a call wrote, and how a dump is answered.
+use Rattle.std.specs.Prelude.{◌≡◌, ◌++◌, ℕ, List, false, Option, Result, MatchResult}
 use Rattle.devices.specs.declared.watched.Watched.{Watched}
 use Rattle.devices.specs.Meaning.Writing.{Grew, Broke}
 use Rattle.adya_values.specs.Meaning.Histories.{History}
@@ -7,22 +7,11 @@ use Rattle.adya_values.specs.Meaning.Acceptance.{IsAccepted}
 use Rattle.adya_text.specs.Meaning.Texts.{history_text, serial_text}
 use Rattle.ssi_store.specs.Meaning.Courses.{Course}
 use Rattle.ssi_line.specs.Meaning.Spelling.{Dump, line_text}
-use Rattle.ssi_line.specs.Meaning.Steps.{Step, Dumped, IsStep, MayFollow, course_with, step_text, is_stop}
+use Rattle.ssi_line.specs.Meaning.Steps.{Step, Dumped, IsStep, MayFollow, course_with, is_stop}
 
 -- the call wrote exactly these bytes, or a front of them and then it failed
 abbrev pub Said : {D T E : Type 0} → (D → Option (List ℕ)) → Watched D → Watched D → List ℕ → Result T E → Type 0
 Said contents old new bytes result = MatchResult result (λ _. Grew contents old new bytes) (λ _. Broke contents old new bytes)
-
--- what was written for the step, and whether it ended the run
-abbrev pub Told : {D E : Type 0} → (D → Option (List ℕ)) → Result Bool E → Step → Watched D → Watched D → Type 0
-Told contents (Ok stops) step old new = (is_stop step ≡ stops) × Grew contents old new (step_text step)
-Told contents (Err e) step old new = Broke contents old new (step_text step)
-
--- the step that the line made, and what was written for it
-pub record Answered {D E : Type 0} (contents : D → Option (List ℕ)) (line : List ℕ) (step : Step) (result : Result Bool E)
-    (old new : Watched D) : Type 0 where
-  pub made : IsStep line step
-  pub told : Told contents result step old new
 
 -- the text is that of a history and of a certificate that it is accepted with; the history is that of each of these courses
 -- so far
