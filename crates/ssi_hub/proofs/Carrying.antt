@@ -1,0 +1,237 @@
+-- Lines that are carried out, one more each time.
+use Rattle.std.proofs.Common.{◌≡◌, ◌≢◌, ℕ, suc, ◌+◌, ◌<◌, ◌≤◌, List, [], ◌∷◌, ◌++◌, Bool, true, false, cond, Option, Some, None, take, drop, length}
+use Rattle.std.proofs.Common.{refl, sym, ap, subst, ◌∙◌, append_assoc, append-nil, arith, length-append, inl, inr, ◌⊎◌}
+use Rattle.std.specs.Prelude.{All, nat_le, min, zero, ◌||◌}
+use Rattle.std.proofs.lemmas.List.{length-take}
+use Rattle.std.proofs.lemmas.Bool.{leb-true, leb-false, le-leb, lt-leb, both_ways}
+use Rattle.std.proofs.lemmas.List.Elements.{All-nil, All-push, All-head, All-tail, All-append}
+use Rattle.std.proofs.Math.Seq.{take-length}
+use Rattle.adya_line.specs.Meaning.Lines.{IsPlain}
+use Rattle.adya_text.specs.Meaning.Texts.{with_ends}
+use Rattle.ssi_store.specs.Meaning.Courses.{Course}
+use Rattle.ssi_line.specs.Meaning.Steps.{Step, Given, Dumped, NotDumped, Stopped, NotRead, TooLong, IsStep, AreSteps, AllGoOn}
+use Rattle.ssi_line.specs.Meaning.Steps.{step_text, steps_text, is_stop, course_with, course_after, MayFollow, AllMayFollow}
+use Rattle.ssi_line.specs.Meaning.Ends.{WentOn, EndsWith}
+use Rattle.ssi_line.specs.Meaning.Answers.{kept}
+use Rattle.ssi_hub.specs.Meaning.Clipping.{clipped, has_line}
+use Rattle.ssi_hub.specs.Meaning.Buffers.{Buffers}
+use Rattle.ssi_hub.specs.Meaning.Runs.{EndsSo, AreBegun, CarriedOut, IsEnough}
+use Rattle.ssi_hub.specs.Machinery.Outcomes.{stops_by, lost_by, Replied, Stepped}
+use Rattle.ssi_hub.specs.declared.outcome.Outcome.{Outcome}
+use Rattle.ssi_hub.specs.declared.outcome.Outcome.TheVariants.{GoesOn}
+use Rattle.ssi_hub.proofs.Clips.{plain_clipped, plain_without, plain_take, first_feed, line_clipped, one_cut, past_line, take_few}
+use Rattle.ssi_hub.proofs.Served.{ends_append, steps_append, text_append}
+
+-- ---- the first line of what waits
+
+take_whole : (n : ℕ) (xs : List ℕ) → length xs ≤ n → take n xs ≡ xs
+take_whole zero [] short = refl
+take_whole zero (x ∷ xs) short = absurd (omega arith)
+take_whole (suc n) [] short = refl
+take_whole (suc n) (x ∷ xs) short = ap (λ (l : List ℕ). x ∷ l) (take_whole n xs (omega (arith, short)))
+
+-- what is kept of a line is all that its answer depends on
+pub kept_first : (line : List ℕ) → kept (take 4097 line) ≡ kept line
+kept_first line = by_length (nat_le (length line) 4096) refl
+  where
+    by_length : (short : Bool) → nat_le (length line) 4096 ≡ short → kept (take 4097 line) ≡ kept line
+    by_length true is =
+        let few : length line ≤ 4096 = leb-true (length line) 4096 is in
+        ap (λ (l : List ℕ). kept l) (take_whole 4097 line (omega (arith, few)))
+    by_length false is =
+        let many : 4096 < length line = leb-false (length line) 4096 is in
+        let full : 4096 < length (take 4097 line) = omega (arith, length-take 4097 line, many) in
+        ap (λ b. cond b (Some (take 4097 line)) None) (lt-leb (length (take 4097 line)) 4096 full)
+        ∙ sym (ap (λ b. cond b (Some line) None) is)
+
+no_feed : (xs ys : List ℕ) → IsPlain (xs ++ (10 ∷ ys)) → ⊥
+no_feed [] ys plain = All-head (λ x. x ≢ 10) 10 ys plain refl
+no_feed (x ∷ xs) ys plain = no_feed xs ys (All-tail (λ b. b ≢ 10) x (xs ++ (10 ∷ ys)) plain)
+
+-- if what is kept of the bytes begins with a whole line, then so do the bytes
+pub cut_bytes : (bytes front more : List ℕ) → clipped bytes ≡ front ++ (10 ∷ more) → IsPlain front
+    → (line : List ℕ) × (left : List ℕ) × IsPlain line × (bytes ≡ line ++ (10 ∷ left)) × (front ≡ take 4097 line)
+    × (more ≡ clipped left)
+cut_bytes bytes front more is plain = by_line (has_line bytes) refl
+  where
+    by_line : (has : Bool) → has_line bytes ≡ has
+        → (line : List ℕ) × (left : List ℕ) × IsPlain line × (bytes ≡ line ++ (10 ∷ left)) × (front ≡ take 4097 line)
+        × (more ≡ clipped left)
+    by_line true has =
+        let (line, left, without, cut) = first_feed bytes has in
+        let both = one_cut front more (take 4097 line) (clipped left) plain (plain_take 4097 line without)
+        (sym is ∙ ap (λ (l : List ℕ). clipped l) cut ∙ line_clipped line left without) in
+        (line, left, without, cut, both.0, both.1)
+    by_line false none =
+        let without = plain_without bytes none in
+        let whole : IsPlain (clipped bytes) = subst IsPlain (sym (plain_clipped 0 bytes without)) (plain_take 4097 bytes without) in
+        absurd (no_feed front more (subst IsPlain is whole))
+
+-- a line was carried out and passed
+pub stepped : {T : Type 0} (is_at : T → Course → Type 0) (old now : Buffers) (bytes front more passed unsent : List ℕ)
+    (len : ℕ) (store after : T) (outcome : Outcome) → now ≡ old → old.waiting ≡ clipped bytes → IsPlain front
+    → now.waiting ≡ front ++ (10 ∷ more) → len ≡ length front → passed ≡ drop 1 (drop len now.waiting)
+    → ((text : List ℕ) → kept front ≡ kept text → (step : Step) × IsStep text step
+    × Replied outcome step now.unsent unsent × WentOn is_at store (step ∷ []) after)
+    → (line : List ℕ) × (step : Step) × (left : List ℕ)
+    × Stepped is_at old bytes store outcome line step left (record { waiting = passed; unsent = unsent }) after
+stepped is_at old now bytes front more passed unsent len store after outcome same waits plain cut counted left_is replied =
+    let is : clipped bytes ≡ front ++ (10 ∷ more) = sym waits ∙ sym (ap (λ (b : Buffers). b.waiting) same) ∙ cut in
+    let (line, left, without, whole, first, behind) = cut_bytes bytes front more is plain in
+    let (step, made, reply, went) = replied line (ap (λ (l : List ℕ). kept l) first ∙ kept_first line) in (
+      line,
+      step,
+      left,
+      record {
+        plain = without;
+        cut = whole;
+        waits = left_is ∙ past_line now.waiting front more len cut counted ∙ behind;
+        made = made;
+        replied = subst (λ (b : Buffers). Replied outcome step b.unsent unsent) same reply;
+        went = went;
+      },
+    )
+
+-- ---- one more line of a run
+
+after_more : (course : Course) (steps : List Step) (step : Step)
+    → course_after course (steps ++ step ∷ []) ≡ course_with (course_after course steps) step
+after_more course [] step = refl
+after_more course (s ∷ ss) step = after_more (course_with course s) ss step
+
+follow_more : (course : Course) (steps : List Step) (step : Step) → AllMayFollow course steps
+    → MayFollow (course_after course steps) step → AllMayFollow course (steps ++ step ∷ [])
+follow_more course [] step all is = (is, tt)
+follow_more course (s ∷ ss) step all is = (all.0, follow_more (course_with course s) ss step all.1 is)
+
+went_more : {T : Type 0} (is_at : T → Course → Type 0) (old mid new : T) (steps : List Step) (step : Step)
+    → WentOn is_at old steps mid → WentOn is_at mid (step ∷ []) new → WentOn is_at old (steps ++ step ∷ []) new
+went_more is_at old mid new steps step before now = λ course at.
+    let first = before course at in
+    let last = now (course_after course steps) first.1 in (
+      follow_more course steps step first.0 last.0.0,
+      subst (λ (c : Course). is_at new c) (sym (after_more course steps step)) last.1,
+    )
+
+pub stopped : (step : Step) → is_stop step ≡ true → step ≡ Stopped
+stopped (Given c a) is = cc
+stopped (Dumped h ts) is = cc
+stopped NotDumped is = cc
+stopped Stopped is = refl
+stopped NotRead is = cc
+stopped TooLong is = cc
+
+ends_more : (stops : Bool) (steps : List Step) (step : Step) → AllGoOn steps → is_stop step ≡ stops
+    → EndsSo stops (steps ++ step ∷ [])
+ends_more false steps step all is = All-push (λ s. is_stop s ≡ false) steps step all is
+ends_more true steps step all is =
+    record { before = steps; go_on = all; is = ap (λ (s : Step). steps ++ (s ∷ [])) (stopped step is) }
+
+begun_more : (n : ℕ) (steps : List Step) (step : Step) → AreBegun n steps → n + length (steps_text steps) ≤ 65536
+    → AreBegun n (steps ++ step ∷ [])
+begun_more n [] step all within = (omega (arith, within), tt)
+begun_more n (s ∷ ss) step all within =
+    let long = length-append (step_text s) (steps_text ss) in
+    (all.0, begun_more (n + length (step_text s)) ss step all.1 (omega (arith, within, long)))
+
+cut_more : (bytes left line after : List ℕ) (lines : List (List ℕ)) → bytes ≡ with_ends lines ++ left
+    → left ≡ line ++ (10 ∷ after) → bytes ≡ with_ends (lines ++ line ∷ []) ++ after
+cut_more bytes left line after lines is cut =
+    is ∙ ap (λ (l : List ℕ). with_ends lines ++ l) (cut ∙ sym (append_assoc line (10 ∷ []) after))
+    ∙ sym (append_assoc (with_ends lines) (line ++ (10 ∷ [])) after)
+    ∙ ap (λ (l : List ℕ). l ++ after) (sym (ends_append lines (line ∷ [])))
+
+replies_more : (old mid new : List ℕ) (steps : List Step) (step : Step) → mid ≡ old ++ steps_text steps
+    → new ≡ mid ++ step_text step → new ≡ old ++ steps_text (steps ++ step ∷ [])
+replies_more old mid new steps step before now =
+    now ∙ ap (λ (l : List ℕ). l ++ step_text step) before ∙ append_assoc old (steps_text steps) (step_text step)
+    ∙ ap (λ (l : List ℕ). old ++ l)
+    (ap (λ (l : List ℕ). steps_text steps ++ l) (sym (append-nil (step_text step))) ∙ sym (text_append steps (step ∷ [])))
+
+pub carried_none : {T : Type 0} (is_at : T → Course → Type 0) (old : Buffers) (bytes : List ℕ) (store : T)
+    → old.waiting ≡ clipped bytes → CarriedOut is_at old bytes store false false [] [] bytes old store
+carried_none is_at old bytes store waits = record {
+  plain = All-nil IsPlain;
+  cut = refl;
+  waits = waits;
+  made = tt;
+  replies = λ _. sym (append-nil old.unsent);
+  went = λ course at. (tt, at);
+  ends = All-nil (λ s. is_stop s ≡ false);
+  begun = tt;
+}
+
+pub carried_more : {T : Type 0} (is_at : T → Course → Type 0) (old mid new : Buffers) (bytes left after : List ℕ)
+    (store between now : T) (outcome : Outcome) (lines : List (List ℕ)) (steps : List Step) (line : List ℕ) (step : Step)
+    → CarriedOut is_at old bytes store false false lines steps left mid between → length mid.unsent ≤ 65536
+    → Stepped is_at mid left between outcome line step after new now
+    → CarriedOut is_at old bytes store (stops_by outcome) (lost_by outcome) (lines ++ line ∷ []) (steps ++ step ∷ []) after
+    new now
+carried_more is_at old mid new bytes left after store between now outcome lines steps line step so within more =
+    let long : length mid.unsent ≡ length old.unsent + length (steps_text steps) =
+    ap (λ (l : List ℕ). length l) (so.replies refl) ∙ length-append old.unsent (steps_text steps) in
+    record {
+      plain = All-push IsPlain lines line so.plain more.plain;
+      cut = cut_more bytes left line after lines so.cut more.cut;
+      waits = more.waits;
+      made = steps_append lines (line ∷ []) steps (step ∷ []) so.made (more.made, tt);
+      replies = λ held. replies_more old.unsent mid.unsent new.unsent steps step (so.replies refl) (more.replied.reply held);
+      went = went_more is_at store between now steps step so.went more.went;
+      ends = ends_more (stops_by outcome) steps step so.ends more.replied.stops;
+      begun = begun_more (length old.unsent) steps step so.begun (omega (arith, within, long));
+    }
+
+-- ---- the ends of a run
+
+neither : (a b : Bool) → (a || b) ≡ false → (a ≡ false) × (b ≡ false)
+neither true b e = cc
+neither false b e = (refl, e)
+
+pub goes_on : {T : Type 0} (is_at : T → Course → Type 0) (old new : Buffers) (bytes left : List ℕ) (store now : T)
+    (outcome : Outcome) (lines : List (List ℕ)) (steps : List Step) → false ≡ (stops_by outcome || lost_by outcome)
+    → CarriedOut is_at old bytes store (stops_by outcome) (lost_by outcome) lines steps left new now
+    → CarriedOut is_at old bytes store false false lines steps left new now
+goes_on is_at old new bytes left store now outcome lines steps none so =
+    let both = neither (stops_by outcome) (lost_by outcome) (sym none) in
+    subst (λ a. CarriedOut is_at old bytes store a false lines steps left new now) both.0
+    (subst (λ b. CarriedOut is_at old bytes store (stops_by outcome) b lines steps left new now) both.1 so)
+
+pub length_more : (lines : List (List ℕ)) (line : List ℕ) → length (lines ++ line ∷ []) ≡ length lines + 1
+length_more lines line = length-append lines (line ∷ [])
+
+-- the last line ended the run
+pub enough_ended : (outcome : Outcome) (most counter : ℕ) (lines : List (List ℕ)) (line : List ℕ) (new : Buffers)
+    → true ≡ (stops_by outcome || lost_by outcome) → length lines ≡ counter → counter < most
+    → IsEnough (stops_by outcome) (lost_by outcome) most (lines ++ line ∷ []) new
+enough_ended outcome most counter lines line new ends counted below = record {
+  few = omega (arith, length_more lines line, counted, below);
+  paused = λ a b _. absurd (ended (stops_by outcome) (lost_by outcome) (sym ends) a b);
+}
+  where
+    ended : (a b : Bool) → (a || b) ≡ true → a ≡ false → b ≡ false → ⊥
+    ended true b e p q = cc
+    ended false b e p q = cc
+
+-- no whole line waits
+pub none_waits : {T : Type 0} (is_at : T → Course → Type 0) (old mid new : Buffers) (bytes left : List ℕ) (store between now : T)
+    (lines : List (List ℕ)) (steps : List Step) (most counter : ℕ) → new ≡ mid → now ≡ between
+    → has_line mid.waiting ≡ false → length lines ≡ counter → counter < most
+    → CarriedOut is_at old bytes store false false lines steps left mid between
+    → CarriedOut is_at old bytes store false false lines steps left new now × IsEnough false false most lines new
+none_waits is_at old mid new bytes left store between now lines steps most counter same same_store none counted below so = (
+  subst (λ (b : Buffers). CarriedOut is_at old bytes store false false lines steps left b now) (sym same)
+      (subst (λ s. CarriedOut is_at old bytes store false false lines steps left mid s) (sym same_store) so),
+  record {
+    few = omega (arith, counted, below);
+    paused = λ _ _ has. absurd (both_ways (has_line new.waiting) (ap (λ (b : Buffers). has_line b.waiting) same ∙ none) has);
+  },
+)
+
+pub enough_unsent : (most counter : ℕ) (lines : List (List ℕ)) (new : Buffers) → length lines ≡ counter → counter < most
+    → 65536 < length new.unsent → IsEnough false false most lines new
+enough_unsent most counter lines new counted below many =
+    record { few = omega (arith, counted, below); paused = λ _ _ _. inr many }
+
+pub enough_lines : (most : ℕ) (lines : List (List ℕ)) (new : Buffers) → length lines ≡ most
+    → IsEnough false false most lines new
+enough_lines most lines new counted = record { few = omega (arith, counted); paused = λ _ _ _. inl counted }

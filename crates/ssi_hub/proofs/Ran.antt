@@ -1,0 +1,222 @@
+-- What a hub stands for after a run.
+use Rattle.std.proofs.Common.{◌≡◌, ◌≢◌, ℕ, ◌<◌, ◌≤◌, List, [], ◌∷◌, ◌++◌, Bool, true, false, cond, Option, Some, None}
+use Rattle.std.proofs.Common.{refl, sym, ap, subst, ◌∙◌, append_assoc, append-nil, inl, inr, ◌⊎◌}
+use Rattle.std.specs.Prelude.{◌==◌, All, IsSome}
+use Rattle.std.proofs.lemmas.Option.{same_Some, none-some}
+use Rattle.std.proofs.lemmas.Bool.{eq-eqb, ne_eqb, both_ways}
+use Rattle.std.proofs.lemmas.List.Elements.{All-nil, All-append}
+use Rattle.adya_line.specs.Meaning.Lines.{IsPlain}
+use Rattle.ssi_store.specs.Meaning.Courses.{Course}
+use Rattle.ssi_line.specs.Meaning.Steps.{Step, Stopped, AllGoOn, steps_text, is_stop, course_with, course_after, AllMayFollow}
+use Rattle.ssi_line.specs.Meaning.Ends.{WentOn, EndsWith}
+use Rattle.ssi_hub.specs.Meaning.Clipping.{clipped}
+use Rattle.ssi_hub.specs.Meaning.Buffers.{Buffers}
+use Rattle.ssi_hub.specs.Meaning.Runs.{EndsSo, CarriedOut, left_by}
+use Rattle.ssi_hub.specs.Meaning.Calls.{Call, Received, Ran, Wrote, Closed, token_of, is_open, all_steps, with_call, with_run}
+use Rattle.ssi_hub.specs.Meaning.Serving.{IsServed, StandsFor}
+use Rattle.ssi_hub.specs.Machinery.Changes.{Changes, AreSame, CarriesOut, RanAt, RanNothing}
+use Rattle.ssi_hub.proofs.Served.{served_ran}
+use Rattle.ssi_hub.proofs.Standing.{Served, shown, stands_same, stands_more, closed_stands, given_open}
+
+ends_both : (stops : Bool) (before steps : List Step) → AllGoOn before → EndsSo stops steps → EndsSo stops (before ++ steps)
+ends_both false before steps all ends = All-append (λ s. is_stop s ≡ false) before steps all ends
+ends_both true before steps all ends = record {
+  before = before ++ ends.before;
+  go_on = All-append (λ s. is_stop s ≡ false) before ends.before all ends.go_on;
+  is = ap (λ (l : List Step). before ++ l) ends.is ∙ sym (append_assoc before ends.before (Stopped ∷ []));
+}
+
+opened_by : (o : Bool) (left unsent : List ℕ) (old : Buffers) → Some old ≡ shown o left unsent
+    → (o ≡ true) × (old ≡ record { waiting = clipped left; unsent = unsent })
+opened_by true left unsent old is = (refl, same_Some old (record { waiting = clipped left; unsent = unsent }) is)
+opened_by false left unsent old is = absurd (none-some old (sym is))
+
+-- the buffers with those of one connection changed
+abbrev with_one : (ℕ → Option Buffers) → ℕ → Option Buffers → ℕ → Option Buffers
+with_one b t now u = cond (u == t) now (b u)
+
+one_own : (b : ℕ → Option Buffers) (t : ℕ) (now : Option Buffers) → with_one b t now t ≡ now
+one_own b t now = ap (λ e. cond e now (b t)) (eq-eqb t t refl)
+
+one_other : (b : ℕ → Option Buffers) (t : ℕ) (now : Option Buffers) (u : ℕ) → u ≢ t → with_one b t now u ≡ b u
+one_other b t now u apart = ap (λ e. cond e now (b u)) (ne_eqb u t apart)
+
+-- the lines were carried out, whether the last reply is lost or not
+ran_open : {T : Type 0} (is_at : T → Course → Type 0) (b new : ℕ → Option Buffers) (next t : ℕ) (stops lost : Bool)
+    (old now : Buffers) (bytes left unsent : List ℕ) (lines : List (List ℕ)) (steps : List Step) (store after : T)
+    (calls : List Call) → StandsFor b next false calls → is_open t calls ≡ true → IsServed t calls bytes unsent
+    → old ≡ record { waiting = clipped bytes; unsent = unsent }
+    → CarriedOut is_at old bytes store stops lost lines steps left now after
+    → new t ≡ Some (record { waiting = clipped left; unsent = unsent ++ steps_text steps })
+    → ((u : ℕ) → u ≢ t → new u ≡ b u) → StandsFor new next stops (Ran t lines steps ∷ calls)
+ran_open is_at b new next t stops lost old now bytes left unsent lines steps store after calls s opened served is so self others =
+    stands_more b new next false stops (Ran t lines steps) calls s (given_open next t calls s.given opened) others (
+      left,
+      unsent ++ steps_text steps,
+      served_ran t lines steps calls bytes unsent left so.plain so.cut so.made served,
+      self ∙ ap (λ o. shown o left (unsent ++ steps_text steps)) (sym opened),
+    ) (ends_both stops (all_steps calls) steps s.ends so.ends)
+
+-- the call is one of an open connection
+ran_noted : (t : ℕ) (lines : List (List ℕ)) (steps : List Step) (calls : List Call) → is_open t calls ≡ true
+    → Ran t lines steps ∷ calls ≡ with_call (Ran t lines steps) calls
+ran_noted t lines steps calls opened = sym (ap (λ o. cond o (Ran t lines steps ∷ calls) calls) opened)
+
+pub closed_adds_none : (t : ℕ) (calls : List Call) → all_steps (with_call (Closed t) calls) ≡ all_steps calls
+closed_adds_none t calls = by_open (is_open t calls)
+  where
+    by_open : (o : Bool) → all_steps (cond o (Closed t ∷ calls) calls) ≡ all_steps calls
+    by_open true = refl
+    by_open false = refl
+
+pub quiet_received : (t : ℕ) (bytes : List ℕ) (calls : List Call)
+    → all_steps (with_call (Received t bytes) calls) ≡ all_steps calls
+quiet_received t bytes calls = by_open (is_open t calls)
+  where
+    by_open : (o : Bool) → all_steps (cond o (Received t bytes ∷ calls) calls) ≡ all_steps calls
+    by_open true = refl
+    by_open false = refl
+
+pub quiet_wrote : (t : ℕ) (bytes : List ℕ) (calls : List Call)
+    → all_steps (with_call (Wrote t bytes) calls) ≡ all_steps calls
+quiet_wrote t bytes calls = by_open (is_open t calls)
+  where
+    by_open : (o : Bool) → all_steps (cond o (Wrote t bytes ∷ calls) calls) ≡ all_steps calls
+    by_open true = refl
+    by_open false = refl
+
+run_adds : (lost : Bool) (t : ℕ) (lines : List (List ℕ)) (steps : List Step) (calls : List Call) → is_open t calls ≡ true
+    → all_steps (with_run lost t lines steps calls) ≡ all_steps calls ++ steps
+run_adds false t lines steps calls opened = ap (λ (l : List Call). all_steps l) (sym (ran_noted t lines steps calls opened))
+run_adds true t lines steps calls opened =
+    closed_adds_none t (with_call (Ran t lines steps) calls)
+    ∙ ap (λ (l : List Call). all_steps l) (sym (ran_noted t lines steps calls opened))
+
+none_added : (t : ℕ) (calls : List Call) → all_steps (with_run false t [] [] calls) ≡ all_steps calls ++ []
+none_added t calls = by_open (is_open t calls)
+  where
+    by_open : (o : Bool) → all_steps (cond o (Ran t [] [] ∷ calls) calls) ≡ all_steps calls ++ []
+    by_open true = refl
+    by_open false = sym (append-nil (all_steps calls))
+
+pub ran_stands : {T : Type 0} (is_at : T → Course → Type 0) (b new : ℕ → Option Buffers) (next t : ℕ) (stops lost : Bool)
+    (most : ℕ) (store after : T) (calls : List Call) → StandsFor b next false calls
+    → RanAt is_at b t store stops lost most new after
+    → (lines : List (List ℕ)) × (steps : List Step) × StandsFor new next stops (with_run lost t lines steps calls)
+    × WentOn is_at store steps after × (all_steps (with_run lost t lines steps calls) ≡ all_steps calls ++ steps)
+ran_stands is_at b new next t stops lost most store after calls s ran =
+    let (bytes, unsent, served, has) = s.served t in
+    let (opened, is) = opened_by (is_open t calls) bytes unsent ran.before (sym ran.has ∙ has) in
+    let (lines, steps, left, so, enough) = ran.carried bytes (ap (λ (x : Buffers). x.waiting) is) in (
+      lines,
+      steps,
+      by_loss lost bytes unsent left lines steps opened served is so ran.changes,
+      so.went,
+      run_adds lost t lines steps calls opened,
+    )
+  where
+    by_loss : (lost : Bool) (bytes unsent left : List ℕ) (lines : List (List ℕ)) (steps : List Step) → is_open t calls ≡ true
+        → IsServed t calls bytes unsent → ran.before ≡ record { waiting = clipped bytes; unsent = unsent }
+        → CarriedOut is_at ran.before bytes store stops lost lines steps left ran.now after
+        → Changes b new t (left_by lost ran.now) → StandsFor new next stops (with_run lost t lines steps calls)
+    by_loss false bytes unsent left lines steps opened served is so changes =
+        subst (λ (l : List Call). StandsFor new next stops l) (ran_noted t lines steps calls opened)
+        (ran_open is_at b new next t stops false ran.before ran.now bytes left unsent lines steps store after calls s opened
+        served is so
+        (changes.own ∙ ap (λ (w : List ℕ). Some (record { waiting = w; unsent = ran.now.unsent })) so.waits
+        ∙ ap (λ (u : List ℕ). Some (record { waiting = clipped left; unsent = u }))
+        (so.replies refl ∙ ap (λ (x : Buffers). x.unsent ++ steps_text steps) is))
+        changes.others)
+    by_loss true bytes unsent left lines steps opened served is so changes =
+        let mid : Option Buffers = Some (record { waiting = clipped left; unsent = unsent ++ steps_text steps }) in
+        closed_stands (with_one b t mid) new next next stops stops t (with_call (Ran t lines steps) calls)
+        (subst (λ (l : List Call). StandsFor (with_one b t mid) next stops l) (ran_noted t lines steps calls opened)
+        (ran_open is_at b (with_one b t mid) next t stops true ran.before ran.now bytes left unsent lines steps store after
+        calls s opened served is so (one_own b t mid) (one_other b t mid)))
+        changes.own (λ u apart. changes.others u apart ∙ sym (one_other b t mid u apart)) refl refl
+
+-- no line was carried out
+pub nothing_ran : (b : ℕ → Option Buffers) (next t : ℕ) (stopped : Bool) (calls : List Call) → StandsFor b next stopped calls
+    → StandsFor b next stopped (with_run false t [] [] calls)
+nothing_ran b next t stopped calls s = by_open (is_open t calls) refl
+  where
+    by_open : (o : Bool) → is_open t calls ≡ o → StandsFor b next stopped (cond o (Ran t [] [] ∷ calls) calls)
+    by_open false is = s
+    by_open true is =
+        let (left, unsent, served, has) = s.served t in
+        stands_more b b next stopped stopped (Ran t [] []) calls s (given_open next t calls s.given is) (λ _ _. refl) (
+          left,
+          unsent,
+          subst (λ (l : List ℕ). IsServed t (Ran t [] [] ∷ calls) left l) (append-nil unsent)
+              (served_ran t [] [] calls left unsent left (All-nil IsPlain) refl tt served),
+          has,
+        ) (subst (λ (l : List Step). EndsSo stopped l) (sym (append-nil (all_steps calls))) s.ends)
+
+one_is : (x : Buffers) → IsSome (Some x)
+one_is x = refl
+
+-- ---- a run, whatever it met
+
+pub run_stands : {T : Type 0} (is_at : T → Course → Type 0) (b new : ℕ → Option Buffers) (next later t : ℕ)
+    (stopped ends : Bool) (most : ℕ) (store after : T) (calls : List Call) → StandsFor b next stopped calls
+    → ((stopped ≡ true) ⊎ (b t ≡ None) → ((u : ℕ) → new u ≡ b u) × (ends ≡ stopped) × (after ≡ store))
+    → (stopped ≡ false → IsSome (b t) → (lost : Bool) × RanAt is_at b t store ends lost most new after) → later ≡ next
+    → (lost : Bool) × (lines : List (List ℕ)) × (steps : List Step)
+    × StandsFor new later ends (with_run lost t lines steps calls) × WentOn is_at store steps after
+    × (all_steps (with_run lost t lines steps calls) ≡ all_steps calls ++ steps)
+run_stands is_at b new next later t stopped ends most store after calls s idle ran next_is = by_stop stopped refl
+  where
+    nothing : (stopped ≡ true) ⊎ (b t ≡ None) → (lost : Bool) × (lines : List (List ℕ)) × (steps : List Step)
+        × StandsFor new later ends (with_run lost t lines steps calls) × WentOn is_at store steps after
+        × (all_steps (with_run lost t lines steps calls) ≡ all_steps calls ++ steps)
+    nothing why =
+        let (same, stops, store_is) = idle why in (
+          false,
+          [],
+          [],
+          stands_same b new next later stopped ends (with_run false t [] [] calls) same next_is stops
+              (nothing_ran b next t stopped calls s),
+          λ course at. (tt, subst (λ x. is_at x course) (sym store_is) at),
+          none_added t calls,
+        )
+
+    by_stop : (o : Bool) → stopped ≡ o → (lost : Bool) × (lines : List (List ℕ)) × (steps : List Step)
+        × StandsFor new later ends (with_run lost t lines steps calls) × WentOn is_at store steps after
+        × (all_steps (with_run lost t lines steps calls) ≡ all_steps calls ++ steps)
+    by_stop true is = nothing (inl is)
+    by_stop false is = by_buffers (b t) refl
+      where
+        by_buffers : (o : Option Buffers) → b t ≡ o → (lost : Bool) × (lines : List (List ℕ)) × (steps : List Step)
+            × StandsFor new later ends (with_run lost t lines steps calls) × WentOn is_at store steps after
+            × (all_steps (with_run lost t lines steps calls) ≡ all_steps calls ++ steps)
+        by_buffers None none = nothing (inr none)
+        by_buffers (Some x) some =
+            let (lost, so) = ran is (subst (λ (o : Option Buffers). IsSome o) (sym some) (one_is x)) in
+            let (lines, steps, stands, went, more) =
+            ran_stands is_at b new next t ends lost most store after calls
+            (subst (λ e. StandsFor b next e calls) is s) so in
+            (lost, lines, steps, subst (λ n. StandsFor new n ends (with_run lost t lines steps calls)) (sym next_is) stands, went, more)
+
+-- ---- the course of the store
+
+follow_both : (course : Course) (xs ys : List Step) → AllMayFollow course xs → AllMayFollow (course_after course xs) ys
+    → AllMayFollow course (xs ++ ys)
+follow_both course [] ys p q = q
+follow_both course (x ∷ xs) ys p q = (p.0, follow_both (course_with course x) xs ys p.1 q)
+
+after_both : (course : Course) (xs ys : List Step)
+    → course_after course (xs ++ ys) ≡ course_after (course_after course xs) ys
+after_both course [] ys = refl
+after_both course (x ∷ xs) ys = after_both (course_with course x) xs ys
+
+-- it goes on by the steps of the run
+pub course_goes_on : {T : Type 0} (is_at : T → Course → Type 0) (start : Course) (calls later : List Call) (steps : List Step)
+    (store after : T) → AllMayFollow start (all_steps calls) → is_at store (course_after start (all_steps calls))
+    → WentOn is_at store steps after → all_steps later ≡ all_steps calls ++ steps
+    → AllMayFollow start (all_steps later) × is_at after (course_after start (all_steps later))
+course_goes_on is_at start calls later steps store after follow at went more =
+    let now = went (course_after start (all_steps calls)) at in (
+      subst (λ (l : List Step). AllMayFollow start l) (sym more) (follow_both start (all_steps calls) steps follow now.0),
+      subst (λ (c : Course). is_at after c)
+          (sym (ap (λ (l : List Step). course_after start l) more ∙ after_both start (all_steps calls) steps)) now.1,
+    )

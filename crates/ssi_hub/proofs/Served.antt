@@ -1,0 +1,131 @@
+-- What the calls say of a connection after one more call.
+use Rattle.std.proofs.Common.{◌≡◌, ◌≢◌, ℕ, ◌<◌, ◌≤◌, List, [], ◌∷◌, ◌++◌, Bool, true, false, cond, Option, Some, None, take, drop}
+use Rattle.std.proofs.Common.{refl, sym, ap, subst, ◌∙◌, append_assoc, append-nil, arith, take-append-drop}
+use Rattle.std.specs.Prelude.{◌==◌, All, option_map}
+use Rattle.std.specs.List.{AllByRecursion}
+use Rattle.std.proofs.lemmas.Bool.{ne_eqb, eq-eqb, eqb-true}
+use Rattle.std.proofs.lemmas.List.Elements.{All-nil, All-append}
+use Rattle.adya_line.specs.Meaning.Lines.{IsPlain}
+use Rattle.adya_text.specs.Meaning.Texts.{with_ends}
+use Rattle.ssi_line.specs.Meaning.Steps.{Step, IsStep, AreSteps, AllGoOn, step_text, steps_text}
+use Rattle.ssi_hub.specs.Meaning.Clipping.{clipped}
+use Rattle.ssi_hub.specs.Meaning.Buffers.{Buffers, no_bytes, with_received, with_written}
+use Rattle.ssi_hub.specs.Meaning.Calls.{Call, Opened, Received, Ran, Wrote, Closed, token_of, is_open, all_steps, with_call}
+use Rattle.ssi_hub.specs.Meaning.Calls.{sent_by, lines_of, steps_of, written_to}
+use Rattle.ssi_hub.specs.Meaning.Runs.{EndsSo}
+use Rattle.ssi_hub.specs.Meaning.Serving.{IsServed, StandsFor}
+use Rattle.ssi_hub.proofs.Clips.{clips_pieces}
+
+-- ---- lists of lines and of steps
+
+pub ends_append : (xs ys : List (List ℕ)) → with_ends (xs ++ ys) ≡ with_ends xs ++ with_ends ys
+ends_append [] ys = refl
+ends_append (x ∷ xs) ys =
+    ap (λ (r : List ℕ). x ++ (10 ∷ r)) (ends_append xs ys) ∙ sym (append_assoc x (10 ∷ with_ends xs) (with_ends ys))
+
+pub text_append : (xs ys : List Step) → steps_text (xs ++ ys) ≡ steps_text xs ++ steps_text ys
+text_append [] ys = refl
+text_append (s ∷ ss) ys =
+    ap (λ (l : List ℕ). step_text s ++ l) (text_append ss ys) ∙ sym (append_assoc (step_text s) (steps_text ss) (steps_text ys))
+
+pub steps_append : (ls ms : List (List ℕ)) (ss ts : List Step) → AreSteps ls ss → AreSteps ms ts
+    → AreSteps (ls ++ ms) (ss ++ ts)
+steps_append [] ms [] ts p q = q
+steps_append [] ms (s ∷ ss) ts p q = absurd p
+steps_append (l ∷ ls) ms [] ts p q = absurd p
+steps_append (l ∷ ls) ms (s ∷ ss) ts p q = (p.0, steps_append ls ms ss ts p.1 q)
+
+-- ---- a call of another connection
+
+pub served_other : (t : ℕ) (c : Call) (calls : List Call) (left unsent : List ℕ) → (token_of c == t) ≡ false
+    → IsServed t calls left unsent → IsServed t (c ∷ calls) left unsent
+served_other t (Opened u) calls left unsent apart s =
+    record { plain = s.plain; cut = s.cut; made = s.made; replies = s.replies }
+served_other t (Received u bytes) calls left unsent apart s =
+    record { plain = s.plain; cut = rw apart s.cut; made = s.made; replies = s.replies }
+served_other t (Ran u lines steps) calls left unsent apart s =
+    record { plain = rw apart s.plain; cut = rw apart s.cut; made = rw apart s.made; replies = rw apart s.replies }
+served_other t (Wrote u bytes) calls left unsent apart s =
+    record { plain = s.plain; cut = s.cut; made = s.made; replies = rw apart s.replies }
+served_other t (Closed u) calls left unsent apart s =
+    record { plain = s.plain; cut = s.cut; made = s.made; replies = s.replies }
+
+pub open_other : (t : ℕ) (c : Call) (calls : List Call) → (token_of c == t) ≡ false
+    → is_open t (c ∷ calls) ≡ is_open t calls
+open_other t (Opened u) calls apart = rw apart refl
+open_other t (Received u bytes) calls apart = refl
+open_other t (Ran u lines steps) calls apart = refl
+open_other t (Wrote u bytes) calls apart = refl
+open_other t (Closed u) calls apart = rw apart refl
+
+-- ---- a token that wasn't given yet
+
+pub served_none : (t : ℕ) → IsServed t [] [] []
+served_none t = record { plain = All-nil IsPlain; cut = refl; made = tt; replies = refl }
+
+not_yet : (next t u : ℕ) → u < next → next ≤ t → (u == t) ≡ false
+not_yet next t u below above = ne_eqb u t (λ same. absurd (omega (arith, below, above, same)))
+
+pub fresh_served : (next t : ℕ) (calls : List Call) → AllByRecursion (λ c. token_of c < next) calls → next ≤ t
+    → IsServed t calls [] []
+fresh_served next t [] given above = served_none t
+fresh_served next t (c ∷ calls) given above =
+    served_other t c calls [] [] (not_yet next t (token_of c) given.0 above) (fresh_served next t calls given.1 above)
+
+pub fresh_closed : (next t : ℕ) (calls : List Call) → AllByRecursion (λ c. token_of c < next) calls → next ≤ t
+    → is_open t calls ≡ false
+fresh_closed next t [] given above = refl
+fresh_closed next t (c ∷ calls) given above =
+    open_other t c calls (not_yet next t (token_of c) given.0 above) ∙ fresh_closed next t calls given.1 above
+
+-- ---- a call of the connection itself
+
+own : (t : ℕ) → (t == t) ≡ true
+own t = eq-eqb t t refl
+
+pub served_received : (t : ℕ) (bytes : List ℕ) (calls : List Call) (left unsent : List ℕ)
+    → IsServed t calls left unsent → IsServed t (Received t bytes ∷ calls) (left ++ bytes) unsent
+served_received t bytes calls left unsent s = record {
+  plain = s.plain;
+  cut = rw (own t) (ap (λ (l : List ℕ). l ++ bytes) s.cut ∙ append_assoc (with_ends (lines_of t calls)) left bytes);
+  made = s.made;
+  replies = s.replies;
+}
+
+pub served_ran : (t : ℕ) (lines : List (List ℕ)) (steps : List Step) (calls : List Call) (left unsent after : List ℕ)
+    → All IsPlain lines → left ≡ with_ends lines ++ after → AreSteps lines steps → IsServed t calls left unsent
+    → IsServed t (Ran t lines steps ∷ calls) after (unsent ++ steps_text steps)
+served_ran t lines steps calls left unsent after plain cut made s = record {
+  plain = rw (own t) (All-append IsPlain (lines_of t calls) lines s.plain plain);
+  cut =
+      rw (own t)
+      (s.cut ∙ ap (λ (l : List ℕ). with_ends (lines_of t calls) ++ l) cut
+      ∙ sym (append_assoc (with_ends (lines_of t calls)) (with_ends lines) after)
+      ∙ ap (λ (l : List ℕ). l ++ after) (sym (ends_append (lines_of t calls) lines)));
+  made = rw (own t) (steps_append (lines_of t calls) lines (steps_of t calls) steps s.made made);
+  replies =
+      rw (own t)
+      (text_append (steps_of t calls) steps ∙ ap (λ (l : List ℕ). l ++ steps_text steps) s.replies
+      ∙ append_assoc (written_to t calls) unsent (steps_text steps));
+}
+
+pub served_wrote : (t : ℕ) (bytes : List ℕ) (calls : List Call) (left unsent after : List ℕ) → unsent ≡ bytes ++ after
+    → IsServed t calls left unsent → IsServed t (Wrote t bytes ∷ calls) left after
+served_wrote t bytes calls left unsent after cut s = record {
+  plain = s.plain;
+  cut = s.cut;
+  made = s.made;
+  replies =
+      rw (own t)
+      (s.replies ∙ ap (λ (l : List ℕ). written_to t calls ++ l) cut ∙ sym (append_assoc (written_to t calls) bytes after));
+}
+
+pub served_opened : (t u : ℕ) (calls : List Call) (left unsent : List ℕ) → IsServed t calls left unsent
+    → IsServed t (Opened u ∷ calls) left unsent
+served_opened t u calls left unsent s =
+    record { plain = s.plain; cut = s.cut; made = s.made; replies = s.replies }
+
+pub served_closed : (t u : ℕ) (calls : List Call) (left unsent : List ℕ) → IsServed t calls left unsent
+    → IsServed t (Closed u ∷ calls) left unsent
+served_closed t u calls left unsent s =
+    record { plain = s.plain; cut = s.cut; made = s.made; replies = s.replies }

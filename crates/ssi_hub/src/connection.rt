@@ -1,0 +1,128 @@
+//! One connection.
+
+ghost use Rattle.std.specs.Prelude.{◌≡◌, ℕ, List, false, OnOk, OnErr, IfSome, IfNone, length, not, ◌&&◌, nat_le};
+ghost use Rattle.ssi_store.specs.Mirror.Stores.{IsAt};
+ghost use Rattle.ssi_line.specs.Meaning.Steps.{Step};
+ghost use Rattle.ssi_hub.specs.Meaning.Clipping.{clipped, has_line};
+ghost use Rattle.ssi_hub.specs.Meaning.Buffers.{no_bytes, with_received, with_written};
+ghost use Rattle.ssi_hub.specs.Meaning.Runs.{CarriedOut, IsEnough};
+ghost use Rattle.ssi_hub.specs.Machinery.Outcomes.{Stepped, stops_by, lost_by};
+
+use crate::replying::reply;
+use crate::{Inbox, Outcome, Queue};
+use ssi_reads::Marks;
+use ssi_store::Store;
+use ssi_versions::Chains;
+use std::alloc::{AllocError, Global};
+use std::marker::Model;
+
+/// No further line is carried out while more bytes than these are unsent.
+pub(crate) const MOST_UNSENT: usize = 65536;
+
+/// A connection, with what it has sent and what is to be written to it.
+#[derive(Drop)]
+pub(crate) struct Connection {
+    inbox: Inbox,
+    unsent: Queue,
+}
+
+impl Model for Connection {
+    ghost use Rattle.ssi_hub.specs.Meaning.Buffers.{Buffers};
+
+    ghost Value = { Buffers };
+
+    ghost view = { λ c. record { waiting = c.inbox; unsent = c.unsent } };
+}
+
+impl Connection {
+    /// Makes a new connection.
+    pub(crate) fn new(alloc: Global) -> Connection
+        ensures { result ≡ no_bytes }
+    {
+        Connection {
+            inbox: Inbox::new(alloc),
+            unsent: Queue::new(alloc),
+        }
+    }
+
+    pub(crate) fn received(&mut self, bytes: &[u8]) -> Result<(), AllocError>
+        ensures ok { OnOk result (self.new ≡ with_received bytes.now self.old) }
+        ensures err { OnErr result (self.new ≡ self.old) }
+    {
+        self.inbox.add(bytes)
+    }
+
+    pub(crate) fn unsent(&self) -> &[u8]
+        ensures { result.now ≡ self.now.unsent }
+    {
+        self.unsent.bytes()
+    }
+
+    pub(crate) fn written(&mut self, count: usize)
+        ensures { self.new ≡ with_written count self.old }
+    {
+        self.unsent.take(count);
+    }
+
+    pub(crate) fn has_line(&self) -> bool
+        ensures { result ≡ has_line self.now.waiting }
+    {
+        self.inbox.has_line()
+    }
+
+    /// Returns whether more may be read.
+    pub(crate) fn wants_read(&self) -> bool
+        ensures { result ≡ (not (has_line self.now.waiting) && nat_le (length self.now.unsent) 65536) }
+    {
+        !self.inbox.has_line() && self.unsent.len() <= MOST_UNSENT
+    }
+
+    /// Carries out up to `most` of the lines that wait, oldest first, and adds the replies to what is to be written. It stops
+    /// at `stop`, at a reply that memory can't hold, and before a further line while more than 65,536 bytes are unsent.
+    pub(crate) fn run<C: Chains + Drop, M: Marks + Drop>(
+        &mut self,
+        alloc: Global,
+        store: &mut Store<C, M>,
+        most: usize,
+    ) -> Outcome
+        ensures { (bytes : List ℕ) → self.old.waiting ≡ clipped bytes
+            → (lines : List (List ℕ)) × (steps : List Step) × (left : List ℕ)
+            × CarriedOut (IsAt C.held M.marked) self.old bytes store.old (stops_by result) (lost_by result) lines steps left
+            self.new store.new
+            × IsEnough (stops_by result) (lost_by result) most lines self.new }
+    {
+        'lines: for _ in 0..most {
+            if self.unsent.len() > MOST_UNSENT {
+                return Outcome::GoesOn;
+            }
+            let Some(outcome) = self.step(alloc, store) else {
+                return Outcome::GoesOn;
+            };
+            if outcome.is_last() {
+                return outcome;
+            }
+        }
+        Outcome::GoesOn
+    }
+
+    /// Carries out the first line that waits, and adds its reply to what is to be written. `None` if no whole line waits.
+    fn step<C: Chains + Drop, M: Marks + Drop>(
+        &mut self,
+        alloc: Global,
+        store: &mut Store<C, M>,
+    ) -> Option<Outcome>
+        ensures some { IfSome result (λ outcome. (bytes : List ℕ) → self.old.waiting ≡ clipped bytes
+            → (line : List ℕ) × (step : Step) × (left : List ℕ)
+            × Stepped (IsAt C.held M.marked) self.old bytes store.old outcome line step left self.new store.new) }
+        ensures none { IfNone result (has_line self.old.waiting ≡ false) }
+        ensures as_before { IfNone result ((self.new ≡ self.old) × (store.new ≡ store.old)) }
+    {
+        let Some(line) = self.inbox.line() else {
+            return None;
+        };
+        let len = line.len();
+        let outcome = reply(alloc, line, &mut self.unsent, store);
+        self.inbox.pass(len);
+        Some(outcome)
+    }
+}

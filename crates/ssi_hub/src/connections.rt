@@ -1,0 +1,120 @@
+//! The open connections, by their tokens.
+
+ghost use Rattle.std.specs.Prelude.{◌≡◌, ℕ, None, Some, OnOk, OnErr, IfSome, IfNone, MatchOption};
+ghost use Rattle.std.specs.Option.{option_map, option_copied};
+ghost use Rattle.ssi_store.specs.Mirror.Stores.{IsAt};
+ghost use Rattle.ssi_hub.specs.Meaning.Buffers.{Buffers, no_bytes, with_received, with_written};
+ghost use Rattle.ssi_hub.specs.Machinery.Outcomes.{stops_by, lost_by};
+ghost use Rattle.ssi_hub.specs.Machinery.Changes.{buffers_in, Changes, AreSame, CarriesOut, RanAt, RanNothing};
+
+use crate::{Connection, Outcome};
+use indexmap::IndexMap;
+use ssi_reads::Marks;
+use ssi_store::Store;
+use ssi_versions::Chains;
+use std::alloc::{AllocError, Global};
+
+/// The open connections.
+#[derive(Drop)]
+pub(crate) struct Connections {
+    by_token: IndexMap<u64, Connection>,
+}
+
+impl Connections {
+    /// Makes an empty table.
+    pub(crate) fn new(alloc: Global) -> Connections
+        ensures { (t : ℕ) → buffers_in result t ≡ None }
+    {
+        Connections {
+            by_token: IndexMap::new(alloc),
+        }
+    }
+
+    /// Adds a connection with this token. `AllocError` if memory runs out: then all is as before.
+    pub(crate) fn add(&mut self, alloc: Global, token: u64) -> Result<(), AllocError>
+        ensures ok { OnOk result (Changes (buffers_in self.old) (buffers_in self.new) token (Some no_bytes)) }
+        ensures err { OnErr result (AreSame (buffers_in self.old) (buffers_in self.new)) }
+    {
+        match self.by_token.insert(token, Connection::new(alloc)) {
+            Ok(_) => Ok(()),
+            Err(_) => Err(AllocError),
+        }
+    }
+
+    /// Returns the connection, if it is open.
+    pub(crate) fn get(&self, token: u64) -> Option<&Connection>
+        ensures { option_copied result ≡ buffers_in self.now token }
+    {
+        self.by_token.get(&token)
+    }
+
+    /// Adds bytes that the connection sent, if it is open. `AllocError` if memory runs out: then all is as before.
+    pub(crate) fn received(&mut self, token: u64, bytes: &[u8]) -> Result<(), AllocError>
+        ensures ok { OnOk result (Changes (buffers_in self.old) (buffers_in self.new) token
+            (option_map (with_received bytes.now) (buffers_in self.old token))) }
+        ensures err { OnErr result (AreSame (buffers_in self.old) (buffers_in self.new)) }
+    {
+        match self.by_token.get_mut(&token) {
+            Some(connection) => connection.received(bytes),
+            None => Ok(()),
+        }
+    }
+
+    /// The first `count` bytes that are to be written to the connection are written, if it is open.
+    pub(crate) fn written(&mut self, token: u64, count: usize)
+        ensures { Changes (buffers_in self.old) (buffers_in self.new) token
+            (option_map (with_written count) (buffers_in self.old token)) }
+    {
+        if let Some(connection) = self.by_token.get_mut(&token) {
+            connection.written(count);
+        }
+    }
+
+    /// Carries out up to `most` lines of the connection, as [`Connection::run`] does, and removes it if a reply is lost. `None`
+    /// if it is not open.
+    pub(crate) fn run<C: Chains + Drop, M: Marks + Drop>(
+        &mut self,
+        alloc: Global,
+        token: u64,
+        store: &mut Store<C, M>,
+        most: usize,
+    ) -> Option<Outcome>
+        ensures { MatchOption result (RanNothing (buffers_in self.old) token store.old (buffers_in self.new) store.new)
+            (λ o. RanAt (IsAt C.held M.marked) (buffers_in self.old) token store.old (stops_by o) (lost_by o) most
+            (buffers_in self.new) store.new) }
+    {
+        let Some(outcome) = self.carry_out(alloc, token, store, most) else {
+            return None;
+        };
+        if outcome.is_lost() {
+            self.remove(token);
+            return Some(outcome);
+        }
+        Some(outcome)
+    }
+
+    fn carry_out<C: Chains + Drop, M: Marks + Drop>(
+        &mut self,
+        alloc: Global,
+        token: u64,
+        store: &mut Store<C, M>,
+        most: usize,
+    ) -> Option<Outcome>
+        ensures none { IfNone result (RanNothing (buffers_in self.old) token store.old (buffers_in self.new) store.new) }
+        ensures some { IfSome result (λ o. (old : Buffers) × (now : Buffers) × (buffers_in self.old token ≡ Some old)
+            × Changes (buffers_in self.old) (buffers_in self.new) token (Some now)
+            × CarriesOut (IsAt C.held M.marked) old store.old (stops_by o) (lost_by o) most now store.new) }
+    {
+        let Some(connection) = self.by_token.get_mut(&token) else {
+            return None;
+        };
+        Some(connection.run(alloc, store, most))
+    }
+
+    /// Removes the connection, if it is open.
+    pub(crate) fn remove(&mut self, token: u64)
+        ensures { Changes (buffers_in self.old) (buffers_in self.new) token None }
+    {
+        let _ = self.by_token.swap_remove(&token);
+    }
+}

@@ -1,0 +1,212 @@
+//! The connections, and their calls.
+
+ghost use Rattle.std.specs.Prelude.{◌≡◌, ◌≢◌, ◌+◌, ◌∷◌, ◌++◌, ◌⊎◌, ℕ, Bool, List, [], None, Some, true, false, IsSome, not, ◌&&◌, nat_le, nat_lt, length, MatchOption, MatchResult, OnOk, OnErr, IfOk};
+ghost use Rattle.std.specs.Option.{option_map};
+ghost use Rattle.ssi_store.specs.Meaning.Courses.{Course};
+ghost use Rattle.ssi_store.specs.Mirror.Stores.{IsAt};
+ghost use Rattle.ssi_line.specs.Meaning.Steps.{Step};
+ghost use Rattle.ssi_line.specs.Meaning.Ends.{WentOn};
+ghost use Rattle.ssi_hub.specs.Meaning.Clipping.{clipped, has_line};
+ghost use Rattle.ssi_hub.specs.Meaning.Buffers.{Buffers, no_bytes, with_received, with_written, first_unsent};
+ghost use Rattle.ssi_hub.specs.Meaning.Runs.{CarriedOut, IsEnough, left_by};
+ghost use Rattle.ssi_hub.specs.Meaning.Calls.{Call, Opened, Received, Wrote, Closed, with_call, with_run, all_steps};
+ghost use Rattle.ssi_hub.specs.Machinery.Changes.{RanAt};
+ghost use Rattle.ssi_hub.specs.Mirror.{buffers_of, next_token, is_stopped, Changed, IsSame, Stands, Serves, turn_of};
+
+use crate::{Connections, Turn};
+use ssi_reads::Marks;
+use ssi_store::Store;
+use ssi_versions::Chains;
+use std::alloc::{AllocError, Global};
+
+/// Connections that use one store at once.
+#[derive(Drop)]
+pub struct Hub {
+    connections: Connections,
+    next: u64,
+    stopped: bool,
+}
+
+impl Hub {
+    /// Makes a hub with no connection.
+    pub fn new(alloc: Global) -> Hub
+        ensures empty { (t : ℕ) → buffers_of result t ≡ None }
+        ensures next { next_token result ≡ 0 }
+        ensures goes_on { is_stopped result ≡ false }
+        ensures stands { Stands result [] }
+    {
+        Hub {
+            connections: Connections::new(alloc),
+            next: 0,
+            stopped: false,
+        }
+    }
+
+    /// Opens a connection, and returns its token: tokens are counted up, so none is used again. `AllocError` if memory
+    /// runs out, or after 2^64 - 1 connections; then nothing has changed.
+    pub fn opened(&mut self, alloc: Global) -> Result<u64, AllocError>
+        ensures token { IfOk result (λ t. t ≡ next_token self.old) }
+        ensures next { OnOk result (next_token self.new ≡ next_token self.old + 1) }
+        ensures own { IfOk result (λ t. buffers_of self.new t ≡ Some no_bytes) }
+        ensures others { IfOk result (λ t. (u : ℕ) → u ≢ t → buffers_of self.new u ≡ buffers_of self.old u) }
+        ensures stopped { is_stopped self.new ≡ is_stopped self.old }
+        ensures err { OnErr result (IsSame self.old self.new) }
+        ensures stands { (calls : List Call) → Stands self.old calls
+            → MatchResult result (λ t. Stands self.new (Opened t ∷ calls)) (λ _. Stands self.new calls) }
+    {
+        let token = self.next;
+        let Some(next) = token.checked_add(1) else {
+            return Err(AllocError);
+        };
+        let Ok(()) = self.connections.add(alloc, token) else {
+            return Err(AllocError);
+        };
+        self.next = next;
+        Ok(token)
+    }
+
+    /// The connection has sent these bytes. They wait until [`run`](Hub::run) carries them out, and take memory until then;
+    /// of each line 4097 bytes are kept. `AllocError` if memory runs out; then nothing has changed.
+    pub fn received(&mut self, token: u64, bytes: &[u8]) -> Result<(), AllocError>
+        ensures ok { OnOk result (Changed self.old self.new token
+            (option_map (with_received bytes.now) (buffers_of self.old token))) }
+        ensures err { OnErr result (IsSame self.old self.new) }
+        ensures stands { (calls : List Call) → Stands self.old calls
+            → MatchResult result (λ _. Stands self.new (with_call (Received token bytes.now) calls))
+            (λ _. Stands self.new calls) }
+    {
+        self.connections.received(token, bytes)
+    }
+
+    /// Carries out up to `most` of the lines that wait of the connection, oldest first, each by [`answer`](ssi_line::answer) on
+    /// the store, and adds the replies to what is to be written to it. It stops before a further line while more than 65,536
+    /// bytes are unsent, and at `stop`: after that no line of any connection is carried out.
+    ///
+    /// If memory can't hold a reply, that line has been carried out, and the connection is closed.
+    pub fn run<C: Chains + Drop, M: Marks + Drop>(
+        &mut self,
+        alloc: Global,
+        token: u64,
+        store: &mut Store<C, M>,
+        most: usize,
+    ) -> Turn
+        ensures turn { result ≡ turn_of (is_stopped self.new) (buffers_of self.new token) }
+
+        // The first of the lines that wait are carried out, each once and in order, and their replies are added.
+        ensures carried { (b : Buffers) (bytes : List ℕ) → is_stopped self.old ≡ false → buffers_of self.old token ≡ Some b
+            → b.waiting ≡ clipped bytes
+            → (stops : Bool) × (lost : Bool) × (lines : List (List ℕ)) × (steps : List Step) × (left : List ℕ) × (now : Buffers)
+            × CarriedOut (IsAt C.held M.marked) b bytes store.old stops lost lines steps left now store.new
+            × IsEnough stops lost most lines now
+            × (buffers_of self.new token ≡ left_by lost now) × (is_stopped self.new ≡ stops) }
+
+        // Nothing is done after `stop`, or of a connection that isn't open.
+        ensures after_stop { is_stopped self.old ≡ true → IsSame self.old self.new × (store.new ≡ store.old) }
+        ensures missing { buffers_of self.old token ≡ None → IsSame self.old self.new × (store.new ≡ store.old) }
+
+        ensures others { (u : ℕ) → u ≢ token → buffers_of self.new u ≡ buffers_of self.old u }
+        ensures next { next_token self.new ≡ next_token self.old }
+        ensures stands { (calls : List Call) → Stands self.old calls
+            → (lost : Bool) × (lines : List (List ℕ)) × (steps : List Step)
+            × Stands self.new (with_run lost token lines steps calls)
+            × WentOn (IsAt C.held M.marked) store.old steps store.new
+            × (all_steps (with_run lost token lines steps calls) ≡ all_steps calls ++ steps) }
+
+        // The course of the store goes on by the steps that were carried out, and by no other.
+        ensures serves { (start : Course) (calls : List Call) → Serves (IsAt C.held M.marked) start self.old store.old calls
+            → (lost : Bool) × (lines : List (List ℕ)) × (steps : List Step)
+            × Serves (IsAt C.held M.marked) start self.new store.new (with_run lost token lines steps calls) }
+    {
+        self.carry_out(alloc, token, store, most);
+        self.turn(token)
+    }
+
+    fn carry_out<C: Chains + Drop, M: Marks + Drop>(
+        &mut self,
+        alloc: Global,
+        token: u64,
+        store: &mut Store<C, M>,
+        most: usize,
+    )
+        ensures idle { (is_stopped self.old ≡ true) ⊎ (buffers_of self.old token ≡ None)
+            → IsSame self.old self.new × (store.new ≡ store.old) }
+        ensures ran { is_stopped self.old ≡ false → IsSome (buffers_of self.old token)
+            → (lost : Bool) × RanAt (IsAt C.held M.marked) (buffers_of self.old) token store.old (is_stopped self.new) lost most
+            (buffers_of self.new) store.new }
+        ensures next { next_token self.new ≡ next_token self.old }
+    {
+        if self.stopped {
+            return;
+        }
+        if let Some(outcome) = self.connections.run(alloc, token, store, most) {
+            self.stopped = outcome.stops();
+        }
+    }
+
+    fn turn(&self, token: u64) -> Turn
+        ensures { result ≡ turn_of (is_stopped self.now) (buffers_of self.now token) }
+    {
+        if self.stopped {
+            return Turn::Stopped;
+        }
+        match self.connections.get(token) {
+            Some(connection) if connection.has_line() => Turn::LinesLeft,
+            _ => Turn::Done,
+        }
+    }
+
+    /// Returns the bytes that are to be written to the connection: the replies that are not written.
+    pub fn to_write(&self, token: u64) -> &[u8]
+        ensures { MatchOption (buffers_of self.now token) (result.now ≡ []) (λ b. result.now ≡ b.unsent) }
+    {
+        match self.connections.get(token) {
+            Some(connection) => connection.unsent(),
+            None => &[],
+        }
+    }
+
+    /// The first `count` bytes of [`to_write`](Hub::to_write) were written to the connection, or all if there are no more.
+    pub fn written(&mut self, token: u64, count: usize)
+        ensures written { Changed self.old self.new token
+            (option_map (with_written count) (buffers_of self.old token)) }
+        ensures stands { (calls : List Call) → Stands self.old calls
+            → Stands self.new (with_call (Wrote token (first_unsent count (buffers_of self.old token))) calls) }
+    {
+        self.connections.written(token, count);
+    }
+
+    /// The connection is gone. Its lines that are not carried out are dropped, and so is what was to be written to it. What
+    /// was carried out stands, and its transactions stay open.
+    pub fn closed(&mut self, token: u64)
+        ensures closed { Changed self.old self.new token None }
+        ensures stands { (calls : List Call) → Stands self.old calls → Stands self.new (with_call (Closed token) calls) }
+    {
+        self.connections.remove(token);
+    }
+
+    /// Returns whether more bytes are to be read from the connection. It is false while a whole line waits or more than
+    /// 65,536 bytes are unsent, and after `stop`.
+    pub fn wants_read(&self, token: u64) -> bool
+        ensures { MatchOption (buffers_of self.now token) (result ≡ false)
+            (λ b. result ≡ (not (is_stopped self.now) && (not (has_line b.waiting) && nat_le (length b.unsent) 65536))) }
+    {
+        match self.connections.get(token) {
+            Some(connection) => !self.stopped && connection.wants_read(),
+            None => false,
+        }
+    }
+
+    /// Returns whether there are bytes to be written to the connection.
+    pub fn wants_write(&self, token: u64) -> bool
+        ensures { MatchOption (buffers_of self.now token) (result ≡ false) (λ b. result ≡ nat_lt 0 (length b.unsent)) }
+    {
+        !self.to_write(token).is_empty()
+    }
+
+    /// Returns whether `stop` was carried out.
+    pub fn is_stopped(&self) -> bool
+        ensures { result ≡ is_stopped self.now }
+    {
+        self.stopped
+    }
+}

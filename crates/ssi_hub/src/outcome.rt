@@ -1,0 +1,56 @@
+//! How a run went.
+
+ghost use Rattle.std.specs.Prelude.{◌≡◌, ◌||◌};
+ghost use Rattle.ssi_hub.specs.Machinery.Outcomes.{stops_by, lost_by};
+
+/// What carrying out lines of a connection came to.
+#[derive(Clone, Copy, Debug, PartialEq, Eq)]
+pub(crate) enum Outcome {
+    /// The replies are stored, and no line was `stop`.
+    GoesOn,
+    /// The replies are stored, and the last line was `stop`.
+    Stops,
+    /// Memory couldn't hold the reply to the last line.
+    Lost {
+        /// Whether that line was `stop`.
+        stops: bool,
+    },
+}
+
+impl Outcome {
+    /// Returns whether no further line of the connection is carried out.
+    pub(crate) fn is_last(self) -> bool
+        ensures { result ≡ (stops_by self || lost_by self) }
+    {
+        !matches!(self, Outcome::GoesOn)
+    }
+
+    /// Returns whether the last line was `stop`.
+    pub(crate) fn stops(self) -> bool
+        ensures { result ≡ stops_by self }
+    {
+        match self {
+            Outcome::GoesOn => false,
+            Outcome::Stops => true,
+            Outcome::Lost { stops } => stops,
+        }
+    }
+
+    /// Returns whether the reply to the last line is lost.
+    pub(crate) fn is_lost(self) -> bool
+        ensures { result ≡ lost_by self }
+    {
+        matches!(self, Outcome::Lost { .. })
+    }
+}
+
+/// What a call of [`Hub::run`](crate::Hub::run) left.
+#[derive(Clone, Copy, Debug, PartialEq, Eq)]
+pub enum Turn {
+    /// No whole line of the connection waits, or it is not open.
+    Done,
+    /// Whole lines of the connection wait.
+    LinesLeft,
+    /// `stop` was carried out, now or earlier: no line of any connection is carried out any more.
+    Stopped,
+}
