@@ -1,6 +1,6 @@
 //! Histories in the making.
 
-ghost use Rattle.std.specs.Prelude.{◌≡◌, ◌<◌, ◌+◌, ◌^◌, [], length, true, false, IfOk, OnOk, MatchOption, map};
+ghost use Rattle.std.specs.Prelude.{◌≡◌, ◌<◌, ◌+◌, ◌^◌, [], length, true, false, IfSome, IfOk, OnOk, MatchOption, map};
 ghost use Rattle.adya_values.specs.Computing.Shapes.{fits_edition, is_shape};
 ghost use Rattle.adya_values.specs.Meaning.Histories.{event_of, order_of, final_of};
 ghost use Rattle.adya_values.specs.Mirror.{history_of};
@@ -251,7 +251,7 @@ fn of_edition(
     orders: Vec<Order>,
     finals: Vec<FinalPair>,
 ) -> Option<History>
-    ensures { fits_edition edition unfinished.items ≡ true
+    ensures of_lists { fits_edition edition unfinished.items ≡ true
         → MatchOption result (is_shape (map order_of orders.items) (map final_of finals.items) ≡ true → ⊥)
         (λ h. history_of h ≡ record {
           edition = edition;
@@ -260,6 +260,7 @@ fn of_edition(
           orders = map order_of orders.items;
           finals = map final_of finals.items;
         }) }
+    ensures same { IfSome result (λ h. (h.events ≡ events) × (h.orders ≡ orders) × (h.finals ≡ finals)) }
 {
     match edition {
         Edition::One => History::new(events, orders, finals).ok(),

@@ -11,4 +11,4 @@ returns-in_default c = λ past run are.
 pub returns : goal.returns
 returns c = λ past run.
     let (is, whole) = run_done is_machine c.history_lines.ensures.one_text run c.in-Done.is in
-    value_reads c.args.self past c.of_edition.result is whole (c.of_edition.ensures is.edition)
+    value_reads c.args.self past c.of_edition.result is whole (c.of_edition.ensures.of_lists is.edition)
