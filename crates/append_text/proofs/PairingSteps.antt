@@ -1,5 +1,5 @@
 -- What a pairing holds after one operation more.
-use Rattle.std.proofs.Common.{◌≡◌, ◌≢◌, ◌⊎◌, ℕ, ℤ, Bool, true, false, cond, List, [], ◌∷◌, ◌++◌, length, map, Option, Some, None, option_map, refl, sym, ap, subst, ◌∙◌, inl, inr, int_eq, int_cmp, zero, suc, arith}
+use Rattle.std.proofs.Common.{◌≡◌, ◌⊎◌, ℕ, ℤ, true, false, List, [], ◌∷◌, ◌++◌, length, map, Option, Some, None, option_map, refl, sym, ap, ◌∙◌, inl, inr, int_eq, int_cmp, zero, suc, arith}
 use Rattle.std.proofs.Common.{Result, Ok, Err, OnOk, IfErr}
 use Rattle.std.specs.Prelude.{is_some, slice_get, slice_index_or, slice_set, IfSome, IsSomeAnd, ◌<◌}
 use Rattle.std.specs.BTreeMap.{get, Updates}
@@ -17,10 +17,9 @@ use Rattle.append_text.specs.declared.operation.Kind.{Kind}
 use Rattle.append_text.specs.declared.operation.Kind.TheVariants as kind
 use Rattle.append_text.specs.declared.read_fault.Refusal.{Refusal}
 use Rattle.append_text.specs.declared.read_fault.Refusal.TheVariants.{Memory}
-use Rattle.append_text.specs.declared.history.Label.{Label}
 use Rattle.append_text.specs.Meaning.Steps.{without_result, outcome_of, told, ended}
-use Rattle.append_text.specs.Meaning.Pairing.{Op, Found, is_invoke, is_invocation, is_of, found, alone, invoked, transactions, last_of, AreSame, MayEnd, MayPair, MayFollow}
-use Rattle.append_text.specs.Machinery.Pairings.{open_at, style_by, style_or_by, style_at, is_alone, HasTaken, Waits, Ends, MayNotEnd}
+use Rattle.append_text.specs.Meaning.Pairing.{Op, Found, is_invoke, is_invocation, is_of, found, alone, invoked, transactions, last_of, MayEnd, MayPair, MayFollow}
+use Rattle.append_text.specs.Machinery.Pairings.{open_at, style_by, style_or_by, style_at, is_alone, HasTaken, Ends, MayNotEnd}
 use Rattle.append_text.proofs.Pairings.{IsOpen, open_is, closed_last, open_push_other, open_push_end, open_push_invocation, invoked_push_invocation}
 
 -- ---- the style of a text
@@ -264,15 +263,6 @@ completion_refused old style ops o taken is ends none may = by_place (open_at o.
         none (told Unknown w.op.steps)
         (record { place = n; at = waiting_in old ops o taken is o.label.process ∙ at; is = waits_is old ops o taken is n w })
         (may_end_lost o.kind w.op.steps o.steps ends)
-
-pub took_none : (p : Pairing) → p.style ≡ Undecided → p.transactions.items ≡ [] → p.labels.items ≡ []
-    → ((process : ℤ) → get int_cmp p.waiting process ≡ None) → HasTaken p []
-took_none p style transactions labels none = record {
-  style_is = style;
-  transactions_are = ap (map transaction_of) transactions;
-  labels_are = labels;
-  waits = λ paired process. none process;
-}
 
 -- ---- by the results of the calls
 

@@ -1,0 +1,125 @@
+//! Calls by their names.
+
+use ssi_hub::{Hub, Turn};
+use ssi_reads::IndexMarks;
+use ssi_store::Store;
+use ssi_versions::KeyChains;
+use std::alloc::{AllocError, Global};
+
+/// A hub, and the store that it uses.
+#[derive(Drop)]
+pub(crate) struct Tried {
+    hub: Hub,
+    store: Store<KeyChains, IndexMarks>,
+}
+
+impl Tried {
+    pub(crate) fn new(alloc: Global) -> Tried {
+        Tried {
+            hub: Hub::new(alloc),
+            store: Store::new(alloc, KeyChains::new(alloc), IndexMarks::new(alloc)),
+        }
+    }
+
+    /// Returns what is written behind the line.
+    pub(crate) fn answer(&mut self, alloc: Global, line: &str) -> Result<String, AllocError> {
+        let (name, rest) = line.split_once(" ").unwrap_or((line, ""));
+        let (token, rest) = rest.split_once(" ").unwrap_or((rest, ""));
+        let token = token.parse::<u64>().unwrap_or(u64::MAX);
+        match name {
+            "open" => {
+                let token = self.hub.opened(alloc)?;
+                format!(in alloc; ": {token}")
+            }
+            "run" => format!(in alloc; ": {}", self.run(alloc, token, number(rest))),
+            "show" => shown(alloc, self.hub.to_write(token)),
+            "count" => format!(in alloc; ": {}", self.hub.to_write(token).len()),
+            "wants" => format!(in alloc; ": {}", self.wants(token)),
+            _ => {
+                self.change(alloc, name, token, rest)?;
+                Ok(String::new(alloc))
+            }
+        }
+    }
+
+    /// Makes a call that returns nothing.
+    fn change(
+        &mut self,
+        alloc: Global,
+        name: &str,
+        token: u64,
+        rest: &str,
+    ) -> Result<(), AllocError> {
+        match name {
+            "send" => self.hub.received(token, &sent(alloc, rest)?),
+            "fill" => self
+                .hub
+                .received(token, &copies(alloc, b"x", number(rest))?),
+            "many" => self
+                .hub
+                .received(token, &copies(alloc, b"x\n", number(rest))?),
+            "wrote" => {
+                self.hub.written(token, number(rest));
+                Ok(())
+            }
+            "close" => {
+                self.hub.closed(token);
+                Ok(())
+            }
+            _ => Ok(()),
+        }
+    }
+
+    fn run(&mut self, alloc: Global, token: u64, most: usize) -> &'static str {
+        let turn = self.hub.run(alloc, token, &mut self.store, most);
+        match (turn, self.hub.is_stopped()) {
+            (Turn::Done, false) => "done",
+            (Turn::LinesLeft, false) => "lines left",
+            (Turn::Stopped, true) => "stopped",
+            _ => "a turn that doesn't fit",
+        }
+    }
+
+    fn wants(&self, token: u64) -> &'static str {
+        match (self.hub.wants_read(token), self.hub.wants_write(token)) {
+            (true, true) => "read, write",
+            (true, false) => "read",
+            (false, true) => "write",
+            (false, false) => "nothing",
+        }
+    }
+}
+
+fn number(text: &str) -> usize {
+    text.parse::<usize>().unwrap_or(0)
+}
+
+/// Returns the bytes of the text, with a line feed for each `/`.
+fn sent(alloc: Global, text: &str) -> Result<Vec<u8>, AllocError> {
+    let mut bytes = Vec::new(alloc);
+    for b in text.as_bytes() {
+        bytes.push(if *b == b'/' { b'\n' } else { *b })?;
+    }
+    Ok(bytes)
+}
+
+/// Returns what stands behind `show`: the bytes, with `/` for each line feed, or `nothing`.
+fn shown(alloc: Global, bytes: &[u8]) -> Result<String, AllocError> {
+    if bytes.is_empty() {
+        return format!(in alloc; ": nothing");
+    }
+    let mut text = format!(in alloc; ": ")?;
+    for b in bytes {
+        text.push(if *b == b'\n' { '/' } else { char::from(*b) })?;
+    }
+    Ok(text)
+}
+
+/// Returns the bytes so many times.
+fn copies(alloc: Global, bytes: &[u8], count: usize) -> Result<Vec<u8>, AllocError> {
+    let mut copies = Vec::new(alloc);
+    for _ in 0..count {
+        copies.extend_from_slice(bytes)?;
+    }
+    Ok(copies)
+}

@@ -1,0 +1,32 @@
+//! A hub over one store, tried call by call.
+//!
+//! Each line of standard input is a call, and is written again with its answer. `/` stands for a line feed, in what is sent
+//! and in what is to be written. A line that begins with `#` says what comes next. The calls are these:
+//!
+//! - `open`: opens a connection; the answer is its token
+//! - `send T TEXT`: connection T sends the text
+//! - `fill T N`: it sends N bytes `x`
+//! - `many T N`: it sends N times the line `x`, which is no command
+//! - `run T N`: up to N of its lines are carried out; the answer is what is left to do
+//! - `show T`: the answer is what is to be written to it
+//! - `count T`: the answer is how many bytes these are
+//! - `wrote T N`: N bytes were written to it
+//! - `close T`: it is gone
+//! - `wants T`: the answer is whether it is to be read from, and written to
+#![tactic(auto)]
+
+mod calls;
+
+use calls::Tried;
+use std::io;
+
+fn main(rt: HostRuntime) -> io::Result<()> {
+    let alloc = rt.alloc();
+    let mut tried = Tried::new(alloc);
+    for line in rt.lines(alloc) {
+        let line = line?;
+        let answer = tried.answer(alloc, line.as_str())?;
+        println!(&rt; "{line}{answer}")?;
+    }
+    Ok(())
+}
