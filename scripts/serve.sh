@@ -247,6 +247,39 @@ finish
 check 'the end after two peers at once' 'status 0' "$ending"
 check 'texts of two peers at once' "$(lines 'adya 1' a1 a2 end 'serial 1' end yes)" "$(texts h c)"
 
+# All connections at once. scripts/together.py tries more of it.
+cat >both.py <<'END'
+import socket, sys, time
+
+first, second = socket.socket(socket.AF_UNIX), socket.socket(socket.AF_UNIX)
+for _ in range(1000):  # until the server listens
+    if first.connect_ex(sys.argv[1]) == 0:
+        break
+    time.sleep(0.01)
+second.connect(sys.argv[1])
+for peer, line in (second, b"begin B\n"), (first, b"begin A\n"), (second, b"stop\n"):
+    peer.settimeout(30)
+    peer.sendall(line)
+    print(peer.recv(100).decode(), end="")
+END
+start --concurrent socket h c
+check 'a peer that leaves in the middle of a line, at once' $'begun 1\ndone' \
+    "$(printf 'begin A\nput A x 5\nput A x' | talk socket)"
+check 'a session that outlives its connection, at once' $'value 5\ncommitted\nbegun 2\nvalue 5' \
+    "$(lines 'get A x' 'commit A' 'begin B' 'get B x' | talk socket)"
+check 'lines sent together, at once' "$(lines aborted '! 2 idle' '? syntax')" \
+    "$(lines 'abort B' 'abort B' nothing | talk socket together)"
+check 'a dump, at once' "$(lines 'adya 2' 'w1(x.1:1,5)' 'r1(x.1:1,5)' c1 'r2(x.1:1,5)' a2 '[x:1]' '{x,5}' end 'serial 1' 1 end)" \
+    "$(echo dump | talk socket together)"
+check 'two peers at once' "$(lines 'begun 3' 'begun 4' stopped)" "$(timeout 60 python3 both.py socket 2>&1)"
+finish
+check 'the end of connections at once' 'status 0' "$ending"
+check 'the verdict on them' yes "$("$ssi" audit h c)"
+rm -f h c
+for options in '--concurrent socket h' '--concurrent' '--foo socket h c'; do
+    # shellcheck disable=SC2086
+    check "serve $options" 'status 2' "$(run serve $options | tail -n 1)"
+done
 start -- -s -h -c
 check 'paths of a server that begin with a hyphen' stopped "$(echo stop | talk -s)"
 finish

@@ -1,22 +1,22 @@
 #!/usr/bin/env python3
-"""Moves money between accounts of the store, from several sessions at once, and has the store's history audited.
+"""Moves money between accounts of the store, by several clients at once, and has the store's history audited.
 
     examples/store/client.py crates/ssi/out/ssi
 
-It starts `ssi serve` in a new folder, and sends its commands over the socket there. Exit status: 0 if no money was
-lost, nobody is in debt, and the audit says `yes`.
+It starts `ssi serve --concurrent` in a new folder. Each client is a thread with a connection of its own. Exit status: 0 if
+no money was lost, nobody is in debt, and the audit says `yes`.
 """
-import collections
 import os
 import random
 import socket
 import subprocess
 import sys
 import tempfile
+import threading
 import time
 
 OWNERS, START = ["ann", "bob", "eve"], 100  # each owner has two accounts, such as ann_1 and ann_2
-SESSIONS, TRANSFERS = 5, 12
+CLIENTS, TRANSFERS = 5, 200
 
 
 class Aborted(Exception):
@@ -24,9 +24,10 @@ class Aborted(Exception):
 
 
 class Store:
-    """A connection. The server serves one at a time, so all sessions share this one."""
+    """A connection with one session. Its name must be that of no other client."""
 
-    def __init__(self, path):
+    def __init__(self, path, session):
+        self.session = session
         self.socket = socket.socket(socket.AF_UNIX)
         for _ in range(500):  # until the server listens
             if self.socket.connect_ex(path) == 0:
@@ -34,85 +35,85 @@ class Store:
             time.sleep(0.01)
         self.replies = self.socket.makefile()
 
-    def ask(self, *words):
+    def ask(self, command, *words):
         """Sends a command, and returns the words of its reply."""
-        self.socket.sendall((" ".join(words) + "\n").encode())
+        self.socket.sendall((" ".join((command, self.session) + words) + "\n").encode())
         reply = self.replies.readline().split()
         if not reply or reply[0] in ("!", "?"):
-            raise RuntimeError("the reply to %s is %s" % (words, reply))
+            raise RuntimeError("the reply to %s is %s" % (command, reply))
         if reply[0] in ("conflict", "unsafe"):
             raise Aborted(reply[0])
         return reply
 
-    def balances(self, session, owner):
-        rows = self.ask("scan", session, owner + "_1", owner + "_2")[2:]  # of `rows 2 ann_1,100 ann_2,100`
+    def balances(self, owner):
+        rows = self.ask("scan", owner + "_1", owner + "_2")[2:]  # of `rows 2 ann_1,100 ann_2,100`
         return {key: int(balance) for key, balance in (row.split(",") for row in rows)}
 
+    def run(self, transaction):
+        """Runs the transaction, again and again until it commits, and returns how often it was aborted."""
+        aborts = 0
+        while True:
+            try:
+                self.ask("begin")
+                transaction(self)
+                self.ask("commit")
+                return aborts
+            except Aborted:
+                aborts += 1
 
-def transfer(store, session, payer, payee, amount):
-    """Moves money. At each `yield` other sessions may go on.
+
+def transfer(store, payer, payee, amount):
+    """Moves money, if the payer has as much.
 
     An account may be overdrawn, as long as the payer's two accounts together aren't. A transfer reads both and writes
     one of them. So under snapshot isolation alone two transfers could spend the same money: a write skew.
     """
-    store.ask("begin", session)
-    own = store.balances(session, payer)
-    yield
+    own = store.balances(payer)
     source, target = payer + random.choice(["_1", "_2"]), payee + random.choice(["_1", "_2"])
-    if sum(own.values()) < amount:
-        store.ask("abort", session)
-        return
-    balance = int(store.ask("get", session, target)[1])
-    yield
-    store.ask("put", session, source, str(own[source] - amount))
-    store.ask("put", session, target, str(balance + amount))
-    yield
-    store.ask("commit", session)
+    if sum(own.values()) >= amount:
+        balance = int(store.ask("get", target)[1])
+        store.ask("put", source, str(own[source] - amount))
+        store.ask("put", target, str(balance + amount))
 
 
-def work(store, session, retries):
-    """The transfers of one session, each tried until it commits or the payer has too little."""
+def work(path, session, aborts):
+    """The transfers of one client."""
+    store = Store(path, session)
     for _ in range(TRANSFERS):
         payer, payee = random.sample(OWNERS, 2)
-        amount, is_done = random.randint(1, 150), False
-        while not is_done:
-            try:
-                yield from transfer(store, session, payer, payee, amount)
-                is_done = True
-            except Aborted as reason:
-                retries[str(reason)] += 1
+        amount = random.randint(1, 150)
+        aborts.append(store.run(lambda store: transfer(store, payer, payee, amount)))
 
 
-def run(store):
-    """Runs the sessions, and returns whether all the money is still there and nobody is in debt."""
-    store.ask("begin", "main")
+def open_accounts(store):
     for owner in OWNERS:
-        store.ask("put", "main", owner + "_1", str(START))
-        store.ask("put", "main", owner + "_2", str(START))
-    store.ask("commit", "main")
-    retries = collections.Counter()
-    sessions = [work(store, "s%d" % i, retries) for i in range(SESSIONS)]
-    while sessions:
-        session = random.choice(sessions)
-        if next(session, "done") == "done":
-            sessions.remove(session)
-    store.ask("begin", "main")
-    owned = {owner: sum(store.balances("main", owner).values()) for owner in OWNERS}
-    store.ask("commit", "main")
-    print("tried again after conflict: %(conflict)d, after unsafe: %(unsafe)d" % retries)
+        store.ask("put", owner + "_1", str(START))
+        store.ask("put", owner + "_2", str(START))
+
+
+def run(path):
+    """Runs the clients, and returns whether all the money is still there and nobody is in debt."""
+    store, aborts, owned = Store(path, "main"), [], {}
+    store.run(open_accounts)
+    clients = [threading.Thread(target=work, args=(path, "client%d" % i, aborts)) for i in range(CLIENTS)]
+    for client in clients:
+        client.start()
+    for client in clients:
+        client.join()
+    store.run(lambda store: owned.update((owner, sum(store.balances(owner).values())) for owner in OWNERS))
+    print("%d transfers, of which some were tried again: %d times" % (len(aborts), sum(aborts)))
     print("%s; together %d" % (owned, sum(owned.values())))
-    return sum(owned.values()) == 2 * START * len(OWNERS) and min(owned.values()) >= 0
+    store.socket.sendall(b"stop\n")
+    is_complete = len(aborts) == CLIENTS * TRANSFERS
+    return is_complete and sum(owned.values()) == 2 * START * len(OWNERS) and min(owned.values()) >= 0
 
 
 def main(program):
-    random.seed(1)
     with tempfile.TemporaryDirectory() as folder:
         path, history, certificate = [os.path.join(folder, name) for name in ("socket", "history", "certificate")]
-        server = subprocess.Popen([program, "serve", path, history, certificate])
+        server = subprocess.Popen([program, "serve", "--concurrent", path, history, certificate])
         try:
-            store = Store(path)
-            is_right = run(store)
-            store.ask("stop")
+            is_right = run(path)
             server.wait()  # when it ends, it has written both files
         finally:
             server.kill()

@@ -7,13 +7,14 @@ ghost use Rattle.clap.specs.declared.error.kind.ErrorKind.TheVariants.{DisplayHe
 use crate::late_file::LateFile;
 use clap::Error;
 use devices::Watched;
-use ssi_arguments::{NoTask, Task, given_arguments, task_of};
+use mio::Poll;
+use ssi_arguments::{Manner, NoTask, Task, given_arguments, task_of};
 use ssi_cli::{
     Fault, ServingFault, Status, carry_out_commands, judge_stream, judge_texts, order_text,
-    serve_commands,
+    serve_commands, serve_commands_together,
 };
 use std::fs::Files;
-use std::io::BufWriter;
+use std::io::{BufWriter, Write};
 use std::net::Net;
 use std::os::unix::net::UnixListener;
 use std::rt::Runtime;
@@ -54,7 +55,8 @@ fn carry_out<'a, R: Runtime + Net + AllocGlobal>(
             socket,
             history,
             certificate,
-        } => serve_connections(rt, socket, history, certificate),
+            manner,
+        } => serve_connections(rt, socket, history, certificate, manner),
     }
 }
 
@@ -115,16 +117,20 @@ fn serve_connections<'a, R: Runtime + Net + AllocGlobal>(
     socket: &'a str,
     history: &'a str,
     certificate: &'a str,
+    manner: Manner,
 ) -> Result<Status, Fault<'a>> {
     let mut history_file = late_file(rt, history)?;
     let mut certificate_file = late_file(rt, certificate)?;
     let listener = bound(rt, socket)?;
-    let served = serve_commands(
-        rt.alloc(),
-        &listener,
-        &mut history_file,
-        &mut certificate_file,
-    );
+    let served = match manner {
+        Manner::InTurn => serve_commands(
+            rt.alloc(),
+            &listener,
+            &mut history_file,
+            &mut certificate_file,
+        ),
+        Manner::AtOnce => serve_at_once(rt, listener, &mut history_file, &mut certificate_file),
+    };
     // A file that can't be removed is no fault.
     let _ = fs::remove_file(rt, socket);
     match served {
@@ -132,6 +138,22 @@ fn serve_connections<'a, R: Runtime + Net + AllocGlobal>(
         Err(ServingFault::Socket) => Err(Fault::Socket(socket)),
         Err(ServingFault::Texts(fault)) => Err(Fault::of_texts(fault, history, certificate)),
     }
+}
+
+fn serve_at_once<R: Net + AllocGlobal, H: Write, C: Write>(
+    rt: &R,
+    listener: UnixListener,
+    history: &mut Watched<H>,
+    certificate: &mut Watched<C>,
+) -> Result<Status, ServingFault> {
+    let Ok(()) = listener.set_nonblocking(true) else {
+        return Err(ServingFault::Socket);
+    };
+    let Ok(mut poll) = Poll::new(rt) else {
+        return Err(ServingFault::Socket);
+    };
+    let mut listener = mio::net::UnixListener::from_std(listener);
+    serve_commands_together(rt.alloc(), &mut poll, &mut listener, history, certificate)
 }
 
 // The system would make a socket without a file of the empty path.

@@ -11,6 +11,7 @@ use Rattle.clap.specs.Faults.{built_fault, check_fault, defaults_fault, entered_
 use Rattle.clap.specs.Faults.{level_fault, settle_fault, turn_fault, walk_fault}
 use Rattle.clap.proofs.OnLiterals.{clap_on_literals}
 use Rattle.ssi_arguments.specs.Meaning.Arguments.{Request, pipe, audit, order, script, serve, are_plain, is_plain, arguments_of}
+use Rattle.ssi_arguments.specs.declared.arguments.Manner.TheVariants.{InTurn}
 use Rattle.ssi_arguments.specs.Machinery.Parser.{ssi_app}
 use Rattle.ssi_arguments.proofs.CommandWalks.{names, orders, pairs, parser, serves, top_walk}
 use Rattle.ssi_arguments.proofs.CommandWalks.{stops_at_audit, stops_at_order, stops_at_script, stops_at_serve}
@@ -77,22 +78,22 @@ order_alone e = absurd (cc e)
 pair_one : (name h : Text) → is_plain h ≡ true → leaf_fault (pairs name) (h ∷ []) ≡ [] → ⊥
 pair_one name h p e =
     let shape = pairs name in
-    let missing = ap (λ w. check_fault shape (finished shape.rules w.held) false) (walk_one shape h p) in
-    let none : check_fault shape (finished shape.rules (one_path shape h).held) false ≡ [] =
+    let missing = ap (λ w. check_fault shape (finished shape.rules w.held) false) (walk_one nothing_held shape h p) in
+    let none : check_fault shape (finished shape.rules (one_path nothing_held shape h).held) false ≡ [] =
     sym missing ∙ no_check shape [] (h ∷ []) false [] e in
     absurd (cc none)
 
 serve_one : (s : Text) → is_plain s ≡ true → leaf_fault serves (s ∷ []) ≡ [] → ⊥
 serve_one s p e =
-    let missing = ap (λ w. check_fault serves (finished serves.rules w.held) false) (walk_one serves s p) in
-    let none : check_fault serves (finished serves.rules (one_path serves s).held) false ≡ [] =
+    let missing = ap (λ w. check_fault serves (finished serves.rules w.held) false) (walk_one nothing_held serves s p) in
+    let none : check_fault serves (finished serves.rules (one_path nothing_held serves s).held) false ≡ [] =
     sym missing ∙ no_check serves [] (s ∷ []) false [] e in
     absurd (cc none)
 
 serve_two : (s h : Text) → is_plain s ≡ true → is_plain h ≡ true → leaf_fault serves (s ∷ h ∷ []) ≡ [] → ⊥
 serve_two s h p q e =
-    let missing = ap (λ w. check_fault serves (finished serves.rules w.held) false) (walk_front s h p q) in
-    let none : check_fault serves (finished serves.rules (two_paths serves s h).held) false ≡ [] =
+    let missing = ap (λ w. check_fault serves (finished serves.rules w.held) false) (walk_front nothing_held s h p q) in
+    let none : check_fault serves (finished serves.rules (two_paths nothing_held serves s h).held) false ≡ [] =
     sym missing ∙ no_check serves [] (s ∷ h ∷ []) false [] e in
     absurd (cc none)
 
@@ -109,9 +110,9 @@ pair_more name h c argument arguments p e =
     let t₂ = first_turn shape [] (walked shape.rules [] (at nothing_held 1) h) c (argument ∷ arguments) t₁.1 in
     let w₂ = walked shape.rules [] (walked shape.rules [] (at nothing_held 1) h) c in
     let t₃ = first_turn shape [] w₂ argument arguments t₂.1 in
-    let stray : turn_fault shape [] (two_paths shape h c) argument ≡ [] =
-    sym (ap (λ w. turn_fault shape [] w argument) (walk_two name h c p₁.0 p₂.0)) ∙ t₃.0 in
-    let none = sym (turn_fault-plain [] (two_paths shape h c).held 3 shape argument p₃.0 refl) ∙ stray in
+    let stray : turn_fault shape [] (two_paths nothing_held shape h c) argument ≡ [] =
+    sym (ap (λ w. turn_fault shape [] w argument) (walk_two nothing_held name h c p₁.0 p₂.0)) ∙ t₃.0 in
+    let none = sym (turn_fault-plain [] (two_paths nothing_held shape h c).held 3 shape argument p₃.0 refl) ∙ stray in
     absurd (cc none)
 
 serve_more : (s h c argument : Text) (arguments : List Text) → are_plain (s ∷ h ∷ c ∷ argument ∷ arguments) ≡ true
@@ -129,9 +130,9 @@ serve_more s h c argument arguments p e =
     let t₂ = first_turn serves [] w₁ h (c ∷ argument ∷ arguments) t₁.1 in
     let t₃ = first_turn serves [] w₂ c (argument ∷ arguments) t₂.1 in
     let t₄ = first_turn serves [] w₃ argument arguments t₃.1 in
-    let stray : turn_fault serves [] (three_paths s h c) argument ≡ [] =
-    sym (ap (λ w. turn_fault serves [] w argument) (walk_three s h c p₁.0 p₂.0 p₃.0)) ∙ t₄.0 in
-    let none = sym (turn_fault-plain [] (three_paths s h c).held 4 serves argument p₄.0 refl) ∙ stray in
+    let stray : turn_fault serves [] (three_paths nothing_held s h c) argument ≡ [] =
+    sym (ap (λ w. turn_fault serves [] w argument) (walk_three nothing_held s h c p₁.0 p₂.0 p₃.0)) ∙ t₄.0 in
+    let none = sym (turn_fault-plain [] (three_paths nothing_held s h c).held 4 serves argument p₄.0 refl) ∙ stray in
     absurd (cc none)
 
 order_more : (h argument : Text) (arguments : List Text) → are_plain (h ∷ argument ∷ arguments) ≡ true
@@ -142,9 +143,9 @@ order_more h argument arguments p e =
     let t₁ = first_turn orders [] (at nothing_held 1) h (argument ∷ arguments)
     (after_walk orders [] (h ∷ argument ∷ arguments) false [] e).0 in
     let t₂ = first_turn orders [] (walked orders.rules [] (at nothing_held 1) h) argument arguments t₁.1 in
-    let stray : turn_fault orders [] (one_path orders h) argument ≡ [] =
-    sym (ap (λ w. turn_fault orders [] w argument) (walk_one orders h p₁.0)) ∙ t₂.0 in
-    let none = sym (turn_fault-plain [] (one_path orders h).held 2 orders argument p₂.0 refl) ∙ stray in
+    let stray : turn_fault orders [] (one_path nothing_held orders h) argument ≡ [] =
+    sym (ap (λ w. turn_fault orders [] w argument) (walk_one nothing_held orders h p₁.0)) ∙ t₂.0 in
+    let none = sym (turn_fault-plain [] (one_path nothing_held orders h).held 2 orders argument p₂.0 refl) ∙ stray in
     absurd (cc none)
 
 -- ---- the name of the subcommand
@@ -192,7 +193,7 @@ asks_serve : (arguments : List Text) → are_plain arguments ≡ true → leaf_f
 asks_serve [] p e = absurd (serve_alone e)
 asks_serve (s ∷ []) p e = absurd (serve_one s (path_plain s p) e)
 asks_serve (s ∷ h ∷ []) p e = let plain = paths_plain s h p in absurd (serve_two s h plain.0 plain.1 e)
-asks_serve (s ∷ h ∷ c ∷ []) p e = (serve s h c, refl)
+asks_serve (s ∷ h ∷ c ∷ []) p e = (serve InTurn s h c, refl)
 asks_serve (s ∷ h ∷ c ∷ argument ∷ arguments) p e = absurd (serve_more s h c argument arguments p e)
 
 asks_order : (arguments : List Text) → are_plain arguments ≡ true → leaf_fault orders arguments ≡ [] → Ask (codes "order" ∷ arguments)

@@ -3,12 +3,13 @@ use Rattle.std.proofs.Common.{◌≡◌, ◌∙◌, ◌&&◌, Bool, true, false,
 use Rattle.std.specs.Prelude.{Some}
 use Rattle.std.specs.List.{list_all}
 use Rattle.std.proofs.lemmas.Bool.{and_parts}
-use Rattle.clap.specs.Walk.{Text, Walk, arg_by_index, finished, nothing_held, to_positional, walk, walked}
+use Rattle.clap.specs.Walk.{Held, Text, Walk, value, arg_by_index, finished, nothing_held, to_positional, walk, walked}
 use Rattle.clap.specs.Simple.{Shape, entered, is_simple, subcommand_of}
-use Rattle.clap.specs.Takes.{built_takes, default_passes, is_valid, level_passes, settle_passes, takes, turn_passes}
+use Rattle.clap.specs.Takes.{built_takes, default_passes, is_valid, level_passes, settle_passes, step_passes, takes, turn_passes}
 use Rattle.clap.specs.Takes.{walk_passes}
 use Rattle.clap.proofs.OnLiterals.{clap_on_literals}
-use Rattle.ssi_arguments.specs.Meaning.Arguments.{Request, pipe, audit, order, script, serve, are_plain, is_plain, arguments_of}
+use Rattle.ssi_arguments.specs.Meaning.Arguments.{Request, pipe, audit, order, script, serve, are_plain, is_plain, arguments_of, paths_of}
+use Rattle.ssi_arguments.specs.declared.arguments.Manner.TheVariants.{InTurn, AtOnce}
 use Rattle.ssi_arguments.specs.Machinery.Parser.{request_in, ssi_app}
 use Rattle.ssi_arguments.proofs.CommandWalks.{audits, names, orders, pairs, parser, scripts, serves, top_walk}
 use Rattle.ssi_arguments.proofs.CommandWalks.{stops_at_audit, stops_at_order, stops_at_script, stops_at_serve}
@@ -39,25 +40,66 @@ passes_to_script : (h c : Text) → top_passes (arguments_of (script h c)) ≡ t
 unfolding clap_on_literals
 passes_to_script h c = refl
 
-passes_to_serve : (s h c : Text) → top_passes (arguments_of (serve s h c)) ≡ true
+passes_to_serve : (s h c : Text) → top_passes (arguments_of (serve InTurn s h c)) ≡ true
 unfolding clap_on_literals
 passes_to_serve s h c = refl
 
+passes_to_serve_at_once : (s h c : Text) → top_passes (arguments_of (serve AtOnce s h c)) ≡ true
+unfolding clap_on_literals
+passes_to_serve_at_once s h c = refl
+
 -- ---- the paths
 
--- the walks over them
-abbrev pub one_path : Shape → Text → Walk
-one_path s h = to_positional s.rules (arg_by_index s.rules 1) h (at nothing_held 1) nothing_held
+-- the walks over them, after options that left this
+module _ (b : Held) where
+  abbrev pub one_path : Shape → Text → Walk
+  one_path s h = to_positional s.rules (arg_by_index s.rules 1) h (at b 1) b
 
-abbrev pub two_paths : Shape → Text → Text → Walk
-two_paths s h c = to_positional s.rules (arg_by_index s.rules 2) c (one_path s h) (one_path s h).held
+  abbrev pub two_paths : Shape → Text → Text → Walk
+  two_paths s h c = to_positional s.rules (arg_by_index s.rules 2) c (one_path s h) (one_path s h).held
 
-abbrev pub three_paths : Text → Text → Text → Walk
-three_paths s h c =
-    to_positional serves.rules (arg_by_index serves.rules 3) c (two_paths serves s h) (two_paths serves s h).held
+  abbrev pub three_paths : Text → Text → Text → Walk
+  three_paths s h c =
+      to_positional serves.rules (arg_by_index serves.rules 3) c (two_paths serves s h) (two_paths serves s h).held
 
-pub walk_one : (s : Shape) (h : Text) → is_plain h ≡ true → walk s.rules [] nothing_held (h ∷ []) ≡ one_path s h
-walk_one s h p = walked-plain [] nothing_held 1 s.rules h p refl
+  pub walk_one : (s : Shape) (h : Text) → is_plain h ≡ true → walked s.rules [] (at b 1) h ≡ one_path s h
+  walk_one s h p = walked-plain [] b 1 s.rules h p refl
+
+  module _ (name h c : Text) (p : is_plain h ≡ true) (q : is_plain c ≡ true) where
+    pub walk_two : walked (pairs name).rules [] (walked (pairs name).rules [] (at b 1) h) c ≡ two_paths (pairs name) h c
+    walk_two = ap (λ w. walked (pairs name).rules [] w c) (walk_one (pairs name) h p)
+        ∙ walked-plain [] (one_path (pairs name) h).held 2 (pairs name).rules c q refl
+
+    passes_first : step_passes (pairs name) 1 b value ≡ true → turn_passes (pairs name) [] (at b 1) h ≡ true
+    passes_first step = turn_passes-plain [] b 1 (pairs name) h p refl ∙ step
+
+    passes_second : step_passes (pairs name) 2 (one_path (pairs name) h).held value ≡ true
+        → turn_passes (pairs name) [] (walked (pairs name).rules [] (at b 1) h) c ≡ true
+    passes_second step = ap (λ w. turn_passes (pairs name) [] w c) (walk_one (pairs name) h p)
+        ∙ turn_passes-plain [] (one_path (pairs name) h).held 2 (pairs name) c q refl ∙ step
+
+  pub walk_front : (s h : Text) → is_plain s ≡ true → is_plain h ≡ true
+      → walked serves.rules [] (walked serves.rules [] (at b 1) s) h ≡ two_paths serves s h
+  walk_front s h p q = ap (λ w. walked serves.rules [] w h) (walk_one serves s p)
+      ∙ walked-plain [] (one_path serves s).held 2 serves.rules h q refl
+
+  module _ (s h c : Text) (p : is_plain s ≡ true) (q : is_plain h ≡ true) (r : is_plain c ≡ true) where
+    pub walk_three : walked serves.rules [] (walked serves.rules [] (walked serves.rules [] (at b 1) s) h) c ≡ three_paths s h c
+    walk_three = ap (λ w. walked serves.rules [] w c) (walk_front s h p q)
+        ∙ walked-plain [] (two_paths serves s h).held 3 serves.rules c r refl
+
+    serve_first : step_passes serves 1 b value ≡ true → turn_passes serves [] (at b 1) s ≡ true
+    serve_first step = turn_passes-plain [] b 1 serves s p refl ∙ step
+
+    serve_second : step_passes serves 2 (one_path serves s).held value ≡ true
+        → turn_passes serves [] (walked serves.rules [] (at b 1) s) h ≡ true
+    serve_second step = ap (λ w. turn_passes serves [] w h) (walk_one serves s p)
+        ∙ turn_passes-plain [] (one_path serves s).held 2 serves h q refl ∙ step
+
+    serve_third : step_passes serves 3 (two_paths serves s h).held value ≡ true
+        → turn_passes serves [] (walked serves.rules [] (walked serves.rules [] (at b 1) s) h) c ≡ true
+    serve_third step = ap (λ w. turn_passes serves [] w c) (walk_front s h p q)
+        ∙ turn_passes-plain [] (two_paths serves s h).held 3 serves c r refl ∙ step
 
 -- what is checked after the walk
 abbrev ends_well : Shape → Walk → Bool
@@ -68,52 +110,76 @@ passes_order : (h : Text) → is_plain h ≡ true → level_passes orders [] not
 unfolding walk_passes
 passes_order h p = ap₂ (λ a b. (a && true) && b)
     (turn_passes-plain [] nothing_held 1 orders h p refl)
-    (ap (ends_well orders) (walk_one orders h p))
+    (ap (ends_well orders) (walk_one nothing_held orders h p))
 
-module _ (name h c : Text) (p : is_plain h ≡ true) (q : is_plain c ≡ true) where
-  pub walk_two : walk (pairs name).rules [] nothing_held (h ∷ c ∷ []) ≡ two_paths (pairs name) h c
-  walk_two = ap (λ w. walked (pairs name).rules [] w c) (walk_one (pairs name) h p)
-      ∙ walked-plain [] (one_path (pairs name) h).held 2 (pairs name).rules c q refl
-
-  passes_first : turn_passes (pairs name) [] (at nothing_held 1) h ≡ true
-  passes_first = turn_passes-plain [] nothing_held 1 (pairs name) h p refl
-
-  passes_second : turn_passes (pairs name) [] (walked (pairs name).rules [] (at nothing_held 1) h) c ≡ true
-  passes_second = ap (λ w. turn_passes (pairs name) [] w c) (walk_one (pairs name) h p)
-      ∙ turn_passes-plain [] (one_path (pairs name) h).held 2 (pairs name) c q refl
-
-  passes_pair : level_passes (pairs name) [] nothing_held (h ∷ c ∷ []) false ≡ true
-  unfolding walk_passes
-  passes_pair = ap₂ (λ a b. a && b)
-      (ap₂ (λ a b. a && (b && true)) passes_first passes_second)
-      (ap (ends_well (pairs name)) walk_two)
-
-pub walk_front : (s h : Text) → is_plain s ≡ true → is_plain h ≡ true
-    → walk serves.rules [] nothing_held (s ∷ h ∷ []) ≡ two_paths serves s h
-walk_front s h p q = ap (λ w. walked serves.rules [] w h) (walk_one serves s p)
-    ∙ walked-plain [] (one_path serves s).held 2 serves.rules h q refl
+passes_pair : (name h c : Text) → is_plain h ≡ true → is_plain c ≡ true
+    → level_passes (pairs name) [] nothing_held (h ∷ c ∷ []) false ≡ true
+unfolding walk_passes
+passes_pair name h c p q = ap₂ (λ a b. a && b)
+    (ap₂ (λ a b. a && (b && true)) (passes_first nothing_held name h c p q refl) (passes_second nothing_held name h c p q refl))
+    (ap (ends_well (pairs name)) (walk_two nothing_held name h c p q))
 
 module _ (s h c : Text) (p : is_plain s ≡ true) (q : is_plain h ≡ true) (r : is_plain c ≡ true) where
-  pub walk_three : walk serves.rules [] nothing_held (s ∷ h ∷ c ∷ []) ≡ three_paths s h c
-  walk_three = ap (λ w. walked serves.rules [] w c) (walk_front s h p q)
-      ∙ walked-plain [] (two_paths serves s h).held 3 serves.rules c r refl
-
-  serve_first : turn_passes serves [] (at nothing_held 1) s ≡ true
-  serve_first = turn_passes-plain [] nothing_held 1 serves s p refl
-
-  serve_second : turn_passes serves [] (walked serves.rules [] (at nothing_held 1) s) h ≡ true
-  serve_second = ap (λ w. turn_passes serves [] w h) (walk_one serves s p)
-      ∙ turn_passes-plain [] (one_path serves s).held 2 serves h q refl
-
-  serve_third : turn_passes serves [] (walk serves.rules [] nothing_held (s ∷ h ∷ [])) c ≡ true
-  serve_third = ap (λ w. turn_passes serves [] w c) (walk_front s h p q)
-      ∙ turn_passes-plain [] (two_paths serves s h).held 3 serves c r refl
-
   passes_serve : level_passes serves [] nothing_held (s ∷ h ∷ c ∷ []) false ≡ true
   unfolding walk_passes
   passes_serve = ap₂ (λ a b. a && b)
-      (ap₂ (λ a b. a && b) serve_first (ap₂ (λ a b. a && (b && true)) serve_second serve_third))
-      (ap (ends_well serves) walk_three)
+      (ap₂ (λ a b. a && b) (serve_first nothing_held s h c p q r refl)
+      (ap₂ (λ a b. a && (b && true)) (serve_second nothing_held s h c p q r refl) (serve_third nothing_held s h c p q r refl)))
+      (ap (ends_well serves) (walk_three nothing_held s h c p q r))
+
+-- ---- the option before the paths of `serve`
+
+abbrev option : Text
+option = codes "--concurrent"
+
+-- what it leaves
+abbrev flagged : Held
+flagged = (walked serves.rules [] (at nothing_held 1) option).held
+
+after_option : walked serves.rules [] (at nothing_held 1) option ≡ at flagged 1
+unfolding clap_on_literals
+after_option = refl
+
+passes_option : turn_passes serves [] (at nothing_held 1) option ≡ true
+unfolding clap_on_literals
+passes_option = refl
+
+passes_one : step_passes serves 1 flagged value ≡ true
+unfolding clap_on_literals
+passes_one = refl
+
+passes_two : (s : Text) → step_passes serves 2 (one_path flagged serves s).held value ≡ true
+unfolding clap_on_literals
+passes_two s = refl
+
+passes_three : (s h : Text) → step_passes serves 3 (two_paths flagged serves s h).held value ≡ true
+unfolding clap_on_literals
+passes_three s h = refl
+
+ends_well_at_once : (s h c : Text) → ends_well serves (three_paths flagged s h c) ≡ true
+unfolding clap_on_literals
+ends_well_at_once s h c = refl
+
+module _ (s h c : Text) (p : is_plain s ≡ true) (q : is_plain h ≡ true) (r : is_plain c ≡ true) where
+  walk_at_once : walk serves.rules [] nothing_held (option ∷ s ∷ h ∷ c ∷ []) ≡ three_paths flagged s h c
+  walk_at_once = ap (λ w. walked serves.rules [] (walked serves.rules [] (walked serves.rules [] w s) h) c) after_option
+      ∙ walk_three flagged s h c p q r
+
+  passes_at_once : level_passes serves [] nothing_held (option ∷ s ∷ h ∷ c ∷ []) false ≡ true
+  unfolding walk_passes
+  passes_at_once = ap₂ (λ a b. a && b)
+      (ap₂ (λ a b. a && b) passes_option
+      (ap₂ (λ a b. a && b) (ap (λ w. turn_passes serves [] w s) after_option ∙ serve_first flagged s h c p q r passes_one)
+      (ap₂ (λ a b. a && (b && true))
+      (ap (λ w. turn_passes serves [] (walked serves.rules [] w s) h) after_option ∙ serve_second flagged s h c p q r (passes_two s))
+      (ap (λ w. turn_passes serves [] (walked serves.rules [] (walked serves.rules [] w s) h) c) after_option
+      ∙ serve_third flagged s h c p q r (passes_three s h)))))
+      (ap (ends_well serves) walk_at_once ∙ ends_well_at_once s h c)
+
+found_at_once : (s h c : Text)
+    → request_in (Some (codes "serve", finished serves.rules (three_paths flagged s h c).held)) ≡ serve AtOnce s h c
+unfolding clap_on_literals
+found_at_once s h c = refl
 
 passes_audit : (h c : Text) → is_plain h ≡ true → is_plain c ≡ true
     → level_passes audits [] nothing_held (h ∷ c ∷ []) false ≡ true
@@ -138,7 +204,7 @@ all_plain s h c p =
     let parts = and_parts (is_plain s) (are_plain (h ∷ c ∷ [])) p in
     let rest = paths_plain h c parts.1 in (parts.0, rest.0, rest.1)
 
-taken : (r : Request) → are_plain (arguments_of r) ≡ true → built_takes parser nothing_held (arguments_of r) ≡ true
+taken : (r : Request) → are_plain (paths_of r) ≡ true → built_takes parser nothing_held (arguments_of r) ≡ true
 taken pipe p = takes_none
 taken (audit h c) p =
     let plain = paths_plain h c p in
@@ -147,34 +213,52 @@ taken (order h) p = rw (stops_at_order (h ∷ []), passes_order h (path_plain h 
 taken (script h c) p =
     let plain = paths_plain h c p in
     rw (stops_at_script (h ∷ c ∷ []), passes_script h c plain.0 plain.1, passes_to_script h c) refl
-taken (serve s h c) p =
+taken (serve InTurn s h c) p =
     let plain = all_plain s h c p in
     rw (stops_at_serve (s ∷ h ∷ c ∷ []), passes_serve s h c plain.0 plain.1 plain.2, passes_to_serve s h c) refl
+taken (serve AtOnce s h c) p =
+    let plain = all_plain s h c p in
+    rw (stops_at_serve (option ∷ s ∷ h ∷ c ∷ []), passes_at_once s h c plain.0 plain.1 plain.2, passes_to_serve_at_once s h c)
+    refl
 
-found : (r : Request) → are_plain (arguments_of r) ≡ true → request_in (entered parser (top_walk (arguments_of r)).stopped) ≡ r
+found : (r : Request) → are_plain (paths_of r) ≡ true → request_in (entered parser (top_walk (arguments_of r)).stopped) ≡ r
 found pipe p = refl
 found (audit h c) p =
     let plain = paths_plain h c p in
     ap (λ stop. request_in (entered parser stop)) (stops_at_audit (h ∷ c ∷ []))
-    ∙ ap (λ w. request_in (Some (codes "audit", finished audits.rules w.held))) (walk_two (codes "audit") h c plain.0 plain.1)
+    ∙ ap (λ w. request_in (Some (codes "audit", finished audits.rules w.held))) (walk_two nothing_held (codes "audit") h c plain.0 plain.1)
 found (order h) p =
     ap (λ stop. request_in (entered parser stop)) (stops_at_order (h ∷ []))
-    ∙ ap (λ w. request_in (Some (codes "order", finished orders.rules w.held))) (walk_one orders h (path_plain h p))
+    ∙ ap (λ w. request_in (Some (codes "order", finished orders.rules w.held))) (walk_one nothing_held orders h (path_plain h p))
 found (script h c) p =
     let plain = paths_plain h c p in
     ap (λ stop. request_in (entered parser stop)) (stops_at_script (h ∷ c ∷ []))
-    ∙ ap (λ w. request_in (Some (codes "script", finished scripts.rules w.held))) (walk_two (codes "script") h c plain.0 plain.1)
-found (serve s h c) p =
+    ∙ ap (λ w. request_in (Some (codes "script", finished scripts.rules w.held))) (walk_two nothing_held (codes "script") h c plain.0 plain.1)
+found (serve InTurn s h c) p =
     let plain = all_plain s h c p in
     ap (λ stop. request_in (entered parser stop)) (stops_at_serve (s ∷ h ∷ c ∷ []))
     ∙ ap (λ w. request_in (Some (codes "serve", finished serves.rules w.held)))
-    (walk_three s h c plain.0 plain.1 plain.2)
+    (walk_three nothing_held s h c plain.0 plain.1 plain.2)
+found (serve AtOnce s h c) p =
+    let plain = all_plain s h c p in
+    ap (λ stop. request_in (entered parser stop)) (stops_at_serve (option ∷ s ∷ h ∷ c ∷ []))
+    ∙ ap (λ w. request_in (Some (codes "serve", finished serves.rules w.held)))
+    (walk_at_once s h c plain.0 plain.1 plain.2)
+    ∙ found_at_once s h c
 
 -- the arguments of a request are taken, and the request is found in them
-pub takes_request : (arguments : List Text) (r : Request) → are_plain (drop 1 arguments) ≡ true → drop 1 arguments ≡ arguments_of r
+pub takes_request : (arguments : List Text) (r : Request) → are_plain (paths_of r) ≡ true → drop 1 arguments ≡ arguments_of r
     → (takes ssi_app arguments ≡ true) × (request_in (subcommand_of ssi_app arguments) ≡ r)
-takes_request arguments r p e =
-    let plain : are_plain (arguments_of r) ≡ true = rw e at p in (
-      ap₂ (λ a b. a && b) simple (ap (built_takes parser nothing_held) e ∙ taken r plain),
-      ap (λ ws. request_in (entered parser (top_walk ws).stopped)) e ∙ found r plain,
-    )
+takes_request arguments r p e = (
+  ap₂ (λ a b. a && b) simple (ap (built_takes parser nothing_held) e ∙ taken r p),
+  ap (λ ws. request_in (entered parser (top_walk ws).stopped)) e ∙ found r p,
+)
+
+-- if all its arguments are plain, its paths are
+pub plain_paths : (r : Request) → are_plain (arguments_of r) ≡ true → are_plain (paths_of r) ≡ true
+plain_paths pipe p = p
+plain_paths (audit h c) p = p
+plain_paths (order h) p = p
+plain_paths (script h c) p = p
+plain_paths (serve InTurn s h c) p = p
+plain_paths (serve AtOnce s h c) p = absurd (cc p)

@@ -3,8 +3,8 @@
 ghost use Rattle.std.specs.Prelude.{◌≡◌, ◌≢◌, true, map, drop, string_bytes, IfOk, MatchResult};
 ghost use Rattle.clap.specs.Words.{rows_of, found_of, kind_of, subcommand_rows_of};
 ghost use Rattle.clap.specs.declared.error.kind.ErrorKind.TheVariants.{OutOfMemory};
-ghost use Rattle.ssi_arguments.specs.Machinery.Parser.{path_in, request_in, request_named};
-ghost use Rattle.ssi_arguments.specs.Meaning.Arguments.{Request, request_of, arguments_of, are_plain};
+ghost use Rattle.ssi_arguments.specs.Machinery.Parser.{path_in, manner_in, request_in, request_named};
+ghost use Rattle.ssi_arguments.specs.Meaning.Arguments.{Request, request_of, arguments_of, paths_of, are_plain};
 ghost use Rattle.ssi_arguments.specs.declared.arguments.NoTask.TheVariants.{Text, Memory};
 
 use crate::command_line::command_line;
@@ -39,7 +39,17 @@ pub enum Task<'a> {
         socket: &'a str,
         history: &'a str,
         certificate: &'a str,
+        manner: Manner,
     },
+}
+
+/// How the connections to a socket are served.
+#[derive(Clone, Copy, Debug, PartialEq, Eq)]
+pub enum Manner {
+    /// One after the other.
+    InTurn,
+    /// All at once.
+    AtOnce,
 }
 
 /// Why the arguments ask for no task.
@@ -87,10 +97,10 @@ pub fn given_arguments<R: Env + AllocGlobal>(rt: &R) -> Result<Vec<String>, NoTa
 /// an option of the parser: `--help`, or `--`, after which a path may begin with a hyphen. `Text` if the parser has
 /// something to print, `Memory` if memory runs out.
 pub fn task_of<'a>(alloc: Global, arguments: &'a [String]) -> Result<Task<'a>, NoTask>
-    // Arguments that don't begin with a hyphen ask for a task if and only if they are its arguments. The arguments of a
-    // task are refused only if memory runs out.
+    // The arguments of a task whose paths don't begin with a hyphen ask for it; they are refused only if memory runs out.
+    // Arguments that don't begin with a hyphen ask for nothing else.
     ensures asked { let rest = drop 1 (map string_bytes arguments.entry.now) in
-        (request : Request) → are_plain rest ≡ true → rest ≡ arguments_of request
+        (request : Request) → are_plain (paths_of request) ≡ true → rest ≡ arguments_of request
         → MatchResult result (λ task. request_of task ≡ request) (λ none. none ≡ NoTask.Memory) }
     ensures no_other { let rest = drop 1 (map string_bytes arguments.entry.now) in
         are_plain rest ≡ true → IfOk result (λ task. rest ≡ arguments_of (request_of task)) }
@@ -129,6 +139,7 @@ fn task_named<'a>(name: &str, given: &ArgMatches<'a>) -> Task<'a>
             socket: path(given, "SOCKET"),
             history: path(given, "HISTORY"),
             certificate: path(given, "CERTIFICATE"),
+            manner: how_served(given),
         },
     }
 }
@@ -138,4 +149,13 @@ fn path<'a>(given: &ArgMatches<'a>, name: &str) -> &'a str
     ensures { result.now ≡ path_in (rows_of (found_of given.now)) name.now }
 {
     given.get_str(name).unwrap_or("")
+}
+
+fn how_served(given: &ArgMatches<'_>) -> Manner
+    ensures { result ≡ manner_in (rows_of (found_of given.now)) }
+{
+    match path(given, "concurrent") {
+        "true" => Manner::AtOnce,
+        _ => Manner::InTurn,
+    }
 }

@@ -3,10 +3,10 @@
 ghost use Rattle.std.specs.Prelude.{◌≡◌, false, IfOk};
 ghost use Rattle.clap.specs.Words.{app_of, new_app, rule_of, with_rule, with_subcommand};
 ghost use Rattle.clap.specs.declared.builder.command.Command.TheViews.{out-Command as fields_of};
-ghost use Rattle.ssi_arguments.specs.Machinery.Parser.{file_rule, with_texts, audit_app, order_app, script_app, serve_app, ssi_app};
+ghost use Rattle.ssi_arguments.specs.Machinery.Parser.{file_rule, flag_rule, with_texts, audit_app, order_app, script_app, serve_app, ssi_app};
 
 use crate::help;
-use clap::{Arg, Command};
+use clap::{Arg, ArgAction, Command};
 use std::alloc::{AllocError, Global};
 
 /// The command line of the program.
@@ -76,7 +76,8 @@ fn serve<'a>(alloc: Global) -> Result<Command<'a>, AllocError>
 {
     let serve = bare(alloc, "serve", help::SERVE, help::SERVE_MORE);
     let serve = with_file(alloc, serve, "SOCKET", help::SOCKET)?;
-    with_texts(alloc, serve, help::NEW_HISTORY, help::NEW_CERTIFICATE)
+    let serve = with_texts(alloc, serve, help::NEW_HISTORY, help::NEW_CERTIFICATE)?;
+    serve.arg(flag(alloc, "concurrent", help::CONCURRENT))
 }
 
 /// A command without files.
@@ -118,4 +119,15 @@ fn file<'a>(alloc: Global, name: &'a str, help: &'a str) -> Arg<'a>
     ensures local { result.global ≡ false }
 {
     Arg::new(alloc, name).help(help).required(true)
+}
+
+/// An option that is the name after two hyphens.
+fn flag<'a>(alloc: Global, name: &'a str, help: &'a str) -> Arg<'a>
+    ensures rule { rule_of result ≡ flag_rule name.entry.now }
+    ensures local { result.global ≡ false }
+{
+    Arg::new(alloc, name)
+        .long(name)
+        .action(ArgAction::SetTrue)
+        .help(help)
 }

@@ -64,3 +64,6 @@ pub const NEW_HISTORY: &str = "The file for the history; created or overwritten"
 
 /// The argument that names the certificate to write.
 pub const NEW_CERTIFICATE: &str = "The file for the certificate; created or overwritten";
+
+/// The option that serves all connections at once.
+pub const CONCURRENT: &str = "Serve all connections at once";

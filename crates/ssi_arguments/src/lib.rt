@@ -5,4 +5,4 @@ mod arguments;
 mod command_line;
 mod help;
 
-pub use arguments::{NoTask, Task, given_arguments, task_of};
+pub use arguments::{Manner, NoTask, Task, given_arguments, task_of};

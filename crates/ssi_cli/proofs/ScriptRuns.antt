@@ -1,5 +1,5 @@
 -- Runs over one store, one after the other.
-use Rattle.std.proofs.Common.{◌≡◌, List, [], ◌∷◌, ◌++◌, refl, sym, subst}
+use Rattle.std.proofs.Common.{◌≡◌, List, [], ◌∷◌, ◌++◌, Result, Ok, Err, IfOk, refl, sym, subst}
 use Rattle.ssi_store.specs.Meaning.Courses.{Course}
 use Rattle.ssi_line.specs.Meaning.Steps.{Step, AllMayFollow, course_with, course_after}
 use Rattle.ssi_line.specs.Meaning.Ends.{WentOn}
@@ -22,3 +22,7 @@ went_on_both is_at old mid new some more before now = λ course at.
       follow_both course some more first.0 last.0,
       subst (λ (c : Course). is_at new c) (sym (after_both course some more)) last.1,
     )
+
+pub if_ok : {T E : Type 0} {P Q : T → Type 0} (r : Result T E) → ((x : T) → P x → Q x) → IfOk r P → IfOk r Q
+if_ok (Ok x) more is = more x is
+if_ok (Err e) more is = tt

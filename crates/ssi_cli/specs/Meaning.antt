@@ -2,3 +2,4 @@
 pub mod Scripts
 pub mod Status
 pub mod Fault
+pub mod Serving

@@ -5,7 +5,9 @@
 //! history records what they were answered, and the auditor says yes to both texts.
 #![tactic(auto)]
 
+mod clients;
 mod fault;
+mod peer;
 mod runs;
 mod script;
 mod script_fault;
@@ -13,13 +15,15 @@ mod socket;
 mod status;
 mod store;
 mod texts;
+mod together;
 
 pub use fault::Fault;
 pub use runs::{
     CommandsFault, ServingFault, carry_out_commands, judge_stream, judge_texts, order_text,
-    serve_commands, status_of_serving,
+    serve_commands, serve_commands_together, status_of_serving,
 };
 pub use script::run_script;
 pub use script_fault::ScriptFault;
 pub use socket::{Served, run_socket, serve_socket};
 pub use status::Status;
+pub use together::{run_together, serve_together};

@@ -9,14 +9,18 @@ ghost use Rattle.adya_audit.specs.Meaning.Answers.{Answer, Certificate, IsAnswer
 ghost use Rattle.ssi_store.specs.Meaning.Courses.{New};
 ghost use Rattle.ssi_line.specs.Meaning.Steps.{Step, AllMayFollow, course_after};
 ghost use Rattle.ssi_cli.specs.declared.script_fault.ScriptFault.{ScriptFault};
+ghost use Rattle.ssi_hub.specs.Meaning.Calls.{all_steps};
 ghost use Rattle.ssi_cli.specs.Meaning.Scripts.{Ran, Certified, course_of};
+ghost use Rattle.ssi_cli.specs.Meaning.Serving.{Together};
 
 use crate::ScriptFault;
 use crate::script::run_script;
 use crate::socket::{Served, run_socket};
 use crate::status::Status;
+use crate::together::run_together;
 use adya_audit::{RunFault, run_audit, run_order, run_pipe};
 use devices::{Source, Watched};
+use mio::Poll;
 use ssi_line::End;
 use std::alloc::Global;
 use std::io::{Read, Write};
@@ -140,6 +144,26 @@ pub fn serve_commands<H: Write, C: Write>(
     ensures certificate { IsErrOf result (ServingFault.Texts ScriptFault.Certificate) → has_failed certificate.new ≡ true }
 {
     let (served, written) = run_socket(alloc, listener, history, certificate);
+    status_of_serving(served, written)
+}
+
+/// Carries out the lines of all connections at once on a new store, and writes its history and a certificate. They are
+/// written also if the socket has failed. Returns the first fault.
+pub fn serve_commands_together<H: Write, C: Write>(
+    alloc: Global,
+    poll: &mut Poll,
+    listener: &mut mio::net::UnixListener,
+    history: &mut Watched<H>,
+    certificate: &mut Watched<C>,
+) -> Result<Status, ServingFault>
+    ensures run { IfOk result (λ status. (status ≡ Status.Fine) × ((together : Together true)
+        × AllMayFollow (New 1) (all_steps together.calls)
+        × Certified (course_after (New 1) (all_steps together.calls)) H.contents history.old history.new
+        C.contents certificate.old certificate.new)) }
+    ensures history { IsErrOf result (ServingFault.Texts ScriptFault.History) → has_failed history.new ≡ true }
+    ensures certificate { IsErrOf result (ServingFault.Texts ScriptFault.Certificate) → has_failed certificate.new ≡ true }
+{
+    let (served, written) = run_together(alloc, poll, listener, history, certificate);
     status_of_serving(served, written)
 }
 

@@ -9,7 +9,7 @@ ghost use Rattle.ssi_store.specs.Meaning.Courses.{Course};
 ghost use Rattle.ssi_store.specs.Mirror.Finished.{recorded_in};
 ghost use Rattle.ssi_store.specs.Mirror.Stores.{IsAt};
 ghost use Rattle.ssi_cli.specs.Meaning.Scripts.{Certified};
-ghost use Rattle.ssi_cli.specs.Machinery.{Remains};
+ghost use Rattle.ssi_cli.specs.Machinery.Remains.{Remains};
 
 use crate::ScriptFault;
 use adya_text::{WriteFault, write_history, write_serial};

@@ -1,6 +1,5 @@
 -- What clauses see of a hub.
 use Rattle.std.specs.Prelude.{◌≡◌, ◌≢◌, ℕ, Bool, true, false, List, Option, Some, None, if◌then◌else◌}
-use Rattle.ssi_hub.specs.Meaning.Clipping.{has_line}
 use Rattle.ssi_hub.specs.Meaning.Buffers.{Buffers}
 use Rattle.ssi_store.specs.Meaning.Courses.{Course}
 use Rattle.ssi_line.specs.Meaning.Steps.{AllMayFollow, course_after}
@@ -8,8 +7,6 @@ use Rattle.ssi_hub.specs.Meaning.Calls.{Call, all_steps}
 use Rattle.ssi_hub.specs.Meaning.Serving.{StandsFor}
 use Rattle.ssi_hub.specs.Machinery.Changes.{buffers_in}
 use Rattle.ssi_hub.specs.declared.hub.Hub.{Hub}
-use Rattle.ssi_hub.specs.declared.outcome.Turn.{Turn}
-use Rattle.ssi_hub.specs.declared.outcome.Turn.TheVariants.{Done, LinesLeft, Stopped}
 
 -- the buffers of the connection with this token, if it is open
 abbrev pub buffers_of : Hub → ℕ → Option Buffers
@@ -48,12 +45,3 @@ pub record Changed (old new : Hub) (t : ℕ) (now : Option Buffers) : Type 0 whe
   pub others : (u : ℕ) → u ≢ t → buffers_of new u ≡ buffers_of old u
   pub next : next_token new ≡ next_token old
   pub stopped : is_stopped new ≡ is_stopped old
-
--- whether a whole line of the connection waits
-abbrev pub has_waiting : Option Buffers → Bool
-has_waiting None = false
-has_waiting (Some b) = has_line b.waiting
-
--- what a run returns: by whether the run is stopped, and by what waits of the connection
-abbrev pub turn_of : Bool → Option Buffers → Turn
-turn_of stopped b = if stopped then Stopped else if has_waiting b then LinesLeft else Done

@@ -64,17 +64,18 @@ impl Connection {
         self.unsent.take(count);
     }
 
-    pub(crate) fn has_line(&self) -> bool
-        ensures { result ≡ has_line self.now.waiting }
-    {
-        self.inbox.has_line()
-    }
-
     /// Returns whether more may be read.
     pub(crate) fn wants_read(&self) -> bool
         ensures { result ≡ (not (has_line self.now.waiting) && nat_le (length self.now.unsent) 65536) }
     {
         !self.inbox.has_line() && self.unsent.len() <= MOST_UNSENT
+    }
+
+    /// Returns whether a line would be carried out.
+    pub(crate) fn wants_run(&self) -> bool
+        ensures { result ≡ (has_line self.now.waiting && nat_le (length self.now.unsent) 65536) }
+    {
+        self.inbox.has_line() && self.unsent.len() <= MOST_UNSENT
     }
 
     /// Carries out up to `most` of the lines that wait, oldest first, and adds the replies to what is to be written. It stops

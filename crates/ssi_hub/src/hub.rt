@@ -1,6 +1,6 @@
 //! The connections, and their calls.
 
-ghost use Rattle.std.specs.Prelude.{◌≡◌, ◌≢◌, ◌+◌, ◌∷◌, ◌++◌, ◌⊎◌, ℕ, Bool, List, [], None, Some, true, false, IsSome, not, ◌&&◌, nat_le, nat_lt, length, MatchOption, MatchResult, OnOk, OnErr, IfOk};
+ghost use Rattle.std.specs.Prelude.{◌≡◌, ◌≢◌, ◌+◌, ◌∷◌, ◌++◌, ◌⊎◌, ℕ, Bool, List, [], None, Some, true, false, is_some, IsSome, not, ◌&&◌, nat_le, nat_lt, length, MatchOption, MatchResult, OnOk, OnErr, IfOk};
 ghost use Rattle.std.specs.Option.{option_map};
 ghost use Rattle.ssi_store.specs.Meaning.Courses.{Course};
 ghost use Rattle.ssi_store.specs.Mirror.Stores.{IsAt};
@@ -11,9 +11,9 @@ ghost use Rattle.ssi_hub.specs.Meaning.Buffers.{Buffers, no_bytes, with_received
 ghost use Rattle.ssi_hub.specs.Meaning.Runs.{CarriedOut, IsEnough, left_by};
 ghost use Rattle.ssi_hub.specs.Meaning.Calls.{Call, Opened, Received, Wrote, Closed, with_call, with_run, all_steps};
 ghost use Rattle.ssi_hub.specs.Machinery.Changes.{RanAt};
-ghost use Rattle.ssi_hub.specs.Mirror.{buffers_of, next_token, is_stopped, Changed, IsSame, Stands, Serves, turn_of};
+ghost use Rattle.ssi_hub.specs.Mirror.{buffers_of, next_token, is_stopped, Changed, IsSame, Stands, Serves};
 
-use crate::{Connections, Turn};
+use crate::Connections;
 use ssi_reads::Marks;
 use ssi_store::Store;
 use ssi_versions::Chains;
@@ -89,9 +89,7 @@ impl Hub {
         token: u64,
         store: &mut Store<C, M>,
         most: usize,
-    ) -> Turn
-        ensures turn { result ≡ turn_of (is_stopped self.new) (buffers_of self.new token) }
-
+    )
         // The first of the lines that wait are carried out, each once and in order, and their replies are added.
         ensures carried { (b : Buffers) (bytes : List ℕ) → is_stopped self.old ≡ false → buffers_of self.old token ≡ Some b
             → b.waiting ≡ clipped bytes
@@ -118,7 +116,6 @@ impl Hub {
             × Serves (IsAt C.held M.marked) start self.new store.new (with_run lost token lines steps calls) }
     {
         self.carry_out(alloc, token, store, most);
-        self.turn(token)
     }
 
     fn carry_out<C: Chains + Drop, M: Marks + Drop>(
@@ -140,18 +137,6 @@ impl Hub {
         }
         if let Some(outcome) = self.connections.run(alloc, token, store, most) {
             self.stopped = outcome.stops();
-        }
-    }
-
-    fn turn(&self, token: u64) -> Turn
-        ensures { result ≡ turn_of (is_stopped self.now) (buffers_of self.now token) }
-    {
-        if self.stopped {
-            return Turn::Stopped;
-        }
-        match self.connections.get(token) {
-            Some(connection) if connection.has_line() => Turn::LinesLeft,
-            _ => Turn::Done,
         }
     }
 
@@ -184,6 +169,13 @@ impl Hub {
         self.connections.remove(token);
     }
 
+    /// Returns whether the connection is open.
+    pub fn is_open(&self, token: u64) -> bool
+        ensures { result ≡ is_some (buffers_of self.now token) }
+    {
+        self.connections.get(token).is_some()
+    }
+
     /// Returns whether more bytes are to be read from the connection. It is false while a whole line waits or more than
     /// 65,536 bytes are unsent, and after `stop`.
     pub fn wants_read(&self, token: u64) -> bool
@@ -192,6 +184,18 @@ impl Hub {
     {
         match self.connections.get(token) {
             Some(connection) => !self.stopped && connection.wants_read(),
+            None => false,
+        }
+    }
+
+    /// Returns whether [`run`](Hub::run) would carry out a line of the connection. It is false while no whole line waits or
+    /// more than 65,536 bytes are unsent, and after `stop`.
+    pub fn wants_run(&self, token: u64) -> bool
+        ensures { MatchOption (buffers_of self.now token) (result ≡ false)
+            (λ b. result ≡ (not (is_stopped self.now) && (has_line b.waiting && nat_le (length b.unsent) 65536))) }
+    {
+        match self.connections.get(token) {
+            Some(connection) => !self.stopped && connection.wants_run(),
             None => false,
         }
     }

@@ -21,5 +21,4 @@ pub(crate) use connections::Connections;
 pub use hub::Hub;
 pub(crate) use inbox::Inbox;
 pub(crate) use outcome::Outcome;
-pub use outcome::Turn;
 pub(crate) use queue::Queue;

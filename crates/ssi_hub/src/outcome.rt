@@ -43,14 +43,3 @@ impl Outcome {
         matches!(self, Outcome::Lost { .. })
     }
 }
-
-/// What a call of [`Hub::run`](crate::Hub::run) left.
-#[derive(Clone, Copy, Debug, PartialEq, Eq)]
-pub enum Turn {
-    /// No whole line of the connection waits, or it is not open.
-    Done,
-    /// Whole lines of the connection wait.
-    LinesLeft,
-    /// `stop` was carried out, now or earlier: no line of any connection is carried out any more.
-    Stopped,
-}

@@ -1,6 +1,6 @@
 //! Calls by their names.
 
-use ssi_hub::{Hub, Turn};
+use ssi_hub::Hub;
 use ssi_reads::IndexMarks;
 use ssi_store::Store;
 use ssi_versions::KeyChains;
@@ -31,10 +31,9 @@ impl Tried {
                 let token = self.hub.opened(alloc)?;
                 format!(in alloc; ": {token}")
             }
-            "run" => format!(in alloc; ": {}", self.run(alloc, token, number(rest))),
             "show" => shown(alloc, self.hub.to_write(token)),
             "count" => format!(in alloc; ": {}", self.hub.to_write(token).len()),
-            "wants" => format!(in alloc; ": {}", self.wants(token)),
+            "wants" => self.wants(alloc, token),
             _ => {
                 self.change(alloc, name, token, rest)?;
                 Ok(String::new(alloc))
@@ -62,6 +61,10 @@ impl Tried {
                 self.hub.written(token, number(rest));
                 Ok(())
             }
+            "run" => {
+                self.hub.run(alloc, token, &mut self.store, number(rest));
+                Ok(())
+            }
             "close" => {
                 self.hub.closed(token);
                 Ok(())
@@ -70,23 +73,31 @@ impl Tried {
         }
     }
 
-    fn run(&mut self, alloc: Global, token: u64, most: usize) -> &'static str {
-        let turn = self.hub.run(alloc, token, &mut self.store, most);
-        match (turn, self.hub.is_stopped()) {
-            (Turn::Done, false) => "done",
-            (Turn::LinesLeft, false) => "lines left",
-            (Turn::Stopped, true) => "stopped",
-            _ => "a turn that doesn't fit",
+    fn wants(&self, alloc: Global, token: u64) -> Result<String, AllocError> {
+        if !self.hub.is_open(token) {
+            return format!(in alloc; ": gone");
         }
-    }
-
-    fn wants(&self, token: u64) -> &'static str {
-        match (self.hub.wants_read(token), self.hub.wants_write(token)) {
-            (true, true) => "read, write",
-            (true, false) => "read",
-            (false, true) => "write",
-            (false, false) => "nothing",
-        }
+        let read = if self.hub.wants_read(token) {
+            " read"
+        } else {
+            ""
+        };
+        let run = if self.hub.wants_run(token) {
+            " run"
+        } else {
+            ""
+        };
+        let write = if self.hub.wants_write(token) {
+            " write"
+        } else {
+            ""
+        };
+        let stopped = if self.hub.is_stopped() {
+            " stopped"
+        } else {
+            ""
+        };
+        format!(in alloc; ":{read}{run}{write}{stopped}")
     }
 }
 

@@ -7,12 +7,12 @@
 //! - `send T TEXT`: connection T sends the text
 //! - `fill T N`: it sends N bytes `x`
 //! - `many T N`: it sends N times the line `x`, which is no command
-//! - `run T N`: up to N of its lines are carried out; the answer is what is left to do
+//! - `run T N`: up to N of its lines are carried out
 //! - `show T`: the answer is what is to be written to it
 //! - `count T`: the answer is how many bytes these are
 //! - `wrote T N`: N bytes were written to it
 //! - `close T`: it is gone
-//! - `wants T`: the answer is whether it is to be read from, and written to
+//! - `wants T`: the answer is whether it is to be read from, run and written to, and whether the hub is stopped; or `gone`
 #![tactic(auto)]
 
 mod calls;

@@ -8,7 +8,7 @@
 //! size. The other names are these:
 //!
 //! - `limits`: a transaction of as many operations as one may have, and the last transaction number;
-//! - `scripts`: lines of any length, a second input to one store, and a socket;
+//! - `scripts`: lines of any length, a second input to one store, a socket, and a socket served at once;
 //! - `failing_devices`: readers and writers that fail at each of their calls;
 //! - `hostile_lines`: lines that are no commands, and lines that are too long;
 //! - `endless_streams`: inputs that never end;
@@ -20,6 +20,7 @@
 #![tactic(auto)]
 
 mod answers;
+mod at_once;
 mod courses;
 mod endless_streams;
 mod failing_devices;
@@ -99,6 +100,12 @@ fn write_scripts(rt: &HostRuntime) -> io::Result<()> {
         rt,
         "socket that fails",
         scripts::are_peers_recorded_at_a_fault(rt)?,
+    )?;
+    write_line(rt, "socket at once", at_once::are_peers_answered(rt)?)?;
+    write_line(
+        rt,
+        "socket at once with texts",
+        at_once::are_peers_recorded(rt)?,
     )
 }
 

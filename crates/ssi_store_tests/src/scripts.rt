@@ -169,7 +169,7 @@ fn has_session_texts(alloc: Global, store: FastStore) -> bool {
 }
 
 /// Returns a socket, and a peer that has written these lines to it.
-fn peer_with(rt: &HostRuntime, lines: &[u8]) -> io::Result<(UnixListener, UnixStream)> {
+pub(crate) fn peer_with(rt: &HostRuntime, lines: &[u8]) -> io::Result<(UnixListener, UnixStream)> {
     let listener = UnixListener::bind(rt, "socket")?;
     let mut peer = UnixStream::connect(rt, "socket")?;
     fs::remove_file(rt, "socket")?;

@@ -2,11 +2,18 @@
 use Rattle.std.specs.Prelude.{true, List, Option, Some, None, codes, unwrap_or, if◌then◌else◌}
 use Rattle.std.specs.Str.{bytes_eq}
 use Rattle.clap.specs.Words.{App, Row, Rule, Text, first_of, new_app, new_rule, with_rule, with_subcommand}
+use Rattle.clap.specs.declared.builder.action.ArgAction.TheVariants.{SetTrue}
+use Rattle.ssi_arguments.specs.declared.arguments.Manner.{Manner}
+use Rattle.ssi_arguments.specs.declared.arguments.Manner.TheVariants.{InTurn, AtOnce}
 use Rattle.ssi_arguments.specs.Meaning.Arguments.{Request, pipe, audit, order, script, serve}
 
 -- a path that must be there
 abbrev pub file_rule : Text → Rule
 file_rule name = record (new_rule name) { required = true }
+
+-- an option of this name after two hyphens
+abbrev pub flag_rule : Text → Rule
+flag_rule name = record (new_rule name) { long = Some name; action = Some SetTrue }
 
 -- a history and a certificate
 abbrev pub with_texts : App → App
@@ -22,7 +29,8 @@ abbrev pub script_app : App
 script_app = with_texts (new_app (codes "script"))
 
 abbrev pub serve_app : App
-serve_app = with_texts (with_rule (new_app (codes "serve")) (file_rule (codes "SOCKET")))
+serve_app =
+    with_rule (with_texts (with_rule (new_app (codes "serve")) (file_rule (codes "SOCKET")))) (flag_rule (codes "concurrent"))
 
 -- no paths of its own, and four commands
 abbrev pub ssi_app : App
@@ -34,13 +42,17 @@ ssi_app =
 abbrev pub path_in : List Row → Text → Text
 path_in rows name = unwrap_or (first_of name rows) (codes "")
 
+-- whether the option `--concurrent` is among them
+abbrev pub manner_in : List Row → Manner
+manner_in rows = if bytes_eq (path_in rows (codes "concurrent")) (codes "true") then AtOnce else InTurn
+
 -- the request of a command of this name with these matches
 abbrev pub request_named : Text → List Row → Request
 request_named name rows =
     if bytes_eq name (codes "audit") then audit (path_in rows (codes "HISTORY")) (path_in rows (codes "CERTIFICATE"))
     else if bytes_eq name (codes "order") then order (path_in rows (codes "HISTORY"))
     else if bytes_eq name (codes "script") then script (path_in rows (codes "HISTORY")) (path_in rows (codes "CERTIFICATE"))
-    else serve (path_in rows (codes "SOCKET")) (path_in rows (codes "HISTORY")) (path_in rows (codes "CERTIFICATE"))
+    else serve (manner_in rows) (path_in rows (codes "SOCKET")) (path_in rows (codes "HISTORY")) (path_in rows (codes "CERTIFICATE"))
 
 -- the request in the name and the matches of the command that was met
 abbrev pub request_in : Option (Text × List Row) → Request

@@ -1,24 +1,26 @@
 -- What the arguments ask for.
 use Rattle.std.specs.Prelude.{ℕ, ◌==◌, ◌&&◌, Bool, true, not, List, [], ◌∷◌, codes}
+use Rattle.ssi_arguments.specs.declared.arguments.Manner.{Manner}
+use Rattle.ssi_arguments.specs.declared.arguments.Manner.TheVariants.{InTurn, AtOnce}
 use Rattle.ssi_arguments.specs.declared.arguments.Task.{Task}
 use Rattle.ssi_arguments.specs.declared.arguments.Task.TheVariants as task
 
 -- to audit the two texts on standard input, to audit a history and a certificate, to order a history, to carry out the
--- commands on standard input, or to carry out those of a socket's connections; the last two write a history and a
--- certificate
+-- commands on standard input, or to carry out those of a socket's connections, one after the other or all at once; the last
+-- two write a history and a certificate
 pub data Request : Type 0 where
   pipe : Request
   audit : List ℕ → List ℕ → Request
   order : List ℕ → Request
   script : (history certificate : List ℕ) → Request
-  serve : (socket history certificate : List ℕ) → Request
+  serve : Manner → (socket history certificate : List ℕ) → Request
 
 abbrev pub request_of : Task → Request
 request_of task.Pipe = pipe
 request_of (task.Audit history certificate) = audit history.now certificate.now
 request_of (task.Order history) = order history.now
 request_of (task.Script history certificate) = script history.now certificate.now
-request_of (task.Serve socket history certificate) = serve socket.now history.now certificate.now
+request_of (task.Serve socket history certificate manner) = serve manner socket.now history.now certificate.now
 
 -- the arguments that ask for this, after the program's name
 abbrev pub arguments_of : Request → List (List ℕ)
@@ -26,7 +28,17 @@ arguments_of pipe = []
 arguments_of (audit history certificate) = codes "audit" ∷ history ∷ certificate ∷ []
 arguments_of (order history) = codes "order" ∷ history ∷ []
 arguments_of (script history certificate) = codes "script" ∷ history ∷ certificate ∷ []
-arguments_of (serve socket history certificate) = codes "serve" ∷ socket ∷ history ∷ certificate ∷ []
+arguments_of (serve InTurn socket history certificate) = codes "serve" ∷ socket ∷ history ∷ certificate ∷ []
+arguments_of (serve AtOnce socket history certificate) =
+    codes "serve" ∷ codes "--concurrent" ∷ socket ∷ history ∷ certificate ∷ []
+
+-- the paths among them
+abbrev pub paths_of : Request → List (List ℕ)
+paths_of pipe = []
+paths_of (audit history certificate) = history ∷ certificate ∷ []
+paths_of (order history) = history ∷ []
+paths_of (script history certificate) = history ∷ certificate ∷ []
+paths_of (serve manner socket history certificate) = socket ∷ history ∷ certificate ∷ []
 
 -- the argument doesn't begin with a hyphen (45)
 abbrev pub is_plain : List ℕ → Bool

@@ -1,10 +1,10 @@
-use Rattle.std.proofs.Common.{◌∙◌, ap, sym, map, string_bytes, Result, Ok, Err, MatchResult}
+use Rattle.std.proofs.Common.{◌≡◌, ◌∙◌, ap, sym, subst, true, map, string_bytes, Result, Ok, Err, MatchResult}
 use Rattle.std.specs.Prelude.{IsErrAnd}
 use Rattle.clap.specs.Words.{fault_of, is_simple, is_simple_and_free, subcommand_of, takes}
 use Rattle.ssi_arguments.specs.Machinery.Parser.{request_in}
-use Rattle.ssi_arguments.specs.Meaning.Arguments.{arguments_of}
+use Rattle.ssi_arguments.specs.Meaning.Arguments.{arguments_of, are_plain}
 use Rattle.ssi_arguments.proofs.NoOtherRequests.{asks_request, simple_and_free}
-use Rattle.ssi_arguments.proofs.TakesRequests.{simple, takes_request}
+use Rattle.ssi_arguments.proofs.TakesRequests.{simple, takes_request, plain_paths}
 use Rattle.ssi_arguments.proofs.arguments.task_of.Goals as goal
 
 told : {X E : Type 0} (r : Result X E) (A B : Type 0) (P : X → Type 0) (Q R : E → Type 0) → A
@@ -31,4 +31,5 @@ returns-clause-no_other c = λ p.
     let app = c.in_ok-command.ensures in
     let no_fault = c.in_ok-matches.ensures.kinds (ap is_simple_and_free app ∙ simple_and_free) in
     let asked = asks_request arguments p (sym (ap (λ a. fault_of a arguments) app) ∙ no_fault) in
-    asked.1 ∙ ap arguments_of (sym (returns-clause-asked c asked.0 p asked.1))
+    let plain = plain_paths asked.0 (subst (λ ws. are_plain ws ≡ true) asked.1 p) in
+    asked.1 ∙ ap arguments_of (sym (returns-clause-asked c asked.0 plain asked.1))

@@ -1,11 +1,7 @@
-use Rattle.std.proofs.Common.{Result, Ok, Err, IfOk}
 use Rattle.ssi_store.specs.Meaning.Courses.{New}
 use Rattle.ssi_line.specs.Meaning.Steps.{course_after}
+use Rattle.ssi_cli.proofs.ScriptRuns.{if_ok}
 use Rattle.ssi_cli.proofs.socket.run_socket.Goals as goal
-
-if_ok : {T E : Type 0} {P Q : T → Type 0} (r : Result T E) → ((x : T) → P x → Q x) → IfOk r P → IfOk r Q
-if_ok (Ok x) more is = more x is
-if_ok (Err e) more is = tt
 
 pub returns-clause-certified : goal.returns-clause-certified
 returns-clause-certified g c =

@@ -1,0 +1,5 @@
+use Rattle.ssi_cli.specs.Machinery.HubRuns.{WasCalled}
+use Rattle.ssi_cli.proofs.clients.Clients.write_all.Given as goal
+
+abbrev pub invariant-loop-index : goal.invariant-loop-index
+invariant-loop-index l = WasCalled l.initial.self.hub l.self.hub

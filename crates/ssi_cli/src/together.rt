@@ -1,0 +1,107 @@
+//! A run over all connections of a socket at once.
+
+ghost use Rattle.std.specs.Prelude.{◌≡◌, true, Err, IfOk};
+ghost use Rattle.devices.specs.Mirror.{has_failed};
+ghost use Rattle.ssi_store.specs.Meaning.Courses.{New};
+ghost use Rattle.ssi_store.specs.Mirror.Stores.{IsAt};
+ghost use Rattle.ssi_line.specs.Meaning.Steps.{AllMayFollow, course_after};
+ghost use Rattle.ssi_line.specs.Meaning.Ends.{WentOn};
+ghost use Rattle.ssi_hub.specs.Meaning.Calls.{all_steps};
+ghost use Rattle.ssi_cli.specs.Meaning.Scripts.{Certified};
+ghost use Rattle.ssi_cli.specs.Meaning.Serving.{Together, ends_by_stop};
+
+use crate::ScriptFault;
+use crate::clients::{Clients, LISTENER};
+use crate::socket::Served;
+use crate::store::new_store;
+use crate::texts::write_texts;
+use devices::Watched;
+use mio::net::UnixListener;
+use mio::{Events, Interest, Poll};
+use ssi_reads::Marks;
+use ssi_store::Store;
+use ssi_versions::Chains;
+use std::alloc::Global;
+use std::io::Write;
+
+/// The most bytes of one read.
+const ROOM: usize = 16384;
+
+/// The most events of one wait.
+const MOST_EVENTS: usize = 256;
+
+/// Carries out the lines of all connections on a new store, as [`serve_together`] does, and then writes the history of the
+/// store and a certificate of it. They are written also if the socket has failed. Returns how the connections ended, and
+/// whether both texts are written.
+///
+/// The history records the course of the store, and the auditor says yes to both texts.
+pub fn run_together<H: Write, C: Write>(
+    alloc: Global,
+    poll: &mut Poll,
+    listener: &mut UnixListener,
+    history: &mut Watched<H>,
+    certificate: &mut Watched<C>,
+) -> (Served, Result<(), ScriptFault>)
+    ensures certified { IfOk result.1 (λ _. (together : Together (ends_by_stop result.0))
+        × AllMayFollow (New 1) (all_steps together.calls)
+        × Certified (course_after (New 1) (all_steps together.calls)) H.contents history.old history.new
+        C.contents certificate.old certificate.new) }
+    ensures history_fault { result.1 ≡ Err ScriptFault.History
+        → (has_failed history.new ≡ true) × (certificate.new ≡ certificate.old) }
+    ensures certificate_fault { result.1 ≡ Err ScriptFault.Certificate → has_failed certificate.new ≡ true }
+    ensures memory { result.1 ≡ Err ScriptFault.Memory
+        → (history.new ≡ history.old) × (certificate.new ≡ certificate.old) }
+{
+    let mut store = new_store(alloc);
+    let served = serve_together(alloc, poll, listener, &mut store);
+    let written = write_texts(alloc, store, history, certificate);
+    (served, written)
+}
+
+/// Accepts connections and carries out the lines of all of them on the store, one line at a time, in the order in which they
+/// are completed. Each connection gets the replies to its own lines, in their order; a session may be used by several. It
+/// goes on until a connection sends `stop`: then no further line is carried out, and what is to be written to the
+/// connections is written as far as they take it at once. `SocketFault` if waiting for the sockets fails, or if memory runs
+/// out at the start.
+///
+/// A connection that doesn't read doesn't hold others up. Nothing more is read from it, and none of its lines is carried out,
+/// while more than 65,536 bytes are to be written to it. Up to 1,024 connections are open at a time; more wait in the
+/// listener. A connection that can't be accepted waits there, too.
+///
+/// When a client sends no more, its whole lines are carried out and the replies are written, and then the connection is
+/// closed; it is closed at once if it can't be written to, or if memory can't hold what it sent or what it is to get. What its
+/// commands did stands, and its transactions stay open.
+pub fn serve_together<C: Chains + Drop, M: Marks + Drop>(
+    alloc: Global,
+    poll: &mut Poll,
+    listener: &mut UnixListener,
+    store: &mut Store<C, M>,
+) -> Served
+    ensures served { (together : Together (ends_by_stop result))
+        × WentOn (IsAt C.held M.marked) store.old (all_steps together.calls) store.new }
+{
+    let mut clients = Clients::new(alloc);
+    let Ok(mut events) = Events::with_capacity(alloc, MOST_EVENTS) else {
+        return Served::SocketFault;
+    };
+    let Ok(()) = poll
+        .registry()
+        .register(listener, LISTENER, Interest::READABLE)
+    else {
+        return Served::SocketFault;
+    };
+    let mut room = [0u8; ROOM];
+    for _ in 0..u64::MAX {
+        let Ok(()) = poll.poll(&mut events, clients.longest_wait()) else {
+            return Served::SocketFault;
+        };
+        clients.note(&events);
+        clients.accept(alloc, listener, poll.registry());
+        clients.round(alloc, store, &mut room);
+        if clients.is_stopped() {
+            clients.write_all();
+            return Served::Stopped;
+        }
+    }
+    Served::SocketFault
+}
