@@ -263,18 +263,18 @@ for peer, line in (second, b"begin B\n"), (first, b"begin A\n"), (second, b"stop
     print(peer.recv(100).decode(), end="")
 END
 start --concurrent socket h c
-check 'a peer that leaves in the middle of a line, at once' $'begun 1\ndone' \
+check 'at once: a peer that sends half a line' $'begun 1\ndone' \
     "$(printf 'begin A\nput A x 5\nput A x' | talk socket)"
-check 'a session that outlives its connection, at once' $'value 5\ncommitted\nbegun 2\nvalue 5' \
+check 'at once: a session of two connections' $'value 5\ncommitted\nbegun 2\nvalue 5' \
     "$(lines 'get A x' 'commit A' 'begin B' 'get B x' | talk socket)"
-check 'lines sent together, at once' "$(lines aborted '! 2 idle' '? syntax')" \
+check 'at once: lines sent together' "$(lines aborted '! 2 idle' '? syntax')" \
     "$(lines 'abort B' 'abort B' nothing | talk socket together)"
-check 'a dump, at once' "$(lines 'adya 2' 'w1(x.1:1,5)' 'r1(x.1:1,5)' c1 'r2(x.1:1,5)' a2 '[x:1]' '{x,5}' end 'serial 1' 1 end)" \
+check 'at once: a dump' "$(lines 'adya 2' 'w1(x.1:1,5)' 'r1(x.1:1,5)' c1 'r2(x.1:1,5)' a2 '[x:1]' '{x,5}' end 'serial 1' 1 end)" \
     "$(echo dump | talk socket together)"
-check 'two peers at once' "$(lines 'begun 3' 'begun 4' stopped)" "$(timeout 60 python3 both.py socket 2>&1)"
+check 'at once: two peers' "$(lines 'begun 3' 'begun 4' stopped)" "$(timeout 60 python3 both.py socket 2>&1)"
 finish
-check 'the end of connections at once' 'status 0' "$ending"
-check 'the verdict on them' yes "$("$ssi" audit h c)"
+check 'at once: the end' 'status 0' "$ending"
+check 'at once: the verdict' yes "$("$ssi" audit h c)"
 rm -f h c
 for options in '--concurrent socket h' '--concurrent' '--foo socket h c'; do
     # shellcheck disable=SC2086

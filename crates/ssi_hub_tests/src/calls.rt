@@ -27,6 +27,10 @@ impl Tried {
         let (token, rest) = rest.split_once(" ").unwrap_or((rest, ""));
         let token = token.parse::<u64>().unwrap_or(u64::MAX);
         match name {
+            "new" => {
+                *self = Tried::new(alloc);
+                Ok(String::new(alloc))
+            }
             "open" => {
                 let token = self.hub.opened(alloc)?;
                 format!(in alloc; ": {token}")

@@ -1,8 +1,11 @@
 //! A hub over one store, tried call by call.
 //!
 //! Each line of standard input is a call, and is written again with its answer. `/` stands for a line feed, in what is sent
-//! and in what is to be written. A line that begins with `#` says what comes next. The calls are these:
+//! and in what is to be written. A line that begins with `#` says what comes next. The answers that are wanted of the first
+//! calls were worked by hand; those after the first `new` were made by chance, and their answers by scripts/hub_reference.py.
+//! The calls are these:
 //!
+//! - `new`: begins anew, with a hub and a store of their own
 //! - `open`: opens a connection; the answer is its token
 //! - `send T TEXT`: connection T sends the text
 //! - `fill T N`: it sends N bytes `x`
