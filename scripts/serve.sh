@@ -120,20 +120,30 @@ check 'paths that begin with a hyphen, after --' "$replied" "$(run script -- -h 
 check 'texts at paths that begin with a hyphen' "$whole" "$(texts -h -c)"
 
 # Clients.
+cat >peers.py <<'END'
+import socket, time
+
+
+def connected(path):
+    """A connection to the socket, as soon as the server listens."""
+    peer = socket.socket(socket.AF_UNIX)
+    peer.settimeout(30)
+    for _ in range(1000):
+        if peer.connect_ex(path) == 0:
+            break
+        time.sleep(0.01)
+    return peer
+END
 cat >talk.py <<'END'
 """Sends standard input to a socket, line by line, and prints the reply to each line before it sends the next. Then it
 closes the connection, after a rest without a line feed if there is one. `together`: sends all at once, and prints what
 comes back; `leave`: sends all and closes; `remove`: removes the socket's file when it is connected."""
-import os, socket, sys, time
+import os, socket, sys
+from peers import connected
 
 path, way = sys.argv[1], sys.argv[2] if len(sys.argv) > 2 else ""
 given = sys.stdin.buffer.read()
-connection = socket.socket(socket.AF_UNIX)
-connection.settimeout(30)
-for _ in range(1000):  # until the server listens
-    if connection.connect_ex(path) == 0:
-        break
-    time.sleep(0.01)
+connection = connected(path)
 if way == "remove":
     os.remove(path)
 replies = connection.makefile("rb")
@@ -187,14 +197,10 @@ check 'texts of lines sent together' "$(lines 'adya 1' 's1(x,x)' c1 a2 end 'seri
 
 cat >part.py <<'END'
 """Lets the store at a socket carry out many operations, asks for a dump, and leaves after its first line."""
-import socket, sys, time
+import sys
+from peers import connected
 
-connection = socket.socket(socket.AF_UNIX)
-connection.settimeout(30)
-for _ in range(1000):  # until the server listens
-    if connection.connect_ex(sys.argv[1]) == 0:
-        break
-    time.sleep(0.01)
+connection = connected(sys.argv[1])
 connection.sendall(b"begin A\n")
 print(connection.recv(100).decode(), end="")
 replies = b""
@@ -218,14 +224,10 @@ check 'the verdict on that history' yes "$("$ssi" audit h c)"
 rm -f h c
 
 cat >wait.py <<'END'
-import socket, sys, time
+import sys
+from peers import connected
 
-first, second = socket.socket(socket.AF_UNIX), socket.socket(socket.AF_UNIX)
-for _ in range(1000):  # until the server listens
-    if first.connect_ex(sys.argv[1]) == 0:
-        break
-    time.sleep(0.01)
-second.connect(sys.argv[1])
+first, second = connected(sys.argv[1]), connected(sys.argv[1])
 second.sendall(b"begin B\n")
 second.settimeout(0.3)
 try:
@@ -249,16 +251,11 @@ check 'texts of two peers at once' "$(lines 'adya 1' a1 a2 end 'serial 1' end ye
 
 # All connections at once. scripts/together.py tries more of it.
 cat >both.py <<'END'
-import socket, sys, time
+import sys
+from peers import connected
 
-first, second = socket.socket(socket.AF_UNIX), socket.socket(socket.AF_UNIX)
-for _ in range(1000):  # until the server listens
-    if first.connect_ex(sys.argv[1]) == 0:
-        break
-    time.sleep(0.01)
-second.connect(sys.argv[1])
+first, second = connected(sys.argv[1]), connected(sys.argv[1])
 for peer, line in (second, b"begin B\n"), (first, b"begin A\n"), (second, b"stop\n"):
-    peer.settimeout(30)
     peer.sendall(line)
     print(peer.recv(100).decode(), end="")
 END
