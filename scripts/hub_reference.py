@@ -68,6 +68,9 @@ class Hub:
                 connection.unsent += self.store.take(connection.lines.pop(0))
         return ""
 
+    def do_next(self, connection, token):
+        return ": " + ("".join(connection.lines[:1])[:4097] or "nothing")
+
     def do_show(self, connection, token):
         return ": " + (connection.unsent.replace("\n", "/") or "nothing")
 
@@ -156,7 +159,7 @@ def schedule():
         elif kind in ("show", "wants", "close"):
             calls.append("%s %d" % (kind, token))
         if calls[-1].split()[0] in ("run", "send", "wrote"):
-            calls.append("%s %d" % (random.choice(["show", "wants", "count"]), token))
+            calls.append("%s %d" % (random.choice(["show", "wants", "count", "next"]), token))
     return calls + [call for token in range(opened) for call in ("show %d" % token, "wants %d" % token)]
 
 

@@ -5,7 +5,7 @@
 
 Most clients run transactions on few keys, some of them many commands at a time, some in sessions that two clients share.
 Beside them there are clients that send byte by byte, lines that are no commands or too long, that read late or never, and
-that are gone in the middle of a line. The history tells in which order the commands were carried out: each command of a
+that are gone in the middle of a line, also with `--abort-on-close`. The history tells in which order the commands were carried out: each command of a
 transaction has made one event, and a transaction's first command is sent with its `begin`. In this order they are given to
 `ssi script`, which must reply the same and write the same history. For few clients the replies are compared with
 scripts/store_reference.py as well. Then come more connections than are served at once, and more than there are descriptors
@@ -195,6 +195,12 @@ async def leave(client, name):
     client.close()
 
 
+async def run_and_leave(client, name):
+    """Transactions of a client that then closes its connection."""
+    await run_transactions(client, name, 1)
+    client.close()
+
+
 async def run_all(server, count):
     go_on = asyncio.Event()
     tasks, late = [], []
@@ -220,15 +226,16 @@ async def run_all(server, count):
         elif kind == 8:
             tasks.append(leave(client, name))
         else:
-            tasks.append(run_transactions(client, name, 1))
+            tasks.append(run_and_leave(client, name))
     await asyncio.gather(*tasks)
     go_on.set()
     await asyncio.gather(*late)
     check("memory is bounded", True, server.most_memory() < MOST_MEMORY)
 
 
-def in_order(history):
-    """All commands of transactions with their replies, in the order in which they were carried out."""
+def in_order(history, aborts):
+    """All commands of transactions with their replies, in the order in which they were carried out. If the server aborts what
+    clients leave, an abort that nobody sent is among them."""
     running, begins, commands = {}, {}, {}
     for client, line, reply in log:
         word, session = line.split()[:2]
@@ -247,15 +254,17 @@ def in_order(history):
             order.append(begins[left.pop(0)])
         if commands[txn]:
             order.append(commands[txn].pop(0))
+        elif aborts:
+            order.append((None, "abort " + begins[txn][1].split()[1], "aborted"))
         # otherwise it is aborted at the end of the run
     check("commands without an event", [], [one for some in commands.values() for one in some])
     return order
 
 
-def check_order(server, folder, by_reference):
+def check_order(server, folder, by_reference, aborts):
     with open(server.history) as file:
         history = file.read()
-    order = in_order(history)
+    order = in_order(history, aborts)
     for client in {client for client, _, _ in log}:
         sent = [(line, reply) for one, line, reply in log if one is client and reply != "! 2 idle"]
         check("the order of a client", sent, [(line, reply) for one, line, reply in order if one is client])
@@ -271,13 +280,51 @@ def check_order(server, folder, by_reference):
         check("the replies of the reference", replies, "".join(store.take(line) for line in lines.splitlines()))
 
 
-async def try_clients(program, count, options=(), by_reference=False):
+async def try_clients(program, count, aborts=False, by_reference=False):
     log.clear()
     with tempfile.TemporaryDirectory() as folder:
-        server = Server(program, folder, options=options)
+        server = Server(program, folder, options=["--abort-on-close"] if aborts else [])
         await run_all(server, count)
-        await server.stop(await server.connect())
-        check_order(server, folder, by_reference)
+        last = await server.connect()
+        if aborts:
+            await wait_for_open(last, 0)
+        await server.stop(last)
+        check_order(server, folder, by_reference, aborts)
+
+
+async def wait_for_open(client, count):
+    """Waits until so many transactions are open."""
+    while not (await client.ask("stat")).startswith("stat open %d " % count):
+        await asyncio.sleep(0.01)
+
+
+async def try_leaving(program, aborts):
+    """Of two clients one is killed, with a session of its own, one that the other has used since, and one that it has taken
+    over from the other."""
+    with tempfile.TemporaryDirectory() as folder:
+        server = Server(program, folder, options=["--abort-on-close"] if aborts else [])
+        going, staying = await server.connect(), await server.connect()
+        await going.ask("begin own", "begin given", "put own k 1")
+        await staying.ask("begin taken", "begin other", "get given k")
+        await going.ask("get taken k", "nonsense", "collect")
+        await wait_for_open(staying, 4)
+        going.send("get given ")  # not a whole line
+        going.writer.transport.abort()
+        await wait_for_open(staying, 2 if aborts else 4)
+        for name, is_open in ("own", not aborts), ("given", True), ("taken", not aborts), ("other", True):
+            wanted = "absent" if is_open else "! 2 idle"
+            check("%s of a client that left" % name, wanted, await staying.ask("get %s absent" % name))
+        check("a name that is free again", "begun 5" if aborts else "! 1 busy", await staying.ask("begin own"))
+        await staying.ask("commit given")
+        staying.close()
+        last = await server.connect()
+        await wait_for_open(last, 0 if aborts else 3)
+        await server.stop(last)
+        with open(server.history) as file:
+            ends = [line for line in file.read().splitlines() if re.fullmatch(r"[ac]\d+", line)]
+        at = ends.index("c2")
+        wanted = (["a1", "a3"], ["a4", "a5"]) if aborts else ([], ["a1", "a3", "a4"])
+        check("what was aborted before the others ended, and after", wanted, (sorted(ends[:at]), sorted(ends[at + 1 :])))
 
 
 async def try_limit(program, descriptors, count, served, waiting):
@@ -309,6 +356,9 @@ async def main():
     for _ in range(5):
         await asyncio.wait_for(try_clients(program, 20, by_reference=True), SECONDS)
     await asyncio.wait_for(try_clients(program, options.clients), SECONDS)
+    await asyncio.wait_for(try_clients(program, options.clients, aborts=True), SECONDS)
+    for aborts in (False, True):
+        await asyncio.wait_for(try_leaving(program, aborts), SECONDS)
     await asyncio.wait_for(try_limit(program, 4096, 1100, 1024, 76), SECONDS)
     await asyncio.wait_for(try_limit(program, 64, 100, 50, 40), SECONDS)  # without descriptors for all
     print("%d passed, %d failed" % (passed, failed))

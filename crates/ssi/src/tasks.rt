@@ -10,8 +10,8 @@ use devices::Watched;
 use mio::Poll;
 use ssi_arguments::{Manner, NoTask, Task, given_arguments, task_of};
 use ssi_cli::{
-    Fault, ServingFault, Status, carry_out_commands, judge_stream, judge_texts, order_text,
-    serve_commands, serve_commands_together,
+    AtClose, Fault, ServingFault, Status, carry_out_commands, judge_stream, judge_texts,
+    order_text, serve_commands, serve_commands_together,
 };
 use std::fs::Files;
 use std::io::{BufWriter, Write};
@@ -63,9 +63,10 @@ fn carry_out<'a, R: Runtime + Net + AllocGlobal>(
 fn audit_input<R: Runtime + AllocGlobal>(rt: &R) -> Result<Status, Fault<'static>> {
     let mut input = Watched::new(rt.reader());
     let mut output = Watched::new(io::writer(rt));
-    judge_stream(rt.alloc(), &mut input, &mut output).map_err(|fault| Fault::of_run(
-        fault, "stdin", "stdin",
-    ))
+    match judge_stream(rt.alloc(), &mut input, &mut output) {
+        Ok(status) => Ok(status),
+        Err(fault) => Err(Fault::of_run(fault, "stdin", "stdin")),
+    }
 }
 
 fn audit_files<'a, R: Runtime + AllocGlobal>(
@@ -76,21 +77,25 @@ fn audit_files<'a, R: Runtime + AllocGlobal>(
     let mut history_file = opened(rt, history)?;
     let mut certificate_file = opened(rt, certificate)?;
     let mut output = Watched::new(io::writer(rt));
-    judge_texts(
+    let judged = judge_texts(
         rt.alloc(),
         &mut history_file,
         &mut certificate_file,
         &mut output,
-    )
-    .map_err(|fault| Fault::of_run(fault, history, certificate))
+    );
+    match judged {
+        Ok(status) => Ok(status),
+        Err(fault) => Err(Fault::of_run(fault, history, certificate)),
+    }
 }
 
 fn order_file<'a, R: Runtime + AllocGlobal>(rt: &R, history: &'a str) -> Result<Status, Fault<'a>> {
     let mut history_file = opened(rt, history)?;
     let mut output = Watched::new(io::writer(rt));
-    order_text(rt.alloc(), &mut history_file, &mut output).map_err(|fault| Fault::of_run(
-        fault, history, history,
-    ))
+    match order_text(rt.alloc(), &mut history_file, &mut output) {
+        Ok(status) => Ok(status),
+        Err(fault) => Err(Fault::of_run(fault, history, history)),
+    }
 }
 
 fn follow_input<'a, R: Runtime + AllocGlobal>(
@@ -102,14 +107,17 @@ fn follow_input<'a, R: Runtime + AllocGlobal>(
     let mut output = Watched::new(io::writer(rt));
     let mut history_file = late_file(rt, history)?;
     let mut certificate_file = late_file(rt, certificate)?;
-    carry_out_commands(
+    let done = carry_out_commands(
         rt.alloc(),
         &mut input,
         &mut output,
         &mut history_file,
         &mut certificate_file,
-    )
-    .map_err(|fault| Fault::of_commands(fault, history, certificate))
+    );
+    match done {
+        Ok(status) => Ok(status),
+        Err(fault) => Err(Fault::of_commands(fault, history, certificate)),
+    }
 }
 
 fn serve_connections<'a, R: Runtime + Net + AllocGlobal>(
@@ -129,7 +137,20 @@ fn serve_connections<'a, R: Runtime + Net + AllocGlobal>(
             &mut history_file,
             &mut certificate_file,
         ),
-        Manner::AtOnce => serve_at_once(rt, listener, &mut history_file, &mut certificate_file),
+        Manner::AtOnce => serve_at_once(
+            rt,
+            listener,
+            AtClose::Keep,
+            &mut history_file,
+            &mut certificate_file,
+        ),
+        Manner::Aborting => serve_at_once(
+            rt,
+            listener,
+            AtClose::Abort,
+            &mut history_file,
+            &mut certificate_file,
+        ),
     };
     // A file that can't be removed is no fault.
     let _ = fs::remove_file(rt, socket);
@@ -143,6 +164,7 @@ fn serve_connections<'a, R: Runtime + Net + AllocGlobal>(
 fn serve_at_once<R: Net + AllocGlobal, H: Write, C: Write>(
     rt: &R,
     listener: UnixListener,
+    at_close: AtClose,
     history: &mut Watched<H>,
     certificate: &mut Watched<C>,
 ) -> Result<Status, ServingFault> {
@@ -153,7 +175,14 @@ fn serve_at_once<R: Net + AllocGlobal, H: Write, C: Write>(
         return Err(ServingFault::Socket);
     };
     let mut listener = mio::net::UnixListener::from_std(listener);
-    serve_commands_together(rt.alloc(), &mut poll, &mut listener, history, certificate)
+    serve_commands_together(
+        rt.alloc(),
+        &mut poll,
+        &mut listener,
+        at_close,
+        history,
+        certificate,
+    )
 }
 
 // The system would make a socket without a file of the empty path.
@@ -161,7 +190,10 @@ fn bound<'a, R: Files + Net>(rt: &R, path: &'a str) -> Result<UnixListener, Faul
     if path.is_empty() {
         return Err(Fault::Socket(path));
     }
-    UnixListener::bind(rt, path).map_err(|_| Fault::Socket(path))
+    match UnixListener::bind(rt, path) {
+        Ok(listener) => Ok(listener),
+        Err(_) => Err(Fault::Socket(path)),
+    }
 }
 
 fn late_file<'a, R: Files + AllocGlobal>(

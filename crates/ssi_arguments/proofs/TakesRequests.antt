@@ -1,15 +1,16 @@
 -- That the parser accepts the arguments of each request, and finds the request in them.
-use Rattle.std.proofs.Common.{◌≡◌, ◌∙◌, ◌&&◌, Bool, true, false, List, [], ◌∷◌, refl, ap, ap₂, codes, drop}
+use Rattle.std.proofs.Common.{◌≡◌, ◌∙◌, ◌&&◌, Bool, true, false, List, [], ◌∷◌, ◌++◌, refl, ap, ap₂, codes, drop}
 use Rattle.std.specs.Prelude.{Some}
-use Rattle.std.specs.List.{list_all}
+use Rattle.std.specs.List.{fold, list_all}
 use Rattle.std.proofs.lemmas.Bool.{and_parts}
 use Rattle.clap.specs.Walk.{Held, Text, Walk, value, arg_by_index, finished, nothing_held, to_positional, walk, walked}
 use Rattle.clap.specs.Simple.{Shape, entered, is_simple, subcommand_of}
 use Rattle.clap.specs.Takes.{built_takes, default_passes, is_valid, level_passes, settle_passes, step_passes, takes, turn_passes}
 use Rattle.clap.specs.Takes.{walk_passes}
 use Rattle.clap.proofs.OnLiterals.{clap_on_literals}
-use Rattle.ssi_arguments.specs.Meaning.Arguments.{Request, pipe, audit, order, script, serve, are_plain, is_plain, arguments_of, paths_of}
-use Rattle.ssi_arguments.specs.declared.arguments.Manner.TheVariants.{InTurn, AtOnce}
+use Rattle.ssi_arguments.specs.Meaning.Arguments.{Request, pipe, audit, order, script, serve, are_plain, is_plain, arguments_of, options_of, paths_of}
+use Rattle.ssi_arguments.specs.declared.arguments.Manner.{Manner}
+use Rattle.ssi_arguments.specs.declared.arguments.Manner.TheVariants.{InTurn, AtOnce, Aborting}
 use Rattle.ssi_arguments.specs.Machinery.Parser.{request_in, ssi_app}
 use Rattle.ssi_arguments.proofs.CommandWalks.{audits, names, orders, pairs, parser, scripts, serves, top_walk}
 use Rattle.ssi_arguments.proofs.CommandWalks.{stops_at_audit, stops_at_order, stops_at_script, stops_at_serve}
@@ -40,13 +41,11 @@ passes_to_script : (h c : Text) → top_passes (arguments_of (script h c)) ≡ t
 unfolding clap_on_literals
 passes_to_script h c = refl
 
-passes_to_serve : (s h c : Text) → top_passes (arguments_of (serve InTurn s h c)) ≡ true
+passes_to_serve : (m : Manner) (s h c : Text) → top_passes (arguments_of (serve m s h c)) ≡ true
 unfolding clap_on_literals
-passes_to_serve s h c = refl
-
-passes_to_serve_at_once : (s h c : Text) → top_passes (arguments_of (serve AtOnce s h c)) ≡ true
-unfolding clap_on_literals
-passes_to_serve_at_once s h c = refl
+passes_to_serve InTurn s h c = refl
+passes_to_serve AtOnce s h c = refl
+passes_to_serve Aborting s h c = refl
 
 -- ---- the paths
 
@@ -119,67 +118,87 @@ passes_pair name h c p q = ap₂ (λ a b. a && b)
     (ap₂ (λ a b. a && (b && true)) (passes_first nothing_held name h c p q refl) (passes_second nothing_held name h c p q refl))
     (ap (ends_well (pairs name)) (walk_two nothing_held name h c p q))
 
-module _ (s h c : Text) (p : is_plain s ≡ true) (q : is_plain h ≡ true) (r : is_plain c ≡ true) where
-  passes_serve : level_passes serves [] nothing_held (s ∷ h ∷ c ∷ []) false ≡ true
+-- ---- the options before the paths of `serve`
+
+-- what they leave
+abbrev flagged : Manner → Held
+flagged m = (fold (walked serves.rules []) (at nothing_held 1) (options_of m)).held
+
+after_options : (m : Manner) → fold (walked serves.rules []) (at nothing_held 1) (options_of m) ≡ at (flagged m) 1
+unfolding clap_on_literals
+after_options InTurn = refl
+after_options AtOnce = refl
+after_options Aborting = refl
+
+walks_on : (m : Manner) (arguments : List Text) → walk serves.rules [] nothing_held (options_of m ++ arguments)
+    ≡ fold (walked serves.rules []) (at (flagged m) 1) arguments
+walks_on InTurn arguments = refl
+walks_on AtOnce arguments = ap (λ w. fold (walked serves.rules []) w arguments) (after_options AtOnce)
+walks_on Aborting arguments = ap (λ w. fold (walked serves.rules []) w arguments) (after_options Aborting)
+
+passes_concurrent : turn_passes serves [] (at nothing_held 1) (codes "--concurrent") ≡ true
+unfolding clap_on_literals
+passes_concurrent = refl
+
+passes_abort_on_close : turn_passes serves [] (walked serves.rules [] (at nothing_held 1) (codes "--concurrent"))
+    (codes "--abort-on-close") ≡ true
+unfolding clap_on_literals
+passes_abort_on_close = refl
+
+pass_on : (m : Manner) (arguments : List Text) → walk_passes serves [] (at (flagged m) 1) arguments ≡ true
+    → walk_passes serves [] (at nothing_held 1) (options_of m ++ arguments) ≡ true
+unfolding walk_passes
+pass_on InTurn arguments e = e
+pass_on AtOnce arguments e = ap₂ (λ a b. a && b) passes_concurrent
+    (ap (λ w. walk_passes serves [] w arguments) (after_options AtOnce) ∙ e)
+pass_on Aborting arguments e = ap₂ (λ a b. a && b) passes_concurrent
+    (ap₂ (λ a b. a && b) passes_abort_on_close
+    (ap (λ w. walk_passes serves [] w arguments) (after_options Aborting) ∙ e))
+
+passes_one : (m : Manner) → step_passes serves 1 (flagged m) value ≡ true
+unfolding clap_on_literals
+passes_one InTurn = refl
+passes_one AtOnce = refl
+passes_one Aborting = refl
+
+passes_two : (m : Manner) (s : Text) → step_passes serves 2 (one_path (flagged m) serves s).held value ≡ true
+unfolding clap_on_literals
+passes_two InTurn s = refl
+passes_two AtOnce s = refl
+passes_two Aborting s = refl
+
+passes_three : (m : Manner) (s h : Text) → step_passes serves 3 (two_paths (flagged m) serves s h).held value ≡ true
+unfolding clap_on_literals
+passes_three InTurn s h = refl
+passes_three AtOnce s h = refl
+passes_three Aborting s h = refl
+
+serve_ends_well : (m : Manner) (s h c : Text) → ends_well serves (three_paths (flagged m) s h c) ≡ true
+unfolding clap_on_literals
+serve_ends_well InTurn s h c = refl
+serve_ends_well AtOnce s h c = refl
+serve_ends_well Aborting s h c = refl
+
+found_serve : (m : Manner) (s h c : Text)
+    → request_in (Some (codes "serve", finished serves.rules (three_paths (flagged m) s h c).held)) ≡ serve m s h c
+unfolding clap_on_literals
+found_serve InTurn s h c = refl
+found_serve AtOnce s h c = refl
+found_serve Aborting s h c = refl
+
+module _ (m : Manner) (s h c : Text) (p : is_plain s ≡ true) (q : is_plain h ≡ true) (r : is_plain c ≡ true) where
+  walk_serve : walk serves.rules [] nothing_held (options_of m ++ s ∷ h ∷ c ∷ []) ≡ three_paths (flagged m) s h c
+  walk_serve = walks_on m (s ∷ h ∷ c ∷ []) ∙ walk_three (flagged m) s h c p q r
+
+  paths_pass : walk_passes serves [] (at (flagged m) 1) (s ∷ h ∷ c ∷ []) ≡ true
   unfolding walk_passes
-  passes_serve = ap₂ (λ a b. a && b)
-      (ap₂ (λ a b. a && b) (serve_first nothing_held s h c p q r refl)
-      (ap₂ (λ a b. a && (b && true)) (serve_second nothing_held s h c p q r refl) (serve_third nothing_held s h c p q r refl)))
-      (ap (ends_well serves) (walk_three nothing_held s h c p q r))
+  paths_pass = ap₂ (λ a b. a && b) (serve_first (flagged m) s h c p q r (passes_one m))
+      (ap₂ (λ a b. a && (b && true)) (serve_second (flagged m) s h c p q r (passes_two m s))
+      (serve_third (flagged m) s h c p q r (passes_three m s h)))
 
--- ---- the option before the paths of `serve`
-
-abbrev option : Text
-option = codes "--concurrent"
-
--- what it leaves
-abbrev flagged : Held
-flagged = (walked serves.rules [] (at nothing_held 1) option).held
-
-after_option : walked serves.rules [] (at nothing_held 1) option ≡ at flagged 1
-unfolding clap_on_literals
-after_option = refl
-
-passes_option : turn_passes serves [] (at nothing_held 1) option ≡ true
-unfolding clap_on_literals
-passes_option = refl
-
-passes_one : step_passes serves 1 flagged value ≡ true
-unfolding clap_on_literals
-passes_one = refl
-
-passes_two : (s : Text) → step_passes serves 2 (one_path flagged serves s).held value ≡ true
-unfolding clap_on_literals
-passes_two s = refl
-
-passes_three : (s h : Text) → step_passes serves 3 (two_paths flagged serves s h).held value ≡ true
-unfolding clap_on_literals
-passes_three s h = refl
-
-ends_well_at_once : (s h c : Text) → ends_well serves (three_paths flagged s h c) ≡ true
-unfolding clap_on_literals
-ends_well_at_once s h c = refl
-
-module _ (s h c : Text) (p : is_plain s ≡ true) (q : is_plain h ≡ true) (r : is_plain c ≡ true) where
-  walk_at_once : walk serves.rules [] nothing_held (option ∷ s ∷ h ∷ c ∷ []) ≡ three_paths flagged s h c
-  walk_at_once = ap (λ w. walked serves.rules [] (walked serves.rules [] (walked serves.rules [] w s) h) c) after_option
-      ∙ walk_three flagged s h c p q r
-
-  passes_at_once : level_passes serves [] nothing_held (option ∷ s ∷ h ∷ c ∷ []) false ≡ true
-  unfolding walk_passes
-  passes_at_once = ap₂ (λ a b. a && b)
-      (ap₂ (λ a b. a && b) passes_option
-      (ap₂ (λ a b. a && b) (ap (λ w. turn_passes serves [] w s) after_option ∙ serve_first flagged s h c p q r passes_one)
-      (ap₂ (λ a b. a && (b && true))
-      (ap (λ w. turn_passes serves [] (walked serves.rules [] w s) h) after_option ∙ serve_second flagged s h c p q r (passes_two s))
-      (ap (λ w. turn_passes serves [] (walked serves.rules [] (walked serves.rules [] w s) h) c) after_option
-      ∙ serve_third flagged s h c p q r (passes_three s h)))))
-      (ap (ends_well serves) walk_at_once ∙ ends_well_at_once s h c)
-
-found_at_once : (s h c : Text)
-    → request_in (Some (codes "serve", finished serves.rules (three_paths flagged s h c).held)) ≡ serve AtOnce s h c
-unfolding clap_on_literals
-found_at_once s h c = refl
+  passes_serve : level_passes serves [] nothing_held (options_of m ++ s ∷ h ∷ c ∷ []) false ≡ true
+  passes_serve = ap₂ (λ a b. a && b) (pass_on m (s ∷ h ∷ c ∷ []) paths_pass)
+      (ap (ends_well serves) walk_serve ∙ serve_ends_well m s h c)
 
 passes_audit : (h c : Text) → is_plain h ≡ true → is_plain c ≡ true
     → level_passes audits [] nothing_held (h ∷ c ∷ []) false ≡ true
@@ -213,13 +232,9 @@ taken (order h) p = rw (stops_at_order (h ∷ []), passes_order h (path_plain h 
 taken (script h c) p =
     let plain = paths_plain h c p in
     rw (stops_at_script (h ∷ c ∷ []), passes_script h c plain.0 plain.1, passes_to_script h c) refl
-taken (serve InTurn s h c) p =
+taken (serve m s h c) p =
     let plain = all_plain s h c p in
-    rw (stops_at_serve (s ∷ h ∷ c ∷ []), passes_serve s h c plain.0 plain.1 plain.2, passes_to_serve s h c) refl
-taken (serve AtOnce s h c) p =
-    let plain = all_plain s h c p in
-    rw (stops_at_serve (option ∷ s ∷ h ∷ c ∷ []), passes_at_once s h c plain.0 plain.1 plain.2, passes_to_serve_at_once s h c)
-    refl
+    rw (stops_at_serve (options_of m ++ s ∷ h ∷ c ∷ []), passes_serve m s h c plain.0 plain.1 plain.2, passes_to_serve m s h c) refl
 
 found : (r : Request) → are_plain (paths_of r) ≡ true → request_in (entered parser (top_walk (arguments_of r)).stopped) ≡ r
 found pipe p = refl
@@ -234,17 +249,12 @@ found (script h c) p =
     let plain = paths_plain h c p in
     ap (λ stop. request_in (entered parser stop)) (stops_at_script (h ∷ c ∷ []))
     ∙ ap (λ w. request_in (Some (codes "script", finished scripts.rules w.held))) (walk_two nothing_held (codes "script") h c plain.0 plain.1)
-found (serve InTurn s h c) p =
+found (serve m s h c) p =
     let plain = all_plain s h c p in
-    ap (λ stop. request_in (entered parser stop)) (stops_at_serve (s ∷ h ∷ c ∷ []))
+    ap (λ stop. request_in (entered parser stop)) (stops_at_serve (options_of m ++ s ∷ h ∷ c ∷ []))
     ∙ ap (λ w. request_in (Some (codes "serve", finished serves.rules w.held)))
-    (walk_three nothing_held s h c plain.0 plain.1 plain.2)
-found (serve AtOnce s h c) p =
-    let plain = all_plain s h c p in
-    ap (λ stop. request_in (entered parser stop)) (stops_at_serve (option ∷ s ∷ h ∷ c ∷ []))
-    ∙ ap (λ w. request_in (Some (codes "serve", finished serves.rules w.held)))
-    (walk_at_once s h c plain.0 plain.1 plain.2)
-    ∙ found_at_once s h c
+    (walk_serve m s h c plain.0 plain.1 plain.2)
+    ∙ found_serve m s h c
 
 -- the arguments of a request are taken, and the request is found in them
 pub takes_request : (arguments : List Text) (r : Request) → are_plain (paths_of r) ≡ true → drop 1 arguments ≡ arguments_of r
@@ -262,3 +272,4 @@ plain_paths (order h) p = p
 plain_paths (script h c) p = p
 plain_paths (serve InTurn s h c) p = p
 plain_paths (serve AtOnce s h c) p = absurd (cc p)
+plain_paths (serve Aborting s h c) p = absurd (cc p)

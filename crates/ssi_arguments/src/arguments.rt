@@ -3,7 +3,7 @@
 ghost use Rattle.std.specs.Prelude.{◌≡◌, ◌≢◌, true, map, drop, string_bytes, IfOk, MatchResult};
 ghost use Rattle.clap.specs.Words.{rows_of, found_of, kind_of, subcommand_rows_of};
 ghost use Rattle.clap.specs.declared.error.kind.ErrorKind.TheVariants.{OutOfMemory};
-ghost use Rattle.ssi_arguments.specs.Machinery.Parser.{path_in, manner_in, request_in, request_named};
+ghost use Rattle.ssi_arguments.specs.Machinery.Parser.{path_in, is_given, manner_in, request_in, request_named};
 ghost use Rattle.ssi_arguments.specs.Meaning.Arguments.{Request, request_of, arguments_of, paths_of, are_plain};
 ghost use Rattle.ssi_arguments.specs.declared.arguments.NoTask.TheVariants.{Text, Memory};
 
@@ -50,6 +50,8 @@ pub enum Manner {
     InTurn,
     /// All at once.
     AtOnce,
+    /// All at once; when one ends, the sessions whose last command it sent are aborted.
+    Aborting,
 }
 
 /// Why the arguments ask for no task.
@@ -154,8 +156,20 @@ fn path<'a>(given: &ArgMatches<'a>, name: &str) -> &'a str
 fn how_served(given: &ArgMatches<'_>) -> Manner
     ensures { result ≡ manner_in (rows_of (found_of given.now)) }
 {
-    match path(given, "concurrent") {
-        "true" => Manner::AtOnce,
-        _ => Manner::InTurn,
+    if is_given(given, "abort-on-close") {
+        return Manner::Aborting;
+    }
+    if is_given(given, "concurrent") {
+        return Manner::AtOnce;
+    }
+    Manner::InTurn
+}
+
+fn is_given(given: &ArgMatches<'_>, option: &str) -> bool
+    ensures { result ≡ is_given (rows_of (found_of given.now)) option.now }
+{
+    match path(given, option) {
+        "true" => true,
+        _ => false,
     }
 }

@@ -77,7 +77,8 @@ fn serve<'a>(alloc: Global) -> Result<Command<'a>, AllocError>
     let serve = bare(alloc, "serve", help::SERVE, help::SERVE_MORE);
     let serve = with_file(alloc, serve, "SOCKET", help::SOCKET)?;
     let serve = with_texts(alloc, serve, help::NEW_HISTORY, help::NEW_CERTIFICATE)?;
-    serve.arg(flag(alloc, "concurrent", help::CONCURRENT))
+    let serve = serve.arg(flag(alloc, "concurrent", help::CONCURRENT))?;
+    serve.arg(flag(alloc, "abort-on-close", help::ABORT_ON_CLOSE))
 }
 
 /// A command without files.

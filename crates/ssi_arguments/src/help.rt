@@ -67,3 +67,6 @@ pub const NEW_CERTIFICATE: &str = "The file for the certificate; created or over
 
 /// The option that serves all connections at once.
 pub const CONCURRENT: &str = "Serve all connections at once";
+
+/// The option that aborts what a connection leaves open.
+pub const ABORT_ON_CLOSE: &str = "The same, and abort the sessions of clients that leave";

@@ -4,7 +4,7 @@ use Rattle.ssi_store.specs.Meaning.Courses.{Course}
 use Rattle.ssi_line.specs.Meaning.Steps.{Step}
 use Rattle.ssi_line.specs.Meaning.Ends.{WentOn}
 use Rattle.ssi_hub.specs.declared.hub.Hub.{Hub}
-use Rattle.ssi_hub.specs.Meaning.Calls.{Call, Opened, token_of, is_open, with_call, all_steps}
+use Rattle.ssi_hub.specs.Meaning.Calls.{Call, Opened, token_of, is_open, with_call, with_run, all_steps}
 use Rattle.ssi_hub.specs.Mirror.{is_stopped, Stands}
 use Rattle.ssi_cli.specs.Machinery.HubRuns.{WasCalled, HasRun}
 use Rattle.ssi_cli.proofs.ScriptRuns.{went_on_both}
@@ -73,6 +73,15 @@ run_both is_at old mid new store between after first then = λ calls s.
       grew_more ∙ ap (λ (l : List Step). l ++ later) grew ∙ append_assoc (all_steps calls) steps later,
       went_on_both is_at store between after steps later went went_more,
     )
+
+-- a run of lines of one connection
+pub ran : {T : Type 0} (is_at : T → Course → Type 0) (old new : Hub) (store after : T) (token : ℕ)
+    → ((calls : List Call) → Stands old calls → (lost : Bool) × (lines : List (List ℕ)) × (steps : List Step)
+    × Stands new (with_run lost token lines steps calls) × WentOn is_at store steps after
+    × (all_steps (with_run lost token lines steps calls) ≡ all_steps calls ++ steps)) → HasRun is_at old store new after
+ran is_at old new store after token run = λ calls s.
+    let (lost, lines, steps, stands, went, grew) = run calls s in
+    (with_run lost token lines steps calls, steps, stands, grew, went)
 
 -- the calls of a hub that began with none
 pub all_called : {T : Type 0} (is_at : T → Course → Type 0) (old new : Hub) (store after : T) → Stands old []

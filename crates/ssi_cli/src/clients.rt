@@ -5,7 +5,10 @@ ghost use Rattle.ssi_store.specs.Mirror.Stores.{IsAt};
 ghost use Rattle.ssi_hub.specs.Mirror.{is_stopped, Stands};
 ghost use Rattle.ssi_cli.specs.Machinery.HubRuns.{WasCalled, HasRun};
 
-use crate::peer::{Peer, Sent};
+use crate::AtClose;
+use crate::peer::Peer;
+use crate::turns::{send, turn};
+use crate::users::Users;
 use indexmap::IndexMap;
 use mio::net::{UnixListener, UnixStream};
 use mio::{Events, Registry, Token};
@@ -23,9 +26,6 @@ pub(crate) const LISTENER: Token = Token(usize::MAX);
 /// The most connections that are open at a time.
 const MOST_CLIENTS: usize = 1024;
 
-/// The most lines of a connection that are carried out before the others have their turn.
-const MOST_LINES: usize = 256;
-
 /// After this many milliseconds it is tried again to accept a connection.
 const ACCEPT_AGAIN: u64 = 100;
 
@@ -34,25 +34,31 @@ const ACCEPT_AGAIN: u64 = 100;
 pub(crate) struct Clients {
     hub: Hub,
     peers: IndexMap<u64, Peer>,
+    // kept if sessions are aborted when a connection is closed
+    users: Option<Users>,
     // whether connections may wait in the listener
     may_accept: bool,
     // whether the last one couldn't be accepted
     accept_failed: bool,
     // whether a connection has more to do at once
     is_busy: bool,
+    // the direction of the last round
+    goes_up: bool,
 }
 
 impl Clients {
-    pub(crate) fn new(alloc: Global) -> Clients
+    pub(crate) fn new(alloc: Global, at_close: AtClose) -> Clients
         ensures none { Stands result.hub [] }
         ensures goes_on { is_stopped result.hub ≡ false }
     {
         Clients {
             hub: Hub::new(alloc),
             peers: IndexMap::new(alloc),
+            users: users_for(alloc, at_close),
             may_accept: false,
             accept_failed: false,
             is_busy: false,
+            goes_up: false,
         }
     }
 
@@ -132,7 +138,8 @@ impl Clients {
         }
     }
 
-    /// Gives each connection that is due its turn.
+    /// Gives each connection that is due its turn, in the other direction than the last time: so one that has its turn late
+    /// in a round has it early in the next.
     pub(crate) fn round<C: Chains + Drop, M: Marks + Drop>(
         &mut self,
         alloc: Global,
@@ -142,8 +149,10 @@ impl Clients {
         ensures { HasRun (IsAt C.held M.marked) self.old.hub store.old self.new.hub store.new }
     {
         self.is_busy = false;
-        // One that is closed gives its place to the last one, which has had its turn.
-        for index in (0..self.peers.len()).rev() {
+        self.goes_up = !self.goes_up;
+        let len = self.peers.len();
+        for place in 0..len {
+            let index = if self.goes_up { place } else { len - 1 - place };
             self.turn_at(alloc, index, store, room);
         }
     }
@@ -167,12 +176,28 @@ impl Clients {
         if !peer.is_due() {
             return;
         }
-        turn(alloc, token, peer, &mut self.hub, store, room);
+        turn(
+            alloc,
+            token,
+            peer,
+            &mut self.users,
+            &mut self.hub,
+            store,
+            room,
+        );
         let due = peer.is_due();
         self.is_busy = self.is_busy || due;
-        if !self.hub.is_open(token) {
-            let _ = self.peers.swap_remove_index(index);
+        if !due && !self.hub.is_open(token) {
+            self.remove_at(index);
         }
+    }
+
+    // The last one takes its place, and may miss its turn in this round.
+    fn remove_at(&mut self, index: usize)
+        ensures { self.new.hub ≡ self.old.hub }
+    {
+        let _ = self.peers.swap_remove_index(index);
+        self.is_busy = true;
     }
 
     /// Writes to the connections what they take at once.
@@ -198,66 +223,19 @@ impl Clients {
     }
 }
 
+fn users_for(alloc: Global, at_close: AtClose) -> Option<Users> {
+    match at_close {
+        AtClose::Keep => None,
+        AtClose::Abort => Some(Users::new(alloc)),
+    }
+}
+
 fn note_events(events: &Events, peers: &mut IndexMap<u64, Peer>, may_accept: &mut bool) {
     for event in events.iter() {
         if event.token() == LISTENER {
             *may_accept = true;
         } else if let Some(peer) = peers.get_mut(&(event.token().0 as u64)) {
             peer.note(event);
-        }
-    }
-}
-
-/// One turn of a connection: it reads once, carries out lines, and writes what the client takes. The connection is closed if
-/// there is nothing more to do for it.
-fn turn<C: Chains + Drop, M: Marks + Drop>(
-    alloc: Global,
-    token: u64,
-    peer: &mut Peer,
-    hub: &mut Hub,
-    store: &mut Store<C, M>,
-    room: &mut [u8],
-)
-    ensures { HasRun (IsAt C.held M.marked) hub.old store.old hub.new store.new }
-{
-    receive(token, peer, hub, room);
-    hub.run(alloc, token, store, MOST_LINES);
-    send(token, peer, hub);
-    let due = hub.wants_run(token) || peer.is_readable() && hub.wants_read(token);
-    peer.set_due(due);
-    if peer.has_ended() && !due && !hub.wants_write(token) {
-        hub.closed(token);
-    }
-}
-
-/// Reads from the client, if more may be read, and hands on what came.
-fn receive(token: u64, peer: &mut Peer, hub: &mut Hub, room: &mut [u8])
-    ensures { WasCalled hub.old hub.new }
-{
-    if !peer.is_readable() || !hub.wants_read(token) {
-        return;
-    }
-    let count = peer.read(room);
-    if hub.received(token, &room[..count]).is_err() {
-        hub.closed(token);
-    }
-}
-
-/// Writes to the client until all is written or there is no room.
-fn send(token: u64, peer: &mut Peer, hub: &mut Hub)
-    ensures { WasCalled hub.old hub.new }
-{
-    for _ in 0..u64::MAX {
-        if !hub.wants_write(token) {
-            return;
-        }
-        match peer.write(hub.to_write(token)) {
-            Sent::Bytes(count) => hub.written(token, count),
-            Sent::Later => return,
-            Sent::Never => {
-                hub.closed(token);
-                return;
-            }
         }
     }
 }

@@ -7,6 +7,7 @@
 
 mod clients;
 mod fault;
+mod leaving;
 mod peer;
 mod runs;
 mod script;
@@ -16,6 +17,8 @@ mod status;
 mod store;
 mod texts;
 mod together;
+mod turns;
+mod users;
 
 pub use fault::Fault;
 pub use runs::{
@@ -26,4 +29,4 @@ pub use script::run_script;
 pub use script_fault::ScriptFault;
 pub use socket::{Served, run_socket, serve_socket};
 pub use status::Status;
-pub use together::{run_together, serve_together};
+pub use together::{AtClose, run_together, serve_together};

@@ -17,7 +17,7 @@ use crate::ScriptFault;
 use crate::script::run_script;
 use crate::socket::{Served, run_socket};
 use crate::status::Status;
-use crate::together::run_together;
+use crate::together::{AtClose, run_together};
 use adya_audit::{RunFault, run_audit, run_order, run_pipe};
 use devices::{Source, Watched};
 use mio::Poll;
@@ -153,6 +153,7 @@ pub fn serve_commands_together<H: Write, C: Write>(
     alloc: Global,
     poll: &mut Poll,
     listener: &mut mio::net::UnixListener,
+    at_close: AtClose,
     history: &mut Watched<H>,
     certificate: &mut Watched<C>,
 ) -> Result<Status, ServingFault>
@@ -163,7 +164,7 @@ pub fn serve_commands_together<H: Write, C: Write>(
     ensures history { IsErrOf result (ServingFault.Texts ScriptFault.History) → has_failed history.new ≡ true }
     ensures certificate { IsErrOf result (ServingFault.Texts ScriptFault.Certificate) → has_failed certificate.new ≡ true }
 {
-    let (served, written) = run_together(alloc, poll, listener, history, certificate);
+    let (served, written) = run_together(alloc, poll, listener, at_close, history, certificate);
     status_of_serving(served, written)
 }
 

@@ -30,6 +30,15 @@ const ROOM: usize = 16384;
 /// The most events of one wait.
 const MOST_EVENTS: usize = 256;
 
+/// What becomes of the transactions that a connection leaves open.
+#[derive(Clone, Copy, Debug, PartialEq, Eq)]
+pub enum AtClose {
+    /// They stay open, and another connection may go on with them.
+    Keep,
+    /// Each session whose last command the connection sent is aborted.
+    Abort,
+}
+
 /// Carries out the lines of all connections on a new store, as [`serve_together`] does, and then writes the history of the
 /// store and a certificate of it. They are written also if the socket has failed. Returns how the connections ended, and
 /// whether both texts are written.
@@ -39,6 +48,7 @@ pub fn run_together<H: Write, C: Write>(
     alloc: Global,
     poll: &mut Poll,
     listener: &mut UnixListener,
+    at_close: AtClose,
     history: &mut Watched<H>,
     certificate: &mut Watched<C>,
 ) -> (Served, Result<(), ScriptFault>)
@@ -53,7 +63,7 @@ pub fn run_together<H: Write, C: Write>(
         → (history.new ≡ history.old) × (certificate.new ≡ certificate.old) }
 {
     let mut store = new_store(alloc);
-    let served = serve_together(alloc, poll, listener, &mut store);
+    let served = serve_together(alloc, poll, listener, at_close, &mut store);
     let written = write_texts(alloc, store, history, certificate);
     (served, written)
 }
@@ -70,17 +80,20 @@ pub fn run_together<H: Write, C: Write>(
 ///
 /// When a client sends no more, its whole lines are carried out and the replies are written, and then the connection is
 /// closed; it is closed at once if it can't be written to, or if memory can't hold what it sent or what it is to get. What its
-/// commands did stands, and its transactions stay open.
+/// commands did stands. Its transactions stay open with `AtClose::Keep`. With `AtClose::Abort` each session whose last command
+/// it sent is aborted, by a command `abort` that is carried out as if another connection had sent it; while memory runs out
+/// this is tried again.
 pub fn serve_together<C: Chains + Drop, M: Marks + Drop>(
     alloc: Global,
     poll: &mut Poll,
     listener: &mut UnixListener,
+    at_close: AtClose,
     store: &mut Store<C, M>,
 ) -> Served
     ensures served { (together : Together (ends_by_stop result))
         × WentOn (IsAt C.held M.marked) store.old (all_steps together.calls) store.new }
 {
-    let mut clients = Clients::new(alloc);
+    let mut clients = Clients::new(alloc, at_close);
     let Ok(mut events) = Events::with_capacity(alloc, MOST_EVENTS) else {
         return Served::SocketFault;
     };

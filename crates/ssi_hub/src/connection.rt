@@ -1,6 +1,7 @@
 //! One connection.
 
-ghost use Rattle.std.specs.Prelude.{◌≡◌, ℕ, List, false, OnOk, OnErr, IfSome, IfNone, length, not, ◌&&◌, nat_le};
+ghost use Rattle.std.specs.Prelude.{◌≡◌, ℕ, List, ◌∷◌, ◌++◌, false, OnOk, OnErr, IfSome, IfNone, length, not, ◌&&◌, nat_le};
+ghost use Rattle.adya_line.specs.Meaning.Lines.{IsPlain};
 ghost use Rattle.ssi_store.specs.Mirror.Stores.{IsAt};
 ghost use Rattle.ssi_line.specs.Meaning.Steps.{Step};
 ghost use Rattle.ssi_hub.specs.Meaning.Clipping.{clipped, has_line};
@@ -50,6 +51,18 @@ impl Connection {
         ensures err { OnErr result (self.new ≡ self.old) }
     {
         self.inbox.add(bytes)
+    }
+
+    /// Returns the first line that waits, without its line feed. `None` if no whole line does.
+    pub(crate) fn line(&self) -> Option<&[u8]>
+        ensures some { IfSome result (λ line. IsPlain line.now
+            × ((rest : List ℕ) × (self.now.waiting ≡ line.now ++ (10 ∷ rest)))) }
+        ensures none { IfNone result (has_line self.now.waiting ≡ false) }
+    {
+        let Some(line) = self.inbox.line() else {
+            return None;
+        };
+        Some(line)
     }
 
     pub(crate) fn unsent(&self) -> &[u8]

@@ -1,11 +1,12 @@
 //! The connections, and their calls.
 
-ghost use Rattle.std.specs.Prelude.{◌≡◌, ◌≢◌, ◌+◌, ◌∷◌, ◌++◌, ◌⊎◌, ℕ, Bool, List, [], None, Some, true, false, is_some, IsSome, not, ◌&&◌, nat_le, nat_lt, length, MatchOption, MatchResult, OnOk, OnErr, IfOk};
+ghost use Rattle.std.specs.Prelude.{◌≡◌, ◌≢◌, ◌+◌, ◌∷◌, ◌++◌, ◌⊎◌, ℕ, Bool, List, [], None, Some, true, false, is_some, IsSome, IfSome, IfNone, not, ◌&&◌, nat_le, nat_lt, length, MatchOption, MatchResult, OnOk, OnErr, IfOk};
 ghost use Rattle.std.specs.Option.{option_map};
 ghost use Rattle.ssi_store.specs.Meaning.Courses.{Course};
 ghost use Rattle.ssi_store.specs.Mirror.Stores.{IsAt};
 ghost use Rattle.ssi_line.specs.Meaning.Steps.{Step};
 ghost use Rattle.ssi_line.specs.Meaning.Ends.{WentOn};
+ghost use Rattle.adya_line.specs.Meaning.Lines.{IsPlain};
 ghost use Rattle.ssi_hub.specs.Meaning.Clipping.{clipped, has_line};
 ghost use Rattle.ssi_hub.specs.Meaning.Buffers.{Buffers, no_bytes, with_received, with_written, first_unsent};
 ghost use Rattle.ssi_hub.specs.Meaning.Runs.{CarriedOut, IsEnough, left_by};
@@ -138,6 +139,20 @@ impl Hub {
         if let Some(outcome) = self.connections.run(alloc, token, store, most) {
             self.stopped = outcome.stops();
         }
+    }
+
+    /// Returns the first whole line that waits of the connection, without its line feed. It is the next one that
+    /// [`run`](Hub::run) carries out. Of a line of more than 4096 bytes these are the first 4097. `None` if no whole line
+    /// waits, or if the connection isn't open.
+    pub fn next_line(&self, token: u64) -> Option<&[u8]>
+        ensures some { IfSome result (λ line. IsPlain line.now × ((b : Buffers) × (rest : List ℕ)
+            × (buffers_of self.now token ≡ Some b) × (b.waiting ≡ line.now ++ (10 ∷ rest)))) }
+        ensures none { IfNone result ((b : Buffers) → buffers_of self.now token ≡ Some b → has_line b.waiting ≡ false) }
+    {
+        let Some(connection) = self.connections.get(token) else {
+            return None;
+        };
+        connection.line()
     }
 
     /// Returns the bytes that are to be written to the connection: the replies that are not written.

@@ -35,6 +35,7 @@ impl Tried {
                 let token = self.hub.opened(alloc)?;
                 format!(in alloc; ": {token}")
             }
+            "next" => shown(alloc, self.hub.next_line(token).unwrap_or(&[])),
             "show" => shown(alloc, self.hub.to_write(token)),
             "count" => format!(in alloc; ": {}", self.hub.to_write(token).len()),
             "wants" => self.wants(alloc, token),
@@ -118,7 +119,7 @@ fn sent(alloc: Global, text: &str) -> Result<Vec<u8>, AllocError> {
     Ok(bytes)
 }
 
-/// Returns what stands behind `show`: the bytes, with `/` for each line feed, or `nothing`.
+/// Returns what stands behind `next` and `show`: the bytes, with `/` for each line feed, or `nothing`.
 fn shown(alloc: Global, bytes: &[u8]) -> Result<String, AllocError> {
     if bytes.is_empty() {
         return format!(in alloc; ": nothing");

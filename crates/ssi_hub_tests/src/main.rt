@@ -10,6 +10,7 @@
 //! - `send T TEXT`: connection T sends the text
 //! - `fill T N`: it sends N bytes `x`
 //! - `many T N`: it sends N times the line `x`, which is no command
+//! - `next T`: the answer is the first of its lines that wait
 //! - `run T N`: up to N of its lines are carried out
 //! - `show T`: the answer is what is to be written to it
 //! - `count T`: the answer is how many bytes these are

@@ -4,7 +4,7 @@ use crate::answers::new_store;
 use crate::scripts::peer_with;
 use devices::Watched;
 use mio::Poll;
-use ssi_cli::{Served, run_together, serve_together};
+use ssi_cli::{AtClose, Served, run_together, serve_together};
 use std::io;
 use std::io::Read;
 use std::os::unix::net;
@@ -21,7 +21,14 @@ pub(crate) fn are_peers_answered(rt: &HostRuntime) -> io::Result<bool> {
     let mut listener = without_waiting(listener)?;
     let mut poll = Poll::new(rt)?;
     let mut store = new_store(rt.alloc());
-    if serve_together(rt.alloc(), &mut poll, &mut listener, &mut store) != Served::Stopped {
+    let served = serve_together(
+        rt.alloc(),
+        &mut poll,
+        &mut listener,
+        AtClose::Keep,
+        &mut store,
+    );
+    if served != Served::Stopped {
         return Ok(false);
     }
     let mut replies = Vec::new(rt.alloc());
@@ -40,6 +47,7 @@ pub(crate) fn are_peers_recorded(rt: &HostRuntime) -> io::Result<bool> {
         rt.alloc(),
         &mut poll,
         &mut listener,
+        AtClose::Abort,
         &mut history,
         &mut certificate,
     );

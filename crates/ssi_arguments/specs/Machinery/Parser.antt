@@ -1,10 +1,10 @@
 -- The command line as the parser knows it.
-use Rattle.std.specs.Prelude.{true, List, Option, Some, None, codes, unwrap_or, if◌then◌else◌}
+use Rattle.std.specs.Prelude.{Bool, true, List, Option, Some, None, codes, unwrap_or, if◌then◌else◌}
 use Rattle.std.specs.Str.{bytes_eq}
 use Rattle.clap.specs.Words.{App, Row, Rule, Text, first_of, new_app, new_rule, with_rule, with_subcommand}
 use Rattle.clap.specs.declared.builder.action.ArgAction.TheVariants.{SetTrue}
 use Rattle.ssi_arguments.specs.declared.arguments.Manner.{Manner}
-use Rattle.ssi_arguments.specs.declared.arguments.Manner.TheVariants.{InTurn, AtOnce}
+use Rattle.ssi_arguments.specs.declared.arguments.Manner.TheVariants.{InTurn, AtOnce, Aborting}
 use Rattle.ssi_arguments.specs.Meaning.Arguments.{Request, pipe, audit, order, script, serve}
 
 -- a path that must be there
@@ -30,7 +30,8 @@ script_app = with_texts (new_app (codes "script"))
 
 abbrev pub serve_app : App
 serve_app =
-    with_rule (with_texts (with_rule (new_app (codes "serve")) (file_rule (codes "SOCKET")))) (flag_rule (codes "concurrent"))
+    with_rule (with_rule (with_texts (with_rule (new_app (codes "serve")) (file_rule (codes "SOCKET"))))
+    (flag_rule (codes "concurrent"))) (flag_rule (codes "abort-on-close"))
 
 -- no paths of its own, and four commands
 abbrev pub ssi_app : App
@@ -42,9 +43,16 @@ ssi_app =
 abbrev pub path_in : List Row → Text → Text
 path_in rows name = unwrap_or (first_of name rows) (codes "")
 
--- whether the option `--concurrent` is among them
+-- the option of this name is among them
+abbrev pub is_given : List Row → Text → Bool
+is_given rows option = bytes_eq (path_in rows option) (codes "true")
+
+-- what the options among them ask for
 abbrev pub manner_in : List Row → Manner
-manner_in rows = if bytes_eq (path_in rows (codes "concurrent")) (codes "true") then AtOnce else InTurn
+manner_in rows =
+    if is_given rows (codes "abort-on-close") then Aborting
+    else if is_given rows (codes "concurrent") then AtOnce
+    else InTurn
 
 -- the request of a command of this name with these matches
 abbrev pub request_named : Text → List Row → Request

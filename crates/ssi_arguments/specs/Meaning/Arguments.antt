@@ -1,13 +1,12 @@
 -- What the arguments ask for.
-use Rattle.std.specs.Prelude.{ℕ, ◌==◌, ◌&&◌, Bool, true, not, List, [], ◌∷◌, codes}
+use Rattle.std.specs.Prelude.{ℕ, ◌==◌, ◌&&◌, Bool, true, not, List, [], ◌∷◌, ◌++◌, codes}
 use Rattle.ssi_arguments.specs.declared.arguments.Manner.{Manner}
-use Rattle.ssi_arguments.specs.declared.arguments.Manner.TheVariants.{InTurn, AtOnce}
+use Rattle.ssi_arguments.specs.declared.arguments.Manner.TheVariants.{InTurn, AtOnce, Aborting}
 use Rattle.ssi_arguments.specs.declared.arguments.Task.{Task}
 use Rattle.ssi_arguments.specs.declared.arguments.Task.TheVariants as task
 
 -- to audit the two texts on standard input, to audit a history and a certificate, to order a history, to carry out the
--- commands on standard input, or to carry out those of a socket's connections, one after the other or all at once; the last
--- two write a history and a certificate
+-- commands on standard input, or to carry out those of a socket's connections in some manner; the last two write a history and a certificate
 pub data Request : Type 0 where
   pipe : Request
   audit : List ℕ → List ℕ → Request
@@ -22,15 +21,20 @@ request_of (task.Order history) = order history.now
 request_of (task.Script history certificate) = script history.now certificate.now
 request_of (task.Serve socket history certificate manner) = serve manner socket.now history.now certificate.now
 
+-- the options that ask for this
+abbrev pub options_of : Manner → List (List ℕ)
+options_of InTurn = []
+options_of AtOnce = codes "--concurrent" ∷ []
+options_of Aborting = codes "--concurrent" ∷ codes "--abort-on-close" ∷ []
+
 -- the arguments that ask for this, after the program's name
 abbrev pub arguments_of : Request → List (List ℕ)
 arguments_of pipe = []
 arguments_of (audit history certificate) = codes "audit" ∷ history ∷ certificate ∷ []
 arguments_of (order history) = codes "order" ∷ history ∷ []
 arguments_of (script history certificate) = codes "script" ∷ history ∷ certificate ∷ []
-arguments_of (serve InTurn socket history certificate) = codes "serve" ∷ socket ∷ history ∷ certificate ∷ []
-arguments_of (serve AtOnce socket history certificate) =
-    codes "serve" ∷ codes "--concurrent" ∷ socket ∷ history ∷ certificate ∷ []
+arguments_of (serve manner socket history certificate) =
+    codes "serve" ∷ options_of manner ++ socket ∷ history ∷ certificate ∷ []
 
 -- the paths among them
 abbrev pub paths_of : Request → List (List ℕ)

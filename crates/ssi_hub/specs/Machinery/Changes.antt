@@ -1,6 +1,7 @@
 -- Tables of connections, read by token.
 use Rattle.std.specs.Prelude.{◌≡◌, ◌≢◌, ℕ, Bool, List, nat_eq, Option, Some, None}
 use Rattle.std.specs.Map.{lookup}
+use Rattle.adya_values.specs.Meaning.Keys.{Bytes}
 use Rattle.ssi_hub.specs.Meaning.Buffers.{Buffers}
 use Rattle.ssi_store.specs.Meaning.Courses.{Course}
 use Rattle.ssi_line.specs.Meaning.Steps.{Step}
@@ -23,8 +24,8 @@ AreSame old new = (t : ℕ) → new t ≡ old t
 
 -- of the bytes of which the connection keeps what waits, lines were carried out
 abbrev pub CarriesOut : {T : Type 0} → (T → Course → Type 0) → Buffers → T → Bool → Bool → ℕ → Buffers → T → Type 0
-CarriesOut is_at old store stops lost most new after = (bytes : List ℕ) → old.waiting ≡ clipped bytes
-    → (lines : List (List ℕ)) × (steps : List Step) × (left : List ℕ)
+CarriesOut is_at old store stops lost most new after = (bytes : Bytes) → old.waiting ≡ clipped bytes
+    → (lines : List Bytes) × (steps : List Step) × (left : Bytes)
     × CarriedOut is_at old bytes store stops lost lines steps left new after × IsEnough stops lost most lines new
 
 -- lines of the connection with this token were carried out

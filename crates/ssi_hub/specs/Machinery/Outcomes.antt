@@ -1,5 +1,6 @@
 -- What was made of one line.
 use Rattle.std.specs.Prelude.{◌≡◌, ℕ, Bool, true, false, List, [], ◌∷◌, ◌++◌}
+use Rattle.adya_values.specs.Meaning.Keys.{Bytes}
 use Rattle.adya_line.specs.Meaning.Lines.{IsPlain}
 use Rattle.ssi_store.specs.Meaning.Courses.{Course}
 use Rattle.ssi_line.specs.Meaning.Steps.{Step, IsStep, step_text, is_stop}
@@ -22,13 +23,13 @@ lost_by Stops = false
 lost_by (Lost stops) = true
 
 -- the outcome of a line that made this step
-pub record Replied (outcome : Outcome) (step : Step) (old new : List ℕ) : Type 0 where
+pub record Replied (outcome : Outcome) (step : Step) (old new : Bytes) : Type 0 where
   pub stops : is_stop step ≡ stops_by outcome
   pub reply : lost_by outcome ≡ false → new ≡ old ++ step_text step
 
 -- of the bytes, of which `old.waiting` is what was kept, the first line was carried out, and `left` is left
-pub record Stepped {T : Type 0} (is_at : T → Course → Type 0) (old : Buffers) (bytes : List ℕ) (store : T)
-    (outcome : Outcome) (line : List ℕ) (step : Step) (left : List ℕ) (new : Buffers) (after : T) : Type 0 where
+pub record Stepped {T : Type 0} (is_at : T → Course → Type 0) (old : Buffers) (bytes : Bytes) (store : T)
+    (outcome : Outcome) (line : Bytes) (step : Step) (left : Bytes) (new : Buffers) (after : T) : Type 0 where
   pub plain : IsPlain line
   pub cut : bytes ≡ line ++ (10 ∷ left)
   pub waits : new.waiting ≡ clipped left

@@ -1,14 +1,15 @@
 -- What is kept of the bytes of a connection that are not carried out.
 use Rattle.std.specs.Prelude.{ℕ, suc, ◌==◌, nat_lt, List, [], ◌∷◌, if◌then◌else◌, Bool}
 use Rattle.std.specs.List.{list_any}
+use Rattle.adya_values.specs.Meaning.Keys.{Bytes}
 
 -- a line feed is among them, so they begin with a whole line
-abbrev pub has_line : List ℕ → Bool
+abbrev pub has_line : Bytes → Bool
 has_line bytes = list_any (λ b. b == 10) bytes
 
 -- what is kept of bytes that follow n kept bytes of a line: of each line the first 4097 bytes, and its line feed. A line of
 -- more than 4096 bytes is still one then, and which it is makes no difference
-abbrev pub clipped_after : ℕ → List ℕ → List ℕ
+abbrev pub clipped_after : ℕ → Bytes → Bytes
 clipped_after n [] = []
 clipped_after n (b ∷ bs) =
     if b == 10 then b ∷ clipped_after 0 bs
@@ -16,11 +17,11 @@ clipped_after n (b ∷ bs) =
     else clipped_after n bs
 
 -- what is kept of bytes that begin a line
-abbrev pub clipped : List ℕ → List ℕ
+abbrev pub clipped : Bytes → Bytes
 clipped bytes = clipped_after 0 bytes
 
 -- how many bytes are kept of the line that is unfinished after the bytes, if n were before
-abbrev pub kept_of_last : ℕ → List ℕ → ℕ
+abbrev pub kept_of_last : ℕ → Bytes → ℕ
 kept_of_last n [] = n
 kept_of_last n (b ∷ bs) =
     if b == 10 then kept_of_last 0 bs

@@ -1,5 +1,6 @@
 -- What a run of the lines of one connection does.
 use Rattle.std.specs.Prelude.{◌≡◌, ◌≤◌, ◌<◌, ◌+◌, ◌⊎◌, ℕ, Bool, true, false, List, [], ◌∷◌, ◌++◌, All, Option, Some, None, length, if◌then◌else◌}
+use Rattle.adya_values.specs.Meaning.Keys.{Bytes}
 use Rattle.adya_line.specs.Meaning.Lines.{IsPlain}
 use Rattle.adya_text.specs.Meaning.Texts.{with_ends}
 use Rattle.ssi_store.specs.Meaning.Courses.{Course}
@@ -21,8 +22,8 @@ AreBegun n (s ∷ ss) = (n ≤ 65536) × AreBegun (n + length (step_text s)) ss
 -- these lines, the first of the bytes of which `old.waiting` is what was kept, were carried out one after the other: each
 -- made its step, and `left` is left. The last step stopped the run or didn't. The replies were added to what is unsent,
 -- unless memory couldn't hold the last one and it is lost
-pub record CarriedOut {T : Type 0} (is_at : T → Course → Type 0) (old : Buffers) (bytes : List ℕ) (store : T)
-    (stops lost : Bool) (lines : List (List ℕ)) (steps : List Step) (left : List ℕ) (new : Buffers) (after : T)
+pub record CarriedOut {T : Type 0} (is_at : T → Course → Type 0) (old : Buffers) (bytes : Bytes) (store : T)
+    (stops lost : Bool) (lines : List Bytes) (steps : List Step) (left : Bytes) (new : Buffers) (after : T)
     : Type 0 where
   pub plain : All IsPlain lines
   pub cut : bytes ≡ with_ends lines ++ left
@@ -35,7 +36,7 @@ pub record CarriedOut {T : Type 0} (is_at : T → Course → Type 0) (old : Buff
 
 -- at most so many lines were carried out. If the run goes on and whole lines wait, then it were exactly so many, or more
 -- than 65536 bytes are unsent
-pub record IsEnough (stops lost : Bool) (most : ℕ) (lines : List (List ℕ)) (new : Buffers) : Type 0 where
+pub record IsEnough (stops lost : Bool) (most : ℕ) (lines : List Bytes) (new : Buffers) : Type 0 where
   pub few : length lines ≤ most
   pub paused : stops ≡ false → lost ≡ false → has_line new.waiting ≡ true
       → (length lines ≡ most) ⊎ (65536 < length new.unsent)
