@@ -23,6 +23,8 @@ pub enum Form {
     List(Vec<Form>),
     /// `[..]`
     Vector(Vec<Form>),
+    /// A vector whose elements, at least one, are all integers of 64 bits. A reader gives no other form for such a vector.
+    Integers(Vec<i64>),
     /// The elements of a set in the order of the text, also one that comes twice.
     Set(Vec<Form>),
     /// The keys and values of a map in the order of the text, also a key that comes twice.

@@ -49,7 +49,9 @@ pub(crate) enum Token {
     Discard,
     /// `#` and a symbol
     Tag,
-    /// A form that is no collection; whoever reads the token says where to put it.
+    /// An integer of 64 bits.
+    Integer(i64),
+    /// Any other form that is no collection; whoever reads the token says where to put it.
     Leaf,
 }
 
@@ -75,8 +77,8 @@ pub(crate) enum Lexed<'a> {
     Bad(Problem),
 }
 
-/// Reads the token at the front of the bytes, which don't begin with white space. If it is a leaf, its form is put into
-/// `leaf`.
+/// Reads the token at the front of the bytes, which don't begin with white space. If it is a leaf other than an integer,
+/// its form is put into `leaf`.
 #[tactic(auto, unfolding(crate::specs::Computing::Tokens::token_at))]
 pub(crate) fn read_token<'a>(
     alloc: Global,
@@ -228,6 +230,7 @@ fn word_token<'a>(
         return Ok(Lexed::More);
     }
     match word(alloc, name)? {
+        Some(Form::Integer(value)) => Ok(Lexed::Token(Token::Integer(value), rest)),
         Some(form) => {
             put(leaf, form);
             Ok(Lexed::Token(Token::Leaf, rest))

@@ -15,7 +15,7 @@ use Rattle.edn.specs.declared.token.Lexed.{Lexed as LexedValue}
 use Rattle.edn.specs.declared.token.Lexed.TheVariants as Read
 use Rattle.edn.specs.Meaning.Bytes.{is_space, is_word_byte}
 use Rattle.edn.specs.Meaning.Characters.{is_character}
-use Rattle.edn.specs.Meaning.Forms.{Form, string, character, form_of}
+use Rattle.edn.specs.Meaning.Forms.{Form, integer, string, character, form_of}
 use Rattle.edn.specs.Meaning.Names.{is_tag}
 use Rattle.edn.specs.Meaning.Tokens.{Token, opens, closes, discard, tag, leaf}
 use Rattle.edn.specs.Meaning.Words.{word_of}
@@ -28,12 +28,13 @@ pub data Lexed : Type 0 where
   more : Lexed
   bad : Problem → Lexed
 
--- the form is that of a leaf
+-- the form is that of a leaf, unless the token has its own
 abbrev pub token_of : FormValue → TokenValue → Token
 token_of f (In.Open b) = opens b
 token_of f (In.Close b) = closes b
 token_of f In.Discard = discard
 token_of f In.Tag = tag
+token_of f (In.Integer z) = leaf (integer z)
 token_of f In.Leaf = leaf (form_of f)
 
 abbrev pub lexed_of : FormValue → LexedValue → Lexed

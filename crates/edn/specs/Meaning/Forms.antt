@@ -1,5 +1,5 @@
 -- Forms as plain values. A list of forms is a type of its own, as a form is made of them.
-use Rattle.std.specs.Prelude.{ℕ, ℤ, Bool, List, [], ◌∷◌}
+use Rattle.std.specs.Prelude.{ℕ, ℤ, Bool, List, [], ◌∷◌, map}
 use Rattle.edn.specs.declared.form.Form.{Form as FormValue, fold-Form}
 use Rattle.edn.specs.declared.form.Form.TheOpen.{Form-F}
 
@@ -46,6 +46,7 @@ form_step (Form-F.Keyword v) = keyword v.items
 form_step (Form-F.Symbol v) = symbol v.items
 form_step (Form-F.List v) = list (forms_of v.items)
 form_step (Form-F.Vector v) = vector (forms_of v.items)
+form_step (Form-F.Integers v) = vector (forms_of (map integer v.items))
 form_step (Form-F.Set v) = set (forms_of v.items)
 form_step (Form-F.Map v) = entries (pairs_of v.items)
 
