@@ -11,6 +11,7 @@ pub mod laws;
 mod names;
 mod number;
 mod pending;
+mod plain;
 mod read_fault;
 mod reader;
 mod string;

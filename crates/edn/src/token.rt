@@ -11,6 +11,7 @@ use crate::bytes::{is_space, word_len};
 use crate::character::is_character;
 use crate::form::Form;
 use crate::names::is_tag;
+use crate::plain::{plain_integer, plain_keyword};
 use crate::read_fault::Problem;
 use crate::string::{Quoted, string};
 use crate::word::word;
@@ -217,6 +218,27 @@ fn tag(text: &[u8], beyond: Beyond) -> Lexed<'_>
 
 /// Reads the word at the front.
 fn word_token<'a>(
+    alloc: Global,
+    bytes: &'a [u8],
+    beyond: Beyond,
+    leaf: &mut Form,
+) -> Result<Lexed<'a>, AllocError>
+    ensures exact { IfOk result (λ l. lexed_of leaf.new l ≡ Spec.word_token beyond bytes.now) }
+    ensures within { IfOk result (IsWithin beyond bytes.now) }
+{
+    if let Some((value, rest)) = plain_integer(bytes) {
+        return Ok(Lexed::Token(Token::Integer(value), rest));
+    }
+    if let Some((name, rest)) = plain_keyword(bytes) {
+        put(leaf, Form::Keyword(name.to_vec(alloc)?));
+        return Ok(Lexed::Token(Token::Leaf, rest));
+    }
+    any_word(alloc, bytes, beyond, leaf)
+}
+
+/// Reads the word at the front, of whichever kind it is.
+#[inline(never)]
+fn any_word<'a>(
     alloc: Global,
     bytes: &'a [u8],
     beyond: Beyond,
