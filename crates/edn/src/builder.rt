@@ -1,14 +1,17 @@
 //! Forms made of tokens.
 
 ghost use Rattle.std.specs.Prelude.{◌≡◌, ◌≢◌, ◌∷◌, ◌++◌, ◌≤◌, ◌<◌, ◌+◌, [], Some, None, Ok, length, map, vec_len, IfOk, IfErr, OnOk, ◌⊎◌, option_map};
-ghost use Rattle.edn.specs.Meaning.Forms.{form_of, integer};
+ghost use Rattle.edn.specs.Meaning.Forms.{form_of, integer, keyword};
+ghost use Rattle.edn.specs.Meaning.Shorts.{short_text};
 ghost use Rattle.edn.specs.Computing.Building as Spec;
 ghost use Rattle.edn.specs.Computing.Building.{Refuses, frame_of, in_vector, map_frame, outer_of, row_frame, stack_of};
 ghost use Rattle.edn.specs.Machinery.Frames.{to_leave};
 ghost use Rattle.edn.specs.Computing.Tokens.{token_of};
 
 use crate::form::Form;
+use crate::leaf::Leaf;
 use crate::read_fault::{Problem, Refusal};
+use crate::short::Short;
 use crate::token::{Closing, Opening, Token};
 use std::alloc::{AllocError, AllocFailed, Global};
 use std::mem;
@@ -76,12 +79,12 @@ impl Builder {
         matches!(self.frame, Frame::Top)
     }
 
-    /// Takes the next token, with the form if it is a leaf. Puts the form that ends with it, if one does that is part of no other, into `made`.
+    /// Takes the next token, with what is in its leaf. Puts the form that ends with it, if one does that is part of no other, into `made`.
     #[tactic(auto, unfolding(crate::specs::Computing::Building::step))]
     pub(crate) fn take(
         &mut self,
         token: Token,
-        leaf: &mut Form,
+        leaf: &mut Leaf,
         made: &mut Option<Form>,
     ) -> Result<(), Refusal>
         requires { made.old ≡ None }
@@ -91,11 +94,12 @@ impl Builder {
     {
         match token {
             Token::Open(bracket) => self.begin(bracket),
-            Token::Tag => self.open(Frame::Tag),
-            Token::Discard => self.open(Frame::Discard),
+            Token::Tag => self.begin_tag(),
+            Token::Discard => self.begin_discard(),
             Token::Close(bracket) => self.close(bracket, made),
             Token::Integer(value) => Ok(self.put_integer(value, made)?),
-            Token::Leaf => Ok(self.put_leaf(leaf, made)?),
+            Token::Keyword => Ok(self.put_keyword(&leaf.name, made)?),
+            Token::Leaf => Ok(self.put_leaf(&mut leaf.form, made)?),
         }
     }
 
@@ -117,6 +121,26 @@ impl Builder {
             ⊎ ((e ≡ Refusal.Problem Problem.Depth) × (65 ≤ length (stack_of self.old)))) }
     {
         self.open(opened(self.alloc, bracket))
+    }
+
+    /// Begins a tagged form, after its tag.
+    #[inline(never)]
+    fn begin_tag(&mut self) -> Result<(), Refusal>
+        ensures ok { OnOk result (stack_of self.new ≡ Spec.tagged ∷ stack_of self.old) }
+        ensures refused { IfErr result (λ e. (e ≡ Refusal.Memory)
+            ⊎ ((e ≡ Refusal.Problem Problem.Depth) × (65 ≤ length (stack_of self.old)))) }
+    {
+        self.open(Frame::Tag)
+    }
+
+    /// Begins a form that is to be discarded, after its `#_`.
+    #[inline(never)]
+    fn begin_discard(&mut self) -> Result<(), Refusal>
+        ensures ok { OnOk result (stack_of self.new ≡ Spec.discarding ∷ stack_of self.old) }
+        ensures refused { IfErr result (λ e. (e ≡ Refusal.Memory)
+            ⊎ ((e ≡ Refusal.Problem Problem.Depth) × (65 ≤ length (stack_of self.old)))) }
+    {
+        self.open(Frame::Discard)
     }
 
     /// Begins a form.
@@ -203,6 +227,16 @@ impl Builder {
         self.put(mem::replace(leaf, Form::Nil), made)
     }
 
+    /// Puts a keyword with a short name where it belongs.
+    #[inline(never)]
+    fn put_keyword(&mut self, name: &Short, made: &mut Option<Form>) -> Result<(), AllocError>
+        requires { made.old ≡ None }
+        ensures { OnOk result (Spec.put (stack_of self.old) (keyword (short_text name.now))
+            ≡ (stack_of self.new, option_map form_of made.new)) }
+    {
+        self.put(Form::ShortKeyword(*name), made)
+    }
+
     /// Puts an integer where it belongs.
     #[tactic(auto, unfolding(crate::specs::Computing::Building::put))]
     fn put_integer(&mut self, value: i64, made: &mut Option<Form>) -> Result<(), AllocError>
@@ -218,6 +252,7 @@ impl Builder {
     }
 
     /// Puts an integer, behind whose tags this is, where it belongs.
+    #[inline(never)]
     fn add_integer(&mut self, value: i64, made: &mut Option<Form>) -> Result<(), AllocError>
         requires { made.old ≡ None }
         ensures { OnOk result (Spec.into_stack (stack_of self.old) (integer value)

@@ -10,12 +10,13 @@ ghost use Rattle.edn.specs.Computing.Tokens.{token_of};
 ghost use Rattle.edn.specs.Machinery.Inputs.{work_left, to_meet};
 ghost use Rattle.edn.specs.declared.token.Beyond.TheVariants.{Unread};
 
-use crate::form::Form;
 use crate::gap::after_gap;
+use crate::leaf::Leaf;
 use crate::pending::Pending;
 use crate::read_fault::{ReadFault, syntax};
 use crate::token::{Beyond, Lexed, Token, read_token};
 use devices::Source;
+use memchr::memchr_iter;
 use std::alloc::{AllocError, Global};
 
 /// The most bytes of one read.
@@ -67,7 +68,7 @@ impl Input {
     pub(crate) fn next_token<S: Source>(
         &mut self,
         source: &mut S,
-        leaf: &mut Form,
+        leaf: &mut Leaf,
     ) -> Result<Option<Token>, ReadFault>
         ensures less { IfOk result (λ o. IsSome o
             → work_left (S.left source.new) self.new.pending < work_left (S.left source.old) self.old.pending) }
@@ -166,5 +167,5 @@ impl Input {
 
 /// Returns how many line feeds these bytes have.
 fn line_feeds(bytes: &[u8]) -> u64 {
-    bytes.iter().filter(|byte| **byte == b'\n').count() as u64
+    memchr_iter(b'\n', bytes).count() as u64
 }

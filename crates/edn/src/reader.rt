@@ -13,6 +13,7 @@ ghost use Rattle.edn.specs.declared.reader.Stage.TheVariants.{Start, Elements};
 use crate::builder::Builder;
 use crate::form::Form;
 use crate::input::Input;
+use crate::leaf::Leaf;
 use crate::read_fault::{Problem, ReadFault, Refusal, syntax};
 use crate::token::{Closing, Opening, Token};
 use devices::Source;
@@ -126,7 +127,7 @@ impl Reader {
         ensures deep { IsReady self.old (S.remaining source.old) → IfErr result (λ e. IsOfDepth e
             → (self.old.stage ≡ Stage.Failed e) ⊎ IsTooDeep self.old.stage (text_left self.old (S.remaining source.old))) }
     {
-        let mut leaf = Form::Nil;
+        let mut leaf = Leaf::new();
         let mut made = None;
         'token: while let Some(token) = self.input.next_token(source, &mut leaf)? {
             self.take(token, &mut leaf, &mut made)?;
@@ -142,7 +143,7 @@ impl Reader {
     fn take(
         &mut self,
         token: Token,
-        leaf: &mut Form,
+        leaf: &mut Leaf,
         made: &mut Option<Form>,
     ) -> Result<(), ReadFault>
         requires { made.old ≡ None }
@@ -163,7 +164,7 @@ impl Reader {
     fn take_first(
         &mut self,
         token: Token,
-        leaf: &mut Form,
+        leaf: &mut Leaf,
         made: &mut Option<Form>,
     ) -> Result<(), ReadFault>
         requires { made.old ≡ None }
@@ -183,7 +184,7 @@ impl Reader {
     fn take_in_vector(
         &mut self,
         token: Token,
-        leaf: &mut Form,
+        leaf: &mut Leaf,
         made: &mut Option<Form>,
     ) -> Result<(), ReadFault>
         requires { made.old ≡ None }
@@ -202,7 +203,7 @@ impl Reader {
     fn build(
         &mut self,
         token: Token,
-        leaf: &mut Form,
+        leaf: &mut Leaf,
         made: &mut Option<Form>,
     ) -> Result<(), ReadFault>
         requires { made.old ≡ None }

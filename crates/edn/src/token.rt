@@ -4,12 +4,13 @@ ghost use Rattle.std.specs.Prelude.{◌≡◌, ◌≤◌, ◌<◌, ◌+◌, ℕ,
 ghost use Rattle.std.specs.List.{prefix_len};
 ghost use Rattle.edn.specs.Meaning.Bytes.{is_word_byte};
 ghost use Rattle.edn.specs.Computing.Tokens as Spec;
-ghost use Rattle.edn.specs.declared.form.Form.{Form as FormValue};
+ghost use Rattle.edn.specs.declared.leaf.Leaf.{Leaf as LeafValue};
 ghost use Rattle.edn.specs.Computing.Tokens.{lexed_of, token_of, BeginsComment, IsRest, IsWithin};
 
 use crate::bytes::{is_space, word_len};
 use crate::character::is_character;
 use crate::form::Form;
+use crate::leaf::Leaf;
 use crate::names::is_tag;
 use crate::plain::{plain_integer, plain_keyword};
 use crate::read_fault::Problem;
@@ -52,6 +53,8 @@ pub(crate) enum Token {
     Tag,
     /// An integer of 64 bits.
     Integer(i64),
+    /// A keyword with a short name; whoever reads the token says where to put the name.
+    Keyword,
     /// Any other form that is no collection; whoever reads the token says where to put it.
     Leaf,
 }
@@ -78,14 +81,14 @@ pub(crate) enum Lexed<'a> {
     Bad(Problem),
 }
 
-/// Reads the token at the front of the bytes, which don't begin with white space. If it is a leaf other than an integer,
-/// its form is put into `leaf`.
+/// Reads the token at the front of the bytes, which don't begin with white space. If it has a form or the name of a
+/// keyword, that is put into `leaf`.
 #[tactic(auto, unfolding(crate::specs::Computing::Tokens::token_at))]
 pub(crate) fn read_token<'a>(
     alloc: Global,
     bytes: &'a [u8],
     beyond: Beyond,
-    leaf: &mut Form,
+    leaf: &mut Leaf,
 ) -> Result<Lexed<'a>, AllocError>
     ensures exact { IfOk result (λ l. lexed_of leaf.new l ≡ Spec.token_at beyond bytes.now) }
     ensures within { IfOk result (IsRest beyond bytes.now) }
@@ -106,7 +109,7 @@ pub(crate) fn read_token<'a>(
 }
 
 fn no_token<'a>(beyond: Beyond) -> Lexed<'a>
-    ensures exact { (f : FormValue) → lexed_of f result ≡ Spec.no_token beyond }
+    ensures exact { (f : LeafValue) → lexed_of f result ≡ Spec.no_token beyond }
     ensures within { (bytes : List ℕ) → BeginsComment bytes → IsRest beyond bytes result }
 {
     match beyond {
@@ -117,7 +120,7 @@ fn no_token<'a>(beyond: Beyond) -> Lexed<'a>
 
 /// What a token is that goes up to the end of the bytes, unless more of it is to be read.
 fn unfinished<'a>(beyond: Beyond) -> Lexed<'a>
-    ensures exact { (f : FormValue) → lexed_of f result ≡ Spec.unfinished beyond }
+    ensures exact { (f : LeafValue) → lexed_of f result ≡ Spec.unfinished beyond }
     ensures within { (bytes : List ℕ) → IsWithin beyond bytes result }
 {
     match beyond {
@@ -148,7 +151,7 @@ fn quoted<'a>(
     alloc: Global,
     text: &'a [u8],
     beyond: Beyond,
-    leaf: &mut Form,
+    leaf: &mut Leaf,
 ) -> Result<Lexed<'a>, AllocError>
     ensures exact { IfOk result (λ l. lexed_of leaf.new l ≡ Spec.string_token beyond text.now) }
     ensures within { IfOk result (IsWithin beyond text.now) }
@@ -156,7 +159,7 @@ fn quoted<'a>(
     let mut bytes = Vec::new(alloc);
     match string(text, &mut bytes)? {
         Quoted::Closed(rest) => {
-            put(leaf, Form::String(bytes));
+            put(&mut leaf.form, Form::String(bytes));
             Ok(Lexed::Token(Token::Leaf, rest))
         }
         Quoted::Open => Ok(unfinished(beyond)),
@@ -169,7 +172,7 @@ fn character<'a>(
     alloc: Global,
     text: &'a [u8],
     beyond: Beyond,
-    leaf: &mut Form,
+    leaf: &mut Leaf,
 ) -> Result<Lexed<'a>, AllocError>
     ensures exact { IfOk result (λ l. lexed_of leaf.new l ≡ Spec.character_token beyond text.now) }
     ensures within { IfOk result (IsWithin beyond text.now) }
@@ -184,13 +187,13 @@ fn character<'a>(
     if is_space(*first) || !is_character(name) {
         return Ok(Lexed::Bad(Problem::Token));
     }
-    put(leaf, Form::Character(name.to_vec(alloc)?));
+    put(&mut leaf.form, Form::Character(name.to_vec(alloc)?));
     Ok(Lexed::Token(Token::Leaf, rest))
 }
 
 /// Reads what begins with `#`, after it.
 fn dispatched(text: &[u8], beyond: Beyond) -> Lexed<'_>
-    ensures exact { (f : FormValue) → lexed_of f result ≡ Spec.dispatched beyond text.now }
+    ensures exact { (f : LeafValue) → lexed_of f result ≡ Spec.dispatched beyond text.now }
     ensures within { IsWithin beyond text.now result }
 {
     match text {
@@ -203,7 +206,7 @@ fn dispatched(text: &[u8], beyond: Beyond) -> Lexed<'_>
 
 /// Reads a tag after its `#`.
 fn tag(text: &[u8], beyond: Beyond) -> Lexed<'_>
-    ensures exact { (f : FormValue) → lexed_of f result ≡ Spec.tag_token beyond text.now }
+    ensures exact { (f : LeafValue) → lexed_of f result ≡ Spec.tag_token beyond text.now }
     ensures within { IsWithin beyond text.now result }
 {
     let (name, rest) = text.split_at(word_len(text));
@@ -221,7 +224,7 @@ fn word_token<'a>(
     alloc: Global,
     bytes: &'a [u8],
     beyond: Beyond,
-    leaf: &mut Form,
+    leaf: &mut Leaf,
 ) -> Result<Lexed<'a>, AllocError>
     ensures exact { IfOk result (λ l. lexed_of leaf.new l ≡ Spec.word_token beyond bytes.now) }
     ensures within { IfOk result (IsWithin beyond bytes.now) }
@@ -230,8 +233,9 @@ fn word_token<'a>(
         return Ok(Lexed::Token(Token::Integer(value), rest));
     }
     if let Some((name, rest)) = plain_keyword(bytes) {
-        put(leaf, Form::Keyword(name.to_vec(alloc)?));
-        return Ok(Lexed::Token(Token::Leaf, rest));
+        if leaf.name.set(name) {
+            return Ok(Lexed::Token(Token::Keyword, rest));
+        }
     }
     any_word(alloc, bytes, beyond, leaf)
 }
@@ -242,7 +246,7 @@ fn any_word<'a>(
     alloc: Global,
     bytes: &'a [u8],
     beyond: Beyond,
-    leaf: &mut Form,
+    leaf: &mut Leaf,
 ) -> Result<Lexed<'a>, AllocError>
     ensures exact { IfOk result (λ l. lexed_of leaf.new l ≡ Spec.word_token beyond bytes.now) }
     ensures within { IfOk result (IsWithin beyond bytes.now) }
@@ -253,8 +257,12 @@ fn any_word<'a>(
     }
     match word(alloc, name)? {
         Some(Form::Integer(value)) => Ok(Lexed::Token(Token::Integer(value), rest)),
+        Some(Form::ShortKeyword(name)) => {
+            leaf.name = name;
+            Ok(Lexed::Token(Token::Keyword, rest))
+        }
         Some(form) => {
-            put(leaf, form);
+            put(&mut leaf.form, form);
             Ok(Lexed::Token(Token::Leaf, rest))
         }
         None => Ok(Lexed::Bad(Problem::Token)),

@@ -1,4 +1,4 @@
-use Rattle.std.proofs.Common.{sym, ◌∙◌, rules}
+use Rattle.std.proofs.Common.{sym, ◌∙◌}
 use Rattle.edn.proofs.PlainWords.{plain_keyword_read}
 use Rattle.edn.proofs.plain.plain_keyword.Goals as goal
 
