@@ -1,5 +1,5 @@
 -- Words that are read in one pass.
-use Rattle.std.proofs.Common.{◌≡◌, ℕ, ℤ, zero, suc, ◌+◌, ◌≤◌, ◌<◌, ◌==◌, nat_lt, None, inl, inr, rules, Bool, true, false, cond, List, [], ◌∷◌, ◌++◌, length, take, drop, Option, Some, refl, sym, ap, ◌∙◌, subst, take-append-drop, arith}
+use Rattle.std.proofs.Common.{◌≡◌, ℕ, ℤ, zero, suc, ◌+◌, ◌≤◌, ◌<◌, ◌==◌, nat_lt, None, inl, inr, rules, Bool, true, false, cond, List, [], ◌∷◌, ◌++◌, length, take, drop, Some, refl, sym, ap, ◌∙◌, subst, take-append-drop, arith}
 use Rattle.std.specs.List.{prefix_len, list_all}
 use Rattle.std.specs.Char.{is_ascii_digit}
 use Rattle.std.specs.Prelude.{not, ◌&&◌, ◌||◌}
@@ -8,16 +8,15 @@ use Rattle.std.proofs.lemmas.Bool.{cases_order}
 use Rattle.std.proofs.lemmas.Grind.{common_steps}
 use Rattle.edn.specs.declared.token.Beyond.{Beyond}
 use Rattle.edn.specs.declared.token.Beyond.TheVariants.{Unread, Nothing}
-use Rattle.edn.specs.declared.number.Sign.TheVariants.{Plus}
 use Rattle.edn.specs.Meaning.Bytes.{is_space, is_end, is_word_byte, is_symbol_byte}
 use Rattle.edn.specs.Meaning.Forms.{Form, integer, keyword}
 use Rattle.edn.specs.Meaning.Lexing.{IsWord}
 use Rattle.edn.specs.Meaning.Names.{begins_keyword, is_no_slash, is_keyword_name, is_keyword_at, is_keyword}
-use Rattle.edn.specs.Meaning.Numbers.{is_sign, begins_number, sign_of, after_sign, is_whole, after_digits, magnitude, positive, number_of, number_parts}
+use Rattle.edn.specs.Meaning.Numbers.{is_sign, begins_number, after_sign, is_whole, after_digits, magnitude, positive, number_of, number_parts}
 use Rattle.edn.specs.Meaning.Tokens.{leaf}
 use Rattle.edn.specs.Meaning.Words.{word_of}
 use Rattle.edn.specs.Computing.Plain.{begins_plain, after_colon, begins_with_end}
-use Rattle.edn.specs.Computing.Tokens.{token, may_go_on, word_at, word_token}
+use Rattle.edn.specs.Computing.Tokens.{token, may_go_on, word_at, word_token, token_at}
 use Rattle.edn.proofs.Choices.{chosen}
 use Rattle.edn.proofs.Spans.{word_parts}
 
@@ -231,10 +230,29 @@ plain_keyword_read beyond (b ∷ cs) bs name rest is front after e end =
       | inr w ↦ absurd (let none : None ≡ Some bs = w.1 in cc)
     ]
 
+digit_not : (n b : ℕ) → check (λ x. not (x == n)) 48 10 ≡ true → is_ascii_digit b ≡ true → (b == n) ≡ false
+digit_not n b e h = not_true (b == n) (by_digits (λ x. not (x == n)) b e h)
+
+digit_token : (beyond : Beyond) (b : ℕ) (bs : List ℕ) → is_ascii_digit b ≡ true → token_at beyond (b ∷ bs) ≡ word_token beyond (b ∷ bs)
+unfolding token_at
+digit_token beyond b bs e =
+    rw (
+      digit_not 59 b refl e,
+      digit_not 34 b refl e,
+      digit_not 92 b refl e,
+      digit_not 35 b refl e,
+      digit_not 40 b refl e,
+      digit_not 91 b refl e,
+      digit_not 123 b refl e,
+      digit_not 41 b refl e,
+      digit_not 93 b refl e,
+      digit_not 125 b refl e,
+    ) refl
+
 pub plain_integer_read : (beyond : Beyond) (text rest : List ℕ) (m : ℕ) (z : ℤ) → begins_plain text ≡ true
     → magnitude (take (prefix_len is_ascii_digit text) text) ≡ Some m → rest ≡ after_digits text
-    → begins_with_end rest ≡ true → positive m ≡ Some z → word_token beyond text ≡ token (leaf (integer z)) rest
+    → begins_with_end rest ≡ true → positive m ≡ Some z → token_at beyond text ≡ token (leaf (integer z)) rest
 plain_integer_read beyond [] rest m z e is after end fits = absurd (cc)
 plain_integer_read beyond (b ∷ bs) rest m z e is after end fits =
     let both = and_parts (is_ascii_digit b) (not (b == 48)) e in
-    integer_read beyond b bs rest m z both.0 (not_true (b == 48) both.1) is after end fits
+    digit_token beyond b bs both.0 ∙ integer_read beyond b bs rest m z both.0 (not_true (b == 48) both.1) is after end fits

@@ -81,6 +81,7 @@ impl Builder {
 
     /// Takes the next token, with what is in its leaf. Puts the form that ends with it, if one does that is part of no other, into `made`.
     #[tactic(auto, unfolding(crate::specs::Computing::Building::step))]
+    #[inline(always)]
     pub(crate) fn take(
         &mut self,
         token: Token,
@@ -239,6 +240,7 @@ impl Builder {
 
     /// Puts an integer where it belongs.
     #[tactic(auto, unfolding(crate::specs::Computing::Building::put))]
+    #[inline(always)]
     fn put_integer(&mut self, value: i64, made: &mut Option<Form>) -> Result<(), AllocError>
         requires { made.old ≡ None }
         ensures { OnOk result (Spec.put (stack_of self.old) (integer value)

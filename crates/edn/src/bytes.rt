@@ -35,16 +35,17 @@ pub(crate) fn is_symbol_byte(byte: u8) -> bool
 {
     matches!(
         byte,
-        b'!' | b'#'..=b'\''
-            | b'*'
-            | b'+'
+        b'a'..=b'z'
             | b'-'
-            | b'.'
             | b'0'..=b':'
-            | b'<'..=b'?'
             | b'A'..=b'Z'
             | b'_'
-            | b'a'..=b'z'
+            | b'!'
+            | b'#'..=b'\''
+            | b'*'
+            | b'+'
+            | b'.'
+            | b'<'..=b'?'
             | b'|'
             | 128..=255
     )

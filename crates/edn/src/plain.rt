@@ -13,9 +13,10 @@ use crate::number::{leading_digits, positive};
 
 /// Returns the integer that is the word at the front, and what follows it, if that is a byte which ends it. It has
 /// neither a sign nor a suffix, and doesn't begin with `0`.
+#[inline(always)]
 pub(crate) fn plain_integer(text: &[u8]) -> Option<(i64, &[u8])>
     ensures exact { IfSome result (λ p. (beyond : Beyond)
-        → Spec.word_token beyond text.now ≡ Spec.token (leaf (integer p.0)) p.1.now) }
+        → Spec.token_at beyond text.now ≡ Spec.token (leaf (integer p.0)) p.1.now) }
     ensures within { IfSome result (λ p. length p.1.now < length text.now) }
 {
     if !begins_plain(text) {
@@ -30,6 +31,7 @@ pub(crate) fn plain_integer(text: &[u8]) -> Option<(i64, &[u8])>
 
 /// Returns the name of the keyword that is the word at the front, and what follows it, if that is a byte which ends it.
 /// The name has no `/`.
+#[inline(always)]
 pub(crate) fn plain_keyword(text: &[u8]) -> Option<(&[u8], &[u8])>
     ensures exact { IfSome result (λ p. (beyond : Beyond)
         → Spec.word_token beyond text.now ≡ Spec.token (leaf (keyword p.0.now)) p.1.now) }

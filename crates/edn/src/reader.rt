@@ -140,6 +140,7 @@ impl Reader {
     }
 
     /// Takes the next token. Puts the form that ends with it, if one does, into `made`.
+    #[inline(always)]
     fn take(
         &mut self,
         token: Token,
@@ -161,6 +162,7 @@ impl Reader {
         }
     }
 
+    #[inline(never)]
     fn take_first(
         &mut self,
         token: Token,
@@ -181,6 +183,7 @@ impl Reader {
         self.build(token, leaf, made)
     }
 
+    #[inline(never)]
     fn take_in_vector(
         &mut self,
         token: Token,
@@ -200,6 +203,7 @@ impl Reader {
         self.build(token, leaf, made)
     }
 
+    #[inline(always)]
     fn build(
         &mut self,
         token: Token,

@@ -12,7 +12,7 @@ use crate::character::is_character;
 use crate::form::Form;
 use crate::leaf::Leaf;
 use crate::names::is_tag;
-use crate::plain::{plain_integer, plain_keyword};
+use crate::plain::plain_keyword;
 use crate::read_fault::Problem;
 use crate::string::{Quoted, string};
 use crate::word::word;
@@ -84,6 +84,7 @@ pub(crate) enum Lexed<'a> {
 /// Reads the token at the front of the bytes, which don't begin with white space. If it has a form or the name of a
 /// keyword, that is put into `leaf`.
 #[tactic(auto, unfolding(crate::specs::Computing::Tokens::token_at))]
+#[inline(always)]
 pub(crate) fn read_token<'a>(
     alloc: Global,
     bytes: &'a [u8],
@@ -147,6 +148,7 @@ fn put(place: &mut Form, form: Form)
 }
 
 /// Reads a string after its opening quote.
+#[inline(never)]
 fn quoted<'a>(
     alloc: Global,
     text: &'a [u8],
@@ -168,6 +170,7 @@ fn quoted<'a>(
 }
 
 /// Reads a character after its backslash.
+#[inline(never)]
 fn character<'a>(
     alloc: Global,
     text: &'a [u8],
@@ -192,6 +195,7 @@ fn character<'a>(
 }
 
 /// Reads what begins with `#`, after it.
+#[inline(never)]
 fn dispatched(text: &[u8], beyond: Beyond) -> Lexed<'_>
     ensures exact { (f : LeafValue) → lexed_of f result ≡ Spec.dispatched beyond text.now }
     ensures within { IsWithin beyond text.now result }
@@ -220,6 +224,7 @@ fn tag(text: &[u8], beyond: Beyond) -> Lexed<'_>
 }
 
 /// Reads the word at the front.
+#[inline(always)]
 fn word_token<'a>(
     alloc: Global,
     bytes: &'a [u8],
@@ -229,9 +234,6 @@ fn word_token<'a>(
     ensures exact { IfOk result (λ l. lexed_of leaf.new l ≡ Spec.word_token beyond bytes.now) }
     ensures within { IfOk result (IsWithin beyond bytes.now) }
 {
-    if let Some((value, rest)) = plain_integer(bytes) {
-        return Ok(Lexed::Token(Token::Integer(value), rest));
-    }
     if let Some((name, rest)) = plain_keyword(bytes) {
         if leaf.name.set(name) {
             return Ok(Lexed::Token(Token::Keyword, rest));
