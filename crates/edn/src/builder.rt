@@ -1,4 +1,7 @@
 //! Forms made of tokens.
+//!
+//! A function clears the room of all owned values that it may hold when it begins. So what holds such values, or is reached
+//! by few tokens, is not inlined into what each token goes through.
 
 ghost use Rattle.std.specs.Prelude.{◌≡◌, ◌≢◌, ◌∷◌, ◌++◌, ◌≤◌, ◌<◌, ◌+◌, [], Some, None, Ok, length, map, vec_len, IfOk, IfErr, OnOk, ◌⊎◌, option_map};
 ghost use Rattle.edn.specs.Meaning.Forms.{form_of, integer, keyword};

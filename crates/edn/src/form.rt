@@ -27,7 +27,7 @@ pub enum Form {
     List(Vec<Form>),
     /// `[..]`
     Vector(Vec<Form>),
-    /// A vector whose elements, at least one, are all integers of 64 bits. A reader gives no other form for such a vector.
+    /// `[..]`, if its elements, at least one, are all integers of 64 bits.
     Integers(Vec<i64>),
     /// The elements of a set in the order of the text, also one that comes twice.
     Set(Vec<Form>),
