@@ -10,8 +10,11 @@ pub(crate) trait Data {
     /// Returns whether this is a map.
     fn is_map(&self) -> bool;
 
-    /// Returns the elements, if this is a vector.
+    /// Returns the elements, if this is a vector, unless they are integers that [`Data::integers`] returns.
     fn elements(&self) -> Option<&[Self]>;
+
+    /// Returns the elements, if this is a vector that is kept as integers of 64 bits.
+    fn integers(&self) -> Option<&[i64]>;
 
     /// Returns the number, if this is an integer of 64 bits.
     fn integer(&self) -> Option<i64>;

@@ -28,6 +28,13 @@ impl Data for Form {
         }
     }
 
+    fn integers(&self) -> Option<&[i64]> {
+        match self {
+            Form::Integers(integers) => Some(integers.as_slice()),
+            _ => None,
+        }
+    }
+
     fn integer(&self) -> Option<i64> {
         match self {
             Form::Integer(number) => Some(*number),
@@ -38,6 +45,7 @@ impl Data for Form {
     fn word(&self) -> Option<&[u8]> {
         match self {
             Form::Keyword(name) => Some(name.as_slice()),
+            Form::ShortKeyword(name) => Some(name.as_slice()),
             _ => None,
         }
     }
@@ -51,14 +59,15 @@ impl Data for Form {
             Form::Integer(number) => Some(Name::Integer(*number)),
             Form::String(bytes) => Some(Name::String(bytes.as_slice())),
             Form::Keyword(name) => Some(Name::Keyword(name.as_slice())),
+            Form::ShortKeyword(name) => Some(Name::Keyword(name.as_slice())),
             _ => None,
         }
     }
 }
 
 fn is_keyword(form: &Form, name: &str) -> bool {
-    match form {
-        Form::Keyword(bytes) => bytes.as_slice() == name.as_bytes(),
-        _ => false,
+    match form.word() {
+        Some(word) => word == name.as_bytes(),
+        None => false,
     }
 }

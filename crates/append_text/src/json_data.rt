@@ -20,6 +20,10 @@ impl Data for Value {
         }
     }
 
+    fn integers(&self) -> Option<&[i64]> {
+        None
+    }
+
     fn integer(&self) -> Option<i64> {
         self.as_i64()
     }

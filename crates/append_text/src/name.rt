@@ -48,16 +48,22 @@ impl Names {
     /// Returns the number of the name, which may be new.
     pub(crate) fn number(&mut self, name: Name<'_>) -> Result<u64, AllocError> {
         match name {
-            Name::Integer(integer) => match u64::try_from(integer) {
-                Ok(size) => Ok(size * 2),
-                Err(_) => self.keep(Kept::Integer(integer)),
-            },
+            Name::Integer(integer) => self.number_of_integer(integer),
             Name::String(bytes) => self.keep(Kept::String(bytes.to_vec(self.alloc)?)),
             Name::Keyword(bytes) => self.keep(Kept::Keyword(bytes.to_vec(self.alloc)?)),
         }
     }
 
+    /// Returns the number of an integer, which may be new.
+    pub(crate) fn number_of_integer(&mut self, integer: i64) -> Result<u64, AllocError> {
+        match u64::try_from(integer) {
+            Ok(size) => Ok(size * 2),
+            Err(_) => self.keep(Kept::Integer(integer)),
+        }
+    }
+
     /// Returns the number of a name that may be new.
+    #[inline(never)]
     fn keep(&mut self, name: Kept) -> Result<u64, AllocError> {
         let (place, _) = self.kept.insert_full(name)?;
         Ok((place as u64).saturating_mul(2).saturating_add(1))

@@ -5,7 +5,7 @@ use crate::history::Label;
 use crate::name::Names;
 use crate::read_fault::{Problem, Refusal};
 use append_values::Operation;
-use std::alloc::Global;
+use std::alloc::{AllocError, Global};
 
 /// What an operation says of its transaction.
 #[derive(Clone, Copy, PartialEq, Eq)]
@@ -137,6 +137,9 @@ fn elements<D: Data>(alloc: Global, names: &mut Names, data: &D) -> Result<Vec<u
     if data.is_nil() {
         return Ok(Vec::new(alloc));
     }
+    if let Some(integers) = data.integers() {
+        return Ok(numbers(alloc, names, integers)?);
+    }
     let Some(listed) = data.elements() else {
         return Err(Refusal::Problem(Problem::Step));
     };
@@ -145,6 +148,15 @@ fn elements<D: Data>(alloc: Global, names: &mut Names, data: &D) -> Result<Vec<u
         elements.push(number(names, data)?)?;
     }
     Ok(elements)
+}
+
+/// Returns the numbers of elements that are integers.
+fn numbers(alloc: Global, names: &mut Names, integers: &[i64]) -> Result<Vec<u64>, AllocError> {
+    let mut numbers = Vec::with_capacity(alloc, integers.len())?;
+    for integer in integers {
+        numbers.push(names.number_of_integer(*integer)?)?;
+    }
+    Ok(numbers)
 }
 
 /// Returns the number of the key or the element that this names.

@@ -5,6 +5,7 @@ pub mod ItemsRun
 pub mod StringTexts
 pub mod LexedTexts
 pub mod Spans
+pub mod PlainWords
 pub mod Lexed
 pub mod GapTexts
 pub mod TokensRead

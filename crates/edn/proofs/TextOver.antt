@@ -1,5 +1,5 @@
 -- Where no more forms are read, only discarded ones and blanks are left.
-use Rattle.std.proofs.Common.{◌≡◌, ◌≢◌, ◌⊎◌, inl, inr, ℕ, ◌<◌, ◌==◌, true, false, List, [], ◌∷◌, ◌++◌, length, All, Option, None, Some, refl, sym, ap, ◌∙◌, subst, append-nil, rules, arith}
+use Rattle.std.proofs.Common.{◌≡◌, ◌≢◌, ◌⊎◌, inl, inr, ℕ, ◌<◌, ◌==◌, true, List, [], ◌∷◌, ◌++◌, length, All, Option, None, Some, refl, sym, ap, ◌∙◌, subst, append-nil, rules, arith}
 use Rattle.std.proofs.lemmas.Bool.{eqb-false}
 use Rattle.std.proofs.lemmas.Grind.{common_steps}
 use Rattle.std.specs.Io.KnownBytes.{IsAtEnd, prepend_known}
@@ -10,7 +10,7 @@ use Rattle.edn.specs.Meaning.Grammar.{AreItems}
 use Rattle.edn.specs.Meaning.Lexing.{IsLastLine}
 use Rattle.edn.specs.Meaning.Reading.{PassesGap, IsBlankLeft, ReadsTokens}
 use Rattle.edn.specs.Meaning.Readers.{CloseVector, AreLastBehind, AreLast, IsOver}
-use Rattle.edn.specs.Meaning.Tokens.{Token, is_square}
+use Rattle.edn.specs.Meaning.Tokens.{Token}
 use Rattle.edn.specs.Computing.Building.{Frame, is_top}
 use Rattle.edn.specs.Computing.Gaps.{after_gap_in}
 use Rattle.edn.specs.Computing.Tokens.{BeginsComment}

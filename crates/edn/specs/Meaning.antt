@@ -2,6 +2,7 @@
 pub mod Bytes
 pub mod Names
 pub mod Characters
+pub mod Shorts
 pub mod Forms
 pub mod Numbers
 pub mod Strings

@@ -15,7 +15,7 @@ pub(crate) fn is_space(byte: u8) -> bool
 
 /// Returns whether the byte ends a number, a keyword or a symbol.
 #[tactic(auto, unfolding(crate::specs::Meaning::Bytes::is_end))]
-fn is_end(byte: u8) -> bool
+pub(crate) fn is_end(byte: u8) -> bool
     ensures { result ≡ is_end byte }
 {
     is_space(byte) || matches!(byte, b'"' | b'(' | b')' | b';' | b'['..=b']' | b'{' | b'}')
@@ -35,16 +35,17 @@ pub(crate) fn is_symbol_byte(byte: u8) -> bool
 {
     matches!(
         byte,
-        b'!' | b'#'..=b'\''
-            | b'*'
-            | b'+'
+        b'a'..=b'z'
             | b'-'
-            | b'.'
             | b'0'..=b':'
-            | b'<'..=b'?'
             | b'A'..=b'Z'
             | b'_'
-            | b'a'..=b'z'
+            | b'!'
+            | b'#'..=b'\''
+            | b'*'
+            | b'+'
+            | b'.'
+            | b'<'..=b'?'
             | b'|'
             | 128..=255
     )
@@ -56,6 +57,17 @@ pub(crate) fn word_len(bytes: &[u8]) -> usize
     ensures within { result ≤ length bytes.now }
 {
     bytes.iter().take_while(|byte| is_word_byte(**byte)).count()
+}
+
+/// Returns the number of bytes at the front that may stand in a symbol, beside the `/` between its parts.
+pub(crate) fn symbol_len(bytes: &[u8]) -> usize
+    ensures value { result ≡ prefix_len is_symbol_byte bytes.now }
+    ensures within { result ≤ length bytes.now }
+{
+    bytes
+        .iter()
+        .take_while(|byte| is_symbol_byte(**byte))
+        .count()
 }
 
 /// Returns the number of digits at the front.

@@ -10,12 +10,14 @@ ghost use Rattle.edn.specs.Computing.Tokens.{token_of};
 ghost use Rattle.edn.specs.Machinery.Inputs.{work_left, to_meet};
 ghost use Rattle.edn.specs.declared.token.Beyond.TheVariants.{Unread};
 
-use crate::form::Form;
 use crate::gap::after_gap;
+use crate::leaf::Leaf;
 use crate::pending::Pending;
+use crate::plain::plain_integer;
 use crate::read_fault::{ReadFault, syntax};
 use crate::token::{Beyond, Lexed, Token, read_token};
 use devices::Source;
+use memchr::memchr_iter;
 use std::alloc::{AllocError, Global};
 
 /// The most bytes of one read.
@@ -57,6 +59,7 @@ impl Input {
     }
 
     /// Returns the line, counted from 1, up to which tokens were taken.
+    #[inline(never)]
     pub(crate) fn line(&self) -> u64 {
         self.line.saturating_add(line_feeds(self.pending.taken()))
     }
@@ -67,7 +70,7 @@ impl Input {
     pub(crate) fn next_token<S: Source>(
         &mut self,
         source: &mut S,
-        leaf: &mut Form,
+        leaf: &mut Leaf,
     ) -> Result<Option<Token>, ReadFault>
         ensures less { IfOk result (λ o. IsSome o
             → work_left (S.left source.new) self.new.pending < work_left (S.left source.old) self.old.pending) }
@@ -86,6 +89,11 @@ impl Input {
     {
         loop {
             self.pass_gap();
+            if let Some((value, rest)) = plain_integer(self.pending.bytes()) {
+                let len = self.pending.bytes().len() - rest.len();
+                self.pass(len);
+                return Ok(Some(Token::Integer(value)));
+            }
             match read_token(self.alloc, self.pending.bytes(), self.beyond, leaf)? {
                 Lexed::Token(token, rest) => {
                     let len = self.pending.bytes().len() - rest.len();
@@ -121,6 +129,7 @@ impl Input {
     }
 
     /// Reads until at least twice as many bytes are pending as were, so that a long token is looked at few times.
+    #[inline(never)]
     fn fill<S: Source>(&mut self, source: &mut S) -> Result<(), ReadFault>
         requires { self.old.beyond ≡ Unread }
         ensures work { OnOk result (work_left (S.left source.new) self.new.pending ≤ work_left (S.left source.old) self.old.pending) }
@@ -166,5 +175,5 @@ impl Input {
 
 /// Returns how many line feeds these bytes have.
 fn line_feeds(bytes: &[u8]) -> u64 {
-    bytes.iter().filter(|byte| **byte == b'\n').count() as u64
+    memchr_iter(b'\n', bytes).count() as u64
 }

@@ -37,7 +37,7 @@ fn begins_symbol(text: &[u8]) -> bool
 }
 
 /// Returns whether a part of a keyword may begin so: not with `:` or `#`.
-fn begins_keyword(text: &[u8]) -> bool
+pub(crate) fn begins_keyword(text: &[u8]) -> bool
     ensures { result ≡ begins_keyword text.now }
 {
     match text {

@@ -1,6 +1,6 @@
 //! Numbers.
 
-ghost use Rattle.std.specs.Prelude.{◌≡◌, ◌≤◌, ◌<◌, ◌^◌, length, take, drop, true, IfOk, IfSome, IfNone, option_map};
+ghost use Rattle.std.specs.Prelude.{◌≡◌, ◌≤◌, ◌<◌, ◌^◌, length, take, drop, true, Some, IfOk, IfSome, IfNone, option_map};
 ghost use Rattle.std.specs.List.{prefix_len};
 ghost use Rattle.std.specs.Char.{is_ascii_digit};
 ghost use Rattle.edn.specs.Meaning.Forms.{form_of};
@@ -181,7 +181,7 @@ fn with_sign(sign: Sign, magnitude: u64) -> Option<i64>
 }
 
 /// Returns the number of this size, if it has 64 bits.
-fn positive(magnitude: u64) -> Option<i64>
+pub(crate) fn positive(magnitude: u64) -> Option<i64>
     ensures { result ≡ Spec.positive magnitude }
 {
     if magnitude > MOST {
@@ -212,6 +212,24 @@ fn magnitude(digits: &[u8]) -> Option<u64>
         value = next_value(value, *digit)?;
     }
     Some(value)
+}
+
+/// Returns the number of the digits at the front, if it has 64 bits, and what follows them.
+pub(crate) fn leading_digits(text: &[u8]) -> Option<(u64, &[u8])>
+    ensures value { IfSome result (λ p. Spec.magnitude (take (prefix_len is_ascii_digit text.now) text.now) ≡ Some p.0) }
+    ensures rest { IfSome result (λ p. p.1.now ≡ Spec.after_digits text.now) }
+    ensures within { IfSome result (λ p. length p.1.now ≤ length text.now) }
+{
+    let mut value = 0u64;
+    let mut rest = text;
+    while let [digit, others @ ..] = rest {
+        if !digit.is_ascii_digit() {
+            break;
+        }
+        value = next_value(value, *digit)?;
+        rest = others;
+    }
+    Some((value, rest))
 }
 
 /// Returns the number with one digit more, if it has 64 bits.

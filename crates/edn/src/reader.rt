@@ -13,6 +13,7 @@ ghost use Rattle.edn.specs.declared.reader.Stage.TheVariants.{Start, Elements};
 use crate::builder::Builder;
 use crate::form::Form;
 use crate::input::Input;
+use crate::leaf::Leaf;
 use crate::read_fault::{Problem, ReadFault, Refusal, syntax};
 use crate::token::{Closing, Opening, Token};
 use devices::Source;
@@ -126,7 +127,7 @@ impl Reader {
         ensures deep { IsReady self.old (S.remaining source.old) → IfErr result (λ e. IsOfDepth e
             → (self.old.stage ≡ Stage.Failed e) ⊎ IsTooDeep self.old.stage (text_left self.old (S.remaining source.old))) }
     {
-        let mut leaf = Form::Nil;
+        let mut leaf = Leaf::new();
         let mut made = None;
         'token: while let Some(token) = self.input.next_token(source, &mut leaf)? {
             self.take(token, &mut leaf, &mut made)?;
@@ -139,10 +140,11 @@ impl Reader {
     }
 
     /// Takes the next token. Puts the form that ends with it, if one does, into `made`.
+    #[inline(always)]
     fn take(
         &mut self,
         token: Token,
-        leaf: &mut Form,
+        leaf: &mut Leaf,
         made: &mut Option<Form>,
     ) -> Result<(), ReadFault>
         requires { made.old ≡ None }
@@ -160,10 +162,11 @@ impl Reader {
         }
     }
 
+    #[inline(never)]
     fn take_first(
         &mut self,
         token: Token,
-        leaf: &mut Form,
+        leaf: &mut Leaf,
         made: &mut Option<Form>,
     ) -> Result<(), ReadFault>
         requires { made.old ≡ None }
@@ -180,10 +183,11 @@ impl Reader {
         self.build(token, leaf, made)
     }
 
+    #[inline(never)]
     fn take_in_vector(
         &mut self,
         token: Token,
-        leaf: &mut Form,
+        leaf: &mut Leaf,
         made: &mut Option<Form>,
     ) -> Result<(), ReadFault>
         requires { made.old ≡ None }
@@ -199,10 +203,11 @@ impl Reader {
         self.build(token, leaf, made)
     }
 
+    #[inline(always)]
     fn build(
         &mut self,
         token: Token,
-        leaf: &mut Form,
+        leaf: &mut Leaf,
         made: &mut Option<Form>,
     ) -> Result<(), ReadFault>
         requires { made.old ≡ None }

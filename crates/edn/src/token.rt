@@ -4,13 +4,15 @@ ghost use Rattle.std.specs.Prelude.{◌≡◌, ◌≤◌, ◌<◌, ◌+◌, ℕ,
 ghost use Rattle.std.specs.List.{prefix_len};
 ghost use Rattle.edn.specs.Meaning.Bytes.{is_word_byte};
 ghost use Rattle.edn.specs.Computing.Tokens as Spec;
-ghost use Rattle.edn.specs.declared.form.Form.{Form as FormValue};
+ghost use Rattle.edn.specs.declared.leaf.Leaf.{Leaf as LeafValue};
 ghost use Rattle.edn.specs.Computing.Tokens.{lexed_of, token_of, BeginsComment, IsRest, IsWithin};
 
 use crate::bytes::{is_space, word_len};
 use crate::character::is_character;
 use crate::form::Form;
+use crate::leaf::Leaf;
 use crate::names::is_tag;
+use crate::plain::plain_keyword;
 use crate::read_fault::Problem;
 use crate::string::{Quoted, string};
 use crate::word::word;
@@ -49,7 +51,11 @@ pub(crate) enum Token {
     Discard,
     /// `#` and a symbol
     Tag,
-    /// A form that is no collection; whoever reads the token says where to put it.
+    /// An integer of 64 bits.
+    Integer(i64),
+    /// A keyword with a short name; whoever reads the token says where to put the name.
+    Keyword,
+    /// Any other form that is no collection; whoever reads the token says where to put it.
     Leaf,
 }
 
@@ -75,14 +81,15 @@ pub(crate) enum Lexed<'a> {
     Bad(Problem),
 }
 
-/// Reads the token at the front of the bytes, which don't begin with white space. If it is a leaf, its form is put into
-/// `leaf`.
+/// Reads the token at the front of the bytes, which don't begin with white space. If it has a form or the name of a
+/// keyword, that is put into `leaf`.
 #[tactic(auto, unfolding(crate::specs::Computing::Tokens::token_at))]
+#[inline(always)]
 pub(crate) fn read_token<'a>(
     alloc: Global,
     bytes: &'a [u8],
     beyond: Beyond,
-    leaf: &mut Form,
+    leaf: &mut Leaf,
 ) -> Result<Lexed<'a>, AllocError>
     ensures exact { IfOk result (λ l. lexed_of leaf.new l ≡ Spec.token_at beyond bytes.now) }
     ensures within { IfOk result (IsRest beyond bytes.now) }
@@ -103,7 +110,7 @@ pub(crate) fn read_token<'a>(
 }
 
 fn no_token<'a>(beyond: Beyond) -> Lexed<'a>
-    ensures exact { (f : FormValue) → lexed_of f result ≡ Spec.no_token beyond }
+    ensures exact { (f : LeafValue) → lexed_of f result ≡ Spec.no_token beyond }
     ensures within { (bytes : List ℕ) → BeginsComment bytes → IsRest beyond bytes result }
 {
     match beyond {
@@ -114,7 +121,7 @@ fn no_token<'a>(beyond: Beyond) -> Lexed<'a>
 
 /// What a token is that goes up to the end of the bytes, unless more of it is to be read.
 fn unfinished<'a>(beyond: Beyond) -> Lexed<'a>
-    ensures exact { (f : FormValue) → lexed_of f result ≡ Spec.unfinished beyond }
+    ensures exact { (f : LeafValue) → lexed_of f result ≡ Spec.unfinished beyond }
     ensures within { (bytes : List ℕ) → IsWithin beyond bytes result }
 {
     match beyond {
@@ -141,11 +148,12 @@ fn put(place: &mut Form, form: Form)
 }
 
 /// Reads a string after its opening quote.
+#[inline(never)]
 fn quoted<'a>(
     alloc: Global,
     text: &'a [u8],
     beyond: Beyond,
-    leaf: &mut Form,
+    leaf: &mut Leaf,
 ) -> Result<Lexed<'a>, AllocError>
     ensures exact { IfOk result (λ l. lexed_of leaf.new l ≡ Spec.string_token beyond text.now) }
     ensures within { IfOk result (IsWithin beyond text.now) }
@@ -153,7 +161,7 @@ fn quoted<'a>(
     let mut bytes = Vec::new(alloc);
     match string(text, &mut bytes)? {
         Quoted::Closed(rest) => {
-            put(leaf, Form::String(bytes));
+            put(&mut leaf.form, Form::String(bytes));
             Ok(Lexed::Token(Token::Leaf, rest))
         }
         Quoted::Open => Ok(unfinished(beyond)),
@@ -162,11 +170,12 @@ fn quoted<'a>(
 }
 
 /// Reads a character after its backslash.
+#[inline(never)]
 fn character<'a>(
     alloc: Global,
     text: &'a [u8],
     beyond: Beyond,
-    leaf: &mut Form,
+    leaf: &mut Leaf,
 ) -> Result<Lexed<'a>, AllocError>
     ensures exact { IfOk result (λ l. lexed_of leaf.new l ≡ Spec.character_token beyond text.now) }
     ensures within { IfOk result (IsWithin beyond text.now) }
@@ -181,13 +190,14 @@ fn character<'a>(
     if is_space(*first) || !is_character(name) {
         return Ok(Lexed::Bad(Problem::Token));
     }
-    put(leaf, Form::Character(name.to_vec(alloc)?));
+    put(&mut leaf.form, Form::Character(name.to_vec(alloc)?));
     Ok(Lexed::Token(Token::Leaf, rest))
 }
 
 /// Reads what begins with `#`, after it.
+#[inline(never)]
 fn dispatched(text: &[u8], beyond: Beyond) -> Lexed<'_>
-    ensures exact { (f : FormValue) → lexed_of f result ≡ Spec.dispatched beyond text.now }
+    ensures exact { (f : LeafValue) → lexed_of f result ≡ Spec.dispatched beyond text.now }
     ensures within { IsWithin beyond text.now result }
 {
     match text {
@@ -200,7 +210,7 @@ fn dispatched(text: &[u8], beyond: Beyond) -> Lexed<'_>
 
 /// Reads a tag after its `#`.
 fn tag(text: &[u8], beyond: Beyond) -> Lexed<'_>
-    ensures exact { (f : FormValue) → lexed_of f result ≡ Spec.tag_token beyond text.now }
+    ensures exact { (f : LeafValue) → lexed_of f result ≡ Spec.tag_token beyond text.now }
     ensures within { IsWithin beyond text.now result }
 {
     let (name, rest) = text.split_at(word_len(text));
@@ -214,11 +224,31 @@ fn tag(text: &[u8], beyond: Beyond) -> Lexed<'_>
 }
 
 /// Reads the word at the front.
+#[inline(always)]
 fn word_token<'a>(
     alloc: Global,
     bytes: &'a [u8],
     beyond: Beyond,
-    leaf: &mut Form,
+    leaf: &mut Leaf,
+) -> Result<Lexed<'a>, AllocError>
+    ensures exact { IfOk result (λ l. lexed_of leaf.new l ≡ Spec.word_token beyond bytes.now) }
+    ensures within { IfOk result (IsWithin beyond bytes.now) }
+{
+    if let Some((name, rest)) = plain_keyword(bytes) {
+        if leaf.name.set(name) {
+            return Ok(Lexed::Token(Token::Keyword, rest));
+        }
+    }
+    any_word(alloc, bytes, beyond, leaf)
+}
+
+/// Reads the word at the front, of whichever kind it is.
+#[inline(never)]
+fn any_word<'a>(
+    alloc: Global,
+    bytes: &'a [u8],
+    beyond: Beyond,
+    leaf: &mut Leaf,
 ) -> Result<Lexed<'a>, AllocError>
     ensures exact { IfOk result (λ l. lexed_of leaf.new l ≡ Spec.word_token beyond bytes.now) }
     ensures within { IfOk result (IsWithin beyond bytes.now) }
@@ -228,8 +258,13 @@ fn word_token<'a>(
         return Ok(Lexed::More);
     }
     match word(alloc, name)? {
+        Some(Form::Integer(value)) => Ok(Lexed::Token(Token::Integer(value), rest)),
+        Some(Form::ShortKeyword(name)) => {
+            leaf.name = name;
+            Ok(Lexed::Token(Token::Keyword, rest))
+        }
         Some(form) => {
-            put(leaf, form);
+            put(&mut leaf.form, form);
             Ok(Lexed::Token(Token::Leaf, rest))
         }
         None => Ok(Lexed::Bad(Problem::Token)),

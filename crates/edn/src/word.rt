@@ -8,6 +8,7 @@ use crate::character::is_text;
 use crate::form::Form;
 use crate::names::{is_keyword, is_symbol};
 use crate::number::{begins_number, number};
+use crate::short::Short;
 use std::alloc::{AllocError, Global};
 
 /// Reads the form that is all of the text: a number, a keyword, a symbol, `nil`, `true` or `false`. Returns `None` if the
@@ -32,6 +33,10 @@ fn keyword(alloc: Global, name: &[u8]) -> Result<Option<Form>, AllocError>
 {
     if !is_keyword(name) {
         return Ok(None);
+    }
+    let mut short = Short::empty();
+    if short.set(name) {
+        return Ok(Some(Form::ShortKeyword(short)));
     }
     Ok(Some(Form::Keyword(name.to_vec(alloc)?)))
 }

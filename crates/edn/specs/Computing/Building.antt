@@ -15,7 +15,7 @@ use Rattle.edn.specs.declared.token.Opening.{Opening}
 use Rattle.edn.specs.declared.token.Opening.TheVariants as opening
 use Rattle.edn.specs.declared.token.Closing.{Closing}
 use Rattle.edn.specs.declared.token.Closing.TheVariants as closing
-use Rattle.edn.specs.Meaning.Forms.{Form, list, vector, set, entries, forms_of, pairs_of, form_of}
+use Rattle.edn.specs.Meaning.Forms.{Form, integer, list, vector, set, entries, forms_of, pairs_of, form_of}
 use Rattle.edn.specs.Meaning.Tokens.{Token, opens, closes, discard, tag, leaf}
 
 -- what is open: nothing, a tag, a `#_`, or a collection with its forms so far; of a map, a key may lack its value
@@ -44,6 +44,7 @@ frame_of In.Top = top
 frame_of In.Tag = tagged
 frame_of In.Discard = discarding
 frame_of (In.Row row v) = row_frame row (map form_of v.items)
+frame_of (In.Integers v) = in_vector (map integer v.items)
 frame_of (In.Map e) = map_frame e
 
 -- the frames around the innermost one

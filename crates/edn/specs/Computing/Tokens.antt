@@ -8,15 +8,16 @@ use Rattle.edn.specs.declared.token.Opening.TheVariants as opening
 use Rattle.edn.specs.declared.token.Closing.TheVariants as closing
 use Rattle.edn.specs.declared.token.Beyond.{Beyond}
 use Rattle.edn.specs.declared.token.Beyond.TheVariants.{Unread, Nothing}
-use Rattle.edn.specs.declared.form.Form.{Form as FormValue}
+use Rattle.edn.specs.declared.leaf.Leaf.{Leaf as LeafValue}
 use Rattle.edn.specs.declared.token.Token.{Token as TokenValue}
 use Rattle.edn.specs.declared.token.Token.TheVariants as In
 use Rattle.edn.specs.declared.token.Lexed.{Lexed as LexedValue}
 use Rattle.edn.specs.declared.token.Lexed.TheVariants as Read
 use Rattle.edn.specs.Meaning.Bytes.{is_space, is_word_byte}
 use Rattle.edn.specs.Meaning.Characters.{is_character}
-use Rattle.edn.specs.Meaning.Forms.{Form, string, character, form_of}
+use Rattle.edn.specs.Meaning.Forms.{Form, integer, string, character, keyword, form_of}
 use Rattle.edn.specs.Meaning.Names.{is_tag}
+use Rattle.edn.specs.Meaning.Shorts.{short_text}
 use Rattle.edn.specs.Meaning.Tokens.{Token, opens, closes, discard, tag, leaf}
 use Rattle.edn.specs.Meaning.Words.{word_of}
 use Rattle.edn.specs.Computing.Strings.{Quoted, closed, open_, bad as no_string, quoted_at}
@@ -28,15 +29,17 @@ pub data Lexed : Type 0 where
   more : Lexed
   bad : Problem → Lexed
 
--- the form is that of a leaf
-abbrev pub token_of : FormValue → TokenValue → Token
+-- the token may have its form in the leaf
+abbrev pub token_of : LeafValue → TokenValue → Token
 token_of f (In.Open b) = opens b
 token_of f (In.Close b) = closes b
 token_of f In.Discard = discard
 token_of f In.Tag = tag
-token_of f In.Leaf = leaf (form_of f)
+token_of f (In.Integer z) = leaf (integer z)
+token_of f In.Keyword = leaf (keyword (short_text f.name))
+token_of f In.Leaf = leaf (form_of f.form)
 
-abbrev pub lexed_of : FormValue → LexedValue → Lexed
+abbrev pub lexed_of : LeafValue → LexedValue → Lexed
 lexed_of f (Read.Token t rest) = token (token_of f t) rest.now
 lexed_of f Read.End = end
 lexed_of f Read.More = more

@@ -1,7 +1,8 @@
 -- Forms as plain values. A list of forms is a type of its own, as a form is made of them.
-use Rattle.std.specs.Prelude.{ℕ, ℤ, Bool, List, [], ◌∷◌}
+use Rattle.std.specs.Prelude.{ℕ, ℤ, Bool, List, [], ◌∷◌, map}
 use Rattle.edn.specs.declared.form.Form.{Form as FormValue, fold-Form}
 use Rattle.edn.specs.declared.form.Form.TheOpen.{Form-F}
+use Rattle.edn.specs.Meaning.Shorts.{short_text}
 
 mutual
   pub data Form : Type 0 where
@@ -43,9 +44,11 @@ form_step (Form-F.Number v) = number v.items
 form_step (Form-F.String v) = string v.items
 form_step (Form-F.Character v) = character v.items
 form_step (Form-F.Keyword v) = keyword v.items
+form_step (Form-F.ShortKeyword s) = keyword (short_text s)
 form_step (Form-F.Symbol v) = symbol v.items
 form_step (Form-F.List v) = list (forms_of v.items)
 form_step (Form-F.Vector v) = vector (forms_of v.items)
+form_step (Form-F.Integers v) = vector (forms_of (map integer v.items))
 form_step (Form-F.Set v) = set (forms_of v.items)
 form_step (Form-F.Map v) = entries (pairs_of v.items)
 

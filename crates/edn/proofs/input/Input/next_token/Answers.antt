@@ -1,5 +1,10 @@
 use Rattle.std.proofs.Common.{arith, sym, ◌∙◌, subst, ◌≡◌}
+use Rattle.std.proofs.lemmas.Int.{to_z-of_z}
+use mir.Val.{to_z, of_z}
+use mir.Syntax.{w64}
 use Rattle.std.specs.Io.KnownBytes.{prepend_known}
+use Rattle.edn.specs.Meaning.Forms.{integer}
+use Rattle.edn.specs.Meaning.Tokens.{leaf}
 use Rattle.edn.specs.Meaning.Reading.{IsLinked, ReadsToken}
 use Rattle.edn.specs.declared.token.Beyond.TheVariants.{Nothing}
 use Rattle.edn.specs.Computing.Tokens.{token, end, bad, token_of, token_at}
@@ -8,72 +13,92 @@ use Rattle.edn.proofs.NoTokens.{no_token, none_at_end, none_at_bad}
 use Rattle.edn.proofs.TextOver.{blank_left}
 use Rattle.edn.proofs.input.Input.next_token.Goals as goal
 
-pub loop-token-init : goal.loop-token-init
-loop-token-init g c = (omega arith, λ l. (l, none_passed _))
+pub loop-value-init : goal.loop-value-init
+loop-value-init g c = (omega arith, λ l. (l, none_passed _))
 
 pub returns-in-Token-clause-token : goal.returns-in-Token-clause-token
 returns-in-Token-clause-token g c = λ l.
-    let (now, passed) = c.loop-token.invariant.1 l in
+    let (now, passed) = c.loop-value.invariant.1 l in
     let (gap, is_gap, e) = c.pass_gap.ensures.passed in
     let start = prepend_known c.args.self.now.pending (g.S.Read.remaining c.args.source.now) in
-    let left = g.S.Read.remaining c.loop-token.source in
+    let left = g.S.Read.remaining c.loop-value.source in
     let p = c.pass_gap.new.self.pending in
     let t = token_of c.read_token.new.leaf c.in-Token.token in
     let rest = c.in-Token.rest.now in
     let is : token_at c.pass_gap.new.self.beyond p ≡ token t rest =
-    sym (rw (c.in-Token.is, c.bytes.ensures) at c.in_ok-token.ensures.exact) in
+    sym (rw (c.in-Token.is, c.bytes-in-loop-value.ensures) at c.in_ok-token.ensures.exact) in
     let linked = subst (λ b. IsLinked b left) (sym c.pass_gap.ensures.beyond) now in
     let read = token_read c.pass_gap.new.self.beyond p t rest start left is linked
     (more_passed _ p gap start left e is_gap passed) in
-    let pending = (rw c.bytes-in-Token.ensures at c.pass.ensures.rest) ∙ token_rest _ p t rest is in
+    let pending = (rw c.bytes-in-Token.ensures at c.pass-in-Token.ensures.rest) ∙ token_rest _ p t rest is in
     subst (λ x. ReadsToken start (prepend_known x left) t) (sym pending) read
 
-pub loop-token-preserved : goal.loop-token-preserved
-loop-token-preserved g c =
+pub returns-in-Some-clause-token : goal.returns-in-Some-clause-token
+returns-in-Some-clause-token g c = λ l.
+    let (now, passed) = c.loop-value.invariant.1 l in
     let (gap, is_gap, e) = c.pass_gap.ensures.passed in
-    let left = g.S.Read.remaining c.loop-token.source in (
-      omega (arith, c.in_ok-fill-in-More.ensures.work, c.pass_gap.ensures.within, c.loop-token.invariant.0),
+    let start = prepend_known c.args.self.now.pending (g.S.Read.remaining c.args.source.now) in
+    let left = g.S.Read.remaining c.loop-value.source in
+    let p = c.pass_gap.new.self.pending in
+    let z = c.in-Some.value in
+    let same : to_z w64 (of_z w64 z) ≡ z = grind (arith, to_z-of_z) in
+    let t = leaf (integer z) in
+    let rest = c.in-Some.rest.now in
+    let is : token_at c.pass_gap.new.self.beyond p ≡ token t rest =
+    rw c.bytes.ensures at (c.in-Some.ensures.exact c.pass_gap.new.self.beyond) in
+    let linked = subst (λ b. IsLinked b left) (sym c.pass_gap.ensures.beyond) now in
+    let read = token_read c.pass_gap.new.self.beyond p t rest start left is linked
+    (more_passed _ p gap start left e is_gap passed) in
+    let pending = (rw c.bytes-in-Some.ensures at c.pass.ensures.rest) ∙ token_rest _ p t rest is in
+    subst (λ v. ReadsToken start (prepend_known c.pass.new.self.pending left) (leaf (integer v))) (sym same)
+    (subst (λ x. ReadsToken start (prepend_known x left) t) (sym pending) read)
+
+pub loop-value-preserved : goal.loop-value-preserved
+loop-value-preserved g c =
+    let (gap, is_gap, e) = c.pass_gap.ensures.passed in
+    let left = g.S.Read.remaining c.loop-value.source in (
+      omega (arith, c.in_ok-fill-in-More.ensures.work, c.pass_gap.ensures.within, c.loop-value.invariant.0),
       λ l. (
         c.in_ok-fill-in-More.ensures.linked,
         same_passed _ _ _ c.in_ok-fill-in-More.ensures.same
-            (more_passed _ c.pass_gap.new.self.pending gap _ left e is_gap (c.loop-token.invariant.1 l).1),
+            (more_passed _ c.pass_gap.new.self.pending gap _ left e is_gap (c.loop-value.invariant.1 l).1),
       ),
     )
 
 pub returns-in-End-clause-none : goal.returns-in-End-clause-none
 returns-in-End-clause-none g c = λ l.
-    let (now, passed) = c.loop-token.invariant.1 l in
+    let (now, passed) = c.loop-value.invariant.1 l in
     let (gap, is_gap, e) = c.pass_gap.ensures.passed in
     let start = prepend_known c.args.self.now.pending (g.S.Read.remaining c.args.source.now) in
-    let left = g.S.Read.remaining c.loop-token.source in
+    let left = g.S.Read.remaining c.loop-value.source in
     let p = c.pass_gap.new.self.pending in
     let over : c.pass_gap.new.self.beyond ≡ Nothing = (rw c.in-End.is at c.in_ok-token.ensures.within).0 in
     let is : token_at Nothing p ≡ end =
-    sym (rw (c.in-End.is, c.bytes.ensures, over) at c.in_ok-token.ensures.exact) in
+    sym (rw (c.in-End.is, c.bytes-in-loop-value.ensures, over) at c.in_ok-token.ensures.exact) in
     let linked = subst (λ b. IsLinked b left) (sym c.pass_gap.ensures.beyond ∙ over) now in
     no_token Nothing p start left (none_at_end p c.pass_gap.ensures.all is) linked
     (more_passed _ p gap start left e is_gap passed)
 
 pub returns-in-End-clause-blank : goal.returns-in-End-clause-blank
 returns-in-End-clause-blank g c = λ l.
-    let (now, passed) = c.loop-token.invariant.1 l in
+    let (now, passed) = c.loop-value.invariant.1 l in
     let (gap, is_gap, e) = c.pass_gap.ensures.passed in
     let start = prepend_known c.args.self.now.pending (g.S.Read.remaining c.args.source.now) in
-    let left = g.S.Read.remaining c.loop-token.source in
+    let left = g.S.Read.remaining c.loop-value.source in
     let p = c.pass_gap.new.self.pending in
-    let within = rw (c.in-End.is, c.bytes.ensures) at c.in_ok-token.ensures.within in
+    let within = rw (c.in-End.is, c.bytes-in-loop-value.ensures) at c.in_ok-token.ensures.within in
     let linked = subst (λ b. IsLinked b left) (sym c.pass_gap.ensures.beyond ∙ within.0) now in
     blank_left p start left c.pass_gap.ensures.all within.1 linked (more_passed _ p gap start left e is_gap passed)
 
 pub returns-in-Bad-clause-refused : goal.returns-in-Bad-clause-refused
 returns-in-Bad-clause-refused g c = λ l _.
-    let (now, passed) = c.loop-token.invariant.1 l in
+    let (now, passed) = c.loop-value.invariant.1 l in
     let (gap, is_gap, e) = c.pass_gap.ensures.passed in
     let start = prepend_known c.args.self.now.pending (g.S.Read.remaining c.args.source.now) in
-    let left = g.S.Read.remaining c.loop-token.source in
+    let left = g.S.Read.remaining c.loop-value.source in
     let p = c.pass_gap.new.self.pending in
     let is : token_at c.pass_gap.new.self.beyond p ≡ bad c.in-Bad.problem =
-    sym (rw (c.in-Bad.is, c.bytes.ensures) at c.in_ok-token.ensures.exact) in
+    sym (rw (c.in-Bad.is, c.bytes-in-loop-value.ensures) at c.in_ok-token.ensures.exact) in
     let linked = subst (λ b. IsLinked b left) (sym c.pass_gap.ensures.beyond) now in
     no_token c.pass_gap.new.self.beyond p start left (none_at_bad _ p _ c.pass_gap.ensures.all is) linked
     (more_passed _ p gap start left e is_gap passed)

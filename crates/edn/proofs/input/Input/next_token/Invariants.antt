@@ -4,13 +4,13 @@ use Rattle.edn.specs.Meaning.Reading.{IsLinked, PassesGap}
 use Rattle.edn.specs.Machinery.Inputs.{work_left, to_meet}
 use Rattle.edn.proofs.input.Input.next_token.Given as goal
 
-abbrev pub invariant-loop-token : goal.invariant-loop-token
-invariant-loop-token g l =
+abbrev pub invariant-loop-value : goal.invariant-loop-value
+invariant-loop-value g l =
     (work_left (g.S.Source.left l.source) l.self.pending ≤ work_left (g.S.Source.left l.initial.source) l.initial.self.pending)
     × (IsLinked l.initial.self.beyond (g.S.Read.remaining l.initial.source)
     → IsLinked l.self.beyond (g.S.Read.remaining l.source)
     × PassesGap (prepend_known l.initial.self.pending (g.S.Read.remaining l.initial.source))
     (prepend_known l.self.pending (g.S.Read.remaining l.source)))
 
-abbrev pub decreases-loop-token : goal.decreases-loop-token
-decreases-loop-token g l = g.S.Source.left l.source + to_meet l.self.beyond
+abbrev pub decreases-loop-value : goal.decreases-loop-value
+decreases-loop-value g l = g.S.Source.left l.source + to_meet l.self.beyond
