@@ -10,6 +10,7 @@ use crate::peer::Peer;
 use crate::turns::{send, turn};
 use crate::users::Users;
 use indexmap::IndexMap;
+use mio::event::Event;
 use mio::net::{UnixListener, UnixStream};
 use mio::{Events, Registry, Token};
 use ssi_hub::Hub;
@@ -42,8 +43,6 @@ pub(crate) struct Clients {
     accept_failed: bool,
     // whether a connection has more to do at once
     is_busy: bool,
-    // the direction of the last round
-    goes_up: bool,
 }
 
 impl Clients {
@@ -58,7 +57,6 @@ impl Clients {
             may_accept: false,
             accept_failed: false,
             is_busy: false,
-            goes_up: false,
         }
     }
 
@@ -83,13 +81,6 @@ impl Clients {
 
     fn wants_accept(&self) -> bool {
         self.may_accept && self.peers.len() < MOST_CLIENTS
-    }
-
-    /// Notes what the system has reported.
-    pub(crate) fn note(&mut self, events: &Events)
-        ensures { self.new.hub ≡ self.old.hub }
-    {
-        note_events(events, &mut self.peers, &mut self.may_accept);
     }
 
     /// Accepts the connections that wait, as far as there is room.
@@ -138,9 +129,22 @@ impl Clients {
         }
     }
 
-    /// Gives each connection that is due its turn, in the other direction than the last time: so one that has its turn late
-    /// in a round has it early in the next.
+    /// Gives each connection that has more to do its turn, and then each of which the system has reported something, in this
+    /// order: who was ready first is served first.
     pub(crate) fn round<C: Chains + Drop, M: Marks + Drop>(
+        &mut self,
+        alloc: Global,
+        events: &Events,
+        store: &mut Store<C, M>,
+        room: &mut [u8],
+    )
+        ensures { HasRun (IsAt C.held M.marked) self.old.hub store.old self.new.hub store.new }
+    {
+        self.go_on(alloc, store, room);
+        self.take_all(alloc, events, store, room);
+    }
+
+    fn go_on<C: Chains + Drop, M: Marks + Drop>(
         &mut self,
         alloc: Global,
         store: &mut Store<C, M>,
@@ -148,13 +152,47 @@ impl Clients {
     )
         ensures { HasRun (IsAt C.held M.marked) self.old.hub store.old self.new.hub store.new }
     {
+        if !self.is_busy {
+            return;
+        }
         self.is_busy = false;
-        self.goes_up = !self.goes_up;
-        let len = self.peers.len();
-        for place in 0..len {
-            let index = if self.goes_up { place } else { len - 1 - place };
+        // One that is closed gives its place to the last one, which has had its turn.
+        for index in (0..self.peers.len()).rev() {
             self.turn_at(alloc, index, store, room);
         }
+    }
+
+    fn take_all<C: Chains + Drop, M: Marks + Drop>(
+        &mut self,
+        alloc: Global,
+        events: &Events,
+        store: &mut Store<C, M>,
+        room: &mut [u8],
+    )
+        ensures { HasRun (IsAt C.held M.marked) self.old.hub store.old self.new.hub store.new }
+    {
+        for event in events.iter() {
+            self.take(alloc, event, store, room);
+        }
+    }
+
+    fn take<C: Chains + Drop, M: Marks + Drop>(
+        &mut self,
+        alloc: Global,
+        event: &Event,
+        store: &mut Store<C, M>,
+        room: &mut [u8],
+    )
+        ensures { HasRun (IsAt C.held M.marked) self.old.hub store.old self.new.hub store.new }
+    {
+        if event.token() == LISTENER {
+            self.may_accept = true;
+            return;
+        }
+        let Some(index) = note(event, &mut self.peers) else {
+            return;
+        };
+        self.turn_at(alloc, index, store, room);
     }
 
     fn turn_at<C: Chains + Drop, M: Marks + Drop>(
@@ -188,16 +226,8 @@ impl Clients {
         let due = peer.is_due();
         self.is_busy = self.is_busy || due;
         if !due && !self.hub.is_open(token) {
-            self.remove_at(index);
+            let _ = self.peers.swap_remove_index(index);
         }
-    }
-
-    // The last one takes its place, and may miss its turn in this round.
-    fn remove_at(&mut self, index: usize)
-        ensures { self.new.hub ≡ self.old.hub }
-    {
-        let _ = self.peers.swap_remove_index(index);
-        self.is_busy = true;
     }
 
     /// Writes to the connections what they take at once.
@@ -230,12 +260,9 @@ fn users_for(alloc: Global, at_close: AtClose) -> Option<Users> {
     }
 }
 
-fn note_events(events: &Events, peers: &mut IndexMap<u64, Peer>, may_accept: &mut bool) {
-    for event in events.iter() {
-        if event.token() == LISTENER {
-            *may_accept = true;
-        } else if let Some(peer) = peers.get_mut(&(event.token().0 as u64)) {
-            peer.note(event);
-        }
-    }
+/// Notes what the system has reported of a connection. Returns its index, if it is there.
+fn note(event: &Event, peers: &mut IndexMap<u64, Peer>) -> Option<usize> {
+    let index = peers.get_index_of(&(event.token().0 as u64))?;
+    peers.get_index_mut(index)?.note(event);
+    Some(index)
 }

@@ -108,9 +108,8 @@ pub fn serve_together<C: Chains + Drop, M: Marks + Drop>(
         let Ok(()) = poll.poll(&mut events, clients.longest_wait()) else {
             return Served::SocketFault;
         };
-        clients.note(&events);
+        clients.round(alloc, &events, store, &mut room);
         clients.accept(alloc, listener, poll.registry());
-        clients.round(alloc, store, &mut room);
         if clients.is_stopped() {
             clients.write_all();
             return Served::Stopped;

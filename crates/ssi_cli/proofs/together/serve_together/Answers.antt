@@ -1,7 +1,6 @@
-use Rattle.std.proofs.Common.{◌∙◌, [], sym, subst}
+use Rattle.std.proofs.Common.{◌∙◌, [], sym}
 use Rattle.ssi_store.specs.Mirror.Stores.{IsAt}
-use Rattle.ssi_cli.specs.Machinery.HubRuns.{WasCalled}
-use Rattle.ssi_cli.proofs.HubRuns.{not_run, called_then_run, run_then_called, run_both, all_called}
+use Rattle.ssi_cli.proofs.HubRuns.{not_run, run_then_called, run_both, all_called}
 use Rattle.ssi_cli.proofs.together.serve_together.Goals as goal
 
 pub returns-in_default : goal.returns-in_default
@@ -39,16 +38,15 @@ returns-in_default-poll g c =
 
 pub returns-then-is_stopped : goal.returns-then-is_stopped
 returns-then-is_stopped g c =
-    let accepted = subst (λ h. WasCalled h c.accept.new.self.hub) c.note.ensures c.accept.ensures in
-    let round =
-    called_then_run (IsAt {g = g.C.Chains} {h = g.M.Marks} g.C.Chains.held g.M.Marks.marked) c.loop.clients.hub
-    c.accept.new.self.hub c.round.new.self.hub c.loop.store c.round.new.store accepted c.round.ensures in
     let run =
     run_both (IsAt {g = g.C.Chains} {h = g.M.Marks} g.C.Chains.held g.M.Marks.marked) c.new-clients.result.hub
-    c.loop.clients.hub c.round.new.self.hub c.args.store.now c.loop.store c.round.new.store c.loop.invariant.0 round in
+    c.loop.clients.hub c.round.new.self.hub c.args.store.now c.loop.store c.round.new.store c.loop.invariant.0 c.round.ensures in
+    let accepted =
+    run_then_called (IsAt {g = g.C.Chains} {h = g.M.Marks} g.C.Chains.held g.M.Marks.marked) c.new-clients.result.hub
+    c.round.new.self.hub c.accept.new.self.hub c.args.store.now c.round.new.store run c.accept.ensures in
     let written =
     run_then_called (IsAt {g = g.C.Chains} {h = g.M.Marks} g.C.Chains.held g.M.Marks.marked) c.new-clients.result.hub
-    c.round.new.self.hub c.write_all.new.self.hub c.args.store.now c.round.new.store run c.write_all.ensures in
+    c.accept.new.self.hub c.write_all.new.self.hub c.args.store.now c.round.new.store accepted c.write_all.ensures in
     let (calls, stands, went) =
     all_called (IsAt {g = g.C.Chains} {h = g.M.Marks} g.C.Chains.held g.M.Marks.marked) c.new-clients.result.hub
     c.write_all.new.self.hub c.args.store.now c.round.new.store c.new-clients.ensures.none written in
@@ -59,12 +57,11 @@ returns-then-is_stopped g c =
 
 pub loop-preserved : goal.loop-preserved
 loop-preserved g c =
-    let accepted = subst (λ h. WasCalled h c.accept.new.self.hub) c.note.ensures c.accept.ensures in
-    let round =
-    called_then_run (IsAt {g = g.C.Chains} {h = g.M.Marks} g.C.Chains.held g.M.Marks.marked) c.loop.clients.hub
-    c.accept.new.self.hub c.round.new.self.hub c.loop.store c.round.new.store accepted c.round.ensures in (
-      run_both (IsAt {g = g.C.Chains} {h = g.M.Marks} g.C.Chains.held g.M.Marks.marked) c.new-clients.result.hub
-          c.loop.clients.hub c.round.new.self.hub c.args.store.now c.loop.store c.round.new.store c.loop.invariant.0 round,
+    let run =
+    run_both (IsAt {g = g.C.Chains} {h = g.M.Marks} g.C.Chains.held g.M.Marks.marked) c.new-clients.result.hub
+    c.loop.clients.hub c.round.new.self.hub c.args.store.now c.loop.store c.round.new.store c.loop.invariant.0 c.round.ensures in (
+      run_then_called (IsAt {g = g.C.Chains} {h = g.M.Marks} g.C.Chains.held g.M.Marks.marked) c.new-clients.result.hub
+          c.round.new.self.hub c.accept.new.self.hub c.args.store.now c.round.new.store run c.accept.ensures,
       sym c.is_stopped.ensures ∙ c.if-is_stopped.false,
     )
 

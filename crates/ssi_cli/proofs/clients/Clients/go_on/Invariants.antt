@@ -1,7 +1,7 @@
 use Rattle.ssi_store.specs.Mirror.Stores.{IsAt}
 use Rattle.ssi_cli.specs.Machinery.HubRuns.{HasRun}
-use Rattle.ssi_cli.proofs.clients.Clients.round.Given as goal
+use Rattle.ssi_cli.proofs.clients.Clients.go_on.Given as goal
 
-abbrev pub invariant-loop-place : goal.invariant-loop-place
-invariant-loop-place g l =
+abbrev pub invariant-loop-index : goal.invariant-loop-index
+invariant-loop-index g l =
     HasRun (IsAt g.C.Chains.held g.M.Marks.marked) l.initial.self.hub l.initial.store l.self.hub l.store
