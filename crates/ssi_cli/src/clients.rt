@@ -260,9 +260,15 @@ fn users_for(alloc: Global, at_close: AtClose) -> Option<Users> {
     }
 }
 
-/// Notes what the system has reported of a connection. Returns its index, if it is there.
+/// Notes what the system has reported of a connection. Returns its index, if it is there and has a turn by that: one that had
+/// more to do already has its turn in the next round.
 fn note(event: &Event, peers: &mut IndexMap<u64, Peer>) -> Option<usize> {
     let index = peers.get_index_of(&(event.token().0 as u64))?;
-    peers.get_index_mut(index)?.note(event);
+    let peer = peers.get_index_mut(index)?;
+    let had_more = peer.is_due();
+    peer.note(event);
+    if had_more {
+        return None;
+    }
     Some(index)
 }
