@@ -1,19 +1,20 @@
 -- That a verdict names a syntax fault of the history exactly if the text has one.
 use Rattle.std.proofs.Common.{◌≡◌, ℕ, List, Option, Some, None, IfSome, Ok, Err, sym, ◌∙◌, ap, subst}
 use Rattle.adya_values.specs.declared.history.History.{History}
-use Rattle.adya_values.specs.Mirror.{history_of}
+use Rattle.adya_values.specs.Mirror.Histories.{history_of}
 use Rattle.adya_values.specs.Computing.Faults.{first_fault}
 use Rattle.adya_values.specs.Computing.Certificates.{lists_the_committed, first_backward}
 use Rattle.adya_text.specs.declared.read_fault.ReadFault.TheVariants.{Syntax}
 use Rattle.adya_text.specs.declared.read_fault.Text.{Text}
 use Rattle.adya_text.specs.declared.read_fault.Text.TheVariants as Of
-use Rattle.adya_text.specs.Meaning.Texts.{AreHistoryLines}
-use Rattle.adya_text.specs.Meaning.Faults.{IsFaultLine}
+use Rattle.adya_text.specs.Clauses.Grammars.{AreHistoryLines}
+use Rattle.adya_text.specs.Clauses.Faults.{IsFaultLine}
 use Rattle.adya_text.specs.Laws.{HasOneFaultLine, HasNoFaultWithin}
-use Rattle.adya_text.specs.Meaning.Reading.{ReadsHistory}
-use Rattle.adya_audit.specs.Meaning.Verdicts.{Verdict, verdict_of}
+use Rattle.adya_text.specs.Clauses.Reading.{ReadsHistory}
+use Rattle.adya_audit.specs.Meaning.Verdicts.{Verdict}
+use Rattle.adya_audit.specs.Computing.Verdicts.{verdict_of}
 use Rattle.adya_audit.specs.Meaning.Verdicts as Said
-use Rattle.adya_audit.specs.Meaning.TextVerdicts.{NamesHistoryFault}
+use Rattle.adya_audit.specs.Clauses.TextVerdicts.{NamesHistoryFault}
 use Rattle.adya_audit.proofs.TextVerdicts.{history_fault, no_syntax, text_read}
 use Rattle.adya_audit.proofs.YesIffTextsAccepted.{no_history_fault}
 

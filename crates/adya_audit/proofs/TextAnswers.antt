@@ -4,16 +4,17 @@ use Rattle.std.proofs.lemmas.List.Elements.{All-contains, All-from_recursion}
 use Rattle.adya_values.specs.declared.history.History.{History as HistoryValue}
 use Rattle.adya_values.specs.Meaning.Keys.{IsTxn}
 use Rattle.adya_values.specs.Meaning.Histories.{History, Event, Write, Delete, Read, Scan, Commit, Abort}
-use Rattle.adya_values.specs.Mirror.{history_of}
+use Rattle.adya_values.specs.Mirror.Histories.{history_of}
 use Rattle.adya_values.specs.Meaning.Events.{commits, is_committed}
-use Rattle.adya_values.specs.Meaning.Acceptance.{IsAccepted}
+use Rattle.adya_values.specs.Clauses.Acceptance.{IsAccepted}
 use Rattle.adya_line.specs.Meaning.Limits.{IsEvent}
 use Rattle.adya_text.specs.Meaning.Texts.{IsHistory, IsSerial, serial_text}
 use Rattle.adya_text.specs.Laws.{HistoriesDiffer}
-use Rattle.adya_text.specs.Meaning.Reading.{ReadsHistory}
-use Rattle.adya_audit.specs.Meaning.TextVerdicts.{IsTextOf, AreAccepted}
+use Rattle.adya_text.specs.Clauses.Reading.{ReadsHistory}
+use Rattle.adya_audit.specs.Clauses.TextVerdicts.{AreAccepted}
+use Rattle.adya_audit.specs.Meaning.Serializable.{IsTextOf}
 use Rattle.adya_audit.specs.Laws.Texts.{AcceptedTextsAreSerializable}
-use Rattle.adya_audit.specs.Meaning.Answers.{Answer, Certificate, Cycle, Refusal, IsAnswerOn, IsAnswer}
+use Rattle.adya_audit.specs.Clauses.Answers.{Answer, Certificate, Cycle, Refusal, IsAnswerOn, IsAnswer}
 use Rattle.lemmas.proofs.Booleans.{cond-positive}
 use Rattle.lemmas.proofs.Counts.{count, count_contained}
 use Rattle.lemmas.proofs.Members.{recursion-from_contained}

@@ -1,26 +1,25 @@
 -- The verdict on what was read of two texts.
-use Rattle.std.proofs.Common.{◌≡◌, ℕ, Bool, true, false, cond, List, Option, Some, None, IfSome, Ok}
-use Rattle.std.proofs.Common.{Err}
+use Rattle.std.proofs.Common.{◌≡◌, ℕ, Bool, true, false, cond, List, Option, Some, None, IfSome, Ok, Err}
 use Rattle.adya_values.specs.Computing.Faults as faults
 use Rattle.adya_values.specs.declared.history.History.{History}
 use Rattle.adya_values.specs.declared.serial.Serial.{Serial}
 use Rattle.adya_values.specs.Meaning.Histories.{History as Plain}
 use Rattle.adya_values.specs.Meaning.Edges.{Edge}
-use Rattle.adya_values.specs.Mirror.{history_of}
+use Rattle.adya_values.specs.Mirror.Histories.{history_of}
 use Rattle.adya_values.specs.Computing.Faults.{Fault, first_fault}
 use Rattle.adya_values.specs.Computing.Certificates.{lists_the_committed, first_backward}
 use Rattle.adya_text.specs.declared.read_fault.ReadFault.TheVariants.{Syntax}
 use Rattle.adya_text.specs.declared.read_fault.Text.{Text}
 use Rattle.adya_text.specs.declared.read_fault.Text.TheVariants as Of
-use Rattle.adya_text.specs.Meaning.Texts.{AreHistoryLines}
-use Rattle.adya_text.specs.Meaning.Faults.{IsFaultLine}
-use Rattle.adya_text.specs.Meaning.Streams.{history_part, serial_part}
-use Rattle.adya_text.specs.Meaning.Reading.{ReadsHistory}
-use Rattle.adya_text.specs.Meaning.Reading.{ReadsSerial, ReadsTexts}
+use Rattle.adya_text.specs.Clauses.Grammars.{AreHistoryLines}
+use Rattle.adya_text.specs.Clauses.Faults.{IsFaultLine}
+use Rattle.adya_text.specs.Clauses.Streams.{history_part, serial_part}
+use Rattle.adya_text.specs.Clauses.Reading.{ReadsHistory, ReadsSerial, ReadsTexts}
 use Rattle.adya_audit.specs.Meaning.Verdicts.{Verdict, Yes, Malformed, AbortedRead, IntermediateRead, NotTheCommitted, Backward}
-use Rattle.adya_audit.specs.Meaning.Verdicts.{edge_verdict, fault_verdict, verdict_of}
+use Rattle.adya_audit.specs.Computing.Verdicts.{edge_verdict, fault_verdict, verdict_of}
 use Rattle.adya_audit.specs.Meaning.Verdicts as Said
-use Rattle.adya_audit.specs.Meaning.TextVerdicts.{IsTextOf, IsSerialTextOf, HaveVerdict, IsVerdictOn, IsVerdictOnStream}
+use Rattle.adya_audit.specs.Clauses.TextVerdicts.{HaveVerdict, IsVerdictOn, IsVerdictOnStream}
+use Rattle.adya_audit.specs.Meaning.Serializable.{IsTextOf, IsSerialTextOf}
 
 -- a syntax fault of a reader is of the text that it reads
 pub history_fault : (h : List ℕ) (text : Text) (line : ℕ) → ReadsHistory h (Err (Syntax text line))

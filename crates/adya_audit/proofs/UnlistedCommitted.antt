@@ -4,7 +4,7 @@ use Rattle.std.proofs.lemmas.Bool.{both_ways, cases_Bool}
 use Rattle.adya_values.specs.Meaning.Histories.{History}
 use Rattle.adya_values.specs.Meaning.Events.{is_committed}
 use Rattle.adya_values.specs.Meaning.Edges.{Edge}
-use Rattle.adya_values.specs.Meaning.Acceptance.{IsChecked, ListsTheCommitted}
+use Rattle.adya_values.specs.Clauses.Acceptance.{IsChecked, ListsTheCommitted}
 use Rattle.adya_values.specs.Computing.Shapes.{is_shape}
 use Rattle.adya_values.specs.Computing.Faults.{Fault, first_fault}
 use Rattle.adya_values.specs.Computing.Faults as faults
@@ -12,7 +12,8 @@ use Rattle.adya_values.specs.Computing.Certificates.{lists_the_committed, first_
 use Rattle.adya_values.proofs.ListsExactly.{counts_from_test, test_from_counts}
 use Rattle.adya_values.proofs.Writes.{committed_source}
 use Rattle.adya_rules.specs.Laws.Faults.{CheckedIffNoFault}
-use Rattle.adya_audit.specs.Meaning.Verdicts.{NotTheCommitted, edge_verdict, certificate_verdict, fault_verdict, verdict_of}
+use Rattle.adya_audit.specs.Meaning.Verdicts.{NotTheCommitted}
+use Rattle.adya_audit.specs.Computing.Verdicts.{edge_verdict, certificate_verdict, fault_verdict, verdict_of}
 use Rattle.adya_audit.specs.Laws.Verdicts.{NotTheCommittedIffUnlisted}
 
 unlisted : (f : Option Fault) (b : Bool) (o : Option Edge)

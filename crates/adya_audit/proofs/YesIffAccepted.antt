@@ -1,6 +1,5 @@
 -- When a verdict is yes.
-use Rattle.std.proofs.Common.{◌≡◌, ◌↔◌, ℕ, Bool, true, false, cond, List, Option, Some, None, Result, Ok, Err, IfOk}
-use Rattle.std.proofs.Common.{refl, sym, ◌∙◌, ap}
+use Rattle.std.proofs.Common.{◌≡◌, ◌↔◌, ℕ, Bool, true, false, cond, List, Option, Some, None, Result, Ok, Err, IfOk, refl, sym, ◌∙◌, ap}
 use Rattle.std.specs.declared.alloc.AllocError.{AllocError}
 use Rattle.adya_values.specs.Computing.Faults as faults
 use Rattle.adya_values.specs.Meaning.Histories.{History}
@@ -8,13 +7,13 @@ use Rattle.adya_values.specs.Computing.Shapes.{is_shape}
 use Rattle.adya_values.specs.Meaning.Edges.{Edge}
 use Rattle.adya_values.specs.Computing.Faults.{Fault, first_fault}
 use Rattle.adya_values.specs.Computing.Certificates.{lists_the_committed, first_backward}
-use Rattle.adya_values.specs.Meaning.Acceptance.{IsAccepted}
+use Rattle.adya_values.specs.Clauses.Acceptance.{IsAccepted}
 use Rattle.adya_rules.specs.Laws.Faults.{CheckedIfNoFault, CheckedIffNoFault}
 use Rattle.adya_laws.specs.Laws.{AcceptedIffForward}
 use Rattle.adya_audit.specs.declared.verdict.Verdict.{Verdict as VerdictValue}
 use Rattle.adya_audit.specs.declared.verdict.Verdict.TheVariants as Said
-use Rattle.adya_audit.specs.Meaning.Verdicts.{Verdict, Yes, NotTheCommitted, plain_verdict, edge_verdict, certificate_verdict}
-use Rattle.adya_audit.specs.Meaning.Verdicts.{fault_verdict, verdict_of}
+use Rattle.adya_audit.specs.Meaning.Verdicts.{Verdict, Yes, NotTheCommitted}
+use Rattle.adya_audit.specs.Computing.Verdicts.{plain_verdict, edge_verdict, certificate_verdict, fault_verdict, verdict_of}
 use Rattle.adya_audit.specs.Laws.Verdicts.{YesIffAccepted, AcceptedIsSerializable}
 use Rattle.adya_audit.specs.Meaning.Serializable.{IsSerializableBy}
 

@@ -4,17 +4,20 @@ use Rattle.std.specs.List.{AllByRecursion, list_all}
 use Rattle.std.proofs.lemmas.Bool.{and_from}
 use Rattle.adya_values.specs.Meaning.Histories.{History, Order}
 use Rattle.adya_values.specs.Computing.Shapes.{is_shape}
-use Rattle.adya_values.specs.Meaning.Acceptance.{IsAccepted}
+use Rattle.adya_values.specs.Clauses.Acceptance.{IsAccepted}
 use Rattle.adya_line.specs.Meaning.Limits.{IsOrder}
 use Rattle.adya_text.specs.declared.read_fault.Text.TheVariants as Of
-use Rattle.adya_text.specs.Meaning.Texts.{IsHistory, history_lines, serial_lines, AreHistoryLines, AreSerialLines}
-use Rattle.adya_text.specs.Meaning.Faults.{IsFaultLine}
+use Rattle.adya_text.specs.Meaning.Texts.{IsHistory, history_lines, serial_lines}
+use Rattle.adya_text.specs.Clauses.Grammars.{AreHistoryLines, AreSerialLines}
+use Rattle.adya_text.specs.Clauses.Faults.{IsFaultLine}
 use Rattle.adya_text.specs.Laws.{HistoriesDiffer, SerialsDiffer, HasNoFaultWithin}
 use Rattle.adya_audit.specs.declared.verdict.Verdict.{Verdict as VerdictValue}
 use Rattle.adya_audit.specs.declared.verdict.Verdict.TheVariants as Said
-use Rattle.adya_audit.specs.Meaning.Verdicts.{Verdict, Yes, Syntax, Malformed, AbortedRead, IntermediateRead, NotTheCommitted, Backward, plain_verdict}
+use Rattle.adya_audit.specs.Meaning.Verdicts.{Verdict, Yes, Syntax, Malformed, AbortedRead, IntermediateRead, NotTheCommitted, Backward}
+use Rattle.adya_audit.specs.Computing.Verdicts.{plain_verdict}
 use Rattle.adya_audit.specs.Laws.Verdicts.{YesIffAccepted, AcceptedIsSerializable}
-use Rattle.adya_audit.specs.Meaning.TextVerdicts.{IsTextOf, IsSerialTextOf, HaveVerdict, IsVerdictOn, AreAccepted}
+use Rattle.adya_audit.specs.Clauses.TextVerdicts.{HaveVerdict, IsVerdictOn, AreAccepted}
+use Rattle.adya_audit.specs.Meaning.Serializable.{IsTextOf, IsSerialTextOf}
 use Rattle.adya_audit.specs.Laws.Texts.{YesIffTextsAccepted, AcceptedTextsAreSerializable, AcceptedTextsGetYes}
 use Rattle.adya_audit.proofs.YesIffAccepted.{plain_yes}
 

@@ -1,9 +1,9 @@
 //! A certificate of a history, a cycle, or the verdict on it: finding it and writing it.
 
 ghost use Rattle.std.specs.Prelude.{IfOk};
-ghost use Rattle.adya_values.specs.Mirror.{history_of};
-ghost use Rattle.devices.specs.Meaning.Writing.{Wrote};
-ghost use Rattle.adya_audit.specs.Meaning.Answers.{Tells, IsAnswerOn, answer_of, answer_text};
+ghost use Rattle.adya_values.specs.Mirror.Histories.{history_of};
+ghost use Rattle.devices.specs.Clauses.Writing.{Wrote};
+ghost use Rattle.adya_audit.specs.Clauses.Answers.{Tells, IsAnswerOn, answer_of, answer_text};
 
 use crate::auditor::refusal;
 use crate::cycle::write_cycle;

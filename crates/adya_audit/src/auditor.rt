@@ -1,9 +1,9 @@
 //! The verdict on a history and a certificate.
 
 ghost use Rattle.std.specs.Prelude.{◌≡◌, ◌↔◌, IfOk};
-ghost use Rattle.adya_values.specs.Mirror.{history_of, serial_txns};
-ghost use Rattle.adya_values.specs.Meaning.Acceptance.{IsAccepted};
-ghost use Rattle.adya_audit.specs.Meaning.Verdicts.{plain_verdict, verdict_of};
+ghost use Rattle.adya_values.specs.Mirror.Histories.{history_of, serial_txns};
+ghost use Rattle.adya_values.specs.Clauses.Acceptance.{IsAccepted};
+ghost use Rattle.adya_audit.specs.Computing.Verdicts.{plain_verdict, verdict_of};
 ghost use Rattle.adya_audit.specs.Meaning.Serializable.{IsSerializableBy};
 ghost use Rattle.adya_audit.specs.Machinery.Refusals.{Refuses};
 

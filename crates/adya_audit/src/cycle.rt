@@ -1,9 +1,9 @@
 //! Writing cycles.
 
 ghost use Rattle.std.specs.Prelude.{map, flat_map};
-ghost use Rattle.devices.specs.Meaning.Writing.{Wrote};
+ghost use Rattle.devices.specs.Clauses.Writing.{Wrote};
 ghost use Rattle.adya_dsg.specs.Mirror.{edge_of};
-ghost use Rattle.adya_audit.specs.Meaning.Output.{edge_line, cycle_text};
+ghost use Rattle.adya_audit.specs.Clauses.Output.{edge_line, cycle_text};
 
 use crate::writing::put_edge;
 use crate::{Edge, WriteFault};

@@ -1,9 +1,9 @@
 //! The verdict on a certificate of a checked history.
 
 ghost use Rattle.std.specs.Prelude.{◌≡◌, IfOk};
-ghost use Rattle.adya_terms.specs.Meaning.Checked.{checked_history};
-ghost use Rattle.adya_values.specs.Mirror.{serial_txns};
-ghost use Rattle.adya_audit.specs.Meaning.Verdicts.{plain_verdict, certificate_verdict};
+ghost use Rattle.adya_terms.specs.Clauses.Checked.{checked_history};
+ghost use Rattle.adya_values.specs.Mirror.Histories.{serial_txns};
+ghost use Rattle.adya_audit.specs.Computing.Verdicts.{plain_verdict, certificate_verdict};
 
 use crate::Verdict;
 use crate::exactly_the_committed::lists_the_committed;

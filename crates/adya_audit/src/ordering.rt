@@ -2,9 +2,9 @@
 
 ghost use Rattle.std.specs.Prelude.{◌≡◌, ◌≢◌, false, true, IfOk, IfErr, OnOk, IsErrOf};
 ghost use Rattle.devices.specs.Mirror.{has_failed};
-ghost use Rattle.devices.specs.Meaning.Writing.{Grew};
-ghost use Rattle.adya_audit.specs.Meaning.Inputs.{OnText};
-ghost use Rattle.adya_audit.specs.Meaning.Answers.{Answer as Plain, Tells, IsAnswer, answer_of, answer_text};
+ghost use Rattle.devices.specs.Clauses.Writing.{Grew};
+ghost use Rattle.adya_audit.specs.Clauses.Inputs.{OnText};
+ghost use Rattle.adya_audit.specs.Clauses.Answers.{Answer as Plain, Tells, IsAnswer, answer_of, answer_text};
 
 use crate::answer::{Answer, answer_on, write_answer};
 use crate::laws::accepted_texts_are_serializable;

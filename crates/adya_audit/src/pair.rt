@@ -2,11 +2,12 @@
 
 ghost use Rattle.std.specs.Prelude.{◌≡◌, ◌≢◌, ◌↔◌, ◌⊎◌, ℕ, false, true, IfOk, IfErr, OnOk, IsErrOf};
 ghost use Rattle.devices.specs.Mirror.{has_failed};
-ghost use Rattle.devices.specs.Meaning.Writing.{Grew};
-ghost use Rattle.adya_audit.specs.Meaning.Inputs.{OnText, OnTexts};
-ghost use Rattle.adya_audit.specs.Meaning.Verdicts.{plain_verdict};
-ghost use Rattle.adya_audit.specs.Meaning.Output.{verdict_line};
-ghost use Rattle.adya_audit.specs.Meaning.TextVerdicts.{IsVerdictOn, NamesHistoryFault, AreAccepted, AreSerializable};
+ghost use Rattle.devices.specs.Clauses.Writing.{Grew};
+ghost use Rattle.adya_audit.specs.Clauses.Inputs.{OnText, OnTexts};
+ghost use Rattle.adya_audit.specs.Computing.Verdicts.{plain_verdict};
+ghost use Rattle.adya_audit.specs.Clauses.Output.{verdict_line};
+ghost use Rattle.adya_audit.specs.Clauses.TextVerdicts.{IsVerdictOn, NamesHistoryFault, AreAccepted};
+ghost use Rattle.adya_audit.specs.Meaning.Serializable.{AreSerializable};
 
 use crate::laws::{accepted_texts_are_serializable, yes_iff_texts_accepted};
 use crate::{RunFault, Text, Verdict, audit, write_verdict};

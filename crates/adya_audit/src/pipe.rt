@@ -2,11 +2,11 @@
 
 ghost use Rattle.std.specs.Prelude.{◌≡◌, ◌≢◌, ◌↔◌, false, true, IfOk, IfErr, OnOk, IsErrOf};
 ghost use Rattle.devices.specs.Mirror.{has_failed};
-ghost use Rattle.devices.specs.Meaning.Writing.{Grew};
-ghost use Rattle.adya_audit.specs.Meaning.Inputs.{OnText};
-ghost use Rattle.adya_audit.specs.Meaning.Verdicts.{plain_verdict};
-ghost use Rattle.adya_audit.specs.Meaning.Output.{verdict_line};
-ghost use Rattle.adya_audit.specs.Meaning.TextVerdicts.{IsVerdictOnStream, IsAcceptedStream, IsSerializableStream};
+ghost use Rattle.devices.specs.Clauses.Writing.{Grew};
+ghost use Rattle.adya_audit.specs.Clauses.Inputs.{OnText};
+ghost use Rattle.adya_audit.specs.Computing.Verdicts.{plain_verdict};
+ghost use Rattle.adya_audit.specs.Clauses.Output.{verdict_line};
+ghost use Rattle.adya_audit.specs.Clauses.TextVerdicts.{IsVerdictOnStream, IsAcceptedStream, IsSerializableStream};
 
 use crate::laws::{accepted_texts_are_serializable, yes_iff_texts_accepted};
 use crate::{RunFault, Verdict, audit, write_verdict};

@@ -1,11 +1,11 @@
 //! Writing verdicts and edges.
 
 ghost use Rattle.std.specs.Prelude.{◌++◌, codes, decimal};
-ghost use Rattle.devices.specs.Meaning.Writing.{Wrote};
+ghost use Rattle.devices.specs.Clauses.Writing.{Wrote};
 ghost use Rattle.adya_line.specs.Meaning.Spelling.{version_text};
 ghost use Rattle.adya_dsg.specs.Mirror.{kind_of, edge_of};
-ghost use Rattle.adya_audit.specs.Meaning.Verdicts.{plain_verdict};
-ghost use Rattle.adya_audit.specs.Meaning.Output.{text_name, rule_name, kind_name, edge_text, verdict_text, verdict_line};
+ghost use Rattle.adya_audit.specs.Computing.Verdicts.{plain_verdict};
+ghost use Rattle.adya_audit.specs.Clauses.Output.{text_name, rule_name, kind_name, edge_text, verdict_text, verdict_line};
 
 use crate::{Edge, Kind, Text, Verdict, WriteFault};
 use adya_line::write_version;
@@ -105,7 +105,7 @@ fn put_backward<W: Write>(edge: &Edge, out: &mut Watched<W>) -> io::Result<()>
 }
 
 /// Writes the edge as `KIND K FROM TO`.
-#[tactic(auto, unfolding(crate::specs::Meaning::Output::edge_text))]
+#[tactic(auto, unfolding(crate::specs::Clauses::Output::edge_text))]
 pub(crate) fn put_edge<W: Write>(edge: &Edge, out: &mut Watched<W>) -> io::Result<()>
     ensures { Wrote W.contents out.old out.new (edge_text (edge_of edge.now)) result }
 {

@@ -8,11 +8,11 @@ use Rattle.adya_values.specs.Meaning.Events.{is_committed}
 use Rattle.adya_values.specs.Computing.EdgeList.{edge_list}
 use Rattle.adya_values.specs.Meaning.Edges.{Kind, Ww, Wr, Rw, Edge, IsEdge, IsPath, IsCycle}
 use Rattle.adya_values.specs.Meaning.Phenomena.{HasG1c, HasG2}
-use Rattle.adya_values.specs.Meaning.Acceptance.{IsBefore, IsChecked, IsAccepted}
+use Rattle.adya_values.specs.Clauses.Acceptance.{IsBefore, IsChecked, IsAccepted}
 use Rattle.adya_laws.specs.Laws.{EdgeListIsExact, AcceptedHasNoPhenomenon}
 use Rattle.digraph.specs.declared.arc.Arc.{Arc}
 use Rattle.adya_dsg.specs.Machinery.Arcs.{ends, AreEnds, Decide}
-use Rattle.digraph.specs.Meaning.Graphs.{IsGraph, IsTopologicalOrder, IsPath as IsArcPath, IsCycle as IsArcCycle}
+use Rattle.digraph.specs.Clauses.Graphs.{IsGraph, IsTopologicalOrder, IsPath as IsArcPath, IsCycle as IsArcCycle}
 use Rattle.digraph.specs.Laws.{CycleExcludesOrder, OrderOrCycleExists}
 use Rattle.lemmas.proofs.Members.{Contains-map, map-source, recursion-from_contained}
 use Rattle.adya_dsg.specs.Machinery.Nodes.{committed}
@@ -20,7 +20,7 @@ use Rattle.adya_dsg.specs.Machinery.Along.{first_along}
 use Rattle.adya_dsg.specs.declared.found.Found.{Found}
 use Rattle.adya_dsg.specs.declared.found.Found.TheVariants.{Serial, Cycle}
 use Rattle.adya_dsg.specs.Mirror.{edge_of}
-use Rattle.adya_dsg.specs.Meaning.Found.{IsFound, NoneBesideCycle}
+use Rattle.adya_dsg.specs.Clauses.Found.{IsFound, NoneBesideCycle}
 use Rattle.adya_dsg.specs.Laws.{CycleExcludesCertificates, EdgesJoinCommitted, CertifiedIffNoPhenomenon}
 use Rattle.adya_dsg.proofs.FirstAlong.{ends_equal, first_edges_along}
 use Rattle.adya_dsg.proofs.CommittedNodes.{committed_are_nodes}

@@ -7,7 +7,7 @@ use Rattle.adya_values.specs.Meaning.Histories.{History}
 use Rattle.adya_values.specs.Meaning.Orders.{writers, installer}
 use Rattle.adya_values.specs.Meaning.Edges.{Ww, Edge}
 use Rattle.adya_values.specs.Computing.EdgeList.{numbers, places, joined, write_edges}
-use Rattle.adya_values.specs.Meaning.Acceptance.{IsBefore}
+use Rattle.adya_values.specs.Clauses.Acceptance.{IsBefore}
 use Rattle.adya_values.proofs.EdgeList.{Contains-joined, Contains-places}
 use Rattle.lemmas.proofs.Members.{Contains-flat_map}
 

@@ -6,8 +6,8 @@ use Rattle.adya_values.specs.Meaning.Histories.{History}
 use Rattle.adya_values.specs.Meaning.Events.{last_write, is_committed}
 use Rattle.adya_values.specs.Meaning.Orders.{writers, installer}
 use Rattle.adya_values.specs.Meaning.Edges.{Kind, Ww, Wr, Rw, Edge, IsEdge, Depends}
-use Rattle.adya_values.specs.Meaning.Rules.{installs}
-use Rattle.adya_values.specs.Meaning.Acceptance.{IsChecked}
+use Rattle.adya_values.specs.Clauses.Rules.{installs}
+use Rattle.adya_values.specs.Clauses.Acceptance.{IsChecked}
 
 module _ (h : History) (checked : IsChecked h) where
   -- whoever is in the version order of a key is committed

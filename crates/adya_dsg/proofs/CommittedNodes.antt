@@ -11,7 +11,8 @@ use Rattle.std.proofs.lemmas.List.{take_more, map-append, append-nil}
 use Rattle.std.proofs.lemmas.List.Elements.{filter_map-append, All-contains}
 use Rattle.adya_values.specs.declared.event.Event.{Event as EventValue}
 use Rattle.adya_values.specs.declared.event.Event.TheVariants as In
-use Rattle.adya_values.specs.Meaning.Histories.{Event, Write, Delete, Read, Scan, Commit, Abort, event_of}
+use Rattle.adya_values.specs.Meaning.Histories.{Event, Write, Delete, Read, Scan, Commit, Abort}
+use Rattle.adya_values.specs.Mirror.Events.{event_of}
 use Rattle.adya_values.specs.Meaning.Events.{is_committed}
 use Rattle.adya_dsg.specs.Machinery.Nodes.{committer, committed}
 

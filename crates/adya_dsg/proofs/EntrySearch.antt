@@ -1,13 +1,13 @@
 -- What a search among a scan's entries finds, if their keys rise.
-use Rattle.std.proofs.Common.{◌≡◌, ℕ, zero, suc, ◌<◌, true, cond, List, [], ◌∷◌, map, length, get_or, nat_cmp, Some, None, refl, sym, ◌∙◌, ap, subst, arith}
-use Rattle.std.proofs.Common.{Ok, Err}
+use Rattle.std.proofs.Common.{◌≡◌, ℕ, zero, suc, ◌<◌, true, cond, List, [], ◌∷◌, map, length, get_or, nat_cmp, Some, None, refl, sym, ◌∙◌, ap, subst, arith, Ok, Err}
 use Rattle.std.specs.Cmp.Lexicographic.{slice_cmp}
 use Rattle.std.specs.List.Sorted.{IsBinarySearchResult}
 use Rattle.std.proofs.lemmas.Bool.{false_from_ne_true}
 use Rattle.std.proofs.lemmas.Simd.{map-map}
 use Rattle.adya_values.specs.declared.event.Entry.{Entry as EntryValue}
 use Rattle.adya_values.specs.Meaning.Keys.{key_eq, key_lt, keys_rise}
-use Rattle.adya_values.specs.Meaning.Histories.{Entry, entry_of}
+use Rattle.adya_values.specs.Meaning.Histories.{Entry}
+use Rattle.adya_values.specs.Mirror.Events.{entry_of}
 use Rattle.adya_values.specs.Meaning.Events.{listed}
 use Rattle.lemmas.proofs.Orderings.{bytes_eq-same, bytes_eq-itself, tied_bytes, search_misses}
 use Rattle.adya_dsg.proofs.Keys.{key_eq-lt, rises_at}

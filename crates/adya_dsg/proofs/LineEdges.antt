@@ -2,7 +2,8 @@
 use Rattle.std.proofs.Common.{◌≡◌, ◌<◌, ℕ, zero, suc, true, List, [], ◌∷◌, ◌++◌, map, flat_map, length, get_or, slice_get, refl, sym, ◌∙◌, ap, arith}
 use Rattle.adya_values.specs.declared.order.Order.{Order as OrderValue}
 use Rattle.adya_values.specs.Meaning.Keys.{keys_rise}
-use Rattle.adya_values.specs.Meaning.Histories.{Order, History, order_of}
+use Rattle.adya_values.specs.Meaning.Histories.{Order, History}
+use Rattle.adya_values.specs.Mirror.Events.{order_of}
 use Rattle.adya_values.specs.Meaning.Orders.{line_of, writers, installer}
 use Rattle.adya_values.specs.Meaning.Edges.{Ww, Edge}
 use Rattle.adya_values.specs.Computing.EdgeList.{numbers, joined, write_edges}

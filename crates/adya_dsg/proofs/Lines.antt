@@ -7,9 +7,10 @@ use Rattle.std.proofs.lemmas.Simd.{map-map}
 use Rattle.adya_values.specs.declared.order.Order.{Order as OrderValue}
 use Rattle.adya_values.specs.Meaning.Keys.{key_lt, keys_rise}
 use Rattle.adya_values.specs.declared.history.History.{History as HistoryValue}
-use Rattle.adya_values.specs.Mirror.{history_of}
+use Rattle.adya_values.specs.Mirror.Events.{order_of, final_of}
+use Rattle.adya_values.specs.Mirror.Histories.{history_of}
 use Rattle.adya_values.specs.Computing.Shapes.{is_shape}
-use Rattle.adya_values.specs.Meaning.Histories.{History, Order, order_of, final_of}
+use Rattle.adya_values.specs.Meaning.Histories.{History, Order}
 use Rattle.adya_values.specs.Meaning.Orders.{place, line_of}
 use Rattle.adya_dsg.specs.Machinery.Choices.{key_of}
 use Rattle.adya_dsg.proofs.Keys.{line_of-at, rises_at}

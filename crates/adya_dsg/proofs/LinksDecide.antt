@@ -6,13 +6,14 @@ use Rattle.std.proofs.lemmas.Option.{none-some, same_Some}
 use Rattle.std.proofs.lemmas.List.{map-append}
 use Rattle.std.proofs.lemmas.List.Elements.{Contains-append_left, Contains-append_right, Contains-append_cases}
 use Rattle.adya_values.specs.declared.order.Order.{Order as OrderValue}
-use Rattle.adya_values.specs.Meaning.Histories.{Event, Order, History, order_of}
+use Rattle.adya_values.specs.Meaning.Histories.{Event, Order, History}
+use Rattle.adya_values.specs.Mirror.Events.{order_of}
 use Rattle.adya_values.specs.Meaning.Events.{txn_of, is_committed}
 use Rattle.adya_values.specs.Meaning.Orders.{place, installer}
 use Rattle.adya_values.specs.Meaning.Selections.{is_scan, changes_matches, selected, reads_from, overwritten_by}
 use Rattle.adya_values.specs.Meaning.Edges.{Wr, Rw, Edge}
 use Rattle.adya_values.specs.Computing.EdgeList.{places, joined, write_edges, read_edges, overwrite_edges, place_edges, event_edges, dependencies, edge_list}
-use Rattle.adya_values.specs.Meaning.Acceptance.{IsChecked, IsBefore}
+use Rattle.adya_values.specs.Clauses.Acceptance.{IsChecked, IsBefore}
 use Rattle.adya_values.specs.Computing.Certificates.{first_backward}
 use Rattle.adya_laws.specs.Laws.{EdgeListKeepsFirst, SelectedIsInstalled}
 use Rattle.digraph.specs.declared.arc.Arc.{Arc}

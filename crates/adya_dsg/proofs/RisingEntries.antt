@@ -2,8 +2,8 @@
 use Rattle.std.proofs.Common.{zero, suc, List, [], ◌∷◌, ◌++◌, subst, arith}
 use Rattle.std.specs.List.{Contains}
 use Rattle.adya_values.specs.Meaning.Histories.{Event, History}
-use Rattle.adya_values.specs.Meaning.Rules.{EachAfter, IsRising}
-use Rattle.adya_values.specs.Meaning.Acceptance.{IsChecked}
+use Rattle.adya_values.specs.Clauses.Rules.{EachAfter, IsRising}
+use Rattle.adya_values.specs.Clauses.Acceptance.{IsChecked}
 use Rattle.lemmas.proofs.Members.{none_contained}
 
 each_at : (P : Event → Type 0) (before es : List Event) (e : Event) → EachAfter (λ b x. P x) before es → Contains es e

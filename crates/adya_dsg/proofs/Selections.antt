@@ -11,7 +11,8 @@ use Rattle.adya_values.specs.declared.event.Entry.{Entry as EntryValue}
 use Rattle.adya_values.specs.declared.event.Event.{Event as EventValue}
 use Rattle.adya_values.specs.declared.event.Event.TheVariants as In
 use Rattle.adya_values.specs.Meaning.Keys.{key_eq, key_lt, key_le, keys_rise, lies_in}
-use Rattle.adya_values.specs.Meaning.Histories.{Read, Scan, Entry, Order, History, event_of}
+use Rattle.adya_values.specs.Meaning.Histories.{Read, Scan, Entry, Order, History}
+use Rattle.adya_values.specs.Mirror.Events.{event_of}
 use Rattle.adya_values.specs.Meaning.Events.{listed}
 use Rattle.adya_values.specs.Meaning.Orders.{place, writers}
 use Rattle.adya_values.specs.Meaning.Selections.{selected, place_of}

@@ -3,10 +3,10 @@ use Rattle.std.specs.Prelude.{◌≡◌, ◌⊎◌, ◌↔◌, true, List}
 use Rattle.adya_values.specs.Meaning.Histories.{Txns, History}
 use Rattle.adya_values.specs.Meaning.Events.{is_committed}
 use Rattle.adya_values.specs.Meaning.Edges.{Edge, IsEdge, IsCycle}
-use Rattle.adya_values.specs.Meaning.Rules.{IsWellFormed}
+use Rattle.adya_values.specs.Clauses.Rules.{IsWellFormed}
 use Rattle.adya_values.specs.Meaning.Phenomena.{HasG1, HasG1a, HasG1b, HasG2}
-use Rattle.adya_values.specs.Meaning.Acceptance.{IsBefore, IsChecked}
-use Rattle.adya_dsg.specs.Meaning.Found.{HasCertificate}
+use Rattle.adya_values.specs.Clauses.Acceptance.{IsBefore, IsChecked}
+use Rattle.adya_dsg.specs.Clauses.Found.{HasCertificate}
 
 -- if there is a cycle, each edge goes forward in no list of transactions
 abbrev pub CycleExcludesCertificates : Type 0

@@ -2,13 +2,13 @@
 
 ghost use Rattle.std.specs.Prelude.{◌≡◌, None, true, IfOk, map, option_map, filter, flat_map, Contains};
 ghost use Rattle.std.specs.List.{find};
-ghost use Rattle.adya_values.specs.Meaning.Histories.{event_of, order_of};
-ghost use Rattle.adya_values.specs.Mirror.{serial_txns};
+ghost use Rattle.adya_values.specs.Mirror.Events.{event_of, order_of};
+ghost use Rattle.adya_values.specs.Mirror.Histories.{serial_txns};
 ghost use Rattle.adya_values.specs.Meaning.Events.{txn_of, is_committed};
 ghost use Rattle.adya_values.specs.Computing.EdgeList.{write_edges, event_edges};
 ghost use Rattle.adya_values.specs.Computing.Certificates.{first_backward};
-ghost use Rattle.adya_values.specs.Meaning.Acceptance.{IsChecked};
-ghost use Rattle.adya_terms.specs.Meaning.Checked.{checked_history};
+ghost use Rattle.adya_values.specs.Clauses.Acceptance.{IsChecked};
+ghost use Rattle.adya_terms.specs.Clauses.Checked.{checked_history};
 ghost use Rattle.adya_dsg.specs.Machinery.VersionOrders.{ordered_history};
 ghost use Rattle.adya_dsg.specs.Mirror.{edge_of};
 ghost use Rattle.adya_dsg.specs.Machinery.PartEdges.{line_edges, is_backward};

@@ -1,10 +1,10 @@
 //! The places of an order line whose versions change what a scan of the key matches.
 
 ghost use Rattle.std.specs.Prelude.{◌≡◌, IfOk, Some, map, is_some, slice_get};
-ghost use Rattle.adya_values.specs.Meaning.Histories.{order_of};
+ghost use Rattle.adya_values.specs.Mirror.Events.{order_of};
 ghost use Rattle.adya_values.specs.Meaning.Events.{shown};
 ghost use Rattle.adya_values.specs.Meaning.Orders.{writers};
-ghost use Rattle.adya_terms.specs.Meaning.Checked.{checked_history, installed_at};
+ghost use Rattle.adya_terms.specs.Clauses.Checked.{checked_history, installed_at};
 ghost use Rattle.adya_dsg.specs.Machinery.Links.{changed_places};
 
 use adya_terms::Checked;

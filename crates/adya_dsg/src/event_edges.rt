@@ -1,7 +1,7 @@
 //! The edges of an event.
 
 ghost use Rattle.std.specs.Prelude.{◌≡◌, ◌<◌, ◌++◌, length, map, true, OnOk, Contains};
-ghost use Rattle.adya_values.specs.Meaning.Histories.{event_of};
+ghost use Rattle.adya_values.specs.Mirror.Events.{event_of};
 ghost use Rattle.adya_values.specs.Meaning.Selections.{is_scan};
 ghost use Rattle.adya_values.specs.Computing.EdgeList.{event_edges, read_edges, overwrite_edges};
 ghost use Rattle.adya_dsg.specs.Machinery.VersionOrders.{ordered_history, order_lines};

@@ -2,7 +2,7 @@
 
 ghost use Rattle.std.specs.Prelude.{◌≡◌, map, IfOk};
 ghost use Rattle.adya_values.specs.Meaning.Orders.{writers};
-ghost use Rattle.adya_terms.specs.Meaning.Checked.{checked_history};
+ghost use Rattle.adya_terms.specs.Clauses.Checked.{checked_history};
 ghost use Rattle.adya_dsg.specs.Machinery.Places.{tabled};
 
 use crate::txn_places::TxnPlaces;

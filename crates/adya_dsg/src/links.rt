@@ -1,10 +1,10 @@
 //! The links of a history: the few edges that decide whether all go forward.
 
 ghost use Rattle.std.specs.Prelude.{◌≡◌, ◌++◌, IfOk, OnOk, map, filter, flat_map};
-ghost use Rattle.adya_values.specs.Meaning.Histories.{order_of};
+ghost use Rattle.adya_values.specs.Mirror.Events.{order_of};
 ghost use Rattle.adya_values.specs.Meaning.Events.{txn_of, is_committed};
 ghost use Rattle.adya_values.specs.Computing.EdgeList.{edge_list};
-ghost use Rattle.adya_values.specs.Meaning.Acceptance.{IsChecked};
+ghost use Rattle.adya_values.specs.Clauses.Acceptance.{IsChecked};
 ghost use Rattle.adya_dsg.specs.Machinery.VersionOrders.{ordered_history};
 ghost use Rattle.adya_dsg.specs.Machinery.Arcs.{AreEnds, Decide, ends};
 ghost use Rattle.adya_dsg.specs.Machinery.PartEdges.{line_edges};

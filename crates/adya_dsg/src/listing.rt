@@ -3,7 +3,7 @@
 ghost use Rattle.std.specs.Prelude.{◌≡◌, ◌≢◌, IfOk, OnOk, map, fold};
 ghost use Rattle.std.specs.List.{AllPairs};
 ghost use Rattle.adya_values.specs.Computing.EdgeList.{with_edge, edge_list};
-ghost use Rattle.adya_terms.specs.Meaning.Checked.{checked_history};
+ghost use Rattle.adya_terms.specs.Clauses.Checked.{checked_history};
 ghost use Rattle.adya_dsg.specs.Machinery.VersionOrders.{ordered_history};
 ghost use Rattle.adya_dsg.specs.Mirror.{edge_of, AreEdges};
 

@@ -2,8 +2,8 @@
 
 ghost use Rattle.std.specs.Prelude.{◌≡◌, map, All, IfOk};
 ghost use Rattle.adya_values.specs.Meaning.Keys.{IsTxn};
-ghost use Rattle.adya_values.specs.Meaning.Histories.{event_of};
-ghost use Rattle.adya_values.specs.Mirror.{serial_txns};
+ghost use Rattle.adya_values.specs.Mirror.Events.{event_of};
+ghost use Rattle.adya_values.specs.Mirror.Histories.{serial_txns};
 ghost use Rattle.adya_dsg.specs.Machinery.Nodes.{committed};
 
 use adya_values::{Event, Serial, Txn};

@@ -3,17 +3,17 @@
 ghost use Rattle.std.specs.Prelude.{◌≡◌, ◌↔◌, All, IfOk, map};
 ghost use Rattle.std.specs.List.{list_any};
 ghost use Rattle.adya_values.specs.Meaning.Keys.{IsTxn};
-ghost use Rattle.adya_values.specs.Meaning.Histories.{event_of};
+ghost use Rattle.adya_values.specs.Mirror.Events.{event_of};
 ghost use Rattle.adya_values.specs.Meaning.Selections.{is_scan};
 ghost use Rattle.adya_values.specs.Computing.EdgeList.{edge_list};
-ghost use Rattle.adya_values.specs.Meaning.Acceptance.{IsChecked};
+ghost use Rattle.adya_values.specs.Clauses.Acceptance.{IsChecked};
 ghost use Rattle.adya_values.specs.Meaning.Phenomena.{HasG1, HasG2};
-ghost use Rattle.adya_terms.specs.Meaning.Checked.{checked_history};
+ghost use Rattle.adya_terms.specs.Clauses.Checked.{checked_history};
 ghost use Rattle.adya_dsg.specs.Machinery.Arcs.{IsSorted};
 ghost use Rattle.adya_dsg.specs.Mirror.{edge_of};
 ghost use Rattle.adya_dsg.specs.Machinery.VersionOrders.{ordered_history};
 ghost use Rattle.adya_dsg.specs.Machinery.Nodes.{committed};
-ghost use Rattle.adya_dsg.specs.Meaning.Found.{IsFound, NoneBesideCycle, HasCertificate};
+ghost use Rattle.adya_dsg.specs.Clauses.Found.{IsFound, NoneBesideCycle, HasCertificate};
 
 use crate::Found;
 use crate::along::edges_along;

@@ -2,7 +2,8 @@
 
 ghost use Rattle.std.specs.Prelude.{◌≡◌, ◌<◌, ℕ, List, length, map, true, IfOk, IfSome, All, Contains, option_map, option_to_list};
 ghost use Rattle.adya_values.specs.Meaning.Keys.{keys_rise};
-ghost use Rattle.adya_values.specs.Meaning.Histories.{event_of, entry_of, Read, Scan};
+ghost use Rattle.adya_values.specs.Meaning.Histories.{Read, Scan};
+ghost use Rattle.adya_values.specs.Mirror.Events.{event_of, entry_of};
 ghost use Rattle.adya_values.specs.Meaning.Events.{listed};
 ghost use Rattle.adya_values.specs.Meaning.Selections.{place_of};
 ghost use Rattle.adya_dsg.specs.Machinery.VersionOrders.{ordered_history, order_lines};

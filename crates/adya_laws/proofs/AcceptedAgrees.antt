@@ -3,14 +3,13 @@ use Rattle.std.proofs.Common.{◌≡◌, ℕ, suc, ◌==◌, ◌<◌, true, cond
 use Rattle.std.specs.List.{flat_map, Contains}
 use Rattle.std.proofs.lemmas.Bool.{cases_Bool, cases_lt, eqb-true, and_parts, cond-true}
 use Rattle.std.proofs.lemmas.List.Elements.{filter-append, Contains-append_left, Contains-append_right}
-use Rattle.adya_values.specs.Meaning.Histories.{Event}
-use Rattle.adya_values.specs.Meaning.Histories.{History}
+use Rattle.adya_values.specs.Meaning.Histories.{Event, History}
 use Rattle.adya_values.specs.Meaning.Events.{txn_of, is_committed}
 use Rattle.adya_values.specs.Meaning.Orders.{writers, value_at}
 use Rattle.adya_values.specs.Meaning.Keys.{keys_rise}
 use Rattle.adya_values.specs.Meaning.Serial.{pair, Contents, empty, after, run, events_of, AllSee, Agrees}
-use Rattle.adya_values.specs.Meaning.Rules.{EachAfter, WasWritten, SeesOwnWrites, IsRising}
-use Rattle.adya_values.specs.Meaning.Acceptance.{IsAccepted}
+use Rattle.adya_values.specs.Clauses.Rules.{EachAfter, WasWritten, SeesOwnWrites, IsRising}
+use Rattle.adya_values.specs.Clauses.Acceptance.{IsAccepted}
 use Rattle.adya_laws.proofs.SerialRuns.{run_own, run_append, AllSee-append}
 use Rattle.adya_laws.proofs.VersionOrders.{installer_installs}
 use Rattle.adya_laws.proofs.SerialContents.{HoldsVersion, holds-start, holds-step}

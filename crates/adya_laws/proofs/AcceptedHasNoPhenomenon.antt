@@ -5,7 +5,7 @@ use Rattle.adya_values.specs.Meaning.Histories.{History}
 use Rattle.adya_values.specs.Meaning.Orders.{place}
 use Rattle.adya_values.specs.Meaning.Edges.{Edge, IsEdge, IsPath, IsCycle}
 use Rattle.adya_values.specs.Meaning.Phenomena.{HasG1, HasG2}
-use Rattle.adya_values.specs.Meaning.Acceptance.{IsBefore, IsAccepted}
+use Rattle.adya_values.specs.Clauses.Acceptance.{IsBefore, IsAccepted}
 
 module _ (h : History) (ts : List ℕ) (forward : (e : Edge) → IsEdge h e → IsBefore ts e.from e.to) where
   pub path_rises : (es : List Edge) (a b : ℕ) → AllByRecursion (IsEdge h) es → IsPath a es b → place ts a ≤ place ts b

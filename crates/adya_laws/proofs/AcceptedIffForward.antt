@@ -4,7 +4,7 @@ use Rattle.std.proofs.lemmas.Bool.{ltb-true, lt-ltb, not-false, not_from_true}
 use Rattle.adya_values.specs.Meaning.Histories.{History}
 use Rattle.adya_values.specs.Meaning.Events.{is_committed}
 use Rattle.adya_values.specs.Computing.EdgeList.{edge_list}
-use Rattle.adya_values.specs.Meaning.Acceptance.{IsChecked, IsAccepted}
+use Rattle.adya_values.specs.Clauses.Acceptance.{IsChecked, IsAccepted}
 use Rattle.adya_values.specs.Computing.Certificates.{lists_the_committed, is_forward, first_backward}
 use Rattle.adya_laws.proofs.EdgeList.{edge_listed, listed_edge}
 use Rattle.lemmas.proofs.Finds.{find_none, none_found}

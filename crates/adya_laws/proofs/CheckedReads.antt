@@ -4,10 +4,11 @@ use Rattle.std.specs.List.{Contains}
 use Rattle.std.proofs.lemmas.Bool.{cases_Bool, both_ways, false_from_ne_true}
 use Rattle.std.proofs.lemmas.List.Elements.{All-contains}
 use Rattle.adya_values.specs.Meaning.Histories.{Entry, Event, History}
-use Rattle.adya_values.specs.Meaning.Events.{txn_of, last_write, is_committed, has_ended, is_unfinished, is_aborted}
+use Rattle.adya_values.specs.Meaning.Events.{txn_of, last_write, is_committed, is_unfinished, is_aborted}
+use Rattle.adya_values.specs.Clauses.Rules.{has_ended}
 use Rattle.adya_values.specs.Meaning.Phenomena.{ReadsCommitted}
 use Rattle.adya_values.specs.Computing.Faults.{is_entry}
-use Rattle.adya_values.specs.Meaning.Acceptance.{IsChecked}
+use Rattle.adya_values.specs.Clauses.Acceptance.{IsChecked}
 use Rattle.adya_values.proofs.Entries.{is_entry-same, is_entry-from}
 use Rattle.lemmas.proofs.Booleans.{first_of_three}
 

@@ -6,10 +6,9 @@ use Rattle.std.proofs.lemmas.List.Elements.{All-contains}
 use Rattle.adya_values.specs.Meaning.Keys.{lies_in, keys_rise}
 use Rattle.adya_values.specs.Meaning.Histories.{Content, Entry, FinalPair}
 use Rattle.adya_values.specs.Meaning.Events.{listed, visible, shown}
-use Rattle.adya_values.specs.Meaning.Rules.{final_value}
+use Rattle.adya_values.specs.Clauses.Rules.{final_value}
 use Rattle.adya_values.specs.Meaning.Serial.{pair, visible_pair_of, visible_pairs}
-use Rattle.adya_values.proofs.KeyLookups.{listed_from}
-use Rattle.adya_values.proofs.KeyLookups.{final_cases, final_found, listed_found}
+use Rattle.adya_values.proofs.KeyLookups.{listed_from, final_cases, final_found, listed_found}
 use Rattle.lemmas.proofs.Filters.{Contains-filter_map, filter_map-source}
 
 -- a final value comes from a pair

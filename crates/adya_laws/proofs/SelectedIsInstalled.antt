@@ -8,9 +8,9 @@ use Rattle.adya_values.specs.Meaning.Histories.{Live, Entry, Event, Write, Delet
 use Rattle.adya_values.specs.Meaning.Events.{txn_of, entry, written, writes_of, is_committed, listed}
 use Rattle.adya_values.specs.Meaning.Orders.{place, writers, installer}
 use Rattle.adya_values.specs.Meaning.Selections.{selected, place_of}
-use Rattle.adya_values.specs.Meaning.Rules.{installs}
+use Rattle.adya_values.specs.Clauses.Rules.{installs}
 use Rattle.adya_values.specs.Meaning.Phenomena.{ReadsCommitted}
-use Rattle.adya_values.specs.Meaning.Acceptance.{IsChecked}
+use Rattle.adya_values.specs.Clauses.Acceptance.{IsChecked}
 use Rattle.adya_laws.proofs.CheckedReads.{read_last_write, read_committed}
 use Rattle.adya_values.proofs.KeyLookups.{listed_from}
 use Rattle.adya_values.proofs.Places.{place_get}

@@ -5,8 +5,8 @@ use Rattle.std.proofs.lemmas.Option.{same_Some, none-some}
 use Rattle.adya_values.specs.Meaning.Histories.{Entry, History}
 use Rattle.adya_values.specs.Meaning.Events.{is_committed, last_write, shown}
 use Rattle.adya_values.specs.Meaning.Orders.{place, writers, installer, shown_by, value_at}
-use Rattle.adya_values.specs.Meaning.Rules.{installs}
-use Rattle.adya_values.specs.Meaning.Acceptance.{IsAccepted}
+use Rattle.adya_values.specs.Clauses.Rules.{installs}
+use Rattle.adya_values.specs.Clauses.Acceptance.{IsAccepted}
 use Rattle.adya_laws.proofs.SerialRuns.{over}
 use Rattle.adya_laws.proofs.VersionOrders.{installer_installs, installs_installer, rises}
 use Rattle.adya_values.proofs.Places.{place_at, place_before, installer_within}

@@ -11,9 +11,9 @@ use Rattle.adya_values.specs.Meaning.Orders.{place, writers, installer, shown_by
 use Rattle.adya_values.specs.Meaning.Selections.{selected, reads_from, overwritten_by, differ, place_of}
 use Rattle.adya_values.specs.Meaning.Edges.{Wr, Rw, Edge}
 use Rattle.adya_values.specs.Meaning.Serial.{Contents, run, events_of, Sees}
-use Rattle.adya_values.specs.Meaning.Rules.{WasWritten, ListsOnly, SeesOwnWrites, IsRising}
+use Rattle.adya_values.specs.Clauses.Rules.{WasWritten, ListsOnly, SeesOwnWrites, IsRising}
 use Rattle.adya_values.specs.Meaning.Phenomena.{ReadsCommitted}
-use Rattle.adya_values.specs.Meaning.Acceptance.{IsAccepted}
+use Rattle.adya_values.specs.Clauses.Acceptance.{IsAccepted}
 use Rattle.adya_laws.proofs.CheckedReads.{read_last_write, read_committed}
 use Rattle.adya_laws.proofs.SerialRuns.{over, run_own}
 use Rattle.adya_laws.proofs.VersionOrders.{installs_installer}

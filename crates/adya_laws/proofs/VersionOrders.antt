@@ -2,12 +2,11 @@
 use Rattle.std.proofs.Common.{◌≡◌, ◌≢◌, ℕ, zero, suc, ◌+◌, ◌-◌, ◌<◌, true, List, Some, slice_get, ◌∙◌, ap, subst, arith}
 use Rattle.std.proofs.lemmas.Bool.{cond-true}
 use Rattle.std.proofs.lemmas.Option.{none-some, slice_get_within}
-use Rattle.adya_values.specs.Meaning.Edges.{Edge}
-use Rattle.adya_values.specs.Meaning.Edges.{Ww}
+use Rattle.adya_values.specs.Meaning.Edges.{Edge, Ww}
 use Rattle.adya_values.specs.Meaning.Histories.{History}
 use Rattle.adya_values.specs.Meaning.Orders.{place, writers, installer}
-use Rattle.adya_values.specs.Meaning.Rules.{installs}
-use Rattle.adya_values.specs.Meaning.Acceptance.{IsAccepted}
+use Rattle.adya_values.specs.Clauses.Rules.{installs}
+use Rattle.adya_values.specs.Clauses.Acceptance.{IsAccepted}
 use Rattle.adya_values.proofs.Places.{installer_there, place_get}
 use Rattle.lemmas.proofs.Counts.{count_at, count_twice}
 use Rattle.lemmas.proofs.Booleans.{cond-positive, cond-at_most_one}

@@ -11,7 +11,7 @@ use Rattle.adya_values.specs.Meaning.Edges.{Edge, IsEdge}
 use Rattle.adya_values.specs.Computing.EdgeList.{dependencies, edge_list}
 use Rattle.adya_values.specs.Meaning.Phenomena.{HasG1, HasG2}
 use Rattle.adya_values.specs.Meaning.Serial.{Agrees}
-use Rattle.adya_values.specs.Meaning.Acceptance.{IsChecked, IsAccepted}
+use Rattle.adya_values.specs.Clauses.Acceptance.{IsChecked, IsAccepted}
 use Rattle.adya_values.specs.Computing.Certificates.{lists_the_committed, first_backward}
 
 -- the list of edges holds the edges of the direct serialization graph, and nothing else

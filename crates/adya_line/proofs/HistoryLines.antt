@@ -7,17 +7,14 @@ use Rattle.adya_values.specs.Meaning.Keys.{IsTxn}
 use Rattle.adya_values.specs.Meaning.Histories.{Event, Order, FinalPair}
 use Rattle.adya_line.specs.Meaning.Spelling.{history_head, second_head, tail, unfinished_text, order_text, final_text}
 use Rattle.adya_line.specs.Meaning.Limits.{IsOrder, IsFinal}
-use Rattle.adya_line.specs.Computing.Reading.{after, none_or, key_between, txn_at, txn_at_line}
-use Rattle.adya_line.specs.Computing.Reading.{event_at, unfinished_at, order_at, final_at}
+use Rattle.adya_line.specs.Computing.Reading.{after, none_or, key_between, txn_at, txn_at_line, event_at, unfinished_at, order_at, final_at}
 use Rattle.adya_line.specs.Laws.{IsOneText, HasPlainTexts}
-use Rattle.adya_line.specs.Meaning.HistoryLines.{Line, HeadLine, EventLine, UnfinishedLine, OrderLine, FinalLine, TailLine}
-use Rattle.adya_line.specs.Meaning.HistoryLines.{IsLine, line_text, IsNoLine, IsOnlyLineOf}
+use Rattle.adya_line.specs.Clauses.HistoryLines.{Line, HeadLine, EventLine, UnfinishedLine, OrderLine, FinalLine, TailLine, IsLine, line_text, IsNoLine, IsOnlyLineOf}
 use Rattle.adya_line.proofs.Events.{event_again, unfinished_again}
 use Rattle.adya_line.proofs.Orders.{order_again}
 use Rattle.adya_line.proofs.Finals.{final_again}
 use Rattle.adya_line.proofs.LineReaders.{one, events_read, unfinished_read, orders_read, finals_read}
-use Rattle.adya_line.proofs.PlainTexts.{events_plain, unfinished_plain, orders_plain, finals_plain}
-use Rattle.adya_line.proofs.PlainTexts.{history_head_plain, second_head_plain, tail_plain}
+use Rattle.adya_line.proofs.PlainTexts.{events_plain, unfinished_plain, orders_plain, finals_plain, history_head_plain, second_head_plain, tail_plain}
 
 -- ---- kinds apart
 

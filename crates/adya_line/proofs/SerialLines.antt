@@ -5,7 +5,7 @@ use Rattle.std.proofs.lemmas.Option.{none-some}
 use Rattle.adya_line.specs.Meaning.Spelling.{serial_head, tail}
 use Rattle.adya_line.specs.Computing.Reading.{txn_at, txn_at_line}
 use Rattle.adya_line.specs.Laws.{IsOneText, HasPlainTexts}
-use Rattle.adya_line.specs.Meaning.SerialLines.{Line, HeadLine, TxnLine, TailLine, IsLine, line_text, IsNoLine, IsOnlyLineOf}
+use Rattle.adya_line.specs.Clauses.SerialLines.{Line, HeadLine, TxnLine, TailLine, IsLine, line_text, IsNoLine, IsOnlyLineOf}
 use Rattle.adya_line.proofs.LineParts as parts
 use Rattle.adya_line.proofs.LineReaders.{one, txns_read}
 use Rattle.adya_line.proofs.HistoryLines.{kind_or, of_kind}

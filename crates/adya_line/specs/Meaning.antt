@@ -2,5 +2,3 @@
 pub mod Spelling
 pub mod Limits
 pub mod Lines
-pub mod HistoryLines
-pub mod SerialLines

@@ -1,7 +1,7 @@
 //! The entries of a scan that lies in a line.
 
 ghost use Rattle.std.specs.Prelude.{◌≡◌, ◌++◌, map, IfOk, OnOk};
-ghost use Rattle.adya_values.specs.Meaning.Histories.{entry_of};
+ghost use Rattle.adya_values.specs.Mirror.Events.{entry_of};
 ghost use Rattle.adya_line.specs.Computing.Reading.{Gives, content_at, entry_at, entries_of, after_entries};
 ghost use Rattle.adya_line.specs.Mirror.{view_content, view_entry, entries_left};
 

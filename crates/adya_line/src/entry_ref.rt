@@ -33,7 +33,7 @@ pub struct EntryRef<'a> {
 }
 
 impl EntryRef<'_> {
-    ghost use Rattle.adya_values.specs.Meaning.Histories.{entry_of};
+    ghost use Rattle.adya_values.specs.Mirror.Events.{entry_of};
     ghost use Rattle.adya_line.specs.Mirror.{view_entry};
 
     /// Returns the entry by itself.
@@ -48,7 +48,7 @@ impl EntryRef<'_> {
 }
 
 impl ContentRef<'_> {
-    ghost use Rattle.adya_values.specs.Meaning.Histories.{content_of};
+    ghost use Rattle.adya_values.specs.Mirror.Events.{content_of};
     ghost use Rattle.adya_line.specs.Mirror.{view_content};
 
     fn to_content(&self) -> Content

@@ -1,7 +1,8 @@
 //! The lines of events.
 
 ghost use Rattle.std.specs.Prelude.{◌≡◌, None, IfSome, IfOk, MatchOption};
-ghost use Rattle.adya_values.specs.Meaning.Histories.{Event as Plain, event_of};
+ghost use Rattle.adya_values.specs.Meaning.Histories.{Event as Plain};
+ghost use Rattle.adya_values.specs.Mirror.Events.{event_of};
 ghost use Rattle.adya_line.specs.Computing.Reading.{Gives, write_at, delete_at, read_at, scan_at, event_at};
 ghost use Rattle.adya_line.specs.Machinery.Fronts.{scan_after};
 ghost use Rattle.adya_line.specs.Meaning.Spelling.{event_text};

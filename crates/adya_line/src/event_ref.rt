@@ -2,7 +2,7 @@
 
 ghost use Rattle.std.specs.Prelude.{◌≡◌, true};
 ghost use Rattle.adya_values.specs.Meaning.Keys.{is_key, is_value, IsTxn, IsMod};
-ghost use Rattle.adya_values.specs.Meaning.Histories.{value_of};
+ghost use Rattle.adya_values.specs.Mirror.Events.{value_of};
 
 use crate::entries::Entries;
 use adya_values::{Entry, Event, Key, Mod, Txn, Value, Version};
@@ -96,7 +96,7 @@ pub enum EventRef<'a> {
 
 impl<'a> EventRef<'a> {
     ghost use Rattle.std.specs.Prelude.{IfOk};
-    ghost use Rattle.adya_values.specs.Meaning.Histories.{event_of};
+    ghost use Rattle.adya_values.specs.Mirror.Events.{event_of};
     ghost use Rattle.adya_line.specs.Mirror.{view, entries_in, entries_left};
 
     /// Walks the entries of a scan, in the order of the line; their keys and values are slices of the line. Other
@@ -143,7 +143,8 @@ impl<'a> EventRef<'a> {
 
 impl<'a> ScanRef<'a> {
     ghost use Rattle.std.specs.Prelude.{map, IfOk};
-    ghost use Rattle.adya_values.specs.Meaning.Histories.{Scan, entry_of, event_of};
+    ghost use Rattle.adya_values.specs.Meaning.Histories.{Scan};
+    ghost use Rattle.adya_values.specs.Mirror.Events.{entry_of, event_of};
     ghost use Rattle.adya_line.specs.Computing.Reading.{entries_of};
     ghost use Rattle.adya_line.specs.Mirror.{entries_left};
 

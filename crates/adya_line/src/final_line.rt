@@ -1,6 +1,6 @@
 //! The lines of finals.
 
-ghost use Rattle.adya_values.specs.Meaning.Histories.{final_of};
+ghost use Rattle.adya_values.specs.Mirror.Events.{final_of};
 ghost use Rattle.adya_line.specs.Computing.Reading.{Gives, final_at};
 
 use crate::fields::{after, key_between, value_at};

@@ -1,7 +1,7 @@
 //! The lines of a history text, by their kind.
 
 ghost use Rattle.std.specs.Prelude.{IfOk, MatchOption};
-ghost use Rattle.adya_line.specs.Meaning.HistoryLines.{IsNoLine, IsOnlyLineOf, line_of};
+ghost use Rattle.adya_line.specs.Clauses.HistoryLines.{IsNoLine, IsOnlyLineOf, line_of};
 
 use crate::event_line::event;
 use crate::final_line::final_pair;

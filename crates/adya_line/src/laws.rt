@@ -3,13 +3,13 @@
 ghost use Rattle.std.specs.Prelude.{ℕ, ◌<◌, length, map};
 ghost use Rattle.std.specs.List.{AllByRecursion};
 ghost use Rattle.adya_values.specs.Meaning.Keys.{IsTxn};
-ghost use Rattle.adya_values.specs.Meaning.Histories.{entry_of, event_of, order_of, final_of};
+ghost use Rattle.adya_values.specs.Mirror.Events.{entry_of, event_of, order_of, final_of};
 ghost use Rattle.adya_line.specs.Meaning.Spelling.{event_text, unfinished_text, order_text, final_text, txn_text};
 ghost use Rattle.adya_line.specs.Meaning.Limits.{IsEntry, IsEvent, IsOrder, IsFinal};
 ghost use Rattle.adya_line.specs.Computing.Reading.{event_at, unfinished_at, order_at, final_at, txn_at_line};
 ghost use Rattle.adya_line.specs.Laws.{IsReaderOf, IsOneText, HasPlainTexts};
-ghost use Rattle.adya_line.specs.Meaning.HistoryLines.{IsLine as IsHistoryLine, line_text as history_line_text};
-ghost use Rattle.adya_line.specs.Meaning.SerialLines.{IsLine as IsSerialLine, line_text as serial_line_text};
+ghost use Rattle.adya_line.specs.Clauses.HistoryLines.{IsLine as IsHistoryLine, line_text as history_line_text};
+ghost use Rattle.adya_line.specs.Clauses.SerialLines.{IsLine as IsSerialLine, line_text as serial_line_text};
 
 use adya_values::{Content, Entry, Event, FinalPair, Order};
 

@@ -1,7 +1,7 @@
 //! The lines of orders.
 
 ghost use Rattle.std.specs.Prelude.{◌≡◌, List, [], ◌∷◌, length, IfOk};
-ghost use Rattle.adya_values.specs.Meaning.Histories.{order_of};
+ghost use Rattle.adya_values.specs.Mirror.Events.{order_of};
 ghost use Rattle.adya_line.specs.Computing.Reading.{Gives, Steps, with_front, txn_at, writer_at, later_at, writers_at, order_at};
 
 use crate::fields::{after, key_between, txn_at};

@@ -1,7 +1,7 @@
 //! The lines of a certificate text, by their kind.
 
 ghost use Rattle.std.specs.Prelude.{MatchOption};
-ghost use Rattle.adya_line.specs.Meaning.SerialLines.{IsNoLine, IsOnlyLineOf, line_of};
+ghost use Rattle.adya_line.specs.Clauses.SerialLines.{IsNoLine, IsOnlyLineOf, line_of};
 
 use crate::fixed_line::{is_serial_head, is_tail};
 use crate::txn_line::txn;

@@ -1,8 +1,8 @@
 //! Writing lines.
 
 ghost use Rattle.std.specs.Prelude.{◌++◌, codes, decimal, flat_map, map};
-ghost use Rattle.adya_values.specs.Meaning.Histories.{content_of, entry_of, event_of, order_of, final_of, value_of};
-ghost use Rattle.devices.specs.Meaning.Writing.{Wrote};
+ghost use Rattle.adya_values.specs.Mirror.Events.{content_of, entry_of, event_of, order_of, final_of, value_of};
+ghost use Rattle.devices.specs.Clauses.Writing.{Wrote};
 ghost use Rattle.adya_line.specs.Machinery.Fronts.{front_text};
 ghost use Rattle.adya_line.specs.Meaning.Spelling.{version_text, content_text, entry_text, event_text, unfinished_text};
 ghost use Rattle.adya_line.specs.Meaning.Spelling.{later_text, writers_text, order_text, final_text, txn_text};

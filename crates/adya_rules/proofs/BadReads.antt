@@ -12,7 +12,7 @@ use Rattle.adya_values.specs.Meaning.Histories.{Entry, Event, History}
 use Rattle.adya_values.specs.Meaning.Events.{txn_of, observed, is_committed}
 use Rattle.adya_values.specs.Meaning.Phenomena.{ReadsCommitted}
 use Rattle.adya_values.proofs.Faults.{first_append, first_map, first_cases}
-use Rattle.adya_rules.specs.Meaning.FirstFaults.{IsOnLine, IsNoLater, IsFirstRead}
+use Rattle.adya_rules.specs.Clauses.FirstFaults.{IsOnLine, IsNoLater, IsFirstRead}
 use Rattle.adya_rules.proofs.Lines.{on_line-head, on_line-cons, on_line-empty, on_line-cases, on_line-contained, contained-on_line, on_line-same}
 
 -- ---- the first element that passes a test, by its place

@@ -10,9 +10,9 @@ use Rattle.adya_values.specs.declared.fault.Rule.TheVariants.{M1, M2, M3, M4, M5
 use Rattle.adya_values.specs.Computing.Faults.{Fault, Malformed, is_open, is_next, was_written, sees_own, is_rising, fault_unless, faults_at, event_faults, all_end, has_lines, last_value, has_finals}
 use Rattle.adya_values.specs.Meaning.Keys.{key_eq}
 use Rattle.adya_values.specs.Meaning.Histories.{Event, History}
-use Rattle.adya_values.specs.Meaning.Events.{txn_of, written, is_committed, has_ended, is_unfinished}
+use Rattle.adya_values.specs.Meaning.Events.{txn_of, written, is_committed, is_unfinished}
+use Rattle.adya_values.specs.Clauses.Rules.{has_ended, final_value}
 use Rattle.adya_values.specs.Meaning.Orders.{shown_by, writers, installer}
-use Rattle.adya_values.specs.Meaning.Rules.{final_value}
 use Rattle.lemmas.proofs.Members.{none_contained, Contains-head}
 use Rattle.lemmas.proofs.Tests.{list_any-source, list_any_when, list_all-failed, list_all_fails_at}
 use Rattle.lemmas.proofs.Orderings.{bytes_eq-same, bytes_eq-from}
@@ -20,7 +20,7 @@ use Rattle.adya_values.proofs.KeyLookups.{final_any}
 use Rattle.adya_values.proofs.Writes.{has_last_write, installs_write}
 use Rattle.adya_values.proofs.Places.{installer_line}
 use Rattle.adya_values.proofs.Faults.{HasFaultPerLine}
-use Rattle.adya_rules.specs.Meaning.FirstFaults.{IsOnLine, LeavesOpen, LacksOrder, LacksFinal}
+use Rattle.adya_rules.specs.Clauses.FirstFaults.{IsOnLine, LeavesOpen, LacksOrder, LacksFinal}
 use Rattle.adya_rules.proofs.Lines.{on_line-head, on_line-cons, on_line-empty, on_line-cases}
 
 pub same_line : (a : ℕ) (r : Rule) (b : ℕ) (s : Rule) → Malformed a r ≡ Malformed b s → a ≡ b

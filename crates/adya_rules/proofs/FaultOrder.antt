@@ -8,11 +8,11 @@ use Rattle.adya_values.specs.declared.fault.Rule.{Rule}
 use Rattle.adya_values.specs.declared.fault.Rule.TheVariants.{M1, M2, M3, M4, M5, M6, M7, M8}
 use Rattle.adya_values.specs.Computing.Faults.{Fault, Malformed, AbortedRead, IntermediateRead, is_open, is_next, was_written, sees_own, is_rising, fault_unless, faults_at, event_faults, unfinished_faults, all_end, lists_exactly, order_faults, has_lines, last_value, is_value, final_faults, has_finals, unfinished_line, orders_line, finals_line, tail_line, malformed, first}
 use Rattle.adya_values.specs.Meaning.Histories.{Event, Order, FinalPair, History}
-use Rattle.adya_values.specs.Meaning.Events.{written, has_ended}
-use Rattle.adya_values.specs.Meaning.Rules.{installs}
+use Rattle.adya_values.specs.Meaning.Events.{written}
+use Rattle.adya_values.specs.Clauses.Rules.{has_ended, installs}
 use Rattle.lemmas.proofs.Members.{none_contained, Contains-cases}
 use Rattle.adya_values.proofs.Faults.{HasFaultPerLine, first_append, first_contained}
-use Rattle.adya_rules.specs.Meaning.FirstFaults.{number, IsNoLater}
+use Rattle.adya_rules.specs.Clauses.FirstFaults.{number, IsNoLater}
 
 -- a number that rises with line and rule; that of other faults is 0
 abbrev pub rank : Fault → ℕ

@@ -7,7 +7,7 @@ use Rattle.adya_values.specs.Meaning.Edges.{Edge}
 use Rattle.adya_values.specs.Computing.EdgeList.{edge_list}
 use Rattle.adya_values.specs.Computing.Certificates.{is_forward, first_backward}
 use Rattle.lemmas.proofs.Finds.{find-splits, find-after}
-use Rattle.adya_rules.specs.Meaning.FirstFaults.{IsFirstBackward}
+use Rattle.adya_rules.specs.Clauses.FirstFaults.{IsFirstBackward}
 
 module _ (h : History) (ts : List ℕ) (e : Edge) where
   pub backward_is_first : first_backward h ts ≡ Some e → IsFirstBackward h ts e

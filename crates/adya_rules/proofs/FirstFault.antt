@@ -10,12 +10,12 @@ use Rattle.adya_values.specs.Computing.Faults.{Malformed, AbortedRead, Intermedi
 use Rattle.adya_values.specs.Meaning.Histories.{Entry, Event, History}
 use Rattle.adya_values.specs.Computing.Shapes.{is_shape}
 use Rattle.adya_values.specs.Meaning.Events.{txn_of, last_write, is_aborted}
-use Rattle.adya_values.specs.Meaning.Rules.{IsWellFormed}
+use Rattle.adya_values.specs.Clauses.Rules.{IsWellFormed}
 use Rattle.adya_values.specs.Meaning.Phenomena.{HasG1a, HasG1b}
-use Rattle.adya_values.specs.Meaning.Acceptance.{IsChecked}
+use Rattle.adya_values.specs.Clauses.Acceptance.{IsChecked}
 use Rattle.adya_values.proofs.Entries.{is_entry-same, is_entry-from}
 use Rattle.adya_values.proofs.Faults.{first_append, first_contained, first_left, first_cases, nil_from_first}
-use Rattle.adya_rules.specs.Meaning.FirstFaults.{BreaksRule, IsFirstMalformed, ReadsAborted, ReadsIntermediate, IsFirstAbortedRead, IsFirstIntermediateRead}
+use Rattle.adya_rules.specs.Clauses.FirstFaults.{BreaksRule, IsFirstMalformed, ReadsAborted, ReadsIntermediate, IsFirstAbortedRead, IsFirstIntermediateRead}
 use Rattle.adya_rules.proofs.FaultOrder.{malformed_in_order, malformed_from_rank}
 use Rattle.adya_rules.proofs.FirstMalformed.{broken_from, broken_there, first_malformed_from, malformed_first}
 use Rattle.adya_rules.proofs.BadReads.{IsBadAt, first_bad, reads_pass, none_listed, listed_is_first, first_is_listed}

@@ -7,10 +7,9 @@ use Rattle.adya_values.specs.declared.fault.Rule.{Rule}
 use Rattle.adya_values.specs.declared.fault.Rule.TheVariants.{M1, M2, M3, M4, M5, M6, M7, M8}
 use Rattle.adya_values.specs.Computing.Faults.{Fault, Malformed, fault_unless, event_faults, unfinished_faults, all_end, lists_exactly, order_faults, has_lines, last_value, is_value, final_faults, has_finals, unfinished_line, orders_line, finals_line, tail_line, malformed, first}
 use Rattle.adya_values.specs.Meaning.Histories.{Event, Order, FinalPair, History}
-use Rattle.adya_values.specs.Meaning.Events.{has_ended}
-use Rattle.adya_values.specs.Meaning.Rules.{installs}
+use Rattle.adya_values.specs.Clauses.Rules.{has_ended, installs}
 use Rattle.adya_values.proofs.Faults.{first_contained, first_there}
-use Rattle.adya_rules.specs.Meaning.FirstFaults.{IsOnLine, BreaksRule, IsFirstMalformed}
+use Rattle.adya_rules.specs.Clauses.FirstFaults.{IsOnLine, BreaksRule, IsFirstMalformed}
 use Rattle.adya_rules.proofs.RuleTests.{open_test, numbered_test, written_test, own_test, rising_test, writers_test, value_test}
 use Rattle.adya_rules.proofs.FaultOrder.{rank, no_later_from_rank, rank_from_no_later, malformed_in_order, same_from_ranks, malformed_from_rank}
 use Rattle.adya_rules.proofs.BrokenRules.{unless_there, unless_from, line_there, line_from, Fails, event_there, event_from, leaves_open_from, all_end_fails, lacks_order_from, has_lines_fails, lacks_final_from, has_finals_fails}

@@ -4,7 +4,7 @@ use Rattle.std.specs.List.{Contains}
 use Rattle.std.proofs.lemmas.List.Elements.{Contains-append_right}
 use Rattle.lemmas.proofs.Lists.{same_head, same_tail}
 use Rattle.lemmas.proofs.Members.{none_contained, Contains-head, Contains-cases}
-use Rattle.adya_rules.specs.Meaning.FirstFaults.{IsOnLine}
+use Rattle.adya_rules.specs.Clauses.FirstFaults.{IsOnLine}
 
 pub on_line-head : {X : Type 0} (x : X) (xs : List X) (start : ℕ) → IsOnLine (x ∷ xs) start start [] x
 on_line-head x xs start = record { after = xs; splits = refl; counts = omega arith }

@@ -9,12 +9,12 @@ use Rattle.lemmas.proofs.Orderings.{bytes_eq-same, bytes_eq-from}
 use Rattle.adya_values.specs.Meaning.Keys.{key_eq, lies_in}
 use Rattle.adya_values.specs.Meaning.Histories.{Live, Entry, Event, Write, Delete, Read, Scan, Commit, Abort, Order, History}
 use Rattle.adya_values.specs.Meaning.Events.{entry, written, observed, writes_of, last_write}
-use Rattle.adya_values.specs.Meaning.Rules.{IsOpen, IsNumbered, WasWritten, ListsOnly, SeesOwnWrites, IsRising, installs}
+use Rattle.adya_values.specs.Clauses.Rules.{IsOpen, IsNumbered, WasWritten, ListsOnly, SeesOwnWrites, IsRising, installs}
 use Rattle.adya_values.specs.Computing.Faults.{entry_eq, is_none_or, lists_only, none_or_lists_only, is_open, is_next, was_written, sees_own, is_rising, is_value, lists_exactly}
 use Rattle.adya_values.proofs.Entries.{entry_eq-same, entry_eq-itself, entry_eq-from}
 use Rattle.adya_values.proofs.Writes.{last_write_from, installs_source}
 use Rattle.adya_values.proofs.ListsExactly.{counts_from_test, test_from_counts}
-use Rattle.adya_rules.specs.Meaning.FirstFaults.{ListsWriters}
+use Rattle.adya_rules.specs.Clauses.FirstFaults.{ListsWriters}
 
 pub open_test : (before : List Event) (e : Event) → (is_open before e ≡ true) ↔ IsOpen before e
 open_test before e = (not-true _, not_from_false _)

@@ -9,13 +9,14 @@ use Rattle.adya_values.specs.declared.fault.Rule.{Rule}
 use Rattle.adya_values.specs.declared.fault.Rule.TheVariants.{M1, M2, M3, M4, M5, M6, M7, M8}
 use Rattle.adya_values.specs.Meaning.Keys.{keys_rise}
 use Rattle.adya_values.specs.Meaning.Histories.{Event, Order, FinalPair, History}
-use Rattle.adya_values.specs.Meaning.Events.{txn_of, written, has_ended, is_unfinished}
-use Rattle.adya_values.specs.Meaning.Rules.{EachAfter, IsOpen, IsNumbered, WasWritten, SeesOwnWrites, IsRising, AllEnd, installs, OrdersList, FinalsShow, IsWellFormed}
+use Rattle.adya_values.specs.Meaning.Events.{txn_of, written, is_unfinished}
+use Rattle.adya_values.specs.Clauses.Rules.{has_ended}
+use Rattle.adya_values.specs.Clauses.Rules.{EachAfter, IsOpen, IsNumbered, WasWritten, SeesOwnWrites, IsRising, AllEnd, installs, OrdersList, FinalsShow, IsWellFormed}
 use Rattle.adya_values.specs.Computing.Faults.{is_open, is_next, was_written, sees_own, is_rising, lists_exactly, last_value, is_value, unfinished_line, orders_line, finals_line, tail_line}
 use Rattle.lemmas.proofs.Members.{All-from_contained}
 use Rattle.lemmas.proofs.Counts.{count}
 use Rattle.adya_values.proofs.KeyLookups.{line_cases, line_found, final_cases, final_found}
-use Rattle.adya_rules.specs.Meaning.FirstFaults.{IsOnLine, BreaksAtEvent, StaysOpen, ListsWriters, LacksOrder, LacksFinal, BreaksRule}
+use Rattle.adya_rules.specs.Clauses.FirstFaults.{IsOnLine, BreaksAtEvent, StaysOpen, ListsWriters, LacksOrder, LacksFinal, BreaksRule}
 use Rattle.adya_rules.proofs.Lines.{on_line-head, on_line-cons, on_line-empty, on_line-cases, on_line-contained, contained-on_line}
 use Rattle.adya_rules.proofs.RuleTests.{open_test, numbered_test, written_test, own_test, rising_test, writers_test, value_test}
 

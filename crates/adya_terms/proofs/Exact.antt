@@ -13,7 +13,7 @@ use Rattle.adya_terms.specs.declared.tables.Own.{Own}
 use Rattle.adya_values.specs.Meaning.Keys.{key_eq, keys_rise}
 use Rattle.adya_values.specs.Meaning.Histories.{Entry, Event, Order}
 use Rattle.adya_values.specs.Meaning.Events.{txn_of, written, last_write, is_committed}
-use Rattle.adya_values.specs.Meaning.Rules.{installs}
+use Rattle.adya_values.specs.Clauses.Rules.{installs}
 use Rattle.adya_values.specs.Computing.Faults.{lists_exactly, order_faults}
 use Rattle.adya_terms.specs.Machinery.Tables.{own, Tell}
 use Rattle.adya_terms.specs.Machinery.Places.{line, lists_once, ArePlaced, AfterLines, HasLeft, HasPlace, Judges, Leaves}

@@ -4,12 +4,10 @@ use Rattle.adya_values.specs.declared.fault.CheckFault.{CheckFault}
 use Rattle.adya_values.specs.declared.fault.CheckFault.TheVariants as Checked
 use Rattle.adya_values.specs.declared.fault.Rule.TheVariants.{M6, M7}
 use Rattle.adya_values.specs.Meaning.Histories.{Event, Order}
-use Rattle.adya_values.specs.Meaning.Events.{has_ended}
-use Rattle.adya_values.specs.Meaning.Rules.{installs}
+use Rattle.adya_values.specs.Clauses.Rules.{has_ended, installs}
 use Rattle.adya_values.specs.Computing.Faults.{Fault, Malformed, first, faults_at, event_faults, fault_unless, lists_exactly, order_faults, unfinished_faults}
 use Rattle.adya_terms.specs.Machinery.Checks.{Names}
-use Rattle.lemmas.proofs.Steps.{drop_step}
-use Rattle.lemmas.proofs.Steps.{IsTurn}
+use Rattle.lemmas.proofs.Steps.{drop_step, IsTurn}
 use Rattle.adya_values.proofs.Faults.{first_left}
 
 -- the faults from an event on

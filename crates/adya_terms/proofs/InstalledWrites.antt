@@ -8,7 +8,7 @@ use Rattle.adya_values.specs.Meaning.Histories.{Entry, Event, Order}
 use Rattle.adya_values.specs.Meaning.Events.{last_write}
 use Rattle.adya_terms.specs.declared.tables.Own.{Own}
 use Rattle.adya_terms.specs.declared.checked.Checked.{Checked}
-use Rattle.adya_terms.specs.Meaning.Checked.{checked_history, installed_at}
+use Rattle.adya_terms.specs.Clauses.Checked.{checked_history, installed_at}
 use Rattle.adya_terms.specs.Machinery.Tables.{own, written_at}
 use Rattle.adya_terms.specs.Machinery.Places.{line_writes, AreInstalled, AreWrites}
 

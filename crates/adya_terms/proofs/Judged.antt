@@ -4,9 +4,9 @@ use Rattle.adya_values.specs.declared.fault.CheckFault.{CheckFault}
 use Rattle.adya_values.specs.declared.fault.CheckFault.TheVariants.{Malformed, AbortedRead, IntermediateRead, Memory}
 use Rattle.adya_values.specs.Meaning.Histories.{History}
 use Rattle.adya_values.specs.Computing.Shapes.{is_shape}
-use Rattle.adya_values.specs.Meaning.Acceptance.{IsChecked}
+use Rattle.adya_values.specs.Clauses.Acceptance.{IsChecked}
 use Rattle.adya_values.specs.Computing.Faults.{Fault, first_fault}
-use Rattle.adya_terms.specs.Meaning.Faults.{IsFault}
+use Rattle.adya_terms.specs.Clauses.Faults.{IsFault}
 use Rattle.adya_rules.specs.Laws.Faults.{CheckedIffNoFault}
 
 -- a fault that was found is there

@@ -8,7 +8,8 @@ use Rattle.std.specs.BTreeMap.{BTreeMap, get}
 use Rattle.std.proofs.lemmas.Bool.{cases_Bool, eqb-true, eq-eqb, or_left, or_right, both_ways}
 use Rattle.adya_values.specs.Meaning.Keys.{key_eq}
 use Rattle.adya_values.specs.Meaning.Histories.{Entry, Event, Commit, Abort}
-use Rattle.adya_values.specs.Meaning.Events.{written, commits, aborts, last, last_write, has_ended}
+use Rattle.adya_values.specs.Meaning.Events.{written, commits, aborts, last, last_write}
+use Rattle.adya_values.specs.Clauses.Rules.{has_ended}
 use Rattle.adya_terms.specs.Machinery.Tables.{written_at, written_by}
 use Rattle.adya_terms.specs.Machinery.OpenWrites.{place_in, own_place, HasOpen}
 use Rattle.adya_terms.proofs.Tells.{any_more, last_next, written_none}

@@ -4,10 +4,10 @@ use Rattle.adya_values.specs.declared.event.Event.{Event as EventValue}
 use Rattle.adya_values.specs.declared.order.Order.{Order as OrderValue}
 use Rattle.adya_values.specs.declared.order.FinalPair.{FinalPair as FinalValue}
 use Rattle.adya_values.specs.declared.history.History.{History as HistoryValue}
-use Rattle.adya_values.specs.Mirror.{history_of}
+use Rattle.adya_values.specs.Mirror.Histories.{history_of}
 use Rattle.adya_values.specs.Meaning.Histories.{History}
 use Rattle.adya_values.specs.Computing.Faults.{Fault, first, first_fault, malformed, check_faults, event_faults, fault_unless, unfinished_faults, all_end, order_faults, has_lines, unfinished_line, orders_line, finals_line}
-use Rattle.adya_terms.specs.Meaning.Faults.{IsFault}
+use Rattle.adya_terms.specs.Clauses.Faults.{IsFault}
 use Rattle.adya_terms.specs.Machinery.Checks.{Names, whole, final_value_faults, rule_faults, read_faults}
 use Rattle.std.proofs.lemmas.List.{append_assoc}
 use Rattle.adya_values.specs.declared.fault.Rule.TheVariants.{M6, M7}

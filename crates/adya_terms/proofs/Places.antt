@@ -10,7 +10,7 @@ use Rattle.adya_terms.specs.declared.tables.Own.{Own}
 use Rattle.adya_values.specs.Meaning.Keys.{key_eq, keys_rise}
 use Rattle.adya_values.specs.Meaning.Histories.{Entry, Event, Order}
 use Rattle.adya_values.specs.Meaning.Events.{is_committed, last_write, written}
-use Rattle.adya_values.specs.Meaning.Rules.{installs}
+use Rattle.adya_values.specs.Clauses.Rules.{installs}
 use Rattle.adya_values.proofs.Keys.{rises_pairs}
 use Rattle.adya_values.proofs.Writes.{last_write_from}
 use Rattle.adya_terms.specs.Machinery.Tables.{own, written_at, written_by, Tell}

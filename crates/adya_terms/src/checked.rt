@@ -2,12 +2,12 @@
 
 ghost use Rattle.std.specs.Prelude.{◌≡◌, ◌≢◌, ◌^◌, ◌<◌, [], true, None, map, option_map, is_none, IfOk, IfErr, MatchResult};
 ghost use Rattle.adya_values.specs.Meaning.Keys.{keys_rise};
-ghost use Rattle.adya_values.specs.Meaning.Histories.{entry_of, order_of, final_of};
+ghost use Rattle.adya_values.specs.Mirror.Events.{entry_of, order_of, final_of};
+ghost use Rattle.adya_values.specs.Mirror.Histories.{history_of};
 ghost use Rattle.adya_values.specs.Meaning.Events.{is_committed};
-ghost use Rattle.adya_values.specs.Mirror.{history_of};
 ghost use Rattle.adya_values.specs.Computing.Faults.{first_fault, check_faults};
-ghost use Rattle.adya_values.specs.Meaning.Acceptance.{IsChecked};
-ghost use Rattle.adya_terms.specs.Meaning.Faults.{IsFault};
+ghost use Rattle.adya_values.specs.Clauses.Acceptance.{IsChecked};
+ghost use Rattle.adya_terms.specs.Clauses.Faults.{IsFault};
 ghost use Rattle.adya_terms.specs.Machinery.EventIndex.{last_in};
 ghost use Rattle.adya_terms.specs.Machinery.Places.{AreInstalled, AreWrites};
 ghost use Rattle.adya_terms.specs.Machinery.Tables.{KnowsCommitted};
@@ -38,7 +38,7 @@ pub struct Checked<'a> {
 }
 
 impl<'a> Checked<'a> {
-    ghost use Rattle.adya_terms.specs.Meaning.Checked.{checked_history, history_in, installed_at};
+    ghost use Rattle.adya_terms.specs.Clauses.Checked.{checked_history, history_in, installed_at};
 
     /// Checks the history. Returns its first fault if it has one: broken rules come before aborted reads, and these
     /// before intermediate reads; within a kind the first line decides, and then the first rule. Returns

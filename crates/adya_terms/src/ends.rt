@@ -2,7 +2,7 @@
 
 ghost use Rattle.std.specs.Prelude.{◌≡◌, ◌^◌, ◌<◌, [], MatchResult};
 ghost use Rattle.std.specs.List.{list_all};
-ghost use Rattle.adya_values.specs.Meaning.Histories.{event_of};
+ghost use Rattle.adya_values.specs.Mirror.Events.{event_of};
 ghost use Rattle.adya_values.specs.Meaning.Events.{txn_of};
 ghost use Rattle.adya_values.specs.Computing.Faults.{unfinished_faults};
 ghost use Rattle.adya_terms.specs.Machinery.EventIndex.{indexed, unfinished_in, is_done};

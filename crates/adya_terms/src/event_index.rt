@@ -2,8 +2,9 @@
 
 ghost use Rattle.std.specs.Prelude.{◌≡◌, ◌||◌, ◌==◌, [], true, map, option_map, IfOk, MatchResult};
 ghost use Rattle.std.specs.List.{filter_map, list_any};
-ghost use Rattle.adya_values.specs.Meaning.Histories.{entry_of, event_of};
-ghost use Rattle.adya_values.specs.Meaning.Events.{aborts, has_ended, is_committed, last_write, written};
+ghost use Rattle.adya_values.specs.Mirror.Events.{entry_of, event_of};
+ghost use Rattle.adya_values.specs.Meaning.Events.{aborts, is_committed, last_write, written};
+ghost use Rattle.adya_values.specs.Clauses.Rules.{has_ended};
 ghost use Rattle.adya_values.specs.Computing.Faults.{entry_eq, event_faults, is_entry};
 ghost use Rattle.adya_terms.specs.Machinery.Tables.{own, Means, KnowsCommitted};
 ghost use Rattle.adya_terms.specs.Machinery.Checks.{Names, Holds};

@@ -2,8 +2,8 @@
 
 ghost use Rattle.std.specs.Prelude.{◌≡◌, ◌^◌, ◌<◌, [], true, map, option_map, is_some, MatchResult};
 ghost use Rattle.adya_values.specs.Meaning.Keys.{keys_rise};
-ghost use Rattle.adya_values.specs.Meaning.Histories.{order_of, final_of, value_of};
-ghost use Rattle.adya_values.specs.Meaning.Rules.{final_value};
+ghost use Rattle.adya_values.specs.Mirror.Events.{order_of, final_of, value_of};
+ghost use Rattle.adya_values.specs.Clauses.Rules.{final_value};
 ghost use Rattle.adya_values.specs.Computing.Faults as faults;
 ghost use Rattle.adya_terms.specs.Machinery.Checks.{Names, final_value_faults, parts};
 

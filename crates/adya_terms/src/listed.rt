@@ -7,7 +7,8 @@
 ghost use Rattle.std.specs.Prelude.{◌≡◌, ◌^◌, ◌<◌, ℕ, List, [], true, false, length, map, replicate, slice_get, take, is_some, Some, IfSome, IfOk, MatchOption, MatchResult};
 ghost use Rattle.std.specs.List.{list_any};
 ghost use Rattle.adya_values.specs.Meaning.Keys.{key_eq, keys_rise};
-ghost use Rattle.adya_values.specs.Meaning.Histories.{Event as EventValue, Order as OrderValue, event_of, order_of};
+ghost use Rattle.adya_values.specs.Meaning.Histories.{Event as EventValue, Order as OrderValue};
+ghost use Rattle.adya_values.specs.Mirror.Events.{event_of, order_of};
 ghost use Rattle.adya_values.specs.Computing.Faults as faults;
 ghost use Rattle.adya_values.specs.Meaning.Orders.{line_of};
 ghost use Rattle.adya_terms.specs.Machinery.EventIndex.{indexed, last_in};

@@ -3,7 +3,8 @@
 ghost use Rattle.std.specs.Prelude.{◌≡◌, ◌++◌, [], ◌∷◌, List, IfOk};
 ghost use Rattle.std.specs.HashMap.{get};
 ghost use Rattle.adya_values.specs.Meaning.Keys.{key_eq};
-ghost use Rattle.adya_values.specs.Meaning.Histories.{Event as EventValue, entry_of, event_of};
+ghost use Rattle.adya_values.specs.Meaning.Histories.{Event as EventValue};
+ghost use Rattle.adya_values.specs.Mirror.Events.{entry_of, event_of};
 ghost use Rattle.adya_terms.specs.Machinery.NewestWrites.{is_newest, Keeps};
 
 use crate::{Entry, Event, Key};

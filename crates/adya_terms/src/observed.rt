@@ -1,7 +1,8 @@
 //! What an event observes.
 
 ghost use Rattle.std.specs.Prelude.{◌≡◌, map};
-ghost use Rattle.adya_values.specs.Meaning.Histories.{Live, entry_of, event_of, value_of};
+ghost use Rattle.adya_values.specs.Meaning.Histories.{Live};
+ghost use Rattle.adya_values.specs.Mirror.Events.{entry_of, event_of, value_of};
 ghost use Rattle.adya_values.specs.Meaning.Events.{entry, observed};
 ghost use Rattle.adya_terms.specs.Machinery.Observed.{observed_in};
 

@@ -4,7 +4,8 @@ ghost use Rattle.std.specs.Prelude.{◌≡◌, ◌&&◌, ◌++◌, [], ◌∷◌
 ghost use Rattle.std.specs.BTreeMap.{get};
 ghost use Rattle.std.specs.Ordering.{nat_cmp, is_eq};
 ghost use Rattle.std.specs.Cmp.Lexicographic.{slice_cmp};
-ghost use Rattle.adya_values.specs.Meaning.Histories.{Event as EventValue, event_of};
+ghost use Rattle.adya_values.specs.Meaning.Histories.{Event as EventValue};
+ghost use Rattle.adya_values.specs.Mirror.Events.{event_of};
 ghost use Rattle.adya_terms.specs.Machinery.OpenWrites.{own_place, Keeps};
 
 use crate::{Event, Key, Txn};

@@ -2,7 +2,8 @@
 
 ghost use Rattle.std.specs.Prelude.{◌≡◌, [], true, MatchResult};
 ghost use Rattle.std.specs.List.{filter_map, list_all, list_any};
-ghost use Rattle.adya_values.specs.Meaning.Histories.{Event as EventValue, entry_of, event_of};
+ghost use Rattle.adya_values.specs.Meaning.Histories.{Event as EventValue};
+ghost use Rattle.adya_values.specs.Mirror.Events.{entry_of, event_of};
 ghost use Rattle.adya_values.specs.Meaning.Events.{txn_of, written};
 ghost use Rattle.adya_values.specs.Computing.Faults.{entry_eq, was_written, bad_reads};
 ghost use Rattle.adya_terms.specs.Machinery.EventIndex.{indexed, unfinished_in};

@@ -3,7 +3,8 @@
 ghost use Rattle.std.specs.Prelude.{◌≡◌, ◌&&◌, ℕ, List, true, Some, map, option_map};
 ghost use Rattle.std.specs.List.{list_all, list_any};
 ghost use Rattle.adya_values.specs.Meaning.Keys as keys;
-ghost use Rattle.adya_values.specs.Meaning.Histories.{Event as EventValue, entry_of, event_of, Scan};
+ghost use Rattle.adya_values.specs.Meaning.Histories.{Event as EventValue, Scan};
+ghost use Rattle.adya_values.specs.Mirror.Events.{entry_of, event_of};
 ghost use Rattle.adya_values.specs.Computing.Faults as faults;
 ghost use Rattle.adya_values.specs.Computing.Faults.{entry_eq, none_or_lists_only, sees_own, version_eq};
 ghost use Rattle.adya_terms.specs.Machinery.Checks as checks;

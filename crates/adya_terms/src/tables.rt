@@ -2,8 +2,9 @@
 
 ghost use Rattle.std.specs.Prelude.{◌≡◌, ◌||◌, is_some, ◌++◌, [], ◌∷◌, List, true, Some, cond, map, nat_eq, option_map, slice_get, IfOk};
 ghost use Rattle.std.specs.HashMap.{get};
-ghost use Rattle.txn_table.specs.Meaning.{value_for};
-ghost use Rattle.adya_values.specs.Meaning.Histories.{Event as EventValue, entry_of, event_of};
+ghost use Rattle.txn_table.specs.Mirror.{value_for};
+ghost use Rattle.adya_values.specs.Meaning.Histories.{Event as EventValue};
+ghost use Rattle.adya_values.specs.Mirror.Events.{entry_of, event_of};
 ghost use Rattle.adya_values.specs.Meaning.Events.{written};
 ghost use Rattle.adya_values.specs.Computing.Faults.{is_next, version_eq};
 ghost use Rattle.adya_terms.specs.Machinery.Tables.{own, own_eq, written_at, is_there, with_replaced, Means};

@@ -1,9 +1,9 @@
 //! Small histories and certificates from short arguments.
 
 ghost use Rattle.std.specs.Prelude.{◌≡◌, IfOk, map};
-ghost use Rattle.adya_values.specs.Mirror.{events_in, orders_in, finals_in, serial_txns};
-ghost use Rattle.adya_values.specs.Meaning.Histories.{Write, Delete, Read, Scan, Commit, Abort, event_of, entry_of, order_of, final_of};
-ghost use Rattle.adya_values.specs.Meaning.Histories.{Live, Dead};
+ghost use Rattle.adya_values.specs.Mirror.Events.{event_of, entry_of, order_of, final_of};
+ghost use Rattle.adya_values.specs.Mirror.Histories.{events_in, orders_in, finals_in, serial_txns};
+ghost use Rattle.adya_values.specs.Meaning.Histories.{Write, Delete, Read, Scan, Commit, Abort, Live, Dead};
 
 use adya_values::{
     BadKey, BadNumber, BadShape, BadValue, Content, Entry, Event, FinalPair, History, Key, Mod,

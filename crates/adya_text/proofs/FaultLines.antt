@@ -1,8 +1,7 @@
 -- The first line that is faulty.
-use Rattle.std.proofs.Common.{◌≡◌, ℕ, suc, ◌≤◌, inl, inr, List, [], ◌∷◌, ◌++◌, length, take, drop, refl, ap, arith}
-use Rattle.std.proofs.Common.{append_assoc, append-nil, take-append-drop}
+use Rattle.std.proofs.Common.{◌≡◌, ℕ, suc, ◌≤◌, inl, inr, List, [], ◌∷◌, ◌++◌, length, take, drop, refl, ap, arith, append_assoc, append-nil, take-append-drop}
 use Rattle.std.proofs.lemmas.List.{length-append, take-append-le}
-use Rattle.adya_text.specs.Meaning.Faults.{Begins, IsFaulty, IsFirstFaulty}
+use Rattle.adya_text.specs.Clauses.Faults.{Begins, IsFaulty, IsFirstFaulty}
 
 abbrev pub Grammar : Type 1
 Grammar = List (List ℕ) → Type 0

@@ -1,21 +1,21 @@
 -- What a draft of a history tells of the lines so far.
-use Rattle.std.proofs.Common.{◌≡◌, ◌==◌, ℕ, suc, ◌+◌, ◌<◌, true, List, [], ◌∷◌, length, Option, Some, None, Ok, refl, sym, ap, subst, ◌∙◌}
-use Rattle.std.proofs.Common.{arith}
+use Rattle.std.proofs.Common.{◌≡◌, ◌==◌, ℕ, suc, ◌+◌, ◌<◌, true, List, [], ◌∷◌, length, Option, Some, None, Ok, refl, sym, ap, subst, ◌∙◌, arith}
 use Rattle.std.specs.Prelude.{not, MatchOption}
 use Rattle.std.specs.List.{AllByRecursion, list_all}
 use Rattle.std.specs.Cmp.Derive.{both_true}
 use Rattle.std.proofs.lemmas.Bool.Decides.{nat_tests}
 use Rattle.std.proofs.lemmas.List.{length-append, length-map}
 use Rattle.adya_values.specs.Computing.Shapes.{is_shape}
-use Rattle.adya_values.specs.Mirror.{history_of}
-use Rattle.adya_values.specs.Meaning.Histories.{Event, Order, History, event_of, order_of, final_of}
+use Rattle.adya_values.specs.Mirror.Events.{event_of, order_of, final_of}
+use Rattle.adya_values.specs.Mirror.Histories.{history_of}
+use Rattle.adya_values.specs.Meaning.Histories.{Event, Order, History}
 use Rattle.adya_values.specs.declared.edition.Edition.TheVariants.{One, Two}
 use Rattle.adya_values.specs.declared.history.History.{History as HistoryValue}
 use Rattle.adya_line.specs.Meaning.Limits.{IsOrder}
-use Rattle.adya_line.specs.Meaning.HistoryLines.{Line, HeadLine, EventLine, UnfinishedLine, OrderLine, FinalLine, TailLine}
-use Rattle.adya_line.specs.Meaning.HistoryLines.{IsLine, line_text}
-use Rattle.adya_text.specs.Meaning.Texts.{IsHistory, history_lines, AreHistoryLines, with_ends}
-use Rattle.adya_text.specs.Meaning.Reading.{ReadsHistory}
+use Rattle.adya_line.specs.Clauses.HistoryLines.{Line, HeadLine, EventLine, UnfinishedLine, OrderLine, FinalLine, TailLine, IsLine, line_text}
+use Rattle.adya_text.specs.Meaning.Texts.{IsHistory, history_lines, with_ends}
+use Rattle.adya_text.specs.Clauses.Grammars.{AreHistoryLines}
+use Rattle.adya_text.specs.Clauses.Reading.{ReadsHistory}
 use Rattle.adya_text.specs.Computing.HistoryRuns.{allows, stage_after, with_line, history_machine}
 use Rattle.adya_text.specs.Machinery.HistoryDrafts.{HasLines, held, line_after, longest_line, next_line}
 use Rattle.adya_text.specs.Machinery.LongLines.{IsLonger}

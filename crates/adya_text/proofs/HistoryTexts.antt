@@ -1,6 +1,5 @@
 -- The lines of a history are those of a run from the head to the tail, and no others are.
-use Rattle.std.proofs.Common.{◌≡◌, ℕ, suc, length, nat_lt, true, List, [], ◌∷◌, ◌++◌, map, refl}
-use Rattle.std.proofs.Common.{sym, ap, ◌∙◌}
+use Rattle.std.proofs.Common.{◌≡◌, ℕ, suc, length, nat_lt, true, List, [], ◌∷◌, ◌++◌, map, refl, sym, ap, ◌∙◌}
 use Rattle.std.specs.List.{AllByRecursion}
 use Rattle.std.proofs.lemmas.Bool.{eqb-true, and_parts, and_from}
 use Rattle.adya_values.specs.Meaning.Keys.{keys_rise, key_lt, IsTxn}
@@ -10,10 +9,10 @@ use Rattle.adya_values.specs.declared.edition.Edition.TheVariants.{One, Two}
 use Rattle.adya_values.specs.Meaning.Histories.{Event, Order, FinalPair, History}
 use Rattle.adya_line.specs.Meaning.Spelling.{head_text, tail, event_text, unfinished_text, order_text, final_text}
 use Rattle.adya_line.specs.Meaning.Limits.{IsEvent, IsOrder, IsFinal}
-use Rattle.adya_text.specs.Meaning.Texts.{IsHistory, history_lines, AreHistoryLines}
+use Rattle.adya_text.specs.Meaning.Texts.{IsHistory, history_lines}
+use Rattle.adya_text.specs.Clauses.Grammars.{AreHistoryLines}
 use Rattle.adya_text.specs.Computing.Runs.{IsRun, end_of, HasRun}
-use Rattle.adya_line.specs.Meaning.HistoryLines.{Line, HeadLine, EventLine, UnfinishedLine, OrderLine, FinalLine, TailLine}
-use Rattle.adya_line.specs.Meaning.HistoryLines.{IsLine, line_text}
+use Rattle.adya_line.specs.Clauses.HistoryLines.{Line, HeadLine, EventLine, UnfinishedLine, OrderLine, FinalLine, TailLine, IsLine, line_text}
 use Rattle.adya_text.specs.Computing.HistoryRuns.{allows, history_machine, stage_after, with_line}
 use Rattle.adya_text.specs.declared.history_draft.Stage.{Stage}
 use Rattle.adya_text.specs.declared.history_draft.Stage.TheVariants.{Head, Events, Unfinished, Orders, Finals, Done}

@@ -7,7 +7,7 @@ use Rattle.memchr.specs.Find.{Nowhere, Passes, is_byte}
 use Rattle.adya_text.specs.Meaning.Texts.{with_ends}
 use Rattle.devices.proofs.Ranges.{plain_all, plain_before}
 use Rattle.adya_line.specs.Meaning.Lines.{IsPlain}
-use Rattle.adya_text.specs.Meaning.Faults.{IsCut}
+use Rattle.adya_text.specs.Clauses.Faults.{IsCut}
 
 pub ends_append : (xs ys : List (List ℕ)) → with_ends (xs ++ ys) ≡ with_ends xs ++ with_ends ys
 ends_append [] ys = refl

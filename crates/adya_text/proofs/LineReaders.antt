@@ -3,7 +3,7 @@ use Rattle.std.proofs.Common.{◌≡◌, ℕ, ◌<◌, Bool, true, false, List, 
 use Rattle.std.specs.Bool.{OnTrue}
 use Rattle.std.specs.Option.{is_some}
 use Rattle.std.proofs.lemmas.List.{length-append}
-use Rattle.adya_text.specs.Meaning.Faults.{Begins}
+use Rattle.adya_text.specs.Clauses.Faults.{Begins}
 use Rattle.adya_text.specs.Machinery.LineReaders.{IsFed}
 use Rattle.adya_text.specs.Machinery.LongLines.{StartsNoLine}
 use Rattle.adya_text.proofs.FaultLines.{Grammar, front_begins, fault_stays, fault_stops}

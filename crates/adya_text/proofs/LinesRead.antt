@@ -7,8 +7,8 @@ use Rattle.std.specs.Io.KnownBytes.{Consumes, IsAtEnd, prepend_known}
 use Rattle.std.proofs.KnownBytes.{Consumes-nil, Consumes-trans, prepend_known-nil}
 use Rattle.adya_text.specs.Meaning.Texts.{with_ends}
 use Rattle.adya_line.specs.Meaning.Lines.{IsPlain}
-use Rattle.adya_text.specs.Meaning.Faults.{IsCut, HasFront}
-use Rattle.devices.specs.Meaning.Lines.{line_end}
+use Rattle.adya_text.specs.Clauses.Faults.{IsCut, HasFront}
+use Rattle.devices.specs.Clauses.Lines.{line_end}
 use Rattle.adya_text.specs.Machinery.LongLines.{HasStart}
 use Rattle.adya_text.proofs.LineLists.{ends_append}
 

@@ -1,10 +1,9 @@
 -- What is known of lines that a machine has run over, if its complete runs are the lines of the values of a grammar.
-use Rattle.std.proofs.Common.{◌≡◌, ℕ, suc, ◌+◌, true, List, [], ◌∷◌, ◌++◌, length, map, Option, sym, ap, subst}
-use Rattle.std.proofs.Common.{◌∙◌, arith, append_assoc}
+use Rattle.std.proofs.Common.{◌≡◌, ℕ, suc, ◌+◌, true, List, [], ◌∷◌, ◌++◌, length, map, Option, sym, ap, subst, ◌∙◌, arith, append_assoc}
 use Rattle.std.specs.List.{AllByRecursion}
 use Rattle.std.proofs.lemmas.List.{length-map}
 use Rattle.adya_line.specs.Laws.{IsOneText}
-use Rattle.adya_text.specs.Meaning.Faults.{Begins}
+use Rattle.adya_text.specs.Clauses.Faults.{Begins}
 use Rattle.adya_text.specs.Computing.Runs.{Machine, IsRun, end_of, HasRun, IsRefused}
 use Rattle.adya_text.specs.Machinery.LongLines.{IsLonger, StartsNoLine}
 use Rattle.adya_text.proofs.Runs.{run_join, refused, one_end}

@@ -1,17 +1,15 @@
 -- Faults of texts that begin with given lines, or are cut into them.
-use Rattle.std.proofs.Common.{◌≡◌, ◌≢◌, ◌==◌, ℕ, suc, ◌≤◌, Bool, true, false, List, [], ◌∷◌, ◌++◌, All, length}
-use Rattle.std.proofs.Common.{refl, sym, ap, ◌∙◌, arith, append_assoc}
+use Rattle.std.proofs.Common.{◌≡◌, ◌≢◌, ◌==◌, ℕ, suc, ◌≤◌, Bool, true, false, List, [], ◌∷◌, ◌++◌, All, length, refl, sym, ap, ◌∙◌, arith, append_assoc}
 use Rattle.std.proofs.lemmas.Bool.{eqb-true}
 use Rattle.std.proofs.lemmas.List.{length-append}
 use Rattle.std.proofs.lemmas.List.Elements.{All-nil, All-cons, All-append, All-push}
 use Rattle.adya_text.specs.Meaning.Texts.{with_ends}
 use Rattle.adya_line.specs.Meaning.Lines.{IsPlain}
-use Rattle.adya_text.specs.Meaning.Faults.{IsCut, HasFront, Begins, IsFirstFaulty, IsFaultLine}
+use Rattle.adya_text.specs.Clauses.Faults.{IsCut, HasFront, Begins, IsFirstFaulty, IsFaultLine}
 use Rattle.adya_text.specs.Machinery.LineReaders.{Shows, complete, stopped, long}
 use Rattle.adya_text.specs.Machinery.LongLines.{HasStart, StartsNoLine}
 use Rattle.adya_text.proofs.LineLists.{ends_append}
-use Rattle.adya_text.proofs.FaultLines.{Grammar, front_begins, whole_begins, fault_at, fault_stays, fault_stops}
-use Rattle.adya_text.proofs.FaultLines.{fault_missing}
+use Rattle.adya_text.proofs.FaultLines.{Grammar, front_begins, whole_begins, fault_at, fault_stays, fault_stops, fault_missing}
 
 -- the complete lines of a text, and its rest
 record Cut (text : List ℕ) : Type 0 where

@@ -1,10 +1,9 @@
 -- Runs of lines, which the texts of their lines determine.
-use Rattle.std.proofs.Common.{◌≡◌, ℕ, true, false, List, [], ◌∷◌, ◌++◌, map, refl, sym, ap, ◌∙◌}
-use Rattle.std.proofs.Common.{append_assoc, append-nil}
+use Rattle.std.proofs.Common.{◌≡◌, ℕ, true, false, List, [], ◌∷◌, ◌++◌, map, refl, sym, ap, ◌∙◌, append_assoc, append-nil}
 use Rattle.std.proofs.lemmas.List.{map_push, map-append}
 use Rattle.std.specs.List.{AllByRecursion}
 use Rattle.adya_line.specs.Laws.{IsOneText}
-use Rattle.adya_line.specs.Meaning.Lines.{SpellsOnly}
+use Rattle.adya_line.specs.Clauses.OnlyLines.{SpellsOnly}
 use Rattle.adya_text.specs.Computing.Runs.{Machine, IsRun, end_of, HasRun, IsRefused, IsAllowed}
 
 run_push : {S H L : Type 0} (m : Machine S H L) (s : S) (xs : List L) (x : L) → IsRun m s xs

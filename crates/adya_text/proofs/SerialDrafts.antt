@@ -2,7 +2,7 @@
 use Rattle.std.proofs.Common.{◌≡◌, ℕ, suc, true, List, [], ◌∷◌, length, arith}
 use Rattle.std.proofs.lemmas.Fmt.{length-decimal-le}
 use Rattle.std.proofs.lemmas.List.{length-append}
-use Rattle.adya_line.specs.Meaning.SerialLines.{Line, HeadLine, TxnLine, TailLine, IsLine, line_text}
+use Rattle.adya_line.specs.Clauses.SerialLines.{Line, HeadLine, TxnLine, TailLine, IsLine, line_text}
 use Rattle.adya_text.specs.Computing.SerialRuns.{allows, stage_after, with_line, serial_machine}
 use Rattle.adya_text.specs.Machinery.SerialDrafts.{HasLines, longest_line, next_line}
 use Rattle.adya_text.specs.Machinery.LongLines.{IsLonger}

@@ -3,9 +3,10 @@ use Rattle.std.proofs.Common.{◌≡◌, ℕ, List, [], ◌∷◌, ◌++◌, map
 use Rattle.std.specs.List.{AllByRecursion}
 use Rattle.adya_values.specs.Meaning.Keys.{IsTxn}
 use Rattle.adya_line.specs.Meaning.Spelling.{serial_head, tail, txn_text}
-use Rattle.adya_text.specs.Meaning.Texts.{IsSerial, serial_lines, AreSerialLines}
+use Rattle.adya_text.specs.Meaning.Texts.{IsSerial, serial_lines}
+use Rattle.adya_text.specs.Clauses.Grammars.{AreSerialLines}
 use Rattle.adya_text.specs.Computing.Runs.{IsRun, end_of, HasRun}
-use Rattle.adya_line.specs.Meaning.SerialLines.{Line, HeadLine, TxnLine, TailLine, IsLine, line_text}
+use Rattle.adya_line.specs.Clauses.SerialLines.{Line, HeadLine, TxnLine, TailLine, IsLine, line_text}
 use Rattle.adya_text.specs.Computing.SerialRuns.{serial_machine, with_line}
 use Rattle.adya_text.specs.declared.serial_draft.Stage.{Stage}
 use Rattle.adya_text.specs.declared.serial_draft.Stage.TheVariants.{Head, Txns, Done}

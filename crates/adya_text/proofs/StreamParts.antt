@@ -1,7 +1,6 @@
 -- The place at which the history text of a stream ends, by the lines of the stream.
 use Rattle.std.proofs.Common.{◌≡◌, ◌≢◌, ◌==◌, ℕ, suc, ◌+◌, ◌-◌, ◌≤◌, Bool, true, false, if◌then◌else◌, List, [], ◌∷◌}
-use Rattle.std.proofs.Common.{◌++◌, All, length, take, drop, refl, sym, ap, ◌∙◌, arith, append_assoc}
-use Rattle.std.proofs.Common.{append-nil, zero-le}
+use Rattle.std.proofs.Common.{◌++◌, All, length, take, drop, refl, sym, ap, ◌∙◌, arith, append_assoc, append-nil, zero-le}
 use Rattle.std.specs.Prelude.{codes}
 use Rattle.std.proofs.lemmas.Bool.{eqb-true, ne_eqb, and_parts, false_from_ne_true}
 use Rattle.std.proofs.lemmas.List.{length-append}
@@ -10,8 +9,8 @@ use Rattle.std.proofs.Math.Seq.{take-append-add, drop-append-add, take-length, d
 use Rattle.adya_line.specs.Meaning.Spelling.{tail}
 use Rattle.adya_text.specs.Meaning.Texts.{with_ends}
 use Rattle.adya_line.specs.Meaning.Lines.{IsPlain}
-use Rattle.adya_text.specs.Meaning.Faults.{IsCut, HasFront}
-use Rattle.adya_text.specs.Meaning.Streams.{history_part, serial_part}
+use Rattle.adya_text.specs.Clauses.Faults.{IsCut, HasFront}
+use Rattle.adya_text.specs.Clauses.Streams.{history_part, serial_part}
 use Rattle.adya_text.specs.Laws.{HasNoEnd, IsCutAfterEnd, IsWholeWithoutEnd}
 use Rattle.adya_text.specs.Machinery.LongLines.{HasStart}
 use Rattle.adya_text.specs.Computing.Streams.{begins_with, end_of_history}

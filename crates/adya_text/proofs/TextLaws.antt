@@ -1,21 +1,20 @@
 -- Different values have different texts, and no text begins another.
-use Rattle.std.proofs.Common.{◌≢◌, ◌≡◌, ℕ, ◌<◌, ◌⊎◌, inl, inr, List, [], ◌∷◌, ◌++◌, All, map, Result, Ok, Err, refl, sym}
-use Rattle.std.proofs.Common.{ap, subst, ◌∙◌, append-nil, arith}
+use Rattle.std.proofs.Common.{◌≢◌, ◌≡◌, ℕ, ◌<◌, ◌⊎◌, inl, inr, List, [], ◌∷◌, ◌++◌, All, map, Result, Ok, Err, refl, sym, ap, subst, ◌∙◌, append-nil, arith}
 use Rattle.std.specs.Prelude.{MatchResult, IsErrOf}
 use Rattle.std.specs.List.{AllByRecursion}
 use Rattle.std.proofs.lemmas.List.Elements.{All-nil, All-cons}
 use Rattle.adya_values.specs.Meaning.Histories.{History}
-use Rattle.adya_values.specs.Mirror.{history_of}
+use Rattle.adya_values.specs.Mirror.Histories.{history_of}
 use Rattle.adya_values.specs.declared.history.History.{History as HistoryValue}
 use Rattle.adya_values.specs.declared.serial.Serial.{Serial}
 use Rattle.adya_line.specs.Laws.{IsOneText, HasPlainTexts}
 use Rattle.adya_line.specs.Meaning.Lines.{IsPlain}
-use Rattle.adya_line.specs.Meaning.HistoryLines as H
-use Rattle.adya_line.specs.Meaning.SerialLines as S
-use Rattle.adya_text.specs.Meaning.Texts.{IsHistory, IsSerial, history_lines, serial_lines, history_text, serial_text}
-use Rattle.adya_text.specs.Meaning.Texts.{with_ends, AreHistoryLines, AreSerialLines}
-use Rattle.adya_text.specs.Meaning.Faults.{IsFaultLine, IsFirstFaulty}
-use Rattle.adya_text.specs.Meaning.Reading.{ReadsHistory, ReadsSerial}
+use Rattle.adya_line.specs.Clauses.HistoryLines as H
+use Rattle.adya_line.specs.Clauses.SerialLines as S
+use Rattle.adya_text.specs.Meaning.Texts.{IsHistory, IsSerial, history_lines, serial_lines, history_text, serial_text, with_ends}
+use Rattle.adya_text.specs.Clauses.Grammars.{AreHistoryLines, AreSerialLines}
+use Rattle.adya_text.specs.Clauses.Faults.{IsFaultLine, IsFirstFaulty}
+use Rattle.adya_text.specs.Clauses.Reading.{ReadsHistory, ReadsSerial}
 use Rattle.adya_text.specs.Computing.Runs.{Machine}
 use Rattle.adya_text.specs.declared.read_fault.ReadFault.{ReadFault}
 use Rattle.adya_text.specs.declared.read_fault.ReadFault.TheVariants.{Syntax, Device, Memory}

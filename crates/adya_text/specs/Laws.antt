@@ -5,8 +5,8 @@ use Rattle.adya_line.specs.Meaning.Spelling.{tail}
 use Rattle.adya_line.specs.Meaning.Lines.{IsPlain}
 use Rattle.adya_values.specs.Meaning.Histories.{Txns, History}
 use Rattle.adya_text.specs.Meaning.Texts.{IsHistory, IsSerial, with_ends, history_text, serial_text}
-use Rattle.adya_text.specs.Meaning.Faults.{IsCut, IsFaultLine}
-use Rattle.adya_text.specs.Meaning.Streams.{history_part, serial_part}
+use Rattle.adya_text.specs.Clauses.Faults.{IsCut, IsFaultLine}
+use Rattle.adya_text.specs.Clauses.Streams.{history_part, serial_part}
 
 -- histories of one text are one history
 abbrev pub HistoriesDiffer : Type 0

@@ -2,13 +2,13 @@
 
 ghost use Rattle.std.specs.Prelude.{◌≡◌, ◌<◌, ◌+◌, ◌^◌, [], length, true, false, IfSome, IfOk, OnOk, MatchOption, map};
 ghost use Rattle.adya_values.specs.Computing.Shapes.{fits_edition, is_shape};
-ghost use Rattle.adya_values.specs.Meaning.Histories.{event_of, order_of, final_of};
-ghost use Rattle.adya_values.specs.Mirror.{history_of};
-ghost use Rattle.adya_line.specs.Meaning.HistoryLines.{Line, line_of};
+ghost use Rattle.adya_values.specs.Mirror.Events.{event_of, order_of, final_of};
+ghost use Rattle.adya_values.specs.Mirror.Histories.{history_of};
+ghost use Rattle.adya_line.specs.Clauses.HistoryLines.{Line, line_of};
 ghost use Rattle.adya_text.specs.Computing.Runs.{IsAllowed, IsRefused};
 ghost use Rattle.adya_text.specs.Computing.HistoryRuns.{allows, history_machine, stage_after};
-ghost use Rattle.adya_text.specs.Meaning.Texts.{AreHistoryLines};
-ghost use Rattle.adya_text.specs.Meaning.Reading.{ReadsHistory};
+ghost use Rattle.adya_text.specs.Clauses.Grammars.{AreHistoryLines};
+ghost use Rattle.adya_text.specs.Clauses.Reading.{ReadsHistory};
 ghost use Rattle.adya_text.specs.Machinery.HistoryDrafts.{HasLines, Takes, line_after, longest_line};
 
 use crate::line_reader::Draft;

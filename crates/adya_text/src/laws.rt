@@ -3,10 +3,11 @@
 ghost use Rattle.std.specs.Prelude.{◌<◌, length, map};
 ghost use Rattle.std.specs.List.{AllByRecursion};
 ghost use Rattle.adya_values.specs.Meaning.Keys.{IsTxn};
-ghost use Rattle.adya_values.specs.Meaning.Histories.{event_of, order_of, final_of};
-ghost use Rattle.adya_values.specs.Mirror.{history_of, serial_txns};
+ghost use Rattle.adya_values.specs.Mirror.Events.{event_of, order_of, final_of};
+ghost use Rattle.adya_values.specs.Mirror.Histories.{history_of, serial_txns};
 ghost use Rattle.adya_line.specs.Meaning.Limits.{IsEvent, IsOrder, IsFinal};
-ghost use Rattle.adya_text.specs.Meaning.Texts.{IsHistory, IsSerial, AreHistoryLines, AreSerialLines};
+ghost use Rattle.adya_text.specs.Meaning.Texts.{IsHistory, IsSerial};
+ghost use Rattle.adya_text.specs.Clauses.Grammars.{AreHistoryLines, AreSerialLines};
 ghost use Rattle.adya_text.specs.Laws.{HistoriesDiffer, SerialsDiffer, NoHistoryBegins, NoSerialBegins};
 ghost use Rattle.adya_text.specs.Laws.{HasOneFaultLine, HasNoFaultWithin, IsCutAfterEnd, IsWholeWithoutEnd};
 

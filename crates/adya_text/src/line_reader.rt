@@ -3,8 +3,8 @@
 ghost use Rattle.std.specs.Prelude.{◌≡◌, List, ℕ, suc, length, Result, Ok, Err, [], ◌∷◌, ◌++◌, OnOk, IfOk, IsErr, MatchOption, true, false};
 ghost use Rattle.std.specs.Bool.{OnTrue, OnFalse};
 ghost use Rattle.adya_text.specs.Meaning.Texts.{with_ends};
-ghost use Rattle.adya_text.specs.Meaning.Reading.{IsOfText};
-ghost use Rattle.adya_text.specs.Meaning.Faults.{Begins, IsFaultLine};
+ghost use Rattle.adya_text.specs.Clauses.Reading.{IsOfText};
+ghost use Rattle.adya_text.specs.Clauses.Faults.{Begins, IsFaultLine};
 ghost use Rattle.adya_text.specs.Machinery.LineReaders.{IsFed, Shows, BeginNone};
 ghost use Rattle.adya_text.specs.Machinery.LongLines.{IsLonger, StartsNoLine};
 ghost use Rattle.adya_text.specs.declared.read_fault.Text.{Text as Kind};

@@ -3,7 +3,7 @@
 ghost use Rattle.std.specs.Prelude.{◌≡◌, ◌≢◌, ◌↔◌, ◌⊎◌, ℕ, ◌+◌, ◌*◌, ◌<◌, ◌≤◌, List, [], ◌∷◌, ◌++◌, length, All, true};
 ghost use Rattle.std.specs.Prelude.{false, if◌then◌else◌, IfOk, OnOk, IfSome, IsErrOf, IsTrue, slice_range};
 ghost use Rattle.std.specs.Io.KnownBytes.{Consumes, IsAtEnd, prepend_known};
-ghost use Rattle.devices.specs.Meaning.Lines.{work_left, line_end};
+ghost use Rattle.devices.specs.Clauses.Lines.{work_left, line_end};
 ghost use Rattle.adya_text.specs.Machinery.LongLines.{IsLonger};
 
 use devices::{LineBuffer, Source, SourceFault};

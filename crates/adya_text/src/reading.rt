@@ -2,9 +2,9 @@
 
 ghost use Rattle.std.specs.Prelude.{◌≡◌, List, [], ℕ, MatchResult, IsErrOf};
 ghost use Rattle.adya_values.specs.Meaning.Histories.{History as Plain};
-ghost use Rattle.adya_values.specs.Mirror.{history_of, serial_txns};
+ghost use Rattle.adya_values.specs.Mirror.Histories.{history_of, serial_txns};
 ghost use Rattle.adya_text.specs.Meaning.Texts.{IsHistory, IsSerial, history_text, serial_text};
-ghost use Rattle.adya_text.specs.Meaning.Reading.{ReadsHistory, ReadsSerial};
+ghost use Rattle.adya_text.specs.Clauses.Reading.{ReadsHistory, ReadsSerial};
 
 use crate::history_draft::HistoryDraft;
 use crate::line_reader::{Draft, LineReader};

@@ -1,11 +1,11 @@
 //! Certificates in the making.
 
 ghost use Rattle.std.specs.Prelude.{◌≡◌, ◌<◌, ◌^◌, [], length, OnOk, MatchOption};
-ghost use Rattle.adya_line.specs.Meaning.SerialLines.{line_of};
+ghost use Rattle.adya_line.specs.Clauses.SerialLines.{line_of};
 ghost use Rattle.adya_text.specs.Computing.Runs.{IsAllowed, IsRefused};
 ghost use Rattle.adya_text.specs.Computing.SerialRuns.{allows, serial_machine, stage_after};
-ghost use Rattle.adya_text.specs.Meaning.Texts.{AreSerialLines};
-ghost use Rattle.adya_text.specs.Meaning.Reading.{ReadsSerial};
+ghost use Rattle.adya_text.specs.Clauses.Grammars.{AreSerialLines};
+ghost use Rattle.adya_text.specs.Clauses.Reading.{ReadsSerial};
 ghost use Rattle.adya_text.specs.Machinery.SerialDrafts.{HasLines, Takes, line_after, longest_line};
 
 use crate::line_reader::Draft;

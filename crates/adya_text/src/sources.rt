@@ -3,10 +3,10 @@
 ghost use Rattle.std.specs.Prelude.{◌≡◌, ◌⊎◌, List, [], ℕ, Some, true, false, IfSome, OnOk, IsErrOf, MatchResult};
 ghost use Rattle.std.specs.Io.KnownBytes.{IsAtEnd, prepend_known};
 ghost use Rattle.adya_values.specs.Meaning.Histories.{History as Plain};
-ghost use Rattle.adya_values.specs.Mirror.{history_of, serial_txns};
+ghost use Rattle.adya_values.specs.Mirror.Histories.{history_of, serial_txns};
 ghost use Rattle.adya_text.specs.Meaning.Texts.{IsHistory, IsSerial, history_text, serial_text};
-ghost use Rattle.adya_text.specs.Meaning.Reading.{IsOfText, ReadsHistory, ReadsSerial, ReadsTexts};
-ghost use Rattle.adya_text.specs.Meaning.Streams.{history_part, serial_part};
+ghost use Rattle.adya_text.specs.Clauses.Reading.{IsOfText, ReadsHistory, ReadsSerial, ReadsTexts};
+ghost use Rattle.adya_text.specs.Clauses.Streams.{history_part, serial_part};
 
 use crate::history_draft::HistoryDraft;
 use crate::line_reader::{Draft, LineReader};

@@ -1,11 +1,10 @@
 //! Writing whole texts.
 
 ghost use Rattle.std.specs.Prelude.{map};
-ghost use Rattle.adya_values.specs.Meaning.Histories.{event_of, order_of, final_of};
-ghost use Rattle.adya_values.specs.Mirror.{history_of, serial_txns};
-ghost use Rattle.devices.specs.Meaning.Writing.{Wrote};
-ghost use Rattle.adya_line.specs.Meaning.Spelling.{head_text, tail};
-ghost use Rattle.adya_line.specs.Meaning.Spelling.{event_text, unfinished_text, order_text, final_text, txn_text};
+ghost use Rattle.adya_values.specs.Mirror.Events.{event_of, order_of, final_of};
+ghost use Rattle.adya_values.specs.Mirror.Histories.{history_of, serial_txns};
+ghost use Rattle.devices.specs.Clauses.Writing.{Wrote};
+ghost use Rattle.adya_line.specs.Meaning.Spelling.{head_text, tail, event_text, unfinished_text, order_text, final_text, txn_text};
 ghost use Rattle.adya_text.specs.Meaning.Texts.{history_text, serial_text};
 ghost use Rattle.adya_text.specs.Machinery.TextParts.{ended, lines_of, history_parts, serial_parts};
 

@@ -10,7 +10,7 @@ use Rattle.adya_values.specs.Meaning.Keys.{key_eq, keys_rise}
 use Rattle.adya_values.specs.Meaning.Histories.{Entry, Order, FinalPair}
 use Rattle.adya_values.specs.Meaning.Events.{listed}
 use Rattle.adya_values.specs.Meaning.Orders.{line_of}
-use Rattle.adya_values.specs.Meaning.Rules.{final_value}
+use Rattle.adya_values.specs.Clauses.Rules.{final_value}
 use Rattle.adya_values.proofs.Keys.{keys_rise-tail, rises_other}
 
 -- ---- order lines

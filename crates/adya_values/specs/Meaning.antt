@@ -2,9 +2,9 @@
 -- Keys and Histories: what histories are made of, as plain values.
 -- Events and Orders: what events write and see, and the versions of a key in their order.
 -- Selections and Edges: which version of a key an event sees, and the dependencies between transactions.
--- Rules and Phenomena: when a history is well-formed, and what isolation level PL-3 rules out.
+-- Phenomena: what isolation level PL-3 rules out.
 -- KeySets: rising lists of keys.
--- Serial and Acceptance: agreement with a serial run, and when a certificate is accepted.
+-- Serial: agreement with a serial run.
 pub mod Keys
 pub mod Histories
 pub mod Events
@@ -12,7 +12,5 @@ pub mod Orders
 pub mod Selections
 pub mod Edges
 pub mod KeySets
-pub mod Rules
 pub mod Phenomena
 pub mod Serial
-pub mod Acceptance

@@ -1,7 +1,7 @@
 //! Versions of keys, and the events that write and read them.
 
 ghost use Rattle.std.specs.Prelude.{◌≡◌, IfOk, option_map};
-ghost use Rattle.adya_values.specs.Meaning.Histories.{content_of, entry_of, event_of};
+ghost use Rattle.adya_values.specs.Mirror.Events.{content_of, entry_of, event_of};
 ghost use Rattle.adya_values.specs.Meaning.Events.{txn_of, written};
 ghost use Rattle.adya_values.specs.Computing.Faults.{content_eq, entry_eq};
 

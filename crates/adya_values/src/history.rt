@@ -3,7 +3,7 @@
 ghost use Rattle.std.specs.Prelude.{◌≡◌, ◌↔◌, true, length, map, IsOk, IfOk, IfErr, ◌==◌, ◌&&◌, not, [], nat_lt, ◌∷◌};
 ghost use Rattle.std.specs.List.{list_all};
 ghost use Rattle.adya_values.specs.Meaning.Keys.{key_lt, keys_rise};
-ghost use Rattle.adya_values.specs.Meaning.Histories.{order_of, final_of};
+ghost use Rattle.adya_values.specs.Mirror.Events.{order_of, final_of};
 ghost use Rattle.adya_values.specs.Computing.Shapes.{is_shape, numbers_rise, fits_edition};
 
 use crate::order::{FinalPair, Order};
@@ -47,7 +47,7 @@ pub struct History {
 }
 
 impl History {
-    ghost use Rattle.adya_values.specs.Mirror.{history_of, edition_in, events_in, unfinished_in, orders_in, finals_in};
+    ghost use Rattle.adya_values.specs.Mirror.Histories.{history_of, edition_in, events_in, unfinished_in, orders_in, finals_in};
 
     /// Makes a history of the first edition. Returns `BadShape` with the lists if an order has no writer, or the
     /// keys of the orders or of the finals don't strictly rise.

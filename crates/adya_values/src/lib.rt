@@ -1,8 +1,8 @@
 //! Transaction histories as values (Adya 1999, section 3.1): keys, values, versions, events, version orders, histories
 //! and certificates.
 //!
-//! The definitions that all promises of the repository are made of are in `specs/Meaning`: dependencies, phenomena,
-//! well-formedness, the serial run and acceptance. `specs/Computing` has the functions that compute them.
+//! The definitions that all promises of the repository are made of are in `specs/Meaning`: dependencies, phenomena and the
+//! serial run; well-formedness and acceptance are in `specs/Clauses`. `specs/Computing` has the functions that compute them.
 #![tactic(auto)]
 
 mod edition;

@@ -1,7 +1,7 @@
 //! Certificates.
 
 ghost use Rattle.std.specs.Prelude.{◌≡◌};
-ghost use Rattle.adya_values.specs.Mirror.{serial_txns};
+ghost use Rattle.adya_values.specs.Mirror.Histories.{serial_txns};
 
 use crate::Txn;
 

@@ -26,7 +26,7 @@ pub struct Value {
 }
 
 impl Value {
-    ghost use Rattle.adya_values.specs.Meaning.Histories.{value_of};
+    ghost use Rattle.adya_values.specs.Mirror.Events.{value_of};
 
     /// Makes a value of these bytes; `BadValue` if and only if they don't form one.
     pub fn new(text: &[u8]) -> Result<Value, BadValue>

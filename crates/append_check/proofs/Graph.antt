@@ -19,7 +19,7 @@ use Rattle.append_values.specs.Meaning.Reads.{AppendersDiffer, AppendsOnce}
 use Rattle.append_values.specs.Meaning.Reasons.{Precedes, IsDue, IsChain, IsRound}
 use Rattle.append_laws.specs.Laws.Explanations.{ExplainsExactly}
 use Rattle.digraph.specs.declared.arc.Arc.{Arc}
-use Rattle.digraph.specs.Meaning.Graphs.{IsGraph, place, IsBefore, IsTopologicalOrder, IsPath}
+use Rattle.digraph.specs.Clauses.Graphs.{IsGraph, place, IsBefore, IsTopologicalOrder, IsPath}
 use Rattle.append_check.specs.Machinery.Precedences.{place_of, AreListed, arc, IsArc, AreArcs, AreMore, HasArc, AreNodes, IsCycleOf}
 use Rattle.append_check.specs.Machinery.Wholeness.{AreFine}
 use Rattle.append_check.proofs.Each.{push_keeps, push_puts, push-cases}

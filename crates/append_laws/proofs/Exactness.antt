@@ -17,7 +17,7 @@ use Rattle.append_laws.proofs.Places.{before_at, after_at, in_front}
 use Rattle.append_laws.proofs.Fronts.{IsListed, once, placed, own_contains}
 use Rattle.append_laws.proofs.Rising.{RisesWhereCut, rises-from_cuts, rises_filtered, rising_unique}
 use Rattle.append_laws.proofs.Necessity.{necessary}
-use Rattle.digraph.specs.Meaning.Graphs.{place, IsBefore}
+use Rattle.digraph.specs.Clauses.Graphs.{place, IsBefore}
 
 abbrev pub has_any : List ℕ → Bool
 has_any [] = false

@@ -19,7 +19,7 @@ use Rattle.append_laws.proofs.Places.{at_contained, place_same, place_other}
 use Rattle.append_laws.proofs.Fronts.{IsListed, own_splits, own_contains}
 use Rattle.append_laws.proofs.Rising.{Rises}
 use Rattle.append_laws.proofs.Exactness.{exactly}
-use Rattle.digraph.specs.Meaning.Graphs.{place, IsBefore}
+use Rattle.digraph.specs.Clauses.Graphs.{place, IsBefore}
 
 -- a list rises if each element is below the next one
 climbs : (f : ℕ → ℕ) (line : List ℕ) → ((front back : List ℕ) (u v : ℕ) → line ≡ front ++ u ∷ v ∷ back → f u < f v) → Rises f line

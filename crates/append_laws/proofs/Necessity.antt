@@ -14,7 +14,7 @@ use Rattle.append_laws.proofs.Prefixes.{both_begin, prefix_more, prefix_contains
 use Rattle.append_laws.proofs.Places.{IsAt, at_contained, before_at, after_at}
 use Rattle.append_laws.proofs.Fronts.{placed, read_begins, source}
 use Rattle.digraph.specs.declared.arc.Arc.{Arc}
-use Rattle.digraph.specs.Meaning.Graphs.{IsBefore, IsCycle}
+use Rattle.digraph.specs.Clauses.Graphs.{IsBefore, IsCycle}
 use Rattle.digraph.specs.Laws.{CycleExcludesOrder}
 
 module _ (h : History) (ts : List ℕ) (differ : AppendersDiffer h) (ex : Explains ts h) where

@@ -13,7 +13,7 @@ use Rattle.append_values.specs.declared.reason.Kind.TheVariants as By
 use Rattle.append_values.specs.declared.reason.Reason.{Reason}
 use Rattle.append_values.specs.declared.reason.Reason.TheVariants.{Internal, Unrepeatable, Twice, Unwritten, Future, Intermediate, Incompatible, Cycle}
 use Rattle.append_values.specs.Meaning.Reasons.{Precedes, IsRead, IsDue, IsChain, IsRound, Holds, HasNoOrder}
-use Rattle.digraph.specs.Meaning.Graphs.{place, IsBefore}
+use Rattle.digraph.specs.Clauses.Graphs.{place, IsBefore}
 
 due : (h : History) (u v : ℕ) (kind : Kind) → IsDue h u v kind → Precedes h u v
 due h u v (By.WriteRead read) d = inl d.2

@@ -3,7 +3,7 @@
 //! No contract says that what is found is right.
 
 ghost use Rattle.std.specs.Prelude.{IfOk, OnOk};
-ghost use Rattle.digraph.specs.Meaning.Graphs.{IsGraph};
+ghost use Rattle.digraph.specs.Clauses.Graphs.{IsGraph};
 
 use crate::lines::{Found, Lines};
 use crate::links::{Links, Sink};

@@ -1,12 +1,11 @@
 -- A part of a list of bytes, cut at its first line feed.
 use Rattle.std.proofs.Common.{◌≡◌, ◌≢◌, ◌==◌, ℕ, suc, ◌+◌, ◌-◌, ◌<◌, ◌≤◌, List, [], ◌∷◌, ◌++◌, All, arith}
-use Rattle.std.proofs.Common.{rules, length, take, drop, slice_range, slice_index, sym, ap, ◌∙◌, subst, zero-le}
-use Rattle.std.proofs.Common.{Bool, length-append, take-append-drop, length-take-le}
+use Rattle.std.proofs.Common.{rules, length, take, drop, slice_range, slice_index, sym, ap, ◌∙◌, subst, zero-le, Bool, length-append, take-append-drop, length-take-le}
 use Rattle.std.proofs.lemmas.List.{drop-take, drop-drop, get_or-take, get_or_default}
 use Rattle.std.proofs.Math.Seq.{take-suc, drop-append_seam}
 use Rattle.std.proofs.lemmas.Grind.{common_steps}
 use Rattle.memchr.specs.Find.{Nowhere, Passes, is_byte}
-use Rattle.devices.specs.Meaning.Lines.{line_end}
+use Rattle.devices.specs.Clauses.Lines.{line_end}
 
 pub drop_range : (bytes : List ℕ) (start end n : ℕ) → start + n ≤ end
     → drop n (slice_range bytes start end) ≡ slice_range bytes (start + n) end

@@ -2,7 +2,7 @@
 
 ghost use Rattle.std.specs.Prelude.{◌≡◌, ◌≢◌, ◌↔◌, ℕ, ◌+◌, ◌<◌, ◌≤◌, List, [], ◌++◌, length, drop, All, true, false, IfOk, IsErr};
 ghost use Rattle.std.specs.Io.KnownBytes.{Consumes, IsAtEnd};
-ghost use Rattle.devices.specs.Meaning.Lines.{line_end};
+ghost use Rattle.devices.specs.Clauses.Lines.{line_end};
 
 use crate::Source;
 use memchr::memchr;

@@ -5,7 +5,7 @@ ghost use Rattle.std.specs.Io.{ReadsAtMost, WritesAtMost};
 ghost use Rattle.std.specs.Io.KnownBytes.{ReadConsumes, WriteAppends, Keeps, Appends};
 ghost use Rattle.std.specs.IoError.{error_kind};
 ghost use Rattle.devices.specs.Mirror.{has_failed, reads_left, device_of, watched_remaining, watched_contents};
-ghost use Rattle.devices.specs.Meaning.Writing.{Broke};
+ghost use Rattle.devices.specs.Clauses.Writing.{Broke};
 
 use std::io;
 use std::io::{Error, ErrorKind, Read, Write};

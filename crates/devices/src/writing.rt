@@ -1,7 +1,7 @@
 //! Writing bytes, numbers and lines.
 
 ghost use Rattle.std.specs.Prelude.{◌++◌, ◌∷◌, [], decimal, OnErr};
-ghost use Rattle.devices.specs.Meaning.Writing.{Wrote, Broke};
+ghost use Rattle.devices.specs.Clauses.Writing.{Wrote, Broke};
 
 use crate::Watched;
 use itoa::Buffer;

@@ -5,7 +5,7 @@ use Rattle.std.proofs.lemmas.List.{reverse-append, take-append-drop}
 use Rattle.std.proofs.lemmas.List.Elements.{All-take, All-drop, All-append, All-weaker, All-from_recursion, recursion_from_All}
 use Rattle.std.proofs.lemmas.List.Sorted.{length_permutation, IsPermutation-append_comm}
 use Rattle.digraph.specs.declared.arc.Arc.{Arc}
-use Rattle.digraph.specs.Meaning.Graphs.{place, AreForward, IsPath, IsCycle}
+use Rattle.digraph.specs.Clauses.Graphs.{place, AreForward, IsPath, IsCycle}
 
 pub path_append : (xs ys : List Arc) (s t u : ℕ) → IsPath s xs t → IsPath t ys u → IsPath s (xs ++ ys) u
 path_append [] ys s t u p q = subst (λ x. IsPath x ys u) (sym p) q

@@ -10,7 +10,7 @@ use Rattle.std.proofs.lemmas.List.Folds.{Any-from_list_any, list_any-from_Any}
 use Rattle.std.proofs.lemmas.Map.Views.{any-filter_same}
 use Rattle.lemmas.proofs.Booleans.{not_and}
 use Rattle.digraph.specs.declared.arc.Arc.{Arc}
-use Rattle.digraph.specs.Meaning.Graphs.{IsGraph, IsTopologicalOrder, IsPath, IsCycle}
+use Rattle.digraph.specs.Clauses.Graphs.{IsGraph, IsTopologicalOrder, IsPath, IsCycle}
 use Rattle.digraph.proofs.Orders.{Places, nothing_placed, one_placed, all_placed}
 use Rattle.digraph.proofs.Cycles.{cycle_cut}
 use Rattle.digraph.proofs.Sets.{is_eq_nat}

@@ -6,7 +6,7 @@ use Rattle.std.proofs.Common.{Contains, true≢false}
 use Rattle.std.specs.List.{list_any}
 use Rattle.std.specs.Ordering.{nat_cmp, is_eq}
 use Rattle.digraph.specs.declared.arc.Arc.{Arc}
-use Rattle.digraph.specs.Meaning.Graphs.{IsGraph, place, IsBefore, IsTopologicalOrder}
+use Rattle.digraph.specs.Clauses.Graphs.{IsGraph, place, IsBefore, IsTopologicalOrder}
 use Rattle.digraph.proofs.Sets.{updated_here, updated_apart}
 
 place_same : (x : ℕ) (xs : List ℕ) (t : ℕ) → x ≡ t → place (x ∷ xs) t ≡ 0

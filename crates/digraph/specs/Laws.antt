@@ -1,7 +1,7 @@
 -- What orders and cycles have to do with one another.
 use Rattle.std.specs.Prelude.{◌⊎◌, ℕ, List}
 use Rattle.digraph.specs.declared.arc.Arc.{Arc}
-use Rattle.digraph.specs.Meaning.Graphs.{IsGraph, AreForward, IsTopologicalOrder, IsCycle}
+use Rattle.digraph.specs.Clauses.Graphs.{IsGraph, AreForward, IsTopologicalOrder, IsCycle}
 
 -- if arcs form a cycle, no list has each of them go forward
 abbrev pub CycleExcludesOrder : Type 0

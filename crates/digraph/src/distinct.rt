@@ -2,7 +2,7 @@
 
 ghost use Rattle.std.specs.Prelude.{◌↔◌, Contains};
 ghost use Rattle.std.specs.List.Sorted.{IsStrictlySortedBy};
-ghost use Rattle.digraph.specs.Meaning.Graphs.{arc_cmp};
+ghost use Rattle.digraph.specs.Clauses.Graphs.{arc_cmp};
 
 use crate::arc::Arc;
 

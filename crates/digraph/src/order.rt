@@ -4,7 +4,7 @@ ghost use Rattle.std.specs.Prelude.{◌≡◌, ◌==◌, ◌↔◌, ℕ, true, C
 ghost use Rattle.std.specs.List.{list_any};
 ghost use Rattle.std.specs.Ordering.{nat_cmp};
 ghost use Rattle.std.specs.BTreeSet.{contains};
-ghost use Rattle.digraph.specs.Meaning.Graphs.{IsGraph, IsOrderOrCycle};
+ghost use Rattle.digraph.specs.Clauses.Graphs.{IsGraph, IsOrderOrCycle};
 
 use crate::arc::Arc;
 use crate::distinct::each_once;

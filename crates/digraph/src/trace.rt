@@ -5,7 +5,7 @@ ghost use Rattle.std.specs.List.{list_any};
 ghost use Rattle.std.specs.List.Sorted.{IsNonDecreasingBy};
 ghost use Rattle.std.specs.Ordering.{nat_cmp};
 ghost use Rattle.std.specs.BTreeSet.{contains};
-ghost use Rattle.digraph.specs.Meaning.Graphs.{IsCycle, IsPath};
+ghost use Rattle.digraph.specs.Clauses.Graphs.{IsCycle, IsPath};
 ghost use Rattle.digraph.specs.Machinery.Traces.{IsTrace};
 
 use crate::arc::Arc;

@@ -3,17 +3,17 @@ use Rattle.std.proofs.Common.{◌≡◌, ◌⊎◌, ℕ, List, [], ◌++◌, app
 use Rattle.std.proofs.lemmas.List.{append-nil}
 use Rattle.std.specs.Io.KnownBytes.{Appends, Consumes, IsAtEnd}
 use Rattle.devices.specs.declared.watched.Watched.{Watched}
-use Rattle.devices.specs.Meaning.Writing.{Grew}
+use Rattle.devices.specs.Clauses.Writing.{Grew}
 use Rattle.adya_line.specs.Meaning.Lines.{IsPlain}
 use Rattle.adya_text.specs.Meaning.Texts.{history_text, serial_text, with_ends}
 use Rattle.adya_audit.specs.Meaning.Verdicts.{Yes}
-use Rattle.adya_audit.specs.Meaning.TextVerdicts.{IsVerdictOn}
+use Rattle.adya_audit.specs.Clauses.TextVerdicts.{IsVerdictOn}
 use Rattle.adya_audit.specs.Laws.Texts.{AcceptedTextsGetYes}
-use Rattle.ssi_line.specs.Meaning.Steps.{Step, Stopped, steps_text}
-use Rattle.ssi_line.specs.Meaning.Ends.{EndsAs, EndsWith}
+use Rattle.ssi_line.specs.Meaning.Steps.{Step, Stopped, steps_text, EndsWith}
+use Rattle.ssi_line.specs.Clauses.Ends.{EndsAs}
 use Rattle.ssi_line.specs.declared.end.End.{End}
 use Rattle.ssi_line.specs.declared.end.End.TheVariants.{Eof, Stop, ReadFault, WriteFault}
-use Rattle.ssi_cli.specs.Meaning.Scripts.{Ran, Certified, course_of}
+use Rattle.ssi_cli.specs.Clauses.Scripts.{Ran, Certified, course_of}
 use Rattle.headline.specs.Headline.{GetsYes}
 
 -- a device that held nothing holds what was written to it

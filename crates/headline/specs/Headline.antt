@@ -3,23 +3,23 @@
 -- Read the definitions that they are made of in this order; each module begins with a line that says what it is about.
 --   adya_values, specs/Meaning: Keys, Histories (versions, events, histories), Events (who wrote and committed), Orders
 --   (version orders), Selections (what a read or a scan saw of a key), Edges (the direct serialization graph), Phenomena
---   (G1 and G2), Rules (well-formed histories), Serial (the serial run, and agreement with it), Acceptance
+--   (G1 and G2), Serial (the serial run, and agreement with it)
 --   adya_line, specs/Meaning: Spelling. adya_text, specs/Meaning: Texts (the text of a history and of a certificate)
---   adya_audit, specs/Meaning: Verdicts, TextVerdicts (the verdict on two texts)
+--   adya_audit, specs/Meaning: Verdicts, Serializable; which verdict two texts get is specs/Clauses/TextVerdicts
 --   ssi_store, specs/Meaning: Courses (commands and answers), Acts, Seeing (snapshots), Replies (what is answered),
 --   Recording (the history of a course), Faces (what a history shows of the answers)
---   ssi_line, specs/Meaning: Spelling, Replies, Steps (lines, and what is made of them), Ends (what ends a run)
+--   ssi_line, specs/Meaning: Spelling, Replies, Steps (lines, what is made of them, and what ends a run)
 use Rattle.std.specs.Prelude.{◌≡◌, ◌⊎◌, List, ◌++◌}
 use Rattle.adya_values.specs.Meaning.Keys.{Bytes}
 use Rattle.adya_values.specs.Meaning.Histories.{History}
 use Rattle.adya_line.specs.Meaning.Lines.{IsPlain}
 use Rattle.adya_text.specs.Meaning.Texts.{history_text, with_ends}
 use Rattle.adya_audit.specs.Meaning.Verdicts.{Yes}
-use Rattle.adya_audit.specs.Meaning.TextVerdicts.{IsVerdictOn, AreSerializable}
+use Rattle.adya_audit.specs.Clauses.TextVerdicts.{IsVerdictOn}
+use Rattle.adya_audit.specs.Meaning.Serializable.{AreSerializable}
 use Rattle.ssi_store.specs.Meaning.Courses.{New}
 use Rattle.ssi_store.specs.Meaning.Faces.{Records}
-use Rattle.ssi_line.specs.Meaning.Steps.{Step, Stopped, AreSteps, AllMayFollow, course_after, steps_text}
-use Rattle.ssi_line.specs.Meaning.Ends.{EndsWith}
+use Rattle.ssi_line.specs.Meaning.Steps.{Step, Stopped, AreSteps, AllMayFollow, course_after, steps_text, EndsWith}
 
 -- Whenever the verdict on a history text and a certificate text is yes, the history shows neither G1 nor G2, and its
 -- committed transactions, run one at a time in the certificate's order, give every recorded read, every scan and the

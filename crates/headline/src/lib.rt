@@ -3,8 +3,8 @@
 #![tactic(auto)]
 
 ghost use Rattle.std.specs.Prelude.{◌≡◌, ◌⊎◌, ℕ, List, true, IfOk};
-ghost use Rattle.adya_audit.specs.Meaning.Verdicts.{plain_verdict};
-ghost use Rattle.adya_audit.specs.Meaning.TextVerdicts.{IsVerdictOn};
+ghost use Rattle.adya_audit.specs.Computing.Verdicts.{plain_verdict};
+ghost use Rattle.adya_audit.specs.Clauses.TextVerdicts.{IsVerdictOn};
 ghost use Rattle.headline.specs.Headline.{GetsYes, YesMeansSerializable};
 
 use adya_audit::laws::{

@@ -9,10 +9,10 @@ use Rattle.adya_values.specs.Meaning.Histories.{Event, Write, Delete, Read, Scan
 use Rattle.adya_values.specs.Meaning.Events.{is_committed, commit_of}
 use Rattle.adya_values.specs.Meaning.Orders.{place, writers, installer}
 use Rattle.adya_values.specs.Meaning.Edges.{Kind, Ww, Wr, Rw, Depends}
-use Rattle.adya_values.specs.Meaning.Rules.{installs}
-use Rattle.adya_values.specs.Meaning.Acceptance.{IsChecked}
+use Rattle.adya_values.specs.Clauses.Rules.{installs}
+use Rattle.adya_values.specs.Clauses.Acceptance.{IsChecked}
 use Rattle.adya_values.proofs.Places.{place_get}
-use Rattle.snapshot_histories.specs.Meaning.Snapshots.{stamp_in}
+use Rattle.snapshot_histories.specs.Clauses.Snapshots.{stamp_in}
 
 -- a committed transaction is among the commits
 counted_commit : (t : ℕ) (es : List Event) → is_committed es t ≡ true → 0 < count (filter_map commit_of es) t

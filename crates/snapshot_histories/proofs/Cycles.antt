@@ -10,9 +10,9 @@ use Rattle.adya_values.specs.Meaning.Events.{txn_of}
 use Rattle.adya_values.specs.Meaning.Orders.{installer, is_visible_at}
 use Rattle.adya_values.specs.Meaning.Selections.{changes_matches, is_scan, reads_from}
 use Rattle.adya_values.specs.Meaning.Edges.{Kind, Ww, Wr, Rw, Edge, IsPath, IsCycle, Depends}
-use Rattle.adya_values.specs.Meaning.Acceptance.{IsChecked}
-use Rattle.snapshot_histories.specs.Meaning.Snapshots.{stamp_in, AreConcurrent, IsNewestWithin, IsSnapshotHistory, IsDangerous, IsSafe}
-use Rattle.snapshot_histories.specs.Meaning.Cycles.{Turn, turns, HasDanger}
+use Rattle.adya_values.specs.Clauses.Acceptance.{IsChecked}
+use Rattle.snapshot_histories.specs.Clauses.Snapshots.{stamp_in, AreConcurrent, IsNewestWithin, IsSnapshotHistory, IsDangerous, IsSafe}
+use Rattle.snapshot_histories.specs.Clauses.Cycles.{Turn, turns, HasDanger}
 use Rattle.snapshot_histories.proofs.Commits.{same_stamp, installer_committed, committed_ends}
 use Rattle.snapshot_histories.proofs.Turns.{IsTurn, turn_is, turn_there, turn_out_of, turns_made, least}
 

@@ -5,7 +5,7 @@ use Rattle.std.proofs.lemmas.Bool.{cases_lt}
 use Rattle.lemmas.proofs.Members.{none_contained, Contains-head, Contains-cons, Contains-cases}
 use Rattle.adya_values.specs.Meaning.Histories.{History}
 use Rattle.adya_values.specs.Meaning.Edges.{Edge, IsEdge, IsPath}
-use Rattle.snapshot_histories.specs.Meaning.Cycles.{Turn, turns, turns_to}
+use Rattle.snapshot_histories.specs.Clauses.Cycles.{Turn, turns, turns_to}
 
 -- the two edges of a turn
 pub record IsTurn (h : History) (t : Turn) : Type 0 where

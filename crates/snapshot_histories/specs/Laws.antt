@@ -2,9 +2,9 @@
 use Rattle.std.specs.Prelude.{ℕ, List}
 use Rattle.adya_values.specs.Meaning.Histories.{History}
 use Rattle.adya_values.specs.Meaning.Edges.{Edge, IsCycle}
-use Rattle.adya_values.specs.Meaning.Acceptance.{IsChecked}
-use Rattle.snapshot_histories.specs.Meaning.Snapshots.{IsSnapshotHistory, IsSafe}
-use Rattle.snapshot_histories.specs.Meaning.Cycles.{HasDanger}
+use Rattle.adya_values.specs.Clauses.Acceptance.{IsChecked}
+use Rattle.snapshot_histories.specs.Clauses.Snapshots.{IsSnapshotHistory, IsSafe}
+use Rattle.snapshot_histories.specs.Clauses.Cycles.{HasDanger}
 
 -- each cycle of a checked snapshot history holds a dangerous structure
 abbrev pub CyclesAreDangerous : Type 0

@@ -7,17 +7,14 @@ use Rattle.std.proofs.lemmas.Slice.Eq.{bytes_eq-Decides}
 use Rattle.clap.specs.Walk.{Held, Names, Text, Walk, finished, idle, nothing_held, settled, subcommand_met, walk, walked}
 use Rattle.clap.specs.Simple.{Shape, entered}
 use Rattle.clap.specs.Kinds.{Kinds, or_else}
-use Rattle.clap.specs.Faults.{built_fault, check_fault, defaults_fault, entered_fault, fault_of, is_simple_and_free}
-use Rattle.clap.specs.Faults.{level_fault, settle_fault, turn_fault, walk_fault}
+use Rattle.clap.specs.Faults.{built_fault, check_fault, defaults_fault, entered_fault, fault_of, is_simple_and_free, level_fault, settle_fault, turn_fault, walk_fault}
 use Rattle.clap.proofs.OnLiterals.{clap_on_literals}
-use Rattle.ssi_arguments.specs.Meaning.Arguments.{Request, pipe, audit, order, script, serve, are_plain, is_plain, arguments_of}
+use Rattle.ssi_arguments.specs.Clauses.Arguments.{Request, pipe, audit, order, script, serve, are_plain, is_plain, arguments_of}
 use Rattle.ssi_arguments.specs.declared.arguments.Manner.TheVariants.{InTurn}
 use Rattle.ssi_arguments.specs.Machinery.Parser.{ssi_app}
-use Rattle.ssi_arguments.proofs.CommandWalks.{names, orders, pairs, parser, serves, top_walk}
-use Rattle.ssi_arguments.proofs.CommandWalks.{stops_at_audit, stops_at_order, stops_at_script, stops_at_serve}
+use Rattle.ssi_arguments.proofs.CommandWalks.{names, orders, pairs, parser, serves, top_walk, stops_at_audit, stops_at_order, stops_at_script, stops_at_serve}
 use Rattle.ssi_arguments.proofs.PlainArguments.{at, turn_fault-plain}
-use Rattle.ssi_arguments.proofs.TakesRequests.{one_path, two_paths, three_paths, path_plain, paths_plain}
-use Rattle.ssi_arguments.proofs.TakesRequests.{walk_one, walk_two, walk_front, walk_three}
+use Rattle.ssi_arguments.proofs.TakesRequests.{one_path, two_paths, three_paths, path_plain, paths_plain, walk_one, walk_two, walk_front, walk_three}
 
 -- ---- no fault of the whole is none of its parts
 

@@ -2,12 +2,11 @@
 use Rattle.std.proofs.Common.{◌≡◌, ℕ, ◌==◌, true, false, List, [], ◌∷◌, refl, ap}
 use Rattle.std.specs.Prelude.{None}
 use Rattle.std.proofs.lemmas.Bool.{not-true}
-use Rattle.clap.specs.Walk.{Held, Names, Rule, Text, Walk, idle, value, walked, word_met, arg_by_index}
-use Rattle.clap.specs.Walk.{after_step, subcommand_met, to_positional}
+use Rattle.clap.specs.Walk.{Held, Names, Rule, Text, Walk, idle, value, walked, word_met, arg_by_index, after_step, subcommand_met, to_positional}
 use Rattle.clap.specs.Simple.{Shape}
 use Rattle.clap.specs.Takes.{step_passes, turn_passes}
 use Rattle.clap.specs.Faults.{step_fault, turn_fault}
-use Rattle.ssi_arguments.specs.Meaning.Arguments.{is_plain}
+use Rattle.ssi_arguments.specs.Clauses.Arguments.{is_plain}
 
 -- a walk that waits for nothing
 abbrev pub at : Held → ℕ → Walk

@@ -5,10 +5,9 @@ use Rattle.std.specs.List.{fold, list_all}
 use Rattle.std.proofs.lemmas.Bool.{and_parts}
 use Rattle.clap.specs.Walk.{Held, Text, Walk, value, arg_by_index, finished, nothing_held, to_positional, walk, walked}
 use Rattle.clap.specs.Simple.{Shape, entered, is_simple, subcommand_of}
-use Rattle.clap.specs.Takes.{built_takes, default_passes, is_valid, level_passes, settle_passes, step_passes, takes, turn_passes}
-use Rattle.clap.specs.Takes.{walk_passes}
+use Rattle.clap.specs.Takes.{built_takes, default_passes, is_valid, level_passes, settle_passes, step_passes, takes, turn_passes, walk_passes}
 use Rattle.clap.proofs.OnLiterals.{clap_on_literals}
-use Rattle.ssi_arguments.specs.Meaning.Arguments.{Request, pipe, audit, order, script, serve, are_plain, is_plain, arguments_of, options_of, paths_of}
+use Rattle.ssi_arguments.specs.Clauses.Arguments.{Request, pipe, audit, order, script, serve, are_plain, is_plain, arguments_of, options_of, paths_of}
 use Rattle.ssi_arguments.specs.declared.arguments.Manner.{Manner}
 use Rattle.ssi_arguments.specs.declared.arguments.Manner.TheVariants.{InTurn, AtOnce, Aborting}
 use Rattle.ssi_arguments.specs.Machinery.Parser.{request_in, ssi_app}

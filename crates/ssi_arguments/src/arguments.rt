@@ -4,7 +4,7 @@ ghost use Rattle.std.specs.Prelude.{◌≡◌, ◌≢◌, true, map, drop, strin
 ghost use Rattle.clap.specs.Words.{rows_of, found_of, kind_of, subcommand_rows_of};
 ghost use Rattle.clap.specs.declared.error.kind.ErrorKind.TheVariants.{OutOfMemory};
 ghost use Rattle.ssi_arguments.specs.Machinery.Parser.{path_in, is_given, manner_in, request_in, request_named};
-ghost use Rattle.ssi_arguments.specs.Meaning.Arguments.{Request, request_of, arguments_of, paths_of, are_plain};
+ghost use Rattle.ssi_arguments.specs.Clauses.Arguments.{Request, request_of, arguments_of, paths_of, are_plain};
 ghost use Rattle.ssi_arguments.specs.declared.arguments.NoTask.TheVariants.{Text, Memory};
 
 use crate::command_line::command_line;

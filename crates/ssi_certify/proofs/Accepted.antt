@@ -5,20 +5,20 @@ use Rattle.std.proofs.Math.Logic.{∥∥₁_elim, ∥∥₁_map}
 use Rattle.adya_values.specs.declared.history.History.{History as HistoryValue}
 use Rattle.adya_values.specs.declared.serial.Serial.{Serial as SerialValue}
 use Rattle.adya_values.specs.Meaning.Histories.{History}
-use Rattle.adya_values.specs.Mirror.{history_of, serial_txns}
+use Rattle.adya_values.specs.Mirror.Histories.{history_of, serial_txns}
 use Rattle.adya_values.specs.Meaning.Edges.{IsCycle}
-use Rattle.adya_values.specs.Meaning.Acceptance.{IsAccepted}
+use Rattle.adya_values.specs.Clauses.Acceptance.{IsAccepted}
 use Rattle.adya_text.specs.Meaning.Texts.{IsHistory, history_text, serial_text}
-use Rattle.adya_audit.specs.Meaning.TextVerdicts.{AreAccepted}
+use Rattle.adya_audit.specs.Clauses.TextVerdicts.{AreAccepted}
 use Rattle.adya_audit.specs.Laws.Texts.{AcceptedHaveTexts}
 use Rattle.adya_dsg.specs.declared.edge.Edge.{Edge}
 use Rattle.adya_dsg.specs.declared.found.Found.{Found}
 use Rattle.adya_dsg.specs.declared.found.Found.TheVariants.{Cycle, Serial}
 use Rattle.adya_dsg.specs.Mirror.{edge_of}
-use Rattle.adya_dsg.specs.Meaning.Found.{HasCertificate, IsFound}
+use Rattle.adya_dsg.specs.Clauses.Found.{HasCertificate, IsFound}
 use Rattle.adya_dsg.specs.Laws.{CertifiedIffNoPhenomenon}
 use Rattle.snapshot_histories.specs.Laws.{SafeHistoriesHaveNoCycle}
-use Rattle.snapshot_histories.specs.Meaning.Snapshots.{IsSafe, IsSafeHistory}
+use Rattle.snapshot_histories.specs.Clauses.Snapshots.{IsSafe, IsSafeHistory}
 
 pub safe_accepted : SafeHistoriesHaveNoCycle → CertifiedIffNoPhenomenon → (h : History) → IsSafeHistory h
     → HasCertificate h

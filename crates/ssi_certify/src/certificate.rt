@@ -1,12 +1,12 @@
 //! The certificates of safe histories.
 
 ghost use Rattle.std.specs.Prelude.{IfOk};
-ghost use Rattle.adya_values.specs.Mirror.{history_of, serial_txns};
-ghost use Rattle.adya_values.specs.Meaning.Acceptance.{IsAccepted};
+ghost use Rattle.adya_values.specs.Mirror.Histories.{history_of, serial_txns};
+ghost use Rattle.adya_values.specs.Clauses.Acceptance.{IsAccepted};
 ghost use Rattle.adya_text.specs.Meaning.Texts.{history_text, serial_text};
-ghost use Rattle.adya_audit.specs.Meaning.TextVerdicts.{AreAccepted};
+ghost use Rattle.adya_audit.specs.Clauses.TextVerdicts.{AreAccepted};
 ghost use Rattle.ssi_store.specs.Mirror.Finished.{recorded_in};
-ghost use Rattle.snapshot_histories.specs.Meaning.Snapshots.{IsSafeHistory};
+ghost use Rattle.snapshot_histories.specs.Clauses.Snapshots.{IsSafeHistory};
 
 use crate::laws::safe_histories_have_no_cycle;
 use adya_audit::laws::accepted_have_texts;

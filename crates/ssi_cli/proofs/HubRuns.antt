@@ -2,9 +2,9 @@
 use Rattle.std.proofs.Common.{◌≡◌, ℕ, Bool, true, false, cond, List, [], ◌∷◌, ◌++◌, refl, sym, ap, subst, ◌∙◌, append_assoc, append-nil}
 use Rattle.ssi_store.specs.Meaning.Courses.{Course}
 use Rattle.ssi_line.specs.Meaning.Steps.{Step}
-use Rattle.ssi_line.specs.Meaning.Ends.{WentOn}
+use Rattle.ssi_line.specs.Clauses.Ends.{WentOn}
 use Rattle.ssi_hub.specs.declared.hub.Hub.{Hub}
-use Rattle.ssi_hub.specs.Meaning.Calls.{Call, Opened, token_of, is_open, with_call, with_run, all_steps}
+use Rattle.ssi_hub.specs.Clauses.Calls.{Call, Opened, token_of, is_open, with_call, with_run, all_steps}
 use Rattle.ssi_hub.specs.Mirror.{is_stopped, Stands}
 use Rattle.ssi_cli.specs.Machinery.HubRuns.{WasCalled, HasRun}
 use Rattle.ssi_cli.proofs.ScriptRuns.{went_on_both}

@@ -2,7 +2,7 @@
 use Rattle.std.proofs.Common.{◌≡◌, List, [], ◌∷◌, ◌++◌, Result, Ok, Err, IfOk, refl, sym, subst}
 use Rattle.ssi_store.specs.Meaning.Courses.{Course}
 use Rattle.ssi_line.specs.Meaning.Steps.{Step, AllMayFollow, course_with, course_after}
-use Rattle.ssi_line.specs.Meaning.Ends.{WentOn}
+use Rattle.ssi_line.specs.Clauses.Ends.{WentOn}
 
 after_both : (course : Course) (some more : List Step)
     → course_after course (some ++ more) ≡ course_after (course_after course some) more

@@ -1,7 +1,7 @@
 //! Why the program has no answer.
 
 ghost use Rattle.std.specs.Prelude.{◌≡◌, Some, codes};
-ghost use Rattle.ssi_cli.specs.Meaning.Fault.{line_of, read_fault, write_fault, socket_fault, out_of_memory};
+ghost use Rattle.ssi_cli.specs.Clauses.Fault.{line_of, read_fault, write_fault, socket_fault, out_of_memory};
 
 use crate::ScriptFault;
 use crate::runs::CommandsFault;

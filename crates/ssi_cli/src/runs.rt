@@ -3,15 +3,16 @@
 ghost use Rattle.std.specs.Prelude.{◌≡◌, ◌↔◌, ◌⊎◌, true, List, ℕ, IfOk, IsOk, Ok, Err, IsErrOf};
 ghost use Rattle.std.specs.Io.KnownBytes.{Appends};
 ghost use Rattle.devices.specs.Mirror.{has_failed, watched_contents};
-ghost use Rattle.adya_audit.specs.Meaning.Inputs.{OnText, OnTexts};
-ghost use Rattle.adya_audit.specs.Meaning.TextVerdicts.{IsAcceptedStream, IsSerializableStream, AreAccepted, AreSerializable};
-ghost use Rattle.adya_audit.specs.Meaning.Answers.{Answer, Certificate, IsAnswer, answer_text};
+ghost use Rattle.adya_audit.specs.Clauses.Inputs.{OnText, OnTexts};
+ghost use Rattle.adya_audit.specs.Clauses.TextVerdicts.{IsAcceptedStream, IsSerializableStream, AreAccepted};
+ghost use Rattle.adya_audit.specs.Meaning.Serializable.{AreSerializable};
+ghost use Rattle.adya_audit.specs.Clauses.Answers.{Answer, Certificate, IsAnswer, answer_text};
 ghost use Rattle.ssi_store.specs.Meaning.Courses.{New};
 ghost use Rattle.ssi_line.specs.Meaning.Steps.{Step, AllMayFollow, course_after};
 ghost use Rattle.ssi_cli.specs.declared.script_fault.ScriptFault.{ScriptFault};
-ghost use Rattle.ssi_hub.specs.Meaning.Calls.{all_steps};
-ghost use Rattle.ssi_cli.specs.Meaning.Scripts.{Ran, Certified, course_of};
-ghost use Rattle.ssi_cli.specs.Meaning.Serving.{Together};
+ghost use Rattle.ssi_hub.specs.Clauses.Calls.{all_steps};
+ghost use Rattle.ssi_cli.specs.Clauses.Scripts.{Ran, Certified, course_of};
+ghost use Rattle.ssi_cli.specs.Clauses.Serving.{Together};
 
 use crate::ScriptFault;
 use crate::script::run_script;

@@ -2,7 +2,7 @@
 
 ghost use Rattle.std.specs.Prelude.{◌≡◌, ◌≢◌, true, false, Ok, Err, IfOk};
 ghost use Rattle.devices.specs.Mirror.{has_failed};
-ghost use Rattle.ssi_cli.specs.Meaning.Scripts.{Ran, Certified, course_of};
+ghost use Rattle.ssi_cli.specs.Clauses.Scripts.{Ran, Certified, course_of};
 
 use crate::ScriptFault;
 use crate::store::new_store;

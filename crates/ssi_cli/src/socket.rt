@@ -5,8 +5,8 @@ ghost use Rattle.devices.specs.Mirror.{has_failed};
 ghost use Rattle.ssi_store.specs.Meaning.Courses.{New};
 ghost use Rattle.ssi_store.specs.Mirror.Stores.{IsAt};
 ghost use Rattle.ssi_line.specs.Meaning.Steps.{Step, AllMayFollow, course_after};
-ghost use Rattle.ssi_line.specs.Meaning.Ends.{WentOn};
-ghost use Rattle.ssi_cli.specs.Meaning.Scripts.{Certified};
+ghost use Rattle.ssi_line.specs.Clauses.Ends.{WentOn};
+ghost use Rattle.ssi_cli.specs.Clauses.Scripts.{Certified};
 
 use crate::ScriptFault;
 use crate::store::new_store;

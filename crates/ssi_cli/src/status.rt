@@ -2,7 +2,7 @@
 
 ghost use Rattle.std.specs.Prelude.{◌≡◌, ◌≢◌, ◌↔◌};
 ghost use Rattle.std.specs.Process.{exit_status};
-ghost use Rattle.ssi_cli.specs.Meaning.Status.{code_of};
+ghost use Rattle.ssi_cli.specs.Clauses.Status.{code_of};
 
 use adya_audit::{Ordered, Verdict};
 use std::process::ExitCode;

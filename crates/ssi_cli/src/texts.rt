@@ -1,14 +1,14 @@
 //! The texts that remain of a store.
 
 ghost use Rattle.std.specs.Prelude.{◌≡◌, [], true, Err, IfOk};
-ghost use Rattle.adya_values.specs.Mirror.{history_of, serial_txns};
+ghost use Rattle.adya_values.specs.Mirror.Histories.{history_of, serial_txns};
 ghost use Rattle.devices.specs.Mirror.{has_failed};
-ghost use Rattle.devices.specs.Meaning.Writing.{Wrote};
+ghost use Rattle.devices.specs.Clauses.Writing.{Wrote};
 ghost use Rattle.adya_text.specs.Meaning.Texts.{history_text, serial_text};
 ghost use Rattle.ssi_store.specs.Meaning.Courses.{Course};
 ghost use Rattle.ssi_store.specs.Mirror.Finished.{recorded_in};
 ghost use Rattle.ssi_store.specs.Mirror.Stores.{IsAt};
-ghost use Rattle.ssi_cli.specs.Meaning.Scripts.{Certified};
+ghost use Rattle.ssi_cli.specs.Clauses.Scripts.{Certified};
 ghost use Rattle.ssi_cli.specs.Machinery.Remains.{Remains};
 
 use crate::ScriptFault;

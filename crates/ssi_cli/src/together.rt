@@ -5,10 +5,10 @@ ghost use Rattle.devices.specs.Mirror.{has_failed};
 ghost use Rattle.ssi_store.specs.Meaning.Courses.{New};
 ghost use Rattle.ssi_store.specs.Mirror.Stores.{IsAt};
 ghost use Rattle.ssi_line.specs.Meaning.Steps.{AllMayFollow, course_after};
-ghost use Rattle.ssi_line.specs.Meaning.Ends.{WentOn};
-ghost use Rattle.ssi_hub.specs.Meaning.Calls.{all_steps};
-ghost use Rattle.ssi_cli.specs.Meaning.Scripts.{Certified};
-ghost use Rattle.ssi_cli.specs.Meaning.Serving.{Together, ends_by_stop};
+ghost use Rattle.ssi_line.specs.Clauses.Ends.{WentOn};
+ghost use Rattle.ssi_hub.specs.Clauses.Calls.{all_steps};
+ghost use Rattle.ssi_cli.specs.Clauses.Scripts.{Certified};
+ghost use Rattle.ssi_cli.specs.Clauses.Serving.{Together, ends_by_stop};
 
 use crate::ScriptFault;
 use crate::clients::{Clients, LISTENER};

@@ -1,9 +1,10 @@
 -- Rows may be dropped, unless they are of kept transactions.
 use Rattle.std.proofs.Common.{◌≡◌, ◌≢◌, ℕ, ◌==◌, Bool, true, false, true≢false, not, ◌&&◌, ◌||◌, List, ◌∷◌, Option, Some, None, is_some, refl, sym, ◌∙◌, ap, subst, inl, inr}
 use Rattle.std.proofs.lemmas.Bool.{eq-eqb, ne_eqb, cases_eq, or_parts, both_ways}
-use Rattle.ssi_reads.specs.Meaning.Marks.{without}
-use Rattle.ssi_conflict.specs.Meaning.Calls.{Call, Aborts, is_committed, is_aborted, is_open, meets, AreAllowed}
-use Rattle.ssi_conflict.specs.Meaning.Pairs.{IsPair}
+use Rattle.ssi_reads.specs.Clauses.Marks.{without}
+use Rattle.ssi_conflict.specs.Meaning.Calls.{Call, Aborts, is_committed, is_aborted, is_open, meets}
+use Rattle.ssi_conflict.specs.Clauses.Allowed.{AreAllowed}
+use Rattle.ssi_conflict.specs.Clauses.Pairs.{IsPair}
 use Rattle.ssi_conflict.specs.Meaning.Kept.{is_kept}
 use Rattle.ssi_conflict.specs.Machinery.Rows.{Row, StandsFor}
 use Rattle.ssi_conflict.proofs.AllowedCalls.{open_parts, open_from, kept_parts, kept_open, kept_after}

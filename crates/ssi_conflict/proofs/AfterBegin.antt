@@ -1,8 +1,9 @@
 -- A transaction that begins.
 use Rattle.std.proofs.Common.{◌≡◌, ◌≢◌, ℕ, ◌==◌, Bool, true, false, ◌&&◌, List, [], ◌∷◌, Option, Some, None, is_some, refl, sym, ◌∙◌, ap, subst, arith, inl, inr}
 use Rattle.std.proofs.lemmas.Bool.{eq-eqb, ne_eqb, cases_eq, cases_Bool, cond-false, cond-true, le-leb, both_ways}
-use Rattle.ssi_conflict.specs.Meaning.Calls.{Call, Begins, Reads, Commits, Aborts, snapshot_of, stamp_of, keys_of, has_begun, is_committed, is_aborted, is_open, meets, AreAllowed}
-use Rattle.ssi_conflict.specs.Meaning.Pairs.{is_at_or_below, precedes, IsPair, IsOrderedPivot}
+use Rattle.ssi_conflict.specs.Meaning.Calls.{Call, Begins, Reads, Commits, Aborts, snapshot_of, stamp_of, keys_of, has_begun, is_committed, is_aborted, is_open, meets, is_at_or_below, precedes}
+use Rattle.ssi_conflict.specs.Clauses.Allowed.{AreAllowed}
+use Rattle.ssi_conflict.specs.Clauses.Pairs.{IsPair, IsOrderedPivot}
 use Rattle.ssi_conflict.specs.Meaning.Kept.{is_kept}
 use Rattle.ssi_conflict.specs.Machinery.Rows.{Row, Tells, StandsFor, new_row}
 use Rattle.ssi_conflict.proofs.AllowedCalls.{open_parts, open_from, kept_parts, kept_open, kept_after, stamps_below, reader_begun, committed_begun, aborted_begun}

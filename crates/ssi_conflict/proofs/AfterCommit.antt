@@ -2,8 +2,9 @@
 use Rattle.std.proofs.Common.{◌≡◌, ◌≢◌, ℕ, ◌<◌, ◌≤◌, ◌==◌, Bool, true, false, true≢false, not, ◌&&◌, ◌||◌, List, [], ◌∷◌, Option, Some, None, is_some, refl, sym, ◌∙◌, ap, subst, arith, inl, inr}
 use Rattle.std.specs.List.{list_any}
 use Rattle.std.proofs.lemmas.Bool.{eqb-true, eq-eqb, ne_eqb, cases_eq, cases_Bool, and_parts, and_from, not-true, leb-true, le-leb, both_ways}
-use Rattle.ssi_conflict.specs.Meaning.Calls.{Call, Commits, snapshot_of, stamp_of, is_committed, is_aborted, is_open, meets, AreAllowed}
-use Rattle.ssi_conflict.specs.Meaning.Pairs.{is_at_or_below, precedes, are_concurrent, IsPair, IsAtMost, IsOrderedPivot}
+use Rattle.ssi_conflict.specs.Meaning.Calls.{Call, Commits, snapshot_of, stamp_of, is_committed, is_aborted, is_open, meets, is_at_or_below, precedes, are_concurrent}
+use Rattle.ssi_conflict.specs.Clauses.Allowed.{AreAllowed}
+use Rattle.ssi_conflict.specs.Clauses.Pairs.{IsPair, IsAtMost, IsOrderedPivot}
 use Rattle.ssi_conflict.specs.Computing.Steps.{adds, is_no_later}
 use Rattle.ssi_conflict.specs.Meaning.Kept.{is_kept}
 use Rattle.ssi_conflict.specs.Machinery.Rows.{Row, IsLeast, Tells, StandsFor, with_later, closed, commit_conflict, commit_pivot}

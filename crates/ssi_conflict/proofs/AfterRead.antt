@@ -2,12 +2,13 @@
 use Rattle.std.proofs.Common.{◌≡◌, ◌≢◌, ℕ, ◌<◌, ◌==◌, ◌⊎◌, Bool, true, false, true≢false, ◌&&◌, ◌||◌, List, ◌∷◌, Option, Some, None, is_some, refl, sym, ◌∙◌, ap, subst, arith, inl, inr}
 use Rattle.std.proofs.lemmas.Bool.{eqb-true, eq-eqb, ne_eqb, cases_eq, and_parts, and_from, ltb-true, lt-ltb, both_ways}
 use Rattle.adya_values.specs.Meaning.Keys.{lies_in}
-use Rattle.ssi_conflict.specs.Meaning.Calls.{Call, Reads, snapshot_of, stamp_of, is_committed, AreAllowed}
-use Rattle.ssi_conflict.specs.Meaning.Pairs.{is_at_or_below, are_concurrent, IsPair, IsAtMost, IsOrderedPivot, IsSmallest}
+use Rattle.ssi_conflict.specs.Meaning.Calls.{Call, Reads, snapshot_of, stamp_of, is_committed, is_at_or_below, are_concurrent}
+use Rattle.ssi_conflict.specs.Clauses.Allowed.{AreAllowed}
+use Rattle.ssi_conflict.specs.Clauses.Pairs.{IsPair, IsAtMost, IsOrderedPivot, IsSmallest}
 use Rattle.ssi_conflict.specs.Computing.Steps.{adds, is_earlier}
 use Rattle.ssi_conflict.specs.Meaning.Kept.{is_kept}
 use Rattle.ssi_conflict.specs.Machinery.Rows.{Row, Least, IsLeast, Tells, StandsFor, sooner, with_sooner, read_conflict, read_pivot, IsSmallestRow, IsLeastStamp}
-use Rattle.ssi_reads.specs.Meaning.Marks.{with_mark}
+use Rattle.ssi_reads.specs.Clauses.Marks.{with_mark}
 use Rattle.ssi_conflict.proofs.AllowedCalls.{unstamped, kept_after}
 use Rattle.ssi_conflict.proofs.PairsByCall.{apart_parts, pair_before_read, pair_of_read, pair_after_read}
 use Rattle.ssi_conflict.proofs.LeastStamps.{least_carried, least_either}

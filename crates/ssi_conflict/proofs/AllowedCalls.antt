@@ -4,8 +4,9 @@ use Rattle.std.specs.List.{list_any}
 use Rattle.std.proofs.lemmas.Bool.{eqb-true, eq-eqb, ne_eqb, cases_eq, cond-true, cond-false, and_parts, and_from, or_cases, or_parts, or_left, or_right, not-true, not_from_false}
 use Rattle.std.proofs.lemmas.List.Folds.{list_any-append}
 use Rattle.adya_values.specs.Meaning.Keys.{lies_in}
-use Rattle.ssi_conflict.specs.Meaning.Calls.{Call, Begins, Reads, Commits, Aborts, snapshot_of, stamp_of, has_begun, is_committed, is_aborted, is_open, meets, before_commit, begun, last_stamp, AreAllowed}
-use Rattle.ssi_conflict.specs.Meaning.Pairs.{precedes}
+use Rattle.ssi_conflict.specs.Meaning.Calls.{Call, Begins, Reads, Commits, Aborts, snapshot_of, stamp_of, has_begun, is_committed, is_aborted, is_open, meets, begun, precedes}
+use Rattle.ssi_conflict.specs.Clauses.Pairs.{before_commit}
+use Rattle.ssi_conflict.specs.Clauses.Allowed.{last_stamp, AreAllowed}
 use Rattle.ssi_conflict.specs.Meaning.Kept.{is_kept}
 use Rattle.lemmas.proofs.Options.{none_unless_some}
 use Rattle.lemmas.proofs.Tests.{list_any-source}

@@ -6,7 +6,8 @@ use Rattle.std.proofs.lemmas.List.Elements.{Contains-append_cases, Contains-appe
 use Rattle.lemmas.proofs.Members.{Contains-head, none_contained}
 use Rattle.adya_values.proofs.RisingNumbers.{only_one, numbers_rise-more}
 use Rattle.adya_values.specs.Computing.Shapes.{numbers_rise}
-use Rattle.ssi_conflict.specs.Meaning.Calls.{Aborts, AreAllowed, Begins, Call, Commits, Reads, begun, has_begun}
+use Rattle.ssi_conflict.specs.Meaning.Calls.{Aborts, Begins, Call, Commits, Reads, begun, has_begun}
+use Rattle.ssi_conflict.specs.Clauses.Allowed.{AreAllowed}
 
 pub begun_there : (t : ℕ) (calls : List Call) → has_begun t calls ≡ true → Contains (begun calls) t
 begun_there t [] e = absurd (cc (e))

@@ -3,8 +3,9 @@ use Rattle.std.proofs.Common.{◌≡◌, ◌≢◌, ℕ, ◌≤◌, ◌==◌, Bo
 use Rattle.std.specs.List.{list_any}
 use Rattle.std.proofs.lemmas.Bool.{eqb-true, eq-eqb, ne_eqb, cases_eq, cases_Bool, or_left, or_right, cond-true, cond-false, both_ways}
 use Rattle.std.proofs.lemmas.List.Folds.{list_any-append}
-use Rattle.ssi_conflict.specs.Meaning.Calls.{Call, Commits, AreAllowed}
-use Rattle.ssi_conflict.specs.Meaning.Pairs.{is_at_or_below, IsOrderedPivot}
+use Rattle.ssi_conflict.specs.Meaning.Calls.{Call, Commits, is_at_or_below}
+use Rattle.ssi_conflict.specs.Clauses.Allowed.{AreAllowed}
+use Rattle.ssi_conflict.specs.Clauses.Pairs.{IsOrderedPivot}
 use Rattle.ssi_conflict.proofs.AllowedCalls.{kept_open}
 use Rattle.ssi_conflict.proofs.AfterCommit.{commit_safe, commit_unsafe}
 use Rattle.ssi_conflict.specs.Computing.Steps.{is_no_later}
@@ -14,7 +15,7 @@ use Rattle.lemmas.proofs.Tests.{list_any-source, list_any_when}
 use Rattle.ssi_conflict.specs.Machinery.Index.{row_passes}
 use Rattle.ssi_conflict.specs.Machinery.Records.{Changes}
 use Rattle.ssi_conflict.specs.Machinery.Tables.{is_apart, met, met_if, pivots, any_pivots}
-use Rattle.ssi_reads.specs.Meaning.Marks.{has_txn}
+use Rattle.ssi_reads.specs.Clauses.Marks.{has_txn}
 
 same_choice : (n : ℕ) (b : Bool) → (if b then Some n else Some n) ≡ Some n
 same_choice n true = refl

@@ -1,7 +1,8 @@
 -- A transaction that is kept after a call was kept before it.
 use Rattle.std.proofs.Common.{List, true, ℕ, ◌∷◌, ◌≡◌}
 use Rattle.std.proofs.lemmas.Bool.{both_ways, eq-eqb}
-use Rattle.ssi_conflict.specs.Meaning.Calls.{Aborts, AreAllowed, Begins, Call, Commits, Reads, has_begun}
+use Rattle.ssi_conflict.specs.Meaning.Calls.{Aborts, Begins, Call, Commits, Reads, has_begun}
+use Rattle.ssi_conflict.specs.Clauses.Allowed.{AreAllowed}
 use Rattle.ssi_conflict.specs.Meaning.Kept.{is_kept}
 use Rattle.ssi_conflict.proofs.AfterAbort.{kept_before_abort}
 use Rattle.ssi_conflict.proofs.AfterBegin.{kept_before_begin}

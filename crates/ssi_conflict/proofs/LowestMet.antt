@@ -16,7 +16,7 @@ use Rattle.std.proofs.lemmas.Map.Keys.{IsDistinct-from_sorted}
 use Rattle.std.proofs.lemmas.Map.Lookups.{CmpEqualImpliesEq, exact_bytes, exact_unsigned}
 use Rattle.std.proofs.lemmas.Map.Views.{tells_apart, Contains-from_lookup, lookup-from_Contains}
 use Rattle.adya_values.specs.Meaning.Keys.{lies_in, key_le}
-use Rattle.ssi_conflict.specs.Meaning.Pairs.{is_at_or_below}
+use Rattle.ssi_conflict.specs.Meaning.Calls.{is_at_or_below}
 use Rattle.ssi_conflict.specs.Computing.Steps.{is_earlier}
 use Rattle.ssi_conflict.specs.Machinery.Rows.{Row, sooner, read_conflict, read_pivot, IsSmallestRow, IsLeastStamp}
 use Rattle.ssi_conflict.specs.declared.reading.Reading.{Reading}

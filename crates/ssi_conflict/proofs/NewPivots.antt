@@ -4,9 +4,10 @@ use Rattle.std.proofs.lemmas.Bool.{and_parts, both_ways, cases_Bool, eqb-true}
 use Rattle.std.proofs.lemmas.Option.{same_Some}
 use Rattle.lemmas.proofs.Options.{none_unless_some}
 use Rattle.ssi_conflict.specs.Computing.Steps.{adds}
-use Rattle.ssi_conflict.specs.Meaning.Calls.{Aborts, AreAllowed, Begins, Call, Commits, Reads, is_committed, stamp_of}
+use Rattle.ssi_conflict.specs.Meaning.Calls.{Aborts, Begins, Call, Commits, Reads, is_committed, stamp_of}
+use Rattle.ssi_conflict.specs.Clauses.Allowed.{AreAllowed}
 use Rattle.ssi_conflict.specs.Meaning.Kept.{is_kept}
-use Rattle.ssi_conflict.specs.Meaning.Pairs.{IsAtMost, IsOrderedPivot, IsPair, IsPivot}
+use Rattle.ssi_conflict.specs.Clauses.Pairs.{IsAtMost, IsOrderedPivot, IsPair, IsPivot}
 use Rattle.ssi_conflict.proofs.AfterCommit.{by_writer}
 use Rattle.ssi_conflict.proofs.AllowedCalls.{open_parts, stamps_below}
 use Rattle.ssi_conflict.proofs.PairsByCall.{own_stamp, pair_before_commit, pair_before_read, same_stamp}

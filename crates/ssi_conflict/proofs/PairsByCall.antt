@@ -3,8 +3,9 @@
 use Rattle.std.proofs.Common.{◌≡◌, ◌≢◌, ℕ, ◌<◌, ◌==◌, ◌⊎◌, true, false, not, ◌&&◌, List, ◌∷◌, Option, Some, None, is_some, refl, sym, ◌∙◌, ap, subst, arith, inl, inr}
 use Rattle.std.proofs.lemmas.Bool.{eqb-true, eq-eqb, ne_eqb, cases_eq, cond-true, cond-false, and_parts, and_from, or_cases, or_left, or_right, not-true, not_from_false, lt-leb, both_ways}
 use Rattle.adya_values.specs.Meaning.Keys.{lies_in}
-use Rattle.ssi_conflict.specs.Meaning.Calls.{Call, Begins, Reads, Commits, Aborts, snapshot_of, stamp_of, keys_of, has_begun, is_committed, is_aborted, meets, before_commit, AreAllowed}
-use Rattle.ssi_conflict.specs.Meaning.Pairs.{is_at_or_below, precedes, are_concurrent, IsPair}
+use Rattle.ssi_conflict.specs.Meaning.Calls.{Call, Begins, Reads, Commits, Aborts, snapshot_of, stamp_of, keys_of, has_begun, is_committed, is_aborted, meets, is_at_or_below, precedes, are_concurrent}
+use Rattle.ssi_conflict.specs.Clauses.Pairs.{before_commit, IsPair}
+use Rattle.ssi_conflict.specs.Clauses.Allowed.{AreAllowed}
 use Rattle.ssi_conflict.specs.Computing.Steps.{adds}
 use Rattle.ssi_conflict.proofs.AllowedCalls.{open_parts, unstamped, snapshots_below, reader_begun, committed_begun, unaborted_before}
 use Rattle.lemmas.proofs.Tests.{list_any-source, list_any_when}

@@ -3,8 +3,9 @@
 use Rattle.std.proofs.Common.{List, [], inl, inr, true, ℕ, ◌∷◌, ◌≡◌, ◌⊎◌}
 use Rattle.std.proofs.lemmas.Bool.{or_cases, or_left, or_right}
 use Rattle.ssi_conflict.specs.Computing.Steps.{adds, is_pair}
-use Rattle.ssi_conflict.specs.Meaning.Calls.{Aborts, AreAllowed, Begins, Call, Commits, Reads}
-use Rattle.ssi_conflict.specs.Meaning.Pairs.{IsPair}
+use Rattle.ssi_conflict.specs.Meaning.Calls.{Aborts, Begins, Call, Commits, Reads}
+use Rattle.ssi_conflict.specs.Clauses.Allowed.{AreAllowed}
+use Rattle.ssi_conflict.specs.Clauses.Pairs.{IsPair}
 use Rattle.ssi_conflict.proofs.PairsByCall.{pair_after_abort, pair_after_begin, pair_after_commit, pair_after_read, pair_before_abort, pair_before_begin, pair_before_commit, pair_before_read, pair_of_commit, pair_of_read}
 
 pub pair_after : (c : Call) (calls : List Call) → AreAllowed (c ∷ calls) → (r u : ℕ) → IsPair r u calls

@@ -2,9 +2,10 @@
 use Rattle.std.proofs.Common.{List, inl, inr, subst, sym, true, ℕ, ◌∷◌, ◌≡◌, ◌⊎◌}
 use Rattle.lemmas.proofs.Options.{some_value}
 use Rattle.ssi_conflict.specs.Computing.Steps.{adds}
-use Rattle.ssi_conflict.specs.Meaning.Calls.{Aborts, AreAllowed, Begins, Call, Commits, Reads, snapshot_of}
+use Rattle.ssi_conflict.specs.Meaning.Calls.{Aborts, Begins, Call, Commits, Reads, snapshot_of}
+use Rattle.ssi_conflict.specs.Clauses.Allowed.{AreAllowed}
 use Rattle.ssi_conflict.specs.Meaning.Kept.{is_kept}
-use Rattle.ssi_conflict.specs.Meaning.Pairs.{IsPair}
+use Rattle.ssi_conflict.specs.Clauses.Pairs.{IsPair}
 use Rattle.ssi_conflict.proofs.AfterCommit.{by_writer, reader_is_kept}
 use Rattle.ssi_conflict.proofs.AfterRead.{by_reader, met_is_kept}
 use Rattle.ssi_conflict.proofs.AllowedCalls.{kept_open, open_parts}

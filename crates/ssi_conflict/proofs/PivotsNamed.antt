@@ -6,8 +6,9 @@ use Rattle.std.proofs.lemmas.Option.{same_Some}
 use Rattle.lemmas.proofs.Finds.{find-source, find_none}
 use Rattle.lemmas.proofs.Tests.{list_any-source}
 use Rattle.ssi_conflict.specs.Computing.Steps.{is_earlier, is_no_later, is_ordered_pivot, is_pair, is_pivot, smallest_ordered_pivot, smallest_pivot}
-use Rattle.ssi_conflict.specs.Meaning.Calls.{AreAllowed, Call, begun, is_committed, stamp_of}
-use Rattle.ssi_conflict.specs.Meaning.Pairs.{IsAtMost, IsOrderedPivot, IsPivot, IsSmallest}
+use Rattle.ssi_conflict.specs.Meaning.Calls.{Call, begun, is_committed, stamp_of}
+use Rattle.ssi_conflict.specs.Clauses.Allowed.{AreAllowed}
+use Rattle.ssi_conflict.specs.Clauses.Pairs.{IsAtMost, IsOrderedPivot, IsPivot, IsSmallest}
 use Rattle.ssi_conflict.proofs.AllowedCalls.{any_begun, committed_begun, reader_begun}
 use Rattle.ssi_conflict.proofs.Begun.{begun_rise, begun_there}
 use Rattle.ssi_conflict.proofs.PairsFound.{found_back, found_step}

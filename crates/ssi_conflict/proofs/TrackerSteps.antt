@@ -1,7 +1,8 @@
 -- What stays of a tracker, call by call.
 use Rattle.std.proofs.Common.{◌≡◌, ◌≢◌, ℕ, ◌<◌, Bool, true, false, if◌then◌else◌, List, ◌∷◌, Option, Some, None, is_some, option_map, refl, sym, ◌∙◌, ap, subst, arith, inl, inr}
 use Rattle.std.proofs.lemmas.Bool.{cases_eq}
-use Rattle.ssi_conflict.specs.Meaning.Calls.{Call, Begins, stamp_of, has_begun, is_open, AreAllowed}
+use Rattle.ssi_conflict.specs.Meaning.Calls.{Call, Begins, stamp_of, has_begun, is_open}
+use Rattle.ssi_conflict.specs.Clauses.Allowed.{AreAllowed}
 use Rattle.ssi_conflict.specs.Meaning.Kept.{is_kept}
 use Rattle.ssi_conflict.specs.Machinery.Rows.{Row, StandsFor, with_later}
 use Rattle.ssi_conflict.specs.Mirror.{Stands}
@@ -13,7 +14,7 @@ use Rattle.lemmas.proofs.Options.{some_value}
 use Rattle.ssi_conflict.specs.Machinery.Index.{stamp_in, commit_in}
 use Rattle.ssi_conflict.specs.Machinery.Records.{Changes}
 use Rattle.ssi_conflict.specs.Machinery.Tables.{row_at, is_apart, met_if, is_open_row, IsTidy, is_after}
-use Rattle.ssi_reads.specs.Meaning.Marks.{has_txn}
+use Rattle.ssi_reads.specs.Clauses.Marks.{has_txn}
 
 pub same_tracker : {M : Type 0} (marked : M → ℕ → List ℕ → Bool) (a b : Tracker M) (calls : List Call)
     → ((x : ℕ) → row_at b.table x ≡ row_at a.table x) → (IsTidy a.table → IsTidy b.table)

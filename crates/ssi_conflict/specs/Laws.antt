@@ -2,8 +2,9 @@
 -- rule is one of the two-pair rule, and why transactions that aren't kept can be forgotten.
 use Rattle.std.specs.Prelude.{◌≡◌, ◌↔◌, ℕ, true, false, List, ◌∷◌, Option}
 use Rattle.adya_values.specs.Meaning.Keys.{Key}
-use Rattle.ssi_conflict.specs.Meaning.Calls.{Call, Begins, Reads, Commits, Aborts, AreAllowed, has_begun}
-use Rattle.ssi_conflict.specs.Meaning.Pairs.{IsPair, IsPivot, IsOrderedPivot, IsSmallest}
+use Rattle.ssi_conflict.specs.Meaning.Calls.{Call, Begins, Reads, Commits, Aborts, has_begun}
+use Rattle.ssi_conflict.specs.Clauses.Allowed.{AreAllowed}
+use Rattle.ssi_conflict.specs.Clauses.Pairs.{IsPair, IsPivot, IsOrderedPivot, IsSmallest}
 use Rattle.ssi_conflict.specs.Computing.Steps.{adds, is_pair, smallest_pivot, smallest_ordered_pivot}
 use Rattle.ssi_conflict.specs.Meaning.Kept.{is_kept}
 

@@ -1,4 +1,5 @@
 pub mod Meaning
+pub mod Clauses
 pub mod Computing
 pub mod Machinery
 pub mod Laws

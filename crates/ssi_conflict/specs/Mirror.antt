@@ -3,9 +3,10 @@ use Rattle.std.specs.Prelude.{◌≡◌, ℕ, Bool, true, List, ◌∷◌, Optio
 use Rattle.std.specs.List.{list_any}
 use Rattle.std.specs.declared.alloc.AllocError.{AllocError}
 use Rattle.adya_values.specs.Meaning.Keys.{Key}
-use Rattle.ssi_reads.specs.Meaning.Marks.{has_txn}
-use Rattle.ssi_conflict.specs.Meaning.Calls.{Call, Commits, IsAllowed, last_stamp}
-use Rattle.ssi_conflict.specs.Meaning.Pairs.{IsOrderedPivot}
+use Rattle.ssi_reads.specs.Clauses.Marks.{has_txn}
+use Rattle.ssi_conflict.specs.Meaning.Calls.{Call, Commits}
+use Rattle.ssi_conflict.specs.Clauses.Allowed.{IsAllowed, last_stamp}
+use Rattle.ssi_conflict.specs.Clauses.Pairs.{IsOrderedPivot}
 use Rattle.ssi_conflict.specs.Meaning.Kept.{is_kept}
 use Rattle.ssi_conflict.specs.Machinery.Rows.{StandsFor}
 use Rattle.ssi_conflict.specs.Machinery.Tables.{row_at, IsTidy, IsPrepared}

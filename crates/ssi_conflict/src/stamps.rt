@@ -1,7 +1,7 @@
 //! Comparisons of stamps and snapshots, some of which may be missing.
 
 ghost use Rattle.std.specs.Prelude.{◌≡◌, Some};
-ghost use Rattle.ssi_conflict.specs.Meaning.Pairs.{is_at_or_below};
+ghost use Rattle.ssi_conflict.specs.Meaning.Calls.{is_at_or_below};
 ghost use Rattle.ssi_conflict.specs.Computing.Steps.{is_earlier as comes_before, is_no_later as comes_no_later};
 ghost use Rattle.ssi_conflict.specs.Machinery.Rows.{sooner as sooner_of};
 ghost use Rattle.ssi_conflict.specs.Machinery.Tables.{is_after as comes_after};

@@ -2,9 +2,10 @@
 
 ghost use Rattle.std.specs.Prelude.{◌≡◌, ◌∷◌, [], ℕ, List, IfOk, OnOk, OnErr, option_map};
 ghost use Rattle.std.specs.List.{list_any};
-ghost use Rattle.ssi_reads.specs.Meaning.Marks.{has_txn, with_mark, IsEmpty, IsSame};
-ghost use Rattle.ssi_conflict.specs.Meaning.Calls.{Call, Begins, Reads, Commits, Aborts, IsAllowed};
-ghost use Rattle.ssi_conflict.specs.Meaning.Pairs.{IsOrderedPivot, IsSmallest};
+ghost use Rattle.ssi_reads.specs.Clauses.Marks.{has_txn, with_mark, IsEmpty, IsSame};
+ghost use Rattle.ssi_conflict.specs.Meaning.Calls.{Call, Begins, Reads, Commits, Aborts};
+ghost use Rattle.ssi_conflict.specs.Clauses.Allowed.{IsAllowed};
+ghost use Rattle.ssi_conflict.specs.Clauses.Pairs.{IsOrderedPivot, IsSmallest};
 ghost use Rattle.ssi_conflict.specs.Meaning.Kept.{kept_count};
 ghost use Rattle.ssi_conflict.specs.Mirror.{Holds, Stands, IsReady, pivot_of, carried};
 ghost use Rattle.ssi_conflict.specs.Machinery.Tables.{row_at, met_if, any_pivots};

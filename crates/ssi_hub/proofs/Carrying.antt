@@ -9,13 +9,13 @@ use Rattle.std.proofs.Math.Seq.{take-length}
 use Rattle.adya_line.specs.Meaning.Lines.{IsPlain}
 use Rattle.adya_text.specs.Meaning.Texts.{with_ends}
 use Rattle.ssi_store.specs.Meaning.Courses.{Course}
-use Rattle.ssi_line.specs.Meaning.Steps.{Step, Given, Dumped, NotDumped, Stopped, NotRead, TooLong, IsStep, AreSteps, AllGoOn}
+use Rattle.ssi_line.specs.Meaning.Steps.{Step, Given, Dumped, NotDumped, Stopped, NotRead, TooLong, IsStep, AreSteps, AllGoOn, EndsWith}
 use Rattle.ssi_line.specs.Meaning.Steps.{step_text, steps_text, is_stop, course_with, course_after, MayFollow, AllMayFollow}
-use Rattle.ssi_line.specs.Meaning.Ends.{WentOn, EndsWith}
-use Rattle.ssi_line.specs.Meaning.Answers.{kept}
-use Rattle.ssi_hub.specs.Meaning.Clipping.{clipped, has_line}
-use Rattle.ssi_hub.specs.Meaning.Buffers.{Buffers}
-use Rattle.ssi_hub.specs.Meaning.Runs.{EndsSo, AreBegun, CarriedOut, IsEnough}
+use Rattle.ssi_line.specs.Clauses.Ends.{WentOn}
+use Rattle.ssi_line.specs.Clauses.Answers.{kept}
+use Rattle.ssi_hub.specs.Clauses.Clipping.{clipped, has_line}
+use Rattle.ssi_hub.specs.Clauses.Buffers.{Buffers}
+use Rattle.ssi_hub.specs.Clauses.Runs.{EndsSo, AreBegun, CarriedOut, IsEnough}
 use Rattle.ssi_hub.specs.Machinery.Outcomes.{stops_by, lost_by, Replied, Stepped}
 use Rattle.ssi_hub.specs.declared.outcome.Outcome.{Outcome}
 use Rattle.ssi_hub.specs.declared.outcome.Outcome.TheVariants.{GoesOn}

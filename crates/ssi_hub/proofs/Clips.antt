@@ -7,7 +7,7 @@ use Rattle.std.specs.Prelude.{◌==◌, nat_lt, min, zero}
 use Rattle.std.proofs.lemmas.Bool.{ltb-true, ltb-false, eqb-true, eqb-false, ne_eqb, lt-ltb, le-ltb}
 use Rattle.std.proofs.lemmas.List.Elements.{All-head, All-tail, All-take, All-nil, All-cons}
 use Rattle.adya_line.specs.Meaning.Lines.{IsPlain}
-use Rattle.ssi_hub.specs.Meaning.Clipping.{has_line, clipped, clipped_after, kept_of_last}
+use Rattle.ssi_hub.specs.Clauses.Clipping.{has_line, clipped, clipped_after, kept_of_last}
 
 -- what comes in two pieces
 pub clips_both : (n : ℕ) (xs ys : List ℕ)

@@ -7,13 +7,13 @@ use Rattle.std.proofs.lemmas.Bool.{eq-eqb, ne_eqb, both_ways}
 use Rattle.std.proofs.lemmas.List.Elements.{All-nil, All-append}
 use Rattle.adya_line.specs.Meaning.Lines.{IsPlain}
 use Rattle.ssi_store.specs.Meaning.Courses.{Course}
-use Rattle.ssi_line.specs.Meaning.Steps.{Step, Stopped, AllGoOn, steps_text, is_stop, course_with, course_after, AllMayFollow}
-use Rattle.ssi_line.specs.Meaning.Ends.{WentOn, EndsWith}
-use Rattle.ssi_hub.specs.Meaning.Clipping.{clipped}
-use Rattle.ssi_hub.specs.Meaning.Buffers.{Buffers}
-use Rattle.ssi_hub.specs.Meaning.Runs.{EndsSo, CarriedOut, left_by}
-use Rattle.ssi_hub.specs.Meaning.Calls.{Call, Received, Ran, Wrote, Closed, token_of, is_open, all_steps, with_call, with_run}
-use Rattle.ssi_hub.specs.Meaning.Serving.{IsServed, StandsFor}
+use Rattle.ssi_line.specs.Meaning.Steps.{Step, Stopped, AllGoOn, steps_text, is_stop, course_with, course_after, AllMayFollow, EndsWith}
+use Rattle.ssi_line.specs.Clauses.Ends.{WentOn}
+use Rattle.ssi_hub.specs.Clauses.Clipping.{clipped}
+use Rattle.ssi_hub.specs.Clauses.Buffers.{Buffers}
+use Rattle.ssi_hub.specs.Clauses.Runs.{EndsSo, CarriedOut, left_by}
+use Rattle.ssi_hub.specs.Clauses.Calls.{Call, Received, Ran, Wrote, Closed, token_of, is_open, all_steps, with_call, with_run}
+use Rattle.ssi_hub.specs.Clauses.Serving.{IsServed, StandsFor}
 use Rattle.ssi_hub.specs.Machinery.Changes.{Changes, AreSame, CarriesOut, RanAt, RanNothing}
 use Rattle.ssi_hub.proofs.Served.{served_ran}
 use Rattle.ssi_hub.proofs.Standing.{Served, shown, stands_same, stands_more, closed_stands, given_open}

@@ -8,12 +8,11 @@ use Rattle.std.proofs.lemmas.List.Elements.{All-nil, All-append}
 use Rattle.adya_line.specs.Meaning.Lines.{IsPlain}
 use Rattle.adya_text.specs.Meaning.Texts.{with_ends}
 use Rattle.ssi_line.specs.Meaning.Steps.{Step, IsStep, AreSteps, AllGoOn, step_text, steps_text}
-use Rattle.ssi_hub.specs.Meaning.Clipping.{clipped}
-use Rattle.ssi_hub.specs.Meaning.Buffers.{Buffers, no_bytes, with_received, with_written}
-use Rattle.ssi_hub.specs.Meaning.Calls.{Call, Opened, Received, Ran, Wrote, Closed, token_of, is_open, all_steps, with_call}
-use Rattle.ssi_hub.specs.Meaning.Calls.{sent_by, lines_of, steps_of, written_to}
-use Rattle.ssi_hub.specs.Meaning.Runs.{EndsSo}
-use Rattle.ssi_hub.specs.Meaning.Serving.{IsServed, StandsFor}
+use Rattle.ssi_hub.specs.Clauses.Clipping.{clipped}
+use Rattle.ssi_hub.specs.Clauses.Buffers.{Buffers, no_bytes, with_received, with_written}
+use Rattle.ssi_hub.specs.Clauses.Calls.{Call, Opened, Received, Ran, Wrote, Closed, token_of, is_open, all_steps, with_call, sent_by, lines_of, steps_of, written_to}
+use Rattle.ssi_hub.specs.Clauses.Runs.{EndsSo}
+use Rattle.ssi_hub.specs.Clauses.Serving.{IsServed, StandsFor}
 use Rattle.ssi_hub.proofs.Clips.{clips_pieces}
 
 -- ---- lists of lines and of steps

@@ -8,11 +8,11 @@ use Rattle.std.proofs.lemmas.Bool.{eqb-true, eqb-false, eq-eqb, cases_lt, both_w
 use Rattle.adya_line.specs.Meaning.Lines.{IsPlain}
 use Rattle.adya_text.specs.Meaning.Texts.{with_ends}
 use Rattle.ssi_line.specs.Meaning.Steps.{Step, AreSteps, AllGoOn, steps_text, is_stop}
-use Rattle.ssi_hub.specs.Meaning.Clipping.{clipped}
-use Rattle.ssi_hub.specs.Meaning.Buffers.{Buffers, no_bytes, with_received, with_written, first_unsent}
-use Rattle.ssi_hub.specs.Meaning.Calls.{Call, Opened, Received, Ran, Wrote, Closed, token_of, is_open, all_steps, with_call}
-use Rattle.ssi_hub.specs.Meaning.Runs.{EndsSo}
-use Rattle.ssi_hub.specs.Meaning.Serving.{IsServed, StandsFor}
+use Rattle.ssi_hub.specs.Clauses.Clipping.{clipped}
+use Rattle.ssi_hub.specs.Clauses.Buffers.{Buffers, no_bytes, with_received, with_written, first_unsent}
+use Rattle.ssi_hub.specs.Clauses.Calls.{Call, Opened, Received, Ran, Wrote, Closed, token_of, is_open, all_steps, with_call}
+use Rattle.ssi_hub.specs.Clauses.Runs.{EndsSo}
+use Rattle.ssi_hub.specs.Clauses.Serving.{IsServed, StandsFor}
 use Rattle.ssi_hub.specs.Machinery.Changes.{Changes, AreSame}
 use Rattle.ssi_hub.proofs.Clips.{clips_pieces}
 use Rattle.ssi_hub.proofs.Served.{served_none, served_other, open_other, fresh_served, fresh_closed, served_received, served_wrote, served_opened, served_closed}

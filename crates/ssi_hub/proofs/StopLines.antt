@@ -4,9 +4,10 @@ use Rattle.std.specs.Prelude.{nat_le}
 use Rattle.std.proofs.lemmas.Option.{same_Some, none-some}
 use Rattle.std.proofs.lemmas.Bool.{le-leb}
 use Rattle.ssi_store.specs.Meaning.Courses.{Command}
-use Rattle.ssi_line.specs.Meaning.Spelling.{Line, Do, Stop, Dump, IsLineOf, IsNoLine, IsOnlyLineOf, line_text}
+use Rattle.ssi_line.specs.Meaning.Spelling.{Line, Do, Stop, Dump, IsLineOf, IsNoLine, line_text}
+use Rattle.ssi_line.specs.Clauses.Reading.{IsOnlyLineOf}
 use Rattle.ssi_line.specs.Meaning.Steps.{Step, Given, Dumped, NotDumped, Stopped, NotRead, TooLong, IsStep, is_stop}
-use Rattle.ssi_line.specs.Meaning.Answers.{kept}
+use Rattle.ssi_line.specs.Clauses.Answers.{kept}
 
 kept_by : (fits : Bool) (line text : List ℕ) → cond fits (Some line) None ≡ Some text → line ≡ text
 kept_by true line text e = same_Some line text e

@@ -1,3 +1,3 @@
-pub mod Meaning
+pub mod Clauses
 pub mod Machinery
 pub mod Mirror

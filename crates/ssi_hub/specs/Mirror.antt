@@ -1,10 +1,10 @@
 -- What clauses see of a hub.
 use Rattle.std.specs.Prelude.{◌≡◌, ◌≢◌, ℕ, Bool, true, false, List, Option, Some, None, if◌then◌else◌}
-use Rattle.ssi_hub.specs.Meaning.Buffers.{Buffers}
+use Rattle.ssi_hub.specs.Clauses.Buffers.{Buffers}
 use Rattle.ssi_store.specs.Meaning.Courses.{Course}
 use Rattle.ssi_line.specs.Meaning.Steps.{AllMayFollow, course_after}
-use Rattle.ssi_hub.specs.Meaning.Calls.{Call, all_steps}
-use Rattle.ssi_hub.specs.Meaning.Serving.{StandsFor}
+use Rattle.ssi_hub.specs.Clauses.Calls.{Call, all_steps}
+use Rattle.ssi_hub.specs.Clauses.Serving.{StandsFor}
 use Rattle.ssi_hub.specs.Machinery.Changes.{buffers_in}
 use Rattle.ssi_hub.specs.declared.hub.Hub.{Hub}
 

@@ -4,9 +4,9 @@ ghost use Rattle.std.specs.Prelude.{◌≡◌, ℕ, List, ◌∷◌, ◌++◌, f
 ghost use Rattle.adya_line.specs.Meaning.Lines.{IsPlain};
 ghost use Rattle.ssi_store.specs.Mirror.Stores.{IsAt};
 ghost use Rattle.ssi_line.specs.Meaning.Steps.{Step};
-ghost use Rattle.ssi_hub.specs.Meaning.Clipping.{clipped, has_line};
-ghost use Rattle.ssi_hub.specs.Meaning.Buffers.{no_bytes, with_received, with_written};
-ghost use Rattle.ssi_hub.specs.Meaning.Runs.{CarriedOut, IsEnough};
+ghost use Rattle.ssi_hub.specs.Clauses.Clipping.{clipped, has_line};
+ghost use Rattle.ssi_hub.specs.Clauses.Buffers.{no_bytes, with_received, with_written};
+ghost use Rattle.ssi_hub.specs.Clauses.Runs.{CarriedOut, IsEnough};
 ghost use Rattle.ssi_hub.specs.Machinery.Outcomes.{Stepped, stops_by, lost_by};
 
 use crate::replying::reply;
@@ -28,7 +28,7 @@ pub(crate) struct Connection {
 }
 
 impl Model for Connection {
-    ghost use Rattle.ssi_hub.specs.Meaning.Buffers.{Buffers};
+    ghost use Rattle.ssi_hub.specs.Clauses.Buffers.{Buffers};
 
     ghost Value = { Buffers };
 

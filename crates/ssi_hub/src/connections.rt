@@ -3,7 +3,7 @@
 ghost use Rattle.std.specs.Prelude.{◌≡◌, ℕ, None, Some, OnOk, OnErr, IfSome, IfNone, MatchOption};
 ghost use Rattle.std.specs.Option.{option_map, option_copied};
 ghost use Rattle.ssi_store.specs.Mirror.Stores.{IsAt};
-ghost use Rattle.ssi_hub.specs.Meaning.Buffers.{Buffers, no_bytes, with_received, with_written};
+ghost use Rattle.ssi_hub.specs.Clauses.Buffers.{Buffers, no_bytes, with_received, with_written};
 ghost use Rattle.ssi_hub.specs.Machinery.Outcomes.{stops_by, lost_by};
 ghost use Rattle.ssi_hub.specs.Machinery.Changes.{buffers_in, Changes, AreSame, CarriesOut, RanAt, RanNothing};
 

@@ -5,12 +5,12 @@ ghost use Rattle.std.specs.Option.{option_map};
 ghost use Rattle.ssi_store.specs.Meaning.Courses.{Course};
 ghost use Rattle.ssi_store.specs.Mirror.Stores.{IsAt};
 ghost use Rattle.ssi_line.specs.Meaning.Steps.{Step};
-ghost use Rattle.ssi_line.specs.Meaning.Ends.{WentOn};
+ghost use Rattle.ssi_line.specs.Clauses.Ends.{WentOn};
 ghost use Rattle.adya_line.specs.Meaning.Lines.{IsPlain};
-ghost use Rattle.ssi_hub.specs.Meaning.Clipping.{clipped, has_line};
-ghost use Rattle.ssi_hub.specs.Meaning.Buffers.{Buffers, no_bytes, with_received, with_written, first_unsent};
-ghost use Rattle.ssi_hub.specs.Meaning.Runs.{CarriedOut, IsEnough, left_by};
-ghost use Rattle.ssi_hub.specs.Meaning.Calls.{Call, Opened, Received, Wrote, Closed, with_call, with_run, all_steps};
+ghost use Rattle.ssi_hub.specs.Clauses.Clipping.{clipped, has_line};
+ghost use Rattle.ssi_hub.specs.Clauses.Buffers.{Buffers, no_bytes, with_received, with_written, first_unsent};
+ghost use Rattle.ssi_hub.specs.Clauses.Runs.{CarriedOut, IsEnough, left_by};
+ghost use Rattle.ssi_hub.specs.Clauses.Calls.{Call, Opened, Received, Wrote, Closed, with_call, with_run, all_steps};
 ghost use Rattle.ssi_hub.specs.Machinery.Changes.{RanAt};
 ghost use Rattle.ssi_hub.specs.Mirror.{buffers_of, next_token, is_stopped, Changed, IsSame, Stands, Serves};
 

@@ -2,7 +2,7 @@
 
 ghost use Rattle.std.specs.Prelude.{◌≡◌, ◌≤◌, ℕ, List, [], ◌∷◌, ◌++◌, length, drop, IfOk, OnOk, OnErr, IfSome, IfNone};
 ghost use Rattle.adya_line.specs.Meaning.Lines.{IsPlain};
-ghost use Rattle.ssi_hub.specs.Meaning.Clipping.{has_line, clipped, clipped_after, kept_of_last};
+ghost use Rattle.ssi_hub.specs.Clauses.Clipping.{has_line, clipped, clipped_after, kept_of_last};
 
 use crate::Queue;
 use memchr::memchr;
@@ -23,7 +23,7 @@ pub(crate) struct Inbox {
 
 impl Model for Inbox {
     ghost use Rattle.std.specs.Prelude.{List, ℕ, ◌≡◌};
-    ghost use Rattle.ssi_hub.specs.Meaning.Clipping.{clipped, kept_of_last};
+    ghost use Rattle.ssi_hub.specs.Clauses.Clipping.{clipped, kept_of_last};
 
     ghost Value = { List ℕ };
 

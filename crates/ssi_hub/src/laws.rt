@@ -1,7 +1,7 @@
 //! What holds of all lists of calls.
 
 ghost use Rattle.std.specs.Prelude.{◌≡◌, ℕ, List};
-ghost use Rattle.ssi_hub.specs.Meaning.Calls.{Call, Received, Wrote, Closed, with_call, all_steps};
+ghost use Rattle.ssi_hub.specs.Clauses.Calls.{Call, Received, Wrote, Closed, with_call, all_steps};
 
 /// A call that receives, writes or closes carries nothing out.
 pub fn quiet_calls_add_no_step()

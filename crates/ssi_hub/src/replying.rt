@@ -4,8 +4,8 @@ ghost use Rattle.std.specs.Prelude.{◌≡◌, ℕ, List, [], ◌∷◌};
 ghost use Rattle.std.specs.Option.{option_copied};
 ghost use Rattle.ssi_store.specs.Mirror.Stores.{IsAt};
 ghost use Rattle.ssi_line.specs.Meaning.Steps.{Step, IsStep, is_stop};
-ghost use Rattle.ssi_line.specs.Meaning.Ends.{WentOn};
-ghost use Rattle.ssi_line.specs.Meaning.Answers.{kept};
+ghost use Rattle.ssi_line.specs.Clauses.Ends.{WentOn};
+ghost use Rattle.ssi_line.specs.Clauses.Answers.{kept};
 ghost use Rattle.ssi_hub.specs.Machinery.Outcomes.{Replied};
 
 use crate::{Outcome, Queue};

@@ -5,7 +5,7 @@ use Rattle.std.specs.Prelude.{IsErr}
 use Rattle.std.specs.Io.KnownBytes.{Consumes, prepend_known}
 use Rattle.std.proofs.lemmas.List.Elements.{All-append}
 use Rattle.adya_line.specs.Meaning.Lines.{IsPlain}
-use Rattle.devices.specs.Meaning.Lines.{line_end}
+use Rattle.devices.specs.Clauses.Lines.{line_end}
 use Rattle.ssi_line.specs.Machinery.Lines.{has_ended}
 
 regroup : (a b c d : List ℕ) → a ++ ((b ++ c) ++ d) ≡ (a ++ b) ++ (c ++ d)

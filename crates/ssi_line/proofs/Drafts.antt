@@ -6,7 +6,7 @@ use Rattle.std.specs.Io.KnownBytes.{Appends}
 use Rattle.std.proofs.KnownBytes.{Appends-nil, Appends-trans}
 use Rattle.devices.specs.declared.watched.Watched.{Watched}
 use Rattle.devices.specs.Mirror.{has_failed, watched_contents}
-use Rattle.devices.specs.Meaning.Writing.{Grew, Wrote, Broke}
+use Rattle.devices.specs.Clauses.Writing.{Grew, Wrote, Broke}
 use Rattle.ssi_line.specs.Machinery.Drafts.{Added}
 use Rattle.ssi_line.specs.Machinery.Answering.{Said}
 

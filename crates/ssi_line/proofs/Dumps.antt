@@ -2,7 +2,7 @@
 use Rattle.std.proofs.Common.{◌≡◌, ℕ, List, ◌++◌, Option, Result, Ok, Err, ap, subst, ◌∙◌}
 use Rattle.std.specs.Prelude.{IfOk}
 use Rattle.adya_values.specs.Meaning.Histories.{History}
-use Rattle.adya_values.specs.Meaning.Acceptance.{IsAccepted}
+use Rattle.adya_values.specs.Clauses.Acceptance.{IsAccepted}
 use Rattle.devices.specs.declared.watched.Watched.{Watched}
 use Rattle.adya_text.specs.Meaning.Texts.{history_text, serial_text}
 use Rattle.ssi_store.specs.Meaning.Courses.{Course}

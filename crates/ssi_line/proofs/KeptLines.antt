@@ -3,7 +3,7 @@ use Rattle.std.proofs.Common.{◌≡◌, ℕ, List, Bool, true, false, cond, Opt
 use Rattle.std.specs.Prelude.{nat_le}
 use Rattle.std.proofs.lemmas.Option.{same_Some, none-some}
 use Rattle.std.proofs.lemmas.Bool.{leb-true}
-use Rattle.ssi_line.specs.Meaning.Answers.{kept}
+use Rattle.ssi_line.specs.Clauses.Answers.{kept}
 
 kept_by : (fits : Bool) (text line : List ℕ) → Some line ≡ cond fits (Some text) None → (line ≡ text) × (fits ≡ true)
 kept_by true text line e = (same_Some line text e, refl)

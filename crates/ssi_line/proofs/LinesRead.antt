@@ -10,8 +10,8 @@ use Rattle.adya_line.specs.Computing.Reading.{Gives, txn_at_line}
 use Rattle.ssi_store.specs.Meaning.Sessions.{is_session}
 use Rattle.ssi_store.specs.Meaning.Courses.{Command, Begin, Get, Put, Del, Scan, ScanFirst, Commit, Abort, Collect, Stat}
 use Rattle.ssi_line.specs.declared.line.Line.{Line as LineValue}
-use Rattle.ssi_line.specs.Meaning.Spelling.{command_text, IsCommand, Line, Do, Stop, Dump, line_of, line_text, IsLine}
-use Rattle.ssi_line.specs.Meaning.Spelling.{IsLineOf, IsNoLine, IsOnlyLineOf}
+use Rattle.ssi_line.specs.Meaning.Spelling.{command_text, IsCommand, Line, Do, Stop, Dump, line_text, IsLine, IsLineOf, IsNoLine}
+use Rattle.ssi_line.specs.Clauses.Reading.{line_of, IsOnlyLineOf}
 use Rattle.ssi_line.specs.Computing.Reading.{cut, is_word, one_word, of_session, of_key, limit_at, limited, scan_at, of_more}
 use Rattle.ssi_line.specs.Computing.Reading.{by_key, with_key, by_session, command_at, by_word, line_at}
 use Rattle.ssi_line.proofs.Options.{Only, nothing, found, weaken, then, either_by}

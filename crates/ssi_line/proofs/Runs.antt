@@ -7,18 +7,17 @@ use Rattle.std.proofs.KnownBytes.{Consumes-trans, Consumes-nil, Appends-nil, App
 use Rattle.std.proofs.lemmas.List.Elements.{All-push}
 use Rattle.devices.specs.declared.watched.Watched.{Watched}
 use Rattle.devices.specs.Mirror.{watched_contents}
-use Rattle.devices.specs.Meaning.Writing.{Grew, Broke}
+use Rattle.devices.specs.Clauses.Writing.{Grew, Broke}
 use Rattle.adya_line.specs.Meaning.Lines.{IsPlain}
 use Rattle.adya_text.specs.Meaning.Texts.{with_ends}
 use Rattle.ssi_store.specs.Meaning.Courses.{Course}
-use Rattle.ssi_line.specs.Meaning.Steps.{Step, Given, Dumped, NotDumped, Stopped, NotRead, TooLong, IsStep, AreSteps}
-use Rattle.ssi_line.specs.Meaning.Steps.{step_text, steps_text, course_with, course_after, MayFollow, AllMayFollow}
-use Rattle.ssi_line.specs.Meaning.Steps.{is_stop, AllGoOn}
-use Rattle.ssi_line.specs.Meaning.Ends.{WentOn, Took, EndsWith, EndsBroken}
-use Rattle.devices.specs.Meaning.Lines.{line_end}
+use Rattle.ssi_line.specs.Meaning.Steps.{Step, Given, Dumped, NotDumped, Stopped, NotRead, TooLong, IsStep, AreSteps, EndsWith}
+use Rattle.ssi_line.specs.Meaning.Steps.{step_text, steps_text, course_with, course_after, MayFollow, AllMayFollow, is_stop, AllGoOn}
+use Rattle.ssi_line.specs.Clauses.Ends.{WentOn, Took, EndsBroken}
+use Rattle.devices.specs.Clauses.Lines.{line_end}
 use Rattle.ssi_line.specs.Machinery.Lines.{has_ended}
 use Rattle.ssi_line.specs.Machinery.Answering.{Said}
-use Rattle.ssi_line.specs.Meaning.Answers.{Told}
+use Rattle.ssi_line.specs.Clauses.Answers.{Told}
 
 -- ---- lists of steps
 

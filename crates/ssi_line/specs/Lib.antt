@@ -1,3 +1,4 @@
 pub mod Meaning
+pub mod Clauses
 pub mod Computing
 pub mod Machinery

@@ -2,5 +2,3 @@
 pub mod Spelling
 pub mod Replies
 pub mod Steps
-pub mod Answers
-pub mod Ends

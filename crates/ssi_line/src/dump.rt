@@ -1,7 +1,7 @@
 //! The text of the history so far of a store, with that of a certificate.
 
 ghost use Rattle.std.specs.Prelude.{◌≡◌, ◌++◌, IfOk};
-ghost use Rattle.adya_values.specs.Mirror.{history_of, serial_txns};
+ghost use Rattle.adya_values.specs.Mirror.Histories.{history_of, serial_txns};
 ghost use Rattle.adya_text.specs.Meaning.Texts.{history_text, serial_text};
 ghost use Rattle.ssi_store.specs.Mirror.Stores.{IsAt};
 ghost use Rattle.ssi_line.specs.Machinery.Answering.{IsDumpText};

@@ -3,8 +3,8 @@
 ghost use Rattle.std.specs.Prelude.{◌≡◌, ℕ, ◌<◌, List, [], ◌++◌, length, true, false, IfOk, OnOk, IsErr};
 ghost use Rattle.std.specs.Io.KnownBytes.{Consumes, IsAtEnd, prepend_known};
 ghost use Rattle.adya_line.specs.Meaning.Lines.{IsPlain};
-ghost use Rattle.devices.specs.Meaning.Lines.{line_end, work_left};
-ghost use Rattle.ssi_line.specs.Meaning.Answers.{kept};
+ghost use Rattle.devices.specs.Clauses.Lines.{line_end, work_left};
+ghost use Rattle.ssi_line.specs.Clauses.Answers.{kept};
 ghost use Rattle.ssi_line.specs.Machinery.Lines.{has_ended};
 
 use crate::short_line::ShortLine;

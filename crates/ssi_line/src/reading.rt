@@ -4,9 +4,9 @@ ghost use Rattle.std.specs.Prelude.{◌≡◌, option_map, MatchOption};
 ghost use Rattle.std.specs.Int.NonZero.{non_zero_u16_get};
 ghost use Rattle.adya_line.specs.Computing.Reading.{Gives};
 ghost use Rattle.ssi_store.specs.Mirror.Commands.{command_of};
-ghost use Rattle.ssi_line.specs.Meaning.Spelling.{line_of, IsNoLine, IsOnlyLineOf};
-ghost use Rattle.ssi_line.specs.Computing.Reading.{cut, one_word, of_session, of_key, limit_at, limited, scan_at, of_more};
-ghost use Rattle.ssi_line.specs.Computing.Reading.{with_key, command_at, line_at};
+ghost use Rattle.ssi_line.specs.Meaning.Spelling.{IsNoLine};
+ghost use Rattle.ssi_line.specs.Clauses.Reading.{line_of, IsOnlyLineOf};
+ghost use Rattle.ssi_line.specs.Computing.Reading.{cut, one_word, of_session, of_key, limit_at, limited, scan_at, of_more, with_key, command_at, line_at};
 
 use crate::Line;
 use adya_line::laws::txn_lines;

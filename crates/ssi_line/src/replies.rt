@@ -1,8 +1,8 @@
 //! Writing reply lines.
 
 ghost use Rattle.std.specs.Prelude.{◌≡◌, ◌++◌, codes, decimal, flat_map, map, length, OnErr};
-ghost use Rattle.adya_values.specs.Meaning.Histories.{final_of};
-ghost use Rattle.devices.specs.Meaning.Writing.{Wrote, Broke};
+ghost use Rattle.adya_values.specs.Mirror.Events.{final_of};
+ghost use Rattle.devices.specs.Clauses.Writing.{Wrote, Broke};
 ghost use Rattle.ssi_store.specs.Meaning.Courses.{Counts};
 ghost use Rattle.ssi_store.specs.Mirror.Commands.{answer_of, reply_of, refusal_of};
 ghost use Rattle.ssi_line.specs.Meaning.Replies.{row_text, answer_text, answer_line, refusal_text};

@@ -5,8 +5,8 @@ ghost use Rattle.std.specs.Option.{option_copied};
 ghost use Rattle.devices.specs.Mirror.{has_failed};
 ghost use Rattle.ssi_store.specs.Mirror.Stores.{IsAt};
 ghost use Rattle.ssi_line.specs.Meaning.Steps.{Step, step_text};
-ghost use Rattle.ssi_line.specs.Meaning.Ends.{WentOn, Took, EndsAs};
-ghost use Rattle.ssi_line.specs.Meaning.Answers.{kept, Answered};
+ghost use Rattle.ssi_line.specs.Clauses.Ends.{WentOn, Took, EndsAs};
+ghost use Rattle.ssi_line.specs.Clauses.Answers.{kept, Answered};
 ghost use Rattle.ssi_line.specs.Machinery.Answering.{IsDump, Said};
 
 use crate::dump::dump_text;

@@ -2,7 +2,7 @@
 
 ghost use Rattle.std.specs.Prelude.{◌≡◌, ◌≤◌, ◌++◌, List, ℕ, [], Some};
 ghost use Rattle.std.specs.Option.{option_copied};
-ghost use Rattle.ssi_line.specs.Meaning.Answers.{kept};
+ghost use Rattle.ssi_line.specs.Clauses.Answers.{kept};
 
 use std::marker::Model;
 

@@ -3,7 +3,7 @@ use Rattle.std.proofs.Common.{◌≡◌, ℕ, ◌==◌, Bool, true, false, cond,
 use Rattle.std.proofs.lemmas.Bool.{cases_eq, eq-eqb, ne_eqb}
 use Rattle.adya_values.specs.Meaning.Keys.{lies_in}
 use Rattle.ssi_reads.specs.declared.span.Mark.{Mark}
-use Rattle.ssi_reads.specs.Meaning.Marks.{without}
+use Rattle.ssi_reads.specs.Clauses.Marks.{without}
 use Rattle.ssi_reads.specs.Machinery.Listed.{is_over, is_of_other, list_marked}
 
 -- a mark that stays or goes, if its own part of the result is the same

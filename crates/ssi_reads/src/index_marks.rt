@@ -1,7 +1,7 @@
 //! Marks of keys and of ranges, in indexes.
 
 ghost use Rattle.std.specs.Prelude.{◌||◌};
-ghost use Rattle.ssi_reads.specs.Meaning.Marks.{IsEmpty};
+ghost use Rattle.ssi_reads.specs.Clauses.Marks.{IsEmpty};
 ghost use Rattle.ssi_reads.specs.Machinery.Indexed.{key_marked};
 ghost use Rattle.ssi_reads.specs.Machinery.Ranged.{ranged};
 

@@ -4,7 +4,7 @@ ghost use Rattle.std.specs.Prelude.{◌≡◌, ◌≢◌, ◌&&◌, ◌||◌, �
 ghost use Rattle.std.specs.BTreeSet.{contains};
 ghost use Rattle.std.specs.Ordering.{nat_cmp, is_eq};
 ghost use Rattle.std.specs.Cmp.Lexicographic.{slice_cmp};
-ghost use Rattle.ssi_reads.specs.Meaning.Marks.{with_mark, without, IsSame, IsEmpty};
+ghost use Rattle.ssi_reads.specs.Clauses.Marks.{with_mark, without, IsSame, IsEmpty};
 ghost use Rattle.ssi_reads.specs.Machinery.Indexed.{indexed, listed, key_marked};
 
 use adya_values::{Key, Txn};

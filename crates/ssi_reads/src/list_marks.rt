@@ -3,7 +3,7 @@
 ghost use Rattle.std.specs.Prelude.{◌≡◌, ℕ, IfOk, OnOk, ◌||◌};
 ghost use Rattle.std.specs.BTreeSet.{contains};
 ghost use Rattle.std.specs.Ordering.{nat_cmp};
-ghost use Rattle.ssi_reads.specs.Meaning.Marks.{IsEmpty};
+ghost use Rattle.ssi_reads.specs.Clauses.Marks.{IsEmpty};
 ghost use Rattle.ssi_reads.specs.Machinery.Listed.{list_marked, is_over};
 
 use crate::marks::Marks;

@@ -3,7 +3,7 @@
 ghost use Rattle.std.specs.Prelude.{◌≡◌, ℕ, List, Bool, IfOk, OnOk, OnErr};
 ghost use Rattle.std.specs.List.Sorted.{IsStrictlySortedBy};
 ghost use Rattle.std.specs.Ordering.{nat_cmp};
-ghost use Rattle.ssi_reads.specs.Meaning.Marks.{has_txn, with_mark, without, IsSame};
+ghost use Rattle.ssi_reads.specs.Clauses.Marks.{has_txn, with_mark, without, IsSame};
 
 use adya_values::{Key, Txn};
 use std::alloc::AllocError;

@@ -4,7 +4,7 @@ ghost use Rattle.std.specs.Prelude.{◌≡◌, ℕ, IfOk};
 ghost use Rattle.std.specs.List.Sorted.{IsStrictlySortedBy};
 ghost use Rattle.std.specs.Ordering.{nat_cmp};
 ghost use Rattle.std.specs.BTreeSet.{contains};
-ghost use Rattle.ssi_reads.specs.Meaning.Marks.{has_txn};
+ghost use Rattle.ssi_reads.specs.Clauses.Marks.{has_txn};
 
 use adya_values::Txn;
 use std::alloc::{AllocError, Global};

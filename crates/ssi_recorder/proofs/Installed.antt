@@ -14,7 +14,8 @@ use Rattle.lemmas.proofs.Filters.{filter_map-source}
 use Rattle.lemmas.proofs.Orderings.{bytes_eq-same, bytes_eq-itself, bytes_eq-other, bytes_lt-apart}
 use Rattle.adya_values.specs.declared.event.Entry.{Entry as EntryValue}
 use Rattle.adya_values.specs.Meaning.Keys.{keys_rise}
-use Rattle.adya_values.specs.Meaning.Histories.{Entry, Event, entry_of}
+use Rattle.adya_values.specs.Meaning.Histories.{Entry, Event}
+use Rattle.adya_values.specs.Mirror.Events.{entry_of}
 use Rattle.adya_values.specs.Meaning.Events.{written, last, last_write, shown}
 use Rattle.adya_values.specs.Meaning.Serial.{visible_pair_of}
 use Rattle.adya_values.proofs.Keys.{keys_rise-tail}

@@ -14,7 +14,8 @@ use Rattle.adya_values.specs.Meaning.Keys.{key_eq}
 use Rattle.std.proofs.Common.{take}
 use Rattle.std.proofs.lemmas.List.{take_more, map_push}
 use Rattle.adya_values.specs.declared.event.Event.{Event as EventValue}
-use Rattle.adya_values.specs.Meaning.Histories.{Entry, Event, event_of}
+use Rattle.adya_values.specs.Meaning.Histories.{Entry, Event}
+use Rattle.adya_values.specs.Mirror.Events.{event_of}
 use Rattle.adya_values.specs.Meaning.Events.{written, last_write, last}
 use Rattle.ssi_recorder.specs.Machinery.Lines.{write_by}
 

@@ -13,7 +13,8 @@ use Rattle.std.proofs.lemmas.Option.{same_Some}
 use Rattle.std.proofs.lemmas.Map.Keys.{sorted_head, sorted_tail}
 use Rattle.std.proofs.lemmas.Map.Entries.{lookup_head, lookup_tail}
 use Rattle.adya_values.specs.declared.event.Entry.{Entry as EntryValue}
-use Rattle.adya_values.specs.Meaning.Histories.{Entry, Event, entry_of}
+use Rattle.adya_values.specs.Meaning.Histories.{Entry, Event}
+use Rattle.adya_values.specs.Mirror.Events.{entry_of}
 use Rattle.adya_values.specs.Meaning.Events.{last_write, last}
 use Rattle.ssi_recorder.specs.Meaning.Recorded.{by_commit}
 use Rattle.ssi_recorder.specs.Machinery.Lines.{Line, line_at, put_in, put_at, IsLine, AreLines, write_by, versions_by_commit, versions_under}

@@ -10,7 +10,8 @@ use Rattle.std.proofs.lemmas.Bool.{and_from}
 use Rattle.std.proofs.lemmas.List.{length-map}
 use Rattle.adya_values.specs.declared.event.Entry.{Entry as EntryValue}
 use Rattle.adya_values.specs.Meaning.Keys.{key_lt, keys_rise}
-use Rattle.adya_values.specs.Meaning.Histories.{Entry, Order, FinalPair, entry_of}
+use Rattle.adya_values.specs.Meaning.Histories.{Entry, Order, FinalPair}
+use Rattle.adya_values.specs.Mirror.Events.{entry_of}
 use Rattle.adya_values.specs.Meaning.Events.{last, shown}
 use Rattle.adya_values.specs.Meaning.Serial.{visible_pair_of}
 use Rattle.adya_values.specs.Computing.Shapes.{is_shape}

@@ -1,6 +1,7 @@
 -- What is seen of a recorder.
 use Rattle.std.specs.Prelude.{◌≡◌, ℕ, ◌+◌, ◌<◌, List, map, vec_len, vec_capacity}
-use Rattle.adya_values.specs.Meaning.Histories.{Event, event_of}
+use Rattle.adya_values.specs.Meaning.Histories.{Event}
+use Rattle.adya_values.specs.Mirror.Events.{event_of}
 use Rattle.ssi_recorder.specs.declared.recorder.Recorder.{Recorder}
 
 -- the events so far, oldest first

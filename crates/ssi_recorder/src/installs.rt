@@ -6,7 +6,7 @@ ghost use Rattle.std.specs.BTreeMap.{is_at, keys, values, IsOrdered};
 ghost use Rattle.std.specs.Ordering.{nat_cmp};
 ghost use Rattle.std.specs.Cmp.Lexicographic.{slice_cmp};
 ghost use Rattle.adya_values.specs.Meaning.Keys.{key_eq};
-ghost use Rattle.adya_values.specs.Meaning.Histories.{entry_of, event_of, order_of, final_of, value_of};
+ghost use Rattle.adya_values.specs.Mirror.Events.{entry_of, event_of, order_of, final_of, value_of};
 ghost use Rattle.adya_values.specs.Meaning.Events.{written, visible, commit_of};
 ghost use Rattle.adya_values.specs.Computing.Shapes.{is_shape};
 ghost use Rattle.ssi_recorder.specs.Meaning.Recorded.{by_commit, orders_of_events, finals_of_events};

@@ -1,8 +1,9 @@
 //! The recorder: the events so far, with room for the ends of open transactions.
 
 ghost use Rattle.std.specs.Prelude.{◌≡◌, [], ◌∷◌, ◌++◌, ◌+◌, ◌<◌, ◌≤◌, map, OnOk, OnErr, IfOk, IfErr, vec_len, vec_capacity, length, true};
-ghost use Rattle.adya_values.specs.Meaning.Histories.{event_of, Abort};
-ghost use Rattle.adya_values.specs.Mirror.{history_of};
+ghost use Rattle.adya_values.specs.Meaning.Histories.{Abort};
+ghost use Rattle.adya_values.specs.Mirror.Events.{event_of};
+ghost use Rattle.adya_values.specs.Mirror.Histories.{history_of};
 ghost use Rattle.adya_values.specs.Computing.Shapes.{numbers_rise};
 ghost use Rattle.adya_values.specs.declared.edition.Edition.TheVariants as Edition;
 ghost use Rattle.ssi_recorder.specs.Meaning.Recorded.{history_of_events};

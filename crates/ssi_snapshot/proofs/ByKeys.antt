@@ -6,8 +6,8 @@ use Rattle.lemmas.proofs.Orderings.{bytes_eq-itself}
 use Rattle.adya_values.specs.Meaning.Keys.{key_eq}
 use Rattle.adya_values.specs.Meaning.Histories.{Entry}
 use Rattle.adya_values.specs.Meaning.Events.{listed}
-use Rattle.ssi_versions.specs.Meaning.Changes.{AreApart}
-use Rattle.ssi_snapshot.specs.Meaning.Listings.{keys}
+use Rattle.ssi_versions.specs.Clauses.Conditions.{AreApart}
+use Rattle.ssi_snapshot.specs.Clauses.Listings.{keys}
 use Rattle.ssi_snapshot.specs.Laws.{ListIsByKey}
 
 -- the first of a list is of another key than the later ones

@@ -2,9 +2,10 @@
 use Rattle.std.proofs.Common.{◌≡◌, ℕ, zero, suc, ◌<◌, ◌-◌, ◌+◌, true, false, if◌then◌else◌, List, [], ◌∷◌, ◌++◌, map, take, drop, length, get_or, refl, ◌∙◌, ap, sym, arith, is_some, append_assoc, append-nil}
 use Rattle.std.proofs.lemmas.List.{drop_more, take_more, map_push, drop_all}
 use Rattle.adya_values.specs.declared.event.Entry.{Entry as EntryValue}
-use Rattle.adya_values.specs.Meaning.Histories.{Entry, entry_of}
+use Rattle.adya_values.specs.Meaning.Histories.{Entry}
+use Rattle.adya_values.specs.Mirror.Events.{entry_of}
 use Rattle.adya_values.specs.Meaning.Events.{visible}
-use Rattle.ssi_snapshot.specs.Meaning.Listings.{up_to}
+use Rattle.ssi_snapshot.specs.Clauses.Listings.{up_to}
 
 up_to_nil : (n : ℕ) → up_to n [] ≡ []
 up_to_nil zero = refl

@@ -3,7 +3,7 @@ use Rattle.std.proofs.Common.{◌≡◌, zero, suc, if◌then◌else◌, [], ◌
 use Rattle.std.specs.List.{cons_option}
 use Rattle.adya_values.specs.Meaning.Events.{visible}
 use Rattle.adya_values.specs.Meaning.Serial.{pair, visible_pair_of, visible_pairs}
-use Rattle.ssi_snapshot.specs.Meaning.Listings.{up_to}
+use Rattle.ssi_snapshot.specs.Clauses.Listings.{up_to}
 use Rattle.ssi_snapshot.specs.Laws.{LimitTakesFirst}
 
 pub limit_first : LimitTakesFirst

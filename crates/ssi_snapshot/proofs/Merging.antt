@@ -10,11 +10,12 @@ use Rattle.lemmas.proofs.Steps.{drop_step}
 use Rattle.lemmas.proofs.Orderings.{bytes_eq-same, bytes_eq-itself}
 use Rattle.adya_values.specs.declared.event.Entry.{Entry as EntryValue}
 use Rattle.adya_values.specs.Meaning.Keys.{key_eq, key_lt, keys_rise, lies_in}
-use Rattle.adya_values.specs.Meaning.Histories.{Entry, entry_of}
+use Rattle.adya_values.specs.Meaning.Histories.{Entry}
+use Rattle.adya_values.specs.Mirror.Events.{entry_of}
 use Rattle.adya_values.specs.Meaning.Events.{entry, listed}
 use Rattle.ssi_versions.specs.Meaning.Changes.{Held, otherwise, entry_in}
 use Rattle.ssi_versions.specs.Mirror.{write_of}
-use Rattle.ssi_snapshot.specs.Meaning.Listings.{keys}
+use Rattle.ssi_snapshot.specs.Clauses.Listings.{keys}
 use Rattle.ssi_snapshot.specs.Machinery.Stored.{are_keyed, entry_key, Write, stored_at}
 
 abbrev Stored : Type 0

@@ -16,7 +16,8 @@ use Rattle.adya_values.specs.Meaning.Events.{last, listed, visible}
 use Rattle.adya_values.specs.Meaning.Serial.{pair, visible_pair_of, visible_pairs}
 use Rattle.adya_values.proofs.Keys.{keys_rise-tail}
 use Rattle.adya_values.proofs.KeyLookups.{listed_found}
-use Rattle.ssi_snapshot.specs.Meaning.Listings.{keys, within, IsListing, up_to, key_or, reached}
+use Rattle.ssi_snapshot.specs.Clauses.Listings.{keys, within, IsListing, up_to}
+use Rattle.ssi_snapshot.specs.Meaning.Reached.{key_or, reached}
 use Rattle.ssi_snapshot.specs.Laws.{LimitListsItsRange}
 use Rattle.ssi_snapshot.proofs.Unique.{skip, below}
 

@@ -11,10 +11,10 @@ use Rattle.lemmas.proofs.Orderings.{bytes_eq-same, bytes_eq-from}
 use Rattle.adya_values.specs.Meaning.Keys.{key_eq}
 use Rattle.adya_values.specs.Meaning.Histories.{Entry}
 use Rattle.adya_values.specs.Meaning.Events.{listed}
-use Rattle.ssi_versions.specs.Meaning.Changes.{AreApart}
+use Rattle.ssi_versions.specs.Clauses.Conditions.{AreApart}
 use Rattle.ssi_versions.specs.Mirror.{write_of}
-use Rattle.ssi_snapshot.specs.Meaning.Writes.{put_write}
-use Rattle.ssi_snapshot.specs.Meaning.Listings.{keys}
+use Rattle.ssi_snapshot.specs.Clauses.Writes.{put_write}
+use Rattle.ssi_snapshot.specs.Clauses.Listings.{keys}
 use Rattle.ssi_snapshot.specs.Machinery.Stored.{are_keyed, Write, write_key, stored_writes}
 
 abbrev Stored : Type 0

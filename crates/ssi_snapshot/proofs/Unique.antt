@@ -10,7 +10,7 @@ use Rattle.adya_values.specs.Meaning.Keys.{key_eq, key_lt, keys_rise}
 use Rattle.adya_values.specs.Meaning.Histories.{Entry}
 use Rattle.adya_values.specs.Meaning.Events.{listed}
 use Rattle.adya_values.proofs.Keys.{keys_rise-tail}
-use Rattle.ssi_snapshot.specs.Meaning.Listings.{keys}
+use Rattle.ssi_snapshot.specs.Clauses.Listings.{keys}
 
 pub skip : (k j : List ℕ) (ws : List Entry) → key_lt k j ≡ true → keys_rise (j ∷ keys ws) ≡ true → keys_rise (k ∷ keys ws) ≡ true
 skip k j [] lt rise = refl

@@ -5,8 +5,8 @@ use Rattle.lemmas.proofs.Orderings.{bytes_eq-same, bytes_eq-from, bytes_eq-other
 use Rattle.adya_values.specs.Meaning.Keys.{key_eq}
 use Rattle.adya_values.specs.Meaning.Histories.{Entry}
 use Rattle.adya_values.specs.Meaning.Events.{listed}
-use Rattle.ssi_snapshot.specs.Meaning.Writes.{put_write, mod_of}
-use Rattle.ssi_snapshot.specs.Meaning.Listings.{keys}
+use Rattle.ssi_snapshot.specs.Clauses.Writes.{put_write, mod_of}
+use Rattle.ssi_snapshot.specs.Clauses.Listings.{keys}
 use Rattle.ssi_snapshot.specs.Laws.{PutIsFound, PutKeepsOrder}
 
 pub put_found : PutIsFound

@@ -5,9 +5,10 @@ use Rattle.adya_values.specs.Meaning.Keys.{Key, key_eq}
 use Rattle.adya_values.specs.Meaning.Histories.{Entry}
 use Rattle.adya_values.specs.Meaning.Events.{listed}
 use Rattle.adya_values.specs.Meaning.Serial.{visible_pairs}
-use Rattle.ssi_versions.specs.Meaning.Changes.{AreApart}
-use Rattle.ssi_snapshot.specs.Meaning.Writes.{put_write}
-use Rattle.ssi_snapshot.specs.Meaning.Listings.{keys, within, IsListing, up_to, reached}
+use Rattle.ssi_versions.specs.Clauses.Conditions.{AreApart}
+use Rattle.ssi_snapshot.specs.Clauses.Writes.{put_write}
+use Rattle.ssi_snapshot.specs.Clauses.Listings.{keys, within, IsListing, up_to}
+use Rattle.ssi_snapshot.specs.Meaning.Reached.{reached}
 
 -- the list with a write has this write of its key, and of every other key what it had
 abbrev pub PutIsFound : Type 0

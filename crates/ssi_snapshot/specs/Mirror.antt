@@ -3,10 +3,11 @@ use Rattle.std.specs.Prelude.{◌≡◌, ℕ, List, map, Option}
 use Rattle.adya_values.specs.Meaning.Keys.{Key}
 use Rattle.adya_values.specs.Meaning.Histories.{Entry}
 use Rattle.adya_values.specs.Meaning.Events.{listed}
-use Rattle.ssi_versions.specs.Meaning.Changes.{Held, otherwise, entry_in, newest_within}
+use Rattle.ssi_versions.specs.Meaning.Changes.{Held, otherwise, entry_in}
+use Rattle.ssi_versions.specs.Clauses.ByStamp.{newest_within}
 use Rattle.ssi_versions.specs.Mirror.{write_of, chain_of}
 use Rattle.indexmap.specs.IndexMap.{values}
-use Rattle.ssi_snapshot.specs.Meaning.Listings.{within}
+use Rattle.ssi_snapshot.specs.Clauses.Listings.{within}
 use Rattle.ssi_snapshot.specs.declared.view.View.{View}
 
 -- the transaction

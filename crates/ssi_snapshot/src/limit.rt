@@ -1,9 +1,9 @@
 //! Limited scans: the entries up to a number of visible ones.
 
 ghost use Rattle.std.specs.Prelude.{◌≡◌, map, take, is_some};
-ghost use Rattle.adya_values.specs.Meaning.Histories.{entry_of};
+ghost use Rattle.adya_values.specs.Mirror.Events.{entry_of};
 ghost use Rattle.adya_values.specs.Meaning.Events.{visible};
-ghost use Rattle.ssi_snapshot.specs.Meaning.Listings.{up_to};
+ghost use Rattle.ssi_snapshot.specs.Clauses.Listings.{up_to};
 
 use adya_values::{Content, Entry};
 

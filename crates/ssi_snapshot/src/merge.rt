@@ -5,7 +5,7 @@ ghost use Rattle.std.specs.BTreeMap.{values, IsOrdered};
 ghost use Rattle.std.specs.Ordering.{nat_cmp};
 ghost use Rattle.std.specs.Cmp.Lexicographic.{slice_cmp};
 ghost use Rattle.adya_values.specs.Meaning.Keys.{key_eq, lies_in};
-ghost use Rattle.adya_values.specs.Meaning.Histories.{entry_of};
+ghost use Rattle.adya_values.specs.Mirror.Events.{entry_of};
 ghost use Rattle.adya_values.specs.Meaning.Events.{listed};
 ghost use Rattle.ssi_versions.specs.Meaning.Changes.{otherwise, entry_in};
 ghost use Rattle.ssi_versions.specs.Mirror.{held_of, write_of, found_in};

@@ -2,12 +2,13 @@
 
 ghost use Rattle.std.specs.Prelude.{◌≡◌, ℕ, suc, List, [], ◌+◌, ◌<◌, ◌≤◌, true, map, option_map, OnOk, OnErr, IfOk, is_some};
 ghost use Rattle.adya_values.specs.Meaning.Keys.{key_le};
-ghost use Rattle.adya_values.specs.Meaning.Histories.{Entry as PlainEntry, content_of, entry_of};
+ghost use Rattle.adya_values.specs.Meaning.Histories.{Entry as PlainEntry};
+ghost use Rattle.adya_values.specs.Mirror.Events.{content_of, entry_of};
 ghost use Rattle.adya_values.specs.Meaning.Events.{listed};
-ghost use Rattle.ssi_versions.specs.Meaning.Changes.{AreApart};
+ghost use Rattle.ssi_versions.specs.Clauses.Conditions.{AreApart};
 ghost use Rattle.ssi_versions.specs.Mirror.{write_of};
-ghost use Rattle.ssi_snapshot.specs.Meaning.Writes.{mod_of, next_mod, next_write, put_write};
-ghost use Rattle.ssi_snapshot.specs.Meaning.Listings.{IsListing, up_to};
+ghost use Rattle.ssi_snapshot.specs.Clauses.Writes.{mod_of, next_mod, next_write, put_write};
+ghost use Rattle.ssi_snapshot.specs.Clauses.Listings.{IsListing, up_to};
 ghost use Rattle.ssi_snapshot.specs.Machinery.Stored.{are_keyed, write_key, stored_writes};
 
 use crate::limit::keep_first;

@@ -8,7 +8,8 @@ use Rattle.lemmas.proofs.Options.{none_unless_some, some_value}
 use Rattle.adya_values.specs.Meaning.Keys.{key_eq}
 use Rattle.adya_values.specs.Meaning.Histories.{Event}
 use Rattle.ssi_conflict.specs.Computing.Steps.{smallest_ordered_pivot}
-use Rattle.ssi_conflict.specs.Meaning.Calls.{Call, Begins as Enters, IsAllowed}
+use Rattle.ssi_conflict.specs.Meaning.Calls.{Call, Begins as Enters}
+use Rattle.ssi_conflict.specs.Clauses.Allowed.{IsAllowed}
 use Rattle.ssi_snapshot.specs.Mirror.{snapshot_of, written}
 use Rattle.ssi_store.specs.Meaning.Acts.{Begins, acts, act_by, has_begun}
 use Rattle.ssi_store.specs.Meaning.Courses.{Command as Do, Answer, Begun, Refused, Busy, Spent, Memory, Course, Then, txn_in, next_txn}

@@ -1,7 +1,8 @@
 -- What the calls of a tracker say of aborts.
 use Rattle.std.proofs.Common.{List, [], false, inl, inr, refl, ℕ, ◌==◌, ◌∷◌, ◌≡◌}
 use Rattle.std.proofs.lemmas.Bool.{cases_Bool, or_parts}
-use Rattle.ssi_conflict.specs.Meaning.Calls.{Aborts, Begins, Call, Commits, Reads, before_commit, is_aborted}
+use Rattle.ssi_conflict.specs.Meaning.Calls.{Aborts, Begins, Call, Commits, Reads, is_aborted}
+use Rattle.ssi_conflict.specs.Clauses.Pairs.{before_commit}
 
 pub unaborted_before : (r u : ℕ) (calls : List Call) → is_aborted r calls ≡ false
     → is_aborted r (before_commit u calls) ≡ false

@@ -7,13 +7,13 @@ use Rattle.lemmas.proofs.Counts.{count, count-append, count_other, count_same}
 use Rattle.lemmas.proofs.Members.{All-from_contained, none_contained}
 use Rattle.lemmas.proofs.Orderings.{bytes_eq-from, bytes_eq-same}
 use Rattle.lemmas.proofs.Tests.{list_any-source}
-use Rattle.adya_values.specs.Meaning.Acceptance.{IsChecked}
-use Rattle.adya_values.specs.Meaning.Events.{aborts, has_ended, is_aborted, is_committed, shown, txn_of}
+use Rattle.adya_values.specs.Clauses.Acceptance.{IsChecked}
+use Rattle.adya_values.specs.Meaning.Events.{aborts, is_aborted, is_committed, shown, txn_of}
+use Rattle.adya_values.specs.Clauses.Rules.{has_ended, IsRising, IsWellFormed, final_value}
 use Rattle.adya_values.specs.Meaning.Histories.{Entry, Event, FinalPair}
 use Rattle.adya_values.specs.Meaning.Keys.{key_eq}
 use Rattle.adya_values.specs.Meaning.Orders.{installer, value_at, shown_by, writers}
 use Rattle.adya_values.specs.Meaning.Phenomena.{ReadsCommitted}
-use Rattle.adya_values.specs.Meaning.Rules.{IsRising, IsWellFormed, final_value}
 use Rattle.adya_values.specs.Meaning.Serial.{visible_pair_of}
 use Rattle.adya_values.specs.declared.edition.Edition.{Edition}
 use Rattle.ssi_store.specs.Meaning.Acts.{Aborts, Act, Collects, Commits, Gets, Scans, Begins, Writes, has_aborted, has_committed, has_begun, is_open}

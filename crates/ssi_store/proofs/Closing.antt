@@ -5,7 +5,7 @@ use Rattle.std.proofs.lemmas.Bool.{and_from, both_ways, cases_Bool, eq-eqb, fals
 use Rattle.lemmas.proofs.Members.{none_contained}
 use Rattle.ssi_conflict.specs.Meaning.Calls.{Call}
 use Rattle.ssi_store.specs.Meaning.Acts.{Aborts, Act, has_aborted, is_open, begun}
-use Rattle.ssi_store.specs.Meaning.Recording.{close, closed}
+use Rattle.ssi_store.specs.Clauses.Finished.{close, closed}
 use Rattle.ssi_store.proofs.SoundLogs.{Open, Safe, Sound, open_from, begun_there}
 
 pub open_to : (t : ℕ) (log : List Act) → Open t log → is_open t log ≡ true

@@ -5,7 +5,9 @@ use Rattle.std.proofs.lemmas.List.{append-nil}
 use Rattle.std.proofs.lemmas.List.Elements.{All-filter}
 use Rattle.lemmas.proofs.Filters.{filter-source}
 use Rattle.lemmas.proofs.Members.{map-source}
-use Rattle.ssi_versions.specs.Meaning.Changes.{Held, held, held_count, IsProtected, is_wanted}
+use Rattle.ssi_versions.specs.Meaning.Changes.{Held, held, held_count}
+use Rattle.ssi_versions.specs.Clauses.Conditions.{IsProtected}
+use Rattle.ssi_versions.specs.Clauses.ByStamp.{is_wanted}
 use Rattle.ssi_versions.specs.Mirror.{chain_of, key_total, IsAbove}
 use Rattle.ssi_conflict.specs.Meaning.Calls.{is_aborted, is_committed, is_open as is_open_told}
 use Rattle.ssi_conflict.specs.Meaning.Kept.{kept_count, open_count}

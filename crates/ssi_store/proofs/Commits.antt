@@ -9,9 +9,10 @@ use Rattle.adya_values.specs.Meaning.Events.{listed}
 use Rattle.ssi_versions.specs.Mirror.{chain_of, IsAbove}
 use Rattle.ssi_versions.specs.Meaning.Changes.{Held, held, listing, stamped}
 use Rattle.ssi_conflict.specs.Computing.Steps.{smallest_ordered_pivot}
-use Rattle.ssi_conflict.specs.Meaning.Calls.{Call, Commits as Ends, IsAllowed, AreAllowed}
-use Rattle.ssi_conflict.specs.Meaning.Pairs.{IsOrderedPivot, IsSmallest}
-use Rattle.ssi_snapshot.specs.Meaning.Listings.{keys}
+use Rattle.ssi_conflict.specs.Meaning.Calls.{Call, Commits as Ends}
+use Rattle.ssi_conflict.specs.Clauses.Allowed.{IsAllowed, AreAllowed}
+use Rattle.ssi_conflict.specs.Clauses.Pairs.{IsOrderedPivot, IsSmallest}
+use Rattle.ssi_snapshot.specs.Clauses.Listings.{keys}
 use Rattle.ssi_snapshot.specs.Mirror.{snapshot_of, written}
 use Rattle.ssi_store.specs.Meaning.Acts.{Act, Commits, acts}
 use Rattle.ssi_store.specs.Meaning.Courses.{Command as Do, Committed, Conflict, Unsafe, Refused, Idle, Memory, Course, Then}

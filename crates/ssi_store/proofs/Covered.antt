@@ -7,7 +7,7 @@ use Rattle.lemmas.proofs.Filters.{filter-source, filter_map-source}
 use Rattle.lemmas.proofs.Members.{none_contained}
 use Rattle.lemmas.proofs.Tests.{list_all_when, list_any_when}
 use Rattle.adya_values.specs.Computing.Shapes.{fits_edition, is_shape}
-use Rattle.adya_values.specs.Meaning.Acceptance.{IsChecked}
+use Rattle.adya_values.specs.Clauses.Acceptance.{IsChecked}
 use Rattle.adya_values.specs.Meaning.Edges.{Edge}
 use Rattle.adya_values.specs.Meaning.Events.{shown}
 use Rattle.adya_values.specs.Meaning.Histories.{Order}
@@ -18,12 +18,13 @@ use Rattle.ssi_recorder.specs.Laws.{CommitsAreListed}
 use Rattle.ssi_recorder.specs.Meaning.Recorded.{history_of_events, order_line}
 use Rattle.ssi_conflict.specs.Meaning.Calls.{Call}
 use Rattle.ssi_conflict.specs.Laws.{AbortsMakeNoPair}
-use Rattle.ssi_conflict.specs.Meaning.Pairs.{IsOrderedPivot, IsPair, IsPivot}
-use Rattle.snapshot_histories.specs.Meaning.Snapshots.{IsDangerous}
+use Rattle.ssi_conflict.specs.Clauses.Pairs.{IsOrderedPivot, IsPair, IsPivot}
+use Rattle.snapshot_histories.specs.Clauses.Snapshots.{IsDangerous}
 use Rattle.ssi_store.specs.Meaning.Acts.{Aborts, Act, acts, is_open, open_txns, begun}
 use Rattle.ssi_store.specs.Meaning.Courses.{Course}
-use Rattle.ssi_store.specs.Meaning.Coverage.{course_snapshot, IsCovered}
-use Rattle.ssi_store.specs.Meaning.Recording.{close, closed, dumped, events, finished}
+use Rattle.ssi_store.specs.Clauses.Coverage.{course_snapshot, IsCovered}
+use Rattle.ssi_store.specs.Meaning.Recording.{dumped, events}
+use Rattle.ssi_store.specs.Clauses.Finished.{close, closed, finished}
 use Rattle.ssi_store.specs.Meaning.Seeing.{commit_count, committed, keys, snapshot}
 use Rattle.ssi_store.specs.Meaning.Tracked.{tracked}
 use Rattle.ssi_store.proofs.ChangesAllowed.{open_there}

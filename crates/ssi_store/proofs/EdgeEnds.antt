@@ -4,12 +4,12 @@ use Rattle.std.proofs.lemmas.Bool.{and_parts}
 use Rattle.std.proofs.lemmas.Option.{none-some}
 use Rattle.lemmas.proofs.Booleans.{cond-positive}
 use Rattle.lemmas.proofs.Counts.{count_at}
-use Rattle.adya_values.specs.Meaning.Acceptance.{IsChecked}
+use Rattle.adya_values.specs.Clauses.Acceptance.{IsChecked}
 use Rattle.adya_values.specs.Meaning.Edges.{Depends, Kind, Rw, Wr, Ww}
 use Rattle.adya_values.specs.Meaning.Events.{is_committed}
 use Rattle.adya_values.specs.Meaning.Histories.{History}
 use Rattle.adya_values.specs.Meaning.Orders.{installer, writers}
-use Rattle.adya_values.specs.Meaning.Rules.{installs}
+use Rattle.adya_values.specs.Clauses.Rules.{installs}
 
 module _ (h : History) (checked : IsChecked h) where
   installer_committed : (k : List ℕ) (q u : ℕ) → installer h k q ≡ Some u → is_committed h.events u ≡ true

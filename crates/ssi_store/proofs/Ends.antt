@@ -4,7 +4,8 @@ use Rattle.indexmap.specs.IndexMap.{shift_remove_entry}
 use Rattle.adya_values.specs.Meaning.Keys.{key_eq}
 use Rattle.adya_values.specs.Meaning.Histories.{Event, Abort as Ended}
 use Rattle.ssi_conflict.specs.Computing.Steps.{smallest_ordered_pivot}
-use Rattle.ssi_conflict.specs.Meaning.Calls.{Call, IsAllowed, Aborts as Drops}
+use Rattle.ssi_conflict.specs.Meaning.Calls.{Call, Aborts as Drops}
+use Rattle.ssi_conflict.specs.Clauses.Allowed.{IsAllowed}
 use Rattle.ssi_store.specs.Meaning.Acts.{Aborts, acts}
 use Rattle.ssi_store.specs.Meaning.Courses.{Command, Command as Do, Answer, Aborted, Refused, Idle, Course, Then}
 use Rattle.ssi_store.specs.Meaning.Replies.{reply_for}

@@ -5,13 +5,14 @@ use Rattle.std.proofs.lemmas.List.{append-nil, append_assoc}
 use Rattle.adya_values.specs.Computing.Shapes.{numbers_rise}
 use Rattle.adya_values.specs.Meaning.Histories.{Event, History, Abort as Ended}
 use Rattle.adya_values.specs.declared.edition.Edition.TheVariants.{One, Two}
-use Rattle.snapshot_histories.specs.Meaning.Snapshots.{IsSafe}
-use Rattle.ssi_conflict.specs.Meaning.Pairs.{IsOrderedPivot}
+use Rattle.snapshot_histories.specs.Clauses.Snapshots.{IsSafe}
+use Rattle.ssi_conflict.specs.Clauses.Pairs.{IsOrderedPivot}
 use Rattle.ssi_recorder.specs.Meaning.Recorded.{history_of_events}
 use Rattle.ssi_store.specs.Meaning.Acts.{Aborts, Act, acts, is_open, open_txns, begun}
 use Rattle.ssi_store.specs.Meaning.Courses.{Course}
-use Rattle.ssi_store.specs.Meaning.Recording.{close, dumped, events, finished, snapshot_in, snapshots}
-use Rattle.ssi_store.specs.Meaning.Coverage.{IsCovered}
+use Rattle.ssi_store.specs.Meaning.Recording.{dumped, events}
+use Rattle.ssi_store.specs.Clauses.Finished.{close, finished}
+use Rattle.ssi_store.specs.Clauses.Coverage.{snapshot_in, snapshots, IsCovered}
 use Rattle.ssi_store.specs.Meaning.Seeing.{snapshot}
 use Rattle.ssi_store.specs.Mirror.Standing.{Parts, StandsFor}
 use Rattle.ssi_store.specs.Machinery.Opens.{Sessions}

@@ -4,9 +4,11 @@ use Rattle.std.proofs.lemmas.Bool.{cond-false, cond-true, le-leb, lt-leb}
 use Rattle.adya_values.specs.Meaning.Histories.{Event}
 use Rattle.adya_values.specs.Meaning.Events.{shown}
 use Rattle.ssi_versions.specs.Mirror.{chain_of}
-use Rattle.ssi_versions.specs.Meaning.Changes.{otherwise, entry_in, newest_within}
+use Rattle.ssi_versions.specs.Meaning.Changes.{otherwise, entry_in}
+use Rattle.ssi_versions.specs.Clauses.ByStamp.{newest_within}
 use Rattle.ssi_conflict.specs.Computing.Steps.{smallest_ordered_pivot}
-use Rattle.ssi_conflict.specs.Meaning.Calls.{Call, Reads, AreAllowed}
+use Rattle.ssi_conflict.specs.Meaning.Calls.{Call, Reads}
+use Rattle.ssi_conflict.specs.Clauses.Allowed.{AreAllowed}
 use Rattle.ssi_snapshot.specs.Mirror as View
 use Rattle.ssi_snapshot.specs.Mirror.{snapshot_of, own}
 use Rattle.ssi_store.specs.Meaning.Acts.{Act, Gets, acts, act_by, operations}

@@ -2,8 +2,8 @@
 use Rattle.std.proofs.Common.{List, Some, subst, take, true, ℕ, ◌∷◌, ◌≡◌, Bool}
 use Rattle.adya_values.specs.Meaning.Keys.{key_le}
 use Rattle.std.proofs.lemmas.Option.{none-some, same_Some}
-use Rattle.ssi_conflict.specs.Meaning.Calls.{AreAllowed}
-use Rattle.ssi_snapshot.specs.Meaning.Listings.{reached}
+use Rattle.ssi_conflict.specs.Clauses.Allowed.{AreAllowed}
+use Rattle.ssi_snapshot.specs.Meaning.Reached.{reached}
 use Rattle.ssi_store.specs.Meaning.Acts.{Act, Gets, Scans, is_open}
 use Rattle.ssi_store.specs.Meaning.Courses.{Command, Command as Do}
 use Rattle.ssi_store.specs.Laws.{judged}

@@ -4,9 +4,9 @@ use Rattle.std.proofs.lemmas.Bool.{cond-true, eq-eqb}
 use Rattle.std.proofs.lemmas.List.{length-map}
 use Rattle.std.proofs.lemmas.Option.{none-some, same_Some}
 use Rattle.adya_values.specs.Meaning.Events.{last}
-use Rattle.adya_values.specs.Meaning.Histories.{final_of}
+use Rattle.adya_values.specs.Mirror.Events.{final_of}
 use Rattle.adya_values.specs.declared.order.FinalPair.{FinalPair}
-use Rattle.ssi_snapshot.specs.Meaning.Listings.{key_or, reached}
+use Rattle.ssi_snapshot.specs.Meaning.Reached.{key_or, reached}
 
 row_at : (rs : List FinalPair) (k : ℕ) (r : FinalPair) → suc k ≡ length rs → slice_get rs k ≡ Some r
     → last (map final_of rs) ≡ Some (final_of r)

@@ -7,8 +7,9 @@ use Rattle.adya_values.specs.Meaning.Histories.{Entry, FinalPair, Scan as Listed
 use Rattle.adya_values.specs.Meaning.Serial.{visible_pairs}
 use Rattle.ssi_conflict.specs.Computing.Steps.{smallest_ordered_pivot}
 use Rattle.ssi_conflict.specs.Meaning.Calls.{Reads}
-use Rattle.ssi_snapshot.specs.Meaning.Listings as Listing
-use Rattle.ssi_snapshot.specs.Meaning.Listings.{IsListing, up_to, within, key_or, reached}
+use Rattle.ssi_snapshot.specs.Meaning.Reached as Listing
+use Rattle.ssi_snapshot.specs.Clauses.Listings.{IsListing, up_to, within}
+use Rattle.ssi_snapshot.specs.Meaning.Reached.{key_or, reached}
 use Rattle.ssi_snapshot.specs.Mirror as View
 use Rattle.ssi_store.specs.Meaning.Acts.{Scans, acts, operations}
 use Rattle.ssi_store.specs.Meaning.Courses.{Command as Do, Answer, Rows, Refused, Idle, Range, Long, Memory, Course, Then}

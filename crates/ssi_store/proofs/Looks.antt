@@ -3,8 +3,9 @@ use Rattle.std.proofs.Common.{List, None, Option, Some, ap, inl, option_map, ref
 use Rattle.std.proofs.lemmas.Option.{none-some, same_Some}
 use Rattle.adya_values.specs.Meaning.Histories.{Event}
 use Rattle.ssi_conflict.specs.Computing.Steps.{smallest_ordered_pivot}
-use Rattle.ssi_conflict.specs.Meaning.Calls.{Call, Reads, IsAllowed, AreAllowed}
-use Rattle.ssi_conflict.specs.Meaning.Pairs.{IsOrderedPivot, IsSmallest}
+use Rattle.ssi_conflict.specs.Meaning.Calls.{Call, Reads}
+use Rattle.ssi_conflict.specs.Clauses.Allowed.{IsAllowed, AreAllowed}
+use Rattle.ssi_conflict.specs.Clauses.Pairs.{IsOrderedPivot, IsSmallest}
 use Rattle.ssi_conflict.specs.declared.answer.Answer.{Answer as Judged}
 use Rattle.ssi_conflict.specs.declared.answer.Answer.TheVariants.{Safe as Clear, Unsafe as Pivot}
 use Rattle.ssi_snapshot.specs.Mirror.{txn_of}

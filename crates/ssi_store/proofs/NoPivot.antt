@@ -3,7 +3,7 @@ use Rattle.ssi_store.proofs.SoundCourses.{Stands}
 use Rattle.ssi_store.specs.Meaning.Courses.{Course}
 use Rattle.std.proofs.Common.{List, None, Option, Some, [], refl, subst, ℕ, ◌∷◌, ◌≡◌}
 use Rattle.ssi_conflict.specs.Meaning.Calls.{Call}
-use Rattle.ssi_conflict.specs.Meaning.Pairs.{IsSmallest}
+use Rattle.ssi_conflict.specs.Clauses.Pairs.{IsSmallest}
 use Rattle.ssi_store.specs.Meaning.Acts.{Aborts, Act, Collects, Commits, Gets, Scans, Begins, Writes, acts}
 use Rattle.ssi_store.specs.Meaning.Seeing.{commit_count}
 use Rattle.ssi_store.specs.Meaning.Tracked.{tracked}

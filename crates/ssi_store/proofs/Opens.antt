@@ -5,9 +5,9 @@ use Rattle.lemmas.proofs.Orderings.{bytes_eq-same}
 use Rattle.adya_values.specs.Meaning.Keys.{key_eq}
 use Rattle.adya_values.specs.Meaning.Histories.{Content, Entry}
 use Rattle.adya_values.specs.Meaning.Events.{version, entry, listed}
-use Rattle.ssi_snapshot.specs.Meaning.Listings.{keys}
+use Rattle.ssi_snapshot.specs.Clauses.Listings.{keys}
 use Rattle.ssi_snapshot.specs.Mirror.{txn_of, snapshot_of, written, own}
-use Rattle.ssi_snapshot.specs.Meaning.Writes.{mod_of, next_mod, next_write, put_write}
+use Rattle.ssi_snapshot.specs.Clauses.Writes.{mod_of, next_mod, next_write, put_write}
 use Rattle.ssi_store.specs.Meaning.Acts.{Act, Begins, Writes, Gets, Scans, Commits, Aborts, Collects, has_begun, is_open, operations}
 use Rattle.ssi_store.specs.Meaning.Seeing.{commit_count, snapshot, write_count, own_write, own_keys, wrote}
 use Rattle.ssi_store.specs.Machinery.Below.{Below}

@@ -11,9 +11,10 @@ use Rattle.adya_values.specs.declared.event.Version.{Version}
 use Rattle.adya_values.specs.declared.event.Content.{Content}
 use Rattle.adya_values.proofs.Keys.{keys_rise-tail}
 use Rattle.adya_values.specs.Meaning.Keys.{key_le, key_lt, keys_rise}
-use Rattle.ssi_versions.specs.Meaning.Changes.{Held, held, newest, is_installed_above, last_version, is_above}
+use Rattle.ssi_versions.specs.Meaning.Changes.{Held, held, is_installed_above, last_version}
+use Rattle.ssi_versions.specs.Clauses.ByStamp.{newest, is_above}
 use Rattle.ssi_versions.specs.Mirror.{chain_of, write_of}
-use Rattle.ssi_snapshot.specs.Meaning.Listings.{keys as listed_keys}
+use Rattle.ssi_snapshot.specs.Clauses.Listings.{keys as listed_keys}
 use Rattle.ssi_store.specs.Meaning.Acts.{Act}
 use Rattle.ssi_store.specs.Meaning.Replies.{conflict, is_overtaken, last_writer, writer_in}
 use Rattle.ssi_store.specs.Meaning.Seeing.{changed, keys, own_keys, snapshot, wrote}

@@ -6,9 +6,10 @@ use Rattle.std.proofs.lemmas.Option.{none-some}
 use Rattle.lemmas.proofs.Tests.{list_any-source, list_any_when}
 use Rattle.adya_values.specs.Computing.Shapes.{numbers_rise}
 use Rattle.ssi_conflict.specs.Computing.Steps.{is_earlier, is_no_later, is_ordered_pivot, is_pair, is_pivot, smallest_ordered_pivot, smallest_pivot}
-use Rattle.ssi_conflict.specs.Meaning.Calls.{Aborts, AreAllowed, Begins, Call, begun, stamp_of}
+use Rattle.ssi_conflict.specs.Meaning.Calls.{Aborts, Begins, Call, begun, stamp_of}
+use Rattle.ssi_conflict.specs.Clauses.Allowed.{AreAllowed}
 use Rattle.ssi_conflict.specs.Laws.{AbortsMakeNoPair, BeginsMakeNoPair, OrderedPivotsAreNamed, PivotsAreNamed}
-use Rattle.ssi_conflict.specs.Meaning.Pairs.{IsOrderedPivot, IsPivot, IsSmallest}
+use Rattle.ssi_conflict.specs.Clauses.Pairs.{IsOrderedPivot, IsPivot, IsSmallest}
 use Rattle.adya_values.proofs.RisingNumbers.{first_no_later}
 
 -- whatever was called, a pivot of the commit-order rule is one of the two-pair rule

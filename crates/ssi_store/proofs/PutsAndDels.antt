@@ -5,10 +5,11 @@ use Rattle.adya_values.specs.Meaning.Histories.{Content, Live, Dead, Event}
 use Rattle.ssi_conflict.specs.Computing.Steps.{smallest_ordered_pivot}
 use Rattle.ssi_snapshot.specs.Mirror.{snapshot_of}
 use Rattle.ssi_snapshot.specs.Mirror as View
-use Rattle.ssi_snapshot.specs.Meaning.Writes.{next_mod, next_write, put_write}
+use Rattle.ssi_snapshot.specs.Clauses.Writes.{next_mod, next_write, put_write}
 use Rattle.ssi_store.specs.Meaning.Acts.{Writes, acts, act_by}
 use Rattle.ssi_store.specs.Mirror.Commands.{written}
-use Rattle.ssi_store.specs.Meaning.Courses.{Answer, Done, Refused, Idle, Long, Memory, Course, Then, is_proper, txn_in, txn_for, next_txn}
+use Rattle.ssi_store.specs.Meaning.Courses.{Answer, Done, Refused, Idle, Long, Memory, Course, Then, txn_in, txn_for, next_txn}
+use Rattle.ssi_store.specs.Clauses.Following.{is_proper}
 use Rattle.ssi_store.specs.Meaning.Replies.{reply, reply_for, unless_long, may_run_out_of_memory}
 use Rattle.ssi_store.specs.Meaning.Recording.{events, write_event}
 use Rattle.ssi_store.specs.Mirror.Standing.{Parts, StandsFor}

@@ -11,7 +11,7 @@ use Rattle.adya_values.specs.Meaning.Keys.{key_le, key_lt, keys_rise, lies_in}
 use Rattle.adya_values.specs.Meaning.Serial.{visible_pair_of, visible_pairs}
 use Rattle.adya_values.proofs.Keys.{keys_rise-tail}
 use Rattle.adya_values.proofs.Writes.{last_contained}
-use Rattle.ssi_snapshot.specs.Meaning.Listings.{key_or, reached}
+use Rattle.ssi_snapshot.specs.Meaning.Reached.{key_or, reached}
 use Rattle.ssi_store.specs.Meaning.Acts.{Act}
 use Rattle.ssi_store.specs.Meaning.Replies.{rows}
 use Rattle.ssi_store.specs.Meaning.Seeing.{keys, scanned, sees}

@@ -12,12 +12,14 @@ use Rattle.adya_values.specs.Meaning.Serial.{visible_pair_of, visible_pairs}
 use Rattle.ssi_versions.specs.Meaning.Changes.{held_count, key_count}
 use Rattle.ssi_conflict.specs.Meaning.Calls.{Call}
 use Rattle.ssi_conflict.specs.Meaning.Kept.{kept_count, open_count}
-use Rattle.ssi_snapshot.specs.Meaning.Listings.{reached}
+use Rattle.ssi_snapshot.specs.Meaning.Reached.{reached}
 use Rattle.ssi_store.specs.Meaning.Acts.{Act, Act as Do, act_by, acts, is_open, operations}
-use Rattle.ssi_store.specs.Meaning.Courses.{Aborted, Answer, Begun, Busy, Command, Command as Go, Committed, Conflict, Counts, Course, Done, Idle, Kept, Long, Memory, New, Range, Refusal, Refused, Rows, Spent, Then, Unsafe, is_proper, next_txn, txn_for}
+use Rattle.ssi_store.specs.Meaning.Courses.{Aborted, Answer, Begun, Busy, Command, Command as Go, Committed, Conflict, Counts, Course, Done, Idle, Kept, Long, Memory, New, Range, Refusal, Refused, Rows, Spent, Then, Unsafe, next_txn, txn_for}
+use Rattle.ssi_store.specs.Clauses.Following.{is_proper, Follows}
 use Rattle.ssi_store.specs.Meaning.Faces.{Face, Face as Seen, face_by, face_of, faces}
-use Rattle.ssi_store.specs.Meaning.Recording.{close, events, get_event, get_found, recorded}
-use Rattle.ssi_store.specs.Meaning.Replies.{Follows, conflict, got, last_writer, reply_for, reply_idle, reply_in, rows, unless_conflict, unless_downward, unless_long, unless_pivot}
+use Rattle.ssi_store.specs.Meaning.Recording.{events, get_event, get_found, recorded}
+use Rattle.ssi_store.specs.Clauses.Finished.{close}
+use Rattle.ssi_store.specs.Meaning.Replies.{conflict, got, last_writer, reply_for, reply_idle, reply_in, rows, unless_conflict, unless_downward, unless_long, unless_pivot}
 use Rattle.ssi_store.specs.Meaning.Seeing.{changed, sees}
 use Rattle.ssi_store.specs.Meaning.Tracked.{tracked}
 use Rattle.ssi_store.proofs.ReachedKeys.{limited_rows}

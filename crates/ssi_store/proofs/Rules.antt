@@ -12,7 +12,7 @@ use Rattle.lemmas.proofs.Orderings.{bytes_eq-itself, bytes_eq-same}
 use Rattle.adya_values.specs.Meaning.Events.{entry, last_write, listed, observed, txn_of, writes_of, written}
 use Rattle.adya_values.specs.Meaning.Histories.{Abort, Commit, Content, Dead, Delete, Entry, Event, Live, Read, Scan, Write}
 use Rattle.adya_values.specs.Meaning.Keys.{key_eq, key_le, lies_in}
-use Rattle.adya_values.specs.Meaning.Rules.{EachAfter, IsNumbered, IsOpen, IsRising, ListsOnly, SeesOwnWrites, WasWritten}
+use Rattle.adya_values.specs.Clauses.Rules.{EachAfter, IsNumbered, IsOpen, IsRising, ListsOnly, SeesOwnWrites, WasWritten}
 use Rattle.adya_values.proofs.KeyLookups.{listed_from}
 use Rattle.ssi_versions.specs.Meaning.Changes.{otherwise}
 use Rattle.ssi_store.specs.Meaning.Acts.{Aborts, Act, Collects, Commits, Gets, Scans, Begins, Writes, has_committed, has_begun}

@@ -7,8 +7,9 @@ use Rattle.adya_values.specs.Meaning.Keys.{key_le, key_lt, lies_in}
 use Rattle.adya_values.specs.Meaning.Histories.{Entry, FinalPair, Scan as Listed}
 use Rattle.adya_values.specs.Meaning.Serial.{visible_pairs}
 use Rattle.ssi_conflict.specs.Computing.Steps.{smallest_ordered_pivot}
-use Rattle.ssi_conflict.specs.Meaning.Calls.{Reads, AreAllowed}
-use Rattle.ssi_snapshot.specs.Meaning.Listings.{IsListing, within}
+use Rattle.ssi_conflict.specs.Meaning.Calls.{Reads}
+use Rattle.ssi_conflict.specs.Clauses.Allowed.{AreAllowed}
+use Rattle.ssi_snapshot.specs.Clauses.Listings.{IsListing, within}
 use Rattle.ssi_snapshot.specs.Mirror as View
 use Rattle.ssi_store.specs.Meaning.Acts.{Act, Scans, acts, operations}
 use Rattle.ssi_store.specs.Meaning.Courses.{Command as Do, Answer, Rows, Refused, Idle, Range, Long, Memory, Course, Then, txn_in}

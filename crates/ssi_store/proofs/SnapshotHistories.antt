@@ -4,7 +4,7 @@ use Rattle.std.proofs.Common.{List, None, Option, Some, ap, arith, false, inl, i
 use Rattle.std.proofs.lemmas.Bool.{and_from, and_parts, cases_Bool, cond-false, cond-true, eq-eqb, leb-true, lt-leb, ne_eqb, not-true, not_from_false}
 use Rattle.std.proofs.lemmas.Option.{cond_some, none-some, same_Some}
 use Rattle.lemmas.proofs.Counts.{count_at}
-use Rattle.adya_values.specs.Meaning.Acceptance.{IsChecked}
+use Rattle.adya_values.specs.Clauses.Acceptance.{IsChecked}
 use Rattle.adya_values.specs.Meaning.Edges.{Depends, DependsByOverwrite, Edge, Kind, Rw, Wr, Ww}
 use Rattle.adya_values.specs.Meaning.Events.{entry, is_committed, listed, txn_of}
 use Rattle.adya_values.specs.Meaning.Histories.{Abort, Commit, Delete, Entry, Event, History, Live, Read, Scan, Write}
@@ -13,9 +13,9 @@ use Rattle.adya_values.specs.Meaning.Orders.{installer, place, writers}
 use Rattle.adya_values.specs.Meaning.Selections.{place_of, selected}
 use Rattle.adya_values.specs.declared.edition.Edition.{Edition}
 use Rattle.adya_values.proofs.Places.{place_get}
-use Rattle.ssi_conflict.specs.Meaning.Calls.{snapshot_of}
-use Rattle.ssi_conflict.specs.Meaning.Pairs.{IsAtMost, IsOrderedPivot, IsPair, IsPivot, is_at_or_below, precedes}
-use Rattle.snapshot_histories.specs.Meaning.Snapshots.{AreConcurrent, IsDangerous, IsNewestWithin, IsSnapshotHistory, stamp_in}
+use Rattle.ssi_conflict.specs.Meaning.Calls.{snapshot_of, is_at_or_below, precedes}
+use Rattle.ssi_conflict.specs.Clauses.Pairs.{IsAtMost, IsOrderedPivot, IsPair, IsPivot}
+use Rattle.snapshot_histories.specs.Clauses.Snapshots.{AreConcurrent, IsDangerous, IsNewestWithin, IsSnapshotHistory, stamp_in}
 use Rattle.ssi_store.specs.Meaning.Acts.{Act, has_committed, has_begun}
 use Rattle.ssi_store.specs.Meaning.Recording.{events}
 use Rattle.ssi_store.specs.Meaning.Seeing.{committed, snapshot}

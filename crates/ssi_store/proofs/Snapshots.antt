@@ -7,11 +7,10 @@ use Rattle.adya_values.specs.Computing.Shapes.{numbers_rise}
 use Rattle.adya_values.specs.Meaning.Edges.{Edge}
 use Rattle.adya_values.specs.Meaning.Events.{txn_of}
 use Rattle.adya_values.specs.Meaning.Histories.{History}
-use Rattle.snapshot_histories.specs.Meaning.Snapshots.{AreConcurrent, IsDangerous, IsNewestWithin, IsSnapshotHistory}
+use Rattle.snapshot_histories.specs.Clauses.Snapshots.{AreConcurrent, IsDangerous, IsNewestWithin, IsSnapshotHistory}
 use Rattle.ssi_store.specs.Meaning.Acts.{Aborts, Act, Commits, Gets, Scans, Begins, acts, has_begun, begun}
 use Rattle.ssi_store.specs.Meaning.Courses.{Course}
-use Rattle.ssi_store.specs.Meaning.Coverage.{course_snapshot}
-use Rattle.ssi_store.specs.Meaning.Recording.{snapshot_in}
+use Rattle.ssi_store.specs.Clauses.Coverage.{course_snapshot, snapshot_in}
 use Rattle.ssi_store.specs.Meaning.Seeing.{commit_count, snapshot}
 use Rattle.ssi_store.specs.Meaning.Tracked.{tracked}
 use Rattle.ssi_conflict.proofs.Begun.{begun_rise as told_rise, there_begun as told_there}

@@ -7,10 +7,11 @@ use Rattle.adya_values.specs.Meaning.Events.{shown}
 use Rattle.adya_values.specs.Meaning.Histories.{Dead, FinalPair, Live}
 use Rattle.adya_values.specs.Meaning.Keys.{key_eq, key_le, key_lt}
 use Rattle.ssi_conflict.specs.Meaning.Calls.{Call}
-use Rattle.ssi_snapshot.specs.Meaning.Listings.{reached}
+use Rattle.ssi_snapshot.specs.Meaning.Reached.{reached}
 use Rattle.ssi_store.specs.Meaning.Acts.{Aborts, Act, Collects, Commits, Gets, Scans, Begins, Writes, act_by, act_of, acts, has_aborted, has_committed, has_begun, is_open, operations}
 use Rattle.ssi_store.specs.Meaning.Courses.{Aborted, Absent, Answer, Begun, Busy, Command, Command as Do, Committed, Conflict, Counts, Course, Done, Idle, Kept, Long, Memory, New, Range, Refusal, Refused, Rows, Spent, Then, Unsafe, Value, is_of, next_txn, txn_after, txn_for, txn_in}
-use Rattle.ssi_store.specs.Meaning.Replies.{Follows, conflict, got, last_writer, reply_for, reply_idle, reply_in, rows, unless_conflict, unless_downward, unless_long, unless_pivot}
+use Rattle.ssi_store.specs.Meaning.Replies.{conflict, got, last_writer, reply_for, reply_idle, reply_in, rows, unless_conflict, unless_downward, unless_long, unless_pivot}
+use Rattle.ssi_store.specs.Clauses.Following.{Follows}
 use Rattle.ssi_store.specs.Meaning.Seeing.{sees}
 use Rattle.ssi_store.specs.Meaning.Tracked.{tracked}
 use Rattle.ssi_store.proofs.Closing.{open_to}

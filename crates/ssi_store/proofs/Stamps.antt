@@ -11,7 +11,7 @@ use Rattle.adya_values.specs.Meaning.Orders.{place}
 use Rattle.adya_values.specs.declared.edition.Edition.{Edition}
 use Rattle.adya_values.proofs.Places.{place_at, place_other, place_same}
 use Rattle.ssi_versions.specs.Meaning.Changes.{is_installed_above}
-use Rattle.snapshot_histories.specs.Meaning.Snapshots.{stamp_in}
+use Rattle.snapshot_histories.specs.Clauses.Snapshots.{stamp_in}
 use Rattle.ssi_store.specs.Meaning.Acts.{Aborts, Act, Collects, Commits, Gets, Scans, Begins, Writes, has_committed, has_begun}
 use Rattle.ssi_store.specs.Meaning.Replies.{is_overtaken}
 use Rattle.ssi_store.specs.Meaning.Seeing.{changed, commit_count, committed, keys, last_writes, own_write, snapshot, wrote}

@@ -7,7 +7,8 @@ use Rattle.lemmas.proofs.Orderings.{bytes_eq-from, bytes_eq-same}
 use Rattle.adya_values.specs.Meaning.Keys.{key_eq}
 use Rattle.ssi_conflict.specs.Computing.Steps.{smallest_ordered_pivot}
 use Rattle.ssi_store.specs.Meaning.Acts.{Act, acts, act_by, act_of}
-use Rattle.ssi_store.specs.Meaning.Courses.{Command, Command as Do, Answer, Refused, Refusal, Course, Then, is_of, is_proper, txn_in, txn_after, txn_for, next_txn}
+use Rattle.ssi_store.specs.Meaning.Courses.{Command, Command as Do, Answer, Refused, Refusal, Course, Then, is_of, txn_in, txn_after, txn_for, next_txn}
+use Rattle.ssi_store.specs.Clauses.Following.{is_proper}
 use Rattle.ssi_store.specs.Meaning.Replies.{IsAnswer, reply, may_run_out_of_memory}
 use Rattle.ssi_store.specs.Mirror.Standing.{Parts, IsLog, StandsFor}
 use Rattle.ssi_store.specs.Machinery.Opens.{Sessions, open_at, number_of, IsOpen, IsSameOpen, IsCounted, IsReplaced}

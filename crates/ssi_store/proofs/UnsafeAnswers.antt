@@ -8,12 +8,13 @@ use Rattle.adya_values.specs.Meaning.Histories.{FinalPair}
 use Rattle.adya_values.specs.Meaning.Keys.{key_le, key_lt}
 use Rattle.ssi_conflict.specs.Computing.Steps.{smallest_ordered_pivot, smallest_pivot}
 use Rattle.ssi_conflict.specs.Meaning.Calls.{Call}
-use Rattle.ssi_conflict.specs.Meaning.Pairs.{IsSmallest}
-use Rattle.ssi_snapshot.specs.Meaning.Listings.{reached}
+use Rattle.ssi_conflict.specs.Clauses.Pairs.{IsSmallest}
+use Rattle.ssi_snapshot.specs.Meaning.Reached.{reached}
 use Rattle.ssi_store.specs.Meaning.Acts.{Act, Commits, Gets, Scans, acts, is_open, operations, begun}
 use Rattle.ssi_store.specs.Meaning.Courses.{Answer, Begun, Command, Command as Do, Committed, Course, Done, Long, Range, Refusal, Refused, Rows, Spent, Unsafe, next_txn, txn_for}
 use Rattle.ssi_store.specs.Laws.{OrderedRefusesNoMore, WouldStand, judged}
-use Rattle.ssi_store.specs.Meaning.Replies.{Follows, conflict, got, reply, reply_for, reply_idle, reply_in, rows, scan_answer, unless_conflict, unless_downward, unless_long, unless_pivot}
+use Rattle.ssi_store.specs.Meaning.Replies.{conflict, got, reply, reply_for, reply_idle, reply_in, rows, scan_answer, unless_conflict, unless_downward, unless_long, unless_pivot}
+use Rattle.ssi_store.specs.Clauses.Following.{Follows}
 use Rattle.ssi_store.specs.Meaning.Seeing.{sees}
 use Rattle.ssi_store.specs.Meaning.Tracked.{tracked}
 use Rattle.adya_values.proofs.KeyOrder.{key_le-from_not}

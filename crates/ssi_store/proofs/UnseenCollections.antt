@@ -9,7 +9,7 @@ use Rattle.adya_values.specs.Meaning.Keys.{key_eq, lies_in}
 use Rattle.adya_values.specs.Meaning.Serial.{visible_pairs}
 use Rattle.ssi_versions.specs.Meaning.Changes.{contents, entry_in, is_installed_above, last_version, otherwise, stamped}
 use Rattle.ssi_conflict.specs.Meaning.Calls.{Aborts as Drops, Begins as Enters, Call, Commits as Ends, Reads}
-use Rattle.ssi_snapshot.specs.Meaning.Listings.{reached}
+use Rattle.ssi_snapshot.specs.Meaning.Reached.{reached}
 use Rattle.ssi_store.specs.Meaning.Acts.{Aborts, Act, Collects, Commits, Gets, Scans, Begins, Writes, operations}
 use Rattle.ssi_store.specs.Meaning.Courses.{Answer, Command, Command as Do, Committed, Long, Refused, Rows}
 use Rattle.ssi_store.specs.Laws.{is_count, uncollected}

@@ -11,7 +11,8 @@ use Rattle.adya_values.specs.Computing.Faults.{first_fault}
 use Rattle.ssi_conflict.specs.Computing.Steps.{smallest_ordered_pivot, smallest_pivot}
 use Rattle.ssi_conflict.specs.Meaning.Calls.{Call}
 use Rattle.ssi_store.specs.Meaning.Courses.{Answer, Answer as Say, Busy, Command, Command as Do, Course, Idle, New, Range, Spent, Then}
-use Rattle.ssi_store.specs.Meaning.Recording.{dumped, finished}
+use Rattle.ssi_store.specs.Meaning.Recording.{dumped}
+use Rattle.ssi_store.specs.Clauses.Finished.{finished}
 use Rattle.ssi_store.specs.Meaning.Replies.{reply}
 
 -- commands of a session

@@ -5,19 +5,24 @@ use Rattle.adya_values.specs.Meaning.Events.{listed}
 use Rattle.adya_values.specs.Meaning.Keys.{Key, Bytes, key_le, keys_rise, lies_in}
 use Rattle.adya_values.specs.Meaning.Histories.{Entry}
 use Rattle.adya_values.specs.Computing.Shapes.{numbers_rise}
-use Rattle.ssi_conflict.specs.Meaning.Calls.{Call, AreAllowed}
-use Rattle.ssi_conflict.specs.Meaning.Pairs.{IsPivot, IsOrderedPivot, IsSmallest}
+use Rattle.ssi_conflict.specs.Meaning.Calls.{Call}
+use Rattle.ssi_conflict.specs.Clauses.Allowed.{AreAllowed}
+use Rattle.ssi_conflict.specs.Clauses.Pairs.{IsPivot, IsOrderedPivot, IsSmallest}
 use Rattle.ssi_conflict.specs.Computing.Steps.{smallest_pivot, smallest_ordered_pivot}
-use Rattle.ssi_versions.specs.Meaning.Changes.{contents, held, newest_within, AreInstallable, IsProtected}
+use Rattle.ssi_versions.specs.Meaning.Changes.{contents, held}
+use Rattle.ssi_versions.specs.Clauses.ByStamp.{newest_within}
+use Rattle.ssi_versions.specs.Clauses.Conditions.{AreInstallable, IsProtected}
 use Rattle.ssi_store.specs.Meaning.Courses.{Command, Get, Scan, ScanFirst, Commit, Collect, Stat, Course, Unsafe, txn_for, txn_in, next_txn}
-use Rattle.ssi_snapshot.specs.Meaning.Listings.{reached}
+use Rattle.ssi_snapshot.specs.Meaning.Reached.{reached}
 use Rattle.ssi_store.specs.Meaning.Acts.{Act, Gets, Scans, Commits, Collects, acts, is_open, has_begun, begun, open_txns}
 use Rattle.ssi_store.specs.Meaning.Seeing.{snapshot, changed, sees, scanned}
 use Rattle.ssi_store.specs.Meaning.Tracked.{tracked}
-use Rattle.ssi_store.specs.Meaning.Replies.{rows, reply_in, reply, Follows, is_overtaken, conflict}
-use Rattle.ssi_store.specs.Meaning.Recording.{finished, dumped}
+use Rattle.ssi_store.specs.Meaning.Replies.{rows, reply_in, reply, is_overtaken, conflict}
+use Rattle.ssi_store.specs.Clauses.Following.{Follows}
+use Rattle.ssi_store.specs.Meaning.Recording.{dumped}
+use Rattle.ssi_store.specs.Clauses.Finished.{finished}
 use Rattle.ssi_store.specs.Meaning.Faces.{Records, RecordsSoFar}
-use Rattle.ssi_store.specs.Meaning.Coverage.{IsCovered}
+use Rattle.ssi_store.specs.Clauses.Coverage.{IsCovered}
 
 -- by the two-pair rule, when the course is over
 abbrev pub FinishedAreCovered : Type 0

@@ -6,7 +6,6 @@
 -- Replies: the answer to each command.
 -- Recording: what is recorded of each act, and the history of a course.
 -- Faces: when a history records a course.
--- Coverage: what the history of a course is, by a rule whose pivots never stand.
 -- Sessions: the names of sessions.
 pub mod Courses
 pub mod Acts
@@ -15,5 +14,4 @@ pub mod Tracked
 pub mod Replies
 pub mod Recording
 pub mod Faces
-pub mod Coverage
 pub mod Sessions

@@ -3,7 +3,7 @@
 ghost use Rattle.std.specs.Prelude.{◌≡◌, ◌<◌, ◌≤◌, ◌+◌, [], true};
 ghost use Rattle.indexmap.specs.IndexMap.{index_map_len};
 ghost use Rattle.ssi_versions.specs.Mirror.{IsAbove};
-ghost use Rattle.ssi_reads.specs.Meaning.Marks.{IsEmpty};
+ghost use Rattle.ssi_reads.specs.Clauses.Marks.{IsEmpty};
 ghost use Rattle.ssi_recorder.specs.Mirror.{places_of};
 ghost use Rattle.ssi_conflict.specs.Computing.Steps.{smallest_ordered_pivot};
 ghost use Rattle.ssi_store.specs.Machinery.Rosters.{AreBelow};

@@ -1,12 +1,13 @@
 //! What remains of a store: its history, and the snapshots of its transactions.
 
 ghost use Rattle.std.specs.Prelude.{◌≡◌, IfOk, IfErr};
-ghost use Rattle.snapshot_histories.specs.Meaning.Snapshots.{IsSafe};
-ghost use Rattle.adya_values.specs.Mirror.{history_of};
-ghost use Rattle.ssi_conflict.specs.Meaning.Pairs.{IsOrderedPivot};
-ghost use Rattle.ssi_store.specs.Meaning.Recording.{finished, dumped, snapshots, snapshot_in};
+ghost use Rattle.snapshot_histories.specs.Clauses.Snapshots.{IsSafe};
+ghost use Rattle.adya_values.specs.Mirror.Histories.{history_of};
+ghost use Rattle.ssi_conflict.specs.Clauses.Pairs.{IsOrderedPivot};
+ghost use Rattle.ssi_store.specs.Meaning.Recording.{dumped};
+ghost use Rattle.ssi_store.specs.Clauses.Finished.{finished};
+ghost use Rattle.ssi_store.specs.Clauses.Coverage.{snapshots, snapshot_in, IsCovered};
 ghost use Rattle.ssi_store.specs.Meaning.Faces.{Records, RecordsSoFar};
-ghost use Rattle.ssi_store.specs.Meaning.Coverage.{IsCovered};
 
 use crate::engine::Engine;
 use crate::laws::{courses_are_recorded, dumped_are_covered, finished_are_covered};

@@ -2,7 +2,7 @@
 
 ghost use Rattle.std.specs.Prelude.{◌≡◌, IfOk};
 ghost use Rattle.adya_values.specs.Meaning.Events.{shown};
-ghost use Rattle.adya_values.specs.Meaning.Histories.{event_of};
+ghost use Rattle.adya_values.specs.Mirror.Events.{event_of};
 ghost use Rattle.ssi_snapshot.specs.Mirror.{sees, txn_of};
 ghost use Rattle.ssi_store.specs.Mirror.Commands.{reply_of};
 ghost use Rattle.ssi_store.specs.Meaning.Recording.{get_event};

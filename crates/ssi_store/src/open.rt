@@ -1,9 +1,9 @@
 //! The open transaction of a session.
 
 ghost use Rattle.std.specs.Prelude.{◌≡◌, ◌≤◌, ◌<◌, [], suc, OnOk, OnErr, IfOk, IfErr};
-ghost use Rattle.adya_values.specs.Meaning.Histories.{content_of};
+ghost use Rattle.adya_values.specs.Mirror.Events.{content_of};
 ghost use Rattle.ssi_snapshot.specs.Mirror.{count_of, txn_of, snapshot_of, written};
-ghost use Rattle.ssi_snapshot.specs.Meaning.Writes.{next_mod, next_write, put_write};
+ghost use Rattle.ssi_snapshot.specs.Clauses.Writes.{next_mod, next_write, put_write};
 ghost use Rattle.ssi_store.specs.declared.command.Refusal.TheVariants.{Long};
 
 use crate::Refusal;

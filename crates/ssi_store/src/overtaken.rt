@@ -3,7 +3,7 @@
 
 ghost use Rattle.std.specs.Prelude.{◌≡◌, Some, None, if◌then◌else◌, map, option_map, IfSome};
 ghost use Rattle.ssi_versions.specs.Mirror.{write_of};
-ghost use Rattle.ssi_snapshot.specs.Meaning.Listings.{keys};
+ghost use Rattle.ssi_snapshot.specs.Clauses.Listings.{keys};
 ghost use Rattle.ssi_store.specs.Machinery.Overtaken.{is_passed, passed_by, key_of, lesser, IsLeast};
 
 use adya_values::{Content, Key, Txn, Version};

@@ -1,10 +1,10 @@
 //! Scan and limited scan.
 
 ghost use Rattle.std.specs.Prelude.{◌≡◌, ◌++◌, ◌∷◌, [], map, IfOk, OnOk};
-ghost use Rattle.adya_values.specs.Meaning.Histories.{entry_of, final_of};
+ghost use Rattle.adya_values.specs.Mirror.Events.{entry_of, final_of};
 ghost use Rattle.adya_values.specs.Meaning.Serial.{visible_pairs};
 ghost use Rattle.std.specs.Int.NonZero.{non_zero_u16_get};
-ghost use Rattle.ssi_snapshot.specs.Meaning.Listings.{reached};
+ghost use Rattle.ssi_snapshot.specs.Meaning.Reached.{reached};
 
 use crate::below::laws_below;
 use crate::engine::Engine;

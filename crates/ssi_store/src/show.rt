@@ -1,7 +1,7 @@
 //! What a get and both kinds of scans do with what they have found.
 
 ghost use Rattle.std.specs.Prelude.{◌∷◌, [], ℕ, ◌<◌, IfSome};
-ghost use Rattle.adya_values.specs.Meaning.Histories.{event_of};
+ghost use Rattle.adya_values.specs.Mirror.Events.{event_of};
 ghost use Rattle.ssi_conflict.specs.Meaning.Calls.{Reads};
 ghost use Rattle.ssi_store.specs.Mirror.Commands.{reply_of};
 

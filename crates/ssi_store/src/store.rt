@@ -1,8 +1,8 @@
 //! The store.
 
 ghost use Rattle.std.specs.Prelude.{◌≡◌, [], IfOk, IfErr};
-ghost use Rattle.ssi_reads.specs.Meaning.Marks.{IsEmpty};
-ghost use Rattle.ssi_conflict.specs.Meaning.Pairs.{IsOrderedPivot};
+ghost use Rattle.ssi_reads.specs.Clauses.Marks.{IsEmpty};
+ghost use Rattle.ssi_conflict.specs.Clauses.Pairs.{IsOrderedPivot};
 ghost use Rattle.ssi_conflict.specs.Computing.Steps.{smallest_ordered_pivot};
 ghost use Rattle.ssi_store.specs.Mirror.Standing.{HasCourse};
 
@@ -30,9 +30,10 @@ impl<C: Chains + Drop, M: Marks + Drop> Store<C, M> {
     ghost use Rattle.ssi_store.specs.Meaning.Courses.{Course, New};
     ghost use Rattle.ssi_store.specs.Meaning.Replies.{IsAnswer};
     ghost use Rattle.ssi_store.specs.Mirror.Commands.{command_of, answer_of};
-    ghost use Rattle.ssi_store.specs.Meaning.Recording.{finished, dumped, snapshots};
+    ghost use Rattle.ssi_store.specs.Meaning.Recording.{dumped};
+    ghost use Rattle.ssi_store.specs.Clauses.Finished.{finished};
+    ghost use Rattle.ssi_store.specs.Clauses.Coverage.{snapshots, IsCovered};
     ghost use Rattle.ssi_store.specs.Meaning.Faces.{Records, RecordsSoFar};
-    ghost use Rattle.ssi_store.specs.Meaning.Coverage.{IsCovered};
     ghost use Rattle.ssi_store.specs.Mirror.Finished.{recorded_in, snapshots_in};
     ghost use Rattle.ssi_store.specs.Mirror.Stores.{IsAt, GoesOn};
 

@@ -1,7 +1,7 @@
 //! Put and del.
 
 ghost use Rattle.std.specs.Prelude.{◌≡◌};
-ghost use Rattle.adya_values.specs.Meaning.Histories.{event_of, content_of};
+ghost use Rattle.adya_values.specs.Mirror.Events.{event_of, content_of};
 ghost use Rattle.ssi_store.specs.Meaning.Recording.{write_event as recorded_write};
 
 use crate::below::laws_below;

@@ -10,7 +10,9 @@ use Rattle.adya_values.specs.declared.event.Content.{Content}
 use Rattle.adya_values.specs.Meaning.Keys.{key_eq}
 use Rattle.adya_values.specs.Meaning.Histories.{Entry}
 use Rattle.adya_values.specs.Meaning.Events.{listed}
-use Rattle.ssi_versions.specs.Meaning.Changes.{Held, otherwise, newest, newest_within, listing, stamped, IsByStamp, AreApart}
+use Rattle.ssi_versions.specs.Meaning.Changes.{Held, otherwise, listing, stamped}
+use Rattle.ssi_versions.specs.Clauses.ByStamp.{newest, newest_within, IsByStamp}
+use Rattle.ssi_versions.specs.Clauses.Conditions.{AreApart}
 use Rattle.ssi_versions.specs.declared.held.Held.{Held as HeldValue}
 use Rattle.ssi_versions.specs.Mirror.{held_of, write_of, is_of, chain_of, key_total, IsAbove}
 use Rattle.ssi_versions.specs.Computing.Kept.{next_stamp}

@@ -8,7 +8,7 @@ use Rattle.std.specs.List.Sorted.{IsStrictlySortedBy}
 use Rattle.std.specs.Cmp.Lexicographic.{slice_cmp}
 use Rattle.std.proofs.lemmas.Bool.{and_parts, and_from}
 use Rattle.std.proofs.lemmas.List.{length-append}
-use Rattle.ssi_versions.specs.Meaning.Changes.{IsByStamp, is_wanted}
+use Rattle.ssi_versions.specs.Clauses.ByStamp.{IsByStamp, is_wanted}
 use Rattle.ssi_versions.specs.Mirror.{is_of, chain_of}
 use Rattle.ssi_versions.specs.Computing.Kept.{kept}
 use Rattle.ssi_versions.specs.Machinery.Keyed.{Chain, held_in, held_at, held_under, kept_at, versions, is_owned, is_filled, filled_count, kept_vec}

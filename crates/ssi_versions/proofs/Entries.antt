@@ -22,7 +22,9 @@ use Rattle.std.proofs.Common.{◌==◌}
 use Rattle.adya_values.specs.declared.event.Version.{Version}
 use Rattle.adya_values.specs.declared.event.Content.{Content}
 use Rattle.adya_values.specs.Meaning.Events.{listed}
-use Rattle.ssi_versions.specs.Meaning.Changes.{Held, listing, stamped, AreApart, IsByStamp}
+use Rattle.ssi_versions.specs.Meaning.Changes.{Held, listing, stamped}
+use Rattle.ssi_versions.specs.Clauses.Conditions.{AreApart}
+use Rattle.ssi_versions.specs.Clauses.ByStamp.{IsByStamp}
 use Rattle.ssi_versions.specs.Machinery.Plain.{as_held}
 use Rattle.ssi_versions.proofs.ByKey.{installed}
 use Rattle.ssi_versions.specs.declared.place.Place.{Place}

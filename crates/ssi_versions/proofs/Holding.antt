@@ -1,18 +1,19 @@
 -- What is held after collections: the last version of each key, and what protected snapshots see.
 use Rattle.ssi_versions.proofs.Lists.{append_cases, only_one, any_same}
-use Rattle.std.proofs.lemmas.List.Elements.{filter_agree}
+use Rattle.std.proofs.lemmas.List.Elements.{filter_agree, Contains-get_or}
 use Rattle.lemmas.proofs.Filters.{filter-source}
 use Rattle.lemmas.proofs.Tests.{list_any_when}
 use Rattle.std.proofs.Common.{append-nil, Bool, List, None, Option, Some, ap, arith, cond, false, get_or, inl, inr, is_some, ltb-true, nat_le, nat_lt, refl, subst, sym, true, ◌≡◌, ◌∷◌, ◌++◌, ◌&&◌, ◌||◌, ◌≤◌, ◌<◌, ◌∙◌, ℕ, []}
 use Rattle.std.proofs.lemmas.Bool.{cases_Bool, cond-false, cond-true, eq-eqb, le-leb, lt-ltb, or_left, or_right}
-use Rattle.std.proofs.lemmas.List.Elements.{Contains-get_or}
 use Rattle.std.proofs.lemmas.List.Quantifiers.{all_pairs_push}
 use Rattle.std.proofs.lemmas.Option.{none-some, same_Some}
 use Rattle.std.specs.List.{AllPairs, Contains, filter, list_any}
 use Rattle.lemmas.proofs.Members.{Contains-cons, Contains-head, none_contained}
 use Rattle.adya_values.specs.Meaning.Events.{listed}
 use Rattle.adya_values.specs.Meaning.Histories.{Entry}
-use Rattle.ssi_versions.specs.Meaning.Changes.{is_wanted, is_above, AreInstallable, IsByStamp, IsProtected, contents, has_stamp, held, is_installed_above, is_needed, last_installed, last_version, listing, newest, newest_within, otherwise, stamped, Change, Installs, Collects, Held}
+use Rattle.ssi_versions.specs.Meaning.Changes.{contents, has_stamp, held, is_installed_above, is_needed, last_version, listing, otherwise, stamped, Change, Installs, Collects, Held}
+use Rattle.ssi_versions.specs.Clauses.ByStamp.{is_wanted, is_above, IsByStamp, newest, newest_within}
+use Rattle.ssi_versions.specs.Clauses.Conditions.{AreInstallable, IsProtected, last_installed}
 use Rattle.std.proofs.lemmas.List.Kept.{AllPairs-filter}
 
 -- versions stand by stamp, and none is above n

@@ -4,7 +4,8 @@ use Rattle.std.proofs.Common.{◌≤◌, ◌<◌, suc, length, arith, ◌≡◌,
 use Rattle.std.specs.List.{filter, list_all, list_any}
 use Rattle.std.specs.Cmp.Lexicographic.{same_text}
 use Rattle.std.proofs.lemmas.Bool.{and_parts, and_from, and_right, lt-ltb}
-use Rattle.ssi_versions.specs.Meaning.Changes.{Held, otherwise, newest, newest_within, has_stamp, IsByStamp, is_wanted}
+use Rattle.ssi_versions.specs.Meaning.Changes.{Held, otherwise, has_stamp}
+use Rattle.ssi_versions.specs.Clauses.ByStamp.{newest, newest_within, IsByStamp, is_wanted}
 use Rattle.ssi_versions.specs.declared.held.Held.{Held as HeldValue}
 use Rattle.ssi_versions.specs.Mirror.{held_of, is_of, chain_of}
 use Rattle.ssi_versions.specs.Machinery.Snapshots.{is_between}

@@ -4,7 +4,8 @@ use Rattle.std.specs.List.{AllWithin}
 use Rattle.std.proofs.lemmas.Bool.{cases_lt, leb-true, le-leb}
 use Rattle.std.proofs.lemmas.List.{map-append, get_or-map, get_or-drop, drop_all, length-drop, length-map}
 use Rattle.ssi_versions.specs.declared.place.Place.{Place}
-use Rattle.ssi_versions.specs.Meaning.Changes.{otherwise, newest, newest_within, IsByStamp}
+use Rattle.ssi_versions.specs.Meaning.Changes.{otherwise}
+use Rattle.ssi_versions.specs.Clauses.ByStamp.{newest, newest_within, IsByStamp}
 use Rattle.ssi_versions.specs.Machinery.Keyed.{placed}
 use Rattle.ssi_versions.proofs.Lists.{split}
 use Rattle.ssi_versions.proofs.ByKey.{alone, newest_within-append, newest-append}

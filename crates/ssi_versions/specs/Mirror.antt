@@ -4,7 +4,8 @@ use Rattle.std.specs.List.{list_any, All}
 use Rattle.adya_values.specs.declared.event.Version.{Version}
 use Rattle.adya_values.specs.declared.event.Content.{Content}
 use Rattle.adya_values.specs.Meaning.Keys.{Key, key_eq}
-use Rattle.adya_values.specs.Meaning.Histories.{Entry, content_of}
+use Rattle.adya_values.specs.Meaning.Histories.{Entry}
+use Rattle.adya_values.specs.Mirror.Events.{content_of}
 use Rattle.adya_values.specs.Meaning.Events.{entry}
 use Rattle.ssi_versions.specs.Meaning.Changes.{Held}
 use Rattle.ssi_versions.specs.declared.held.Held.{Held as HeldValue}

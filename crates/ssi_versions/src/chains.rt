@@ -3,7 +3,9 @@
 ghost use Rattle.std.specs.Prelude.{◌≡◌, ◌++◌, ℕ, List, None, if◌then◌else◌, true, length, map, filter, option_map, OnOk, OnErr, IfOk};
 ghost use Rattle.adya_values.specs.Meaning.Keys.{key_le, keys_rise, lies_in};
 ghost use Rattle.adya_values.specs.Meaning.Events.{listed};
-ghost use Rattle.ssi_versions.specs.Meaning.Changes.{Held as HeldVersion, listing, stamped, newest, newest_within, IsByStamp, AreApart, is_wanted};
+ghost use Rattle.ssi_versions.specs.Meaning.Changes.{Held as HeldVersion, listing, stamped};
+ghost use Rattle.ssi_versions.specs.Clauses.ByStamp.{newest, newest_within, IsByStamp, is_wanted};
+ghost use Rattle.ssi_versions.specs.Clauses.Conditions.{AreApart};
 ghost use Rattle.ssi_versions.specs.Mirror.{held_of, write_of, chain_of, key_total, found_in, key_in, IsAbove};
 
 use crate::Held;

@@ -19,7 +19,7 @@ pub struct TxnTable<V> {
 }
 
 impl<V: Copy> TxnTable<V> {
-    ghost use Rattle.txn_table.specs.Meaning.{value_for};
+    ghost use Rattle.txn_table.specs.Mirror.{value_for};
 
     /// Makes the table in which each transaction has this value. Its array holds the numbers below `small`, and takes its
     /// room now; `AllocError` if memory is refused.

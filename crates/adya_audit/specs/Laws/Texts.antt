@@ -2,10 +2,11 @@
 use Rattle.std.specs.Prelude.{◌≡◌, ◌↔◌}
 use Rattle.adya_values.specs.Meaning.Keys.{Bytes}
 use Rattle.adya_values.specs.Meaning.Histories.{Txns, History}
-use Rattle.adya_values.specs.Meaning.Acceptance.{IsAccepted}
+use Rattle.adya_values.specs.Clauses.Acceptance.{IsAccepted}
 use Rattle.adya_text.specs.Meaning.Texts.{IsHistory, history_text, serial_text}
 use Rattle.adya_audit.specs.Meaning.Verdicts.{Verdict, Yes}
-use Rattle.adya_audit.specs.Meaning.TextVerdicts.{IsVerdictOn, AreAccepted, AreSerializable}
+use Rattle.adya_audit.specs.Clauses.TextVerdicts.{IsVerdictOn, AreAccepted}
+use Rattle.adya_audit.specs.Meaning.Serializable.{AreSerializable}
 
 -- the verdict on texts is yes if and only if they are accepted
 abbrev pub YesIffTextsAccepted : Type 0

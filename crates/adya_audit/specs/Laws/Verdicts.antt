@@ -2,8 +2,9 @@
 use Rattle.std.specs.Prelude.{◌≡◌, ◌↔◌, true}
 use Rattle.adya_values.specs.Meaning.Histories.{Txns, History}
 use Rattle.adya_values.specs.Computing.Shapes.{is_shape}
-use Rattle.adya_values.specs.Meaning.Acceptance.{IsChecked, IsAccepted, ListsTheCommitted}
-use Rattle.adya_audit.specs.Meaning.Verdicts.{Yes, NotTheCommitted, verdict_of}
+use Rattle.adya_values.specs.Clauses.Acceptance.{IsChecked, IsAccepted, ListsTheCommitted}
+use Rattle.adya_audit.specs.Meaning.Verdicts.{Yes, NotTheCommitted}
+use Rattle.adya_audit.specs.Computing.Verdicts.{verdict_of}
 use Rattle.adya_audit.specs.Meaning.Serializable.{IsSerializableBy}
 
 -- the verdict is yes if and only if the history and the certificate are accepted

@@ -1,10 +1,10 @@
 -- Arcs: the ends of edges by themselves.
 use Rattle.std.specs.Prelude.{◌≡◌, ℕ, List, Contains}
 use Rattle.adya_values.specs.Meaning.Edges.{Edge}
-use Rattle.adya_values.specs.Meaning.Acceptance.{IsBefore}
+use Rattle.adya_values.specs.Clauses.Acceptance.{IsBefore}
 use Rattle.digraph.specs.declared.arc.Arc.{Arc}
 use Rattle.digraph.specs.declared.order.Outcome.{Outcome}
-use Rattle.digraph.specs.Meaning.Graphs.{IsOrderOrCycle}
+use Rattle.digraph.specs.Clauses.Graphs.{IsOrderOrCycle}
 
 -- the ends of the edge
 abbrev pub ends : Edge → Arc

@@ -1,7 +1,7 @@
 -- What a table of the order lines of keys means.
 use Rattle.std.specs.Prelude.{◌≡◌, ℕ, ◌<◌, List, Option, Some, None, map, slice_get}
 use Rattle.adya_values.specs.declared.order.Order.{Order}
-use Rattle.adya_values.specs.Meaning.Histories.{order_of}
+use Rattle.adya_values.specs.Mirror.Events.{order_of}
 use Rattle.adya_dsg.specs.Machinery.Choices.{key_of}
 
 -- what is found for each key is its line among the first lines; if nothing is found, none of them is of the key

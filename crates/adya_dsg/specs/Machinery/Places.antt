@@ -1,7 +1,7 @@
 -- What tables of places in a list of transactions mean.
 use Rattle.std.specs.Prelude.{◌≡◌, ℕ, leb, if◌then◌else◌, List, [], length}
 use Rattle.txn_table.specs.declared.TxnTable.{TxnTable}
-use Rattle.txn_table.specs.Meaning.{value_for}
+use Rattle.txn_table.specs.Mirror.{value_for}
 use Rattle.adya_values.specs.Meaning.Orders.{place}
 
 -- the table has how many transactions of the list come before each

@@ -2,8 +2,8 @@
 use Rattle.std.specs.Prelude.{List}
 use Rattle.adya_values.specs.declared.order.Order.{Order}
 use Rattle.adya_values.specs.Meaning.Histories.{History}
-use Rattle.adya_values.specs.Mirror.{orders_in}
-use Rattle.adya_terms.specs.Meaning.Checked.{history_in, checked_history}
+use Rattle.adya_values.specs.Mirror.Histories.{orders_in}
+use Rattle.adya_terms.specs.Clauses.Checked.{history_in, checked_history}
 use Rattle.adya_dsg.specs.declared.version_orders.VersionOrders.{VersionOrders}
 
 abbrev pub ordered_history : VersionOrders → History

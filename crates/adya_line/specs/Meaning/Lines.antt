@@ -15,8 +15,3 @@ pub record Spells {L : Type 0} (IsLine : L → Type 0) (line_text : L → Bytes)
 -- the text is that of no line
 abbrev pub SpellsNone : {L : Type 0} → (L → Type 0) → (L → Bytes) → Bytes → Type 0
 SpellsNone {L = L} IsLine line_text text = (x : L) → Spells IsLine line_text x text → ⊥
-
--- the text is that of this line, and of no other
-pub record SpellsOnly {L : Type 0} (IsLine : L → Type 0) (line_text : L → Bytes) (x : L) (text : Bytes) : Type 0 where
-  pub line : Spells IsLine line_text x text
-  pub only : (y : L) → Spells IsLine line_text y text → y ≡ x

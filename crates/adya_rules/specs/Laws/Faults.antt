@@ -2,7 +2,7 @@
 use Rattle.std.specs.Prelude.{◌≡◌, ◌↔◌, true, None}
 use Rattle.adya_values.specs.Meaning.Histories.{History}
 use Rattle.adya_values.specs.Computing.Shapes.{is_shape}
-use Rattle.adya_values.specs.Meaning.Acceptance.{IsChecked}
+use Rattle.adya_values.specs.Clauses.Acceptance.{IsChecked}
 use Rattle.adya_values.specs.Computing.Faults.{first_fault}
 
 -- a history of which no fault is found is checked, whatever its shape

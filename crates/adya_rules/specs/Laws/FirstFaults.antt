@@ -6,10 +6,10 @@ use Rattle.adya_values.specs.Computing.Faults.{Malformed, AbortedRead, Intermedi
 use Rattle.adya_values.specs.Meaning.Histories.{Txns, History}
 use Rattle.adya_values.specs.Computing.Shapes.{is_shape}
 use Rattle.adya_values.specs.Meaning.Edges.{Edge}
-use Rattle.adya_values.specs.Meaning.Rules.{IsWellFormed}
+use Rattle.adya_values.specs.Clauses.Rules.{IsWellFormed}
 use Rattle.adya_values.specs.Meaning.Phenomena.{HasG1a}
 use Rattle.adya_values.specs.Computing.Certificates.{first_backward}
-use Rattle.adya_rules.specs.Meaning.FirstFaults.{BreaksRule, IsFirstMalformed, IsFirstAbortedRead, IsFirstIntermediateRead, IsFirstBackward}
+use Rattle.adya_rules.specs.Clauses.FirstFaults.{BreaksRule, IsFirstMalformed, IsFirstAbortedRead, IsFirstIntermediateRead, IsFirstBackward}
 
 -- a history whose orders and finals rise by key is well-formed exactly if it breaks no rule at any line
 abbrev pub WellFormedIffUnbroken : Type 0

@@ -10,11 +10,13 @@ use Rattle.adya_values.specs.declared.order.FinalPair.{FinalPair as FinalValue}
 use Rattle.adya_values.specs.declared.fault.Rule.TheVariants.{M6, M7, M8}
 use Rattle.adya_values.specs.declared.fault.CheckFault.{CheckFault}
 use Rattle.adya_values.specs.Meaning.Keys.{key_eq}
-use Rattle.adya_values.specs.Meaning.Histories.{Entry, Event, History, event_of, order_of, final_of}
+use Rattle.adya_values.specs.Meaning.Histories.{Entry, Event, History}
+use Rattle.adya_values.specs.Mirror.Events.{event_of, order_of, final_of}
 use Rattle.adya_values.specs.declared.edition.Edition.TheVariants.{One, Two}
-use Rattle.adya_values.specs.Meaning.Events.{txn_of, observed, is_committed, has_ended, aborts, last_write}
+use Rattle.adya_values.specs.Meaning.Events.{txn_of, observed, is_committed, aborts, last_write}
+use Rattle.adya_values.specs.Clauses.Rules.{has_ended}
 use Rattle.adya_values.specs.Computing.Faults.{Fault, entry_eq, first, is_entry, fault_unless, aborted_reads, all_end, intermediate_reads, order_faults, has_lines, final_faults, has_finals}
-use Rattle.adya_terms.specs.Meaning.Faults.{IsFault}
+use Rattle.adya_terms.specs.Clauses.Faults.{IsFault}
 
 -- the fault is the first of the list, or memory ran out
 abbrev pub Names : List Fault → CheckFault → Type 0

@@ -2,8 +2,9 @@
 use Rattle.std.specs.Prelude.{ℕ, Bool, ◌||◌, ◌==◌, List, Option, map}
 use Rattle.std.specs.List.{list_any}
 use Rattle.std.specs.HashMap.{get}
-use Rattle.adya_values.specs.Meaning.Histories.{Event, event_of}
-use Rattle.adya_values.specs.Meaning.Events.{has_ended}
+use Rattle.adya_values.specs.Meaning.Histories.{Event}
+use Rattle.adya_values.specs.Mirror.Events.{event_of}
+use Rattle.adya_values.specs.Clauses.Rules.{has_ended}
 use Rattle.adya_terms.specs.declared.event_index.EventIndex.{EventIndex}
 use Rattle.adya_terms.specs.declared.tables.Own.{Own}
 use Rattle.adya_terms.specs.Machinery.Tables.{own_eq}

@@ -4,7 +4,8 @@ use Rattle.std.specs.Ordering.{nat_cmp}
 use Rattle.std.specs.Cmp.Lexicographic.{slice_cmp}
 use Rattle.std.specs.BTreeMap.{BTreeMap, get}
 use Rattle.adya_values.specs.Meaning.Histories.{Event}
-use Rattle.adya_values.specs.Meaning.Events.{last_write, has_ended}
+use Rattle.adya_values.specs.Meaning.Events.{last_write}
+use Rattle.adya_values.specs.Clauses.Rules.{has_ended}
 use Rattle.adya_terms.specs.declared.open_writes.OpenWrites.{OpenWrites}
 use Rattle.adya_terms.specs.Machinery.Tables.{written_at}
 

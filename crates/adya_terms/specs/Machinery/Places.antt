@@ -9,7 +9,7 @@ use Rattle.std.specs.Cmp.Lexicographic.{slice_cmp}
 use Rattle.adya_terms.specs.declared.tables.Own.{Own}
 use Rattle.adya_values.specs.Meaning.Histories.{Event, Order}
 use Rattle.adya_values.specs.Meaning.Events.{last_write}
-use Rattle.adya_values.specs.Meaning.Rules.{installs}
+use Rattle.adya_values.specs.Clauses.Rules.{installs}
 use Rattle.adya_values.specs.Computing.Faults.{lists_exactly}
 use Rattle.adya_terms.specs.Machinery.Tables.{own, written_at}
 

@@ -3,7 +3,7 @@ use Rattle.std.specs.Prelude.{◌≡◌, ℕ, ◌<◌, ◌==◌, Bool, false, �
 use Rattle.std.specs.List.{filter_map, list_any}
 use Rattle.std.specs.HashMap.{get}
 use Rattle.txn_table.specs.declared.TxnTable.{TxnTable}
-use Rattle.txn_table.specs.Meaning.{value_for}
+use Rattle.txn_table.specs.Mirror.{value_for}
 use Rattle.adya_values.specs.declared.event.Version.{Version}
 use Rattle.adya_terms.specs.declared.tables.Ended.{Ended}
 use Rattle.adya_terms.specs.declared.tables.Own.{Own}

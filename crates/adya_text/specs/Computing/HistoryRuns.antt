@@ -4,8 +4,7 @@ use Rattle.adya_values.specs.declared.edition.Edition.{Edition}
 use Rattle.adya_values.specs.declared.edition.Edition.TheVariants.{One, Two}
 use Rattle.adya_values.specs.Meaning.Keys.{key_lt}
 use Rattle.adya_values.specs.Meaning.Histories.{History}
-use Rattle.adya_line.specs.Meaning.HistoryLines.{Line, HeadLine, EventLine, UnfinishedLine, OrderLine, FinalLine, TailLine}
-use Rattle.adya_line.specs.Meaning.HistoryLines.{IsLine, line_text}
+use Rattle.adya_line.specs.Clauses.HistoryLines.{Line, HeadLine, EventLine, UnfinishedLine, OrderLine, FinalLine, TailLine, IsLine, line_text}
 use Rattle.adya_text.specs.Computing.Runs.{Machine}
 use Rattle.adya_text.specs.declared.history_draft.Stage.{Stage}
 use Rattle.adya_text.specs.declared.history_draft.Stage.TheVariants.{Head, Events, Unfinished, Orders, Finals, Done}

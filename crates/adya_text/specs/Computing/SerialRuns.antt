@@ -1,6 +1,6 @@
 -- Which line of a certificate text may come next, by the stage that the lines before have led to, and what lines hold.
 use Rattle.std.specs.Prelude.{ℕ, Bool, true, false, List, [], ◌∷◌, ◌++◌}
-use Rattle.adya_line.specs.Meaning.SerialLines.{Line, HeadLine, TxnLine, TailLine, IsLine, line_text}
+use Rattle.adya_line.specs.Clauses.SerialLines.{Line, HeadLine, TxnLine, TailLine, IsLine, line_text}
 use Rattle.adya_text.specs.Computing.Runs.{Machine}
 use Rattle.adya_text.specs.declared.serial_draft.Stage.{Stage}
 use Rattle.adya_text.specs.declared.serial_draft.Stage.TheVariants.{Head, Txns, Done}

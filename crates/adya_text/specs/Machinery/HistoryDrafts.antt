@@ -1,8 +1,9 @@
 -- What a draft of a history holds of the lines so far.
 use Rattle.std.specs.Prelude.{◌≡◌, ℕ, ◌+◌, List, length, map, Option, Some, None}
-use Rattle.adya_values.specs.Meaning.Histories.{History, event_of, order_of, final_of}
+use Rattle.adya_values.specs.Meaning.Histories.{History}
+use Rattle.adya_values.specs.Mirror.Events.{event_of, order_of, final_of}
 use Rattle.adya_text.specs.Computing.Runs.{HasRun}
-use Rattle.adya_line.specs.Meaning.HistoryLines.{Line}
+use Rattle.adya_line.specs.Clauses.HistoryLines.{Line}
 use Rattle.adya_text.specs.Computing.HistoryRuns.{history_machine, stage_after, with_line}
 use Rattle.adya_text.specs.declared.history_draft.Stage.{Stage}
 use Rattle.adya_text.specs.declared.history_draft.Stage.TheVariants.{Head, Done}

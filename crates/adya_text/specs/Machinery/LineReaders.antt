@@ -1,6 +1,6 @@
 -- What a reader of lines knows of the lines that it was fed with, and its result of their text.
 use Rattle.std.specs.Prelude.{ℕ, ◌≤◌, ◌⊎◌, List, length, Option, Some, None}
-use Rattle.adya_text.specs.Meaning.Faults.{Begins, HasFront, IsCut, IsFirstFaulty}
+use Rattle.adya_text.specs.Clauses.Faults.{Begins, HasFront, IsCut, IsFirstFaulty}
 use Rattle.adya_text.specs.Machinery.LongLines.{HasStart, StartsNoLine}
 
 -- the reader was fed with these lines: its draft has them, or one of them is faulty

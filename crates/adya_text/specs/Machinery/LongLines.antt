@@ -2,7 +2,7 @@
 use Rattle.std.specs.Prelude.{◌≡◌, ℕ, ◌<◌, Option, None, Some, List, [], ◌∷◌, ◌++◌, length, All}
 use Rattle.adya_line.specs.Meaning.Lines.{IsPlain}
 use Rattle.adya_text.specs.Meaning.Texts.{with_ends}
-use Rattle.adya_text.specs.Meaning.Faults.{Begins}
+use Rattle.adya_text.specs.Clauses.Faults.{Begins}
 
 -- there are more bytes than the most, if there is a most
 abbrev pub IsLonger : Option ℕ → List ℕ → Type 0

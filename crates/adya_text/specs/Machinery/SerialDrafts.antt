@@ -1,7 +1,7 @@
 -- What a draft of a certificate holds of the lines so far.
 use Rattle.std.specs.Prelude.{◌≡◌, ℕ, ◌+◌, List, length, Option, Some}
 use Rattle.adya_text.specs.Computing.Runs.{HasRun}
-use Rattle.adya_line.specs.Meaning.SerialLines.{Line}
+use Rattle.adya_line.specs.Clauses.SerialLines.{Line}
 use Rattle.adya_text.specs.Computing.SerialRuns.{serial_machine, stage_after, with_line}
 use Rattle.adya_text.specs.declared.serial_draft.Stage.{Stage}
 use Rattle.adya_text.specs.declared.serial_draft.Stage.TheVariants.{Head, Txns, Done}

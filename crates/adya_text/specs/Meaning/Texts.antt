@@ -4,8 +4,7 @@ use Rattle.std.specs.List.{AllByRecursion}
 use Rattle.adya_values.specs.Meaning.Keys.{Bytes, IsTxn, keys_rise}
 use Rattle.adya_values.specs.Computing.Shapes.{fits_edition}
 use Rattle.adya_values.specs.Meaning.Histories.{Txns, History}
-use Rattle.adya_line.specs.Meaning.Spelling.{head_text, serial_head, tail}
-use Rattle.adya_line.specs.Meaning.Spelling.{event_text, unfinished_text, order_text, final_text, txn_text}
+use Rattle.adya_line.specs.Meaning.Spelling.{head_text, serial_head, tail, event_text, unfinished_text, order_text, final_text, txn_text}
 use Rattle.adya_line.specs.Meaning.Limits.{IsEvent, IsOrder, IsFinal}
 
 -- a history that has a text
@@ -41,11 +40,3 @@ history_text h = with_ends (history_lines h)
 
 abbrev pub serial_text : Txns → Bytes
 serial_text ts = with_ends (serial_lines ts)
-
--- the lines of a history
-abbrev pub AreHistoryLines : List Bytes → Type 0
-AreHistoryLines lines = (h : History) × IsHistory h × (lines ≡ history_lines h)
-
--- the lines of a certificate
-abbrev pub AreSerialLines : List Bytes → Type 0
-AreSerialLines lines = (ts : Txns) × IsSerial ts × (lines ≡ serial_lines ts)

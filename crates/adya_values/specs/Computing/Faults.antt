@@ -7,9 +7,9 @@ use Rattle.adya_values.specs.declared.fault.Rule.{Rule}
 use Rattle.adya_values.specs.declared.fault.Rule.TheVariants.{M1, M2, M3, M4, M5, M6, M7, M8}
 use Rattle.adya_values.specs.Meaning.Keys.{key_eq, key_le, lies_in, keys_rise}
 use Rattle.adya_values.specs.Meaning.Histories.{Content, Live, Dead, Entry, Event, Write, Delete, Read, Scan, Commit, Abort, Order, FinalPair, History}
-use Rattle.adya_values.specs.Meaning.Events.{txn_of, entry, written, observed, writes_of, last_write, is_committed, has_ended, is_unfinished, is_aborted}
+use Rattle.adya_values.specs.Meaning.Events.{txn_of, entry, written, observed, writes_of, last_write, is_committed, is_unfinished, is_aborted}
+use Rattle.adya_values.specs.Clauses.Rules.{has_ended, installs, final_value}
 use Rattle.adya_values.specs.Meaning.Orders.{writers, value_at}
-use Rattle.adya_values.specs.Meaning.Rules.{installs, final_value}
 
 -- a line that breaks a rule, or at which a committed transaction sees a version that it may not see
 pub data Fault : Type 0 where

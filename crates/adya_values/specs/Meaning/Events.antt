@@ -61,10 +61,6 @@ aborts t e = false
 abbrev pub is_committed : List Event → ℕ → Bool
 is_committed events t = list_any (commits t) events
 
--- the transaction commits or aborts
-abbrev pub has_ended : List Event → ℕ → Bool
-has_ended events t = is_committed events t || list_any (aborts t) events
-
 abbrev pub is_unfinished : History → ℕ → Bool
 is_unfinished h t = list_any (λ u. u == t) h.unfinished
 

@@ -7,7 +7,7 @@ use Rattle.append_values.specs.Meaning.Reads.{appended, own, HasRead, left, Appe
 use Rattle.append_values.specs.declared.reason.Reason.{Reason}
 use Rattle.append_values.specs.Meaning.Reasons.{Precedes, HasNoOrder, Holds}
 use Rattle.digraph.specs.declared.arc.Arc.{Arc}
-use Rattle.digraph.specs.Meaning.Graphs.{IsBefore, IsCycle}
+use Rattle.digraph.specs.Clauses.Graphs.{IsBefore, IsCycle}
 
 -- the read returned all that some transactions appended, one after the other, and then its transaction's own appends so far
 pub record IsWhole (h : History) (t k : ℕ) (xs : List ℕ) (before : List Operation) : Type 0 where

@@ -2,11 +2,10 @@
 use Rattle.std.specs.Prelude.{◌≡◌, ◌≢◌, ◌<◌, ◌==◌, ◌⊎◌, ℕ, List, [], ◌∷◌, ◌++◌, Contains, count_by, flat_map, filter, length, nat_lt}
 use Rattle.append_values.specs.Meaning.Histories.{Operation, History, outcome}
 use Rattle.append_values.specs.Meaning.Runs.{Occurs, Explains}
-use Rattle.append_values.specs.Meaning.Reads.{appended, own, HasRead, AppendersDiffer, IsPrefixOf}
+use Rattle.append_values.specs.Meaning.Reads.{appended, own, HasRead, AppendersDiffer, IsPrefixOf, left}
 use Rattle.append_values.specs.Meaning.Reasons.{Precedes}
-use Rattle.append_values.specs.Meaning.Reads.{left}
 use Rattle.append_laws.specs.Laws.Explanations.{IsWhole}
-use Rattle.digraph.specs.Meaning.Graphs.{IsBefore}
+use Rattle.digraph.specs.Clauses.Graphs.{IsBefore}
 
 -- a read shows the first writers of a line, whole, and then its transaction's own appends so far. If its transaction appends
 -- to the key, it is the line's next writer

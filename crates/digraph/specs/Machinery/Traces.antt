@@ -2,7 +2,7 @@
 use Rattle.std.specs.Prelude.{◌≡◌, ℕ, true, false, List, Contains}
 use Rattle.std.specs.BTreeSet.{BTreeSet, contains}
 use Rattle.std.specs.Ordering.{nat_cmp}
-use Rattle.digraph.specs.Meaning.Graphs.{IsCycle}
+use Rattle.digraph.specs.Clauses.Graphs.{IsCycle}
 use Rattle.digraph.specs.declared.arc.Arc.{Arc}
 use Rattle.digraph.specs.declared.trace.Trace.{Trace}
 use Rattle.digraph.specs.declared.trace.Trace.TheVariants.{Source, Cycle}

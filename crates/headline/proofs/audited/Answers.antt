@@ -1,6 +1,6 @@
 use Rattle.std.proofs.Common.{◌≡◌, refl, subst, sym}
 use Rattle.adya_audit.specs.Meaning.Verdicts.{Yes}
-use Rattle.adya_audit.specs.Meaning.TextVerdicts.{AreAccepted}
+use Rattle.adya_audit.specs.Clauses.TextVerdicts.{AreAccepted}
 use Rattle.headline.proofs.audited.Goals as goal
 
 pub returns-in-Ok-clause-yes : goal.returns-in-Ok-clause-yes

@@ -2,9 +2,9 @@
 use Rattle.std.specs.Prelude.{◌≡◌, List, ◌++◌}
 use Rattle.ssi_store.specs.Meaning.Courses.{Course}
 use Rattle.ssi_line.specs.Meaning.Steps.{Step}
-use Rattle.ssi_line.specs.Meaning.Ends.{WentOn}
+use Rattle.ssi_line.specs.Clauses.Ends.{WentOn}
 use Rattle.ssi_hub.specs.declared.hub.Hub.{Hub}
-use Rattle.ssi_hub.specs.Meaning.Calls.{Call, all_steps}
+use Rattle.ssi_hub.specs.Clauses.Calls.{Call, all_steps}
 use Rattle.ssi_hub.specs.Mirror.{is_stopped, Stands}
 
 -- no line was carried out: whatever calls the hub stood for, it stands for calls with the same steps

@@ -1,11 +1,11 @@
 -- What remains of a store that has ended.
 use Rattle.std.specs.Prelude.{◌≡◌, ℕ, List}
 use Rattle.adya_values.specs.Meaning.Histories.{History}
-use Rattle.adya_values.specs.Meaning.Acceptance.{IsAccepted}
+use Rattle.adya_values.specs.Clauses.Acceptance.{IsAccepted}
 use Rattle.adya_text.specs.Meaning.Texts.{history_text, serial_text}
-use Rattle.adya_audit.specs.Meaning.TextVerdicts.{AreAccepted}
+use Rattle.adya_audit.specs.Clauses.TextVerdicts.{AreAccepted}
 use Rattle.ssi_store.specs.Meaning.Courses.{Course}
-use Rattle.ssi_store.specs.Meaning.Recording.{finished}
+use Rattle.ssi_store.specs.Clauses.Finished.{finished}
 use Rattle.ssi_store.specs.Meaning.Faces.{Records}
 
 -- the history of the course, and a certificate that it is accepted with

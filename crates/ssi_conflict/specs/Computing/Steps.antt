@@ -2,16 +2,14 @@
 use Rattle.std.specs.Prelude.{ℕ, ◌==◌, Bool, true, false, not, ◌&&◌, ◌||◌, nat_lt, nat_le, List, [], ◌∷◌, Option, Some, None}
 use Rattle.std.specs.List.{list_any, find}
 use Rattle.adya_values.specs.Meaning.Keys.{lies_in}
-use Rattle.ssi_conflict.specs.Meaning.Calls.{Call, Begins, Reads, Commits, Aborts, stamp_of, keys_of, is_committed, is_aborted, meets, begun}
-use Rattle.ssi_conflict.specs.Meaning.Pairs.{are_concurrent}
+use Rattle.ssi_conflict.specs.Meaning.Calls.{Call, Reads, Commits, stamp_of, keys_of, is_committed, is_aborted, meets, begun, are_concurrent}
 
 -- the call adds the pair: a read, one with each concurrent transaction that has committed and wrote a key of the range;
 -- a commit, one with each concurrent transaction, not aborted, that has read a key that is written
 abbrev pub adds : Call → List Call → ℕ → ℕ → Bool
-adds (Begins t s) calls r u = false
 adds (Reads t low high) calls r u = (t == r) && (is_committed u calls && (are_concurrent r u calls && list_any (lies_in low high) (keys_of u calls)))
 adds (Commits t n ks) calls r u = (t == u) && (not (is_aborted r calls) && (are_concurrent r u (Commits t n ks ∷ calls) && list_any (λ k. meets r k calls) ks))
-adds (Aborts t) calls r u = false
+adds _ calls r u = false
 
 -- pairs stay for good
 abbrev pub is_pair : ℕ → ℕ → List Call → Bool
@@ -28,9 +26,8 @@ smallest_pivot calls = find (λ t. is_pivot t calls) (begun calls)
 
 -- the first stamp is below the second
 abbrev pub is_earlier : Option ℕ → Option ℕ → Bool
-is_earlier None m = false
-is_earlier (Some n) None = false
 is_earlier (Some n) (Some m) = nat_lt n m
+is_earlier _ _ = false
 
 -- the first stamp is at most the second; a missing second one counts as later than all
 abbrev pub is_no_later : Option ℕ → Option ℕ → Bool

@@ -4,8 +4,8 @@ use Rattle.std.specs.List.{list_any}
 use Rattle.std.specs.BTreeSet.{contains}
 use Rattle.std.specs.VecDeque.{deque_len, deque_capacity}
 use Rattle.std.specs.Ordering.{nat_cmp}
-use Rattle.ssi_reads.specs.Meaning.Marks.{has_txn}
-use Rattle.ssi_conflict.specs.Meaning.Pairs.{is_at_or_below}
+use Rattle.ssi_reads.specs.Clauses.Marks.{has_txn}
+use Rattle.ssi_conflict.specs.Meaning.Calls.{is_at_or_below}
 use Rattle.ssi_conflict.specs.Computing.Steps.{is_no_later}
 use Rattle.ssi_conflict.specs.Machinery.Rows.{Row, with_later}
 use Rattle.ssi_conflict.specs.Machinery.Records.{row_in}

@@ -1,8 +1,7 @@
 -- The calls of a conflict tracker, and what they say of each transaction. The newest call stands first, so that the
 -- tail of a list is what was before.
-use Rattle.std.specs.Prelude.{◌≡◌, ℕ, suc, ◌==◌, ◌<◌, Bool, true, false, not, ◌&&◌, ◌||◌, if◌then◌else◌, List, [], ◌∷◌, ◌++◌, Option, Some, None, is_some}
-use Rattle.std.specs.List.{AllPairs}
-use Rattle.adya_values.specs.Meaning.Keys.{Key, key_eq, key_le, lies_in}
+use Rattle.std.specs.Prelude.{ℕ, ◌==◌, Bool, false, not, ◌&&◌, ◌||◌, if◌then◌else◌, List, [], ◌∷◌, ◌++◌, Option, Some, None, is_some, nat_le}
+use Rattle.adya_values.specs.Meaning.Keys.{Key, lies_in}
 use Rattle.adya_values.specs.Meaning.Histories.{Txns}
 
 -- a transaction begins with a snapshot, reads a range of keys, and commits with a stamp and the keys that it wrote,
@@ -55,49 +54,21 @@ meets t k [] = false
 meets t k (Reads u low high ∷ calls) = ((u == t) && lies_in low high k) || meets t k calls
 meets t k (_ ∷ calls) = meets t k calls
 
--- what was before the transaction committed
-abbrev pub before_commit : ℕ → List Call → List Call
-before_commit t [] = []
-before_commit t (Commits u n ks ∷ calls) = if u == t then calls else before_commit t calls
-before_commit t (_ ∷ calls) = before_commit t calls
-
 -- the transactions, in the order in which they began
 abbrev pub begun : List Call → Txns
 begun [] = []
 begun (Begins t s ∷ calls) = begun calls ++ t ∷ []
 begun (_ ∷ calls) = begun calls
 
--- the greatest stamp so far
-abbrev pub last_stamp : List Call → ℕ
-last_stamp [] = 0
-last_stamp (Commits t n ks ∷ calls) = n
-last_stamp (_ ∷ calls) = last_stamp calls
+-- there are a stamp and a snapshot, and the stamp is not above the snapshot
+abbrev pub is_at_or_below : Option ℕ → Option ℕ → Bool
+is_at_or_below (Some n) (Some s) = nat_le n s
+is_at_or_below _ _ = false
 
--- an open transaction may commit with the next stamp and distinct keys
-pub record MayCommit (t n : ℕ) (ks : List Key) (calls : List Call) : Type 0 where
-  pub opened : is_open t calls ≡ true
-  pub next : n ≡ suc (last_stamp calls)
-  pub apart : AllPairs (λ j k. key_eq j k ≡ false) ks
+-- t committed before u began: u's snapshot covers t's stamp
+abbrev pub precedes : ℕ → ℕ → List Call → Bool
+precedes t u calls = is_at_or_below (stamp_of t calls) (snapshot_of u calls)
 
--- a transaction may begin with a number above all earlier ones and the greatest stamp so far as its snapshot
-pub record MayBegin (t s : ℕ) (calls : List Call) : Type 0 where
-  pub above : (u : ℕ) → has_begun u calls ≡ true → u < t
-  pub current : s ≡ last_stamp calls
-
--- an open transaction may read a range that does not run downward
-pub record MayRead (t : ℕ) (low high : Key) (calls : List Call) : Type 0 where
-  pub opened : is_open t calls ≡ true
-  pub upward : key_le low high ≡ true
-
--- what a caller has to keep: numbers rise, snapshots and stamps count the commits, and only open transactions read,
--- commit and abort
-abbrev pub IsAllowed : Call → List Call → Type 0
-IsAllowed (Begins t s) calls = MayBegin t s calls
-IsAllowed (Reads t low high) calls = MayRead t low high calls
-IsAllowed (Commits t n ks) calls = MayCommit t n ks calls
-IsAllowed (Aborts t) calls = is_open t calls ≡ true
-
--- each call was allowed after those before it
-abbrev pub AreAllowed : List Call → Type 0
-AreAllowed [] = Unit {0}
-AreAllowed (c ∷ calls) = IsAllowed c calls × AreAllowed calls
+-- two different transactions, neither of which committed before the other began
+abbrev pub are_concurrent : ℕ → ℕ → List Call → Bool
+are_concurrent t u calls = not (t == u) && (not (precedes t u calls) && not (precedes u t calls))

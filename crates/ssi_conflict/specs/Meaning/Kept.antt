@@ -1,8 +1,7 @@
 -- Which transactions a tracker keeps: only these can still come into new pairs.
 use Rattle.std.specs.Prelude.{ℕ, Bool, not, ◌&&◌, ◌||◌, List, length, filter}
 use Rattle.std.specs.List.{list_any}
-use Rattle.ssi_conflict.specs.Meaning.Calls.{Call, is_committed, is_open, begun}
-use Rattle.ssi_conflict.specs.Meaning.Pairs.{precedes}
+use Rattle.ssi_conflict.specs.Meaning.Calls.{Call, is_committed, is_open, begun, precedes}
 
 -- open, or committed with a stamp above the snapshot of some open transaction
 abbrev pub is_kept : ℕ → List Call → Bool

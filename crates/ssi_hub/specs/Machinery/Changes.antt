@@ -2,11 +2,11 @@
 use Rattle.std.specs.Prelude.{◌≡◌, ◌≢◌, ℕ, Bool, List, nat_eq, Option, Some, None}
 use Rattle.std.specs.Map.{lookup}
 use Rattle.adya_values.specs.Meaning.Keys.{Bytes}
-use Rattle.ssi_hub.specs.Meaning.Buffers.{Buffers}
+use Rattle.ssi_hub.specs.Clauses.Buffers.{Buffers}
 use Rattle.ssi_store.specs.Meaning.Courses.{Course}
 use Rattle.ssi_line.specs.Meaning.Steps.{Step}
-use Rattle.ssi_hub.specs.Meaning.Clipping.{clipped}
-use Rattle.ssi_hub.specs.Meaning.Runs.{CarriedOut, IsEnough, left_by}
+use Rattle.ssi_hub.specs.Clauses.Clipping.{clipped}
+use Rattle.ssi_hub.specs.Clauses.Runs.{CarriedOut, IsEnough, left_by}
 use Rattle.ssi_hub.specs.declared.connections.Connections.{Connections}
 
 -- what the table has of the connection with this token

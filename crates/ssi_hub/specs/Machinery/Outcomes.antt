@@ -4,9 +4,9 @@ use Rattle.adya_values.specs.Meaning.Keys.{Bytes}
 use Rattle.adya_line.specs.Meaning.Lines.{IsPlain}
 use Rattle.ssi_store.specs.Meaning.Courses.{Course}
 use Rattle.ssi_line.specs.Meaning.Steps.{Step, IsStep, step_text, is_stop}
-use Rattle.ssi_line.specs.Meaning.Ends.{WentOn}
-use Rattle.ssi_hub.specs.Meaning.Clipping.{clipped}
-use Rattle.ssi_hub.specs.Meaning.Buffers.{Buffers}
+use Rattle.ssi_line.specs.Clauses.Ends.{WentOn}
+use Rattle.ssi_hub.specs.Clauses.Clipping.{clipped}
+use Rattle.ssi_hub.specs.Clauses.Buffers.{Buffers}
 use Rattle.ssi_hub.specs.declared.outcome.Outcome.{Outcome}
 use Rattle.ssi_hub.specs.declared.outcome.Outcome.TheVariants.{GoesOn, Stops, Lost}
 

@@ -1,9 +1,9 @@
 -- What a call wrote, and how a dump is answered.
 use Rattle.std.specs.Prelude.{◌≡◌, ◌++◌, ℕ, List, false, Option, Result, MatchResult}
 use Rattle.devices.specs.declared.watched.Watched.{Watched}
-use Rattle.devices.specs.Meaning.Writing.{Grew, Broke}
+use Rattle.devices.specs.Clauses.Writing.{Grew, Broke}
 use Rattle.adya_values.specs.Meaning.Histories.{History}
-use Rattle.adya_values.specs.Meaning.Acceptance.{IsAccepted}
+use Rattle.adya_values.specs.Clauses.Acceptance.{IsAccepted}
 use Rattle.adya_text.specs.Meaning.Texts.{history_text, serial_text}
 use Rattle.ssi_store.specs.Meaning.Courses.{Course}
 use Rattle.ssi_line.specs.Meaning.Spelling.{Dump, line_text}

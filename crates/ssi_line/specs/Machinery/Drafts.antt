@@ -3,7 +3,7 @@ use Rattle.std.specs.Prelude.{◌≡◌, ◌++◌, ℕ, List, true, false, Optio
 use Rattle.std.specs.Io.KnownBytes.{Appends}
 use Rattle.devices.specs.declared.watched.Watched.{Watched}
 use Rattle.devices.specs.Mirror.{has_failed, watched_contents}
-use Rattle.devices.specs.Meaning.Writing.{Broke}
+use Rattle.devices.specs.Clauses.Writing.{Broke}
 
 -- of the bytes all but those of the draft were appended
 pub record Gathered {D : Type 0} (contents : D → Option (List ℕ)) (old new : Watched D) (bytes draft : List ℕ)

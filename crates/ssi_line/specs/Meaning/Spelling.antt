@@ -2,11 +2,8 @@
 use Rattle.std.specs.Prelude.{◌≡◌, true, List, [], ◌∷◌, ◌++◌, codes, decimal}
 use Rattle.adya_values.specs.Meaning.Keys.{Bytes, is_key, is_value, IsMod}
 use Rattle.ssi_store.specs.Meaning.Sessions.{is_session}
-use Rattle.ssi_store.specs.Mirror.Commands.{command_of}
 use Rattle.ssi_store.specs.Meaning.Courses.{Command, Begin, Get, Put, Del, Scan, ScanFirst, Commit, Abort, Collect, Stat}
-use Rattle.ssi_line.specs.declared.line.Line.{Line as LineValue}
-use Rattle.ssi_line.specs.declared.line.Line.TheVariants as Of
-use Rattle.adya_line.specs.Meaning.Lines.{Spells, SpellsNone, SpellsOnly}
+use Rattle.adya_line.specs.Meaning.Lines.{Spells, SpellsNone}
 
 -- words with one space between them
 abbrev pub spaced : List Bytes → Bytes
@@ -38,8 +35,7 @@ IsCommand (ScanFirst s low high n) =
     (is_session s ≡ true) × (is_key low ≡ true) × (is_key high ≡ true) × IsMod n
 IsCommand (Commit s) = is_session s ≡ true
 IsCommand (Abort s) = is_session s ≡ true
-IsCommand Collect = Unit {0}
-IsCommand Stat = Unit {0}
+IsCommand _ = Unit {0}
 
 -- what a line asks for
 pub data Line : Type 0 where
@@ -49,11 +45,6 @@ pub data Line : Type 0 where
   -- give the history so far, with a certificate
   Dump : Line
 
-abbrev pub line_of : LineValue → Line
-line_of (Of.Do c) = Do (command_of c)
-line_of Of.Stop = Stop
-line_of Of.Dump = Dump
-
 abbrev pub line_text : Line → Bytes
 line_text (Do c) = command_text c
 line_text Stop = codes "stop"
@@ -61,15 +52,12 @@ line_text Dump = codes "dump"
 
 abbrev pub IsLine : Line → Type 0
 IsLine (Do c) = IsCommand c
-IsLine Stop = Unit {0}
-IsLine Dump = Unit {0}
+IsLine _ = Unit {0}
 
--- the text is that of the line; of no line; of this line, and of no other
+-- the text is that of the line
 abbrev pub IsLineOf : Line → Bytes → Type 0
 IsLineOf = Spells IsLine line_text
 
+-- the text is that of no line
 abbrev pub IsNoLine : Bytes → Type 0
 IsNoLine = SpellsNone IsLine line_text
-
-abbrev pub IsOnlyLineOf : Line → Bytes → Type 0
-IsOnlyLineOf = SpellsOnly IsLine line_text

@@ -1,8 +1,9 @@
--- What is made of each line of an input, what is written for it, and how the course of the store goes on.
+-- What is made of each line of an input, what is written for it, how the course of the store goes on, and which step
+-- ends a run.
 use Rattle.std.specs.Prelude.{◌≡◌, ◌<◌, ◌≤◌, Bool, true, false, List, [], ◌∷◌, ◌++◌, codes, length, flat_map, All}
 use Rattle.adya_values.specs.Meaning.Keys.{Bytes}
 use Rattle.adya_values.specs.Meaning.Histories.{Txns, History}
-use Rattle.adya_values.specs.Meaning.Acceptance.{IsAccepted}
+use Rattle.adya_values.specs.Clauses.Acceptance.{IsAccepted}
 use Rattle.adya_text.specs.Meaning.Texts.{history_text, serial_text}
 use Rattle.ssi_conflict.specs.Computing.Steps.{smallest_ordered_pivot}
 use Rattle.ssi_store.specs.Meaning.Courses.{Command, Answer, Refused, Memory, Course, Then}
@@ -83,3 +84,9 @@ is_stop _ = false
 -- no step ends the run
 abbrev pub AllGoOn : List Step → Type 0
 AllGoOn steps = All (λ s. is_stop s ≡ false) steps
+
+-- the run ended with the last step
+pub record EndsWith (steps : List Step) (last : Step) : Type 0 where
+  pub before : List Step
+  pub go_on : AllGoOn before
+  pub is : steps ≡ before ++ (last ∷ [])

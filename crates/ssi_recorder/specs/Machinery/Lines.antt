@@ -7,7 +7,8 @@ use Rattle.std.specs.BTreeMap.{BTreeMap, is_at}
 use Rattle.std.specs.Ordering.{nat_cmp}
 use Rattle.std.specs.Cmp.Lexicographic.{slice_cmp}
 use Rattle.adya_values.specs.declared.event.Entry.{Entry as EntryValue}
-use Rattle.adya_values.specs.Meaning.Histories.{Entry, Event, Order, FinalPair, entry_of}
+use Rattle.adya_values.specs.Meaning.Histories.{Entry, Event, Order, FinalPair}
+use Rattle.adya_values.specs.Mirror.Events.{entry_of}
 use Rattle.adya_values.specs.Meaning.Events.{last_write, last, shown}
 use Rattle.adya_values.specs.Meaning.Serial.{visible_pair_of}
 use Rattle.ssi_recorder.specs.Meaning.Recorded.{by_commit}

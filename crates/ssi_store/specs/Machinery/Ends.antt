@@ -2,7 +2,8 @@
 use Rattle.std.specs.Prelude.{◌≡◌, ℕ, true, List, [], ◌∷◌, Option, Some, None}
 use Rattle.adya_values.specs.Meaning.Keys.{key_eq}
 use Rattle.ssi_conflict.specs.Computing.Steps.{smallest_ordered_pivot}
-use Rattle.ssi_store.specs.Meaning.Courses.{Command, Answer, Course, Then, is_of, is_proper, txn_in, txn_for, txn_after, next_txn}
+use Rattle.ssi_store.specs.Meaning.Courses.{Command, Answer, Course, Then, is_of, txn_in, txn_for, txn_after, next_txn}
+use Rattle.ssi_store.specs.Clauses.Following.{is_proper}
 use Rattle.ssi_store.specs.Meaning.Acts.{Aborts, act_by}
 use Rattle.ssi_store.specs.Meaning.Replies.{IsAnswer}
 

@@ -3,9 +3,11 @@ use Rattle.std.specs.Prelude.{◌≡◌, ℕ, true, List, [], ◌∷◌, ◌++�
 use Rattle.adya_values.specs.Meaning.Keys.{key_eq}
 use Rattle.adya_values.specs.Meaning.Histories.{Event}
 use Rattle.ssi_conflict.specs.Computing.Steps.{smallest_ordered_pivot}
-use Rattle.ssi_conflict.specs.Meaning.Calls.{Call, AreAllowed}
+use Rattle.ssi_conflict.specs.Meaning.Calls.{Call}
+use Rattle.ssi_conflict.specs.Clauses.Allowed.{AreAllowed}
 use Rattle.ssi_store.specs.Meaning.Acts.{Act, Begins, Writes, Gets, Scans, Commits, Aborts, Collects, acts, act_by}
-use Rattle.ssi_store.specs.Meaning.Courses.{Command, Answer, Course, Then, Unsafe, is_of, is_proper, txn_in, txn_for, txn_after, next_txn}
+use Rattle.ssi_store.specs.Meaning.Courses.{Command, Answer, Course, Then, Unsafe, is_of, txn_in, txn_for, txn_after, next_txn}
+use Rattle.ssi_store.specs.Clauses.Following.{is_proper}
 use Rattle.ssi_store.specs.Meaning.Recording.{recorded}
 use Rattle.ssi_store.specs.Meaning.Replies.{reply, may_run_out_of_memory, unless_pivot}
 use Rattle.ssi_store.specs.Meaning.Tracked.{tracked}

@@ -2,7 +2,7 @@
 use Rattle.std.specs.Prelude.{◌≡◌, ℕ, suc, cond, List, Option, Some}
 use Rattle.std.specs.Map.{lookup}
 use Rattle.adya_values.specs.Meaning.Keys.{key_eq}
-use Rattle.ssi_snapshot.specs.Meaning.Listings.{keys}
+use Rattle.ssi_snapshot.specs.Clauses.Listings.{keys}
 use Rattle.ssi_snapshot.specs.Mirror.{txn_of, snapshot_of, written, own, IsAsBefore}
 use Rattle.ssi_store.specs.Meaning.Acts.{Act, operations}
 use Rattle.ssi_store.specs.Meaning.Seeing.{snapshot, own_write, own_keys}

@@ -3,7 +3,8 @@ use Rattle.std.specs.Prelude.{◌≡◌, ℕ, Bool, true, false, if◌then◌els
 use Rattle.adya_values.specs.declared.event.Version.{Version}
 use Rattle.adya_values.specs.declared.event.Content.{Content}
 use Rattle.adya_values.specs.Meaning.Keys.{key_lt, key_le}
-use Rattle.ssi_versions.specs.Meaning.Changes.{Held, newest, is_above}
+use Rattle.ssi_versions.specs.Meaning.Changes.{Held}
+use Rattle.ssi_versions.specs.Clauses.ByStamp.{newest, is_above}
 use Rattle.ssi_versions.specs.Mirror.{chain_of}
 use Rattle.ssi_store.specs.Meaning.Replies.{writer_in}
 use Rattle.ssi_store.specs.declared.overtaken.Overtaken.{Overtaken}

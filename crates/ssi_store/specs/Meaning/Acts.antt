@@ -3,7 +3,7 @@
 use Rattle.std.specs.Prelude.{ℕ, suc, ◌==◌, Bool, false, not, ◌&&◌, ◌||◌, if◌then◌else◌, List, [], ◌∷◌, ◌++◌, Option, Some, None, filter}
 use Rattle.adya_values.specs.Meaning.Keys.{Key}
 use Rattle.adya_values.specs.Meaning.Histories.{Txns, Content, Live, Dead}
-use Rattle.ssi_snapshot.specs.Meaning.Listings.{reached}
+use Rattle.ssi_snapshot.specs.Meaning.Reached.{reached}
 use Rattle.ssi_store.specs.Meaning.Courses.{Command, Command as Do, Answer, Begun, Value, Absent, Done, Rows, Committed, Aborted, Conflict, Unsafe, Kept, Course, New, Then, txn_for}
 
 -- a transaction begins, writes a key, gets a key, scans a range, commits or aborts; and old versions are collected
@@ -37,7 +37,6 @@ act_by t command (Kept n) = Collects ∷ []
 act_by (Some t) command answer = act_of t command answer
 act_by None command answer = []
 
--- all acts of a course
 abbrev pub acts : Course → List Act
 acts (New first) = []
 acts (Then c command answer) = act_by (txn_for command c) command answer ++ acts c

@@ -1,9 +1,9 @@
 -- Commands, answers and courses of a store, and which transaction a session has.
-use Rattle.std.specs.Prelude.{ℕ, suc, Bool, true, false, nat_lt, if◌then◌else◌, List, Option, Some, None}
+use Rattle.std.specs.Prelude.{ℕ, suc, Bool, false, if◌then◌else◌, List, Option, Some, None}
 use Rattle.adya_values.specs.Meaning.Keys.{Key, Bytes, key_eq}
 use Rattle.adya_values.specs.Meaning.Histories.{FinalPair}
 
--- what a session, or an operator, asks of a store; sessions, keys and values are lists of bytes
+-- what a session, or an operator, asks of a store
 pub data Command : Type 0 where
   Begin : (session : Bytes) → Command
   Get : (session : Bytes) (key : Key) → Command
@@ -69,8 +69,7 @@ is_of s (Scan r low high) = key_eq r s
 is_of s (ScanFirst r low high n) = key_eq r s
 is_of s (Commit r) = key_eq r s
 is_of s (Abort r) = key_eq r s
-is_of s Collect = false
-is_of s Stat = false
+is_of s _ = false
 
 -- what transaction a session has after an answer, if it had this one before
 abbrev pub txn_after : Option ℕ → Answer → Option ℕ
@@ -96,16 +95,10 @@ txn_for (Scan s low high) c = txn_in s c
 txn_for (ScanFirst s low high n) c = txn_in s c
 txn_for (Commit s) c = txn_in s c
 txn_for (Abort s) c = txn_in s c
-txn_for Collect c = None
-txn_for Stat c = None
+txn_for _ c = None
 
 -- the number that the next begin gives
 abbrev pub next_txn : Course → ℕ
 next_txn (New first) = first
 next_txn (Then c command (Begun n)) = suc n
 next_txn (Then c command answer) = next_txn c
-
--- a limit is at least one row
-abbrev pub is_proper : Command → Bool
-is_proper (ScanFirst s low high n) = nat_lt 0 n
-is_proper command = true

@@ -4,7 +4,7 @@ use Rattle.adya_values.specs.Meaning.Keys.{Key, Bytes}
 use Rattle.adya_values.specs.Meaning.Histories.{Content, Live, Dead, Event, Write, Delete, Read, Scan, Commit, Abort, FinalPair, History}
 use Rattle.adya_values.specs.Meaning.Serial.{visible_pairs}
 use Rattle.ssi_store.specs.Meaning.Courses.{Command, Command as Do, Answer, Value, Absent, Done, Rows, Committed, Aborted, Conflict, Unsafe, Course, New, Then, txn_for}
-use Rattle.ssi_snapshot.specs.Meaning.Listings.{reached}
+use Rattle.ssi_snapshot.specs.Meaning.Reached.{reached}
 use Rattle.ssi_store.specs.Meaning.Acts.{acts, open_txns}
 
 -- what a step or an event shows to the outside

@@ -10,8 +10,8 @@ use Rattle.adya_values.specs.Meaning.Serial.{visible_pairs}
 use Rattle.ssi_conflict.specs.Meaning.Calls.{Call}
 use Rattle.ssi_conflict.specs.Meaning.Kept.{kept_count, open_count}
 use Rattle.ssi_versions.specs.Meaning.Changes.{Held, last_version, is_installed_above, held_count, key_count}
-use Rattle.ssi_store.specs.Meaning.Courses.{Command, Command as Do, Busy, Idle, Range, Long, Spent, Memory, Answer, Begun, Value, Absent, Done, Rows, Committed, Aborted, Conflict, Unsafe, Kept, Counts, Refused, Course, New, Then, txn_for, next_txn, is_proper}
-use Rattle.ssi_snapshot.specs.Meaning.Listings.{reached}
+use Rattle.ssi_store.specs.Meaning.Courses.{Command, Command as Do, Busy, Idle, Range, Long, Spent, Memory, Answer, Begun, Value, Absent, Done, Rows, Committed, Aborted, Conflict, Unsafe, Kept, Counts, Refused, Course, txn_for, next_txn}
+use Rattle.ssi_snapshot.specs.Meaning.Reached.{reached}
 use Rattle.ssi_store.specs.Meaning.Acts.{Act, Gets, Scans, Commits, Collects, acts, operations}
 use Rattle.ssi_store.specs.Meaning.Seeing.{snapshot, wrote, sees, keys, scanned, changed}
 use Rattle.ssi_store.specs.Meaning.Tracked.{tracked}
@@ -122,8 +122,3 @@ abbrev pub IsAnswer : (List Call → Option ℕ) → Course → Command → Answ
 IsAnswer pivot c command answer =
     (answer ≡ reply pivot c command) ⊎
     ((answer ≡ Refused Memory) × (may_run_out_of_memory command (reply pivot c command) ≡ true))
-
--- each command may be given, and each answer is one to the command after those before
-abbrev pub Follows : (List Call → Option ℕ) → Course → Type 0
-Follows pivot (New first) = Unit {0}
-Follows pivot (Then c command answer) = (is_proper command ≡ true) × IsAnswer pivot c command answer × Follows pivot c

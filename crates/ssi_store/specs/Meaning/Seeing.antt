@@ -20,7 +20,6 @@ snapshot t [] = 0
 snapshot t (Begins u ∷ log) = if u == t then commit_count log else snapshot t log
 snapshot t (a ∷ log) = snapshot t log
 
--- the snapshots of the open transactions
 abbrev pub open_snapshots : List Act → List ℕ
 open_snapshots log = map (λ t. snapshot t log) (open_txns log)
 

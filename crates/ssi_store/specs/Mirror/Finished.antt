@@ -1,7 +1,7 @@
 -- What is seen of a finished store.
 use Rattle.std.specs.Prelude.{ℕ, List}
 use Rattle.adya_values.specs.Meaning.Histories.{History}
-use Rattle.adya_values.specs.Mirror.{history_of}
+use Rattle.adya_values.specs.Mirror.Histories.{history_of}
 use Rattle.ssi_store.specs.declared.finish.Finished.{Finished}
 
 -- its history

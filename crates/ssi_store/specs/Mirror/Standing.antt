@@ -15,7 +15,7 @@ use Rattle.ssi_store.specs.Meaning.Courses.{Command, Answer, Course, Then, txn_i
 use Rattle.ssi_store.specs.Meaning.Acts.{Act, acts, begun, open_txns}
 use Rattle.ssi_store.specs.Meaning.Seeing.{commit_count, snapshot, changed}
 use Rattle.ssi_store.specs.Meaning.Tracked.{tracked}
-use Rattle.ssi_store.specs.Meaning.Replies.{Follows}
+use Rattle.ssi_store.specs.Clauses.Following.{Follows}
 use Rattle.ssi_store.specs.Meaning.Recording.{events}
 use Rattle.ssi_store.specs.Machinery.Opens.{Sessions, open_at, number_of, IsOpen}
 use Rattle.ssi_store.specs.Mirror.Rosters.{open_in, snapshots_of}

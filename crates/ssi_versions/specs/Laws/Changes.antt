@@ -1,7 +1,9 @@
 -- That collections drop nothing that is still asked for.
 use Rattle.std.specs.Prelude.{◌≡◌, ℕ, List, ◌∷◌, filter, Contains}
 use Rattle.adya_values.specs.Meaning.Keys.{Key}
-use Rattle.ssi_versions.specs.Meaning.Changes.{Change, Collects, contents, last_version, is_installed_above, is_above, is_wanted, held, newest, newest_within, IsByStamp, AreInstallable, IsProtected}
+use Rattle.ssi_versions.specs.Meaning.Changes.{Change, Collects, contents, last_version, is_installed_above, held}
+use Rattle.ssi_versions.specs.Clauses.ByStamp.{is_above, is_wanted, newest, newest_within, IsByStamp}
+use Rattle.ssi_versions.specs.Clauses.Conditions.{AreInstallable, IsProtected}
 
 -- held versions of a key stand by stamp
 abbrev pub HeldRises : Type 0

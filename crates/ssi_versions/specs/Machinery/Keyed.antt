@@ -8,7 +8,8 @@ use Rattle.std.specs.Ordering.{nat_cmp}
 use Rattle.std.specs.Cmp.Lexicographic.{slice_cmp}
 use Rattle.std.specs.declared.ops.Bound.TheVariants.{Included}
 use Rattle.smallvec.specs.SmallVec.{SmallVec, HasRoomFor}
-use Rattle.ssi_versions.specs.Meaning.Changes.{Held, newest_within, IsByStamp}
+use Rattle.ssi_versions.specs.Meaning.Changes.{Held}
+use Rattle.ssi_versions.specs.Clauses.ByStamp.{newest_within, IsByStamp}
 use Rattle.ssi_versions.specs.declared.place.Place.{Place}
 use Rattle.ssi_versions.specs.Mirror.{held_of, is_of}
 use Rattle.ssi_versions.specs.Computing.Kept.{is_kept_before, next_stamp}

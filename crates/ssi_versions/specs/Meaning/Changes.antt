@@ -1,8 +1,8 @@
 -- What a store of versions is told: what each commit installs, and collections with the snapshots that were open at the
--- time. The newest change stands first. Everything here looks back over all installs; only `held` depends on collections.
-use Rattle.std.specs.Prelude.{◌≡◌, ℕ, ◌==◌, ◌<◌, ◌≤◌, ◌⊎◌, Bool, false, not, ◌&&◌, ◌||◌, nat_lt, nat_le, if◌then◌else◌, List, [], ◌∷◌, ◌++◌, length, Option, Some, None, is_some, filter, flat_map, Contains}
-use Rattle.std.specs.List.{list_any, AllPairs}
-use Rattle.adya_values.specs.Meaning.Keys.{Key, key_eq}
+-- time. The newest change stands first. Only `held` depends on collections.
+use Rattle.std.specs.Prelude.{ℕ, ◌==◌, Bool, false, not, ◌&&◌, ◌||◌, nat_lt, nat_le, if◌then◌else◌, List, [], ◌∷◌, ◌++◌, length, Option, Some, None, is_some, filter, flat_map}
+use Rattle.std.specs.List.{list_any}
+use Rattle.adya_values.specs.Meaning.Keys.{Key}
 use Rattle.adya_values.specs.Meaning.Histories.{Entry}
 use Rattle.adya_values.specs.Meaning.Events.{listed}
 use Rattle.adya_values.specs.Meaning.KeySets.{insert}
@@ -88,48 +88,3 @@ held_count changes = length (flat_map (λ k. held k changes) (installed_keys cha
 -- how many keys have a held version
 abbrev pub key_count : List Change → ℕ
 key_count changes = length (filter (λ k. not (length (held k changes) == 0)) (installed_keys changes))
-
--- of versions in the order of their stamps, the newest one whose stamp is not above s
-abbrev pub newest_within : ℕ → List Held → Option Held
-newest_within s [] = None
-newest_within s (h ∷ hs) = otherwise (newest_within s hs) (if nat_le h.stamp s then Some h else None)
-
--- of versions in the order of their stamps, the last one
-abbrev pub newest : List Held → Option Held
-newest [] = None
-newest (h ∷ hs) = otherwise (newest hs) (Some h)
-
--- each has a greater stamp than those before it
-abbrev pub IsByStamp : List Held → Type 0
-IsByStamp hs = AllPairs (λ g h. g.stamp < h.stamp) hs
-
--- the greatest stamp so far
-abbrev pub last_installed : List Change → ℕ
-last_installed [] = 0
-last_installed (Installs n ws ∷ changes) = n
-last_installed (Collects ss ∷ changes) = last_installed changes
-
--- no two writes are of one key
-abbrev pub AreApart : List Entry → Type 0
-AreApart ws = AllPairs (λ v w. key_eq v.version.key w.version.key ≡ false) ws
-
--- the conditions on the caller: each install has a stamp above all earlier ones, and at most one version of each key
-abbrev pub AreInstallable : List Change → Type 0
-AreInstallable [] = Unit {0}
-AreInstallable (Installs n ws ∷ changes) = (last_installed changes < n) × AreApart ws × AreInstallable changes
-AreInstallable (Collects ss ∷ changes) = AreInstallable changes
-
--- each collection was told of the snapshot, or came before any stamp above it
-abbrev pub IsProtected : ℕ → List Change → Type 0
-IsProtected s [] = Unit {0}
-IsProtected s (Installs n ws ∷ changes) = IsProtected s changes
-IsProtected s (Collects ss ∷ changes) = (Contains ss s ⊎ (last_installed changes ≤ s)) × IsProtected s changes
-
--- there is a version, and its stamp is above s
-abbrev pub is_above : ℕ → Option Held → Bool
-is_above s None = false
-is_above s (Some h) = nat_lt s h.stamp
-
--- of versions that stand by stamp, the last one or one that a snapshot sees
-abbrev pub is_wanted : List ℕ → List Held → Held → Bool
-is_wanted ss hs h = has_stamp h.stamp (newest hs) || list_any (λ s. has_stamp h.stamp (newest_within s hs)) ss

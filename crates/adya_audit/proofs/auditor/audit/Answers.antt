@@ -1,4 +1,4 @@
-use Rattle.adya_values.specs.Mirror.{history_of}
+use Rattle.adya_values.specs.Mirror.Histories.{history_of}
 use Rattle.adya_audit.proofs.YesIffAccepted.{result_yes, result_promise}
 use Rattle.adya_audit.proofs.auditor.audit.Goals as goal
 

@@ -2,8 +2,8 @@ use Rattle.std.proofs.Common.{◌&&◌, ℕ, map, sym, ◌∙◌, ap, nat_cmp}
 use Rattle.std.specs.List.{list_all}
 use Rattle.std.specs.BTreeSet.{contains}
 use Rattle.std.proofs.lemmas.List.Folds.{list_all-map}
-use Rattle.adya_values.specs.Meaning.Histories.{event_of}
-use Rattle.adya_values.specs.Mirror.{history_of}
+use Rattle.adya_values.specs.Mirror.Events.{event_of}
+use Rattle.adya_values.specs.Mirror.Histories.{history_of}
 use Rattle.adya_audit.specs.Machinery.ExactlyTheCommitted.{commit_passes}
 use Rattle.adya_audit.proofs.ExactlyTheCommitted.{twice_fails, lists_by_set}
 use Rattle.adya_audit.proofs.exactly_the_committed.lists_the_committed.Goals as goal

@@ -2,10 +2,10 @@ use Rattle.std.proofs.Common.{◌≡◌, Option, None, option_map, flat_map, ◌
 use Rattle.std.specs.List.{find}
 use Rattle.std.proofs.lemmas.Result.{IfOk-weaker}
 use Rattle.adya_values.specs.declared.history.History.{History as HistoryValue}
-use Rattle.adya_values.specs.Mirror.{history_of, serial_txns}
+use Rattle.adya_values.specs.Mirror.Histories.{history_of, serial_txns}
 use Rattle.adya_values.specs.Computing.EdgeList.{event_edges}
 use Rattle.adya_values.specs.Computing.Certificates.{first_backward}
-use Rattle.adya_terms.specs.Meaning.Checked.{history_in}
+use Rattle.adya_terms.specs.Clauses.Checked.{history_in}
 use Rattle.adya_dsg.specs.declared.edge.Edge.{Edge}
 use Rattle.adya_dsg.specs.Mirror.{edge_of}
 use Rattle.adya_dsg.specs.Machinery.PartEdges.{is_backward}

@@ -1,6 +1,6 @@
 use Rattle.std.proofs.Common.{rules, ◌++◌, not, map, option_map, sym, ◌∙◌, ap}
 use Rattle.std.specs.List.{find}
-use Rattle.adya_values.specs.Meaning.Histories.{event_of}
+use Rattle.adya_values.specs.Mirror.Events.{event_of}
 use Rattle.adya_dsg.specs.Machinery.VersionOrders.{ordered_history}
 use Rattle.adya_dsg.specs.Mirror.{edge_of}
 use Rattle.adya_dsg.specs.Machinery.PartEdges.{is_backward}

@@ -1,6 +1,7 @@
 use Rattle.std.proofs.Common.{◌+◌, map, option_map, drop, filter, flat_map, sym, ◌∙◌, ap}
 use Rattle.std.specs.List.{find}
-use Rattle.adya_values.specs.Meaning.Histories.{Event, event_of}
+use Rattle.adya_values.specs.Meaning.Histories.{Event}
+use Rattle.adya_values.specs.Mirror.Events.{event_of}
 use Rattle.adya_values.specs.Meaning.Events.{txn_of, is_committed}
 use Rattle.adya_values.specs.Computing.EdgeList.{event_edges}
 use Rattle.adya_dsg.specs.Machinery.VersionOrders.{ordered_history}

@@ -1,6 +1,6 @@
 use Rattle.std.proofs.Common.{◌≡◌, map, drop, filter, flat_map}
 use Rattle.std.specs.List.{find}
-use Rattle.adya_values.specs.Meaning.Histories.{event_of}
+use Rattle.adya_values.specs.Mirror.Events.{event_of}
 use Rattle.adya_values.specs.Meaning.Events.{txn_of, is_committed}
 use Rattle.adya_values.specs.Computing.EdgeList.{event_edges}
 use Rattle.adya_dsg.specs.Machinery.VersionOrders.{ordered_history}

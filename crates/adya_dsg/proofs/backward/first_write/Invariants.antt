@@ -1,6 +1,6 @@
 use Rattle.std.proofs.Common.{◌≡◌, map, drop, flat_map}
 use Rattle.std.specs.List.{find}
-use Rattle.adya_values.specs.Meaning.Histories.{order_of}
+use Rattle.adya_values.specs.Mirror.Events.{order_of}
 use Rattle.adya_dsg.specs.Machinery.PartEdges.{line_edges, is_backward}
 use Rattle.adya_dsg.proofs.backward.first_write.Given as goal
 

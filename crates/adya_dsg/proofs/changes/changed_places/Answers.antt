@@ -1,11 +1,12 @@
 use Rattle.std.proofs.Common.{◌≡◌, ◌+◌, ◌<◌, ◌++◌, ℕ, suc, List, Vec, Global, filter, length, drop, get_or, Some, is_some, slice_get, sym, ◌∙◌, ap, subst}
 use Rattle.std.specs.Prelude.{option_and_then}
 use Rattle.std.proofs.lemmas.Option.{get_or_from_slice_get, slice_get-get_or}
-use Rattle.adya_values.specs.Meaning.Histories.{History, Order, order_of}
+use Rattle.adya_values.specs.Meaning.Histories.{History, Order}
+use Rattle.adya_values.specs.Mirror.Events.{order_of}
 use Rattle.adya_values.specs.Meaning.Events.{last_write, shown}
 use Rattle.adya_values.specs.Meaning.Selections.{changes_matches}
 use Rattle.adya_values.specs.Computing.EdgeList.{numbers}
-use Rattle.adya_terms.specs.Meaning.Checked.{checked_history, installed_at}
+use Rattle.adya_terms.specs.Clauses.Checked.{checked_history, installed_at}
 use Rattle.adya_dsg.proofs.ChangedPlaces.{visible_next, change_noted, change_passed}
 use Rattle.adya_dsg.proofs.changes.changed_places.Goals as goal
 use Rattle.adya_dsg.proofs.changes.changed_places.Goals.{then-now-was+in_ok-push, else-now-was}

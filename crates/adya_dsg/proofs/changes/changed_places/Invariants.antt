@@ -2,7 +2,7 @@ use Rattle.std.proofs.Common.{◌≡◌, suc, ◌++◌, length, drop, filter}
 use Rattle.adya_values.specs.Meaning.Orders.{is_visible_at}
 use Rattle.adya_values.specs.Meaning.Selections.{changes_matches}
 use Rattle.adya_values.specs.Computing.EdgeList.{numbers}
-use Rattle.adya_terms.specs.Meaning.Checked.{checked_history}
+use Rattle.adya_terms.specs.Clauses.Checked.{checked_history}
 use Rattle.adya_dsg.specs.Machinery.Links.{changed_places}
 use Rattle.adya_dsg.proofs.changes.changed_places.Given as goal
 

@@ -1,8 +1,9 @@
 use Rattle.std.proofs.Common.{◌+◌, ◌++◌, [], ◌∷◌, ℕ, List, Vec, Global, map, drop, slice_get, ◌∙◌, ap}
 use Rattle.std.proofs.lemmas.List.{map-append}
-use Rattle.adya_values.specs.Meaning.Histories.{Order, order_of}
+use Rattle.adya_values.specs.Meaning.Histories.{Order}
+use Rattle.adya_values.specs.Mirror.Events.{order_of}
 use Rattle.adya_values.specs.Meaning.Orders.{line_of}
-use Rattle.adya_terms.specs.Meaning.Checked.{checked_history, history_in}
+use Rattle.adya_terms.specs.Clauses.Checked.{checked_history, history_in}
 use Rattle.adya_dsg.specs.Machinery.Links.{changed_places}
 use Rattle.adya_dsg.proofs.Keys.{line_of-at}
 use Rattle.lemmas.proofs.Steps.{map_step, turn}

@@ -1,6 +1,6 @@
 use Rattle.std.proofs.Common.{◌≡◌, ◌++◌, map, drop}
-use Rattle.adya_values.specs.Meaning.Histories.{order_of}
-use Rattle.adya_terms.specs.Meaning.Checked.{checked_history}
+use Rattle.adya_values.specs.Mirror.Events.{order_of}
+use Rattle.adya_terms.specs.Clauses.Checked.{checked_history}
 use Rattle.adya_dsg.specs.Machinery.Links.{changed_places}
 use Rattle.adya_dsg.proofs.changes.line_changes.Given as goal
 

@@ -1,6 +1,6 @@
 use Rattle.std.proofs.Common.{◌≡◌, ◌&&◌, not, false, slice_get, sym, ◌∙◌, ap}
 use Rattle.std.proofs.lemmas.Bool.{and_left, and_right}
-use Rattle.adya_values.specs.Meaning.Histories.{event_of}
+use Rattle.adya_values.specs.Mirror.Events.{event_of}
 use Rattle.adya_values.specs.Meaning.Orders.{is_visible_at}
 use Rattle.adya_values.specs.Meaning.Selections.{is_scan}
 use Rattle.adya_dsg.specs.Machinery.VersionOrders.{ordered_history}

@@ -1,8 +1,9 @@
 use Rattle.std.proofs.Common.{◌+◌, ◌++◌, [], ◌∷◌, List, map, drop, sym, ◌∙◌, ap}
 use Rattle.std.proofs.lemmas.List.{map-append}
-use Rattle.adya_values.specs.Meaning.Histories.{Order, order_of}
+use Rattle.adya_values.specs.Meaning.Histories.{Order}
+use Rattle.adya_values.specs.Mirror.Events.{order_of}
 use Rattle.adya_values.specs.Meaning.Orders.{line_of, writers}
-use Rattle.adya_terms.specs.Meaning.Checked.{checked_history, history_in}
+use Rattle.adya_terms.specs.Clauses.Checked.{checked_history, history_in}
 use Rattle.adya_dsg.specs.declared.txn_places.TxnPlaces.{TxnPlaces}
 use Rattle.adya_dsg.specs.Machinery.Places.{tabled}
 use Rattle.adya_dsg.proofs.Keys.{line_of-at}

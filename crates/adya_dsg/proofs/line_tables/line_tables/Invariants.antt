@@ -1,7 +1,7 @@
 use Rattle.std.proofs.Common.{◌≡◌, ◌++◌, map, drop}
-use Rattle.adya_values.specs.Meaning.Histories.{order_of}
+use Rattle.adya_values.specs.Mirror.Events.{order_of}
 use Rattle.adya_values.specs.Meaning.Orders.{writers}
-use Rattle.adya_terms.specs.Meaning.Checked.{checked_history}
+use Rattle.adya_terms.specs.Clauses.Checked.{checked_history}
 use Rattle.adya_dsg.specs.Machinery.Places.{tabled}
 use Rattle.adya_dsg.proofs.line_tables.line_tables.Given as goal
 

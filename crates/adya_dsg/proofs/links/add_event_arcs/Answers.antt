@@ -1,5 +1,6 @@
 use Rattle.std.proofs.Common.{◌+◌, ◌++◌, List, Vec, Global, map, drop, filter, flat_map, sym, ◌∙◌, ap}
-use Rattle.adya_values.specs.Meaning.Histories.{Event, event_of}
+use Rattle.adya_values.specs.Meaning.Histories.{Event}
+use Rattle.adya_values.specs.Mirror.Events.{event_of}
 use Rattle.adya_values.specs.Meaning.Events.{txn_of, is_committed}
 use Rattle.digraph.specs.declared.arc.Arc.{Arc}
 use Rattle.adya_dsg.specs.Machinery.VersionOrders.{ordered_history}

@@ -1,5 +1,5 @@
 use Rattle.std.proofs.Common.{◌≡◌, ◌++◌, map, drop, flat_map}
-use Rattle.adya_values.specs.Meaning.Histories.{order_of}
+use Rattle.adya_values.specs.Mirror.Events.{order_of}
 use Rattle.adya_dsg.specs.Machinery.PartEdges.{line_edges}
 use Rattle.adya_dsg.specs.Machinery.Arcs.{ends}
 use Rattle.adya_dsg.proofs.links.add_write_arcs.Given as goal

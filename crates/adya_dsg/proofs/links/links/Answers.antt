@@ -1,7 +1,8 @@
 use Rattle.std.proofs.Common.{◌≡◌, ◌++◌, true, List, map, flat_map, ◌∙◌, sym, ap, subst}
 use Rattle.adya_values.specs.declared.order.Order.{Order as OrderValue}
 use Rattle.adya_values.specs.Meaning.Keys.{keys_rise}
-use Rattle.adya_values.specs.Meaning.Histories.{Order, order_of}
+use Rattle.adya_values.specs.Meaning.Histories.{Order}
+use Rattle.adya_values.specs.Mirror.Events.{order_of}
 use Rattle.digraph.specs.declared.arc.Arc.{Arc}
 use Rattle.adya_dsg.specs.Machinery.VersionOrders.{ordered_history}
 use Rattle.adya_dsg.specs.Machinery.Arcs.{ends}

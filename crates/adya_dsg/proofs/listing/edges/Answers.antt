@@ -1,10 +1,10 @@
 use Rattle.std.proofs.Common.{◌≡◌, ◌≢◌, List, Vec, Global, Result, Ok, Err, IfOk, map, sym, ap, subst}
 use Rattle.std.specs.List.{AllPairs}
 use Rattle.adya_values.specs.declared.history.History.{History as HistoryValue}
-use Rattle.adya_values.specs.Mirror.{history_of}
+use Rattle.adya_values.specs.Mirror.Histories.{history_of}
 use Rattle.adya_values.specs.Meaning.Edges.{Edge}
 use Rattle.adya_values.specs.Computing.EdgeList.{edge_list}
-use Rattle.adya_terms.specs.Meaning.Checked.{checked_history}
+use Rattle.adya_terms.specs.Clauses.Checked.{checked_history}
 use Rattle.adya_dsg.specs.Machinery.VersionOrders.{ordered_history}
 use Rattle.adya_dsg.specs.Mirror.{edge_of, AreEdges}
 use Rattle.adya_dsg.specs.declared.edge.Edge.{Edge as EdgeValue}

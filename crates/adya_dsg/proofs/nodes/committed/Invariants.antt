@@ -1,6 +1,6 @@
 use Rattle.std.proofs.Common.{◌≡◌, All, map, take}
 use Rattle.adya_values.specs.Meaning.Keys.{IsTxn}
-use Rattle.adya_values.specs.Meaning.Histories.{event_of}
+use Rattle.adya_values.specs.Mirror.Events.{event_of}
 use Rattle.adya_dsg.specs.Machinery.Nodes.{committed}
 use Rattle.adya_dsg.proofs.nodes.committed.Given as goal
 

@@ -1,8 +1,8 @@
 use Rattle.std.proofs.Common.{All, sym, subst, ◌∙◌}
-use Rattle.digraph.specs.Meaning.Graphs.{IsCycle as IsArcCycle, IsOrderOrCycle}
+use Rattle.digraph.specs.Clauses.Graphs.{IsCycle as IsArcCycle, IsOrderOrCycle}
 use Rattle.adya_values.specs.Meaning.Keys.{IsTxn}
 use Rattle.adya_values.specs.Computing.EdgeList.{edge_list}
-use Rattle.adya_values.specs.Meaning.Acceptance.{IsAccepted}
+use Rattle.adya_values.specs.Clauses.Acceptance.{IsAccepted}
 use Rattle.adya_dsg.specs.Machinery.Arcs.{AreEnds}
 use Rattle.adya_dsg.specs.Machinery.VersionOrders.{ordered_history}
 use Rattle.adya_dsg.proofs.CommittedNodes.{order_has_numbers}

@@ -1,10 +1,10 @@
 use Rattle.std.proofs.Common.{◌≡◌, ◌↔◌, IfOk, subst}
-use Rattle.adya_values.specs.Mirror.{history_of}
+use Rattle.adya_values.specs.Mirror.Histories.{history_of}
 use Rattle.adya_values.specs.declared.history.History.{History as HistoryValue}
 use Rattle.adya_values.specs.Meaning.Phenomena.{HasG1, HasG2}
-use Rattle.adya_values.specs.Meaning.Acceptance.{IsChecked}
-use Rattle.adya_terms.specs.Meaning.Checked.{checked_history, history_in}
-use Rattle.adya_dsg.specs.Meaning.Found.{IsFound, HasCertificate}
+use Rattle.adya_values.specs.Clauses.Acceptance.{IsChecked}
+use Rattle.adya_terms.specs.Clauses.Checked.{checked_history, history_in}
+use Rattle.adya_dsg.specs.Clauses.Found.{IsFound, HasCertificate}
 use Rattle.adya_dsg.specs.Laws.{CertifiedIffNoPhenomenon}
 use Rattle.adya_dsg.proofs.Certificates.{none_beside_result}
 use Rattle.adya_dsg.proofs.ordering.order.Goals as goal

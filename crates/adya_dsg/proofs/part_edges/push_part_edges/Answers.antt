@@ -1,7 +1,8 @@
 use Rattle.std.proofs.Common.{◌≡◌, ◌++◌, true, List, map, OnOk, append-nil, sym, ◌∙◌, ap, subst, arith}
 use Rattle.adya_values.specs.declared.order.Order.{Order as OrderValue}
 use Rattle.adya_values.specs.Meaning.Keys.{keys_rise}
-use Rattle.adya_values.specs.Meaning.Histories.{Order, event_of, order_of}
+use Rattle.adya_values.specs.Meaning.Histories.{Order}
+use Rattle.adya_values.specs.Mirror.Events.{event_of, order_of}
 use Rattle.adya_values.specs.Meaning.Edges.{Edge}
 use Rattle.adya_dsg.specs.Machinery.VersionOrders.{ordered_history}
 use Rattle.adya_dsg.specs.Mirror.{edge_of}

@@ -1,9 +1,9 @@
 use Rattle.std.proofs.Common.{◌<◌, ℕ, option_map, option_to_list, ◌∷◌, [], sym, ◌∙◌, ap, subst}
 use Rattle.std.proofs.lemmas.Bool.{and_parts}
 use Rattle.std.proofs.lemmas.List.{length-map}
-use Rattle.adya_values.specs.Meaning.Histories.{order_of}
-use Rattle.adya_values.specs.Mirror.{history_of}
-use Rattle.adya_terms.specs.Meaning.Checked.{history_in}
+use Rattle.adya_values.specs.Mirror.Events.{order_of}
+use Rattle.adya_values.specs.Mirror.Histories.{history_of}
+use Rattle.adya_terms.specs.Clauses.Checked.{history_in}
 use Rattle.adya_dsg.specs.Machinery.VersionOrders.{ordered_history, order_lines}
 use Rattle.adya_dsg.specs.Machinery.Choices.{choice, choice_of, key_at}
 use Rattle.adya_dsg.proofs.Selections.{read_own, read_nowhere, read_found}

@@ -5,11 +5,12 @@ use Rattle.std.proofs.lemmas.List.{length-map, map-append}
 use Rattle.std.proofs.lemmas.List.Elements.{All-push, All-nil}
 use Rattle.adya_values.specs.declared.order.Order.{Order as OrderValue}
 use Rattle.adya_values.specs.Meaning.Keys.{key_lt}
-use Rattle.adya_values.specs.Meaning.Histories.{Scan, order_of, entry_of}
+use Rattle.adya_values.specs.Meaning.Histories.{Scan}
+use Rattle.adya_values.specs.Mirror.Events.{order_of, entry_of}
+use Rattle.adya_values.specs.Mirror.Histories.{history_of}
 use Rattle.adya_values.specs.Meaning.Events.{listed}
-use Rattle.adya_values.specs.Mirror.{history_of}
 use Rattle.adya_values.specs.Meaning.Selections.{selected, place_of}
-use Rattle.adya_terms.specs.Meaning.Checked.{history_in}
+use Rattle.adya_terms.specs.Clauses.Checked.{history_in}
 use Rattle.adya_dsg.specs.Machinery.VersionOrders.{ordered_history, order_lines}
 use Rattle.adya_dsg.specs.declared.selection.Selection.{Selection}
 use Rattle.adya_dsg.specs.Machinery.Choices.{choice_of, key_at}

@@ -1,5 +1,6 @@
 use Rattle.std.proofs.Common.{◌≡◌, ◌<◌, ◌++◌, map, length, drop, All}
-use Rattle.adya_values.specs.Meaning.Histories.{Scan, entry_of}
+use Rattle.adya_values.specs.Meaning.Histories.{Scan}
+use Rattle.adya_values.specs.Mirror.Events.{entry_of}
 use Rattle.adya_values.specs.Meaning.Selections.{selected}
 use Rattle.adya_dsg.specs.Machinery.VersionOrders.{ordered_history, order_lines}
 use Rattle.adya_dsg.specs.Machinery.Choices.{choices, choice_of}

@@ -2,10 +2,11 @@ use Rattle.std.proofs.Common.{◌<◌, ◌∙◌, ℕ, List, map, length, get_or
 use Rattle.std.proofs.lemmas.List.Elements.{All-nil}
 use Rattle.adya_values.specs.declared.event.Entry.{Entry as EntryValue}
 use Rattle.adya_values.specs.Meaning.Keys.{keys_rise}
-use Rattle.adya_values.specs.Meaning.Histories.{Entry, event_of, entry_of}
+use Rattle.adya_values.specs.Meaning.Histories.{Entry}
+use Rattle.adya_values.specs.Mirror.Events.{event_of, entry_of}
 use Rattle.adya_values.specs.Computing.Faults.{first_fault}
-use Rattle.adya_values.specs.Meaning.Rules.{IsRising}
-use Rattle.adya_terms.specs.Meaning.Checked.{checked_history}
+use Rattle.adya_values.specs.Clauses.Rules.{IsRising}
+use Rattle.adya_terms.specs.Clauses.Checked.{checked_history}
 use Rattle.adya_dsg.specs.Machinery.VersionOrders.{ordered_history, order_lines}
 use Rattle.adya_dsg.specs.declared.selection.Selection.{Selection}
 use Rattle.adya_dsg.specs.Machinery.Choices.{choice_of}

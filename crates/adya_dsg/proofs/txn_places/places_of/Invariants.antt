@@ -1,5 +1,5 @@
 use Rattle.std.proofs.Common.{◌≡◌, ◌+◌, ◌≤◌, ℕ, length, drop}
-use Rattle.txn_table.specs.Meaning.{value_for}
+use Rattle.txn_table.specs.Mirror.{value_for}
 use Rattle.adya_values.specs.Meaning.Orders.{place}
 use Rattle.adya_dsg.proofs.txn_places.places_of.Given as goal
 

@@ -1,6 +1,6 @@
 use Rattle.std.proofs.Common.{◌++◌, map, sym, ap, ◌∙◌}
 use Rattle.std.proofs.lemmas.List.{append-nil}
-use Rattle.adya_values.specs.Meaning.Histories.{entry_of}
+use Rattle.adya_values.specs.Mirror.Events.{entry_of}
 use Rattle.adya_line.proofs.Scans.{none_more, one_more, one_read, entry_shorter}
 use Rattle.adya_line.proofs.entries.read_entries.Goals as goal
 

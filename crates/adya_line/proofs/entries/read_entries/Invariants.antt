@@ -1,5 +1,5 @@
 use Rattle.std.proofs.Common.{◌≡◌, ◌++◌, length, map}
-use Rattle.adya_values.specs.Meaning.Histories.{entry_of}
+use Rattle.adya_values.specs.Mirror.Events.{entry_of}
 use Rattle.adya_line.specs.Computing.Reading.{after_entries, entries_of}
 use Rattle.adya_line.proofs.entries.read_entries.Given as goal
 

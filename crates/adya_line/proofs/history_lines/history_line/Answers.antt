@@ -1,7 +1,7 @@
 use Rattle.std.proofs.Common.{rules, refl}
 use Rattle.adya_values.specs.declared.edition.Edition.TheVariants.{One, Two}
-use Rattle.adya_values.specs.Meaning.Histories.{event_of, order_of, final_of}
-use Rattle.adya_line.specs.Meaning.HistoryLines.{HeadLine, TailLine}
+use Rattle.adya_values.specs.Mirror.Events.{event_of, order_of, final_of}
+use Rattle.adya_line.specs.Clauses.HistoryLines.{HeadLine, TailLine}
 use Rattle.adya_line.proofs.HistoryLines.{only_line, event_line, unfinished_line, order_line, final_line, no_line}
 use Rattle.adya_line.proofs.history_lines.history_line.Goals as goal
 

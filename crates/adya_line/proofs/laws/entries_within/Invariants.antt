@@ -1,7 +1,7 @@
 -- The entries so far are within their limits.
 use Rattle.std.proofs.Common.{take, map}
 use Rattle.std.specs.List.{AllByRecursion}
-use Rattle.adya_values.specs.Meaning.Histories.{entry_of}
+use Rattle.adya_values.specs.Mirror.Events.{entry_of}
 use Rattle.adya_line.specs.Meaning.Limits.{IsEntry}
 use Rattle.adya_line.proofs.laws.entries_within.Given as goal
 

@@ -1,5 +1,5 @@
 use Rattle.std.proofs.Common.{rules, refl}
-use Rattle.adya_line.specs.Meaning.SerialLines.{HeadLine, TailLine}
+use Rattle.adya_line.specs.Clauses.SerialLines.{HeadLine, TailLine}
 use Rattle.adya_line.proofs.SerialLines.{only_line, txn_line, no_line}
 use Rattle.adya_line.proofs.serial_lines.serial_line.Goals as goal
 

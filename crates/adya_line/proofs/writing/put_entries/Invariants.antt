@@ -1,7 +1,7 @@
 use Rattle.std.proofs.Common.{take, map}
 use Rattle.std.specs.List.{flat_map}
-use Rattle.adya_values.specs.Meaning.Histories.{entry_of}
-use Rattle.devices.specs.Meaning.Writing.{Grew}
+use Rattle.adya_values.specs.Mirror.Events.{entry_of}
+use Rattle.devices.specs.Clauses.Writing.{Grew}
 use Rattle.adya_line.specs.Meaning.Spelling.{entry_text}
 use Rattle.adya_line.proofs.writing.put_entries.Given as goal
 

@@ -1,6 +1,6 @@
 use Rattle.std.proofs.Common.{take}
 use Rattle.std.specs.List.{flat_map}
-use Rattle.devices.specs.Meaning.Writing.{Grew}
+use Rattle.devices.specs.Clauses.Writing.{Grew}
 use Rattle.adya_line.specs.Meaning.Spelling.{later_text}
 use Rattle.adya_line.proofs.writing.put_later.Given as goal
 

@@ -5,7 +5,8 @@ use Rattle.adya_values.specs.declared.event.Event.{Event as EventValue}
 use Rattle.adya_values.specs.declared.order.Order.{Order as OrderValue}
 use Rattle.adya_values.specs.declared.order.FinalPair.{FinalPair as FinalValue}
 use Rattle.adya_terms.specs.declared.event_index.EventIndex.{EventIndex}
-use Rattle.adya_values.specs.Meaning.Histories.{History, event_of}
+use Rattle.adya_values.specs.Meaning.Histories.{History}
+use Rattle.adya_values.specs.Mirror.Events.{event_of}
 use Rattle.adya_values.specs.Computing.Faults.{was_written, malformed, unfinished_faults, unfinished_line, orders_line}
 use Rattle.adya_terms.specs.Machinery.Checks.{Names, whole, rule_faults, read_faults}
 use Rattle.adya_terms.proofs.Firsts.{names_behind}

@@ -8,7 +8,7 @@ use Rattle.adya_values.specs.declared.fault.CheckFault.{CheckFault}
 use Rattle.adya_values.specs.Computing.Faults.{Malformed, first, fault_unless, all_end}
 use Rattle.adya_values.specs.declared.order.Order.{Order as OrderValue}
 use Rattle.adya_values.specs.declared.order.FinalPair.{FinalPair as FinalValue}
-use Rattle.adya_values.specs.Meaning.Histories.{event_of, order_of}
+use Rattle.adya_values.specs.Mirror.Events.{event_of, order_of}
 use Rattle.adya_values.specs.Meaning.Events.{txn_of}
 use Rattle.adya_terms.specs.declared.event_index.EventIndex.{EventIndex}
 use Rattle.adya_terms.specs.Machinery.Checks.{Names, whole, ends, listing_faults, final_value_faults, rule_faults}

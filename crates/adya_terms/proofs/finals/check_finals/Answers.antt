@@ -2,7 +2,7 @@ use Rattle.std.proofs.Common.{◌≡◌, ◌+◌, ◌∙◌, sym, ap, length, So
 use Rattle.std.proofs.lemmas.List.{length-map}
 use Rattle.adya_values.specs.declared.fault.Rule.TheVariants.{M8}
 use Rattle.adya_values.specs.Computing.Faults.{Malformed, first, fault_unless, has_finals, final_faults}
-use Rattle.adya_values.specs.Meaning.Histories.{final_of}
+use Rattle.adya_values.specs.Mirror.Events.{final_of}
 use Rattle.adya_terms.specs.Machinery.Checks.{parts}
 use Rattle.adya_terms.proofs.finals.check_finals.Goals as goal
 use Rattle.adya_values.proofs.Faults.{first_right}

@@ -1,5 +1,5 @@
 use Rattle.std.proofs.Common.{◌≡◌, ◌+◌, map, drop}
-use Rattle.adya_values.specs.Meaning.Histories.{final_of}
+use Rattle.adya_values.specs.Mirror.Events.{final_of}
 use Rattle.adya_values.specs.Computing.Faults.{final_faults}
 use Rattle.adya_terms.specs.Machinery.Checks.{parts}
 use Rattle.adya_terms.proofs.finals.check_lines.Given as goal

@@ -3,12 +3,12 @@ use Rattle.std.proofs.lemmas.Simd.{map-map}
 use Rattle.std.proofs.lemmas.List.Sorted.{answers_always}
 use Rattle.adya_values.specs.declared.order.FinalPair.{FinalPair as FinalValue}
 use Rattle.adya_values.specs.Meaning.Keys.{key_eq, keys_rise}
-use Rattle.adya_values.specs.Meaning.Histories.{FinalPair, final_of}
-use Rattle.lemmas.proofs.Orderings.{search_misses_test}
+use Rattle.adya_values.specs.Meaning.Histories.{FinalPair}
+use Rattle.adya_values.specs.Mirror.Events.{final_of}
+use Rattle.lemmas.proofs.Orderings.{search_misses_test, search_finds}
 use Rattle.adya_values.proofs.Keys.{rises_pairs}
 use Rattle.adya_terms.proofs.finals.has_final.Goals as goal
 use Rattle.adya_values.proofs.KeyLookups.{final_any}
-use Rattle.lemmas.proofs.Orderings.{search_finds}
 use Rattle.lemmas.proofs.Tests.{list_any-map}
 
 pub returns-in-Err : goal.returns-in-Err

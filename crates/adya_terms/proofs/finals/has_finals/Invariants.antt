@@ -1,7 +1,8 @@
 use Rattle.std.proofs.Common.{◌≡◌, ◌||◌, map, drop, is_none, is_some}
 use Rattle.std.specs.List.{list_all}
-use Rattle.adya_values.specs.Meaning.Histories.{Order, order_of}
-use Rattle.adya_values.specs.Meaning.Rules.{final_value}
+use Rattle.adya_values.specs.Meaning.Histories.{Order}
+use Rattle.adya_values.specs.Mirror.Events.{order_of}
+use Rattle.adya_values.specs.Clauses.Rules.{final_value}
 use Rattle.adya_values.specs.Computing.Faults.{last_value}
 use Rattle.adya_terms.specs.Machinery.Checks.{parts}
 use Rattle.adya_terms.proofs.finals.has_finals.Given as goal

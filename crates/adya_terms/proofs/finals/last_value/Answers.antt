@@ -1,5 +1,5 @@
 use Rattle.std.proofs.Common.{sym, map, refl}
-use Rattle.adya_values.specs.Meaning.Histories.{order_of}
+use Rattle.adya_values.specs.Mirror.Events.{order_of}
 use Rattle.adya_terms.proofs.finals.last_value.Goals as goal
 use Rattle.adya_values.proofs.KeyLookups.{line_missing}
 

@@ -1,7 +1,7 @@
 use Rattle.std.proofs.Common.{◌≡◌, ◌+◌, ◌∙◌, ◌<◌, sym, ap, map, not, false, arith}
 use Rattle.std.specs.List.{slice_get}
-use Rattle.adya_values.specs.Meaning.Histories.{order_of}
-use Rattle.adya_values.specs.Meaning.Rules.{installs}
+use Rattle.adya_values.specs.Mirror.Events.{order_of}
+use Rattle.adya_values.specs.Clauses.Rules.{installs}
 use Rattle.adya_values.specs.Computing.Faults.{lists_exactly}
 use Rattle.adya_values.specs.Computing.Faults as faults
 use Rattle.adya_terms.proofs.Firsts.{order_here, order_later}

@@ -1,5 +1,6 @@
 use Rattle.std.proofs.Common.{◌≡◌, ◌+◌, ◌≤◌, List, map, drop}
-use Rattle.adya_values.specs.Meaning.Histories.{Event, order_of}
+use Rattle.adya_values.specs.Meaning.Histories.{Event}
+use Rattle.adya_values.specs.Mirror.Events.{order_of}
 use Rattle.adya_values.specs.Computing.Faults.{order_faults}
 use Rattle.adya_terms.specs.Machinery.Places.{Judges}
 use Rattle.adya_terms.proofs.listed.check_lines.Given as goal

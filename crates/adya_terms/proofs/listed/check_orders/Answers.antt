@@ -3,7 +3,7 @@ use Rattle.std.proofs.lemmas.Bool.{both_ways}
 use Rattle.std.proofs.lemmas.List.{length-map}
 use Rattle.adya_values.specs.declared.fault.Rule.TheVariants.{M7}
 use Rattle.adya_values.specs.Computing.Faults.{Malformed, first, fault_unless, has_lines, order_faults}
-use Rattle.adya_values.specs.Meaning.Histories.{order_of}
+use Rattle.adya_values.specs.Mirror.Events.{order_of}
 use Rattle.adya_terms.specs.Machinery.Checks.{parts}
 use Rattle.adya_terms.specs.Machinery.Places.{AreWrites, Leaves}
 use Rattle.adya_terms.specs.Machinery.EventIndex.{last_in}

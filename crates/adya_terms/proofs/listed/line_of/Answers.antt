@@ -5,14 +5,14 @@ use Rattle.std.proofs.lemmas.Simd.{map-map}
 use Rattle.std.proofs.lemmas.List.Sorted.{answers_always}
 use Rattle.adya_values.specs.declared.order.Order.{Order as OrderValue}
 use Rattle.adya_values.specs.Meaning.Keys.{key_eq, keys_rise}
-use Rattle.adya_values.specs.Meaning.Histories.{Order, order_of}
+use Rattle.adya_values.specs.Meaning.Histories.{Order}
+use Rattle.adya_values.specs.Mirror.Events.{order_of}
 use Rattle.adya_values.specs.Meaning.Orders.{line_of}
-use Rattle.lemmas.proofs.Orderings.{search_misses_test}
+use Rattle.lemmas.proofs.Orderings.{search_misses_test, search_finds, tied_bytes}
 use Rattle.adya_values.proofs.Keys.{rises_pairs}
 use Rattle.adya_terms.proofs.listed.line_of.Goals as goal
 use Rattle.adya_values.proofs.KeyLookups.{line_found}
 use Rattle.lemmas.proofs.Members.{Contains-slice_get}
-use Rattle.lemmas.proofs.Orderings.{search_finds, tied_bytes}
 use Rattle.lemmas.proofs.Steps.{turn}
 use Rattle.lemmas.proofs.Tests.{list_any-map}
 

@@ -1,5 +1,5 @@
 use Rattle.std.proofs.Common.{◌≡◌, length, map, replicate, take}
-use Rattle.adya_values.specs.Meaning.Histories.{order_of}
+use Rattle.adya_values.specs.Mirror.Events.{order_of}
 use Rattle.adya_terms.specs.Machinery.EventIndex.{indexed, last_in}
 use Rattle.adya_terms.specs.Machinery.Places.{AreWrites}
 use Rattle.adya_terms.proofs.Places.{ArePassed}

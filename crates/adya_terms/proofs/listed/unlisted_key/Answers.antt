@@ -1,6 +1,7 @@
 use Rattle.std.proofs.Common.{rules, ◌≡◌, ◌∙◌, Some, None, not, sym, ap, subst}
 use Rattle.std.proofs.lemmas.Option.{MatchOption-at_none, same_Some}
-use Rattle.adya_values.specs.Meaning.Histories.{Entry, entry_of, event_of}
+use Rattle.adya_values.specs.Meaning.Histories.{Entry}
+use Rattle.adya_values.specs.Mirror.Events.{entry_of, event_of}
 use Rattle.adya_terms.specs.Machinery.Places.{IsLeft}
 use Rattle.adya_terms.specs.Machinery.EventIndex.{indexed, last_in}
 use Rattle.adya_terms.proofs.Places.{writes_it}

@@ -2,7 +2,7 @@ use Rattle.std.proofs.Common.{◌≡◌, ◌+◌, ◌∙◌, ℕ, List, sym, ap,
 use Rattle.adya_values.specs.declared.event.Version.{Version}
 use Rattle.adya_terms.specs.declared.reads.BadRead.{BadRead}
 use Rattle.adya_terms.specs.declared.reads.BadRead.TheVariants.{Aborted, Intermediate}
-use Rattle.adya_values.specs.Meaning.Histories.{event_of}
+use Rattle.adya_values.specs.Mirror.Events.{event_of}
 use Rattle.adya_values.specs.Computing.Faults.{Fault, first, was_written}
 use Rattle.adya_terms.specs.Machinery.EventIndex.{indexed, unfinished_in}
 use Rattle.adya_terms.specs.Machinery.Checks.{Names}

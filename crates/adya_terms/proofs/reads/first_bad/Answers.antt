@@ -1,7 +1,8 @@
 use Rattle.std.proofs.Common.{◌≡◌, ◌∙◌, sym, ap, not, true, false, subst, Some, None, [], Bool, map, filter, drop}
 use Rattle.std.specs.List.{filter_map, list_all, list_any}
 use Rattle.std.proofs.lemmas.List.{drop_all}
-use Rattle.adya_values.specs.Meaning.Histories.{Entry, entry_of, event_of}
+use Rattle.adya_values.specs.Meaning.Histories.{Entry}
+use Rattle.adya_values.specs.Mirror.Events.{entry_of, event_of}
 use Rattle.adya_values.specs.Meaning.Events.{is_committed, txn_of, written}
 use Rattle.adya_values.specs.Computing.Faults.{entry_eq}
 use Rattle.adya_terms.specs.Machinery.EventIndex.{indexed, unfinished_in}

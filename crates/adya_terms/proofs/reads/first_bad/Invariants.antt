@@ -1,5 +1,6 @@
 use Rattle.std.proofs.Common.{◌≡◌, Bool, not, map, filter, drop}
-use Rattle.adya_values.specs.Meaning.Histories.{Entry, entry_of, event_of}
+use Rattle.adya_values.specs.Meaning.Histories.{Entry}
+use Rattle.adya_values.specs.Mirror.Events.{entry_of, event_of}
 use Rattle.adya_terms.specs.Machinery.EventIndex.{indexed, unfinished_in}
 use Rattle.adya_terms.specs.Machinery.Reads.{is_good}
 use Rattle.adya_terms.proofs.reads.first_bad.Given as goal

@@ -1,6 +1,7 @@
 use Rattle.std.proofs.Common.{◌≡◌, ap}
-use Rattle.adya_values.specs.Meaning.Histories.{event_of}
-use Rattle.adya_values.specs.Meaning.Events.{txn_of, has_ended}
+use Rattle.adya_values.specs.Mirror.Events.{event_of}
+use Rattle.adya_values.specs.Meaning.Events.{txn_of}
+use Rattle.adya_values.specs.Clauses.Rules.{has_ended}
 use Rattle.adya_terms.proofs.rules.is_open.Goals as goal
 
 pub returns : goal.returns

@@ -1,7 +1,8 @@
 use Rattle.std.proofs.Common.{rules}
 use Rattle.std.proofs.lemmas.List.Folds.{list_all-map}
 use Rattle.adya_values.specs.Meaning.Keys.{lies_in}
-use Rattle.adya_values.specs.Meaning.Histories.{Entry, entry_of}
+use Rattle.adya_values.specs.Meaning.Histories.{Entry}
+use Rattle.adya_values.specs.Mirror.Events.{entry_of}
 use Rattle.adya_terms.proofs.rules.is_rising.Goals as goal
 
 pub returns-then-keys_rise : goal.returns-then-keys_rise

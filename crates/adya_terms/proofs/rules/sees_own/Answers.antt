@@ -1,7 +1,9 @@
 use Rattle.std.proofs.Common.{◌≡◌, ◌∙◌, false, Some, map, option_map, sym, ap, subst}
 use Rattle.std.proofs.lemmas.Bool.{not-true}
-use Rattle.adya_values.specs.Meaning.Histories.{Live, Scan, entry_of, event_of, value_of}
-use Rattle.adya_values.specs.Meaning.Events.{entry, last_write, has_ended}
+use Rattle.adya_values.specs.Meaning.Histories.{Live, Scan}
+use Rattle.adya_values.specs.Mirror.Events.{entry_of, event_of, value_of}
+use Rattle.adya_values.specs.Meaning.Events.{entry, last_write}
+use Rattle.adya_values.specs.Clauses.Rules.{has_ended}
 use Rattle.adya_values.specs.Computing.Faults as faults
 use Rattle.adya_terms.specs.Machinery.Tables.{written_at}
 use Rattle.adya_terms.specs.Machinery.OpenWrites.{HasOwn}

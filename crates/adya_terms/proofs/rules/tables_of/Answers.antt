@@ -1,6 +1,6 @@
 use Rattle.std.proofs.Common.{◌≡◌, ◌+◌, ◌∙◌, ap, map, take, Some, arith, refl, subst, sym}
 use Rattle.adya_values.specs.Computing.Faults.{Malformed, first}
-use Rattle.adya_values.specs.Meaning.Histories.{event_of}
+use Rattle.adya_values.specs.Mirror.Events.{event_of}
 use Rattle.adya_terms.specs.Machinery.Tables.{Means}
 use Rattle.adya_terms.specs.Machinery.OpenWrites.{Keeps}
 use Rattle.adya_terms.specs.Machinery.NewestWrites as newest_writes

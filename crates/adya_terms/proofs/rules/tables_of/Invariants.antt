@@ -1,5 +1,5 @@
 use Rattle.std.proofs.Common.{◌≡◌, ◌+◌, [], map, take, drop}
-use Rattle.adya_values.specs.Meaning.Histories.{event_of}
+use Rattle.adya_values.specs.Mirror.Events.{event_of}
 use Rattle.adya_values.specs.Computing.Faults.{event_faults}
 use Rattle.adya_terms.specs.Machinery.Tables.{Means}
 use Rattle.adya_terms.specs.Machinery.OpenWrites.{Keeps}

@@ -4,7 +4,8 @@ use Rattle.std.specs.List.{filter_map, list_all, list_any}
 use Rattle.std.proofs.lemmas.List.Folds.{list_all-map}
 use Rattle.adya_values.specs.declared.event.Entry.{Entry as EntryValue}
 use Rattle.adya_values.specs.Meaning.Keys.{key_eq}
-use Rattle.adya_values.specs.Meaning.Histories.{Entry, entry_of, event_of}
+use Rattle.adya_values.specs.Meaning.Histories.{Entry}
+use Rattle.adya_values.specs.Mirror.Events.{entry_of, event_of}
 use Rattle.adya_values.specs.Meaning.Events.{written}
 use Rattle.adya_values.specs.Computing.Faults.{entry_eq, version_eq}
 use Rattle.adya_terms.specs.Machinery.Tables.{own_eq}

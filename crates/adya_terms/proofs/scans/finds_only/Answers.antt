@@ -5,13 +5,13 @@ use Rattle.std.proofs.lemmas.Simd.{map-map}
 use Rattle.std.proofs.lemmas.List.Sorted.{answers_always}
 use Rattle.adya_values.specs.declared.event.Entry.{Entry as EntryValue}
 use Rattle.adya_values.specs.Meaning.Keys.{key_eq, keys_rise}
-use Rattle.adya_values.specs.Meaning.Histories.{Entry, entry_of}
-use Rattle.lemmas.proofs.Orderings.{search_misses_test}
+use Rattle.adya_values.specs.Meaning.Histories.{Entry}
+use Rattle.adya_values.specs.Mirror.Events.{entry_of}
+use Rattle.lemmas.proofs.Orderings.{search_misses_test, tied_bytes}
 use Rattle.adya_values.proofs.Keys.{rises_pairs}
 use Rattle.adya_terms.proofs.Selected.{found_only, missed_only}
 use Rattle.adya_terms.proofs.scans.finds_only.Goals as goal
 use Rattle.lemmas.proofs.Members.{Contains-slice_get}
-use Rattle.lemmas.proofs.Orderings.{tied_bytes}
 use Rattle.lemmas.proofs.Steps.{turn}
 use Rattle.lemmas.proofs.Tests.{list_any-map}
 

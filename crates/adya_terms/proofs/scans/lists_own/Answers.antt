@@ -1,7 +1,7 @@
 use Rattle.std.proofs.Common.{◌≡◌, ℕ, List, ◌∙◌, sym, ap, subst, map, option_map, not, false, ◌&&◌, Bool, Some}
 use Rattle.std.specs.List.{filter_map, list_all}
 use Rattle.std.proofs.lemmas.Bool.{or_left}
-use Rattle.adya_values.specs.Meaning.Histories.{entry_of, event_of}
+use Rattle.adya_values.specs.Mirror.Events.{entry_of, event_of}
 use Rattle.adya_values.specs.Meaning.Events.{written}
 use Rattle.adya_values.specs.Computing.Faults.{none_or_lists_only}
 use Rattle.adya_terms.specs.Machinery.Tables.{written_at}

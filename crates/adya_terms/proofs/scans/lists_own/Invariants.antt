@@ -1,6 +1,6 @@
 use Rattle.std.proofs.Common.{◌≡◌, ℕ, Bool, Some, List, map}
 use Rattle.std.specs.List.{list_all}
-use Rattle.adya_values.specs.Meaning.Histories.{entry_of, event_of}
+use Rattle.adya_values.specs.Mirror.Events.{entry_of, event_of}
 use Rattle.adya_values.specs.Computing.Faults.{none_or_lists_only}
 use Rattle.adya_terms.specs.Machinery.Tables.{written_at}
 use Rattle.adya_terms.proofs.scans.lists_own.Given as goal

@@ -2,7 +2,7 @@ use Rattle.std.proofs.Common.{◌≡◌, ◌==◌, ◌&&◌, ℕ, true, List, sy
 use Rattle.std.specs.List.{list_any, list_all}
 use Rattle.std.proofs.lemmas.Bool.{and_parts}
 use Rattle.lemmas.proofs.Tests.{all_pass}
-use Rattle.digraph.specs.Meaning.Graphs.{IsGraph}
+use Rattle.digraph.specs.Clauses.Graphs.{IsGraph}
 use Rattle.digraph.specs.declared.arc.Arc.{Arc}
 use Rattle.adya_tests.proofs.graphs.outcome.Goals as goal
 

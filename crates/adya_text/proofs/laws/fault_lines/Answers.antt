@@ -1,4 +1,4 @@
-use Rattle.adya_text.specs.Meaning.Texts.{AreHistoryLines, AreSerialLines}
+use Rattle.adya_text.specs.Clauses.Grammars.{AreHistoryLines, AreSerialLines}
 use Rattle.adya_text.proofs.TextLaws.{one_fault, no_fault}
 use Rattle.adya_text.proofs.HistoryTexts as HT
 use Rattle.adya_text.proofs.SerialTexts as ST

@@ -1,7 +1,7 @@
 -- The finals so far are within their limits.
 use Rattle.std.proofs.Common.{take, map}
 use Rattle.std.specs.List.{AllByRecursion}
-use Rattle.adya_values.specs.Meaning.Histories.{final_of}
+use Rattle.adya_values.specs.Mirror.Events.{final_of}
 use Rattle.adya_line.specs.Meaning.Limits.{IsFinal}
 use Rattle.adya_text.proofs.laws.finals_within.Given as goal
 

@@ -1,4 +1,4 @@
-use Rattle.adya_values.specs.Mirror.{history_of}
+use Rattle.adya_values.specs.Mirror.Histories.{history_of}
 use Rattle.adya_text.proofs.HaveTexts.{within_has_text}
 use Rattle.adya_text.proofs.laws.history_has_text.Goals as goal
 

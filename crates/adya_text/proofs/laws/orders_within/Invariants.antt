@@ -1,7 +1,7 @@
 -- The orders so far that have a writer are within their limits.
 use Rattle.std.proofs.Common.{◌<◌, take, map, length}
 use Rattle.std.specs.List.{AllByRecursion}
-use Rattle.adya_values.specs.Meaning.Histories.{order_of}
+use Rattle.adya_values.specs.Mirror.Events.{order_of}
 use Rattle.adya_line.specs.Meaning.Limits.{IsOrder}
 use Rattle.adya_text.proofs.laws.orders_within.Given as goal
 

@@ -1,6 +1,6 @@
 use Rattle.std.proofs.Common.{refl}
 use Rattle.adya_text.specs.Meaning.Texts.{history_text}
-use Rattle.adya_text.specs.Meaning.Reading.{ReadsHistory}
+use Rattle.adya_text.specs.Clauses.Reading.{ReadsHistory}
 use Rattle.adya_text.proofs.TextLaws.{only_history}
 use Rattle.adya_text.proofs.LinesRead.{of_known}
 use Rattle.adya_text.proofs.sources.read_history_early.Goals as goal

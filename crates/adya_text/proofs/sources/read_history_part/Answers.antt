@@ -2,12 +2,12 @@ use Rattle.std.proofs.Common.{◌≡◌, ◌≢◌, List, [], ◌∷◌, ◌++�
 use Rattle.std.specs.Io.KnownBytes.{prepend_known}
 use Rattle.std.proofs.lemmas.Bool.{false≢true}
 use Rattle.adya_line.specs.Meaning.Spelling.{tail}
-use Rattle.adya_text.specs.Meaning.Faults.{IsCut}
+use Rattle.adya_text.specs.Clauses.Faults.{IsCut}
 use Rattle.adya_text.specs.Machinery.LineReaders.{complete, stopped, long}
 use Rattle.adya_text.specs.Machinery.LongLines.{HasStart, StartsNoLine}
-use Rattle.adya_text.specs.Meaning.Texts.{AreHistoryLines}
-use Rattle.adya_text.specs.Meaning.Reading.{ReadsHistory}
-use Rattle.adya_text.specs.Meaning.Streams.{history_part, serial_part}
+use Rattle.adya_text.specs.Clauses.Grammars.{AreHistoryLines}
+use Rattle.adya_text.specs.Clauses.Reading.{ReadsHistory}
+use Rattle.adya_text.specs.Clauses.Streams.{history_part, serial_part}
 use Rattle.std.proofs.lemmas.List.Elements.{All-nil, All-push}
 use Rattle.adya_text.proofs.LinesRead.{none_read, line_read, rest_unread, prefix_read, start_read, all_read, on_ok, on_err}
 use Rattle.adya_text.specs.Laws.{HasNoEnd}

@@ -2,10 +2,10 @@
 use Rattle.std.proofs.Common.{◌≡◌, ◌≢◌, ◌⊎◌, ℕ, List, [], All, false}
 use Rattle.std.specs.Io.KnownBytes.{prepend_known}
 use Rattle.adya_line.specs.Meaning.Spelling.{tail}
-use Rattle.adya_text.specs.Meaning.Texts.{AreHistoryLines}
+use Rattle.adya_text.specs.Clauses.Grammars.{AreHistoryLines}
 use Rattle.adya_text.specs.Machinery.HistoryDrafts.{HasLines}
 use Rattle.adya_text.specs.Machinery.LineReaders.{IsFed}
-use Rattle.devices.specs.Meaning.Lines.{work_left}
+use Rattle.devices.specs.Clauses.Lines.{work_left}
 use Rattle.adya_text.proofs.LinesRead.{WereRead}
 use Rattle.adya_text.proofs.sources.read_history_part.Given as goal
 

@@ -1,5 +1,5 @@
 use Rattle.std.proofs.Common.{rules, [], ◌∷◌, ◌++◌, sym, subst, inl, inr}
-use Rattle.adya_text.specs.Meaning.Faults.{IsCut}
+use Rattle.adya_text.specs.Clauses.Faults.{IsCut}
 use Rattle.adya_text.specs.Machinery.LineReaders.{complete, stopped, long}
 use Rattle.adya_text.specs.Machinery.LongLines.{HasStart, StartsNoLine}
 use Rattle.adya_text.proofs.LinesRead.{none_read, line_read, prefix_read, start_read, all_read, on_ok, on_err}

@@ -1,7 +1,7 @@
 -- The reader was fed with the lines that are read.
 use Rattle.std.proofs.Common.{◌≡◌, ◌⊎◌, ℕ, List, [], false}
 use Rattle.std.specs.Io.KnownBytes.{prepend_known}
-use Rattle.devices.specs.Meaning.Lines.{work_left}
+use Rattle.devices.specs.Clauses.Lines.{work_left}
 use Rattle.adya_text.specs.Machinery.LineReaders.{IsFed}
 use Rattle.adya_text.proofs.LinesRead.{WereRead}
 use Rattle.adya_text.proofs.sources.read_rest.Given as goal

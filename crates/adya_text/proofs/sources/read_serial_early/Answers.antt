@@ -1,6 +1,6 @@
 use Rattle.std.proofs.Common.{refl}
 use Rattle.adya_text.specs.Meaning.Texts.{serial_text}
-use Rattle.adya_text.specs.Meaning.Reading.{ReadsSerial}
+use Rattle.adya_text.specs.Clauses.Reading.{ReadsSerial}
 use Rattle.adya_text.proofs.TextLaws.{only_serial}
 use Rattle.adya_text.proofs.LinesRead.{of_known}
 use Rattle.adya_text.proofs.sources.read_serial_early.Goals as goal

@@ -1,7 +1,7 @@
 -- The lines so far are written.
 use Rattle.std.proofs.Common.{take, map}
-use Rattle.adya_values.specs.Meaning.Histories.{final_of}
-use Rattle.devices.specs.Meaning.Writing.{Grew}
+use Rattle.adya_values.specs.Mirror.Events.{final_of}
+use Rattle.devices.specs.Clauses.Writing.{Grew}
 use Rattle.adya_line.specs.Meaning.Spelling.{final_text}
 use Rattle.adya_text.specs.Machinery.TextParts.{lines_of}
 use Rattle.adya_text.proofs.writing.put_finals.Given as goal

@@ -1,6 +1,6 @@
 -- The lines so far are written.
 use Rattle.std.proofs.Common.{take}
-use Rattle.devices.specs.Meaning.Writing.{Grew}
+use Rattle.devices.specs.Clauses.Writing.{Grew}
 use Rattle.adya_line.specs.Meaning.Spelling.{txn_text}
 use Rattle.adya_text.specs.Machinery.TextParts.{lines_of}
 use Rattle.adya_text.proofs.writing.put_txns.Given as goal

@@ -1,6 +1,6 @@
 use Rattle.std.proofs.Common.{length, subst, sym}
 use Rattle.append_values.specs.declared.reason.Reason.TheVariants.{Cycle}
-use Rattle.digraph.specs.Meaning.Graphs.{IsGraph, IsTopologicalOrder}
+use Rattle.digraph.specs.Clauses.Graphs.{IsGraph, IsTopologicalOrder}
 use Rattle.append_check.specs.Meaning.Verdicts.{history_of}
 use Rattle.append_check.proofs.Seeing.{kept_within}
 use Rattle.append_check.proofs.Graph.{is_graph, order_explains}

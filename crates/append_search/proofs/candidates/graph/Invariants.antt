@@ -1,4 +1,4 @@
-use Rattle.digraph.specs.Meaning.Graphs.{IsGraph}
+use Rattle.digraph.specs.Clauses.Graphs.{IsGraph}
 use Rattle.append_search.proofs.candidates.graph.Given as goal
 
 abbrev pub invariant-links : goal.invariant-links

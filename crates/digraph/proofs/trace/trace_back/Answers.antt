@@ -5,7 +5,7 @@ use Rattle.std.specs.BTreeSet.{contains}
 use Rattle.std.proofs.lemmas.List.Elements.{All-push}
 use Rattle.std.proofs.lemmas.List.Sorted.{All-permutation, list_any-IsPermutation}
 use Rattle.digraph.specs.declared.arc.Arc.{Arc}
-use Rattle.digraph.specs.Meaning.Graphs.{IsPath}
+use Rattle.digraph.specs.Clauses.Graphs.{IsPath}
 use Rattle.digraph.proofs.Cycles.{reverse_push}
 use Rattle.digraph.proofs.Sets.{met_more}
 use Rattle.digraph.proofs.trace.trace_back.Goals as goal

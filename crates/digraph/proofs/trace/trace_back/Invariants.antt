@@ -3,7 +3,7 @@ use Rattle.std.specs.List.{list_any}
 use Rattle.std.specs.Ordering.{nat_cmp}
 use Rattle.std.specs.BTreeSet.{BTreeSet, contains, btree_set_len}
 use Rattle.digraph.specs.declared.arc.Arc.{Arc}
-use Rattle.digraph.specs.Meaning.Graphs.{IsPath}
+use Rattle.digraph.specs.Clauses.Graphs.{IsPath}
 use Rattle.digraph.proofs.trace.trace_back.Given as goal
 
 pub record Walks (arcs trail : List Arc) (remaining unmet : BTreeSet ℕ) (from at : ℕ) : Type 0 where

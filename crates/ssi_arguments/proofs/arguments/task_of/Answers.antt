@@ -2,7 +2,7 @@ use Rattle.std.proofs.Common.{◌≡◌, ◌∙◌, ap, sym, subst, true, map, s
 use Rattle.std.specs.Prelude.{IsErrAnd}
 use Rattle.clap.specs.Words.{fault_of, is_simple, is_simple_and_free, subcommand_of, takes}
 use Rattle.ssi_arguments.specs.Machinery.Parser.{request_in}
-use Rattle.ssi_arguments.specs.Meaning.Arguments.{arguments_of, are_plain}
+use Rattle.ssi_arguments.specs.Clauses.Arguments.{arguments_of, are_plain}
 use Rattle.ssi_arguments.proofs.NoOtherRequests.{asks_request, simple_and_free}
 use Rattle.ssi_arguments.proofs.TakesRequests.{simple, takes_request, plain_paths}
 use Rattle.ssi_arguments.proofs.arguments.task_of.Goals as goal

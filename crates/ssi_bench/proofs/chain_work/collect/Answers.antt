@@ -1,5 +1,5 @@
 use Rattle.ssi_versions.specs.Mirror.{chain_of}
-use Rattle.ssi_versions.specs.Meaning.Changes.{is_wanted}
+use Rattle.ssi_versions.specs.Clauses.ByStamp.{is_wanted}
 use Rattle.ssi_bench.proofs.Stamps.{above_kept}
 use Rattle.ssi_bench.proofs.chain_work.collect.Goals as goal
 

@@ -1,6 +1,6 @@
 use Rattle.std.proofs.Common.{subst}
-use Rattle.adya_terms.specs.Meaning.Checked.{checked_history, history_in}
-use Rattle.adya_dsg.specs.Meaning.Found.{IsFound}
+use Rattle.adya_terms.specs.Clauses.Checked.{checked_history, history_in}
+use Rattle.adya_dsg.specs.Clauses.Found.{IsFound}
 use Rattle.ssi_certify.proofs.Accepted.{no_cycle_found, texts_accepted}
 use Rattle.ssi_certify.proofs.certificate.certified.Goals as goal
 

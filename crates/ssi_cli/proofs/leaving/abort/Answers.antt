@@ -1,6 +1,6 @@
 use Rattle.std.proofs.Common.{refl}
 use Rattle.ssi_store.specs.Mirror.Stores.{IsAt}
-use Rattle.ssi_hub.specs.Meaning.Calls.{Closed}
+use Rattle.ssi_hub.specs.Clauses.Calls.{Closed}
 use Rattle.ssi_cli.proofs.HubRuns.{called_opened, called_with, called_both, called_then_run, run_then_called, ran}
 use Rattle.ssi_cli.proofs.leaving.abort.Goals as goal
 

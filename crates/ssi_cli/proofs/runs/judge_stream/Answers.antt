@@ -1,5 +1,5 @@
 use Rattle.std.proofs.Common.{◌↔◌, ℕ, List, Option, Some, None, IfSome}
-use Rattle.adya_audit.specs.Meaning.TextVerdicts.{IsAcceptedStream}
+use Rattle.adya_audit.specs.Clauses.TextVerdicts.{IsAcceptedStream}
 use Rattle.ssi_cli.proofs.runs.judge_stream.Goals as goal
 
 accepted : {Said Told : Type 0} → Said ↔ Told → (a : Option (List ℕ)) → IfSome a (λ s. Told ↔ IsAcceptedStream s)

@@ -1,5 +1,5 @@
 use Rattle.std.proofs.Common.{◌↔◌, ℕ, List, Option, Some, None, IfSome}
-use Rattle.adya_audit.specs.Meaning.TextVerdicts.{AreAccepted}
+use Rattle.adya_audit.specs.Clauses.TextVerdicts.{AreAccepted}
 use Rattle.ssi_cli.proofs.runs.judge_texts.Goals as goal
 
 accepted : {Said Told : Type 0} → Said ↔ Told → (a b : Option (List ℕ))

@@ -5,9 +5,9 @@ use Rattle.ssi_cli.specs.declared.status.Status.{Status}
 use Rattle.ssi_cli.specs.declared.status.Status.TheVariants.{Fine}
 use Rattle.ssi_store.specs.Meaning.Courses.{New}
 use Rattle.ssi_line.specs.Meaning.Steps.{AllMayFollow, course_after}
-use Rattle.ssi_hub.specs.Meaning.Calls.{all_steps}
-use Rattle.ssi_cli.specs.Meaning.Scripts.{Certified}
-use Rattle.ssi_cli.specs.Meaning.Serving.{Together, ends_by_stop}
+use Rattle.ssi_hub.specs.Clauses.Calls.{all_steps}
+use Rattle.ssi_cli.specs.Clauses.Scripts.{Certified}
+use Rattle.ssi_cli.specs.Clauses.Serving.{Together, ends_by_stop}
 use Rattle.ssi_cli.proofs.runs.serve_commands_together.Goals as goal
 
 of_ok : {T E A : Type 0} (r : Result T E) → IsOk r → IfOk r (λ _. A) → A

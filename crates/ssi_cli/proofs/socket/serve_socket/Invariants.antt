@@ -2,7 +2,7 @@
 use Rattle.std.proofs.Common.{List}
 use Rattle.ssi_store.specs.Mirror.Stores.{IsAt}
 use Rattle.ssi_line.specs.Meaning.Steps.{Step}
-use Rattle.ssi_line.specs.Meaning.Ends.{WentOn}
+use Rattle.ssi_line.specs.Clauses.Ends.{WentOn}
 use Rattle.ssi_cli.proofs.socket.serve_socket.Given as goal
 
 abbrev pub invariant-loop : goal.invariant-loop

@@ -1,5 +1,5 @@
 use Rattle.ssi_store.specs.Meaning.Courses.{New}
-use Rattle.ssi_hub.specs.Meaning.Calls.{all_steps}
+use Rattle.ssi_hub.specs.Clauses.Calls.{all_steps}
 use Rattle.ssi_line.specs.Meaning.Steps.{course_after}
 use Rattle.ssi_cli.proofs.ScriptRuns.{if_ok}
 use Rattle.ssi_cli.proofs.together.run_together.Goals as goal

@@ -1,6 +1,6 @@
 use Rattle.std.proofs.Common.{refl}
 use Rattle.ssi_store.specs.Mirror.Stores.{IsAt}
-use Rattle.ssi_hub.specs.Meaning.Calls.{Closed}
+use Rattle.ssi_hub.specs.Clauses.Calls.{Closed}
 use Rattle.ssi_cli.proofs.HubRuns.{called_with, ran, run_both, run_then_called}
 use Rattle.ssi_cli.proofs.turns.carry_out_noted.Goals as goal
 

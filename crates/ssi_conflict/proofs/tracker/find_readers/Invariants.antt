@@ -1,7 +1,7 @@
 use Rattle.std.proofs.Common.{◌≡◌, ◌||◌, ℕ, drop}
 use Rattle.std.specs.List.{list_any}
 use Rattle.ssi_conflict.proofs.tracker.find_readers.Given as goal
-use Rattle.ssi_reads.specs.Meaning.Marks.{has_txn}
+use Rattle.ssi_reads.specs.Clauses.Marks.{has_txn}
 
 abbrev pub invariant-loop-key : goal.invariant-loop-key
 invariant-loop-key g l =

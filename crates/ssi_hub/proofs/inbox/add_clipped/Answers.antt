@@ -1,5 +1,5 @@
 use Rattle.std.proofs.Common.{◌≡◌, ◌++◌, ◌∷◌, [], ◌∙◌, List, ℕ, sym, ap}
-use Rattle.ssi_hub.specs.Meaning.Clipping.{clipped_after}
+use Rattle.ssi_hub.specs.Clauses.Clipping.{clipped_after}
 use Rattle.ssi_hub.proofs.Clips.{clips_line, keeps_line, grows_more}
 use Rattle.ssi_hub.proofs.inbox.add_clipped.Goals as goal
 

@@ -1,6 +1,6 @@
 -- Lines were added, and the rest follows.
 use Rattle.std.proofs.Common.{◌≡◌, ℕ, List, ◌++◌, length}
-use Rattle.ssi_hub.specs.Meaning.Clipping.{clipped_after, kept_of_last}
+use Rattle.ssi_hub.specs.Clauses.Clipping.{clipped_after, kept_of_last}
 use Rattle.ssi_hub.proofs.inbox.add_clipped.Given as goal
 
 abbrev pub invariant-loop-line : goal.invariant-loop-line

@@ -1,6 +1,7 @@
 use Rattle.std.proofs.Common.{◌≡◌, sym, ap, subst, ◌∙◌}
 use Rattle.ssi_store.specs.Mirror.Commands.{command_of}
-use Rattle.ssi_line.specs.Meaning.Spelling.{Line, Do, Stop, Dump, IsOnlyLineOf, line_of}
+use Rattle.ssi_line.specs.Meaning.Spelling.{Line, Do, Stop, Dump}
+use Rattle.ssi_line.specs.Clauses.Reading.{IsOnlyLineOf, line_of}
 use Rattle.ssi_hub.proofs.StopLines.{goes_on, stops, no_line, other_line}
 use Rattle.ssi_hub.proofs.replying.is_stop.Goals as goal
 

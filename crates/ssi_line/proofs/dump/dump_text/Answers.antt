@@ -1,4 +1,4 @@
-use Rattle.adya_values.specs.Mirror.{history_of, serial_txns}
+use Rattle.adya_values.specs.Mirror.Histories.{history_of, serial_txns}
 use Rattle.ssi_store.specs.Mirror.Finished.{recorded_in}
 use Rattle.ssi_store.specs.Mirror.Stores.{IsAt}
 use Rattle.ssi_line.proofs.Dumps.{dump_told}

@@ -1,5 +1,5 @@
 use Rattle.std.proofs.Common.{rules, ◌++◌, ◌∙◌, sym, append-nil}
-use Rattle.devices.specs.Meaning.Lines.{line_end}
+use Rattle.devices.specs.Clauses.Lines.{line_end}
 use Rattle.ssi_line.proofs.Consumed.{took_front, read_more, fault_ends, same_bytes, plain_both, with_feed, without_feed}
 use Rattle.ssi_line.proofs.lines.next_line.Goals as goal
 

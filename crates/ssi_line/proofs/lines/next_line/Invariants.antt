@@ -2,8 +2,8 @@
 use Rattle.std.proofs.Common.{◌≡◌, ◌≤◌, List, ℕ, true}
 use Rattle.std.specs.Io.KnownBytes.{Consumes, prepend_known}
 use Rattle.adya_line.specs.Meaning.Lines.{IsPlain}
-use Rattle.devices.specs.Meaning.Lines.{work_left}
-use Rattle.ssi_line.specs.Meaning.Answers.{kept}
+use Rattle.devices.specs.Clauses.Lines.{work_left}
+use Rattle.ssi_line.specs.Clauses.Answers.{kept}
 use Rattle.ssi_line.proofs.lines.next_line.Given as goal
 
 abbrev pub invariant-loop-buffer : goal.invariant-loop-buffer

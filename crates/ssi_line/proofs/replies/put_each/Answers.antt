@@ -1,7 +1,7 @@
 use Rattle.std.proofs.Common.{◌++◌, take, map, arith}
 use Rattle.std.proofs.lemmas.Grind.{common_steps}
 use Rattle.std.specs.List.{flat_map}
-use Rattle.adya_values.specs.Meaning.Histories.{final_of}
+use Rattle.adya_values.specs.Mirror.Events.{final_of}
 use Rattle.ssi_line.specs.Meaning.Replies.{row_text}
 use Rattle.ssi_line.proofs.Drafts.{added_none, added_then, added_as}
 use Rattle.ssi_line.proofs.replies.put_each.Goals as goal

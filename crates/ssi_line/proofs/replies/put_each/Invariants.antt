@@ -1,7 +1,7 @@
 -- The rows so far were added.
 use Rattle.std.proofs.Common.{take, map}
 use Rattle.std.specs.List.{flat_map}
-use Rattle.adya_values.specs.Meaning.Histories.{final_of}
+use Rattle.adya_values.specs.Mirror.Events.{final_of}
 use Rattle.ssi_line.specs.Meaning.Replies.{row_text}
 use Rattle.ssi_line.specs.Machinery.Drafts.{Added}
 use Rattle.ssi_line.proofs.replies.put_each.Given as goal

@@ -1,6 +1,6 @@
 use Rattle.std.proofs.Common.{◌++◌, rules}
 use Rattle.std.specs.Prelude.{codes}
-use Rattle.adya_values.specs.Meaning.Histories.{final_of}
+use Rattle.adya_values.specs.Mirror.Events.{final_of}
 use Rattle.ssi_line.specs.Meaning.Replies.{row_text}
 use Rattle.ssi_line.proofs.Drafts.{added_then, added_as}
 use Rattle.ssi_line.proofs.replies.put_row.Goals as goal

@@ -1,11 +1,11 @@
 -- Lines were read, and each was carried out and answered.
 use Rattle.std.proofs.Common.{◌≡◌, List, ℕ, [], true}
 use Rattle.std.specs.Io.KnownBytes.{prepend_known}
-use Rattle.devices.specs.Meaning.Writing.{Grew}
+use Rattle.devices.specs.Clauses.Writing.{Grew}
 use Rattle.ssi_store.specs.Mirror.Stores.{IsAt}
 use Rattle.ssi_line.specs.Meaning.Steps.{Step, AllGoOn, steps_text}
-use Rattle.ssi_line.specs.Meaning.Ends.{WentOn, Took}
-use Rattle.devices.specs.Meaning.Lines.{work_left}
+use Rattle.ssi_line.specs.Clauses.Ends.{WentOn, Took}
+use Rattle.devices.specs.Clauses.Lines.{work_left}
 use Rattle.ssi_line.proofs.serving.serve.Given as goal
 
 abbrev pub invariant-loop-line : goal.invariant-loop-line

@@ -1,6 +1,6 @@
 use Rattle.std.proofs.Common.{◌≡◌, map, drop, fold}
 use Rattle.std.specs.List.{filter_map}
-use Rattle.adya_values.specs.Meaning.Histories.{event_of}
+use Rattle.adya_values.specs.Mirror.Events.{event_of}
 use Rattle.adya_values.specs.Meaning.Events.{commit_of}
 use Rattle.ssi_recorder.specs.Meaning.Recorded.{with_number, by_commit}
 use Rattle.ssi_recorder.proofs.installs.committers.Given as goal

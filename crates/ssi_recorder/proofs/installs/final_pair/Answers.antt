@@ -1,5 +1,5 @@
 use Rattle.std.proofs.Common.{ap, sym, ◌∙◌}
-use Rattle.adya_values.specs.Meaning.Histories.{content_of}
+use Rattle.adya_values.specs.Mirror.Events.{content_of}
 use Rattle.adya_values.specs.Meaning.Events.{shown, visible}
 use Rattle.adya_values.specs.Meaning.Serial.{visible_pair_of}
 use Rattle.ssi_recorder.proofs.Ranks.{last_value}

@@ -1,6 +1,6 @@
 use Rattle.std.proofs.Common.{◌≡◌, ◌++◌, map}
 use Rattle.std.specs.List.{filter_map}
-use Rattle.adya_values.specs.Meaning.Histories.{final_of}
+use Rattle.adya_values.specs.Mirror.Events.{final_of}
 use Rattle.ssi_recorder.specs.Machinery.Lines.{final_in}
 use Rattle.ssi_recorder.proofs.installs.finals.Given as goal
 

@@ -1,6 +1,6 @@
 use Rattle.std.proofs.Common.{map, slice_get, ap, ◌∙◌}
 use Rattle.std.specs.List.{filter_map}
-use Rattle.adya_values.specs.Meaning.Histories.{event_of, order_of}
+use Rattle.adya_values.specs.Mirror.Events.{event_of, order_of}
 use Rattle.adya_values.specs.Computing.Shapes.{is_shape}
 use Rattle.ssi_recorder.specs.Machinery.Lines.{final_in, write_by}
 use Rattle.ssi_recorder.proofs.Ranks.{line_versions}

@@ -1,9 +1,8 @@
-use Rattle.std.proofs.Common.{arith, rules, ap, sym, subst, ◌∙◌, map, take, slice_get}
-use Rattle.adya_values.specs.Meaning.Histories.{event_of, entry_of}
+use Rattle.std.proofs.Common.{arith, rules, ap, sym, subst, ◌∙◌, map, take, slice_get, if◌then◌else◌, ◌&&◌, Some}
+use Rattle.adya_values.specs.Mirror.Events.{event_of, entry_of}
 use Rattle.adya_values.specs.Meaning.Keys.{key_eq}
 use Rattle.std.specs.BTreeMap.{is_at}
 use Rattle.std.specs.Ordering.{nat_cmp}
-use Rattle.std.proofs.Common.{if◌then◌else◌, ◌&&◌, Some}
 use Rattle.ssi_recorder.specs.Machinery.Lines.{put_at, write_by, AreLines}
 use Rattle.ssi_recorder.proofs.Placed.{write-none, write-other, write-put, event-more}
 use Rattle.ssi_recorder.proofs.installs.lines.Goals as goal

@@ -1,5 +1,5 @@
 use Rattle.std.proofs.Common.{◌≡◌, ℕ, List, map, take, slice_get}
-use Rattle.adya_values.specs.Meaning.Histories.{event_of}
+use Rattle.adya_values.specs.Mirror.Events.{event_of}
 use Rattle.ssi_recorder.specs.Machinery.Lines.{put_at, write_by, AreLines}
 use Rattle.ssi_recorder.proofs.installs.lines.Given as goal
 

@@ -1,5 +1,5 @@
 use Rattle.std.proofs.Common.{◌≡◌, ◌++◌, map}
-use Rattle.adya_values.specs.Meaning.Histories.{order_of}
+use Rattle.adya_values.specs.Mirror.Events.{order_of}
 use Rattle.ssi_recorder.specs.Machinery.Lines.{order_in}
 use Rattle.ssi_recorder.proofs.installs.orders.Given as goal
 

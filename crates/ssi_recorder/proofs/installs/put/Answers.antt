@@ -1,6 +1,6 @@
 use Rattle.std.proofs.Common.{rules, sym, ◌∙◌, ap, subst, if◌then◌else◌, ◌&&◌, Some}
 use Rattle.adya_values.specs.Meaning.Keys.{key_eq}
-use Rattle.adya_values.specs.Meaning.Histories.{entry_of}
+use Rattle.adya_values.specs.Mirror.Events.{entry_of}
 use Rattle.std.specs.BTreeMap.{is_at}
 use Rattle.std.specs.Ordering.{nat_cmp}
 use Rattle.std.specs.Cmp.Lexicographic.{slice_cmp}

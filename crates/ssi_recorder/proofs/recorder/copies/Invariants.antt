@@ -1,5 +1,5 @@
 use Rattle.std.proofs.Common.{◌≡◌, take, map}
-use Rattle.adya_values.specs.Meaning.Histories.{event_of}
+use Rattle.adya_values.specs.Mirror.Events.{event_of}
 use Rattle.ssi_recorder.proofs.recorder.copies.Given as goal
 
 abbrev pub invariant-events : goal.invariant-events

@@ -1,5 +1,6 @@
 use Rattle.std.proofs.Common.{◌≡◌, ◌++◌, ◌≤◌, ◌-◌, ◌+◌, length, take, map, vec_len, vec_capacity}
-use Rattle.adya_values.specs.Meaning.Histories.{event_of, Abort}
+use Rattle.adya_values.specs.Meaning.Histories.{Abort}
+use Rattle.adya_values.specs.Mirror.Events.{event_of}
 use Rattle.ssi_recorder.proofs.recorder.with_aborts.Given as goal
 
 abbrev pub invariant-open_txns : goal.invariant-open_txns

@@ -1,5 +1,5 @@
 use Rattle.std.proofs.Common.{rules, arith, ◌∙◌, ap, if◌then◌else◌, ◌-◌, map, take}
-use Rattle.adya_values.specs.Meaning.Histories.{entry_of}
+use Rattle.adya_values.specs.Mirror.Events.{entry_of}
 use Rattle.ssi_snapshot.proofs.Cutting.{cut_more, cut_all}
 use Rattle.ssi_snapshot.proofs.limit.end_of_first.Goals as goal
 use Rattle.ssi_snapshot.proofs.limit.end_of_first.Goals.{then-is_visible, else-is_visible}

@@ -1,6 +1,6 @@
 use Rattle.std.proofs.Common.{◌≡◌, ◌++◌, map, take, drop}
-use Rattle.adya_values.specs.Meaning.Histories.{entry_of}
-use Rattle.ssi_snapshot.specs.Meaning.Listings.{up_to}
+use Rattle.adya_values.specs.Mirror.Events.{entry_of}
+use Rattle.ssi_snapshot.specs.Clauses.Listings.{up_to}
 use Rattle.ssi_snapshot.proofs.limit.end_of_first.Given as goal
 
 abbrev pub invariant-entries : goal.invariant-entries

@@ -1,5 +1,5 @@
 use Rattle.ssi_conflict.specs.Computing.Steps.{smallest_ordered_pivot, smallest_pivot}
-use Rattle.ssi_conflict.specs.Meaning.Pairs.{IsOrderedPivot, IsPivot}
+use Rattle.ssi_conflict.specs.Clauses.Pairs.{IsOrderedPivot, IsPivot}
 use Rattle.ssi_store.proofs.NoPivot.{nothing_named}
 use Rattle.ssi_store.proofs.PivotRules.{commit_order_rule, two_pair_rule}
 use Rattle.ssi_store.proofs.SoundCourses.{course_stands}

@@ -1,5 +1,5 @@
 use Rattle.ssi_conflict.specs.Computing.Steps.{smallest_ordered_pivot, smallest_pivot}
-use Rattle.ssi_conflict.specs.Meaning.Pairs.{IsOrderedPivot, IsPivot}
+use Rattle.ssi_conflict.specs.Clauses.Pairs.{IsOrderedPivot, IsPivot}
 use Rattle.ssi_store.proofs.UnsafeAnswers.{unsafe_by}
 use Rattle.ssi_store.proofs.PivotRules.{commit_order_rule, two_pair_rule}
 use Rattle.ssi_store.proofs.laws.unsafe_names_smallest.Goals as goal

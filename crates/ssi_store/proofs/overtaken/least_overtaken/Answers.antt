@@ -1,7 +1,7 @@
 use Rattle.std.proofs.Common.{arith, ◌≡◌, ◌+◌, map, option_map, take, ◌++◌, ◌∷◌, [], sym, subst, ap, ◌∙◌, IfSome}
 use Rattle.std.proofs.lemmas.Grind.{common_steps}
 use Rattle.ssi_versions.specs.Mirror.{write_of}
-use Rattle.ssi_snapshot.specs.Meaning.Listings.{keys}
+use Rattle.ssi_snapshot.specs.Clauses.Listings.{keys}
 use Rattle.ssi_store.specs.Machinery.Overtaken.{is_passed, passed_by, key_of, lesser, IsLeast}
 use Rattle.ssi_store.specs.declared.overtaken.Overtaken.{Overtaken}
 use Rattle.ssi_store.proofs.Overtaking.{keys_more, least_step, lesser_has}

@@ -1,6 +1,6 @@
 use Rattle.std.proofs.Common.{◌≡◌, map, option_map, take, IfSome}
 use Rattle.ssi_versions.specs.Mirror.{write_of}
-use Rattle.ssi_snapshot.specs.Meaning.Listings.{keys}
+use Rattle.ssi_snapshot.specs.Clauses.Listings.{keys}
 use Rattle.ssi_store.specs.Machinery.Overtaken.{is_passed, passed_by, key_of, IsLeast}
 use Rattle.ssi_store.proofs.overtaken.least_overtaken.Given as goal
 

@@ -1,5 +1,5 @@
 use Rattle.std.proofs.Common.{◌≡◌, map, take}
-use Rattle.adya_values.specs.Meaning.Histories.{entry_of, final_of}
+use Rattle.adya_values.specs.Mirror.Events.{entry_of, final_of}
 use Rattle.adya_values.specs.Meaning.Serial.{visible_pairs}
 use Rattle.ssi_store.proofs.scan.rows_of.Given as goal
 

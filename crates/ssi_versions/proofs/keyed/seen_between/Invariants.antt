@@ -1,6 +1,6 @@
 use Rattle.std.proofs.Common.{◌≡◌, ◌++◌, map}
 use Rattle.std.specs.List.{filter_map}
-use Rattle.ssi_versions.specs.Meaning.Changes.{newest_within}
+use Rattle.ssi_versions.specs.Clauses.ByStamp.{newest_within}
 use Rattle.ssi_versions.specs.Mirror.{held_of}
 use Rattle.ssi_versions.specs.Machinery.Keyed.{AreByStamp, held_in, seen_between}
 use Rattle.ssi_versions.proofs.keyed.seen_between.Given as goal

@@ -1,5 +1,5 @@
 use Rattle.std.proofs.Common.{◌≡◌, ◌-◌, None, drop, map}
-use Rattle.ssi_versions.specs.Meaning.Changes.{newest_within}
+use Rattle.ssi_versions.specs.Clauses.ByStamp.{newest_within}
 use Rattle.ssi_versions.specs.Mirror.{held_of, chain_of}
 use Rattle.ssi_versions.proofs.plain.newest_at.Given as goal
 

@@ -1,4 +1,4 @@
-use Rattle.adya_values.specs.Mirror.{history_of}
+use Rattle.adya_values.specs.Mirror.Histories.{history_of}
 use Rattle.adya_values.specs.Computing.Faults.{first_fault}
 use Rattle.adya_terms.proofs.checked.Checked.history.Goals as goal
 use Rattle.lemmas.proofs.Options.{none_from}

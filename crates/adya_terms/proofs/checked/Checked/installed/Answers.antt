@@ -1,7 +1,7 @@
 use Rattle.std.proofs.Common.{◌≡◌, ◌∙◌, ap, refl, sym, Some, None, length, map, slice_get}
 use Rattle.std.proofs.lemmas.Bool.{ltb-false, ltb-true}
 use Rattle.std.proofs.lemmas.Option.{slice_get_past, slice_get_read}
-use Rattle.adya_values.specs.Meaning.Histories.{event_of}
+use Rattle.adya_values.specs.Mirror.Events.{event_of}
 use Rattle.adya_terms.specs.Machinery.Tables.{written_at}
 use Rattle.adya_terms.proofs.InstalledWrites.{at_place, no_line}
 use Rattle.adya_terms.proofs.checked.Checked.installed.Goals as goal

@@ -1,15 +1,14 @@
 use Rattle.std.proofs.Common.{◌≡◌, ◌∙◌, ℕ, List, ap, subst, map, is_none}
 use Rattle.adya_terms.proofs.Parts.{found_whole, faultless_whole}
 use Rattle.adya_terms.proofs.Judged.{refused_when_found}
-use Rattle.adya_values.specs.Meaning.Histories.{event_of}
+use Rattle.adya_values.specs.Mirror.Events.{event_of, order_of}
+use Rattle.adya_values.specs.Mirror.Histories.{history_of}
 use Rattle.adya_values.specs.declared.order.Order.{Order}
-use Rattle.adya_values.specs.Meaning.Histories.{order_of}
 use Rattle.adya_values.specs.Meaning.Events.{last_write}
 use Rattle.adya_terms.specs.Machinery.Tables.{own, written_at, KnowsCommitted}
 use Rattle.adya_terms.specs.Machinery.EventIndex.{indexed, last_in}
 use Rattle.adya_terms.specs.Machinery.Places.{AreWrites}
 use Rattle.adya_terms.proofs.InstalledWrites.{installed_if_last}
-use Rattle.adya_values.specs.Mirror.{history_of}
 use Rattle.adya_terms.proofs.checked.Checked.of.Goals as goal
 
 pub returns-in-Err-clause-found : goal.returns-in-Err-clause-found

@@ -1,5 +1,5 @@
 use Rattle.std.proofs.Common.{◌∙◌, not, ap, refl}
-use Rattle.adya_values.specs.Meaning.Histories.{entry_of}
+use Rattle.adya_values.specs.Mirror.Events.{entry_of}
 use Rattle.adya_terms.specs.Machinery.EventIndex.{indexed}
 use Rattle.adya_terms.proofs.Replaced.{last_unless_replaced}
 use Rattle.adya_terms.proofs.event_index.EventIndex.is_last.Goals as goal

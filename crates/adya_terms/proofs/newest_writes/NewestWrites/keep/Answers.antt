@@ -1,7 +1,7 @@
 use Rattle.std.proofs.Common.{◌∙◌, sym, ap, option_map, refl}
 use Rattle.std.specs.HashMap.{get}
 use Rattle.adya_values.specs.Meaning.Keys.{key_eq}
-use Rattle.adya_values.specs.Meaning.Histories.{entry_of, event_of}
+use Rattle.adya_values.specs.Mirror.Events.{entry_of, event_of}
 use Rattle.adya_terms.proofs.NewestWrites.{written_quiet, written_write}
 use Rattle.adya_terms.proofs.newest_writes.NewestWrites.keep.Goals as goal
 

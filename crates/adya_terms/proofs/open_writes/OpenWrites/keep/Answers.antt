@@ -1,5 +1,6 @@
 use Rattle.std.proofs.Common.{Some, ◌∙◌, ap, refl}
-use Rattle.adya_values.specs.Meaning.Histories.{Live, Dead, Commit, Abort, event_of, value_of}
+use Rattle.adya_values.specs.Meaning.Histories.{Live, Dead, Commit, Abort}
+use Rattle.adya_values.specs.Mirror.Events.{event_of, value_of}
 use Rattle.adya_values.specs.Meaning.Events.{version, entry}
 use Rattle.adya_terms.proofs.OpenWrites.{keeps_write, keeps_quiet, keeps_end, commit_ends, abort_ends}
 use Rattle.adya_terms.proofs.open_writes.OpenWrites.keep.Goals as goal

@@ -1,10 +1,11 @@
 use Rattle.std.proofs.Common.{Some, ◌∙◌, sym, ap, refl}
 use Rattle.std.proofs.Math.Bool.{or-false}
 use Rattle.std.proofs.lemmas.Bool.{eqb-true}
-use Rattle.adya_values.specs.Meaning.Histories.{Live, Dead, Commit, Abort, event_of, value_of}
+use Rattle.adya_values.specs.Meaning.Histories.{Live, Dead, Commit, Abort}
+use Rattle.adya_values.specs.Mirror.Events.{event_of, value_of}
 use Rattle.adya_values.specs.Meaning.Events.{version, entry, written}
 use Rattle.adya_values.specs.Computing.Faults.{is_next}
-use Rattle.txn_table.specs.Meaning.{value_for}
+use Rattle.txn_table.specs.Mirror.{value_for}
 use Rattle.adya_terms.proofs.Tells.{tell_quiet, tell_write, commits_more, aborts_more}
 use Rattle.adya_terms.proofs.tables.Tables.record.Goals as goal
 

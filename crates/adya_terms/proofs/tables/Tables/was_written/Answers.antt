@@ -1,7 +1,7 @@
 use Rattle.std.proofs.Common.{◌≡◌, ◌∙◌, ◌||◌, false, sym, ap, map}
 use Rattle.std.specs.HashMap.{get}
 use Rattle.adya_values.specs.Computing.Faults.{version_eq}
-use Rattle.adya_values.specs.Meaning.Histories.{entry_of, event_of}
+use Rattle.adya_values.specs.Mirror.Events.{entry_of, event_of}
 use Rattle.adya_terms.specs.Machinery.Tables.{own, own_eq, is_there, written_at}
 use Rattle.adya_terms.proofs.tables.Tables.was_written.Goals as goal
 

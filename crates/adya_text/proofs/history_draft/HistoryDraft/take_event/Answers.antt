@@ -1,7 +1,7 @@
 use Rattle.std.proofs.Common.{◌≡◌, Some, refl, ap, ◌∙◌, map, rules}
 use Rattle.std.proofs.lemmas.List.{map-append}
-use Rattle.adya_values.specs.Meaning.Histories.{event_of}
-use Rattle.adya_line.specs.Meaning.HistoryLines.{EventLine}
+use Rattle.adya_values.specs.Mirror.Events.{event_of}
+use Rattle.adya_line.specs.Clauses.HistoryLines.{EventLine}
 use Rattle.adya_line.specs.Computing.Reading.{event_at}
 use Rattle.adya_text.specs.Machinery.HistoryDrafts.{held}
 use Rattle.adya_text.proofs.history_draft.HistoryDraft.take_event.Goals as goal

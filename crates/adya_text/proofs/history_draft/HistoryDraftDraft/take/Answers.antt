@@ -1,5 +1,5 @@
 use Rattle.std.proofs.Common.{rules}
-use Rattle.adya_line.specs.Meaning.HistoryLines.{line_of}
+use Rattle.adya_line.specs.Clauses.HistoryLines.{line_of}
 use Rattle.adya_text.specs.Computing.Runs.{IsAllowed, IsRefused}
 use Rattle.adya_text.specs.Computing.HistoryRuns.{history_machine}
 use Rattle.adya_text.specs.Machinery.HistoryDrafts.{Takes}

@@ -1,6 +1,6 @@
 use Rattle.std.proofs.Common.{◌≡◌, ◌≢◌, ◌≤◌, ◌⊎◌, [], false, All, IfSome, length}
 use Rattle.std.specs.Io.KnownBytes.{Consumes, prepend_known}
-use Rattle.devices.specs.Meaning.Lines.{work_left}
+use Rattle.devices.specs.Clauses.Lines.{work_left}
 use Rattle.adya_text.proofs.lines.Lines.next_line.Given as goal
 
 abbrev pub invariant-loop-line : goal.invariant-loop-line

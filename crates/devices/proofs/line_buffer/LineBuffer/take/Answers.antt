@@ -1,5 +1,5 @@
 use Rattle.std.proofs.Common.{◌+◌, ◌≡◌, arith, length, sym, ap}
-use Rattle.devices.specs.Meaning.Lines.{line_end}
+use Rattle.devices.specs.Clauses.Lines.{line_end}
 use Rattle.devices.proofs.Ranges.{range_taken}
 use Rattle.devices.proofs.line_buffer.LineBuffer.take.Goals as goal
 

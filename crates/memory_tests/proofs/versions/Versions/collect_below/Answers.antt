@@ -3,7 +3,7 @@ use Rattle.std.proofs.Common.{◌<◌, sym, subst}
 use Rattle.std.specs.List.{All}
 use Rattle.std.proofs.lemmas.List.Elements.{All-filter}
 use Rattle.ssi_versions.specs.Mirror.{chain_of}
-use Rattle.ssi_versions.specs.Meaning.Changes.{is_wanted}
+use Rattle.ssi_versions.specs.Clauses.ByStamp.{is_wanted}
 use Rattle.memory_tests.proofs.versions.Versions.collect_below.Goals as goal
 
 pub invariant_of-self : goal.invariant_of-self

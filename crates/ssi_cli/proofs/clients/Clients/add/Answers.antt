@@ -1,5 +1,5 @@
 use Rattle.std.proofs.Common.{refl}
-use Rattle.ssi_hub.specs.Meaning.Calls.{Closed}
+use Rattle.ssi_hub.specs.Clauses.Calls.{Closed}
 use Rattle.ssi_cli.proofs.HubRuns.{called_opened, called_with, called_both}
 use Rattle.ssi_cli.proofs.clients.Clients.add.Goals as goal
 

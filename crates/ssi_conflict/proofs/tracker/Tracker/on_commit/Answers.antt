@@ -2,7 +2,7 @@ use Rattle.std.proofs.Common.{◌≡◌, ◌∷◌, ℕ, suc, List, option_map, 
 use Rattle.std.specs.Option.{option_copied}
 use Rattle.ssi_conflict.specs.Meaning.Calls.{Commits}
 use Rattle.ssi_conflict.specs.Machinery.Rows.{closed}
-use Rattle.ssi_conflict.specs.Machinery.Tables.{IsTidy, IsPrepared}
+use Rattle.ssi_conflict.specs.Machinery.Tables.{IsTidy, IsPrepared, row_at, met_if}
 use Rattle.ssi_conflict.proofs.AfterCommit.{stands_after_commit}
 use Rattle.ssi_conflict.proofs.CommitReaders.{after_own, after_met, after_unmet, after_gone}
 use Rattle.ssi_conflict.proofs.Retirement.{row_open}
@@ -10,8 +10,7 @@ use Rattle.ssi_conflict.proofs.TrackerSteps.{met_rows}
 use Rattle.ssi_conflict.proofs.TableOrder.{tidy_pairs}
 use Rattle.ssi_conflict.proofs.tracker.Tracker.on_commit.Goals as goal
 use Rattle.ssi_conflict.specs.Machinery.Records.{Changes, row_of}
-use Rattle.ssi_conflict.specs.Machinery.Tables.{row_at, met_if}
-use Rattle.ssi_reads.specs.Meaning.Marks.{has_txn}
+use Rattle.ssi_reads.specs.Clauses.Marks.{has_txn}
 
 pub returns : goal.returns
 returns g c calls stands ok ready =

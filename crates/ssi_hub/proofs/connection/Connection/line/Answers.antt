@@ -1,6 +1,6 @@
 use Rattle.std.proofs.Common.{◌∙◌, sym, ap}
-use Rattle.ssi_hub.specs.Meaning.Buffers.{Buffers}
-use Rattle.ssi_hub.specs.Meaning.Clipping.{has_line}
+use Rattle.ssi_hub.specs.Clauses.Buffers.{Buffers}
+use Rattle.ssi_hub.specs.Clauses.Clipping.{has_line}
 use Rattle.ssi_hub.proofs.Clips.{plain_has_none}
 use Rattle.ssi_hub.proofs.connection.Connection.line.Goals as goal
 

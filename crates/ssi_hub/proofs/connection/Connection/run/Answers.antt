@@ -1,8 +1,7 @@
 use Rattle.std.proofs.Common.{◌≡◌, ◌<◌, ◌≤◌, ◌∷◌, ◌++◌, ◌∙◌, [], List, ℕ, length, refl, subst, arith}
 use Rattle.ssi_store.specs.Mirror.Stores.{IsAt}
-use Rattle.ssi_hub.specs.Meaning.Buffers.{Buffers}
-use Rattle.ssi_hub.proofs.Carrying.{carried_none, carried_more, goes_on, enough_ended, none_waits, enough_unsent}
-use Rattle.ssi_hub.proofs.Carrying.{enough_lines, length_more}
+use Rattle.ssi_hub.specs.Clauses.Buffers.{Buffers}
+use Rattle.ssi_hub.proofs.Carrying.{carried_none, carried_more, goes_on, enough_ended, none_waits, enough_unsent, enough_lines, length_more}
 use Rattle.ssi_hub.proofs.connection.Connection.run.Goals as goal
 
 pub lines-init : goal.lines-init

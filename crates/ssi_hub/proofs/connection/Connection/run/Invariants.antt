@@ -2,8 +2,8 @@
 use Rattle.std.proofs.Common.{◌≡◌, ℕ, List, false, length}
 use Rattle.ssi_store.specs.Mirror.Stores.{IsAt}
 use Rattle.ssi_line.specs.Meaning.Steps.{Step}
-use Rattle.ssi_hub.specs.Meaning.Clipping.{clipped}
-use Rattle.ssi_hub.specs.Meaning.Runs.{CarriedOut}
+use Rattle.ssi_hub.specs.Clauses.Clipping.{clipped}
+use Rattle.ssi_hub.specs.Clauses.Runs.{CarriedOut}
 use Rattle.ssi_hub.proofs.connection.Connection.run.Given as goal
 
 abbrev pub invariant-lines : goal.invariant-lines

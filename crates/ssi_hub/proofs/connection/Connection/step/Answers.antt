@@ -1,7 +1,7 @@
 use Rattle.std.proofs.Common.{◌≡◌, ap, sym, ◌∙◌, List, ℕ, length, refl}
 use Rattle.ssi_store.specs.Mirror.Stores.{IsAt}
-use Rattle.ssi_hub.specs.Meaning.Buffers.{Buffers}
-use Rattle.ssi_hub.specs.Meaning.Clipping.{has_line}
+use Rattle.ssi_hub.specs.Clauses.Buffers.{Buffers}
+use Rattle.ssi_hub.specs.Clauses.Clipping.{has_line}
 use Rattle.ssi_hub.proofs.Clips.{plain_has_none}
 use Rattle.ssi_hub.proofs.Carrying.{stepped}
 use Rattle.ssi_hub.proofs.connection.Connection.step.Goals as goal

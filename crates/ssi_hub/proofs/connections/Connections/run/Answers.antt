@@ -1,5 +1,5 @@
 use Rattle.std.proofs.Common.{◌∙◌, ap}
-use Rattle.ssi_hub.specs.Meaning.Runs.{left_by}
+use Rattle.ssi_hub.specs.Clauses.Runs.{left_by}
 use Rattle.ssi_hub.proofs.connections.Connections.run.Goals as goal
 
 pub returns-then-is_lost : goal.returns-then-is_lost

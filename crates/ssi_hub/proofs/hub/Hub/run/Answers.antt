@@ -1,6 +1,6 @@
 use Rattle.std.proofs.Common.{◌≡◌}
 use Rattle.ssi_store.specs.Mirror.Stores.{IsAt}
-use Rattle.ssi_hub.specs.Meaning.Calls.{with_run}
+use Rattle.ssi_hub.specs.Clauses.Calls.{with_run}
 use Rattle.ssi_hub.specs.Mirror.{buffers_of}
 use Rattle.ssi_hub.proofs.Ran.{run_stands, course_goes_on}
 use Rattle.ssi_hub.proofs.hub.Hub.run.Goals as goal

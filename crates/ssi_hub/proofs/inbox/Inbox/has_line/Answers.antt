@@ -1,5 +1,5 @@
 use Rattle.std.proofs.Common.{List, ℕ, ap, ◌∙◌}
-use Rattle.ssi_hub.specs.Meaning.Clipping.{has_line}
+use Rattle.ssi_hub.specs.Clauses.Clipping.{has_line}
 use Rattle.ssi_hub.proofs.Clips.{waits_so}
 use Rattle.ssi_hub.proofs.inbox.Inbox.has_line.Goals as goal
 

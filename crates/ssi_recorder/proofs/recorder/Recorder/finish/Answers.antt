@@ -1,6 +1,7 @@
 use Rattle.std.proofs.Common.{rules, ◌≡◌, [], ◌++◌, map, ◌∙◌}
 use Rattle.adya_values.specs.declared.edition.Edition.TheVariants as Edition
-use Rattle.adya_values.specs.Meaning.Histories.{event_of, order_of, final_of, Abort}
+use Rattle.adya_values.specs.Meaning.Histories.{Abort}
+use Rattle.adya_values.specs.Mirror.Events.{event_of, order_of, final_of}
 use Rattle.ssi_recorder.specs.Meaning.Recorded.{orders_of_events, finals_of_events}
 use Rattle.ssi_recorder.specs.Mirror.{events_of}
 use Rattle.ssi_recorder.proofs.Ended.{orders_ended, finals_ended, same_history}

@@ -1,7 +1,7 @@
 use Rattle.std.proofs.Common.{◌≡◌, ◌≤◌, ◌+◌, ◌∙◌, ap, sym, refl, subst}
 use Rattle.adya_values.specs.Meaning.Events.{version, listed}
 use Rattle.ssi_versions.specs.Mirror.{write_of}
-use Rattle.ssi_snapshot.specs.Meaning.Writes.{put_write, mod_of}
+use Rattle.ssi_snapshot.specs.Clauses.Writes.{put_write, mod_of}
 use Rattle.ssi_snapshot.specs.Machinery.Stored.{are_keyed, write_key, Write, stored_writes}
 use Rattle.ssi_snapshot.proofs.Writing.{count_more}
 use Rattle.ssi_snapshot.proofs.Storing.{stored_put, keyed_put}

@@ -1,10 +1,11 @@
 use Rattle.std.proofs.Common.{◌≡◌, ◌∙◌, ap, map, if◌then◌else◌, None, true}
 use Rattle.adya_values.specs.Meaning.Keys.{keys_rise, lies_in}
-use Rattle.adya_values.specs.Meaning.Histories.{entry_of}
+use Rattle.adya_values.specs.Mirror.Events.{entry_of}
 use Rattle.adya_values.specs.Meaning.Events.{listed}
-use Rattle.ssi_versions.specs.Meaning.Changes.{otherwise, entry_in, newest_within}
+use Rattle.ssi_versions.specs.Meaning.Changes.{otherwise, entry_in}
+use Rattle.ssi_versions.specs.Clauses.ByStamp.{newest_within}
 use Rattle.ssi_versions.specs.Mirror.{held_of, found_in, chain_of}
-use Rattle.ssi_snapshot.specs.Meaning.Listings.{keys}
+use Rattle.ssi_snapshot.specs.Clauses.Listings.{keys}
 use Rattle.ssi_snapshot.specs.Mirror.{own}
 use Rattle.ssi_snapshot.specs.Machinery.Stored.{are_keyed, entry_key, stored_at}
 use Rattle.ssi_snapshot.proofs.Merging.{rising_values, listed_values, both_shown}

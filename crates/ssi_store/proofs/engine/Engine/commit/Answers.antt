@@ -1,9 +1,9 @@
 use Rattle.std.proofs.Common.{refl, ap, subst, ◌+◌, ◌∙◌, ◌∷◌, map, Some, None}
 use Rattle.std.proofs.lemmas.Result.{err_from_is_err_and}
 use Rattle.ssi_versions.specs.Mirror.{write_of}
-use Rattle.ssi_snapshot.specs.Meaning.Listings.{keys}
+use Rattle.ssi_snapshot.specs.Clauses.Listings.{keys}
 use Rattle.ssi_conflict.specs.Meaning.Calls.{Commits as Ends}
-use Rattle.ssi_conflict.specs.Meaning.Pairs.{IsOrderedPivot, IsSmallest}
+use Rattle.ssi_conflict.specs.Clauses.Pairs.{IsOrderedPivot, IsSmallest}
 use Rattle.ssi_conflict.specs.Mirror.{pivot_of}
 use Rattle.ssi_store.specs.Meaning.Acts.{acts}
 use Rattle.ssi_store.specs.Meaning.Courses.{Commit, Conflict, Unsafe}

@@ -1,9 +1,9 @@
 use Rattle.std.proofs.Common.{sym, subst, ◌∙◌}
 use Rattle.std.proofs.Math.Logic.{∥∥₁_map}
 use Rattle.ssi_conflict.specs.Computing.Steps.{smallest_ordered_pivot}
-use Rattle.ssi_conflict.specs.Meaning.Pairs.{IsOrderedPivot}
+use Rattle.ssi_conflict.specs.Clauses.Pairs.{IsOrderedPivot}
 use Rattle.ssi_store.specs.Meaning.Faces.{RecordsSoFar}
-use Rattle.ssi_store.specs.Meaning.Coverage.{IsCovered}
+use Rattle.ssi_store.specs.Clauses.Coverage.{IsCovered}
 use Rattle.ssi_store.proofs.Finishes.{dumps, safe_by}
 use Rattle.ssi_store.proofs.engine.Engine.dump.Goals as goal
 

@@ -1,6 +1,6 @@
 use Rattle.std.proofs.Common.{rules, ap, ◌∙◌, map}
 use Rattle.std.proofs.lemmas.Result.{err_from_is_err_and}
-use Rattle.adya_values.specs.Meaning.Histories.{entry_of, final_of}
+use Rattle.adya_values.specs.Mirror.Events.{entry_of, final_of}
 use Rattle.adya_values.specs.Meaning.Serial.{visible_pairs}
 use Rattle.ssi_store.specs.Meaning.Courses.{Scan}
 use Rattle.adya_values.proofs.KeyOrder.{key_le-from_not}

@@ -1,9 +1,10 @@
 use Rattle.std.proofs.Common.{rules, ap, subst, ◌<◌, ◌∙◌, map}
 use Rattle.std.proofs.lemmas.Result.{err_from_is_err_and}
 use Rattle.std.specs.Int.NonZero.{non_zero_u16_get}
-use Rattle.adya_values.specs.Meaning.Histories.{entry_of, final_of}
+use Rattle.adya_values.specs.Mirror.Events.{entry_of, final_of}
 use Rattle.adya_values.specs.Meaning.Serial.{visible_pairs}
-use Rattle.ssi_snapshot.specs.Meaning.Listings.{up_to, reached}
+use Rattle.ssi_snapshot.specs.Clauses.Listings.{up_to}
+use Rattle.ssi_snapshot.specs.Meaning.Reached.{reached}
 use Rattle.ssi_store.specs.Meaning.Courses.{ScanFirst}
 use Rattle.adya_values.proofs.KeyOrder.{key_le-from_not}
 use Rattle.ssi_store.proofs.LimitedScans.{first_idle, first_range, first_long, first_memory, first_is}

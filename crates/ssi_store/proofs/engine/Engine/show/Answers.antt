@@ -1,8 +1,8 @@
 use Rattle.std.proofs.Common.{ap, subst, ◌∙◌, ◌++◌, ◌∷◌, [], Ok}
 use Rattle.std.proofs.lemmas.Result.{err_from_is_err_and}
-use Rattle.adya_values.specs.Meaning.Histories.{event_of}
+use Rattle.adya_values.specs.Mirror.Events.{event_of}
 use Rattle.ssi_conflict.specs.Meaning.Calls.{Reads}
-use Rattle.ssi_conflict.specs.Meaning.Pairs.{IsOrderedPivot, IsSmallest}
+use Rattle.ssi_conflict.specs.Clauses.Pairs.{IsOrderedPivot, IsSmallest}
 use Rattle.ssi_conflict.specs.Mirror.{Stands, carried, pivot_of}
 use Rattle.ssi_store.specs.Meaning.Acts.{acts}
 use Rattle.ssi_store.specs.Mirror.Commands.{reply_of}

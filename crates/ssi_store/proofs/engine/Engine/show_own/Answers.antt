@@ -1,6 +1,6 @@
 use Rattle.std.proofs.Common.{ap, ◌∙◌, ◌++◌, ◌∷◌, []}
 use Rattle.std.proofs.lemmas.Result.{err_from_is_err_and}
-use Rattle.adya_values.specs.Meaning.Histories.{event_of}
+use Rattle.adya_values.specs.Mirror.Events.{event_of}
 use Rattle.ssi_store.specs.Mirror.Commands.{reply_of}
 use Rattle.ssi_store.proofs.Looks.{look_memory, looked_own}
 use Rattle.ssi_store.proofs.engine.Engine.show_own.Goals as goal

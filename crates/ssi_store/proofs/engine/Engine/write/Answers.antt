@@ -1,6 +1,6 @@
 use Rattle.std.proofs.Common.{rules, ap, sym, ◌∙◌, ◌++◌, ◌∷◌, []}
 use Rattle.std.proofs.lemmas.Result.{err_from_is_err_and}
-use Rattle.adya_values.specs.Meaning.Histories.{event_of, content_of}
+use Rattle.adya_values.specs.Mirror.Events.{event_of, content_of}
 use Rattle.ssi_recorder.specs.Mirror.{events_of}
 use Rattle.ssi_store.proofs.PutsAndDels.{write_idle, write_long, write_memory, write_done, same_as}
 use Rattle.ssi_store.proofs.engine.Engine.write.Goals as goal

@@ -1,5 +1,5 @@
 use Rattle.std.proofs.Common.{rules, subst, sym, ◌∙◌, ap, map}
-use Rattle.ssi_versions.specs.Meaning.Changes.{newest_within, IsByStamp}
+use Rattle.ssi_versions.specs.Clauses.ByStamp.{newest_within, IsByStamp}
 use Rattle.ssi_versions.specs.Machinery.Keyed.{placed}
 use Rattle.ssi_versions.proofs.Entries.{under_some, under_none}
 use Rattle.ssi_versions.proofs.keyed.KeyChainsChains.at.Goals as goal

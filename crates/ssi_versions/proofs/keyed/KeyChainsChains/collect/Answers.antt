@@ -1,5 +1,5 @@
 use Rattle.std.proofs.Common.{arith, subst, ◌<◌, ◌∙◌, ap, sym, length}
-use Rattle.ssi_versions.specs.Meaning.Changes.{is_wanted, IsByStamp}
+use Rattle.ssi_versions.specs.Clauses.ByStamp.{is_wanted, IsByStamp}
 use Rattle.ssi_versions.specs.Mirror.{chain_of}
 use Rattle.ssi_versions.specs.Machinery.Keyed.{versions, is_owned, filled_count}
 use Rattle.std.proofs.lemmas.List.Kept.{AllPairs-filter}

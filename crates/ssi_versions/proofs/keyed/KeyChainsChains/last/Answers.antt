@@ -1,5 +1,5 @@
 use Rattle.std.proofs.Common.{rules, ◌∙◌, ap, map}
-use Rattle.ssi_versions.specs.Meaning.Changes.{newest}
+use Rattle.ssi_versions.specs.Clauses.ByStamp.{newest}
 use Rattle.ssi_versions.specs.Machinery.Keyed.{placed}
 use Rattle.ssi_versions.proofs.Entries.{under_some, under_none}
 use Rattle.ssi_versions.proofs.keyed.KeyChainsChains.last.Goals as goal

@@ -1,6 +1,6 @@
 use Rattle.std.proofs.Common.{ap, subst, sym, ◌<◌, ◌∙◌, map}
 use Rattle.ssi_versions.specs.Mirror.{held_of, chain_of}
-use Rattle.ssi_versions.specs.Meaning.Changes.{is_wanted, IsByStamp}
+use Rattle.ssi_versions.specs.Clauses.ByStamp.{is_wanted, IsByStamp}
 use Rattle.ssi_versions.proofs.Keeping.{kept_chain, kept_of}
 use Rattle.std.proofs.lemmas.List.Kept.{AllPairs-filter}
 use Rattle.ssi_versions.proofs.plain.PlainChainsChains.collect.Goals as goal

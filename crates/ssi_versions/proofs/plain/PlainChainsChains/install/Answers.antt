@@ -1,6 +1,6 @@
 use Rattle.std.proofs.Common.{subst, sym, ◌≡◌, ◌++◌, map, Ok, Err, OnOk, OnErr}
 use Rattle.ssi_versions.specs.Mirror.{held_of, write_of, chain_of}
-use Rattle.ssi_versions.specs.Meaning.Changes.{IsByStamp}
+use Rattle.ssi_versions.specs.Clauses.ByStamp.{IsByStamp}
 use Rattle.ssi_versions.specs.Machinery.Plain.{as_held}
 use Rattle.ssi_versions.proofs.ByKey.{added, still_by_stamp}
 use Rattle.ssi_versions.proofs.plain.PlainChainsChains.install.Goals as goal

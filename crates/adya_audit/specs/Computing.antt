@@ -1,0 +1,2 @@
+-- Plain functions that compute a verdict.
+pub mod Verdicts

@@ -1,0 +1,2 @@
+-- What `order` finds.
+pub mod Found

@@ -1,0 +1,2 @@
+-- The first fault of a history, as a relation.
+pub mod FirstFaults

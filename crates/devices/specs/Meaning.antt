@@ -1,3 +1,0 @@
--- What the promises mean.
-pub mod Writing
-pub mod Lines

@@ -1,0 +1,2 @@
+-- Paths, cycles and orders of a graph.
+pub mod Graphs

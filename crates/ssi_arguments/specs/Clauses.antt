@@ -1,0 +1,2 @@
+-- What a program's arguments ask for.
+pub mod Arguments

@@ -1,2 +1,0 @@
--- What the promises mean.
-pub mod Arguments

@@ -1,0 +1,5 @@
+-- What a script and a socket leave, and which exit status that gives.
+pub mod Scripts
+pub mod Status
+pub mod Fault
+pub mod Serving

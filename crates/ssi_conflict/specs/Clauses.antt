@@ -1,0 +1,3 @@
+-- Pairs: pairs and pivots. Allowed: what a caller has to keep.
+pub mod Pairs
+pub mod Allowed

@@ -1,0 +1,6 @@
+-- What a hub was called with, and what that makes of the lines and the replies of its connections.
+pub mod Clipping
+pub mod Buffers
+pub mod Runs
+pub mod Calls
+pub mod Serving

@@ -1,0 +1,2 @@
+-- Marks: which ranges a transaction has read.
+pub mod Marks
