@@ -45,7 +45,8 @@ class Maker(random.Random):
         """A transaction on the newest lists, or on those that an earlier one left."""
         old = self.choice(states) if self.isolated or self.happens(self.slip) else states[-1]
         lists, mine, operations = {key: list(some) for key, some in old.items()}, {}, []
-        for _ in range(self.randint(1, 4)):
+        most = 24 if self.happens(0.05) else 4  # the program goes through long transactions in another way
+        for _ in range(self.randint(1, most)):
             key = self.randrange(keys)
             here = lists.setdefault(key, [])
             if self.happens(0.5):

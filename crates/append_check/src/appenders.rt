@@ -32,7 +32,7 @@ impl Appenders {
         ensures { IfOk result (IsMade (history_of transactions.now)) }
     {
         let mut table = Appenders {
-            by_item: HashMap::new(alloc),
+            by_item: HashMap::with_capacity(alloc, appends_in(transactions))?,
         };
         'transactions: for (place, transaction) in transactions.iter().enumerate() {
             let operations = transaction.operations.as_slice();
@@ -76,6 +76,22 @@ impl Appenders {
             None => Ok(None),
         }
     }
+}
+
+/// Returns how many elements all transactions append.
+fn appends_in(transactions: &[Transaction]) -> usize {
+    let mut appends = 0usize;
+    for transaction in transactions {
+        let operations = transaction.operations.iter();
+        appends = appends.saturating_add(
+            operations.filter(|operation| is_append(operation)).count(),
+        );
+    }
+    appends
+}
+
+fn is_append(operation: &Operation) -> bool {
+    matches!(operation, Operation::Append { .. })
 }
 
 impl Writers for Appenders {

@@ -31,7 +31,7 @@ pub fn check(alloc: Global, transactions: &[Transaction]) -> Result<Verdict, All
             });
         }
     };
-    match find_candidate(alloc, transactions, &appenders)? {
+    match find_candidate(alloc, transactions, appenders)? {
         Candidate::Order(order) => {
             if explains(alloc, transactions, order.as_slice())? {
                 return Ok(Verdict::Serializable(order));

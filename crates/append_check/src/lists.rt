@@ -6,13 +6,13 @@ ghost use Rattle.append_values.specs.Meaning.Runs.{after, empty, run, Sees, AllS
 
 use append_values::{Operation, Outcome, Transaction};
 use std::alloc::{AllocError, Global};
-use std::collections::BTreeMap;
+use std::collections::HashMap;
 
 /// The list of each key; a key without one has the empty list.
 #[derive(Drop)]
 pub(crate) struct Lists {
     alloc: Global,
-    by_key: BTreeMap<u64, Vec<u64>>,
+    by_key: HashMap<u64, Vec<u64>>,
 }
 
 impl Lists {
@@ -24,7 +24,7 @@ impl Lists {
     {
         Lists {
             alloc,
-            by_key: BTreeMap::new(alloc),
+            by_key: HashMap::new(alloc),
         }
     }
 

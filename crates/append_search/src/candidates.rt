@@ -9,7 +9,7 @@ use crate::lines::{Found, Lines};
 use crate::links::{Links, Sink};
 use crate::own::Owns;
 use crate::reading::Reading;
-use crate::sorting::forward;
+use crate::sorting::Counts;
 use crate::writers::Writers;
 use append_values::{Kind, Link, Operation, Outcome, Read, Reason, Transaction};
 use digraph::{Arc, Outcome as Sorted, topological_order};
@@ -36,27 +36,29 @@ struct Search {
 
 /// Looks for an order that explains the history, or a reason for which none does; `AllocError` if memory runs out. The
 /// time it takes is nearly linear in the size of the history. Nothing is promised of what it finds.
-pub fn find_candidate<W: Writers>(
+pub fn find_candidate<W: Writers + Drop>(
     alloc: Global,
     transactions: &[Transaction],
-    writers: &W,
+    writers: W,
 ) -> Result<Candidate, AllocError> {
     let mut search = Search {
         alloc,
         owns: Owns::new(alloc),
-        lines: Lines::new(alloc),
+        lines: Lines::new(alloc, transactions.len())?,
         readings: Vec::with_capacity(alloc, reads_in(transactions))?,
     };
     let mut place = 0u32;
     'transactions: for transaction in transactions {
         if transaction.outcome == Outcome::Committed {
             let operations = transaction.operations.as_slice();
-            if let Some(reason) = search.go_through(transactions, writers, place, operations)? {
+            if let Some(reason) = search.go_through(transactions, &writers, place, operations)? {
                 return Ok(Candidate::Reason(reason));
             }
         }
         place = place.saturating_add(1);
     }
+    // they take much memory, and the rest doesn't need them
+    drop(writers);
     if let Some(reason) = search.add_tails()? {
         return Ok(Candidate::Reason(reason));
     }
@@ -72,9 +74,10 @@ impl Search {
         place: u32,
         operations: &[Operation],
     ) -> Result<Option<Reason>, AllocError> {
+        self.owns.begin(operations)?;
         for (step, operation) in operations.iter().enumerate() {
             match operation {
-                Operation::Append { key, element } => self.append(place, *key, *element)?,
+                Operation::Append { key, element } => self.append(*key, *element)?,
                 Operation::Read { key, elements } => {
                     let read = Read {
                         transaction: place,
@@ -91,14 +94,8 @@ impl Search {
         Ok(None)
     }
 
-    fn append(&mut self, place: u32, key: u64, element: u64) -> Result<(), AllocError> {
-        let own = self.owns.of(place, key)?;
-        own.appended.push(element)?;
-        if let Some(reading) = own.reading {
-            if let Some(reading) = self.readings.get_mut(reading) {
-                reading.appends = true;
-            }
-        }
+    fn append(&mut self, key: u64, element: u64) -> Result<(), AllocError> {
+        self.owns.of(key)?.appended.push(element)?;
         Ok(())
     }
 
@@ -110,8 +107,7 @@ impl Search {
         read: Read,
         elements: &[u64],
     ) -> Result<Option<Reason>, AllocError> {
-        let own = self.owns.of(read.transaction, key)?;
-        let appends = !own.appended.is_empty();
+        let own = self.owns.of(key)?;
         if !elements.ends_with(own.appended.as_slice()) {
             return Ok(Some(Reason::Internal(read)));
         }
@@ -120,15 +116,19 @@ impl Search {
             let Some(first) = self.readings.get(first) else {
                 return Ok(None);
             };
-            return Ok(unrepeated(transactions, first, read, base));
+            let length = self.lines.length(first.line(), first.writers());
+            return Ok(unrepeated(transactions, first.read(), length, read, base));
         }
         own.reading = Some(self.readings.len());
-        let length = base.len();
-        match self.lines.take(transactions, writers, key, read, base)? {
+        let appends = own.appends;
+        match self
+            .lines
+            .take(transactions, writers, key, read, base, appends)?
+        {
             Found::Nothing(reason) => Ok(Some(reason)),
             Found::Blocks { line, writers } => {
                 self.readings
-                    .push(Reading::new(read, line, writers, length, appends))?;
+                    .push(Reading::new(read, line, writers, appends))?;
                 Ok(None)
             }
         }
@@ -138,7 +138,7 @@ impl Search {
     fn add_tails(&mut self) -> Result<Option<Reason>, AllocError> {
         let readings = &self.readings;
         for reading in readings {
-            if reading.appends {
+            if reading.appends() {
                 let broken = self
                     .lines
                     .append(reading.line(), reading.read(), reading.writers())?;
@@ -156,39 +156,55 @@ impl Search {
             lines: &self.lines,
             transactions: count,
         };
-        let mut arcs = Arcs {
-            arcs: Vec::with_capacity(self.alloc, self.most_links())?,
-        };
-        links.give(transactions, self.readings.as_slice(), &mut arcs)?;
-        let nodes = self.nodes(transactions, &links)?;
+        let readings = self.readings.as_slice();
         let most = (count as usize).saturating_add(self.lines.lines.len());
-        let order = forward(self.alloc, most, nodes.as_slice(), arcs.arcs.as_slice())?;
+        let mut counts = Counts::new(self.alloc, most)?;
+        links.give(transactions, readings, &mut counts)?;
+        let mut targets = counts.room(self.alloc)?;
+        links.give(transactions, readings, &mut targets)?;
+        let nodes = self.nodes(transactions, &links)?;
+        let order = targets.forward(self.alloc, nodes.as_slice())?;
         if order.len() == nodes.len() {
             return Ok(Candidate::Order(without_helpers(self.alloc, order.as_slice(), count)?));
         }
+        self.sort_again(transactions, &links, nodes)
+    }
+
+    // The same by a sort that names a cycle.
+    fn sort_again(
+        &self,
+        transactions: &[Transaction],
+        links: &Links,
+        nodes: Vec<u32>,
+    ) -> Result<Candidate, AllocError> {
+        let readings = self.readings.as_slice();
+        let mut arcs = Arcs {
+            arcs: Vec::new(self.alloc),
+        };
+        links.give(transactions, readings, &mut arcs)?;
         let (nodes, arcs) = graph(self.alloc, nodes, arcs.arcs.as_slice())?;
         match topological_order(self.alloc, nodes.as_slice(), arcs)? {
             Sorted::Order(order) => {
-                Ok(Candidate::Order(without_helpers(self.alloc, order.as_slice(), count)?))
+                Ok(Candidate::Order(without_helpers(
+                    self.alloc,
+                    order.as_slice(),
+                    links.transactions,
+                )?))
             }
             Sorted::Cycle(cycle) => {
                 let mut kinds = Kinds::of(self.alloc, cycle.as_slice())?;
-                links.give(transactions, self.readings.as_slice(), &mut kinds)?;
-                let round = contracted(self.alloc, cycle.as_slice(), &kinds, count)?;
+                links.give(transactions, readings, &mut kinds)?;
+                let round = contracted(self.alloc, cycle.as_slice(), &kinds, links.transactions)?;
                 Ok(Candidate::Reason(Reason::Cycle(round)))
             }
         }
     }
 
-    // About as many as the lines and the readings have: one from each writer, one to each reader, and one from it.
-    fn most_links(&self) -> usize {
-        let readings = self.readings.len().saturating_mul(2);
-        self.lines.writer_count().saturating_add(readings)
-    }
-
     // The committed transactions, the unknown ones of which somebody read an element, and the helpers.
     fn nodes(&self, transactions: &[Transaction], links: &Links) -> Result<Vec<u32>, AllocError> {
-        let mut nodes = Vec::new(self.alloc);
+        let lines = self.lines.lines.len();
+        let most = transactions.len().saturating_add(lines);
+        let mut nodes = Vec::with_capacity(self.alloc, most)?;
         let mut place = 0u32;
         for transaction in transactions {
             if self.lines.takes_in(place, transaction) {
@@ -196,7 +212,7 @@ impl Search {
             }
             place = place.saturating_add(1);
         }
-        for line in 0..self.lines.lines.len() {
+        for line in 0..lines {
             nodes.push(links.helper(line))?;
         }
         Ok(nodes)
@@ -244,27 +260,28 @@ fn add_arc(nodes: &mut Vec<u32>, arcs: &mut Vec<Arc>, arc: Arc) -> Result<(), Al
     Ok(())
 }
 
-// The reason if a later read of a transaction found another list than its first one.
+// The reason if a later read of a transaction found another list than its first one, which had so many elements before its
+// transaction's own.
 fn unrepeated(
     transactions: &[Transaction],
-    first: &Reading,
+    first: Read,
+    length: usize,
     read: Read,
     base: &[u64],
 ) -> Option<Reason> {
-    let read_first = first.read();
-    let transaction = transactions.get(read_first.transaction as usize)?;
-    let operation = transaction.operations.get(read_first.step)?;
+    let transaction = transactions.get(first.transaction as usize)?;
+    let operation = transaction.operations.get(first.step)?;
     if let Operation::Read { elements, .. } = operation {
-        let same = base.len() == first.length() && elements.starts_with(base);
+        let same = base.len() == length && elements.starts_with(base);
         if !same {
-            return Some(Reason::Unrepeatable(read_first, read));
+            return Some(Reason::Unrepeatable(first, read));
         }
     }
     None
 }
 
 fn without_helpers(alloc: Global, order: &[u32], count: u32) -> Result<Vec<u32>, AllocError> {
-    let mut places = Vec::new(alloc);
+    let mut places = Vec::with_capacity(alloc, order.len())?;
     for node in order {
         if *node < count {
             places.push(*node)?;

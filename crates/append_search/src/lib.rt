@@ -4,6 +4,7 @@
 //! another answer if it isn't.
 #![tactic(auto)]
 
+mod blocks;
 mod candidates;
 mod lines;
 mod links;

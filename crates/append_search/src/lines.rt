@@ -1,10 +1,12 @@
 //! The lines of writers: for each key, the transactions whose elements were read, in the order of the longest list.
 
+use crate::blocks::{Blocks, FEW};
 use crate::reading::small;
+use crate::sorting::zeros;
 use crate::writers::Writers;
-use append_values::{Operation, Outcome, Read, Reason, Transaction, appended};
+use append_values::{Operation, Outcome, Read, Reason, Transaction};
 use std::alloc::{AllocError, Global};
-use std::collections::HashMap;
+use std::collections::{HashMap, HashSet};
 
 /// A line, by its number, and a transaction.
 #[derive(Clone, Copy, PartialEq, Eq, Hash)]
@@ -22,7 +24,7 @@ pub(crate) struct Line {
     /// The places of the transactions in the history, each of which appended a block of elements.
     pub writers: Vec<u32>,
     /// Where the blocks end in the list.
-    ends: Vec<usize>,
+    ends: Vec<u32>,
     /// The read that found the list.
     pub source: Read,
     /// The read by a transaction that found the whole list and appended to it: then it is the last writer.
@@ -44,8 +46,11 @@ pub(crate) struct Lines {
     alloc: Global,
     numbers: HashMap<u64, usize>,
     pub lines: Vec<Line>,
-    /// The place of each writer in each line.
-    places: HashMap<Writer, u32>,
+    /// The writers of all lines.
+    writers: HashSet<Writer>,
+    /// In how many lines each transaction stands.
+    standing: Vec<u32>,
+    blocks: Blocks,
 }
 
 impl Line {
@@ -54,7 +59,7 @@ impl Line {
         if length == 0 {
             return Some(0);
         }
-        match self.ends.binary_search(&length) {
+        match self.ends.binary_search(&small(length)) {
             Ok(last) => last.checked_add(1),
             Err(_) => None,
         }
@@ -64,35 +69,47 @@ impl Line {
     fn add(&mut self, writer: u32, block: &[u64]) -> Result<(), AllocError> {
         self.writers.push(writer)?;
         self.chain.extend_from_slice(block)?;
-        self.ends.push(self.chain.len())?;
+        self.ends.push(small(self.chain.len()))?;
         Ok(())
     }
 
     /// Returns the writer of the element at this place of the list.
     fn writer_at(&self, place: usize) -> Option<u32> {
-        let block = self.ends.partition_point(|end| *end <= place);
+        let block = self.ends.partition_point(|end| *end as usize <= place);
         self.writers.get(block).copied()
     }
 
     /// Returns the first element of the writer at this place in the line.
     fn first_element(&self, writer: usize) -> Option<u64> {
-        let start = match writer.checked_sub(1) {
-            Some(before) => *self.ends.get(before)?,
+        self.chain.get(self.length(writer)).copied()
+    }
+
+    /// Returns the place of the transaction among the first writers.
+    fn place_within(&self, writers: usize, transaction: u32) -> Option<usize> {
+        let first = self.writers.get(..writers)?;
+        first.iter().position(|writer| *writer == transaction)
+    }
+
+    /// Returns how many elements the blocks of the first writers have.
+    fn length(&self, writers: usize) -> usize {
+        match writers.checked_sub(1) {
+            Some(last) => self.ends.get(last).copied().unwrap_or(0) as usize,
             None => 0,
-        };
-        self.chain.get(start).copied()
+        }
     }
 }
 
 impl Lines {
-    /// Begins without lines.
-    pub fn new(alloc: Global) -> Lines {
-        Lines {
+    /// Begins without lines, for a history of so many transactions.
+    pub fn new(alloc: Global, transactions: usize) -> Result<Lines, AllocError> {
+        Ok(Lines {
             alloc,
             numbers: HashMap::new(alloc),
             lines: Vec::new(alloc),
-            places: HashMap::new(alloc),
-        }
+            writers: HashSet::new(alloc),
+            standing: zeros(alloc, transactions)?,
+            blocks: Blocks::new(alloc),
+        })
     }
 
     /// Returns the number of the line of the key.
@@ -100,14 +117,9 @@ impl Lines {
         self.numbers.get(&key).copied()
     }
 
-    /// Returns how many writers all lines have.
-    pub fn writer_count(&self) -> usize {
-        self.places.len()
-    }
-
     /// Returns whether the transaction stands in the line with this number.
     pub fn has(&self, line: usize, transaction: u32) -> bool {
-        self.places.contains_key(&writer_in(line, transaction))
+        self.writers.contains(&writer_in(line, transaction))
     }
 
     /// Returns whether an order has this transaction: if it committed, or if nobody knows and an element of it was read.
@@ -115,21 +127,37 @@ impl Lines {
         match transaction.outcome {
             Outcome::Committed => true,
             Outcome::Aborted => false,
-            Outcome::Unknown => self.shows(place, transaction.operations.as_slice()),
+            Outcome::Unknown => self.standing(place) > 0,
         }
     }
 
-    fn shows(&self, transaction: u32, operations: &[Operation]) -> bool {
-        for operation in operations {
-            if let Operation::Append { key, .. } = operation {
-                if let Some(line) = self.number(*key) {
-                    if self.has(line, transaction) {
-                        return true;
-                    }
-                }
-            }
+    /// Returns whether the transaction stands in the line of each key that it appends to. If it has many steps, this may be
+    /// false although it does.
+    pub fn shows_all(&self, place: u32, operations: &[Operation]) -> bool {
+        operations.len() <= FEW && keys_appended(operations) == self.standing(place)
+    }
+
+    fn standing(&self, place: u32) -> u32 {
+        self.standing.get(place as usize).copied().unwrap_or(0)
+    }
+
+    /// Notes that the transaction stands in the line. Returns whether it stood there before.
+    fn stand(&mut self, number: usize, transaction: u32) -> Result<bool, AllocError> {
+        if !self.writers.insert(writer_in(number, transaction))? {
+            return Ok(true);
         }
-        false
+        if let Some(lines) = self.standing.get_mut(transaction as usize) {
+            *lines = lines.saturating_add(1);
+        }
+        Ok(false)
+    }
+
+    /// Returns how many elements the blocks of the first writers of the line with this number have.
+    pub fn length(&self, number: usize, writers: usize) -> usize {
+        match self.lines.get(number) {
+            Some(line) => line.length(writers),
+            None => 0,
+        }
     }
 
     /// Returns the number of the line of the key, and makes a line if there is none.
@@ -150,7 +178,7 @@ impl Lines {
         Ok(line)
     }
 
-    /// Takes in what a transaction found in the list of the key before its own appends.
+    /// Takes in what a transaction found in the list of the key before its own appends; `appends` says whether it has any.
     pub fn take<W: Writers>(
         &mut self,
         transactions: &[Transaction],
@@ -158,6 +186,7 @@ impl Lines {
         key: u64,
         read: Read,
         base: &[u64],
+        appends: bool,
     ) -> Result<Found, AllocError> {
         let number = self.numbered(key, read)?;
         if let Some(line) = self.lines.get(number) {
@@ -172,7 +201,7 @@ impl Lines {
                 }
             }
         }
-        Ok(self.found(number, read, base.len()))
+        Ok(self.found(number, read, base.len(), appends))
     }
 
     /// Goes on with the line by the blocks that the read found after it. Returns a reason if it found something else.
@@ -192,11 +221,11 @@ impl Lines {
             let Some(next) = self.next_element(number, base) else {
                 return Ok(None);
             };
-            let writer = match self.next_writer(transactions, writers, number, read, next) {
+            let writer = match next_writer(transactions, writers, read, next) {
                 Ok(writer) => writer,
                 Err(reason) => return Ok(Some(reason)),
             };
-            let broken = self.add_block(transactions, number, read, base, writer)?;
+            let broken = self.add_block(transactions, number, read, base, (writer, next.1))?;
             if broken.is_some() {
                 return Ok(broken);
             }
@@ -211,31 +240,6 @@ impl Lines {
         Some((line.key, *element))
     }
 
-    /// Returns the transaction that comes next in the line, as it appends this element of this key. Returns a reason if
-    /// none can.
-    fn next_writer<W: Writers>(
-        &self,
-        transactions: &[Transaction],
-        writers: &W,
-        number: usize,
-        read: Read,
-        (key, element): (u64, u64),
-    ) -> Result<u32, Reason> {
-        let Some(writer) = writers.writer(key, element) else {
-            return Err(Reason::Unwritten(read, element));
-        };
-        if aborted(transactions, writer) {
-            return Err(Reason::Unwritten(read, element));
-        }
-        if writer == read.transaction {
-            return Err(Reason::Future(read, element));
-        }
-        if self.has(number, writer) {
-            return Err(Reason::Twice(read, element));
-        }
-        Ok(writer)
-    }
-
     /// Adds the writer and its block to the line. Returns a reason if the list doesn't go on with the whole block.
     fn add_block(
         &mut self,
@@ -243,39 +247,41 @@ impl Lines {
         number: usize,
         read: Read,
         base: &[u64],
-        writer: u32,
+        (writer, element): (u32, u64),
     ) -> Result<Option<Reason>, AllocError> {
-        let Some(line) = self.lines.get_mut(number) else {
+        let Some(line) = self.lines.get(number) else {
             return Ok(None);
         };
+        let (key, start) = (line.key, line.chain.len());
+        if self.stand(number, writer)? {
+            return Ok(Some(Reason::Twice(read, element)));
+        }
         let Some(transaction) = transactions.get(writer as usize) else {
             return Ok(None);
         };
-        let block = appended(self.alloc, line.key, transaction.operations.as_slice())?;
-        if !goes_on(base, line.chain.len(), block.as_slice()) {
+        let operations = transaction.operations.as_slice();
+        let Some(end) = self.blocks.end(base, start, key, writer, operations)? else {
             return Ok(Some(not_whole(self.alloc, read, base, writer)?));
+        };
+        if let Some(line) = self.lines.get_mut(number) {
+            line.add(writer, base.get(start..end).unwrap_or(&[]))?;
         }
-        let itself = writer_in(number, writer);
-        self.places.insert(itself, small(line.writers.len()))?;
-        line.add(writer, block.as_slice())?;
         Ok(None)
     }
 
     /// Returns which blocks a list is made of that begins the line's.
-    fn found(&self, number: usize, read: Read, length: usize) -> Found {
-        let writers = match self.lines.get(number) {
-            Some(line) => {
-                let Some(writers) = line.blocks(length) else {
-                    return Found::Nothing(cut(line, read, length));
-                };
-                writers
-            }
-            None => 0,
+    fn found(&self, number: usize, read: Read, length: usize, appends: bool) -> Found {
+        let Some(line) = self.lines.get(number) else {
+            return Found::Blocks {
+                line: number,
+                writers: 0,
+            };
         };
-        let itself = writer_in(number, read.transaction);
-        if let (Some(place), Some(line)) = (self.places.get(&itself), self.lines.get(number)) {
-            let place = *place as usize;
-            if place < writers {
+        let Some(writers) = line.blocks(length) else {
+            return Found::Nothing(cut(line, read, length));
+        };
+        if appends {
+            if let Some(place) = line.place_within(writers, read.transaction) {
                 let element = line.first_element(place).unwrap_or(0);
                 return Found::Nothing(Reason::Future(read, element));
             }
@@ -294,7 +300,7 @@ impl Lines {
         read: Read,
         writers: usize,
     ) -> Result<Option<Reason>, AllocError> {
-        let Some(line) = self.lines.get_mut(number) else {
+        let Some(line) = self.lines.get(number) else {
             return Ok(None);
         };
         if let Some(next) = line.writers.get(writers) {
@@ -308,10 +314,11 @@ impl Lines {
             };
             return Ok(Some(Reason::Incompatible(read, other)));
         }
-        let itself = writer_in(number, read.transaction);
-        self.places.insert(itself, small(line.writers.len()))?;
-        line.writers.push(read.transaction)?;
-        line.tail = Some(read);
+        self.stand(number, read.transaction)?;
+        if let Some(line) = self.lines.get_mut(number) {
+            line.writers.push(read.transaction)?;
+            line.tail = Some(read);
+        }
         Ok(None)
     }
 }
@@ -321,6 +328,25 @@ fn writer_in(line: usize, transaction: u32) -> Writer {
         line: small(line),
         transaction,
     }
+}
+
+/// Returns the transaction that comes next in a line, as it appends this element of this key. Returns a reason if none can.
+fn next_writer<W: Writers>(
+    transactions: &[Transaction],
+    writers: &W,
+    read: Read,
+    (key, element): (u64, u64),
+) -> Result<u32, Reason> {
+    let Some(writer) = writers.writer(key, element) else {
+        return Err(Reason::Unwritten(read, element));
+    };
+    if aborted(transactions, writer) {
+        return Err(Reason::Unwritten(read, element));
+    }
+    if writer == read.transaction {
+        return Err(Reason::Future(read, element));
+    }
+    Ok(writer)
 }
 
 /// The reason for a list that ends within a block.
@@ -341,12 +367,30 @@ fn aborted(transactions: &[Transaction], place: u32) -> bool {
     }
 }
 
-/// Returns whether the list has the block at this place. No block is empty.
-fn goes_on(list: &[u64], place: usize, block: &[u64]) -> bool {
-    match list.get(place..) {
-        Some(rest) => !block.is_empty() && rest.starts_with(block),
-        None => false,
+/// Returns to how many keys the steps append.
+fn keys_appended(operations: &[Operation]) -> u32 {
+    let mut keys = 0u32;
+    let mut before = 0;
+    for operation in operations {
+        if let Operation::Append { key, .. } = operation {
+            if !append_to(operations.get(..before).unwrap_or(&[]), *key) {
+                keys = keys.saturating_add(1);
+            }
+        }
+        before = before.saturating_add(1);
     }
+    keys
+}
+
+fn append_to(operations: &[Operation], key: u64) -> bool {
+    for operation in operations {
+        if let Operation::Append { key: to, .. } = operation {
+            if *to == key {
+                return true;
+            }
+        }
+    }
+    false
 }
 
 /// The reason for a list that has an element of the writer where its block should stand.

@@ -123,6 +123,9 @@ impl Links<'_> {
         operations: &[Operation],
         sink: &mut K,
     ) -> Result<(), AllocError> {
+        if self.lines.shows_all(place, operations) {
+            return Ok(());
+        }
         'steps: for operation in operations {
             if let Operation::Append { key, .. } = operation {
                 if let Some(line) = self.lines.number(*key) {

@@ -1,8 +1,7 @@
 -- The lists that the code keeps, and a run on them.
-use Rattle.std.specs.Prelude.{ℕ, Bool, false, cond, List, [], Option, Some, None, slice_index_or}
-use Rattle.std.specs.BTreeMap.{get}
+use Rattle.std.specs.Prelude.{ℕ, Bool, false, cond, List, [], Option, Some, None, slice_index_or, nat_eq}
+use Rattle.std.specs.HashMap.{get}
 use Rattle.std.specs.Global.{Vec}
-use Rattle.std.specs.Ordering.{nat_cmp}
 use Rattle.append_values.specs.Meaning.Runs.{Lists}
 use Rattle.append_check.specs.declared.lists.Lists.{Lists as ListsValue}
 
@@ -12,7 +11,7 @@ list_in (Some v) = v.items
 
 -- the list of each key
 abbrev pub lists_of : ListsValue → Lists
-lists_of l k = list_in (get nat_cmp l.by_key k)
+lists_of l k = list_in (get nat_eq l.by_key k)
 
 -- how often a place is listed, by a flag for each
 abbrev pub flag : List Bool → ℕ → ℕ
