@@ -1,16 +1,15 @@
 -- Lines that are carried out, one more each time.
-use Rattle.std.proofs.Common.{◌≡◌, ◌≢◌, ℕ, suc, ◌+◌, ◌<◌, ◌≤◌, List, [], ◌∷◌, ◌++◌, Bool, true, false, cond, Option, Some, None, take, drop, length}
-use Rattle.std.proofs.Common.{refl, sym, ap, subst, ◌∙◌, append_assoc, append-nil, arith, length-append, inl, inr, ◌⊎◌}
-use Rattle.std.specs.Prelude.{All, nat_le, min, zero, ◌||◌}
+use Rattle.std.proofs.Common.{◌≡◌, ◌≢◌, ℕ, suc, ◌+◌, ◌<◌, ◌≤◌, List, [], ◌∷◌, ◌++◌, Bool, true, false, cond, Some, None, take, drop, length}
+use Rattle.std.proofs.Common.{refl, sym, ap, subst, ◌∙◌, append_assoc, append-nil, arith, length-append, inl, inr}
+use Rattle.std.specs.Prelude.{nat_le, zero, ◌||◌}
 use Rattle.std.proofs.lemmas.List.{length-take}
-use Rattle.std.proofs.lemmas.Bool.{leb-true, leb-false, le-leb, lt-leb, both_ways}
-use Rattle.std.proofs.lemmas.List.Elements.{All-nil, All-push, All-head, All-tail, All-append}
-use Rattle.std.proofs.Math.Seq.{take-length}
+use Rattle.std.proofs.lemmas.Bool.{leb-true, leb-false, lt-leb, both_ways}
+use Rattle.std.proofs.lemmas.List.Elements.{All-nil, All-push, All-head, All-tail}
 use Rattle.adya_line.specs.Meaning.Lines.{IsPlain}
 use Rattle.adya_text.specs.Meaning.Texts.{with_ends}
 use Rattle.ssi_store.specs.Meaning.Courses.{Course}
-use Rattle.ssi_line.specs.Meaning.Steps.{Step, Given, Dumped, NotDumped, Stopped, NotRead, TooLong, IsStep, AreSteps, AllGoOn, EndsWith}
-use Rattle.ssi_line.specs.Meaning.Steps.{step_text, steps_text, is_stop, course_with, course_after, MayFollow, AllMayFollow}
+use Rattle.ssi_line.specs.Meaning.Steps.{Step, IsStep, AllGoOn}
+use Rattle.ssi_line.specs.Meaning.Steps.{step_text, steps_text, is_stop}
 use Rattle.ssi_line.specs.Clauses.Ends.{WentOn}
 use Rattle.ssi_line.specs.Clauses.Answers.{kept}
 use Rattle.ssi_hub.specs.Clauses.Clipping.{clipped, has_line}
@@ -18,9 +17,8 @@ use Rattle.ssi_hub.specs.Clauses.Buffers.{Buffers}
 use Rattle.ssi_hub.specs.Clauses.Runs.{EndsSo, AreBegun, CarriedOut, IsEnough}
 use Rattle.ssi_hub.specs.Machinery.Outcomes.{stops_by, lost_by, Replied, Stepped}
 use Rattle.ssi_hub.specs.declared.outcome.Outcome.{Outcome}
-use Rattle.ssi_hub.specs.declared.outcome.Outcome.TheVariants.{GoesOn}
-use Rattle.ssi_hub.proofs.Clips.{plain_clipped, plain_without, plain_take, first_feed, line_clipped, one_cut, past_line, take_few}
-use Rattle.ssi_hub.proofs.Served.{ends_append, steps_append, text_append}
+use Rattle.ssi_hub.proofs.Clips.{plain_clipped, plain_without, plain_take, first_feed, line_clipped, one_cut, past_line}
+use Rattle.ssi_line.proofs.StepLists.{ends_append, steps_append, text_append, went_on_more, stopped}
 
 -- ---- the first line of what waits
 
@@ -94,33 +92,6 @@ stepped is_at old now bytes front more passed unsent len store after outcome sam
 
 -- ---- one more line of a run
 
-after_more : (course : Course) (steps : List Step) (step : Step)
-    → course_after course (steps ++ step ∷ []) ≡ course_with (course_after course steps) step
-after_more course [] step = refl
-after_more course (s ∷ ss) step = after_more (course_with course s) ss step
-
-follow_more : (course : Course) (steps : List Step) (step : Step) → AllMayFollow course steps
-    → MayFollow (course_after course steps) step → AllMayFollow course (steps ++ step ∷ [])
-follow_more course [] step all is = (is, tt)
-follow_more course (s ∷ ss) step all is = (all.0, follow_more (course_with course s) ss step all.1 is)
-
-went_more : {T : Type 0} (is_at : T → Course → Type 0) (old mid new : T) (steps : List Step) (step : Step)
-    → WentOn is_at old steps mid → WentOn is_at mid (step ∷ []) new → WentOn is_at old (steps ++ step ∷ []) new
-went_more is_at old mid new steps step before now = λ course at.
-    let first = before course at in
-    let last = now (course_after course steps) first.1 in (
-      follow_more course steps step first.0 last.0.0,
-      subst (λ (c : Course). is_at new c) (sym (after_more course steps step)) last.1,
-    )
-
-pub stopped : (step : Step) → is_stop step ≡ true → step ≡ Stopped
-stopped (Given c a) is = cc
-stopped (Dumped h ts) is = cc
-stopped NotDumped is = cc
-stopped Stopped is = refl
-stopped NotRead is = cc
-stopped TooLong is = cc
-
 ends_more : (stops : Bool) (steps : List Step) (step : Step) → AllGoOn steps → is_stop step ≡ stops
     → EndsSo stops (steps ++ step ∷ [])
 ends_more false steps step all is = All-push (λ s. is_stop s ≡ false) steps step all is
@@ -176,7 +147,7 @@ carried_more is_at old mid new bytes left after store between now outcome lines 
       waits = more.waits;
       made = steps_append lines (line ∷ []) steps (step ∷ []) so.made (more.made, tt);
       replies = λ held. replies_more old.unsent mid.unsent new.unsent steps step (so.replies refl) (more.replied.reply held);
-      went = went_more is_at store between now steps step so.went more.went;
+      went = went_on_more is_at store between now steps step so.went more.went;
       ends = ends_more (stops_by outcome) steps step so.ends more.replied.stops;
       begun = begun_more (length old.unsent) steps step so.begun (omega (arith, within, long));
     }

@@ -1,38 +1,16 @@
 -- What the calls say of a connection after one more call.
-use Rattle.std.proofs.Common.{◌≡◌, ◌≢◌, ℕ, ◌<◌, ◌≤◌, List, [], ◌∷◌, ◌++◌, Bool, true, false, cond, Option, Some, None, take, drop}
-use Rattle.std.proofs.Common.{refl, sym, ap, subst, ◌∙◌, append_assoc, append-nil, arith, take-append-drop}
-use Rattle.std.specs.Prelude.{◌==◌, All, option_map}
+use Rattle.std.proofs.Common.{◌≡◌, ℕ, ◌<◌, ◌≤◌, List, [], ◌∷◌, ◌++◌, true, false}
+use Rattle.std.proofs.Common.{refl, sym, ap, ◌∙◌, append_assoc, arith}
+use Rattle.std.specs.Prelude.{◌==◌, All}
 use Rattle.std.specs.List.{AllByRecursion}
-use Rattle.std.proofs.lemmas.Bool.{ne_eqb, eq-eqb, eqb-true}
+use Rattle.std.proofs.lemmas.Bool.{ne_eqb, eq-eqb}
 use Rattle.std.proofs.lemmas.List.Elements.{All-nil, All-append}
 use Rattle.adya_line.specs.Meaning.Lines.{IsPlain}
 use Rattle.adya_text.specs.Meaning.Texts.{with_ends}
-use Rattle.ssi_line.specs.Meaning.Steps.{Step, IsStep, AreSteps, AllGoOn, step_text, steps_text}
-use Rattle.ssi_hub.specs.Clauses.Clipping.{clipped}
-use Rattle.ssi_hub.specs.Clauses.Buffers.{Buffers, no_bytes, with_received, with_written}
-use Rattle.ssi_hub.specs.Clauses.Calls.{Call, Opened, Received, Ran, Wrote, Closed, token_of, is_open, all_steps, with_call, sent_by, lines_of, steps_of, written_to}
-use Rattle.ssi_hub.specs.Clauses.Runs.{EndsSo}
-use Rattle.ssi_hub.specs.Clauses.Serving.{IsServed, StandsFor}
-use Rattle.ssi_hub.proofs.Clips.{clips_pieces}
-
--- ---- lists of lines and of steps
-
-pub ends_append : (xs ys : List (List ℕ)) → with_ends (xs ++ ys) ≡ with_ends xs ++ with_ends ys
-ends_append [] ys = refl
-ends_append (x ∷ xs) ys =
-    ap (λ (r : List ℕ). x ++ (10 ∷ r)) (ends_append xs ys) ∙ sym (append_assoc x (10 ∷ with_ends xs) (with_ends ys))
-
-pub text_append : (xs ys : List Step) → steps_text (xs ++ ys) ≡ steps_text xs ++ steps_text ys
-text_append [] ys = refl
-text_append (s ∷ ss) ys =
-    ap (λ (l : List ℕ). step_text s ++ l) (text_append ss ys) ∙ sym (append_assoc (step_text s) (steps_text ss) (steps_text ys))
-
-pub steps_append : (ls ms : List (List ℕ)) (ss ts : List Step) → AreSteps ls ss → AreSteps ms ts
-    → AreSteps (ls ++ ms) (ss ++ ts)
-steps_append [] ms [] ts p q = q
-steps_append [] ms (s ∷ ss) ts p q = absurd p
-steps_append (l ∷ ls) ms [] ts p q = absurd p
-steps_append (l ∷ ls) ms (s ∷ ss) ts p q = (p.0, steps_append ls ms ss ts p.1 q)
+use Rattle.ssi_line.specs.Meaning.Steps.{Step, AreSteps, steps_text}
+use Rattle.ssi_hub.specs.Clauses.Calls.{Call, Opened, Received, Ran, Wrote, Closed, token_of, is_open, lines_of, steps_of, written_to}
+use Rattle.ssi_hub.specs.Clauses.Serving.{IsServed}
+use Rattle.ssi_line.proofs.StepLists.{ends_append, text_append, steps_append}
 
 -- ---- a call of another connection
 

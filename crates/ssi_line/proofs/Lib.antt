@@ -3,6 +3,7 @@ pub mod Words
 pub mod LinesRead
 pub mod KeptLines
 pub mod Consumed
+pub mod StepLists
 pub mod Runs
 pub mod Dumps
 pub mod Drafts

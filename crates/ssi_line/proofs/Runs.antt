@@ -10,48 +10,19 @@ use Rattle.devices.specs.Mirror.{watched_contents}
 use Rattle.devices.specs.Clauses.Writing.{Grew, Broke}
 use Rattle.adya_line.specs.Meaning.Lines.{IsPlain}
 use Rattle.adya_text.specs.Meaning.Texts.{with_ends}
-use Rattle.ssi_store.specs.Meaning.Courses.{Course}
-use Rattle.ssi_line.specs.Meaning.Steps.{Step, Given, Dumped, NotDumped, Stopped, NotRead, TooLong, IsStep, AreSteps, EndsWith}
-use Rattle.ssi_line.specs.Meaning.Steps.{step_text, steps_text, course_with, course_after, MayFollow, AllMayFollow, is_stop, AllGoOn}
-use Rattle.ssi_line.specs.Clauses.Ends.{WentOn, Took, EndsBroken}
+use Rattle.ssi_line.specs.Meaning.Steps.{Step, IsStep, EndsWith}
+use Rattle.ssi_line.specs.Meaning.Steps.{step_text, steps_text, is_stop, AllGoOn}
+use Rattle.ssi_line.specs.Clauses.Ends.{Took, EndsBroken}
 use Rattle.devices.specs.Clauses.Lines.{line_end}
 use Rattle.ssi_line.specs.Machinery.Lines.{has_ended}
 use Rattle.ssi_line.specs.Machinery.Answering.{Said}
 use Rattle.ssi_line.specs.Clauses.Answers.{Told}
+use Rattle.ssi_line.proofs.StepLists.{ends_append, text_append, steps_append}
 
 -- ---- lists of steps
 
-steps_more : (lines : List (List ℕ)) (steps : List Step) (line : List ℕ) (step : Step) → AreSteps lines steps
-    → IsStep line step → AreSteps (lines ++ line ∷ []) (steps ++ step ∷ [])
-steps_more [] [] line step are is = (is, tt)
-steps_more [] (s ∷ ss) line step are is = absurd are
-steps_more (l ∷ ls) [] line step are is = absurd are
-steps_more (l ∷ ls) (s ∷ ss) line step are is = (are.0, steps_more ls ss line step are.1 is)
-
 text_more : (steps : List Step) (step : Step) → steps_text (steps ++ step ∷ []) ≡ steps_text steps ++ step_text step
-text_more [] step = append-nil (step_text step)
-text_more (s ∷ ss) step =
-    ap (λ (l : List ℕ). step_text s ++ l) (text_more ss step)
-    ∙ sym (append_assoc (step_text s) (steps_text ss) (step_text step))
-
-after_more : (course : Course) (steps : List Step) (step : Step)
-    → course_after course (steps ++ step ∷ []) ≡ course_with (course_after course steps) step
-after_more course [] step = refl
-after_more course (s ∷ ss) step = after_more (course_with course s) ss step
-
-follow_more : (course : Course) (steps : List Step) (step : Step) → AllMayFollow course steps
-    → MayFollow (course_after course steps) step → AllMayFollow course (steps ++ step ∷ [])
-follow_more course [] step all is = (is, tt)
-follow_more course (s ∷ ss) step all is = (all.0, follow_more (course_with course s) ss step all.1 is)
-
-pub went_on_more : {T : Type 0} (is_at : T → Course → Type 0) (old mid new : T) (steps : List Step) (step : Step)
-    → WentOn is_at old steps mid → WentOn is_at mid (step ∷ []) new → WentOn is_at old (steps ++ step ∷ []) new
-went_on_more is_at old mid new steps step before now = λ course at.
-    let first = before course at in
-    let last = now (course_after course steps) first.1 in (
-      follow_more course steps step first.0 last.0.0,
-      subst (λ (c : Course). is_at new c) (sym (after_more course steps step)) last.1,
-    )
+text_more steps step = text_append steps (step ∷ []) ∙ ap (λ (l : List ℕ). steps_text steps ++ l) (append-nil (step_text step))
 
 pub go_on_more : (steps : List Step) (step : Step) → AllGoOn steps → is_stop step ≡ false
     → AllGoOn (steps ++ step ∷ [])
@@ -67,11 +38,6 @@ took_start a pending none =
     subst (λ (p : List ℕ). Took a [] [] [] (prepend_known p a)) (sym none)
     (subst (λ (o : Option (List ℕ)). Took a [] [] [] o) (sym (prepend_known-nil a)) (took_none a))
 
-ends_append : (xs ys : List (List ℕ)) → with_ends (xs ++ ys) ≡ with_ends xs ++ with_ends ys
-ends_append [] ys = refl
-ends_append (x ∷ xs) ys = ap (λ (r : List ℕ). x ++ (10 ∷ r)) (ends_append xs ys)
-    ∙ sym (append_assoc x (10 ∷ with_ends xs) (with_ends ys))
-
 pub took_more : (a b c : Option (List ℕ)) (lines : List (List ℕ)) (steps : List Step) (line : List ℕ) (step : Step)
     (ended : Bool) → Took a lines steps [] b → ended ≡ true → IsPlain line → Consumes b c (line ++ line_end ended)
     → IsStep line step → Took a (lines ++ line ∷ []) (steps ++ step ∷ []) [] c
@@ -82,7 +48,7 @@ took_more a b c lines steps line step ended took is plain eaten made =
     ∙ ap (λ (l : List ℕ). l ++ (line ++ 10 ∷ [])) (sym (append-nil (with_ends lines))) in
     record {
       plain = All-push IsPlain lines line took.plain plain;
-      made = steps_more lines steps line step took.made made;
+      made = steps_append lines (line ∷ []) steps (step ∷ []) took.made (made, tt);
       consumed = subst (λ (l : List ℕ). Consumes a c l) (sym all)
           (Consumes-trans a b c (with_ends lines ++ []) (line ++ 10 ∷ []) took.consumed whole);
     }
@@ -166,14 +132,6 @@ told_and {E = E} contents (Ok t) q stops step old new is stop said =
     subst (λ (x : Result Bool E). Told contents x step old new) (sym is) (stop, said)
 told_and {E = E} contents (Err e) q stops step old new is stop said =
     subst (λ (x : Result Bool E). Told contents x step old new) (sym is) said
-
-pub stopped : (step : Step) → is_stop step ≡ true → step ≡ Stopped
-stopped (Given c a) is = cc
-stopped (Dumped h ts) is = cc
-stopped NotDumped is = cc
-stopped Stopped is = refl
-stopped NotRead is = cc
-stopped TooLong is = cc
 
 pub ends_with : (steps : List Step) (step last : Step) → AllGoOn steps → step ≡ last
     → EndsWith (steps ++ step ∷ []) last

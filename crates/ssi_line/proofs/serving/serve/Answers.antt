@@ -2,8 +2,9 @@ use Rattle.std.proofs.Common.{rules, ◌∙◌, ◌++◌, ◌∷◌, [], true, f
 use Rattle.ssi_store.specs.Mirror.Stores.{IsAt}
 use Rattle.ssi_line.specs.Meaning.Steps.{Stopped}
 use Rattle.ssi_line.specs.Machinery.Lines.{has_ended}
-use Rattle.ssi_line.proofs.Runs.{took_start, took_more, took_rest, took_pending, ended_so, told_so, stopped, ends_with}
-use Rattle.ssi_line.proofs.Runs.{went_on_more, go_on_more, wrote_none, wrote_more, told_broken, ends_broken}
+use Rattle.ssi_line.proofs.StepLists.{went_on_more, stopped}
+use Rattle.ssi_line.proofs.Runs.{took_start, took_more, took_rest, took_pending, ended_so, told_so, ends_with}
+use Rattle.ssi_line.proofs.Runs.{go_on_more, wrote_none, wrote_more, told_broken, ends_broken}
 use Rattle.ssi_line.proofs.serving.serve.Goals as goal
 
 pub loop-line-init : goal.loop-line-init
