@@ -1,2 +1,2 @@
--- What a recorder returns. Recorded: the history that a list of events makes.
+-- What the promises mean.
 pub mod Recorded

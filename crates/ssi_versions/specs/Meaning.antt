@@ -1,2 +1,2 @@
--- What the promises mean. Changes: what a store of versions is told, and which versions it holds then.
+-- What the promises mean.
 pub mod Changes

@@ -13,12 +13,10 @@ pub record IsSerializableBy (h : History) (ts : Txns) : Type 0 where
   pub no_g2 : HasG2 h → ⊥
   pub agrees : Agrees h ts
 
--- the text is that of the history
 pub record IsTextOf (text : Bytes) (h : History) : Type 0 where
   pub is_history : IsHistory h
   pub same : text ≡ history_text h
 
--- the text is that of the certificate
 pub record IsSerialTextOf (text : Bytes) (ts : Txns) : Type 0 where
   pub is_serial : IsSerial ts
   pub same : text ≡ serial_text ts

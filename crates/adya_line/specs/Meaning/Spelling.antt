@@ -4,17 +4,14 @@ use Rattle.adya_values.specs.declared.edition.Edition.{Edition}
 use Rattle.adya_values.specs.declared.edition.Edition.TheVariants.{One, Two}
 use Rattle.adya_values.specs.declared.event.Version.{Version}
 use Rattle.adya_values.specs.Meaning.Keys.{Bytes}
-use Rattle.adya_values.specs.Meaning.Histories.{Txns, Content, Live, Dead, Entry, Event, Write, Delete, Read, Scan, Commit, Abort}
-use Rattle.adya_values.specs.Meaning.Histories.{Order, FinalPair}
+use Rattle.adya_values.specs.Meaning.Histories.{Txns, Content, Live, Dead, Entry, Event, Write, Delete, Read, Scan, Commit, Abort, Order, FinalPair}
 
 abbrev pub history_head : Bytes
 history_head = codes "adya 1"
 
--- of an edition with unfinished transactions
 abbrev pub second_head : Bytes
 second_head = codes "adya 2"
 
--- the first line of a history of the edition
 abbrev pub head_text : Edition → Bytes
 head_text One = history_head
 head_text Two = second_head
@@ -22,7 +19,6 @@ head_text Two = second_head
 abbrev pub serial_head : Bytes
 serial_head = codes "serial 1"
 
--- ends a history and a certificate
 abbrev pub tail : Bytes
 tail = codes "end"
 
@@ -73,6 +69,5 @@ order_text o = codes "[" ++ o.key ++ codes ":" ++ writers_text o.writers ++ code
 unfoldable pub final_text : FinalPair → Bytes
 final_text f = codes "{" ++ f.key ++ codes "," ++ f.value ++ codes "}"
 
--- T
 abbrev pub txn_text : ℕ → Bytes
 txn_text t = decimal t

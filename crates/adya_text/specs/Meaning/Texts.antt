@@ -17,16 +17,13 @@ pub record IsHistory (h : History) : Type 0 where
   pub finals : AllByRecursion IsFinal h.finals
   pub finals_rise : keys_rise (map (λ f. f.key) h.finals) ≡ true
 
--- a certificate that has a text
 abbrev pub IsSerial : Txns → Type 0
 IsSerial ts = AllByRecursion IsTxn ts
 
--- the head, the events, the unfinished transactions, the orders, the finals and the tail
 abbrev pub history_lines : History → List Bytes
 history_lines h = head_text h.edition ∷ (map event_text h.events ++ (map unfinished_text h.unfinished
     ++ (map order_text h.orders ++ (map final_text h.finals ++ tail ∷ []))))
 
--- the head, the transactions and the tail
 abbrev pub serial_lines : Txns → List Bytes
 serial_lines ts = serial_head ∷ (map txn_text ts ++ tail ∷ [])
 

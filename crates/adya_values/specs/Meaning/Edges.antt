@@ -53,7 +53,7 @@ Depends h Ww k from to = DependsByWrite h k from to
 Depends h Wr k from to = DependsByRead h k from to
 Depends h Rw k from to = DependsByOverwrite h k from to
 
--- an edge of the graph: a dependency between two different transactions
+-- a dependency between two different transactions
 abbrev pub IsEdge : History → Edge → Type 0
 IsEdge h e = (e.from ≢ e.to) × Depends h e.kind e.key e.from e.to
 

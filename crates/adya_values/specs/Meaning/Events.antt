@@ -5,7 +5,6 @@ use Rattle.adya_values.specs.declared.event.Version.{Version}
 use Rattle.adya_values.specs.Meaning.Keys.{Key, Bytes, key_eq}
 use Rattle.adya_values.specs.Meaning.Histories.{Content, Live, Dead, Entry, Event, Write, Delete, Read, Scan, Commit, Abort, History}
 
--- the transaction that the event belongs to
 abbrev pub txn_of : Event → ℕ
 txn_of (Write t k m v) = t
 txn_of (Delete t k m) = t
@@ -20,19 +19,17 @@ version k t m = record { key = k; txn = t; m = m }
 abbrev pub entry : Version → Content → Entry
 entry r c = record { version = r; content = c }
 
--- what the event writes
 abbrev pub written : Event → Option Entry
 written (Write t k m v) = Some (entry (version k t m) (Live v))
 written (Delete t k m) = Some (entry (version k t m) Dead)
 written _ = None
 
--- what the event reads or lists
 abbrev pub observed : Event → List Entry
 observed (Read t r v) = entry r (Live v) ∷ []
 observed (Scan t low high es) = es
 observed _ = []
 
--- what the transaction wrote of the key, in order
+-- in order
 abbrev pub writes_of : ℕ → Key → List Event → List Entry
 writes_of t k events = filter (λ w. w.version.txn == t && key_eq w.version.key k) (filter_map written events)
 
@@ -41,11 +38,9 @@ last [] = None
 last (x ∷ []) = Some x
 last (x ∷ y ∷ ys) = last (y ∷ ys)
 
--- the transaction's last write of the key
 abbrev pub last_write : ℕ → Key → List Event → Option Entry
 last_write t k events = last (writes_of t k events)
 
--- the transaction that the event commits, if it is a commit
 abbrev pub commit_of : Event → Option ℕ
 commit_of (Commit t) = Some t
 commit_of e = None
@@ -73,7 +68,7 @@ abbrev pub listed : Key → List Entry → Option Entry
 listed k [] = None
 listed k (w ∷ ws) = if key_eq w.version.key k then Some w else listed k ws
 
--- the value that a reader gets of a version; none of a dead one
+-- what a reader gets of a version
 abbrev pub visible : Content → Option Bytes
 visible (Live v) = Some v
 visible Dead = None

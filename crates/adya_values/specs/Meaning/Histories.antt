@@ -27,12 +27,10 @@ pub data Event : Type 0 where
   Commit : (txn : ℕ) → Event
   Abort : (txn : ℕ) → Event
 
--- the version order of a key
 pub record Order : Type 0 where
   pub key : Key
   pub writers : Txns
 
--- the final value of a key
 pub record FinalPair : Type 0 where
   pub key : Key
   pub value : Bytes

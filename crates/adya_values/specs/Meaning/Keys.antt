@@ -4,11 +4,10 @@ use Rattle.std.specs.List.{list_all}
 use Rattle.std.specs.Ordering.{nat_cmp, is_lt, is_le}
 use Rattle.std.specs.Cmp.Lexicographic.{pointwise, slice_cmp}
 
--- a key, by its bytes
 abbrev pub Key : Type 0
 Key = List ℕ
 
--- the bytes of a value or of a text
+-- of a value or of a text
 abbrev pub Bytes : Type 0
 Bytes = List ℕ
 
@@ -33,11 +32,9 @@ is_key bytes = is_text 32 is_key_byte bytes
 abbrev pub is_value : Bytes → Bool
 is_value bytes = is_text 64 is_value_byte bytes
 
--- the number of a transaction
 abbrev pub IsTxn : ℕ → Type 0
 IsTxn n = (0 < n) × (n < 2 ^ 32)
 
--- the number of a modification
 abbrev pub IsMod : ℕ → Type 0
 IsMod n = (0 < n) × (n < 2 ^ 16)
 
@@ -50,11 +47,10 @@ key_lt a b = is_lt (slice_cmp nat_cmp a b)
 abbrev pub key_le : Key → Key → Bool
 key_le a b = is_le (slice_cmp nat_cmp a b)
 
--- the key lies between the two, both included
+-- the bounds included
 abbrev pub lies_in : Key → Key → Key → Bool
 lies_in low high k = key_le low k && key_le k high
 
--- each key is below the next
 abbrev pub keys_rise : List Key → Bool
 keys_rise [] = true
 keys_rise (k ∷ []) = true

@@ -10,7 +10,7 @@ abbrev pub place : Txns → ℕ → ℕ
 place [] t = 0
 place (x ∷ xs) t = if x == t then 0 else suc (place xs t)
 
--- the writers that the key's order line names; none if the key has no line
+-- the writers that the key's order line names, if it has one
 abbrev pub line_of : List Order → Key → Txns
 line_of [] k = []
 line_of (o ∷ os) k = if key_eq o.key k then o.writers else line_of os k
@@ -18,7 +18,6 @@ line_of (o ∷ os) k = if key_eq o.key k then o.writers else line_of os k
 abbrev pub writers : History → Key → Txns
 writers h k = line_of h.orders k
 
--- the transaction that installed the version at the place
 abbrev pub installer : History → Key → ℕ → Option ℕ
 installer h k zero = None
 installer h k (suc p) = slice_get (writers h k) p
@@ -32,6 +31,6 @@ shown_by k events (Some t) = shown (last_write t k events)
 abbrev pub value_at : History → Key → ℕ → Option Bytes
 value_at h k p = shown_by k h.events (installer h k p)
 
--- the version at the place has a value: it is neither unborn nor dead
+-- neither unborn nor dead
 abbrev pub is_visible_at : History → Key → ℕ → Bool
 is_visible_at h k p = is_some (value_at h k p)

@@ -5,7 +5,6 @@ use Rattle.adya_values.specs.Meaning.Histories.{Entry, Event, History}
 use Rattle.adya_values.specs.Meaning.Events.{txn_of, observed, last_write, is_committed, is_aborted}
 use Rattle.adya_values.specs.Meaning.Edges.{Rw, Edge, IsCycle}
 
--- the event is of a committed transaction, and reads or lists the entry
 pub record ReadsCommitted (h : History) (e : Event) (o : Entry) : Type 0 where
   pub occurs : Contains h.events e
   pub committed : is_committed h.events (txn_of e) ≡ true

@@ -1,11 +1,10 @@
--- The serial run of transactions, one at a time, on one map of keys; and what it means that a history agrees with it.
+-- The run of transactions, one at a time, on one map of keys, and when a history agrees with it.
 use Rattle.std.specs.Prelude.{◌≡◌, ℕ, ◌==◌, true, if◌then◌else◌, ◌↔◌, List, [], ◌∷◌, Option, Some, None, filter, flat_map, Contains}
 use Rattle.std.specs.List.{filter_map}
 use Rattle.adya_values.specs.Meaning.Keys.{Key, Bytes, key_eq, lies_in}
 use Rattle.adya_values.specs.Meaning.Histories.{Txns, Entry, Event, Write, Delete, Read, Scan, FinalPair, History}
 use Rattle.adya_values.specs.Meaning.Events.{txn_of, visible}
 
--- what each key holds
 abbrev pub Contents : Type 0
 Contents = Key → Option Bytes
 
@@ -15,7 +14,7 @@ empty k = None
 abbrev pub put : Contents → Key → Option Bytes → Contents
 put m k v j = if key_eq k j then v else m j
 
--- the map after an event: only writes and deletes change it
+-- only writes and deletes change the map
 abbrev pub after : Contents → Event → Contents
 after m (Write t k n v) = put m k (Some v)
 after m (Delete t k n) = put m k None
@@ -25,7 +24,6 @@ abbrev pub run : Contents → List Event → Contents
 run m [] = m
 run m (e ∷ es) = run (after m e) es
 
--- the events of the transaction, in order
 abbrev pub events_of : List Event → ℕ → List Event
 events_of events t = filter (λ e. txn_of e == t) events
 
@@ -40,7 +38,7 @@ abbrev pub visible_pair_of : Key → Option Bytes → Option FinalPair
 visible_pair_of k None = None
 visible_pair_of k (Some v) = Some (pair k v)
 
--- the keys and values of a scan's list, without the dead versions
+-- without the dead versions
 abbrev pub visible_pairs : List Entry → List FinalPair
 visible_pairs es = filter_map (λ w. visible_pair_of w.version.key (visible w.content)) es
 

@@ -7,10 +7,8 @@ use Rattle.ssi_conflict.specs.Meaning.Calls.{Call, is_committed, is_open, begun,
 abbrev pub is_kept : ℕ → List Call → Bool
 is_kept t calls = is_open t calls || (is_committed t calls && list_any (λ x. is_open x calls && not (precedes t x calls)) (begun calls))
 
--- how many transactions are kept
 abbrev pub kept_count : List Call → ℕ
 kept_count calls = length (filter (λ t. is_kept t calls) (begun calls))
 
--- how many transactions are open
 abbrev pub open_count : List Call → ℕ
 open_count calls = length (filter (λ t. is_open t calls) (begun calls))

@@ -2,9 +2,7 @@
 use Rattle.std.specs.Prelude.{◌++◌, codes, decimal, flat_map, length}
 use Rattle.adya_values.specs.Meaning.Keys.{Bytes}
 use Rattle.adya_values.specs.Meaning.Histories.{FinalPair}
-use Rattle.ssi_store.specs.Meaning.Courses.{Refusal, Busy, Idle, Range, Long, Spent, Memory}
-use Rattle.ssi_store.specs.Meaning.Courses.{Answer, Begun, Value, Absent, Done, Rows, Committed, Aborted, Conflict, Unsafe}
-use Rattle.ssi_store.specs.Meaning.Courses.{Kept, Counts, Refused}
+use Rattle.ssi_store.specs.Meaning.Courses.{Refusal, Busy, Idle, Range, Long, Spent, Memory, Answer, Begun, Value, Absent, Done, Rows, Committed, Aborted, Conflict, Unsafe, Kept, Counts, Refused}
 
 -- a space and K,V
 abbrev pub row_text : FinalPair → Bytes
@@ -18,7 +16,6 @@ refusal_text Long = codes "! 4 long"
 refusal_text Spent = codes "! 5 spent"
 refusal_text Memory = codes "! 6 memory"
 
--- a scan is answered with the number of its rows and then with the rows
 abbrev pub answer_text : Answer → Bytes
 answer_text (Begun t) = codes "begun " ++ decimal t
 answer_text (Value v) = codes "value " ++ v
@@ -35,6 +32,5 @@ answer_text (Counts open_txns kept versions keys) =
     codes " versions " ++ decimal versions ++ codes " keys " ++ decimal keys
 answer_text (Refused r) = refusal_text r
 
--- with its line feed
 abbrev pub answer_line : Answer → Bytes
 answer_line answer = answer_text answer ++ codes "\n"

@@ -5,13 +5,11 @@ use Rattle.ssi_store.specs.Meaning.Sessions.{is_session}
 use Rattle.ssi_store.specs.Meaning.Courses.{Command, Begin, Get, Put, Del, Scan, ScanFirst, Commit, Abort, Collect, Stat}
 use Rattle.adya_line.specs.Meaning.Lines.{Spells, SpellsNone}
 
--- words with one space between them
 abbrev pub spaced : List Bytes → Bytes
 spaced [] = []
 spaced (w ∷ []) = w
 spaced (w ∷ v ∷ ws) = w ++ (32 ∷ spaced (v ∷ ws))
 
--- the line of a command
 abbrev pub command_text : Command → Bytes
 command_text (Begin s) = spaced (codes "begin" ∷ s ∷ [])
 command_text (Get s k) = spaced (codes "get" ∷ s ∷ k ∷ [])
@@ -37,7 +35,6 @@ IsCommand (Commit s) = is_session s ≡ true
 IsCommand (Abort s) = is_session s ≡ true
 IsCommand _ = Unit {0}
 
--- what a line asks for
 pub data Line : Type 0 where
   Do : (command : Command) → Line
   -- end the run
@@ -54,10 +51,8 @@ abbrev pub IsLine : Line → Type 0
 IsLine (Do c) = IsCommand c
 IsLine _ = Unit {0}
 
--- the text is that of the line
 abbrev pub IsLineOf : Line → Bytes → Type 0
 IsLineOf = Spells IsLine line_text
 
--- the text is that of no line
 abbrev pub IsNoLine : Bytes → Type 0
 IsNoLine = SpellsNone IsLine line_text

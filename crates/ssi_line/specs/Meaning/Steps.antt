@@ -1,5 +1,4 @@
--- What is made of each line of an input, what is written for it, how the course of the store goes on, and which step
--- ends a run.
+-- What is made of a line, what is written for it, how the store's course goes on, and which step ends a run.
 use Rattle.std.specs.Prelude.{◌≡◌, ◌<◌, ◌≤◌, Bool, true, false, List, [], ◌∷◌, ◌++◌, codes, length, flat_map, All}
 use Rattle.adya_values.specs.Meaning.Keys.{Bytes}
 use Rattle.adya_values.specs.Meaning.Histories.{Txns, History}
@@ -14,17 +13,14 @@ use Rattle.ssi_line.specs.Meaning.Spelling.{Do, Dump, Stop, line_text, IsLineOf,
 use Rattle.ssi_line.specs.Meaning.Replies.{answer_line}
 
 pub data Step : Type 0 where
-  -- the store was given a command, and answered it
   Given : (command : Command) (answer : Answer) → Step
   -- the history so far and a certificate were given
   Dumped : (history : History) (serial : Txns) → Step
   -- memory ran out before that
   NotDumped : Step
-  -- the run ends
   Stopped : Step
   -- the line asks for nothing
   NotRead : Step
-  -- the line is longer than 4096 bytes
   TooLong : Step
 
 -- the line makes this step; the history of a dump is accepted with its certificate
@@ -36,14 +32,11 @@ IsStep line Stopped = line ≡ line_text Stop
 IsStep line NotRead = (length line ≤ 4096) × IsNoLine line
 IsStep line TooLong = 4096 < length line
 
--- each line makes its step
 abbrev pub AreSteps : List Bytes → List Step → Type 0
 AreSteps [] [] = Unit {0}
-AreSteps [] (s ∷ ss) = ⊥
-AreSteps (l ∷ ls) [] = ⊥
 AreSteps (l ∷ ls) (s ∷ ss) = IsStep l s × AreSteps ls ss
+AreSteps _ _ = ⊥
 
--- what is written for a step
 abbrev pub step_text : Step → Bytes
 step_text (Given c a) = answer_line a
 step_text (Dumped h ts) = history_text h ++ serial_text ts
@@ -55,24 +48,21 @@ step_text TooLong = codes "? long\n"
 abbrev pub steps_text : List Step → Bytes
 steps_text steps = flat_map step_text steps
 
--- the course with the step: only a command goes into it
+-- only a command goes into the course
 abbrev pub course_with : Course → Step → Course
 course_with course (Given c a) = Then course c a
 course_with course _ = course
 
--- the course with the steps, one after the other
 abbrev pub course_after : Course → List Step → Course
 course_after course [] = course
 course_after course (s ∷ ss) = course_after (course_with course s) ss
 
--- the answer to a command is one that it may have after the course; a dump gives the history of the course so far, which
--- records it
+-- the command may have this answer; a dump gives the history of the course so far, which records it
 abbrev pub MayFollow : Course → Step → Type 0
 MayFollow course (Given c a) = IsAnswer smallest_ordered_pivot course c a
 MayFollow course (Dumped h ts) = (h ≡ dumped course) × RecordsSoFar h course
 MayFollow course _ = Unit {0}
 
--- each step may follow the course with the steps before it
 abbrev pub AllMayFollow : Course → List Step → Type 0
 AllMayFollow course [] = Unit {0}
 AllMayFollow course (s ∷ ss) = MayFollow course s × AllMayFollow (course_with course s) ss
@@ -81,11 +71,9 @@ abbrev pub is_stop : Step → Bool
 is_stop Stopped = true
 is_stop _ = false
 
--- no step ends the run
 abbrev pub AllGoOn : List Step → Type 0
 AllGoOn steps = All (λ s. is_stop s ≡ false) steps
 
--- the run ended with the last step
 pub record EndsWith (steps : List Step) (last : Step) : Type 0 where
   pub before : List Step
   pub go_on : AllGoOn before

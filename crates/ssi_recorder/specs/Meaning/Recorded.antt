@@ -10,7 +10,7 @@ use Rattle.adya_values.specs.Meaning.Orders.{shown_by}
 use Rattle.adya_values.specs.Meaning.Serial.{visible_pair_of}
 use Rattle.adya_values.specs.Meaning.KeySets.{insert}
 
--- the list with the number at its end, unless it has the number already
+-- with the number at its end, unless it has it already
 abbrev pub with_number : Txns → ℕ → Txns
 with_number seen t = if list_any (nat_eq t) seen then seen else seen ++ t ∷ []
 
@@ -30,20 +30,19 @@ last_shown k events = shown_by k events (last (writers_by_commit k events))
 abbrev pub written_keys : List Event → List Key
 written_keys events = fold (λ ks w. insert w.version.key ks) [] (filter_map written events)
 
--- the order line of a key with these writers; none if there is no writer
+-- none if there is no writer
 abbrev pub order_line : Key → Txns → Option Order
 order_line k [] = None
 order_line k (t ∷ ts) = Some (record { key = k; writers = t ∷ ts })
 
--- the version order of each key with a committed writer, by rising key
+-- of each key with a committed writer, by rising key
 abbrev pub orders_of_events : List Event → List Order
 orders_of_events events = filter_map (λ k. order_line k (writers_by_commit k events)) (written_keys events)
 
--- the final value of each key that has one, by rising key
+-- of each key that has one, by rising key
 abbrev pub finals_of_events : List Event → List FinalPair
 finals_of_events events = filter_map (λ k. visible_pair_of k (last_shown k events)) (written_keys events)
 
--- the history of these events, with these unfinished transactions
 abbrev pub history_of_events : Edition → Txns → List Event → History
 history_of_events edition unfinished events = record {
   edition = edition;

@@ -4,12 +4,11 @@ use Rattle.adya_values.specs.Meaning.Keys.{Key}
 use Rattle.adya_values.specs.Meaning.Histories.{FinalPair}
 use Rattle.adya_values.specs.Meaning.Events.{last}
 
--- the key of the pair, or this key if there is none
 abbrev pub key_or : Key → Option FinalPair → Key
 key_or high None = high
 key_or high (Some p) = p.key
 
--- how far a scan looked that was limited to n visible pairs and found these: to the last of them if it found n, and else
--- to the end of its range
+-- a scan limited to n visible pairs that found these looked to the last of them if it found n, and else to the end of
+-- its range
 abbrev pub reached : Key → ℕ → List FinalPair → Key
 reached high n ps = if length ps == n then key_or high (last ps) else high

@@ -6,7 +6,6 @@ use Rattle.adya_values.specs.Meaning.Histories.{Txns, Content, Live, Dead}
 use Rattle.ssi_snapshot.specs.Meaning.Reached.{reached}
 use Rattle.ssi_store.specs.Meaning.Courses.{Command, Command as Do, Answer, Begun, Value, Absent, Done, Rows, Committed, Aborted, Conflict, Unsafe, Kept, Course, New, Then, txn_for}
 
--- a transaction begins, writes a key, gets a key, scans a range, commits or aborts; and old versions are collected
 pub data Act : Type 0 where
   Begins : (txn : ℕ) → Act
   Writes : (txn : ℕ) (key : Key) (content : Content) → Act
@@ -16,7 +15,7 @@ pub data Act : Type 0 where
   Aborts : (txn : ℕ) → Act
   Collects : Act
 
--- the act that transaction t does by an operation with this answer: none if it was refused
+-- what t does by a command with this answer: nothing if it was refused
 abbrev pub act_of : ℕ → Command → Answer → List Act
 act_of t (Do.Put s k v) Done = Writes t k (Live v) ∷ []
 act_of t (Do.Del s k) Done = Writes t k Dead ∷ []
@@ -30,7 +29,7 @@ act_of t command (Conflict k w) = Aborts t ∷ []
 act_of t command (Unsafe p) = Aborts t ∷ []
 act_of t command answer = []
 
--- the act of a step, if the session of the command had this transaction before
+-- if the session had this transaction before
 abbrev pub act_by : Option ℕ → Command → Answer → List Act
 act_by t command (Begun n) = Begins n ∷ []
 act_by t command (Kept n) = Collects ∷ []
@@ -41,29 +40,25 @@ abbrev pub acts : Course → List Act
 acts (New first) = []
 acts (Then c command answer) = act_by (txn_for command c) command answer ++ acts c
 
--- the transaction has begun
 abbrev pub has_begun : ℕ → List Act → Bool
 has_begun t [] = false
 has_begun t (Begins u ∷ log) = (u == t) || has_begun t log
 has_begun t (a ∷ log) = has_begun t log
 
--- it has committed
 abbrev pub has_committed : ℕ → List Act → Bool
 has_committed t [] = false
 has_committed t (Commits u ∷ log) = (u == t) || has_committed t log
 has_committed t (a ∷ log) = has_committed t log
 
--- it was aborted
 abbrev pub has_aborted : ℕ → List Act → Bool
 has_aborted t [] = false
 has_aborted t (Aborts u ∷ log) = (u == t) || has_aborted t log
 has_aborted t (a ∷ log) = has_aborted t log
 
--- it has begun, and has neither committed nor aborted
 abbrev pub is_open : ℕ → List Act → Bool
 is_open t log = has_begun t log && not (has_committed t log || has_aborted t log)
 
--- the transactions, in the order in which they began
+-- in the order in which they began
 abbrev pub begun : List Act → Txns
 begun [] = []
 begun (Begins t ∷ log) = begun log ++ t ∷ []
@@ -73,7 +68,6 @@ begun (a ∷ log) = begun log
 abbrev pub open_txns : List Act → Txns
 open_txns log = filter (λ t. is_open t log) (begun log)
 
--- how many operations the transaction has carried out
 abbrev pub operations : ℕ → List Act → ℕ
 operations t [] = 0
 operations t (Writes u k c ∷ log) = if u == t then suc (operations t log) else operations t log

@@ -3,7 +3,6 @@ use Rattle.std.specs.Prelude.{ℕ, suc, Bool, false, if◌then◌else◌, List, 
 use Rattle.adya_values.specs.Meaning.Keys.{Key, Bytes, key_eq}
 use Rattle.adya_values.specs.Meaning.Histories.{FinalPair}
 
--- what a session, or an operator, asks of a store
 pub data Command : Type 0 where
   Begin : (session : Bytes) → Command
   Get : (session : Bytes) (key : Key) → Command
@@ -35,7 +34,7 @@ pub data Refusal : Type 0 where
   -- memory ran out
   Memory : Refusal
 
--- what a store answers; a row is a visible pair, as a history's final values are
+-- a row is a visible pair
 pub data Answer : Type 0 where
   Begun : (txn : ℕ) → Answer
   Value : (value : Bytes) → Answer
@@ -45,11 +44,10 @@ pub data Answer : Type 0 where
   Rows : (rows : List FinalPair) → Answer
   Committed : Answer
   Aborted : Answer
-  -- the transaction is aborted: another one has committed a write of the key since it began
+  -- aborted: another transaction has committed a write of the key since it began
   Conflict : (key : Key) (writer : ℕ) → Answer
-  -- the transaction is aborted: this pivot would stand
+  -- aborted: this pivot would stand
   Unsafe : (pivot : ℕ) → Answer
-  -- how many versions a collection has kept
   Kept : (versions : ℕ) → Answer
   Counts : (open_txns kept versions keys : ℕ) → Answer
   Refused : (refusal : Refusal) → Answer
@@ -59,7 +57,6 @@ pub data Course : Type 0 where
   New : (first : ℕ) → Course
   Then : (course : Course) (command : Command) (answer : Answer) → Course
 
--- the command is one of the session
 abbrev pub is_of : Bytes → Command → Bool
 is_of s (Begin r) = key_eq r s
 is_of s (Get r k) = key_eq r s
@@ -71,7 +68,7 @@ is_of s (Commit r) = key_eq r s
 is_of s (Abort r) = key_eq r s
 is_of s _ = false
 
--- what transaction a session has after an answer, if it had this one before
+-- what a session has after an answer, if it had this before
 abbrev pub txn_after : Option ℕ → Answer → Option ℕ
 txn_after t (Begun n) = Some n
 txn_after t Committed = None
@@ -80,12 +77,10 @@ txn_after t (Conflict k w) = None
 txn_after t (Unsafe p) = None
 txn_after t _ = t
 
--- the open transaction of the session
 abbrev pub txn_in : Bytes → Course → Option ℕ
 txn_in s (New first) = None
 txn_in s (Then c command answer) = if is_of s command then txn_after (txn_in s c) answer else txn_in s c
 
--- the open transaction of the session that gives the command
 abbrev pub txn_for : Command → Course → Option ℕ
 txn_for (Begin s) c = txn_in s c
 txn_for (Get s k) c = txn_in s c

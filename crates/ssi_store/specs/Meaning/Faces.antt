@@ -1,4 +1,4 @@
--- What the steps of a course and the events of a history show to the outside, and when a history records a course.
+-- What steps and events show to the outside, and when a history records a course.
 use Rattle.std.specs.Prelude.{◌≡◌, ℕ, List, [], ◌∷◌, ◌++◌, Option, Some, None, map}
 use Rattle.adya_values.specs.Meaning.Keys.{Key, Bytes}
 use Rattle.adya_values.specs.Meaning.Histories.{Content, Live, Dead, Event, Write, Delete, Read, Scan, Commit, Abort, FinalPair, History}
@@ -7,7 +7,6 @@ use Rattle.ssi_store.specs.Meaning.Courses.{Command, Command as Do, Answer, Valu
 use Rattle.ssi_snapshot.specs.Meaning.Reached.{reached}
 use Rattle.ssi_store.specs.Meaning.Acts.{acts, open_txns}
 
--- what a step or an event shows to the outside
 pub data Face : Type 0 where
   Wrote : (txn : ℕ) (key : Key) (content : Content) → Face
   Got : (txn : ℕ) (key : Key) (value : Bytes) → Face
@@ -15,7 +14,7 @@ pub data Face : Type 0 where
   Commits : (txn : ℕ) → Face
   Aborts : (txn : ℕ) → Face
 
--- the face of a step of t; a limited scan that found its rows shows the range to the last of them
+-- of a step of t; a limited scan shows the range as far as it looked
 abbrev pub face_in : ℕ → Command → Answer → List Face
 face_in t (Do.Put s k v) Done = Wrote t k (Live v) ∷ []
 face_in t (Do.Del s k) Done = Wrote t k Dead ∷ []
@@ -29,17 +28,16 @@ face_in t command (Conflict k w) = Aborts t ∷ []
 face_in t command (Unsafe p) = Aborts t ∷ []
 face_in t command answer = []
 
--- the face of a step, if its session had this transaction before
+-- if the session had this transaction before
 abbrev pub face_by : Option ℕ → Command → Answer → List Face
 face_by None command answer = []
 face_by (Some t) command answer = face_in t command answer
 
--- the faces of the steps of a course, in order
 abbrev pub faces : Course → List Face
 faces (New first) = []
 faces (Then c command answer) = faces c ++ face_by (txn_for command c) command answer
 
--- what it shows: no version, and of a scan the visible pairs alone
+-- no version, and of a scan the visible pairs alone
 abbrev pub face_of : Event → Face
 face_of (Write t k m v) = Wrote t k (Live v)
 face_of (Delete t k m) = Wrote t k Dead
@@ -53,7 +51,7 @@ face_of (Abort t) = Aborts t
 abbrev pub Records : History → Course → Type 0
 Records h c = map face_of h.events ≡ faces c ++ map Aborts (open_txns (acts c))
 
--- the events show what the steps show, in order, and the open transactions are unfinished
+-- the same, but the open transactions are unfinished
 pub record RecordsSoFar (h : History) (c : Course) : Type 0 where
   pub steps : map face_of h.events ≡ faces c
   pub still_open : h.unfinished ≡ open_txns (acts c)

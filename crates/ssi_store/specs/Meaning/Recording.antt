@@ -8,12 +8,10 @@ use Rattle.ssi_store.specs.Meaning.Courses.{Course}
 use Rattle.ssi_store.specs.Meaning.Acts.{Act, Writes, Gets, Scans, Commits, Aborts, acts, open_txns}
 use Rattle.ssi_store.specs.Meaning.Seeing.{write_count, sees, scanned}
 
--- a write of the version with that number
 abbrev pub write_event : ℕ → Key → ℕ → Content → Event
 write_event t k m (Live v) = Write t k m v
 write_event t k m Dead = Delete t k m
 
--- what is recorded of a get that finds this version
 abbrev pub get_found : ℕ → Key → Entry → Content → Event
 get_found t k w (Live v) = Read t w.version v
 get_found t k w Dead = Scan t k k (w ∷ [])
@@ -23,7 +21,7 @@ abbrev pub get_event : ℕ → Key → Option Entry → Event
 get_event t k None = Scan t k k []
 get_event t k (Some w) = get_found t k w w.content
 
--- what is recorded of an act after those before it
+-- of an act after this log
 abbrev pub recorded : Act → List Act → List Event
 recorded (Writes t k c) log = write_event t k (suc (write_count t k log)) c ∷ []
 recorded (Gets t k) log = get_event t k (sees t k log) ∷ []
@@ -32,11 +30,10 @@ recorded (Commits t) log = Commit t ∷ []
 recorded (Aborts t) log = Abort t ∷ []
 recorded _ log = []
 
--- all recorded events, in order
 abbrev pub events : List Act → List Event
 events [] = []
 events (a ∷ log) = events log ++ recorded a log
 
--- the history of a course so far: its open transactions are unfinished
+-- its open transactions are unfinished
 abbrev pub dumped : Course → History
 dumped c = history_of_events Two (open_txns (acts c)) (events (acts c))

@@ -1,6 +1,6 @@
 -- The answer to each command, by all that was before. `pivot` names the pivot that stands after a list of calls, if one
--- does. By the two-pair rule that is `smallest_pivot` (Cahill, Röhm and Fekete 2008), by the commit-order rule
--- `smallest_ordered_pivot` (Ports and Grittner 2012, section 3.3).
+-- does: `smallest_pivot` by the two-pair rule (Cahill, Röhm and Fekete 2008), `smallest_ordered_pivot` by the
+-- commit-order rule (Ports and Grittner 2012, section 3.3).
 use Rattle.std.specs.Prelude.{◌≡◌, ◌⊎◌, ℕ, Bool, true, false, ◌&&◌, nat_lt, nat_le, if◌then◌else◌, List, ◌∷◌, take, Option, Some, None}
 use Rattle.std.specs.List.{find}
 use Rattle.adya_values.specs.Meaning.Keys.{Key, Bytes, key_lt}
@@ -20,7 +20,7 @@ use Rattle.ssi_store.specs.Meaning.Tracked.{tracked}
 abbrev pub is_overtaken : ℕ → List Act → Key → Bool
 is_overtaken t log k = wrote t k log && is_installed_above k (snapshot t log) (changed log)
 
--- the smallest key of t that was overtaken
+-- the smallest such key
 abbrev pub conflict : ℕ → List Act → Option Key
 conflict t log = find (is_overtaken t log) (keys log)
 
@@ -29,52 +29,44 @@ abbrev pub writer_in : Option Held → ℕ
 writer_in None = 0
 writer_in (Some h) = h.entry.version.txn
 
--- the key's last writer, 0 if it has none
 abbrev pub last_writer : Key → List Act → ℕ
 last_writer k log = writer_in (last_version k (changed log))
 
--- the answer to a get that found this value or none
+-- the answer to a get
 abbrev pub got : Option Bytes → Answer
 got None = Absent
 got (Some v) = Value v
 
--- the visible pairs of the range, by rising key
 abbrev pub rows : ℕ → Key → Key → List Act → List FinalPair
 rows t low high log = visible_pairs (scanned t low high log)
 
--- the answer, unless a pivot would stand
 abbrev pub unless_pivot : Option ℕ → Answer → Answer
 unless_pivot None answer = answer
 unless_pivot (Some p) answer = Unsafe p
 
--- the answer, unless this key was overtaken
 abbrev pub unless_conflict : Option Key → List Act → Answer → Answer
 unless_conflict None log answer = answer
 unless_conflict (Some k) log answer = Conflict k (last_writer k log)
 
--- the answer, if the transaction may do one more operation; it may do 65535 of them, so that each of its modifications
--- has a number
+-- a transaction may do 65535 operations, so that each of its modifications has a number
 abbrev pub unless_long : ℕ → List Act → Answer → Answer
 unless_long t log answer = if nat_le 65535 (operations t log) then Refused Long else answer
 
--- the answer, if the range doesn't run downward
 abbrev pub unless_downward : Key → Key → Answer → Answer
 unless_downward low high answer = if key_lt high low then Refused Range else answer
 
--- the answer to a scan that looks at the range and gives these rows
+-- a scan that looks at the range and finds these rows
 abbrev pub scan_answer : (List Call → Option ℕ) → ℕ → List Act → Key → Key → List FinalPair → Answer
 scan_answer pivot t log low high found = unless_pivot (pivot (tracked (Scans t low high ∷ log))) (Rows found)
 
--- how many versions are held after a collection
 abbrev pub kept_answer : List Act → Answer
 kept_answer log = Kept (held_count (changed (Collects ∷ log)))
 
--- how many transactions are open and kept, and how many versions and keys are held
 abbrev pub counts_answer : List Act → Answer
 counts_answer log = Counts (open_count (tracked log)) (kept_count (tracked log)) (held_count (changed log))
     (key_count (changed log))
 
--- the answer to a command of a session whose transaction is t
+-- of a session whose transaction is t
 abbrev pub reply_in : (List Call → Option ℕ) → ℕ → List Act → Command → Answer
 reply_in pivot t log (Do.Begin s) = Refused Busy
 reply_in pivot t log (Do.Get s k) = unless_long t log
@@ -92,20 +84,17 @@ reply_in pivot t log (Do.Abort s) = Aborted
 reply_in pivot t log Do.Collect = kept_answer log
 reply_in pivot t log Do.Stat = counts_answer log
 
--- the answer to a command of a session without a transaction, or of no session; the greatest transaction number is
--- 4294967295
+-- of a session without a transaction, or of no session; the greatest transaction number is 4294967295
 abbrev pub reply_idle : Course → Command → Answer
 reply_idle c (Do.Begin s) = if nat_lt 4294967295 (next_txn c) then Refused Spent else Begun (next_txn c)
 reply_idle c Do.Collect = kept_answer (acts c)
 reply_idle c Do.Stat = counts_answer (acts c)
 reply_idle c _ = Refused Idle
 
--- the answer to a command whose session has this transaction, or none
 abbrev pub reply_for : (List Call → Option ℕ) → Option ℕ → Course → Command → Answer
 reply_for pivot None c command = reply_idle c command
 reply_for pivot (Some t) c command = reply_in pivot t (acts c) command
 
--- the answer to a command after a course
 abbrev pub reply : (List Call → Option ℕ) → Course → Command → Answer
 reply pivot c command = reply_for pivot (txn_for command c) c command
 

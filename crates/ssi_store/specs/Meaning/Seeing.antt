@@ -8,7 +8,6 @@ use Rattle.adya_values.specs.Meaning.KeySets.{insert}
 use Rattle.ssi_versions.specs.Meaning.Changes.{Change, Installs, Collects as Drops, entry_in, otherwise, contents}
 use Rattle.ssi_store.specs.Meaning.Acts.{Act, Begins, Writes, Commits, Collects, open_txns}
 
--- how many commits there were
 abbrev pub commit_count : List Act → ℕ
 commit_count [] = 0
 commit_count (Commits t ∷ log) = suc (commit_count log)
@@ -23,24 +22,21 @@ snapshot t (a ∷ log) = snapshot t log
 abbrev pub open_snapshots : List Act → List ℕ
 open_snapshots log = map (λ t. snapshot t log) (open_txns log)
 
--- how often the transaction has written the key
 abbrev pub write_count : ℕ → Key → List Act → ℕ
 write_count t k [] = 0
 write_count t k (Writes u j c ∷ log) = if u == t && key_eq j k then suc (write_count t k log) else write_count t k log
 write_count t k (a ∷ log) = write_count t k log
 
--- the transaction's last write of the key
 abbrev pub own_write : ℕ → Key → List Act → Option Entry
 own_write t k [] = None
 own_write t k (Writes u j c ∷ log) = if u == t && key_eq j k then Some
     (entry (version k t (suc (write_count t k log))) c) else own_write t k log
 own_write t k (a ∷ log) = own_write t k log
 
--- the transaction has written the key
 abbrev pub wrote : ℕ → Key → List Act → Bool
 wrote t k log = is_some (own_write t k log)
 
--- the keys that the transaction has written, in the order of their first writes
+-- in the order of their first writes
 abbrev pub own_keys : ℕ → List Act → List Key
 own_keys t [] = []
 own_keys t (Writes u k c ∷ log) = if u == t && not (wrote t k log) then own_keys t log ++ k ∷ [] else own_keys t log
@@ -71,6 +67,6 @@ keys [] = []
 keys (Writes t k c ∷ log) = insert k (keys log)
 keys (a ∷ log) = keys log
 
--- the versions that a scan lists, dead ones included: what is seen of each key of the range
+-- what is seen of each key of the range, dead versions included
 abbrev pub scanned : ℕ → Key → Key → List Act → List Entry
 scanned t low high log = filter_map (λ k. if lies_in low high k then sees t k log else None) (keys log)

@@ -7,22 +7,19 @@ use Rattle.adya_values.specs.Meaning.Histories.{Entry}
 use Rattle.adya_values.specs.Meaning.Events.{listed}
 use Rattle.adya_values.specs.Meaning.KeySets.{insert}
 
--- a commit installs versions with its stamp; a collection names the open snapshots
 pub data Change : Type 0 where
   Installs : (stamp : ℕ) (writes : List Entry) → Change
   Collects : (snapshots : List ℕ) → Change
 
--- an installed version with its content and its stamp
+-- an installed version
 pub record Held : Type 0 where
   pub entry : Entry
   pub stamp : ℕ
 
--- the version with this stamp, if there is one
 abbrev pub stamped : ℕ → Option Entry → Option Held
 stamped n None = None
 stamped n (Some w) = Some (record { entry = w; stamp = n })
 
--- the version without its stamp
 abbrev pub entry_in : Option Held → Option Entry
 entry_in None = None
 entry_in (Some h) = Some h.entry
@@ -38,19 +35,16 @@ contents k s [] = None
 contents k s (Installs n ws ∷ changes) = if nat_le n s then otherwise (stamped n (listed k ws)) (contents k s changes) else contents k s changes
 contents k s (Collects ss ∷ changes) = contents k s changes
 
--- the version of the key that was installed last
 abbrev pub last_version : Key → List Change → Option Held
 last_version k [] = None
 last_version k (Installs n ws ∷ changes) = otherwise (stamped n (listed k ws)) (last_version k changes)
 last_version k (Collects ss ∷ changes) = last_version k changes
 
--- a version of the key with a stamp above s was installed
 abbrev pub is_installed_above : Key → ℕ → List Change → Bool
 is_installed_above k s [] = false
 is_installed_above k s (Installs n ws ∷ changes) = (nat_lt s n && is_some (listed k ws)) || is_installed_above k s changes
 is_installed_above k s (Collects ss ∷ changes) = is_installed_above k s changes
 
--- there is a version, and it has this stamp
 abbrev pub has_stamp : ℕ → Option Held → Bool
 has_stamp n None = false
 has_stamp n (Some h) = h.stamp == n
@@ -59,7 +53,6 @@ has_stamp n (Some h) = h.stamp == n
 abbrev pub is_needed : Key → List ℕ → List Change → Held → Bool
 is_needed k ss changes h = has_stamp h.stamp (last_version k changes) || list_any (λ s. has_stamp h.stamp (contents k s changes)) ss
 
--- a list of one version, or of none
 abbrev pub listing : Option Held → List Held
 listing None = []
 listing (Some h) = h ∷ []
@@ -70,7 +63,6 @@ held k [] = []
 held k (Installs n ws ∷ changes) = held k changes ++ listing (stamped n (listed k ws))
 held k (Collects ss ∷ changes) = filter (is_needed k ss changes) (held k changes)
 
--- the keys of these versions among rising keys
 abbrev pub insert_keys : List Entry → List Key → List Key
 insert_keys [] ks = ks
 insert_keys (w ∷ ws) ks = insert w.version.key (insert_keys ws ks)
@@ -81,10 +73,8 @@ installed_keys [] = []
 installed_keys (Installs n ws ∷ changes) = insert_keys ws (installed_keys changes)
 installed_keys (Collects ss ∷ changes) = installed_keys changes
 
--- how many versions are held
 abbrev pub held_count : List Change → ℕ
 held_count changes = length (flat_map (λ k. held k changes) (installed_keys changes))
 
--- how many keys have a held version
 abbrev pub key_count : List Change → ℕ
 key_count changes = length (filter (λ k. not (length (held k changes) == 0)) (installed_keys changes))
