@@ -1,8 +1,8 @@
 -- What a scan's list has of a key, where its keys rise.
-use Rattle.std.proofs.Common.{◌≡◌, ℕ, zero, suc, ◌⊎◌, Bool, true, false, not, ◌||◌, List, [], ◌∷◌, map, Option, Some, None, refl, sym, ◌∙◌, ap, subst, arith, inl, inr}
+use Rattle.std.proofs.Common.{◌≡◌, ℕ, zero, suc, ◌⊎◌, Bool, true, false, not, ◌↔◌, List, [], ◌∷◌, map, Some, refl, sym, ◌∙◌, ap, subst, arith, inl, inr}
 use Rattle.std.proofs.Common.{Ordering, Less, Equal, Greater}
 use Rattle.std.specs.List.{list_all, list_any, Contains}
-use Rattle.std.specs.List.{filter_map, All}
+use Rattle.std.specs.List.{All}
 use Rattle.std.specs.Ordering.{is_gt, is_le, is_lt, nat_cmp, ordering_reverse}
 use Rattle.std.specs.declared.ops.Bound.TheVariants.{Included}
 use Rattle.std.specs.BTreeMap.{BTreeMap, IsOrdered, get}
@@ -11,18 +11,16 @@ use Rattle.std.proofs.lemmas.Cmp.{nat_list_cmp_total}
 use Rattle.std.proofs.lemmas.Map.Lookups.{CmpEqualImpliesEq}
 use Rattle.std.proofs.lemmas.Map.Views.{btree_map_get_iff}
 use Rattle.std.specs.Cmp.Lexicographic.{slice_cmp}
-use Rattle.std.proofs.lemmas.Bool.{or_from, not_from_true, cases_Bool, and_parts, and_from, both_ways, not-true, or_cases, or_left, or_right}
+use Rattle.std.proofs.lemmas.Bool.{or_from, not_from_true, cases_Bool, and_parts, and_from, both_ways, or_left, or_right}
 use Rattle.adya_values.specs.Meaning.Keys.{key_eq, key_le, key_lt, keys_rise, lies_in}
 use Rattle.adya_values.specs.Meaning.Histories.{Entry, Event}
-use Rattle.adya_values.specs.Meaning.Events.{written, last_write}
 use Rattle.adya_values.specs.Computing.Faults.{entry_eq, lists_only, none_or_lists_only}
 use Rattle.adya_terms.specs.Machinery.Tables.{written_at}
-use Rattle.adya_terms.specs.Machinery.OpenWrites.{HasOwn}
+use Rattle.adya_terms.specs.Machinery.Owed.{AreShown}
 use Rattle.adya_terms.specs.Machinery.Checks.{is_of_key}
 use Rattle.std.proofs.lemmas.List.Elements.{All-contains}
 use Rattle.adya_values.proofs.Entries.{entry_eq-same, entry_eq-from}
 use Rattle.adya_values.proofs.Keys.{rises_below, keys_rise-tail}
-use Rattle.adya_values.proofs.Writes.{last_write_from}
 use Rattle.lemmas.proofs.Filters.{Contains-filter}
 use Rattle.lemmas.proofs.Members.{none_contained}
 use Rattle.lemmas.proofs.Orderings.{bytes_eq-same, bytes_eq-from, bytes_lt-trans, bytes_lt-apart, tied_bytes}
@@ -136,76 +134,37 @@ module _ (m : BTreeMap (List ℕ) ℕ) (low high : List ℕ) (items : List (List
       ((btree_map_get_iff nat_list_cmp_total key_exact m ordered k p).0 g) (contained_key low high k inside) in
       subst (λ xs. Contains xs (k, p)) (sym between) kept
 
-  module _ (t : ℕ) (all before : List Event) (es : List Entry) (own : HasOwn (Some m) t all before) where
+  module _ (es : List Entry) (all : List Event) where
     abbrev shows : List ℕ × ℕ → Bool
     shows e = none_or_lists_only es (written_at all (Some e.1))
 
-    abbrev test : Entry → Bool
-    test w = not (lies_in low high w.version.key) || none_or_lists_only es (last_write t w.version.key before)
+    items_show : list_all shows items ≡ true → AreShown (Some m) low high es all
+    items_show pass k p inside g = all_pass shows items (k, p) pass (item_there k p inside g)
 
-    item_shows : list_all shows items ≡ true → (k : List ℕ) → lies_in low high k ≡ true → (o : Option ℕ) → get (slice_cmp nat_cmp) m k ≡ o → none_or_lists_only es (written_at all o) ≡ true
-    item_shows pass k inside None e = refl
-    item_shows pass k inside (Some p) e = all_pass shows items (k, p) pass (item_there k p inside e)
-
-    all_shown : list_all shows items ≡ true → list_all test (filter_map written before) ≡ true
-    all_shown pass =
-        list_all_when test (filter_map written before)
-        (λ w c. elim (cases_Bool (lies_in low high w.version.key)) [
-          | inl inside ↦
-              or_right _ _ (ap (none_or_lists_only es) (sym (own w.version.key)) ∙ item_shows pass w.version.key inside (get (slice_cmp nat_cmp) m w.version.key) refl)
-          | inr out ↦ or_left _ _ (ap not out)
-        ])
-
-    last_shown : list_all test (filter_map written before) ≡ true → (k : List ℕ) → lies_in low high k ≡ true → (o : Option Entry) → last_write t k before ≡ o → none_or_lists_only es o ≡ true
-    last_shown pass k inside None e = refl
-    last_shown pass k inside (Some w) e =
-        let at = last_write_from t k before w e in
-        let now = subst (λ j. (not (lies_in low high j) || none_or_lists_only es (last_write t j before)) ≡ true) at.key_is (all_pass test (filter_map written before) w pass at.there) in
-        elim (or_cases _ _ now) [
-          | inl out ↦ absurd (both_ways _ (not-true _ out) inside)
-          | inr own ↦ subst (λ x. none_or_lists_only es x ≡ true) e own
-        ]
-
-    one_shown : list_all test (filter_map written before) ≡ true → (e : List ℕ × ℕ) → IsEntryInRange (slice_cmp nat_cmp) (Included low) (Included high) m e → shows e ≡ true
-    one_shown pass e ((above, below), g) =
-        ap (λ o. none_or_lists_only es (written_at all o)) (sym g) ∙
-        (ap (none_or_lists_only es) (own e.0) ∙ last_shown pass e.0 (between_keys low high e.0 above below) (last_write t e.0 before) refl)
-
-    items_shown : list_all test (filter_map written before) ≡ true → list_all shows items ≡ true
-    items_shown pass = list_all_when shows items (λ e c. one_shown pass e (All-contains (IsEntryInRange (slice_cmp nat_cmp) (Included low) (Included high) m) items e in_range c))
-
-    pub range_shows : list_all shows items ≡ list_all test (filter_map written before)
-    range_shows =
-        elim (cases_Bool (list_all shows items)) [
-          | inl a ↦ a ∙ sym (all_shown a)
-          | inr a ↦
-              elim (cases_Bool (list_all test (filter_map written before))) [
-                | inl b ↦ absurd (both_ways _ a (items_shown b))
-                | inr b ↦ a ∙ sym b
-              ]
-        ]
+    shown_items : AreShown (Some m) low high es all → list_all shows items ≡ true
+    shown_items shown =
+        list_all_when shows items
+        (λ e c. let there = All-contains (IsEntryInRange (slice_cmp nat_cmp) (Included low) (Included high) m) items e in_range c in
+        shown e.0 e.1 (between_keys low high e.0 there.0.0 there.0.1) there.1)
 
 pub runs_forward : (low high : List ℕ) → key_lt high low ≡ false → is_gt (slice_cmp nat_cmp low high) ≡ false
 runs_forward low high e = ap is_gt (nat_list_cmp_total.antisymm low high) ∙ (gt_back (slice_cmp nat_cmp high low) ∙ e)
 
 -- the same, where the bounds are these
-pub scan_shows : (m : BTreeMap (List ℕ) ℕ) (low high : List ℕ) (items : List (List ℕ × ℕ)) (a b : List ℕ) → a ≡ low → b ≡ high
+pub range_shows : (m : BTreeMap (List ℕ) ℕ) (low high : List ℕ) (items : List (List ℕ × ℕ)) (a b : List ℕ) → a ≡ low → b ≡ high
     → items ≡ entries_between (slice_cmp nat_cmp) (Included a) (Included b) m.entries → IsOrdered (slice_cmp nat_cmp) m
     → All (IsEntryInRange (slice_cmp nat_cmp) (Included a) (Included b) m) items
-    → (t : ℕ) (all before : List Event) (es : List Entry) → HasOwn (Some m) t all before
-    → list_all (λ (e : List ℕ × ℕ). none_or_lists_only es (written_at all (Some e.1))) items
-    ≡ list_all (λ w. not (lies_in low high w.version.key) || none_or_lists_only es (last_write t w.version.key before)) (filter_map written before)
-scan_shows m low high items a b from to between ordered in_range t all before es own =
-    range_shows m low high items
-    (subst (λ q. items ≡ entries_between (slice_cmp nat_cmp) (Included low) (Included q) m.entries) to
-    (subst (λ q. items ≡ entries_between (slice_cmp nat_cmp) (Included q) (Included b) m.entries) from between))
-    ordered
-    (subst (λ q. All (IsEntryInRange (slice_cmp nat_cmp) (Included low) (Included q) m) items) to
-    (subst (λ q. All (IsEntryInRange (slice_cmp nat_cmp) (Included q) (Included b) m) items) from in_range))
-    t all before es own
+    → (es : List Entry) (all : List Event)
+    → (list_all (λ (e : List ℕ × ℕ). none_or_lists_only es (written_at all (Some e.1))) items ≡ true) ↔ AreShown (Some m) low high es all
+range_shows m low high items a b from to between ordered in_range es all = (
+  items_show m low high items between_is ordered in_range_is es all,
+  shown_items m low high items between_is ordered in_range_is es all,
+)
+  where
+    between_is : items ≡ entries_between (slice_cmp nat_cmp) (Included low) (Included high) m.entries
+    between_is = subst (λ q. items ≡ entries_between (slice_cmp nat_cmp) (Included low) (Included q) m.entries) to
+        (subst (λ q. items ≡ entries_between (slice_cmp nat_cmp) (Included q) (Included b) m.entries) from between)
 
--- of a transaction that has written nothing, nothing has to be listed
-pub nothing_own : (t : ℕ) (all before : List Event) (low high : List ℕ) (es : List Entry) → HasOwn None t all before
-    → list_all (λ w. not (lies_in low high w.version.key) || none_or_lists_only es (last_write t w.version.key before)) (filter_map written before) ≡ true
-nothing_own t all before low high es own =
-    list_all_when _ (filter_map written before) (λ w c. or_right _ _ (ap (none_or_lists_only es) (sym (own w.version.key))))
+    in_range_is : All (IsEntryInRange (slice_cmp nat_cmp) (Included low) (Included high) m) items
+    in_range_is = subst (λ q. All (IsEntryInRange (slice_cmp nat_cmp) (Included low) (Included q) m) items) to
+        (subst (λ q. All (IsEntryInRange (slice_cmp nat_cmp) (Included q) (Included b) m) items) from in_range)

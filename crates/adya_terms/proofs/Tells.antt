@@ -78,6 +78,20 @@ module _ (e f : ℕ → Ended) (t : ℕ) (x : Bool) where
             )
       ]
 
+-- before any event
+pub tell_none : (c a : ℕ → Bool) (l : Own → Option ℕ) (v : Version → Option ℕ) (all : List Event)
+    → ((t : ℕ) → c t ≡ false) → ((t : ℕ) → a t ≡ false) → ((q : Own) → l q ≡ None) → ((r : Version) → v r ≡ None)
+    → Tell c a l v all []
+tell_none c a l v all nc na nl nv = record {
+  committed_is = nc;
+  aborted_is = na;
+  last_is = λ t k. ap (written_at all) (nl (own t k));
+  has_is = λ t k. ap is_some (nl (own t k));
+  written_is = λ o. rw (nl (own o.version.txn o.version.key), nv o.version) refl;
+  number_is = λ t k. refl;
+  later = λ r s. absurd (both_ways _ (ap is_some (nv r)) s);
+}
+
 pub written_none : (before : List Event) (e : Event) → written e ≡ None → filter_map written (before ++ e ∷ []) ≡ filter_map written before
 written_none before e w = written_more before e ∙ (ap (λ o. filter_map written before ++ cons_option o []) w ∙ append-nil (filter_map written before))
 

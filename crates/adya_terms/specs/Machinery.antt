@@ -1,6 +1,9 @@
 -- What only the loops and the tables of the check need.
 pub mod Tables
-pub mod OpenWrites
+pub mod Chains
+pub mod OwnWrites
+pub mod Telling
+pub mod Owed
 pub mod NewestWrites
 pub mod Observed
 pub mod EventIndex

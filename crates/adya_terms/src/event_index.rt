@@ -6,7 +6,8 @@ ghost use Rattle.adya_values.specs.Mirror.Events.{entry_of, event_of};
 ghost use Rattle.adya_values.specs.Meaning.Events.{aborts, is_committed, last_write, written};
 ghost use Rattle.adya_values.specs.Clauses.Rules.{has_ended};
 ghost use Rattle.adya_values.specs.Computing.Faults.{entry_eq, event_faults, is_entry};
-ghost use Rattle.adya_terms.specs.Machinery.Tables.{own, Means, KnowsCommitted};
+ghost use Rattle.adya_terms.specs.Machinery.Tables.{own, KnowsCommitted};
+ghost use Rattle.adya_terms.specs.Machinery.Telling.{Means};
 ghost use Rattle.adya_terms.specs.Machinery.Checks.{Names, Holds};
 
 use crate::rules::tables_of;
@@ -95,7 +96,7 @@ impl<'a> EventIndex<'a> {
     pub fn last_place(&self, txn: Txn, key: Key) -> Option<usize>
         ensures { result ≡ last_in self.now (own txn key) }
     {
-        self.tables.last_place(txn, key)
+        self.tables.last_place(self.events, txn, key)
     }
 
     /// Returns whether the entry, which was written, is its transaction's last write of the key.

@@ -9,7 +9,7 @@ mod finals;
 mod listed;
 mod newest_writes;
 mod observed;
-mod open_writes;
+mod own_writes;
 mod reads;
 mod rules;
 mod scans;

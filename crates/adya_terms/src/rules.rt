@@ -10,17 +10,16 @@ ghost use Rattle.adya_values.specs.Meaning.Keys.{key_eq};
 ghost use Rattle.adya_values.specs.Computing.Faults.{version_eq};
 ghost use Rattle.std.specs.List.{list_all};
 ghost use Rattle.std.specs.HashMap.{get};
-ghost use Rattle.adya_terms.specs.Machinery.Tables.{own_eq, Means};
-ghost use Rattle.adya_terms.specs.Machinery.OpenWrites.{Keeps};
+ghost use Rattle.adya_terms.specs.Machinery.OwnWrites.{place_of};
+ghost use Rattle.adya_terms.specs.Machinery.Telling.{Means};
 ghost use Rattle.adya_terms.specs.Machinery.NewestWrites as newest_writes;
 ghost use Rattle.adya_terms.specs.Machinery.NewestWrites.{is_found};
 ghost use Rattle.adya_terms.specs.Machinery.Checks.{Names};
 
 use crate::newest_writes::NewestWrites;
 use crate::observed::{Observed, read_entry};
-use crate::open_writes::OpenWrites;
 use crate::scans::{all_lie_in, keys_rise, lists_own};
-use crate::tables::{Tables, wrote_at};
+use crate::tables::Tables;
 use crate::{CheckFault, Entry, Event, Rule};
 use std::alloc::Global;
 
@@ -31,21 +30,18 @@ fn is_open(tables: &Tables, event: &Event) -> bool
     !tables.has_ended(event.txn())
 }
 
-/// M2: returns whether the event, if it writes, has the next number of its transaction's writes of the key. The
-/// transaction is still open.
-fn is_next(writes: &OpenWrites, events: &[Event], event: &Event) -> bool
+/// M2: returns whether the event, if it writes, has the next number of its transaction's writes of the key.
+fn is_next(tables: &Tables, events: &[Event], event: &Event) -> bool
     ensures { let all = map event_of events.now in
-        (tables : Tables) (before : List EventValue)
-        → Means tables all before
-        → Keeps writes.now all before
-        → faults.is_open before (event_of event.now) ≡ true
+        (before : List EventValue)
+        → Means tables.now all before
         → result ≡ faults.is_next before (written (event_of event.now)) }
 {
     let Some(new) = event.written() else {
         return true;
     };
     let number = u32::from(new.version.m.get());
-    match wrote_at(events, writes.last_place(new.version.txn, new.version.key)) {
+    match tables.last_write(events, new.version.txn, new.version.key) {
         None => number == 1,
         Some(last) => number == u32::from(last.version.m.get()) + 1,
     }
@@ -54,7 +50,7 @@ fn is_next(writes: &OpenWrites, events: &[Event], event: &Event) -> bool
 /// Returns whether the version was written with this content. Most often it is the newest write of its key.
 fn is_written(tables: &Tables, newest: &NewestWrites, events: &[Event], seen: &Entry) -> bool
     ensures { result
-        ≡ is_found (get key_eq newest.now.writes) (get own_eq tables.now.last) (get version_eq tables.now.replaced)
+        ≡ is_found (get key_eq newest.now.writes) (place_of (map event_of events.now) tables.now.writes) (get version_eq tables.now.replaced)
         (map event_of events.now) (entry_of seen.now) }
 {
     newest.has(seen) || tables.was_written(events, seen)
@@ -63,7 +59,7 @@ fn is_written(tables: &Tables, newest: &NewestWrites, events: &[Event], seen: &E
 /// Returns whether each entry was written.
 fn all_written(tables: &Tables, newest: &NewestWrites, events: &[Event], entries: &[Entry]) -> bool
     ensures { result
-        ≡ list_all (λ w. is_found (get key_eq newest.now.writes) (get own_eq tables.now.last)
+        ≡ list_all (λ w. is_found (get key_eq newest.now.writes) (place_of (map event_of events.now) tables.now.writes)
         (get version_eq tables.now.replaced) (map event_of events.now) (entry_of w)) entries.now }
 {
     entries
@@ -82,13 +78,11 @@ fn was_written(tables: &Tables, newest: &NewestWrites, events: &[Event], event: 
     all_written(tables, newest, events, Observed::of(event).entries())
 }
 
-/// M4: returns whether the event sees no other version than its transaction's latest of each key that this has
-/// written. The transaction is still open.
-fn sees_own(writes: &OpenWrites, events: &[Event], event: &Event) -> bool
+/// M4: returns whether the event sees no other version than its transaction's latest of each key that this has written.
+fn sees_own(tables: &Tables, events: &[Event], event: &Event) -> bool
     ensures { let all = map event_of events.now in
         (before : List EventValue)
-        → Keeps writes.now all before
-        → faults.is_open before (event_of event.now) ≡ true
+        → Means tables.now all before
         → result ≡ faults.sees_own before (event_of event.now) }
 {
     match event {
@@ -96,7 +90,7 @@ fn sees_own(writes: &OpenWrites, events: &[Event], event: &Event) -> bool
             txn,
             version,
             value,
-        } => match wrote_at(events, writes.last_place(*txn, version.key)) {
+        } => match tables.last_write(events, *txn, version.key) {
             None => true,
             Some(last) => last.same(&read_entry(*version, *value)),
         },
@@ -105,7 +99,7 @@ fn sees_own(writes: &OpenWrites, events: &[Event], event: &Event) -> bool
             low,
             high,
             entries,
-        } => lists_own(writes.of(*txn), events, *low, *high, entries),
+        } => lists_own(&tables.writes, events, *txn, *low, *high, entries),
         Event::Write { .. } => true,
         Event::Delete { .. } => true,
         Event::Commit { .. } => true,
@@ -135,7 +129,6 @@ fn is_rising(event: &Event) -> bool
 /// Returns the first rule that the event breaks.
 fn broken_rule(
     tables: &Tables,
-    writes: &OpenWrites,
     newest: &NewestWrites,
     events: &[Event],
     event: &Event,
@@ -143,7 +136,6 @@ fn broken_rule(
     ensures { let all = map event_of events.now in
         (before : List EventValue)
         → Means tables.now all before
-        → Keeps writes.now all before
         → newest_writes.Keeps newest.now before
         → (line : ℕ)
         → MatchOption result (faults.faults_at before line (event_of event.now) ≡ [])
@@ -152,13 +144,13 @@ fn broken_rule(
     if !is_open(tables, event) {
         return Some(Rule::M1);
     }
-    if !is_next(writes, events, event) {
+    if !is_next(tables, events, event) {
         return Some(Rule::M2);
     }
     if !was_written(tables, newest, events, event) {
         return Some(Rule::M3);
     }
-    if !sees_own(writes, events, event) {
+    if !sees_own(tables, events, event) {
         return Some(Rule::M4);
     }
     if !is_rising(event) {
@@ -176,16 +168,12 @@ pub(crate) fn tables_of(alloc: Global, events: &[Event]) -> Result<Tables, Check
     let Ok(mut tables) = Tables::new(alloc, events.len()) else {
         return Err(CheckFault::Memory);
     };
-    let mut writes = OpenWrites::new(alloc);
     let mut newest = NewestWrites::new(alloc);
     for (i, event) in events.iter().enumerate() {
-        if let Some(rule) = broken_rule(&tables, &writes, &newest, events, event) {
+        if let Some(rule) = broken_rule(&tables, &newest, events, event) {
             return Err(CheckFault::Malformed { line: i + 2, rule });
         }
         let Ok(()) = tables.record(events, i, event) else {
-            return Err(CheckFault::Memory);
-        };
-        let Ok(()) = writes.keep(i, event) else {
             return Err(CheckFault::Memory);
         };
         let Ok(()) = newest.keep(event) else {

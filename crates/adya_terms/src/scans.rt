@@ -1,20 +1,26 @@
 //! What a scan lists: M3, M4 and M5.
 
-ghost use Rattle.std.specs.Prelude.{◌≡◌, ◌&&◌, ℕ, List, true, Some, map, option_map};
+ghost use Rattle.std.specs.Prelude.{◌≡◌, ◌&&◌, ℕ, List, true, false, Some, map};
+ghost use Rattle.std.specs.Bool.{OnTrue, OnFalse};
 ghost use Rattle.std.specs.List.{list_all, list_any};
 ghost use Rattle.adya_values.specs.Meaning.Keys as keys;
 ghost use Rattle.adya_values.specs.Meaning.Histories.{Event as EventValue, Scan};
 ghost use Rattle.adya_values.specs.Mirror.Events.{entry_of, event_of};
 ghost use Rattle.adya_values.specs.Computing.Faults as faults;
-ghost use Rattle.adya_values.specs.Computing.Faults.{entry_eq, none_or_lists_only, sees_own, version_eq};
+ghost use Rattle.adya_values.specs.Meaning.Events.{last_write};
+ghost use Rattle.adya_values.specs.Computing.Faults.{entry_eq, none_or_lists_only, sees_own};
 ghost use Rattle.adya_terms.specs.Machinery.Checks as checks;
-ghost use Rattle.std.specs.HashMap.{get};
-ghost use Rattle.adya_terms.specs.Machinery.Tables.{is_at, own_eq, written_at};
-ghost use Rattle.adya_terms.specs.Machinery.OpenWrites.{HasOwn};
+ghost use Rattle.std.specs.BTreeMap.{get};
+ghost use Rattle.std.specs.Ordering.{nat_cmp};
+ghost use Rattle.txn_table.specs.Mirror.{value_for};
+ghost use Rattle.adya_terms.specs.Machinery.Tables.{own, written_at};
+ghost use Rattle.adya_terms.specs.Machinery.Chains.{chain_passes, key_passes};
+ghost use Rattle.adya_terms.specs.Machinery.OwnWrites.{place_of};
+ghost use Rattle.adya_terms.specs.Machinery.Owed.{AreShown};
 
-use crate::tables::{Tables, wrote_at};
-use crate::{Entry, Event, Key};
-use std::collections::BTreeMap;
+use crate::own_writes::OwnWrites;
+use crate::tables::wrote_at;
+use crate::{Entry, Event, Key, Txn};
 
 fn lies_in(low: Key, high: Key, key: Key) -> bool
     ensures { result ≡ keys.lies_in low high key }
@@ -86,12 +92,12 @@ struct ScanList<'a> {
 }
 
 impl ScanList<'_> {
-    /// Returns whether what the event at the place writes is listed and nothing else of its key.
-    fn has_write(&self, events: &[Event], at: usize) -> bool
+    /// Returns whether what the event at the place writes, if there is one, is listed and nothing else of its key.
+    fn has_write(&self, events: &[Event], at: Option<usize>) -> bool
         ensures { result
-            ≡ none_or_lists_only (map entry_of self.now.entries.now) (written_at (map event_of events.now) (Some at)) }
+            ≡ none_or_lists_only (map entry_of self.now.entries.now) (written_at (map event_of events.now) at) }
     {
-        let Some(write) = wrote_at(events, Some(at)) else {
+        let Some(write) = wrote_at(events, at) else {
             return true;
         };
         if self.rising {
@@ -101,22 +107,100 @@ impl ScanList<'_> {
     }
 }
 
+/// The writes of a transaction that a scan must list: those of keys between the two.
+#[derive(Clone, Copy)]
+struct Owed<'a> {
+    writes: &'a OwnWrites,
+    events: &'a [Event],
+    txn: Txn,
+    low: Key,
+    high: Key,
+}
+
+impl Owed<'_> {
+    ghost use Rattle.adya_terms.specs.Machinery.Owed.{passes};
+
+    /// Returns whether the last write of the key is listed and nothing else of it, if the key lies between the two.
+    fn has_key(&self, listed: &ScanList, key: Key) -> bool
+        ensures { result ≡ passes self.now (map entry_of listed.now.entries.now) key }
+    {
+        if !lies_in(self.low, self.high, key) {
+            return true;
+        }
+        listed.has_write(
+            self.events,
+            self.writes.last_place(self.events, self.txn, key),
+        )
+    }
+
+    /// Returns whether that holds of the key of the write at the place.
+    fn has_row(&self, listed: &ScanList, at: usize) -> bool
+        ensures { result ≡ key_passes (passes self.now (map entry_of listed.now.entries.now))
+            (written_at (map event_of self.now.events.now) (Some at)) }
+    {
+        match wrote_at(self.events, Some(at)) {
+            None => true,
+            Some(wrote) => self.has_key(listed, wrote.version.key),
+        }
+    }
+
+    /// Returns whether that holds of the key of each write in the transaction's chain.
+    fn has_chain(&self, listed: &ScanList) -> bool
+        ensures { let w = self.now.writes.now in
+            let chain = value_for w.chains self.now.txn in
+            result ≡ chain_passes (map event_of self.now.events.now) w.rows.items
+            (passes self.now (map entry_of listed.now.entries.now)) chain.len chain.last }
+    {
+        let chain = self.writes.chain(self.txn);
+        let mut link = chain.last;
+        for _ in 0..chain.len {
+            let Some(row) = self.writes.row(link) else {
+                return true;
+            };
+            if !self.has_row(listed, row.at) {
+                return false;
+            }
+            link = row.before;
+        }
+        true
+    }
+
+    /// Returns whether each of the transaction's other last writes of keys between the two is listed, and nothing else of
+    /// its key. The two don't run downward.
+    fn has_later(&self, listed: &ScanList) -> bool
+        requires { keys.key_lt self.now.high self.now.low ≡ false }
+        ensures shown { OnTrue result (AreShown (get nat_cmp self.now.writes.now.later self.now.txn) self.now.low self.now.high
+            (map entry_of listed.now.entries.now) (map event_of self.now.events.now)) }
+        ensures missed { OnFalse result (AreShown (get nat_cmp self.now.writes.now.later self.now.txn) self.now.low self.now.high
+            (map entry_of listed.now.entries.now) (map event_of self.now.events.now) → ⊥) }
+    {
+        let Some(later) = self.writes.later(self.txn) else {
+            return true;
+        };
+        for (_, at) in later.range(self.low..=self.high) {
+            if !listed.has_write(self.events, Some(*at)) {
+                return false;
+            }
+        }
+        true
+    }
+}
+
 /// Returns whether of each key between the two that the transaction has written its last write is listed, and nothing
-/// else of that key. `own` has the places of these writes.
+/// else of that key.
 pub(crate) fn lists_own(
-    own: Option<&BTreeMap<Key, usize>>,
+    writes: &OwnWrites,
     events: &[Event],
+    txn: Txn,
     low: Key,
     high: Key,
     entries: &[Entry],
 ) -> bool
-    ensures { (t : ℕ) (before : List EventValue)
-        → HasOwn (option_map (λ m. m.now) own.entry) t (map event_of events.now) before
-        → result ≡ sees_own before (Scan t low high (map entry_of entries.now)) }
+    ensures { let all = map event_of events.now in
+        (before : List EventValue)
+        → ((k : List ℕ) → written_at all (place_of all writes.now (own txn k)) ≡ last_write txn k before)
+        → result ≡ sees_own before (Scan txn low high (map entry_of entries.now)) }
 {
-    let Some(own) = own else {
-        return true;
-    };
     if high < low {
         return true;
     }
@@ -124,10 +208,12 @@ pub(crate) fn lists_own(
         entries,
         rising: keys_rise(entries),
     };
-    for (_, at) in own.range(low..=high) {
-        if !listed.has_write(events, *at) {
-            return false;
-        }
-    }
-    true
+    let owed = Owed {
+        writes,
+        events,
+        txn,
+        low,
+        high,
+    };
+    owed.has_chain(&listed) && owed.has_later(&listed)
 }

@@ -3,12 +3,15 @@
 ghost use Rattle.std.specs.Prelude.{◌≡◌, ◌||◌, is_some, ◌++◌, [], ◌∷◌, List, true, Some, cond, map, nat_eq, option_map, slice_get, IfOk};
 ghost use Rattle.std.specs.HashMap.{get};
 ghost use Rattle.txn_table.specs.Mirror.{value_for};
-ghost use Rattle.adya_values.specs.Meaning.Histories.{Event as EventValue};
+ghost use Rattle.adya_values.specs.Meaning.Histories.{Entry as EntryValue, Event as EventValue};
 ghost use Rattle.adya_values.specs.Mirror.Events.{entry_of, event_of};
 ghost use Rattle.adya_values.specs.Meaning.Events.{written};
 ghost use Rattle.adya_values.specs.Computing.Faults.{is_next, version_eq};
-ghost use Rattle.adya_terms.specs.Machinery.Tables.{own, own_eq, written_at, is_there, with_replaced, Means};
+ghost use Rattle.adya_terms.specs.Machinery.Tables.{own, own_eq, written_at, is_there, with_replaced};
+ghost use Rattle.adya_terms.specs.Machinery.Telling.{Means};
+ghost use Rattle.adya_terms.specs.Machinery.OwnWrites.{place_of};
 
+use crate::own_writes::OwnWrites;
 use crate::{Entry, Event, Key, Txn, Version};
 use std::alloc::{AllocError, Global};
 use std::collections::HashMap;
@@ -33,7 +36,7 @@ pub(crate) struct Ended {
 #[derive(Drop)]
 pub(crate) struct Tables {
     pub ended: TxnTable<Ended>,
-    pub last: HashMap<Own, usize>,
+    pub writes: OwnWrites,
     pub replaced: HashMap<Version, usize>,
 }
 
@@ -69,9 +72,12 @@ impl Tables {
             committed: false,
             aborted: false,
         };
+        let ended = TxnTable::new(alloc, small, open)?;
+        // most transactions have two events or more
+        let writes = OwnWrites::new(alloc, small / 2)?;
         Ok(Tables {
-            ended: TxnTable::new(alloc, small, open)?,
-            last: HashMap::new(alloc),
+            ended,
+            writes,
             replaced: HashMap::new(alloc),
         })
     }
@@ -101,16 +107,16 @@ impl Tables {
     /// Returns the transaction's last write of the key.
     pub fn last_write(&self, events: &[Event], txn: Txn, key: Key) -> Option<Entry>
         ensures { option_map entry_of result
-            ≡ written_at (map event_of events.now) (get own_eq self.now.last (own txn key)) }
+            ≡ (let all = map event_of events.now in written_at all (place_of all self.now.writes (own txn key))) }
     {
-        wrote_at(events, self.last.get(&Own { txn, key }).copied())
+        wrote_at(events, self.last_place(events, txn, key))
     }
 
     /// Returns the index of the transaction's last write of the key in the list of events.
-    pub fn last_place(&self, txn: Txn, key: Key) -> Option<usize>
-        ensures { result ≡ get own_eq self.now.last (own txn key) }
+    pub fn last_place(&self, events: &[Event], txn: Txn, key: Key) -> Option<usize>
+        ensures { result ≡ place_of (map event_of events.now) self.now.writes (own txn key) }
     {
-        self.last.get(&Own { txn, key }).copied()
+        self.writes.last_place(events, txn, key)
     }
 
     /// Returns whether a later write of the same transaction replaced the version.
@@ -125,7 +131,7 @@ impl Tables {
         ensures { let all = map event_of events.now in
             let o = entry_of seen.now in
             result
-            ≡ (is_there o (written_at all (get own_eq self.now.last (own o.version.txn o.version.key)))
+            ≡ (is_there o (written_at all (place_of all self.now.writes (own o.version.txn o.version.key)))
             || is_there o (written_at all (get version_eq self.now.replaced o.version))) }
     {
         let Version { key, txn, .. } = seen.version;
@@ -195,19 +201,25 @@ impl Tables {
 
     /// Records that the transaction's last write of the key is at the place, and that it replaced the one before it.
     fn put(&mut self, events: &[Event], at: usize, own: Own) -> Result<(), AllocError>
-        ensures last { IfOk result
-            (λ u. (q : Own) → get own_eq self.new.last q ≡ cond (own_eq own q) (Some at) (get own_eq self.old.last q)) }
-        ensures replaced { let p = get own_eq self.old.last own in
+        ensures last { let all = map event_of events.now in
+            IfOk result (λ u. (w : EntryValue)
+            → written_at all (Some at) ≡ Some w
+            → w.version.key ≡ own.key
+            → (q : Own) → place_of all self.new.writes q ≡ cond (own_eq own q) (Some at) (place_of all self.old.writes q)) }
+        ensures replaced { let all = map event_of events.now in
+            let p = place_of all self.old.writes own in
             IfOk result
             (λ u. (r : Version)
             → get version_eq self.new.replaced r
-            ≡ with_replaced (written_at (map event_of events.now) p) p (get version_eq self.old.replaced) r) }
+            ≡ with_replaced (written_at all p) p (get version_eq self.old.replaced) r) }
         ensures ended { IfOk result (λ u. self.new.ended ≡ self.old.ended) }
     {
-        let Some(place) = self.last.insert(own, at)? else {
+        let place = self.writes.last_place(events, own.txn, own.key);
+        self.writes.put(own, at)?;
+        let Some(old) = wrote_at(events, place) else {
             return Ok(());
         };
-        let Some(old) = wrote_at(events, Some(place)) else {
+        let Some(place) = place else {
             return Ok(());
         };
         self.replaced.insert(old.version, place)?;

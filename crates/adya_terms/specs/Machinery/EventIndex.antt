@@ -1,13 +1,12 @@
 -- What an index of events is made of.
 use Rattle.std.specs.Prelude.{ℕ, Bool, ◌||◌, ◌==◌, List, Option, map}
 use Rattle.std.specs.List.{list_any}
-use Rattle.std.specs.HashMap.{get}
 use Rattle.adya_values.specs.Meaning.Histories.{Event}
 use Rattle.adya_values.specs.Mirror.Events.{event_of}
 use Rattle.adya_values.specs.Clauses.Rules.{has_ended}
 use Rattle.adya_terms.specs.declared.event_index.EventIndex.{EventIndex}
 use Rattle.adya_terms.specs.declared.tables.Own.{Own}
-use Rattle.adya_terms.specs.Machinery.Tables.{own_eq}
+use Rattle.adya_terms.specs.Machinery.OwnWrites.{place_of}
 
 -- the events
 abbrev pub indexed : EventIndex → List Event
@@ -19,7 +18,7 @@ unfinished_in x = x.unfinished.now
 
 -- the places of last writes
 abbrev pub last_in : EventIndex → Own → Option ℕ
-last_in x = get own_eq x.tables.last
+last_in x = place_of (indexed x) x.tables.writes
 
 -- the transaction has ended or is unfinished
 abbrev pub is_done : EventIndex → ℕ → Bool

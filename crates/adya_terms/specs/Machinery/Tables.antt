@@ -1,13 +1,11 @@
 -- What the tables of the check say about the events that they were made of.
 use Rattle.std.specs.Prelude.{◌≡◌, ℕ, ◌<◌, ◌==◌, Bool, false, ◌&&◌, ◌||◌, cond, List, length, Option, Some, None, is_some, IsSome, slice_get}
 use Rattle.std.specs.List.{filter_map, list_any}
-use Rattle.std.specs.HashMap.{get}
 use Rattle.txn_table.specs.declared.TxnTable.{TxnTable}
 use Rattle.txn_table.specs.Mirror.{value_for}
 use Rattle.adya_values.specs.declared.event.Version.{Version}
 use Rattle.adya_terms.specs.declared.tables.Ended.{Ended}
 use Rattle.adya_terms.specs.declared.tables.Own.{Own}
-use Rattle.adya_terms.specs.declared.tables.Tables.{Tables}
 use Rattle.adya_values.specs.Meaning.Histories.{Entry, Event}
 use Rattle.adya_values.specs.Meaning.Events.{written, writes_of, last_write, is_committed, aborts}
 use Rattle.adya_values.specs.Meaning.Keys.{key_eq}
@@ -57,10 +55,6 @@ pub record Tell (committed aborted : ℕ → Bool) (last : Own → Option ℕ) (
   pub written_is : (o : Entry) → is_at last replaced all o ≡ list_any (entry_eq o) (filter_map written before)
   pub number_is : (t : ℕ) (k : List ℕ) → number_of (last_write t k before) ≡ length (writes_of t k before)
   pub later : (r : Version) → IsSome (replaced r) → r.m < length (writes_of r.txn r.key before)
-
--- the tables are right about the events before, by places in all of them
-abbrev pub Means : Tables → List Event → List Event → Type 0
-Means t all before = Tell (λ u. (value_for t.ended u).committed) (λ u. (value_for t.ended u).aborted) (get own_eq t.last) (get version_eq t.replaced) all before
 
 -- the table has which transactions have committed
 abbrev pub KnowsCommitted : TxnTable Ended → List Event → Type 0

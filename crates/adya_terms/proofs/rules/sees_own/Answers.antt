@@ -1,32 +1,24 @@
-use Rattle.std.proofs.Common.{◌≡◌, ◌∙◌, false, Some, map, option_map, sym, ap, subst}
-use Rattle.std.proofs.lemmas.Bool.{not-true}
+use Rattle.std.proofs.Common.{◌≡◌, ◌∙◌, Some, map, option_map, sym, ap}
 use Rattle.adya_values.specs.Meaning.Histories.{Live, Scan}
 use Rattle.adya_values.specs.Mirror.Events.{entry_of, event_of, value_of}
 use Rattle.adya_values.specs.Meaning.Events.{entry, last_write}
-use Rattle.adya_values.specs.Clauses.Rules.{has_ended}
 use Rattle.adya_values.specs.Computing.Faults as faults
-use Rattle.adya_terms.specs.Machinery.Tables.{written_at}
-use Rattle.adya_terms.specs.Machinery.OpenWrites.{HasOwn}
 use Rattle.adya_terms.proofs.rules.sees_own.Goals as goal
 
 pub returns-in-Some : goal.returns-in-Some
-returns-in-Some c before m is_open =
-    let all = map event_of c.args.events.now in
+returns-in-Some c before m =
     let t = c.in-Read.txn in
     let r = c.in-Read.version in
-    let not_ended : has_ended before t ≡ false = not-true _ (ap (λ e. faults.is_open before (event_of e)) (sym c.in-Read.is) ∙ is_open) in
     let last : last_write t r.key before ≡ Some (entry_of c.in-Some.last) =
-    sym (m t not_ended r.key) ∙ (ap (written_at all) (sym c.last_place.ensures) ∙ (sym c.wrote_at.ensures ∙ ap (option_map entry_of) c.in-Some.is)) in
+    sym (m.last_is t r.key) ∙ (sym c.last_write.ensures ∙ ap (option_map entry_of) c.in-Some.is) in
     c.same.ensures ∙
     (ap (faults.entry_eq (entry_of c.in-Some.last)) c.read_entry.ensures ∙
     (ap (λ w. faults.is_none_or w (entry r (Live (value_of c.in-Read.value)))) (sym last) ∙
     ap (λ e. faults.sees_own before (event_of e)) (sym c.in-Read.is)))
 
 pub returns-in-Scan : goal.returns-in-Scan
-returns-in-Scan c before m is_open =
-    let all = map event_of c.args.events.now in
+returns-in-Scan c before m =
     let t = c.in-Scan.txn in
-    let not_ended : has_ended before t ≡ false = not-true _ (ap (λ e. faults.is_open before (event_of e)) (sym c.in-Scan.is) ∙ is_open) in
-    c.lists_own.ensures t before (subst (λ own. HasOwn own t all before) (sym c.of.ensures) (m t not_ended)) ∙
+    c.lists_own.ensures before (m.last_is t) ∙
     (ap (λ es. faults.sees_own before (Scan t c.in-Scan.low c.in-Scan.high (map entry_of es))) c.deref.ensures.value ∙
     ap (λ e. faults.sees_own before (event_of e)) (sym c.in-Scan.is))

@@ -1,8 +1,7 @@
 use Rattle.std.proofs.Common.{◌≡◌, ◌+◌, ◌∙◌, ap, map, take, Some, arith, refl, subst, sym}
 use Rattle.adya_values.specs.Computing.Faults.{Malformed, first}
 use Rattle.adya_values.specs.Mirror.Events.{event_of}
-use Rattle.adya_terms.specs.Machinery.Tables.{Means}
-use Rattle.adya_terms.specs.Machinery.OpenWrites.{Keeps}
+use Rattle.adya_terms.specs.Machinery.Telling.{Means}
 use Rattle.adya_terms.specs.Machinery.NewestWrites as newest_writes
 use Rattle.adya_terms.proofs.Firsts.{fault_here, fault_later}
 use Rattle.adya_terms.proofs.rules.tables_of.Goals as goal
@@ -17,7 +16,7 @@ returns-in-Some c =
     let t = turn event_of c.args.events.now i e c.loop-i-test.true c.index-events-i.is in
     let line : 2 + i ≡ i + 2 = omega arith in
     ap first c.loop-i.invariant.faults ∙
-    (fault_here all i (event_of e) t (Malformed (2 + i) c.in-Some.rule) (c.in-Some.ensures (take i all) c.loop-i.invariant.means c.loop-i.invariant.keeps c.loop-i.invariant.newest (2 + i)) ∙
+    (fault_here all i (event_of e) t (Malformed (2 + i) c.in-Some.rule) (c.in-Some.ensures (take i all) c.loop-i.invariant.means c.loop-i.invariant.newest (2 + i)) ∙
     ap (λ n. Some (Malformed n c.in-Some.rule)) line)
 
 pub loop-i-init : goal.loop-i-init
@@ -25,7 +24,6 @@ loop-i-init c =
     let all = map event_of c.args.events.now in
     record {
       means = c.in-Ok.ensures all;
-      keeps = c.new-writes.ensures all;
       newest = c.new-newest.ensures;
       faults = refl;
     }
@@ -37,11 +35,10 @@ loop-i-preserved c =
     let e = c.index-events-i.result in
     let t = turn event_of c.args.events.now i e c.loop-i-test.true c.index-events-i.is in
     let m = c.loop-i.invariant.means in
-    let none = c.in_default-broken_rule.ensures (take i all) m c.loop-i.invariant.keeps c.loop-i.invariant.newest (2 + i) in
+    let none = c.in_default-broken_rule.ensures (take i all) m c.loop-i.invariant.newest (2 + i) in
     record {
       means = subst (Means c.record.new.self all) (sym t.front)
           (c.in-Ok-record.ensures (take i all) m t.found (passes_all (take i all) (2 + i) (event_of e) none).next);
-      keeps = subst (Keeps c.keep.new.self all) (sym t.front) (c.in-Ok-keep.ensures all (take i all) c.loop-i.invariant.keeps t.found);
-      newest = subst (newest_writes.Keeps c.keep-in-loop-i.new.self) (sym t.front) (c.in-Ok-keep-2.ensures (take i all) c.loop-i.invariant.newest);
+      newest = subst (newest_writes.Keeps c.keep.new.self) (sym t.front) (c.in-Ok-keep.ensures (take i all) c.loop-i.invariant.newest);
       faults = c.loop-i.invariant.faults ∙ fault_later all i (event_of e) t none;
     }

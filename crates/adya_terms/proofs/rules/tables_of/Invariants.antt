@@ -1,8 +1,7 @@
 use Rattle.std.proofs.Common.{◌≡◌, ◌+◌, [], map, take, drop}
 use Rattle.adya_values.specs.Mirror.Events.{event_of}
 use Rattle.adya_values.specs.Computing.Faults.{event_faults}
-use Rattle.adya_terms.specs.Machinery.Tables.{Means}
-use Rattle.adya_terms.specs.Machinery.OpenWrites.{Keeps}
+use Rattle.adya_terms.specs.Machinery.Telling.{Means}
 use Rattle.adya_terms.specs.Machinery.NewestWrites as newest_writes
 use Rattle.adya_terms.proofs.rules.tables_of.Given as goal
 
@@ -11,7 +10,6 @@ invariant-loop-i l =
     let all = map event_of l.events in
     record {
       means : Means l.tables all (take l.i all);
-      keeps : Keeps l.writes all (take l.i all);
       newest : newest_writes.Keeps l.newest (take l.i all);
       faults : event_faults [] 2 all ≡ event_faults (take l.i all) (2 + l.i) (drop l.i all);
     }

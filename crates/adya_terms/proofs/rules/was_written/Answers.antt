@@ -8,7 +8,7 @@ use Rattle.adya_values.specs.Meaning.Histories.{Entry}
 use Rattle.adya_values.specs.Mirror.Events.{entry_of, event_of}
 use Rattle.adya_values.specs.Meaning.Events.{written}
 use Rattle.adya_values.specs.Computing.Faults.{entry_eq, version_eq}
-use Rattle.adya_terms.specs.Machinery.Tables.{own_eq}
+use Rattle.adya_terms.specs.Machinery.OwnWrites.{place_of}
 use Rattle.adya_terms.specs.Machinery.NewestWrites.{is_found}
 use Rattle.adya_terms.proofs.NewestWrites.{found_is}
 use Rattle.adya_terms.proofs.SameTests.{list_all-same}
@@ -18,7 +18,7 @@ pub returns : goal.returns
 returns c before m n =
     let all = map event_of c.args.events.now in
     let newest = get key_eq c.args.newest.now.writes in
-    let last = get own_eq c.args.tables.now.last in
+    let last = place_of all c.args.tables.now.writes in
     let replaced = get version_eq c.args.tables.now.replaced in
     let es = c.entries.result.now in
     let was = λ (o : Entry). list_any (entry_eq o) (filter_map written before) in

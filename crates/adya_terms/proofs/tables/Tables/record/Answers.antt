@@ -5,6 +5,7 @@ use Rattle.adya_values.specs.Meaning.Histories.{Live, Dead, Commit, Abort}
 use Rattle.adya_values.specs.Mirror.Events.{event_of, value_of}
 use Rattle.adya_values.specs.Meaning.Events.{version, entry, written}
 use Rattle.adya_values.specs.Computing.Faults.{is_next}
+use Rattle.adya_terms.specs.Machinery.Tables.{written_by}
 use Rattle.txn_table.specs.Mirror.{value_for}
 use Rattle.adya_terms.proofs.Tells.{tell_quiet, tell_write, commits_more, aborts_more}
 use Rattle.adya_terms.proofs.tables.Tables.record.Goals as goal
@@ -16,7 +17,8 @@ returns-in_ok-put-in-Write c before m found next =
     rw (c.in-Write.is, c.in_ok-put-in-Write.ensures.ended)
     (tell_write _ _ _ _ _ before m c.args.at _ w
     (record { found = found ∙ ap (λ x. Some (event_of x)) c.in-Write.is; wrote = refl; commits_none = λ t. refl; aborts_none = λ t. refl })
-    (eqb-true _ _ number) _ _ c.in_ok-put-in-Write.ensures.last c.in_ok-put-in-Write.ensures.replaced)
+    (eqb-true _ _ number) _ _
+    (c.in_ok-put-in-Write.ensures.last w (ap written_by found ∙ ap (λ x. written (event_of x)) c.in-Write.is) refl) c.in_ok-put-in-Write.ensures.replaced)
 
 pub returns-in_ok-put-in-Delete : goal.returns-in_ok-put-in-Delete
 returns-in_ok-put-in-Delete c before m found next =
@@ -25,7 +27,8 @@ returns-in_ok-put-in-Delete c before m found next =
     rw (c.in-Delete.is, c.in_ok-put-in-Delete.ensures.ended)
     (tell_write _ _ _ _ _ before m c.args.at _ w
     (record { found = found ∙ ap (λ x. Some (event_of x)) c.in-Delete.is; wrote = refl; commits_none = λ t. refl; aborts_none = λ t. refl })
-    (eqb-true _ _ number) _ _ c.in_ok-put-in-Delete.ensures.last c.in_ok-put-in-Delete.ensures.replaced)
+    (eqb-true _ _ number) _ _
+    (c.in_ok-put-in-Delete.ensures.last w (ap written_by found ∙ ap (λ x. written (event_of x)) c.in-Delete.is) refl) c.in_ok-put-in-Delete.ensures.replaced)
 
 pub returns-in-Read : goal.returns-in-Read
 returns-in-Read c before m found next =

@@ -1,0 +1,59 @@
+use Rattle.std.proofs.Common.{arith, ◌≡◌, ◌==◌, ◌+◌, ◌++◌, [], ◌∷◌, ℕ, cond, List, sym, ap, Ok, Err, Result, Option, OnOk, OnErr}
+use Rattle.std.specs.declared.alloc.AllocError.{AllocError}
+use Rattle.txn_table.specs.Mirror.{value_for}
+use Rattle.adya_terms.specs.declared.own_writes.Chain.{Chain}
+use Rattle.adya_terms.specs.declared.own_writes.Row.{Row}
+use Rattle.adya_terms.specs.declared.tables.Own.{Own}
+use Rattle.adya_terms.specs.Machinery.Chains.{longer, own_place, row, AreFew, AreLinked}
+use Rattle.adya_terms.proofs.Chains.{few_longer, linked_longer, linked_stays, longer_is}
+use Rattle.adya_terms.proofs.own_writes.OwnWrites.lengthen.Goals as goal
+
+pub invariant_of-self-2 : goal.invariant_of-self-2
+invariant_of-self-2 c = by_result c.set.result c.set.ensures.set c.set.ensures.refused
+  where
+    old : ℕ → Chain
+    old = value_for c.args.self.now.chains
+
+    new : ℕ → Chain
+    new = value_for c.set.new.self
+
+    t : ℕ
+    t = c.args.txn
+
+    later : Own → Option ℕ
+    later q = own_place c.args.self.now.later q.txn q.key
+
+    rows : List Row
+    rows = c.args.self.now.rows.items
+
+    is : old t ≡ c.args.chain
+    is = c.requires.chain
+
+    grown : c.push.new.self.items ≡ rows ++ row c.args.at (old t).last ∷ []
+    grown = rw is c.in_ok-push.ensures.items
+
+    is_len : c.args.chain.len ≡ (old t).len
+    is_len = ap (λ (x : Chain). x.len) (sym is)
+
+    value : record { len = c.args.chain.len + 1; last = c.len.result } ≡ longer (old t) rows
+    value =
+        let len = c.in_ok-push.ensures.len in
+        let counted = c.args.self.now.rows.ok in
+        let new_len = c.len.ensures in
+        longer_is (old t) rows _ _ (omega (arith, is_len)) (omega (arith, len, counted, new_len))
+
+    by_result : (r : Result (Unit {0}) AllocError)
+        → OnOk r ((u : ℕ) → new u ≡ cond (t == u) (record { len = c.args.chain.len + 1; last = c.len.result }) (old u))
+        → OnErr r ((u : ℕ) → new u ≡ old u)
+        → record { linked : AreLinked new c.push.new.self.items; few : AreFew new later }
+    by_result (Ok _) set refused =
+        let longer_set : (u : ℕ) → new u ≡ cond (t == u) (longer (old t) rows) (old u) = λ u. rw (sym value) (set u) in
+        record {
+          linked = rw grown (linked_longer old new rows c.args.at t c.args.self.now.linked longer_set);
+          few = few_longer old new later rows t c.args.self.now.few (rw is c.requires.room) longer_set;
+        }
+    by_result (Err _) set refused =
+        record {
+          linked = rw grown (linked_stays old new rows c.args.at t c.args.self.now.linked refused);
+          few = λ q less. c.args.self.now.few q (rw (refused q.txn) at less);
+        }
