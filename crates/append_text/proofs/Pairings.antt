@@ -1,5 +1,5 @@
 -- What one operation more does to the transactions of a text.
-use Rattle.std.proofs.Common.{◌≡◌, ℕ, ℤ, zero, suc, Bool, true, false, cond, List, [], ◌∷◌, ◌++◌, length, map, Option, Some, None, option_map, refl, sym, ap, subst, ◌∙◌, inl, inr, int_eq}
+use Rattle.std.proofs.Common.{◌≡◌, ℕ, ℤ, suc, Bool, true, false, cond, List, [], ◌∷◌, ◌++◌, length, Option, Some, None, option_map, refl, sym, ap, ◌∙◌, inl, inr, int_eq}
 use Rattle.std.specs.Prelude.{IfSome, is_none, slice_get, slice_set}
 use Rattle.std.specs.List.{find}
 use Rattle.std.specs.Option.{option_or}

@@ -32,7 +32,7 @@ impl Collector {
     }
 
     /// Takes the next operation.
-    pub(crate) fn take<D: Data>(&mut self, data: &D) -> Result<(), Refusal> {
+    pub(crate) fn take<'a, D: Data<'a>>(&mut self, data: D) -> Result<(), Refusal> {
         match operation(self.alloc, &mut self.names, self.taken, data)? {
             Some(op) => self.pairing.take(op)?,
             None => self.passed_over = self.passed_over.saturating_add(1),

@@ -16,8 +16,8 @@ pub(crate) fn edn_text<S: Source>(
 ) -> Result<History, ReadFault> {
     let mut collector = Collector::new(alloc);
     let mut reader = Reader::after(alloc, buffer.pending())?;
-    while let Some(form) = reader.next_form(source).map_err(from_edn)? {
-        if let Err(refusal) = collector.take(&form) {
+    while reader.read(source).map_err(from_edn)? {
+        if let Err(refusal) = collector.take(reader.form()) {
             return Err(refusal.at(Place::Line(reader.line())));
         }
     }

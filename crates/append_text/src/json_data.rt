@@ -1,48 +1,63 @@
 //! Values of JSON as data.
 
-use crate::data::Data;
+use crate::data::{Data, Step};
 use crate::name::Name;
 use serde_json::Value;
+use std::alloc::{AllocError, Global};
 
-impl Data for Value {
-    fn field(&self, name: &str) -> Option<&Value> {
+impl<'a> Data<'a> for &'a Value {
+    fn field(self, name: &str) -> Option<&'a Value> {
         self.get(name)
     }
 
-    fn is_map(&self) -> bool {
+    fn is_map(self) -> bool {
         self.is_object()
     }
 
-    fn elements(&self) -> Option<&[Value]> {
+    fn elements(self, alloc: Global) -> Result<Option<Vec<&'a Value>>, AllocError> {
         match self {
-            Value::Array(values) => Some(values.as_slice()),
+            Value::Array(values) => Ok(Some(values.iter().collect(alloc)?)),
+            _ => Ok(None),
+        }
+    }
+
+    fn step(self) -> Option<Step<&'a Value>> {
+        match self {
+            Value::Array(values) => step_of(values.as_slice()),
             _ => None,
         }
     }
 
-    fn integers(&self) -> Option<&[i64]> {
-        None
+    fn integers(self, _alloc: Global) -> Result<Option<Vec<i64>>, AllocError> {
+        Ok(None)
     }
 
-    fn integer(&self) -> Option<i64> {
+    fn integer(self) -> Option<i64> {
         self.as_i64()
     }
 
-    fn word(&self) -> Option<&[u8]> {
+    fn word(self) -> Option<&'a [u8]> {
         match self {
             Value::String(text) => Some(text.as_bytes()),
             _ => None,
         }
     }
 
-    fn is_nil(&self) -> bool {
+    fn is_nil(self) -> bool {
         self.is_null()
     }
 
-    fn name(&self) -> Option<Name<'_>> {
+    fn name(self) -> Option<Name<'a>> {
         match self {
             Value::String(text) => Some(Name::String(text.as_bytes())),
             _ => Some(Name::Integer(self.as_i64()?)),
         }
+    }
+}
+
+fn step_of(values: &[Value]) -> Option<Step<&Value>> {
+    match values {
+        [f, key, value] => Some(Step { f, key, value }),
+        _ => None,
     }
 }

@@ -31,11 +31,11 @@ pub(crate) struct Op {
 
 /// Reads the operation of this number in its text. Returns `None` if it is none of a transaction: if its process is no integer, as that of a nemesis,
 /// or its `:f` isn't `:txn`.
-pub(crate) fn operation<D: Data>(
+pub(crate) fn operation<'a, D: Data<'a>>(
     alloc: Global,
     names: &mut Names,
     number: u64,
-    data: &D,
+    data: D,
 ) -> Result<Option<Op>, Refusal> {
     if !data.is_map() {
         return Err(Refusal::Problem(Problem::Map));
@@ -58,18 +58,18 @@ pub(crate) fn operation<D: Data>(
     Ok(Some(Op { kind, label, steps }))
 }
 
-fn is_transaction<D: Data>(data: &D) -> bool {
+fn is_transaction<'a, D: Data<'a>>(data: D) -> bool {
     match data.field("f") {
         Some(f) => matches!(f.word(), Some(b"txn")),
         None => false,
     }
 }
 
-fn integer_in<D: Data>(data: &D, name: &str) -> Option<i64> {
+fn integer_in<'a, D: Data<'a>>(data: D, name: &str) -> Option<i64> {
     data.field(name)?.integer()
 }
 
-fn kind_in<D: Data>(data: &D) -> Option<Kind> {
+fn kind_in<'a, D: Data<'a>>(data: D) -> Option<Kind> {
     match data.field("type")?.word()? {
         b"invoke" => Some(Kind::Invoke),
         b"ok" => Some(Kind::Ok),
@@ -80,52 +80,69 @@ fn kind_in<D: Data>(data: &D) -> Option<Kind> {
 }
 
 /// Reads the steps of an operation. A `:fail` and an `:info` may have none.
-fn steps_in<D: Data>(
+fn steps_in<'a, D: Data<'a>>(
     alloc: Global,
     names: &mut Names,
     kind: Kind,
-    data: &D,
+    data: D,
 ) -> Result<Vec<Operation>, Refusal> {
-    let value = data.field("value");
-    let is_missing = match value {
-        Some(value) => value.is_nil(),
-        None => true,
-    };
-    if is_missing && matches!(kind, Kind::Fail | Kind::Info) {
-        return Ok(Vec::new(alloc));
+    match data.field("value") {
+        Some(value) => steps_of(alloc, names, kind, value),
+        None => no_steps(alloc, kind),
     }
-    match value {
-        Some(value) => steps(alloc, names, value),
-        None => Err(Refusal::Problem(Problem::Step)),
+}
+
+/// Reads the steps of an operation with this value.
+fn steps_of<'a, D: Data<'a>>(
+    alloc: Global,
+    names: &mut Names,
+    kind: Kind,
+    value: D,
+) -> Result<Vec<Operation>, Refusal> {
+    if value.is_nil() {
+        return no_steps(alloc, kind);
+    }
+    steps(alloc, names, value)
+}
+
+/// Returns no steps, if the operation may have none.
+fn no_steps(alloc: Global, kind: Kind) -> Result<Vec<Operation>, Refusal> {
+    match kind {
+        Kind::Fail | Kind::Info => Ok(Vec::new(alloc)),
+        Kind::Invoke | Kind::Ok => Err(Refusal::Problem(Problem::Step)),
     }
 }
 
 /// Reads the steps that are listed.
-fn steps<D: Data>(alloc: Global, names: &mut Names, data: &D) -> Result<Vec<Operation>, Refusal> {
-    let Some(listed) = data.elements() else {
+fn steps<'a, D: Data<'a>>(
+    alloc: Global,
+    names: &mut Names,
+    data: D,
+) -> Result<Vec<Operation>, Refusal> {
+    let Some(listed) = data.elements(alloc)? else {
         return Err(Refusal::Problem(Problem::Step));
     };
     let mut steps = Vec::new(alloc);
-    for data in listed {
-        steps.push(step(alloc, names, data)?)?;
+    for data in &listed {
+        steps.push(step(alloc, names, *data)?)?;
     }
     Ok(steps)
 }
 
 /// Reads one step.
-fn step<D: Data>(alloc: Global, names: &mut Names, data: &D) -> Result<Operation, Refusal> {
-    let Some([f, key, value]) = data.elements() else {
+fn step<'a, D: Data<'a>>(alloc: Global, names: &mut Names, data: D) -> Result<Operation, Refusal> {
+    let Some(step) = data.step() else {
         return Err(Refusal::Problem(Problem::Step));
     };
-    match f.word() {
+    match step.f.word() {
         Some(b"append") => {
-            let key = number(names, key)?;
-            let element = number(names, value)?;
+            let key = number(names, step.key)?;
+            let element = number(names, step.value)?;
             Ok(Operation::Append { key, element })
         }
         Some(b"r") => {
-            let key = number(names, key)?;
-            let elements = elements(alloc, names, value)?;
+            let key = number(names, step.key)?;
+            let elements = elements(alloc, names, step.value)?;
             Ok(Operation::Read { key, elements })
         }
         _ => Err(Refusal::Problem(Problem::Step)),
@@ -133,19 +150,23 @@ fn step<D: Data>(alloc: Global, names: &mut Names, data: &D) -> Result<Operation
 }
 
 /// Reads the elements of a list. `nil` is the empty one.
-fn elements<D: Data>(alloc: Global, names: &mut Names, data: &D) -> Result<Vec<u64>, Refusal> {
+fn elements<'a, D: Data<'a>>(
+    alloc: Global,
+    names: &mut Names,
+    data: D,
+) -> Result<Vec<u64>, Refusal> {
     if data.is_nil() {
         return Ok(Vec::new(alloc));
     }
-    if let Some(integers) = data.integers() {
-        return Ok(numbers(alloc, names, integers)?);
+    if let Some(integers) = data.integers(alloc)? {
+        return Ok(numbers(alloc, names, &integers)?);
     }
-    let Some(listed) = data.elements() else {
+    let Some(listed) = data.elements(alloc)? else {
         return Err(Refusal::Problem(Problem::Step));
     };
     let mut elements = Vec::with_capacity(alloc, listed.len())?;
-    for data in listed {
-        elements.push(number(names, data)?)?;
+    for data in &listed {
+        elements.push(number(names, *data)?)?;
     }
     Ok(elements)
 }
@@ -160,7 +181,7 @@ fn numbers(alloc: Global, names: &mut Names, integers: &[i64]) -> Result<Vec<u64
 }
 
 /// Returns the number of the key or the element that this names.
-fn number<D: Data>(names: &mut Names, data: &D) -> Result<u64, Refusal> {
+fn number<'a, D: Data<'a>>(names: &mut Names, data: D) -> Result<u64, Refusal> {
     match data.name() {
         Some(name) => Ok(names.number(name)?),
         None => Err(Refusal::Problem(Problem::Name)),

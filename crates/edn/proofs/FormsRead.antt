@@ -150,24 +150,24 @@ element_at (Failed fault) ts us P (inl e) behind h = absurd (cc)
 element_at (Failed fault) ts us P (inr e) behind h = absurd (cc)
 
 -- a token that ends a form of the text
-pub form_read : (first stage next : Stage) (ts : List Token) (t : Token) (old new : List Frame) (o : Option Form) (f : Form)
+pub form_is_read : (first stage next : Stage) (ts : List Token) (t : Token) (old new : List Frame) (o : Option Form) (f : Form)
     → o ≡ Some f → Leads first stage ts old → Takes stage t next old new o
     → IsFormAt first (ts ++ t ∷ []) f × (new ≡ top ∷ [])
-form_read first Start next ts t old new o f some (is, empty, idle) (inl (vector, to, same, none)) =
+form_is_read first Start next ts t old new o f some (is, empty, idle) (inl (vector, to, same, none)) =
     absurd (let no : None ≡ Some f = sym none ∙ some in cc)
-form_read first Start next ts t old new o f some (is, empty, idle) (inr (other, to, built)) =
+form_is_read first Start next ts t old new o f some (is, empty, idle) (inr (other, to, built)) =
     let made = held_step old new t (Some f) ts (holds_start old ts empty idle) (subst (Built old t new) some built) in
     (form_at first _ (λ us. IsItem us f) (inl (is, subst (λ xs. BeginsOther (xs ++ t ∷ [])) (sym empty) other)) made.0, made.1)
-form_read first Forms next ts t old new o f some (from, h) (to, built) =
+form_is_read first Forms next ts t old new o f some (from, h) (to, built) =
     let made = held_step old new t (Some f) ts h (subst (Built old t new) some built) in
     (form_at first _ (λ us. IsItem us f) (from_more first ts t from) made.0, made.1)
-form_read first Elements next ts t old new o f some (from, (us, behind, h)) (inl (to, _, is_idle, same, none)) =
+form_is_read first Elements next ts t old new o f some (from, (us, behind, h)) (inl (to, _, is_idle, same, none)) =
     absurd (let no : None ≡ Some f = sym none ∙ some in cc)
-form_read first Elements next ts t old new o f some (from, (us, behind, h)) (inr (to, built)) =
+form_is_read first Elements next ts t old new o f some (from, (us, behind, h)) (inr (to, built)) =
     let made = held_step old new t (Some f) us h (subst (Built old t new) some built) in
     (element_at first _ (us ++ t ∷ []) (λ xs. IsItem xs f) from (behind_more first ts us t behind) made.0, made.1)
-form_read first Closed next ts t old new o f some h takes = absurd takes
-form_read first (Failed fault) next ts t old new o f some h takes = absurd takes
+form_is_read first Closed next ts t old new o f some h takes = absurd takes
+form_is_read first (Failed fault) next ts t old new o f some h takes = absurd takes
 
 -- ---- the text
 

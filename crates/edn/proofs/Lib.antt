@@ -15,4 +15,5 @@ pub mod NoTokens
 pub mod NoForms
 pub mod Nested
 pub mod TextOver
-pub mod Made
+pub mod Tapes
+pub mod Rows

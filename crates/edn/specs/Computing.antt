@@ -4,4 +4,5 @@ pub mod Tokens
 pub mod Plain
 pub mod Gaps
 pub mod Building
+pub mod Stacks
 pub mod Stages

@@ -4,6 +4,8 @@ pub mod Names
 pub mod Characters
 pub mod Shorts
 pub mod Forms
+pub mod Tapes
+pub mod Views
 pub mod Numbers
 pub mod Strings
 pub mod Words

@@ -1,13 +1,13 @@
 //! Forms that are no collections.
 
-use crate::form::Form;
+use crate::atom::Atom;
 use crate::short::Short;
 
 /// Where the form of a token is put. The token says whether it is a keyword with this name or this form.
 #[derive(Drop)]
 pub(crate) struct Leaf {
     pub(crate) name: Short,
-    pub(crate) form: Form,
+    pub(crate) atom: Atom,
 }
 
 impl Leaf {
@@ -15,7 +15,7 @@ impl Leaf {
     pub(crate) fn new() -> Leaf {
         Leaf {
             name: Short::empty(),
-            form: Form::Nil,
+            atom: Atom::Nil,
         }
     }
 }

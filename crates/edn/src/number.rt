@@ -3,11 +3,11 @@
 ghost use Rattle.std.specs.Prelude.{◌≡◌, ◌≤◌, ◌<◌, ◌^◌, length, take, drop, true, Some, IfOk, IfSome, IfNone, option_map};
 ghost use Rattle.std.specs.List.{prefix_len};
 ghost use Rattle.std.specs.Char.{is_ascii_digit};
-ghost use Rattle.edn.specs.Meaning.Forms.{form_of};
+ghost use Rattle.edn.specs.Meaning.Forms.{atom_of};
 ghost use Rattle.edn.specs.Meaning.Numbers as Spec;
 
+use crate::atom::Atom;
 use crate::bytes::digits_len;
-use crate::form::Form;
 use std::alloc::{AllocError, Global};
 
 /// The largest number of 63 bits.
@@ -41,8 +41,8 @@ pub(crate) fn begins_number(text: &[u8]) -> bool
 
 /// Reads a number that is all of the text. Returns `None` if the text is that of no number.
 #[tactic(auto, unfolding(crate::specs::Meaning::Numbers::number_of))]
-pub(crate) fn number(alloc: Global, text: &[u8]) -> Result<Option<Form>, AllocError>
-    ensures { IfOk result (λ o. option_map form_of o ≡ Spec.number_of text.now) }
+pub(crate) fn number(alloc: Global, text: &[u8]) -> Result<Option<Atom>, AllocError>
+    ensures { IfOk result (λ o. option_map atom_of o ≡ Spec.number_of text.now) }
 {
     let digits = after_sign(text);
     let (whole, rest) = digits.split_at(digits_len(digits));
@@ -50,12 +50,12 @@ pub(crate) fn number(alloc: Global, text: &[u8]) -> Result<Option<Form>, AllocEr
         return Ok(None);
     }
     if let Some(value) = integer(sign_of(text), whole, rest) {
-        return Ok(Some(Form::Integer(value)));
+        return Ok(Some(Atom::Integer(value)));
     }
     if !is_number_end(rest) {
         return Ok(None);
     }
-    Ok(Some(Form::Number(text.to_vec(alloc)?)))
+    Ok(Some(Atom::Number(text.to_vec(alloc)?)))
 }
 
 fn sign_of(text: &[u8]) -> Sign

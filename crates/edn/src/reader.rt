@@ -1,11 +1,13 @@
 //! Reading a text form by form.
 
-ghost use Rattle.std.specs.Prelude.{◌≡◌, ◌≢◌, ◌⊎◌, ◌<◌, List, ℕ, Option, None, true, IfOk, IfErr, IfSome, IfNone, OnOk, IsSome, option_map};
+ghost use Rattle.std.specs.Prelude.{◌≡◌, ◌≢◌, ◌⊎◌, ◌<◌, List, ℕ, Option, true, false, IfOk, IfErr, OnOk};
 ghost use Rattle.std.specs.Io.KnownBytes.{prepend_known};
-ghost use Rattle.edn.specs.Meaning.Forms.{Form as Plain, form_of};
+ghost use Rattle.edn.specs.Meaning.Forms.{Form as Plain};
+ghost use Rattle.edn.specs.Meaning.Views.{form_of};
 ghost use Rattle.edn.specs.Meaning.Faults.{IsOfDepth, IsOfText};
-ghost use Rattle.edn.specs.Meaning.Readers.{BeginsForm, HasNoForm, IsOver, IsReady, IsTooDeep, ReadsForm, left_to_do, text_left};
-ghost use Rattle.edn.specs.Computing.Building.{is_top, stack_of};
+ghost use Rattle.edn.specs.Meaning.Readers.{BeginsForm, HasNoForm, IsOver, IsReady, IsTooDeep, ReadsForm, form_read, left_to_do, text_left};
+ghost use Rattle.edn.specs.Computing.Building.{is_top};
+ghost use Rattle.edn.specs.Computing.Stacks.{made_if, stack_of};
 ghost use Rattle.edn.specs.Computing.Stages.{Built, Refused, Stops, Takes};
 ghost use Rattle.edn.specs.Computing.Tokens.{token_of};
 ghost use Rattle.edn.specs.declared.reader.Stage.TheVariants.{Start, Elements};
@@ -74,26 +76,26 @@ impl Reader {
         self.input.line()
     }
 
-    /// Reads the next form from what the source has left. Returns `None` after the last one, `Syntax` with the line if
-    /// the text is none of EDN there, `Device` if the source failed, `Memory` if memory ran out. After a fault it returns
-    /// that fault again, and reads no more. What it returns is the form with which the text that is left begins: its
-    /// tokens follow one another there, with white space and comments between them. If a form is there, it is returned:
-    /// `None` says that the text doesn't begin with one, and so does `Syntax`, unless its problem is `Depth`: then more
-    /// than [`MAX_DEPTH`](crate::MAX_DEPTH) forms are nested there. `None` says also that only discarded forms, the bracket
-    /// that closes the vector, white space and comments were left of the text.
-    pub fn next_form<S: Source>(&mut self, source: &mut S) -> Result<Option<Form>, ReadFault>
-        ensures less { IfOk result (λ o. IsSome o
+    /// Reads the next form from what the source has left; [`form`](Reader::form) returns it. Returns whether there is one:
+    /// false after the last one, `Syntax` with the line if the text is none of EDN there, `Device` if the source failed,
+    /// `Memory` if memory ran out. After a fault it returns that fault again, and reads no more. What it reads is the form
+    /// with which the text that is left begins: its tokens follow one another there, with white space and comments between
+    /// them. If a form is there, it is read: false says that the text doesn't begin with one, and so does `Syntax`, unless
+    /// its problem is `Depth`: then more than [`MAX_DEPTH`](crate::MAX_DEPTH) forms are nested there. False says also that
+    /// only discarded forms, the bracket that closes the vector, white space and comments were left of the text.
+    pub fn read<S: Source>(&mut self, source: &mut S) -> Result<bool, ReadFault>
+        ensures less { IfOk result (λ some. some ≡ true
             → left_to_do (S.left source.new) self.new < left_to_do (S.left source.old) self.old) }
-        ensures form { IsReady self.old (S.remaining source.old) → IfOk result (λ o. IfSome o (λ f.
+        ensures form { IsReady self.old (S.remaining source.old) → IfOk result (λ some. some ≡ true →
             ReadsForm self.old.stage (text_left self.old (S.remaining source.old))
-            (text_left self.new (S.remaining source.new)) (form_of f))) }
-        ensures only { IsReady self.old (S.remaining source.old) → IfOk result (λ o. IfSome o (λ f. (g : Plain)
-            → BeginsForm self.old.stage (text_left self.old (S.remaining source.old)) g → g ≡ form_of f)) }
+            (text_left self.new (S.remaining source.new)) (form_read self.new)) }
+        ensures only { IsReady self.old (S.remaining source.old) → IfOk result (λ some. some ≡ true → (g : Plain)
+            → BeginsForm self.old.stage (text_left self.old (S.remaining source.old)) g → g ≡ form_read self.new) }
         ensures ready { IsReady self.old (S.remaining source.old) → OnOk result (IsReady self.new (S.remaining source.new)) }
-        ensures none { IsReady self.old (S.remaining source.old) → IfOk result (λ o.
-            IfNone o (HasNoForm self.old.stage (text_left self.old (S.remaining source.old)))) }
-        ensures end { IsReady self.old (S.remaining source.old) → IfOk result (λ o.
-            IfNone o (IsOver self.old.stage (text_left self.old (S.remaining source.old)))) }
+        ensures none { IsReady self.old (S.remaining source.old) → IfOk result (λ some. some ≡ false
+            → HasNoForm self.old.stage (text_left self.old (S.remaining source.old))) }
+        ensures end { IsReady self.old (S.remaining source.old) → IfOk result (λ some. some ≡ false
+            → IsOver self.old.stage (text_left self.old (S.remaining source.old))) }
         ensures refused { IsReady self.old (S.remaining source.old) → IfErr result (λ e. IsOfText e
             → HasNoForm self.old.stage (text_left self.old (S.remaining source.old))) }
         ensures deep { IsReady self.old (S.remaining source.old) → IfErr result (λ e. IsOfDepth e
@@ -109,116 +111,98 @@ impl Reader {
         read
     }
 
-    fn read_form<S: Source>(&mut self, source: &mut S) -> Result<Option<Form>, ReadFault>
-        ensures less { IfOk result (λ o. IsSome o
+    /// Returns the form that was read last. `nil` if none was.
+    pub fn form(&self) -> Form<'_>
+        ensures { form_of result ≡ form_read self.now }
+    {
+        self.builder.form()
+    }
+
+    fn read_form<S: Source>(&mut self, source: &mut S) -> Result<bool, ReadFault>
+        ensures less { IfOk result (λ some. some ≡ true
             → left_to_do (S.left source.new) self.new < left_to_do (S.left source.old) self.old) }
-        ensures form { IsReady self.old (S.remaining source.old) → IfOk result (λ o. IfSome o (λ f.
+        ensures form { IsReady self.old (S.remaining source.old) → IfOk result (λ some. some ≡ true →
             ReadsForm self.old.stage (text_left self.old (S.remaining source.old))
-            (text_left self.new (S.remaining source.new)) (form_of f))) }
-        ensures only { IsReady self.old (S.remaining source.old) → IfOk result (λ o. IfSome o (λ f. (g : Plain)
-            → BeginsForm self.old.stage (text_left self.old (S.remaining source.old)) g → g ≡ form_of f)) }
+            (text_left self.new (S.remaining source.new)) (form_read self.new)) }
+        ensures only { IsReady self.old (S.remaining source.old) → IfOk result (λ some. some ≡ true → (g : Plain)
+            → BeginsForm self.old.stage (text_left self.old (S.remaining source.old)) g → g ≡ form_read self.new) }
         ensures ready { IsReady self.old (S.remaining source.old) → OnOk result (IsReady self.new (S.remaining source.new)) }
-        ensures none { IsReady self.old (S.remaining source.old) → IfOk result (λ o.
-            IfNone o (HasNoForm self.old.stage (text_left self.old (S.remaining source.old)))) }
-        ensures end { IsReady self.old (S.remaining source.old) → IfOk result (λ o.
-            IfNone o (IsOver self.old.stage (text_left self.old (S.remaining source.old)))) }
+        ensures none { IsReady self.old (S.remaining source.old) → IfOk result (λ some. some ≡ false
+            → HasNoForm self.old.stage (text_left self.old (S.remaining source.old))) }
+        ensures end { IsReady self.old (S.remaining source.old) → IfOk result (λ some. some ≡ false
+            → IsOver self.old.stage (text_left self.old (S.remaining source.old))) }
         ensures refused { IsReady self.old (S.remaining source.old) → IfErr result (λ e. IsOfText e
             → HasNoForm self.old.stage (text_left self.old (S.remaining source.old))) }
         ensures deep { IsReady self.old (S.remaining source.old) → IfErr result (λ e. IsOfDepth e
             → (self.old.stage ≡ Stage.Failed e) ⊎ IsTooDeep self.old.stage (text_left self.old (S.remaining source.old))) }
     {
+        self.builder.clear();
         let mut leaf = Leaf::new();
-        let mut made = None;
         'token: while let Some(token) = self.input.next_token(source, &mut leaf)? {
-            self.take(token, &mut leaf, &mut made)?;
-            if made.is_some() {
-                return Ok(made);
+            if self.take(token, &mut leaf)? {
+                return Ok(true);
             }
         }
         self.end()?;
-        Ok(None)
+        Ok(false)
     }
 
-    /// Takes the next token. Puts the form that ends with it, if one does, into `made`.
+    /// Takes the next token. Returns whether a form ends with it.
     #[inline(always)]
-    fn take(
-        &mut self,
-        token: Token,
-        leaf: &mut Leaf,
-        made: &mut Option<Form>,
-    ) -> Result<(), ReadFault>
-        requires { made.old ≡ None }
+    fn take(&mut self, token: Token, leaf: &mut Leaf) -> Result<bool, ReadFault>
         ensures input { self.new.input ≡ self.old.input }
-        ensures takes { OnOk result (Takes self.old.stage (token_of leaf.old token) self.new.stage
-            (stack_of self.old.builder) (stack_of self.new.builder) (option_map form_of made.new)) }
+        ensures takes { IfOk result (λ done. Takes self.old.stage (token_of leaf.old token) self.new.stage
+            (stack_of self.old.builder) (stack_of self.new.builder) (made_if done self.new.builder)) }
         ensures stops { IfErr result (Stops self.old.stage (token_of leaf.old token) (stack_of self.old.builder)) }
     {
         match self.stage {
-            Stage::Start => self.take_first(token, leaf, made),
-            Stage::Elements => self.take_in_vector(token, leaf, made),
+            Stage::Start => self.take_first(token, leaf),
+            Stage::Elements => self.take_in_vector(token, leaf),
             Stage::Closed => Err(syntax(self.input.line(), Problem::AfterVector)),
-            Stage::Forms => self.build(token, leaf, made),
+            Stage::Forms => self.build(token, leaf),
             Stage::Failed(fault) => Err(fault),
         }
     }
 
     #[inline(never)]
-    fn take_first(
-        &mut self,
-        token: Token,
-        leaf: &mut Leaf,
-        made: &mut Option<Form>,
-    ) -> Result<(), ReadFault>
-        requires { made.old ≡ None }
+    fn take_first(&mut self, token: Token, leaf: &mut Leaf) -> Result<bool, ReadFault>
         ensures input { self.new.input ≡ self.old.input }
-        ensures takes { OnOk result (Takes Start (token_of leaf.old token) self.new.stage
-            (stack_of self.old.builder) (stack_of self.new.builder) (option_map form_of made.new)) }
+        ensures takes { IfOk result (λ done. Takes Start (token_of leaf.old token) self.new.stage
+            (stack_of self.old.builder) (stack_of self.new.builder) (made_if done self.new.builder)) }
         ensures stops { IfErr result (Stops Start (token_of leaf.old token) (stack_of self.old.builder)) }
     {
         if matches!(token, Token::Open(Opening::Vector)) {
             self.stage = Stage::Elements;
-            return Ok(());
+            return Ok(false);
         }
         self.stage = Stage::Forms;
-        self.build(token, leaf, made)
+        self.build(token, leaf)
     }
 
     #[inline(never)]
-    fn take_in_vector(
-        &mut self,
-        token: Token,
-        leaf: &mut Leaf,
-        made: &mut Option<Form>,
-    ) -> Result<(), ReadFault>
-        requires { made.old ≡ None }
+    fn take_in_vector(&mut self, token: Token, leaf: &mut Leaf) -> Result<bool, ReadFault>
         ensures input { self.new.input ≡ self.old.input }
-        ensures takes { self.old.stage ≡ Elements → OnOk result (Takes Elements (token_of leaf.old token) self.new.stage
-            (stack_of self.old.builder) (stack_of self.new.builder) (option_map form_of made.new)) }
+        ensures takes { self.old.stage ≡ Elements → IfOk result (λ done. Takes Elements (token_of leaf.old token) self.new.stage
+            (stack_of self.old.builder) (stack_of self.new.builder) (made_if done self.new.builder)) }
         ensures stops { IfErr result (Stops Elements (token_of leaf.old token) (stack_of self.old.builder)) }
     {
         if self.builder.is_idle() && matches!(token, Token::Close(Closing::Square)) {
             self.stage = Stage::Closed;
-            return Ok(());
+            return Ok(false);
         }
-        self.build(token, leaf, made)
+        self.build(token, leaf)
     }
 
     #[inline(always)]
-    fn build(
-        &mut self,
-        token: Token,
-        leaf: &mut Leaf,
-        made: &mut Option<Form>,
-    ) -> Result<(), ReadFault>
-        requires { made.old ≡ None }
+    fn build(&mut self, token: Token, leaf: &mut Leaf) -> Result<bool, ReadFault>
         ensures input { self.new.input ≡ self.old.input }
         ensures stage { self.new.stage ≡ self.old.stage }
-        ensures built { OnOk result (Built (stack_of self.old.builder) (token_of leaf.old token)
-            (stack_of self.new.builder) (option_map form_of made.new)) }
+        ensures built { IfOk result (λ done. Built (stack_of self.old.builder) (token_of leaf.old token)
+            (stack_of self.new.builder) (made_if done self.new.builder)) }
         ensures refused { IfErr result (Refused (stack_of self.old.builder) (token_of leaf.old token)) }
     {
-        match self.builder.take(token, leaf, made) {
-            Ok(()) => Ok(()),
+        match self.builder.take(token, leaf) {
+            Ok(done) => Ok(done),
             Err(Refusal::Problem(problem)) => Err(syntax(self.input.line(), problem)),
             Err(Refusal::Memory) => Err(ReadFault::Memory),
         }

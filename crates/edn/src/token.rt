@@ -7,9 +7,9 @@ ghost use Rattle.edn.specs.Computing.Tokens as Spec;
 ghost use Rattle.edn.specs.declared.leaf.Leaf.{Leaf as LeafValue};
 ghost use Rattle.edn.specs.Computing.Tokens.{lexed_of, token_of, BeginsComment, IsRest, IsWithin};
 
+use crate::atom::Atom;
 use crate::bytes::{is_space, word_len};
 use crate::character::is_character;
-use crate::form::Form;
 use crate::leaf::Leaf;
 use crate::names::is_tag;
 use crate::plain::plain_keyword;
@@ -141,10 +141,10 @@ fn may_go_on(rest: &[u8], beyond: Beyond) -> bool
 }
 
 /// Puts the form into this place.
-fn put(place: &mut Form, form: Form)
-    ensures { place.new ≡ form }
+fn put(place: &mut Atom, atom: Atom)
+    ensures { place.new ≡ atom }
 {
-    *place = form;
+    *place = atom;
 }
 
 /// Reads a string after its opening quote.
@@ -161,7 +161,7 @@ fn quoted<'a>(
     let mut bytes = Vec::new(alloc);
     match string(text, &mut bytes)? {
         Quoted::Closed(rest) => {
-            put(&mut leaf.form, Form::String(bytes));
+            put(&mut leaf.atom, Atom::String(bytes));
             Ok(Lexed::Token(Token::Leaf, rest))
         }
         Quoted::Open => Ok(unfinished(beyond)),
@@ -190,7 +190,7 @@ fn character<'a>(
     if is_space(*first) || !is_character(name) {
         return Ok(Lexed::Bad(Problem::Token));
     }
-    put(&mut leaf.form, Form::Character(name.to_vec(alloc)?));
+    put(&mut leaf.atom, Atom::Character(name.to_vec(alloc)?));
     Ok(Lexed::Token(Token::Leaf, rest))
 }
 
@@ -258,13 +258,13 @@ fn any_word<'a>(
         return Ok(Lexed::More);
     }
     match word(alloc, name)? {
-        Some(Form::Integer(value)) => Ok(Lexed::Token(Token::Integer(value), rest)),
-        Some(Form::ShortKeyword(name)) => {
+        Some(Atom::Integer(value)) => Ok(Lexed::Token(Token::Integer(value), rest)),
+        Some(Atom::ShortKeyword(name)) => {
             leaf.name = name;
             Ok(Lexed::Token(Token::Keyword, rest))
         }
-        Some(form) => {
-            put(&mut leaf.form, form);
+        Some(atom) => {
+            put(&mut leaf.atom, atom);
             Ok(Lexed::Token(Token::Leaf, rest))
         }
         None => Ok(Lexed::Bad(Problem::Token)),

@@ -1,11 +1,11 @@
 //! Forms that are written as one word.
 
 ghost use Rattle.std.specs.Prelude.{◌≡◌, IfOk, option_map};
-ghost use Rattle.edn.specs.Meaning.Forms.{form_of};
+ghost use Rattle.edn.specs.Meaning.Forms.{atom_of};
 ghost use Rattle.edn.specs.Meaning.Words.{word_of, keyword_of, symbol_of, named};
 
+use crate::atom::Atom;
 use crate::character::is_text;
-use crate::form::Form;
 use crate::names::{is_keyword, is_symbol};
 use crate::number::{begins_number, number};
 use crate::short::Short;
@@ -13,8 +13,8 @@ use std::alloc::{AllocError, Global};
 
 /// Reads the form that is all of the text: a number, a keyword, a symbol, `nil`, `true` or `false`. Returns `None` if the
 /// text is that of no such form.
-pub(crate) fn word(alloc: Global, text: &[u8]) -> Result<Option<Form>, AllocError>
-    ensures { IfOk result (λ o. option_map form_of o ≡ word_of text.now) }
+pub(crate) fn word(alloc: Global, text: &[u8]) -> Result<Option<Atom>, AllocError>
+    ensures { IfOk result (λ o. option_map atom_of o ≡ word_of text.now) }
 {
     match text {
         [] => Ok(None),
@@ -28,21 +28,21 @@ pub(crate) fn word(alloc: Global, text: &[u8]) -> Result<Option<Form>, AllocErro
     }
 }
 
-fn keyword(alloc: Global, name: &[u8]) -> Result<Option<Form>, AllocError>
-    ensures { IfOk result (λ o. option_map form_of o ≡ keyword_of name.now) }
+fn keyword(alloc: Global, name: &[u8]) -> Result<Option<Atom>, AllocError>
+    ensures { IfOk result (λ o. option_map atom_of o ≡ keyword_of name.now) }
 {
     if !is_keyword(name) {
         return Ok(None);
     }
     let mut short = Short::empty();
     if short.set(name) {
-        return Ok(Some(Form::ShortKeyword(short)));
+        return Ok(Some(Atom::ShortKeyword(short)));
     }
-    Ok(Some(Form::Keyword(name.to_vec(alloc)?)))
+    Ok(Some(Atom::Keyword(name.to_vec(alloc)?)))
 }
 
-fn symbol(alloc: Global, text: &[u8]) -> Result<Option<Form>, AllocError>
-    ensures { IfOk result (λ o. option_map form_of o ≡ symbol_of text.now) }
+fn symbol(alloc: Global, text: &[u8]) -> Result<Option<Atom>, AllocError>
+    ensures { IfOk result (λ o. option_map atom_of o ≡ symbol_of text.now) }
 {
     if !is_symbol(text) {
         return Ok(None);
@@ -51,17 +51,17 @@ fn symbol(alloc: Global, text: &[u8]) -> Result<Option<Form>, AllocError>
 }
 
 #[tactic(auto, unfolding(crate::specs::Meaning::Words::named))]
-fn named(alloc: Global, text: &[u8]) -> Result<Form, AllocError>
-    ensures { IfOk result (λ f. form_of f ≡ named text.now) }
+fn named(alloc: Global, text: &[u8]) -> Result<Atom, AllocError>
+    ensures { IfOk result (λ f. atom_of f ≡ named text.now) }
 {
     if is_text(text, b"nil") {
-        return Ok(Form::Nil);
+        return Ok(Atom::Nil);
     }
     if is_text(text, b"true") {
-        return Ok(Form::Boolean(true));
+        return Ok(Atom::Boolean(true));
     }
     if is_text(text, b"false") {
-        return Ok(Form::Boolean(false));
+        return Ok(Atom::Boolean(false));
     }
-    Ok(Form::Symbol(text.to_vec(alloc)?))
+    Ok(Atom::Symbol(text.to_vec(alloc)?))
 }

@@ -1,5 +1,5 @@
 -- Names of keys and elements, and their numbers.
-use Rattle.std.specs.Prelude.{ℕ, ℤ, pos, ◌==◌, ◌/◌, ◌%◌, List, Option, Some, None, option_map, slice_get, if◌then◌else◌}
+use Rattle.std.specs.Prelude.{ℕ, ℤ, pos, ◌==◌, ◌/◌, ◌%◌, List, Option, Some, option_map, slice_get, if◌then◌else◌}
 use Rattle.append_text.specs.declared.name.Name.{Name as NameValue}
 use Rattle.append_text.specs.declared.name.Name.TheVariants as Seen
 use Rattle.append_text.specs.declared.name.Kept.{Kept}

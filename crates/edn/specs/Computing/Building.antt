@@ -1,12 +1,9 @@
 -- Making forms of tokens. What is open around the next token is a stack, the innermost first.
-use Rattle.std.specs.Prelude.{◌≡◌, ◌≤◌, List, [], ◌∷◌, ◌++◌, length, map, reverse, Bool, true, false, Option, Some, None, option_map, Result, Ok, Err, ◌⊎◌}
-use Rattle.edn.specs.declared.builder.Builder.{Builder}
-use Rattle.edn.specs.declared.builder.Frame.{Frame as FrameValue}
-use Rattle.edn.specs.declared.builder.Frame.TheVariants as In
-use Rattle.edn.specs.declared.builder.Row.{Row}
-use Rattle.edn.specs.declared.builder.Row.TheVariants as Of
-use Rattle.edn.specs.declared.builder.Entries.{Entries}
-use Rattle.edn.specs.declared.form.Form.{Form as FormValue}
+use Rattle.std.specs.Prelude.{◌≡◌, ◌≤◌, List, [], ◌∷◌, ◌++◌, length, take, drop, reverse, Bool, true, false, Option, Some, None, Result, Ok, Err, ◌⊎◌}
+use Rattle.edn.specs.declared.builder.Open.{Open}
+use Rattle.edn.specs.declared.builder.Open.TheVariants as In
+use Rattle.edn.specs.declared.tape.Row.{Row}
+use Rattle.edn.specs.declared.tape.Row.TheVariants as Of
 use Rattle.edn.specs.declared.read_fault.Problem.{Problem}
 use Rattle.edn.specs.declared.read_fault.Problem.TheVariants as problem
 use Rattle.edn.specs.declared.read_fault.Refusal.{Refusal}
@@ -15,7 +12,8 @@ use Rattle.edn.specs.declared.token.Opening.{Opening}
 use Rattle.edn.specs.declared.token.Opening.TheVariants as opening
 use Rattle.edn.specs.declared.token.Closing.{Closing}
 use Rattle.edn.specs.declared.token.Closing.TheVariants as closing
-use Rattle.edn.specs.Meaning.Forms.{Form, integer, list, vector, set, entries, forms_of, pairs_of, form_of}
+use Rattle.edn.specs.Meaning.Forms.{Form, list, vector, set, entries, forms_of, pairs_of}
+use Rattle.edn.specs.Meaning.Tapes.{paired}
 use Rattle.edn.specs.Meaning.Tokens.{Token, opens, closes, discard, tag, leaf}
 
 -- what is open: nothing, a tag, a `#_`, or a collection with its forms so far; of a map, a key may lack its value
@@ -28,31 +26,36 @@ pub data Frame : Type 0 where
   in_set : List Form → Frame
   in_map : List (Form × Form) → Option Form → Frame
 
-abbrev pub pair_of : FormValue × FormValue → Form × Form
-pair_of p = (form_of p.0, form_of p.1)
-
-abbrev pub map_frame : Entries → Frame
-map_frame e = in_map (map pair_of e.entries.items) (option_map form_of e.key)
+-- a last key without a value
+abbrev pub unpaired : List Form → Option Form
+unpaired [] = None
+unpaired (k ∷ []) = Some k
+unpaired (k ∷ v ∷ fs) = unpaired fs
 
 abbrev pub row_frame : Row → List Form → Frame
 row_frame Of.List fs = in_list fs
 row_frame Of.Vector fs = in_vector fs
 row_frame Of.Set fs = in_set fs
+row_frame Of.Map fs = in_map (paired fs) (unpaired fs)
 
-abbrev pub frame_of : FrameValue → Frame
-frame_of In.Top = top
-frame_of In.Tag = tagged
-frame_of In.Discard = discarding
-frame_of (In.Row row v) = row_frame row (map form_of v.items)
-frame_of (In.Integers v) = in_vector (map integer v.items)
-frame_of (In.Map e) = map_frame e
+-- what has no form yet
+abbrev pub open_frame : Open → Frame
+open_frame (In.Top n) = top
+open_frame In.Tag = tagged
+open_frame In.Discard = discarding
+open_frame (In.Row row n) = row_frame row []
 
--- the frames around the innermost one
-abbrev pub outer_of : List FrameValue → List Frame
-outer_of frames = reverse (map frame_of frames)
+-- what is open, the innermost first, with its forms of these, the newest of which come first
+abbrev pub frames : List Open → List Form → List Frame
+frames [] fs = []
+frames (In.Top n ∷ os) fs = top ∷ frames os (drop n fs)
+frames (In.Tag ∷ os) fs = tagged ∷ frames os fs
+frames (In.Discard ∷ os) fs = discarding ∷ frames os fs
+frames (In.Row row n ∷ os) fs = row_frame row (reverse (take n fs)) ∷ frames os (drop n fs)
 
-abbrev pub stack_of : Builder → List Frame
-stack_of b = frame_of b.frame ∷ outer_of b.outer.items
+abbrev pub outer_of : List Frame → List Frame
+outer_of [] = []
+outer_of (f ∷ fs) = fs
 
 abbrev pub is_top : List Frame → Bool
 is_top [] = true

@@ -1,13 +1,19 @@
--- Leaving tags.
-use Rattle.std.specs.Prelude.{ℕ}
-use Rattle.edn.specs.declared.builder.Frame.{Frame}
-use Rattle.edn.specs.declared.builder.Frame.TheVariants.{Top, Tag, Discard, Row, Integers, Map}
+-- What is open, and how many forms it has.
+use Rattle.std.specs.Prelude.{ℕ, Bool, true, false}
+use Rattle.edn.specs.declared.builder.Open.{Open}
+use Rattle.edn.specs.declared.builder.Open.TheVariants.{Top, Tag, Discard, Row}
+
+abbrev pub count_in : Open → ℕ
+count_in (Top n) = n
+count_in Tag = 0
+count_in Discard = 0
+count_in (Row row n) = n
+
+abbrev pub is_tag : Open → Bool
+is_tag Tag = true
+is_tag _ = false
 
 -- 1 at a tag, which is left at last even if nothing is around it
-abbrev pub to_leave : Frame → ℕ
+abbrev pub to_leave : Open → ℕ
 to_leave Tag = 1
-to_leave Top = 0
-to_leave Discard = 0
-to_leave (Row row v) = 0
-to_leave (Integers v) = 0
-to_leave (Map e) = 0
+to_leave _ = 0

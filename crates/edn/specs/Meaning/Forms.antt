@@ -1,7 +1,7 @@
 -- Forms as plain values. A list of forms is a type of its own, as a form is made of them.
-use Rattle.std.specs.Prelude.{ℕ, ℤ, Bool, List, [], ◌∷◌, map}
-use Rattle.edn.specs.declared.form.Form.{Form as FormValue, fold-Form}
-use Rattle.edn.specs.declared.form.Form.TheOpen.{Form-F}
+use Rattle.std.specs.Prelude.{ℕ, ℤ, Bool, List, [], ◌∷◌}
+use Rattle.edn.specs.declared.atom.Atom.{Atom}
+use Rattle.edn.specs.declared.atom.Atom.TheVariants as Of
 use Rattle.edn.specs.Meaning.Shorts.{short_text}
 
 mutual
@@ -35,22 +35,14 @@ abbrev pub pairs_of : List (Form × Form) → Pairs
 pairs_of [] = no_pairs
 pairs_of (p ∷ ps) = pair p.0 p.1 (pairs_of ps)
 
--- one level, with each form inside already seen
-abbrev pub form_step : Form-F Form → Form
-form_step Form-F.Nil = nil
-form_step (Form-F.Boolean b) = boolean b
-form_step (Form-F.Integer z) = integer z
-form_step (Form-F.Number v) = number v.items
-form_step (Form-F.String v) = string v.items
-form_step (Form-F.Character v) = character v.items
-form_step (Form-F.Keyword v) = keyword v.items
-form_step (Form-F.ShortKeyword s) = keyword (short_text s)
-form_step (Form-F.Symbol v) = symbol v.items
-form_step (Form-F.List v) = list (forms_of v.items)
-form_step (Form-F.Vector v) = vector (forms_of v.items)
-form_step (Form-F.Integers v) = vector (forms_of (map integer v.items))
-form_step (Form-F.Set v) = set (forms_of v.items)
-form_step (Form-F.Map v) = entries (pairs_of v.items)
-
-abbrev pub form_of : FormValue → Form
-form_of = fold-Form Form form_step
+-- a form that is no collection
+abbrev pub atom_of : Atom → Form
+atom_of Of.Nil = nil
+atom_of (Of.Boolean b) = boolean b
+atom_of (Of.Integer z) = integer z
+atom_of (Of.Number v) = number v.items
+atom_of (Of.String v) = string v.items
+atom_of (Of.Character v) = character v.items
+atom_of (Of.Keyword v) = keyword v.items
+atom_of (Of.ShortKeyword s) = keyword (short_text s)
+atom_of (Of.Symbol v) = symbol v.items

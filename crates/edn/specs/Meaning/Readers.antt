@@ -11,7 +11,10 @@ use Rattle.edn.specs.Meaning.Lexing.{IsBlank, Lexes}
 use Rattle.edn.specs.Meaning.Grammar.{IsItem, AreItems}
 use Rattle.edn.specs.Meaning.Nesting.{AreTooDeep}
 use Rattle.edn.specs.Meaning.Reading.{IsLinked}
-use Rattle.edn.specs.Computing.Building.{top, stack_of}
+use Rattle.edn.specs.Computing.Building.{top}
+use Rattle.edn.specs.Computing.Stacks.{stack_of}
+use Rattle.edn.specs.Meaning.Tapes.{first_of}
+use Rattle.edn.specs.Machinery.TapeForms.{tape_forms}
 use Rattle.edn.specs.Machinery.Inputs.{work_left}
 
 -- falls with each form: from the reads that the source has left
@@ -21,6 +24,10 @@ left_to_do reads r = work_left reads r.input.pending
 -- the text that is to be read, if it is known: from what the source has left
 abbrev pub text_left : Reader → Option (List ℕ) → Option (List ℕ)
 text_left r left = prepend_known r.input.pending left
+
+-- the form that was read last
+abbrev pub form_read : Reader → Form
+form_read r = first_of (tape_forms r.builder.forms)
 
 -- the reader is one for this source, and isn't within a form
 pub record IsReady (r : Reader) (left : Option (List ℕ)) : Type 0 where

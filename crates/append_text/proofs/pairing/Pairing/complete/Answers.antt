@@ -1,4 +1,4 @@
-use Rattle.std.proofs.Common.{rules, ◌≡◌, sym, ap, ◌∙◌, refl, map, arith}
+use Rattle.std.proofs.Common.{rules, sym, ap, ◌∙◌, refl, map}
 use Rattle.std.specs.Prelude.{slice_set}
 use Rattle.std.proofs.lemmas.List.{map-set, set_past}
 use Rattle.append_values.specs.Meaning.Histories.{transaction_of}

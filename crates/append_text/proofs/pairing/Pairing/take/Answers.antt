@@ -1,4 +1,4 @@
-use Rattle.std.proofs.Common.{◌≡◌, sym, ◌∙◌}
+use Rattle.std.proofs.Common.{sym, ◌∙◌}
 use Rattle.append_text.specs.Machinery.Pairings.{op_of}
 use Rattle.append_text.proofs.PairingSteps.{after_invocation, invocation_refusal, after_completion, completion_refusal}
 use Rattle.append_text.proofs.pairing.Pairing.take.Goals as goal

@@ -1,17 +1,16 @@
 -- The tokens so far have led to what is open, and the text goes on behind them.
-use Rattle.std.proofs.Common.{◌≡◌, ◌≤◌, List, None}
+use Rattle.std.proofs.Common.{◌≤◌, List}
 use Rattle.edn.specs.Meaning.Tokens.{Token}
 use Rattle.edn.specs.Meaning.Reading.{IsLinked, ReadsTokens}
 use Rattle.edn.specs.Meaning.Readers.{IsReady, left_to_do, text_left}
-use Rattle.edn.specs.Computing.Building.{stack_of}
+use Rattle.edn.specs.Computing.Stacks.{stack_of}
 use Rattle.edn.proofs.FormsRead.{Leads}
 use Rattle.edn.proofs.NoForms.{Goes}
 use Rattle.edn.proofs.reader.Reader.read_form.Given as goal
 
 abbrev pub invariant-token : goal.invariant-token
 invariant-token g l =
-    (l.made ≡ None)
-    × (left_to_do (g.S.Source.left l.source) l.self ≤ left_to_do (g.S.Source.left l.initial.source) l.initial.self)
+    (left_to_do (g.S.Source.left l.source) l.self ≤ left_to_do (g.S.Source.left l.initial.source) l.initial.self)
     × (IsReady l.initial.self (g.S.Read.remaining l.initial.source)
     → IsLinked l.self.input.beyond (g.S.Read.remaining l.source)
     × ((ts : List Token) × ReadsTokens (text_left l.initial.self (g.S.Read.remaining l.initial.source))

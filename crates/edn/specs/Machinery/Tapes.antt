@@ -1,0 +1,18 @@
+-- Where the forms of a tape begin. Nodes stand here with the newest first.
+use Rattle.std.specs.Prelude.{ℕ, zero, suc, ◌+◌, ◌==◌, Bool, true, ◌&&◌, nat_le, List, [], ◌∷◌, length}
+use Rattle.edn.specs.declared.tape.Node.{Node}
+use Rattle.edn.specs.declared.tape.Node.TheVariants.{Atom, End}
+use Rattle.edn.specs.Meaning.Tapes.{forms_back}
+
+-- the nodes before the last forms, so many of them
+abbrev pub skip : List Node → ℕ → List Node
+skip [] n = []
+skip (x ∷ xs) zero = x ∷ xs
+skip (Atom a ∷ xs) (suc n) = skip xs n
+skip (End row m start ∷ xs) (suc n) = skip xs (m + n)
+
+-- the end of each collection has as many forms before it as it says, and names the place where they begin
+abbrev pub is_sound : List Node → Bool
+is_sound [] = true
+is_sound (Atom a ∷ xs) = is_sound xs
+is_sound (End row n start ∷ xs) = ((start == length (skip xs n)) && nat_le n (length (forms_back xs))) && is_sound xs

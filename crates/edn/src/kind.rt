@@ -1,0 +1,54 @@
+//! What forms are.
+
+ghost use Rattle.std.specs.Prelude.{◌≡◌};
+ghost use Rattle.edn.specs.Meaning.Forms.{atom_of};
+ghost use Rattle.edn.specs.Meaning.Views.{kind_of};
+
+use crate::atom::Atom;
+use crate::form::Forms;
+
+/// What a form is.
+#[derive(Clone, Copy)]
+pub enum Kind<'a> {
+    /// `nil`
+    Nil,
+    /// `true` and `false`
+    Boolean(bool),
+    /// An integer of 64 bits, written with or without the suffix `N`.
+    Integer(i64),
+    /// Every other number, as it is written: a float, or an integer beyond 64 bits.
+    Number(&'a [u8]),
+    /// The bytes of a string, its escapes resolved.
+    String(&'a [u8]),
+    /// What stands behind the backslash of a character, as it is written: `c`, `newline` or `u03a9`.
+    Character(&'a [u8]),
+    /// The name of a keyword, without its colon.
+    Keyword(&'a [u8]),
+    /// The name of a symbol.
+    Symbol(&'a [u8]),
+    /// `(..)`
+    List(Forms<'a>),
+    /// `[..]`
+    Vector(Forms<'a>),
+    /// The elements of a set in the order of the text, also one that comes twice.
+    Set(Forms<'a>),
+    /// The keys and values of a map in turn, in the order of the text, also a key that comes twice.
+    Map(Forms<'a>),
+}
+
+/// Returns what a form is that is no collection.
+pub(crate) fn kind_of_atom(atom: &Atom) -> Kind<'_>
+    ensures { kind_of result ≡ atom_of atom.now }
+{
+    match atom {
+        Atom::Nil => Kind::Nil,
+        Atom::Boolean(value) => Kind::Boolean(*value),
+        Atom::Integer(value) => Kind::Integer(*value),
+        Atom::Number(text) => Kind::Number(text),
+        Atom::String(text) => Kind::String(text),
+        Atom::Character(name) => Kind::Character(name),
+        Atom::Keyword(name) => Kind::Keyword(name),
+        Atom::ShortKeyword(name) => Kind::Keyword(name.as_slice()),
+        Atom::Symbol(name) => Kind::Symbol(name),
+    }
+}
