@@ -77,13 +77,20 @@ impl Search {
         self.owns.begin(operations)?;
         for (step, operation) in operations.iter().enumerate() {
             match operation {
-                Operation::Append { key, element } => self.append(*key, *element)?,
+                Operation::Append { key, element } => self.owns.append(*key, *element)?,
                 Operation::Read { key, elements } => {
                     let read = Read {
                         transaction: place,
                         step,
                     };
-                    let broken = self.read(transactions, writers, *key, read, elements.as_slice())?;
+                    let broken = self.read(
+                        transactions,
+                        writers,
+                        operations,
+                        *key,
+                        read,
+                        elements.as_slice(),
+                    )?;
                     if broken.is_some() {
                         return Ok(broken);
                     }
@@ -94,33 +101,28 @@ impl Search {
         Ok(None)
     }
 
-    fn append(&mut self, key: u64, element: u64) -> Result<(), AllocError> {
-        self.owns.of(key)?.appended.push(element)?;
-        Ok(())
-    }
-
     fn read<W: Writers>(
         &mut self,
         transactions: &[Transaction],
         writers: &W,
+        operations: &[Operation],
         key: u64,
         read: Read,
         elements: &[u64],
     ) -> Result<Option<Reason>, AllocError> {
-        let own = self.owns.of(key)?;
-        if !elements.ends_with(own.appended.as_slice()) {
+        let before = operations.get(..read.step).unwrap_or(&[]);
+        let Some(base) = self.owns.base(before, key, elements) else {
             return Ok(Some(Reason::Internal(read)));
-        }
-        let base = &elements[..elements.len() - own.appended.len()];
-        if let Some(first) = own.reading {
+        };
+        if let Some(first) = self.owns.first(key) {
             let Some(first) = self.readings.get(first) else {
                 return Ok(None);
             };
             let length = self.lines.length(first.line(), first.writers());
             return Ok(unrepeated(transactions, first.read(), length, read, base));
         }
-        own.reading = Some(self.readings.len());
-        let appends = own.appends;
+        self.owns.set_first(key, self.readings.len())?;
+        let appends = self.owns.appends(operations, key);
         match self
             .lines
             .take(transactions, writers, key, read, base, appends)?
@@ -152,17 +154,21 @@ impl Search {
 
     // An order in which all links go forward, or a cycle of them.
     fn sort(&self, transactions: &[Transaction], count: u32) -> Result<Candidate, AllocError> {
+        let (mut nodes, unseen) = self.taken_in(transactions)?;
         let links = Links {
             lines: &self.lines,
             transactions: count,
+            unseen: unseen.as_slice(),
         };
+        for line in 0..self.lines.lines.len() {
+            nodes.push(links.helper(line))?;
+        }
         let readings = self.readings.as_slice();
         let most = (count as usize).saturating_add(self.lines.lines.len());
         let mut counts = Counts::new(self.alloc, most)?;
         links.give(transactions, readings, &mut counts)?;
         let mut targets = counts.room(self.alloc)?;
         links.give(transactions, readings, &mut targets)?;
-        let nodes = self.nodes(transactions, &links)?;
         let order = targets.forward(self.alloc, nodes.as_slice())?;
         if order.len() == nodes.len() {
             return Ok(Candidate::Order(without_helpers(self.alloc, order.as_slice(), count)?));
@@ -200,22 +206,26 @@ impl Search {
         }
     }
 
-    // The committed transactions, the unknown ones of which somebody read an element, and the helpers.
-    fn nodes(&self, transactions: &[Transaction], links: &Links) -> Result<Vec<u32>, AllocError> {
-        let lines = self.lines.lines.len();
-        let most = transactions.len().saturating_add(lines);
+    // The committed transactions and the unknown ones of which somebody read an element; and those of them that may have
+    // appended what nobody read.
+    fn taken_in(&self, transactions: &[Transaction]) -> Result<(Vec<u32>, Vec<u32>), AllocError> {
+        let most = transactions.len().saturating_add(self.lines.lines.len());
         let mut nodes = Vec::with_capacity(self.alloc, most)?;
+        let mut unseen = Vec::new(self.alloc);
         let mut place = 0u32;
         for transaction in transactions {
             if self.lines.takes_in(place, transaction) {
                 nodes.push(place)?;
+                if !self
+                    .lines
+                    .shows_all(place, transaction.operations.as_slice())
+                {
+                    unseen.push(place)?;
+                }
             }
             place = place.saturating_add(1);
         }
-        for line in 0..lines {
-            nodes.push(links.helper(line))?;
-        }
-        Ok(nodes)
+        Ok((nodes, unseen))
     }
 }
 

@@ -1,6 +1,7 @@
 //! The lines of writers: for each key, the transactions whose elements were read, in the order of the longest list.
 
 use crate::blocks::{Blocks, FEW};
+use crate::own::append_to;
 use crate::reading::small;
 use crate::sorting::zeros;
 use crate::writers::Writers;
@@ -380,17 +381,6 @@ fn keys_appended(operations: &[Operation]) -> u32 {
         before = before.saturating_add(1);
     }
     keys
-}
-
-fn append_to(operations: &[Operation], key: u64) -> bool {
-    for operation in operations {
-        if let Operation::Append { key: to, .. } = operation {
-            if *to == key {
-                return true;
-            }
-        }
-    }
-    false
 }
 
 /// The reason for a list that has an element of the writer where its block should stand.

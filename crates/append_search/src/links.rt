@@ -18,6 +18,8 @@ pub(crate) struct Links<'a> {
     pub lines: &'a Lines,
     /// How many transactions there are: the helper of the line with number n is this much above n.
     pub transactions: u32,
+    /// The transactions that an order has and that may have appended what nobody read.
+    pub unseen: &'a [u32],
 }
 
 impl Links<'_> {
@@ -36,12 +38,10 @@ impl Links<'_> {
                 self.give_reading(line, reading, sink)?;
             }
         }
-        let mut place = 0u32;
-        'unseen: for transaction in transactions {
-            if self.lines.takes_in(place, transaction) {
-                self.give_unseen(place, transaction.operations.as_slice(), sink)?;
+        'unseen: for place in self.unseen {
+            if let Some(transaction) = transactions.get(*place as usize) {
+                self.give_unseen(*place, transaction.operations.as_slice(), sink)?;
             }
-            place = place.saturating_add(1);
         }
         Ok(())
     }
@@ -123,9 +123,6 @@ impl Links<'_> {
         operations: &[Operation],
         sink: &mut K,
     ) -> Result<(), AllocError> {
-        if self.lines.shows_all(place, operations) {
-            return Ok(());
-        }
         'steps: for operation in operations {
             if let Operation::Append { key, .. } = operation {
                 if let Some(line) = self.lines.number(*key) {

@@ -1,5 +1,6 @@
 //! What a transaction does to the list of a key, while its steps are gone through.
 
+use crate::blocks::FEW;
 use append_values::Operation;
 use std::alloc::{AllocError, Global};
 use std::collections::HashMap;
@@ -9,19 +10,28 @@ const MOST_KEPT: usize = 64;
 
 /// What the transaction at hand does to the list of one key.
 #[derive(Drop)]
-pub(crate) struct Own {
+struct Own {
     /// Whether it appends to the list, at whichever step.
-    pub appends: bool,
+    appends: bool,
     /// What it has appended so far.
-    pub appended: Vec<u64>,
+    appended: Vec<u64>,
     /// Which reading its first read of the list is.
-    pub reading: Option<usize>,
+    reading: Option<usize>,
 }
 
-/// What the transaction at hand does, by key.
+/// The first read of a key, and which reading it is.
+#[derive(Clone, Copy)]
+struct First {
+    key: u64,
+    reading: usize,
+}
+
+/// What the transaction at hand does, by key. One of few steps is gone through for each key, a long one has a table.
 #[derive(Drop)]
 pub(crate) struct Owns {
     alloc: Global,
+    is_long: bool,
+    firsts: Vec<First>,
     by_key: HashMap<u64, Own>,
 }
 
@@ -30,12 +40,24 @@ impl Owns {
     pub fn new(alloc: Global) -> Owns {
         Owns {
             alloc,
+            is_long: false,
+            firsts: Vec::new(alloc),
             by_key: HashMap::new(alloc),
         }
     }
 
     /// Begins with a transaction of these steps.
     pub fn begin(&mut self, operations: &[Operation]) -> Result<(), AllocError> {
+        self.is_long = operations.len() > FEW;
+        self.firsts.clear();
+        if self.is_long {
+            self.begin_table(operations)?;
+        }
+        Ok(())
+    }
+
+    #[inline(never)]
+    fn begin_table(&mut self, operations: &[Operation]) -> Result<(), AllocError> {
         if self.by_key.len() > MOST_KEPT {
             self.by_key = HashMap::new(self.alloc);
         } else {
@@ -43,14 +65,13 @@ impl Owns {
         }
         for operation in operations {
             if let Operation::Append { key, .. } = operation {
-                self.of(*key)?.appends = true;
+                self.in_table(*key)?.appends = true;
             }
         }
         Ok(())
     }
 
-    /// Returns what the transaction does to the list of the key.
-    pub fn of(&mut self, key: u64) -> Result<&mut Own, AllocError> {
+    fn in_table(&mut self, key: u64) -> Result<&mut Own, AllocError> {
         Ok(
             self.by_key.entry(key)?.or_insert(Own {
                 appends: false,
@@ -59,4 +80,87 @@ impl Owns {
             }),
         )
     }
+
+    /// Notes that the transaction has appended this element to the list of the key.
+    pub fn append(&mut self, key: u64, element: u64) -> Result<(), AllocError> {
+        if self.is_long {
+            self.in_table(key)?.appended.push(element)?;
+        }
+        Ok(())
+    }
+
+    /// Returns what the list of the key has before the elements that the steps so far append to it. `None` if it doesn't
+    /// end with them.
+    pub fn base<'a>(
+        &self,
+        before: &[Operation],
+        key: u64,
+        elements: &'a [u64],
+    ) -> Option<&'a [u64]> {
+        if !self.is_long {
+            return base_of_few(before, key, elements);
+        }
+        match self.by_key.get(&key) {
+            Some(own) => elements.strip_suffix(own.appended.as_slice()),
+            None => Some(elements),
+        }
+    }
+
+    /// Returns whether the transaction, of these steps, appends to the list of the key.
+    pub fn appends(&self, operations: &[Operation], key: u64) -> bool {
+        if !self.is_long {
+            return append_to(operations, key);
+        }
+        match self.by_key.get(&key) {
+            Some(own) => own.appends,
+            None => false,
+        }
+    }
+
+    /// Returns which reading the first read of the key is, if there was one.
+    pub fn first(&self, key: u64) -> Option<usize> {
+        if !self.is_long {
+            let first = self.firsts.iter().find(|first| first.key == key)?;
+            return Some(first.reading);
+        }
+        self.by_key.get(&key)?.reading
+    }
+
+    /// Notes which reading the first read of the key is.
+    pub fn set_first(&mut self, key: u64, reading: usize) -> Result<(), AllocError> {
+        if self.is_long {
+            self.in_table(key)?.reading = Some(reading);
+        } else {
+            self.firsts.push(First { key, reading })?;
+        }
+        Ok(())
+    }
+}
+
+/// Returns whether one of the steps appends to the list of the key.
+pub(crate) fn append_to(operations: &[Operation], key: u64) -> bool {
+    for operation in operations {
+        if let Operation::Append { key: to, .. } = operation {
+            if *to == key {
+                return true;
+            }
+        }
+    }
+    false
+}
+
+fn base_of_few<'a>(before: &[Operation], key: u64, elements: &'a [u64]) -> Option<&'a [u64]> {
+    let mut base = elements;
+    for operation in before.iter().rev() {
+        if let Operation::Append { key: to, element } = operation {
+            if *to == key {
+                let (last, front) = base.split_last()?;
+                if last != element {
+                    return None;
+                }
+                base = front;
+            }
+        }
+    }
+    Some(base)
 }

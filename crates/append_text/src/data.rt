@@ -11,13 +11,20 @@ pub(crate) struct Step<D: Copy> {
     pub(crate) value: D,
 }
 
+/// What a map says of an operation. Of a field that comes twice, this is the first.
+#[derive(Clone, Copy)]
+pub(crate) struct Fields<D: Copy> {
+    pub(crate) kind: Option<D>,
+    pub(crate) f: Option<D>,
+    pub(crate) value: Option<D>,
+    pub(crate) process: Option<D>,
+    pub(crate) index: Option<D>,
+}
+
 /// A form of EDN or a value of JSON.
 pub(crate) trait Data<'a>: Copy {
-    /// Returns the value of this field, if this is a map that has it; of a field that comes twice, the first.
-    fn field(self, name: &str) -> Option<Self>;
-
-    /// Returns whether this is a map.
-    fn is_map(self) -> bool;
+    /// Returns the fields of an operation, if this is a map.
+    fn fields(self) -> Option<Fields<Self>>;
 
     /// Returns the elements, if this is a vector.
     fn elements(self, alloc: Global) -> Result<Option<Vec<Self>>, AllocError>;
@@ -25,8 +32,8 @@ pub(crate) trait Data<'a>: Copy {
     /// Returns the three elements, if this is a vector that has three.
     fn step(self) -> Option<Step<Self>>;
 
-    /// Returns the elements, if this is a vector of EDN whose elements are integers of 64 bits.
-    fn integers(self, alloc: Global) -> Result<Option<Vec<i64>>, AllocError>;
+    /// Returns the numbers of the elements, if this is a vector of EDN whose elements are integers from 0 up.
+    fn numbers(self, alloc: Global) -> Result<Option<Vec<u64>>, AllocError>;
 
     /// Returns the number, if this is an integer of 64 bits.
     fn integer(self) -> Option<i64>;
@@ -36,6 +43,9 @@ pub(crate) trait Data<'a>: Copy {
 
     /// Returns whether this is `nil` or `null`.
     fn is_nil(self) -> bool;
+
+    /// Returns the number of the name, if this is an integer from 0 up.
+    fn number(self) -> Option<u64>;
 
     /// Returns the name of a key or an element, if this is one.
     fn name(self) -> Option<Name<'a>>;

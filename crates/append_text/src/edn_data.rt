@@ -1,20 +1,16 @@
 //! Forms of EDN as data.
 
-use crate::data::{Data, Step};
-use crate::name::Name;
+use crate::data::{Data, Fields, Step};
+use crate::name::{Name, number_of_integer};
 use edn::{Form, Forms, Kind};
 use std::alloc::{AllocError, Global};
 
 impl<'a> Data<'a> for Form<'a> {
-    fn field(self, name: &str) -> Option<Form<'a>> {
+    fn fields(self) -> Option<Fields<Form<'a>>> {
         match self.kind() {
-            Kind::Map(entries) => field_in(entries, name),
+            Kind::Map(entries) => Some(fields_in(entries)),
             _ => None,
         }
-    }
-
-    fn is_map(self) -> bool {
-        matches!(self.kind(), Kind::Map(_))
     }
 
     fn elements(self, alloc: Global) -> Result<Option<Vec<Form<'a>>>, AllocError> {
@@ -31,9 +27,9 @@ impl<'a> Data<'a> for Form<'a> {
         }
     }
 
-    fn integers(self, alloc: Global) -> Result<Option<Vec<i64>>, AllocError> {
+    fn numbers(self, alloc: Global) -> Result<Option<Vec<u64>>, AllocError> {
         match self.kind() {
-            Kind::Vector(forms) => integers_in(alloc, forms),
+            Kind::Vector(forms) => numbers_in(alloc, forms),
             _ => Ok(None),
         }
     }
@@ -56,6 +52,10 @@ impl<'a> Data<'a> for Form<'a> {
         matches!(self.kind(), Kind::Nil)
     }
 
+    fn number(self) -> Option<u64> {
+        number_of_integer(self.integer()?)
+    }
+
     fn name(self) -> Option<Name<'a>> {
         match self.kind() {
             Kind::Integer(number) => Some(Name::Integer(number)),
@@ -66,28 +66,38 @@ impl<'a> Data<'a> for Form<'a> {
     }
 }
 
-/// Returns the value of the first entry whose key is this keyword.
-fn field_in<'a>(entries: Forms<'a>, name: &str) -> Option<Form<'a>> {
+/// Returns the fields of an operation. The entries come from the last one back, so the first one of a name stays.
+fn fields_in<'a>(entries: Forms<'a>) -> Fields<Form<'a>> {
     let mut left = entries;
-    let mut found = None;
+    let mut fields = Fields {
+        kind: None,
+        f: None,
+        value: None,
+        process: None,
+        index: None,
+    };
     for _ in 0..entries.len() {
         let Some(value) = left.next_back() else {
-            return found;
+            return fields;
         };
         let Some(key) = left.next_back() else {
-            return found;
+            return fields;
         };
-        if is_keyword(key, name) {
-            found = Some(value);
+        if let Kind::Keyword(name) = key.kind() {
+            set_field(&mut fields, name, value);
         }
     }
-    found
+    fields
 }
 
-fn is_keyword(form: Form<'_>, name: &str) -> bool {
-    match form.kind() {
-        Kind::Keyword(word) => word == name.as_bytes(),
-        _ => false,
+fn set_field<'a>(fields: &mut Fields<Form<'a>>, name: &[u8], value: Form<'a>) {
+    match name {
+        b"type" => fields.kind = Some(value),
+        b"f" => fields.f = Some(value),
+        b"value" => fields.value = Some(value),
+        b"process" => fields.process = Some(value),
+        b"index" => fields.index = Some(value),
+        _ => {}
     }
 }
 
@@ -116,19 +126,18 @@ fn step_in(forms: Forms<'_>) -> Option<Step<Form<'_>>> {
     Some(Step { f, key, value })
 }
 
-/// Returns the integers in the order of the text, if all forms are integers.
-fn integers_in(alloc: Global, forms: Forms<'_>) -> Result<Option<Vec<i64>>, AllocError> {
+/// Returns the numbers of the forms in the order of the text, if all are integers from 0 up.
+fn numbers_in(alloc: Global, forms: Forms<'_>) -> Result<Option<Vec<u64>>, AllocError> {
     let mut left = forms;
-    let mut integers = Vec::with_capacity(alloc, forms.len())?;
-    for _ in 0..forms.len() {
+    let mut numbers = Vec::from_elem(alloc, 0, forms.len())?;
+    for number in numbers.iter_mut().rev() {
         let Some(form) = left.next_back() else {
             return Ok(None);
         };
-        let Kind::Integer(integer) = form.kind() else {
+        let Some(known) = form.number() else {
             return Ok(None);
         };
-        integers.push(integer)?;
+        *number = known;
     }
-    integers.reverse();
-    Ok(Some(integers))
+    Ok(Some(numbers))
 }

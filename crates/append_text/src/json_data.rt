@@ -1,17 +1,22 @@
 //! Values of JSON as data.
 
-use crate::data::{Data, Step};
-use crate::name::Name;
+use crate::data::{Data, Fields, Step};
+use crate::name::{Name, number_of_integer};
 use serde_json::Value;
 use std::alloc::{AllocError, Global};
 
 impl<'a> Data<'a> for &'a Value {
-    fn field(self, name: &str) -> Option<&'a Value> {
-        self.get(name)
-    }
-
-    fn is_map(self) -> bool {
-        self.is_object()
+    fn fields(self) -> Option<Fields<&'a Value>> {
+        if !self.is_object() {
+            return None;
+        }
+        Some(Fields {
+            kind: self.get("type"),
+            f: self.get("f"),
+            value: self.get("value"),
+            process: self.get("process"),
+            index: self.get("index"),
+        })
     }
 
     fn elements(self, alloc: Global) -> Result<Option<Vec<&'a Value>>, AllocError> {
@@ -28,7 +33,7 @@ impl<'a> Data<'a> for &'a Value {
         }
     }
 
-    fn integers(self, _alloc: Global) -> Result<Option<Vec<i64>>, AllocError> {
+    fn numbers(self, _alloc: Global) -> Result<Option<Vec<u64>>, AllocError> {
         Ok(None)
     }
 
@@ -45,6 +50,10 @@ impl<'a> Data<'a> for &'a Value {
 
     fn is_nil(self) -> bool {
         self.is_null()
+    }
+
+    fn number(self) -> Option<u64> {
+        number_of_integer(self.as_i64()?)
     }
 
     fn name(self) -> Option<Name<'a>> {

@@ -48,17 +48,12 @@ impl Names {
     /// Returns the number of the name, which may be new.
     pub(crate) fn number(&mut self, name: Name<'_>) -> Result<u64, AllocError> {
         match name {
-            Name::Integer(integer) => self.number_of_integer(integer),
+            Name::Integer(integer) => match number_of_integer(integer) {
+                Some(number) => Ok(number),
+                None => self.keep(Kept::Integer(integer)),
+            },
             Name::String(bytes) => self.keep(Kept::String(bytes.to_vec(self.alloc)?)),
             Name::Keyword(bytes) => self.keep(Kept::Keyword(bytes.to_vec(self.alloc)?)),
-        }
-    }
-
-    /// Returns the number of an integer, which may be new.
-    pub(crate) fn number_of_integer(&mut self, integer: i64) -> Result<u64, AllocError> {
-        match u64::try_from(integer) {
-            Ok(size) => Ok(size * 2),
-            Err(_) => self.keep(Kept::Integer(integer)),
         }
     }
 
@@ -80,6 +75,14 @@ impl Names {
             Some(kept) => Some(kept.name()),
             None => None,
         }
+    }
+}
+
+/// Returns the number of an integer from 0 up.
+pub(crate) fn number_of_integer(integer: i64) -> Option<u64> {
+    match u64::try_from(integer) {
+        Ok(size) => Some(size * 2),
+        Err(_) => None,
     }
 }
 

@@ -37,40 +37,40 @@ pub(crate) fn operation<'a, D: Data<'a>>(
     number: u64,
     data: D,
 ) -> Result<Option<Op>, Refusal> {
-    if !data.is_map() {
+    let Some(fields) = data.fields() else {
         return Err(Refusal::Problem(Problem::Map));
-    }
-    if !is_transaction(data) {
+    };
+    if !is_word(fields.f, b"txn") {
         return Ok(None);
     }
-    let Some(process) = integer_in(data, "process") else {
+    let Some(process) = integer_in(fields.process) else {
         return Ok(None);
     };
-    let Some(kind) = kind_in(data) else {
+    let Some(kind) = kind_of(fields.kind) else {
         return Err(Refusal::Problem(Problem::Type));
     };
-    let index = integer_in(data, "index").and_then(|index| u64::try_from(index).ok());
+    let index = integer_in(fields.index).and_then(|index| u64::try_from(index).ok());
     let label = Label {
         index: index.unwrap_or(number),
         process,
     };
-    let steps = steps_in(alloc, names, kind, data)?;
+    let steps = steps_in(alloc, names, kind, fields.value)?;
     Ok(Some(Op { kind, label, steps }))
 }
 
-fn is_transaction<'a, D: Data<'a>>(data: D) -> bool {
-    match data.field("f") {
-        Some(f) => matches!(f.word(), Some(b"txn")),
+fn is_word<'a, D: Data<'a>>(field: Option<D>, word: &[u8]) -> bool {
+    match field {
+        Some(data) => data.word() == Some(word),
         None => false,
     }
 }
 
-fn integer_in<'a, D: Data<'a>>(data: D, name: &str) -> Option<i64> {
-    data.field(name)?.integer()
+fn integer_in<'a, D: Data<'a>>(field: Option<D>) -> Option<i64> {
+    field?.integer()
 }
 
-fn kind_in<'a, D: Data<'a>>(data: D) -> Option<Kind> {
-    match data.field("type")?.word()? {
+fn kind_of<'a, D: Data<'a>>(field: Option<D>) -> Option<Kind> {
+    match field?.word()? {
         b"invoke" => Some(Kind::Invoke),
         b"ok" => Some(Kind::Ok),
         b"fail" => Some(Kind::Fail),
@@ -84,9 +84,9 @@ fn steps_in<'a, D: Data<'a>>(
     alloc: Global,
     names: &mut Names,
     kind: Kind,
-    data: D,
+    value: Option<D>,
 ) -> Result<Vec<Operation>, Refusal> {
-    match data.field("value") {
+    match value {
         Some(value) => steps_of(alloc, names, kind, value),
         None => no_steps(alloc, kind),
     }
@@ -122,7 +122,7 @@ fn steps<'a, D: Data<'a>>(
     let Some(listed) = data.elements(alloc)? else {
         return Err(Refusal::Problem(Problem::Step));
     };
-    let mut steps = Vec::new(alloc);
+    let mut steps = Vec::with_capacity(alloc, listed.len())?;
     for data in &listed {
         steps.push(step(alloc, names, *data)?)?;
     }
@@ -158,8 +158,8 @@ fn elements<'a, D: Data<'a>>(
     if data.is_nil() {
         return Ok(Vec::new(alloc));
     }
-    if let Some(integers) = data.integers(alloc)? {
-        return Ok(numbers(alloc, names, &integers)?);
+    if let Some(numbers) = data.numbers(alloc)? {
+        return Ok(numbers);
     }
     let Some(listed) = data.elements(alloc)? else {
         return Err(Refusal::Problem(Problem::Step));
@@ -171,17 +171,11 @@ fn elements<'a, D: Data<'a>>(
     Ok(elements)
 }
 
-/// Returns the numbers of elements that are integers.
-fn numbers(alloc: Global, names: &mut Names, integers: &[i64]) -> Result<Vec<u64>, AllocError> {
-    let mut numbers = Vec::with_capacity(alloc, integers.len())?;
-    for integer in integers {
-        numbers.push(names.number_of_integer(*integer)?)?;
-    }
-    Ok(numbers)
-}
-
 /// Returns the number of the key or the element that this names.
 fn number<'a, D: Data<'a>>(names: &mut Names, data: D) -> Result<u64, Refusal> {
+    if let Some(number) = data.number() {
+        return Ok(number);
+    }
     match data.name() {
         Some(name) => Ok(names.number(name)?),
         None => Err(Refusal::Problem(Problem::Name)),

@@ -9,13 +9,13 @@ use Rattle.std.proofs.lemmas.Grind.{common_steps}
 use Rattle.edn.specs.declared.token.Beyond.{Beyond}
 use Rattle.edn.specs.declared.token.Beyond.TheVariants.{Unread, Nothing}
 use Rattle.edn.specs.Meaning.Bytes.{is_space, is_end, is_word_byte, is_symbol_byte}
-use Rattle.edn.specs.Meaning.Forms.{Form, integer, keyword}
+use Rattle.edn.specs.Meaning.Forms.{Form, nil, integer, keyword}
 use Rattle.edn.specs.Meaning.Lexing.{IsWord}
 use Rattle.edn.specs.Meaning.Names.{begins_keyword, is_no_slash, is_keyword_name, is_keyword_at, is_keyword}
 use Rattle.edn.specs.Meaning.Numbers.{is_sign, begins_number, after_sign, is_whole, after_digits, magnitude, positive, number_of, number_parts}
 use Rattle.edn.specs.Meaning.Tokens.{leaf}
-use Rattle.edn.specs.Meaning.Words.{word_of}
-use Rattle.edn.specs.Computing.Plain.{begins_plain, after_colon, begins_with_end}
+use Rattle.edn.specs.Meaning.Words.{named, word_of}
+use Rattle.edn.specs.Computing.Plain.{begins_plain, after_byte, begins_with_end}
 use Rattle.edn.specs.Computing.Tokens.{token, may_go_on, word_at, word_token, token_at}
 use Rattle.edn.proofs.Choices.{chosen}
 use Rattle.edn.proofs.Spans.{word_parts}
@@ -216,19 +216,40 @@ keyword_read beyond bs name rest front after e end =
     let whole : name ++ rest ≡ bs = rw (front, after) (take-append-drop (prefix_len is_symbol_byte bs) bs) in
     subst (λ x. word_token beyond (58 ∷ x) ≡ token (leaf (keyword name)) rest) whole word
 
-pub plain_keyword_read : (beyond : Beyond) (text bs name rest : List ℕ) → Some bs ≡ after_colon text
+byte_before : (byte : ℕ) (text rest : List ℕ) → Some rest ≡ after_byte byte text → text ≡ byte ∷ rest
+byte_before byte [] rest is = absurd (cc)
+byte_before byte (b ∷ bs) rest is =
+    elim (chosen (b == byte) _ _ _ (sym is)) [
+      | inl w ↦
+          let here = eqb-true b byte w.0 in
+          let same : Some bs ≡ Some rest = w.1 in
+          rw here (ap (λ x. byte ∷ x) (let e : bs ≡ rest = cc in e))
+      | inr w ↦ absurd (let none : None ≡ Some rest = w.1 in cc)
+    ]
+
+pub plain_keyword_read : (beyond : Beyond) (text bs name rest : List ℕ) → Some bs ≡ after_byte 58 text
     → name ≡ take (prefix_len is_symbol_byte bs) bs → rest ≡ drop (prefix_len is_symbol_byte bs) bs
     → begins_keyword name ≡ true → begins_with_end rest ≡ true → word_token beyond text ≡ token (leaf (keyword name)) rest
-plain_keyword_read beyond [] bs name rest is front after e end = absurd (cc)
-plain_keyword_read beyond (b ∷ cs) bs name rest is front after e end =
-    elim (chosen (b == 58) _ _ _ (sym is)) [
-      | inl w ↦
-          let same : cs ≡ bs = let some : Some cs ≡ Some bs = w.1 in cc in
-          subst (λ x. word_token beyond (x ∷ cs) ≡ token (leaf (keyword name)) rest) (sym (eqb-true b 58 w.0))
-          (subst (λ x. word_token beyond (58 ∷ x) ≡ token (leaf (keyword name)) rest) (sym same)
-          (keyword_read beyond bs name rest front after e end))
-      | inr w ↦ absurd (let none : None ≡ Some bs = w.1 in cc)
-    ]
+plain_keyword_read beyond text bs name rest is front after e end =
+    subst (λ x. word_token beyond x ≡ token (leaf (keyword name)) rest) (sym (byte_before 58 text bs is))
+    (keyword_read beyond bs name rest front after e end)
+
+nil_word : IsWord (110 ∷ 105 ∷ 108 ∷ [])
+unfolding is_end is_space
+nil_word = refl
+
+nil_is : word_of (110 ∷ 105 ∷ 108 ∷ []) ≡ Some nil
+unfolding is_symbol_byte named
+nil_is = refl
+
+pub plain_nil_read : (beyond : Beyond) (text after_n after_ni rest : List ℕ) → Some after_n ≡ after_byte 110 text
+    → Some after_ni ≡ after_byte 105 after_n → Some rest ≡ after_byte 108 after_ni → begins_with_end rest ≡ true
+    → word_token beyond text ≡ token (leaf nil) rest
+plain_nil_read beyond text after_n after_ni rest n i l end =
+    let is : text ≡ 110 ∷ 105 ∷ 108 ∷ rest =
+    byte_before 110 text after_n n ∙ ap (λ x. 110 ∷ x) (byte_before 105 after_n after_ni i ∙ ap (λ x. 105 ∷ x) (byte_before 108 after_ni rest l)) in
+    subst (λ x. word_token beyond x ≡ token (leaf nil) rest) (sym is)
+    (front_word beyond (110 ∷ 105 ∷ 108 ∷ []) rest nil nil_word end nil_is)
 
 digit_not : (n b : ℕ) → check (λ x. not (x == n)) 48 10 ≡ true → is_ascii_digit b ≡ true → (b == n) ≡ false
 digit_not n b e h = not_true (b == n) (by_digits (λ x. not (x == n)) b e h)

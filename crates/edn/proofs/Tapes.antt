@@ -8,7 +8,7 @@ use Rattle.edn.specs.declared.tape.Node.{Node}
 use Rattle.edn.specs.declared.tape.Node.TheVariants.{Atom, End}
 use Rattle.edn.specs.Meaning.Forms.{Form}
 use Rattle.edn.specs.Meaning.Tapes.{first_of, forms_back}
-use Rattle.edn.specs.Machinery.Tapes.{is_sound, skip}
+use Rattle.edn.specs.Machinery.Tapes.{are_atoms, is_sound, skip}
 
 -- ---- skipping forms
 
@@ -52,6 +52,15 @@ skip_within [] n = omega arith
 skip_within (x ∷ xs) zero = omega arith
 skip_within (Atom a ∷ xs) (suc n) = let less = skip_within xs n in omega (arith, less)
 skip_within (End row m start ∷ xs) (suc n) = let less = skip_within xs (m + n) in omega (arith, less)
+
+pub skip_atoms : (xs : List Node) (n k : ℕ) → k ≤ n → n ≤ length xs → are_atoms (take n xs) ≡ true
+    → length xs - k ≡ length (skip xs k)
+skip_atoms [] n k less within flat = omega arith
+skip_atoms (x ∷ xs) n zero less within flat = omega arith
+skip_atoms (x ∷ xs) zero (suc k) less within flat = absurd (omega (arith, less))
+skip_atoms (Atom a ∷ xs) (suc n) (suc k) less within flat =
+    let same = skip_atoms xs n k (omega (arith, less)) (omega (arith, within)) flat in omega (arith, same)
+skip_atoms (End row m start ∷ xs) (suc n) (suc k) less within flat = absurd (cc)
 
 -- what is left is the last part
 skip_drop : (xs : List Node) (n : ℕ) → skip xs n ≡ drop (length xs - length (skip xs n)) xs

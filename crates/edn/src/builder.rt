@@ -100,6 +100,7 @@ impl Builder {
             Token::Tag => self.begin(Open::Tag),
             Token::Discard => self.begin(Open::Discard),
             Token::Close(bracket) => self.close(bracket),
+            Token::Nil => Ok(self.add(Atom::Nil)?),
             Token::Integer(value) => Ok(self.add(Atom::Integer(value))?),
             Token::Keyword => Ok(self.add(Atom::ShortKeyword(leaf.name))?),
             Token::Leaf => Ok(self.add_leaf(&mut leaf.atom)?),
@@ -182,6 +183,7 @@ impl Builder {
     }
 
     /// Adds a form.
+    #[inline(always)]
     fn add(&mut self, atom: Atom) -> Result<bool, AllocError>
         ensures { IfOk result (λ done. Spec.put (stack_of self.old) (atom_of atom) ≡ (stack_of self.new, made_if done self.new)) }
     {
@@ -191,6 +193,7 @@ impl Builder {
 
     /// Puts the last form, which is part of no collection yet, where it belongs. Returns whether it is part of no other.
     #[tactic(auto, unfolding(crate::specs::Computing::Building::put))]
+    #[inline(always)]
     fn put(&mut self) -> bool
         requires { count_in self.old.inner + sum_by count_in self.old.outer.items < length (tape_forms self.old.forms) }
         ensures { Spec.put (under self.old) (first_of (tape_forms self.old.forms)) ≡ (stack_of self.new, made_if result self.new) }

@@ -33,10 +33,13 @@ fn is_word_byte(byte: u8) -> bool
 pub(crate) fn is_symbol_byte(byte: u8) -> bool
     ensures { result ≡ is_symbol_byte byte }
 {
+    // most bytes of words are such letters
+    if byte.is_ascii_lowercase() {
+        return true;
+    }
     matches!(
         byte,
-        b'a'..=b'z'
-            | b'-'
+        b'-'
             | b'0'..=b':'
             | b'A'..=b'Z'
             | b'_'

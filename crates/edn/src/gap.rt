@@ -1,6 +1,6 @@
 //! What stands between forms.
 
-ghost use Rattle.std.specs.Prelude.{◌≡◌, ◌≤◌, ◌<◌, length, IfSome, option_map};
+ghost use Rattle.std.specs.Prelude.{◌≡◌, ◌≤◌, ◌<◌, length, ◌==◌, IfSome, None, if◌then◌else◌, option_map};
 ghost use Rattle.edn.specs.Computing.Gaps.{after_gap, after_line, after_one};
 
 use crate::bytes::is_space;
@@ -27,9 +27,21 @@ fn after_one(first: u8, others: &[u8]) -> Option<&[u8]>
     ensures value { option_map (λ rest. rest.now) result ≡ after_one first others.now }
     ensures within { IfSome result (λ rest. length rest.now ≤ length others.now) }
 {
+    // most bytes that no gap begins with are beyond all white space
+    if first > b',' {
+        return after_semicolon(first, others);
+    }
     if is_space(first) {
         return Some(others);
     }
+    None
+}
+
+/// Returns what follows the comment that begins with this byte and goes on so, if it is one.
+fn after_semicolon(first: u8, others: &[u8]) -> Option<&[u8]>
+    ensures value { option_map (λ rest. rest.now) result ≡ if first == 59 then after_line others.now else None }
+    ensures within { IfSome result (λ rest. length rest.now ≤ length others.now) }
+{
     if first == b';' {
         return after_line(others);
     }

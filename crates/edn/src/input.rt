@@ -17,7 +17,6 @@ use crate::plain::plain_integer;
 use crate::read_fault::{ReadFault, syntax};
 use crate::token::{Beyond, Lexed, Token, read_token};
 use devices::Source;
-use memchr::memchr_iter;
 use std::alloc::{AllocError, Global};
 
 /// The most bytes of one read.
@@ -29,7 +28,7 @@ pub(crate) struct Input {
     alloc: Global,
     pending: Pending,
     beyond: Beyond,
-    /// The line, counted from 1, of the first byte that `pending` has, taken or not.
+    /// The line, counted from 1, up to which tokens, and what is between them, were taken.
     line: u64,
     piece: [u8; ROOM],
 }
@@ -59,9 +58,8 @@ impl Input {
     }
 
     /// Returns the line, counted from 1, up to which tokens were taken.
-    #[inline(never)]
     pub(crate) fn line(&self) -> u64 {
-        self.line.saturating_add(line_feeds(self.pending.taken()))
+        self.line
     }
 
     /// Reads the next token, and puts the form of a leaf into `leaf`. Returns `None` if the text ends before it, `Syntax` if
@@ -97,7 +95,7 @@ impl Input {
             match read_token(self.alloc, self.pending.bytes(), self.beyond, leaf)? {
                 Lexed::Token(token, rest) => {
                     let len = self.pending.bytes().len() - rest.len();
-                    self.pass(len);
+                    self.pass_token(token, len);
                     return Ok(Some(token));
                 }
                 Lexed::End => return Ok(None),
@@ -116,7 +114,33 @@ impl Input {
     {
         let bytes = self.pending.bytes();
         let gap = bytes.len() - after_gap(bytes).len();
-        self.pass(gap);
+        self.pass_lines(gap);
+    }
+
+    /// Takes this many bytes from the front, which may have line feeds.
+    #[inline(always)]
+    fn pass_lines(&mut self, count: usize)
+        requires { count ≤ length self.old.pending }
+        ensures rest { self.new.pending ≡ drop count self.old.pending }
+        ensures beyond { self.new.beyond ≡ self.old.beyond }
+    {
+        let passed = &self.pending.bytes()[..count];
+        self.line = self.line.saturating_add(line_feeds(passed));
+        self.pass(count);
+    }
+
+    /// Takes the bytes of this token from the front.
+    #[inline(always)]
+    fn pass_token(&mut self, token: Token, count: usize)
+        requires { count ≤ length self.old.pending }
+        ensures rest { self.new.pending ≡ drop count self.old.pending }
+        ensures beyond { self.new.beyond ≡ self.old.beyond }
+    {
+        match token {
+            // a string may have line feeds
+            Token::Leaf => self.pass_lines(count),
+            _ => self.pass(count),
+        }
     }
 
     /// Takes this many bytes from the front.
@@ -163,8 +187,6 @@ impl Input {
         match source.pull(&mut self.piece) {
             Ok(0) => self.beyond = Beyond::Nothing,
             Ok(n) => {
-                // what was taken is dropped
-                self.line = self.line();
                 self.pending.add(self.alloc, &self.piece[..n])?;
             }
             Err(_) => return Err(ReadFault::Device),
@@ -175,5 +197,9 @@ impl Input {
 
 /// Returns how many line feeds these bytes have.
 fn line_feeds(bytes: &[u8]) -> u64 {
-    memchr_iter(b'\n', bytes).count() as u64
+    match bytes {
+        // what mostly stands between two tokens
+        [] | [b' '] => 0,
+        _ => bytes.iter().filter(|byte| **byte == b'\n').count() as u64,
+    }
 }

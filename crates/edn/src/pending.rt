@@ -40,11 +40,6 @@ impl Pending {
         &self.bytes[self.start..]
     }
 
-    /// Returns the bytes that were taken and are still kept.
-    pub(crate) fn taken(&self) -> &[u8] {
-        &self.bytes[..self.start]
-    }
-
     /// Takes this many bytes from the front.
     pub(crate) fn take(&mut self, count: usize)
         requires { count ≤ length self.old }

@@ -147,9 +147,38 @@ impl Reader {
         Ok(false)
     }
 
-    /// Takes the next token. Returns whether a form ends with it.
+    /// Takes the next token. Returns whether a form ends with it. Integers are taken by code of their own, since there are
+    /// many.
     #[inline(always)]
     fn take(&mut self, token: Token, leaf: &mut Leaf) -> Result<bool, ReadFault>
+        ensures input { self.new.input ≡ self.old.input }
+        ensures takes { IfOk result (λ done. Takes self.old.stage (token_of leaf.old token) self.new.stage
+            (stack_of self.old.builder) (stack_of self.new.builder) (made_if done self.new.builder)) }
+        ensures stops { IfErr result (Stops self.old.stage (token_of leaf.old token) (stack_of self.old.builder)) }
+    {
+        match token {
+            Token::Integer(value) => self.take_any(Token::Integer(value), leaf),
+            _ => self.take_any(token, leaf),
+        }
+    }
+
+    #[inline(always)]
+    fn take_any(&mut self, token: Token, leaf: &mut Leaf) -> Result<bool, ReadFault>
+        ensures input { self.new.input ≡ self.old.input }
+        ensures takes { IfOk result (λ done. Takes self.old.stage (token_of leaf.old token) self.new.stage
+            (stack_of self.old.builder) (stack_of self.new.builder) (made_if done self.new.builder)) }
+        ensures stops { IfErr result (Stops self.old.stage (token_of leaf.old token) (stack_of self.old.builder)) }
+    {
+        let forms = matches!(self.stage, Stage::Forms | Stage::Elements);
+        if forms && !self.builder.is_idle() {
+            return self.build(token, leaf);
+        }
+        self.take_between(token, leaf)
+    }
+
+    /// Takes a token between forms.
+    #[inline(never)]
+    fn take_between(&mut self, token: Token, leaf: &mut Leaf) -> Result<bool, ReadFault>
         ensures input { self.new.input ≡ self.old.input }
         ensures takes { IfOk result (λ done. Takes self.old.stage (token_of leaf.old token) self.new.stage
             (stack_of self.old.builder) (stack_of self.new.builder) (made_if done self.new.builder)) }

@@ -1,16 +1,16 @@
 //! Short texts.
 
-ghost use Rattle.std.specs.Prelude.{◌≡◌, ◌≤◌, take, true};
+ghost use Rattle.std.specs.Prelude.{◌≡◌, ◌≤◌, ℕ, length, take, IfSome};
 
 /// The most bytes of a short text.
 const ROOM: usize = 16;
 
 /// A text of at most 16 bytes, which takes no memory of its own.
-#[derive(Clone, Copy, PartialEq, Drop)]
+#[derive(Clone, Copy, Drop)]
 pub struct Short {
-    len: usize,
-    /// The text, followed by zeros.
+    /// The text, followed by whatever.
     bytes: [u8; ROOM],
+    len: usize,
     ghost within: { len ≤ 16 },
 }
 
@@ -18,23 +18,22 @@ impl Short {
     /// The empty text.
     pub(crate) fn empty() -> Short {
         Short {
-            len: 0,
             bytes: [0; ROOM],
+            len: 0,
         }
     }
 
-    /// Takes this text in place of the one before, if it is short. Returns whether it is.
-    pub(crate) fn set(&mut self, text: &[u8]) -> bool
-        ensures { result ≡ true → take self.new.len self.new.bytes ≡ text.now }
+    /// Returns the first bytes of the text, so many of them, unless they are too many.
+    #[inline(always)]
+    pub(crate) fn front(text: &[u8], len: usize) -> Option<Short>
+        requires { len ≤ length text.now }
+        ensures { IfSome result (λ s. take s.len s.bytes ≡ take len text.now) }
     {
-        let len = text.len();
         if len > ROOM {
-            return false;
+            return None;
         }
-        let mut bytes = [0; ROOM];
-        bytes[..len].copy_from_slice(text);
-        *self = Short { len, bytes };
-        true
+        let bytes = filled(text);
+        Some(Short { bytes, len })
     }
 
     /// Returns the bytes of the text.
@@ -43,4 +42,18 @@ impl Short {
     {
         &self.bytes[..self.len]
     }
+}
+
+/// Returns the first bytes of the text, as many as there is room for, followed by zeros if there are fewer.
+fn filled(text: &[u8]) -> [u8; ROOM]
+    ensures { (n : ℕ) → n ≤ 16 → n ≤ length text.now → take n result ≡ take n text.now }
+{
+    let mut bytes = [0; ROOM];
+    if text.len() >= ROOM {
+        // a copy of a constant size takes no call
+        bytes.copy_from_slice(&text[..ROOM]);
+    } else {
+        bytes[..text.len()].copy_from_slice(text);
+    }
+    bytes
 }

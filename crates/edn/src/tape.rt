@@ -3,7 +3,7 @@
 ghost use Rattle.std.specs.Prelude.{◌≡◌, ◌≤◌, ◌++◌, [], ◌∷◌, true, drop, take, length, reverse, OnOk, OnErr};
 ghost use Rattle.edn.specs.Meaning.Forms.{atom_of};
 ghost use Rattle.edn.specs.Meaning.Tapes.{collection, first_of};
-ghost use Rattle.edn.specs.Machinery.Tapes.{is_sound, skip};
+ghost use Rattle.edn.specs.Machinery.Tapes.{are_atoms, is_sound, skip};
 
 use crate::atom::Atom;
 use crate::form::Form;
@@ -31,7 +31,11 @@ pub(crate) enum Node {
 #[derive(Drop)]
 pub(crate) struct Tape {
     nodes: Vec<Node>,
+    /// So many of the last nodes are no ends of collections, perhaps more.
+    atoms: usize,
     ghost sound: { is_sound (reverse nodes.items) ≡ true },
+    ghost flat: { are_atoms (take atoms (reverse nodes.items)) ≡ true },
+    ghost few: { atoms ≤ length nodes.items },
 }
 
 impl Tape {
@@ -44,6 +48,7 @@ impl Tape {
     {
         Tape {
             nodes: Vec::new(alloc),
+            atoms: 0,
         }
     }
 
@@ -52,7 +57,9 @@ impl Tape {
         ensures pushed { OnOk result (tape_forms self.new ≡ atom_of atom ∷ tape_forms self.old) }
         ensures refused { OnErr result (tape_forms self.new ≡ tape_forms self.old) }
     {
-        push(&mut self.nodes, Node::Atom(atom))
+        push(&mut self.nodes, Node::Atom(atom))?;
+        self.atoms += 1;
+        Ok(())
     }
 
     /// Makes a collection of the last forms, so many of them. If memory runs out, nothing changes.
@@ -62,8 +69,20 @@ impl Tape {
             ≡ collection row (reverse (take count (tape_forms self.old))) ∷ drop count (tape_forms self.old)) }
         ensures refused { OnErr result (tape_forms self.new ≡ tape_forms self.old) }
     {
-        let start = start_of(&self.nodes, count);
-        push(&mut self.nodes, Node::End(row, count, start))
+        let start = self.start_of(count);
+        push(&mut self.nodes, Node::End(row, count, start))?;
+        self.atoms = 0;
+        Ok(())
+    }
+
+    /// Returns how many nodes come before the last forms, if there are so many of them.
+    fn start_of(&self, count: usize) -> usize
+        ensures { result ≡ length (skip (reverse self.now.nodes.items) count) }
+    {
+        if count <= self.atoms {
+            return self.nodes.len() - count;
+        }
+        start_of(&self.nodes, count)
     }
 
     /// Drops the last form, if there is one.
@@ -72,6 +91,7 @@ impl Tape {
     {
         let left = before(&self.nodes).len();
         self.nodes.truncate(left);
+        self.atoms = 0;
     }
 
     /// Drops all forms.
@@ -79,6 +99,7 @@ impl Tape {
         ensures { tape_forms self.new ≡ [] }
     {
         self.nodes.clear();
+        self.atoms = 0;
     }
 
     /// Returns the last form; `nil` if there is none.

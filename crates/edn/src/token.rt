@@ -12,7 +12,7 @@ use crate::bytes::{is_space, word_len};
 use crate::character::is_character;
 use crate::leaf::Leaf;
 use crate::names::is_tag;
-use crate::plain::plain_keyword;
+use crate::plain::{plain_keyword, plain_nil};
 use crate::read_fault::Problem;
 use crate::string::{Quoted, string};
 use crate::word::word;
@@ -51,6 +51,8 @@ pub(crate) enum Token {
     Discard,
     /// `#` and a symbol
     Tag,
+    /// `nil`
+    Nil,
     /// An integer of 64 bits.
     Integer(i64),
     /// A keyword with a short name; whoever reads the token says where to put the name.
@@ -235,9 +237,11 @@ fn word_token<'a>(
     ensures within { IfOk result (IsWithin beyond bytes.now) }
 {
     if let Some((name, rest)) = plain_keyword(bytes) {
-        if leaf.name.set(name) {
-            return Ok(Lexed::Token(Token::Keyword, rest));
-        }
+        leaf.name = name;
+        return Ok(Lexed::Token(Token::Keyword, rest));
+    }
+    if let Some(rest) = plain_nil(bytes) {
+        return Ok(Lexed::Token(Token::Nil, rest));
     }
     any_word(alloc, bytes, beyond, leaf)
 }

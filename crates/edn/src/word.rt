@@ -34,11 +34,10 @@ fn keyword(alloc: Global, name: &[u8]) -> Result<Option<Atom>, AllocError>
     if !is_keyword(name) {
         return Ok(None);
     }
-    let mut short = Short::empty();
-    if short.set(name) {
-        return Ok(Some(Atom::ShortKeyword(short)));
+    match Short::front(name, name.len()) {
+        Some(name) => Ok(Some(Atom::ShortKeyword(name))),
+        None => Ok(Some(Atom::Keyword(name.to_vec(alloc)?))),
     }
-    Ok(Some(Atom::Keyword(name.to_vec(alloc)?)))
 }
 
 fn symbol(alloc: Global, text: &[u8]) -> Result<Option<Atom>, AllocError>

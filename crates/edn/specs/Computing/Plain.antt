@@ -13,7 +13,7 @@ abbrev pub begins_plain : List ℕ → Bool
 begins_plain [] = false
 begins_plain (b ∷ bs) = is_ascii_digit b && not (b == 48)
 
--- what follows the `:` at the front, if there is one
-abbrev pub after_colon : List ℕ → Option (List ℕ)
-after_colon [] = None
-after_colon (b ∷ bs) = if b == 58 then Some bs else None
+-- what follows this byte at the front, if it is there
+abbrev pub after_byte : ℕ → List ℕ → Option (List ℕ)
+after_byte byte [] = None
+after_byte byte (b ∷ bs) = if b == byte then Some bs else None

@@ -15,7 +15,7 @@ use Rattle.edn.specs.declared.token.Lexed.{Lexed as LexedValue}
 use Rattle.edn.specs.declared.token.Lexed.TheVariants as Read
 use Rattle.edn.specs.Meaning.Bytes.{is_space, is_word_byte}
 use Rattle.edn.specs.Meaning.Characters.{is_character}
-use Rattle.edn.specs.Meaning.Forms.{Form, integer, string, character, keyword, atom_of}
+use Rattle.edn.specs.Meaning.Forms.{Form, nil, integer, string, character, keyword, atom_of}
 use Rattle.edn.specs.Meaning.Names.{is_tag}
 use Rattle.edn.specs.Meaning.Shorts.{short_text}
 use Rattle.edn.specs.Meaning.Tokens.{Token, opens, closes, discard, tag, leaf}
@@ -35,6 +35,7 @@ token_of f (In.Open b) = opens b
 token_of f (In.Close b) = closes b
 token_of f In.Discard = discard
 token_of f In.Tag = tag
+token_of f In.Nil = leaf nil
 token_of f (In.Integer z) = leaf (integer z)
 token_of f In.Keyword = leaf (keyword (short_text f.name))
 token_of f In.Leaf = leaf (atom_of f.atom)

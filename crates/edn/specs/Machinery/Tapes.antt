@@ -1,5 +1,5 @@
 -- Where the forms of a tape begin. Nodes stand here with the newest first.
-use Rattle.std.specs.Prelude.{ℕ, zero, suc, ◌+◌, ◌==◌, Bool, true, ◌&&◌, nat_le, List, [], ◌∷◌, length}
+use Rattle.std.specs.Prelude.{ℕ, zero, suc, ◌+◌, ◌==◌, Bool, true, false, ◌&&◌, nat_le, List, [], ◌∷◌, length}
 use Rattle.edn.specs.declared.tape.Node.{Node}
 use Rattle.edn.specs.declared.tape.Node.TheVariants.{Atom, End}
 use Rattle.edn.specs.Meaning.Tapes.{forms_back}
@@ -10,6 +10,12 @@ skip [] n = []
 skip (x ∷ xs) zero = x ∷ xs
 skip (Atom a ∷ xs) (suc n) = skip xs n
 skip (End row m start ∷ xs) (suc n) = skip xs (m + n)
+
+-- none of the nodes is the end of a collection
+abbrev pub are_atoms : List Node → Bool
+are_atoms [] = true
+are_atoms (Atom a ∷ xs) = are_atoms xs
+are_atoms (End row n start ∷ xs) = false
 
 -- the end of each collection has as many forms before it as it says, and names the place where they begin
 abbrev pub is_sound : List Node → Bool

@@ -30,7 +30,7 @@ returns-in-Token-clause-token g c = λ l.
     let linked = subst (λ b. IsLinked b left) (sym c.pass_gap.ensures.beyond) now in
     let read = token_read c.pass_gap.new.self.beyond p t rest start left is linked
     (more_passed _ p gap start left e is_gap passed) in
-    let pending = (rw c.bytes-in-Token.ensures at c.pass-in-Token.ensures.rest) ∙ token_rest _ p t rest is in
+    let pending = (rw c.bytes-in-Token.ensures at c.pass_token.ensures.rest) ∙ token_rest _ p t rest is in
     subst (λ x. ReadsToken start (prepend_known x left) t) (sym pending) read
 
 pub returns-in-Some-clause-token : goal.returns-in-Some-clause-token

@@ -1,4 +1,4 @@
-use Rattle.std.proofs.Common.{◌∙◌, reverse, ap}
+use Rattle.std.proofs.Common.{◌∙◌, reverse, refl, ap, arith}
 use Rattle.edn.specs.Machinery.Tapes.{skip}
 use Rattle.edn.proofs.Tapes.{kept_forms, kept_sound}
 use Rattle.edn.proofs.tape.Tape.drop_last.Goals as goal
@@ -10,6 +10,8 @@ invariant_of-self c =
     record {
       sound = kept_sound nodes left c.truncate.new.self.items
           (c.before-left.ensures.before ∙ ap (λ xs. skip (reverse xs) 1) c.deref.ensures.value) c.truncate.ensures.items c.args.self.now.sound;
+      flat = refl;
+      few = omega arith;
     }
 
 pub returns : goal.returns
