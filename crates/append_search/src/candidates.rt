@@ -59,7 +59,7 @@ pub fn find_candidate<W: Writers + Drop>(
     }
     // they take much memory, and the rest doesn't need them
     drop(writers);
-    if let Some(reason) = search.add_tails()? {
+    if let Some(reason) = search.add_tails(transactions)? {
         return Ok(Candidate::Reason(reason));
     }
     search.sort(transactions, place)
@@ -137,13 +137,16 @@ impl Search {
     }
 
     // The transactions that found the whole list of a key and appended to it come last in its line.
-    fn add_tails(&mut self) -> Result<Option<Reason>, AllocError> {
+    fn add_tails(&mut self, transactions: &[Transaction]) -> Result<Option<Reason>, AllocError> {
         let readings = &self.readings;
         for reading in readings {
             if reading.appends() {
-                let broken = self
-                    .lines
-                    .append(reading.line(), reading.read(), reading.writers())?;
+                let broken = self.lines.append(
+                    transactions,
+                    reading.line(),
+                    reading.read(),
+                    reading.writers(),
+                )?;
                 if broken.is_some() {
                     return Ok(broken);
                 }

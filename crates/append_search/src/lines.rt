@@ -1,9 +1,7 @@
 //! The lines of writers: for each key, the transactions whose elements were read, in the order of the longest list.
 
 use crate::blocks::{Blocks, FEW};
-use crate::own::append_to;
 use crate::reading::small;
-use crate::sorting::zeros;
 use crate::writers::Writers;
 use append_values::{Operation, Outcome, Read, Reason, Transaction};
 use std::alloc::{AllocError, Global};
@@ -47,10 +45,11 @@ pub(crate) struct Lines {
     alloc: Global,
     numbers: HashMap<u64, usize>,
     pub lines: Vec<Line>,
-    /// The writers of all lines.
-    writers: HashSet<Writer>,
-    /// In how many lines each transaction stands.
-    standing: Vec<u32>,
+    /// Where each transaction stands: of one of few steps, a bit for each step that is its first append to a key in whose
+    /// line it stands; of a longer one, a bit if it stands in any.
+    standing: Vec<u16>,
+    /// The long transactions in all lines.
+    long: HashSet<Writer>,
     blocks: Blocks,
 }
 
@@ -107,8 +106,8 @@ impl Lines {
             alloc,
             numbers: HashMap::new(alloc),
             lines: Vec::new(alloc),
-            writers: HashSet::new(alloc),
-            standing: zeros(alloc, transactions)?,
+            standing: Vec::from_elem(alloc, 0, transactions)?,
+            long: HashSet::new(alloc),
             blocks: Blocks::new(alloc),
         })
     }
@@ -118,9 +117,12 @@ impl Lines {
         self.numbers.get(&key).copied()
     }
 
-    /// Returns whether the transaction stands in the line with this number.
-    pub fn has(&self, line: usize, transaction: u32) -> bool {
-        self.writers.contains(&writer_in(line, transaction))
+    /// Returns whether the transaction, of these steps, stands in the line of the key, which has this number.
+    pub fn has(&self, line: usize, key: u64, place: u32, operations: &[Operation]) -> bool {
+        if operations.len() > FEW {
+            return self.long.contains(&writer_in(line, place));
+        }
+        self.standing(place) & first_append(operations, key) != 0
     }
 
     /// Returns whether an order has this transaction: if it committed, or if nobody knows and an element of it was read.
@@ -128,29 +130,43 @@ impl Lines {
         match transaction.outcome {
             Outcome::Committed => true,
             Outcome::Aborted => false,
-            Outcome::Unknown => self.standing(place) > 0,
+            Outcome::Unknown => self.standing(place) != 0,
         }
     }
 
     /// Returns whether the transaction stands in the line of each key that it appends to. If it has many steps, this may be
     /// false although it does.
     pub fn shows_all(&self, place: u32, operations: &[Operation]) -> bool {
-        operations.len() <= FEW && keys_appended(operations) == self.standing(place)
+        operations.len() <= FEW && first_appends(operations) == self.standing(place)
     }
 
-    fn standing(&self, place: u32) -> u32 {
+    fn standing(&self, place: u32) -> u16 {
         self.standing.get(place as usize).copied().unwrap_or(0)
     }
 
-    /// Notes that the transaction stands in the line. Returns whether it stood there before.
-    fn stand(&mut self, number: usize, transaction: u32) -> Result<bool, AllocError> {
-        if !self.writers.insert(writer_in(number, transaction))? {
-            return Ok(true);
+    /// Notes that the transaction, of these steps, stands in the line of the key, which has this number. Returns whether it
+    /// stood there before.
+    fn stand(
+        &mut self,
+        number: usize,
+        key: u64,
+        place: u32,
+        operations: &[Operation],
+    ) -> Result<bool, AllocError> {
+        let is_long = operations.len() > FEW;
+        let bit = if is_long {
+            1
+        } else {
+            first_append(operations, key)
+        };
+        let before = self.standing(place);
+        if let Some(standing) = self.standing.get_mut(place as usize) {
+            *standing = before | bit;
         }
-        if let Some(lines) = self.standing.get_mut(transaction as usize) {
-            *lines = lines.saturating_add(1);
+        if is_long {
+            return Ok(!self.long.insert(writer_in(number, place))?);
         }
-        Ok(false)
+        Ok(before & bit != 0)
     }
 
     /// Returns how many elements the blocks of the first writers of the line with this number have.
@@ -254,13 +270,13 @@ impl Lines {
             return Ok(None);
         };
         let (key, start) = (line.key, line.chain.len());
-        if self.stand(number, writer)? {
-            return Ok(Some(Reason::Twice(read, element)));
-        }
         let Some(transaction) = transactions.get(writer as usize) else {
             return Ok(None);
         };
         let operations = transaction.operations.as_slice();
+        if self.stand(number, key, writer, operations)? {
+            return Ok(Some(Reason::Twice(read, element)));
+        }
         let Some(end) = self.blocks.end(base, start, key, writer, operations)? else {
             return Ok(Some(not_whole(self.alloc, read, base, writer)?));
         };
@@ -297,6 +313,7 @@ impl Lines {
     /// reason if another one comes next in the line.
     pub fn append(
         &mut self,
+        transactions: &[Transaction],
         number: usize,
         read: Read,
         writers: usize,
@@ -315,7 +332,11 @@ impl Lines {
             };
             return Ok(Some(Reason::Incompatible(read, other)));
         }
-        self.stand(number, read.transaction)?;
+        let key = line.key;
+        if let Some(transaction) = transactions.get(read.transaction as usize) {
+            let operations = transaction.operations.as_slice();
+            self.stand(number, key, read.transaction, operations)?;
+        }
         if let Some(line) = self.lines.get_mut(number) {
             line.writers.push(read.transaction)?;
             line.tail = Some(read);
@@ -368,19 +389,29 @@ fn aborted(transactions: &[Transaction], place: u32) -> bool {
     }
 }
 
-/// Returns to how many keys the steps append.
-fn keys_appended(operations: &[Operation]) -> u32 {
-    let mut keys = 0u32;
-    let mut before = 0;
+/// The bit of the first of these few steps that appends to the list of the key; none if none does.
+fn first_append(operations: &[Operation], key: u64) -> u16 {
+    let mut bit = 1u16;
     for operation in operations {
-        if let Operation::Append { key, .. } = operation {
-            if !append_to(operations.get(..before).unwrap_or(&[]), *key) {
-                keys = keys.saturating_add(1);
+        if let Operation::Append { key: to, .. } = operation {
+            if *to == key {
+                return bit;
             }
         }
-        before = before.saturating_add(1);
+        bit = bit.checked_shl(1).unwrap_or(0);
     }
-    keys
+    0
+}
+
+/// The bits of those of these few steps that are the first to append to the list of their key.
+fn first_appends(operations: &[Operation]) -> u16 {
+    let mut bits = 0;
+    for operation in operations {
+        if let Operation::Append { key, .. } = operation {
+            bits |= first_append(operations, *key);
+        }
+    }
+    bits
 }
 
 /// The reason for a list that has an element of the writer where its block should stand.

@@ -126,7 +126,7 @@ impl Links<'_> {
         'steps: for operation in operations {
             if let Operation::Append { key, .. } = operation {
                 if let Some(line) = self.lines.number(*key) {
-                    if !self.lines.has(line, place) {
+                    if !self.lines.has(line, *key, place, operations) {
                         let from = self.helper(line);
                         let read = Read {
                             transaction: place,

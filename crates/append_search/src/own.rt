@@ -138,7 +138,7 @@ impl Owns {
 }
 
 /// Returns whether one of the steps appends to the list of the key.
-pub(crate) fn append_to(operations: &[Operation], key: u64) -> bool {
+fn append_to(operations: &[Operation], key: u64) -> bool {
     for operation in operations {
         if let Operation::Append { key: to, .. } = operation {
             if *to == key {
