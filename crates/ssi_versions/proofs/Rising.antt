@@ -1,10 +1,10 @@
 -- A search in a chain that stands by stamp.
-use Rattle.std.proofs.Common.{◌≡◌, ℕ, suc, ◌≤◌, ◌<◌, ◌+◌, true, false, cond, List, [], ◌∷◌, ◌++◌, map, length, take, drop, get_or, Some, None, refl, ◌∙◌, ap, sym, arith, nat_le, inl, inr}
+use Rattle.std.proofs.Common.{◌≡◌, ℕ, suc, ◌≤◌, ◌<◌, ◌+◌, true, false, cond, List, [], ◌∷◌, ◌++◌, map, length, take, drop, get_or, Option, Some, None, refl, ◌∙◌, ap, sym, arith, nat_le, inl, inr}
 use Rattle.std.specs.List.{AllWithin}
 use Rattle.std.proofs.lemmas.Bool.{cases_lt, leb-true, le-leb}
 use Rattle.std.proofs.lemmas.List.{map-append, get_or-map, get_or-drop, drop_all, length-drop, length-map}
 use Rattle.ssi_versions.specs.declared.place.Place.{Place}
-use Rattle.ssi_versions.specs.Meaning.Changes.{otherwise}
+use Rattle.ssi_versions.specs.Meaning.Changes.{Held, otherwise}
 use Rattle.ssi_versions.specs.Clauses.ByStamp.{newest, newest_within, IsByStamp}
 use Rattle.ssi_versions.specs.Machinery.Keyed.{placed}
 use Rattle.ssi_versions.proofs.Lists.{split}
@@ -53,3 +53,15 @@ pub newest_whole : (ps : List Place) (i : ℕ) (x : Place) → length ps ≡ i +
 newest_whole ps i x n is =
     sym (ap (λ ys. newest (map placed ys)) (split ps i x (omega (arith, n)) is ∙ ap (λ ys. take i ps ++ x ∷ ys) (drop_all (i + 1) ps (omega (arith, n))))
     ∙ ap newest (map-append placed (take i ps) (x ∷ [])) ∙ newest-append (map placed (take i ps)) (placed x ∷ []))
+
+some_newest : (o p : Option Held) (k : Held) → otherwise (otherwise o (Some k)) p ≡ otherwise o (Some k)
+some_newest (Some x) p k = refl
+some_newest None p k = refl
+
+-- a snapshot that sees the newest version sees that one
+pub newest_seen : (s : ℕ) (hs : List Held) (h : Held) → Some h ≡ newest hs → nat_le h.stamp s ≡ true → Some h ≡ newest_within s hs
+newest_seen s [] h is le = absurd (cc)
+newest_seen s (g ∷ []) h is le =
+    let same : h ≡ g = cc in is ∙ ap (λ b. cond b (Some g) None) (sym (ap (λ x. nat_le x.stamp s) (sym same) ∙ le))
+newest_seen s (g ∷ k ∷ ks) h is le =
+    ap (λ o. otherwise o (alone s g)) (newest_seen s (k ∷ ks) h (is ∙ some_newest (newest ks) (Some g) k) le)

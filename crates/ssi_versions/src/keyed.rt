@@ -196,8 +196,21 @@ fn put_all(
     opened
 }
 
-/// Returns the newest version at or below the stamp, by binary search.
+/// Returns the newest version at or below the stamp: the last one, or else by binary search.
 fn newest_at(chain: &[Place], stamp: u64) -> Option<Held>
+    requires { IsByStamp (map placed chain.now) }
+    ensures { option_map held_of result ≡ newest_within stamp (map placed chain.now) }
+{
+    // mostly it is the newest one
+    if let Some(held) = newest(chain) {
+        if held.stamp <= stamp {
+            return Some(held);
+        }
+    }
+    sought_at(chain, stamp)
+}
+
+fn sought_at(chain: &[Place], stamp: u64) -> Option<Held>
     requires { IsByStamp (map placed chain.now) }
     ensures { option_map held_of result ≡ newest_within stamp (map placed chain.now) }
 {
