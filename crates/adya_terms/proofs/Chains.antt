@@ -1,7 +1,7 @@
 -- Chains of writes, and what one write more changes.
 use Rattle.std.proofs.Common.{◌≡◌, ℕ, zero, suc, ◌==◌, ◌<◌, ◌≤◌, Bool, true, false, cond, List, [], ◌∷◌, ◌++◌, length, Option, Some, None, refl, ap, ◌∙◌, subst, inl, inr, arith}
-use Rattle.std.specs.Prelude.{slice_get}
-use Rattle.std.proofs.lemmas.Bool.{cases_Bool, eqb-true, and_parts}
+use Rattle.std.specs.Prelude.{slice_get, ◌&&◌}
+use Rattle.std.proofs.lemmas.Bool.{cases_Bool, eqb-true, eq-eqb, and_parts}
 use Rattle.std.proofs.lemmas.List.{length-append}
 use Rattle.lemmas.proofs.Orderings.{bytes_eq-same}
 use Rattle.adya_terms.specs.declared.own_writes.Chain.{Chain}
@@ -10,7 +10,11 @@ use Rattle.adya_terms.specs.declared.tables.Own.{Own}
 use Rattle.adya_values.specs.Meaning.Histories.{Entry, Event}
 use Rattle.adya_values.specs.Meaning.Keys.{key_eq}
 use Rattle.adya_terms.specs.Machinery.Tables.{written_at}
-use Rattle.adya_terms.specs.Machinery.Chains.{chain_passes, is_of_key, key_passes, longer, look, row, row_at, row_passes, walk, AreFew, AreLinked}
+use Rattle.adya_terms.specs.Machinery.Chains.{chain_passes, is_hit, is_of_key, key_passes, longer, look, mark_of, row, row_at, row_passes, walk, AreFew, AreLinked}
+
+and_false : (b : Bool) → (b && false) ≡ false
+and_false true = refl
+and_false false = refl
 
 -- ---- looking through a chain
 
@@ -19,11 +23,11 @@ module _ (all : List Event) (rows : List Row) (k : List ℕ) where
   walk_ends zero link none = refl
   walk_ends (suc n) link none = ap (λ o. look all k o (walk all rows k n)) none
 
-  pub walk_finds : (n link : ℕ) (r : Row) → row_at rows link ≡ Some r → is_of_key (written_at all (Some r.at)) k ≡ true
+  pub walk_finds : (n link : ℕ) (r : Row) → row_at rows link ≡ Some r → is_hit all k r ≡ true
       → walk all rows k (suc n) link ≡ Some r.at
   walk_finds n link r at hit = ap (λ o. look all k o (walk all rows k n)) at ∙ rw hit refl
 
-  pub walk_goes_on : (n link : ℕ) (r : Row) → row_at rows link ≡ Some r → is_of_key (written_at all (Some r.at)) k ≡ false
+  pub walk_goes_on : (n link : ℕ) (r : Row) → row_at rows link ≡ Some r → is_hit all k r ≡ false
       → walk all rows k (suc n) link ≡ walk all rows k n r.before
   walk_goes_on n link r at miss = ap (λ o. look all k o (walk all rows k n)) at ∙ rw miss refl
 
@@ -46,8 +50,8 @@ module _ (all : List Event) (rows : List Row) (test : List ℕ → Bool) where
       by_row None pass found next = absurd cc
       by_row (Some r) pass found next =
           let both = and_parts _ _ pass in
-          elim (cases_Bool (is_of_key (written_at all (Some r.at)) k)) [
-            | inl hit ↦ of_key (written_at all (Some r.at)) k both.0 hit
+          elim (cases_Bool (is_hit all k r)) [
+            | inl hit ↦ of_key (written_at all (Some r.at)) k both.0 (and_parts _ _ hit).1
             | inr miss ↦ next r.before both.1 k at (rw miss at found)
           ]
 
@@ -99,7 +103,7 @@ look_stays : (all : List Event) (k : List ℕ) (o : Option Row) (f g : ℕ → O
     → look all k o f ≡ look all k o g
 look_stays all k None f g same = refl
 look_stays all k (Some x) f g same =
-    elim (cases_Bool (is_of_key (written_at all (Some x.at)) k)) [
+    elim (cases_Bool (is_hit all k x)) [
       | inl hit ↦ rw hit refl
       | inr miss ↦ rw miss (same x refl)
     ]
@@ -115,21 +119,34 @@ module _ (all : List Event) (rows : List Row) (r : Row) (k : List ℕ)
       ∙ look_stays all k (slice_get rows i) (walk all (rows ++ r ∷ []) k n) (walk all rows k n)
       (λ x at. walk_stays n x.before (linked i x at))
 
+-- equal keys have equal marks
+same_mark : (j k : List ℕ) → key_eq j k ≡ true → (mark_of j == mark_of k) ≡ true
+same_mark j k same = eq-eqb (mark_of j) (mark_of k) (ap mark_of (bytes_eq-same j k same))
+
+hit_is : (all : List Event) (at before : ℕ) (w : Entry) (k : List ℕ) → written_at all (Some at) ≡ Some w
+    → is_hit all k (row at before (mark_of w.version.key)) ≡ key_eq w.version.key k
+hit_is all at before w k wrote =
+    elim (cases_Bool (key_eq w.version.key k)) [
+      | inl hit ↦ rw (wrote, same_mark w.version.key k hit) refl
+      | inr miss ↦ rw (wrote, miss) (and_false (mark_of w.version.key == mark_of k))
+    ]
+
 -- the place of the last write of a key in the longer chain
 pub walk_longer : (all : List Event) (rows : List Row) (chain : Chain) (at : ℕ) (w : Entry) (k : List ℕ)
     → ((i : ℕ) (x : Row) → slice_get rows i ≡ Some x → x.before ≤ length rows) → chain.last ≤ length rows
     → written_at all (Some at) ≡ Some w
-    → walk all (rows ++ row at chain.last ∷ []) k (suc chain.len) (suc (length rows))
+    → walk all (rows ++ row at chain.last (mark_of w.version.key) ∷ []) k (suc chain.len) (suc (length rows))
     ≡ cond (key_eq w.version.key k) (Some at) (walk all rows k chain.len chain.last)
 walk_longer all rows chain at w k linked within wrote =
-    let new : List Row = rows ++ row at chain.last ∷ [] in
-    let here : row_at new (suc (length rows)) ≡ Some (row at chain.last) = get_end rows (row at chain.last) in
-    let is : is_of_key (written_at all (Some at)) k ≡ key_eq w.version.key k = ap (λ o. is_of_key o k) wrote in
+    let last : Row = row at chain.last (mark_of w.version.key) in
+    let new : List Row = rows ++ last ∷ [] in
+    let here : row_at new (suc (length rows)) ≡ Some last = get_end rows last in
+    let is : is_hit all k last ≡ key_eq w.version.key k = hit_is all at chain.last w k wrote in
     elim (cases_Bool (key_eq w.version.key k)) [
-      | inl hit ↦ walk_finds all new k chain.len (suc (length rows)) (row at chain.last) here (is ∙ hit) ∙ rw hit refl
+      | inl hit ↦ walk_finds all new k chain.len (suc (length rows)) last here (is ∙ hit) ∙ rw hit refl
       | inr miss ↦
-          walk_goes_on all new k chain.len (suc (length rows)) (row at chain.last) here (is ∙ miss)
-          ∙ walk_stays all rows (row at chain.last) k linked chain.len chain.last within
+          walk_goes_on all new k chain.len (suc (length rows)) last here (is ∙ miss)
+          ∙ walk_stays all rows last k linked chain.len chain.last within
           ∙ rw miss refl
     ]
 
@@ -139,26 +156,26 @@ pub longer_is : (chain : Chain) (rows : List Row) (len last : ℕ) → len ≡ s
     → record { len = len; last = last } ≡ longer chain rows
 longer_is chain rows len last more end = rw (more, end) refl
 
-module _ (old new : ℕ → Chain) (rows : List Row) (at : ℕ) (t : ℕ) (linked : AreLinked old rows) where
-  more : (n : ℕ) → n ≤ length rows → n ≤ length (rows ++ row at (old t).last ∷ [])
-  more n within = let long = length-append rows (row at (old t).last ∷ []) in omega (arith, within, long)
+module _ (old new : ℕ → Chain) (rows : List Row) (at mark : ℕ) (t : ℕ) (linked : AreLinked old rows) where
+  more : (n : ℕ) → n ≤ length rows → n ≤ length (rows ++ row at (old t).last mark ∷ [])
+  more n within = let long = length-append rows (row at (old t).last mark ∷ []) in omega (arith, within, long)
 
-  rows_more : (i : ℕ) (r : Row) → slice_get (rows ++ row at (old t).last ∷ []) i ≡ Some r
-      → r.before ≤ length (rows ++ row at (old t).last ∷ [])
-  rows_more = get_any (λ r. r.before ≤ length (rows ++ row at (old t).last ∷ [])) rows (row at (old t).last)
+  rows_more : (i : ℕ) (r : Row) → slice_get (rows ++ row at (old t).last mark ∷ []) i ≡ Some r
+      → r.before ≤ length (rows ++ row at (old t).last mark ∷ [])
+  rows_more = get_any (λ r. r.before ≤ length (rows ++ row at (old t).last mark ∷ [])) rows (row at (old t).last mark)
       (λ i r is. more r.before (linked.rows_in i r is)) (more (old t).last (linked.chains_in t))
 
-  pub linked_stays : ((u : ℕ) → new u ≡ old u) → AreLinked new (rows ++ row at (old t).last ∷ [])
+  pub linked_stays : ((u : ℕ) → new u ≡ old u) → AreLinked new (rows ++ row at (old t).last mark ∷ [])
   linked_stays same = record {
     chains_in = λ u. rw (same u) (more (old u).last (linked.chains_in u));
     rows_in = rows_more;
   }
 
   pub linked_longer : ((u : ℕ) → new u ≡ cond (t == u) (longer (old t) rows) (old u))
-      → AreLinked new (rows ++ row at (old t).last ∷ [])
+      → AreLinked new (rows ++ row at (old t).last mark ∷ [])
   linked_longer set = record {
     chains_in = λ u. elim (cases_Bool (t == u)) [
-      | inl here ↦ rw (set u, here) (let long = length-append rows (row at (old t).last ∷ []) in omega (arith, long))
+      | inl here ↦ rw (set u, here) (let long = length-append rows (row at (old t).last mark ∷ []) in omega (arith, long))
       | inr other ↦ rw (set u, other) (more (old u).last (linked.chains_in u))
     ];
     rows_in = rows_more;

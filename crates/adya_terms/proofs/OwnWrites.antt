@@ -1,5 +1,5 @@
 -- Where each transaction wrote each key last, after one write more.
-use Rattle.std.proofs.Common.{◌≡◌, ℕ, ◌==◌, ◌<◌, ◌&&◌, cond, List, [], ◌∷◌, ◌++◌, Option, Some, None, Result, Ok, Err, IfOk, OnErr, refl, sym, ap, ◌∙◌, subst, inl, inr}
+use Rattle.std.proofs.Common.{◌≡◌, ℕ, suc, length, ◌==◌, ◌<◌, ◌&&◌, cond, List, [], ◌∷◌, ◌++◌, Option, Some, None, Result, Ok, Err, IfOk, OnErr, refl, sym, ap, ◌∙◌, subst, inl, inr}
 use Rattle.std.specs.Option.{option_or}
 use Rattle.std.specs.Ordering.{is_eq, nat_cmp}
 use Rattle.std.specs.Cmp.{unsigned_tied}
@@ -12,7 +12,7 @@ use Rattle.adya_terms.specs.declared.tables.Own.{Own}
 use Rattle.adya_values.specs.Meaning.Histories.{Entry, Event}
 use Rattle.adya_values.specs.Meaning.Keys.{key_eq}
 use Rattle.adya_terms.specs.Machinery.Tables.{own_eq, written_at}
-use Rattle.adya_terms.specs.Machinery.Chains.{longer, own_place, place_in, row, walk, AreFew, AreLinked}
+use Rattle.adya_terms.specs.Machinery.Chains.{longer, mark_of, own_place, place_in, row, walk, AreFew, AreLinked}
 use Rattle.adya_terms.proofs.Chains.{walk_longer, walk_stays}
 
 abbrev pub place_by : List Event → (ℕ → Chain) → List Row → (Own → Option ℕ) → Own → Option ℕ
@@ -23,7 +23,7 @@ pub place_longer : (all : List Event) (old new : ℕ → Chain) (rows : List Row
     → AreLinked old rows → AreFew old later → (old own.txn).len < 16
     → ((u : ℕ) → new u ≡ cond (own.txn == u) (longer (old own.txn) rows) (old u))
     → written_at all (Some at) ≡ Some w → w.version.key ≡ own.key
-    → (q : Own) → place_by all new (rows ++ row at (old own.txn).last ∷ []) later q
+    → (q : Own) → place_by all new (rows ++ row at (old own.txn).last (mark_of own.key) ∷ []) later q
     ≡ cond (own_eq own q) (Some at) (place_by all old rows later q)
 place_longer all old new rows later own at w linked few room set wrote of q =
     elim (cases_Bool (own.txn == q.txn)) [
@@ -31,11 +31,13 @@ place_longer all old new rows later own at w linked few room set wrote of q =
           let same : own.txn ≡ q.txn = eqb-true own.txn q.txn here in
           let none : later q ≡ None = few q (subst (λ u. (old u).len < 16) same room) in
           rw (set q.txn, here, none)
-          (walk_longer all rows (old own.txn) at w q.key linked.rows_in (linked.chains_in own.txn) wrote
-          ∙ rw of (ap (λ u. cond (key_eq own.key q.key) (Some at) (walk all rows q.key (old u).len (old u).last)) same))
+          (subst (λ j. walk all (rows ++ row at (old own.txn).last (mark_of j) ∷ []) q.key (suc (old own.txn).len) (suc (length rows))
+          ≡ cond (key_eq j q.key) (Some at) (walk all rows q.key (old own.txn).len (old own.txn).last)) of
+          (walk_longer all rows (old own.txn) at w q.key linked.rows_in (linked.chains_in own.txn) wrote)
+          ∙ ap (λ u. cond (key_eq own.key q.key) (Some at) (walk all rows q.key (old u).len (old u).last)) same)
       | inr other ↦
           rw (set q.txn, other)
-          (ap (option_or (later q)) (walk_stays all rows (row at (old own.txn).last) q.key linked.rows_in (old q.txn).len (old q.txn).last (linked.chains_in q.txn)))
+          (ap (option_or (later q)) (walk_stays all rows (row at (old own.txn).last (mark_of own.key)) q.key linked.rows_in (old q.txn).len (old q.txn).last (linked.chains_in q.txn)))
     ]
 
 -- a write of a transaction with a full chain

@@ -8,7 +8,7 @@ ghost use Rattle.txn_table.specs.Mirror.{value_for};
 ghost use Rattle.adya_values.specs.Meaning.Histories.{Entry as EntryValue, Event as EventValue};
 ghost use Rattle.adya_values.specs.Mirror.Events.{event_of};
 ghost use Rattle.adya_terms.specs.Machinery.Tables.{own, own_eq, written_at};
-ghost use Rattle.adya_terms.specs.Machinery.Chains.{is_of_key, longer, own_place, row, row_at, walk, AreFew, AreLinked};
+ghost use Rattle.adya_terms.specs.Machinery.Chains.{is_hit, is_of_key, longer, mark_of, own_place, row, row_at, walk, AreFew, AreLinked};
 
 use crate::tables::Own;
 use crate::{Event, Key, Txn};
@@ -35,6 +35,8 @@ pub(crate) struct Row {
     pub(crate) at: usize,
     /// The row of the write before it in its chain, counted from 1; 0 if there is none.
     pub(crate) before: usize,
+    /// The mark of its key. So most events are looked at only if they write the key that is sought.
+    pub(crate) mark: u16,
 }
 
 /// The places in the list of events at which each transaction wrote each key last. The first writes of a transaction are
@@ -117,12 +119,13 @@ impl OwnWrites {
     fn in_chain(&self, events: &[Event], chain: Chain, key: Key) -> Option<usize>
         ensures { result ≡ walk (map event_of events.now) self.now.rows.items key chain.len chain.last }
     {
+        let mark = mark_of(key);
         let mut link = chain.last;
         for _ in 0..chain.len {
             let Some(row) = self.row(link) else {
                 return None;
             };
-            if is_of_key(events, row.at, key) {
+            if is_hit(events, row, key, mark) {
                 return Some(row.at);
             }
             link = row.before;
@@ -141,14 +144,14 @@ impl OwnWrites {
         if chain.len >= FEW {
             return put_later(self.alloc, &mut self.later, own.txn, own.key, at);
         }
-        self.lengthen(own.txn, chain, at)
+        self.lengthen(own.txn, chain, at, mark_of(own.key))
     }
 
-    /// Adds the place to the chain of the transaction.
-    fn lengthen(&mut self, txn: Txn, chain: Chain, at: usize) -> Result<(), AllocError>
+    /// Adds the place, with the mark of its key, to the chain of the transaction.
+    fn lengthen(&mut self, txn: Txn, chain: Chain, at: usize, mark: u16) -> Result<(), AllocError>
         requires chain { value_for self.old.chains txn ≡ chain }
         requires room { chain.len < 16 }
-        ensures rows { IfOk result (λ u. self.new.rows.items ≡ self.old.rows.items ++ row at chain.last ∷ []) }
+        ensures rows { IfOk result (λ u. self.new.rows.items ≡ self.old.rows.items ++ row at chain.last mark ∷ []) }
         ensures chains { IfOk result (λ u. (t : ℕ) → value_for self.new.chains t
             ≡ cond (txn == t) (longer chain self.old.rows.items) (value_for self.old.chains t)) }
         ensures later { self.new.later ≡ self.old.later }
@@ -156,6 +159,7 @@ impl OwnWrites {
         self.rows.push(Row {
             at,
             before: chain.last,
+            mark,
         })?;
         self.chains.set(
             txn,
@@ -165,6 +169,26 @@ impl OwnWrites {
             },
         )
     }
+}
+
+/// Returns whether the event of the row writes the key, which has this mark.
+fn is_hit(events: &[Event], row: Row, key: Key, mark: u16) -> bool
+    requires { mark ≡ mark_of key }
+    ensures { result ≡ is_hit (map event_of events.now) key row }
+{
+    row.mark == mark && is_of_key(events, row.at, key)
+}
+
+/// Returns a number that is the same for equal keys: the last two bytes, or 0 if there are fewer.
+fn mark_of(key: Key) -> u16
+    ensures { result ≡ mark_of key }
+{
+    let bytes = key.bytes();
+    let len = bytes.len();
+    if len < 2 {
+        return 0;
+    }
+    u16::from(bytes[len - 2]) * 256 + u16::from(bytes[len - 1])
 }
 
 /// Returns whether the event at the place writes the key.

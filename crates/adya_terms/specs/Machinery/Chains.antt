@@ -1,5 +1,5 @@
 -- The chains of transactions' writes.
-use Rattle.std.specs.Prelude.{◌≡◌, ◌<◌, ◌≤◌, ℕ, zero, suc, Bool, true, false, ◌&&◌, List, length, Option, Some, None, slice_get, if◌then◌else◌}
+use Rattle.std.specs.Prelude.{◌≡◌, ◌<◌, ◌≤◌, ℕ, zero, suc, ◌+◌, ◌-◌, ◌*◌, ◌==◌, nat_lt, slice_index_or, Bool, true, false, ◌&&◌, List, length, Option, Some, None, slice_get, if◌then◌else◌}
 use Rattle.std.specs.Ordering.{nat_cmp}
 use Rattle.std.specs.Cmp.Lexicographic.{slice_cmp}
 use Rattle.std.specs.BTreeMap.{BTreeMap, get}
@@ -20,18 +20,26 @@ abbrev pub row_at : List Row → ℕ → Option Row
 row_at rows zero = None
 row_at rows (suc i) = slice_get rows i
 
+-- the last two bytes of a key, or 0 if there are fewer
+abbrev pub mark_of : List ℕ → ℕ
+mark_of k = if nat_lt (length k) 2 then 0 else slice_index_or k (length k - 2) 0 * 256 + slice_index_or k (length k - 1) 0
+
+-- the write of the row is one of the key, and its mark says so
+abbrev pub is_hit : List Event → List ℕ → Row → Bool
+is_hit all k r = (r.mark == mark_of k) && is_of_key (written_at all (Some r.at)) k
+
 -- the place in the row if its write is one of the key, else what comes of the row before it
 abbrev pub look : List Event → List ℕ → Option Row → (ℕ → Option ℕ) → Option ℕ
 look all k None before = None
-look all k (Some r) before = if is_of_key (written_at all (Some r.at)) k then Some r.at else before r.before
+look all k (Some r) before = if is_hit all k r then Some r.at else before r.before
 
 -- the place of the last write of the key in a chain of this length whose last row has this number
 abbrev pub walk : List Event → List Row → List ℕ → ℕ → ℕ → Option ℕ
 walk all rows k zero link = None
 walk all rows k (suc n) link = look all k (row_at rows link) (walk all rows k n)
 
-abbrev pub row : ℕ → ℕ → Row
-row at before = record { at = at; before = before }
+abbrev pub row : ℕ → ℕ → ℕ → Row
+row at before mark = record { at = at; before = before; mark = mark }
 
 -- the chain with one row more, which comes after these rows
 abbrev pub longer : Chain → List Row → Chain

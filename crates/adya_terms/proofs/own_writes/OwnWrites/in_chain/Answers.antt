@@ -1,7 +1,6 @@
 use Rattle.std.proofs.Common.{◌≡◌, suc, ◌+◌, ◌-◌, ◌∙◌, false, map, sym, ap, Some, arith}
 use Rattle.adya_values.specs.Mirror.Events.{event_of}
-use Rattle.adya_terms.specs.Machinery.Tables.{written_at}
-use Rattle.adya_terms.specs.Machinery.Chains.{is_of_key, row_at, walk}
+use Rattle.adya_terms.specs.Machinery.Chains.{is_hit, row_at, walk}
 use Rattle.adya_terms.proofs.Chains.{walk_goes_on}
 use Rattle.adya_terms.proofs.own_writes.OwnWrites.in_chain.Goals as goal
 
@@ -12,7 +11,7 @@ loop-preserved c =
     let less = c.loop-test.true in
     let step : c.args.chain.len - c.loop.counter ≡ suc (c.args.chain.len - (c.loop.counter + 1)) = omega (arith, less) in
     let here : row_at rows c.loop.link ≡ Some c.in-Some.row = sym c.row.ensures ∙ c.in-Some.is in
-    let miss : is_of_key (written_at all (Some c.in-Some.row.at)) c.args.key ≡ false = sym c.is_of_key.ensures ∙ c.if-is_of_key.false in
+    let miss : is_hit all c.args.key c.in-Some.row ≡ false = sym c.is_hit.ensures ∙ c.if-is_hit.false in
     c.loop.invariant
     ∙ ap (λ n. walk all rows c.args.key n c.loop.link) step
     ∙ walk_goes_on all rows c.args.key (c.args.chain.len - (c.loop.counter + 1)) c.loop.link c.in-Some.row here miss

@@ -29,7 +29,7 @@ invariant_of-self-2 c = by_result c.set.result c.set.ensures.set c.set.ensures.r
     is : old t ≡ c.args.chain
     is = c.requires.chain
 
-    grown : c.push.new.self.items ≡ rows ++ row c.args.at (old t).last ∷ []
+    grown : c.push.new.self.items ≡ rows ++ row c.args.at (old t).last c.args.mark ∷ []
     grown = rw is c.in_ok-push.ensures.items
 
     is_len : c.args.chain.len ≡ (old t).len
@@ -49,11 +49,11 @@ invariant_of-self-2 c = by_result c.set.result c.set.ensures.set c.set.ensures.r
     by_result (Ok _) set refused =
         let longer_set : (u : ℕ) → new u ≡ cond (t == u) (longer (old t) rows) (old u) = λ u. rw (sym value) (set u) in
         record {
-          linked = rw grown (linked_longer old new rows c.args.at t c.args.self.now.linked longer_set);
+          linked = rw grown (linked_longer old new rows c.args.at c.args.mark t c.args.self.now.linked longer_set);
           few = few_longer old new later rows t c.args.self.now.few (rw is c.requires.room) longer_set;
         }
     by_result (Err _) set refused =
         record {
-          linked = rw grown (linked_stays old new rows c.args.at t c.args.self.now.linked refused);
+          linked = rw grown (linked_stays old new rows c.args.at c.args.mark t c.args.self.now.linked refused);
           few = λ q less. c.args.self.now.few q (rw (refused q.txn) at less);
         }

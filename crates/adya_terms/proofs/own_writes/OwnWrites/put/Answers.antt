@@ -32,13 +32,13 @@ returns c = by_result c.lengthen.result c.lengthen.ensures.rows c.lengthen.ensur
     is = c.chain-chain.ensures
 
     by_result : (r : Result (Unit {0}) AllocError)
-        → IfOk r (λ u. c.lengthen.new.self.rows.items ≡ c.args.self.now.rows.items ++ row c.args.at c.chain-chain.result.last ∷ [])
+        → IfOk r (λ u. c.lengthen.new.self.rows.items ≡ c.args.self.now.rows.items ++ row c.args.at c.chain-chain.result.last c.mark_of.result ∷ [])
         → IfOk r (λ u. (t : ℕ) → value_for c.lengthen.new.self.chains t
         ≡ cond (c.args.own.txn == t) (longer c.chain-chain.result c.args.self.now.rows.items) (old t))
         → IfOk r (λ u. (all : List Event) (w : Entry) → written_at all (Some c.args.at) ≡ Some w → w.version.key ≡ c.args.own.key
         → (q : Own) → place_of all c.lengthen.new.self q ≡ cond (own_eq c.args.own q) (Some c.args.at) (place_of all c.args.self.now q))
     by_result (Ok _) rows chains = λ all w wrote of q.
-        rw (rows, c.lengthen.ensures.later, is)
+        rw (rows, c.lengthen.ensures.later, is, c.mark_of.ensures)
         (place_longer all old (value_for c.lengthen.new.self.chains) c.args.self.now.rows.items later
         c.args.own c.args.at w c.args.self.now.linked c.args.self.now.few (rw is at c.if-chain-ge-FEW.false) (rw is at chains) wrote of q)
     by_result (Err _) rows chains = tt
