@@ -1,2 +1,3 @@
--- What only the code of this crate needs: texts in arrays of fixed size.
+-- What only the code of this crate needs: texts in arrays of fixed size, and events in an arena.
+pub mod Packed
 pub mod Padded
