@@ -12,7 +12,7 @@ use Rattle.adya_values.specs.declared.event.Entry.{Entry as EntryValue}
 use Rattle.adya_values.specs.Meaning.Keys.{key_eq, key_lt, keys_rise, lies_in}
 use Rattle.adya_values.specs.Meaning.Histories.{Entry}
 use Rattle.adya_values.specs.Mirror.Events.{entry_of}
-use Rattle.adya_values.specs.Meaning.Events.{entry, listed}
+use Rattle.adya_values.specs.Meaning.Events.{listed}
 use Rattle.ssi_versions.specs.Meaning.Changes.{Held, otherwise, entry_in}
 use Rattle.ssi_versions.specs.Mirror.{write_of}
 use Rattle.ssi_snapshot.specs.Clauses.Listings.{keys}

@@ -66,7 +66,7 @@ pub some_mapped : {X Y : Type 0} (f : X → Y) (o : Option X) → is_some o ≡ 
 some_mapped f None = refl
 some_mapped f (Some x) = refl
 
-keys_stored : (es : Stored) → are_keyed write_key es ≡ true → keys_of es ≡ keys (stored_writes es)
+pub keys_stored : (es : Stored) → are_keyed write_key es ≡ true → keys_of es ≡ keys (stored_writes es)
 keys_stored [] keyed = refl
 keys_stored (e ∷ es) keyed =
     let o = and_parts (key_eq e.1.0.key e.0) (are_keyed write_key es) keyed in

@@ -6,8 +6,8 @@ use Rattle.adya_values.specs.Meaning.Events.{listed}
 use Rattle.ssi_versions.specs.Meaning.Changes.{Held, otherwise, entry_in}
 use Rattle.ssi_versions.specs.Clauses.ByStamp.{newest_within}
 use Rattle.ssi_versions.specs.Mirror.{write_of, chain_of}
-use Rattle.indexmap.specs.IndexMap.{values}
 use Rattle.ssi_snapshot.specs.Clauses.Listings.{within}
+use Rattle.ssi_snapshot.specs.Machinery.Stored.{all_writes}
 use Rattle.ssi_snapshot.specs.declared.view.View.{View}
 
 -- the transaction
@@ -24,7 +24,7 @@ count_of v = v.count
 
 -- its last write of each key, in the order of its first writes of the keys
 abbrev pub written : View → List Entry
-written v = map write_of (values v.writes)
+written v = map write_of (all_writes v.writes)
 
 -- its last write of the key
 abbrev pub own : Key → View → Option Entry

@@ -6,5 +6,6 @@ pub mod laws;
 mod limit;
 mod merge;
 mod view;
+mod writes;
 
 pub use view::View;

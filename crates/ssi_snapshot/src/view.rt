@@ -8,13 +8,13 @@ ghost use Rattle.adya_values.specs.Meaning.Events.{listed};
 ghost use Rattle.ssi_versions.specs.Clauses.Conditions.{AreApart};
 ghost use Rattle.ssi_versions.specs.Mirror.{write_of};
 ghost use Rattle.ssi_snapshot.specs.Clauses.Writes.{mod_of, next_mod, next_write, put_write};
-ghost use Rattle.ssi_snapshot.specs.Clauses.Listings.{IsListing, up_to};
-ghost use Rattle.ssi_snapshot.specs.Machinery.Stored.{are_keyed, write_key, stored_writes};
+ghost use Rattle.ssi_snapshot.specs.Clauses.Listings.{keys, IsListing, up_to};
+ghost use Rattle.ssi_snapshot.specs.Machinery.Stored.{is_keyed, all_writes};
 
 use crate::limit::keep_first;
 use crate::merge::{all_values, put_held, put_own};
+use crate::writes::Writes;
 use adya_values::{Content, Entry, Key, Mod, Txn, Version};
-use indexmap::IndexMap;
 use ssi_versions::Chains;
 use std::alloc::{AllocError, Global};
 use std::collections::BTreeMap;
@@ -28,9 +28,9 @@ pub struct View {
     txn: Txn,
     snapshot: u64,
     count: u16,
-    writes: IndexMap<Key, (Version, Content)>,
-    ghost keyed: { are_keyed write_key writes.entries ≡ true },
-    ghost counted: { (key : List ℕ) → mod_of (listed key (stored_writes writes.entries)) ≤ count },
+    writes: Writes,
+    ghost keyed: { is_keyed writes ≡ true },
+    ghost counted: { (key : List ℕ) → mod_of (listed key (map write_of (all_writes writes))) ≤ count },
 }
 
 impl View {
@@ -48,7 +48,7 @@ impl View {
             txn,
             snapshot,
             count: 0,
-            writes: IndexMap::new(alloc),
+            writes: Writes::Nothing,
         }
     }
 
@@ -92,7 +92,7 @@ impl View {
             txn: self.txn,
             m,
         };
-        self.writes.insert(key, (version, content))?;
+        self.writes.put(self.alloc, &(version, content))?;
         self.count += 1;
         Ok(m)
     }
@@ -102,7 +102,7 @@ impl View {
     pub fn get<C: Chains>(&self, chains: &C, key: Key) -> Option<Entry>
         ensures { option_map entry_of result ≡ sees key self.now (C.held chains.now) }
     {
-        if let Some(write) = self.own_write(key) {
+        if let Some(write) = self.writes.get(key) {
             return Some(write);
         }
         let held = chains.at(key, self.snapshot)?;
@@ -154,7 +154,7 @@ impl View {
     pub fn owns(&self, key: Key) -> bool
         ensures { result ≡ is_some (own key self.now) }
     {
-        self.writes.contains_key(&key)
+        self.writes.get(key).is_some()
     }
 
     /// Returns the transaction's last write of each key, in the order of its first writes of the keys. Takes no memory.
@@ -162,18 +162,14 @@ impl View {
         ensures all { map write_of result.now ≡ written self.now }
         ensures apart { AreApart (written self.now) }
     {
-        let _unique = self.writes.len();
-        self.writes.values().as_slice()
+        self.writes.as_slice()
     }
 
-    /// Returns the transaction's last write of the key.
-    fn own_write(&self, key: Key) -> Option<Entry>
-        ensures { option_map entry_of result ≡ own key self.now }
+    /// Returns the keys that the transaction has written, in the order of its first writes of them. Takes no memory.
+    pub fn keys(&self) -> &[Key]
+        ensures { result.now ≡ keys (written self.now) }
     {
-        match self.writes.get(&key) {
-            Some(&(version, content)) => Some(Entry { version, content }),
-            None => None,
-        }
+        self.writes.keys()
     }
 
     /// Returns the number of the transaction's next write of the key.
@@ -182,7 +178,7 @@ impl View {
         ensures m { result ≡ next_mod key (written self.now) }
         ensures within { result ≤ count_of self.now + 1 }
     {
-        match self.own_write(key) {
+        match self.writes.get(key) {
             Some(write) => Mod::new(u64::from(write.version.m.get()) + 1).unwrap(),
             None => Mod::new(1).unwrap(),
         }

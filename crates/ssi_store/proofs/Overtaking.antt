@@ -19,7 +19,7 @@ use Rattle.ssi_store.specs.Meaning.Acts.{Act}
 use Rattle.ssi_store.specs.Meaning.Replies.{conflict, is_overtaken, last_writer, writer_in}
 use Rattle.ssi_store.specs.Meaning.Seeing.{changed, keys, own_keys, snapshot, wrote}
 use Rattle.ssi_store.specs.Machinery.Below.{Below}
-use Rattle.ssi_store.specs.Machinery.Overtaken.{IsLeast, is_passed, passed_by, key_of, lesser, written_key}
+use Rattle.ssi_store.specs.Machinery.Overtaken.{IsLeast, is_passed, passed_by, key_of, lesser}
 use Rattle.ssi_store.specs.declared.overtaken.Overtaken.{Overtaken}
 use Rattle.ssi_store.proofs.ChangesAllowed.{changed_installable}
 use Rattle.adya_values.proofs.KeyOrder.{key_le-itself, key_le-from_lt, key_le-from_not, key_le-trans, key_lt-from_le_lt, key_lt-never}
@@ -161,7 +161,3 @@ pub keys_more : (ws : List (Version × Content)) (w : Version × Content)
     → listed_keys (map write_of (ws ++ w ∷ [])) ≡ listed_keys (map write_of ws) ++ w.0.key ∷ []
 keys_more [] w = refl
 keys_more (v ∷ ws) w = ap (λ ks. v.0.key ∷ ks) (keys_more ws w)
-
-pub written_keys : (ws : List (Version × Content)) → map written_key ws ≡ listed_keys (map write_of ws)
-written_keys [] = refl
-written_keys (w ∷ ws) = ap (λ ks. w.0.key ∷ ks) (written_keys ws)

@@ -1,18 +1,14 @@
 //! Commit.
 
-ghost use Rattle.std.specs.Prelude.{◌≡◌, map, IfOk};
-ghost use Rattle.ssi_store.specs.Machinery.Overtaken.{written_key};
-
 use crate::below::laws_below;
 use crate::engine::Engine;
 use crate::overtaken::least_overtaken;
 use crate::sessions::{open_of, remove};
 use crate::{Refusal, Reply, Session};
-use adya_values::{Content, Event, Key, Version};
+use adya_values::Event;
 use ssi_conflict::Answer;
 use ssi_reads::Marks;
 use ssi_versions::Chains;
-use std::alloc::{AllocError, Global};
 
 impl<C: Chains + Drop, M: Marks + Drop> Engine<C, M> {
     ghost use Rattle.ssi_store.specs.Meaning.Courses.{Command as Do};
@@ -27,6 +23,7 @@ impl<C: Chains + Drop, M: Marks + Drop> Engine<C, M> {
         let open = open_of(&self.sessions, session)?;
         let txn = open.view.txn();
         let writes = open.view.writes();
+        let keys = open.view.keys();
         if let Some(least) = least_overtaken(&self.chains, open.view.snapshot(), writes) {
             self.drop_txn(session, txn);
             return Ok(Reply::Conflict {
@@ -34,8 +31,6 @@ impl<C: Chains + Drop, M: Marks + Drop> Engine<C, M> {
                 writer: least.writer,
             });
         }
-        let listed = keys_in(self.alloc, writes)?;
-        let keys = listed.as_slice();
         let answer = self.tracker.judge(txn, keys)?;
         if let Answer::Unsafe { pivot } = answer {
             self.drop_txn(session, txn);
@@ -49,11 +44,4 @@ impl<C: Chains + Drop, M: Marks + Drop> Engine<C, M> {
         self.commits += 1;
         Ok(Reply::Committed)
     }
-}
-
-/// Returns the keys of these writes, in their order.
-fn keys_in(alloc: Global, writes: &[(Version, Content)]) -> Result<Vec<Key>, AllocError>
-    ensures { IfOk result (λ v. v.items ≡ map written_key writes.now) }
-{
-    writes.iter().map(|write| write.0.key).collect(alloc)
 }

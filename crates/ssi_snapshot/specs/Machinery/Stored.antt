@@ -1,5 +1,5 @@
 -- Writes in an index map from keys, and a scan's entries in an ordered one.
-use Rattle.std.specs.Prelude.{ℕ, Bool, List, map, Option, option_map}
+use Rattle.std.specs.Prelude.{ℕ, Bool, true, List, [], ◌∷◌, map, Option, option_map}
 use Rattle.std.specs.List.{list_all}
 use Rattle.std.specs.Map.{lookup, values_of}
 use Rattle.std.specs.BTreeMap.{is_at}
@@ -12,6 +12,8 @@ use Rattle.adya_values.specs.Meaning.Keys.{key_eq}
 use Rattle.adya_values.specs.Meaning.Histories.{Entry}
 use Rattle.adya_values.specs.Mirror.Events.{entry_of}
 use Rattle.ssi_versions.specs.Mirror.{write_of}
+use Rattle.ssi_snapshot.specs.declared.writes.Writes.{Writes}
+use Rattle.ssi_snapshot.specs.declared.writes.Writes.TheVariants.{Nothing, Single, Several}
 
 -- what is stored under each key is of this key
 abbrev pub are_keyed : {X : Type 0} → (X → List ℕ) → List (List ℕ × X) → Bool
@@ -30,6 +32,18 @@ entry_key w = w.version.key
 -- the writes in the order of their map
 abbrev pub stored_writes : List (List ℕ × Write) → List Entry
 stored_writes es = map write_of (values_of es)
+
+-- the writes, as one list
+abbrev pub all_writes : Writes → List Write
+all_writes Nothing = []
+all_writes (Single w) = w ∷ []
+all_writes (Several ws) = values_of ws.entries
+
+-- several writes are stored under their keys
+abbrev pub is_keyed : Writes → Bool
+is_keyed Nothing = true
+is_keyed (Single w) = true
+is_keyed (Several ws) = are_keyed write_key ws.entries
 
 -- what the ordered map has of the key
 abbrev pub stored_at : List ℕ → List (List ℕ × EntryValue) → Option Entry

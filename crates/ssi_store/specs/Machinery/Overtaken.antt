@@ -1,17 +1,11 @@
 -- Keys of a transaction of which another transaction has committed a version since it began.
 use Rattle.std.specs.Prelude.{◌≡◌, ℕ, Bool, true, false, if◌then◌else◌, List, Option, Some, None, Contains}
-use Rattle.adya_values.specs.declared.event.Version.{Version}
-use Rattle.adya_values.specs.declared.event.Content.{Content}
 use Rattle.adya_values.specs.Meaning.Keys.{key_lt, key_le}
 use Rattle.ssi_versions.specs.Meaning.Changes.{Held}
 use Rattle.ssi_versions.specs.Clauses.ByStamp.{newest, is_above}
 use Rattle.ssi_versions.specs.Mirror.{chain_of}
 use Rattle.ssi_store.specs.Meaning.Replies.{writer_in}
 use Rattle.ssi_store.specs.declared.overtaken.Overtaken.{Overtaken}
-
--- the key of a write
-abbrev pub written_key : Version × Content → List ℕ
-written_key w = w.0.key
 
 -- the last held version of the key has a stamp above this one
 abbrev pub is_passed : ℕ → List Held → List ℕ → Bool

@@ -1,7 +1,6 @@
-use Rattle.std.proofs.Common.{refl, ap, subst, ◌+◌, ◌∙◌, ◌∷◌, map, Some, None}
+use Rattle.std.proofs.Common.{refl, subst, ◌+◌, ◌∷◌, map, Some, None}
 use Rattle.std.proofs.lemmas.Result.{err_from_is_err_and}
 use Rattle.ssi_versions.specs.Mirror.{write_of}
-use Rattle.ssi_snapshot.specs.Clauses.Listings.{keys}
 use Rattle.ssi_conflict.specs.Meaning.Calls.{Commits as Ends}
 use Rattle.ssi_conflict.specs.Clauses.Pairs.{IsOrderedPivot, IsSmallest}
 use Rattle.ssi_conflict.specs.Mirror.{pivot_of}
@@ -10,7 +9,6 @@ use Rattle.ssi_store.specs.Meaning.Courses.{Commit, Conflict, Unsafe}
 use Rattle.ssi_store.specs.Meaning.Tracked.{tracked}
 use Rattle.ssi_store.proofs.Commits.{commit_idle, commit_memory, found_conflict, conflict_ends, may_commit, commit_ends, committed, above_installed}
 use Rattle.ssi_store.proofs.Looks.{safe_of}
-use Rattle.ssi_store.proofs.Overtaking.{written_keys}
 use Rattle.ssi_store.proofs.RisingOpens.{below_without}
 use Rattle.ssi_store.proofs.Steps.{same_course}
 use Rattle.ssi_store.proofs.engine.Engine.commit.Goals as goal
@@ -50,9 +48,8 @@ returns-in-Unsafe g c = record {
       let free = found_conflict st c.args.session o at c.laws_below.ensures c.snapshot.result
       (map write_of c.writes-writes.result.now) None c.snapshot.ensures c.writes-writes.ensures.all
       c.in_default.ensures.least in
-      let keys_are = c.as_slice-keys.ensures.value ∙ c.in_ok-listed.ensures ∙ written_keys c.writes-writes.result.now
-      ∙ ap keys c.writes-writes.ensures.all in
-      let may = may_commit st c.args.session o at c.laws_below.ensures free c.txn-txn.result c.as_slice-keys.result.now
+      let keys_are = c.keys-keys.ensures in
+      let may = may_commit st c.args.session o at c.laws_below.ensures free c.txn-txn.result c.keys-keys.result.now
       c.txn-txn.ensures keys_are in
       c.drop_txn-in-Unsafe.ensures.stands course (Commit c.args.session) (Unsafe c.in-Unsafe.pivot)
       (same_course st _ (record {
@@ -63,10 +60,10 @@ returns-in-Unsafe g c = record {
         opened = st.log.opened;
         snapshots = st.log.snapshots;
       }))
-      (commit_ends st c.args.session o at c.laws_below.ensures free c.txn-txn.result c.as_slice-keys.result.now c.txn-txn.ensures
+      (commit_ends st c.args.session o at c.laws_below.ensures free c.txn-txn.result c.keys-keys.result.now c.txn-txn.ensures
       keys_are c.in-Unsafe.pivot
       (subst (λ a. IsSmallest IsOrderedPivot
-      (Ends c.txn-txn.result (c.args.self.now.commits + 1) c.as_slice-keys.result.now ∷ tracked (acts course)) (pivot_of a))
+      (Ends c.txn-txn.result (c.args.self.now.commits + 1) c.keys-keys.result.now ∷ tracked (acts course)) (pivot_of a))
       c.in-Unsafe.is (c.in_ok-answer.ensures.answer (tracked (acts course)) (c.args.self.now.commits + 1) st.log.tracker may)));
 }
 
@@ -78,15 +75,14 @@ returns g c = record {
       let free = found_conflict st c.args.session o at c.laws_below.ensures c.snapshot.result
       (map write_of c.writes-writes.result.now) None c.snapshot.ensures c.writes-writes.ensures.all
       c.in_default.ensures.least in
-      let keys_are = c.as_slice-keys.ensures.value ∙ c.in_ok-listed.ensures ∙ written_keys c.writes-writes.result.now
-      ∙ ap keys c.writes-writes.ensures.all in
-      let may = may_commit st c.args.session o at c.laws_below.ensures free c.txn-txn.result c.as_slice-keys.result.now
+      let keys_are = c.keys-keys.ensures in
+      let may = may_commit st c.args.session o at c.laws_below.ensures free c.txn-txn.result c.keys-keys.result.now
       c.txn-txn.ensures keys_are in
       let safe = safe_of c.in_ok-answer.answer c.in_default-answer.not-Unsafe in
-      committed st c.args.session o at c.laws_below.ensures free c.txn-txn.result c.as_slice-keys.result.now c.txn-txn.ensures
+      committed st c.args.session o at c.laws_below.ensures free c.txn-txn.result c.keys-keys.result.now c.txn-txn.ensures
       keys_are _ _ _ _ _ _ (map write_of c.writes-writes.result.now)
       (subst (λ a. IsSmallest IsOrderedPivot
-      (Ends c.txn-txn.result (c.args.self.now.commits + 1) c.as_slice-keys.result.now ∷ tracked (acts course)) (pivot_of a))
+      (Ends c.txn-txn.result (c.args.self.now.commits + 1) c.keys-keys.result.now ∷ tracked (acts course)) (pivot_of a))
       safe (c.in_ok-answer.ensures.answer (tracked (acts course)) (c.args.self.now.commits + 1) st.log.tracker may))
       c.writes-writes.ensures.all c.in_ok-install.ensures.added
       (c.on_commit.ensures (tracked (acts course)) (c.judge.ensures.stands (tracked (acts course)) st.log.tracker) may
@@ -97,14 +93,6 @@ returns g c = record {
 pub invariant_of-self-2-clause-early : goal.invariant_of-self-2-clause-early
 invariant_of-self-2-clause-early g c =
     below_without _ _ c.txn-txn.result c.args.self.now.next c.args.self.now.roster.rising c.args.self.now.early c.end.ensures.opened
-
-pub returns-in_err-listed : goal.returns-in_err-listed
-returns-in_err-listed g c = record {
-  stands = λ course st.
-      let p = err_from_is_err_and c.from_residual-in_err-listed.result c.from_residual-in_err-listed.ensures.1 in
-      rw (p.1, p.2) (commit_memory st c.args.session c.in_ok-open.open.now (c.in_ok-open.ensures.open) _ _
-      refl st.log.tracker);
-}
 
 pub returns-in_err-answer : goal.returns-in_err-answer
 returns-in_err-answer g c = record {
