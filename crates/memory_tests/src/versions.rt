@@ -96,7 +96,7 @@ impl<C: Chains + Drop> Versions<C> {
     }
 
     /// `begin TXN SNAPSHOT`, which is a new view, `put KEY VALUE`, `get KEY`, `scan LOW HIGH`, `first N LOW HIGH`,
-    /// `owns KEY`, `writes`, `txn`, `snapshot` and `count`.
+    /// `owns KEY`, `writes`, `keys`, `txn`, `snapshot` and `count`.
     fn call_view(&mut self, words: &mut Words, reply: &mut Reply) -> Result<(), Fault> {
         match words.word() {
             "begin" => self.begin(words),
@@ -165,6 +165,7 @@ fn ask_view(name: &str, view: &View, words: &mut Words, reply: &mut Reply) -> Re
         "owns" if view.owns(words.key()?) => Ok(put(b"yes", reply)?),
         "owns" => Ok(put(b"no", reply)?),
         "writes" => put_writes(view.writes(), reply),
+        "keys" => put_keys(view.keys(), reply),
         "txn" => Ok(put_number(u64::from(view.txn().get()), reply)?),
         "snapshot" => Ok(put_number(view.snapshot(), reply)?),
         "count" => Ok(put_number(u64::from(view.count()), reply)?),
@@ -214,6 +215,15 @@ fn put_writes(found: &[(Version, Content)], reply: &mut Reply) -> Result<(), Fau
     for (place, (version, content)) in found.iter().enumerate() {
         part(place, reply)?;
         put_entry(version, content, reply)?;
+    }
+    Ok(())
+}
+
+fn put_keys(keys: &[Key], reply: &mut Reply) -> Result<(), Fault> {
+    put_empty(keys.len(), reply)?;
+    for (place, key) in keys.iter().enumerate() {
+        part(place, reply)?;
+        put(key.bytes(), reply)?;
     }
     Ok(())
 }
