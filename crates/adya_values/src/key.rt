@@ -1,6 +1,6 @@
 //! Keys.
 
-ghost use Rattle.std.specs.Prelude.{◌≡◌, ◌<◌, ◌≤◌, ◌↔◌, List, ℕ, length, IsOk, IfOk, IsTrue, nat_eq, refl, Some, true};
+ghost use Rattle.std.specs.Prelude.{◌≡◌, ◌+◌, ◌*◌, ◌<◌, ◌≤◌, ◌↔◌, List, ℕ, length, IsOk, IfOk, IsTrue, nat_eq, refl, Some, true};
 ghost use Rattle.std.specs.Ordering.{nat_cmp};
 ghost use Rattle.std.specs.Cmp.{partial_equiv_from_equiv};
 ghost use Rattle.std.specs.Cmp.Lexicographic.{pointwise, slice_cmp, nat_list_eq_equiv, nat_list_cmp_total, texts_po, texts_ties};
@@ -9,6 +9,7 @@ ghost use Rattle.std.specs.Hash as fed;
 ghost use Rattle.std.proofs.Common.{rules};
 ghost use Rattle.std.specs.List.{list_all};
 ghost use Rattle.adya_values.specs.Meaning.Keys.{is_key, is_key_byte};
+ghost use Rattle.adya_values.specs.Machinery.Words.{first_word};
 
 use crate::padded::padded;
 use std::cmp::Ordering;
@@ -151,9 +152,34 @@ impl Ord for Key {
 
     ghost matches_eq = { texts_ties };
 
+    // Most keys that differ do so in their first bytes, and two numbers are compared at once.
     fn cmp(&self, other: &Self) -> Ordering {
+        let first = first_word(&self.bytes);
+        let others = first_word(&other.bytes);
+        if first < others {
+            return Ordering::Less;
+        }
+        if others < first {
+            return Ordering::Greater;
+        }
         self.bytes().cmp(&other.bytes())
     }
+}
+
+/// Returns the number that the first eight bytes form, the first of them its highest.
+fn first_word(bytes: &[u8; 32]) -> u64
+    ensures { result ≡ first_word bytes.now }
+{
+    let high = half_word(bytes[0], bytes[1], bytes[2], bytes[3]);
+    let low = half_word(bytes[4], bytes[5], bytes[6], bytes[7]);
+    high * 4_294_967_296 + low
+}
+
+fn half_word(a: u8, b: u8, c: u8, d: u8) -> u64
+    ensures value { result ≡ ((a * 256 + b) * 256 + c) * 256 + d }
+    ensures limit { result < 4294967296 }
+{
+    ((u64::from(a) * 256 + u64::from(b)) * 256 + u64::from(c)) * 256 + u64::from(d)
 }
 
 impl Hash for Key {
