@@ -297,14 +297,14 @@ pub joined : {X : Type 0} (new cur old a b d : List X) → new ≡ cur ++ d → 
 joined new cur old a b d p q r = p ∙ ap (λ xs. xs ++ d) q ∙ append_assoc old a d ∙ ap (λ xs. old ++ xs) (sym r)
 
 -- an install, from what it puts under the keys to the chains
-pub chain_added : (q : List ℕ) (n : ℕ) (new mid : List Chain) (old : List Held) (ws : List (Version × Content)) → AreApart (map write_of ws) → is_owned new ≡ true → is_owned mid ≡ true
-    → IsStrictlySortedBy (slice_cmp nat_cmp) (keys_of new) → IsStrictlySortedBy (slice_cmp nat_cmp) (keys_of mid) → versions mid ≡ old
-    → held_at q new ≡ held_at q mid ++ chain_of q (map held_of (map (as_held n) ws))
-    → chain_of q (versions new) ≡ chain_of q old ++ listing (stamped n (listed q (map write_of ws)))
-chain_added q n new mid old ws apart own owm son som same e =
+pub chain_added : (q : List ℕ) (n : ℕ) (new old : List Chain) (ws : List (Version × Content)) → AreApart (map write_of ws) → is_owned new ≡ true → is_owned old ≡ true
+    → IsStrictlySortedBy (slice_cmp nat_cmp) (keys_of new) → IsStrictlySortedBy (slice_cmp nat_cmp) (keys_of old)
+    → held_at q new ≡ held_at q old ++ chain_of q (map held_of (map (as_held n) ws))
+    → chain_of q (versions new) ≡ chain_of q (versions old) ++ listing (stamped n (listed q (map write_of ws)))
+chain_added q n new old ws apart own owo son soo e =
     chain_get q new own son ∙ e
-    ∙ ap (λ xs. xs ++ chain_of q (map held_of (map (as_held n) ws))) (sym (chain_get q mid owm som) ∙ ap (chain_of q) same)
-    ∙ ap (λ xs. chain_of q old ++ xs) (installed q n ws apart)
+    ∙ ap (λ xs. xs ++ chain_of q (map held_of (map (as_held n) ws))) (sym (chain_get q old owo soo))
+    ∙ ap (λ xs. chain_of q (versions old) ++ xs) (installed q n ws apart)
 
 -- each chain stands by stamp where the versions of each key do
 by_stamp_distinct : (es : List Chain) → is_owned es ≡ true → IsDistinct (eq_by_cmp (slice_cmp nat_cmp)) (keys_of es)

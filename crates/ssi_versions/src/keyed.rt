@@ -1,6 +1,6 @@
 //! Versions in chains by key: the fast way to keep them.
 
-ghost use Rattle.std.specs.Prelude.{◌≡◌, [], ◌∷◌, ◌++◌, ◌≤◌, ◌<◌, ◌+◌, ◌^◌, List, ℕ, true, false, if◌then◌else◌, length, take, drop, map, option_map, OnOk, OnErr, IfOk};
+ghost use Rattle.std.specs.Prelude.{◌≡◌, [], ◌∷◌, ◌++◌, ◌≤◌, ◌<◌, ◌+◌, ◌^◌, List, ℕ, true, false, if◌then◌else◌, ◌==◌, length, take, drop, map, option_map, OnOk, OnErr, IfOk};
 ghost use Rattle.std.specs.List.{All};
 ghost use Rattle.std.specs.BTreeMap.{IsOrdered};
 ghost use Rattle.std.specs.BTreeMap.Range.{entries_between};
@@ -61,8 +61,7 @@ impl Chains for KeyChains {
         let Some(total) = self.total.checked_add(writes.len() as u64) else {
             return Err(AllocError);
         };
-        make_room_for(self.alloc, &mut self.chains, writes)?;
-        let opened = put_all(&mut self.chains, stamp, writes);
+        let opened = add_all(self.alloc, &mut self.chains, stamp, writes)?;
         self.total = total;
         self.filled += opened;
         Ok(())
@@ -110,6 +109,98 @@ impl Chains for KeyChains {
     ghost by_stamp = { λ chains key. chains.rise key };
 }
 
+/// Puts these writes at the ends of their chains, and tells how many of these had none. If memory is refused, what is held
+/// stays.
+fn add_all(
+    alloc: Global,
+    chains: &mut BTreeMap<Key, SmallVec<Place, 4>>,
+    stamp: u64,
+    writes: &[(Version, Content)],
+) -> Result<u64, AllocError>
+    requires apart { AreApart (map write_of writes.now) }
+    requires owned { is_owned chains.old.entries ≡ true }
+    ensures added { OnOk result ((q : List ℕ) → held_at q chains.new.entries ≡ held_at q chains.old.entries ++ chain_of q (map held_of (map (as_held stamp) writes.now))) }
+    ensures owned { is_owned chains.new.entries ≡ true }
+    ensures count { OnOk result (length (versions chains.new.entries) ≡ length (versions chains.old.entries) + length writes.now) }
+    ensures filled { IfOk result (λ opened. filled_count chains.new.entries ≡ filled_count chains.old.entries + opened) }
+    ensures fits { OnOk result (filled_count chains.new.entries < 2 ^ 63) }
+    ensures refused { OnErr result (versions chains.new.entries ≡ versions chains.old.entries) }
+    ensures refused_filled { OnErr result (filled_count chains.new.entries ≡ filled_count chains.old.entries) }
+    ensures ordered { OnOk result (IsOrdered (slice_cmp nat_cmp) chains.old × IsOrdered (slice_cmp nat_cmp) chains.new) }
+{
+    let _before = chains.len();
+    // most transactions write one key, whose chain is then found once
+    if let [write] = writes {
+        let opened = add(alloc, chains, stamp, write)?;
+        let _after = chains.len();
+        return Ok(u64::from(opened));
+    }
+    make_room_for(alloc, chains, writes)?;
+    Ok(put_all(chains, stamp, writes))
+}
+
+/// Puts one version at the end of its key's chain, and tells whether that had none. If memory is refused, what is held stays.
+fn add(
+    alloc: Global,
+    chains: &mut BTreeMap<Key, SmallVec<Place, 4>>,
+    stamp: u64,
+    write: &(Version, Content),
+) -> Result<bool, AllocError>
+    ensures added { OnOk result ((q : List ℕ) → held_at q chains.new.entries ≡ held_at q chains.old.entries ++ chain_of q (held_of (as_held stamp write.now) ∷ [])) }
+    ensures owned { is_owned chains.old.entries ≡ true → is_owned chains.new.entries ≡ true }
+    ensures count { OnOk result (length (versions chains.new.entries) ≡ length (versions chains.old.entries) + 1) }
+    ensures filled { IfOk result (λ opened. filled_count chains.new.entries ≡ filled_count chains.old.entries + (if opened then 1 else 0)) }
+    ensures refused { OnErr result (versions chains.new.entries ≡ versions chains.old.entries) }
+    ensures refused_filled { OnErr result (filled_count chains.new.entries ≡ filled_count chains.old.entries) }
+{
+    if let Some(chain) = chains.get_mut(&write.0.key) {
+        return push(chain, stamped(stamp, write));
+    }
+    add_first(alloc, chains, stamp, write)
+}
+
+/// Does the same, whether the key has a chain or not, in two steps: makes room, and puts the version there.
+fn add_first(
+    alloc: Global,
+    chains: &mut BTreeMap<Key, SmallVec<Place, 4>>,
+    stamp: u64,
+    write: &(Version, Content),
+) -> Result<bool, AllocError>
+    ensures added { OnOk result ((q : List ℕ) → held_at q chains.new.entries ≡ held_at q chains.old.entries ++ chain_of q (held_of (as_held stamp write.now) ∷ [])) }
+    ensures owned { is_owned chains.old.entries ≡ true → is_owned chains.new.entries ≡ true }
+    ensures count { OnOk result (length (versions chains.new.entries) ≡ length (versions chains.old.entries) + 1) }
+    ensures filled { IfOk result (λ opened. filled_count chains.new.entries ≡ filled_count chains.old.entries + (if opened then 1 else 0)) }
+    ensures refused { OnErr result (versions chains.new.entries ≡ versions chains.old.entries) }
+    ensures refused_filled { OnErr result (filled_count chains.new.entries ≡ filled_count chains.old.entries) }
+{
+    make_room(alloc, chains, write.0.key)?;
+    Ok(put(chains, stamped(stamp, write)))
+}
+
+/// The version that is written, with its stamp.
+fn stamped(stamp: u64, write: &(Version, Content)) -> Held
+    ensures { result ≡ as_held stamp write.now }
+{
+    Held {
+        version: write.0,
+        content: write.1,
+        stamp,
+    }
+}
+
+/// Puts the version at the end of the chain, and tells whether that was empty. If memory is refused, the chain keeps its
+/// versions.
+fn push(chain: &mut SmallVec<Place, 4>, held: Held) -> Result<bool, AllocError>
+    ensures ok { OnOk result (chain.new.items ≡ chain.old.items ++ record { held = held } ∷ []) }
+    ensures opened { IfOk result (λ opened. opened ≡ (length chain.old.items == 0)) }
+    ensures err { OnErr result (chain.new.items ≡ chain.old.items) }
+{
+    let opened = chain.is_empty();
+    chain.reserve(1)?;
+    chain.push_reserved(Place { held });
+    Ok(opened)
+}
+
 /// Makes room for one more version of the key. What is held stays.
 fn make_room(
     alloc: Global,
@@ -154,6 +245,7 @@ fn make_room_for(
     writes: &[(Version, Content)],
 ) -> Result<(), AllocError>
     ensures room { OnOk result (All (λ w. HasRoomAt chains.new.entries w.0.key) writes.now) }
+    ensures same { (q : List ℕ) → held_at q chains.new.entries ≡ held_at q chains.old.entries }
     ensures versions { versions chains.new.entries ≡ versions chains.old.entries }
     ensures owned { is_owned chains.new.entries ≡ is_owned chains.old.entries }
     ensures filled { filled_count chains.new.entries ≡ filled_count chains.old.entries }
@@ -183,12 +275,7 @@ fn put_all(
     let _before = chains.len();
     let mut opened = 0;
     'writes: for write in writes {
-        let held = Held {
-            version: write.0,
-            content: write.1,
-            stamp,
-        };
-        if put(chains, held) {
+        if put(chains, stamped(stamp, write)) {
             opened += 1;
         }
     }

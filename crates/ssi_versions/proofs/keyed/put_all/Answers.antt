@@ -1,4 +1,5 @@
-use Rattle.std.proofs.Common.{rules, arith, ◌<◌, ◌+◌, length, ◌∙◌, ap, take, map, if◌then◌else◌}
+use Rattle.std.proofs.Common.{rules, arith, get_or, ◌≡◌, ◌++◌, [], ◌∷◌, false, subst, sym, ◌<◌, ◌+◌, length, ◌∙◌, ap, take, map, if◌then◌else◌}
+use Rattle.adya_values.specs.Meaning.Keys.{key_eq}
 use Rattle.ssi_versions.specs.Mirror.{held_of, chain_of}
 use Rattle.ssi_versions.specs.Machinery.Plain.{as_held}
 use Rattle.ssi_versions.specs.Machinery.Keyed.{held_at, filled_count}
@@ -16,9 +17,9 @@ writes-preserved c =
           joined (held_at q c.put.new.chains.entries) (held_at q c.writes.chains.entries) (held_at q c.args.chains.now.entries)
           (chain_of q (map held_of (map (as_held c.args.stamp) (take c.writes.write-index c.args.writes.now))))
           (chain_of q (map held_of (map (as_held c.args.stamp) (take (c.writes.write-index + 1) c.args.writes.now)))) _
-          (c.put.ensures.added q) (c.writes.invariant.added q)
+          (subst (λ x. held_at q c.put.new.chains.entries ≡ held_at q c.writes.chains.entries ++ chain_of q (held_of x ∷ [])) c.stamped.ensures (c.put.ensures.added q)) (c.writes.invariant.added q)
           (installed-more q c.args.stamp c.args.writes.now c.writes.write-index c.write-item.result h (Prim.search rules));
-      room = λ k d low high. c.put.ensures.keeps _ (other_write c.args.writes.now c.writes.write-index k c.write-item.result d (Prim.search rules) (omega arith) high c.requires.apart)
+      room = λ k d low high. c.put.ensures.keeps _ (subst (λ x. key_eq x.version.key (get_or c.args.writes.now k d).0.key ≡ false) (sym c.stamped.ensures) (other_write c.args.writes.now c.writes.write-index k c.write-item.result d (Prim.search rules) (omega arith) high c.requires.apart))
           (c.writes.invariant.room k d (omega arith) high);
       owned = c.put.ensures.owned c.writes.invariant.owned;
       count = omega (arith, c.put.ensures.count, c.writes.invariant.count);
