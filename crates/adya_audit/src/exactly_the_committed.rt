@@ -5,13 +5,13 @@ ghost use Rattle.std.specs.List.{list_all};
 ghost use Rattle.std.specs.Ordering.{nat_cmp};
 ghost use Rattle.std.specs.BTreeSet.{contains};
 ghost use Rattle.adya_terms.specs.Clauses.Checked.{checked_history};
-ghost use Rattle.adya_values.specs.Mirror.Events.{event_of};
+ghost use Rattle.adya_values.specs.Mirror.Events.{events_of, view_of};
 ghost use Rattle.adya_values.specs.Meaning.Events.{is_committed};
 ghost use Rattle.adya_values.specs.Computing.Certificates.{lists_the_committed};
 ghost use Rattle.adya_audit.specs.Machinery.ExactlyTheCommitted.{HoldsEachOnce, commit_passes};
 
 use adya_terms::Checked;
-use adya_values::{Event, Txn};
+use adya_values::{EventView, Events, Txn};
 use std::alloc::{AllocError, Global};
 use std::collections::BTreeSet;
 
@@ -50,18 +50,26 @@ fn all_committed(checked: &Checked, txns: &[Txn]) -> bool
     txns.iter().all(|t| checked.is_committed(*t))
 }
 
-fn all_listed(listed: &BTreeSet<Txn>, events: &[Event]) -> bool
-    ensures { result ≡ list_all (λ e. commit_passes (λ t. contains nat_cmp listed.now t) (event_of e)) events.now }
+fn all_listed(listed: &BTreeSet<Txn>, events: &Events) -> bool
+    ensures { result ≡ list_all (commit_passes (λ t. contains nat_cmp listed.now t)) (events_of events.now) }
 {
-    events.iter().all(|event| is_listed(listed, event))
+    for i in 0..events.len() {
+        let Some(event) = events.get(i) else {
+            unreachable!()
+        };
+        if !is_listed(listed, &event) {
+            return false;
+        }
+    }
+    true
 }
 
 /// Whether the event isn't the commit of a transaction that the set lacks.
-fn is_listed(listed: &BTreeSet<Txn>, event: &Event) -> bool
-    ensures { result ≡ commit_passes (λ t. contains nat_cmp listed.now t) (event_of event.now) }
+fn is_listed(listed: &BTreeSet<Txn>, event: &EventView<'_>) -> bool
+    ensures { result ≡ commit_passes (λ t. contains nat_cmp listed.now t) (view_of event.now) }
 {
     match event {
-        Event::Commit { txn } => listed.contains(txn),
+        EventView::Commit { txn } => listed.contains(txn),
         _ => true,
     }
 }

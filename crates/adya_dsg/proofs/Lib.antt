@@ -1,3 +1,4 @@
+pub mod AnyLeft
 pub mod Certificates
 pub mod Chains
 pub mod ChangedPlaces

@@ -1,5 +1,5 @@
 -- What is selected, line by line.
-use Rattle.std.proofs.Common.{◌≡◌, ◌≢◌, ℕ, zero, suc, ◌+◌, ◌==◌, ◌<◌, ◌≤◌, true, false, cond, not, ◌&&◌, List, [], ◌∷◌, ◌++◌, map, drop, length, get_or, Option, Some, None, option_map, option_to_list, slice_get, Vec, Global, nat_cmp, is_le, is_lt, Ordering, Less, Equal, Greater, refl, sym, ◌∙◌, ap, subst, arith, inl, inr, append_assoc}
+use Rattle.std.proofs.Common.{◌≡◌, ◌≢◌, ℕ, zero, suc, ◌+◌, ◌==◌, ◌<◌, ◌≤◌, true, false, cond, not, ◌&&◌, List, [], ◌∷◌, ◌++◌, map, drop, length, get_or, Option, Some, None, option_map, option_to_list, slice_get, Bor, nat_cmp, is_le, is_lt, Ordering, Less, Equal, Greater, refl, sym, ◌∙◌, ap, subst, arith, inl, inr, append_assoc}
 use Rattle.std.specs.List.{filter_map, cons_option}
 use Rattle.std.specs.Ordering.{ordering_reverse}
 use Rattle.std.specs.Cmp.Lexicographic.{slice_cmp, nat_list_cmp_total}
@@ -8,11 +8,11 @@ use Rattle.std.proofs.lemmas.Option.{slice_get-get_or}
 use Rattle.adya_values.specs.declared.value.Value.{Value}
 use Rattle.adya_values.specs.declared.event.Version.{Version}
 use Rattle.adya_values.specs.declared.event.Entry.{Entry as EntryValue}
-use Rattle.adya_values.specs.declared.event.Event.{Event as EventValue}
-use Rattle.adya_values.specs.declared.event.Event.TheVariants as In
+use Rattle.adya_values.specs.declared.event.EventView.{EventView}
+use Rattle.adya_values.specs.declared.event.EventView.TheVariants as Seen
 use Rattle.adya_values.specs.Meaning.Keys.{key_eq, key_lt, key_le, keys_rise, lies_in}
 use Rattle.adya_values.specs.Meaning.Histories.{Read, Scan, Entry, Order, History}
-use Rattle.adya_values.specs.Mirror.Events.{event_of}
+use Rattle.adya_values.specs.Mirror.Events.{view_of}
 use Rattle.adya_values.specs.Meaning.Events.{listed}
 use Rattle.adya_values.specs.Meaning.Orders.{place, writers}
 use Rattle.adya_values.specs.Meaning.Selections.{selected, place_of}
@@ -192,12 +192,12 @@ module _ (h : History) (t : ℕ) (low high : List ℕ) (es : List Entry) where
   inside k a b = ap (λ z. cond z (place_of h t k (listed k es)) None) (and_from _ _ (not_below k low a) (not_below high k b))
 
 -- events that neither read nor scan select nothing
-pub nothing_chosen : (h : History) (e : EventValue) → ((t : ℕ) (r : Version) (v : Value) → e ≡ In.Read t r v → ⊥)
-    → ((t : ℕ) (low high : List ℕ) (es : Vec EntryValue Global) → e ≡ In.Scan t low high es → ⊥)
-    → [] ≡ choices h (event_of e)
-nothing_chosen h (In.Write t k m v) a b = sym (none_chosen (selected h (event_of (In.Write t k m v))) h.orders (λ i l. refl))
-nothing_chosen h (In.Delete t k m) a b = sym (none_chosen (selected h (event_of (In.Delete t k m))) h.orders (λ i l. refl))
-nothing_chosen h (In.Read t r v) a b = absurd (a t r v refl)
-nothing_chosen h (In.Scan t low high es) a b = absurd (b t low high es refl)
-nothing_chosen h (In.Commit t) a b = sym (none_chosen (selected h (event_of (In.Commit t))) h.orders (λ i l. refl))
-nothing_chosen h (In.Abort t) a b = sym (none_chosen (selected h (event_of (In.Abort t))) h.orders (λ i l. refl))
+pub nothing_chosen : (h : History) (e : EventView) → ((t : ℕ) (r : Version) (v : Value) → e ≡ Seen.Read t r v → ⊥)
+    → ((t : ℕ) (low high : List ℕ) (es : Bor (List EntryValue)) → e ≡ Seen.Scan t low high es → ⊥)
+    → [] ≡ choices h (view_of e)
+nothing_chosen h (Seen.Write t k m v) a b = sym (none_chosen (selected h (view_of (Seen.Write t k m v))) h.orders (λ i l. refl))
+nothing_chosen h (Seen.Delete t k m) a b = sym (none_chosen (selected h (view_of (Seen.Delete t k m))) h.orders (λ i l. refl))
+nothing_chosen h (Seen.Read t r v) a b = absurd (a t r v refl)
+nothing_chosen h (Seen.Scan t low high es) a b = absurd (b t low high es refl)
+nothing_chosen h (Seen.Commit t) a b = sym (none_chosen (selected h (view_of (Seen.Commit t))) h.orders (λ i l. refl))
+nothing_chosen h (Seen.Abort t) a b = sym (none_chosen (selected h (view_of (Seen.Abort t))) h.orders (λ i l. refl))

@@ -2,7 +2,7 @@
 
 ghost use Rattle.std.specs.Prelude.{◌≡◌, None, true, IfOk, map, option_map, filter, flat_map, Contains};
 ghost use Rattle.std.specs.List.{find};
-ghost use Rattle.adya_values.specs.Mirror.Events.{event_of, order_of};
+ghost use Rattle.adya_values.specs.Mirror.Events.{view_of, order_of};
 ghost use Rattle.adya_values.specs.Mirror.Histories.{serial_txns};
 ghost use Rattle.adya_values.specs.Meaning.Events.{txn_of, is_committed};
 ghost use Rattle.adya_values.specs.Computing.EdgeList.{write_edges, event_edges};
@@ -21,7 +21,7 @@ use crate::version_orders::VersionOrders;
 use crate::write_edges::push_write_edges;
 use adya_laws::{edge_list_keeps_first, selected_is_installed};
 use adya_terms::Checked;
-use adya_values::{Event, Order, Serial};
+use adya_values::{EventView, Order, Serial};
 use std::alloc::{AllocError, Global};
 
 /// Returns the first of the [`edges`](crate::edges) that doesn't go forward in the certificate, if there is one: its `to`
@@ -84,9 +84,12 @@ fn first_read(
 {
     let mut edges = Vec::new(alloc);
     let events = versions.events();
-    for event in events {
-        if versions.is_committed(event) {
-            if let Some(found) = first_of_event(alloc, certificate, versions, event, &mut edges)? {
+    for i in 0..events.len() {
+        let Some(event) = events.get(i) else {
+            unreachable!()
+        };
+        if versions.is_committed(&event) {
+            if let Some(found) = first_of_event(alloc, certificate, versions, &event, &mut edges)? {
                 return Ok(Some(found));
             }
         }
@@ -100,18 +103,18 @@ fn first_of_event(
     alloc: Global,
     certificate: &TxnPlaces,
     versions: &VersionOrders,
-    event: &Event,
+    event: &EventView<'_>,
     edges: &mut Vec<Edge>,
 ) -> Result<Option<Edge>, AllocError>
     requires checked { IsChecked (ordered_history versions.now) }
     requires writes { let h = ordered_history versions.now in
         find (is_backward certificate.now.txns.now) (flat_map (λ o. write_edges h o.key) h.orders) ≡ None }
-    requires occurs { Contains (ordered_history versions.now).events (event_of event.now) }
-    requires committed { is_committed (ordered_history versions.now).events (txn_of (event_of event.now))
+    requires occurs { Contains (ordered_history versions.now).events (view_of event.now) }
+    requires committed { is_committed (ordered_history versions.now).events (txn_of (view_of event.now))
         ≡ true }
     ensures { let h = ordered_history versions.now in
         IfOk result (λ o. option_map edge_of o
-        ≡ find (is_backward certificate.now.txns.now) (event_edges h (event_of event.now))) }
+        ≡ find (is_backward certificate.now.txns.now) (event_edges h (view_of event.now))) }
 {
     selected_is_installed();
     edges.clear();

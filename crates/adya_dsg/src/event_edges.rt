@@ -1,7 +1,7 @@
 //! The edges of an event.
 
 ghost use Rattle.std.specs.Prelude.{◌≡◌, ◌<◌, ◌++◌, length, map, true, OnOk, Contains};
-ghost use Rattle.adya_values.specs.Mirror.Events.{event_of};
+ghost use Rattle.adya_values.specs.Mirror.Events.{view_of};
 ghost use Rattle.adya_values.specs.Meaning.Selections.{is_scan};
 ghost use Rattle.adya_values.specs.Computing.EdgeList.{event_edges, read_edges, overwrite_edges};
 ghost use Rattle.adya_dsg.specs.Machinery.VersionOrders.{ordered_history, order_lines};
@@ -14,7 +14,7 @@ use crate::event_links::{is_scan, push_links_at};
 use crate::selection::{Selection, selections};
 use crate::version_orders::VersionOrders;
 use crate::{Edge, Kind};
-use adya_values::Event;
+use adya_values::EventView;
 use std::alloc::{AllocError, Global};
 
 /// Adds the edges of the event.
@@ -22,11 +22,11 @@ pub(crate) fn push_event_edges(
     alloc: Global,
     edges: &mut Vec<Edge>,
     versions: &VersionOrders,
-    event: &Event,
+    event: &EventView<'_>,
 ) -> Result<(), AllocError>
-    requires { Contains (ordered_history versions.now).events (event_of event.now) }
+    requires { Contains (ordered_history versions.now).events (view_of event.now) }
     ensures { let h = ordered_history versions.now in
-        OnOk result (map edge_of edges.new.items ≡ map edge_of edges.old.items ++ event_edges h (event_of event.now)) }
+        OnOk result (map edge_of edges.new.items ≡ map edge_of edges.old.items ++ event_edges h (view_of event.now)) }
 {
     let selections = selections(alloc, versions, event)?;
     for at in &selections {
@@ -38,13 +38,13 @@ pub(crate) fn push_event_edges(
 fn push_edges_at(
     edges: &mut Vec<Edge>,
     versions: &VersionOrders,
-    event: &Event,
+    event: &EventView<'_>,
     at: Selection,
 ) -> Result<(), AllocError>
     requires { at.line < length (order_lines versions.now) }
     ensures { let h = ordered_history versions.now in
         OnOk result (map edge_of edges.new.items
-        ≡ map edge_of edges.old.items ++ choice_edges h (event_of event.now) (choice_of h at)) }
+        ≡ map edge_of edges.old.items ++ choice_edges h (view_of event.now) (choice_of h at)) }
 {
     if !is_scan(event) {
         return push_links_at(edges, versions, event, at);
@@ -58,14 +58,14 @@ fn push_edges_at(
 fn push_sources(
     edges: &mut Vec<Edge>,
     versions: &VersionOrders,
-    event: &Event,
+    event: &EventView<'_>,
     at: Selection,
 ) -> Result<(), AllocError>
-    requires scan { is_scan (event_of event.now) ≡ true }
+    requires scan { is_scan (view_of event.now) ≡ true }
     requires within { at.line < length (order_lines versions.now) }
     ensures { let h = ordered_history versions.now in
         OnOk result (map edge_of edges.new.items
-        ≡ map edge_of edges.old.items ++ read_edges h (event_of event.now) (key_at h at.line) at.place) }
+        ≡ map edge_of edges.old.items ++ read_edges h (view_of event.now) (key_at h at.line) at.place) }
 {
     let key = versions.order(at.line).key;
     let txn = event.txn();
@@ -85,14 +85,14 @@ fn push_sources(
 fn push_overwriters(
     edges: &mut Vec<Edge>,
     versions: &VersionOrders,
-    event: &Event,
+    event: &EventView<'_>,
     at: Selection,
 ) -> Result<(), AllocError>
-    requires scan { is_scan (event_of event.now) ≡ true }
+    requires scan { is_scan (view_of event.now) ≡ true }
     requires within { at.line < length (order_lines versions.now) }
     ensures { let h = ordered_history versions.now in
         OnOk result (map edge_of edges.new.items
-        ≡ map edge_of edges.old.items ++ overwrite_edges h (event_of event.now) (key_at h at.line) at.place) }
+        ≡ map edge_of edges.old.items ++ overwrite_edges h (view_of event.now) (key_at h at.line) at.place) }
 {
     let key = versions.order(at.line).key;
     let txn = event.txn();

@@ -58,10 +58,13 @@ fn add_event_arcs(
 {
     let mut edges = Vec::new(alloc);
     let events = versions.events();
-    for event in events {
-        if versions.is_committed(event) {
+    for i in 0..events.len() {
+        let Some(event) = events.get(i) else {
+            unreachable!()
+        };
+        if versions.is_committed(&event) {
             edges.clear();
-            push_event_links(alloc, &mut edges, versions, event)?;
+            push_event_links(alloc, &mut edges, versions, &event)?;
             add_arcs(arcs, &edges)?;
         }
     }

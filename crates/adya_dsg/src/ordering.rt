@@ -3,7 +3,7 @@
 ghost use Rattle.std.specs.Prelude.{◌≡◌, ◌↔◌, All, IfOk, map};
 ghost use Rattle.std.specs.List.{list_any};
 ghost use Rattle.adya_values.specs.Meaning.Keys.{IsTxn};
-ghost use Rattle.adya_values.specs.Mirror.Events.{event_of};
+ghost use Rattle.adya_values.specs.Mirror.Events.{events_of};
 ghost use Rattle.adya_values.specs.Meaning.Selections.{is_scan};
 ghost use Rattle.adya_values.specs.Computing.EdgeList.{edge_list};
 ghost use Rattle.adya_values.specs.Clauses.Acceptance.{IsChecked};
@@ -25,7 +25,7 @@ use crate::nodes::{committed, serial_of};
 use crate::version_orders::VersionOrders;
 use adya_laws::edge_list_is_exact;
 use adya_terms::Checked;
-use adya_values::Event;
+use adya_values::Events;
 use digraph::{Outcome, topological_order};
 use std::alloc::{AllocError, Global};
 
@@ -79,8 +79,16 @@ fn sorted(alloc: Global, versions: &VersionOrders, nodes: &[u32]) -> Result<Outc
 }
 
 /// Returns whether an event is a scan.
-fn has_scans(events: &[Event]) -> bool
-    ensures { result ≡ list_any (λ e. is_scan (event_of e)) events.now }
+fn has_scans(events: &Events) -> bool
+    ensures { result ≡ list_any is_scan (events_of events.now) }
 {
-    events.iter().any(is_scan)
+    for i in 0..events.len() {
+        let Some(event) = events.get(i) else {
+            unreachable!()
+        };
+        if is_scan(&event) {
+            return true;
+        }
+    }
+    false
 }

@@ -34,9 +34,11 @@ pub(crate) fn push_part_edges(
     if part < orders.len() {
         return push_write_edges(edges, &orders[part]);
     }
-    let event = &versions.events()[part - orders.len()];
-    if versions.is_committed(event) {
-        push_event_edges(alloc, edges, versions, event)?;
+    let Some(event) = versions.events().get(part - orders.len()) else {
+        unreachable!()
+    };
+    if versions.is_committed(&event) {
+        push_event_edges(alloc, edges, versions, &event)?;
     }
     Ok(())
 }

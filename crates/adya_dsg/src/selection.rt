@@ -3,7 +3,7 @@
 ghost use Rattle.std.specs.Prelude.{◌≡◌, ◌<◌, ℕ, List, length, map, true, IfOk, IfSome, All, Contains, option_map, option_to_list};
 ghost use Rattle.adya_values.specs.Meaning.Keys.{keys_rise};
 ghost use Rattle.adya_values.specs.Meaning.Histories.{Read, Scan};
-ghost use Rattle.adya_values.specs.Mirror.Events.{event_of, entry_of};
+ghost use Rattle.adya_values.specs.Mirror.Events.{view_of, entry_of};
 ghost use Rattle.adya_values.specs.Meaning.Events.{listed};
 ghost use Rattle.adya_values.specs.Meaning.Selections.{place_of};
 ghost use Rattle.adya_dsg.specs.Machinery.VersionOrders.{ordered_history, order_lines};
@@ -11,7 +11,7 @@ ghost use Rattle.adya_dsg.specs.Machinery.Choices.{choices, choice_of, key_at};
 
 use crate::version_orders::{VersionOrders, is_below};
 use adya_terms::laws::checked_iff_no_fault;
-use adya_values::{Entry, Event, Key, Txn, Version};
+use adya_values::{Entry, EventView, Key, Txn, Version};
 use std::alloc::{AllocError, Global};
 
 /// A place of an order line, of which an event reads the version or a scan selects it.
@@ -25,23 +25,23 @@ pub(crate) struct Selection {
 pub(crate) fn selections(
     alloc: Global,
     versions: &VersionOrders,
-    event: &Event,
+    event: &EventView<'_>,
 ) -> Result<Vec<Selection>, AllocError>
-    requires { Contains (ordered_history versions.now).events (event_of event.now) }
+    requires { Contains (ordered_history versions.now).events (view_of event.now) }
     ensures within { IfOk result (λ v. All (λ s. s.line < length (order_lines versions.now)) v.items) }
     ensures choices { let h = ordered_history versions.now in
-        IfOk result (λ v. map (choice_of h) v.items ≡ choices h (event_of event.now)) }
+        IfOk result (λ v. map (choice_of h) v.items ≡ choices h (view_of event.now)) }
 {
     checked_iff_no_fault();
     match event {
-        Event::Read { txn, version, .. } => {
+        EventView::Read { txn, version, .. } => {
             let mut selections = Vec::new(alloc);
             if let Some(selection) = of_read(versions, *txn, *version) {
                 selections.push(selection)?;
             }
             Ok(selections)
         }
-        Event::Scan {
+        EventView::Scan {
             txn,
             low,
             high,

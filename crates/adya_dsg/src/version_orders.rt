@@ -5,8 +5,8 @@ ghost use Rattle.std.specs.HashMap.{get};
 ghost use Rattle.std.specs.List.{find, list_all};
 ghost use Rattle.std.specs.List.Sorted.{IsPartitionPoint};
 ghost use Rattle.adya_values.specs.Meaning.Keys.{key_eq, key_lt, keys_rise};
-ghost use Rattle.adya_values.specs.Mirror.Events.{event_of, order_of};
-ghost use Rattle.adya_values.specs.Mirror.Histories.{events_in, orders_in};
+ghost use Rattle.adya_values.specs.Mirror.Events.{events_of, view_of, order_of};
+ghost use Rattle.adya_values.specs.Mirror.Histories.{orders_in};
 ghost use Rattle.adya_values.specs.Meaning.Events.{txn_of, is_committed};
 ghost use Rattle.adya_values.specs.Meaning.Orders.{writers, place, installer, is_visible_at};
 ghost use Rattle.adya_terms.specs.Clauses.Checked.{checked_history, history_in};
@@ -20,7 +20,7 @@ use crate::line_numbers::lines_by_key;
 use crate::line_tables::{SHORT_LINE, line_tables};
 use crate::txn_places::TxnPlaces;
 use adya_terms::Checked;
-use adya_values::{Event, Key, Order, Txn};
+use adya_values::{EventView, Events, Key, Order, Txn};
 use std::alloc::{AllocError, Global};
 use std::collections::HashMap;
 
@@ -58,16 +58,16 @@ impl<'a> VersionOrders<'a> {
     }
 
     /// Returns the events of the history.
-    pub fn events(&self) -> &[Event]
-        ensures { result.now ≡ events_in (history_in self.now.checked.now) }
+    pub fn events(&self) -> &Events
+        ensures { events_of result.now ≡ (ordered_history self.now).events }
     {
         self.checked.history().events()
     }
 
     /// Returns whether the event's transaction has committed.
-    pub fn is_committed(&self, event: &Event) -> bool
+    pub fn is_committed(&self, event: &EventView<'_>) -> bool
         ensures { let h = ordered_history self.now in
-            result ≡ is_committed h.events (txn_of (event_of event.now)) }
+            result ≡ is_committed h.events (txn_of (view_of event.now)) }
     {
         self.checked.is_committed(event.txn())
     }

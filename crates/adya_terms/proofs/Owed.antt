@@ -1,5 +1,5 @@
 -- What a scan has to list of its own transaction's writes is what the rule asks.
-use Rattle.std.proofs.Common.{◌≡◌, ℕ, Bool, true, false, not, ◌||◌, List, Option, Some, None, map, refl, sym, ap, ◌∙◌, subst, inl, inr}
+use Rattle.std.proofs.Common.{◌≡◌, ℕ, Bool, true, false, not, ◌||◌, List, Option, Some, None, refl, sym, ap, ◌∙◌, subst, inl, inr}
 use Rattle.std.specs.Bool.{OnTrue, OnFalse}
 use Rattle.std.specs.List.{filter_map}
 use Rattle.std.specs.Option.{option_or}
@@ -10,7 +10,7 @@ use Rattle.txn_table.specs.Mirror.{value_for}
 use Rattle.adya_values.specs.Meaning.Keys.{lies_in}
 use Rattle.adya_values.specs.Meaning.Histories.{Entry, Event, Scan}
 use Rattle.adya_values.specs.Meaning.Events.{written, last_write}
-use Rattle.adya_values.specs.Mirror.Events.{event_of}
+use Rattle.adya_values.specs.Mirror.Events.{events_of}
 use Rattle.adya_values.specs.Computing.Faults.{none_or_lists_only, sees_own}
 use Rattle.adya_values.proofs.Writes.{last_write_from}
 use Rattle.lemmas.proofs.Tests.{list_all_when, all_pass}
@@ -22,9 +22,9 @@ use Rattle.adya_terms.specs.Machinery.Owed.{passes, AreShown}
 use Rattle.adya_terms.proofs.Chains.{fails_somewhere, passes_found}
 
 module _ (o : Owed) (es : List Entry) (before : List Event)
-    (places : (k : List ℕ) → written_at (map event_of o.events.now) (place_of (map event_of o.events.now) o.writes.now (own o.txn k)) ≡ last_write o.txn k before) where
+    (places : (k : List ℕ) → written_at (events_of o.events.now) (place_of (events_of o.events.now) o.writes.now (own o.txn k)) ≡ last_write o.txn k before) where
   abbrev all : List Event
-  all = map event_of o.events.now
+  all = events_of o.events.now
 
   abbrev asked : List ℕ → Bool
   asked k = not (lies_in o.low o.high k) || none_or_lists_only es (last_write o.txn k before)

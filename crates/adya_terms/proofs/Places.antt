@@ -9,7 +9,7 @@ use Rattle.adya_values.specs.declared.event.Version.{Version}
 use Rattle.adya_terms.specs.declared.tables.Own.{Own}
 use Rattle.adya_values.specs.Meaning.Keys.{key_eq, keys_rise}
 use Rattle.adya_values.specs.Meaning.Histories.{Entry, Event, Order}
-use Rattle.adya_values.specs.Meaning.Events.{is_committed, last_write, written}
+use Rattle.adya_values.specs.Meaning.Events.{is_committed, last_write}
 use Rattle.adya_values.specs.Clauses.Rules.{installs}
 use Rattle.adya_values.proofs.Keys.{rises_pairs}
 use Rattle.adya_values.proofs.Writes.{last_write_from}
@@ -60,12 +60,12 @@ module _ (c a : ℕ → Bool) (l : Own → Option ℕ) (v : Version → Option �
         | inr past ↦ absurd (none-some x.wrote (ap written_by (sym (slice_get_past all at past)) ∙ x.there))
       ]
 
-  -- the event there writes the key
-  pub writes_it : (t : ℕ) (k : List ℕ) (at : ℕ) (e : Event) → l (own t k) ≡ Some at → slice_get all at ≡ Some e → (o : Option Entry) → o ≡ written e
+  -- what is written there is a write of the key
+  pub writes_it : (t : ℕ) (k : List ℕ) (at : ℕ) → l (own t k) ≡ Some at → (o : Option Entry) → o ≡ written_at all (Some at)
       → (w : Entry) × (o ≡ Some w) × (w.version.txn ≡ t) × (w.version.key ≡ k)
-  writes_it t k at e last found o wrote =
+  writes_it t k at last o wrote =
       let x = last_is_write t k at last in
-      (x.wrote, wrote ∙ (ap written_by (sym found) ∙ x.there), x.txn_is, x.key_is)
+      (x.wrote, wrote ∙ x.there, x.txn_is, x.key_is)
 
 -- ---- lists with one more writer
 

@@ -1,14 +1,14 @@
 //! Histories that passed their check, and the check itself.
 
-ghost use Rattle.std.specs.Prelude.{◌≡◌, ◌≢◌, ◌^◌, ◌<◌, [], true, None, map, option_map, is_none, IfOk, IfErr, MatchResult};
+ghost use Rattle.std.specs.Prelude.{◌≡◌, ◌≢◌, ◌^◌, ◌<◌, ◌+◌, [], true, None, length, map, option_map, is_none, IfOk, IfErr, MatchResult};
 ghost use Rattle.adya_values.specs.Meaning.Keys.{keys_rise};
-ghost use Rattle.adya_values.specs.Mirror.Events.{entry_of, order_of, final_of};
+ghost use Rattle.adya_values.specs.Mirror.Events.{entry_of, events_of, order_of, final_of};
 ghost use Rattle.adya_values.specs.Mirror.Histories.{history_of};
 ghost use Rattle.adya_values.specs.Meaning.Events.{is_committed};
 ghost use Rattle.adya_values.specs.Computing.Faults.{first_fault, check_faults};
 ghost use Rattle.adya_values.specs.Clauses.Acceptance.{IsChecked};
 ghost use Rattle.adya_terms.specs.Clauses.Faults.{IsFault};
-ghost use Rattle.adya_terms.specs.Machinery.EventIndex.{last_in};
+ghost use Rattle.adya_terms.specs.Machinery.EventIndex.{indexed, last_in, unfinished_in};
 ghost use Rattle.adya_terms.specs.Machinery.Places.{AreInstalled, AreWrites};
 ghost use Rattle.adya_terms.specs.Machinery.Tables.{KnowsCommitted};
 ghost use Rattle.adya_terms.specs.Machinery.Checks.{Names, whole, rule_faults};
@@ -20,7 +20,7 @@ use crate::laws::checked_iff_no_fault;
 use crate::listed::check_orders;
 use crate::reads::check_reads;
 use crate::tables::{Ended, wrote_at};
-use crate::{CheckFault, Entry, Event, FinalPair, History, Order, Rule, Txn};
+use crate::{CheckFault, Entry, Events, FinalPair, History, Order, Rule, Txn};
 use std::alloc::Global;
 use txn_table::TxnTable;
 
@@ -105,14 +105,14 @@ impl<'a> Checked<'a> {
 /// lists have no fault.
 fn check<'a>(
     alloc: Global,
-    events: &'a [Event],
+    events: &'a Events,
     unfinished: &'a [Txn],
     orders: &[Order],
     finals: &[FinalPair],
 ) -> Result<(EventIndex<'a>, Vec<Vec<usize>>), CheckFault>
     requires orders_rise { keys_rise (map (λ o. o.key) (map order_of orders.now)) ≡ true }
     requires finals_rise { keys_rise (map (λ f. f.key) (map final_of finals.now)) ≡ true }
-    ensures faults { let faults = check_faults (whole events.now unfinished.now orders.now finals.now) in
+    ensures faults { let faults = check_faults (whole (events_of events.now) unfinished.now orders.now finals.now) in
         MatchResult result (λ t. faults ≡ []) (Names faults) }
     ensures events { IfOk result (λ t. t.0.events.now ≡ events.now) }
     ensures writes { IfOk result (λ t. AreWrites (last_in t.0) t.1.items (map order_of orders.now)) }
@@ -121,10 +121,11 @@ fn check<'a>(
         Ok(index) => index,
         Err(fault) => return Err(fault),
     };
-    if let Err(fault) = check_unfinished(&index, events.len() + 2) {
+    let unfinished_line = events.len() + 2;
+    if let Err(fault) = check_unfinished(&index, unfinished_line) {
         return Err(fault);
     }
-    let orders_line = events.len() + 2 + unfinished.len();
+    let orders_line = unfinished_line + unfinished.len();
     let writes = match check_rules(alloc, &index, orders, finals, orders_line) {
         Ok(writes) => writes,
         Err(fault) => return Err(fault),
@@ -145,10 +146,10 @@ fn check_rules(
     finals: &[FinalPair],
     line: usize,
 ) -> Result<Vec<Vec<usize>>, CheckFault>
-    requires near { line < 2 ^ 62 }
+    requires near { line + length orders.now + length finals.now < 2 ^ 64 }
     requires orders_rise { keys_rise (map (λ o. o.key) (map order_of orders.now)) ≡ true }
     requires finals_rise { keys_rise (map (λ f. f.key) (map final_of finals.now)) ≡ true }
-    ensures faults { let h = whole index.now.events.now index.now.unfinished.now orders.now finals.now in
+    ensures faults { let h = whole (indexed index.now) (unfinished_in index.now) orders.now finals.now in
         MatchResult result (λ u. rule_faults h line ≡ []) (Names (rule_faults h line)) }
     ensures writes { IfOk result (λ v. AreWrites (last_in index.now) v.items (map order_of orders.now)) }
 {

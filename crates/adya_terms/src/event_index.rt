@@ -2,7 +2,7 @@
 
 ghost use Rattle.std.specs.Prelude.{◌≡◌, ◌||◌, ◌==◌, [], true, map, option_map, IfOk, MatchResult};
 ghost use Rattle.std.specs.List.{filter_map, list_any};
-ghost use Rattle.adya_values.specs.Mirror.Events.{entry_of, event_of};
+ghost use Rattle.adya_values.specs.Mirror.Events.{entry_of, events_of};
 ghost use Rattle.adya_values.specs.Meaning.Events.{aborts, is_committed, last_write, written};
 ghost use Rattle.adya_values.specs.Clauses.Rules.{has_ended};
 ghost use Rattle.adya_values.specs.Computing.Faults.{entry_eq, event_faults, is_entry};
@@ -12,7 +12,7 @@ ghost use Rattle.adya_terms.specs.Machinery.Checks.{Names, Holds};
 
 use crate::rules::tables_of;
 use crate::tables::{Ended, Tables};
-use crate::{CheckFault, Entry, Event, Key, Txn};
+use crate::{CheckFault, Entry, Events, Key, Txn};
 use std::alloc::{AllocError, Global};
 use std::collections::BTreeSet;
 use txn_table::TxnTable;
@@ -20,11 +20,11 @@ use txn_table::TxnTable;
 /// The events of a history, which keep the rules M1 to M5, and its unfinished transactions, with tables of both.
 #[derive(Drop)]
 pub(crate) struct EventIndex<'a> {
-    pub events: &'a [Event],
+    pub events: &'a Events,
     pub unfinished: &'a [Txn],
     tables: Tables,
     unfinished_set: BTreeSet<Txn>,
-    pub ghost tell: { let all = map event_of events.now in Means tables all all },
+    pub ghost tell: { let all = events_of events.now in Means tables all all },
     pub ghost holds: { Holds unfinished_set unfinished.now },
 }
 
@@ -34,12 +34,12 @@ impl<'a> EventIndex<'a> {
     /// Makes the index, if no event breaks one of the rules M1 to M5.
     pub fn of(
         alloc: Global,
-        events: &'a [Event],
+        events: &'a Events,
         unfinished: &'a [Txn],
     ) -> Result<EventIndex<'a>, CheckFault>
         ensures events { IfOk result (λ x. x.events.now ≡ events.now) }
         ensures unfinished { IfOk result (λ x. x.unfinished.now ≡ unfinished.now) }
-        ensures faults { let faults = event_faults [] 2 (map event_of events.now) in
+        ensures faults { let faults = event_faults [] 2 (events_of events.now) in
             MatchResult result (λ x. faults ≡ []) (Names faults) }
     {
         let tables = match tables_of(alloc, events) {

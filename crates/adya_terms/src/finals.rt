@@ -1,11 +1,12 @@
 //! M8: the finals hold the values of the keys' last versions.
 
-ghost use Rattle.std.specs.Prelude.{◌≡◌, ◌^◌, ◌<◌, [], true, map, option_map, is_some, MatchResult};
+ghost use Rattle.std.specs.Prelude.{◌≡◌, ◌^◌, ◌<◌, ◌+◌, [], true, length, map, option_map, is_some, MatchResult};
 ghost use Rattle.adya_values.specs.Meaning.Keys.{keys_rise};
 ghost use Rattle.adya_values.specs.Mirror.Events.{order_of, final_of, value_of};
 ghost use Rattle.adya_values.specs.Clauses.Rules.{final_value};
 ghost use Rattle.adya_values.specs.Computing.Faults as faults;
 ghost use Rattle.adya_terms.specs.Machinery.Checks.{Names, final_value_faults, parts};
+ghost use Rattle.adya_terms.specs.Machinery.EventIndex.{indexed};
 
 use crate::event_index::EventIndex;
 use crate::listed::line_of;
@@ -14,7 +15,7 @@ use crate::{CheckFault, Content, FinalPair, Key, Order, Rule, Value};
 /// Returns the value of the key's last version, if it has one.
 fn last_value(index: &EventIndex, orders: &[Order], key: Key) -> Option<Value>
     requires rise { keys_rise (map (λ o. o.key) (map order_of orders.now)) ≡ true }
-    ensures { option_map value_of result ≡ faults.last_value (parts index.now.events.now orders.now []) key }
+    ensures { option_map value_of result ≡ faults.last_value (parts (indexed index.now) orders.now []) key }
 {
     let Some(order) = line_of(orders, key) else {
         return None;
@@ -47,9 +48,9 @@ fn check_lines(
     finals: &[FinalPair],
     first: usize,
 ) -> Result<(), CheckFault>
-    requires near { first < 2 ^ 63 }
+    requires near { first + length finals.now < 2 ^ 64 }
     requires rise { keys_rise (map (λ o. o.key) (map order_of orders.now)) ≡ true }
-    ensures { let found = faults.final_faults (parts index.now.events.now orders.now finals.now) first (map final_of finals.now) in
+    ensures { let found = faults.final_faults (parts (indexed index.now) orders.now finals.now) first (map final_of finals.now) in
         MatchResult result (λ u. found ≡ []) (Names found) }
 {
     for (i, pair) in finals.iter().enumerate() {
@@ -77,7 +78,7 @@ fn has_final(finals: &[FinalPair], key: Key) -> bool
 fn has_finals(index: &EventIndex, orders: &[Order], finals: &[FinalPair]) -> bool
     requires orders_rise { keys_rise (map (λ o. o.key) (map order_of orders.now)) ≡ true }
     requires finals_rise { keys_rise (map (λ f. f.key) (map final_of finals.now)) ≡ true }
-    ensures { result ≡ faults.has_finals (parts index.now.events.now orders.now finals.now) }
+    ensures { result ≡ faults.has_finals (parts (indexed index.now) orders.now finals.now) }
 {
     for order in orders {
         if last_value(index, orders, order.key).is_some() && !has_final(finals, order.key) {
@@ -95,10 +96,10 @@ pub(crate) fn check_finals(
     finals: &[FinalPair],
     first: usize,
 ) -> Result<(), CheckFault>
-    requires near { first < 2 ^ 63 }
+    requires near { first + length finals.now < 2 ^ 64 }
     requires orders_rise { keys_rise (map (λ o. o.key) (map order_of orders.now)) ≡ true }
     requires finals_rise { keys_rise (map (λ f. f.key) (map final_of finals.now)) ≡ true }
-    ensures { let found = final_value_faults (parts index.now.events.now orders.now finals.now) first in
+    ensures { let found = final_value_faults (parts (indexed index.now) orders.now finals.now) first in
         MatchResult result (λ u. found ≡ []) (Names found) }
 {
     if let Err(fault) = check_lines(index, orders, finals, first) {

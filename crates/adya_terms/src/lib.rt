@@ -17,9 +17,9 @@ mod tables;
 
 pub use adya_rules::laws;
 pub use adya_values::{
-    BadKey, BadNumber, BadShape, BadValue, CheckFault, Content, Edition, Entry, Event, FinalPair,
-    History, Key, MAX_KEY_LEN, MAX_VALUE_LEN, Mod, Order, Rule, Serial, Txn, Value, Version,
-    is_key_byte, is_value_byte,
+    BadKey, BadNumber, BadShape, BadValue, CheckFault, Content, Edition, Entry, Event, EventView,
+    Events, FinalPair, History, Key, MAX_KEY_LEN, MAX_VALUE_LEN, Mod, Order, Rule, Serial, Txn,
+    Value, Version, is_key_byte, is_value_byte,
 };
 pub use checked::Checked;
 pub use devices::{Source, Watched};

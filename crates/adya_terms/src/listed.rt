@@ -4,11 +4,11 @@
 //! writer that is listed twice, and a write that no line lists, show without a search. The indices themselves are kept by
 //! lines, since these writes installed the versions that the lines name.
 
-ghost use Rattle.std.specs.Prelude.{◌≡◌, ◌^◌, ◌<◌, ℕ, List, [], true, false, length, map, replicate, slice_get, take, is_some, Some, IfSome, IfOk, MatchOption, MatchResult};
+ghost use Rattle.std.specs.Prelude.{◌≡◌, ◌^◌, ◌<◌, ◌+◌, ℕ, List, [], true, false, length, map, replicate, slice_get, take, is_some, Some, IfSome, IfOk, MatchOption, MatchResult};
 ghost use Rattle.std.specs.List.{list_any};
 ghost use Rattle.adya_values.specs.Meaning.Keys.{key_eq, keys_rise};
 ghost use Rattle.adya_values.specs.Meaning.Histories.{Event as EventValue, Order as OrderValue};
-ghost use Rattle.adya_values.specs.Mirror.Events.{event_of, order_of};
+ghost use Rattle.adya_values.specs.Mirror.Events.{order_of};
 ghost use Rattle.adya_values.specs.Computing.Faults as faults;
 ghost use Rattle.adya_values.specs.Meaning.Orders.{line_of};
 ghost use Rattle.adya_terms.specs.Machinery.EventIndex.{indexed, last_in};
@@ -17,7 +17,8 @@ ghost use Rattle.adya_terms.specs.Machinery.Checks.{Names, listing_faults, parts
 ghost use Rattle.adya_terms.specs.Machinery.Places.{line, line_writes, AfterLine, AfterLines, AreWrites, HasLeft, IsLeft, Judges, Leaves, Places};
 
 use crate::event_index::EventIndex;
-use crate::{CheckFault, Entry, Event, Key, Order, Rule, Txn};
+use crate::tables::wrote_at;
+use crate::{CheckFault, Entry, Key, Order, Rule, Txn};
 use std::alloc::{AllocError, Global};
 use std::collections::BTreeSet;
 
@@ -107,7 +108,7 @@ fn place_lines(
 /// Places the writers of the order lines.
 fn placed(alloc: Global, index: &EventIndex, orders: &[Order]) -> Result<Placement, AllocError>
     requires rise { keys_rise (map (λ o. o.key) (map order_of orders.now)) ≡ true }
-    ensures same_length { IfOk result (λ p. length p.places.items ≡ length index.now.events.now) }
+    ensures same_length { IfOk result (λ p. length p.places.items ≡ length (indexed index.now)) }
     ensures places { IfOk result
         (λ p. AfterLines (indexed index.now) (last_in index.now) p.places.items (map order_of orders.now) p.wrong) }
     ensures writes { IfOk result
@@ -124,12 +125,11 @@ fn placed(alloc: Global, index: &EventIndex, orders: &[Order]) -> Result<Placeme
 
 /// Returns the key that the event at the index writes, if its transaction is committed and its last write of the key
 /// has no place.
-fn unlisted_key(index: &EventIndex, places: &[usize], at: usize, event: &Event) -> Option<Key>
+fn unlisted_key(index: &EventIndex, places: &[usize], at: usize) -> Option<Key>
     requires { at < length places.now }
     ensures left { length places.now ≡ length (indexed index.now)
         → IfSome result (HasLeft (indexed index.now) (last_in index.now) places.now) }
     ensures found { length places.now ≡ length (indexed index.now)
-        → slice_get (indexed index.now) at ≡ Some (event_of event.now)
         → (k : List ℕ) (t : ℕ)
         → IsLeft (indexed index.now) (last_in index.now) places.now k t at
         → result ≡ Some k }
@@ -137,7 +137,7 @@ fn unlisted_key(index: &EventIndex, places: &[usize], at: usize, event: &Event) 
     if places[at] != 0 {
         return None;
     }
-    let Some(Entry { version, .. }) = event.written() else {
+    let Some(Entry { version, .. }) = wrote_at(index.events, Some(at)) else {
         return None;
     };
     if unplaced(index, places, version.key, version.txn).is_none() {
@@ -152,12 +152,12 @@ fn unlisted(
     index: &EventIndex,
     places: &[usize],
 ) -> Result<BTreeSet<Key>, AllocError>
-    requires same_length { length places.now ≡ length index.now.events.now }
+    requires same_length { length places.now ≡ length (indexed index.now) }
     ensures { IfOk result (Leaves (indexed index.now) (last_in index.now) places.now) }
 {
     let mut keys = BTreeSet::new(alloc);
-    for (i, event) in index.events.iter().enumerate() {
-        if let Some(key) = unlisted_key(index, places, i, event) {
+    for i in 0..index.events.len() {
+        if let Some(key) = unlisted_key(index, places, i) {
             keys.insert(key)?;
         }
     }
@@ -172,7 +172,7 @@ fn check_lines(
     wrong: usize,
     first: usize,
 ) -> Result<(), CheckFault>
-    requires near { first < 2 ^ 63 }
+    requires near { first + length orders.now < 2 ^ 64 }
     ensures { let os = map order_of orders.now in
         (all : List EventValue)
         → Judges all os unlisted.now wrong
@@ -199,9 +199,9 @@ pub(crate) fn check_orders(
     orders: &[Order],
     first: usize,
 ) -> Result<Vec<Vec<usize>>, CheckFault>
-    requires near { first < 2 ^ 63 }
+    requires near { first + length orders.now < 2 ^ 64 }
     requires rise { keys_rise (map (λ o. o.key) (map order_of orders.now)) ≡ true }
-    ensures faults { let found = listing_faults (parts index.now.events.now orders.now []) first in
+    ensures faults { let found = listing_faults (parts (indexed index.now) orders.now []) first in
         MatchResult result (λ u. found ≡ []) (Names found) }
     ensures writes { IfOk result (λ v. AreWrites (last_in index.now) v.items (map order_of orders.now)) }
 {

@@ -4,10 +4,10 @@ ghost use Rattle.std.specs.Prelude.{◌≡◌, ◌++◌, [], ◌∷◌, List, If
 ghost use Rattle.std.specs.HashMap.{get};
 ghost use Rattle.adya_values.specs.Meaning.Keys.{key_eq};
 ghost use Rattle.adya_values.specs.Meaning.Histories.{Event as EventValue};
-ghost use Rattle.adya_values.specs.Mirror.Events.{entry_of, event_of};
+ghost use Rattle.adya_values.specs.Mirror.Events.{entry_of, view_of};
 ghost use Rattle.adya_terms.specs.Machinery.NewestWrites.{is_newest, Keeps};
 
-use crate::{Entry, Event, Key};
+use crate::{Entry, EventView, Key};
 use std::alloc::{AllocError, Global};
 use std::collections::HashMap;
 
@@ -39,11 +39,11 @@ impl NewestWrites {
     }
 
     /// Records what the event writes.
-    pub fn keep(&mut self, event: &Event) -> Result<(), AllocError>
+    pub fn keep(&mut self, event: &EventView<'_>) -> Result<(), AllocError>
         ensures { IfOk result
             (λ u. (before : List EventValue)
             → Keeps self.old before
-            → Keeps self.new (before ++ event_of event.now ∷ [])) }
+            → Keeps self.new (before ++ view_of event.now ∷ [])) }
     {
         if let Some(new) = &event.written() {
             self.writes.insert(new.version.key, *new)?;

@@ -2,11 +2,11 @@
 
 ghost use Rattle.std.specs.Prelude.{◌≡◌, map};
 ghost use Rattle.adya_values.specs.Meaning.Histories.{Live};
-ghost use Rattle.adya_values.specs.Mirror.Events.{entry_of, event_of, value_of};
+ghost use Rattle.adya_values.specs.Mirror.Events.{entry_of, value_of, view_of};
 ghost use Rattle.adya_values.specs.Meaning.Events.{entry, observed};
 ghost use Rattle.adya_terms.specs.Machinery.Observed.{observed_in};
 
-use crate::{Content, Entry, Event, Value, Version};
+use crate::{Content, Entry, EventView, Value, Version};
 
 /// The entry of a version that is read with this value.
 pub(crate) fn read_entry(version: Version, value: Value) -> Entry
@@ -27,16 +27,18 @@ pub(crate) enum Observed<'a> {
 
 impl<'a> Observed<'a> {
     /// Returns what the event observes.
-    pub fn of(event: &'a Event) -> Observed<'a>
-        ensures { observed_in result ≡ observed (event_of event.now) }
+    pub fn of(event: &EventView<'a>) -> Observed<'a>
+        ensures { observed_in result ≡ observed (view_of event.now) }
     {
         match event {
-            Event::Read { version, value, .. } => Observed::Read([read_entry(*version, *value)]),
-            Event::Scan { entries, .. } => Observed::Listed(entries),
-            Event::Write { .. } => Observed::Listed(&[]),
-            Event::Delete { .. } => Observed::Listed(&[]),
-            Event::Commit { .. } => Observed::Listed(&[]),
-            Event::Abort { .. } => Observed::Listed(&[]),
+            EventView::Read { version, value, .. } => Observed::Read([read_entry(
+                *version, *value,
+            )]),
+            EventView::Scan { entries, .. } => Observed::Listed(entries),
+            EventView::Write { .. } => Observed::Listed(&[]),
+            EventView::Delete { .. } => Observed::Listed(&[]),
+            EventView::Commit { .. } => Observed::Listed(&[]),
+            EventView::Abort { .. } => Observed::Listed(&[]),
         }
     }
 

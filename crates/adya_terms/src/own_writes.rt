@@ -6,12 +6,12 @@ ghost use Rattle.std.specs.Ordering.{nat_cmp, is_eq};
 ghost use Rattle.std.specs.Cmp.Lexicographic.{slice_cmp};
 ghost use Rattle.txn_table.specs.Mirror.{value_for};
 ghost use Rattle.adya_values.specs.Meaning.Histories.{Entry as EntryValue, Event as EventValue};
-ghost use Rattle.adya_values.specs.Mirror.Events.{event_of};
+ghost use Rattle.adya_values.specs.Mirror.Events.{events_of};
 ghost use Rattle.adya_terms.specs.Machinery.Tables.{own, own_eq, written_at};
 ghost use Rattle.adya_terms.specs.Machinery.Chains.{is_hit, is_of_key, longer, mark_of, own_place, row, row_at, walk, AreFew, AreLinked};
 
 use crate::tables::Own;
-use crate::{Event, Key, Txn};
+use crate::{EventView, Events, Key, Txn};
 use std::alloc::{AllocError, Global};
 use std::collections::BTreeMap;
 use txn_table::TxnTable;
@@ -69,8 +69,8 @@ impl OwnWrites {
     }
 
     /// Returns the place of the transaction's last write of the key.
-    pub fn last_place(&self, events: &[Event], txn: Txn, key: Key) -> Option<usize>
-        ensures { result ≡ place_of (map event_of events.now) self.now (own txn key) }
+    pub fn last_place(&self, events: &Events, txn: Txn, key: Key) -> Option<usize>
+        ensures { result ≡ place_of (events_of events.now) self.now (own txn key) }
     {
         let chain = self.chain(txn);
         if chain.len < FEW {
@@ -116,8 +116,8 @@ impl OwnWrites {
     }
 
     /// Returns the place of the last write of the key in the chain.
-    fn in_chain(&self, events: &[Event], chain: Chain, key: Key) -> Option<usize>
-        ensures { result ≡ walk (map event_of events.now) self.now.rows.items key chain.len chain.last }
+    fn in_chain(&self, events: &Events, chain: Chain, key: Key) -> Option<usize>
+        ensures { result ≡ walk (events_of events.now) self.now.rows.items key chain.len chain.last }
     {
         let mark = mark_of(key);
         let mut link = chain.last;
@@ -172,9 +172,9 @@ impl OwnWrites {
 }
 
 /// Returns whether the event of the row writes the key, which has this mark.
-fn is_hit(events: &[Event], row: Row, key: Key, mark: u16) -> bool
+fn is_hit(events: &Events, row: Row, key: Key, mark: u16) -> bool
     requires { mark ≡ mark_of key }
-    ensures { result ≡ is_hit (map event_of events.now) key row }
+    ensures { result ≡ is_hit (events_of events.now) key row }
 {
     row.mark == mark && is_of_key(events, row.at, key)
 }
@@ -192,12 +192,15 @@ fn mark_of(key: Key) -> u16
 }
 
 /// Returns whether the event at the place writes the key.
-fn is_of_key(events: &[Event], at: usize, key: Key) -> bool
-    ensures { result ≡ is_of_key (written_at (map event_of events.now) (Some at)) key }
+fn is_of_key(events: &Events, at: usize, key: Key) -> bool
+    ensures { result ≡ is_of_key (written_at (events_of events.now) (Some at)) key }
 {
-    match events.get(at) {
-        Some(Event::Write { key: written, .. }) => *written == key,
-        Some(Event::Delete { key: written, .. }) => *written == key,
+    let Some(event) = events.get(at) else {
+        return false;
+    };
+    match &event {
+        EventView::Write { key: written, .. } => *written == key,
+        EventView::Delete { key: written, .. } => *written == key,
         _ => false,
     }
 }

@@ -3,7 +3,7 @@
 ghost use Rattle.std.specs.Prelude.{◌≡◌, ◌+◌, ◌||◌, ℕ, List, [], true, Some, map, MatchOption, MatchResult};
 ghost use Rattle.adya_terms.specs.declared.tables.Tables.{Tables};
 ghost use Rattle.adya_values.specs.Meaning.Histories.{Event as EventValue};
-ghost use Rattle.adya_values.specs.Mirror.Events.{entry_of, event_of};
+ghost use Rattle.adya_values.specs.Mirror.Events.{entry_of, events_of, view_of};
 ghost use Rattle.adya_values.specs.Meaning.Events.{written};
 ghost use Rattle.adya_values.specs.Computing.Faults as faults;
 ghost use Rattle.adya_values.specs.Meaning.Keys.{key_eq};
@@ -20,22 +20,22 @@ use crate::newest_writes::NewestWrites;
 use crate::observed::{Observed, read_entry};
 use crate::scans::{all_lie_in, keys_rise, lists_own};
 use crate::tables::Tables;
-use crate::{CheckFault, Entry, Event, Rule};
+use crate::{CheckFault, Entry, EventView, Events, Rule};
 use std::alloc::Global;
 
 /// M1: returns whether the event's transaction is still open.
-fn is_open(tables: &Tables, event: &Event) -> bool
-    ensures { (all before : List EventValue) → Means tables.now all before → result ≡ faults.is_open before (event_of event.now) }
+fn is_open(tables: &Tables, event: &EventView<'_>) -> bool
+    ensures { (all before : List EventValue) → Means tables.now all before → result ≡ faults.is_open before (view_of event.now) }
 {
     !tables.has_ended(event.txn())
 }
 
 /// M2: returns whether the event, if it writes, has the next number of its transaction's writes of the key.
-fn is_next(tables: &Tables, events: &[Event], event: &Event) -> bool
-    ensures { let all = map event_of events.now in
+fn is_next(tables: &Tables, events: &Events, event: &EventView<'_>) -> bool
+    ensures { let all = events_of events.now in
         (before : List EventValue)
         → Means tables.now all before
-        → result ≡ faults.is_next before (written (event_of event.now)) }
+        → result ≡ faults.is_next before (written (view_of event.now)) }
 {
     let Some(new) = event.written() else {
         return true;
@@ -48,19 +48,19 @@ fn is_next(tables: &Tables, events: &[Event], event: &Event) -> bool
 }
 
 /// Returns whether the version was written with this content. Most often it is the newest write of its key.
-fn is_written(tables: &Tables, newest: &NewestWrites, events: &[Event], seen: &Entry) -> bool
+fn is_written(tables: &Tables, newest: &NewestWrites, events: &Events, seen: &Entry) -> bool
     ensures { result
-        ≡ is_found (get key_eq newest.now.writes) (place_of (map event_of events.now) tables.now.writes) (get version_eq tables.now.replaced)
-        (map event_of events.now) (entry_of seen.now) }
+        ≡ is_found (get key_eq newest.now.writes) (place_of (events_of events.now) tables.now.writes) (get version_eq tables.now.replaced)
+        (events_of events.now) (entry_of seen.now) }
 {
     newest.has(seen) || tables.was_written(events, seen)
 }
 
 /// Returns whether each entry was written.
-fn all_written(tables: &Tables, newest: &NewestWrites, events: &[Event], entries: &[Entry]) -> bool
+fn all_written(tables: &Tables, newest: &NewestWrites, events: &Events, entries: &[Entry]) -> bool
     ensures { result
-        ≡ list_all (λ w. is_found (get key_eq newest.now.writes) (place_of (map event_of events.now) tables.now.writes)
-        (get version_eq tables.now.replaced) (map event_of events.now) (entry_of w)) entries.now }
+        ≡ list_all (λ w. is_found (get key_eq newest.now.writes) (place_of (events_of events.now) tables.now.writes)
+        (get version_eq tables.now.replaced) (events_of events.now) (entry_of w)) entries.now }
 {
     entries
         .iter()
@@ -68,25 +68,30 @@ fn all_written(tables: &Tables, newest: &NewestWrites, events: &[Event], entries
 }
 
 /// M3: returns whether all that the event sees was written before.
-fn was_written(tables: &Tables, newest: &NewestWrites, events: &[Event], event: &Event) -> bool
-    ensures { let all = map event_of events.now in
+fn was_written(
+    tables: &Tables,
+    newest: &NewestWrites,
+    events: &Events,
+    event: &EventView<'_>,
+) -> bool
+    ensures { let all = events_of events.now in
         (before : List EventValue)
         → Means tables.now all before
         → newest_writes.Keeps newest.now before
-        → result ≡ faults.was_written before (event_of event.now) }
+        → result ≡ faults.was_written before (view_of event.now) }
 {
     all_written(tables, newest, events, Observed::of(event).entries())
 }
 
 /// M4: returns whether the event sees no other version than its transaction's latest of each key that this has written.
-fn sees_own(tables: &Tables, events: &[Event], event: &Event) -> bool
-    ensures { let all = map event_of events.now in
+fn sees_own(tables: &Tables, events: &Events, event: &EventView<'_>) -> bool
+    ensures { let all = events_of events.now in
         (before : List EventValue)
         → Means tables.now all before
-        → result ≡ faults.sees_own before (event_of event.now) }
+        → result ≡ faults.sees_own before (view_of event.now) }
 {
     match event {
-        Event::Read {
+        EventView::Read {
             txn,
             version,
             value,
@@ -94,35 +99,35 @@ fn sees_own(tables: &Tables, events: &[Event], event: &Event) -> bool
             None => true,
             Some(last) => last.same(&read_entry(*version, *value)),
         },
-        Event::Scan {
+        EventView::Scan {
             txn,
             low,
             high,
             entries,
         } => lists_own(&tables.writes, events, *txn, *low, *high, entries),
-        Event::Write { .. } => true,
-        Event::Delete { .. } => true,
-        Event::Commit { .. } => true,
-        Event::Abort { .. } => true,
+        EventView::Write { .. } => true,
+        EventView::Delete { .. } => true,
+        EventView::Commit { .. } => true,
+        EventView::Abort { .. } => true,
     }
 }
 
 /// M5: returns whether the bounds of a scan are in order, and its list has rising keys within the bounds.
-fn is_rising(event: &Event) -> bool
-    ensures { result ≡ faults.is_rising (event_of event.now) }
+fn is_rising(event: &EventView<'_>) -> bool
+    ensures { result ≡ faults.is_rising (view_of event.now) }
 {
     match event {
-        Event::Scan {
+        EventView::Scan {
             low,
             high,
             entries,
             ..
         } => *low <= *high && keys_rise(entries) && all_lie_in(*low, *high, entries),
-        Event::Read { .. } => true,
-        Event::Write { .. } => true,
-        Event::Delete { .. } => true,
-        Event::Commit { .. } => true,
-        Event::Abort { .. } => true,
+        EventView::Read { .. } => true,
+        EventView::Write { .. } => true,
+        EventView::Delete { .. } => true,
+        EventView::Commit { .. } => true,
+        EventView::Abort { .. } => true,
     }
 }
 
@@ -130,16 +135,16 @@ fn is_rising(event: &Event) -> bool
 fn broken_rule(
     tables: &Tables,
     newest: &NewestWrites,
-    events: &[Event],
-    event: &Event,
+    events: &Events,
+    event: &EventView<'_>,
 ) -> Option<Rule>
-    ensures { let all = map event_of events.now in
+    ensures { let all = events_of events.now in
         (before : List EventValue)
         → Means tables.now all before
         → newest_writes.Keeps newest.now before
         → (line : ℕ)
-        → MatchOption result (faults.faults_at before line (event_of event.now) ≡ [])
-        (λ r. faults.first (faults.faults_at before line (event_of event.now)) ≡ Some (faults.Malformed line r)) }
+        → MatchOption result (faults.faults_at before line (view_of event.now) ≡ [])
+        (λ r. faults.first (faults.faults_at before line (view_of event.now)) ≡ Some (faults.Malformed line r)) }
 {
     if !is_open(tables, event) {
         return Some(Rule::M1);
@@ -160,8 +165,8 @@ fn broken_rule(
 }
 
 /// Makes the tables of the events, if none of them breaks a rule.
-pub(crate) fn tables_of(alloc: Global, events: &[Event]) -> Result<Tables, CheckFault>
-    ensures { let all = map event_of events.now in
+pub(crate) fn tables_of(alloc: Global, events: &Events) -> Result<Tables, CheckFault>
+    ensures { let all = events_of events.now in
         MatchResult result (λ t. Means t all all × (faults.event_faults [] 2 all ≡ [])) (Names (faults.event_faults [] 2 all)) }
 {
     // a transaction has an event, so few numbers are larger if they go from 1 on
@@ -169,14 +174,15 @@ pub(crate) fn tables_of(alloc: Global, events: &[Event]) -> Result<Tables, Check
         return Err(CheckFault::Memory);
     };
     let mut newest = NewestWrites::new(alloc);
-    for (i, event) in events.iter().enumerate() {
-        if let Some(rule) = broken_rule(&tables, &newest, events, event) {
+    for i in 0..events.len() {
+        let event = events.at(i);
+        if let Some(rule) = broken_rule(&tables, &newest, events, &event) {
             return Err(CheckFault::Malformed { line: i + 2, rule });
         }
-        let Ok(()) = tables.record(events, i, event) else {
+        let Ok(()) = tables.record(events, i, &event) else {
             return Err(CheckFault::Memory);
         };
-        let Ok(()) = newest.keep(event) else {
+        let Ok(()) = newest.keep(&event) else {
             return Err(CheckFault::Memory);
         };
     }

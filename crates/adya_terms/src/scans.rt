@@ -5,7 +5,7 @@ ghost use Rattle.std.specs.Bool.{OnTrue, OnFalse};
 ghost use Rattle.std.specs.List.{list_all, list_any};
 ghost use Rattle.adya_values.specs.Meaning.Keys as keys;
 ghost use Rattle.adya_values.specs.Meaning.Histories.{Event as EventValue, Scan};
-ghost use Rattle.adya_values.specs.Mirror.Events.{entry_of, event_of};
+ghost use Rattle.adya_values.specs.Mirror.Events.{entry_of, events_of};
 ghost use Rattle.adya_values.specs.Computing.Faults as faults;
 ghost use Rattle.adya_values.specs.Meaning.Events.{last_write};
 ghost use Rattle.adya_values.specs.Computing.Faults.{entry_eq, none_or_lists_only, sees_own};
@@ -20,7 +20,7 @@ ghost use Rattle.adya_terms.specs.Machinery.Owed.{AreShown};
 
 use crate::own_writes::OwnWrites;
 use crate::tables::wrote_at;
-use crate::{Entry, Event, Key, Txn};
+use crate::{Entry, Events, Key, Txn};
 
 fn lies_in(low: Key, high: Key, key: Key) -> bool
     ensures { result ≡ keys.lies_in low high key }
@@ -93,9 +93,9 @@ struct ScanList<'a> {
 
 impl ScanList<'_> {
     /// Returns whether what the event at the place writes, if there is one, is listed and nothing else of its key.
-    fn has_write(&self, events: &[Event], at: Option<usize>) -> bool
+    fn has_write(&self, events: &Events, at: Option<usize>) -> bool
         ensures { result
-            ≡ none_or_lists_only (map entry_of self.now.entries.now) (written_at (map event_of events.now) at) }
+            ≡ none_or_lists_only (map entry_of self.now.entries.now) (written_at (events_of events.now) at) }
     {
         let Some(write) = wrote_at(events, at) else {
             return true;
@@ -111,7 +111,7 @@ impl ScanList<'_> {
 #[derive(Clone, Copy)]
 struct Owed<'a> {
     writes: &'a OwnWrites,
-    events: &'a [Event],
+    events: &'a Events,
     txn: Txn,
     low: Key,
     high: Key,
@@ -136,7 +136,7 @@ impl Owed<'_> {
     /// Returns whether that holds of the key of the write at the place.
     fn has_row(&self, listed: &ScanList, at: usize) -> bool
         ensures { result ≡ key_passes (passes self.now (map entry_of listed.now.entries.now))
-            (written_at (map event_of self.now.events.now) (Some at)) }
+            (written_at (events_of self.now.events.now) (Some at)) }
     {
         match wrote_at(self.events, Some(at)) {
             None => true,
@@ -148,7 +148,7 @@ impl Owed<'_> {
     fn has_chain(&self, listed: &ScanList) -> bool
         ensures { let w = self.now.writes.now in
             let chain = value_for w.chains self.now.txn in
-            result ≡ chain_passes (map event_of self.now.events.now) w.rows.items
+            result ≡ chain_passes (events_of self.now.events.now) w.rows.items
             (passes self.now (map entry_of listed.now.entries.now)) chain.len chain.last }
     {
         let chain = self.writes.chain(self.txn);
@@ -170,9 +170,9 @@ impl Owed<'_> {
     fn has_later(&self, listed: &ScanList) -> bool
         requires { keys.key_lt self.now.high self.now.low ≡ false }
         ensures shown { OnTrue result (AreShown (get nat_cmp self.now.writes.now.later self.now.txn) self.now.low self.now.high
-            (map entry_of listed.now.entries.now) (map event_of self.now.events.now)) }
+            (map entry_of listed.now.entries.now) (events_of self.now.events.now)) }
         ensures missed { OnFalse result (AreShown (get nat_cmp self.now.writes.now.later self.now.txn) self.now.low self.now.high
-            (map entry_of listed.now.entries.now) (map event_of self.now.events.now) → ⊥) }
+            (map entry_of listed.now.entries.now) (events_of self.now.events.now) → ⊥) }
     {
         let Some(later) = self.writes.later(self.txn) else {
             return true;
@@ -190,13 +190,13 @@ impl Owed<'_> {
 /// else of that key.
 pub(crate) fn lists_own(
     writes: &OwnWrites,
-    events: &[Event],
+    events: &Events,
     txn: Txn,
     low: Key,
     high: Key,
     entries: &[Entry],
 ) -> bool
-    ensures { let all = map event_of events.now in
+    ensures { let all = events_of events.now in
         (before : List EventValue)
         → ((k : List ℕ) → written_at all (place_of all writes.now (own txn k)) ≡ last_write txn k before)
         → result ≡ sees_own before (Scan txn low high (map entry_of entries.now)) }

@@ -4,7 +4,7 @@ ghost use Rattle.std.specs.Prelude.{◌≡◌, ◌||◌, is_some, ◌++◌, [], 
 ghost use Rattle.std.specs.HashMap.{get};
 ghost use Rattle.txn_table.specs.Mirror.{value_for};
 ghost use Rattle.adya_values.specs.Meaning.Histories.{Entry as EntryValue, Event as EventValue};
-ghost use Rattle.adya_values.specs.Mirror.Events.{entry_of, event_of};
+ghost use Rattle.adya_values.specs.Mirror.Events.{entry_of, events_of, view_of};
 ghost use Rattle.adya_values.specs.Meaning.Events.{written};
 ghost use Rattle.adya_values.specs.Computing.Faults.{is_next, version_eq};
 ghost use Rattle.adya_terms.specs.Machinery.Tables.{own, own_eq, written_at, is_there, with_replaced};
@@ -12,7 +12,7 @@ ghost use Rattle.adya_terms.specs.Machinery.Telling.{Means};
 ghost use Rattle.adya_terms.specs.Machinery.OwnWrites.{place_of};
 
 use crate::own_writes::OwnWrites;
-use crate::{Entry, Event, Key, Txn, Version};
+use crate::{Entry, EventView, Events, Key, Txn, Version};
 use std::alloc::{AllocError, Global};
 use std::collections::HashMap;
 use txn_table::TxnTable;
@@ -41,8 +41,8 @@ pub(crate) struct Tables {
 }
 
 /// Returns what the event at the place writes.
-pub(crate) fn wrote_at(events: &[Event], at: Option<usize>) -> Option<Entry>
-    ensures { option_map entry_of result ≡ written_at (map event_of events.now) at }
+pub(crate) fn wrote_at(events: &Events, at: Option<usize>) -> Option<Entry>
+    ensures { option_map entry_of result ≡ written_at (events_of events.now) at }
 {
     let Some(at) = at else {
         return None;
@@ -105,16 +105,16 @@ impl Tables {
     }
 
     /// Returns the transaction's last write of the key.
-    pub fn last_write(&self, events: &[Event], txn: Txn, key: Key) -> Option<Entry>
+    pub fn last_write(&self, events: &Events, txn: Txn, key: Key) -> Option<Entry>
         ensures { option_map entry_of result
-            ≡ (let all = map event_of events.now in written_at all (place_of all self.now.writes (own txn key))) }
+            ≡ (let all = events_of events.now in written_at all (place_of all self.now.writes (own txn key))) }
     {
         wrote_at(events, self.last_place(events, txn, key))
     }
 
     /// Returns the index of the transaction's last write of the key in the list of events.
-    pub fn last_place(&self, events: &[Event], txn: Txn, key: Key) -> Option<usize>
-        ensures { result ≡ place_of (map event_of events.now) self.now.writes (own txn key) }
+    pub fn last_place(&self, events: &Events, txn: Txn, key: Key) -> Option<usize>
+        ensures { result ≡ place_of (events_of events.now) self.now.writes (own txn key) }
     {
         self.writes.last_place(events, txn, key)
     }
@@ -127,8 +127,8 @@ impl Tables {
     }
 
     /// Returns whether the version was written with this content.
-    pub fn was_written(&self, events: &[Event], seen: &Entry) -> bool
-        ensures { let all = map event_of events.now in
+    pub fn was_written(&self, events: &Events, seen: &Entry) -> bool
+        ensures { let all = events_of events.now in
             let o = entry_of seen.now in
             result
             ≡ (is_there o (written_at all (place_of all self.now.writes (own o.version.txn o.version.key)))
@@ -143,17 +143,22 @@ impl Tables {
     }
 
     /// Records the event at the place.
-    pub fn record(&mut self, events: &[Event], at: usize, event: &Event) -> Result<(), AllocError>
-        ensures { let all = map event_of events.now in
+    pub fn record(
+        &mut self,
+        events: &Events,
+        at: usize,
+        event: &EventView<'_>,
+    ) -> Result<(), AllocError>
+        ensures { let all = events_of events.now in
             IfOk result
             (λ u. (before : List EventValue)
             → Means self.old all before
-            → slice_get all at ≡ Some (event_of event.now)
-            → is_next before (written (event_of event.now)) ≡ true
-            → Means self.new all (before ++ event_of event.now ∷ [])) }
+            → slice_get all at ≡ Some (view_of event.now)
+            → is_next before (written (view_of event.now)) ≡ true
+            → Means self.new all (before ++ view_of event.now ∷ [])) }
     {
         match event {
-            Event::Write { txn, key, .. } => {
+            EventView::Write { txn, key, .. } => {
                 self.put(
                     events,
                     at,
@@ -163,7 +168,7 @@ impl Tables {
                     },
                 )?;
             }
-            Event::Delete { txn, key, .. } => {
+            EventView::Delete { txn, key, .. } => {
                 self.put(
                     events,
                     at,
@@ -173,9 +178,9 @@ impl Tables {
                     },
                 )?;
             }
-            Event::Read { .. } => {}
-            Event::Scan { .. } => {}
-            Event::Commit { txn } => {
+            EventView::Read { .. } => {}
+            EventView::Scan { .. } => {}
+            EventView::Commit { txn } => {
                 let aborted = self.has_aborted(*txn);
                 self.ended.set(
                     *txn,
@@ -185,7 +190,7 @@ impl Tables {
                     },
                 )?;
             }
-            Event::Abort { txn } => {
+            EventView::Abort { txn } => {
                 let committed = self.has_committed(*txn);
                 self.ended.set(
                     *txn,
@@ -200,13 +205,13 @@ impl Tables {
     }
 
     /// Records that the transaction's last write of the key is at the place, and that it replaced the one before it.
-    fn put(&mut self, events: &[Event], at: usize, own: Own) -> Result<(), AllocError>
-        ensures last { let all = map event_of events.now in
+    fn put(&mut self, events: &Events, at: usize, own: Own) -> Result<(), AllocError>
+        ensures last { let all = events_of events.now in
             IfOk result (λ u. (w : EntryValue)
             → written_at all (Some at) ≡ Some w
             → w.version.key ≡ own.key
             → (q : Own) → place_of all self.new.writes q ≡ cond (own_eq own q) (Some at) (place_of all self.old.writes q)) }
-        ensures replaced { let all = map event_of events.now in
+        ensures replaced { let all = events_of events.now in
             let p = place_of all self.old.writes own in
             IfOk result
             (λ u. (r : Version)

@@ -1,3 +1,4 @@
--- What only the code of this crate needs: texts in arrays of fixed size.
+-- What only the code of this crate needs: texts in arrays of fixed size, and events in an arena.
+pub mod Packed
 pub mod Padded
 pub mod Words

@@ -5,8 +5,10 @@
 //! serial run; well-formedness and acceptance are in `specs/Clauses`. `specs/Computing` has the functions that compute them.
 #![tactic(auto)]
 
+mod arena;
 mod edition;
 mod event;
+mod events;
 mod fault;
 mod history;
 mod key;
@@ -17,7 +19,8 @@ mod serial;
 mod value;
 
 pub use edition::Edition;
-pub use event::{Content, Entry, Event, Version};
+pub use event::{Content, Entry, Event, EventView, Version};
+pub use events::Events;
 pub use fault::{CheckFault, Rule};
 pub use history::{BadShape, History};
 pub use key::{BadKey, Key, MAX_KEY_LEN, is_key_byte};

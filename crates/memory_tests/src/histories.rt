@@ -80,11 +80,11 @@ fn events(tally: &mut Tally, worked: &Worked) -> Result<(), &'static str> {
         let Some(seen) = read_event(line.as_bytes()) else {
             continue;
         };
-        let Ok(event) = again!(tally, Err(AllocError), seen.to_event(tally.alloc())) else {
-            return Err("no event at the second try");
+        let Ok(entries) = again!(tally, Err(AllocError), seen.to_entries(tally.alloc())) else {
+            return Err("no entries at the second try");
         };
         let mut out = wanting(line.as_bytes());
-        if write_event(&event, &mut out).is_err() || !is_met(out) {
+        if write_event(&seen.with_entries(&entries), &mut out).is_err() || !is_met(out) {
             return Err("another event");
         }
     }

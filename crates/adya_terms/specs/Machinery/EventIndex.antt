@@ -1,8 +1,8 @@
 -- What an index of events is made of.
-use Rattle.std.specs.Prelude.{ℕ, Bool, ◌||◌, ◌==◌, List, Option, map}
+use Rattle.std.specs.Prelude.{ℕ, Bool, ◌||◌, ◌==◌, List, Option}
 use Rattle.std.specs.List.{list_any}
 use Rattle.adya_values.specs.Meaning.Histories.{Event}
-use Rattle.adya_values.specs.Mirror.Events.{event_of}
+use Rattle.adya_values.specs.Mirror.Events.{events_of}
 use Rattle.adya_values.specs.Clauses.Rules.{has_ended}
 use Rattle.adya_terms.specs.declared.event_index.EventIndex.{EventIndex}
 use Rattle.adya_terms.specs.declared.tables.Own.{Own}
@@ -10,7 +10,7 @@ use Rattle.adya_terms.specs.Machinery.OwnWrites.{place_of}
 
 -- the events
 abbrev pub indexed : EventIndex → List Event
-indexed x = map event_of x.events.now
+indexed x = events_of x.events.now
 
 -- the unfinished transactions
 abbrev pub unfinished_in : EventIndex → List ℕ

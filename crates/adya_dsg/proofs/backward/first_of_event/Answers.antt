@@ -1,6 +1,6 @@
 use Rattle.std.proofs.Common.{rules, ◌++◌, not, map, option_map, sym, ◌∙◌, ap}
 use Rattle.std.specs.List.{find}
-use Rattle.adya_values.specs.Mirror.Events.{event_of}
+use Rattle.adya_values.specs.Mirror.Events.{view_of}
 use Rattle.adya_dsg.specs.Machinery.VersionOrders.{ordered_history}
 use Rattle.adya_dsg.specs.Mirror.{edge_of}
 use Rattle.adya_dsg.specs.Machinery.PartEdges.{is_backward}
@@ -13,7 +13,7 @@ pub returns-then-is_none : goal.returns-then-is_none
 returns-then-is_none c =
     let h = ordered_history c.args.versions.now in
     let ts = c.args.certificate.now.txns.now in
-    let e = event_of c.args.event.now in
+    let e = view_of c.args.event.now in
     let given = ap (map edge_of) c.deref.ensures.value ∙
     (c.in_ok-push_event_links.ensures ∙ ap (λ es. map edge_of es ++ event_links h e) c.clear.ensures.items) in
     let none = ap (find (is_backward ts)) (sym given) ∙

@@ -1,7 +1,7 @@
 use Rattle.std.proofs.Common.{◌≡◌, ◌+◌, ◌++◌, ℕ, Vec, Global, Some, map, drop, filter, flat_map, get_or, nat_lt, sym, ◌∙◌, ap, append_assoc}
 use Rattle.std.proofs.lemmas.Bool.{lt-ltb, le-ltb}
 use Rattle.std.proofs.lemmas.Result.{on_ok_weaker}
-use Rattle.adya_values.specs.Mirror.Events.{event_of}
+use Rattle.adya_values.specs.Mirror.Events.{view_of}
 use Rattle.adya_values.specs.Meaning.Orders.{installer}
 use Rattle.adya_values.specs.Meaning.Edges.{Wr}
 use Rattle.adya_values.specs.Computing.EdgeList.{joined, read_edges}
@@ -44,7 +44,7 @@ loop-place-preserved c =
 pub returns : goal.returns
 returns c =
     let h = ordered_history c.args.versions.now in
-    let e = event_of c.args.event.now in
+    let e = view_of c.args.event.now in
     let k = key_at h c.args.at.line in
     let p = c.args.at.place in
     let t = c.txn-txn.result in

@@ -1,5 +1,5 @@
 use Rattle.std.proofs.Common.{◌<◌, ◌+◌, ◌++◌, List, map, drop, flat_map, length, get_or, sym, ◌∙◌, ap, subst}
-use Rattle.adya_values.specs.Mirror.Events.{event_of}
+use Rattle.adya_values.specs.Mirror.Events.{view_of}
 use Rattle.adya_dsg.specs.Machinery.VersionOrders.{ordered_history, order_lines}
 use Rattle.adya_dsg.specs.declared.selection.Selection.{Selection}
 use Rattle.adya_dsg.specs.Mirror.{edge_of}
@@ -12,7 +12,7 @@ use Rattle.adya_dsg.proofs.event_links.push_event_links.Goals as goal
 pub loop-at-init : goal.loop-at-init
 loop-at-init c =
     let h = ordered_history c.args.versions.now in
-    let e = event_of c.args.event.now in
+    let e = view_of c.args.event.now in
     let old = map edge_of c.args.edges.now.items in
     ap (λ zs. old ++ flat_map (choice_links h e) (map (choice_of h) zs)) c.deref-at-items.ensures.value ∙
     ap (λ cs. old ++ flat_map (choice_links h e) cs) c.in_ok-selections.ensures.choices
@@ -29,7 +29,7 @@ push_links_at-requires c =
 pub loop-at-preserved : goal.loop-at-preserved
 loop-at-preserved c =
     let h = ordered_history c.args.versions.now in
-    let e = event_of c.args.event.now in
+    let e = view_of c.args.event.now in
     let ss = c.deref-at-items.result.now in
     let i = c.loop-at.at-index in
     let s = get_or ss i (record { line = 0; place = 0 }) in

@@ -6,7 +6,7 @@ use Rattle.adya_values.specs.Computing.Faults.{Malformed, first, fault_unless, h
 use Rattle.adya_values.specs.Mirror.Events.{order_of}
 use Rattle.adya_terms.specs.Machinery.Checks.{parts}
 use Rattle.adya_terms.specs.Machinery.Places.{AreWrites, Leaves}
-use Rattle.adya_terms.specs.Machinery.EventIndex.{last_in}
+use Rattle.adya_terms.specs.Machinery.EventIndex.{indexed, last_in}
 use Rattle.adya_terms.proofs.Firsts.{names_front}
 use Rattle.adya_terms.proofs.Exact.{judges, lines_where_none_left, no_line_where_left, all_taken, lines_right, none_in_set}
 use Rattle.adya_terms.proofs.listed.check_orders.Goals as goal
@@ -15,7 +15,7 @@ use Rattle.lemmas.proofs.Lists.{both_nil}
 
 pub returns-in-Err-clause-faults : goal.returns-in-Err-clause-faults
 returns-in-Err-clause-faults c =
-    let h = parts c.args.index.now.events.now c.args.orders.now [] in
+    let h = parts (indexed c.args.index.now) c.args.orders.now [] in
     let last = last_in c.args.index.now in
     let leaves = subst (λ ps. Leaves h.events last ps c.in-Ok-unlisted.unlisted) c.deref.ensures.value c.in-Ok-unlisted.ensures in
     let right = judges _ _ _ _ h.events c.args.index.now.tell c.in-Ok.placed.places.items h.orders c.in-Ok.placed.wrong c.in-Ok.ensures.places c.requires.rise c.in-Ok-unlisted.unlisted leaves in
@@ -23,7 +23,7 @@ returns-in-Err-clause-faults c =
 
 pub returns-in-None-clause-faults : goal.returns-in-None-clause-faults
 returns-in-None-clause-faults c =
-    let h = parts c.args.index.now.events.now c.args.orders.now [] in
+    let h = parts (indexed c.args.index.now) c.args.orders.now [] in
     let line = c.args.first in
     let last = last_in c.args.index.now in
     let s = c.in-Ok-unlisted.unlisted in
@@ -38,7 +38,7 @@ returns-in-None-clause-faults c =
 
 pub returns-in-None-clause-writes : goal.returns-in-None-clause-writes
 returns-in-None-clause-writes c =
-    let h = parts c.args.index.now.events.now c.args.orders.now [] in
+    let h = parts (indexed c.args.index.now) c.args.orders.now [] in
     let last = last_in c.args.index.now in
     let s = c.in-Ok-unlisted.unlisted in
     let leaves = subst (λ ps. Leaves h.events last ps s) c.deref.ensures.value c.in-Ok-unlisted.ensures in
@@ -50,7 +50,7 @@ returns-in-None-clause-writes c =
 
 pub returns-in-Some-clause-faults : goal.returns-in-Some-clause-faults
 returns-in-Some-clause-faults c =
-    let h = parts c.args.index.now.events.now c.args.orders.now [] in
+    let h = parts (indexed c.args.index.now) c.args.orders.now [] in
     let line = c.args.first in
     let last = last_in c.args.index.now in
     let s = c.in-Ok-unlisted.unlisted in

@@ -1,16 +1,13 @@
-use Rattle.std.proofs.Common.{◌≡◌, ◌∙◌, ◌+◌, cond, length, nat_cmp, sym, ap, subst, true}
+use Rattle.std.proofs.Common.{◌≡◌, ◌≤◌, ◌∙◌, ◌+◌, cond, length, nat_cmp, sym, ap, subst, true}
 use Rattle.std.specs.BTreeSet.{contains}
 use Rattle.std.specs.Cmp.Lexicographic.{slice_cmp, texts_ties}
-use Rattle.std.proofs.lemmas.List.{length-map}
 use Rattle.std.proofs.lemmas.Option.{none-some, same_Some}
 use Rattle.adya_values.specs.Meaning.Keys.{key_eq}
-use Rattle.adya_values.specs.Mirror.Events.{event_of}
 use Rattle.adya_terms.specs.Machinery.EventIndex.{indexed, last_in}
 use Rattle.adya_terms.proofs.Places.{AreFound, found_all, found_none, found_one}
 use Rattle.adya_terms.proofs.listed.unlisted.Goals as goal
 use Rattle.adya_terms.proofs.listed.unlisted.Goals.{in-Some+in_ok-insert, in_default}
 use Rattle.lemmas.proofs.Booleans.{cond_or}
-use Rattle.lemmas.proofs.Steps.{turn}
 
 pub loop-i-preserved : goal.loop-i-preserved
 loop-i-preserved c =
@@ -18,11 +15,9 @@ loop-i-preserved c =
     let last = last_in c.args.index.now in
     let ps = c.args.places.now in
     let i = c.loop-i.i in
-    let e = c.event-item.result in
-    let t = turn event_of c.args.index.now.events.now i e c.loop-i-test.true c.event-item.is in
-    let same : length ps ≡ length all = c.requires.same_length ∙ sym (length-map c.args.index.now.events.now event_of) in
+    let same : length ps ≡ length all = c.requires.same_length in
     let has = contains (slice_cmp nat_cmp) c.loop-i.keys in
-    let found = c.unlisted_key.ensures.found same t.found in
+    let found = c.unlisted_key.ensures.found same in
     elim c.match-unlisted_key.branch [
       | in-Some+in_ok-insert w ↦
           let j = w.in-Some.key in
@@ -40,5 +35,5 @@ returns c =
     let all = indexed c.args.index.now in
     record {
       from = c.loop-i.invariant.from;
-      has = found_all _ _ _ _ all c.args.index.now.tell c.args.places.now c.loop-i.i (contains (slice_cmp nat_cmp) c.loop-i.keys) (rw length-map c.loop-i-test.false) c.loop-i.invariant;
+      has = found_all _ _ _ _ all c.args.index.now.tell c.args.places.now c.loop-i.i (contains (slice_cmp nat_cmp) c.loop-i.keys) (subst (λ n. n ≤ c.loop-i.i) c.len-i-end.ensures.length c.loop-i-test.false) c.loop-i.invariant;
     }

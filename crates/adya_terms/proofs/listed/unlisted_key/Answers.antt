@@ -1,7 +1,7 @@
 use Rattle.std.proofs.Common.{rules, ◌≡◌, ◌∙◌, Some, None, not, sym, ap, subst}
 use Rattle.std.proofs.lemmas.Option.{MatchOption-at_none, same_Some}
 use Rattle.adya_values.specs.Meaning.Histories.{Entry}
-use Rattle.adya_values.specs.Mirror.Events.{entry_of, event_of}
+use Rattle.adya_values.specs.Mirror.Events.{entry_of}
 use Rattle.adya_terms.specs.Machinery.Places.{IsLeft}
 use Rattle.adya_terms.specs.Machinery.EventIndex.{indexed, last_in}
 use Rattle.adya_terms.proofs.Places.{writes_it}
@@ -9,11 +9,11 @@ use Rattle.adya_terms.proofs.listed.unlisted_key.Goals as goal
 use Rattle.lemmas.proofs.Options.{none_unless_some}
 
 pub returns-then-is_none-clause-found : goal.returns-then-is_none-clause-found
-returns-then-is_none-clause-found c same found k t left =
+returns-then-is_none-clause-found c same k t left =
     let all = indexed c.args.index.now in
     let m = c.args.index.now.tell in
     let w = entry_of c.in-Some.field-0 in
-    let x = writes_it _ _ _ _ all m t k c.args.at (event_of c.args.event.now) left.last_is found (Some w) c.in-Some.ensures in
+    let x = writes_it _ _ _ _ all m t k c.args.at left.last_is (Some w) c.in-Some.ensures in
     let is : w ≡ x.0 = same_Some w x.0 x.1 in
     let last = last_in c.args.index.now in
     let mine : IsLeft all last c.args.places.now w.version.key w.version.txn c.args.at =
@@ -23,11 +23,11 @@ returns-then-is_none-clause-found c same found k t left =
     absurd (MatchOption-at_none _ _ none (c.unplaced.ensures.left same) c.args.at mine)
 
 pub returns-clause-found : goal.returns-clause-found
-returns-clause-found c same found k t left =
+returns-clause-found c same k t left =
     let all = indexed c.args.index.now in
     let m = c.args.index.now.tell in
     let w = entry_of c.in-Some.field-0 in
-    let x = writes_it _ _ _ _ all m t k c.args.at (event_of c.args.event.now) left.last_is found (Some w) c.in-Some.ensures in
+    let x = writes_it _ _ _ _ all m t k c.args.at left.last_is (Some w) c.in-Some.ensures in
     ap Some (ap (λ (y : Entry). y.version.key) (same_Some w x.0 x.1) ∙ x.3)
 
 pub returns-then-places-at-ne0-clause-found : goal.returns-then-places-at-ne0-clause-found

@@ -8,4 +8,4 @@ use Rattle.adya_terms.proofs.rules.is_rising.Goals as goal
 pub returns-then-keys_rise : goal.returns-then-keys_rise
 returns-then-keys_rise c =
     let inside = λ (w : Entry). lies_in c.in-Scan.low c.in-Scan.high w.version.key in
-    rw (c.in-Scan.is, list_all-map inside entry_of c.in-Scan.entries.items) (search rules)
+    rw (c.in-Scan.is, list_all-map inside entry_of c.in-Scan.entries.now) (search rules)

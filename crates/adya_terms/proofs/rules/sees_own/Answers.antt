@@ -1,6 +1,6 @@
-use Rattle.std.proofs.Common.{◌≡◌, ◌∙◌, Some, map, option_map, sym, ap}
-use Rattle.adya_values.specs.Meaning.Histories.{Live, Scan}
-use Rattle.adya_values.specs.Mirror.Events.{entry_of, event_of, value_of}
+use Rattle.std.proofs.Common.{◌≡◌, ◌∙◌, Some, option_map, sym, ap}
+use Rattle.adya_values.specs.Meaning.Histories.{Live}
+use Rattle.adya_values.specs.Mirror.Events.{entry_of, value_of, view_of}
 use Rattle.adya_values.specs.Meaning.Events.{entry, last_write}
 use Rattle.adya_values.specs.Computing.Faults as faults
 use Rattle.adya_terms.proofs.rules.sees_own.Goals as goal
@@ -14,11 +14,9 @@ returns-in-Some c before m =
     c.same.ensures ∙
     (ap (faults.entry_eq (entry_of c.in-Some.last)) c.read_entry.ensures ∙
     (ap (λ w. faults.is_none_or w (entry r (Live (value_of c.in-Read.value)))) (sym last) ∙
-    ap (λ e. faults.sees_own before (event_of e)) (sym c.in-Read.is)))
+    ap (λ e. faults.sees_own before (view_of e)) (sym c.in-Read.is)))
 
 pub returns-in-Scan : goal.returns-in-Scan
 returns-in-Scan c before m =
     let t = c.in-Scan.txn in
-    c.lists_own.ensures before (m.last_is t) ∙
-    (ap (λ es. faults.sees_own before (Scan t c.in-Scan.low c.in-Scan.high (map entry_of es))) c.deref.ensures.value ∙
-    ap (λ e. faults.sees_own before (event_of e)) (sym c.in-Scan.is))
+    c.lists_own.ensures before (m.last_is t) ∙ ap (λ e. faults.sees_own before (view_of e)) (sym c.in-Scan.is)

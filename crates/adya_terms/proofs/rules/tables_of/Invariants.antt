@@ -1,5 +1,5 @@
-use Rattle.std.proofs.Common.{◌≡◌, ◌+◌, [], map, take, drop}
-use Rattle.adya_values.specs.Mirror.Events.{event_of}
+use Rattle.std.proofs.Common.{◌≡◌, ◌+◌, [], take, drop}
+use Rattle.adya_values.specs.Mirror.Events.{events_of}
 use Rattle.adya_values.specs.Computing.Faults.{event_faults}
 use Rattle.adya_terms.specs.Machinery.Telling.{Means}
 use Rattle.adya_terms.specs.Machinery.NewestWrites as newest_writes
@@ -7,7 +7,7 @@ use Rattle.adya_terms.proofs.rules.tables_of.Given as goal
 
 abbrev pub invariant-loop-i : goal.invariant-loop-i
 invariant-loop-i l =
-    let all = map event_of l.events in
+    let all = events_of l.events in
     record {
       means : Means l.tables all (take l.i all);
       newest : newest_writes.Keeps l.newest (take l.i all);

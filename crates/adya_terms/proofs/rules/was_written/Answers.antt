@@ -1,11 +1,11 @@
-use Rattle.std.proofs.Common.{◌∙◌, map, sym, ap}
+use Rattle.std.proofs.Common.{◌∙◌, sym, ap}
 use Rattle.std.specs.HashMap.{get}
 use Rattle.std.specs.List.{filter_map, list_all, list_any}
 use Rattle.std.proofs.lemmas.List.Folds.{list_all-map}
 use Rattle.adya_values.specs.declared.event.Entry.{Entry as EntryValue}
 use Rattle.adya_values.specs.Meaning.Keys.{key_eq}
 use Rattle.adya_values.specs.Meaning.Histories.{Entry}
-use Rattle.adya_values.specs.Mirror.Events.{entry_of, event_of}
+use Rattle.adya_values.specs.Mirror.Events.{entry_of, events_of}
 use Rattle.adya_values.specs.Meaning.Events.{written}
 use Rattle.adya_values.specs.Computing.Faults.{entry_eq, version_eq}
 use Rattle.adya_terms.specs.Machinery.OwnWrites.{place_of}
@@ -16,7 +16,7 @@ use Rattle.adya_terms.proofs.rules.was_written.Goals as goal
 
 pub returns : goal.returns
 returns c before m n =
-    let all = map event_of c.args.events.now in
+    let all = events_of c.args.events.now in
     let newest = get key_eq c.args.newest.now.writes in
     let last = place_of all c.args.tables.now.writes in
     let replaced = get version_eq c.args.tables.now.replaced in

@@ -1,18 +1,20 @@
 use Rattle.std.proofs.Common.{arith, rules, ap, sym, subst, ◌∙◌, map, take, slice_get, if◌then◌else◌, ◌&&◌, Some}
-use Rattle.adya_values.specs.Mirror.Events.{event_of, entry_of}
+use Rattle.adya_values.specs.Mirror.Events.{entry_of, events_of, view_of}
 use Rattle.adya_values.specs.Meaning.Keys.{key_eq}
 use Rattle.std.specs.BTreeMap.{is_at}
 use Rattle.std.specs.Ordering.{nat_cmp}
 use Rattle.ssi_recorder.specs.Machinery.Lines.{put_at, write_by, AreLines}
-use Rattle.ssi_recorder.proofs.Placed.{write-none, write-other, write-put, event-more}
+use Rattle.lemmas.proofs.Steps.{turn_at}
+use Rattle.ssi_recorder.proofs.Placed.{write-none, write-other, write-put}
 use Rattle.ssi_recorder.proofs.installs.lines.Goals as goal
 use Rattle.ssi_recorder.proofs.installs.lines.Goals.{in-Some+in-Some-get_index_of+in_ok-put, in-Some+in_default-get_index_of, in_default}
 
 pub events-preserved : goal.events-preserved
 events-preserved c =
-    let before = map event_of (take c.events.event-index c.args.events.now) in
-    let e = event_of c.event-item.result in
-    let more = event-more c.args.events.now c.events.event-index c.event-item.result (omega arith) (Prim.search rules) in
+    let all = events_of c.args.events.now in
+    let before = take c.events.i all in
+    let e = view_of c.at-event.result in
+    let more = (turn_at all c.events.i e c.at-event.ensures).front in
     elim c.match-written.branch [
       | in-Some+in-Some-get_index_of+in_ok-put w ↦ record {
         lines = λ q r. ap (λ m. put_at q r m.entries) w.lines-is ∙ w.in_ok-put.ensures.put q r

@@ -1,7 +1,6 @@
-use Rattle.std.proofs.Common.{◌≡◌, ◌∙◌, ap, refl, sym, Some, None, length, map, slice_get}
+use Rattle.std.proofs.Common.{◌≡◌, ◌∙◌, ap, refl, sym, Some, None, length, slice_get}
 use Rattle.std.proofs.lemmas.Bool.{ltb-false, ltb-true}
 use Rattle.std.proofs.lemmas.Option.{slice_get_past, slice_get_read}
-use Rattle.adya_values.specs.Mirror.Events.{event_of}
 use Rattle.adya_terms.specs.Machinery.Tables.{written_at}
 use Rattle.adya_terms.proofs.InstalledWrites.{at_place, no_line}
 use Rattle.adya_terms.proofs.checked.Checked.installed.Goals as goal
@@ -32,7 +31,7 @@ returns c =
     let there : slice_get lines c.args.line ≡ Some v =
     slice_get_read lines (length lines) c.args.line v refl (ltb-true c.args.line (length lines) (sym c.in-Some.ensures.lookup.0)) c.in-Some.ensures.lookup.1 in
     c.wrote_at.ensures ∙
-    (ap (λ es. written_at (map event_of es) (Some c.in-Some-get.at.now)) c.events.ensures ∙
+    (ap (λ es. written_at es (Some c.in-Some-get.at.now)) c.events.ensures ∙
     at_place c.args.self.now c.args.line c.args.place v (Some c.in-Some-get.at.now)
     (ap (λ ls. slice_get ls c.args.line) (sym c.deref.ensures.value) ∙ there)
     (ap (λ ws. slice_get ws c.args.place) (sym c.deref-2.ensures.value) ∙

@@ -1,12 +1,12 @@
-use Rattle.std.proofs.Common.{◌≡◌, suc, ◌+◌, ◌-◌, ◌∙◌, false, map, sym, ap, Some, arith}
-use Rattle.adya_values.specs.Mirror.Events.{event_of}
+use Rattle.std.proofs.Common.{◌≡◌, suc, ◌+◌, ◌-◌, ◌∙◌, false, sym, ap, Some, arith}
+use Rattle.adya_values.specs.Mirror.Events.{events_of}
 use Rattle.adya_terms.specs.Machinery.Chains.{is_hit, row_at, walk}
 use Rattle.adya_terms.proofs.Chains.{walk_goes_on}
 use Rattle.adya_terms.proofs.own_writes.OwnWrites.in_chain.Goals as goal
 
 pub loop-preserved : goal.loop-preserved
 loop-preserved c =
-    let all = map event_of c.args.events.now in
+    let all = events_of c.args.events.now in
     let rows = c.args.self.now.rows.items in
     let less = c.loop-test.true in
     let step : c.args.chain.len - c.loop.counter ≡ suc (c.args.chain.len - (c.loop.counter + 1)) = omega (arith, less) in

@@ -1,5 +1,5 @@
 use Rattle.std.proofs.Common.{◌≡◌, suc, ◌+◌, ◌-◌, ◌∙◌, true, map, sym, ap, Some, arith}
-use Rattle.adya_values.specs.Mirror.Events.{entry_of, event_of}
+use Rattle.adya_values.specs.Mirror.Events.{entry_of, events_of}
 use Rattle.adya_terms.specs.Machinery.Tables.{written_at}
 use Rattle.adya_terms.specs.Machinery.Chains.{chain_passes, key_passes, row_at}
 use Rattle.adya_terms.specs.Machinery.Owed.{passes}
@@ -8,7 +8,7 @@ use Rattle.adya_terms.proofs.scans.Owed.has_chain.Goals as goal
 
 pub loop-preserved : goal.loop-preserved
 loop-preserved c =
-    let all = map event_of c.args.self.now.events.now in
+    let all = events_of c.args.self.now.events.now in
     let w = c.args.self.now.writes.now in
     let rows = w.rows.items in
     let test = passes c.args.self.now (map entry_of c.args.listed.now.entries.now) in

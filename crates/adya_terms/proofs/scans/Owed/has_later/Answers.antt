@@ -3,7 +3,7 @@ use Rattle.std.specs.List.{list_all}
 use Rattle.std.specs.BTreeMap.{get}
 use Rattle.std.specs.Ordering.{nat_cmp}
 use Rattle.std.proofs.lemmas.Bool.{both_ways}
-use Rattle.adya_values.specs.Mirror.Events.{entry_of, event_of}
+use Rattle.adya_values.specs.Mirror.Events.{entry_of, events_of}
 use Rattle.adya_values.specs.Computing.Faults.{none_or_lists_only}
 use Rattle.adya_terms.specs.Machinery.Tables.{written_at}
 use Rattle.adya_terms.specs.Machinery.Owed.{AreShown}
@@ -18,7 +18,7 @@ pub returns-then-not-has_write-clause-missed : goal.returns-then-not-has_write-c
 returns-then-not-has_write-clause-missed c shown =
     let o = c.args.self.now in
     let es = map entry_of c.args.listed.now.entries.now in
-    let all = map event_of o.events.now in
+    let all = events_of o.events.now in
     let items = c.range-at-items.result in
     let test : List ℕ × ℕ → Bool = λ e. none_or_lists_only es (written_at all (Some e.1)) in
     let there : get nat_cmp o.writes.now.later o.txn ≡ Some c.in-Some.later.now =
@@ -34,7 +34,7 @@ pub returns-clause-shown : goal.returns-clause-shown
 returns-clause-shown c =
     let o = c.args.self.now in
     let es = map entry_of c.args.listed.now.entries.now in
-    let all = map event_of o.events.now in
+    let all = events_of o.events.now in
     let items = c.range-at-items.result in
     let test : List ℕ × ℕ → Bool = λ e. none_or_lists_only es (written_at all (Some e.1)) in
     let there : get nat_cmp o.writes.now.later o.txn ≡ Some c.in-Some.later.now =

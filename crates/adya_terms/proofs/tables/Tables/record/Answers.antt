@@ -2,7 +2,7 @@ use Rattle.std.proofs.Common.{Some, ◌∙◌, sym, ap, refl}
 use Rattle.std.proofs.Math.Bool.{or-false}
 use Rattle.std.proofs.lemmas.Bool.{eqb-true}
 use Rattle.adya_values.specs.Meaning.Histories.{Live, Dead, Commit, Abort}
-use Rattle.adya_values.specs.Mirror.Events.{event_of, value_of}
+use Rattle.adya_values.specs.Mirror.Events.{value_of, view_of}
 use Rattle.adya_values.specs.Meaning.Events.{version, entry, written}
 use Rattle.adya_values.specs.Computing.Faults.{is_next}
 use Rattle.adya_terms.specs.Machinery.Tables.{written_by}
@@ -13,22 +13,22 @@ use Rattle.adya_terms.proofs.tables.Tables.record.Goals as goal
 pub returns-in_ok-put-in-Write : goal.returns-in_ok-put-in-Write
 returns-in_ok-put-in-Write c before m found next =
     let w = entry (version c.in-Write.key c.in-Write.txn c.in-Write.m) (Live (value_of c.in-Write.value)) in
-    let number = ap (λ x. is_next before (written (event_of x))) (sym c.in-Write.is) ∙ next in
+    let number = ap (λ x. is_next before (written (view_of x))) (sym c.in-Write.is) ∙ next in
     rw (c.in-Write.is, c.in_ok-put-in-Write.ensures.ended)
     (tell_write _ _ _ _ _ before m c.args.at _ w
-    (record { found = found ∙ ap (λ x. Some (event_of x)) c.in-Write.is; wrote = refl; commits_none = λ t. refl; aborts_none = λ t. refl })
+    (record { found = found ∙ ap (λ x. Some (view_of x)) c.in-Write.is; wrote = refl; commits_none = λ t. refl; aborts_none = λ t. refl })
     (eqb-true _ _ number) _ _
-    (c.in_ok-put-in-Write.ensures.last w (ap written_by found ∙ ap (λ x. written (event_of x)) c.in-Write.is) refl) c.in_ok-put-in-Write.ensures.replaced)
+    (c.in_ok-put-in-Write.ensures.last w (ap written_by found ∙ ap (λ x. written (view_of x)) c.in-Write.is) refl) c.in_ok-put-in-Write.ensures.replaced)
 
 pub returns-in_ok-put-in-Delete : goal.returns-in_ok-put-in-Delete
 returns-in_ok-put-in-Delete c before m found next =
     let w = entry (version c.in-Delete.key c.in-Delete.txn c.in-Delete.m) Dead in
-    let number = ap (λ x. is_next before (written (event_of x))) (sym c.in-Delete.is) ∙ next in
+    let number = ap (λ x. is_next before (written (view_of x))) (sym c.in-Delete.is) ∙ next in
     rw (c.in-Delete.is, c.in_ok-put-in-Delete.ensures.ended)
     (tell_write _ _ _ _ _ before m c.args.at _ w
-    (record { found = found ∙ ap (λ x. Some (event_of x)) c.in-Delete.is; wrote = refl; commits_none = λ t. refl; aborts_none = λ t. refl })
+    (record { found = found ∙ ap (λ x. Some (view_of x)) c.in-Delete.is; wrote = refl; commits_none = λ t. refl; aborts_none = λ t. refl })
     (eqb-true _ _ number) _ _
-    (c.in_ok-put-in-Delete.ensures.last w (ap written_by found ∙ ap (λ x. written (event_of x)) c.in-Delete.is) refl) c.in_ok-put-in-Delete.ensures.replaced)
+    (c.in_ok-put-in-Delete.ensures.last w (ap written_by found ∙ ap (λ x. written (view_of x)) c.in-Delete.is) refl) c.in_ok-put-in-Delete.ensures.replaced)
 
 pub returns-in-Read : goal.returns-in-Read
 returns-in-Read c before m found next =

@@ -1,14 +1,14 @@
-use Rattle.std.proofs.Common.{◌≡◌, ◌∙◌, ◌||◌, false, sym, ap, map}
+use Rattle.std.proofs.Common.{◌≡◌, ◌∙◌, ◌||◌, false, sym, ap}
 use Rattle.std.specs.HashMap.{get}
 use Rattle.adya_values.specs.Computing.Faults.{version_eq}
-use Rattle.adya_values.specs.Mirror.Events.{entry_of, event_of}
+use Rattle.adya_values.specs.Mirror.Events.{entry_of, events_of}
 use Rattle.adya_terms.specs.Machinery.Tables.{own, is_there, written_at}
 use Rattle.adya_terms.specs.Machinery.OwnWrites.{place_of}
 use Rattle.adya_terms.proofs.tables.Tables.was_written.Goals as goal
 
 pub returns-else-is_there : goal.returns-else-is_there
 returns-else-is_there c =
-    let all = map event_of c.args.events.now in
+    let all = events_of c.args.events.now in
     let o = entry_of c.args.seen.now in
     let r = o.version in
     let replaced = is_there o (written_at all (get version_eq c.args.self.now.replaced r)) in

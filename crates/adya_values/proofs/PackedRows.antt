@@ -1,0 +1,126 @@
+-- What rows stand for stays when something is added behind what they name.
+use Rattle.std.proofs.Common.{◌≡◌, ◌∙◌, ℕ, zero, suc, ◌+◌, ◌≤◌, Bool, true, false, ◌&&◌, if◌then◌else◌, List, [], ◌∷◌, ◌++◌, map, length, Option, Some, None, slice_get, sym, ap, refl, subst, arith}
+use Rattle.std.specs.List.{list_all}
+use Rattle.std.specs.Prelude.{OnErr}
+use Rattle.std.proofs.Common.{Result, Ok, Err}
+use Rattle.std.proofs.Math.Bool.{false≢true}
+use Rattle.std.proofs.lemmas.List.{length-append, length-map, map-append}
+use Rattle.std.proofs.lemmas.Bool.{and_from, and_parts, le-leb, leb-true}
+use Rattle.adya_values.specs.Meaning.Keys.{Bytes, is_key, is_value}
+use Rattle.adya_values.specs.Meaning.Histories.{Event, Entry, Delete, Read, Scan, Write}
+use Rattle.adya_values.specs.declared.arena.Row.{Row}
+use Rattle.adya_values.specs.declared.arena.Row.TheVariants as In
+use Rattle.adya_values.specs.declared.arena.Listing.{Listing}
+use Rattle.adya_values.specs.declared.arena.Arena.{Arena}
+use Rattle.adya_values.specs.Mirror.Events.{entry_of, event_of_row}
+use Rattle.adya_values.specs.Machinery.Packed.{Extends, is_row_of, event_in, is_listing, is_part, is_row, part, scan_in}
+use Rattle.adya_values.proofs.PackedParts.{is_part_stays, part_stays}
+
+module _ (bs bm : Bytes) where
+  -- a part that passes is there, and stays
+  same_part : (test : Bytes → Bool) (at n : ℕ) → is_part test bs at n ≡ true → part at n (bs ++ bm) ≡ part at n bs
+  same_part test at n e = part_stays at n bs bm (leb-true (at + n) (length bs) (and_parts _ _ e).0)
+
+  listing_stays : (n m : ℕ) (o : Option Listing) → n ≤ m → is_listing bs n o ≡ true → is_listing (bs ++ bm) m o ≡ true
+  listing_stays n m None l e = e
+  listing_stays n m (Some x) l e =
+      let (low, rest) = and_parts (is_part is_key bs x.at x.low) _ e in
+      let (high, within) = and_parts (is_part is_key bs (x.at + x.low) x.high) _ rest in
+      and_from _ _ (is_part_stays is_key bs bm x.at x.low low)
+      (and_from _ _ (is_part_stays is_key bs bm (x.at + x.low) x.high high)
+      (le-leb (x.from + x.count) m (omega (arith, l, leb-true (x.from + x.count) n within))))
+
+  scan_stays : (es em : List Entry) (t : ℕ) (o : Option Listing) → is_listing bs (length es) o ≡ true → scan_in (bs ++ bm) (es ++ em) t o ≡ scan_in bs es t o
+  scan_stays es em t None e = refl
+  scan_stays es em t (Some x) e =
+      let (low, rest) = and_parts (is_part is_key bs x.at x.low) _ e in
+      let (high, within) = and_parts (is_part is_key bs (x.at + x.low) x.high) _ rest in
+      ap (λ k. Scan t k (part (x.at + x.low) x.high (bs ++ bm)) (part x.from x.count (es ++ em))) (same_part is_key x.at x.low low) ∙
+      (ap (λ k. Scan t (part x.at x.low bs) k (part x.from x.count (es ++ em))) (same_part is_key (x.at + x.low) x.high high) ∙
+      ap (λ ws. Scan t (part x.at x.low bs) (part (x.at + x.low) x.high bs) ws)
+      (part_stays x.from x.count es em (leb-true (x.from + x.count) (length es) within)))
+
+  -- a listing that is there stays
+  same_listing : (n : ℕ) (ls lm : List Listing) (i : ℕ) → is_listing bs n (slice_get ls i) ≡ true → slice_get (ls ++ lm) i ≡ slice_get ls i
+  same_listing n [] lm i e = absurd (false≢true e)
+  same_listing n (x ∷ xs) lm zero e = refl
+  same_listing n (x ∷ xs) lm (suc i) e = same_listing n xs lm i e
+
+module _ (bs bm : Bytes) (ls lm : List Listing) where
+  row_stays : (n m : ℕ) → n ≤ m → (r : Row) → is_row bs ls n r ≡ true → is_row (bs ++ bm) (ls ++ lm) m r ≡ true
+  row_stays n m l (In.Write t x at k v) e =
+      let (key, value) = and_parts (is_part is_key bs at k) _ e in
+      and_from _ _ (is_part_stays is_key bs bm at k key) (is_part_stays is_value bs bm (at + k) v value)
+  row_stays n m l (In.Delete t x at k) e = is_part_stays is_key bs bm at k e
+  row_stays n m l (In.Read t w x at k v) e =
+      let (key, value) = and_parts (is_part is_key bs at k) _ e in
+      and_from _ _ (is_part_stays is_key bs bm at k key) (is_part_stays is_value bs bm (at + k) v value)
+  row_stays n m l (In.Scan t i) e =
+      ap (is_listing (bs ++ bm) m) (same_listing bs bm n ls lm i e) ∙ listing_stays bs bm n m (slice_get ls i) l e
+  row_stays n m l (In.Commit t) e = e
+  row_stays n m l (In.Abort t) e = e
+
+  pub rows_stay : (n m : ℕ) → n ≤ m → (rs : List Row) → list_all (is_row bs ls n) rs ≡ true → list_all (is_row (bs ++ bm) (ls ++ lm) m) rs ≡ true
+  rows_stay n m l [] e = refl
+  rows_stay n m l (r ∷ rs) e =
+      let (here, rest) = and_parts (is_row bs ls n r) _ e in
+      and_from _ _ (row_stays n m l r here) (rows_stay n m l rs rest)
+
+  event_stays : (es em : List Entry) (r : Row) → is_row bs ls (length es) r ≡ true → event_in (bs ++ bm) (ls ++ lm) (es ++ em) r ≡ event_in bs ls es r
+  event_stays es em (In.Write t m at k v) e =
+      let (key, value) = and_parts (is_part is_key bs at k) _ e in
+      ap (λ x. Write t x m (part (at + k) v (bs ++ bm))) (same_part bs bm is_key at k key) ∙
+      ap (λ x. Write t (part at k bs) m x) (same_part bs bm is_value (at + k) v value)
+  event_stays es em (In.Delete t m at k) e = ap (λ x. Delete t x m) (same_part bs bm is_key at k e)
+  event_stays es em (In.Read t w m at k v) e =
+      let (key, value) = and_parts (is_part is_key bs at k) _ e in
+      ap (λ x. Read t (record { key = x; txn = w; m = m }) (part (at + k) v (bs ++ bm))) (same_part bs bm is_key at k key) ∙
+      ap (λ x. Read t (record { key = part at k bs; txn = w; m = m }) x) (same_part bs bm is_value (at + k) v value)
+  event_stays es em (In.Scan t i) e =
+      ap (scan_in (bs ++ bm) (es ++ em) t) (same_listing bs bm (length es) ls lm i e) ∙
+      scan_stays bs bm es em t (slice_get ls i) e
+  event_stays es em (In.Commit t) e = refl
+  event_stays es em (In.Abort t) e = refl
+
+  pub events_stay : (es em : List Entry) (rs : List Row) → list_all (is_row bs ls (length es)) rs ≡ true
+      → map (event_in (bs ++ bm) (ls ++ lm) (es ++ em)) rs ≡ map (event_in bs ls es) rs
+  events_stay es em [] e = refl
+  events_stay es em (r ∷ rs) e =
+      let (here, rest) = and_parts (is_row bs ls (length es) r) _ e in
+      ap (λ x. x ∷ map (event_in (bs ++ bm) (ls ++ lm) (es ++ em)) rs) (event_stays es em r here) ∙
+      ap (λ xs. event_in bs ls es r ∷ xs) (events_stay es em rs rest)
+
+-- the same of lists that are known to be longer
+rows_stay_in : (bs bm more : Bytes) (ls lm rest : List Listing) → bm ≡ bs ++ more → lm ≡ ls ++ rest → (n m : ℕ) → n ≤ m → (rs : List Row)
+    → list_all (is_row bs ls n) rs ≡ true → list_all (is_row bm lm m) rs ≡ true
+rows_stay_in bs bm more ls lm rest p q n m l rs e = rw (p, q) (rows_stay bs more ls rest n m l rs e)
+
+events_stay_in : (bs bm more : Bytes) (ls lm rest : List Listing) (es em left : List Entry) → bm ≡ bs ++ more → lm ≡ ls ++ rest → em ≡ es ++ left
+    → (rs : List Row) → list_all (is_row bs ls (length es)) rs ≡ true → map (event_in bm lm em) rs ≡ map (event_in bs ls es) rs
+events_stay_in bs bm more ls lm rest es em left p q r rs e = rw (p, q, r) (events_stay bs more ls rest es left rs e)
+
+module _ (a b : Arena) (x : Extends a b) (rs : List Row) (e : list_all (is_row_of a) rs ≡ true) where
+  pub valid_stays : list_all (is_row_of b) rs ≡ true
+  valid_stays =
+      rows_stay_in a.bytes.items b.bytes.items x.bytes.0 a.listings.items b.listings.items x.listings.0 x.bytes.1 x.listings.1
+      (length a.entries.items) (length b.entries.items) (omega (arith, ap length x.entries.1, length-append a.entries.items x.entries.0)) rs e
+
+  pub same_events : map (event_of_row b) rs ≡ map (event_of_row a) rs
+  same_events =
+      events_stay_in a.bytes.items b.bytes.items x.bytes.0 a.listings.items b.listings.items x.listings.0
+      (map entry_of a.entries.items) (map entry_of b.entries.items) (map entry_of x.entries.0) x.bytes.1 x.listings.1
+      (ap (map entry_of) x.entries.1 ∙ map-append entry_of a.entries.items x.entries.0) rs
+      (subst (λ n. list_all (is_row a.bytes.items a.listings.items n) rs ≡ true) (sym (length-map a.entries.items entry_of)) e)
+
+-- one more row, if there was room for it
+pub all_with : {A : Type 0} (f : A → Bool) (xs : List A) (x : A) (more : Bool) → list_all f xs ≡ true → f x ≡ true
+    → list_all f (if more then xs ++ x ∷ [] else xs) ≡ true
+all_with f xs x false e here = e
+all_with f [] x true e here = and_from (f x) true here refl
+all_with f (y ∷ ys) x true e here =
+    let (first, rest) = and_parts (f y) _ e in
+    and_from _ _ first (all_with f ys x true rest here)
+
+pub on_err : {A E P : Type 0} (r : Result A E) → P → OnErr r P
+on_err (Ok x) p = tt
+on_err (Err e) p = p

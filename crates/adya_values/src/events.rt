@@ -1,0 +1,151 @@
+//! Lists of events.
+
+ghost use Rattle.std.specs.Prelude.{◌≡◌, ◌<◌, ◌^◌, ◌++◌, ◌∷◌, ◌+◌, ℕ, [], true, Some, IsOk, IfOk, OnOk, OnErr};
+ghost use Rattle.std.specs.List.{list_all};
+ghost use Rattle.adya_values.specs.Machinery.Packed.{entry_count, is_row_of};
+
+use crate::arena::{Arena, Row};
+use crate::{Event, EventView, Txn};
+use std::alloc::{AllocError, Global};
+
+/// Events in the order in which they happened, packed: a row of a fixed size for each, and beside the rows the bytes of all
+/// keys and values and what scans list.
+#[derive(Drop)]
+pub struct Events {
+    arena: Arena,
+    rows: Vec<Row>,
+    ghost valid: { list_all (is_row_of arena) rows.items ≡ true },
+}
+
+impl Events {
+    ghost use Rattle.std.specs.Prelude.{map, length, slice_get, option_map};
+    ghost use Rattle.std.specs.Prelude.{option_and_then};
+    ghost use Rattle.adya_values.specs.Meaning.Events.{commit_of};
+    ghost use Rattle.adya_values.specs.Meaning.Histories.{Abort, Commit};
+    ghost use Rattle.adya_values.specs.Mirror.Events.{event_of, event_of_row, view_of, events_of, HasRows, HasRoomFor};
+
+    /// Makes a list of no events. It takes no memory.
+    pub fn new(alloc: Global) -> Events
+        ensures { events_of result ≡ [] }
+    {
+        Events {
+            arena: Arena::new(alloc),
+            rows: Vec::new(alloc),
+        }
+    }
+
+    /// Adds an event at the end. If memory is refused, the list has the same events as before. None is refused if
+    /// [`reserve`](Events::reserve) has made room.
+    pub fn push(&mut self, event: &EventView<'_>) -> Result<(), AllocError>
+        ensures ok { OnOk result (events_of self.new ≡ events_of self.old ++ view_of event.now ∷ []) }
+        ensures err { OnErr result (events_of self.new ≡ events_of self.old) }
+        ensures fits { HasRows self.old 1 → HasRoomFor self.old (entry_count (view_of event.now)) → IsOk result }
+        ensures rows { (n : ℕ) → HasRows self.old (n + 1) → HasRows self.new n }
+    {
+        let row = self.arena.keep(event)?;
+        self.add(row)
+    }
+
+    /// Adds an event that has its list for itself, as [`push`](Events::push) does.
+    pub fn push_owned(&mut self, event: &Event) -> Result<(), AllocError>
+        ensures ok { OnOk result (events_of self.new ≡ events_of self.old ++ event_of event.now ∷ []) }
+        ensures err { OnErr result (events_of self.new ≡ events_of self.old) }
+        ensures fits { HasRows self.old 1 → HasRoomFor self.old (entry_count (event_of event.now)) → IsOk result }
+        ensures rows { (n : ℕ) → HasRows self.old (n + 1) → HasRows self.new n }
+    {
+        let row = self.arena.keep(&event.view())?;
+        self.add(row)
+    }
+
+    fn add(&mut self, row: Row) -> Result<(), AllocError>
+        requires { is_row_of self.old.arena row ≡ true }
+        ensures ok { OnOk result (events_of self.new ≡ events_of self.old ++ event_of_row self.old.arena row ∷ []) }
+        ensures err { OnErr result (events_of self.new ≡ events_of self.old) }
+        ensures fits { HasRows self.old 1 → IsOk result }
+        ensures rows { (n : ℕ) → HasRows self.old (n + 1) → HasRows self.new n }
+    {
+        self.rows.push(row)?;
+        Ok(())
+    }
+
+    /// Adds the transaction's commit at the end. There is room for its row, and it needs no other.
+    pub fn commit(&mut self, txn: Txn)
+        requires { HasRows self.old 1 }
+        ensures events { events_of self.new ≡ events_of self.old ++ Commit txn ∷ [] }
+        ensures rows { (n : ℕ) → HasRows self.old (n + 1) → HasRows self.new n }
+    {
+        self.rows.push_reserved(Row::Commit { txn });
+    }
+
+    /// Adds the transaction's abort at the end. There is room for its row, and it needs no other.
+    pub fn abort(&mut self, txn: Txn)
+        requires { HasRows self.old 1 }
+        ensures events { events_of self.new ≡ events_of self.old ++ Abort txn ∷ [] }
+        ensures rows { (n : ℕ) → HasRows self.old (n + 1) → HasRows self.new n }
+    {
+        self.rows.push_reserved(Row::Abort { txn });
+    }
+
+    /// Makes room for so many more rows, and for what one event holds that lists no more than so many entries. The events
+    /// stay, also if memory is refused.
+    pub fn reserve(&mut self, rows: usize, entries: usize) -> Result<(), AllocError>
+        ensures same { events_of self.new ≡ events_of self.old }
+        ensures rows { OnOk result (HasRows self.new rows) }
+        ensures room { OnOk result (HasRoomFor self.new entries) }
+        ensures kept { (n : ℕ) → HasRows self.old n → HasRows self.new n }
+    {
+        self.rows.reserve(rows)?;
+        self.arena.reserve(entries)
+    }
+
+    /// Returns a list of the same events.
+    pub fn copy(&self, alloc: Global) -> Result<Events, AllocError>
+        ensures { IfOk result (λ es. events_of es ≡ events_of self.now) }
+    {
+        let arena = self.arena.copy(alloc)?;
+        let rows = Vec::from_slice(alloc, &self.rows)?;
+        Ok(Events { arena, rows })
+    }
+
+    /// Returns how many events there are.
+    #[inline(always)]
+    pub fn len(&self) -> usize
+        ensures length { result ≡ length (events_of self.now) }
+        ensures near { result < 2 ^ 60 }
+    {
+        self.rows.as_slice().len()
+    }
+
+    /// Returns the event at the index, counted from 0; `None` if the list is no longer than that.
+    #[inline(always)]
+    pub fn get(&self, i: usize) -> Option<EventView<'_>>
+        ensures { option_map view_of result ≡ slice_get (events_of self.now) i }
+    {
+        match self.rows.get(i) {
+            Some(row) => Some(self.arena.event(*row)),
+            None => None,
+        }
+    }
+
+    /// Returns the event at the index, counted from 0, which is below the length.
+    #[inline(always)]
+    pub fn at(&self, i: usize) -> EventView<'_>
+        requires { i < length (events_of self.now) }
+        ensures { slice_get (events_of self.now) i ≡ Some (view_of result) }
+    {
+        self.arena.event(self.rows[i])
+    }
+
+    /// Returns the transaction that the event at the index commits, if it is a commit. The index, counted from 0, is below the
+    /// length.
+    #[inline(always)]
+    pub fn commit_at(&self, i: usize) -> Option<Txn>
+        requires { i < length (events_of self.now) }
+        ensures { option_and_then commit_of (slice_get (events_of self.now) i) ≡ result }
+    {
+        match self.rows[i] {
+            Row::Commit { txn } => Some(txn),
+            _ => None,
+        }
+    }
+}
