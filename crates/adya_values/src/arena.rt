@@ -1,37 +1,41 @@
-//! What events hold, packed: the bytes of their keys and values one after the other, and what scans list.
+//! What events hold, packed: each key once, the bytes of all values one after the other, and what scans list.
 
 ghost use Rattle.std.specs.Prelude.{◌≡◌, ◌≤◌, ◌<◌, ◌+◌, ◌++◌, ◌∷◌, [], ℕ, List, true, map, Some, slice_get, length, vec_len, vec_capacity, IsOk, IfOk, OnOk, OnErr};
-ghost use Rattle.adya_values.specs.Meaning.Keys.{is_key, is_value};
+ghost use Rattle.adya_values.specs.Meaning.Keys.{is_value};
 ghost use Rattle.adya_values.specs.Meaning.Histories.{Scan};
 ghost use Rattle.adya_values.specs.Mirror.Events.{entry_of, event_of_row, view_of, value_of};
-ghost use Rattle.adya_values.specs.Machinery.Packed.{is_row_of, is_part, is_listing, part, scan_in, entry_count, Extends, HasRoomIn, IsFront};
+ghost use Rattle.adya_values.specs.Machinery.Packed.{is_row_of, is_part, is_listing, key_at, part, scan_in, entry_count, Extends, HasRoomIn, IsFront};
+ghost use Rattle.indexmap.specs.IndexSet.{spare};
 
-use crate::{Entry, EventView, Key, MAX_KEY_LEN, MAX_VALUE_LEN, Mod, Txn, Value, Version};
+use crate::{Entry, EventView, Key, MAX_VALUE_LEN, Mod, Txn, Value, Version};
+use indexmap::IndexSet;
 use std::alloc::{AllocError, Global};
 
-/// An event of a list. Of a text in the arena it has the place where it begins, and how many bytes each of its two parts has.
+/// So many keys have numbers.
+const MOST_KEYS: usize = 4_294_967_296;
+
+/// An event of a list. Of its key it has the number, and of its value the place where the bytes begin and how many there are.
 #[derive(Clone, Copy)]
 pub(crate) enum Row {
     Write {
         txn: Txn,
         m: Mod,
+        key: u32,
         at: usize,
-        key: u8,
-        value: u8,
+        len: u8,
     },
     Delete {
         txn: Txn,
         m: Mod,
-        at: usize,
-        key: u8,
+        key: u32,
     },
     Read {
         txn: Txn,
         writer: Txn,
         m: Mod,
+        key: u32,
         at: usize,
-        key: u8,
-        value: u8,
+        len: u8,
     },
     /// The place of its listing says the rest.
     Scan {
@@ -46,19 +50,19 @@ pub(crate) enum Row {
     },
 }
 
-/// The bounds of a scan, as a text in the arena, and which of the entries it lists.
+/// The numbers of the bounds of a scan, and which of the entries it lists.
 #[derive(Clone, Copy)]
 pub(crate) struct Listing {
-    pub(crate) at: usize,
-    pub(crate) low: u8,
-    pub(crate) high: u8,
+    pub(crate) low: u32,
+    pub(crate) high: u32,
     pub(crate) from: usize,
     pub(crate) count: usize,
 }
 
-/// The bytes of keys and values, and what scans list.
+/// The keys, each of which has its index for a number, the bytes of values, and what scans list.
 #[derive(Drop)]
 pub(crate) struct Arena {
+    pub(crate) keys: IndexSet<Key>,
     pub(crate) bytes: Vec<u8>,
     pub(crate) listings: Vec<Listing>,
     pub(crate) entries: Vec<Entry>,
@@ -68,6 +72,7 @@ impl Arena {
     /// Makes an empty arena. It takes no memory.
     pub(crate) fn new(alloc: Global) -> Arena {
         Arena {
+            keys: IndexSet::new(alloc),
             bytes: Vec::new(alloc),
             listings: Vec::new(alloc),
             entries: Vec::new(alloc),
@@ -77,22 +82,29 @@ impl Arena {
     /// Makes room for what one event holds that lists no more than so many entries. What was there stays.
     pub(crate) fn reserve(&mut self, entries: usize) -> Result<(), AllocError>
         ensures room { OnOk result (HasRoomIn self.new entries) }
+        ensures keys { self.new.keys.keys ≡ self.old.keys.keys }
         ensures bytes { self.new.bytes.items ≡ self.old.bytes.items }
         ensures listings { self.new.listings.items ≡ self.old.listings.items }
         ensures entries { self.new.entries.items ≡ self.old.entries.items }
     {
-        self.bytes.reserve(MAX_KEY_LEN + MAX_VALUE_LEN)?;
+        if self.keys.len() >= MOST_KEYS - 2 {
+            return Err(AllocError);
+        }
+        self.keys.reserve(2)?;
+        self.bytes.reserve(MAX_VALUE_LEN)?;
         self.listings.reserve(1)?;
         self.entries.reserve(entries)
     }
 
     /// Returns an equal arena.
     pub(crate) fn copy(&self, alloc: Global) -> Result<Arena, AllocError>
+        ensures keys { IfOk result (λ a. a.keys.keys ≡ self.now.keys.keys) }
         ensures bytes { IfOk result (λ a. a.bytes.items ≡ self.now.bytes.items) }
         ensures listings { IfOk result (λ a. a.listings.items ≡ self.now.listings.items) }
         ensures entries { IfOk result (λ a. a.entries.items ≡ self.now.entries.items) }
     {
         Ok(Arena {
+            keys: self.keys.clone()?,
             bytes: Vec::from_slice(alloc, &self.bytes)?,
             listings: Vec::from_slice(alloc, &self.listings)?,
             entries: Vec::from_slice(alloc, &self.entries)?,
@@ -109,35 +121,35 @@ impl Arena {
             Row::Write {
                 txn,
                 m,
-                at,
                 key,
-                value,
+                at,
+                len,
             } => EventView::Write {
                 txn,
-                key: self.key(at, key),
+                key: self.key(key),
                 m,
-                value: self.value(at, key, value),
+                value: self.value(at, len),
             },
-            Row::Delete { txn, m, at, key } => EventView::Delete {
+            Row::Delete { txn, m, key } => EventView::Delete {
                 txn,
-                key: self.key(at, key),
+                key: self.key(key),
                 m,
             },
             Row::Read {
                 txn,
                 writer,
                 m,
-                at,
                 key,
-                value,
+                at,
+                len,
             } => EventView::Read {
                 txn,
                 version: Version {
-                    key: self.key(at, key),
+                    key: self.key(key),
                     txn: writer,
                     m,
                 },
-                value: self.value(at, key, value),
+                value: self.value(at, len),
             },
             Row::Scan { txn, listing } => self.scan(txn, self.listings[listing]),
             Row::Commit { txn } => EventView::Commit { txn },
@@ -146,31 +158,27 @@ impl Arena {
     }
 
     #[inline(always)]
-    fn key(&self, at: usize, len: u8) -> Key
-        requires { is_part is_key self.now.bytes.items at len ≡ true }
-        ensures { result ≡ part at len self.now.bytes.items }
+    fn key(&self, number: u32) -> Key
+        requires { number < length self.now.keys.keys }
+        ensures { result ≡ key_at self.now.keys.keys number }
     {
-        Key::from_valid(&self.bytes[at..at + len as usize])
+        self.keys.as_slice()[number as usize]
     }
 
-    /// Returns the value that follows so many bytes of a key.
     #[inline(always)]
-    fn value(&self, at: usize, key: u8, len: u8) -> Value
-        requires there { is_part is_value self.now.bytes.items (at + key) len ≡ true }
-        requires begins { at + key ≤ length self.now.bytes.items }
-        ensures { value_of result ≡ part (at + key) len self.now.bytes.items }
+    fn value(&self, at: usize, len: u8) -> Value
+        requires { is_part self.now.bytes.items at len ≡ true }
+        ensures { value_of result ≡ part at len self.now.bytes.items }
     {
-        let at = at + key as usize;
         Value::from_valid(&self.bytes[at..at + len as usize])
     }
 
     #[inline(always)]
     fn scan(&self, txn: Txn, listing: Listing) -> EventView<'_>
-        requires { is_listing self.now.bytes.items (length self.now.entries.items) (Some listing) ≡ true }
-        ensures { view_of result ≡ scan_in self.now.bytes.items (map entry_of self.now.entries.items) txn (Some listing) }
+        requires { is_listing (length self.now.keys.keys) (length self.now.entries.items) (Some listing) ≡ true }
+        ensures { view_of result ≡ scan_in self.now.keys.keys (map entry_of self.now.entries.items) txn (Some listing) }
     {
         let Listing {
-            at,
             low,
             high,
             from,
@@ -178,13 +186,14 @@ impl Arena {
         } = listing;
         EventView::Scan {
             txn,
-            low: self.key(at, low),
-            high: self.key(at + low as usize, high),
+            low: self.key(low),
+            high: self.key(high),
             entries: &self.entries[from..from + count],
         }
     }
 
-    /// Keeps what the event holds, and returns its row. If memory is refused, what was there is still where it was.
+    /// Keeps what the event holds, and returns its row. If memory is refused, or if there would be more than 4,294,967,295
+    /// keys, what was there is still where it was.
     pub(crate) fn keep(&mut self, event: &EventView<'_>) -> Result<Row, AllocError>
         ensures extends { Extends self.old self.new }
         ensures row { IfOk result (λ r. is_row_of self.new r ≡ true) }
@@ -193,37 +202,35 @@ impl Arena {
     {
         match event {
             EventView::Write { txn, key, m, value } => {
-                let at = self.add(key.bytes(), value.bytes())?;
+                let key = self.number(*key)?;
+                let at = self.add(value.bytes())?;
                 Ok(Row::Write {
                     txn: *txn,
                     m: *m,
+                    key,
                     at,
-                    key: key.bytes().len() as u8,
-                    value: value.bytes().len() as u8,
+                    len: value.bytes().len() as u8,
                 })
             }
-            EventView::Delete { txn, key, m } => {
-                let at = self.add(key.bytes(), &[])?;
-                Ok(Row::Delete {
-                    txn: *txn,
-                    m: *m,
-                    at,
-                    key: key.bytes().len() as u8,
-                })
-            }
+            EventView::Delete { txn, key, m } => Ok(Row::Delete {
+                txn: *txn,
+                m: *m,
+                key: self.number(*key)?,
+            }),
             EventView::Read {
                 txn,
                 version,
                 value,
             } => {
-                let at = self.add(version.key.bytes(), value.bytes())?;
+                let key = self.number(version.key)?;
+                let at = self.add(value.bytes())?;
                 Ok(Row::Read {
                     txn: *txn,
                     writer: version.txn,
                     m: version.m,
+                    key,
                     at,
-                    key: version.key.bytes().len() as u8,
-                    value: value.bytes().len() as u8,
+                    len: value.bytes().len() as u8,
                 })
             }
             EventView::Scan {
@@ -240,37 +247,55 @@ impl Arena {
         }
     }
 
-    /// Adds two texts, one behind the other, and returns the place of the first.
-    fn add(&mut self, first: &[u8], second: &[u8]) -> Result<usize, AllocError>
-        ensures at { IfOk result (λ n. n ≡ length self.old.bytes.items) }
-        ensures bytes { OnOk result (self.new.bytes.items ≡ self.old.bytes.items ++ (first.now ++ second.now)) }
-        ensures front { IsFront self.old.bytes.items self.new.bytes.items }
+    /// Returns the number of the key, which it gets if it has none.
+    fn number(&mut self, key: Key) -> Result<u32, AllocError>
+        ensures number { IfOk result (λ n. slice_get self.new.keys.keys n ≡ Some key) }
+        ensures front { IsFront self.old.keys.keys self.new.keys.keys }
+        ensures bytes { self.new.bytes ≡ self.old.bytes }
         ensures listings { self.new.listings ≡ self.old.listings }
         ensures entries { self.new.entries ≡ self.old.entries }
-        ensures succeeds { vec_len self.old.bytes + (length first.now + length second.now) ≤ vec_capacity self.old.bytes → IsOk result }
+        ensures succeeds { 1 ≤ spare self.old.keys → length self.old.keys.keys + 1 < 4294967296 → IsOk result }
+        ensures spare { spare self.old.keys ≤ spare self.new.keys + 1 }
+        ensures count { length self.new.keys.keys ≤ length self.old.keys.keys + 1 }
+    {
+        let (index, _) = self.keys.insert_full(key)?;
+        let Ok(number) = u32::try_from(index) else {
+            return Err(AllocError);
+        };
+        Ok(number)
+    }
+
+    /// Adds a text, and returns its place.
+    fn add(&mut self, text: &[u8]) -> Result<usize, AllocError>
+        ensures at { IfOk result (λ n. n ≡ length self.old.bytes.items) }
+        ensures bytes { OnOk result (self.new.bytes.items ≡ self.old.bytes.items ++ text.now) }
+        ensures front { IsFront self.old.bytes.items self.new.bytes.items }
+        ensures keys { self.new.keys ≡ self.old.keys }
+        ensures listings { self.new.listings ≡ self.old.listings }
+        ensures entries { self.new.entries ≡ self.old.entries }
+        ensures succeeds { vec_len self.old.bytes + length text.now ≤ vec_capacity self.old.bytes → IsOk result }
     {
         let at = self.bytes.len();
-        self.bytes.extend_from_slice(first)?;
-        self.bytes.extend_from_slice(second)?;
+        self.bytes.extend_from_slice(text)?;
         Ok(at)
     }
 
     /// Adds a listing with these bounds and entries, and returns its place.
     fn list(&mut self, low: Key, high: Key, entries: &[Entry]) -> Result<usize, AllocError>
         ensures extends { Extends self.old self.new }
-        ensures listed { IfOk result (λ l. is_listing self.new.bytes.items (length self.new.entries.items) (slice_get self.new.listings.items l) ≡ true) }
-        ensures scan { (t : ℕ) → IfOk result (λ l. scan_in self.new.bytes.items (map entry_of self.new.entries.items) t (slice_get self.new.listings.items l)
+        ensures listed { IfOk result (λ l. is_listing (length self.new.keys.keys) (length self.new.entries.items) (slice_get self.new.listings.items l) ≡ true) }
+        ensures scan { (t : ℕ) → IfOk result (λ l. scan_in self.new.keys.keys (map entry_of self.new.entries.items) t (slice_get self.new.listings.items l)
             ≡ Scan t low high (map entry_of entries.now)) }
         ensures succeeds { HasRoomIn self.old (length entries.now) → IsOk result }
     {
         let listing = self.listings.len();
         let from = self.entries.len();
-        let at = self.add(low.bytes(), high.bytes())?;
+        let low = self.number(low)?;
+        let high = self.number(high)?;
         self.entries.extend_from_slice(entries)?;
         self.listings.push(Listing {
-            at,
-            low: low.bytes().len() as u8,
-            high: high.bytes().len() as u8,
+            low,
+            high,
             from,
             count: entries.len(),
         })?;

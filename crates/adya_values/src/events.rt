@@ -8,8 +8,8 @@ use crate::arena::{Arena, Row};
 use crate::{Event, EventView, Txn};
 use std::alloc::{AllocError, Global};
 
-/// Events in the order in which they happened, packed: a row of a fixed size for each, and beside the rows the bytes of all
-/// keys and values and what scans list.
+/// Events in the order in which they happened, packed: a row of a fixed size for each, and beside the rows each key once, the bytes
+/// of all values and what scans list.
 #[derive(Drop)]
 pub struct Events {
     arena: Arena,

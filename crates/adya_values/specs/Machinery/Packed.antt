@@ -1,6 +1,8 @@
--- The events that rows stand for: the bytes, the listings and the entries of the arena say the rest.
-use Rattle.std.specs.Prelude.{◌≡◌, ℕ, ◌+◌, ◌<◌, ◌≤◌, Bool, true, false, ◌&&◌, nat_le, List, ◌++◌, take, drop, length, Option, Some, None, slice_get, vec_len, vec_capacity}
-use Rattle.adya_values.specs.Meaning.Keys.{Bytes, is_key, is_value}
+-- The events that rows stand for: the keys, the bytes, the listings and the entries of the arena say the rest.
+use Rattle.std.specs.Prelude.{◌≡◌, ℕ, ◌+◌, ◌<◌, ◌≤◌, Bool, true, false, ◌&&◌, nat_le, nat_lt, List, [], ◌++◌, take, drop, length, Option, Some, None, slice_get, vec_len, vec_capacity}
+use Rattle.std.proofs.Common.{get_or}
+use Rattle.indexmap.specs.IndexSet.{spare}
+use Rattle.adya_values.specs.Meaning.Keys.{Bytes, Key, is_value}
 use Rattle.adya_values.specs.Meaning.Histories.{Event, Entry, Write, Delete, Read, Scan, Commit, Abort}
 use Rattle.adya_values.specs.declared.arena.Row.{Row}
 use Rattle.adya_values.specs.declared.arena.Row.TheVariants as In
@@ -11,44 +13,50 @@ use Rattle.adya_values.specs.declared.arena.Arena.{Arena}
 abbrev pub part : {A : Type 0} → ℕ → ℕ → List A → List A
 part at n xs = take n (drop at xs)
 
+-- the key with the number
+abbrev pub key_at : List Key → ℕ → Key
+key_at ks n = get_or ks n []
+
 -- the scan that the listing says, if there is one
-abbrev pub scan_in : Bytes → List Entry → ℕ → Option Listing → Event
-scan_in bs es t None = Abort t
-scan_in bs es t (Some l) = Scan t (part l.at l.low bs) (part (l.at + l.low) l.high bs) (part l.from l.count es)
+abbrev pub scan_in : List Key → List Entry → ℕ → Option Listing → Event
+scan_in ks es t None = Abort t
+scan_in ks es t (Some l) = Scan t (key_at ks l.low) (key_at ks l.high) (part l.from l.count es)
 
-abbrev pub event_in : Bytes → List Listing → List Entry → Row → Event
-event_in bs ls es (In.Write t m at k v) = Write t (part at k bs) m (part (at + k) v bs)
-event_in bs ls es (In.Delete t m at k) = Delete t (part at k bs) m
-event_in bs ls es (In.Read t w m at k v) = Read t (record { key = part at k bs; txn = w; m = m }) (part (at + k) v bs)
-event_in bs ls es (In.Scan t l) = scan_in bs es t (slice_get ls l)
-event_in bs ls es (In.Commit t) = Commit t
-event_in bs ls es (In.Abort t) = Abort t
+abbrev pub event_in : List Key → Bytes → List Listing → List Entry → Row → Event
+event_in ks bs ls es (In.Write t m k at v) = Write t (key_at ks k) m (part at v bs)
+event_in ks bs ls es (In.Delete t m k) = Delete t (key_at ks k) m
+event_in ks bs ls es (In.Read t w m k at v) = Read t (record { key = key_at ks k; txn = w; m = m }) (part at v bs)
+event_in ks bs ls es (In.Scan t l) = scan_in ks es t (slice_get ls l)
+event_in ks bs ls es (In.Commit t) = Commit t
+event_in ks bs ls es (In.Abort t) = Abort t
 
--- so many bytes from this place on are there, and pass
-abbrev pub is_part : (Bytes → Bool) → Bytes → ℕ → ℕ → Bool
-is_part test bs at n = nat_le (at + n) (length bs) && test (part at n bs)
+-- so many bytes from this place on are there, and make a value
+abbrev pub is_part : Bytes → ℕ → ℕ → Bool
+is_part bs at n = nat_le (at + n) (length bs) && is_value (part at n bs)
 
-abbrev pub is_listing : Bytes → ℕ → Option Listing → Bool
-is_listing bs n None = false
-is_listing bs n (Some l) = is_part is_key bs l.at l.low && (is_part is_key bs (l.at + l.low) l.high && nat_le (l.from + l.count) n)
+-- so many keys are there, and so many entries
+abbrev pub is_listing : ℕ → ℕ → Option Listing → Bool
+is_listing k n None = false
+is_listing k n (Some l) = nat_lt l.low k && (nat_lt l.high k && nat_le (l.from + l.count) n)
 
--- what the row names is there; so many entries are
-abbrev pub is_row : Bytes → List Listing → ℕ → Row → Bool
-is_row bs ls n (In.Write t m at k v) = is_part is_key bs at k && is_part is_value bs (at + k) v
-is_row bs ls n (In.Delete t m at k) = is_part is_key bs at k
-is_row bs ls n (In.Read t w m at k v) = is_part is_key bs at k && is_part is_value bs (at + k) v
-is_row bs ls n (In.Scan t l) = is_listing bs n (slice_get ls l)
-is_row bs ls n (In.Commit t) = true
-is_row bs ls n (In.Abort t) = true
+-- what the row names is there
+abbrev pub is_row : ℕ → Bytes → List Listing → ℕ → Row → Bool
+is_row n bs ls m (In.Write t x k at v) = nat_lt k n && is_part bs at v
+is_row n bs ls m (In.Delete t x k) = nat_lt k n
+is_row n bs ls m (In.Read t w x k at v) = nat_lt k n && is_part bs at v
+is_row n bs ls m (In.Scan t l) = is_listing n m (slice_get ls l)
+is_row n bs ls m (In.Commit t) = true
+is_row n bs ls m (In.Abort t) = true
 
 abbrev pub is_row_of : Arena → Row → Bool
-is_row_of a r = is_row a.bytes.items a.listings.items (length a.entries.items) r
+is_row_of a r = is_row (length a.keys.keys) a.bytes.items a.listings.items (length a.entries.items) r
 
 abbrev pub IsFront : {A : Type 0} → List A → List A → Type 0
 IsFront xs ys = (more : List _) × (ys ≡ xs ++ more)
 
 -- what was in the arena is still where it was
 pub record Extends (old new : Arena) : Type 0 where
+  pub keys : IsFront old.keys.keys new.keys.keys
   pub bytes : IsFront old.bytes.items new.bytes.items
   pub listings : IsFront old.listings.items new.listings.items
   pub entries : IsFront old.entries.items new.entries.items
@@ -64,6 +72,8 @@ entry_count (Abort t) = 0
 
 -- any event fits that lists no more than so many entries
 pub record HasRoomIn (a : Arena) (n : ℕ) : Type 0 where
-  pub bytes : vec_len a.bytes + 96 ≤ vec_capacity a.bytes
+  pub keys : 2 ≤ spare a.keys
+  pub numbers : length a.keys.keys + 2 < 4294967296
+  pub bytes : vec_len a.bytes + 64 ≤ vec_capacity a.bytes
   pub listings : vec_len a.listings < vec_capacity a.listings
   pub entries : vec_len a.entries + n ≤ vec_capacity a.entries

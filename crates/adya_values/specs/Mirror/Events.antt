@@ -46,7 +46,7 @@ view_of (Seen.Abort t) = Abort t
 
 -- the event of a row
 abbrev pub event_of_row : Arena → Row → Event
-event_of_row a r = event_in a.bytes.items a.listings.items (map entry_of a.entries.items) r
+event_of_row a r = event_in a.keys.keys a.bytes.items a.listings.items (map entry_of a.entries.items) r
 
 abbrev pub events_of : Events → List Event
 events_of es = map (event_of_row es.arena) es.rows.items

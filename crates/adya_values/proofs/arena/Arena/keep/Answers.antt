@@ -1,57 +1,63 @@
-use Rattle.std.proofs.Common.{◌≡◌, ◌∙◌, ◌+◌, ◌++◌, length, ap, sym, subst, true}
+use Rattle.std.proofs.Common.{◌≡◌, ◌∙◌, ◌++◌, length, ap, sym, subst, true}
+use Rattle.std.proofs.lemmas.Bool.{and_from}
 use Rattle.adya_values.specs.Meaning.Keys.{is_value}
-use Rattle.adya_values.specs.Meaning.Histories.{Write, Read}
+use Rattle.adya_values.specs.Meaning.Histories.{Delete, Read, Write}
 use Rattle.adya_values.specs.Mirror.Events.{value_of, view_of}
-use Rattle.adya_values.specs.Machinery.Packed.{part}
-use Rattle.adya_values.proofs.PackedParts.{IsKept, kept}
+use Rattle.adya_values.specs.Machinery.Packed.{key_at, part}
+use Rattle.adya_values.proofs.PackedParts.{IsKept, IsKeyAt, found_key, kept}
 use Rattle.adya_values.proofs.arena.Arena.keep.Goals as goal
 
-kept_write : (c : goal.After-bytes-in-Write-3) → IsKept c.add.new.self.bytes.items c.in-Write.key (value_of c.in-Write.value)
-    c.in_ok-at-in-Write.at (length c.bytes-in-Write-2.result.now) (length c.bytes-in-Write-3.result.now)
-kept_write c =
-    let old = c.args.self.now.bytes.items in
-    let k = c.in-Write.key in
-    kept c.add.new.self.bytes.items old k (value_of c.in-Write.value)
-    c.in_ok-at-in-Write.at (length c.bytes-in-Write-2.result.now) (length c.bytes-in-Write-3.result.now)
-    (c.in_ok-at-in-Write.ensures.bytes ∙
-    (ap (λ x. old ++ (x ++ c.bytes-in-Write.result.now)) c.bytes.ensures.same ∙ ap (λ x. old ++ (k ++ x)) c.bytes-in-Write.ensures.same))
-    c.in_ok-at-in-Write.ensures.at (ap length c.bytes-in-Write-2.ensures.same) (ap length c.bytes-in-Write-3.ensures.same)
-    c.bytes.ensures.limits (subst (λ x. is_value x ≡ true) c.bytes-in-Write.ensures.same c.bytes-in-Write.ensures.limits)
+write_key : (c : goal.After-bytes-in-Write) → IsKeyAt c.add.new.self.keys.keys c.in_ok-key-in-Write.key c.in-Write.key
+write_key c =
+    subst (λ s. IsKeyAt s.keys c.in_ok-key-in-Write.key c.in-Write.key) (sym c.add.ensures.keys)
+    (found_key c.number.new.self.keys.keys c.in_ok-key-in-Write.key c.in-Write.key c.in_ok-key-in-Write.ensures.number)
 
-kept_read : (c : goal.After-bytes-in-Read-4) → IsKept c.add-in-Read.new.self.bytes.items c.in-Read.version.key (value_of c.in-Read.value)
-    c.in_ok-at-in-Read.at (length c.bytes-in-Read-3.result.now) (length c.bytes-in-Read-4.result.now)
-kept_read c =
-    let old = c.args.self.now.bytes.items in
-    let k = c.in-Read.version.key in
-    kept c.add-in-Read.new.self.bytes.items old k (value_of c.in-Read.value)
-    c.in_ok-at-in-Read.at (length c.bytes-in-Read-3.result.now) (length c.bytes-in-Read-4.result.now)
-    (c.in_ok-at-in-Read.ensures.bytes ∙
-    (ap (λ x. old ++ (x ++ c.bytes-in-Read-2.result.now)) c.bytes-in-Read.ensures.same ∙ ap (λ x. old ++ (k ++ x)) c.bytes-in-Read-2.ensures.same))
-    c.in_ok-at-in-Read.ensures.at (ap length c.bytes-in-Read-3.ensures.same) (ap length c.bytes-in-Read-4.ensures.same)
-    c.bytes-in-Read.ensures.limits (subst (λ x. is_value x ≡ true) c.bytes-in-Read-2.ensures.same c.bytes-in-Read-2.ensures.limits)
+write_value : (c : goal.After-bytes-in-Write)
+    → IsKept c.add.new.self.bytes.items (value_of c.in-Write.value) c.in_ok-at-in-Write.at (length c.bytes-in-Write.result.now)
+write_value c =
+    kept c.add.new.self.bytes.items c.number.new.self.bytes.items (value_of c.in-Write.value) c.in_ok-at-in-Write.at (length c.bytes-in-Write.result.now)
+    (c.in_ok-at-in-Write.ensures.bytes ∙ ap (λ x. c.number.new.self.bytes.items ++ x) c.bytes.ensures.same)
+    c.in_ok-at-in-Write.ensures.at (ap length c.bytes-in-Write.ensures.same)
+    (subst (λ x. is_value x ≡ true) c.bytes.ensures.same c.bytes.ensures.limits)
+
+read_key : (c : goal.After-bytes-in-Read-2) → IsKeyAt c.add-in-Read.new.self.keys.keys c.in_ok-key-in-Read.key c.in-Read.version.key
+read_key c =
+    subst (λ s. IsKeyAt s.keys c.in_ok-key-in-Read.key c.in-Read.version.key) (sym c.add-in-Read.ensures.keys)
+    (found_key c.number-in-Read.new.self.keys.keys c.in_ok-key-in-Read.key c.in-Read.version.key c.in_ok-key-in-Read.ensures.number)
+
+read_value : (c : goal.After-bytes-in-Read-2)
+    → IsKept c.add-in-Read.new.self.bytes.items (value_of c.in-Read.value) c.in_ok-at-in-Read.at (length c.bytes-in-Read-2.result.now)
+read_value c =
+    kept c.add-in-Read.new.self.bytes.items c.number-in-Read.new.self.bytes.items (value_of c.in-Read.value) c.in_ok-at-in-Read.at
+    (length c.bytes-in-Read-2.result.now)
+    (c.in_ok-at-in-Read.ensures.bytes ∙ ap (λ x. c.number-in-Read.new.self.bytes.items ++ x) c.bytes-in-Read.ensures.same)
+    c.in_ok-at-in-Read.ensures.at (ap length c.bytes-in-Read-2.ensures.same)
+    (subst (λ x. is_value x ≡ true) c.bytes-in-Read.ensures.same c.bytes-in-Read.ensures.limits)
 
 pub returns-in_ok-at-in-Write-clause-row : goal.returns-in_ok-at-in-Write-clause-row
-returns-in_ok-at-in-Write-clause-row c = (kept_write c).there
+returns-in_ok-at-in-Write-clause-row c = and_from _ _ (write_key c).there (write_value c).there
 
 pub returns-in_ok-at-in-Write-clause-event : goal.returns-in_ok-at-in-Write-clause-event
 returns-in_ok-at-in-Write-clause-event c =
-    let t = c.in-Write.txn in
-    let m = c.in-Write.m in
-    let bs = c.add.new.self.bytes.items in
-    let at = c.in_ok-at-in-Write.at in
-    let n = length c.bytes-in-Write-2.result.now in
-    ap (λ k. Write t k m (part (at + n) (length c.bytes-in-Write-3.result.now) bs)) (kept_write c).key ∙
-    (ap (λ v. Write t c.in-Write.key m v) (kept_write c).value ∙ sym (ap view_of c.in-Write.is))
+    ap (λ k. Write c.in-Write.txn k c.in-Write.m (part c.in_ok-at-in-Write.at (length c.bytes-in-Write.result.now) c.add.new.self.bytes.items)) (write_key c).key ∙
+    (ap (λ v. Write c.in-Write.txn c.in-Write.key c.in-Write.m v) (write_value c).value ∙ sym (ap view_of c.in-Write.is))
+
+pub returns-in_ok-number-in-Delete-clause-row : goal.returns-in_ok-number-in-Delete-clause-row
+returns-in_ok-number-in-Delete-clause-row c =
+    (found_key c.number-in-Delete.new.self.keys.keys c.in_ok-number-in-Delete.field-0 c.in-Delete.key c.in_ok-number-in-Delete.ensures.number).there
+
+pub returns-in_ok-number-in-Delete-clause-event : goal.returns-in_ok-number-in-Delete-clause-event
+returns-in_ok-number-in-Delete-clause-event c =
+    ap (λ k. Delete c.in-Delete.txn k c.in-Delete.m)
+    (found_key c.number-in-Delete.new.self.keys.keys c.in_ok-number-in-Delete.field-0 c.in-Delete.key c.in_ok-number-in-Delete.ensures.number).key ∙
+    sym (ap view_of c.in-Delete.is)
 
 pub returns-in_ok-at-in-Read-clause-row : goal.returns-in_ok-at-in-Read-clause-row
-returns-in_ok-at-in-Read-clause-row c = (kept_read c).there
+returns-in_ok-at-in-Read-clause-row c = and_from _ _ (read_key c).there (read_value c).there
 
 pub returns-in_ok-at-in-Read-clause-event : goal.returns-in_ok-at-in-Read-clause-event
 returns-in_ok-at-in-Read-clause-event c =
     let t = c.in-Read.txn in
     let r = c.in-Read.version in
-    let bs = c.add-in-Read.new.self.bytes.items in
-    let at = c.in_ok-at-in-Read.at in
-    let n = length c.bytes-in-Read-3.result.now in
-    ap (λ k. Read t (record { key = k; txn = r.txn; m = r.m }) (part (at + n) (length c.bytes-in-Read-4.result.now) bs)) (kept_read c).key ∙
-    (ap (λ v. Read t r v) (kept_read c).value ∙ sym (ap view_of c.in-Read.is))
+    ap (λ k. Read t (record { key = k; txn = r.txn; m = r.m }) (part c.in_ok-at-in-Read.at (length c.bytes-in-Read-2.result.now) c.add-in-Read.new.self.bytes.items)) (read_key c).key ∙
+    (ap (λ v. Read t r v) (read_value c).value ∙ sym (ap view_of c.in-Read.is))
