@@ -8,23 +8,8 @@ ghost use Rattle.adya_terms.specs.Clauses.Checked.{checked_history, installed_at
 ghost use Rattle.adya_dsg.specs.Machinery.Links.{changed_places};
 
 use adya_terms::Checked;
-use adya_values::{Content, Entry, Order};
+use adya_values::Order;
 use std::alloc::{AllocError, Global};
-
-/// Whether what the writer at this place of the order line at this index installed is a value.
-fn shows(checked: &Checked, line: usize, place: usize) -> bool
-    ensures { result ≡ is_some (shown (installed_at (checked_history checked.now) line place)) }
-{
-    match checked.installed(line, place) {
-        Some(
-            Entry {
-                content: Content::Live(_),
-                ..
-            },
-        ) => true,
-        _ => false,
-    }
-}
 
 /// Returns for each order line the places whose versions change the matches.
 pub(crate) fn line_changes(alloc: Global, checked: &Checked) -> Result<Vec<Vec<usize>>, AllocError>
@@ -53,7 +38,7 @@ fn changed_places(
     let mut places = Vec::new(alloc);
     let mut was = false;
     for i in 0..order.writers.len() {
-        let now = shows(checked, line, i);
+        let now = checked.shows(line, i);
         if now != was {
             places.push(i + 1)?;
         }

@@ -1,10 +1,10 @@
 //! Histories that passed their check, and the check itself.
 
-ghost use Rattle.std.specs.Prelude.{◌≡◌, ◌≢◌, ◌^◌, ◌<◌, ◌+◌, [], true, None, length, map, option_map, is_none, IfOk, IfErr, MatchResult};
+ghost use Rattle.std.specs.Prelude.{◌≡◌, ◌≢◌, ◌^◌, ◌<◌, ◌+◌, [], true, None, length, map, is_none, is_some, IfOk, IfErr, MatchResult};
 ghost use Rattle.adya_values.specs.Meaning.Keys.{keys_rise};
-ghost use Rattle.adya_values.specs.Mirror.Events.{entry_of, events_of, order_of, final_of};
+ghost use Rattle.adya_values.specs.Mirror.Events.{events_of, order_of, final_of};
 ghost use Rattle.adya_values.specs.Mirror.Histories.{history_of};
-ghost use Rattle.adya_values.specs.Meaning.Events.{is_committed};
+ghost use Rattle.adya_values.specs.Meaning.Events.{is_committed, shown};
 ghost use Rattle.adya_values.specs.Computing.Faults.{first_fault, check_faults};
 ghost use Rattle.adya_values.specs.Clauses.Acceptance.{IsChecked};
 ghost use Rattle.adya_terms.specs.Clauses.Faults.{IsFault};
@@ -19,8 +19,8 @@ use crate::finals::check_finals;
 use crate::laws::checked_iff_no_fault;
 use crate::listed::check_orders;
 use crate::reads::check_reads;
-use crate::tables::{Ended, wrote_at};
-use crate::{CheckFault, Entry, Events, FinalPair, History, Order, Rule, Txn};
+use crate::tables::Ended;
+use crate::{CheckFault, Events, FinalPair, History, Order, Rule, Txn};
 use std::alloc::Global;
 use txn_table::TxnTable;
 
@@ -86,18 +86,19 @@ impl<'a> Checked<'a> {
         self.ended.get(txn).committed
     }
 
-    /// Returns what the writer at this place of the order line at this index installed, both counted from 0: its last
-    /// write of the line's key (Adya 1999, section 3.1). `None` if there is no such line, or no such writer in it.
-    pub fn installed(&self, line: usize, place: usize) -> Option<Entry>
-        ensures { option_map entry_of result ≡ installed_at (checked_history self.now) line place }
+    /// Returns whether the writer at this place of the order line at this index, both counted from 0, installed a value: whether
+    /// its last write of the line's key is no delete (Adya 1999, section 3.1). It didn't if there is no such line, or no such
+    /// writer in it.
+    pub fn shows(&self, line: usize, place: usize) -> bool
+        ensures { result ≡ is_some (shown (installed_at (checked_history self.now) line place)) }
     {
         let Some(writes) = self.writes.get(line) else {
-            return None;
+            return false;
         };
         let Some(at) = writes.get(place) else {
-            return None;
+            return false;
         };
-        wrote_at(self.history.events(), Some(*at))
+        self.history.events().shows(*at)
     }
 }
 

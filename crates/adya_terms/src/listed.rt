@@ -17,8 +17,7 @@ ghost use Rattle.adya_terms.specs.Machinery.Checks.{Names, listing_faults, parts
 ghost use Rattle.adya_terms.specs.Machinery.Places.{line, line_writes, AfterLine, AfterLines, AreWrites, HasLeft, IsLeft, Judges, Leaves, Places};
 
 use crate::event_index::EventIndex;
-use crate::tables::wrote_at;
-use crate::{CheckFault, Entry, Key, Order, Rule, Txn};
+use crate::{CheckFault, Key, Order, Rule, Txn};
 use std::alloc::{AllocError, Global};
 use std::collections::BTreeSet;
 
@@ -137,7 +136,7 @@ fn unlisted_key(index: &EventIndex, places: &[usize], at: usize) -> Option<Key>
     if places[at] != 0 {
         return None;
     }
-    let Some(Entry { version, .. }) = wrote_at(index.events, Some(at)) else {
+    let Some(version) = index.events.version_at(at) else {
         return None;
     };
     if unplaced(index, places, version.key, version.txn).is_none() {

@@ -11,7 +11,7 @@ ghost use Rattle.adya_terms.specs.Machinery.Tables.{own, own_eq, written_at};
 ghost use Rattle.adya_terms.specs.Machinery.Chains.{is_hit, is_of_key, longer, mark_of, own_place, row, row_at, walk, AreFew, AreLinked};
 
 use crate::tables::Own;
-use crate::{EventView, Events, Key, Txn};
+use crate::{Events, Key, Txn};
 use std::alloc::{AllocError, Global};
 use std::collections::BTreeMap;
 use txn_table::TxnTable;
@@ -195,13 +195,9 @@ fn mark_of(key: Key) -> u16
 fn is_of_key(events: &Events, at: usize, key: Key) -> bool
     ensures { result ≡ is_of_key (written_at (events_of events.now) (Some at)) key }
 {
-    let Some(event) = events.get(at) else {
-        return false;
-    };
-    match &event {
-        EventView::Write { key: written, .. } => *written == key,
-        EventView::Delete { key: written, .. } => *written == key,
-        _ => false,
+    match events.version_at(at) {
+        None => false,
+        Some(version) => version.key == key,
     }
 }
 

@@ -41,9 +41,9 @@ fn is_next(tables: &Tables, events: &Events, event: &EventView<'_>) -> bool
         return true;
     };
     let number = u32::from(new.version.m.get());
-    match tables.last_write(events, new.version.txn, new.version.key) {
+    match tables.last_version(events, new.version.txn, new.version.key) {
         None => number == 1,
-        Some(last) => number == u32::from(last.version.m.get()) + 1,
+        Some(last) => number == u32::from(last.m.get()) + 1,
     }
 }
 
@@ -95,9 +95,9 @@ fn sees_own(tables: &Tables, events: &Events, event: &EventView<'_>) -> bool
             txn,
             version,
             value,
-        } => match tables.last_write(events, *txn, version.key) {
+        } => match tables.last_place(events, *txn, version.key) {
             None => true,
-            Some(last) => last.same(&read_entry(*version, *value)),
+            Some(last) => events.wrote(last, &read_entry(*version, *value)),
         },
         EventView::Scan {
             txn,

@@ -138,9 +138,9 @@ impl Owed<'_> {
         ensures { result ≡ key_passes (passes self.now (map entry_of listed.now.entries.now))
             (written_at (events_of self.now.events.now) (Some at)) }
     {
-        match wrote_at(self.events, Some(at)) {
+        match self.events.version_at(at) {
             None => true,
-            Some(wrote) => self.has_key(listed, wrote.version.key),
+            Some(version) => self.has_key(listed, version.key),
         }
     }
 

@@ -53,6 +53,26 @@ pub(crate) fn wrote_at(events: &Events, at: Option<usize>) -> Option<Entry>
     event.written()
 }
 
+/// Returns the version that the event at the place writes.
+pub(crate) fn version_at(events: &Events, at: Option<usize>) -> Option<Version>
+    ensures { result ≡ option_map (λ w. w.version) (written_at (events_of events.now) at) }
+{
+    match at {
+        None => None,
+        Some(at) => events.version_at(at),
+    }
+}
+
+/// Returns whether the event at the place writes this entry.
+pub(crate) fn wrote(events: &Events, at: Option<usize>, seen: &Entry) -> bool
+    ensures { result ≡ is_there (entry_of seen.now) (written_at (events_of events.now) at) }
+{
+    match at {
+        None => false,
+        Some(at) => events.wrote(at, seen),
+    }
+}
+
 /// Returns whether it is this entry.
 pub(crate) fn is_there(seen: &Entry, wrote: Option<Entry>) -> bool
     ensures { result ≡ is_there (entry_of seen.now) (option_map entry_of wrote) }
@@ -112,6 +132,14 @@ impl Tables {
         wrote_at(events, self.last_place(events, txn, key))
     }
 
+    /// Returns the version that was the transaction's last write of the key.
+    pub fn last_version(&self, events: &Events, txn: Txn, key: Key) -> Option<Version>
+        ensures { let all = events_of events.now in
+            result ≡ option_map (λ w. w.version) (written_at all (place_of all self.now.writes (own txn key))) }
+    {
+        version_at(events, self.last_place(events, txn, key))
+    }
+
     /// Returns the index of the transaction's last write of the key in the list of events.
     pub fn last_place(&self, events: &Events, txn: Txn, key: Key) -> Option<usize>
         ensures { result ≡ place_of (events_of events.now) self.now.writes (own txn key) }
@@ -135,11 +163,8 @@ impl Tables {
             || is_there o (written_at all (get version_eq self.now.replaced o.version))) }
     {
         let Version { key, txn, .. } = seen.version;
-        is_there(seen, self.last_write(events, txn, key))
-            || is_there(
-                seen,
-                wrote_at(events, self.replaced.get(&seen.version).copied()),
-            )
+        wrote(events, self.last_place(events, txn, key), seen)
+            || wrote(events, self.replaced.get(&seen.version).copied(), seen)
     }
 
     /// Records the event at the place.
@@ -221,13 +246,13 @@ impl Tables {
     {
         let place = self.writes.last_place(events, own.txn, own.key);
         self.writes.put(own, at)?;
-        let Some(old) = wrote_at(events, place) else {
+        let Some(old) = version_at(events, place) else {
             return Ok(());
         };
         let Some(place) = place else {
             return Ok(());
         };
-        self.replaced.insert(old.version, place)?;
+        self.replaced.insert(old, place)?;
         Ok(())
     }
 }

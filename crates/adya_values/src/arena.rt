@@ -1,13 +1,15 @@
 //! What events hold, packed: each key once, the bytes of all values one after the other, and what scans list.
 
-ghost use Rattle.std.specs.Prelude.{◌≡◌, ◌≤◌, ◌<◌, ◌+◌, ◌++◌, ◌∷◌, [], ℕ, List, true, map, Some, slice_get, length, vec_len, vec_capacity, IsOk, IfOk, OnOk, OnErr};
+ghost use Rattle.std.specs.Prelude.{◌≡◌, ◌≤◌, ◌<◌, ◌+◌, ◌++◌, ◌∷◌, [], ℕ, List, true, map, Some, slice_get, length, vec_len, vec_capacity, IsOk, IfOk, OnOk, OnErr, option_map, is_some};
 ghost use Rattle.adya_values.specs.Meaning.Keys.{is_value};
-ghost use Rattle.adya_values.specs.Meaning.Histories.{Scan};
-ghost use Rattle.adya_values.specs.Mirror.Events.{entry_of, event_of_row, view_of, value_of};
+ghost use Rattle.adya_values.specs.Meaning.Histories.{Live, Scan};
+ghost use Rattle.adya_values.specs.Meaning.Events.{shown, txn_of, written};
+ghost use Rattle.adya_values.specs.Computing.Faults.{content_eq, is_entry};
+ghost use Rattle.adya_values.specs.Mirror.Events.{content_of, entry_of, event_of_row, view_of, value_of};
 ghost use Rattle.adya_values.specs.Machinery.Packed.{is_row_of, is_part, is_listing, key_at, part, scan_in, entry_count, Extends, HasRoomIn, IsFront};
 ghost use Rattle.indexmap.specs.IndexSet.{spare};
 
-use crate::{Entry, EventView, Key, MAX_VALUE_LEN, Mod, Txn, Value, Version};
+use crate::{Content, Entry, EventView, Key, MAX_VALUE_LEN, Mod, Txn, Value, Version};
 use indexmap::IndexSet;
 use std::alloc::{AllocError, Global};
 
@@ -154,6 +156,105 @@ impl Arena {
             Row::Scan { txn, listing } => self.scan(txn, self.listings[listing]),
             Row::Commit { txn } => EventView::Commit { txn },
             Row::Abort { txn } => EventView::Abort { txn },
+        }
+    }
+
+    /// Returns the transaction of the event of the row.
+    #[inline(always)]
+    pub(crate) fn txn(&self, row: Row) -> Txn
+        requires { is_row_of self.now row ≡ true }
+        ensures { result ≡ txn_of (event_of_row self.now row) }
+    {
+        match row {
+            Row::Write { txn, .. } => txn,
+            Row::Delete { txn, .. } => txn,
+            Row::Read { txn, .. } => txn,
+            Row::Scan { txn, .. } => txn,
+            Row::Commit { txn } => txn,
+            Row::Abort { txn } => txn,
+        }
+    }
+
+    /// Returns the version that the event of the row writes.
+    #[inline(always)]
+    pub(crate) fn version(&self, row: Row) -> Option<Version>
+        requires { is_row_of self.now row ≡ true }
+        ensures { result ≡ option_map (λ w. w.version) (written (event_of_row self.now row)) }
+    {
+        match row {
+            Row::Write { txn, m, key, .. } => Some(self.version_of(key, txn, m)),
+            Row::Delete { txn, m, key } => Some(self.version_of(key, txn, m)),
+            Row::Read { .. } => None,
+            Row::Scan { .. } => None,
+            Row::Commit { .. } => None,
+            Row::Abort { .. } => None,
+        }
+    }
+
+    /// Returns whether the event of the row writes a value.
+    #[inline(always)]
+    pub(crate) fn shows(&self, row: Row) -> bool
+        requires { is_row_of self.now row ≡ true }
+        ensures { result ≡ is_some (shown (written (event_of_row self.now row))) }
+    {
+        match row {
+            Row::Write { .. } => true,
+            Row::Delete { .. } => false,
+            Row::Read { .. } => false,
+            Row::Scan { .. } => false,
+            Row::Commit { .. } => false,
+            Row::Abort { .. } => false,
+        }
+    }
+
+    /// Returns whether the event of the row writes the version with its content.
+    #[inline(always)]
+    pub(crate) fn wrote(&self, row: Row, entry: &Entry) -> bool
+        requires { is_row_of self.now row ≡ true }
+        ensures { result ≡ is_entry (written (event_of_row self.now row)) (entry_of entry.now) }
+    {
+        match row {
+            Row::Write {
+                txn,
+                m,
+                key,
+                at,
+                len,
+            } => {
+                self.version_of(key, txn, m) == entry.version
+                    && self.is_content(at, len, &entry.content)
+            }
+            Row::Delete { txn, m, key } => {
+                self.version_of(key, txn, m) == entry.version
+                    && matches!(entry.content, Content::Dead)
+            }
+            Row::Read { .. } => false,
+            Row::Scan { .. } => false,
+            Row::Commit { .. } => false,
+            Row::Abort { .. } => false,
+        }
+    }
+
+    #[inline(always)]
+    fn version_of(&self, key: u32, txn: Txn, m: Mod) -> Version
+        requires { key < length self.now.keys.keys }
+        ensures { result ≡ record { key = key_at self.now.keys.keys key; txn = txn; m = m } }
+    {
+        Version {
+            key: self.key(key),
+            txn,
+            m,
+        }
+    }
+
+    #[inline(always)]
+    fn is_content(&self, at: usize, len: u8, content: &Content) -> bool
+        requires { is_part self.now.bytes.items at len ≡ true }
+        ensures { result ≡ content_eq (Live (part at len self.now.bytes.items)) (content_of content.now) }
+    {
+        match content {
+            Content::Live(value) => &self.bytes[at..at + len as usize] == value.bytes(),
+            Content::Dead => false,
         }
     }
 

@@ -5,7 +5,7 @@ ghost use Rattle.std.specs.List.{list_all};
 ghost use Rattle.adya_values.specs.Machinery.Packed.{entry_count, is_row_of};
 
 use crate::arena::{Arena, Row};
-use crate::{Event, EventView, Txn};
+use crate::{Entry, Event, EventView, Txn, Version};
 use std::alloc::{AllocError, Global};
 
 /// Events in the order in which they happened, packed: a row of a fixed size for each, and beside the rows each key once, the bytes
@@ -19,10 +19,11 @@ pub struct Events {
 
 impl Events {
     ghost use Rattle.std.specs.Prelude.{map, length, slice_get, option_map};
-    ghost use Rattle.std.specs.Prelude.{option_and_then};
-    ghost use Rattle.adya_values.specs.Meaning.Events.{commit_of};
+    ghost use Rattle.std.specs.Prelude.{is_some, option_and_then};
+    ghost use Rattle.adya_values.specs.Meaning.Events.{commit_of, shown, txn_of, written};
+    ghost use Rattle.adya_values.specs.Computing.Faults.{is_entry};
     ghost use Rattle.adya_values.specs.Meaning.Histories.{Abort, Commit};
-    ghost use Rattle.adya_values.specs.Mirror.Events.{event_of, event_of_row, view_of, events_of, HasRows, HasRoomFor};
+    ghost use Rattle.adya_values.specs.Mirror.Events.{entry_of, event_of, event_of_row, view_of, events_of, HasRows, HasRoomFor};
 
     /// Makes a list of no events. It takes no memory.
     pub fn new(alloc: Global) -> Events
@@ -134,6 +135,48 @@ impl Events {
         ensures { slice_get (events_of self.now) i ≡ Some (view_of result) }
     {
         self.arena.event(self.rows[i])
+    }
+
+    /// Returns the transaction of the event at the index, counted from 0, which is below the length.
+    #[inline(always)]
+    pub fn txn_at(&self, i: usize) -> Txn
+        requires { i < length (events_of self.now) }
+        ensures { option_map txn_of (slice_get (events_of self.now) i) ≡ Some result }
+    {
+        self.arena.txn(self.rows[i])
+    }
+
+    /// Returns the version that the event at the index, counted from 0, writes; `None` if it writes none or there is no such event.
+    #[inline(always)]
+    pub fn version_at(&self, i: usize) -> Option<Version>
+        ensures { option_map (λ w. w.version) (option_and_then written (slice_get (events_of self.now) i)) ≡ result }
+    {
+        match self.rows.get(i) {
+            Some(row) => self.arena.version(*row),
+            None => None,
+        }
+    }
+
+    /// Returns whether the event at the index, counted from 0, writes a value.
+    #[inline(always)]
+    pub fn shows(&self, i: usize) -> bool
+        ensures { result ≡ is_some (shown (option_and_then written (slice_get (events_of self.now) i))) }
+    {
+        match self.rows.get(i) {
+            Some(row) => self.arena.shows(*row),
+            None => false,
+        }
+    }
+
+    /// Returns whether the event at the index, counted from 0, writes this version with this content.
+    #[inline(always)]
+    pub fn wrote(&self, i: usize, entry: &Entry) -> bool
+        ensures { result ≡ is_entry (option_and_then written (slice_get (events_of self.now) i)) (entry_of entry.now) }
+    {
+        match self.rows.get(i) {
+            Some(row) => self.arena.wrote(*row, entry),
+            None => false,
+        }
     }
 
     /// Returns the transaction that the event at the index commits, if it is a commit. The index, counted from 0, is below the

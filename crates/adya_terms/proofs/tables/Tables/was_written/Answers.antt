@@ -6,14 +6,14 @@ use Rattle.adya_terms.specs.Machinery.Tables.{own, is_there, written_at}
 use Rattle.adya_terms.specs.Machinery.OwnWrites.{place_of}
 use Rattle.adya_terms.proofs.tables.Tables.was_written.Goals as goal
 
-pub returns-else-is_there : goal.returns-else-is_there
-returns-else-is_there c =
+pub returns-else-wrote : goal.returns-else-wrote
+returns-else-wrote c =
     let all = events_of c.args.events.now in
     let o = entry_of c.args.seen.now in
     let r = o.version in
     let replaced = is_there o (written_at all (get version_eq c.args.self.now.replaced r)) in
     let not_last : is_there o (written_at all (place_of all c.args.self.now.writes (own r.txn r.key))) ≡ false =
-    ap (is_there o) (sym c.last_write.ensures) ∙ (sym c.is_there.ensures ∙ c.if-is_there.false) in
-    c.is_there-else-is_there.ensures ∙
-    (ap (is_there o) (c.wrote_at.ensures ∙ ap (written_at all) (c.copied.ensures ∙ c.get.ensures.value)) ∙
+    ap (λ at. is_there o (written_at all at)) (sym c.last_place.ensures) ∙ (sym c.wrote.ensures ∙ c.if-wrote.false) in
+    c.wrote-else-wrote.ensures ∙
+    (ap (λ at. is_there o (written_at all at)) (c.copied.ensures ∙ c.get.ensures.value) ∙
     ap (λ b. b || replaced) (sym not_last))
