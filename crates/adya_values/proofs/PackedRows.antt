@@ -50,11 +50,11 @@ module _ (ks km : List Key) (bs bm : Bytes) (ls lm : List Listing) where
   same_value at n e = part_stays at n bs bm (leb-true (at + n) (length bs) (and_parts _ _ e).0)
 
   row_stays : (n m : ℕ) → n ≤ m → (r : Row) → is_row (length ks) bs ls n r ≡ true → is_row (length (ks ++ km)) (bs ++ bm) (ls ++ lm) m r ≡ true
-  row_stays n m l (In.Write t x k at v) e =
+  row_stays n m l (In.Write v x t k at) e =
       let (key, value) = and_parts (nat_lt k (length ks)) _ e in
       and_from _ _ (key_stays ks km k key).there (is_part_stays bs bm at v value)
-  row_stays n m l (In.Delete t x k) e = (key_stays ks km k e).there
-  row_stays n m l (In.Read t w x k at v) e =
+  row_stays n m l (In.Delete x t k) e = (key_stays ks km k e).there
+  row_stays n m l (In.Read v x t w k at) e =
       let (key, value) = and_parts (nat_lt k (length ks)) _ e in
       and_from _ _ (key_stays ks km k key).there (is_part_stays bs bm at v value)
   row_stays n m l (In.Scan t i) e =
@@ -71,11 +71,11 @@ module _ (ks km : List Key) (bs bm : Bytes) (ls lm : List Listing) where
 
   event_stays : (es em : List Entry) (r : Row) → is_row (length ks) bs ls (length es) r ≡ true
       → event_in (ks ++ km) (bs ++ bm) (ls ++ lm) (es ++ em) r ≡ event_in ks bs ls es r
-  event_stays es em (In.Write t m k at v) e =
+  event_stays es em (In.Write v m t k at) e =
       let (key, value) = and_parts (nat_lt k (length ks)) _ e in
       ap (λ x. Write t x m (part at v (bs ++ bm))) (key_stays ks km k key).key ∙ ap (λ x. Write t (key_at ks k) m x) (same_value at v value)
-  event_stays es em (In.Delete t m k) e = ap (λ x. Delete t x m) (key_stays ks km k e).key
-  event_stays es em (In.Read t w m k at v) e =
+  event_stays es em (In.Delete m t k) e = ap (λ x. Delete t x m) (key_stays ks km k e).key
+  event_stays es em (In.Read v m t w k at) e =
       let (key, value) = and_parts (nat_lt k (length ks)) _ e in
       ap (λ x. Read t (record { key = x; txn = w; m = m }) (part at v (bs ++ bm))) (key_stays ks km k key).key ∙
       ap (λ x. Read t (record { key = key_at ks k; txn = w; m = m }) x) (same_value at v value)

@@ -17,27 +17,28 @@ use std::alloc::{AllocError, Global};
 const MOST_KEYS: usize = 4_294_967_296;
 
 /// An event of a list. Of its key it has the number, and of its value the place where the bytes begin and how many there are.
+/// The fields stand in such an order that they leave no gap: a row takes 24 bytes.
 #[derive(Clone, Copy)]
 pub(crate) enum Row {
     Write {
-        txn: Txn,
+        len: u8,
         m: Mod,
+        txn: Txn,
         key: u32,
         at: usize,
-        len: u8,
     },
     Delete {
-        txn: Txn,
         m: Mod,
+        txn: Txn,
         key: u32,
     },
     Read {
+        len: u8,
+        m: Mod,
         txn: Txn,
         writer: Txn,
-        m: Mod,
         key: u32,
         at: usize,
-        len: u8,
     },
     /// The place of its listing says the rest.
     Scan {

@@ -23,9 +23,9 @@ scan_in ks es t None = Abort t
 scan_in ks es t (Some l) = Scan t (key_at ks l.low) (key_at ks l.high) (part l.from l.count es)
 
 abbrev pub event_in : List Key → Bytes → List Listing → List Entry → Row → Event
-event_in ks bs ls es (In.Write t m k at v) = Write t (key_at ks k) m (part at v bs)
-event_in ks bs ls es (In.Delete t m k) = Delete t (key_at ks k) m
-event_in ks bs ls es (In.Read t w m k at v) = Read t (record { key = key_at ks k; txn = w; m = m }) (part at v bs)
+event_in ks bs ls es (In.Write v m t k at) = Write t (key_at ks k) m (part at v bs)
+event_in ks bs ls es (In.Delete m t k) = Delete t (key_at ks k) m
+event_in ks bs ls es (In.Read v m t w k at) = Read t (record { key = key_at ks k; txn = w; m = m }) (part at v bs)
 event_in ks bs ls es (In.Scan t l) = scan_in ks es t (slice_get ls l)
 event_in ks bs ls es (In.Commit t) = Commit t
 event_in ks bs ls es (In.Abort t) = Abort t
@@ -41,9 +41,9 @@ is_listing k n (Some l) = nat_lt l.low k && (nat_lt l.high k && nat_le (l.from +
 
 -- what the row names is there
 abbrev pub is_row : ℕ → Bytes → List Listing → ℕ → Row → Bool
-is_row n bs ls m (In.Write t x k at v) = nat_lt k n && is_part bs at v
-is_row n bs ls m (In.Delete t x k) = nat_lt k n
-is_row n bs ls m (In.Read t w x k at v) = nat_lt k n && is_part bs at v
+is_row n bs ls m (In.Write v x t k at) = nat_lt k n && is_part bs at v
+is_row n bs ls m (In.Delete x t k) = nat_lt k n
+is_row n bs ls m (In.Read v x t w k at) = nat_lt k n && is_part bs at v
 is_row n bs ls m (In.Scan t l) = is_listing n m (slice_get ls l)
 is_row n bs ls m (In.Commit t) = true
 is_row n bs ls m (In.Abort t) = true
