@@ -1,12 +1,16 @@
 -- Keys by their numbers, and parts of lists that stay where they are when something is added.
-use Rattle.std.proofs.Common.{◌≡◌, ◌∙◌, ℕ, ◌+◌, ◌<◌, ◌≤◌, Bool, true, ◌&&◌, List, [], ◌∷◌, ◌++◌, map, take, drop, length, Option, Some, None, get_or, slice_get, sym, ap, subst, refl, append_assoc, append-nil, arith}
+use Rattle.std.proofs.Common.{◌≡◌, ◌∙◌, ℕ, zero, suc, ◌+◌, ◌<◌, ◌≤◌, Bool, true, ◌&&◌, List, [], ◌∷◌, ◌++◌, map, take, drop, length, Option, Some, None, get_or, slice_get, sym, ap, subst, refl, append_assoc, append-nil, arith}
 use Rattle.std.specs.Prelude.{nat_le, nat_lt}
+use Rattle.std.proofs.Math.Bool.{false≢true}
 use Rattle.std.proofs.Math.Seq.{drop-append_seam, take-length}
 use Rattle.std.proofs.lemmas.List.{drop-append-le, drop-map, get_or_append_left, length-append, length-drop, take-append-le, take-map}
-use Rattle.std.proofs.lemmas.Option.{get_or_from_slice_get, slice_get-get_or, slice_get_within}
+use Rattle.std.proofs.lemmas.Option.{get_or_from_slice_get, none-some, same_Some, slice_get-get_or, slice_get_within}
 use Rattle.std.proofs.lemmas.Bool.{and_from, and_parts, le-leb, leb-true, lt-ltb, ltb-true}
 use Rattle.adya_values.specs.Meaning.Keys.{Bytes, Key, is_value}
-use Rattle.adya_values.specs.Machinery.Packed.{IsFront, is_part, key_at, part}
+use Rattle.adya_values.specs.Machinery.Seen.{content_in, entry_in, is_content, is_part, is_seen, key_at, part, IsFront}
+use Rattle.adya_values.specs.declared.listed.Seen.{Seen}
+use Rattle.std.specs.List.{list_all}
+use Rattle.adya_values.specs.Meaning.Histories.{Content, Entry, Dead, Live}
 
 pub last_part : {A : Type 0} (b x : List A) → part (length b) (length x) (b ++ x) ≡ x
 last_part b x = ap (take (length x)) (drop-append_seam b x) ∙ take-length x
@@ -46,6 +50,10 @@ is_part_stays bs more at n e =
     and_from _ _ (le-leb (at + n) (length (bs ++ more)) (omega (arith, l, length-append bs more)))
     (ap is_value (part_stays at n bs more l) ∙ (and_parts _ _ e).1)
 
+pub content_kept : (bs v : Bytes) (at n : ℕ) → IsKept bs v at n → is_value v ≡ true → (is_content bs at n ≡ true) × (content_in bs at n ≡ Live v)
+content_kept bs v at zero k fine = absurd (false≢true (ap is_value k.value ∙ fine))
+content_kept bs v at (suc n) k fine = (k.there, ap Live k.value)
+
 -- the key that was found under a number
 pub record IsKeyAt (ks : List Key) (n : ℕ) (k : Key) : Type 0 where
   pub there : nat_lt n (length ks) ≡ true
@@ -74,3 +82,71 @@ key_stays_in ks longer front n k at =
 pub slice_get_end : {A : Type 0} (xs : List A) (x : A) → slice_get (xs ++ x ∷ []) (length xs) ≡ Some x
 slice_get_end [] x = refl
 slice_get_end (y ∷ ys) x = slice_get_end ys x
+
+-- ---- packed entries that are there stay
+
+content_stays : (bs more : Bytes) (at n : ℕ) → is_content bs at n ≡ true → is_content (bs ++ more) at n ≡ true
+content_stays bs more at zero e = refl
+content_stays bs more at (suc n) e = is_part_stays bs more at (suc n) e
+
+same_content : (bs more : Bytes) (at n : ℕ) → is_content bs at n ≡ true → content_in (bs ++ more) at n ≡ content_in bs at n
+same_content bs more at zero e = refl
+same_content bs more at (suc n) e = ap Live (part_stays at (suc n) bs more (leb-true (at + suc n) (length bs) (and_parts _ _ e).0))
+
+seen_stays : (ks km : List Key) (bs bm : Bytes) (s : Seen) → is_seen (length ks) bs s ≡ true → is_seen (length (ks ++ km)) (bs ++ bm) s ≡ true
+seen_stays ks km bs bm s e =
+    let (key, content) = and_parts (nat_lt s.key (length ks)) _ e in
+    and_from _ _ (key_stays ks km s.key key).there (content_stays bs bm s.at s.len content)
+
+same_entry : (ks km : List Key) (bs bm : Bytes) (s : Seen) → is_seen (length ks) bs s ≡ true → entry_in (ks ++ km) (bs ++ bm) s ≡ entry_in ks bs s
+same_entry ks km bs bm s e =
+    let (key, content) = and_parts (nat_lt s.key (length ks)) _ e in
+    ap (λ k. record { version = record { key = k; txn = s.txn; m = s.m }; content = content_in (bs ++ bm) s.at s.len }) (key_stays ks km s.key key).key ∙
+    ap (λ x. record { version = record { key = key_at ks s.key; txn = s.txn; m = s.m }; content = x }) (same_content bs bm s.at s.len content)
+
+all_stay : (ks km : List Key) (bs bm : Bytes) (ss : List Seen) → list_all (is_seen (length ks) bs) ss ≡ true
+    → list_all (is_seen (length (ks ++ km)) (bs ++ bm)) ss ≡ true
+all_stay ks km bs bm [] e = refl
+all_stay ks km bs bm (s ∷ ss) e =
+    let (here, rest) = and_parts (is_seen (length ks) bs s) _ e in
+    and_from _ _ (seen_stays ks km bs bm s here) (all_stay ks km bs bm ss rest)
+
+same_entries : (ks km : List Key) (bs bm : Bytes) (ss : List Seen) → list_all (is_seen (length ks) bs) ss ≡ true
+    → map (entry_in (ks ++ km) (bs ++ bm)) ss ≡ map (entry_in ks bs) ss
+same_entries ks km bs bm [] e = refl
+same_entries ks km bs bm (s ∷ ss) e =
+    let (here, rest) = and_parts (is_seen (length ks) bs s) _ e in
+    ap (λ x. x ∷ map (entry_in (ks ++ km) (bs ++ bm)) ss) (same_entry ks km bs bm s here) ∙
+    ap (λ xs. entry_in ks bs s ∷ xs) (same_entries ks km bs bm ss rest)
+
+-- the same of longer lists
+pub all_stay_in : (ks kl : List Key) (bs bl : Bytes) → IsFront ks kl → IsFront bs bl → (ss : List Seen)
+    → list_all (is_seen (length ks) bs) ss ≡ true → list_all (is_seen (length kl) bl) ss ≡ true
+all_stay_in ks kl bs bl f g ss e = rw (f.1, g.1) (all_stay ks f.0 bs g.0 ss e)
+
+pub same_entries_in : (ks kl : List Key) (bs bl : Bytes) → IsFront ks kl → IsFront bs bl → (ss : List Seen)
+    → list_all (is_seen (length ks) bs) ss ≡ true → map (entry_in kl bl) ss ≡ map (entry_in ks bs) ss
+same_entries_in ks kl bs bl f g ss e = rw (f.1, g.1) (same_entries ks f.0 bs g.0 ss e)
+
+pub seen_stays_in : (ks kl : List Key) (bs bl : Bytes) → IsFront ks kl → IsFront bs bl → (s : Seen)
+    → is_seen (length ks) bs s ≡ true → is_seen (length kl) bl s ≡ true
+seen_stays_in ks kl bs bl f g s e = rw (f.1, g.1) (seen_stays ks f.0 bs g.0 s e)
+
+-- ---- lists all of whose elements pass
+
+pub all_found : {A : Type 0} (f : A → Bool) (xs : List A) (i : ℕ) (x : A) → slice_get xs i ≡ Some x → list_all f xs ≡ true → f x ≡ true
+all_found f [] i x g e = absurd (none-some x g)
+all_found f (y ∷ ys) zero x g e = subst (λ z. f z ≡ true) (same_Some y x g) (and_parts _ _ e).0
+all_found f (y ∷ ys) (suc i) x g e = all_found f ys i x g (and_parts _ _ e).1
+
+all_taken : {A : Type 0} (f : A → Bool) (n : ℕ) (xs : List A) → list_all f xs ≡ true → list_all f (take n xs) ≡ true
+all_taken f zero xs e = refl
+all_taken f (suc n) [] e = refl
+all_taken f (suc n) (x ∷ xs) e =
+    let (here, rest) = and_parts (f x) _ e in
+    and_from _ _ here (all_taken f n xs rest)
+
+pub all_in_part : {A : Type 0} (f : A → Bool) (at n : ℕ) (xs : List A) → list_all f xs ≡ true → list_all f (part at n xs) ≡ true
+all_in_part f zero n xs e = all_taken f n xs e
+all_in_part f (suc at) n [] e = all_taken f n [] e
+all_in_part f (suc at) n (x ∷ xs) e = all_in_part f at n xs (and_parts _ _ e).1

@@ -13,9 +13,10 @@ use Rattle.adya_values.specs.declared.arena.Row.{Row}
 use Rattle.adya_values.specs.declared.arena.Row.TheVariants as In
 use Rattle.adya_values.specs.declared.arena.Listing.{Listing}
 use Rattle.adya_values.specs.declared.arena.Arena.{Arena}
-use Rattle.adya_values.specs.Mirror.Events.{entry_of, event_of_row}
-use Rattle.adya_values.specs.Machinery.Packed.{Extends, event_in, is_listing, is_part, is_row, is_row_of, key_at, part, scan_in}
-use Rattle.adya_values.proofs.PackedParts.{is_part_stays, key_stays, part_stays}
+use Rattle.adya_values.specs.Mirror.Events.{event_of_row}
+use Rattle.adya_values.specs.Machinery.Seen.{content_in, entry_in, is_content, is_part, is_seen, key_at, part}
+use Rattle.adya_values.specs.Machinery.Packed.{entry_of_seen, Extends, event_in, is_listing, is_row, is_row_of, scan_in}
+use Rattle.adya_values.proofs.PackedParts.{front_same, front_trans, is_part_stays, key_stays, part_stays, same_entries_in}
 
 module _ (ks km : List Key) where
   listing_stays : (n m : ℕ) (o : Option Listing) → n ≤ m → is_listing (length ks) n o ≡ true → is_listing (length (ks ++ km)) m o ≡ true
@@ -103,19 +104,38 @@ events_stay_in : (ks km also : List Key) (bs bm more : Bytes) (ls lm rest : List
     → (rs : List Row) → list_all (is_row (length ks) bs ls (length es)) rs ≡ true → map (event_in km bm lm em) rs ≡ map (event_in ks bs ls es) rs
 events_stay_in ks km also bs bm more ls lm rest es em left o p q r rs e = rw (o, p, q, r) (events_stay ks also bs more ls rest es left rs e)
 
+pub extends_itself : (a : Arena) → Extends a a
+extends_itself a = record {
+  keys = front_same _ _ refl;
+  bytes = front_same _ _ refl;
+  listings = front_same _ _ refl;
+  seen = front_same _ _ refl;
+}
+
+pub extends_trans : (a b c : Arena) → Extends a b → Extends b c → Extends a c
+extends_trans a b c x y = record {
+  keys = front_trans _ _ _ x.keys y.keys;
+  bytes = front_trans _ _ _ x.bytes y.bytes;
+  listings = front_trans _ _ _ x.listings y.listings;
+  seen = front_trans _ _ _ x.seen y.seen;
+}
+
 module _ (a b : Arena) (x : Extends a b) (rs : List Row) (e : list_all (is_row_of a) rs ≡ true) where
   pub valid_stays : list_all (is_row_of b) rs ≡ true
   valid_stays =
       rows_stay_in a.keys.keys b.keys.keys x.keys.0 a.bytes.items b.bytes.items x.bytes.0 a.listings.items b.listings.items x.listings.0
       x.keys.1 x.bytes.1 x.listings.1
-      (length a.entries.items) (length b.entries.items) (omega (arith, ap length x.entries.1, length-append a.entries.items x.entries.0)) rs e
+      (length a.seen.items) (length b.seen.items) (omega (arith, ap length x.seen.1, length-append a.seen.items x.seen.0)) rs e
 
   pub same_events : map (event_of_row b) rs ≡ map (event_of_row a) rs
   same_events =
       events_stay_in a.keys.keys b.keys.keys x.keys.0 a.bytes.items b.bytes.items x.bytes.0 a.listings.items b.listings.items x.listings.0
-      (map entry_of a.entries.items) (map entry_of b.entries.items) (map entry_of x.entries.0) x.keys.1 x.bytes.1 x.listings.1
-      (ap (map entry_of) x.entries.1 ∙ map-append entry_of a.entries.items x.entries.0) rs
-      (subst (λ n. list_all (is_row (length a.keys.keys) a.bytes.items a.listings.items n) rs ≡ true) (sym (length-map a.entries.items entry_of)) e)
+      (map (entry_of_seen a) a.seen.items) (map (entry_of_seen b) b.seen.items) (map (entry_of_seen b) x.seen.0) x.keys.1 x.bytes.1 x.listings.1
+      (ap (map (entry_of_seen b)) x.seen.1 ∙
+      (map-append (entry_of_seen b) a.seen.items x.seen.0 ∙
+      ap (λ es. es ++ map (entry_of_seen b) x.seen.0)
+      (same_entries_in a.keys.keys b.keys.keys a.bytes.items b.bytes.items x.keys x.bytes a.seen.items a.there))) rs
+      (subst (λ n. list_all (is_row (length a.keys.keys) a.bytes.items a.listings.items n) rs ≡ true) (sym (length-map a.seen.items (entry_of_seen a))) e)
 
 -- one more row, if there was room for it
 pub all_with : {A : Type 0} (f : A → Bool) (xs : List A) (x : A) (more : Bool) → list_all f xs ≡ true → f x ≡ true

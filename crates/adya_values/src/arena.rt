@@ -5,11 +5,15 @@ ghost use Rattle.adya_values.specs.Meaning.Keys.{is_value};
 ghost use Rattle.adya_values.specs.Meaning.Histories.{Live, Scan};
 ghost use Rattle.adya_values.specs.Meaning.Events.{shown, txn_of, written};
 ghost use Rattle.adya_values.specs.Computing.Faults.{content_eq, is_entry};
-ghost use Rattle.adya_values.specs.Mirror.Events.{content_of, entry_of, event_of_row, view_of, value_of};
-ghost use Rattle.adya_values.specs.Machinery.Packed.{is_row_of, is_part, is_listing, key_at, part, scan_in, entry_count, Extends, HasRoomIn, IsFront};
+ghost use Rattle.adya_values.specs.Machinery.Seen.{content_in, is_content, is_part, is_seen, key_at, part, IsFront};
+ghost use Rattle.std.specs.List.{list_all};
 ghost use Rattle.indexmap.specs.IndexSet.{spare};
 
-use crate::{Content, Entry, EventView, Key, MAX_VALUE_LEN, Mod, Txn, Value, Version};
+use crate::listed::Seen;
+use crate::{
+    Content, Entry, Event, EventView, Key, Listed, MAX_VALUE_LEN, Mod, PackedEntries, Txn, Value,
+    Version,
+};
 use indexmap::IndexSet;
 use std::alloc::{AllocError, Global};
 
@@ -68,17 +72,21 @@ pub(crate) struct Arena {
     pub(crate) keys: IndexSet<Key>,
     pub(crate) bytes: Vec<u8>,
     pub(crate) listings: Vec<Listing>,
-    pub(crate) entries: Vec<Entry>,
+    pub(crate) seen: Vec<Seen>,
+    pub ghost there: { list_all (is_seen (length keys.keys) bytes.items) seen.items ≡ true },
 }
 
 impl Arena {
+    ghost use Rattle.adya_values.specs.Mirror.Events.{content_of, entries_of, entry_of, event_of, event_of_row, view_of, value_of};
+    ghost use Rattle.adya_values.specs.Machinery.Packed.{entry_of_seen, is_row_of, is_listing, is_seen_of, scan_in, entry_count, CanSee, Extends, HasRoomIn};
+
     /// Makes an empty arena. It takes no memory.
     pub(crate) fn new(alloc: Global) -> Arena {
         Arena {
             keys: IndexSet::new(alloc),
             bytes: Vec::new(alloc),
             listings: Vec::new(alloc),
-            entries: Vec::new(alloc),
+            seen: Vec::new(alloc),
         }
     }
 
@@ -88,15 +96,15 @@ impl Arena {
         ensures keys { self.new.keys.keys ≡ self.old.keys.keys }
         ensures bytes { self.new.bytes.items ≡ self.old.bytes.items }
         ensures listings { self.new.listings.items ≡ self.old.listings.items }
-        ensures entries { self.new.entries.items ≡ self.old.entries.items }
+        ensures seen { self.new.seen.items ≡ self.old.seen.items }
     {
-        if self.keys.len() >= MOST_KEYS - 2 {
+        if entries >= MOST_KEYS - 2 || self.keys.len() >= MOST_KEYS - 2 - entries {
             return Err(AllocError);
         }
-        self.keys.reserve(2)?;
-        self.bytes.reserve(MAX_VALUE_LEN)?;
+        self.keys.reserve(entries + 2)?;
+        self.bytes.reserve((entries + 1) * MAX_VALUE_LEN)?;
         self.listings.reserve(1)?;
-        self.entries.reserve(entries)
+        self.seen.reserve(entries)
     }
 
     /// Returns an equal arena.
@@ -104,13 +112,13 @@ impl Arena {
         ensures keys { IfOk result (λ a. a.keys.keys ≡ self.now.keys.keys) }
         ensures bytes { IfOk result (λ a. a.bytes.items ≡ self.now.bytes.items) }
         ensures listings { IfOk result (λ a. a.listings.items ≡ self.now.listings.items) }
-        ensures entries { IfOk result (λ a. a.entries.items ≡ self.now.entries.items) }
+        ensures seen { IfOk result (λ a. a.seen.items ≡ self.now.seen.items) }
     {
         Ok(Arena {
             keys: self.keys.clone()?,
             bytes: Vec::from_slice(alloc, &self.bytes)?,
             listings: Vec::from_slice(alloc, &self.listings)?,
-            entries: Vec::from_slice(alloc, &self.entries)?,
+            seen: Vec::from_slice(alloc, &self.seen)?,
         })
     }
 
@@ -277,8 +285,8 @@ impl Arena {
 
     #[inline(always)]
     fn scan(&self, txn: Txn, listing: Listing) -> EventView<'_>
-        requires { is_listing (length self.now.keys.keys) (length self.now.entries.items) (Some listing) ≡ true }
-        ensures { view_of result ≡ scan_in self.now.keys.keys (map entry_of self.now.entries.items) txn (Some listing) }
+        requires { is_listing (length self.now.keys.keys) (length self.now.seen.items) (Some listing) ≡ true }
+        ensures { view_of result ≡ scan_in self.now.keys.keys (map (entry_of_seen self.now) self.now.seen.items) txn (Some listing) }
     {
         let Listing {
             low,
@@ -290,7 +298,11 @@ impl Arena {
             txn,
             low: self.key(low),
             high: self.key(high),
-            entries: &self.entries[from..from + count],
+            entries: Listed::Packed(PackedEntries {
+                keys: self.keys.as_slice(),
+                bytes: &self.bytes,
+                seen: &self.seen[from..from + count],
+            }),
         }
     }
 
@@ -349,22 +361,31 @@ impl Arena {
         }
     }
 
+    /// Keeps what the event holds, as [`keep`](Arena::keep) does.
+    pub(crate) fn keep_owned(&mut self, event: &Event) -> Result<Row, AllocError>
+        ensures extends { Extends self.old self.new }
+        ensures row { IfOk result (λ r. is_row_of self.new r ≡ true) }
+        ensures event { IfOk result (λ r. event_of_row self.new r ≡ event_of event.now) }
+        ensures succeeds { HasRoomIn self.old (entry_count (event_of event.now)) → IsOk result }
+    {
+        let Some(view) = Some(event.view()) else {
+            unreachable!()
+        };
+        self.keep(&view)
+    }
+
     /// Returns the number of the key, which it gets if it has none.
     fn number(&mut self, key: Key) -> Result<u32, AllocError>
         ensures number { IfOk result (λ n. slice_get self.new.keys.keys n ≡ Some key) }
         ensures front { IsFront self.old.keys.keys self.new.keys.keys }
         ensures bytes { self.new.bytes ≡ self.old.bytes }
         ensures listings { self.new.listings ≡ self.old.listings }
-        ensures entries { self.new.entries ≡ self.old.entries }
+        ensures seen { self.new.seen ≡ self.old.seen }
         ensures succeeds { 1 ≤ spare self.old.keys → length self.old.keys.keys + 1 < 4294967296 → IsOk result }
         ensures spare { spare self.old.keys ≤ spare self.new.keys + 1 }
         ensures count { length self.new.keys.keys ≤ length self.old.keys.keys + 1 }
     {
-        let (index, _) = self.keys.insert_full(key)?;
-        let Ok(number) = u32::try_from(index) else {
-            return Err(AllocError);
-        };
-        Ok(number)
+        number_in(&mut self.keys, key)
     }
 
     /// Adds a text, and returns its place.
@@ -374,27 +395,93 @@ impl Arena {
         ensures front { IsFront self.old.bytes.items self.new.bytes.items }
         ensures keys { self.new.keys ≡ self.old.keys }
         ensures listings { self.new.listings ≡ self.old.listings }
-        ensures entries { self.new.entries ≡ self.old.entries }
+        ensures seen { self.new.seen ≡ self.old.seen }
+        ensures len { vec_len self.new.bytes ≤ vec_len self.old.bytes + length text.now }
+        ensures capacity { vec_capacity self.old.bytes ≤ vec_capacity self.new.bytes }
         ensures succeeds { vec_len self.old.bytes + length text.now ≤ vec_capacity self.old.bytes → IsOk result }
     {
-        let at = self.bytes.len();
-        self.bytes.extend_from_slice(text)?;
-        Ok(at)
+        add_to(&mut self.bytes, text)
+    }
+
+    /// Keeps the entry, and returns its row. If memory is refused, what was there is still where it was.
+    fn see(&mut self, entry: &Entry) -> Result<Seen, AllocError>
+        ensures extends { Extends self.old self.new }
+        ensures listings { self.new.listings ≡ self.old.listings }
+        ensures seen { self.new.seen ≡ self.old.seen }
+        ensures there { IfOk result (λ s. is_seen_of self.new s ≡ true) }
+        ensures entry { IfOk result (λ s. entry_of_seen self.new s ≡ entry_of entry.now) }
+        ensures succeeds { (n : ℕ) → CanSee self.old (n + 1) → IsOk result × CanSee self.new n }
+    {
+        let key = self.number(entry.version.key)?;
+        let (at, len) = self.keep_content(&entry.content)?;
+        Ok(Seen {
+            len,
+            m: entry.version.m,
+            txn: entry.version.txn,
+            key,
+            at,
+        })
+    }
+
+    /// Keeps the value, if there is one, and returns its place and its length.
+    fn keep_content(&mut self, content: &Content) -> Result<(usize, u8), AllocError>
+        ensures kept { IfOk result (λ p. is_content self.new.bytes.items p.0 p.1 ≡ true) }
+        ensures content { IfOk result (λ p. content_in self.new.bytes.items p.0 p.1 ≡ content_of content.now) }
+        ensures front { IsFront self.old.bytes.items self.new.bytes.items }
+        ensures keys { self.new.keys ≡ self.old.keys }
+        ensures listings { self.new.listings ≡ self.old.listings }
+        ensures seen { self.new.seen ≡ self.old.seen }
+        ensures len { vec_len self.new.bytes ≤ vec_len self.old.bytes + 64 }
+        ensures capacity { vec_capacity self.old.bytes ≤ vec_capacity self.new.bytes }
+        ensures succeeds { vec_len self.old.bytes + 64 ≤ vec_capacity self.old.bytes → IsOk result }
+    {
+        match content {
+            Content::Dead => Ok((0, 0)),
+            Content::Live(value) => {
+                let at = self.add(value.bytes())?;
+                Ok((at, value.bytes().len() as u8))
+            }
+        }
+    }
+
+    fn add_entry(&mut self, entry: &Entry) -> Result<(), AllocError>
+        ensures extends { Extends self.old self.new }
+        ensures listings { self.new.listings ≡ self.old.listings }
+        ensures entries { OnOk result (map (entry_of_seen self.new) self.new.seen.items
+            ≡ map (entry_of_seen self.old) self.old.seen.items ++ entry_of entry.now ∷ []) }
+        ensures succeeds { (n : ℕ) → CanSee self.old (n + 1) → IsOk result × CanSee self.new n }
+    {
+        let seen = self.see(entry)?;
+        self.seen.push(seen)?;
+        Ok(())
+    }
+
+    fn add_entries(&mut self, entries: &Listed<'_>) -> Result<(), AllocError>
+        ensures extends { Extends self.old self.new }
+        ensures listings { self.new.listings ≡ self.old.listings }
+        ensures entries { OnOk result (map (entry_of_seen self.new) self.new.seen.items
+            ≡ map (entry_of_seen self.old) self.old.seen.items ++ entries_of entries.now) }
+        ensures succeeds { CanSee self.old (length (entries_of entries.now)) → IsOk result }
+    {
+        for j in 0..entries.len() {
+            self.add_entry(&entries.at(j))?;
+        }
+        Ok(())
     }
 
     /// Adds a listing with these bounds and entries, and returns its place.
-    fn list(&mut self, low: Key, high: Key, entries: &[Entry]) -> Result<usize, AllocError>
+    fn list(&mut self, low: Key, high: Key, entries: &Listed<'_>) -> Result<usize, AllocError>
         ensures extends { Extends self.old self.new }
-        ensures listed { IfOk result (λ l. is_listing (length self.new.keys.keys) (length self.new.entries.items) (slice_get self.new.listings.items l) ≡ true) }
-        ensures scan { (t : ℕ) → IfOk result (λ l. scan_in self.new.keys.keys (map entry_of self.new.entries.items) t (slice_get self.new.listings.items l)
-            ≡ Scan t low high (map entry_of entries.now)) }
-        ensures succeeds { HasRoomIn self.old (length entries.now) → IsOk result }
+        ensures listed { IfOk result (λ l. is_listing (length self.new.keys.keys) (length self.new.seen.items) (slice_get self.new.listings.items l) ≡ true) }
+        ensures scan { (t : ℕ) → IfOk result (λ l. scan_in self.new.keys.keys (map (entry_of_seen self.new) self.new.seen.items) t (slice_get self.new.listings.items l)
+            ≡ Scan t low high (entries_of entries.now)) }
+        ensures succeeds { HasRoomIn self.old (length (entries_of entries.now)) → IsOk result }
     {
-        let listing = self.listings.len();
-        let from = self.entries.len();
         let low = self.number(low)?;
         let high = self.number(high)?;
-        self.entries.extend_from_slice(entries)?;
+        let listing = self.listings.len();
+        let from = self.seen.len();
+        self.add_entries(entries)?;
         self.listings.push(Listing {
             low,
             high,
@@ -403,4 +490,33 @@ impl Arena {
         })?;
         Ok(listing)
     }
+}
+
+/// Returns the number of the key among the keys, to which it is added if it isn't there.
+fn number_in(keys: &mut IndexSet<Key>, key: Key) -> Result<u32, AllocError>
+    ensures number { IfOk result (λ n. slice_get keys.new.keys n ≡ Some key) }
+    ensures front { IsFront keys.old.keys keys.new.keys }
+    ensures succeeds { 1 ≤ spare keys.old → length keys.old.keys + 1 < 4294967296 → IsOk result }
+    ensures spare { spare keys.old ≤ spare keys.new + 1 }
+    ensures count { length keys.new.keys ≤ length keys.old.keys + 1 }
+{
+    let (index, _) = keys.insert_full(key)?;
+    let Ok(number) = u32::try_from(index) else {
+        return Err(AllocError);
+    };
+    Ok(number)
+}
+
+/// Adds the text to the bytes, and returns its place.
+fn add_to(bytes: &mut Vec<u8>, text: &[u8]) -> Result<usize, AllocError>
+    ensures at { IfOk result (λ n. n ≡ length bytes.old.items) }
+    ensures bytes { OnOk result (bytes.new.items ≡ bytes.old.items ++ text.now) }
+    ensures front { IsFront bytes.old.items bytes.new.items }
+    ensures len { vec_len bytes.new ≤ vec_len bytes.old + length text.now }
+    ensures capacity { vec_capacity bytes.old ≤ vec_capacity bytes.new }
+    ensures succeeds { vec_len bytes.old + length text.now ≤ vec_capacity bytes.old → IsOk result }
+{
+    let at = bytes.len();
+    bytes.extend_from_slice(text)?;
+    Ok(at)
 }

@@ -6,7 +6,7 @@ ghost use Rattle.adya_values.specs.Meaning.Events.{txn_of, written};
 ghost use Rattle.adya_values.specs.Machinery.Packed.{entry_count};
 ghost use Rattle.adya_values.specs.Computing.Faults.{content_eq, entry_eq};
 
-use crate::{Key, Mod, Txn, Value};
+use crate::{Key, Listed, Mod, Txn, Value};
 use std::fmt;
 
 /// A version of a key: the result of one write or delete by one transaction (Adya 1999, section 3.1).
@@ -152,7 +152,7 @@ impl Event {
                 txn: *txn,
                 low: *low,
                 high: *high,
-                entries,
+                entries: Listed::Plain(entries),
             },
             Event::Commit { txn } => EventView::Commit { txn: *txn },
             Event::Abort { txn } => EventView::Abort { txn: *txn },
@@ -188,7 +188,7 @@ pub enum EventView<'a> {
         txn: Txn,
         low: Key,
         high: Key,
-        entries: &'a [Entry],
+        entries: Listed<'a>,
     },
     /// The transaction commits.
     Commit {

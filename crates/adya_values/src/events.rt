@@ -54,7 +54,7 @@ impl Events {
         ensures fits { HasRows self.old 1 → HasRoomFor self.old (entry_count (event_of event.now)) → IsOk result }
         ensures rows { (n : ℕ) → HasRows self.old (n + 1) → HasRows self.new n }
     {
-        let row = self.arena.keep(&event.view())?;
+        let row = self.arena.keep_owned(event)?;
         self.add(row)
     }
 

@@ -1,21 +1,14 @@
 -- The events that rows stand for: the keys, the bytes, the listings and the entries of the arena say the rest.
-use Rattle.std.specs.Prelude.{◌≡◌, ℕ, ◌+◌, ◌<◌, ◌≤◌, Bool, true, false, ◌&&◌, nat_le, nat_lt, List, [], ◌++◌, take, drop, length, Option, Some, None, slice_get, vec_len, vec_capacity}
-use Rattle.std.proofs.Common.{get_or}
+use Rattle.std.specs.Prelude.{◌≡◌, ℕ, ◌+◌, ◌*◌, ◌<◌, ◌≤◌, Bool, true, false, ◌&&◌, nat_le, nat_lt, List, ◌++◌, length, map, Option, Some, None, slice_get, vec_len, vec_capacity}
 use Rattle.indexmap.specs.IndexSet.{spare}
-use Rattle.adya_values.specs.Meaning.Keys.{Bytes, Key, is_value}
+use Rattle.adya_values.specs.Meaning.Keys.{Bytes, Key}
 use Rattle.adya_values.specs.Meaning.Histories.{Event, Entry, Write, Delete, Read, Scan, Commit, Abort}
+use Rattle.adya_values.specs.Machinery.Seen.{entry_in, is_part, is_seen, key_at, part, IsFront}
+use Rattle.adya_values.specs.declared.listed.Seen.{Seen}
 use Rattle.adya_values.specs.declared.arena.Row.{Row}
 use Rattle.adya_values.specs.declared.arena.Row.TheVariants as In
 use Rattle.adya_values.specs.declared.arena.Listing.{Listing}
 use Rattle.adya_values.specs.declared.arena.Arena.{Arena}
-
--- so many elements from this place on
-abbrev pub part : {A : Type 0} → ℕ → ℕ → List A → List A
-part at n xs = take n (drop at xs)
-
--- the key with the number
-abbrev pub key_at : List Key → ℕ → Key
-key_at ks n = get_or ks n []
 
 -- the scan that the listing says, if there is one
 abbrev pub scan_in : List Key → List Entry → ℕ → Option Listing → Event
@@ -29,10 +22,6 @@ event_in ks bs ls es (In.Read v m t w k at) = Read t (record { key = key_at ks k
 event_in ks bs ls es (In.Scan t l) = scan_in ks es t (slice_get ls l)
 event_in ks bs ls es (In.Commit t) = Commit t
 event_in ks bs ls es (In.Abort t) = Abort t
-
--- so many bytes from this place on are there, and make a value
-abbrev pub is_part : Bytes → ℕ → ℕ → Bool
-is_part bs at n = nat_le (at + n) (length bs) && is_value (part at n bs)
 
 -- so many keys are there, and so many entries
 abbrev pub is_listing : ℕ → ℕ → Option Listing → Bool
@@ -49,17 +38,21 @@ is_row n bs ls m (In.Commit t) = true
 is_row n bs ls m (In.Abort t) = true
 
 abbrev pub is_row_of : Arena → Row → Bool
-is_row_of a r = is_row (length a.keys.keys) a.bytes.items a.listings.items (length a.entries.items) r
+is_row_of a r = is_row (length a.keys.keys) a.bytes.items a.listings.items (length a.seen.items) r
 
-abbrev pub IsFront : {A : Type 0} → List A → List A → Type 0
-IsFront xs ys = (more : List _) × (ys ≡ xs ++ more)
+-- the entry of the packed entry
+abbrev pub entry_of_seen : Arena → Seen → Entry
+entry_of_seen a s = entry_in a.keys.keys a.bytes.items s
+
+abbrev pub is_seen_of : Arena → Seen → Bool
+is_seen_of a s = is_seen (length a.keys.keys) a.bytes.items s
 
 -- what was in the arena is still where it was
 pub record Extends (old new : Arena) : Type 0 where
   pub keys : IsFront old.keys.keys new.keys.keys
   pub bytes : IsFront old.bytes.items new.bytes.items
   pub listings : IsFront old.listings.items new.listings.items
-  pub entries : IsFront old.entries.items new.entries.items
+  pub seen : IsFront old.seen.items new.seen.items
 
 -- how many entries the event lists
 abbrev pub entry_count : Event → ℕ
@@ -70,10 +63,17 @@ entry_count (Scan t low high es) = length es
 entry_count (Commit t) = 0
 entry_count (Abort t) = 0
 
+-- so many entries fit
+pub record CanSee (a : Arena) (n : ℕ) : Type 0 where
+  pub keys : n ≤ spare a.keys
+  pub numbers : length a.keys.keys + n < 4294967296
+  pub bytes : vec_len a.bytes + n * 64 ≤ vec_capacity a.bytes
+  pub seen : vec_len a.seen + n ≤ vec_capacity a.seen
+
 -- any event fits that lists no more than so many entries
 pub record HasRoomIn (a : Arena) (n : ℕ) : Type 0 where
-  pub keys : 2 ≤ spare a.keys
-  pub numbers : length a.keys.keys + 2 < 4294967296
-  pub bytes : vec_len a.bytes + 64 ≤ vec_capacity a.bytes
+  pub keys : n + 2 ≤ spare a.keys
+  pub numbers : length a.keys.keys + (n + 2) < 4294967296
+  pub bytes : vec_len a.bytes + (n + 1) * 64 ≤ vec_capacity a.bytes
   pub listings : vec_len a.listings < vec_capacity a.listings
-  pub entries : vec_len a.entries + n ≤ vec_capacity a.entries
+  pub seen : vec_len a.seen + n ≤ vec_capacity a.seen

@@ -8,7 +8,10 @@ use Rattle.adya_values.specs.declared.value.Value.{Value}
 use Rattle.adya_values.specs.declared.event.Content.{Content as ContentValue}
 use Rattle.adya_values.specs.declared.event.Entry.{Entry as EntryValue}
 use Rattle.adya_values.specs.Meaning.Keys.{Bytes}
-use Rattle.adya_values.specs.Machinery.Packed.{event_in, HasRoomIn}
+use Rattle.adya_values.specs.declared.listed.Listed.{Listed}
+use Rattle.adya_values.specs.declared.listed.Listed.TheVariants as As
+use Rattle.adya_values.specs.Machinery.Seen.{entry_in}
+use Rattle.adya_values.specs.Machinery.Packed.{entry_of_seen, event_in, HasRoomIn}
 use Rattle.adya_values.specs.declared.event.Content.TheVariants as Holds
 use Rattle.adya_values.specs.declared.event.Event.TheVariants as In
 use Rattle.adya_values.specs.declared.event.EventView.{EventView}
@@ -36,17 +39,22 @@ event_of (In.Scan t low high es) = Scan t low high (map entry_of es.items)
 event_of (In.Commit t) = Commit t
 event_of (In.Abort t) = Abort t
 
+-- what a scan lists
+abbrev pub entries_of : Listed → List Entry
+entries_of (As.Plain es) = map entry_of es.now
+entries_of (As.Packed p) = map (entry_in p.keys.now p.bytes.now) p.seen.now
+
 abbrev pub view_of : EventView → Event
 view_of (Seen.Write t k m v) = Write t k m (value_of v)
 view_of (Seen.Delete t k m) = Delete t k m
 view_of (Seen.Read t r v) = Read t r (value_of v)
-view_of (Seen.Scan t low high es) = Scan t low high (map entry_of es.now)
+view_of (Seen.Scan t low high es) = Scan t low high (entries_of es)
 view_of (Seen.Commit t) = Commit t
 view_of (Seen.Abort t) = Abort t
 
 -- the event of a row
 abbrev pub event_of_row : Arena → Row → Event
-event_of_row a r = event_in a.keys.keys a.bytes.items a.listings.items (map entry_of a.entries.items) r
+event_of_row a r = event_in a.keys.keys a.bytes.items a.listings.items (map (entry_of_seen a) a.seen.items) r
 
 abbrev pub events_of : Events → List Event
 events_of es = map (event_of_row es.arena) es.rows.items
