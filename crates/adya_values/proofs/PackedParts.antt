@@ -1,16 +1,16 @@
 -- Keys by their numbers, and parts of lists that stay where they are when something is added.
-use Rattle.std.proofs.Common.{◌≡◌, ◌∙◌, ℕ, zero, suc, ◌+◌, ◌<◌, ◌≤◌, Bool, true, ◌&&◌, List, [], ◌∷◌, ◌++◌, map, take, drop, length, Option, Some, None, get_or, slice_get, sym, ap, subst, refl, append_assoc, append-nil, arith}
-use Rattle.std.specs.Prelude.{nat_le, nat_lt}
+use Rattle.std.proofs.Common.{◌≡◌, ◌∙◌, ℕ, zero, suc, ◌+◌, ◌<◌, ◌≤◌, ◌==◌, Bool, true, false, List, [], ◌∷◌, ◌++◌, map, take, drop, length, Some, slice_get, sym, ap, subst, refl, append_assoc, append-nil, arith}
+use Rattle.std.specs.Prelude.{nat_lt}
 use Rattle.std.proofs.Math.Bool.{false≢true}
 use Rattle.std.proofs.Math.Seq.{drop-append_seam, take-length}
 use Rattle.std.proofs.lemmas.List.{drop-append-le, drop-map, get_or_append_left, length-append, length-drop, take-append-le, take-map}
-use Rattle.std.proofs.lemmas.Option.{get_or_from_slice_get, none-some, same_Some, slice_get-get_or, slice_get_within}
+use Rattle.std.proofs.lemmas.Option.{get_or_from_slice_get, none-some, same_Some, slice_get_within}
 use Rattle.std.proofs.lemmas.Bool.{and_from, and_parts, le-leb, leb-true, lt-ltb, ltb-true}
 use Rattle.adya_values.specs.Meaning.Keys.{Bytes, Key, is_value}
 use Rattle.adya_values.specs.Machinery.Seen.{content_in, entry_in, is_content, is_part, is_seen, key_at, part, IsFront}
-use Rattle.adya_values.specs.declared.listed.Seen.{Seen}
+use Rattle.adya_values.specs.declared.seen.Seen.{Seen}
 use Rattle.std.specs.List.{list_all}
-use Rattle.adya_values.specs.Meaning.Histories.{Content, Entry, Dead, Live}
+use Rattle.adya_values.specs.Meaning.Histories.{Live}
 
 pub last_part : {A : Type 0} (b x : List A) → part (length b) (length x) (b ++ x) ≡ x
 last_part b x = ap (take (length x)) (drop-append_seam b x) ∙ take-length x
@@ -53,6 +53,11 @@ is_part_stays bs more at n e =
 pub content_kept : (bs v : Bytes) (at n : ℕ) → IsKept bs v at n → is_value v ≡ true → (is_content bs at n ≡ true) × (content_in bs at n ≡ Live v)
 content_kept bs v at zero k fine = absurd (false≢true (ap is_value k.value ∙ fine))
 content_kept bs v at (suc n) k fine = (k.there, ap Live k.value)
+
+-- the content of a version that isn't dead
+pub live_content : (bs : Bytes) (at n : ℕ) → (n == 0) ≡ false → content_in bs at n ≡ Live (part at n bs)
+live_content bs at zero e = absurd (false≢true (sym e))
+live_content bs at (suc n) e = refl
 
 -- the key that was found under a number
 pub record IsKeyAt (ks : List Key) (n : ℕ) (k : Key) : Type 0 where

@@ -1,5 +1,5 @@
 -- What rows stand for stays when something is added behind what they name.
-use Rattle.std.proofs.Common.{◌≡◌, ◌∙◌, ℕ, zero, suc, ◌+◌, ◌≤◌, Bool, true, false, ◌&&◌, if◌then◌else◌, List, [], ◌∷◌, ◌++◌, map, length, Option, Some, None, slice_get, sym, ap, refl, subst, arith}
+use Rattle.std.proofs.Common.{◌≡◌, ◌∙◌, ℕ, zero, suc, ◌+◌, ◌≤◌, Bool, true, false, if◌then◌else◌, List, [], ◌∷◌, ◌++◌, map, length, Option, Some, None, get_or, slice_get, sym, ap, refl, subst, arith}
 use Rattle.std.specs.List.{list_all}
 use Rattle.std.specs.Prelude.{nat_lt}
 use Rattle.std.specs.Prelude.{OnErr}
@@ -8,13 +8,13 @@ use Rattle.std.proofs.Math.Bool.{false≢true}
 use Rattle.std.proofs.lemmas.List.{length-append, length-map, map-append}
 use Rattle.std.proofs.lemmas.Bool.{and_from, and_parts, le-leb, leb-true}
 use Rattle.adya_values.specs.Meaning.Keys.{Bytes, Key}
-use Rattle.adya_values.specs.Meaning.Histories.{Event, Entry, Delete, Read, Scan, Write}
+use Rattle.adya_values.specs.Meaning.Histories.{Entry, Delete, Read, Scan, Write}
 use Rattle.adya_values.specs.declared.arena.Row.{Row}
 use Rattle.adya_values.specs.declared.arena.Row.TheVariants as In
 use Rattle.adya_values.specs.declared.arena.Listing.{Listing}
 use Rattle.adya_values.specs.declared.arena.Arena.{Arena}
 use Rattle.adya_values.specs.Mirror.Events.{event_of_row}
-use Rattle.adya_values.specs.Machinery.Seen.{content_in, entry_in, is_content, is_part, is_seen, key_at, part}
+use Rattle.adya_values.specs.Machinery.Seen.{is_part, key_at, part}
 use Rattle.adya_values.specs.Machinery.Packed.{entry_of_seen, Extends, event_in, is_listing, is_row, is_row_of, scan_in}
 use Rattle.adya_values.proofs.PackedParts.{front_same, front_trans, is_part_stays, key_stays, part_stays, same_entries_in}
 
@@ -136,6 +136,12 @@ module _ (a b : Arena) (x : Extends a b) (rs : List Row) (e : list_all (is_row_o
       ap (λ es. es ++ map (entry_of_seen b) x.seen.0)
       (same_entries_in a.keys.keys b.keys.keys a.bytes.items b.bytes.items x.keys x.bytes a.seen.items a.there))) rs
       (subst (λ n. list_all (is_row (length a.keys.keys) a.bytes.items a.listings.items n) rs ≡ true) (sym (length-map a.seen.items (entry_of_seen a))) e)
+
+-- a listing that a row names
+pub found_listing : (k n : ℕ) (ls : List Listing) (i : ℕ) (l : Listing) → l ≡ get_or ls i l → is_listing k n (slice_get ls i) ≡ true → slice_get ls i ≡ Some l
+found_listing k n [] i l e there = absurd (false≢true there)
+found_listing k n (x ∷ xs) zero l e there = ap Some (sym e)
+found_listing k n (x ∷ xs) (suc i) l e there = found_listing k n xs i l e there
 
 -- one more row, if there was room for it
 pub all_with : {A : Type 0} (f : A → Bool) (xs : List A) (x : A) (more : Bool) → list_all f xs ≡ true → f x ≡ true

@@ -1,24 +1,24 @@
 //! What events hold, packed: each key once, the bytes of all values one after the other, and what scans list.
 
-ghost use Rattle.std.specs.Prelude.{◌≡◌, ◌≤◌, ◌<◌, ◌+◌, ◌++◌, ◌∷◌, [], ℕ, List, true, map, Some, slice_get, length, vec_len, vec_capacity, IsOk, IfOk, OnOk, OnErr, option_map, is_some};
-ghost use Rattle.adya_values.specs.Meaning.Keys.{is_value};
+ghost use Rattle.std.specs.Prelude.{◌≡◌, ◌≤◌, ◌<◌, ◌+◌, ◌++◌, ◌∷◌, [], ℕ, List, true, map, Some, slice_get, length, vec_len, vec_capacity, IsOk, IfOk, OnOk, OnErr, option_map, is_some, IfSome};
+ghost use Rattle.adya_values.specs.Meaning.Keys.{is_value, key_eq};
 ghost use Rattle.adya_values.specs.Meaning.Histories.{Live, Scan};
-ghost use Rattle.adya_values.specs.Meaning.Events.{shown, txn_of, written};
-ghost use Rattle.adya_values.specs.Computing.Faults.{content_eq, is_entry};
+ghost use Rattle.adya_values.specs.Meaning.Events.{observed, shown, txn_of, written};
+ghost use Rattle.adya_values.specs.Computing.Faults.{content_eq, is_entry, version_eq};
 ghost use Rattle.adya_values.specs.Machinery.Seen.{content_in, is_content, is_part, is_seen, key_at, part, IsFront};
 ghost use Rattle.std.specs.List.{list_all};
-ghost use Rattle.indexmap.specs.IndexSet.{spare};
+ghost use Rattle.std.proofs.Props.{props};
+ghost use Rattle.indexmap.specs.IndexSet.{spare, IsUnique};
 
-use crate::listed::Seen;
 use crate::{
-    Content, Entry, Event, EventView, Key, Listed, MAX_VALUE_LEN, Mod, PackedEntries, Txn, Value,
-    Version,
+    Content, Entry, Event, EventView, Key, Listed, MAX_VALUE_LEN, Mod, NumberedVersion, Observed,
+    PackedEntries, Seen, Txn, Value, Version,
 };
 use indexmap::IndexSet;
 use std::alloc::{AllocError, Global};
 
 /// So many keys have numbers.
-const MOST_KEYS: usize = 4_294_967_296;
+const MOST_KEYS: usize = 4_294_967_295;
 
 /// An event of a list. Of its key it has the number, and of its value the place where the bytes begin and how many there are.
 /// The fields stand in such an order that they leave no gap: a row takes 24 bytes.
@@ -74,10 +74,13 @@ pub(crate) struct Arena {
     pub(crate) listings: Vec<Listing>,
     pub(crate) seen: Vec<Seen>,
     pub ghost there: { list_all (is_seen (length keys.keys) bytes.items) seen.items ≡ true },
+    pub ghost few: { length keys.keys < 4294967296 },
+    pub ghost unique: { IsUnique key_eq keys } by { Prim.hlevel props },
 }
 
 impl Arena {
     ghost use Rattle.adya_values.specs.Mirror.Events.{content_of, entries_of, entry_of, event_of, event_of_row, view_of, value_of};
+    ghost use Rattle.adya_values.specs.Mirror.Numbers.{bounds, both_at, number_in, seen_in, version_in};
     ghost use Rattle.adya_values.specs.Machinery.Packed.{entry_of_seen, is_row_of, is_listing, is_seen_of, scan_in, entry_count, CanSee, Extends, HasRoomIn};
 
     /// Makes an empty arena. It takes no memory.
@@ -191,8 +194,10 @@ impl Arena {
         ensures { result ≡ option_map (λ w. w.version) (written (event_of_row self.now row)) }
     {
         match row {
-            Row::Write { txn, m, key, .. } => Some(self.version_of(key, txn, m)),
-            Row::Delete { txn, m, key } => Some(self.version_of(key, txn, m)),
+            Row::Write { txn, m, key, .. } => {
+                Some(self.version_of(NumberedVersion { key, txn, m }))
+            }
+            Row::Delete { txn, m, key } => Some(self.version_of(NumberedVersion { key, txn, m })),
             Row::Read { .. } => None,
             Row::Scan { .. } => None,
             Row::Commit { .. } => None,
@@ -216,11 +221,79 @@ impl Arena {
         }
     }
 
-    /// Returns whether the event of the row writes the version with its content.
+    /// Returns the version that the event of the row writes, by the number of its key.
     #[inline(always)]
-    pub(crate) fn wrote(&self, row: Row, entry: &Entry) -> bool
+    pub(crate) fn numbered(&self, row: Row) -> Option<NumberedVersion>
         requires { is_row_of self.now row ≡ true }
-        ensures { result ≡ is_entry (written (event_of_row self.now row)) (entry_of entry.now) }
+        ensures version { option_map (version_in self.now.keys.keys) result ≡ option_map (λ w. w.version) (written (event_of_row self.now row)) }
+        ensures there { IfSome result (λ v. v.key < length self.now.keys.keys) }
+    {
+        match row {
+            Row::Write { txn, m, key, .. } => Some(NumberedVersion { key, txn, m }),
+            Row::Delete { txn, m, key } => Some(NumberedVersion { key, txn, m }),
+            Row::Read { .. } => None,
+            Row::Scan { .. } => None,
+            Row::Commit { .. } => None,
+            Row::Abort { .. } => None,
+        }
+    }
+
+    /// Returns what the event of the row sees.
+    #[inline(always)]
+    pub(crate) fn observed(&self, row: Row) -> Observed<'_>
+        requires { is_row_of self.now row ≡ true }
+        ensures entries { map (entry_of_seen self.now) (seen_in result) ≡ observed (event_of_row self.now row) }
+        ensures there { list_all (is_seen_of self.now) (seen_in result) ≡ true }
+    {
+        match row {
+            Row::Read {
+                len,
+                m,
+                writer,
+                key,
+                at,
+                ..
+            } => Observed::One([Seen {
+                len,
+                m,
+                txn: writer,
+                key,
+                at,
+            }]),
+            Row::Scan { listing, .. } => Observed::Many(self.listed(self.listings[listing])),
+            Row::Write { .. } => Observed::Many(&[]),
+            Row::Delete { .. } => Observed::Many(&[]),
+            Row::Commit { .. } => Observed::Many(&[]),
+            Row::Abort { .. } => Observed::Many(&[]),
+        }
+    }
+
+    /// Returns the numbers of the bounds of the scan, if the row is that of one.
+    #[inline(always)]
+    pub(crate) fn bounds(&self, row: Row) -> Option<(u32, u32)>
+        requires { is_row_of self.now row ≡ true }
+        ensures keys { option_map (both_at self.now.keys.keys) result ≡ bounds (event_of_row self.now row) }
+        ensures there { IfSome result (λ b. (b.0 < length self.now.keys.keys) × (b.1 < length self.now.keys.keys)) }
+    {
+        match row {
+            Row::Scan { listing, .. } => {
+                let Listing { low, high, .. } = self.listings[listing];
+                Some((low, high))
+            }
+            Row::Write { .. } => None,
+            Row::Delete { .. } => None,
+            Row::Read { .. } => None,
+            Row::Commit { .. } => None,
+            Row::Abort { .. } => None,
+        }
+    }
+
+    /// Returns whether the event of the row writes the version that is seen with its content.
+    #[inline(always)]
+    pub(crate) fn wrote(&self, row: Row, seen: &Seen) -> bool
+        requires row { is_row_of self.now row ≡ true }
+        requires seen { is_seen_of self.now seen.now ≡ true }
+        ensures { result ≡ is_entry (written (event_of_row self.now row)) (entry_of_seen self.now seen.now) }
     {
         match row {
             Row::Write {
@@ -230,12 +303,11 @@ impl Arena {
                 at,
                 len,
             } => {
-                self.version_of(key, txn, m) == entry.version
-                    && self.is_content(at, len, &entry.content)
+                self.is_version(NumberedVersion { key, txn, m }, seen)
+                    && self.is_content(at, len, seen)
             }
             Row::Delete { txn, m, key } => {
-                self.version_of(key, txn, m) == entry.version
-                    && matches!(entry.content, Content::Dead)
+                self.is_version(NumberedVersion { key, txn, m }, seen) && seen.is_dead()
             }
             Row::Read { .. } => false,
             Row::Scan { .. } => false,
@@ -245,30 +317,70 @@ impl Arena {
     }
 
     #[inline(always)]
-    fn version_of(&self, key: u32, txn: Txn, m: Mod) -> Version
-        requires { key < length self.now.keys.keys }
-        ensures { result ≡ record { key = key_at self.now.keys.keys key; txn = txn; m = m } }
+    fn is_version(&self, version: NumberedVersion, seen: &Seen) -> bool
+        requires version { version.key < length self.now.keys.keys }
+        requires seen { is_seen_of self.now seen.now ≡ true }
+        ensures { result ≡ version_eq (version_in self.now.keys.keys version) (entry_of_seen self.now seen.now).version }
+    {
+        version == seen.version()
+    }
+
+    #[inline(always)]
+    fn is_content(&self, at: usize, len: u8, seen: &Seen) -> bool
+        requires value { is_part self.now.bytes.items at len ≡ true }
+        requires seen { is_content self.now.bytes.items seen.now.at seen.now.len ≡ true }
+        ensures { result ≡ content_eq (Live (part at len self.now.bytes.items)) (content_in self.now.bytes.items seen.now.at seen.now.len) }
+    {
+        if seen.is_dead() {
+            return false;
+        }
+        &self.bytes[at..at + len as usize] == &self.bytes[seen.at..seen.at + seen.len as usize]
+    }
+
+    /// Returns the entry that is seen.
+    #[inline(always)]
+    pub(crate) fn entry(&self, seen: &Seen) -> Entry
+        requires { is_seen_of self.now seen.now ≡ true }
+        ensures { entry_of result ≡ entry_of_seen self.now seen.now }
+    {
+        seen.entry(self.keys.as_slice(), &self.bytes)
+    }
+
+    /// Returns how many keys there are.
+    #[inline(always)]
+    pub(crate) fn key_count(&self) -> usize
+        ensures { result ≡ length self.now.keys.keys }
+    {
+        self.keys.len()
+    }
+
+    /// Returns the number of the key.
+    #[inline(always)]
+    pub(crate) fn number_of(&self, key: Key) -> Option<u32>
+        ensures { result ≡ number_in self.now.keys.keys key }
+    {
+        match self.keys.get_index_of(&key) {
+            Some(number) => Some(number as u32),
+            None => None,
+        }
+    }
+
+    /// Returns the version.
+    #[inline(always)]
+    pub(crate) fn version_of(&self, version: NumberedVersion) -> Version
+        requires { version.key < length self.now.keys.keys }
+        ensures { result ≡ version_in self.now.keys.keys version }
     {
         Version {
-            key: self.key(key),
-            txn,
-            m,
+            key: self.key(version.key),
+            txn: version.txn,
+            m: version.m,
         }
     }
 
+    /// Returns the key with the number.
     #[inline(always)]
-    fn is_content(&self, at: usize, len: u8, content: &Content) -> bool
-        requires { is_part self.now.bytes.items at len ≡ true }
-        ensures { result ≡ content_eq (Live (part at len self.now.bytes.items)) (content_of content.now) }
-    {
-        match content {
-            Content::Live(value) => &self.bytes[at..at + len as usize] == value.bytes(),
-            Content::Dead => false,
-        }
-    }
-
-    #[inline(always)]
-    fn key(&self, number: u32) -> Key
+    pub(crate) fn key(&self, number: u32) -> Key
         requires { number < length self.now.keys.keys }
         ensures { result ≡ key_at self.now.keys.keys number }
     {
@@ -288,26 +400,30 @@ impl Arena {
         requires { is_listing (length self.now.keys.keys) (length self.now.seen.items) (Some listing) ≡ true }
         ensures { view_of result ≡ scan_in self.now.keys.keys (map (entry_of_seen self.now) self.now.seen.items) txn (Some listing) }
     {
-        let Listing {
-            low,
-            high,
-            from,
-            count,
-        } = listing;
         EventView::Scan {
             txn,
-            low: self.key(low),
-            high: self.key(high),
+            low: self.key(listing.low),
+            high: self.key(listing.high),
             entries: Listed::Packed(PackedEntries {
                 keys: self.keys.as_slice(),
                 bytes: &self.bytes,
-                seen: &self.seen[from..from + count],
+                seen: self.listed(listing),
             }),
         }
     }
 
-    /// Keeps what the event holds, and returns its row. If memory is refused, or if there would be more than 4,294,967,295
-    /// keys, what was there is still where it was.
+    /// Returns what the listing lists.
+    #[inline(always)]
+    fn listed(&self, listing: Listing) -> &[Seen]
+        requires { is_listing (length self.now.keys.keys) (length self.now.seen.items) (Some listing) ≡ true }
+        ensures seen { result.now ≡ part listing.from listing.count self.now.seen.items }
+        ensures there { list_all (is_seen_of self.now) result.now ≡ true }
+    {
+        &self.seen[listing.from..listing.from + listing.count]
+    }
+
+    /// Keeps what the event holds, and returns its row. If memory is refused, or if there are 4,294,967,295 keys, what was
+    /// there is still where it was.
     pub(crate) fn keep(&mut self, event: &EventView<'_>) -> Result<Row, AllocError>
         ensures extends { Extends self.old self.new }
         ensures row { IfOk result (λ r. is_row_of self.new r ≡ true) }
@@ -494,17 +610,21 @@ impl Arena {
 
 /// Returns the number of the key among the keys, to which it is added if it isn't there.
 fn number_in(keys: &mut IndexSet<Key>, key: Key) -> Result<u32, AllocError>
+    requires few { length keys.old.keys < 4294967296 }
+    requires unique { IsUnique key_eq keys.old }
     ensures number { IfOk result (λ n. slice_get keys.new.keys n ≡ Some key) }
     ensures front { IsFront keys.old.keys keys.new.keys }
+    ensures few { length keys.new.keys < 4294967296 }
+    ensures unique { IsUnique key_eq keys.new }
     ensures succeeds { 1 ≤ spare keys.old → length keys.old.keys + 1 < 4294967296 → IsOk result }
     ensures spare { spare keys.old ≤ spare keys.new + 1 }
     ensures count { length keys.new.keys ≤ length keys.old.keys + 1 }
 {
-    let (index, _) = keys.insert_full(key)?;
-    let Ok(number) = u32::try_from(index) else {
+    if keys.len() >= MOST_KEYS {
         return Err(AllocError);
-    };
-    Ok(number)
+    }
+    let (index, _) = keys.insert_full(key)?;
+    Ok(index as u32)
 }
 
 /// Adds the text to the bytes, and returns its place.

@@ -26,6 +26,17 @@ impl fmt::Display for Version {
     }
 }
 
+/// A version by the number that its key has in a list of events.
+#[derive(Clone, Copy, Debug, PartialEq, Eq, Hash)]
+pub struct NumberedVersion {
+    /// The number of the key.
+    pub key: u32,
+    /// The transaction that wrote it.
+    pub txn: Txn,
+    /// The number of the write among its transaction's writes and deletes of the key, counted from 1.
+    pub m: Mod,
+}
+
 /// What a version holds.
 #[derive(Clone, Copy)]
 pub enum Content {

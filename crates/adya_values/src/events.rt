@@ -5,7 +5,7 @@ ghost use Rattle.std.specs.List.{list_all};
 ghost use Rattle.adya_values.specs.Machinery.Packed.{entry_count, is_row_of};
 
 use crate::arena::{Arena, Row};
-use crate::{Entry, Event, EventView, Txn, Version};
+use crate::{Entry, Event, EventView, Key, NumberedVersion, Observed, Seen, Txn, Version};
 use std::alloc::{AllocError, Global};
 
 /// Events in the order in which they happened, packed: a row of a fixed size for each, and beside the rows each key once, the bytes
@@ -19,10 +19,11 @@ pub struct Events {
 
 impl Events {
     ghost use Rattle.std.specs.Prelude.{map, length, slice_get, option_map};
-    ghost use Rattle.std.specs.Prelude.{is_some, option_and_then};
-    ghost use Rattle.adya_values.specs.Meaning.Events.{commit_of, shown, txn_of, written};
+    ghost use Rattle.std.specs.Prelude.{is_some, option_and_then, IfSome};
+    ghost use Rattle.adya_values.specs.Meaning.Events.{commit_of, observed, shown, txn_of, written};
     ghost use Rattle.adya_values.specs.Computing.Faults.{is_entry};
     ghost use Rattle.adya_values.specs.Meaning.Histories.{Abort, Commit};
+    ghost use Rattle.adya_values.specs.Mirror.Numbers.{bounds, both_at, has_seen, keys_of, number_in, seen_entry, seen_in, version_in, AreNumbered};
     ghost use Rattle.adya_values.specs.Mirror.Events.{entry_of, event_of, event_of_row, view_of, events_of, HasRows, HasRoomFor};
 
     /// Makes a list of no events. It takes no memory.
@@ -168,15 +169,98 @@ impl Events {
         }
     }
 
-    /// Returns whether the event at the index, counted from 0, writes this version with this content.
+    /// Returns that version by the number of its key.
     #[inline(always)]
-    pub fn wrote(&self, i: usize, entry: &Entry) -> bool
-        ensures { result ≡ is_entry (option_and_then written (slice_get (events_of self.now) i)) (entry_of entry.now) }
+    pub fn numbered_at(&self, i: usize) -> Option<NumberedVersion>
+        ensures version { option_map (version_in (keys_of self.now)) result
+            ≡ option_map (λ w. w.version) (option_and_then written (slice_get (events_of self.now) i)) }
+        ensures there { IfSome result (λ v. v.key < length (keys_of self.now)) }
     {
         match self.rows.get(i) {
-            Some(row) => self.arena.wrote(*row, entry),
+            Some(row) => self.arena.numbered(*row),
+            None => None,
+        }
+    }
+
+    /// Returns what the event at the index, counted from 0, sees: what it reads, or all that a scan lists. The index is below
+    /// the length.
+    #[inline(always)]
+    pub fn observed(&self, i: usize) -> Observed<'_>
+        requires { i < length (events_of self.now) }
+        ensures entries { option_map observed (slice_get (events_of self.now) i) ≡ Some (map (seen_entry self.now) (seen_in result)) }
+        ensures there { list_all (has_seen self.now) (seen_in result) ≡ true }
+    {
+        self.arena.observed(self.rows[i])
+    }
+
+    /// Returns the numbers of the bounds of the scan at the index, counted from 0; `None` if the event isn't a scan or there is
+    /// no such event.
+    #[inline(always)]
+    pub fn bounds_at(&self, i: usize) -> Option<(u32, u32)>
+        ensures keys { option_map (both_at (keys_of self.now)) result ≡ option_and_then bounds (slice_get (events_of self.now) i) }
+        ensures there { IfSome result (λ b. (b.0 < length (keys_of self.now)) × (b.1 < length (keys_of self.now))) }
+    {
+        match self.rows.get(i) {
+            Some(row) => self.arena.bounds(*row),
+            None => None,
+        }
+    }
+
+    /// Returns whether the event at the index, counted from 0, writes the version that an event of the list sees, with its content.
+    #[inline(always)]
+    pub fn wrote(&self, i: usize, seen: &Seen) -> bool
+        requires { has_seen self.now seen.now ≡ true }
+        ensures { result ≡ is_entry (option_and_then written (slice_get (events_of self.now) i)) (seen_entry self.now seen.now) }
+    {
+        match self.rows.get(i) {
+            Some(row) => self.arena.wrote(*row, seen),
             None => false,
         }
+    }
+
+    /// Returns the entry that an event of the list sees.
+    #[inline(always)]
+    pub fn entry(&self, seen: &Seen) -> Entry
+        requires { has_seen self.now seen.now ≡ true }
+        ensures { entry_of result ≡ seen_entry self.now seen.now }
+    {
+        self.arena.entry(seen)
+    }
+
+    /// Returns the version whose key the number says.
+    #[inline(always)]
+    pub fn version(&self, version: NumberedVersion) -> Version
+        requires { version.key < length (keys_of self.now) }
+        ensures { result ≡ version_in (keys_of self.now) version }
+    {
+        self.arena.version_of(version)
+    }
+
+    /// Returns how many keys have numbers: those that the events name, each of them once. The numbers go from 0 on.
+    #[inline(always)]
+    pub fn key_count(&self) -> usize
+        ensures count { result ≡ length (keys_of self.now) }
+        ensures near { result < 2 ^ 32 }
+        ensures numbered { AreNumbered (keys_of self.now) }
+    {
+        self.arena.key_count()
+    }
+
+    /// Returns the key with the number.
+    #[inline(always)]
+    pub fn key(&self, number: u32) -> Key
+        requires { number < length (keys_of self.now) }
+        ensures { slice_get (keys_of self.now) number ≡ Some result }
+    {
+        self.arena.key(number)
+    }
+
+    /// Returns the number of the key; `None` if it has none, and then no event names it.
+    #[inline(always)]
+    pub fn number_of(&self, key: Key) -> Option<u32>
+        ensures { result ≡ number_in (keys_of self.now) key }
+    {
+        self.arena.number_of(key)
     }
 
     /// Returns the transaction that the event at the index commits, if it is a commit. The index, counted from 0, is below the

@@ -2,20 +2,9 @@
 
 ghost use Rattle.std.specs.Prelude.{◌≡◌, ◌<◌, true, Some, length, option_map, slice_get};
 ghost use Rattle.std.specs.List.{list_all};
-ghost use Rattle.adya_values.specs.Machinery.Seen.{content_in, entry_in, is_content, is_seen};
+ghost use Rattle.adya_values.specs.Machinery.Seen.{entry_in, is_seen};
 
-use crate::{Content, Entry, Key, Mod, Txn, Value, Version};
-
-/// An entry that an event sees, packed. Of its key it has the number, and of its value the place where the bytes begin and how
-/// many there are; a dead version has none.
-#[derive(Clone, Copy)]
-pub(crate) struct Seen {
-    pub(crate) len: u8,
-    pub(crate) m: Mod,
-    pub(crate) txn: Txn,
-    pub(crate) key: u32,
-    pub(crate) at: usize,
-}
+use crate::{Entry, Key, Seen};
 
 /// Entries that a list of events holds: they name the keys by their numbers, and places in the bytes of all values.
 #[derive(Clone, Copy)]
@@ -27,7 +16,7 @@ pub struct PackedEntries<'a> {
 }
 
 impl PackedEntries<'_> {
-    ghost use Rattle.adya_values.specs.Mirror.Events.{content_of, entry_of};
+    ghost use Rattle.adya_values.specs.Mirror.Events.{entry_of};
 
     /// Returns the entry at the index, counted from 0.
     fn at(&self, i: usize) -> Entry
@@ -35,24 +24,7 @@ impl PackedEntries<'_> {
         ensures { option_map (entry_in self.now.keys.now self.now.bytes.now) (slice_get self.now.seen.now i) ≡ Some (entry_of result) }
     {
         let seen = self.seen[i];
-        Entry {
-            version: Version {
-                key: self.keys[seen.key as usize],
-                txn: seen.txn,
-                m: seen.m,
-            },
-            content: self.content(seen.at, seen.len),
-        }
-    }
-
-    fn content(&self, at: usize, len: u8) -> Content
-        requires { is_content self.now.bytes.now at len ≡ true }
-        ensures { content_of result ≡ content_in self.now.bytes.now at len }
-    {
-        if len == 0 {
-            return Content::Dead;
-        }
-        Content::Live(Value::from_valid(&self.bytes[at..at + len as usize]))
+        seen.entry(self.keys, self.bytes)
     }
 }
 

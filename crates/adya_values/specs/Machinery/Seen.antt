@@ -3,7 +3,7 @@ use Rattle.std.specs.Prelude.{◌≡◌, ℕ, zero, suc, ◌+◌, Bool, true, �
 use Rattle.std.proofs.Common.{get_or}
 use Rattle.adya_values.specs.Meaning.Keys.{Bytes, Key, is_value}
 use Rattle.adya_values.specs.Meaning.Histories.{Content, Entry, Live, Dead}
-use Rattle.adya_values.specs.declared.listed.Seen.{Seen}
+use Rattle.adya_values.specs.declared.seen.Seen.{Seen}
 
 -- so many elements from this place on
 abbrev pub part : {A : Type 0} → ℕ → ℕ → List A → List A

@@ -7,4 +7,6 @@ invariant_of-self c =
     let a = c.args.self.now in
     record {
       there = all_stay_in a.keys.keys a.keys.keys a.bytes.items c.add_to.new.bytes.items (front_same _ _ refl) c.add_to.ensures.front a.seen.items a.there;
+      few = a.few;
+      unique = a.unique;
     }

@@ -1,4 +1,4 @@
-use Rattle.std.proofs.Common.{◌≡◌, ◌∙◌, ◌++◌, ◌∷◌, [], ap, arith, map, refl, vec_capacity, vec_len}
+use Rattle.std.proofs.Common.{◌∙◌, ◌++◌, ◌∷◌, [], ap, arith, map, refl, vec_capacity, vec_len}
 use Rattle.std.proofs.lemmas.List.{map-append}
 use Rattle.adya_values.specs.Machinery.Packed.{entry_of_seen}
 use Rattle.adya_values.proofs.PackedParts.{same_entries_in}

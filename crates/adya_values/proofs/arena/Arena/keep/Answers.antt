@@ -3,7 +3,7 @@ use Rattle.std.proofs.lemmas.Bool.{and_from}
 use Rattle.adya_values.specs.Meaning.Keys.{is_value}
 use Rattle.adya_values.specs.Meaning.Histories.{Delete, Read, Write}
 use Rattle.adya_values.specs.Mirror.Events.{value_of, view_of}
-use Rattle.adya_values.specs.Machinery.Seen.{key_at, part}
+use Rattle.adya_values.specs.Machinery.Seen.{part}
 use Rattle.adya_values.proofs.PackedParts.{IsKept, IsKeyAt, found_key, kept}
 use Rattle.adya_values.proofs.arena.Arena.keep.Goals as goal
 

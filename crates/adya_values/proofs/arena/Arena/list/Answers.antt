@@ -1,7 +1,7 @@
-use Rattle.std.proofs.Common.{◌≡◌, ◌∙◌, ◌+◌, ◌*◌, ◌++◌, ◌≤◌, [], ◌∷◌, ℕ, length, map, ap, sym, subst, arith, Some, slice_get, true, Vec, Global, vec_len, vec_capacity}
+use Rattle.std.proofs.Common.{◌≡◌, ◌∙◌, ◌+◌, ◌*◌, ◌++◌, ◌≤◌, [], ◌∷◌, ℕ, length, map, ap, sym, subst, arith, Some, slice_get, Vec, Global, vec_len, vec_capacity}
 use Rattle.std.proofs.Math.Bool.{false≢true}
 use Rattle.std.specs.Result.{is_ok}
-use Rattle.adya_values.specs.declared.listed.Seen.{Seen}
+use Rattle.adya_values.specs.declared.seen.Seen.{Seen}
 use Rattle.std.proofs.lemmas.Bool.{and_from, le-leb}
 use Rattle.std.proofs.lemmas.List.{length-append, length-map}
 use Rattle.adya_values.specs.Meaning.Histories.{Scan}
