@@ -1,9 +1,9 @@
 //! What events hold, packed: each key once, the bytes of all values one after the other, and what scans list.
 
-ghost use Rattle.std.specs.Prelude.{◌≡◌, ◌≤◌, ◌<◌, ◌+◌, ◌++◌, ◌∷◌, [], ℕ, List, true, map, Some, slice_get, length, vec_len, vec_capacity, IsOk, IfOk, OnOk, OnErr, option_map, is_some, IfSome};
+ghost use Rattle.std.specs.Prelude.{◌≡◌, ◌≤◌, ◌<◌, ◌+◌, ◌++◌, ◌∷◌, [], ℕ, List, true, map, Some, slice_get, slice_index_or, length, vec_len, vec_capacity, IsOk, IfOk, OnOk, OnErr, option_map, is_some, false, IfSome, MatchOption};
 ghost use Rattle.adya_values.specs.Meaning.Keys.{is_value, key_eq};
-ghost use Rattle.adya_values.specs.Meaning.Histories.{Live, Scan};
-ghost use Rattle.adya_values.specs.Meaning.Events.{observed, shown, txn_of, written};
+ghost use Rattle.adya_values.specs.Meaning.Histories.{Abort, Live, Scan};
+ghost use Rattle.adya_values.specs.Meaning.Events.{aborts, observed, shown, txn_of, written};
 ghost use Rattle.adya_values.specs.Computing.Faults.{content_eq, is_entry, version_eq};
 ghost use Rattle.adya_values.specs.Machinery.Seen.{content_in, is_content, is_part, is_seen, key_at, part, IsFront};
 ghost use Rattle.std.specs.List.{list_all};
@@ -184,6 +184,22 @@ impl Arena {
             Row::Scan { txn, .. } => txn,
             Row::Commit { txn } => txn,
             Row::Abort { txn } => txn,
+        }
+    }
+
+    /// Returns the transaction that the event of the row aborts, if it is an abort.
+    #[inline(always)]
+    pub(crate) fn abort(&self, row: Row) -> Option<Txn>
+        requires { is_row_of self.now row ≡ true }
+        ensures { MatchOption result ((t : ℕ) → aborts t (event_of_row self.now row) ≡ false) (λ t. event_of_row self.now row ≡ Abort t) }
+    {
+        match row {
+            Row::Abort { txn } => Some(txn),
+            Row::Write { .. } => None,
+            Row::Delete { .. } => None,
+            Row::Read { .. } => None,
+            Row::Scan { .. } => None,
+            Row::Commit { .. } => None,
         }
     }
 
@@ -385,6 +401,17 @@ impl Arena {
         ensures { result ≡ key_at self.now.keys.keys number }
     {
         self.keys.as_slice()[number as usize]
+    }
+
+    /// Returns the key with the number; the other key if no key has the number.
+    #[inline(always)]
+    pub(crate) fn key_or(&self, number: u32, other: Key) -> Key
+        ensures { result ≡ slice_index_or self.now.keys.keys number other }
+    {
+        match self.keys.get_index(number as usize) {
+            Some(key) => *key,
+            None => other,
+        }
     }
 
     #[inline(always)]

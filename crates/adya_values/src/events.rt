@@ -19,11 +19,12 @@ pub struct Events {
 
 impl Events {
     ghost use Rattle.std.specs.Prelude.{map, length, slice_get, option_map};
-    ghost use Rattle.std.specs.Prelude.{is_some, option_and_then, IfSome};
-    ghost use Rattle.adya_values.specs.Meaning.Events.{commit_of, observed, shown, txn_of, written};
+    ghost use Rattle.std.specs.Prelude.{false, is_some, option_and_then, slice_index_or, IfSome, MatchOption};
+    ghost use Rattle.adya_values.specs.Meaning.Events.{aborts, commit_of, observed, shown, txn_of, written};
     ghost use Rattle.adya_values.specs.Computing.Faults.{is_entry};
     ghost use Rattle.adya_values.specs.Meaning.Histories.{Abort, Commit};
     ghost use Rattle.adya_values.specs.Mirror.Numbers.{bounds, both_at, has_seen, keys_of, number_in, seen_entry, seen_in, version_in, AreNumbered};
+    ghost use Rattle.adya_values.specs.Machinery.Seen.{key_at};
     ghost use Rattle.adya_values.specs.Mirror.Events.{entry_of, event_of, event_of_row, view_of, events_of, HasRows, HasRoomFor};
 
     /// Makes a list of no events. It takes no memory.
@@ -250,9 +251,17 @@ impl Events {
     #[inline(always)]
     pub fn key(&self, number: u32) -> Key
         requires { number < length (keys_of self.now) }
-        ensures { slice_get (keys_of self.now) number ≡ Some result }
+        ensures { result ≡ key_at (keys_of self.now) number }
     {
         self.arena.key(number)
+    }
+
+    /// Returns the key with the number; the other key if no key has the number.
+    #[inline(always)]
+    pub fn key_or(&self, number: u32, other: Key) -> Key
+        ensures { result ≡ slice_index_or (keys_of self.now) number other }
+    {
+        self.arena.key_or(number, other)
     }
 
     /// Returns the number of the key; `None` if it has none, and then no event names it.
@@ -274,5 +283,16 @@ impl Events {
             Row::Commit { txn } => Some(txn),
             _ => None,
         }
+    }
+
+    /// Returns the transaction that the event at the index aborts, if it is an abort. The index, counted from 0, is below the
+    /// length.
+    #[inline(always)]
+    pub fn abort_at(&self, i: usize) -> Option<Txn>
+        requires { i < length (events_of self.now) }
+        ensures { MatchOption result ((t : ℕ) → option_map (aborts t) (slice_get (events_of self.now) i) ≡ Some false)
+            (λ t. slice_get (events_of self.now) i ≡ Some (Abort t)) }
+    {
+        self.arena.abort(self.rows[i])
     }
 }
