@@ -6,7 +6,7 @@ use Rattle.std.proofs.lemmas.Simd.{map-map}
 use Rattle.std.proofs.lemmas.Option.{none-some, same_Some, slice_get-map}
 use Rattle.adya_values.specs.Meaning.Histories.{Entry, Event, Order}
 use Rattle.adya_values.specs.Meaning.Events.{last_write}
-use Rattle.adya_terms.specs.declared.tables.Own.{Own}
+use Rattle.adya_terms.specs.Machinery.Tables.{Own}
 use Rattle.adya_terms.specs.declared.checked.Checked.{Checked}
 use Rattle.adya_terms.specs.Clauses.Checked.{checked_history, installed_at}
 use Rattle.adya_terms.specs.Machinery.Tables.{own, written_at}

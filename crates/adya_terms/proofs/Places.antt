@@ -6,7 +6,7 @@ use Rattle.std.proofs.lemmas.Option.{get_or_from_slice_get, none-some, same_Some
 use Rattle.std.proofs.lemmas.List.{get_or-take, length-take, take_all, take-append-drop}
 use Rattle.std.proofs.lemmas.List.Elements.{Contains-append_left, Contains-push, Contains-push_cases}
 use Rattle.adya_values.specs.declared.event.Version.{Version}
-use Rattle.adya_terms.specs.declared.tables.Own.{Own}
+use Rattle.adya_terms.specs.Machinery.Tables.{Own}
 use Rattle.adya_values.specs.Meaning.Keys.{key_eq, keys_rise}
 use Rattle.adya_values.specs.Meaning.Histories.{Entry, Event, Order}
 use Rattle.adya_values.specs.Meaning.Events.{is_committed, last_write}

@@ -7,7 +7,7 @@ use Rattle.std.proofs.lemmas.List.{append_assoc}
 use Rattle.std.proofs.lemmas.List.Elements.{filter_map-append}
 use Rattle.std.proofs.lemmas.List.Folds.{list_any-append}
 use Rattle.adya_values.specs.declared.event.Version.{Version}
-use Rattle.adya_terms.specs.declared.tables.Own.{Own}
+use Rattle.adya_terms.specs.Machinery.Tables.{Own}
 use Rattle.adya_values.specs.Meaning.Histories.{Entry, Event}
 use Rattle.adya_values.specs.Meaning.Events.{written, observed, last_write}
 use Rattle.adya_values.specs.Computing.Faults.{entry_eq, is_entry, was_written, faults_at, event_faults}

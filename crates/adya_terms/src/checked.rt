@@ -8,7 +8,7 @@ ghost use Rattle.adya_values.specs.Meaning.Events.{is_committed, shown};
 ghost use Rattle.adya_values.specs.Computing.Faults.{first_fault, check_faults};
 ghost use Rattle.adya_values.specs.Clauses.Acceptance.{IsChecked};
 ghost use Rattle.adya_terms.specs.Clauses.Faults.{IsFault};
-ghost use Rattle.adya_terms.specs.Machinery.EventIndex.{indexed, last_in, unfinished_in};
+ghost use Rattle.adya_terms.specs.Machinery.EventIndex.{events_in, indexed, last_in, unfinished_in};
 ghost use Rattle.adya_terms.specs.Machinery.Places.{AreInstalled, AreWrites};
 ghost use Rattle.adya_terms.specs.Machinery.Tables.{KnowsCommitted};
 ghost use Rattle.adya_terms.specs.Machinery.Checks.{Names, whole, rule_faults};
@@ -115,7 +115,7 @@ fn check<'a>(
     requires finals_rise { keys_rise (map (λ f. f.key) (map final_of finals.now)) ≡ true }
     ensures faults { let faults = check_faults (whole (events_of events.now) unfinished.now orders.now finals.now) in
         MatchResult result (λ t. faults ≡ []) (Names faults) }
-    ensures events { IfOk result (λ t. t.0.events.now ≡ events.now) }
+    ensures events { IfOk result (λ t. events_in t.0 ≡ events.now) }
     ensures writes { IfOk result (λ t. AreWrites (last_in t.0) t.1.items (map order_of orders.now)) }
 {
     let index = match EventIndex::of(alloc, events, unfinished) {

@@ -29,14 +29,12 @@ pub(crate) fn check_unfinished(index: &EventIndex, first: usize) -> Result<(), C
     Ok(())
 }
 
-/// Returns whether the transaction of the event at the index, if there is one, has ended or is unfinished.
+/// Returns whether the transaction of the event at the index has ended or is unfinished.
 fn is_done(index: &EventIndex, at: usize) -> bool
+    requires { at < length (indexed index.now) }
     ensures { (e : EventValue) → slice_get (indexed index.now) at ≡ Some e → result ≡ is_done index.now (txn_of e) }
 {
-    let Some(event) = index.events.get(at) else {
-        return true;
-    };
-    let txn = event.txn();
+    let txn = index.events().txn_at(at);
     index.has_ended(txn) || index.is_unfinished(txn)
 }
 
@@ -44,7 +42,7 @@ fn is_done(index: &EventIndex, at: usize) -> bool
 pub(crate) fn all_end(index: &EventIndex) -> bool
     ensures { result ≡ list_all (λ e. is_done index.now (txn_of e)) (indexed index.now) }
 {
-    for i in 0..index.events.len() {
+    for i in 0..index.len() {
         if !is_done(index, i) {
             return false;
         }

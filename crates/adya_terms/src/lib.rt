@@ -8,7 +8,6 @@ mod event_index;
 mod finals;
 mod listed;
 mod newest_writes;
-mod observed;
 mod own_writes;
 mod reads;
 mod rules;
@@ -18,8 +17,8 @@ mod tables;
 pub use adya_rules::laws;
 pub use adya_values::{
     BadKey, BadNumber, BadShape, BadValue, CheckFault, Content, Edition, Entry, Event, EventView,
-    Events, FinalPair, History, Key, MAX_KEY_LEN, MAX_VALUE_LEN, Mod, Order, Rule, Serial, Txn,
-    Value, Version, is_key_byte, is_value_byte,
+    Events, FinalPair, History, Key, Listed, MAX_KEY_LEN, MAX_VALUE_LEN, Mod, NumberedVersion,
+    Observed, Order, Rule, Seen, Serial, Txn, Value, Version, is_key_byte, is_value_byte,
 };
 pub use checked::Checked;
 pub use devices::{Source, Watched};

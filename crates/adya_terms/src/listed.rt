@@ -11,7 +11,8 @@ ghost use Rattle.adya_values.specs.Meaning.Histories.{Event as EventValue, Order
 ghost use Rattle.adya_values.specs.Mirror.Events.{order_of};
 ghost use Rattle.adya_values.specs.Computing.Faults as faults;
 ghost use Rattle.adya_values.specs.Meaning.Orders.{line_of};
-ghost use Rattle.adya_terms.specs.Machinery.EventIndex.{indexed, last_in};
+ghost use Rattle.adya_values.specs.Mirror.Numbers.{number_in};
+ghost use Rattle.adya_terms.specs.Machinery.EventIndex.{indexed, keys_in, last_in};
 ghost use Rattle.adya_terms.specs.Machinery.Tables.{own};
 ghost use Rattle.adya_terms.specs.Machinery.Checks.{Names, listing_faults, parts};
 ghost use Rattle.adya_terms.specs.Machinery.Places.{line, line_writes, AfterLine, AfterLines, AreWrites, HasLeft, IsLeft, Judges, Leaves, Places};
@@ -33,19 +34,20 @@ struct Placement {
     wrong: usize,
 }
 
-/// Returns the index of the transaction's last write of the key in the list of events, if the transaction is committed
-/// and the write has no place yet.
-fn unplaced(index: &EventIndex, places: &[usize], key: Key, txn: Txn) -> Option<usize>
+/// Returns the index of the transaction's last write of the key with the number in the list of events, if the transaction is
+/// committed and the write has no place yet.
+fn unplaced(index: &EventIndex, places: &[usize], number: Option<u32>, txn: Txn) -> Option<usize>
+    requires { IfSome number (λ n. n < length (keys_in index.now)) }
     ensures within { IfSome result (λ at. at < length places.now) }
-    ensures last { IfSome result (λ at. last_in index.now (own txn key) ≡ Some at) }
-    ensures left { length places.now ≡ length (indexed index.now)
-        → let IsHere = IsLeft (indexed index.now) (last_in index.now) places.now key txn in
+    ensures last { (k : List ℕ) → number ≡ number_in (keys_in index.now) k → IfSome result (λ at. last_in index.now (own txn k) ≡ Some at) }
+    ensures left { (k : List ℕ) → number ≡ number_in (keys_in index.now) k → length places.now ≡ length (indexed index.now)
+        → let IsHere = IsLeft (indexed index.now) (last_in index.now) places.now k txn in
         MatchOption result ((at : ℕ) → IsHere at → ⊥) IsHere }
 {
     if !index.has_committed(txn) {
         return None;
     }
-    let Some(at) = index.last_place(txn, key) else {
+    let Some(at) = index.last_place(txn, number) else {
         return None;
     };
     match places.get(at) {
@@ -70,9 +72,10 @@ fn place_line(
         → AfterLine (indexed index.now) (last_in index.now) places.new os (line key writers.now) (is_some w)) }
     ensures writes { IfOk result (λ w. IfSome w (λ v. map Some v.items ≡ line_writes (last_in index.now) (line key writers.now))) }
 {
+    let number = index.events().number_of(key);
     let mut writes = Vec::with_capacity(alloc, writers.len())?;
     for (i, txn) in writers.iter().enumerate() {
-        let Some(at) = unplaced(index, places, key, *txn) else {
+        let Some(at) = unplaced(index, places, number, *txn) else {
             return Ok(None);
         };
         places[at] = i + 1;
@@ -113,7 +116,7 @@ fn placed(alloc: Global, index: &EventIndex, orders: &[Order]) -> Result<Placeme
     ensures writes { IfOk result
         (λ p. AreWrites (last_in index.now) p.writes.items (take p.wrong (map order_of orders.now))) }
 {
-    let mut places = vec![in alloc; 0; index.events.len()]?;
+    let mut places = vec![in alloc; 0; index.len()]?;
     let (writes, wrong) = place_lines(alloc, index, &mut places, orders)?;
     Ok(Placement {
         places,
@@ -136,13 +139,13 @@ fn unlisted_key(index: &EventIndex, places: &[usize], at: usize) -> Option<Key>
     if places[at] != 0 {
         return None;
     }
-    let Some(version) = index.events.version_at(at) else {
+    let Some(version) = index.events().numbered_at(at) else {
         return None;
     };
-    if unplaced(index, places, version.key, version.txn).is_none() {
+    let Some(_) = unplaced(index, places, Some(version.key), version.txn) else {
         return None;
-    }
-    Some(version.key)
+    };
+    Some(index.events().key(version.key))
 }
 
 /// Returns the keys that committed transactions have written last at an index that has no place.
@@ -155,7 +158,7 @@ fn unlisted(
     ensures { IfOk result (Leaves (indexed index.now) (last_in index.now) places.now) }
 {
     let mut keys = BTreeSet::new(alloc);
-    for i in 0..index.events.len() {
+    for i in 0..index.len() {
         if let Some(key) = unlisted_key(index, places, i) {
             keys.insert(key)?;
         }

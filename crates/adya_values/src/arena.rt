@@ -373,7 +373,8 @@ impl Arena {
     /// Returns the number of the key.
     #[inline(always)]
     pub(crate) fn number_of(&self, key: Key) -> Option<u32>
-        ensures { result ≡ number_in self.now.keys.keys key }
+        ensures number { result ≡ number_in self.now.keys.keys key }
+        ensures there { IfSome result (λ n. n < length self.now.keys.keys) }
     {
         match self.keys.get_index_of(&key) {
             Some(number) => Some(number as u32),

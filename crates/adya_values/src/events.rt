@@ -267,7 +267,8 @@ impl Events {
     /// Returns the number of the key; `None` if it has none, and then no event names it.
     #[inline(always)]
     pub fn number_of(&self, key: Key) -> Option<u32>
-        ensures { result ≡ number_in (keys_of self.now) key }
+        ensures number { result ≡ number_in (keys_of self.now) key }
+        ensures there { IfSome result (λ n. n < length (keys_of self.now)) }
     {
         self.arena.number_of(key)
     }

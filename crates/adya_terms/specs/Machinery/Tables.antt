@@ -5,11 +5,15 @@ use Rattle.txn_table.specs.declared.TxnTable.{TxnTable}
 use Rattle.txn_table.specs.Mirror.{value_for}
 use Rattle.adya_values.specs.declared.event.Version.{Version}
 use Rattle.adya_terms.specs.declared.tables.Ended.{Ended}
-use Rattle.adya_terms.specs.declared.tables.Own.{Own}
 use Rattle.adya_values.specs.Meaning.Histories.{Entry, Event}
 use Rattle.adya_values.specs.Meaning.Events.{written, writes_of, last_write, is_committed, aborts}
 use Rattle.adya_values.specs.Meaning.Keys.{key_eq}
 use Rattle.adya_values.specs.Computing.Faults.{version_eq, entry_eq}
+
+-- a transaction and a key
+pub record Own : Type 0 where
+  pub txn : ℕ
+  pub key : List ℕ
 
 abbrev pub own : ℕ → List ℕ → Own
 own t k = record { txn = t; key = k }

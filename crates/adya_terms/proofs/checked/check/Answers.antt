@@ -8,7 +8,7 @@ use Rattle.adya_terms.specs.declared.event_index.EventIndex.{EventIndex}
 use Rattle.adya_values.specs.Meaning.Histories.{History}
 use Rattle.adya_values.specs.Mirror.Events.{events_of}
 use Rattle.adya_values.specs.Computing.Faults.{was_written, malformed, unfinished_faults, unfinished_line, orders_line}
-use Rattle.adya_terms.specs.Machinery.EventIndex.{indexed, unfinished_in}
+use Rattle.adya_terms.specs.Machinery.EventIndex.{events_in, indexed, unfinished_in}
 use Rattle.adya_terms.specs.Machinery.Checks.{Names, whole, rule_faults, read_faults}
 use Rattle.adya_terms.proofs.Firsts.{names_behind}
 use Rattle.adya_terms.proofs.Replaced.{all_were_written}
@@ -17,7 +17,7 @@ use Rattle.adya_terms.proofs.checked.check.Goals as goal
 use Rattle.lemmas.proofs.Lists.{both_nil}
 
 -- the index is of the same events and unfinished transactions
-same_lists : (x : EventIndex) (es : Events) (us : List ℕ) (os : List OrderValue) (fs : List FinalValue) → x.events.now ≡ es → x.unfinished.now ≡ us
+same_lists : (x : EventIndex) (es : Events) (us : List ℕ) (os : List OrderValue) (fs : List FinalValue) → events_in x ≡ es → x.unfinished.now ≡ us
     → whole (indexed x) (unfinished_in x) os fs ≡ whole (events_of es) us os fs
 same_lists x es us os fs e u =
     ap (λ v. whole (events_of v) (unfinished_in x) os fs) e ∙ ap (λ v. whole (events_of es) v os fs) u

@@ -2,6 +2,7 @@ use Rattle.std.proofs.Common.{◌≡◌, ◌+◌, false, [], ◌∷◌, ◌++◌
 use Rattle.std.proofs.lemmas.List.{length-take-le, take_all, take_more, take-append-drop}
 use Rattle.adya_terms.specs.Machinery.Places.{line, line_writes, AfterLine}
 use Rattle.adya_terms.specs.Machinery.EventIndex.{indexed, last_in}
+use Rattle.adya_values.specs.Mirror.Numbers.{keys_of, number_in}
 use Rattle.adya_terms.specs.Machinery.Tables.{own}
 use Rattle.adya_terms.proofs.InstalledWrites.{both_more}
 use Rattle.adya_terms.proofs.Places.{IsPart, part_more, part_none, part_stops, part_whole}
@@ -22,11 +23,12 @@ returns-in_default-clause-places c os same old apart =
     let xs = c.args.writers.now in
     let i = c.loop-i.i in
     let u = c.index-writers-i.result in
+    let numbered = subst (λ e. c.number_of-number.result ≡ number_in (keys_of e) c.args.key) c.events.ensures c.number_of-number.ensures.number in
     let part = c.loop-i.invariant.places os same old apart in
     let whole : take i xs ++ u ∷ drop (i + 1) xs ≡ xs =
     ap (λ ys. take i xs ++ ys) (sym (drop_step xs i u c.loop-i-test.true c.index-writers-i.is)) ∙ take-append-drop i xs in
     subst (λ ys. AfterLine all last c.loop-i.places os (line c.args.key ys) false) whole
-    (part_stops _ _ _ _ all m c.loop-i.places os c.args.key (take i xs) apart part u (drop (i + 1) xs) (c.in_default.ensures.left (c.loop-i.auto.places ∙ same)))
+    (part_stops _ _ _ _ all m c.loop-i.places os c.args.key (take i xs) apart part u (drop (i + 1) xs) (c.in_default.ensures.left c.args.key numbered (c.loop-i.auto.places ∙ same)))
 
 pub loop-i-preserved : goal.loop-i-preserved
 loop-i-preserved c =
@@ -37,6 +39,7 @@ loop-i-preserved c =
     let xs = c.args.writers.now in
     let i = c.loop-i.i in
     let u = c.index-writers-i.result in
+    let numbered = subst (λ e. c.number_of-number.result ≡ number_in (keys_of e) c.args.key) c.events.ensures c.number_of-number.ensures.number in
     let front : take i xs ++ u ∷ [] ≡ take (i + 1) xs = ap (λ v. take i xs ++ v ∷ []) c.index-writers-i.is ∙ sym (take_more xs i u c.loop-i-test.true) in
     let less = c.loop-i-test.true in
     let long : length (take i xs) ≡ i = length-take-le i xs (omega (arith, less)) in
@@ -44,10 +47,10 @@ loop-i-preserved c =
       places = λ os same old apart.
           subst (λ ys. IsPart all last (set c.loop-i.places c.in-Some.at (i + 1)) os k ys) front
           (part_more _ _ _ _ all m c.loop-i.places os k (take i xs) apart (c.loop-i.invariant.places os same old apart) u c.in-Some.at
-          (c.in-Some.ensures.left (c.loop-i.auto.places ∙ same)) (i + 1) (omega (arith, long)) c.in-Some.ensures.within);
+          (c.in-Some.ensures.left c.args.key numbered (c.loop-i.auto.places ∙ same)) (i + 1) (omega (arith, long)) c.in-Some.ensures.within);
       writes =
           ap (map Some) c.in_ok-push.ensures.items ∙
-          (both_more Some (λ t. last (own t k)) c.loop-i.writes.items (take i xs) c.in-Some.at u c.loop-i.invariant.writes (sym c.in-Some.ensures.last) ∙
+          (both_more Some (λ t. last (own t k)) c.loop-i.writes.items (take i xs) c.in-Some.at u c.loop-i.invariant.writes (sym (c.in-Some.ensures.last c.args.key numbered)) ∙
           ap (map (λ t. last (own t k))) front);
     }
 

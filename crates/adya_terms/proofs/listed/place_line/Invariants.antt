@@ -12,6 +12,6 @@ invariant-loop-i l =
     let all = indexed l.index in
     let last = last_in l.index in record {
       places : (os : List Order) → length l.fn.places ≡ length all → Places last l.fn.places os
-          → list_any (λ o. key_eq o.key l.key) os ≡ false → IsPart all last l.places os l.key (take l.i l.writers);
-      writes : map Some l.writes.items ≡ line_writes last (line l.key (take l.i l.writers));
+          → list_any (λ o. key_eq o.key l.fn.key) os ≡ false → IsPart all last l.places os l.fn.key (take l.i l.writers);
+      writes : map Some l.writes.items ≡ line_writes last (line l.fn.key (take l.i l.writers));
     }
