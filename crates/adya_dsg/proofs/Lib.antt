@@ -6,8 +6,8 @@ pub mod ChoiceEdges
 pub mod CommittedEnds
 pub mod CommittedNodes
 pub mod DistinctEdges
-pub mod EntrySearch
 pub mod EventEdges
+pub mod EventsAt
 pub mod FirstAlong
 pub mod FlatMaps
 pub mod Keys
@@ -15,6 +15,7 @@ pub mod LineEdges
 pub mod Lines
 pub mod LineNumbers
 pub mod LinksDecide
+pub mod Listed
 pub mod Numbers
 pub mod Parts
 pub mod Ranges

@@ -1,70 +1,96 @@
--- The lines of keys in a table: one more line, and what is found of all.
-use Rattle.std.proofs.Common.{◌≡◌, ℕ, ◌+◌, ◌<◌, true, false, cond, List, length, get_or, map, slice_get, Option, Some, None, IfSome, IfNone, sym, ◌∙◌, ap, arith, inl, inr}
-use Rattle.std.proofs.lemmas.Bool.{cases_lt, cases_Bool, both_ways}
+-- The lines of keys in an array by the numbers of the keys: none yet, and one more.
+use Rattle.std.proofs.Common.{◌≡◌, ℕ, suc, ◌+◌, ◌<◌, true, cond, List, [], length, get_or, set, map, slice_get, slice_index, Some, None, sym, ◌∙◌, ap, subst, arith, inl, inr}
+use Rattle.std.specs.List.{position_or_len}
+use Rattle.std.proofs.lemmas.Bool.{cases_lt, cases_eq, lt-ltb, le-ltb}
+use Rattle.std.proofs.lemmas.Grind.{get_or-set_at}
+use Rattle.std.proofs.lemmas.List.{get_or-set_other, length-set}
+use Rattle.std.proofs.lemmas.List.Sums.{passes_at_first}
 use Rattle.std.proofs.lemmas.Option.{none-some, same_Some}
+use Rattle.lemmas.proofs.Orderings.{bytes_eq-same}
 use Rattle.adya_values.specs.declared.order.Order.{Order}
-use Rattle.adya_values.specs.Meaning.Keys.{key_eq}
+use Rattle.adya_values.specs.Meaning.Keys.{Key, key_eq}
 use Rattle.adya_values.specs.Mirror.Events.{order_of}
+use Rattle.adya_values.specs.Mirror.Numbers.{number_in, AreNumbered}
+use Rattle.adya_values.specs.Machinery.Seen.{key_at}
 use Rattle.adya_dsg.specs.Machinery.Choices.{key_of}
 use Rattle.adya_dsg.specs.Machinery.LineNumbers.{FindsLines}
 use Rattle.adya_dsg.proofs.Lines.{key_is}
-use Rattle.lemmas.proofs.Orderings.{bytes_eq-same, bytes_eq-itself}
 
-abbrev line_key : List Order → ℕ → List ℕ
+abbrev line_key : List Order → ℕ → Key
 line_key os i = key_of (slice_get (map order_of os) i)
 
-pub no_lines : (find : List ℕ → Option ℕ) (os : List Order) → ((k : List ℕ) → find k ≡ None) → FindsLines find os 0
-no_lines find os none = record {
-  found = λ k i e. absurd (none-some i (sym (none k) ∙ e));
-  missing = λ k e i l. absurd (omega (arith, l));
+-- the key has the number that it is found with
+pub number_found : (ks : List Key) (k : Key) (n : ℕ) → number_in ks k ≡ Some n → (n < length ks) × (key_at ks n ≡ k)
+number_found ks k n e =
+    let p = position_or_len (key_eq k) ks in
+    elim (cases_lt p (length ks)) [
+      | inl l ↦
+          let same : p ≡ n = same_Some p n (sym (ap (λ b. cond b (Some p) None) (lt-ltb p (length ks) l)) ∙ e) in
+          let at : key_eq k (key_at ks p) ≡ true = passes_at_first (key_eq k) ks [] l in
+          (subst (λ i. i < length ks) same l, ap (key_at ks) (sym same) ∙ sym (bytes_eq-same k (key_at ks p) at))
+      | inr m ↦ absurd (none-some n (sym (ap (λ b. cond b (Some p) None) (le-ltb p (length ks) m)) ∙ e))
+    ]
+
+pub no_lines : (ls : List ℕ) (ks : List Key) (os : List Order) → length ls ≡ length ks
+    → ((k : ℕ) → k < length ks → slice_index ls k ≡ 0) → FindsLines ls ks os 0
+no_lines ls ks os count none = record {
+  count = count;
+  found = λ k i l e. absurd (let is = none k l in omega (arith, is, e));
+  missing = λ k l e i m. absurd (omega (arith, m));
 }
 
-module _ (os : List Order) (i : ℕ) (o : Order) (l : i < length os) (at : o ≡ get_or os i o) (was now : List ℕ → Option ℕ)
-    (had : FindsLines was os i) (puts : (k : List ℕ) → now k ≡ cond (key_eq o.key k) (Some i) (was k)) where
-  this : (k : List ℕ) → key_eq o.key k ≡ true → now k ≡ Some i
-  this k e = puts k ∙ ap (λ b. cond b (Some i) (was k)) e
+module _ (ls : List ℕ) (ks : List Key) (numbered : AreNumbered ks) (os : List Order) (i : ℕ) (o : Order) (l : i < length os)
+    (at : o ≡ get_or os i o) (had : FindsLines ls ks os i) where
+  -- the line is of no key with another number
+  apart : (k : ℕ) → k < length ks → line_key os i ≡ key_at ks k → number_in ks o.key ≡ Some k
+  apart k m same = ap (number_in ks) (sym (key_is os i o l at) ∙ same) ∙ numbered k m
 
-  other : (k : List ℕ) → key_eq o.key k ≡ false → now k ≡ was k
-  other k e = puts k ∙ ap (λ b. cond b (Some i) (was k)) e
+  pub none_more : number_in ks o.key ≡ None → FindsLines ls ks os (i + 1)
+  none_more none = record {
+    count = had.count;
+    found = λ k j m e. let was = had.found k j m e in let low = was.0 in (omega (arith, low), was.1);
+    missing = λ k m e j less same. elim (cases_lt j i) [
+      | inl low ↦ had.missing k m e j low same
+      | inr high ↦
+          let here : j ≡ i = omega (arith, less, high) in
+          none-some k (sym none ∙ apart k m (ap (line_key os) (sym here) ∙ same))
+    ];
+  }
 
-  found : (k : List ℕ) (j : ℕ) → now k ≡ Some j → (j < i + 1) × (line_key os j ≡ k)
-  found k j e =
-      elim (cases_Bool (key_eq o.key k)) [
-        | inl t ↦
-            let same : i ≡ j = same_Some i j (sym (this k t) ∙ e) in
-            (omega (arith, same), ap (line_key os) (sym same) ∙ (key_is os i o l at ∙ bytes_eq-same o.key k t))
-        | inr f ↦
-            let before = had.found k j (sym (other k f) ∙ e) in
-            let low = before.0 in
-            (omega (arith, low), before.1)
-      ]
+  module _ (n : ℕ) (number : number_in ks o.key ≡ Some n) where
+    found_here : (n < length ks) × (key_at ks n ≡ o.key)
+    found_here = number_found ks o.key n number
 
-  missing : (k : List ℕ) → now k ≡ None → (j : ℕ) → j < i + 1 → line_key os j ≡ k → ⊥
-  missing k e j less same =
-      elim (cases_Bool (key_eq o.key k)) [
-        | inl t ↦ none-some i (sym e ∙ this k t)
-        | inr f ↦
-            elim (cases_lt j i) [
-              | inl low ↦ had.missing k (sym (other k f) ∙ e) j low same
-              | inr high ↦
-                  let here : i ≡ j = omega (arith, less, high) in
-                  let key : o.key ≡ k = sym (key_is os i o l at) ∙ (ap (line_key os) here ∙ same) in
-                  both_ways _ f (ap (key_eq o.key) (sym key) ∙ bytes_eq-itself o.key)
-            ]
-      ]
+    abbrev put : List ℕ
+    put = set ls n (i + 1)
 
-  pub one_more : FindsLines now os (i + 1)
-  one_more = record { found = found; missing = missing }
+    here : (k : ℕ) → k ≡ n → slice_index put k ≡ i + 1
+    here k same = let m = found_here.0 in let c = had.count in get_or-set_at ls n k (i + 1) 0 same (omega (arith, m, c))
 
-module _ (find : List ℕ → Option ℕ) (os : List Order) (all : FindsLines find os (length os)) (k : List ℕ) where
-  pub line_within : (o : Option ℕ) → find k ≡ o → IfSome o (λ i. i < length os)
-  line_within None is = tt
-  line_within (Some i) is = (all.found k i is).0
+    found : (k j : ℕ) → k < length ks → slice_index put k ≡ suc j → (j < i + 1) × (line_key os j ≡ key_at ks k)
+    found k j m e =
+        elim (cases_eq k n) [
+          | inl same ↦
+              let at_i : j ≡ i = let is = here k same in omega (arith, e, is) in
+              (omega (arith, at_i), ap (line_key os) at_i ∙ (key_is os i o l at ∙ (sym found_here.1 ∙ ap (key_at ks) (sym same))))
+          | inr other ↦
+              let was = had.found k j m (sym (get_or-set_other ls n k (i + 1) 0 other) ∙ e) in
+              let low = was.0 in
+              (omega (arith, low), was.1)
+        ]
 
-  pub line_found : (o : Option ℕ) → find k ≡ o → IfSome o (λ i. line_key os i ≡ k)
-  line_found None is = tt
-  line_found (Some i) is = (all.found k i is).1
+    missing : (k : ℕ) → k < length ks → slice_index put k ≡ 0 → (j : ℕ) → j < i + 1 → line_key os j ≡ key_at ks k → ⊥
+    missing k m e j less same =
+        elim (cases_eq k n) [
+          | inl this ↦ let is = here k this in omega (arith, e, is)
+          | inr other ↦
+              elim (cases_lt j i) [
+                | inl low ↦ had.missing k m (sym (get_or-set_other ls n k (i + 1) 0 other) ∙ e) j low same
+                | inr high ↦
+                    let at_i : j ≡ i = omega (arith, less, high) in
+                    other (same_Some k n (sym (apart k m (ap (line_key os) (sym at_i) ∙ same)) ∙ number))
+              ]
+        ]
 
-  pub line_missing : (o : Option ℕ) → find k ≡ o → IfNone o ((i : ℕ) → i < length os → line_key os i ≡ k → ⊥)
-  line_missing None is = all.missing k is
-  line_missing (Some i) is = tt
+    pub one_more : FindsLines (set ls n (i + 1)) ks os (i + 1)
+    one_more = record { count = length-set ls n (i + 1) ∙ had.count; found = found; missing = missing }

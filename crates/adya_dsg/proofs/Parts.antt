@@ -1,8 +1,8 @@
 -- The parts of a history: one of them, and the edges of the first ones and of all.
-use Rattle.std.proofs.Common.{◌≡◌, ℕ, ◌+◌, ◌<◌, ◌≤◌, ◌-◌, Bool, true, false, cond, List, [], ◌∷◌, ◌++◌, map, filter, flat_map, take, get_or, slice_get, Some, length, Contains, ◌↔◌, inl, inr, refl, sym, ◌∙◌, ap, subst, append-nil}
+use Rattle.std.proofs.Common.{◌≡◌, ℕ, ◌+◌, ◌<◌, ◌≤◌, ◌-◌, Bool, true, false, cond, List, [], ◌∷◌, ◌++◌, map, filter, flat_map, take, get_or, slice_get, Some, length, Contains, ◌↔◌, inl, inr, refl, sym, ◌∙◌, ap, subst, append-nil, arith}
 use Rattle.std.proofs.lemmas.Grind.{flat_map-append}
 use Rattle.std.proofs.lemmas.Option.{slice_get_within, get_or_from_slice_get}
-use Rattle.std.proofs.lemmas.List.{take_all, take_more, get_or-map, get_or_append_left, get_or-append_right, length-map, map-append}
+use Rattle.std.proofs.lemmas.List.{take_all, take_more, get_or-map, get_or_append_left, get_or-append_right, length-append, length-map, map-append}
 use Rattle.std.proofs.lemmas.List.Elements.{Contains-append_left, Contains-append_right, Contains-append_cases}
 use Rattle.std.proofs.lemmas.List.Folds.{flat_map-map}
 use Rattle.adya_values.specs.declared.order.Order.{Order as OrderValue}
@@ -16,7 +16,9 @@ use Rattle.digraph.specs.declared.arc.Arc.{Arc}
 use Rattle.adya_dsg.specs.declared.edge.Edge.{Edge as EdgeValue}
 use Rattle.adya_dsg.specs.Machinery.Arcs.{ends}
 use Rattle.adya_dsg.specs.Mirror.{edge_of}
+use Rattle.adya_dsg.specs.Machinery.Choices.{event_at}
 use Rattle.adya_dsg.specs.Machinery.PartEdges.{line_edges, committed_edges, parts, part_edges}
+use Rattle.adya_dsg.proofs.EventsAt.{found_at}
 use Rattle.adya_dsg.proofs.FlatMaps.{filtered}
 use Rattle.adya_dsg.proofs.LineEdges.{line_edges-at}
 
@@ -67,6 +69,15 @@ of_event_at h n i e lines after found =
     sym (get_or-append_right (map of_line h.orders) (map (committed_edges h) h.events) n i []
     (length-map h.orders of_line ∙ lines) after))
 
+-- that event is there
+event_within : (h : History) (n i : ℕ) → length h.orders ≡ n → n ≤ i → i < length (parts h) → i - n < length h.events
+event_within h n i lines after l =
+    let of_line : Order → List Edge = λ x. write_edges h x.key in
+    let all = length-append (map of_line h.orders) (map (committed_edges h) h.events) in
+    let of_orders = length-map h.orders of_line in
+    let of_events = length-map h.events (committed_edges h) in
+    omega (arith, l, all, of_orders, of_events, lines, after)
+
 module _ (h : History) (os : List OrderValue) (lines : map order_of os ≡ h.orders) (i : ℕ) where
   count : length h.orders ≡ length os
   count = ap length (sym lines) ∙ length-map os order_of
@@ -80,15 +91,18 @@ module _ (h : History) (os : List OrderValue) (lines : map order_of os ≡ h.ord
       (ap order_of at ∙ (sym (get_or-map order_of os i o (order_of o) l) ∙ ap (λ zs. get_or zs i (order_of o)) lines))
 
   -- the part of an event
-  module _ (after : length os ≤ i) (e : Event) (found : slice_get h.events (i - length os) ≡ Some e) where
-    event_at : committed_edges h e ≡ part_edges h i
-    event_at = of_event_at h (length os) i e count after found
+  module _ (after : length os ≤ i) (l : i < length (parts h)) where
+    abbrev e : Event
+    e = event_at h (i - length os)
+
+    here : committed_edges h e ≡ part_edges h i
+    here = of_event_at h (length os) i e count after (found_at h.events (i - length os) (event_within h (length os) i count after l))
 
     pub of_committed : is_committed h.events (txn_of e) ≡ true → event_edges h e ≡ part_edges h i
-    of_committed c = sym (ap (λ b. cond b (event_edges h e) []) c) ∙ event_at
+    of_committed c = sym (ap (λ b. cond b (event_edges h e) []) c) ∙ here
 
     pub of_other : is_committed h.events (txn_of e) ≡ false → part_edges h i ≡ []
-    of_other c = sym event_at ∙ ap (λ b. cond b (event_edges h e) []) c
+    of_other c = sym here ∙ ap (λ b. cond b (event_edges h e) []) c
 
 -- arcs of the parts so far, with those of one more
 pub arcs_more : (h : History) (i : ℕ) → i < length (parts h) → (arcs now : List Arc)

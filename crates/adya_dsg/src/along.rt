@@ -58,10 +58,11 @@ fn first_edges(
 {
     let wanted = ends_of(alloc, cycle)?;
     let mut first = BTreeMap::new(alloc);
+    let mut selections = Vec::new(alloc);
     let mut edges = Vec::new(alloc);
     for part in 0..count_parts(versions) {
         edges.clear();
-        push_part_edges(alloc, &mut edges, versions, part)?;
+        push_part_edges(&mut selections, &mut edges, versions, part)?;
         note_first(&wanted, &mut first, &edges)?;
     }
     Ok(first)

@@ -25,10 +25,11 @@ pub(crate) fn arcs_of_edges(alloc: Global, versions: &VersionOrders) -> Result<V
     edge_list_keeps_first();
     let mut arcs = Vec::new(alloc);
     let mut kept = FEW;
+    let mut selections = Vec::new(alloc);
     let mut edges = Vec::new(alloc);
     for part in 0..count_parts(versions) {
         edges.clear();
-        push_part_edges(alloc, &mut edges, versions, part)?;
+        push_part_edges(&mut selections, &mut edges, versions, part)?;
         add_arcs(&mut arcs, &edges)?;
         if arcs.len() / 2 > kept {
             arcs = each_once(arcs);

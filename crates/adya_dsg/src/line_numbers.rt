@@ -1,25 +1,25 @@
-//! The order line of each key.
+//! The order line of each key that the events name.
 
-ghost use Rattle.std.specs.Prelude.{◌≡◌, length, IfOk};
-ghost use Rattle.std.specs.HashMap.{get};
-ghost use Rattle.adya_values.specs.Meaning.Keys.{key_eq};
+ghost use Rattle.std.specs.Prelude.{length, IfOk};
+ghost use Rattle.adya_values.specs.Mirror.Numbers.{keys_of};
 ghost use Rattle.adya_dsg.specs.Machinery.LineNumbers.{FindsLines};
 
-use adya_values::{Key, Order};
+use adya_values::{Events, Order};
 use std::alloc::{AllocError, Global};
-use std::collections::HashMap;
 
-/// Returns for each key that has an order line the index of the line. The keys are looked up in the order in which events
-/// name them, so a hash table is faster than a search in the list of lines, which is larger than it.
-pub(crate) fn lines_by_key(
+/// Returns by the number of each key, which the events give, the index of its order line and 1; 0 if it has no line.
+pub(crate) fn lines_by_number(
     alloc: Global,
+    events: &Events,
     orders: &[Order],
-) -> Result<HashMap<Key, usize>, AllocError>
-    ensures { IfOk result (λ m. FindsLines (get key_eq m) orders.now (length orders.now)) }
+) -> Result<Vec<usize>, AllocError>
+    ensures { IfOk result (λ v. FindsLines v.items (keys_of events.now) orders.now (length orders.now)) }
 {
-    let mut lines = HashMap::with_capacity(alloc, orders.len())?;
+    let mut lines = vec![in alloc; 0; events.key_count()]?;
     for (i, order) in orders.iter().enumerate() {
-        lines.insert(order.key, i)?;
+        if let Some(number) = events.number_of(order.key) {
+            lines[number as usize] = i + 1;
+        }
     }
     Ok(lines)
 }

@@ -56,15 +56,12 @@ fn add_event_arcs(
         OnOk result (arcs.new.items ≡ arcs.old.items
         ++ map ends (flat_map (event_links h) (filter (λ e. is_committed h.events (txn_of e)) h.events))) }
 {
+    let mut selections = Vec::new(alloc);
     let mut edges = Vec::new(alloc);
-    let events = versions.events();
-    for i in 0..events.len() {
-        let Some(event) = events.get(i) else {
-            unreachable!()
-        };
-        if versions.is_committed(&event) {
+    for event in 0..versions.event_count() {
+        if versions.is_committed(event) {
             edges.clear();
-            push_event_links(alloc, &mut edges, versions, &event)?;
+            push_event_links(&mut selections, &mut edges, versions, event)?;
             add_arcs(arcs, &edges)?;
         }
     }

@@ -42,10 +42,11 @@ fn edges_of(alloc: Global, versions: &VersionOrders) -> Result<Vec<Edge>, AllocE
     ensures { IfOk result (λ v. map edge_of v.items ≡ edge_list (ordered_history versions.now)) }
 {
     let mut set = IndexSet::new(alloc);
+    let mut selections = Vec::new(alloc);
     let mut edges = Vec::new(alloc);
     for part in 0..count_parts(versions) {
         edges.clear();
-        push_part_edges(alloc, &mut edges, versions, part)?;
+        push_part_edges(&mut selections, &mut edges, versions, part)?;
         add(&mut set, &edges)?;
     }
     Vec::from_slice(alloc, set.as_slice())

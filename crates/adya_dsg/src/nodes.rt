@@ -6,7 +6,7 @@ ghost use Rattle.adya_values.specs.Mirror.Events.{events_of};
 ghost use Rattle.adya_values.specs.Mirror.Histories.{serial_txns};
 ghost use Rattle.adya_dsg.specs.Machinery.Nodes.{committed};
 
-use adya_values::{EventView, Events, Serial, Txn};
+use adya_values::{Events, Serial, Txn};
 use std::alloc::{AllocError, Global};
 
 /// Returns the numbers of the committed transactions, in the order of their commits; `AllocError` if memory is refused.
@@ -16,10 +16,7 @@ pub(crate) fn committed(alloc: Global, events: &Events) -> Result<Vec<u32>, Allo
 {
     let mut nodes = Vec::new(alloc);
     for i in 0..events.len() {
-        let Some(event) = events.get(i) else {
-            unreachable!()
-        };
-        if let EventView::Commit { txn } = event {
+        if let Some(txn) = events.commit_at(i) {
             nodes.push(txn.get())?;
         }
     }

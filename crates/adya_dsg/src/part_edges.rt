@@ -7,21 +7,22 @@ ghost use Rattle.adya_dsg.specs.Machinery.PartEdges.{parts, part_edges};
 
 use crate::Edge;
 use crate::event_edges::push_event_edges;
+use crate::selection::Selection;
 use crate::version_orders::VersionOrders;
 use crate::write_edges::push_write_edges;
-use std::alloc::{AllocError, Global};
+use std::alloc::AllocError;
 
 /// Returns how many parts the history has: its order lines and its events.
 pub(crate) fn count_parts(versions: &VersionOrders) -> usize
     ensures { result ≡ length (parts (ordered_history versions.now)) }
 {
-    versions.orders().len() + versions.events().len()
+    versions.orders().len() + versions.event_count()
 }
 
 /// Adds the edges of the part: of the order line at this index or, if there are only so many lines, of the event. Only
-/// the events of committed transactions have edges.
+/// the events of committed transactions have edges. The selections are room for what an event reads or selects.
 pub(crate) fn push_part_edges(
-    alloc: Global,
+    selections: &mut Vec<Selection>,
     edges: &mut Vec<Edge>,
     versions: &VersionOrders,
     part: usize,
@@ -34,11 +35,9 @@ pub(crate) fn push_part_edges(
     if part < orders.len() {
         return push_write_edges(edges, &orders[part]);
     }
-    let Some(event) = versions.events().get(part - orders.len()) else {
-        unreachable!()
-    };
-    if versions.is_committed(&event) {
-        push_event_edges(alloc, edges, versions, &event)?;
+    let event = part - orders.len();
+    if versions.is_committed(event) {
+        push_event_edges(selections, edges, versions, event)?;
     }
     Ok(())
 }

@@ -1,18 +1,19 @@
 //! What an event reads or selects.
 
-ghost use Rattle.std.specs.Prelude.{◌≡◌, ◌<◌, ℕ, List, length, map, true, IfOk, IfSome, All, Contains, option_map, option_to_list};
-ghost use Rattle.adya_values.specs.Meaning.Keys.{keys_rise};
-ghost use Rattle.adya_values.specs.Meaning.Histories.{Read, Scan};
-ghost use Rattle.adya_values.specs.Mirror.Events.{view_of, entry_of};
-ghost use Rattle.adya_values.specs.Meaning.Events.{listed};
+ghost use Rattle.std.specs.Prelude.{◌≡◌, ◌<◌, ◌≤◌, [], ℕ, List, Some, length, map, drop, slice_get, true, false, IfSome, OnOk, All, option_map, option_to_list};
+ghost use Rattle.std.specs.List.{list_all};
+ghost use Rattle.adya_values.specs.Meaning.Keys.{key_lt, keys_rise};
+ghost use Rattle.adya_values.specs.Meaning.Histories.{Event, Read, Scan};
+ghost use Rattle.adya_values.specs.Mirror.Numbers.{bounds, has_seen, seen_entry};
+ghost use Rattle.adya_values.specs.Meaning.Events.{listed, observed, txn_of};
 ghost use Rattle.adya_values.specs.Meaning.Selections.{place_of};
-ghost use Rattle.adya_dsg.specs.Machinery.VersionOrders.{ordered_history, order_lines};
-ghost use Rattle.adya_dsg.specs.Machinery.Choices.{choices, choice_of, key_at};
+ghost use Rattle.adya_dsg.specs.Machinery.VersionOrders.{ordered_events, ordered_history, order_lines, IsNumber, numbered};
+ghost use Rattle.adya_dsg.specs.Machinery.Choices.{choices, choice_of, event_at, key_at};
 
-use crate::version_orders::{VersionOrders, is_below};
+use crate::version_orders::VersionOrders;
 use adya_terms::laws::checked_iff_no_fault;
-use adya_values::{Entry, EventView, Key, Txn, Version};
-use std::alloc::{AllocError, Global};
+use adya_values::{Seen, Txn};
+use std::alloc::AllocError;
 
 /// A place of an order line, of which an event reads the version or a scan selects it.
 #[derive(Clone, Copy)]
@@ -21,99 +22,170 @@ pub(crate) struct Selection {
     pub place: usize,
 }
 
-/// Returns what the event reads or selects of others, by rising keys.
-pub(crate) fn selections(
-    alloc: Global,
+/// Puts into the list, in place of what it holds, what the event reads or selects of others, by rising keys.
+pub(crate) fn select(
+    selections: &mut Vec<Selection>,
     versions: &VersionOrders,
-    event: &EventView<'_>,
-) -> Result<Vec<Selection>, AllocError>
-    requires { Contains (ordered_history versions.now).events (view_of event.now) }
-    ensures within { IfOk result (λ v. All (λ s. s.line < length (order_lines versions.now)) v.items) }
+    event: usize,
+) -> Result<(), AllocError>
+    requires { event < length (ordered_history versions.now).events }
+    ensures within { OnOk result (All (λ s. s.line < length (order_lines versions.now)) selections.new.items) }
     ensures choices { let h = ordered_history versions.now in
-        IfOk result (λ v. map (choice_of h) v.items ≡ choices h (view_of event.now)) }
+        OnOk result (map (choice_of h) selections.new.items ≡ choices h (event_at h event)) }
 {
     checked_iff_no_fault();
-    match event {
-        EventView::Read { txn, version, .. } => {
-            let mut selections = Vec::new(alloc);
-            if let Some(selection) = of_read(versions, *txn, *version) {
-                selections.push(selection)?;
-            }
-            Ok(selections)
+    selections.clear();
+    let txn = versions.txn(event);
+    let observed = versions.observed(event);
+    match versions.bounds(event) {
+        Some((low, high)) => {
+            select_scanned(selections, versions, txn, low, high, observed.seen())
         }
-        EventView::Scan {
-            txn,
-            low,
-            high,
-            entries,
-        } => of_scan(alloc, versions, *txn, *low, *high, entries),
-        _ => Ok(Vec::new(alloc)),
+        None => select_read(selections, versions, txn, observed.seen()),
     }
 }
 
-fn of_read(versions: &VersionOrders, txn: Txn, version: Version) -> Option<Selection>
+/// Adds what an event of the transaction that is no scan reads of others: it sees one entry, or none.
+fn select_read(
+    selections: &mut Vec<Selection>,
+    versions: &VersionOrders,
+    txn: Txn,
+    seen: &[Seen],
+) -> Result<(), AllocError>
+    requires none { selections.old.items ≡ [] }
+    requires there { list_all (has_seen (ordered_events versions.now)) seen.now ≡ true }
+    ensures within { OnOk result (All (λ s. s.line < length (order_lines versions.now)) selections.new.items) }
+    ensures choices { let h = ordered_history versions.now in
+        (e : Event)
+        → txn_of e ≡ txn
+        → bounds e ≡ None
+        → observed e ≡ map (seen_entry (ordered_events versions.now)) seen.now
+        → OnOk result (map (choice_of h) selections.new.items ≡ choices h e) }
+{
+    let [read] = seen else {
+        return Ok(());
+    };
+    if let Some(selection) = of_read(versions, txn, read) {
+        selections.push(selection)?;
+    }
+    Ok(())
+}
+
+fn of_read(versions: &VersionOrders, txn: Txn, read: &Seen) -> Option<Selection>
+    requires { has_seen (ordered_events versions.now) read.now ≡ true }
     ensures within { IfSome result (λ s. s.line < length (order_lines versions.now)) }
     ensures choice { let h = ordered_history versions.now in
-        (value : List ℕ) → option_to_list (option_map (choice_of h) result) ≡ choices h (Read txn version value) }
+        (value : List ℕ)
+        → option_to_list (option_map (choice_of h) result)
+        ≡ choices h (Read txn (seen_entry (ordered_events versions.now) read.now).version value) }
 {
-    if version.txn == txn {
+    if read.txn == txn {
         return None;
     }
-    let line = versions.line_of(version.key)?;
+    let line = versions.line_of(read.key)?;
     Some(Selection {
         line,
-        place: versions.place(line, version.txn),
+        place: versions.place(line, read.txn),
     })
 }
 
-fn of_scan(
-    alloc: Global,
+/// Adds what a scan of the transaction selects of others, with bounds of these numbers, if it sees these entries. The
+/// entries rise by their keys, and so do the lines.
+fn select_scanned(
+    selections: &mut Vec<Selection>,
     versions: &VersionOrders,
     txn: Txn,
-    low: Key,
-    high: Key,
-    entries: &[Entry],
-) -> Result<Vec<Selection>, AllocError>
-    requires { keys_rise (map (λ w. w.version.key) (map entry_of entries.now)) ≡ true }
-    ensures within { IfOk result (λ v. All (λ s. s.line < length (order_lines versions.now)) v.items) }
+    low: u32,
+    high: u32,
+    seen: &[Seen],
+) -> Result<(), AllocError>
+    requires none { selections.old.items ≡ [] }
+    requires low { IsNumber versions.now low }
+    requires high { IsNumber versions.now high }
+    requires there { list_all (has_seen (ordered_events versions.now)) seen.now ≡ true }
+    requires rise { keys_rise (map (λ w. w.version.key) (map (seen_entry (ordered_events versions.now)) seen.now)) ≡ true }
+    ensures within { OnOk result (All (λ s. s.line < length (order_lines versions.now)) selections.new.items) }
     ensures choices { let h = ordered_history versions.now in
-        IfOk result (λ v. map (choice_of h) v.items ≡ choices h (Scan txn low high (map entry_of entries.now))) }
+        OnOk result (map (choice_of h) selections.new.items
+        ≡ choices h (Scan txn (numbered versions.now low) (numbered versions.now high) (map (seen_entry (ordered_events versions.now)) seen.now))) }
 {
-    let mut selections = Vec::new(alloc);
-    for line in versions.lines_below(low)..versions.orders().len() {
-        let key = versions.order(line).key;
-        if is_below(high, key) {
-            return Ok(selections);
-        }
-        if let Some(place) = selected(versions, txn, line, listed(entries, key)) {
+    let mut next = 0;
+    for line in versions.lines_below(low)..versions.lines_up_to(high) {
+        next = reached(versions, seen, next, line);
+        let listed = listed(versions, seen, next, line);
+        if let Some(place) = selected(versions, txn, line, listed) {
             selections.push(Selection { line, place })?;
         }
     }
-    Ok(selections)
+    Ok(())
 }
 
-/// Returns the entry of the key.
-fn listed(entries: &[Entry], key: Key) -> Option<Entry>
-    requires { keys_rise (map (λ w. w.version.key) (map entry_of entries.now)) ≡ true }
-    ensures { option_map entry_of result ≡ listed key (map entry_of entries.now) }
+/// Returns the index of the first of the entries from this index on that isn't passed at the line.
+fn reached(versions: &VersionOrders, seen: &[Seen], from: usize, line: usize) -> usize
+    requires { list_all (has_seen (ordered_events versions.now)) seen.now ≡ true }
+    ensures same { let h = ordered_history versions.now in
+        let w = seen_entry (ordered_events versions.now) in
+        (i : ℕ)
+        → line ≤ i
+        → i < length (order_lines versions.now)
+        → listed (key_at h i) (map w (drop result seen.now)) ≡ listed (key_at h i) (map w (drop from seen.now)) }
+    ensures reached { (s : Seen)
+        → slice_get seen.now result ≡ Some s
+        → key_lt (numbered versions.now s.key) (key_at (ordered_history versions.now) line) ≡ false }
 {
-    match entries.binary_search_by_key(&key, |entry| entry.version.key) {
-        Err(_) => None,
-        Ok(at) => Some(entries[at]),
+    for at in from..seen.len() {
+        if !is_passed(versions, &seen[at], line) {
+            return at;
+        }
     }
+    seen.len()
+}
+
+/// Returns whether the entry is of no line from this one on: its key has an earlier line, or none.
+fn is_passed(versions: &VersionOrders, seen: &Seen, line: usize) -> bool
+    requires { has_seen (ordered_events versions.now) seen.now ≡ true }
+    ensures passed { result ≡ true → (i : ℕ)
+        → line ≤ i
+        → i < length (order_lines versions.now)
+        → key_at (ordered_history versions.now) i ≡ numbered versions.now seen.now.key → ⊥ }
+    ensures reached { result ≡ false
+        → key_lt (numbered versions.now seen.now.key) (key_at (ordered_history versions.now) line) ≡ false }
+{
+    match versions.line_of(seen.key) {
+        None => true,
+        Some(own) => own < line,
+    }
+}
+
+/// Returns the entry of the line's key, if it is listed. It is at the index then, and no entry of a smaller key.
+fn listed(versions: &VersionOrders, seen: &[Seen], at: usize, line: usize) -> Option<Seen>
+    requires within { line < length (order_lines versions.now) }
+    requires there { list_all (has_seen (ordered_events versions.now)) seen.now ≡ true }
+    requires rise { keys_rise (map (λ w. w.version.key) (map (seen_entry (ordered_events versions.now)) seen.now)) ≡ true }
+    requires reached { (s : Seen)
+        → slice_get seen.now at ≡ Some s
+        → key_lt (numbered versions.now s.key) (key_at (ordered_history versions.now) line) ≡ false }
+    ensures { let w = seen_entry (ordered_events versions.now) in
+        option_map w result ≡ listed (key_at (ordered_history versions.now) line) (map w (drop at seen.now)) }
+{
+    let seen = seen.get(at)?;
+    if versions.line_of(seen.key)? == line {
+        return Some(*seen);
+    }
+    None
 }
 
 /// Returns the place of the line that a scan of the transaction selects, if it lists this entry of the line's key.
-fn selected(versions: &VersionOrders, txn: Txn, line: usize, listed: Option<Entry>) -> Option<usize>
+fn selected(versions: &VersionOrders, txn: Txn, line: usize, listed: Option<Seen>) -> Option<usize>
     requires { line < length (order_lines versions.now) }
     ensures { let h = ordered_history versions.now in
-        result ≡ place_of h txn (key_at h line) (option_map entry_of listed) }
+        result ≡ place_of h txn (key_at h line) (option_map (seen_entry (ordered_events versions.now)) listed) }
 {
-    let Some(entry) = listed else {
+    let Some(seen) = listed else {
         return Some(0);
     };
-    if entry.version.txn == txn {
+    if seen.txn == txn {
         return None;
     }
-    Some(versions.place(line, entry.version.txn))
+    Some(versions.place(line, seen.txn))
 }

@@ -1,9 +1,13 @@
 -- What an event reads or selects, key by key.
-use Rattle.std.specs.Prelude.{ℕ, List, [], option_map, Option, Some, None}
+use Rattle.std.specs.Prelude.{ℕ, List, [], option_map, Option, Some, None, slice_index_or}
 use Rattle.std.specs.List.{filter_map, slice_get}
-use Rattle.adya_values.specs.Meaning.Histories.{Event, Order, History}
+use Rattle.adya_values.specs.Meaning.Histories.{Abort, Event, Order, History}
 use Rattle.adya_values.specs.Meaning.Selections.{selected}
 use Rattle.adya_dsg.specs.declared.selection.Selection.{Selection}
+
+-- the event at the index; past the end one that sees nothing
+abbrev pub event_at : History → ℕ → Event
+event_at h i = slice_index_or h.events i (Abort 0)
 
 -- a place in the version order of a key
 pub record Choice : Type 0 where

@@ -1,10 +1,13 @@
--- What a table of the order lines of keys means.
-use Rattle.std.specs.Prelude.{◌≡◌, ℕ, ◌<◌, List, Option, Some, None, map, slice_get}
+-- What an array of the order lines of keys means, by the numbers of the keys.
+use Rattle.std.specs.Prelude.{◌≡◌, ℕ, suc, ◌<◌, List, length, map, slice_get, slice_index}
 use Rattle.adya_values.specs.declared.order.Order.{Order}
+use Rattle.adya_values.specs.Meaning.Keys.{Key}
 use Rattle.adya_values.specs.Mirror.Events.{order_of}
+use Rattle.adya_values.specs.Machinery.Seen.{key_at}
 use Rattle.adya_dsg.specs.Machinery.Choices.{key_of}
 
--- what is found for each key is its line among the first lines; if nothing is found, none of them is of the key
-pub record FindsLines (find : List ℕ → Option ℕ) (os : List Order) (n : ℕ) : Type 0 where
-  pub found : (k : List ℕ) (i : ℕ) → find k ≡ Some i → (i < n) × (key_of (slice_get (map order_of os) i) ≡ k)
-  pub missing : (k : List ℕ) → find k ≡ None → (i : ℕ) → i < n → key_of (slice_get (map order_of os) i) ≡ k → ⊥
+-- at the number of each key is the index of its line among the first lines and 1, or else 0 if none of them is of the key
+pub record FindsLines (ls : List ℕ) (ks : List Key) (os : List Order) (n : ℕ) : Type 0 where
+  pub count : length ls ≡ length ks
+  pub found : (k i : ℕ) → k < length ks → slice_index ls k ≡ suc i → (i < n) × (key_of (slice_get (map order_of os) i) ≡ key_at ks k)
+  pub missing : (k : ℕ) → k < length ks → slice_index ls k ≡ 0 → (i : ℕ) → i < n → key_of (slice_get (map order_of os) i) ≡ key_at ks k → ⊥

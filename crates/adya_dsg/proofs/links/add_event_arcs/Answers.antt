@@ -1,34 +1,27 @@
-use Rattle.std.proofs.Common.{◌+◌, ◌++◌, List, Contains, option_map, Vec, Global, map, drop, filter, flat_map, sym, ◌∙◌, ap, subst}
+use Rattle.std.proofs.Common.{◌<◌, ◌+◌, ◌++◌, List, Vec, Global, map, drop, filter, flat_map, sym, ◌∙◌, ap, subst}
 use Rattle.adya_values.specs.Meaning.Histories.{Event}
-use Rattle.adya_values.specs.Mirror.Events.{events_of, view_of}
 use Rattle.adya_values.specs.Meaning.Events.{txn_of, is_committed}
 use Rattle.digraph.specs.declared.arc.Arc.{Arc}
 use Rattle.adya_dsg.specs.Machinery.VersionOrders.{ordered_history}
 use Rattle.adya_dsg.specs.Mirror.{edge_of}
 use Rattle.adya_dsg.specs.Machinery.Arcs.{ends}
+use Rattle.adya_dsg.specs.Machinery.Choices.{event_at}
 use Rattle.adya_dsg.specs.Machinery.Links.{event_links}
-use Rattle.lemmas.proofs.Members.{Contains-slice_get}
+use Rattle.adya_dsg.proofs.EventsAt.{found_at}
 use Rattle.adya_dsg.proofs.FlatMaps.{from_kept, from_left_out, added_front}
 use Rattle.adya_dsg.proofs.links.add_event_arcs.Goals as goal
 use Rattle.adya_dsg.proofs.links.add_event_arcs.Goals.{then-is_committed+in_ok-push_event_links+in_ok-add_arcs, else-is_committed}
 
-pub push_event_links-requires : goal.push_event_links-requires
-push_event_links-requires c =
-    let e = view_of c.in-Some.event in
-    subst (λ (es : List Event). Contains es e) c.events-events.ensures
-    (Contains-slice_get (events_of c.events-events.result.now) c.loop-i.i e
-    (sym c.get.ensures ∙ ap (option_map view_of) c.in-Some.is))
-
-pub loop-i-preserved : goal.loop-i-preserved
-loop-i-preserved c =
+pub loop-event-preserved : goal.loop-event-preserved
+loop-event-preserved c =
     let h = ordered_history c.args.versions.now in
-    let events = events_of c.events-events.result.now in
-    let i = c.loop-i.i in
-    let e = view_of c.in-Some.event in
+    let i = c.loop-event.event in
+    let e = event_at h i in
+    let found = found_at h.events i (subst (λ n. i < n) c.event_count-event-end.ensures c.loop-event-test.true) in
     let keep = λ (x : Event). is_committed h.events (txn_of x) in
-    let here = flat_map (event_links h) (filter keep (drop i events)) in
-    let rest = flat_map (event_links h) (filter keep (drop (i + 1) events)) in
-    let done = c.loop-i.arcs.items in
+    let here = flat_map (event_links h) (filter keep (drop i h.events)) in
+    let rest = flat_map (event_links h) (filter keep (drop (i + 1) h.events)) in
+    let done = c.loop-event.arcs.items in
     elim c.if-is_committed.branch [
       | then-is_committed+in_ok-push_event_links+in_ok-add_arcs w ↦
           let given = ap (map edge_of) w.deref.ensures.value ∙
@@ -38,13 +31,11 @@ loop-i-preserved c =
           (ap (λ (zs : List Arc). zs ++ map ends rest)
           (w.in_ok-add_arcs.ensures ∙ ap (λ es. done ++ map ends es) given) ∙
           added_front ends done _ here (event_links h e) rest
-          (from_kept (event_links h) events i e (sym c.get.ensures ∙ ap (option_map view_of) c.in-Some.is) keep
-          (sym c.is_committed.ensures ∙ w.if-is_committed.true))
-          c.loop-i.invariant)
+          (from_kept (event_links h) h.events i e found keep (sym c.is_committed.ensures ∙ w.if-is_committed.true))
+          c.loop-event.invariant)
       | else-is_committed w ↦
           ap (λ (v : Vec Arc Global). v.items ++ map ends rest) w.arcs-is ∙
           (ap (λ es. done ++ map ends es)
-          (sym (from_left_out (event_links h) events i e (sym c.get.ensures ∙ ap (option_map view_of) c.in-Some.is) keep
-          (sym c.is_committed.ensures ∙ w.if-is_committed.false))) ∙
-          c.loop-i.invariant)
+          (sym (from_left_out (event_links h) h.events i e found keep (sym c.is_committed.ensures ∙ w.if-is_committed.false))) ∙
+          c.loop-event.invariant)
     ]
