@@ -1,22 +1,19 @@
-use Rattle.std.proofs.Common.{ℕ, option_map, sym, ◌∙◌, ap, nat_cmp}
+use Rattle.std.proofs.Common.{◌<◌, ℕ, sym, ◌∙◌, subst, nat_cmp}
 use Rattle.std.specs.BTreeSet.{contains}
-use Rattle.adya_values.specs.Mirror.Events.{events_of, view_of}
-use Rattle.adya_audit.specs.Machinery.ExactlyTheCommitted.{commit_passes}
-use Rattle.adya_audit.proofs.AllLeft.{fails_here, passes_here}
+use Rattle.adya_values.specs.Mirror.Events.{events_of}
+use Rattle.adya_audit.proofs.AllLeft.{fails_at, passes_at}
 use Rattle.adya_audit.proofs.exactly_the_committed.all_listed.Goals as goal
 
 pub returns-then-not-is_listed : goal.returns-then-not-is_listed
 returns-then-not-is_listed c =
-    let passes = commit_passes (λ (t : ℕ). contains nat_cmp c.args.listed.now t) in
-    let e = view_of c.in-Some.event in
     sym (c.loop-i.invariant ∙
-    fails_here passes (events_of c.args.events.now) c.loop-i.i e (sym c.get.ensures ∙ ap (option_map view_of) c.in-Some.is)
+    fails_at (λ (t : ℕ). contains nat_cmp c.args.listed.now t) (events_of c.args.events.now) c.loop-i.i
+    (subst (λ n. c.loop-i.i < n) c.len-i-end.ensures.length c.loop-i-test.true) c.commit_at.result c.commit_at.ensures
     (sym c.is_listed.ensures ∙ c.if-not-is_listed.true))
 
 pub loop-i-preserved : goal.loop-i-preserved
 loop-i-preserved c =
-    let passes = commit_passes (λ (t : ℕ). contains nat_cmp c.args.listed.now t) in
-    let e = view_of c.in-Some.event in
     c.loop-i.invariant ∙
-    passes_here passes (events_of c.args.events.now) c.loop-i.i e (sym c.get.ensures ∙ ap (option_map view_of) c.in-Some.is)
+    passes_at (λ (t : ℕ). contains nat_cmp c.args.listed.now t) (events_of c.args.events.now) c.loop-i.i
+    (subst (λ n. c.loop-i.i < n) c.len-i-end.ensures.length c.loop-i-test.true) c.commit_at.result c.commit_at.ensures
     (sym c.is_listed.ensures ∙ c.if-not-is_listed.false)
