@@ -1,4 +1,4 @@
--- The lines of keys in an array by the numbers of the keys: none yet, and one more.
+-- The lines of keys in an array by the numbers of the keys: one more line.
 use Rattle.std.proofs.Common.{◌≡◌, ℕ, suc, ◌+◌, ◌<◌, true, cond, List, [], length, get_or, set, map, slice_get, slice_index, Some, None, sym, ◌∙◌, ap, subst, arith, inl, inr}
 use Rattle.std.specs.List.{position_or_len}
 use Rattle.std.proofs.lemmas.Bool.{cases_lt, cases_eq, lt-ltb, le-ltb}
@@ -30,14 +30,6 @@ number_found ks k n e =
           (subst (λ i. i < length ks) same l, ap (key_at ks) (sym same) ∙ sym (bytes_eq-same k (key_at ks p) at))
       | inr m ↦ absurd (none-some n (sym (ap (λ b. cond b (Some p) None) (le-ltb p (length ks) m)) ∙ e))
     ]
-
-pub no_lines : (ls : List ℕ) (ks : List Key) (os : List Order) → length ls ≡ length ks
-    → ((k : ℕ) → k < length ks → slice_index ls k ≡ 0) → FindsLines ls ks os 0
-no_lines ls ks os count none = record {
-  count = count;
-  found = λ k i l e. absurd (let is = none k l in omega (arith, is, e));
-  missing = λ k l e i m. absurd (omega (arith, m));
-}
 
 module _ (ls : List ℕ) (ks : List Key) (numbered : AreNumbered ks) (os : List Order) (i : ℕ) (o : Order) (l : i < length os)
     (at : o ≡ get_or os i o) (had : FindsLines ls ks os i) where
