@@ -5,7 +5,7 @@ ghost use Rattle.adya_values.specs.Meaning.Keys.{is_key, is_value, IsTxn, IsMod}
 ghost use Rattle.adya_values.specs.Mirror.Events.{value_of};
 
 use crate::entries::Entries;
-use adya_values::{Entry, EventView, Key, Mod, Txn, Value, Version};
+use adya_values::{Entry, EventView, Key, Listed, Mod, Txn, Value, Version};
 use std::alloc::{AllocError, Global};
 
 /// A version whose key is a slice of the line.
@@ -161,7 +161,7 @@ impl<'a> EventRef<'a> {
                 txn: txn_of(s.txn),
                 low: key_of(s.low),
                 high: key_of(s.high),
-                entries,
+                entries: Listed::Plain(entries),
             },
             EventRef::Commit(e) => EventView::Commit { txn: txn_of(e.txn) },
             EventRef::Abort(e) => EventView::Abort { txn: txn_of(e.txn) },

@@ -6,8 +6,8 @@ use adya_terms::Checked;
 use adya_testing::histories::final_pair;
 use adya_text::read_history;
 use adya_values::{
-    BadKey, BadNumber, BadShape, BadValue, Entry, Event, EventView, Events, History, Key, Txn,
-    Value,
+    BadKey, BadNumber, BadShape, BadValue, Entry, Event, EventView, Events, History, Key, Listed,
+    Txn, Value,
 };
 use std::alloc::Global;
 use std::fmt::Display;
@@ -124,14 +124,18 @@ fn is_scan_shown(alloc: Global) -> bool {
 /// Whether the only event is a scan with these entries.
 fn shows(events: &Events, given: &[Entry]) -> bool {
     match events.get(0) {
-        Some(EventView::Scan { entries, .. }) => events.len() == 1 && are_same_two(entries, given),
+        Some(EventView::Scan { entries, .. }) => events.len() == 1 && are_same_two(&entries, given),
         _ => false,
     }
 }
 
-fn are_same_two(given: &[Entry], copied: &[Entry]) -> bool {
-    match (given, copied) {
-        ([first, second], [one, two]) => one.same(first) && two.same(second) && !one.same(second),
+fn are_same_two(listed: &Listed<'_>, given: &[Entry]) -> bool {
+    if listed.len() != 2 {
+        return false;
+    }
+    let (first, second) = (listed.at(0), listed.at(1));
+    match given {
+        [one, two] => one.same(&first) && two.same(&second) && !one.same(&second),
         _ => false,
     }
 }
