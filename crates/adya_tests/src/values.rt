@@ -77,7 +77,7 @@ fn is_value_taken() -> bool {
 fn scan(alloc: Global, line: &[u8]) -> Option<Event> {
     let read = read_event(line)?;
     let entries = read.to_entries(alloc).ok()?;
-    match read.with_entries(&entries) {
+    match read.with_entries(Listed::Plain(&entries)) {
         EventView::Scan { txn, low, high, .. } => Some(Event::Scan {
             txn,
             low,
