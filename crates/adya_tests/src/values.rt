@@ -90,29 +90,11 @@ fn scan(alloc: Global, line: &[u8]) -> Option<Event> {
 
 /// Whether a list of events, and a copy of it, show a scan with its entries.
 fn is_scan_shown(alloc: Global) -> bool {
-    let Some(
-        Event::Scan {
-            txn,
-            low,
-            high,
-            entries,
-        },
-    ) = scan(alloc, b"s1(a,d;b.2:1,7;c.3:4,!)")
-    else {
+    let Some(given) = scan(alloc, b"s1(a,d;b.2:1,7;c.3:4,!)") else {
         return false;
     };
-    let mut given = Vec::new(alloc);
     let mut events = Events::new(alloc);
-    if given.extend_from_slice(&entries).is_err() {
-        return false;
-    }
-    let event = Event::Scan {
-        txn,
-        low,
-        high,
-        entries,
-    };
-    if events.push_owned(&event).is_err() {
+    if events.push_owned(&given).is_err() {
         return false;
     }
     let Ok(copied) = events.copy(alloc) else {
@@ -121,8 +103,11 @@ fn is_scan_shown(alloc: Global) -> bool {
     shows(&events, &given) && shows(&copied, &given)
 }
 
-/// Whether the only event is a scan with these entries.
-fn shows(events: &Events, given: &[Entry]) -> bool {
+/// Whether the only event is a scan with the entries of this one.
+fn shows(events: &Events, given: &Event) -> bool {
+    let Event::Scan { entries: given, .. } = given else {
+        return false;
+    };
     match events.get(0) {
         Some(EventView::Scan { entries, .. }) => events.len() == 1 && are_same_two(&entries, given),
         _ => false,
