@@ -5,7 +5,7 @@ ghost use Rattle.adya_values.specs.Meaning.Keys.{is_key, is_value, IsTxn, IsMod}
 ghost use Rattle.adya_values.specs.Mirror.Events.{value_of};
 
 use crate::entries::Entries;
-use adya_values::{Entry, EventView, Key, Mod, Txn, Value, Version};
+use adya_values::{Entry, EventView, Key, Listed, Mod, Txn, Value, Version};
 use std::alloc::{AllocError, Global};
 
 /// A version whose key is a slice of the line.
@@ -96,7 +96,7 @@ pub enum EventRef<'a> {
 
 impl<'a> EventRef<'a> {
     ghost use Rattle.std.specs.Prelude.{map, IfOk, OnOk};
-    ghost use Rattle.adya_values.specs.Mirror.Events.{entry_of, view_of};
+    ghost use Rattle.adya_values.specs.Mirror.Events.{entries_of, entry_of, view_of};
     ghost use Rattle.adya_line.specs.Mirror.{view, entries_in, entries_left};
 
     /// Walks the entries of a scan, in the order of the line; their keys and values are slices of the line. Other
@@ -135,8 +135,8 @@ impl<'a> EventRef<'a> {
     }
 
     /// Returns the event with these entries in place of those in the line, which only a scan has.
-    pub fn with_entries<'b>(&self, entries: &'b [Entry]) -> EventView<'b>
-        ensures { map entry_of entries.now ≡ entries_in (view self.now) → view_of result ≡ view self.now }
+    pub fn with_entries<'b>(&self, entries: Listed<'b>) -> EventView<'b>
+        ensures { entries_of entries.entry ≡ entries_in (view self.now) → view_of result ≡ view self.now }
     {
         match self {
             EventRef::Write(w) => {

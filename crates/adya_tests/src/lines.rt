@@ -3,6 +3,7 @@
 use adya_line::{
     ContentRef, EntryRef, EventRef, final_pair, order, read_event, txn, unfinished, write_event,
 };
+use adya_values::Listed;
 use devices::Watched;
 use std::alloc::Global;
 
@@ -41,7 +42,7 @@ fn written_again(alloc: Global, line: &[u8]) -> Option<Vec<u8>> {
     let event = read_event(line)?;
     let entries = event.to_entries(alloc).ok()?;
     let mut out = Watched::new(Vec::new(alloc));
-    write_event(&event.with_entries(&entries), &mut out).ok()?;
+    write_event(&event.with_entries(Listed::Plain(&entries)), &mut out).ok()?;
     Some(out.into_inner())
 }
 

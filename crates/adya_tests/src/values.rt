@@ -6,8 +6,8 @@ use adya_terms::Checked;
 use adya_testing::histories::final_pair;
 use adya_text::read_history;
 use adya_values::{
-    BadKey, BadNumber, BadShape, BadValue, Entry, Event, EventView, Events, History, Key, Txn,
-    Value,
+    BadKey, BadNumber, BadShape, BadValue, Entry, Event, EventView, Events, History, Key, Listed,
+    Txn, Value,
 };
 use std::alloc::Global;
 use std::fmt::Display;
@@ -77,7 +77,7 @@ fn is_value_taken() -> bool {
 fn scan(alloc: Global, line: &[u8]) -> Option<Event> {
     let read = read_event(line)?;
     let entries = read.to_entries(alloc).ok()?;
-    match read.with_entries(&entries) {
+    match read.with_entries(Listed::Plain(&entries)) {
         EventView::Scan { txn, low, high, .. } => Some(Event::Scan {
             txn,
             low,
@@ -90,29 +90,11 @@ fn scan(alloc: Global, line: &[u8]) -> Option<Event> {
 
 /// Whether a list of events, and a copy of it, show a scan with its entries.
 fn is_scan_shown(alloc: Global) -> bool {
-    let Some(
-        Event::Scan {
-            txn,
-            low,
-            high,
-            entries,
-        },
-    ) = scan(alloc, b"s1(a,d;b.2:1,7;c.3:4,!)")
-    else {
+    let Some(given) = scan(alloc, b"s1(a,d;b.2:1,7;c.3:4,!)") else {
         return false;
     };
-    let mut given = Vec::new(alloc);
     let mut events = Events::new(alloc);
-    if given.extend_from_slice(&entries).is_err() {
-        return false;
-    }
-    let event = Event::Scan {
-        txn,
-        low,
-        high,
-        entries,
-    };
-    if events.push_owned(&event).is_err() {
+    if events.push_owned(&given).is_err() {
         return false;
     }
     let Ok(copied) = events.copy(alloc) else {
@@ -121,17 +103,24 @@ fn is_scan_shown(alloc: Global) -> bool {
     shows(&events, &given) && shows(&copied, &given)
 }
 
-/// Whether the only event is a scan with these entries.
-fn shows(events: &Events, given: &[Entry]) -> bool {
+/// Whether the only event is a scan with the entries of this one.
+fn shows(events: &Events, given: &Event) -> bool {
+    let Event::Scan { entries: given, .. } = given else {
+        return false;
+    };
     match events.get(0) {
-        Some(EventView::Scan { entries, .. }) => events.len() == 1 && are_same_two(entries, given),
+        Some(EventView::Scan { entries, .. }) => events.len() == 1 && are_same_two(&entries, given),
         _ => false,
     }
 }
 
-fn are_same_two(given: &[Entry], copied: &[Entry]) -> bool {
-    match (given, copied) {
-        ([first, second], [one, two]) => one.same(first) && two.same(second) && !one.same(second),
+fn are_same_two(listed: &Listed<'_>, given: &[Entry]) -> bool {
+    if listed.len() != 2 {
+        return false;
+    }
+    let (first, second) = (listed.at(0), listed.at(1));
+    match given {
+        [one, two] => one.same(&first) && two.same(&second) && !one.same(&second),
         _ => false,
     }
 }

@@ -14,4 +14,3 @@ pub mod SerialDrafts
 pub mod TextLaws
 pub mod WrittenTexts
 pub mod HaveTexts
-pub mod Indices

@@ -16,7 +16,7 @@ use crate::line_reader::Draft;
 use crate::read_fault::Text;
 use adya_line::laws::{event_lines, history_lines};
 use adya_line::{EventRef, HistoryLine, history_line, read_event};
-use adya_values::{Edition, Entry, Events, FinalPair, History, Key, Order, Txn};
+use adya_values::{Edition, Entry, Events, FinalPair, History, Key, Listed, Order, Txn};
 use std::alloc::{AllocError, Global};
 
 /// How many bytes the head has, `adya 1` or `adya 2`.
@@ -171,7 +171,8 @@ impl HistoryDraft {
         ensures { OnOk result (Takes self.old self.new (EventLine (view event.now))) }
     {
         event.read_entries(&mut self.entries)?;
-        self.events.push(&event.with_entries(&self.entries))
+        let entries = Listed::Plain(&self.entries);
+        self.events.push(&event.with_entries(entries))
     }
 
     // Not inlined: a caller pays at its entry for all locals of what is inlined into it.

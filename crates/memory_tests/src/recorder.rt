@@ -8,7 +8,7 @@ use crate::reply::Reply;
 use crate::words::{Fault, Words};
 use adya_line::{EventRef, read_event};
 use adya_text::write_history;
-use adya_values::{Event, EventView, History, Txn};
+use adya_values::{Event, EventView, History, Listed, Txn};
 use ssi_recorder::Recorder;
 use std::alloc::{AllocError, Global};
 
@@ -119,7 +119,7 @@ fn event_of(alloc: Global, words: &mut Words) -> Result<Event, Fault> {
 /// Returns the event by itself.
 fn owned(alloc: Global, event: &EventRef<'_>) -> Result<Event, AllocError> {
     let entries = event.to_entries(alloc)?;
-    Ok(match event.with_entries(&entries) {
+    Ok(match event.with_entries(Listed::Plain(&entries)) {
         EventView::Write { txn, key, m, value } => Event::Write { txn, key, m, value },
         EventView::Delete { txn, key, m } => Event::Delete { txn, key, m },
         EventView::Read {

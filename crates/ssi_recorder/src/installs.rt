@@ -72,7 +72,9 @@ fn lines(
     let _unique = committed.len();
     let mut lines = BTreeMap::new(alloc);
     'events: for i in 0..events.len() {
-        let event = events.at(i);
+        let Some(event) = events.get(i) else {
+            unreachable!()
+        };
         if let Some(entry) = event.written() {
             if let Some(place) = committed.get_index_of(&entry.version.txn) {
                 put(alloc, &mut lines, place, &entry)?;

@@ -1,6 +1,6 @@
 use Rattle.std.proofs.Common.{◌≡◌, ◌∙◌, ◌++◌, ◌∷◌, [], ◌+◌, ap, map, sym, take}
 use Rattle.std.proofs.lemmas.List.{map-append, take_more}
-use Rattle.adya_values.specs.Mirror.Events.{event_of, events_of}
+use Rattle.adya_values.specs.Mirror.Events.{event_of}
 use Rattle.adya_testing.proofs.histories.packed.Goals as goal
 
 pub loop-event-preserved : goal.loop-event-preserved

@@ -1,7 +1,7 @@
 use Rattle.std.proofs.Common.{arith}
+use Rattle.lemmas.proofs.Indices.{all_more}
 use Rattle.adya_values.specs.Mirror.Events.{events_of}
 use Rattle.adya_line.specs.Meaning.Limits.{IsEvent}
-use Rattle.adya_text.proofs.Indices.{all_more}
 use Rattle.adya_text.proofs.laws.events_within.Goals as goal
 
 pub loop-i-preserved : goal.loop-i-preserved

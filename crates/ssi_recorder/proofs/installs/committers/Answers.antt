@@ -1,4 +1,4 @@
-use Rattle.std.proofs.Common.{◌≡◌, ◌∙◌, ◌+◌, ◌<◌, ap, sym, drop, fold, get_or, length, slice_get, Some, option_and_then, subst}
+use Rattle.std.proofs.Common.{◌≡◌, ◌∙◌, ◌+◌, ◌<◌, ap, sym, drop, fold, get_or, slice_get, Some, option_and_then, subst}
 use Rattle.std.specs.List.{filter_map, cons_option}
 use Rattle.std.proofs.lemmas.Option.{slice_get-get_or}
 use Rattle.adya_values.specs.Meaning.Histories.{Abort}
