@@ -1,6 +1,7 @@
 -- What a scan lists of a key, among entries whose keys rise.
-use Rattle.std.proofs.Common.{◌≡◌, ℕ, zero, suc, ◌+◌, ◌<◌, true, cond, List, [], ◌∷◌, map, drop, length, get_or, Some, None, refl, sym, ◌∙◌, ap, subst}
+use Rattle.std.proofs.Common.{◌≡◌, ℕ, zero, suc, ◌+◌, ◌<◌, true, false, cond, List, [], ◌∷◌, map, drop, length, get_or, slice_get, Some, None, refl, sym, ◌∙◌, ap, subst}
 use Rattle.std.proofs.lemmas.Bool.{and_parts}
+use Rattle.std.proofs.lemmas.Option.{slice_get_read}
 use Rattle.lemmas.proofs.Orderings.{bytes_eq-from, bytes_eq-other, bytes_lt-trans}
 use Rattle.lemmas.proofs.Steps.{drop_step}
 use Rattle.adya_values.proofs.Keys.{keys_rise-tail}
@@ -8,7 +9,7 @@ use Rattle.adya_values.specs.declared.seen.Seen.{Seen}
 use Rattle.adya_values.specs.Meaning.Keys.{Key, key_lt, keys_rise}
 use Rattle.adya_values.specs.Meaning.Histories.{Entry}
 use Rattle.adya_values.specs.Meaning.Events.{listed}
-use Rattle.adya_dsg.proofs.Keys.{key_eq-gt}
+use Rattle.adya_dsg.proofs.Keys.{key_eq-gt, lt-other}
 
 abbrev key : Entry → Key
 key w = w.version.key
@@ -45,10 +46,12 @@ module _ (view : Seen → Entry) where
         (ap (listed k) splits ∙
         ap (λ b. cond b (Some (view s)) (listed k (map view (drop (i + 1) seen)))) (bytes_eq-from (key (view s)) k same))
 
-    pub unlisted : keys_rise (map key (map view seen)) ≡ true → key_lt k (key (view s)) ≡ true
+    -- it isn't below the key, and of another
+    pub unlisted : keys_rise (map key (map view seen)) ≡ true
+        → ((x : Seen) → slice_get seen i ≡ Some x → key_lt (key (view x)) k ≡ false) → (key (view s) ≡ k → ⊥)
         → None ≡ listed k (map view (drop i seen))
-    unlisted r above =
+    unlisted r reached other =
         sym
         (ap (listed k) splits ∙
         none_above (view s) (map view (drop (i + 1) seen)) k
-        (subst (λ ws. keys_rise (map key ws) ≡ true) splits (rise_from seen i r)) above)
+        (subst (λ ws. keys_rise (map key ws) ≡ true) splits (rise_from seen i r)) (lt-other (key (view s)) k (reached s (slice_get_read seen (length seen) i s refl l at)) other))

@@ -4,10 +4,10 @@ ghost use Rattle.std.specs.Prelude.{◌≡◌, ◌<◌, ◌≤◌, [], ℕ, List
 ghost use Rattle.std.specs.List.{list_all};
 ghost use Rattle.adya_values.specs.Meaning.Keys.{key_lt, keys_rise};
 ghost use Rattle.adya_values.specs.Meaning.Histories.{Event, Read, Scan};
-ghost use Rattle.adya_values.specs.Mirror.Numbers.{bounds, has_seen, seen_entry};
+ghost use Rattle.adya_values.specs.Mirror.Numbers.{bounds, has_seen};
 ghost use Rattle.adya_values.specs.Meaning.Events.{listed, observed, txn_of};
 ghost use Rattle.adya_values.specs.Meaning.Selections.{place_of};
-ghost use Rattle.adya_dsg.specs.Machinery.VersionOrders.{ordered_events, ordered_history, order_lines, IsNumber, numbered};
+ghost use Rattle.adya_dsg.specs.Machinery.VersionOrders.{ordered_entry, ordered_events, ordered_history, order_lines, IsNumber, numbered};
 ghost use Rattle.adya_dsg.specs.Machinery.Choices.{choices, choice_of, event_at, key_at};
 
 use crate::version_orders::VersionOrders;
@@ -59,7 +59,7 @@ fn select_read(
         (e : Event)
         → txn_of e ≡ txn
         → bounds e ≡ None
-        → observed e ≡ map (seen_entry (ordered_events versions.now)) seen.now
+        → observed e ≡ map (ordered_entry versions.now) seen.now
         → OnOk result (map (choice_of h) selections.new.items ≡ choices h e) }
 {
     let [read] = seen else {
@@ -77,7 +77,7 @@ fn of_read(versions: &VersionOrders, txn: Txn, read: &Seen) -> Option<Selection>
     ensures choice { let h = ordered_history versions.now in
         (value : List ℕ)
         → option_to_list (option_map (choice_of h) result)
-        ≡ choices h (Read txn (seen_entry (ordered_events versions.now) read.now).version value) }
+        ≡ choices h (Read txn (ordered_entry versions.now read.now).version value) }
 {
     if read.txn == txn {
         return None;
@@ -103,11 +103,11 @@ fn select_scanned(
     requires low { IsNumber versions.now low }
     requires high { IsNumber versions.now high }
     requires there { list_all (has_seen (ordered_events versions.now)) seen.now ≡ true }
-    requires rise { keys_rise (map (λ w. w.version.key) (map (seen_entry (ordered_events versions.now)) seen.now)) ≡ true }
+    requires rise { keys_rise (map (λ w. w.version.key) (map (ordered_entry versions.now) seen.now)) ≡ true }
     ensures within { OnOk result (All (λ s. s.line < length (order_lines versions.now)) selections.new.items) }
     ensures choices { let h = ordered_history versions.now in
         OnOk result (map (choice_of h) selections.new.items
-        ≡ choices h (Scan txn (numbered versions.now low) (numbered versions.now high) (map (seen_entry (ordered_events versions.now)) seen.now))) }
+        ≡ choices h (Scan txn (numbered versions.now low) (numbered versions.now high) (map (ordered_entry versions.now) seen.now))) }
 {
     let mut next = 0;
     for line in versions.lines_below(low)..versions.lines_up_to(high) {
@@ -124,7 +124,7 @@ fn select_scanned(
 fn reached(versions: &VersionOrders, seen: &[Seen], from: usize, line: usize) -> usize
     requires { list_all (has_seen (ordered_events versions.now)) seen.now ≡ true }
     ensures same { let h = ordered_history versions.now in
-        let w = seen_entry (ordered_events versions.now) in
+        let w = ordered_entry versions.now in
         (i : ℕ)
         → line ≤ i
         → i < length (order_lines versions.now)
@@ -161,11 +161,11 @@ fn is_passed(versions: &VersionOrders, seen: &Seen, line: usize) -> bool
 fn listed(versions: &VersionOrders, seen: &[Seen], at: usize, line: usize) -> Option<Seen>
     requires within { line < length (order_lines versions.now) }
     requires there { list_all (has_seen (ordered_events versions.now)) seen.now ≡ true }
-    requires rise { keys_rise (map (λ w. w.version.key) (map (seen_entry (ordered_events versions.now)) seen.now)) ≡ true }
+    requires rise { keys_rise (map (λ w. w.version.key) (map (ordered_entry versions.now) seen.now)) ≡ true }
     requires reached { (s : Seen)
         → slice_get seen.now at ≡ Some s
         → key_lt (numbered versions.now s.key) (key_at (ordered_history versions.now) line) ≡ false }
-    ensures { let w = seen_entry (ordered_events versions.now) in
+    ensures { let w = ordered_entry versions.now in
         option_map w result ≡ listed (key_at (ordered_history versions.now) line) (map w (drop at seen.now)) }
 {
     let seen = seen.get(at)?;
@@ -179,7 +179,7 @@ fn listed(versions: &VersionOrders, seen: &[Seen], at: usize, line: usize) -> Op
 fn selected(versions: &VersionOrders, txn: Txn, line: usize, listed: Option<Seen>) -> Option<usize>
     requires { line < length (order_lines versions.now) }
     ensures { let h = ordered_history versions.now in
-        result ≡ place_of h txn (key_at h line) (option_map (seen_entry (ordered_events versions.now)) listed) }
+        result ≡ place_of h txn (key_at h line) (option_map (ordered_entry versions.now) listed) }
 {
     let Some(seen) = listed else {
         return Some(0);

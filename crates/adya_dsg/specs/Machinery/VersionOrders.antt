@@ -2,11 +2,12 @@
 use Rattle.std.specs.Prelude.{ℕ, ◌<◌, List, length}
 use Rattle.adya_values.specs.declared.events.Events.{Events}
 use Rattle.adya_values.specs.declared.order.Order.{Order}
+use Rattle.adya_values.specs.declared.seen.Seen.{Seen}
 use Rattle.adya_values.specs.Machinery.Seen.{key_at}
-use Rattle.adya_values.specs.Meaning.Histories.{History}
+use Rattle.adya_values.specs.Meaning.Histories.{Entry, History}
 use Rattle.adya_values.specs.Meaning.Keys.{Key}
 use Rattle.adya_values.specs.Mirror.Histories.{orders_in}
-use Rattle.adya_values.specs.Mirror.Numbers.{keys_of}
+use Rattle.adya_values.specs.Mirror.Numbers.{keys_of, seen_entry}
 use Rattle.adya_terms.specs.Clauses.Checked.{history_in, checked_history}
 use Rattle.adya_dsg.specs.declared.version_orders.VersionOrders.{VersionOrders}
 
@@ -20,6 +21,10 @@ order_lines v = orders_in (history_in v.checked.now)
 -- its events, which give numbers to the keys that they name
 abbrev pub ordered_events : VersionOrders → Events
 ordered_events v = v.events.now
+
+-- the entry that one of them sees
+abbrev pub ordered_entry : VersionOrders → Seen → Entry
+ordered_entry v s = seen_entry v.events.now s
 
 -- a key has the number
 abbrev pub IsNumber : VersionOrders → ℕ → Type 0

@@ -5,8 +5,8 @@ use Rattle.adya_values.specs.Meaning.Histories.{Entry, Scan}
 use Rattle.adya_values.specs.Meaning.Keys.{keys_rise}
 use Rattle.adya_values.specs.Computing.Faults.{first_fault}
 use Rattle.adya_values.specs.Clauses.Rules.{IsRising}
-use Rattle.adya_values.specs.Mirror.Numbers.{both_at, keys_of, seen_entry}
-use Rattle.adya_dsg.specs.Machinery.VersionOrders.{ordered_events, ordered_history, numbered}
+use Rattle.adya_values.specs.Mirror.Numbers.{both_at, keys_of}
+use Rattle.adya_dsg.specs.Machinery.VersionOrders.{ordered_entry, ordered_events, ordered_history, numbered}
 use Rattle.adya_dsg.specs.Machinery.Choices.{choices, event_at}
 use Rattle.lemmas.proofs.Members.{Contains-slice_get}
 use Rattle.lemmas.proofs.Options.{none_from}
@@ -20,7 +20,7 @@ select_scanned-requires-clause-rise c =
     let h = ordered_history g in
     let i = c.args.event in
     let e = event_at h i in
-    let w = seen_entry (ordered_events g) in
+    let w = ordered_entry g in
     let is_checked = c.checked_iff_no_fault.ensures.sound h (none_from (first_fault h) g.checked.now.checked) in
     let scan = scan_is e (numbered g c.in-Some.low) (numbered g c.in-Some.high)
     (sym c.bounds.ensures.keys ∙ ap (option_map (both_at (keys_of (ordered_events g)))) c.in-Some.is) in
@@ -33,7 +33,7 @@ returns-in-Some-clause-choices c =
     let g = c.args.versions.now in
     let h = ordered_history g in
     let e = event_at h c.args.event in
-    let w = seen_entry (ordered_events g) in
+    let w = ordered_entry g in
     let low = numbered g c.in-Some.low in
     let high = numbered g c.in-Some.high in
     let scan = scan_is e low high

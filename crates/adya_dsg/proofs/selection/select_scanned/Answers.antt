@@ -4,9 +4,8 @@ use Rattle.std.proofs.lemmas.List.{length-map, map-append}
 use Rattle.std.proofs.lemmas.List.Elements.{All-push, All-nil}
 use Rattle.adya_values.specs.Meaning.Histories.{Scan}
 use Rattle.adya_values.specs.Mirror.Events.{order_of}
-use Rattle.adya_values.specs.Mirror.Numbers.{seen_entry}
 use Rattle.adya_values.specs.Meaning.Selections.{selected, place_of}
-use Rattle.adya_dsg.specs.Machinery.VersionOrders.{ordered_events, ordered_history, order_lines, numbered}
+use Rattle.adya_dsg.specs.Machinery.VersionOrders.{ordered_entry, ordered_history, order_lines, numbered}
 use Rattle.adya_dsg.specs.declared.selection.Selection.{Selection}
 use Rattle.adya_dsg.specs.Machinery.Choices.{choice_of, key_at}
 use Rattle.adya_dsg.proofs.Selections.{chosen_in, scan_starts, scan_ends, inside, chosen_step, passed_step}
@@ -20,7 +19,7 @@ loop-line-init c =
     let os = order_lines g in
     let low = numbered g c.args.low in
     let high = numbered g c.args.high in
-    let es = map (seen_entry (ordered_events g)) c.args.seen.now in
+    let es = map (ordered_entry g) c.args.seen.now in
     let n = c.lines_below-line.result in
     let none = c.requires.none in record {
       within = subst (λ zs. (k : ℕ) (d : Selection) → k < length zs → (get_or zs k d).line < length os) (sym none)
@@ -38,7 +37,7 @@ loop-line-preserved c =
     let os = order_lines g in
     let low = numbered g c.args.low in
     let high = numbered g c.args.high in
-    let es = map (seen_entry (ordered_events g)) c.args.seen.now in
+    let es = map (ordered_entry g) c.args.seen.now in
     let f = selected h (Scan c.args.txn low high es) in
     let i = c.loop-line.line in
     let k = key_at h i in
@@ -83,7 +82,7 @@ pub returns-clause-choices : goal.returns-clause-choices
 returns-clause-choices c =
     let g = c.args.versions.now in
     let h = ordered_history g in
-    let es = map (seen_entry (ordered_events g)) c.args.seen.now in
+    let es = map (ordered_entry g) c.args.seen.now in
     let done = map (choice_of h) c.loop-line.selections.items in
     let end = c.loop-line-test.false in
     sym (append-nil done) ∙
