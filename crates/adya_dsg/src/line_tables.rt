@@ -11,7 +11,7 @@ use adya_values::Txn;
 use std::alloc::{AllocError, Global};
 
 /// A line with at most so many writers is read through to find one, which takes less time than to look it up in a table.
-pub(crate) const SHORT_LINE: usize = 32;
+pub(crate) const SHORT_LINE: usize = 256;
 
 /// Returns the writers, or none if they are few.
 fn tabled(writers: &[Txn]) -> &[Txn]

@@ -10,4 +10,4 @@ HasPlaces m ts = (t : ℕ) → value_for m t ≡ place ts t
 
 -- the writers of a line that is read through to find one aren't in a table
 abbrev pub tabled : List ℕ → List ℕ
-tabled ws = if leb (length ws) 32 then [] else ws
+tabled ws = if leb (length ws) 256 then [] else ws

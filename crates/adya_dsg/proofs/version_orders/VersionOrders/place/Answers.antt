@@ -12,8 +12,8 @@ before c =
     let g = c.args.self.now in
     let h = ordered_history g in
     let ws = c.order-order.ensures.writers in
-    let many : leb (length c.order-order.result.now.writers.items) 32 ≡ false =
-    lt-leb _ 32 (subst (λ xs. 32 < length xs) c.as_slice-writers.ensures.value c.if-writers-le-SHORT_LINE.false) in
+    let many : leb (length c.order-order.result.now.writers.items) 256 ≡ false =
+    lt-leb _ 256 (subst (λ xs. 256 < length xs) c.as_slice-writers.ensures.value c.if-writers-le-SHORT_LINE.false) in
     c.place.ensures ∙
     ap (λ xs. place xs c.args.txn)
     (mapped_at (λ (x : List ℕ). tabled (writers h x)) (λ (p : TxnPlaces). p.txns.now) g.tables.items (order_lines g) c.args.line
