@@ -203,24 +203,6 @@ impl Arena {
         }
     }
 
-    /// Returns the version that the event of the row writes.
-    #[inline(always)]
-    pub(crate) fn version(&self, row: Row) -> Option<Version>
-        requires { is_row_of self.now row ≡ true }
-        ensures { result ≡ option_map (λ w. w.version) (written (event_of_row self.now row)) }
-    {
-        match row {
-            Row::Write { txn, m, key, .. } => {
-                Some(self.version_of(NumberedVersion { key, txn, m }))
-            }
-            Row::Delete { txn, m, key } => Some(self.version_of(NumberedVersion { key, txn, m })),
-            Row::Read { .. } => None,
-            Row::Scan { .. } => None,
-            Row::Commit { .. } => None,
-            Row::Abort { .. } => None,
-        }
-    }
-
     /// Returns whether the event of the row writes a value.
     #[inline(always)]
     pub(crate) fn shows(&self, row: Row) -> bool

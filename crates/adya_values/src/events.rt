@@ -148,17 +148,6 @@ impl Events {
         self.arena.txn(self.rows[i])
     }
 
-    /// Returns the version that the event at the index, counted from 0, writes; `None` if it writes none or there is no such event.
-    #[inline(always)]
-    pub fn version_at(&self, i: usize) -> Option<Version>
-        ensures { option_map (λ w. w.version) (option_and_then written (slice_get (events_of self.now) i)) ≡ result }
-    {
-        match self.rows.get(i) {
-            Some(row) => self.arena.version(*row),
-            None => None,
-        }
-    }
-
     /// Returns whether the event at the index, counted from 0, writes a value.
     #[inline(always)]
     pub fn shows(&self, i: usize) -> bool
@@ -170,7 +159,8 @@ impl Events {
         }
     }
 
-    /// Returns that version by the number of its key.
+    /// Returns the version that the event at the index, counted from 0, writes, by the number of its key; `None` if it writes none or
+    /// there is no such event.
     #[inline(always)]
     pub fn numbered_at(&self, i: usize) -> Option<NumberedVersion>
         ensures version { option_map (version_in (keys_of self.now)) result
