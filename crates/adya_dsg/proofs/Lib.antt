@@ -16,6 +16,7 @@ pub mod Lines
 pub mod LineNumbers
 pub mod LinksDecide
 pub mod Listed
+pub mod NamedOnce
 pub mod Numbers
 pub mod Parts
 pub mod Ranges

@@ -17,7 +17,7 @@ ghost use Rattle.adya_dsg.specs.Machinery.PartEdges.{line_edges, is_backward};
 use crate::Edge;
 use crate::event_edges::push_event_edges;
 use crate::event_links::push_event_links;
-use crate::selection::Selection;
+use crate::selection::Selector;
 use crate::txn_places::TxnPlaces;
 use crate::version_orders::VersionOrders;
 use crate::write_edges::push_write_edges;
@@ -84,7 +84,7 @@ fn first_read(
         IfOk result (λ o. option_map edge_of o ≡ find (is_backward certificate.now.txns.now)
         (flat_map (event_edges h) (filter (λ e. is_committed h.events (txn_of e)) h.events))) }
 {
-    let mut selections = Vec::new(alloc);
+    let mut selector = Selector::of(alloc, versions)?;
     let mut edges = Vec::new(alloc);
     for event in 0..versions.event_count() {
         if versions.is_committed(event) {
@@ -92,7 +92,7 @@ fn first_read(
                 certificate,
                 versions,
                 event,
-                &mut selections,
+                &mut selector,
                 &mut edges,
             )? {
                 return Ok(Some(found));
@@ -108,7 +108,7 @@ fn first_of_event(
     certificate: &TxnPlaces,
     versions: &VersionOrders,
     event: usize,
-    selections: &mut Vec<Selection>,
+    selector: &mut Selector,
     edges: &mut Vec<Edge>,
 ) -> Result<Option<Edge>, AllocError>
     requires checked { IsChecked (ordered_history versions.now) }
@@ -123,11 +123,11 @@ fn first_of_event(
 {
     selected_is_installed();
     edges.clear();
-    push_event_links(selections, edges, versions, event)?;
+    push_event_links(selector, edges, versions, event)?;
     if certificate.first_backward(edges).is_none() {
         return Ok(None);
     }
     edges.clear();
-    push_event_edges(selections, edges, versions, event)?;
+    push_event_edges(selector, edges, versions, event)?;
     Ok(certificate.first_backward(edges))
 }

@@ -10,14 +10,14 @@ ghost use Rattle.adya_dsg.specs.Machinery.PartEdges.{choice_edges};
 
 use crate::edge::push_edge;
 use crate::event_links::push_links_at;
-use crate::selection::{Selection, select};
+use crate::selection::{Selection, Selector};
 use crate::version_orders::VersionOrders;
 use crate::{Edge, Kind};
 use std::alloc::AllocError;
 
-/// Adds the edges of the event. The selections are room for what it reads or selects.
+/// Adds the edges of the event.
 pub(crate) fn push_event_edges(
-    selections: &mut Vec<Selection>,
+    selector: &mut Selector,
     edges: &mut Vec<Edge>,
     versions: &VersionOrders,
     event: usize,
@@ -26,8 +26,8 @@ pub(crate) fn push_event_edges(
     ensures { let h = ordered_history versions.now in
         OnOk result (map edge_of edges.new.items ≡ map edge_of edges.old.items ++ event_edges h (event_at h event)) }
 {
-    select(selections, versions, event)?;
-    for at in selections.as_slice() {
+    selector.select(versions, event)?;
+    for at in selector.selections.as_slice() {
         push_edges_at(edges, versions, event, *at)?;
     }
     Ok(())

@@ -7,15 +7,15 @@ ghost use Rattle.adya_dsg.specs.Machinery.Choices.{choice_of, event_at, key_at};
 ghost use Rattle.adya_dsg.specs.Machinery.Links.{overwriter, choice_links, event_links};
 
 use crate::edge::push_edge;
-use crate::selection::{Selection, select};
+use crate::selection::{Selection, Selector};
 use crate::version_orders::VersionOrders;
 use crate::{Edge, Kind};
 use adya_values::Txn;
 use std::alloc::AllocError;
 
-/// Adds the links of the event. The selections are room for what it reads or selects.
+/// Adds the links of the event.
 pub(crate) fn push_event_links(
-    selections: &mut Vec<Selection>,
+    selector: &mut Selector,
     edges: &mut Vec<Edge>,
     versions: &VersionOrders,
     event: usize,
@@ -24,8 +24,8 @@ pub(crate) fn push_event_links(
     ensures { let h = ordered_history versions.now in
         OnOk result (map edge_of edges.new.items ≡ map edge_of edges.old.items ++ event_links h (event_at h event)) }
 {
-    select(selections, versions, event)?;
-    for at in selections.as_slice() {
+    selector.select(versions, event)?;
+    for at in selector.selections.as_slice() {
         push_links_at(edges, versions, event, *at)?;
     }
     Ok(())

@@ -16,6 +16,7 @@ mod edge;
 mod event_edges;
 mod event_links;
 mod found;
+mod hints;
 mod laws;
 mod line_numbers;
 mod line_tables;

@@ -7,7 +7,7 @@ ghost use Rattle.adya_dsg.specs.Machinery.PartEdges.{parts, part_edges};
 
 use crate::Edge;
 use crate::event_edges::push_event_edges;
-use crate::selection::Selection;
+use crate::selection::Selector;
 use crate::version_orders::VersionOrders;
 use crate::write_edges::push_write_edges;
 use std::alloc::AllocError;
@@ -20,9 +20,9 @@ pub(crate) fn count_parts(versions: &VersionOrders) -> usize
 }
 
 /// Adds the edges of the part: of the order line at this index or, if there are only so many lines, of the event. Only
-/// the events of committed transactions have edges. The selections are room for what an event reads or selects.
+/// the events of committed transactions have edges.
 pub(crate) fn push_part_edges(
-    selections: &mut Vec<Selection>,
+    selector: &mut Selector,
     edges: &mut Vec<Edge>,
     versions: &VersionOrders,
     part: usize,
@@ -37,7 +37,7 @@ pub(crate) fn push_part_edges(
     }
     let event = part - orders.len();
     if versions.is_committed(event) {
-        push_event_edges(selections, edges, versions, event)?;
+        push_event_edges(selector, edges, versions, event)?;
     }
     Ok(())
 }

@@ -10,10 +10,11 @@ ghost use Rattle.adya_values.specs.Meaning.Selections.{place_of};
 ghost use Rattle.adya_dsg.specs.Machinery.VersionOrders.{ordered_entry, ordered_events, ordered_history, order_lines, IsNumber, numbered};
 ghost use Rattle.adya_dsg.specs.Machinery.Choices.{choices, choice_of, event_at, key_at};
 
+use crate::hints::Hints;
 use crate::version_orders::VersionOrders;
 use adya_terms::laws::checked_iff_no_fault;
 use adya_values::{Seen, Txn};
-use std::alloc::AllocError;
+use std::alloc::{AllocError, Global};
 
 /// A place of an order line, of which an event reads the version or a scan selects it.
 #[derive(Clone, Copy)]
@@ -22,32 +23,50 @@ pub(crate) struct Selection {
     pub place: usize,
 }
 
-/// Puts into the list, in place of what it holds, what the event reads or selects of others, by rising keys.
-pub(crate) fn select(
-    selections: &mut Vec<Selection>,
-    versions: &VersionOrders,
-    event: usize,
-) -> Result<(), AllocError>
-    requires { event < length (ordered_history versions.now).events }
-    ensures within { OnOk result (All (λ s. s.line < length (order_lines versions.now)) selections.new.items) }
-    ensures choices { let h = ordered_history versions.now in
-        OnOk result (map (choice_of h) selections.new.items ≡ choices h (event_at h event)) }
-{
-    checked_iff_no_fault();
-    selections.clear();
-    let txn = versions.txn(event);
-    let observed = versions.observed(event);
-    match versions.bounds(event) {
-        Some((low, high)) => {
-            select_scanned(selections, versions, txn, low, high, observed.seen())
+/// Finds what events read or select, one event after another. It is made once for a pass over the events.
+#[derive(Drop)]
+pub(crate) struct Selector {
+    /// What the last event reads or selects of others, by rising keys.
+    pub selections: Vec<Selection>,
+    hints: Hints,
+}
+
+impl Selector {
+    /// Makes a selector for the events of the history with these version orders; `AllocError` if memory is refused.
+    pub fn of(alloc: Global, versions: &VersionOrders) -> Result<Selector, AllocError> {
+        Ok(Selector {
+            selections: Vec::new(alloc),
+            hints: Hints::of(alloc, versions)?,
+        })
+    }
+
+    /// Puts into the selections, in place of what they are, those of the event.
+    pub fn select(&mut self, versions: &VersionOrders, event: usize) -> Result<(), AllocError>
+        requires { event < length (ordered_history versions.now).events }
+        ensures within { OnOk result (All (λ s. s.line < length (order_lines versions.now)) self.new.selections.items) }
+        ensures choices { let h = ordered_history versions.now in
+            OnOk result (map (choice_of h) self.new.selections.items ≡ choices h (event_at h event)) }
+    {
+        checked_iff_no_fault();
+        let selections = &mut self.selections;
+        let hints = &mut self.hints;
+        selections.clear();
+        let txn = versions.txn(event);
+        let observed = versions.observed(event);
+        let seen = observed.seen();
+        match versions.bounds(event) {
+            Some((low, high)) => {
+                select_scanned(selections, hints, versions, txn, low, high, seen)
+            }
+            None => select_read(selections, hints, versions, txn, seen),
         }
-        None => select_read(selections, versions, txn, observed.seen()),
     }
 }
 
 /// Adds what an event of the transaction that is no scan reads of others: it sees one entry, or none.
 fn select_read(
     selections: &mut Vec<Selection>,
+    hints: &mut Hints,
     versions: &VersionOrders,
     txn: Txn,
     seen: &[Seen],
@@ -65,13 +84,13 @@ fn select_read(
     let [read] = seen else {
         return Ok(());
     };
-    if let Some(selection) = of_read(versions, txn, read) {
+    if let Some(selection) = of_read(hints, versions, txn, read) {
         selections.push(selection)?;
     }
     Ok(())
 }
 
-fn of_read(versions: &VersionOrders, txn: Txn, read: &Seen) -> Option<Selection>
+fn of_read(hints: &mut Hints, versions: &VersionOrders, txn: Txn, read: &Seen) -> Option<Selection>
     requires { has_seen (ordered_events versions.now) read.now ≡ true }
     ensures within { IfSome result (λ s. s.line < length (order_lines versions.now)) }
     ensures choice { let h = ordered_history versions.now in
@@ -85,7 +104,7 @@ fn of_read(versions: &VersionOrders, txn: Txn, read: &Seen) -> Option<Selection>
     let line = versions.line_of(read.key)?;
     Some(Selection {
         line,
-        place: versions.place(line, read.txn),
+        place: hints.place(versions, line, read.txn),
     })
 }
 
@@ -93,6 +112,7 @@ fn of_read(versions: &VersionOrders, txn: Txn, read: &Seen) -> Option<Selection>
 /// entries rise by their keys, and so do the lines.
 fn select_scanned(
     selections: &mut Vec<Selection>,
+    hints: &mut Hints,
     versions: &VersionOrders,
     txn: Txn,
     low: u32,
@@ -113,7 +133,7 @@ fn select_scanned(
     for line in versions.lines_below(low)..versions.lines_up_to(high) {
         next = reached(versions, seen, next, line);
         let listed = listed(versions, seen, next, line);
-        if let Some(place) = selected(versions, txn, line, listed) {
+        if let Some(place) = selected(hints, versions, txn, line, listed) {
             selections.push(Selection { line, place })?;
         }
     }
@@ -176,7 +196,13 @@ fn listed(versions: &VersionOrders, seen: &[Seen], at: usize, line: usize) -> Op
 }
 
 /// Returns the place of the line that a scan of the transaction selects, if it lists this entry of the line's key.
-fn selected(versions: &VersionOrders, txn: Txn, line: usize, listed: Option<Seen>) -> Option<usize>
+fn selected(
+    hints: &mut Hints,
+    versions: &VersionOrders,
+    txn: Txn,
+    line: usize,
+    listed: Option<Seen>,
+) -> Option<usize>
     requires { line < length (order_lines versions.now) }
     ensures { let h = ordered_history versions.now in
         result ≡ place_of h txn (key_at h line) (option_map (ordered_entry versions.now) listed) }
@@ -187,5 +213,5 @@ fn selected(versions: &VersionOrders, txn: Txn, line: usize, listed: Option<Seen
     if seen.txn == txn {
         return None;
     }
-    Some(versions.place(line, seen.txn))
+    Some(hints.place(versions, line, seen.txn))
 }

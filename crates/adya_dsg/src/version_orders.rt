@@ -21,8 +21,12 @@ use crate::line_numbers::lines_by_number;
 use crate::line_tables::{SHORT_LINE, line_tables};
 use crate::txn_places::TxnPlaces;
 use adya_terms::Checked;
+use adya_terms::laws::checked_iff_no_fault;
 use adya_values::{Events, Key, Observed, Order, Txn};
 use std::alloc::{AllocError, Global};
+
+/// So many writers from the hint on are looked at before the whole line.
+const NEAR: usize = 8;
 
 /// The version orders of a checked history. An order line is named by its index in the list of lines. In a line, place
 /// 0 is that of the unborn version, and the writers come from place 1 on.
@@ -145,6 +149,21 @@ impl<'a> VersionOrders<'a> {
         self.tables[line].place(txn) + 1
     }
 
+    /// Returns the same as [`place`](VersionOrders::place), and finds it fastest if the transaction is at the index of the
+    /// hint among the writers of the line, or soon after. The hint may be any number.
+    pub fn place_near(&self, line: usize, txn: Txn, hint: usize) -> usize
+        requires { line < length (order_lines self.now) }
+        ensures { let h = ordered_history self.now in
+            result ≡ suc (place (writers h (key_at h line)) txn) }
+    {
+        checked_iff_no_fault();
+        let order = self.order(line);
+        match near(order.writers.as_slice(), txn, hint) {
+            Some(index) => index + 1,
+            None => self.place(line, txn),
+        }
+    }
+
     /// Returns who installed the version at the place of the line.
     pub fn installer(&self, line: usize, place: usize) -> Option<Txn>
         requires { line < length (order_lines self.now) }
@@ -263,6 +282,19 @@ fn writers_before(writers: &[Txn], txn: Txn) -> usize
         }
     }
     writers.len()
+}
+
+/// Returns the index of the transaction among the writers, if it is at this index or one of the next few.
+fn near(writers: &[Txn], txn: Txn, from: usize) -> Option<usize>
+    ensures { IfSome result (λ i. slice_get writers.now i ≡ Some txn) }
+{
+    let end = writers.len().min(from.saturating_add(NEAR));
+    for i in from..end {
+        if writers[i] == txn {
+            return Some(i);
+        }
+    }
+    None
 }
 
 fn is_below(low: Key, high: Key) -> bool

@@ -12,7 +12,7 @@ use Rattle.lemmas.proofs.Members.{Contains-slice_get}
 use Rattle.lemmas.proofs.Options.{none_from}
 use Rattle.adya_dsg.proofs.EventsAt.{found_at, scan_is}
 use Rattle.adya_dsg.proofs.RisingEntries.{rising_at}
-use Rattle.adya_dsg.proofs.selection.select.Goals as goal
+use Rattle.adya_dsg.proofs.selection.Selector.select.Goals as goal
 
 pub select_scanned-requires-clause-rise : goal.select_scanned-requires-clause-rise
 select_scanned-requires-clause-rise c =
@@ -24,7 +24,7 @@ select_scanned-requires-clause-rise c =
     let is_checked = c.checked_iff_no_fault.ensures.sound h (none_from (first_fault h) g.checked.now.checked) in
     let scan = scan_is e (numbered g c.in-Some.low) (numbered g c.in-Some.high)
     (sym c.bounds.ensures.keys ∙ ap (option_map (both_at (keys_of (ordered_events g)))) c.in-Some.is) in
-    let sees = c.observed-observed.ensures.entries ∙ ap (map w) (sym c.seen.ensures) in
+    let sees = c.observed-observed.ensures.entries ∙ ap (map w) (sym c.seen-seen.ensures) in
     subst (λ (ws : List Entry). keys_rise (map (λ x. x.version.key) ws) ≡ true) sees
     (subst IsRising scan (rising_at h is_checked e (Contains-slice_get h.events i e (found_at h.events i c.requires)))).1
 
@@ -38,7 +38,7 @@ returns-in-Some-clause-choices c =
     let high = numbered g c.in-Some.high in
     let scan = scan_is e low high
     (sym c.bounds.ensures.keys ∙ ap (option_map (both_at (keys_of (ordered_events g)))) c.in-Some.is) in
-    let sees = c.observed-observed.ensures.entries ∙ ap (map w) (sym c.seen.ensures) in
+    let sees = c.observed-observed.ensures.entries ∙ ap (map w) (sym c.seen-seen.ensures) in
     on_ok_weaker c.select_scanned.result
     (λ is. is ∙
     ap (choices h)
