@@ -227,7 +227,7 @@ impl Events {
         self.arena.version_of(version)
     }
 
-    /// Returns how many keys have numbers: those that the events name, each of them once. The numbers go from 0 on.
+    /// Returns how many keys have numbers. Each key that an event names has one of its own; they go from 0 on.
     #[inline(always)]
     pub fn key_count(&self) -> usize
         ensures count { result ≡ length (keys_of self.now) }
