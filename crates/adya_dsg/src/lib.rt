@@ -17,7 +17,6 @@ mod event_edges;
 mod event_links;
 mod found;
 mod laws;
-mod line_numbers;
 mod line_tables;
 mod links;
 mod listing;
