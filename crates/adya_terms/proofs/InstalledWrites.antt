@@ -20,7 +20,7 @@ both_more f g xs ys x y so_far e =
     map-append f xs (x ∷ []) ∙ (ap (λ zs. zs ++ f x ∷ []) so_far ∙ (ap (λ z. map g ys ++ z ∷ []) e ∙ sym (map-append g ys (y ∷ []))))
 
 -- what stands at an index of both
-both_at : {A B C : Type 0} (f : A → C) (g : B → C) (xs : List A) (ys : List B) (i : ℕ) → map f xs ≡ map g ys
+pub both_at : {A B C : Type 0} (f : A → C) (g : B → C) (xs : List A) (ys : List B) (i : ℕ) → map f xs ≡ map g ys
     → option_map f (slice_get xs i) ≡ option_map g (slice_get ys i)
 both_at f g xs ys i e = sym (slice_get-map f xs i) ∙ (ap (λ zs. slice_get zs i) e ∙ slice_get-map g ys i)
 

@@ -62,6 +62,16 @@ module _ (c a : ℕ → Bool) (l : Own → Option ℕ) (v : Version → Option �
       let x = last_is_write t k at last in
       (x.wrote, wrote ∙ x.there, x.txn_is, x.key_is)
 
+  -- who installs a version has a last write, and the other way round
+  pub has_last : (k : List ℕ) (t : ℕ) → installs all k t ≡ true → (at : ℕ) × Installs all l k t at
+  has_last k t i =
+      let both = and_parts (is_committed all t) (is_some (last_write t k all)) i in
+      let last = some_value (l (own t k)) (m.has_is t k ∙ both.1) in
+      (last.0, record { committed = both.0; last_is = last.1 })
+
+  pub installs_it : (k : List ℕ) (t at : ℕ) → Installs all l k t at → installs all k t ≡ true
+  installs_it k t at x = and_from _ _ x.committed (sym (m.has_is t k) ∙ ap is_some x.last_is)
+
 -- ---- a line, event by event
 
 zeros : (n at : ℕ) → get_or {A = ℕ} (replicate n 0) at 0 ≡ 0
@@ -190,15 +200,16 @@ module _ (all : List Event) (l : Own → Option ℕ) (at : ℕ) (k ts ws : List 
 
 -- ---- a line in the end
 
-held_alike : (f : ℕ → Option ℕ) (ws ts : List ℕ) → length ws ≡ length ts
-    → ((p t : ℕ) → slice_get ts p ≡ Some t → held (get_or ws p 0) ≡ f t) → map held ws ≡ map f ts
-held_alike f [] [] long each = refl
-held_alike f [] (t ∷ ts) long each = absurd (omega (arith, long))
-held_alike f (w ∷ ws) [] long each = absurd (omega (arith, long))
-held_alike f (w ∷ ws) (t ∷ ts) long each =
-    let rest : length ws ≡ length ts = omega (arith, long) in
-    ap (λ x. x ∷ map held ws) (each 0 t refl) ∙
-    ap (λ xs. f t ∷ xs) (held_alike f ws ts rest (λ p u e. each (suc p) u e))
+-- functions that agree on what lists have at each place
+pub alike : {A B C : Type 0} (f : A → C) (g : B → C) (xs : List A) (ys : List B) → length xs ≡ length ys
+    → ((i : ℕ) (x : A) (y : B) → slice_get xs i ≡ Some x → slice_get ys i ≡ Some y → f x ≡ g y) → map f xs ≡ map g ys
+alike f g [] [] long each = refl
+alike f g [] (y ∷ ys) long each = absurd (omega (arith, long))
+alike f g (x ∷ xs) [] long each = absurd (omega (arith, long))
+alike f g (x ∷ xs) (y ∷ ys) long each =
+    let rest : length xs ≡ length ys = omega (arith, long) in
+    ap (λ z. z ∷ map f xs) (each 0 x y refl refl) ∙
+    ap (λ zs. g y ∷ zs) (alike f g xs ys rest (λ i. each (suc i)))
 
 -- the number stands at two places
 record IsTwice (xs : List ℕ) (t : ℕ) : Type 0 where
@@ -223,16 +234,6 @@ counted_twice (x ∷ xs) t more =
 
 module _ (c a : ℕ → Bool) (l : Own → Option ℕ) (v : Version → Option ℕ) (all : List Event) (m : Tell c a l v all all)
     (k ts ws : List ℕ) (lacks : Bool) (done : IsPlaced all l (length all) k ts ws lacks) where
-  -- who installs a version has a last write, and the other way round
-  pub has_last : (t : ℕ) → installs all k t ≡ true → (at : ℕ) × Installs all l k t at
-  has_last t i =
-      let both = and_parts (is_committed all t) (is_some (last_write t k all)) i in
-      let last = some_value (l (own t k)) (m.has_is t k ∙ both.1) in
-      (last.0, record { committed = both.0; last_is = last.1 })
-
-  pub installs_it : (t at : ℕ) → Installs all l k t at → installs all k t ≡ true
-  installs_it t at x = and_from _ _ x.committed (sym (m.has_is t k) ∙ ap is_some x.last_is)
-
   abbrev is_exact : Bool
   is_exact = lists_exactly (installs all k) ts all
 
@@ -265,17 +266,17 @@ module _ (c a : ℕ → Bool) (l : Own → Option ℕ) (v : Version → Option �
 
     pub line_is : map held ws ≡ map (λ t. l (own t k)) ts
     line_is =
-        held_alike (λ t. l (own t k)) ws ts done.count
-        (λ p t e.
-        let at = each_held p t e in
-        ap held at.1 ∙ sym at.2.last_is)
+        alike held (λ t. l (own t k)) ws ts done.count
+        (λ p w t e f.
+        let at = each_held p t f in
+        ap held (sym (get_or_from_slice_get ws p w 0 e)) ∙ (ap held at.1 ∙ sym at.2.last_is))
 
     full_is_exact : is_exact ≡ true
     full_is_exact =
         test_from_counts (installs all k) ts all
         (λ t. elim (cases_Bool (installs all k t)) [
           | inl i ↦
-              let x = has_last t i in
+              let x = has_last c a l v all m k t i in
               let w = done.placed t x.0 x.1 (last_within c a l v all m t k x.0 x.1.last_is) none_lacking in
               let some = count_at ts w.place t w.writer_is in
               let few : count ts t ≤ 1 = elim (cases_lt 1 (count ts t)) [
@@ -295,7 +296,7 @@ module _ (c a : ℕ → Bool) (l : Own → Option ℕ) (v : Version → Option �
             | inl more ↦
                 let p = count_place ts t more in
                 let x = each_held p.0 t p.1 in
-                absurd (both_ways _ i (installs_it t x.0 x.2))
+                absurd (both_ways _ i (installs_it c a l v all m k t x.0 x.2))
             | inr none ↦
                 let zero_is : count ts t ≡ 0 = omega (arith, none) in
                 zero_is ∙ ap (λ b. cond b 1 0) (sym i)
@@ -318,7 +319,7 @@ module _ (c a : ℕ → Bool) (l : Own → Option ℕ) (v : Version → Option �
     none_missing = elim (cases_Bool lacks) [
       | inl e ↦
           let x = done.lacking e in
-          let one = count_is x.txn ∙ ap (λ b. cond b 1 0) (installs_it x.txn x.at x.installs) in
+          let one = count_is x.txn ∙ ap (λ b. cond b 1 0) (installs_it c a l v all m k x.txn x.at x.installs) in
           let none = x.missing in
           absurd (omega (arith, one, none))
       | inr e ↦ e
@@ -331,7 +332,7 @@ module _ (c a : ℕ → Bool) (l : Own → Option ℕ) (v : Version → Option �
         let there : slice_get ts p ≡ Some t = slice_get-get_or ts p 0 (omega (arith, less, long)) in
         let i = installer t (count_at ts p t there) in
         let one = count_is t ∙ ap (λ b. cond b 1 0) i in
-        let x = has_last t i in
+        let x = has_last c a l v all m k t i in
         let w = done.placed t x.0 x.1 (last_within c a l v all m t k x.0 x.1.last_is) none_missing in
         let holds = w.holds in
         elim (cases_lt p w.place) [

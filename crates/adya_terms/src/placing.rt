@@ -1,6 +1,6 @@
 //! The places of the last writes of committed transactions in the order lines of their keys.
 
-ghost use Rattle.std.specs.Prelude.{◌≡◌, ◌<◌, ◌^◌, ℕ, List, Option, Some, false, true, suc, length, map, slice_get, IfOk};
+ghost use Rattle.std.specs.Prelude.{◌≡◌, ◌<◌, ◌^◌, ℕ, List, Option, Some, false, true, suc, length, map, slice_get, slice_index, IfOk, MatchOption};
 ghost use Rattle.adya_values.specs.Meaning.Keys.{Key as KeyValue, keys_rise};
 ghost use Rattle.adya_values.specs.Meaning.Histories.{Event as EventValue, Order as Line};
 ghost use Rattle.adya_values.specs.declared.order.Order.{Order as OrderValue};
@@ -54,12 +54,21 @@ impl<'a> Placing<'a> {
             → ArePlaced all last at ks os self.old
             → ArePlaced all last (suc at) ks os self.new }
     {
+        let Some(line) = self.line(key) else {
+            self.left_out = true;
+            return;
+        };
+        self.put_in(line, txn, at);
+    }
+
+    /// Returns the index of the line of the key with the number.
+    fn line(&self, key: u32) -> Option<usize>
+        ensures { let above = slice_index self.now.numbers.items key in
+            MatchOption result (above ≡ 0) (λ i. above ≡ suc i) }
+    {
         match self.numbers.get(key as usize) {
-            None | Some(0) => self.left_out = true,
-            Some(above) => {
-                let line = *above - 1;
-                self.put_in(line, txn, at);
-            }
+            None | Some(0) => None,
+            Some(above) => Some(*above - 1),
         }
     }
 

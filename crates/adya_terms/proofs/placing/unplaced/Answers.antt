@@ -1,26 +1,29 @@
-use Rattle.std.proofs.Common.{rules, ◌≡◌, ◌<◌, ◌^◌, ℕ, List, Option, Some, false, true, suc, length, map, slice_get, IfOk, ◌+◌, ◌-◌, ◌*◌, ◌≤◌, ◌/◌, ◌%◌, Bool, nat_eq, nat_lt, [], ◌∷◌, ◌++◌, slice_index_or, slice_set, bit_and, bit_or, Fits, w8, w32, w64, Bor, MutBor}
-use Rattle.adya_values.specs.Meaning.Keys.{Key as KeyValue}
-use Rattle.adya_values.specs.Meaning.Keys.{keys_rise}
-use Rattle.adya_values.specs.Meaning.Histories.{Event as EventValue}
-use Rattle.adya_values.specs.Meaning.Histories.{Order as Line}
-use Rattle.adya_values.specs.declared.order.Order.{Order as OrderValue}
-use Rattle.adya_values.specs.Machinery.Seen.{key_at}
-use Rattle.adya_values.specs.Mirror.Events.{order_of}
-use Rattle.adya_values.specs.Mirror.Numbers.{keys_of}
-use Rattle.adya_terms.specs.Machinery.EventIndex.{indexed, keys_in, last_in}
-use Rattle.adya_terms.specs.Machinery.Tables.{Own}
-use Rattle.adya_terms.specs.Machinery.Places.{blank, shape, AreLines, ArePlaced, IsInjective, Installs}
-use Rattle.adya_terms.specs.Mirror.LineNumbers.{FindsLines}
+use Rattle.std.proofs.Common.{◌≡◌, ◌∙◌, ◌++◌, [], ◌∷◌, ap, length, map, replicate, sym, take}
+use Rattle.std.proofs.lemmas.List.{take_all, take_more}
+use Rattle.adya_values.specs.declared.order.Order.{Order}
+use Rattle.adya_terms.specs.Machinery.Places.{blank, shape}
+use Rattle.adya_terms.proofs.InstalledWrites.{both_more}
 use Rattle.adya_terms.proofs.placing.unplaced.Goals as goal
 
--- src/placing.rt:104:5
 pub loop-order-init : goal.loop-order-init
-loop-order-init c = ?
+loop-order-init c = ap (map shape) c.in_ok-lines.ensures.items
 
--- src/placing.rt:104:5
 pub loop-order-preserved : goal.loop-order-preserved
-loop-order-preserved c = ?
+loop-order-preserved c =
+    let os = c.args.orders.now in
+    let i = c.loop-order.order-index in
+    let o = c.order-item.result in
+    let x = c.in_ok-new.field-0 in
+    let is : shape x ≡ blank o.writers.items =
+    ap (λ ts. (ts, x.writes.items, x.lacks)) c.in_ok-new.ensures.writers ∙
+    (ap (λ ws. (c.deref.result.now, ws, x.lacks)) c.in_ok-new.ensures.writes ∙
+    (ap (λ b. (c.deref.result.now, replicate (length c.deref.result.now) 0, b)) c.in_ok-new.ensures.lacks ∙
+    ap blank c.deref.ensures.value)) in
+    ap (map shape) c.in_ok-push.ensures.items ∙
+    (both_more shape (λ (p : Order). blank p.writers.items) c.loop-order.lines.items (take i os) x o c.loop-order.invariant is ∙
+    ap (map (λ (p : Order). blank p.writers.items)) (ap (λ v. take i os ++ v ∷ []) c.order-item.is ∙ sym (take_more os i o c.loop-order-test.true)))
 
--- src/placing.rt:100:1
 pub returns : goal.returns
-returns c = ?
+returns c =
+    c.loop-order.invariant ∙
+    ap (map (λ (p : Order). blank p.writers.items)) (take_all c.loop-order.order-index c.args.orders.now c.loop-order-test.false)
