@@ -1,9 +1,9 @@
 -- The places of writers in all lines, event by event and in the end.
-use Rattle.std.proofs.Common.{◌≡◌, ◌≢◌, ℕ, zero, suc, ◌+◌, ◌<◌, ◌≤◌, Bool, true, false, cond, not, is_some, ◌&&◌, ◌||◌, List, [], ◌∷◌, length, get_or, set, Option, Some, None, slice_get, slice_index, map, option_map, refl, sym, ◌∙◌, ap, subst, inl, inr, arith}
-use Rattle.std.specs.List.{filter_map, list_all, list_any}
-use Rattle.std.proofs.lemmas.Bool.{and_from, and_parts, both_ways, cases_Bool, cases_eq, cases_lt, false_from_ne_true, not-true, or_cases}
+use Rattle.std.proofs.Common.{◌≡◌, ◌≢◌, ℕ, zero, suc, ◌<◌, Bool, true, false, not, is_some, ◌||◌, List, [], ◌∷◌, length, get_or, set, Option, Some, slice_get, slice_index, map, option_map, refl, sym, ◌∙◌, ap, subst, inl, inr, arith}
+use Rattle.std.specs.List.{filter_map, list_all}
+use Rattle.std.proofs.lemmas.Bool.{and_from, both_ways, cases_eq, cases_lt, false_from_ne_true, not-true, or_cases}
 use Rattle.std.proofs.lemmas.List.{length-map, length-set}
-use Rattle.std.proofs.lemmas.Option.{get_or_from_slice_get, none-some, same_Some, slice_get_within, slice_get-map}
+use Rattle.std.proofs.lemmas.Option.{get_or_from_slice_get, none-some, same_Some, slice_get_within}
 use Rattle.std.proofs.lemmas.Simd.{map-map}
 use Rattle.adya_values.specs.declared.event.Version.{Version}
 use Rattle.adya_values.specs.declared.order.Order.{Order as OrderValue}
@@ -20,10 +20,10 @@ use Rattle.adya_values.proofs.Keys.{rises_pairs}
 use Rattle.adya_values.proofs.Writes.{has_last_write, last_write_from}
 use Rattle.adya_terms.specs.declared.line_places.LinePlaces.{LinePlaces}
 use Rattle.adya_terms.specs.declared.placing.Placing.{Placing}
-use Rattle.adya_terms.specs.Machinery.Tables.{own, Own, Tell}
-use Rattle.adya_terms.specs.Machinery.Places.{blank, has_line, held, is_full, line_writes, shape, AreLines, ArePlaced, AreWrites, Installs, IsInjective, IsLine, IsPlaced, Judges, LeavesOut}
+use Rattle.adya_terms.specs.Machinery.Tables.{Own, Tell}
+use Rattle.adya_terms.specs.Machinery.Places.{blank, has_line, held, line_writes, shape, AreLines, ArePlaced, AreWrites, Installs, IsInjective, IsLine, IsPlaced, Judges}
 use Rattle.adya_terms.specs.Mirror.LineNumbers.{key_of, FindsLines}
-use Rattle.adya_terms.proofs.Places.{alike, exact_if_full, has_last, injective, last_within, line_is, none_placed, passed_by}
+use Rattle.adya_terms.proofs.Places.{alike, exact_if_full, has_last, last_within, line_is, none_placed, passed_by}
 use Rattle.adya_terms.proofs.InstalledWrites.{both_at}
 use Rattle.lemmas.proofs.Booleans.{or_unless}
 use Rattle.lemmas.proofs.Members.{Contains-slice_get, slice_get-contained}

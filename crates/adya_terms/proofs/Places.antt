@@ -1,21 +1,20 @@
 -- The places of writers in the lines of their keys, event by event.
-use Rattle.std.proofs.Common.{◌≡◌, ◌≢◌, ℕ, zero, suc, ◌+◌, ◌==◌, ◌<◌, ◌≤◌, ◌⊎◌, Bool, true, false, cond, is_some, not, ◌&&◌, List, [], ◌∷◌, length, get_or, set, Option, Some, None, slice_get, slice_index, map, replicate, refl, sym, ◌∙◌, ap, subst, inl, inr, arith, get_or-set_other, get_or-set_same}
-use Rattle.std.specs.List.{Contains, list_all}
-use Rattle.std.proofs.lemmas.Bool.{and_parts, and_from, both_ways, cases_Bool, cases_eq, cases_lt, eq-eqb, eqb-true, false_from_ne_true, ne_eqb}
-use Rattle.std.proofs.lemmas.List.{ext_get_or, length-map, length-replicate, length-set}
+use Rattle.std.proofs.Common.{◌≡◌, ◌≢◌, ℕ, zero, suc, ◌==◌, ◌<◌, ◌≤◌, ◌⊎◌, Bool, true, false, cond, is_some, not, List, [], ◌∷◌, length, get_or, set, Option, Some, slice_get, slice_index, map, replicate, refl, sym, ◌∙◌, ap, subst, inl, inr, arith, get_or-set_other, get_or-set_same}
+use Rattle.std.proofs.lemmas.Bool.{and_parts, and_from, both_ways, cases_Bool, cases_eq, cases_lt, false_from_ne_true, ne_eqb}
+use Rattle.std.proofs.lemmas.List.{length-replicate, length-set}
 use Rattle.std.proofs.lemmas.Option.{get_or_from_slice_get, none-some, same_Some, slice_get-get_or, slice_get_past, slice_get_within}
 use Rattle.adya_values.specs.declared.event.Version.{Version}
-use Rattle.adya_values.specs.Meaning.Histories.{Entry, Event, Order}
+use Rattle.adya_values.specs.Meaning.Histories.{Entry, Event}
 use Rattle.adya_values.specs.Meaning.Events.{is_committed, last_write}
 use Rattle.adya_values.specs.Clauses.Rules.{installs}
 use Rattle.adya_values.specs.Computing.Faults.{lists_exactly}
 use Rattle.adya_values.proofs.ListsExactly.{counts_from_test, test_from_counts}
 use Rattle.adya_values.proofs.Writes.{committed_source, last_write_from}
 use Rattle.adya_terms.specs.Machinery.Tables.{own, written_at, written_by, Own, Tell}
-use Rattle.adya_terms.specs.Machinery.Places.{held, is_full, line_writes, HasPlace, Installs, IsInjective, IsOfWriter, IsPlaced, Lacks}
+use Rattle.adya_terms.specs.Machinery.Places.{held, is_full, HasPlace, Installs, IsInjective, IsOfWriter, IsPlaced}
 use Rattle.lemmas.proofs.Counts.{count, count_at, count_other, count_place, count_same, count_twice}
 use Rattle.lemmas.proofs.Options.{some_value}
-use Rattle.lemmas.proofs.Tests.{all_pass, list_all_fails_at, list_all_when}
+use Rattle.lemmas.proofs.Tests.{all_pass, list_all_when}
 
 -- ---- the tables have each event at most once
 

@@ -91,7 +91,11 @@ impl<'a> Placing<'a> {
     }
 
     /// Places the writers of the lines.
-    pub fn of(alloc: Global, index: &EventIndex, orders: &'a [Order]) -> Result<Placing<'a>, AllocError>
+    pub fn of(
+        alloc: Global,
+        index: &EventIndex,
+        orders: &'a [Order],
+    ) -> Result<Placing<'a>, AllocError>
         requires rise { keys_rise (map (λ o. o.key) (map order_of orders.now)) ≡ true }
         ensures { IfOk result (ArePlaced (indexed index.now) (last_in index.now) (length (indexed index.now)) (keys_in index.now) orders.now) }
     {

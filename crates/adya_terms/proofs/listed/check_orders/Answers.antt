@@ -1,4 +1,4 @@
-use Rattle.std.proofs.Common.{◌≡◌, ◌+◌, ◌∙◌, ap, length, map, refl, subst, sym, Some, [], true, false}
+use Rattle.std.proofs.Common.{◌≡◌, ◌+◌, ◌∙◌, ap, length, refl, subst, sym, Some, [], true, false}
 use Rattle.std.proofs.lemmas.List.{length-map}
 use Rattle.adya_values.specs.declared.fault.Rule.TheVariants.{M7}
 use Rattle.adya_values.specs.Computing.Faults.{Malformed, first, fault_unless, has_lines, order_faults}

@@ -1,4 +1,4 @@
-use Rattle.std.proofs.Common.{◌≡◌, suc, sym, subst}
+use Rattle.std.proofs.Common.{suc, sym, subst}
 use Rattle.std.proofs.lemmas.Option.{slice_get_within}
 use Rattle.adya_terms.specs.Machinery.Places.{IsPlaced}
 use Rattle.adya_terms.proofs.Places.{one_lacking, one_placed}

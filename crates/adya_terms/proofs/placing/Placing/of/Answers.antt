@@ -1,4 +1,4 @@
-use Rattle.std.proofs.Common.{◌≡◌, ◌+◌, ℕ, suc, arith, length, subst, sym}
+use Rattle.std.proofs.Common.{◌≡◌, ◌+◌, suc, arith, length, subst, sym}
 use Rattle.adya_values.specs.declared.events.Events.{Events}
 use Rattle.adya_values.specs.Mirror.Numbers.{keys_of}
 use Rattle.adya_terms.specs.Machinery.EventIndex.{indexed, keys_in, last_in}

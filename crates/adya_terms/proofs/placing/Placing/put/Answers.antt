@@ -1,4 +1,4 @@
-use Rattle.std.proofs.Common.{◌≡◌, map, refl, subst, sym}
+use Rattle.std.proofs.Common.{map, refl, subst, sym}
 use Rattle.adya_values.specs.Mirror.Events.{order_of}
 use Rattle.adya_terms.specs.Machinery.Places.{Installs}
 use Rattle.adya_terms.proofs.PlacedLines.{left_out_more, line_found, line_placed}

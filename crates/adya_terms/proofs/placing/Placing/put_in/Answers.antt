@@ -1,4 +1,4 @@
-use Rattle.std.proofs.Common.{◌≡◌, ◌<◌, ap, arith, false, length, refl, sym, true, Some, slice_get}
+use Rattle.std.proofs.Common.{◌≡◌, ap, arith, length, refl, Some, slice_get}
 use Rattle.std.proofs.lemmas.Bool.{both_ways}
 use Rattle.std.proofs.lemmas.Option.{slice_get_read, slice_get_within}
 use Rattle.adya_terms.proofs.PlacedLines.{line_more}
