@@ -13,7 +13,6 @@ pub mod FlatMaps
 pub mod Keys
 pub mod LineEdges
 pub mod Lines
-pub mod LineNumbers
 pub mod LinksDecide
 pub mod Listed
 pub mod NamedOnce

@@ -12,7 +12,7 @@ use Rattle.adya_values.specs.Mirror.Histories.{history_of}
 use Rattle.adya_values.specs.Computing.Shapes.{is_shape}
 use Rattle.adya_values.specs.Meaning.Histories.{History, Order}
 use Rattle.adya_values.specs.Meaning.Orders.{place, line_of}
-use Rattle.adya_dsg.specs.Machinery.Choices.{key_of}
+use Rattle.adya_terms.specs.Mirror.LineNumbers.{key_of}
 use Rattle.adya_dsg.proofs.Keys.{line_of-at, rises_at}
 use Rattle.lemmas.proofs.Orderings.{bytes_lt-trans, bytes_lt-apart}
 

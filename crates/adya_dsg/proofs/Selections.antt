@@ -12,7 +12,8 @@ use Rattle.adya_values.specs.Meaning.Events.{listed, observed}
 use Rattle.adya_values.specs.Mirror.Numbers.{bounds}
 use Rattle.adya_values.specs.Meaning.Orders.{place, writers}
 use Rattle.adya_values.specs.Meaning.Selections.{selected, place_of}
-use Rattle.adya_dsg.specs.Machinery.Choices.{Choice, choice, choices, key_of}
+use Rattle.adya_terms.specs.Mirror.LineNumbers.{key_of}
+use Rattle.adya_dsg.specs.Machinery.Choices.{Choice, choice, choices}
 use Rattle.lemmas.proofs.Orderings.{less_from_is_lt, bytes_eq-same, bytes_eq-itself}
 use Rattle.adya_dsg.proofs.Keys.{key_eq-lt, key_eq-gt, rises_at}
 

@@ -18,7 +18,6 @@ mod event_links;
 mod found;
 mod hints;
 mod laws;
-mod line_numbers;
 mod line_tables;
 mod links;
 mod listing;

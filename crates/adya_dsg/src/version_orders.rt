@@ -12,16 +12,15 @@ ghost use Rattle.adya_values.specs.Meaning.Events.{txn_of, is_committed, observe
 ghost use Rattle.adya_values.specs.Meaning.Orders.{writers, place, installer, is_visible_at};
 ghost use Rattle.adya_terms.specs.Clauses.Checked.{checked_history, history_in};
 ghost use Rattle.adya_dsg.specs.Machinery.Choices.{event_at, key_at};
-ghost use Rattle.adya_dsg.specs.Machinery.LineNumbers.{FindsLines};
+ghost use Rattle.adya_terms.specs.Mirror.LineNumbers.{FindsLines};
 ghost use Rattle.adya_dsg.specs.Machinery.Links.{changed_places};
 ghost use Rattle.adya_dsg.specs.Machinery.Places.{tabled};
 
 use crate::changes::line_changes;
-use crate::line_numbers::lines_by_number;
 use crate::line_tables::{SHORT_LINE, line_tables};
 use crate::txn_places::TxnPlaces;
-use adya_terms::Checked;
 use adya_terms::laws::checked_iff_no_fault;
+use adya_terms::{Checked, lines_by_number};
 use adya_values::{Events, Key, Observed, Order, Txn};
 use std::alloc::{AllocError, Global};
 

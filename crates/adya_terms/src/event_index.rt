@@ -1,19 +1,21 @@
 //! The events of a history with what the rules from M6 on, and the search for bad reads, look up in them.
 
-ghost use Rattle.std.specs.Prelude.{◌≡◌, ◌<◌, ◌^◌, ◌||◌, ◌==◌, ℕ, List, [], true, length, option_map, IfOk, IfSome, MatchResult};
+ghost use Rattle.std.specs.Prelude.{◌≡◌, ◌<◌, ◌^◌, ◌||◌, ◌==◌, ℕ, List, [], true, length, option_map, IfNone, IfOk, IfSome, MatchResult};
 ghost use Rattle.std.specs.List.{filter_map, list_any};
+ghost use Rattle.adya_values.specs.Machinery.Seen.{key_at};
 ghost use Rattle.adya_values.specs.Mirror.Events.{entry_of, events_of};
 ghost use Rattle.adya_values.specs.Mirror.Numbers.{has_seen, number_in, seen_entry};
 ghost use Rattle.adya_values.specs.Meaning.Events.{aborts, is_committed, last_write, written};
 ghost use Rattle.adya_values.specs.Clauses.Rules.{has_ended};
 ghost use Rattle.adya_values.specs.Computing.Faults.{entry_eq, event_faults, is_entry};
 ghost use Rattle.adya_terms.specs.Machinery.Tables.{own, KnowsCommitted};
+ghost use Rattle.adya_terms.specs.Machinery.Places.{Installs};
 ghost use Rattle.adya_terms.specs.Machinery.Telling.{told, Means};
 ghost use Rattle.adya_terms.specs.Machinery.Checks.{Names, Holds};
 
 use crate::rules::tables_of;
 use crate::tables::{Ended, Tables};
-use crate::{CheckFault, Entry, Events, Key, Seen, Txn};
+use crate::{CheckFault, Entry, Events, Key, NumberedVersion, Seen, Txn};
 use std::alloc::{AllocError, Global};
 use std::collections::BTreeSet;
 use txn_table::TxnTable;
@@ -117,6 +119,27 @@ impl<'a> EventIndex<'a> {
             None => None,
             Some(number) => self.tables.last_place(txn, number),
         }
+    }
+
+    /// Returns the version that the event at the index installs: if its transaction has committed, and writes the key last there.
+    pub fn installed_at(&self, at: usize) -> Option<NumberedVersion>
+        ensures there { IfSome result (λ v. v.key < length (keys_in self.now)) }
+        ensures installs { IfSome result (λ v. Installs (indexed self.now) (last_in self.now) (key_at (keys_in self.now) v.key) v.txn at) }
+        ensures none { IfNone result ((k : List ℕ) (t : ℕ) → Installs (indexed self.now) (last_in self.now) k t at → ⊥) }
+    {
+        let Some(version) = self.events().numbered_at(at) else {
+            return None;
+        };
+        if !self.has_committed(version.txn) {
+            return None;
+        }
+        let Some(last) = self.last_place(version.txn, Some(version.key)) else {
+            return None;
+        };
+        if last != at {
+            return None;
+        }
+        Some(version)
     }
 
     /// Returns whether the entry, which was written, is its transaction's last write of the key.

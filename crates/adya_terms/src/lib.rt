@@ -6,9 +6,12 @@ mod checked;
 mod ends;
 mod event_index;
 mod finals;
+mod line_numbers;
+mod line_places;
 mod listed;
 mod newest_writes;
 mod own_writes;
+mod placing;
 mod reads;
 mod rules;
 mod scans;
@@ -22,3 +25,4 @@ pub use adya_values::{
 };
 pub use checked::Checked;
 pub use devices::{Source, Watched};
+pub use line_numbers::lines_by_number;

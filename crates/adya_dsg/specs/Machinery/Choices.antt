@@ -3,6 +3,7 @@ use Rattle.std.specs.Prelude.{ℕ, List, [], option_map, Option, Some, None, sli
 use Rattle.std.specs.List.{filter_map, slice_get}
 use Rattle.adya_values.specs.Meaning.Histories.{Abort, Event, Order, History}
 use Rattle.adya_values.specs.Meaning.Selections.{selected}
+use Rattle.adya_terms.specs.Mirror.LineNumbers.{key_of}
 use Rattle.adya_dsg.specs.declared.selection.Selection.{Selection}
 
 -- the event at the index; past the end one that sees nothing
@@ -20,10 +21,6 @@ choice k p = record { key = k; place = p }
 -- for each key with an order line the place that the event reads or selects
 abbrev pub choices : History → Event → List Choice
 choices h e = filter_map (λ o. option_map (choice o.key) (selected h e o.key)) h.orders
-
-abbrev pub key_of : Option Order → List ℕ
-key_of None = []
-key_of (Some o) = o.key
 
 -- the key of the order line
 abbrev pub key_at : History → ℕ → List ℕ

@@ -50,8 +50,8 @@ returns-in-Ok-check_finals-clause-faults c =
     subst (λ r. MatchResult r (λ u. rule_faults h c.args.line ≡ []) (Names (rule_faults h c.args.line))) c.in-Ok-check_finals.is
     (after_orders (indexed x) (unfinished_in x) c.args.orders.now c.args.finals.now c.args.line c.check_finals.result ends c.in-Ok.ensures.faults c.check_finals.ensures)
 
-pub returns-in-Err-check_finals-clause-faults : goal.returns-in-Err-check_finals-clause-faults
-returns-in-Err-check_finals-clause-faults c =
+pub returns-clause-faults : goal.returns-clause-faults
+returns-clause-faults c =
     let x = c.args.index.now in
     let h = whole (indexed x) (unfinished_in x) c.args.orders.now c.args.finals.now in
     let ends : fault_unless (all_end h) c.args.line M6 ≡ [] =

@@ -29,8 +29,8 @@ invariant_of-result c =
           installed_if_last (last_in c.in-Ok.index) h.events
           (subst (λ all. (t : ℕ) (k : List ℕ) → written_at all (last_in c.in-Ok.index (own t k)) ≡ last_write t k all) same
           c.in-Ok.index.tell.last_is)
-          c.in-Ok.writes.items h.orders
-          (subst (λ (os : List Order). AreWrites (last_in c.in-Ok.index) c.in-Ok.writes.items (map order_of os)) c.orders.ensures.value c.in-Ok.ensures.writes);
+          c.in-Ok.lines.items h.orders
+          (subst (λ (os : List Order). AreWrites (last_in c.in-Ok.index) c.in-Ok.lines.items (map order_of os)) c.orders.ensures.value c.in-Ok.ensures.lines);
     }
 
 pub returns-in-Ok-clause-checked : goal.returns-in-Ok-clause-checked

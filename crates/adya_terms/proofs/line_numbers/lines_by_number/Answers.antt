@@ -1,9 +1,9 @@
 use Rattle.std.proofs.Common.{◌+◌, ◌∙◌, ℕ, Vec, Global, sym, subst, arith}
 use Rattle.adya_values.specs.Mirror.Numbers.{keys_of}
-use Rattle.adya_dsg.specs.Machinery.LineNumbers.{FindsLines}
-use Rattle.adya_dsg.proofs.LineNumbers.{none_more, one_more}
-use Rattle.adya_dsg.proofs.line_numbers.lines_by_number.Goals as goal
-use Rattle.adya_dsg.proofs.line_numbers.lines_by_number.Goals.{in-Some, in_default}
+use Rattle.adya_terms.specs.Mirror.LineNumbers.{FindsLines}
+use Rattle.adya_terms.proofs.LineNumbers.{none_more, one_more}
+use Rattle.adya_terms.proofs.line_numbers.lines_by_number.Goals as goal
+use Rattle.adya_terms.proofs.line_numbers.lines_by_number.Goals.{in-Some, in_default}
 
 pub loop-i-preserved : goal.loop-i-preserved
 loop-i-preserved c =

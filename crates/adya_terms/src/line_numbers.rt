@@ -2,13 +2,13 @@
 
 ghost use Rattle.std.specs.Prelude.{length, IfOk};
 ghost use Rattle.adya_values.specs.Mirror.Numbers.{keys_of};
-ghost use Rattle.adya_dsg.specs.Machinery.LineNumbers.{FindsLines};
+ghost use Rattle.adya_terms.specs.Mirror.LineNumbers.{FindsLines};
 
-use adya_values::{Events, Order};
+use crate::{Events, Order};
 use std::alloc::{AllocError, Global};
 
 /// Returns by the number of each key, which the events give, the index of its order line and 1; 0 if it has no line.
-pub(crate) fn lines_by_number(
+pub fn lines_by_number(
     alloc: Global,
     events: &Events,
     orders: &[Order],

@@ -12,12 +12,14 @@ use Rattle.adya_values.specs.Meaning.Keys.{Key, key_eq}
 use Rattle.adya_values.specs.Mirror.Events.{order_of}
 use Rattle.adya_values.specs.Mirror.Numbers.{number_in, AreNumbered}
 use Rattle.adya_values.specs.Machinery.Seen.{key_at}
-use Rattle.adya_dsg.specs.Machinery.Choices.{key_of}
-use Rattle.adya_dsg.specs.Machinery.LineNumbers.{FindsLines}
-use Rattle.adya_dsg.proofs.Lines.{key_is}
+use Rattle.adya_terms.specs.Mirror.LineNumbers.{key_of, FindsLines}
+use Rattle.lemmas.proofs.Steps.{turn}
 
 abbrev line_key : List Order → ℕ → Key
 line_key os i = key_of (slice_get (map order_of os) i)
+
+key_is : (os : List Order) (i : ℕ) (o : Order) → i < length os → o ≡ get_or os i o → line_key os i ≡ o.key
+key_is os i o l at = ap key_of (turn order_of os i o l at).found
 
 -- the key has the number that it is found with
 pub number_found : (ks : List Key) (k : Key) (n : ℕ) → number_in ks k ≡ Some n → (n < length ks) × (key_at ks n ≡ k)
