@@ -1,6 +1,6 @@
 //! An order line with the last writes of its writers, as far as they are found.
 
-ghost use Rattle.std.specs.Prelude.{◌≡◌, ◌<◌, ◌^◌, ◌==◌, ℕ, List, Option, Some, false, suc, length, replicate, set, slice_get, count_by, not, option_and_then, IfOk, MatchOption};
+ghost use Rattle.std.specs.Prelude.{◌≡◌, ◌<◌, ◌^◌, ◌==◌, ℕ, List, Option, Some, false, suc, length, replicate, set, slice_get, count_by, not, option_and_then, IfOk, IfSome, MatchOption};
 ghost use Rattle.std.specs.List.{list_all};
 ghost use Rattle.std.specs.Bool.{OnTrue};
 ghost use Rattle.adya_values.specs.Meaning.Histories.{Event as EventValue};
@@ -9,6 +9,10 @@ ghost use Rattle.adya_terms.specs.Machinery.Places.{held, is_full, Installs, IsI
 
 use crate::Txn;
 use std::alloc::{AllocError, Global};
+
+/// How far from the place at which a writer is expected it is looked for before the line is read through: writers of a key
+/// that run at the same time may be named in another order than that of their last writes.
+const NEAR: usize = 16;
 
 /// The writers that an order line names, with the indices of their last writes of its key, as far as these are found.
 #[derive(Drop)]
@@ -98,13 +102,36 @@ fn none_is_zero(writes: &[usize]) -> bool
     true
 }
 
-/// Returns a place of the transaction among the writers: the first that is looked at if it is there.
+/// Returns a place of the transaction among the writers: that at which it is looked for first, or one near to it, if it is
+/// there.
 fn place_in(writers: &[Txn], first: usize, txn: Txn) -> Option<usize>
     ensures { MatchOption result (count_by (λ u. u == txn) writers.now ≡ 0) (λ p. slice_get writers.now p ≡ Some txn) }
 {
     if is_at(writers, first, txn) {
         return Some(first);
     }
+    match place_near(writers, first, txn) {
+        Some(place) => Some(place),
+        None => any_place(writers, txn),
+    }
+}
+
+/// Returns a place of the transaction that is near to the other place.
+fn place_near(writers: &[Txn], other: usize, txn: Txn) -> Option<usize>
+    ensures { IfSome result (λ p. slice_get writers.now p ≡ Some txn) }
+{
+    for place in other.saturating_sub(NEAR)..other.saturating_add(NEAR) {
+        if is_at(writers, place, txn) {
+            return Some(place);
+        }
+    }
+    None
+}
+
+/// Returns a place of the transaction among the writers.
+fn any_place(writers: &[Txn], txn: Txn) -> Option<usize>
+    ensures { MatchOption result (count_by (λ u. u == txn) writers.now ≡ 0) (λ p. slice_get writers.now p ≡ Some txn) }
+{
     for (i, writer) in writers.iter().enumerate() {
         if *writer == txn {
             return Some(i);

@@ -4,7 +4,7 @@ use Rattle.std.proofs.lemmas.List.{drop_all}
 use Rattle.std.proofs.lemmas.Option.{slice_get_read}
 use Rattle.lemmas.proofs.Counts.{count, count_other}
 use Rattle.lemmas.proofs.Steps.{drop_step}
-use Rattle.adya_terms.proofs.line_places.place_in.Goals as goal
+use Rattle.adya_terms.proofs.line_places.any_place.Goals as goal
 
 pub loop-i-init : goal.loop-i-init
 loop-i-init c = refl
