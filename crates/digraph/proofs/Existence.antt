@@ -11,7 +11,8 @@ use Rattle.std.proofs.lemmas.Map.Views.{any-filter_same}
 use Rattle.lemmas.proofs.Booleans.{not_and}
 use Rattle.digraph.specs.declared.arc.Arc.{Arc}
 use Rattle.digraph.specs.Clauses.Graphs.{IsGraph, IsTopologicalOrder, IsPath, IsCycle}
-use Rattle.digraph.proofs.Orders.{Places, nothing_placed, one_placed, all_placed}
+use Rattle.digraph.specs.Machinery.Placings.{Places}
+use Rattle.digraph.proofs.Orders.{nothing_placed, one_placed, all_placed}
 use Rattle.digraph.proofs.Cycles.{cycle_cut}
 use Rattle.digraph.proofs.Sets.{is_eq_nat}
 

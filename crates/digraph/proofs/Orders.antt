@@ -1,5 +1,5 @@
 -- Topological orders, made by placing one node after another.
-use Rattle.std.proofs.Common.{◌≡◌, ◌≢◌, ℕ, suc, ◌+◌, ◌==◌, ◌<◌, Bool, true, false, cond, List, [], ◌∷◌, ◌++◌, count_by, sym, ◌∙◌, ap, subst, arith, inl, inr}
+use Rattle.std.proofs.Common.{◌≡◌, ◌≢◌, ℕ, suc, ◌==◌, ◌<◌, Bool, true, false, cond, List, [], ◌∷◌, ◌++◌, sym, ◌∙◌, ap, subst, arith, inl, inr}
 use Rattle.std.proofs.lemmas.Bool.{eq-eqb, ne_eqb, cases_eq, cond-true, cond-false}
 use Rattle.lemmas.proofs.Counts.{count, count_same, count_other, count-append}
 use Rattle.std.proofs.Common.{Contains, true≢false}
@@ -7,12 +7,13 @@ use Rattle.std.specs.List.{list_any}
 use Rattle.std.specs.Ordering.{nat_cmp, is_eq}
 use Rattle.digraph.specs.declared.arc.Arc.{Arc}
 use Rattle.digraph.specs.Clauses.Graphs.{IsGraph, place, IsBefore, IsTopologicalOrder}
+use Rattle.digraph.specs.Machinery.Placings.{Places}
 use Rattle.digraph.proofs.Sets.{updated_here, updated_apart}
 
-place_same : (x : ℕ) (xs : List ℕ) (t : ℕ) → x ≡ t → place (x ∷ xs) t ≡ 0
+pub place_same : (x : ℕ) (xs : List ℕ) (t : ℕ) → x ≡ t → place (x ∷ xs) t ≡ 0
 place_same x xs t e = cond-true {A = ℕ} (x == t) 0 (suc (place xs t)) (eq-eqb x t e)
 
-place_other : (x : ℕ) (xs : List ℕ) (t : ℕ) → x ≢ t → place (x ∷ xs) t ≡ suc (place xs t)
+pub place_other : (x : ℕ) (xs : List ℕ) (t : ℕ) → x ≢ t → place (x ∷ xs) t ≡ suc (place xs t)
 place_other x xs t e = cond-false {A = ℕ} (x == t) 0 (suc (place xs t)) (ne_eqb x t e)
 
 before_more : (xs ys : List ℕ) (a b : ℕ) → IsBefore xs a b → IsBefore (xs ++ ys) a b
@@ -50,11 +51,6 @@ before_new (x ∷ xs) a t h none =
                 omega (arith, far, near, rest)
           ]
     ]
-
--- each node is placed once or remaining, and each arc to a placed one goes forward
-pub record Places (nodes placed : List ℕ) (arcs : List Arc) (remaining : ℕ → Bool) : Type 0 where
-  pub once : (q : ℕ) → count_by (λ u. u == q) placed + cond (remaining q) 1 0 ≡ cond (list_any (λ u. u == q) nodes) 1 0
-  pub forward : (a : Arc) → Contains arcs a → remaining a.to ≡ false → IsBefore placed a.from a.to
 
 module _ (nodes : List ℕ) (arcs : List Arc) (ends : IsGraph nodes arcs) where
   pub nothing_placed : (remaining : ℕ → Bool) → ((q : ℕ) → remaining q ≡ list_any (λ u. u == q) nodes)

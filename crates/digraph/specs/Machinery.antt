@@ -1,2 +1,3 @@
 -- What only this crate's loops and tables need.
+pub mod Placings
 pub mod Traces

@@ -4,11 +4,17 @@
 #![tactic(auto)]
 
 mod arc;
+mod candidate;
+mod counts;
 mod distinct;
 mod incoming;
 mod laws;
 mod order;
+mod outgoing;
+mod placing;
 mod ready;
+mod slots;
+mod sorted;
 mod trace;
 
 pub use arc::Arc;

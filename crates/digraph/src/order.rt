@@ -1,18 +1,15 @@
 //! A topological order of a graph, or a cycle.
 
-ghost use Rattle.std.specs.Prelude.{◌≡◌, ◌==◌, ◌↔◌, ℕ, true, Contains, IfOk};
-ghost use Rattle.std.specs.List.{list_any};
-ghost use Rattle.std.specs.Ordering.{nat_cmp};
-ghost use Rattle.std.specs.BTreeSet.{contains};
+ghost use Rattle.std.specs.Prelude.{◌≡◌, ℕ, List, IfOk};
+ghost use Rattle.std.specs.List.Sorted.{IsNonDecreasingBy};
 ghost use Rattle.digraph.specs.Clauses.Graphs.{IsGraph, IsOrderOrCycle};
+ghost use Rattle.digraph.specs.Machinery.Placings.{IsPlacing};
 
 use crate::arc::Arc;
-use crate::distinct::each_once;
 use crate::incoming::by_target;
-use crate::ready::Ready;
+use crate::placing::{Placing, begin};
 use crate::trace::{Trace, trace_back};
 use std::alloc::{AllocError, Global};
-use std::collections::BTreeSet;
 
 /// A topological order of a graph, or a cycle that rules one out.
 #[derive(Drop)]
@@ -23,30 +20,32 @@ pub enum Outcome {
     Cycle(Vec<Arc>),
 }
 
-// The set of these nodes.
-fn set_of(alloc: Global, nodes: &[u32]) -> Result<BTreeSet<u32>, AllocError>
-    ensures { IfOk result (λ s. (q : ℕ) → contains nat_cmp s q ≡ list_any (λ u. u == q) nodes.now) }
+// Places the remaining nodes, if there is no cycle among them.
+fn place_rest(alloc: Global, arcs: &[Arc], begun: Placing) -> Result<Outcome, AllocError>
+    requires { IsNonDecreasingBy (λ a. a.to) arcs.now }
+    ensures { IfOk result (λ found. (nodes : List ℕ) → IsGraph nodes arcs.now → IsPlacing nodes arcs.now begun
+        → IsOrderOrCycle nodes arcs.now found) }
 {
-    let mut set = BTreeSet::new(alloc);
-    for t in nodes {
-        set.insert(*t)?;
+    let Placing {
+        mut placed,
+        mut remaining,
+    } = begun;
+    'place: while let Some(first) = remaining.first() {
+        match trace_back(alloc, arcs, &remaining, *first)? {
+            Trace::Cycle(cycle) => return Ok(Outcome::Cycle(cycle)),
+            Trace::Source(t) => {
+                placed.push(t)?;
+                remaining.remove(&t);
+            }
+        }
     }
-    Ok(set)
-}
-
-// The next node if it remains, and else the first.
-fn remaining_or_first(remaining: &BTreeSet<u32>, next: Option<u32>, first: u32) -> u32
-    requires { contains nat_cmp remaining.now first ≡ true }
-    ensures { contains nat_cmp remaining.now result ≡ true }
-{
-    match next {
-        Some(t) if remaining.contains(&t) => t,
-        _ => first,
-    }
+    Ok(Outcome::Order(placed))
 }
 
 /// Returns a topological order of the graph, or a cycle of its arcs; `AllocError` if memory is refused. A list may
-/// repeat nodes and arcs. It takes O((n + a) log n) steps for n nodes and a arcs, and needs one copy of the arcs.
+/// repeat nodes and arcs. For n nodes and a arcs it takes O(n log n + a) steps if there is an order and at least a
+/// quarter of the numbers from the least node to the greatest are nodes, and O((n + a) log n) otherwise. Beside the arcs
+/// it needs four bytes for each of them, and some 200 for each node.
 ///
 /// Of the topological orders it returns the one that is smallest place by place: among the nodes whose predecessors
 /// have all been placed, the smallest always comes next.
@@ -63,21 +62,9 @@ pub fn topological_order(
     requires { IsGraph nodes.now arcs.items }
     ensures { IfOk result (IsOrderOrCycle nodes.now arcs.items) }
 {
-    let out = each_once(arcs);
-    let into = by_target(alloc, &out)?;
-    let mut remaining = set_of(alloc, nodes)?;
-    let mut ready = Ready::of(alloc, nodes, out)?;
-    let mut placed = Vec::new(alloc);
-    'place: while let Some(first) = remaining.first() {
-        let next = remaining_or_first(&remaining, ready.next(), *first);
-        match trace_back(alloc, &into, &remaining, next)? {
-            Trace::Cycle(cycle) => return Ok(Outcome::Cycle(cycle)),
-            Trace::Source(t) => {
-                placed.push(t)?;
-                remaining.remove(&t);
-                ready.placed(t)?;
-            }
-        }
+    let begun = begin(alloc, nodes, &arcs)?;
+    if begun.remaining.is_empty() {
+        return Ok(Outcome::Order(begun.placed));
     }
-    Ok(Outcome::Order(placed))
+    place_rest(alloc, &by_target(arcs), begun)
 }

@@ -1,59 +1,58 @@
 //! The nodes that may be placed next.
 
 use crate::arc::Arc;
+use crate::counts::{add_one, take_one};
+use crate::slots::Slots;
 use std::alloc::{AllocError, Global};
-use std::collections::{BTreeSet, HashMap};
+use std::cmp::Reverse;
+use std::collections::BinaryHeap;
 
-/// The nodes that may be placed next, by counts of the arcs from remaining nodes. It only makes the choice, so it needs
-/// no contract: each node is looked at before it is placed.
+/// The slots of the nodes that may be placed next, by counts of the arcs from nodes that aren't placed. It has no
+/// contract, as slots have none.
 #[derive(Drop)]
 pub(crate) struct Ready {
-    waits: HashMap<u32, usize>,
-    ready: BTreeSet<u32>,
-    out: Vec<Arc>,
+    waits: Vec<usize>,
+    ready: BinaryHeap<Reverse<usize>>,
 }
 
-// How many arcs go into each node that has any.
-fn arcs_into(alloc: Global, arcs: &[Arc]) -> Result<HashMap<u32, usize>, AllocError> {
-    let mut into = HashMap::new(alloc);
+// How many arcs go into the node of each slot.
+fn arcs_into(alloc: Global, slots: &Slots, arcs: &[Arc]) -> Result<Vec<usize>, AllocError> {
+    let mut into = Vec::from_elem(alloc, 0usize, slots.len())?;
     for a in arcs {
-        let n = into.entry(a.to)?.or_insert(0usize);
-        *n = n.wrapping_add(1);
+        add_one(&mut into, slots.slot(a.to));
     }
     Ok(into)
 }
 
 impl Ready {
-    /// Begins with the nodes into which no arc goes, for arcs by where they come from.
-    pub fn of(alloc: Global, nodes: &[u32], out: Vec<Arc>) -> Result<Ready, AllocError> {
-        let waits = arcs_into(alloc, &out)?;
-        let mut ready = BTreeSet::new(alloc);
+    /// Begins with the nodes into which no arc goes. A node that is listed twice is there twice.
+    pub fn of(
+        alloc: Global,
+        slots: &Slots,
+        nodes: &[u32],
+        arcs: &[Arc],
+    ) -> Result<Ready, AllocError> {
+        let waits = arcs_into(alloc, slots, arcs)?;
+        let mut ready = BinaryHeap::new(alloc);
         for t in nodes {
-            if !waits.contains_key(t) {
-                ready.insert(*t)?;
+            let slot = slots.slot(*t);
+            if waits.get(slot) == Some(&0) {
+                ready.push(Reverse(slot))?;
             }
         }
-        Ok(Ready { waits, ready, out })
+        Ok(Ready { waits, ready })
     }
 
-    /// Returns the smallest node that may be placed, and forgets it.
-    pub fn next(&mut self) -> Option<u32> {
-        self.ready.pop_first()
+    /// Returns the slot of the smallest node that may be placed, and forgets it.
+    pub fn next(&mut self) -> Option<usize> {
+        let Reverse(slot) = self.ready.pop()?;
+        Some(slot)
     }
 
-    /// Lowers the counts of the nodes to which arcs go from this one.
-    pub fn placed(&mut self, t: u32) -> Result<(), AllocError> {
-        let first = self.out.partition_point(|a| a.from < t);
-        for a in &self.out[first..] {
-            if a.from != t {
-                return Ok(());
-            }
-            if let Some(n) = self.waits.get_mut(&a.to) {
-                *n = n.wrapping_sub(1);
-                if *n == 0 {
-                    self.ready.insert(a.to)?;
-                }
-            }
+    /// Lowers the count of a node, one of whose predecessors was placed.
+    pub fn lower(&mut self, slot: usize) -> Result<(), AllocError> {
+        if take_one(&mut self.waits, slot) == Some(0) {
+            self.ready.push(Reverse(slot))?;
         }
         Ok(())
     }

@@ -9,5 +9,4 @@ returns-clause-rises c =
     (always_returns_same _ (λ a r. r ≡ (a.0.now.to, a.0.now.from)) _ (λ a r q k. search rules)))
 
 pub returns-clause-same : goal.returns-clause-same
-returns-clause-same c =
-    same_permuted c.args.arcs.now _ _ c.in_ok-into.ensures.items c.sort_unstable_by_key.ensures.permutation
+returns-clause-same c = same_permuted c.args.arcs.items _ c.sort_unstable_by_key.ensures.permutation
