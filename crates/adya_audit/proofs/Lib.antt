@@ -1,3 +1,4 @@
+pub mod AllLeft
 pub mod Distinct
 pub mod ExactlyTheCommitted
 pub mod YesIffAccepted

@@ -5,13 +5,13 @@ ghost use Rattle.std.specs.List.{list_all};
 ghost use Rattle.std.specs.Ordering.{nat_cmp};
 ghost use Rattle.std.specs.BTreeSet.{contains};
 ghost use Rattle.adya_terms.specs.Clauses.Checked.{checked_history};
-ghost use Rattle.adya_values.specs.Mirror.Events.{event_of};
+ghost use Rattle.adya_values.specs.Mirror.Events.{events_of};
 ghost use Rattle.adya_values.specs.Meaning.Events.{is_committed};
 ghost use Rattle.adya_values.specs.Computing.Certificates.{lists_the_committed};
-ghost use Rattle.adya_audit.specs.Machinery.ExactlyTheCommitted.{HoldsEachOnce, commit_passes};
+ghost use Rattle.adya_audit.specs.Machinery.ExactlyTheCommitted.{HoldsEachOnce, commit_passes, passes};
 
 use adya_terms::Checked;
-use adya_values::{Event, Txn};
+use adya_values::{Events, Txn};
 use std::alloc::{AllocError, Global};
 use std::collections::BTreeSet;
 
@@ -50,18 +50,23 @@ fn all_committed(checked: &Checked, txns: &[Txn]) -> bool
     txns.iter().all(|t| checked.is_committed(*t))
 }
 
-fn all_listed(listed: &BTreeSet<Txn>, events: &[Event]) -> bool
-    ensures { result ≡ list_all (λ e. commit_passes (λ t. contains nat_cmp listed.now t) (event_of e)) events.now }
+fn all_listed(listed: &BTreeSet<Txn>, events: &Events) -> bool
+    ensures { result ≡ list_all (commit_passes (λ t. contains nat_cmp listed.now t)) (events_of events.now) }
 {
-    events.iter().all(|event| is_listed(listed, event))
+    for i in 0..events.len() {
+        if !is_listed(listed, events.commit_at(i)) {
+            return false;
+        }
+    }
+    true
 }
 
-/// Whether the event isn't the commit of a transaction that the set lacks.
-fn is_listed(listed: &BTreeSet<Txn>, event: &Event) -> bool
-    ensures { result ≡ commit_passes (λ t. contains nat_cmp listed.now t) (event_of event.now) }
+/// Whether the set has the transaction, if there is one.
+fn is_listed(listed: &BTreeSet<Txn>, committed: Option<Txn>) -> bool
+    ensures { result ≡ passes (λ t. contains nat_cmp listed.now t) committed }
 {
-    match event {
-        Event::Commit { txn } => listed.contains(txn),
-        _ => true,
+    match committed {
+        Some(txn) => listed.contains(&txn),
+        None => true,
     }
 }

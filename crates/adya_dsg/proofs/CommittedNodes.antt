@@ -1,20 +1,18 @@
 -- The list of the committed transactions, and their numbers.
-use Rattle.std.proofs.Common.{◌≡◌, ℕ, ◌+◌, ◌==◌, ◌||◌, ◌<◌, List, [], ◌∷◌, ◌++◌, map, take, get_or, length, cond, All, refl, sym, ◌∙◌, ap, subst}
-use Rattle.std.specs.List.{list_any, count_by}
+use Rattle.std.proofs.Common.{◌≡◌, ℕ, ◌+◌, ◌<◌, ◌==◌, ◌||◌, List, [], ◌∷◌, ◌++◌, take, get_or, length, slice_get, Option, option_and_then, cond, All, refl, sym, ◌∙◌, ap, subst}
+use Rattle.std.specs.List.{cons_option, list_any, count_by}
 use Rattle.std.proofs.lemmas.Bool.{eqb-true}
 use Rattle.lemmas.proofs.Booleans.{cond-positive}
 use Rattle.lemmas.proofs.Members.{All-from_contained}
 use Rattle.lemmas.proofs.Tests.{list_any-source}
 use Rattle.lemmas.proofs.Counts.{count, count_contained}
 use Rattle.adya_values.specs.Meaning.Keys.{IsTxn}
-use Rattle.std.proofs.lemmas.List.{take_more, map-append, append-nil}
+use Rattle.std.proofs.lemmas.Option.{slice_get-get_or}
+use Rattle.std.proofs.lemmas.List.{take_more}
 use Rattle.std.proofs.lemmas.List.Elements.{filter_map-append, All-contains}
-use Rattle.adya_values.specs.declared.event.Event.{Event as EventValue}
-use Rattle.adya_values.specs.declared.event.Event.TheVariants as In
 use Rattle.adya_values.specs.Meaning.Histories.{Event, Write, Delete, Read, Scan, Commit, Abort}
-use Rattle.adya_values.specs.Mirror.Events.{event_of}
-use Rattle.adya_values.specs.Meaning.Events.{is_committed}
-use Rattle.adya_dsg.specs.Machinery.Nodes.{committer, committed}
+use Rattle.adya_values.specs.Meaning.Events.{commit_of, is_committed}
+use Rattle.adya_dsg.specs.Machinery.Nodes.{committed}
 
 -- the list of the committed transactions has those that are committed
 pub committed_are_nodes : (events : List Event) (t : ℕ)
@@ -27,29 +25,18 @@ committed_are_nodes (Scan u low high entries ∷ es) t = committed_are_nodes es 
 committed_are_nodes (Commit u ∷ es) t = ap (λ b. (u == t) || b) (committed_are_nodes es t)
 committed_are_nodes (Abort u ∷ es) t = committed_are_nodes es t
 
-no_committer : (e : EventValue) → ((t : ℕ) → e ≡ In.Commit t → ⊥) → committed (event_of e ∷ []) ≡ []
-no_committer (In.Write u k m v) h = refl
-no_committer (In.Delete u k m) h = refl
-no_committer (In.Read u r v) h = refl
-no_committer (In.Scan u low high es) h = refl
-no_committer (In.Commit u) h = absurd (h u refl)
-no_committer (In.Abort u) h = refl
-
-module _ (events : List EventValue) (i : ℕ) (e : EventValue) (l : i < length events) (at : e ≡ get_or events i e)
-    (ts : List ℕ) (was : ts ≡ committed (map event_of (take i events))) where
-  one_more : committed (map event_of (take (i + 1) events)) ≡ ts ++ committed (event_of e ∷ [])
-  one_more =
-      ap (λ xs. committed (map event_of xs)) (take_more events i e l) ∙
-      (ap committed (map-append event_of (take i events) (get_or events i e ∷ [])) ∙
-      (filter_map-append committer (map event_of (take i events)) (event_of (get_or events i e) ∷ []) ∙
-      (ap (λ xs. xs ++ committed (event_of (get_or events i e) ∷ [])) (sym was) ∙
-      ap (λ x. ts ++ committed (event_of x ∷ [])) (sym at))))
-
-  pub noted_commit : (t : ℕ) → e ≡ In.Commit t → ts ++ t ∷ [] ≡ committed (map event_of (take (i + 1) events))
-  noted_commit t is = sym (one_more ∙ ap (λ x. ts ++ committed (event_of x ∷ [])) is)
-
-  pub noted_other : ((t : ℕ) → e ≡ In.Commit t → ⊥) → ts ≡ committed (map event_of (take (i + 1) events))
-  noted_other other = sym (one_more ∙ (ap (λ xs. ts ++ xs) (no_committer e other) ∙ append-nil ts))
+-- who commits by the event at an index, after those before
+pub one_more : (events : List Event) (i : ℕ) → i < length events → (found : Option ℕ)
+    → option_and_then commit_of (slice_get events i) ≡ found → (ts : List ℕ) → ts ≡ committed (take i events)
+    → ts ++ cons_option found [] ≡ committed (take (i + 1) events)
+one_more events i l found here ts was =
+    let x = get_or events i (Abort 0) in
+    sym
+    (ap committed (take_more events i (Abort 0) l) ∙
+    (filter_map-append commit_of (take i events) (x ∷ []) ∙
+    (ap (λ xs. xs ++ committed (x ∷ [])) (sym was) ∙
+    ap (λ o. ts ++ cons_option o [])
+    (ap (option_and_then commit_of) (sym (slice_get-get_or events i (Abort 0) l)) ∙ here))))
 
 -- an order of the nodes has numbers of transactions
 pub order_has_numbers : (nodes ts : List ℕ)

@@ -1,8 +1,7 @@
 -- The edges that a set keeps in the order in which they came, as the list without repeats.
-use Rattle.std.proofs.Common.{◌≡◌, ◌==◌, ◌+◌, ◌<◌, ◌&&◌, ◌||◌, ℕ, Bool, true, false, cond, List, [], ◌∷◌, ◌++◌, map, filter, flat_map, fold, get_or, length, drop, refl, sym, ◌∙◌, ap, subst, Result, Ok, Err, IfOk, Vec, Global}
+use Rattle.std.proofs.Common.{◌≡◌, ◌==◌, ◌&&◌, ◌||◌, Bool, true, false, cond, List, [], ◌∷◌, ◌++◌, map, refl, ◌∙◌, ap, Result, Ok, Err, IfOk, Vec, Global}
 use Rattle.std.specs.List.{list_any}
 use Rattle.std.proofs.lemmas.List.{map-append}
-use Rattle.std.proofs.lemmas.List.Sums.{fold-append}
 use Rattle.lemmas.proofs.Booleans.{and_regroup}
 use Rattle.indexmap.specs.IndexSet.{insert_key}
 use Rattle.adya_values.specs.Meaning.Keys.{key_eq}
@@ -14,7 +13,6 @@ use Rattle.adya_dsg.specs.contracts.edge.KindPartialEq.TheImpl as kinds
 use Rattle.adya_dsg.specs.declared.edge.Kind.{Kind as KindValue}
 use Rattle.adya_dsg.specs.declared.edge.Kind.TheVariants as In
 use Rattle.adya_dsg.specs.declared.edge.Edge.{Edge as EdgeValue}
-use Rattle.lemmas.proofs.Steps.{drop_step}
 
 abbrev same_kind : KindValue → KindValue → Bool
 same_kind = (kinds.ghosts).eq
@@ -64,41 +62,3 @@ pub copied : {E : Type 0} (r : Result (Vec EdgeValue Global) E) (ks : List EdgeV
     → IfOk r (λ v. v.items ≡ ks) → map edge_of ks ≡ es → IfOk r (λ v. map edge_of v.items ≡ es)
 copied (Ok v) ks es same plain = ap (map edge_of) same ∙ plain
 copied (Err e) ks es same plain = tt
-
--- loops that add the edges of each item: what one turn adds comes off what is left to add
-module _ {X Y : Type 0} (view : Y → X) (ys : List Y) (i : ℕ) (y : Y) (l : i < length ys) (at : y ≡ get_or ys i y)
-    (done now all : List Edge) where
-  fold_step : (left : List X → List Edge) (part : List Edge)
-      → left (view y ∷ map view (drop (i + 1) ys)) ≡ part ++ left (map view (drop (i + 1) ys))
-      → now ≡ fold with_edge done part → fold with_edge done (left (map view (drop i ys))) ≡ all
-      → fold with_edge now (left (map view (drop (i + 1) ys))) ≡ all
-  fold_step left part first adds before =
-      let rest = left (map view (drop (i + 1) ys)) in
-      ap (λ zs. fold with_edge zs rest) adds ∙
-      (sym (fold-append with_edge done part rest) ∙
-      (ap (fold with_edge done) (sym first) ∙
-      (ap (λ zs. fold with_edge done (left (map view zs))) (sym (drop_step ys i y l at)) ∙ before)))
-
-  module _ (f : X → List Edge) where
-    pub fold_each : now ≡ fold with_edge done (f (view y))
-        → fold with_edge done (flat_map f (map view (drop i ys))) ≡ all
-        → fold with_edge now (flat_map f (map view (drop (i + 1) ys))) ≡ all
-    fold_each = fold_step (flat_map f) (f (view y)) refl
-
-    -- if only the items that pass the test count
-    module _ (p : X → Bool) where
-      pub fold_kept : p (view y) ≡ true → now ≡ fold with_edge done (f (view y))
-          → fold with_edge done (flat_map f (filter p (map view (drop i ys)))) ≡ all
-          → fold with_edge now (flat_map f (filter p (map view (drop (i + 1) ys)))) ≡ all
-      fold_kept t =
-          let rest = filter p (map view (drop (i + 1) ys)) in
-          fold_step (λ xs. flat_map f (filter p xs)) (f (view y))
-          (ap (λ b. flat_map f (cond b (view y ∷ rest) rest)) t)
-
-      pub fold_passed : p (view y) ≡ false → now ≡ done
-          → fold with_edge done (flat_map f (filter p (map view (drop i ys)))) ≡ all
-          → fold with_edge now (flat_map f (filter p (map view (drop (i + 1) ys)))) ≡ all
-      fold_passed t =
-          let rest = filter p (map view (drop (i + 1) ys)) in
-          fold_step (λ xs. flat_map f (filter p xs)) []
-          (ap (λ b. flat_map f (cond b (view y ∷ rest) rest)) t)

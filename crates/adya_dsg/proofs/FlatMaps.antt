@@ -1,11 +1,11 @@
 -- What the elements of a list give, in loops that add it or look for the first in it.
-use Rattle.std.proofs.Common.{◌≡◌, ℕ, suc, ◌+◌, ◌<◌, ◌≤◌, Bool, true, false, cond, List, [], ◌∷◌, ◌++◌, map, drop, get_or, length, Option, Some, None, refl, sym, ◌∙◌, ap, arith, append_assoc, append-nil}
+use Rattle.std.proofs.Common.{◌≡◌, ℕ, suc, ◌+◌, ◌<◌, ◌≤◌, Bool, true, false, cond, List, [], ◌∷◌, ◌++◌, map, drop, get_or, slice_get, length, Option, Some, None, refl, sym, ◌∙◌, ap, arith, append_assoc, append-nil}
 use Rattle.std.proofs.Math.Seq.{drop-cons}
 use Rattle.std.specs.List.{find, filter, flat_map}
 use Rattle.std.specs.Option.{option_or}
 use Rattle.std.proofs.lemmas.List.{map-append, drop_all}
 use Rattle.std.proofs.lemmas.List.Folds.{find-append}
-use Rattle.lemmas.proofs.Steps.{drop_step}
+use Rattle.lemmas.proofs.Steps.{drop_step, turn_at}
 
 -- what the elements that pass a test give, by the first of them
 module _ {X A : Type 0} (test : X → Bool) (f : X → List A) (zs rest : List X) (x : X) (splits : zs ≡ x ∷ rest) where
@@ -42,23 +42,20 @@ drop_at xs i d l =
     drop-cons xs i d l ∙ ap (λ j. get_or xs i d ∷ drop j xs) next
 
 -- what the elements from one on give, by that element
-module _ {X Y A : Type 0} (f : X → List A) (view : Y → X) (ys : List Y) (i : ℕ) (y : Y) (l : i < length ys)
-    (at : y ≡ get_or ys i y) where
-  from : map view (drop i ys) ≡ view y ∷ map view (drop (i + 1) ys)
-  from = ap (map view) (drop_step ys i y l at)
+pub from_here : {X Y A : Type 0} (f : X → List A) (view : Y → X) (ys : List Y) (i : ℕ) (y : Y) → i < length ys
+    → y ≡ get_or ys i y → flat_map f (map view (drop i ys)) ≡ f (view y) ++ flat_map f (map view (drop (i + 1) ys))
+from_here f view ys i y l at = ap (λ zs. flat_map f (map view zs)) (drop_step ys i y l at)
 
-  pub from_here : flat_map f (map view (drop i ys)) ≡ f (view y) ++ flat_map f (map view (drop (i + 1) ys))
-  from_here = ap (flat_map f) from
+-- the same, of the elements that pass a test
+module _ {X A : Type 0} (f : X → List A) (xs : List X) (i : ℕ) (x : X) (found : slice_get xs i ≡ Some x)
+    (keep : X → Bool) where
+  pub from_kept : keep x ≡ true
+      → flat_map f (filter keep (drop i xs)) ≡ f x ++ flat_map f (filter keep (drop (i + 1) xs))
+  from_kept t = filtered keep f (drop i xs) (drop (i + 1) xs) x (turn_at xs i x found).rest true t
 
-  module _ (keep : X → Bool) where
-    pub from_kept : keep (view y) ≡ true
-        → flat_map f (filter keep (map view (drop i ys)))
-        ≡ f (view y) ++ flat_map f (filter keep (map view (drop (i + 1) ys)))
-    from_kept t = filtered keep f (map view (drop i ys)) (map view (drop (i + 1) ys)) (view y) from true t
-
-    pub from_left_out : keep (view y) ≡ false
-        → flat_map f (filter keep (map view (drop i ys))) ≡ flat_map f (filter keep (map view (drop (i + 1) ys)))
-    from_left_out t = filtered keep f (map view (drop i ys)) (map view (drop (i + 1) ys)) (view y) from false t
+  pub from_left_out : keep x ≡ false
+      → flat_map f (filter keep (drop i xs)) ≡ flat_map f (filter keep (drop (i + 1) xs))
+  from_left_out t = filtered keep f (drop i xs) (drop (i + 1) xs) x (turn_at xs i x found).rest false t
 
 -- a front that has been added, taken off what is left to add
 pub added_front : {A B : Type 0} (g : A → B) (done all : List B) (here front rest : List A) → here ≡ front ++ rest

@@ -1,8 +1,10 @@
 -- What keys that rise say of order lines and of searches.
-use Rattle.std.proofs.Common.{◌≡◌, ℕ, zero, suc, ◌<◌, true, false, cond, List, [], ◌∷◌, map, length, get_or, refl, sym, ◌∙◌, ap, subst, inl, inr, arith}
+use Rattle.std.proofs.Common.{◌≡◌, ℕ, zero, suc, ◌<◌, true, false, cond, List, [], ◌∷◌, map, length, get_or, nat_cmp, is_lt, Ordering, Less, Equal, Greater, refl, sym, ◌∙◌, ap, subst, inl, inr, arith}
+use Rattle.std.specs.Cmp.Lexicographic.{slice_cmp, nat_list_cmp_total}
 use Rattle.std.specs.List.Sorted.{IsPartitionedBy}
+use Rattle.std.specs.Ordering.{ordering_reverse}
 use Rattle.std.proofs.lemmas.Bool.{cases_lt, and_parts, and_from}
-use Rattle.lemmas.proofs.Orderings.{bytes_eq-itself, bytes_eq-other, bytes_lt-trans, bytes_lt-apart}
+use Rattle.lemmas.proofs.Orderings.{bytes_eq-itself, bytes_eq-other, bytes_lt-trans, bytes_lt-apart, less_from_is_lt, tied_bytes}
 use Rattle.adya_values.proofs.Keys.{keys_rise-tail}
 use Rattle.adya_values.specs.Meaning.Keys.{key_eq, key_lt, keys_rise}
 use Rattle.adya_values.specs.Meaning.Histories.{Order}
@@ -13,6 +15,20 @@ key_eq-lt a b h = bytes_eq-other a b (bytes_lt-apart a b h)
 
 pub key_eq-gt : (a b : List ℕ) → key_lt b a ≡ true → key_eq a b ≡ false
 key_eq-gt a b h = bytes_eq-other a b (λ e. bytes_lt-apart b a h (sym e))
+
+-- of different keys one is below the other
+pub lt-other : (a b : List ℕ) → key_lt a b ≡ false → (a ≡ b → ⊥) → key_lt b a ≡ true
+lt-other a b e other =
+    ap is_lt (nat_list_cmp_total.antisymm b a) ∙ turned (slice_cmp nat_cmp a b) e (λ same. other (tied_bytes a b same))
+  where
+    turned : (o : Ordering) → is_lt o ≡ false → (o ≡ Equal → ⊥) → is_lt (ordering_reverse o) ≡ true
+    turned Less f apart = absurd (cc (f))
+    turned Equal f apart = absurd (apart refl)
+    turned Greater f apart = refl
+
+-- of two keys not both are below the other
+pub lt-turned : (a b : List ℕ) → key_lt a b ≡ true → key_lt b a ≡ false
+lt-turned a b e = ap is_lt (nat_list_cmp_total.antisymm b a ∙ ap ordering_reverse (less_from_is_lt _ e))
 
 pub rise_skip : (k j : List ℕ) (ks : List (List ℕ)) → keys_rise (k ∷ j ∷ ks) ≡ true → keys_rise (k ∷ ks) ≡ true
 rise_skip k j [] h = refl

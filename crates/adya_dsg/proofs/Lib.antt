@@ -1,3 +1,4 @@
+pub mod AnyLeft
 pub mod Certificates
 pub mod Chains
 pub mod ChangedPlaces
@@ -5,15 +6,18 @@ pub mod ChoiceEdges
 pub mod CommittedEnds
 pub mod CommittedNodes
 pub mod DistinctEdges
-pub mod EntrySearch
 pub mod EventEdges
+pub mod EventsAt
 pub mod FirstAlong
 pub mod FlatMaps
 pub mod Keys
+pub mod LineChanges
 pub mod LineEdges
+pub mod LineTables
 pub mod Lines
-pub mod LineNumbers
 pub mod LinksDecide
+pub mod Listed
+pub mod NamedOnce
 pub mod Numbers
 pub mod Parts
 pub mod Ranges

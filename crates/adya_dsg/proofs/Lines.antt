@@ -12,7 +12,7 @@ use Rattle.adya_values.specs.Mirror.Histories.{history_of}
 use Rattle.adya_values.specs.Computing.Shapes.{is_shape}
 use Rattle.adya_values.specs.Meaning.Histories.{History, Order}
 use Rattle.adya_values.specs.Meaning.Orders.{place, line_of}
-use Rattle.adya_dsg.specs.Machinery.Choices.{key_of}
+use Rattle.adya_terms.specs.Mirror.LineNumbers.{key_of}
 use Rattle.adya_dsg.proofs.Keys.{line_of-at, rises_at}
 use Rattle.lemmas.proofs.Orderings.{bytes_lt-trans, bytes_lt-apart}
 
@@ -50,6 +50,12 @@ pub writers_are : (os : List OrderValue) (i : ℕ) (o : OrderValue)
     → o.writers.items ≡ line_of (map order_of os) (key_of (slice_get (map order_of os) i))
 writers_are os i o r l e =
     sym (line_of-at order_of os i o r l e) ∙ ap (line_of (map order_of os)) (sym (key_is os i o l e))
+
+-- the same, of the lines of a history
+pub lent_writers : (h : History) (os : List OrderValue) → Lends h os → (i : ℕ) (o : OrderValue) → i < length os
+    → o ≡ get_or os i o → o.writers.items ≡ line_of h.orders (key_of (slice_get h.orders i))
+lent_writers h os lent i o l e =
+    writers_are os i o lent.rise l e ∙ ap (λ zs. line_of zs (key_of (slice_get zs i))) (sym lent.lines)
 
 pub place-le : (ws : List ℕ) (t : ℕ) → place ws t ≤ length ws
 place-le [] t = omega arith
@@ -109,12 +115,37 @@ rises (o ∷ os) i j r l m =
     ap (λ k. key_lt k (at j)) low ∙
     (ap (key_lt (get_or (o ∷ os) i o).key) high ∙ rises_at (λ (x : OrderValue). x.key) (o ∷ os) i j o r l m)
 
+-- the keys of the lines of a history rise
+pub lines_rise : (h : HistoryValue) → keys_rise (map (λ (o : OrderValue). o.key) h.orders.items) ≡ true
+lines_rise h = rise_of_values h.orders.items (and_parts _ _ (and_parts _ _ h.shape).0).1
+
+-- a key has one line
+pub line_once : (os : List OrderValue) → keys_rise (map (λ (o : OrderValue). o.key) os) ≡ true → (i j : ℕ)
+    → i < length os → j < length os
+    → key_of (slice_get (map order_of os) i) ≡ key_of (slice_get (map order_of os) j) → i ≡ j
+line_once os r i j l m e =
+    elim (cases_lt i j) [
+      | inl less ↦ absurd (bytes_lt-apart _ _ (rises os i j r less m) e)
+      | inr from ↦
+          elim (cases_lt j i) [
+            | inl more ↦ absurd (bytes_lt-apart _ _ (rises os j i r more l) (sym e))
+            | inr upto ↦ omega (arith, from, upto)
+          ]
+    ]
+
 -- the lines before a line are below its key
 pub line_below : (os : List OrderValue) → keys_rise (map (λ (o : OrderValue). o.key) os) ≡ true → (k : List ℕ) (n : ℕ)
     → n < length os → key_of (slice_get (map order_of os) n) ≡ k → (i : ℕ) → i < n
     → key_lt (key_of (slice_get (map order_of os) i)) k ≡ true
 line_below os r k n within here i l =
     ap (key_lt (key_of (slice_get (map order_of os) i))) (sym here) ∙ rises os i n r l within
+
+-- and those after it are above it
+pub line_above : (os : List OrderValue) → keys_rise (map (λ (o : OrderValue). o.key) os) ≡ true → (k : List ℕ) (n : ℕ)
+    → key_of (slice_get (map order_of os) n) ≡ k → (i : ℕ) → n < i → i < length os
+    → key_lt k (key_of (slice_get (map order_of os) i)) ≡ true
+line_above os r k n here i l m =
+    ap (λ j. key_lt j (key_of (slice_get (map order_of os) i))) (sym here) ∙ rises os n i r l m
 
 -- and from it on they aren't
 pub line_from : (os : List OrderValue) → keys_rise (map (λ (o : OrderValue). o.key) os) ≡ true → (k : List ℕ) (n : ℕ)

@@ -1,14 +1,14 @@
 -- The parts of a history: one of them, and the edges of the first ones and of all.
-use Rattle.std.proofs.Common.{◌≡◌, ℕ, ◌+◌, ◌<◌, ◌≤◌, ◌-◌, Bool, true, false, cond, List, [], ◌∷◌, ◌++◌, map, filter, flat_map, take, get_or, length, Contains, ◌↔◌, inl, inr, refl, sym, ◌∙◌, ap, subst, arith, append-nil}
+use Rattle.std.proofs.Common.{◌≡◌, ℕ, ◌+◌, ◌<◌, ◌≤◌, ◌-◌, Bool, true, false, cond, List, [], ◌∷◌, ◌++◌, map, filter, flat_map, take, get_or, slice_get, Some, length, Contains, ◌↔◌, inl, inr, refl, sym, ◌∙◌, ap, subst, append-nil, arith}
 use Rattle.std.proofs.lemmas.Grind.{flat_map-append}
+use Rattle.std.proofs.lemmas.Option.{slice_get_within, get_or_from_slice_get}
 use Rattle.std.proofs.lemmas.List.{take_all, take_more, get_or-map, get_or_append_left, get_or-append_right, length-append, length-map, map-append}
-use Rattle.std.proofs.lemmas.List.Elements.{Contains-append_left, Contains-append_right, Contains-append_cases, Contains-get_or}
+use Rattle.std.proofs.lemmas.List.Elements.{Contains-append_left, Contains-append_right, Contains-append_cases}
 use Rattle.std.proofs.lemmas.List.Folds.{flat_map-map}
 use Rattle.adya_values.specs.declared.order.Order.{Order as OrderValue}
-use Rattle.adya_values.specs.declared.event.Event.{Event as EventValue}
 use Rattle.adya_values.specs.Meaning.Keys.{keys_rise}
 use Rattle.adya_values.specs.Meaning.Histories.{Event, Order, History}
-use Rattle.adya_values.specs.Mirror.Events.{event_of, order_of}
+use Rattle.adya_values.specs.Mirror.Events.{order_of}
 use Rattle.adya_values.specs.Meaning.Events.{txn_of, is_committed}
 use Rattle.adya_values.specs.Meaning.Edges.{Edge}
 use Rattle.adya_values.specs.Computing.EdgeList.{write_edges, event_edges, dependencies}
@@ -16,8 +16,9 @@ use Rattle.digraph.specs.declared.arc.Arc.{Arc}
 use Rattle.adya_dsg.specs.declared.edge.Edge.{Edge as EdgeValue}
 use Rattle.adya_dsg.specs.Machinery.Arcs.{ends}
 use Rattle.adya_dsg.specs.Mirror.{edge_of}
+use Rattle.adya_dsg.specs.Machinery.Choices.{event_at}
 use Rattle.adya_dsg.specs.Machinery.PartEdges.{line_edges, committed_edges, parts, part_edges}
-use Rattle.lemmas.proofs.Members.{Contains-map}
+use Rattle.adya_dsg.proofs.EventsAt.{found_at}
 use Rattle.adya_dsg.proofs.FlatMaps.{filtered}
 use Rattle.adya_dsg.proofs.LineEdges.{line_edges-at}
 
@@ -48,14 +49,6 @@ all_parts h n l =
     (flat_map-map (λ es. es) (committed_edges h) h.events ∙
     of_tested (λ (e : Event). is_committed h.events (txn_of e)) (event_edges h) h.events)))
 
--- how many there are
-pub parts_are : (h : History) → length (parts h) ≡ length h.orders + length h.events
-parts_are h =
-    let of_line : Order → List Edge = λ o. write_edges h o.key in
-    length-append (map of_line h.orders) (map (committed_edges h) h.events) ∙
-    (ap (λ n. n + length (map (committed_edges h) h.events)) (length-map h.orders of_line) ∙
-    ap (λ n. length h.orders + n) (length-map h.events (committed_edges h)))
-
 -- the part of a line
 pub of_line_at : (h : History) (i : ℕ) (o : Order) → i < length h.orders → o ≡ get_or h.orders i o
     → write_edges h o.key ≡ part_edges h i
@@ -67,14 +60,23 @@ of_line_at h i o l at =
     (subst (λ n. i < n) (sym (length-map h.orders of_line)) l)))
 
 -- the part of an event
-pub of_event_at : (h : History) (n i : ℕ) (e : Event) → length h.orders ≡ n → n ≤ i → i - n < length h.events
-    → e ≡ get_or h.events (i - n) e → committed_edges h e ≡ part_edges h i
-of_event_at h n i e lines after l at =
+pub of_event_at : (h : History) (n i : ℕ) (e : Event) → length h.orders ≡ n → n ≤ i
+    → slice_get h.events (i - n) ≡ Some e → committed_edges h e ≡ part_edges h i
+of_event_at h n i e lines after found =
     let of_line : Order → List Edge = λ x. write_edges h x.key in
-    ap (committed_edges h) at ∙
-    (sym (get_or-map (committed_edges h) h.events (i - n) e [] l) ∙
+    ap (committed_edges h) (sym (get_or_from_slice_get h.events (i - n) e e found)) ∙
+    (sym (get_or-map (committed_edges h) h.events (i - n) e [] (slice_get_within h.events (i - n) e found)) ∙
     sym (get_or-append_right (map of_line h.orders) (map (committed_edges h) h.events) n i []
     (length-map h.orders of_line ∙ lines) after))
+
+-- that event is there
+event_within : (h : History) (n i : ℕ) → length h.orders ≡ n → n ≤ i → i < length (parts h) → i - n < length h.events
+event_within h n i lines after l =
+    let of_line : Order → List Edge = λ x. write_edges h x.key in
+    let all = length-append (map of_line h.orders) (map (committed_edges h) h.events) in
+    let of_orders = length-map h.orders of_line in
+    let of_events = length-map h.events (committed_edges h) in
+    omega (arith, l, all, of_orders, of_events, lines, after)
 
 module _ (h : History) (os : List OrderValue) (lines : map order_of os ≡ h.orders) (i : ℕ) where
   count : length h.orders ≡ length os
@@ -89,35 +91,18 @@ module _ (h : History) (os : List OrderValue) (lines : map order_of os ≡ h.ord
       (ap order_of at ∙ (sym (get_or-map order_of os i o (order_of o) l) ∙ ap (λ zs. get_or zs i (order_of o)) lines))
 
   -- the part of an event
-  module _ (es : List EventValue) (events : map event_of es ≡ h.events) (there : i < length (parts h))
-      (after : length os ≤ i) where
-    within : i - length os < length es
-    within =
-        let all = parts_are h in
-        let lines' = count in
-        let events' : length h.events ≡ length es = ap length (sym events) ∙ length-map es event_of in
-        omega (arith, all, lines', events', there, after)
+  module _ (after : length os ≤ i) (l : i < length (parts h)) where
+    abbrev e : Event
+    e = event_at h (i - length os)
 
-    event_at : (e : EventValue) → e ≡ get_or es (i - length os) e → committed_edges h (event_of e) ≡ part_edges h i
-    event_at e at =
-        of_event_at h (length os) i (event_of e) count after
-        (subst (λ n. i - length os < n) (sym (length-map es event_of) ∙ ap length events) within)
-        (ap event_of at ∙
-        (sym (get_or-map event_of es (i - length os) e (event_of e) within) ∙
-        ap (λ zs. get_or zs (i - length os) (event_of e)) events))
+    here : committed_edges h e ≡ part_edges h i
+    here = of_event_at h (length os) i e count after (found_at h.events (i - length os) (event_within h (length os) i count after l))
 
-    pub occurs : (e : EventValue) → e ≡ get_or es (i - length os) e → Contains h.events (event_of e)
-    occurs e at =
-        subst (λ zs. Contains zs (event_of e)) events
-        (Contains-map event_of es e (subst (Contains es) (sym at) (Contains-get_or es (i - length os) e within)))
+    pub of_committed : is_committed h.events (txn_of e) ≡ true → event_edges h e ≡ part_edges h i
+    of_committed c = sym (ap (λ b. cond b (event_edges h e) []) c) ∙ here
 
-    pub of_committed : (e : EventValue) → e ≡ get_or es (i - length os) e → is_committed h.events (txn_of (event_of e)) ≡ true
-        → event_edges h (event_of e) ≡ part_edges h i
-    of_committed e at c = sym (ap (λ b. cond b (event_edges h (event_of e)) []) c) ∙ event_at e at
-
-    pub of_other : (e : EventValue) → e ≡ get_or es (i - length os) e → is_committed h.events (txn_of (event_of e)) ≡ false
-        → part_edges h i ≡ []
-    of_other e at c = sym (event_at e at) ∙ ap (λ b. cond b (event_edges h (event_of e)) []) c
+    pub of_other : is_committed h.events (txn_of e) ≡ false → part_edges h i ≡ []
+    of_other c = sym here ∙ ap (λ b. cond b (event_edges h e) []) c
 
 -- arcs of the parts so far, with those of one more
 pub arcs_more : (h : History) (i : ℕ) → i < length (parts h) → (arcs now : List Arc)

@@ -1,23 +1,20 @@
 -- What is selected, line by line.
-use Rattle.std.proofs.Common.{◌≡◌, ◌≢◌, ℕ, zero, suc, ◌+◌, ◌==◌, ◌<◌, ◌≤◌, true, false, cond, not, ◌&&◌, List, [], ◌∷◌, ◌++◌, map, drop, length, get_or, Option, Some, None, option_map, option_to_list, slice_get, Vec, Global, nat_cmp, is_le, is_lt, Ordering, Less, Equal, Greater, refl, sym, ◌∙◌, ap, subst, arith, inl, inr, append_assoc}
+use Rattle.std.proofs.Common.{◌≡◌, ◌≢◌, ℕ, zero, suc, ◌+◌, ◌==◌, ◌<◌, ◌≤◌, true, false, cond, not, ◌&&◌, List, [], ◌∷◌, ◌++◌, map, drop, length, get_or, Option, Some, None, option_map, option_to_list, slice_get, nat_cmp, is_le, is_lt, Ordering, Less, Equal, Greater, refl, sym, ◌∙◌, ap, subst, arith, inl, inr, append_assoc}
 use Rattle.std.specs.List.{filter_map, cons_option}
 use Rattle.std.specs.Ordering.{ordering_reverse}
 use Rattle.std.specs.Cmp.Lexicographic.{slice_cmp, nat_list_cmp_total}
 use Rattle.std.proofs.lemmas.Bool.{cases_lt, and_left, and_right, and_from, false_from_ne_true}
-use Rattle.std.proofs.lemmas.Option.{slice_get-get_or}
-use Rattle.adya_values.specs.declared.value.Value.{Value}
+use Rattle.std.proofs.lemmas.Option.{none-some, slice_get-get_or}
 use Rattle.adya_values.specs.declared.event.Version.{Version}
-use Rattle.adya_values.specs.declared.event.Entry.{Entry as EntryValue}
-use Rattle.adya_values.specs.declared.event.Event.{Event as EventValue}
-use Rattle.adya_values.specs.declared.event.Event.TheVariants as In
 use Rattle.adya_values.specs.Meaning.Keys.{key_eq, key_lt, key_le, keys_rise, lies_in}
-use Rattle.adya_values.specs.Meaning.Histories.{Read, Scan, Entry, Order, History}
-use Rattle.adya_values.specs.Mirror.Events.{event_of}
-use Rattle.adya_values.specs.Meaning.Events.{listed}
+use Rattle.adya_values.specs.Meaning.Histories.{Abort, Commit, Delete, Entry, Event, History, Order, Read, Scan, Write}
+use Rattle.adya_values.specs.Meaning.Events.{listed, observed}
+use Rattle.adya_values.specs.Mirror.Numbers.{bounds}
 use Rattle.adya_values.specs.Meaning.Orders.{place, writers}
 use Rattle.adya_values.specs.Meaning.Selections.{selected, place_of}
-use Rattle.adya_dsg.specs.Machinery.Choices.{Choice, choice, choices, key_of}
-use Rattle.lemmas.proofs.Orderings.{less_from_is_lt, bytes_eq-same, bytes_eq-itself, bytes_lt-trans}
+use Rattle.adya_terms.specs.Mirror.LineNumbers.{key_of}
+use Rattle.adya_dsg.specs.Machinery.Choices.{Choice, choice, choices}
+use Rattle.lemmas.proofs.Orderings.{less_from_is_lt, bytes_eq-same, bytes_eq-itself}
 use Rattle.adya_dsg.proofs.Keys.{key_eq-lt, key_eq-gt, rises_at}
 
 module _ (f : List ℕ → Option ℕ) where
@@ -117,17 +114,6 @@ module _ (os : List Order) (rise : keys_rise (map (λ (o : Order). o.key) os) �
             (line_rises i j (omega (arith, more, ne)) m))
       ]
 
-  -- after a line above a key come lines above it
-  pub above_too : (k : List ℕ) (i j : ℕ) → i ≤ j → j < length os → key_lt k (key_of (slice_get os i)) ≡ true
-      → key_lt k (key_of (slice_get os j)) ≡ true
-  above_too k i j l m e =
-      elim (cases_lt i j) [
-        | inl less ↦ bytes_lt-trans k _ _ e (line_rises i j less m)
-        | inr more ↦
-            let same : i ≡ j = omega (arith, l, more) in
-            subst (λ x. key_lt k (key_of (slice_get os x)) ≡ true) same e
-      ]
-
 module _ (h : History) (t : ℕ) (r : Version) (v : List ℕ) where
   pub read_own : (r.txn == t) ≡ true → [] ≡ choices h (Read t r v)
   read_own own =
@@ -183,21 +169,18 @@ module _ (h : History) (t : ℕ) (low high : List ℕ) (es : List Entry) where
       → chosen_in f (drop n h.orders) ≡ choices h (Scan t low high es)
   scan_starts n below = skipped f h.orders n (λ i l m. outside _ (lies_below low high _ (below i l)))
 
-  pub scan_ends : keys_rise (map (λ (o : Order). o.key) h.orders) ≡ true → (n : ℕ)
-      → key_lt high (key_of (slice_get h.orders n)) ≡ true → chosen_in f (drop n h.orders) ≡ []
-  scan_ends rise n above =
-      ended f h.orders n (λ i l m. outside _ (lies_above low high _ (above_too h.orders rise high n i l m above)))
+  pub scan_ends : (n : ℕ) → ((i : ℕ) → n ≤ i → i < length h.orders → key_lt high (key_of (slice_get h.orders i)) ≡ true)
+      → chosen_in f (drop n h.orders) ≡ []
+  scan_ends n above = ended f h.orders n (λ i l m. outside _ (lies_above low high _ (above i l m)))
 
   pub inside : (k : List ℕ) → key_lt k low ≡ false → key_lt high k ≡ false → f k ≡ place_of h t k (listed k es)
   inside k a b = ap (λ z. cond z (place_of h t k (listed k es)) None) (and_from _ _ (not_below k low a) (not_below high k b))
 
--- events that neither read nor scan select nothing
-pub nothing_chosen : (h : History) (e : EventValue) → ((t : ℕ) (r : Version) (v : Value) → e ≡ In.Read t r v → ⊥)
-    → ((t : ℕ) (low high : List ℕ) (es : Vec EntryValue Global) → e ≡ In.Scan t low high es → ⊥)
-    → [] ≡ choices h (event_of e)
-nothing_chosen h (In.Write t k m v) a b = sym (none_chosen (selected h (event_of (In.Write t k m v))) h.orders (λ i l. refl))
-nothing_chosen h (In.Delete t k m) a b = sym (none_chosen (selected h (event_of (In.Delete t k m))) h.orders (λ i l. refl))
-nothing_chosen h (In.Read t r v) a b = absurd (a t r v refl)
-nothing_chosen h (In.Scan t low high es) a b = absurd (b t low high es refl)
-nothing_chosen h (In.Commit t) a b = sym (none_chosen (selected h (event_of (In.Commit t))) h.orders (λ i l. refl))
-nothing_chosen h (In.Abort t) a b = sym (none_chosen (selected h (event_of (In.Abort t))) h.orders (λ i l. refl))
+-- an event that is no scan and doesn't see one entry selects nothing
+pub nothing_chosen : (h : History) (e : Event) → bounds e ≡ None → (length (observed e) ≡ 1 → ⊥) → [] ≡ choices h e
+nothing_chosen h (Write t k m v) b o = sym (none_chosen (selected h (Write t k m v)) h.orders (λ i l. refl))
+nothing_chosen h (Delete t k m) b o = sym (none_chosen (selected h (Delete t k m)) h.orders (λ i l. refl))
+nothing_chosen h (Read t r v) b o = absurd (o refl)
+nothing_chosen h (Scan t low high es) b o = absurd (none-some (low, high) (sym b))
+nothing_chosen h (Commit t) b o = sym (none_chosen (selected h (Commit t)) h.orders (λ i l. refl))
+nothing_chosen h (Abort t) b o = sym (none_chosen (selected h (Abort t)) h.orders (λ i l. refl))

@@ -2,7 +2,7 @@
 pub mod Along
 pub mod Arcs
 pub mod Choices
-pub mod LineNumbers
+pub mod LineChanges
 pub mod Links
 pub mod Nodes
 pub mod PartEdges

@@ -10,6 +10,7 @@ ghost use Rattle.adya_dsg.specs.Machinery.Along.{HasFirst, Wants, first_along};
 
 use crate::Edge;
 use crate::part_edges::{count_parts, push_part_edges};
+use crate::selection::Selector;
 use crate::version_orders::VersionOrders;
 use adya_laws::edge_list_keeps_first;
 use digraph::Arc;
@@ -58,10 +59,11 @@ fn first_edges(
 {
     let wanted = ends_of(alloc, cycle)?;
     let mut first = BTreeMap::new(alloc);
+    let mut selector = Selector::of(alloc, versions)?;
     let mut edges = Vec::new(alloc);
     for part in 0..count_parts(versions) {
         edges.clear();
-        push_part_edges(alloc, &mut edges, versions, part)?;
+        push_part_edges(&mut selector, &mut edges, versions, part)?;
         note_first(&wanted, &mut first, &edges)?;
     }
     Ok(first)

@@ -8,6 +8,7 @@ ghost use Rattle.adya_dsg.specs.Mirror.{edge_of};
 
 use crate::Edge;
 use crate::part_edges::{count_parts, push_part_edges};
+use crate::selection::Selector;
 use crate::version_orders::VersionOrders;
 use adya_laws::edge_list_keeps_first;
 use digraph::{Arc, each_once};
@@ -25,10 +26,11 @@ pub(crate) fn arcs_of_edges(alloc: Global, versions: &VersionOrders) -> Result<V
     edge_list_keeps_first();
     let mut arcs = Vec::new(alloc);
     let mut kept = FEW;
+    let mut selector = Selector::of(alloc, versions)?;
     let mut edges = Vec::new(alloc);
     for part in 0..count_parts(versions) {
         edges.clear();
-        push_part_edges(alloc, &mut edges, versions, part)?;
+        push_part_edges(&mut selector, &mut edges, versions, part)?;
         add_arcs(&mut arcs, &edges)?;
         if arcs.len() / 2 > kept {
             arcs = each_once(arcs);

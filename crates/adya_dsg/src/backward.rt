@@ -1,8 +1,8 @@
 //! The first edge that doesn't go forward.
 
-ghost use Rattle.std.specs.Prelude.{◌≡◌, None, true, IfOk, map, option_map, filter, flat_map, Contains};
+ghost use Rattle.std.specs.Prelude.{◌≡◌, ◌<◌, None, true, IfOk, map, option_map, filter, flat_map, length};
 ghost use Rattle.std.specs.List.{find};
-ghost use Rattle.adya_values.specs.Mirror.Events.{event_of, order_of};
+ghost use Rattle.adya_values.specs.Mirror.Events.{order_of};
 ghost use Rattle.adya_values.specs.Mirror.Histories.{serial_txns};
 ghost use Rattle.adya_values.specs.Meaning.Events.{txn_of, is_committed};
 ghost use Rattle.adya_values.specs.Computing.EdgeList.{write_edges, event_edges};
@@ -10,18 +10,20 @@ ghost use Rattle.adya_values.specs.Computing.Certificates.{first_backward};
 ghost use Rattle.adya_values.specs.Clauses.Acceptance.{IsChecked};
 ghost use Rattle.adya_terms.specs.Clauses.Checked.{checked_history};
 ghost use Rattle.adya_dsg.specs.Machinery.VersionOrders.{ordered_history};
+ghost use Rattle.adya_dsg.specs.Machinery.Choices.{event_at};
 ghost use Rattle.adya_dsg.specs.Mirror.{edge_of};
 ghost use Rattle.adya_dsg.specs.Machinery.PartEdges.{line_edges, is_backward};
 
 use crate::Edge;
 use crate::event_edges::push_event_edges;
 use crate::event_links::push_event_links;
+use crate::selection::Selector;
 use crate::txn_places::TxnPlaces;
 use crate::version_orders::VersionOrders;
 use crate::write_edges::push_write_edges;
 use adya_laws::{edge_list_keeps_first, selected_is_installed};
 use adya_terms::Checked;
-use adya_values::{Event, Order, Serial};
+use adya_values::{Order, Serial};
 use std::alloc::{AllocError, Global};
 
 /// Returns the first of the [`edges`](crate::edges) that doesn't go forward in the certificate, if there is one: its `to`
@@ -82,11 +84,17 @@ fn first_read(
         IfOk result (λ o. option_map edge_of o ≡ find (is_backward certificate.now.txns.now)
         (flat_map (event_edges h) (filter (λ e. is_committed h.events (txn_of e)) h.events))) }
 {
+    let mut selector = Selector::of(alloc, versions)?;
     let mut edges = Vec::new(alloc);
-    let events = versions.events();
-    for event in events {
+    for event in 0..versions.event_count() {
         if versions.is_committed(event) {
-            if let Some(found) = first_of_event(alloc, certificate, versions, event, &mut edges)? {
+            if let Some(found) = first_of_event(
+                certificate,
+                versions,
+                event,
+                &mut selector,
+                &mut edges,
+            )? {
                 return Ok(Some(found));
             }
         }
@@ -95,31 +103,31 @@ fn first_read(
 }
 
 /// Returns the first of the event's edges that doesn't go forward, if all write dependencies do. If its links go
-/// forward, so do all of its edges, so its edges are listed only if a link goes backward.
+/// forward, so do all of its edges, so its edges are listed only if a link goes backward. The lists are room.
 fn first_of_event(
-    alloc: Global,
     certificate: &TxnPlaces,
     versions: &VersionOrders,
-    event: &Event,
+    event: usize,
+    selector: &mut Selector,
     edges: &mut Vec<Edge>,
 ) -> Result<Option<Edge>, AllocError>
     requires checked { IsChecked (ordered_history versions.now) }
     requires writes { let h = ordered_history versions.now in
         find (is_backward certificate.now.txns.now) (flat_map (λ o. write_edges h o.key) h.orders) ≡ None }
-    requires occurs { Contains (ordered_history versions.now).events (event_of event.now) }
-    requires committed { is_committed (ordered_history versions.now).events (txn_of (event_of event.now))
-        ≡ true }
+    requires occurs { event < length (ordered_history versions.now).events }
+    requires committed { let h = ordered_history versions.now in
+        is_committed h.events (txn_of (event_at h event)) ≡ true }
     ensures { let h = ordered_history versions.now in
         IfOk result (λ o. option_map edge_of o
-        ≡ find (is_backward certificate.now.txns.now) (event_edges h (event_of event.now))) }
+        ≡ find (is_backward certificate.now.txns.now) (event_edges h (event_at h event))) }
 {
     selected_is_installed();
     edges.clear();
-    push_event_links(alloc, edges, versions, event)?;
+    push_event_links(selector, edges, versions, event)?;
     if certificate.first_backward(edges).is_none() {
         return Ok(None);
     }
     edges.clear();
-    push_event_edges(alloc, edges, versions, event)?;
+    push_event_edges(selector, edges, versions, event)?;
     Ok(certificate.first_backward(edges))
 }

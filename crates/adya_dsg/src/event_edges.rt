@@ -1,35 +1,33 @@
 //! The edges of an event.
 
-ghost use Rattle.std.specs.Prelude.{◌≡◌, ◌<◌, ◌++◌, length, map, true, OnOk, Contains};
-ghost use Rattle.adya_values.specs.Mirror.Events.{event_of};
+ghost use Rattle.std.specs.Prelude.{◌≡◌, ◌<◌, ◌++◌, length, map, true, OnOk};
 ghost use Rattle.adya_values.specs.Meaning.Selections.{is_scan};
 ghost use Rattle.adya_values.specs.Computing.EdgeList.{event_edges, read_edges, overwrite_edges};
 ghost use Rattle.adya_dsg.specs.Machinery.VersionOrders.{ordered_history, order_lines};
 ghost use Rattle.adya_dsg.specs.Mirror.{edge_of};
-ghost use Rattle.adya_dsg.specs.Machinery.Choices.{choice_of, key_at};
+ghost use Rattle.adya_dsg.specs.Machinery.Choices.{choice_of, event_at, key_at};
 ghost use Rattle.adya_dsg.specs.Machinery.PartEdges.{choice_edges};
 
 use crate::edge::push_edge;
-use crate::event_links::{is_scan, push_links_at};
-use crate::selection::{Selection, selections};
+use crate::event_links::push_links_at;
+use crate::selection::{Selection, Selector};
 use crate::version_orders::VersionOrders;
 use crate::{Edge, Kind};
-use adya_values::Event;
-use std::alloc::{AllocError, Global};
+use std::alloc::AllocError;
 
 /// Adds the edges of the event.
 pub(crate) fn push_event_edges(
-    alloc: Global,
+    selector: &mut Selector,
     edges: &mut Vec<Edge>,
     versions: &VersionOrders,
-    event: &Event,
+    event: usize,
 ) -> Result<(), AllocError>
-    requires { Contains (ordered_history versions.now).events (event_of event.now) }
+    requires { event < length (ordered_history versions.now).events }
     ensures { let h = ordered_history versions.now in
-        OnOk result (map edge_of edges.new.items ≡ map edge_of edges.old.items ++ event_edges h (event_of event.now)) }
+        OnOk result (map edge_of edges.new.items ≡ map edge_of edges.old.items ++ event_edges h (event_at h event)) }
 {
-    let selections = selections(alloc, versions, event)?;
-    for at in &selections {
+    selector.select(versions, event)?;
+    for at in selector.selections.as_slice() {
         push_edges_at(edges, versions, event, *at)?;
     }
     Ok(())
@@ -38,15 +36,16 @@ pub(crate) fn push_event_edges(
 fn push_edges_at(
     edges: &mut Vec<Edge>,
     versions: &VersionOrders,
-    event: &Event,
+    event: usize,
     at: Selection,
 ) -> Result<(), AllocError>
-    requires { at.line < length (order_lines versions.now) }
+    requires there { event < length (ordered_history versions.now).events }
+    requires within { at.line < length (order_lines versions.now) }
     ensures { let h = ordered_history versions.now in
         OnOk result (map edge_of edges.new.items
-        ≡ map edge_of edges.old.items ++ choice_edges h (event_of event.now) (choice_of h at)) }
+        ≡ map edge_of edges.old.items ++ choice_edges h (event_at h event) (choice_of h at)) }
 {
-    if !is_scan(event) {
+    if !versions.is_scan(event) {
         return push_links_at(edges, versions, event, at);
     }
     push_sources(edges, versions, event, at)?;
@@ -58,17 +57,18 @@ fn push_edges_at(
 fn push_sources(
     edges: &mut Vec<Edge>,
     versions: &VersionOrders,
-    event: &Event,
+    event: usize,
     at: Selection,
 ) -> Result<(), AllocError>
-    requires scan { is_scan (event_of event.now) ≡ true }
+    requires scan { is_scan (event_at (ordered_history versions.now) event) ≡ true }
+    requires there { event < length (ordered_history versions.now).events }
     requires within { at.line < length (order_lines versions.now) }
     ensures { let h = ordered_history versions.now in
         OnOk result (map edge_of edges.new.items
-        ≡ map edge_of edges.old.items ++ read_edges h (event_of event.now) (key_at h at.line) at.place) }
+        ≡ map edge_of edges.old.items ++ read_edges h (event_at h event) (key_at h at.line) at.place) }
 {
     let key = versions.order(at.line).key;
-    let txn = event.txn();
+    let txn = versions.txn(event);
     let changes = versions.changes(at.line);
     for place in changes {
         if *place < at.place {
@@ -85,17 +85,18 @@ fn push_sources(
 fn push_overwriters(
     edges: &mut Vec<Edge>,
     versions: &VersionOrders,
-    event: &Event,
+    event: usize,
     at: Selection,
 ) -> Result<(), AllocError>
-    requires scan { is_scan (event_of event.now) ≡ true }
+    requires scan { is_scan (event_at (ordered_history versions.now) event) ≡ true }
+    requires there { event < length (ordered_history versions.now).events }
     requires within { at.line < length (order_lines versions.now) }
     ensures { let h = ordered_history versions.now in
         OnOk result (map edge_of edges.new.items
-        ≡ map edge_of edges.old.items ++ overwrite_edges h (event_of event.now) (key_at h at.line) at.place) }
+        ≡ map edge_of edges.old.items ++ overwrite_edges h (event_at h event) (key_at h at.line) at.place) }
 {
     let key = versions.order(at.line).key;
-    let txn = event.txn();
+    let txn = versions.txn(event);
     let mut seen = at.place;
     if versions.is_visible(at.line, at.place) {
         let to = versions.order(at.line).writers.get(at.place).copied();

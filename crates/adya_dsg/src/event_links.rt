@@ -1,33 +1,31 @@
 //! The links of an event.
 
-ghost use Rattle.std.specs.Prelude.{◌≡◌, ◌<◌, ◌++◌, length, map, OnOk, Contains};
-ghost use Rattle.adya_values.specs.Mirror.Events.{event_of};
-ghost use Rattle.adya_values.specs.Meaning.Selections.{is_scan};
+ghost use Rattle.std.specs.Prelude.{◌≡◌, ◌<◌, ◌++◌, length, map, OnOk};
 ghost use Rattle.adya_dsg.specs.Machinery.VersionOrders.{ordered_history, order_lines};
 ghost use Rattle.adya_dsg.specs.Mirror.{edge_of};
-ghost use Rattle.adya_dsg.specs.Machinery.Choices.{choice_of, key_at};
+ghost use Rattle.adya_dsg.specs.Machinery.Choices.{choice_of, event_at, key_at};
 ghost use Rattle.adya_dsg.specs.Machinery.Links.{overwriter, choice_links, event_links};
 
 use crate::edge::push_edge;
-use crate::selection::{Selection, selections};
+use crate::selection::{Selection, Selector};
 use crate::version_orders::VersionOrders;
 use crate::{Edge, Kind};
-use adya_values::{Event, Txn};
-use std::alloc::{AllocError, Global};
+use adya_values::Txn;
+use std::alloc::AllocError;
 
 /// Adds the links of the event.
 pub(crate) fn push_event_links(
-    alloc: Global,
+    selector: &mut Selector,
     edges: &mut Vec<Edge>,
     versions: &VersionOrders,
-    event: &Event,
+    event: usize,
 ) -> Result<(), AllocError>
-    requires { Contains (ordered_history versions.now).events (event_of event.now) }
+    requires { event < length (ordered_history versions.now).events }
     ensures { let h = ordered_history versions.now in
-        OnOk result (map edge_of edges.new.items ≡ map edge_of edges.old.items ++ event_links h (event_of event.now)) }
+        OnOk result (map edge_of edges.new.items ≡ map edge_of edges.old.items ++ event_links h (event_at h event)) }
 {
-    let selections = selections(alloc, versions, event)?;
-    for at in &selections {
+    selector.select(versions, event)?;
+    for at in selector.selections.as_slice() {
         push_links_at(edges, versions, event, *at)?;
     }
     Ok(())
@@ -38,16 +36,17 @@ pub(crate) fn push_event_links(
 pub(crate) fn push_links_at(
     edges: &mut Vec<Edge>,
     versions: &VersionOrders,
-    event: &Event,
+    event: usize,
     at: Selection,
 ) -> Result<(), AllocError>
-    requires { at.line < length (order_lines versions.now) }
+    requires there { event < length (ordered_history versions.now).events }
+    requires within { at.line < length (order_lines versions.now) }
     ensures { let h = ordered_history versions.now in
         OnOk result (map edge_of edges.new.items
-        ≡ map edge_of edges.old.items ++ choice_links h (event_of event.now) (choice_of h at)) }
+        ≡ map edge_of edges.old.items ++ choice_links h (event_at h event) (choice_of h at)) }
 {
     let key = versions.order(at.line).key;
-    let txn = event.txn();
+    let txn = versions.txn(event);
     let from = versions.installer(at.line, at.place);
     push_edge(edges, from, Kind::Wr, key, Some(txn))?;
     let to = overwriter(versions, event, at);
@@ -56,21 +55,14 @@ pub(crate) fn push_links_at(
 
 /// Returns who installed the first version that overwrites what the event reads or selects: the next one, or, if a scan
 /// selects a version that isn't visible, the next visible one.
-fn overwriter(versions: &VersionOrders, event: &Event, at: Selection) -> Option<Txn>
+fn overwriter(versions: &VersionOrders, event: usize, at: Selection) -> Option<Txn>
     requires { at.line < length (order_lines versions.now) }
     ensures { let h = ordered_history versions.now in
-        result ≡ overwriter h (event_of event.now) (key_at h at.line) at.place }
+        result ≡ overwriter h (event_at h event) (key_at h at.line) at.place }
 {
-    if is_scan(event) && !versions.is_visible(at.line, at.place) {
+    if versions.is_scan(event) && !versions.is_visible(at.line, at.place) {
         let place = versions.next_change(at.line, at.place)?;
         return versions.installer(at.line, place);
     }
     versions.order(at.line).writers.get(at.place).copied()
-}
-
-/// Whether the event is a scan.
-pub(crate) fn is_scan(event: &Event) -> bool
-    ensures { result ≡ is_scan (event_of event.now) }
-{
-    matches!(event, Event::Scan { .. })
 }

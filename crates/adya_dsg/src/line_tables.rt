@@ -1,40 +1,31 @@
-//! Tables of the places of writers in order lines.
+//! Tables of the places of writers in long order lines.
 
-ghost use Rattle.std.specs.Prelude.{◌≡◌, map, IfOk};
-ghost use Rattle.adya_values.specs.Meaning.Orders.{writers};
+ghost use Rattle.std.specs.Prelude.{IfOk};
 ghost use Rattle.adya_terms.specs.Clauses.Checked.{checked_history};
-ghost use Rattle.adya_dsg.specs.Machinery.Places.{tabled};
+ghost use Rattle.adya_dsg.specs.Machinery.Places.{AreTables};
 
 use crate::txn_places::TxnPlaces;
 use adya_terms::Checked;
-use adya_values::Txn;
 use std::alloc::{AllocError, Global};
+use std::collections::BTreeMap;
 
 /// A line with at most so many writers is read through to find one, which takes less time than to look it up in a table.
-pub(crate) const SHORT_LINE: usize = 32;
+pub(crate) const SHORT_LINE: usize = 256;
 
-/// Returns the writers, or none if they are few.
-fn tabled(writers: &[Txn]) -> &[Txn]
-    ensures { result.now ≡ tabled writers.now }
-{
-    if writers.len() <= SHORT_LINE {
-        return &[];
-    }
-    writers
-}
-
-/// Returns for each order line a table of its writers, which is empty if they are few.
+/// Returns a table of the writers of each long order line, by the index of the line. Most lines are short and take no
+/// memory here.
 pub(crate) fn line_tables<'a>(
     alloc: Global,
     checked: &'a Checked<'a>,
-) -> Result<Vec<TxnPlaces<'a>>, AllocError>
-    ensures { let h = checked_history checked.now in
-        IfOk result (λ v. map (λ p. p.txns.now) v.items ≡ map (λ o. tabled (writers h o.key)) h.orders) }
+) -> Result<BTreeMap<usize, TxnPlaces<'a>>, AllocError>
+    ensures { IfOk result (AreTables (checked_history checked.now)) }
 {
     let orders = checked.history().orders();
-    let mut tables = Vec::new(alloc);
-    for order in orders {
-        tables.push(TxnPlaces::of(alloc, tabled(&order.writers), 0)?)?;
+    let mut tables = BTreeMap::new(alloc);
+    for (line, order) in orders.iter().enumerate() {
+        if order.writers.len() > SHORT_LINE {
+            tables.insert(line, TxnPlaces::of(alloc, &order.writers, 0)?)?;
+        }
     }
     Ok(tables)
 }

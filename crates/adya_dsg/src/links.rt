@@ -12,6 +12,7 @@ ghost use Rattle.adya_dsg.specs.Machinery.Links.{event_links};
 
 use crate::arcs::add_arcs;
 use crate::event_links::push_event_links;
+use crate::selection::Selector;
 use crate::version_orders::VersionOrders;
 use crate::write_edges::push_write_edges;
 use adya_laws::{edge_list_keeps_first, selected_is_installed};
@@ -56,12 +57,12 @@ fn add_event_arcs(
         OnOk result (arcs.new.items ≡ arcs.old.items
         ++ map ends (flat_map (event_links h) (filter (λ e. is_committed h.events (txn_of e)) h.events))) }
 {
+    let mut selector = Selector::of(alloc, versions)?;
     let mut edges = Vec::new(alloc);
-    let events = versions.events();
-    for event in events {
+    for event in 0..versions.event_count() {
         if versions.is_committed(event) {
             edges.clear();
-            push_event_links(alloc, &mut edges, versions, event)?;
+            push_event_links(&mut selector, &mut edges, versions, event)?;
             add_arcs(arcs, &edges)?;
         }
     }

@@ -9,6 +9,7 @@ ghost use Rattle.adya_dsg.specs.Mirror.{edge_of, AreEdges};
 
 use crate::Edge;
 use crate::part_edges::{count_parts, push_part_edges};
+use crate::selection::Selector;
 use crate::version_orders::VersionOrders;
 use adya_laws::{edge_list_is_distinct, edge_list_is_exact};
 use adya_terms::Checked;
@@ -42,10 +43,11 @@ fn edges_of(alloc: Global, versions: &VersionOrders) -> Result<Vec<Edge>, AllocE
     ensures { IfOk result (λ v. map edge_of v.items ≡ edge_list (ordered_history versions.now)) }
 {
     let mut set = IndexSet::new(alloc);
+    let mut selector = Selector::of(alloc, versions)?;
     let mut edges = Vec::new(alloc);
     for part in 0..count_parts(versions) {
         edges.clear();
-        push_part_edges(alloc, &mut edges, versions, part)?;
+        push_part_edges(&mut selector, &mut edges, versions, part)?;
         add(&mut set, &edges)?;
     }
     Vec::from_slice(alloc, set.as_slice())

@@ -1,22 +1,22 @@
 //! The nodes of a history's graph.
 
-ghost use Rattle.std.specs.Prelude.{◌≡◌, map, All, IfOk};
+ghost use Rattle.std.specs.Prelude.{◌≡◌, All, IfOk};
 ghost use Rattle.adya_values.specs.Meaning.Keys.{IsTxn};
-ghost use Rattle.adya_values.specs.Mirror.Events.{event_of};
+ghost use Rattle.adya_values.specs.Mirror.Events.{events_of};
 ghost use Rattle.adya_values.specs.Mirror.Histories.{serial_txns};
 ghost use Rattle.adya_dsg.specs.Machinery.Nodes.{committed};
 
-use adya_values::{Event, Serial, Txn};
+use adya_values::{Events, Serial, Txn};
 use std::alloc::{AllocError, Global};
 
 /// Returns the numbers of the committed transactions, in the order of their commits; `AllocError` if memory is refused.
-pub(crate) fn committed(alloc: Global, events: &[Event]) -> Result<Vec<u32>, AllocError>
-    ensures value { IfOk result (λ v. v.items ≡ committed (map event_of events.now)) }
+pub(crate) fn committed(alloc: Global, events: &Events) -> Result<Vec<u32>, AllocError>
+    ensures value { IfOk result (λ v. v.items ≡ committed (events_of events.now)) }
     ensures numbers { IfOk result (λ v. All IsTxn v.items) }
 {
     let mut nodes = Vec::new(alloc);
-    for e in events {
-        if let Event::Commit { txn } = e {
+    for i in 0..events.len() {
+        if let Some(txn) = events.commit_at(i) {
             nodes.push(txn.get())?;
         }
     }

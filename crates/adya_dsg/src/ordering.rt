@@ -3,7 +3,6 @@
 ghost use Rattle.std.specs.Prelude.{◌≡◌, ◌↔◌, All, IfOk, map};
 ghost use Rattle.std.specs.List.{list_any};
 ghost use Rattle.adya_values.specs.Meaning.Keys.{IsTxn};
-ghost use Rattle.adya_values.specs.Mirror.Events.{event_of};
 ghost use Rattle.adya_values.specs.Meaning.Selections.{is_scan};
 ghost use Rattle.adya_values.specs.Computing.EdgeList.{edge_list};
 ghost use Rattle.adya_values.specs.Clauses.Acceptance.{IsChecked};
@@ -18,14 +17,12 @@ ghost use Rattle.adya_dsg.specs.Clauses.Found.{IsFound, NoneBesideCycle, HasCert
 use crate::Found;
 use crate::along::edges_along;
 use crate::arcs::arcs_of_edges;
-use crate::event_links::is_scan;
 use crate::laws::{certified_iff_no_phenomenon, cycle_excludes_certificates, edges_join_committed};
 use crate::links::links;
 use crate::nodes::{committed, serial_of};
 use crate::version_orders::VersionOrders;
 use adya_laws::edge_list_is_exact;
 use adya_terms::Checked;
-use adya_values::Event;
 use digraph::{Outcome, topological_order};
 use std::alloc::{AllocError, Global};
 
@@ -72,15 +69,20 @@ fn sorted(alloc: Global, versions: &VersionOrders, nodes: &[u32]) -> Result<Outc
     edge_list_is_exact();
     edges_join_committed();
     let outcome = topological_order(alloc, nodes, links(alloc, versions)?)?;
-    if matches!(outcome, Outcome::Order(_)) || !has_scans(versions.events()) {
+    if matches!(outcome, Outcome::Order(_)) || !has_scans(versions) {
         return Ok(outcome);
     }
     topological_order(alloc, nodes, arcs_of_edges(alloc, versions)?)
 }
 
 /// Returns whether an event is a scan.
-fn has_scans(events: &[Event]) -> bool
-    ensures { result ≡ list_any (λ e. is_scan (event_of e)) events.now }
+fn has_scans(versions: &VersionOrders) -> bool
+    ensures { result ≡ list_any is_scan (ordered_history versions.now).events }
 {
-    events.iter().any(is_scan)
+    for event in 0..versions.event_count() {
+        if versions.is_scan(event) {
+            return true;
+        }
+    }
+    false
 }

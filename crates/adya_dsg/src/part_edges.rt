@@ -7,21 +7,22 @@ ghost use Rattle.adya_dsg.specs.Machinery.PartEdges.{parts, part_edges};
 
 use crate::Edge;
 use crate::event_edges::push_event_edges;
+use crate::selection::Selector;
 use crate::version_orders::VersionOrders;
 use crate::write_edges::push_write_edges;
-use std::alloc::{AllocError, Global};
+use std::alloc::AllocError;
 
 /// Returns how many parts the history has: its order lines and its events.
 pub(crate) fn count_parts(versions: &VersionOrders) -> usize
     ensures { result ≡ length (parts (ordered_history versions.now)) }
 {
-    versions.orders().len() + versions.events().len()
+    versions.orders().len() + versions.event_count()
 }
 
 /// Adds the edges of the part: of the order line at this index or, if there are only so many lines, of the event. Only
 /// the events of committed transactions have edges.
 pub(crate) fn push_part_edges(
-    alloc: Global,
+    selector: &mut Selector,
     edges: &mut Vec<Edge>,
     versions: &VersionOrders,
     part: usize,
@@ -34,9 +35,9 @@ pub(crate) fn push_part_edges(
     if part < orders.len() {
         return push_write_edges(edges, &orders[part]);
     }
-    let event = &versions.events()[part - orders.len()];
+    let event = part - orders.len();
     if versions.is_committed(event) {
-        push_event_edges(alloc, edges, versions, event)?;
+        push_event_edges(selector, edges, versions, event)?;
     }
     Ok(())
 }

@@ -4,14 +4,14 @@ ghost use Rattle.std.specs.Prelude.{◌≡◌, IfOk, map, option_map};
 ghost use Rattle.std.specs.List.{find};
 ghost use Rattle.adya_values.specs.Meaning.Orders.{place};
 ghost use Rattle.adya_values.specs.Computing.Certificates.{is_forward};
+ghost use Rattle.txn_table.specs.Mirror.{HasPlaces};
 ghost use Rattle.adya_dsg.specs.Mirror.{edge_of};
-ghost use Rattle.adya_dsg.specs.Machinery.Places.{HasPlaces};
 ghost use Rattle.adya_dsg.specs.Machinery.PartEdges.{is_backward};
 
 use crate::Edge;
 use adya_values::Txn;
 use std::alloc::{AllocError, Global};
-use txn_table::TxnTable;
+use txn_table::{TxnTable, places_of};
 
 /// A list of transactions and their places in it. One that it doesn't have has the place after the last.
 #[derive(Drop)]
@@ -56,17 +56,4 @@ impl<'a> TxnPlaces<'a> {
         }
         None
     }
-}
-
-/// Returns for each transaction how many of the list come before it.
-fn places_of(alloc: Global, txns: &[Txn], small: usize) -> Result<TxnTable<usize>, AllocError>
-    ensures { IfOk result (λ m. HasPlaces m txns.now) }
-{
-    let mut places = TxnTable::new(alloc, small, txns.len())?;
-    let mut i = txns.len();
-    while i > 0 {
-        i -= 1;
-        places.set(txns[i], i)?;
-    }
-    Ok(places)
 }

@@ -1,75 +1,120 @@
 //! The version orders of a history, with what changes the matches of scans.
 
-ghost use Rattle.std.specs.Prelude.{◌≡◌, ◌<◌, ◌≤◌, ℕ, suc, Some, slice_get, List, nat_lt, leb, length, map, true, false, IfNone, IfSome, IfOk};
-ghost use Rattle.std.specs.HashMap.{get};
+ghost use Rattle.std.specs.Prelude.{◌≡◌, ◌<◌, ◌≤◌, ℕ, suc, Some, slice_get, List, nat_lt, leb, length, map, option_map, true, false, IfNone, IfSome, IfOk};
 ghost use Rattle.std.specs.List.{find, list_all};
-ghost use Rattle.std.specs.List.Sorted.{IsPartitionPoint};
-ghost use Rattle.adya_values.specs.Meaning.Keys.{key_eq, key_lt, keys_rise};
-ghost use Rattle.adya_values.specs.Mirror.Events.{event_of, order_of};
-ghost use Rattle.adya_values.specs.Mirror.Histories.{events_in, orders_in};
-ghost use Rattle.adya_values.specs.Meaning.Events.{txn_of, is_committed};
+ghost use Rattle.std.specs.List.Sorted.{IsNonDecreasingBy, IsPartitionPoint};
+ghost use Rattle.adya_values.specs.Meaning.Keys.{key_lt, keys_rise};
+ghost use Rattle.adya_values.specs.Meaning.Selections.{is_scan};
+ghost use Rattle.adya_values.specs.Mirror.Events.{events_of, order_of};
+ghost use Rattle.adya_values.specs.Mirror.Numbers.{bounds, both_at, has_seen, keys_of, seen_entry, seen_in};
+ghost use Rattle.adya_values.specs.Mirror.Histories.{orders_in};
+ghost use Rattle.adya_values.specs.Meaning.Events.{txn_of, is_committed, observed};
 ghost use Rattle.adya_values.specs.Meaning.Orders.{writers, place, installer, is_visible_at};
 ghost use Rattle.adya_terms.specs.Clauses.Checked.{checked_history, history_in};
-ghost use Rattle.adya_dsg.specs.Machinery.Choices.{key_at};
-ghost use Rattle.adya_dsg.specs.Machinery.LineNumbers.{FindsLines};
+ghost use Rattle.adya_dsg.specs.Machinery.Choices.{event_at, key_at};
+ghost use Rattle.adya_terms.specs.Mirror.LineNumbers.{FindsLines};
+ghost use Rattle.adya_dsg.specs.Machinery.LineChanges.{AreChanges};
 ghost use Rattle.adya_dsg.specs.Machinery.Links.{changed_places};
-ghost use Rattle.adya_dsg.specs.Machinery.Places.{tabled};
+ghost use Rattle.adya_dsg.specs.Machinery.Places.{AreTables};
 
-use crate::changes::line_changes;
-use crate::line_numbers::lines_by_key;
+use crate::changes::{LineChanges, line_changes};
 use crate::line_tables::{SHORT_LINE, line_tables};
 use crate::txn_places::TxnPlaces;
-use adya_terms::Checked;
-use adya_values::{Event, Key, Order, Txn};
+use adya_terms::laws::checked_iff_no_fault;
+use adya_terms::{Checked, lines_by_number};
+use adya_values::{Events, Key, Observed, Order, Txn};
 use std::alloc::{AllocError, Global};
-use std::collections::HashMap;
+use std::collections::BTreeMap;
+
+/// So many writers from the hint on are looked at before the whole line.
+const NEAR: usize = 8;
 
 /// The version orders of a checked history. An order line is named by its index in the list of lines. In a line, place
 /// 0 is that of the unborn version, and the writers come from place 1 on.
 #[derive(Drop)]
 pub(crate) struct VersionOrders<'a> {
     checked: &'a Checked<'a>,
-    lines: HashMap<Key, usize>,
-    tables: Vec<TxnPlaces<'a>>,
-    changes: Vec<Vec<usize>>,
-    ghost found: { let os = orders_in (history_in checked.now) in FindsLines (get key_eq lines) os (length os) },
-    ghost listed: { let h = checked_history checked.now in
-        map (λ p. p.txns.now) tables.items ≡ map (λ o. tabled (writers h o.key)) h.orders },
+    events: &'a Events,
+    /// By the number of each key the index of its line and 1; 0 if it has none.
+    lines: Vec<usize>,
+    /// Tables of the writers of the long lines, by the index of the line.
+    tables: BTreeMap<usize, TxnPlaces<'a>>,
+    changes: LineChanges,
+    ghost same: { events_of events.now ≡ (checked_history checked.now).events },
+    ghost found: { let os = orders_in (history_in checked.now) in FindsLines lines.items (keys_of events.now) os (length os) },
+    ghost tabled: { AreTables (checked_history checked.now) tables },
     ghost changed: { let h = checked_history checked.now in
-        map (λ line. line.items) changes.items ≡ map (λ o. changed_places h o.key) h.orders },
+        AreChanges h changes.places.items changes.starts.items (length h.orders) },
 }
 
 impl<'a> VersionOrders<'a> {
-    ghost use Rattle.adya_dsg.specs.Machinery.VersionOrders.{ordered_history, order_lines};
+    ghost use Rattle.adya_dsg.specs.Machinery.VersionOrders.{ordered_history, ordered_events, order_lines, IsNumber, numbered};
 
     /// Takes the orders of the history, and finds what changes the matches; `AllocError` if memory is refused.
     pub fn of(alloc: Global, checked: &'a Checked<'a>) -> Result<VersionOrders<'a>, AllocError>
         ensures same { IfOk result (λ g. history_in g.checked.now ≡ history_in checked.now) }
     {
-        let lines = lines_by_key(alloc, checked.history().orders())?;
+        let events = checked.history().events();
+        let lines = lines_by_number(alloc, events, checked.history().orders())?;
         let tables = line_tables(alloc, checked)?;
         let changes = line_changes(alloc, checked)?;
         Ok(VersionOrders {
             checked,
+            events,
             lines,
             tables,
             changes,
         })
     }
 
-    /// Returns the events of the history.
-    pub fn events(&self) -> &[Event]
-        ensures { result.now ≡ events_in (history_in self.now.checked.now) }
+    /// Returns how many events the history has.
+    pub fn event_count(&self) -> usize
+        ensures { result ≡ length (ordered_history self.now).events }
     {
-        self.checked.history().events()
+        self.events.len()
+    }
+
+    /// Returns the transaction of the event at the index.
+    pub fn txn(&self, event: usize) -> Txn
+        requires { event < length (ordered_history self.now).events }
+        ensures { result ≡ txn_of (event_at (ordered_history self.now) event) }
+    {
+        self.events.txn_at(event)
     }
 
     /// Returns whether the event's transaction has committed.
-    pub fn is_committed(&self, event: &Event) -> bool
+    pub fn is_committed(&self, event: usize) -> bool
+        requires { event < length (ordered_history self.now).events }
         ensures { let h = ordered_history self.now in
-            result ≡ is_committed h.events (txn_of (event_of event.now)) }
+            result ≡ is_committed h.events (txn_of (event_at h event)) }
     {
-        self.checked.is_committed(event.txn())
+        self.checked.is_committed(self.txn(event))
+    }
+
+    /// Returns the numbers of the bounds of the event, if it is a scan.
+    pub fn bounds(&self, event: usize) -> Option<(u32, u32)>
+        ensures keys { option_map (both_at (keys_of (ordered_events self.now))) result
+            ≡ bounds (event_at (ordered_history self.now) event) }
+        ensures there { IfSome result (λ b. IsNumber self.now b.0 × IsNumber self.now b.1) }
+    {
+        self.events.bounds_at(event)
+    }
+
+    /// Returns whether the event is a scan.
+    pub fn is_scan(&self, event: usize) -> bool
+        ensures { result ≡ is_scan (event_at (ordered_history self.now) event) }
+    {
+        self.bounds(event).is_some()
+    }
+
+    /// Returns what the event sees.
+    pub fn observed(&self, event: usize) -> Observed<'_>
+        requires { event < length (ordered_history self.now).events }
+        ensures entries { observed (event_at (ordered_history self.now) event)
+            ≡ map (seen_entry (ordered_events self.now)) (seen_in result) }
+        ensures there { list_all (has_seen (ordered_events self.now)) (seen_in result) ≡ true }
+    {
+        self.events.observed(event)
     }
 
     /// Returns the order lines.
@@ -98,11 +143,36 @@ impl<'a> VersionOrders<'a> {
             result ≡ suc (place (writers h (key_at h line)) txn) }
     {
         let order = self.order(line);
-        let writers = order.writers.as_slice();
-        if writers.len() <= SHORT_LINE {
-            return writers_before(writers, txn) + 1;
+        self.count_before(line, &order.writers, txn) + 1
+    }
+
+    /// Returns how many of the writers of the line, which are these, come before the transaction.
+    fn count_before(&self, line: usize, txns: &[Txn], txn: Txn) -> usize
+        requires { let h = ordered_history self.now in
+            txns.now ≡ writers h (key_at h line) }
+        ensures { result ≡ place txns.now txn }
+    {
+        if txns.len() > SHORT_LINE {
+            if let Some(table) = self.tables.get(&line) {
+                return table.place(txn);
+            }
         }
-        self.tables[line].place(txn) + 1
+        writers_before(txns, txn)
+    }
+
+    /// Returns the same as [`place`](VersionOrders::place), and finds it fastest if the transaction is at the index of the
+    /// hint among the writers of the line, or soon after. The hint may be any number.
+    pub fn place_near(&self, line: usize, txn: Txn, hint: usize) -> usize
+        requires { line < length (order_lines self.now) }
+        ensures { let h = ordered_history self.now in
+            result ≡ suc (place (writers h (key_at h line)) txn) }
+    {
+        checked_iff_no_fault();
+        let order = self.order(line);
+        match near(order.writers.as_slice(), txn, hint) {
+            Some(index) => index + 1,
+            None => self.place(line, txn),
+        }
     }
 
     /// Returns who installed the version at the place of the line.
@@ -133,7 +203,7 @@ impl<'a> VersionOrders<'a> {
         ensures { let h = ordered_history self.now in
             result.now ≡ changed_places h (key_at h line) }
     {
-        &self.changes[line]
+        self.changes.of(line)
     }
 
     /// Returns how many of these places come before this one or are it.
@@ -144,7 +214,12 @@ impl<'a> VersionOrders<'a> {
         ensures up_to { let h = ordered_history self.now in
             IsPartitionPoint (λ q. leb q place ≡ true) (λ q. leb q place ≡ false) (changed_places h (key_at h line)) result }
     {
-        self.changes(line).partition_point(|q| *q <= place)
+        let changes = self.changes(line);
+        // most scans select the newest version, and then there is nothing to search
+        if are_up_to(changes, place) {
+            return changes.len();
+        }
+        changes.partition_point(|q| *q <= place)
     }
 
     /// Returns the first such place after this one.
@@ -157,28 +232,58 @@ impl<'a> VersionOrders<'a> {
         self.changes(line).get(next).copied()
     }
 
-    /// Returns the line of the key.
-    pub fn line_of(&self, key: Key) -> Option<usize>
+    /// Returns the line of the key with the number.
+    pub fn line_of(&self, key: u32) -> Option<usize>
+        requires { IsNumber self.now key }
         ensures within { IfSome result (λ i. i < length (order_lines self.now)) }
-        ensures found { IfSome result (λ i. key_at (ordered_history self.now) i ≡ key) }
+        ensures found { IfSome result (λ i. key_at (ordered_history self.now) i ≡ numbered self.now key) }
         ensures none { IfNone result ((i : ℕ) → i < length (order_lines self.now)
-            → key_at (ordered_history self.now) i ≡ key → ⊥) }
+            → key_at (ordered_history self.now) i ≡ numbered self.now key → ⊥) }
     {
-        self.lines.get(&key).copied()
+        match self.lines[key as usize] {
+            0 => None,
+            above => Some(above - 1),
+        }
     }
 
-    /// Returns how many lines have smaller keys. If the key has a line, this takes no search.
-    pub fn lines_below(&self, key: Key) -> usize
+    /// Returns how many lines have smaller keys than the one with the number. If it has a line, this takes no search.
+    pub fn lines_below(&self, key: u32) -> usize
+        requires { IsNumber self.now key }
+        ensures within { result ≤ length (order_lines self.now) }
+        ensures below { (i : ℕ) → i < result
+            → key_lt (key_at (ordered_history self.now) i) (numbered self.now key) ≡ true }
+        ensures others { (i : ℕ) → result ≤ i → i < length (order_lines self.now)
+            → key_lt (key_at (ordered_history self.now) i) (numbered self.now key) ≡ false }
+    {
+        match self.line_of(key) {
+            Some(line) => line,
+            None => self.orders_below(self.events.key(key)),
+        }
+    }
+
+    /// Returns how many lines have smaller keys.
+    fn orders_below(&self, key: Key) -> usize
         ensures within { result ≤ length (order_lines self.now) }
         ensures below { (i : ℕ) → i < result
             → key_lt (key_at (ordered_history self.now) i) key ≡ true }
         ensures others { (i : ℕ) → result ≤ i → i < length (order_lines self.now)
             → key_lt (key_at (ordered_history self.now) i) key ≡ false }
     {
-        let orders = self.orders();
+        self.orders().partition_point(|o| is_below(o.key, key))
+    }
+
+    /// Returns how many lines have no larger keys than the one with the number. If it has a line, this takes no search.
+    pub fn lines_up_to(&self, key: u32) -> usize
+        requires { IsNumber self.now key }
+        ensures within { result ≤ length (order_lines self.now) }
+        ensures up_to { (i : ℕ) → i < result
+            → key_lt (numbered self.now key) (key_at (ordered_history self.now) i) ≡ false }
+        ensures above { (i : ℕ) → result ≤ i → i < length (order_lines self.now)
+            → key_lt (numbered self.now key) (key_at (ordered_history self.now) i) ≡ true }
+    {
         match self.line_of(key) {
-            Some(line) => line,
-            None => orders.partition_point(|o| is_below(o.key, key)),
+            Some(line) => line + 1,
+            None => self.lines_below(key),
         }
     }
 }
@@ -195,7 +300,32 @@ fn writers_before(writers: &[Txn], txn: Txn) -> usize
     writers.len()
 }
 
-pub(crate) fn is_below(low: Key, high: Key) -> bool
+/// Returns the index of the transaction among the writers, if it is at this index or one of the next few.
+fn near(writers: &[Txn], txn: Txn, from: usize) -> Option<usize>
+    ensures { IfSome result (λ i. slice_get writers.now i ≡ Some txn) }
+{
+    let end = writers.len().min(from.saturating_add(NEAR));
+    for i in from..end {
+        if writers[i] == txn {
+            return Some(i);
+        }
+    }
+    None
+}
+
+/// Returns whether the last of the places is no later than this one. If they rise, none of them is later then.
+fn are_up_to(places: &[usize], place: usize) -> bool
+    ensures { result ≡ true
+        → IsNonDecreasingBy (λ q. q) places.now
+        → IsPartitionPoint (λ q. leb q place ≡ true) (λ q. leb q place ≡ false) places.now (length places.now) }
+{
+    match places.last() {
+        Some(last) => *last <= place,
+        None => true,
+    }
+}
+
+fn is_below(low: Key, high: Key) -> bool
     ensures { result ≡ key_lt low high }
 {
     low < high

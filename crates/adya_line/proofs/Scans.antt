@@ -1,12 +1,12 @@
 -- What is read is the line's scan, and each scan is read from its line.
-use Rattle.std.proofs.Common.{◌≡◌, ℕ, zero, suc, ◌<◌, ◌≤◌, false, true, get_or, List, [], ◌∷◌, ◌++◌, length, map, Option}
+use Rattle.std.proofs.Common.{◌≡◌, ℕ, zero, suc, ◌<◌, ◌≤◌, false, true, get_or, List, [], ◌∷◌, ◌++◌, length, Option}
 use Rattle.std.proofs.Common.{Some, None, refl, sym, ap, ◌∙◌, append_assoc, arith, inl, inr}
 use Rattle.std.specs.Prelude.{decimal, codes, ◌&&◌}
 use Rattle.std.specs.List.{flat_map, list_all, AllByRecursion}
 use Rattle.std.proofs.lemmas.Bool.{both_ways, and_parts}
 use Rattle.std.proofs.lemmas.Bool.Decides.{eqb_tells}
 use Rattle.std.proofs.lemmas.List.Concat.{flat_map-cons}
-use Rattle.std.proofs.lemmas.List.{length-append, map-append}
+use Rattle.std.proofs.lemmas.List.{length-append}
 use Rattle.adya_values.specs.declared.event.Version.{Version}
 use Rattle.adya_values.specs.Meaning.Keys.{is_key, is_value, is_key_byte, is_value_byte, IsTxn}
 use Rattle.adya_values.specs.Meaning.Histories.{Content, Live, Dead, Entry, Scan}
@@ -193,14 +193,6 @@ pub one_more : (bytes rest : List ℕ) (e : Entry) → entry_at bytes ≡ Some (
     → (entries_of bytes ≡ e ∷ entries_of rest) × (after_entries bytes ≡ after_entries rest)
 one_more bytes rest e is =
     let o = one_more_at (length bytes) bytes rest e is (omega arith) in (ap (λ x. x.0) o, ap (λ x. x.1) o)
-
--- one that stands there, behind those that were read
-pub one_read : {X : Type 0} (view : X → Entry) (held : List X) (x : X) (bytes rest : List ℕ)
-    → entry_at bytes ≡ Some (view x, rest) → map view (held ++ x ∷ []) ++ entries_of rest ≡ map view held ++ entries_of bytes
-one_read view held x bytes rest is =
-    ap (λ es. es ++ entries_of rest) (map-append view held (x ∷ [])) ∙
-    (append_assoc (map view held) (view x ∷ []) (entries_of rest) ∙
-    ap (λ es. map view held ++ es) (sym (one_more bytes rest (view x) is).0))
 
 -- ---- each scan is read from its text
 

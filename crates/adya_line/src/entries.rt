@@ -1,14 +1,11 @@
 //! The entries of a scan that lies in a line.
 
-ghost use Rattle.std.specs.Prelude.{◌≡◌, ◌++◌, map, IfOk, OnOk};
-ghost use Rattle.adya_values.specs.Mirror.Events.{entry_of};
+ghost use Rattle.std.specs.Prelude.{◌≡◌};
 ghost use Rattle.adya_line.specs.Computing.Reading.{Gives, content_at, entry_at, entries_of, after_entries};
 ghost use Rattle.adya_line.specs.Mirror.{view_content, view_entry, entries_left};
 
 use crate::entry_ref::{ContentRef, EntryRef, ValueRef};
 use crate::fields::{after, value_at, version_at};
-use adya_values::Entry;
-use std::alloc::AllocError;
 
 /// The entries of a scan, in the order of the line. They are read from the line one by one, and take no memory.
 #[derive(Clone, Copy)]
@@ -63,22 +60,6 @@ fn entry_at(bytes: &[u8]) -> Option<(EntryRef<'_>, &[u8])>
     let rest = after(b',', rest)?;
     let (content, rest) = content_at(rest)?;
     Some((EntryRef { version, content }, rest))
-}
-
-/// Reads the entries at the front to the end of `list`; returns what follows them.
-pub(crate) fn read_entries<'a>(
-    bytes: &'a [u8],
-    list: &mut Vec<Entry>,
-) -> Result<&'a [u8], AllocError>
-    ensures rest { IfOk result (λ r. r.now ≡ after_entries bytes.now) }
-    ensures read { OnOk result (map entry_of list.new.items ≡ map entry_of list.old.items ++ entries_of bytes.now) }
-{
-    let mut left = bytes;
-    'entries: while let Some((entry, rest)) = entry_at(left) {
-        list.push(entry.to_entry())?;
-        left = rest;
-    }
-    Ok(left)
 }
 
 /// Returns what follows the entries at the front.

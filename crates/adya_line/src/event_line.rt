@@ -1,20 +1,17 @@
 //! The lines of events.
 
-ghost use Rattle.std.specs.Prelude.{◌≡◌, None, IfSome, IfOk, MatchOption};
+ghost use Rattle.std.specs.Prelude.{◌≡◌, None, IfSome, MatchOption};
 ghost use Rattle.adya_values.specs.Meaning.Histories.{Event as Plain};
-ghost use Rattle.adya_values.specs.Mirror.Events.{event_of};
 ghost use Rattle.adya_line.specs.Computing.Reading.{Gives, write_at, delete_at, read_at, scan_at, event_at};
 ghost use Rattle.adya_line.specs.Machinery.Fronts.{scan_after};
 ghost use Rattle.adya_line.specs.Meaning.Spelling.{event_text};
 ghost use Rattle.adya_line.specs.Meaning.Limits.{IsEvent};
 ghost use Rattle.adya_line.specs.Mirror.{view};
 
-use crate::entries::{after_entries, read_entries};
+use crate::entries::after_entries;
 use crate::event_ref::{DeleteRef, EndRef, EventRef, ReadRef, ScanRef, WriteRef};
 use crate::fields::{after, key_at, txn_at, value_at, version_at};
 use crate::txn_line::txn_at_line;
-use adya_values::Event;
-use std::alloc::{AllocError, Global};
 
 /// Reads a write after its letter.
 #[tactic(auto, unfolding(crate::specs::Computing::Reading::write_at))]
@@ -100,26 +97,6 @@ fn scan_at(bytes: &[u8]) -> Option<EventRef<'_>>
     Some(EventRef::Scan(scan))
 }
 
-/// Reads a scan after its letter into an event of its own, and each of its entries once.
-fn scan(alloc: Global, bytes: &[u8]) -> Result<Option<Event>, AllocError>
-    ensures { IfOk result (λ r. Gives event_of r (scan_at bytes.now)) }
-{
-    let Some(front) = scan_front(bytes) else {
-        return Ok(None);
-    };
-    let mut entries = Vec::new(alloc);
-    let rest = read_entries(front.listed, &mut entries)?;
-    let Some(rest) = after(b')', rest) else {
-        return Ok(None);
-    };
-    if !rest.is_empty() {
-        return Ok(None);
-    }
-    // they grew by doubling
-    entries.shrink_to_fit();
-    Ok(Some(front.with_entries(entries)))
-}
-
 #[tactic(auto, unfolding(crate::specs::Computing::Reading::event_at))]
 fn event_at(line: &[u8]) -> Option<EventRef<'_>>
     ensures { Gives view result (event_at line.now) }
@@ -142,27 +119,12 @@ fn event_at(line: &[u8]) -> Option<EventRef<'_>>
 /// Reads the line of an event, without its line feed: `wT(K.T:M,V)`, `dT(K.T:M)`, `rT(K.T:M,V)`,
 /// `sT(K,K;K.T:M,V;..)`, `cT` or `aT`. Returns `None` for every other text. It takes no memory: keys and values stay
 /// slices of the line, and a scan's entries are read while they are walked.
+// Not inlined: a caller pays at its entry for all locals of what is inlined into it.
+#[inline(never)]
 pub fn read_event(line: &[u8]) -> Option<EventRef<'_>>
     ensures found { IfSome result (λ e. (line.now ≡ event_text (view e)) × IsEvent (view e)) }
     ensures exact { Gives view result (event_at line.now) }
     ensures only { (e : Plain) → IsEvent e → line.now ≡ event_text e → MatchOption result ⊥ (λ r. view r ≡ e) }
 {
     event_at(line)
-}
-
-/// Reads the line of an event into an event of its own. Returns `None` if [`read_event`] does, and `AllocError` if there
-/// is no memory for a scan's entries.
-#[tactic(auto, unfolding(crate::specs::Computing::Reading::event_at))]
-// Not inlined: a caller pays at its entry for all locals of what is inlined into it.
-#[inline(never)]
-pub fn event(alloc: Global, line: &[u8]) -> Result<Option<Event>, AllocError>
-    ensures { IfOk result (λ r. Gives event_of r (event_at line.now)) }
-{
-    if let [b's', rest @ ..] = line {
-        return scan(alloc, rest);
-    }
-    let Some(found) = read_event(line) else {
-        return Ok(None);
-    };
-    Ok(Some(found.to_event(alloc)?))
 }

@@ -5,7 +5,7 @@ ghost use Rattle.adya_values.specs.Meaning.Keys.{is_key, is_value, IsTxn, IsMod}
 ghost use Rattle.adya_values.specs.Mirror.Events.{value_of};
 
 use crate::entries::Entries;
-use adya_values::{Entry, Event, Key, Mod, Txn, Value, Version};
+use adya_values::{Entry, EventView, Key, Listed, Mod, Txn, Value, Version};
 use std::alloc::{AllocError, Global};
 
 /// A version whose key is a slice of the line.
@@ -95,8 +95,8 @@ pub enum EventRef<'a> {
 }
 
 impl<'a> EventRef<'a> {
-    ghost use Rattle.std.specs.Prelude.{IfOk};
-    ghost use Rattle.adya_values.specs.Mirror.Events.{event_of};
+    ghost use Rattle.std.specs.Prelude.{map, IfOk, OnOk};
+    ghost use Rattle.adya_values.specs.Mirror.Events.{entries_of, entry_of, view_of};
     ghost use Rattle.adya_line.specs.Mirror.{view, entries_in, entries_left};
 
     /// Walks the entries of a scan, in the order of the line; their keys and values are slices of the line. Other
@@ -111,14 +111,37 @@ impl<'a> EventRef<'a> {
         }
     }
 
-    /// Returns the event by itself; `AllocError` if there is no memory for a scan's entries.
-    pub fn to_event(&self, alloc: Global) -> Result<Event, AllocError>
-        ensures { IfOk result (λ e. event_of e ≡ view self.now) }
+    /// Returns the entries of a scan by themselves, in the order of the line; other events have none. `AllocError` if
+    /// there is no memory for them.
+    pub fn to_entries(&self, alloc: Global) -> Result<Vec<Entry>, AllocError>
+        ensures { IfOk result (λ v. map entry_of v.items ≡ entries_in (view self.now)) }
     {
-        Ok(match self {
+        let mut entries = Vec::new(alloc);
+        self.read_entries(&mut entries)?;
+        Ok(entries)
+    }
+
+    /// Puts the entries of a scan by themselves in place of what is there, in the order of the line; other events have none.
+    /// `AllocError` if there is no memory for them; then some of them are there.
+    pub fn read_entries(&self, entries: &mut Vec<Entry>) -> Result<(), AllocError>
+        ensures { OnOk result (map entry_of entries.new.items ≡ entries_in (view self.now)) }
+    {
+        entries.clear();
+        let mut left = self.entries();
+        while let Some(entry) = left.next() {
+            entries.push(entry.to_entry())?;
+        }
+        Ok(())
+    }
+
+    /// Returns the event with these entries in place of those in the line, which only a scan has.
+    pub fn with_entries<'b>(&self, entries: Listed<'b>) -> EventView<'b>
+        ensures { entries_of entries.entry ≡ entries_in (view self.now) → view_of result ≡ view self.now }
+    {
+        match self {
             EventRef::Write(w) => {
                 let Version { key, txn, m } = w.version.version();
-                Event::Write {
+                EventView::Write {
                     txn,
                     key,
                     m,
@@ -127,24 +150,26 @@ impl<'a> EventRef<'a> {
             }
             EventRef::Delete(d) => {
                 let Version { key, txn, m } = d.version.version();
-                Event::Delete { txn, key, m }
+                EventView::Delete { txn, key, m }
             }
-            EventRef::Read(r) => Event::Read {
+            EventRef::Read(r) => EventView::Read {
                 txn: txn_of(r.txn),
                 version: r.version.version(),
                 value: value_of(r.value),
             },
-            EventRef::Scan(s) => s.with_entries(s.to_entries(alloc)?),
-            EventRef::Commit(e) => Event::Commit { txn: txn_of(e.txn) },
-            EventRef::Abort(e) => Event::Abort { txn: txn_of(e.txn) },
-        })
+            EventRef::Scan(s) => EventView::Scan {
+                txn: txn_of(s.txn),
+                low: key_of(s.low),
+                high: key_of(s.high),
+                entries,
+            },
+            EventRef::Commit(e) => EventView::Commit { txn: txn_of(e.txn) },
+            EventRef::Abort(e) => EventView::Abort { txn: txn_of(e.txn) },
+        }
     }
 }
 
 impl<'a> ScanRef<'a> {
-    ghost use Rattle.std.specs.Prelude.{map, IfOk};
-    ghost use Rattle.adya_values.specs.Meaning.Histories.{Scan};
-    ghost use Rattle.adya_values.specs.Mirror.Events.{entry_of, event_of};
     ghost use Rattle.adya_line.specs.Computing.Reading.{entries_of};
     ghost use Rattle.adya_line.specs.Mirror.{entries_left};
 
@@ -153,29 +178,6 @@ impl<'a> ScanRef<'a> {
         ensures { entries_left result ≡ entries_of self.now.listed.now }
     {
         Entries::new(self.listed)
-    }
-
-    /// Returns the scan by itself, with these entries.
-    pub(crate) fn with_entries(&self, entries: Vec<Entry>) -> Event
-        ensures { event_of result ≡ Scan self.now.txn self.now.low.now self.now.high.now (map entry_of entries.items) }
-    {
-        Event::Scan {
-            txn: txn_of(self.txn),
-            low: key_of(self.low),
-            high: key_of(self.high),
-            entries,
-        }
-    }
-
-    fn to_entries(&self, alloc: Global) -> Result<Vec<Entry>, AllocError>
-        ensures { IfOk result (λ v. map entry_of v.items ≡ entries_of self.now.listed.now) }
-    {
-        let mut owned = Vec::new(alloc);
-        let mut left = self.entries();
-        while let Some(entry) = left.next() {
-            owned.push(entry.to_entry())?;
-        }
-        Ok(owned)
     }
 }
 

@@ -3,21 +3,22 @@
 ghost use Rattle.std.specs.Prelude.{IfOk, MatchOption};
 ghost use Rattle.adya_line.specs.Clauses.HistoryLines.{IsNoLine, IsOnlyLineOf, line_of};
 
-use crate::event_line::event;
+use crate::event_line::read_event;
+use crate::event_ref::EventRef;
 use crate::final_line::final_pair;
 use crate::fixed_line::{is_history_head, is_second_head, is_tail};
 use crate::order_line::order;
 use crate::unfinished_line::unfinished;
-use adya_values::{Edition, Event, FinalPair, Order, Txn};
+use adya_values::{Edition, FinalPair, Order, Txn};
 use std::alloc::{AllocError, Global};
 
 /// A line of a history text.
 #[derive(Drop)]
-pub enum HistoryLine {
+pub enum HistoryLine<'a> {
     /// The first line, which names the edition.
     Head(Edition),
     /// A write, a delete, a read, a scan, a commit or an abort.
-    Event(Event),
+    Event(EventRef<'a>),
     /// An unfinished transaction, in the second edition.
     Unfinished(Txn),
     /// The version order of a key.
@@ -29,13 +30,13 @@ pub enum HistoryLine {
 }
 
 /// Reads a line of a history text, without its line feed. Returns `None` if the text is that of no line, and
-/// `AllocError` if there is no memory for a list of entries or of writers.
+/// `AllocError` if there is no memory for a list of writers.
 // Not inlined: a caller pays at its entry for all locals of what is inlined into it.
 #[inline(never)]
-pub fn history_line(alloc: Global, text: &[u8]) -> Result<Option<HistoryLine>, AllocError>
+pub fn history_line(alloc: Global, text: &[u8]) -> Result<Option<HistoryLine<'_>>, AllocError>
     ensures { IfOk result (λ o. MatchOption o (IsNoLine text.now) (λ x. IsOnlyLineOf (line_of x) text.now)) }
 {
-    if let Some(event) = event(alloc, text)? {
+    if let Some(event) = read_event(text) {
         return Ok(Some(HistoryLine::Event(event)));
     }
     if let Some(txn) = unfinished(text) {

@@ -1,9 +1,9 @@
 //! What holds of lines: the calls change nothing, and their contracts are the laws.
 
-ghost use Rattle.std.specs.Prelude.{ℕ, ◌<◌, length, map};
+ghost use Rattle.std.specs.Prelude.{ℕ, ◌<◌, length};
 ghost use Rattle.std.specs.List.{AllByRecursion};
 ghost use Rattle.adya_values.specs.Meaning.Keys.{IsTxn};
-ghost use Rattle.adya_values.specs.Mirror.Events.{entry_of, event_of, order_of, final_of};
+ghost use Rattle.adya_values.specs.Mirror.Events.{entries_of, entry_of, view_of, order_of, final_of};
 ghost use Rattle.adya_line.specs.Meaning.Spelling.{event_text, unfinished_text, order_text, final_text, txn_text};
 ghost use Rattle.adya_line.specs.Meaning.Limits.{IsEntry, IsEvent, IsOrder, IsFinal};
 ghost use Rattle.adya_line.specs.Computing.Reading.{event_at, unfinished_at, order_at, final_at, txn_at_line};
@@ -11,7 +11,7 @@ ghost use Rattle.adya_line.specs.Laws.{IsReaderOf, IsOneText, HasPlainTexts};
 ghost use Rattle.adya_line.specs.Clauses.HistoryLines.{IsLine as IsHistoryLine, line_text as history_line_text};
 ghost use Rattle.adya_line.specs.Clauses.SerialLines.{IsLine as IsSerialLine, line_text as serial_line_text};
 
-use adya_values::{Content, Entry, Event, FinalPair, Order};
+use adya_values::{Content, Entry, EventView, FinalPair, Listed, Order};
 
 /// The lines of events are the texts of the events within their limits.
 pub fn event_lines()
@@ -56,22 +56,22 @@ pub fn serial_lines()
 {}
 
 /// Each event is within its limits.
-pub fn event_within(event: &Event)
-    ensures { IsEvent (event_of event.now) }
+pub fn event_within(event: &EventView<'_>)
+    ensures { IsEvent (view_of event.now) }
 {
     match event {
-        Event::Write { txn, key, m, value } => {
+        EventView::Write { txn, key, m, value } => {
             let _ = txn.get();
             let _ = key.bytes();
             let _ = m.get();
             let _ = value.bytes();
         }
-        Event::Delete { txn, key, m } => {
+        EventView::Delete { txn, key, m } => {
             let _ = txn.get();
             let _ = key.bytes();
             let _ = m.get();
         }
-        Event::Read {
+        EventView::Read {
             txn,
             version,
             value,
@@ -82,7 +82,7 @@ pub fn event_within(event: &Event)
             let _ = version.m.get();
             let _ = value.bytes();
         }
-        Event::Scan {
+        EventView::Scan {
             txn,
             low,
             high,
@@ -93,17 +93,17 @@ pub fn event_within(event: &Event)
             let _ = high.bytes();
             entries_within(entries);
         }
-        Event::Commit { txn } | Event::Abort { txn } => {
+        EventView::Commit { txn } | EventView::Abort { txn } => {
             let _ = txn.get();
         }
     }
 }
 
-fn entries_within(entries: &[Entry])
-    ensures { AllByRecursion IsEntry (map entry_of entries.now) }
+fn entries_within(entries: &Listed<'_>)
+    ensures { AllByRecursion IsEntry (entries_of entries.now) }
 {
-    for entry in entries {
-        entry_within(entry);
+    for j in 0..entries.len() {
+        entry_within(&entries.at(j));
     }
 }
 

@@ -1,13 +1,13 @@
 //! Writing lines.
 
-ghost use Rattle.std.specs.Prelude.{◌++◌, codes, decimal, flat_map, map};
-ghost use Rattle.adya_values.specs.Mirror.Events.{content_of, entry_of, event_of, order_of, final_of, value_of};
+ghost use Rattle.std.specs.Prelude.{◌++◌, codes, decimal, flat_map};
+ghost use Rattle.adya_values.specs.Mirror.Events.{content_of, entries_of, entry_of, view_of, order_of, final_of, value_of};
 ghost use Rattle.devices.specs.Clauses.Writing.{Wrote};
 ghost use Rattle.adya_line.specs.Machinery.Fronts.{front_text};
 ghost use Rattle.adya_line.specs.Meaning.Spelling.{version_text, content_text, entry_text, event_text, unfinished_text};
 ghost use Rattle.adya_line.specs.Meaning.Spelling.{later_text, writers_text, order_text, final_text, txn_text};
 
-use adya_values::{Content, Entry, Event, FinalPair, Key, Order, Txn, Value, Version};
+use adya_values::{Content, Entry, EventView, FinalPair, Key, Listed, Order, Txn, Value, Version};
 use devices::{Watched, put, put_number};
 use std::io;
 use std::io::Write;
@@ -15,11 +15,11 @@ use std::io::Write;
 /// Writes the event's line, without its line feed. Returns an error only if the device has failed; how
 /// much it took is then not said.
 #[tactic(auto, unfolding(crate::specs::Meaning::Spelling::event_text, crate::specs::Machinery::Fronts::front_text))]
-pub fn write_event<W: Write>(event: &Event, out: &mut Watched<W>) -> io::Result<()>
-    ensures { Wrote W.contents out.old out.new (event_text (event_of event.now)) result }
+pub fn write_event<W: Write>(event: &EventView<'_>, out: &mut Watched<W>) -> io::Result<()>
+    ensures { Wrote W.contents out.old out.new (event_text (view_of event.now)) result }
 {
     match event {
-        Event::Write { txn, key, m, value } => {
+        EventView::Write { txn, key, m, value } => {
             let version = Version {
                 key: *key,
                 txn: *txn,
@@ -27,7 +27,7 @@ pub fn write_event<W: Write>(event: &Event, out: &mut Watched<W>) -> io::Result<
             };
             put_access(b"w", *txn, &version, value.bytes(), out)
         }
-        Event::Delete { txn, key, m } => {
+        EventView::Delete { txn, key, m } => {
             let version = Version {
                 key: *key,
                 txn: *txn,
@@ -35,19 +35,19 @@ pub fn write_event<W: Write>(event: &Event, out: &mut Watched<W>) -> io::Result<
             };
             put_delete(&version, out)
         }
-        Event::Read {
+        EventView::Read {
             txn,
             version,
             value,
         } => put_access(b"r", *txn, version, value.bytes(), out),
-        Event::Scan {
+        EventView::Scan {
             txn,
             low,
             high,
             entries,
         } => put_scan(*txn, low, high, entries, out),
-        Event::Commit { txn } => put_end(b"c", *txn, out),
-        Event::Abort { txn } => put_end(b"a", *txn, out),
+        EventView::Commit { txn } => put_end(b"c", *txn, out),
+        EventView::Abort { txn } => put_end(b"a", *txn, out),
     }
 }
 
@@ -152,11 +152,11 @@ fn put_content<W: Write>(content: &Content, out: &mut Watched<W>) -> io::Result<
     }
 }
 
-fn put_entries<W: Write>(entries: &[Entry], out: &mut Watched<W>) -> io::Result<()>
-    ensures { Wrote W.contents out.old out.new (flat_map entry_text (map entry_of entries.now)) result }
+fn put_entries<W: Write>(entries: &Listed<'_>, out: &mut Watched<W>) -> io::Result<()>
+    ensures { Wrote W.contents out.old out.new (flat_map entry_text (entries_of entries.now)) result }
 {
-    for entry in entries {
-        put_entry(entry, out)?;
+    for j in 0..entries.len() {
+        put_entry(&entries.at(j), out)?;
     }
     Ok(())
 }
@@ -175,11 +175,11 @@ fn put_scan<W: Write>(
     txn: Txn,
     low: &Key,
     high: &Key,
-    entries: &[Entry],
+    entries: &Listed<'_>,
     out: &mut Watched<W>,
 ) -> io::Result<()>
     ensures { Wrote W.contents out.old out.new (front_text (codes "s") txn ++ (low.now ++ codes "," ++ high.now) ++
-        flat_map entry_text (map entry_of entries.now) ++ codes ")") result }
+        flat_map entry_text (entries_of entries.now) ++ codes ")") result }
 {
     put_front(b"s", txn, out)?;
     put_range(low, high, out)?;

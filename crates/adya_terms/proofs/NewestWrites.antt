@@ -1,52 +1,58 @@
--- What the map of the keys' newest writes says after one more event.
-use Rattle.std.proofs.Common.{◌≡◌, ℕ, Bool, true, false, cond, ◌||◌, List, [], ◌∷◌, ◌++◌, Option, Some, option_map, sym, ◌∙◌, ap, inl, inr}
+-- What the places of the keys' newest writes say after one more event.
+use Rattle.std.proofs.Common.{◌≡◌, ◌≢◌, ℕ, zero, suc, ◌+◌, true, List, [], ◌∷◌, ◌++◌, replicate, set, Option, Some, None, slice_get, refl, sym, ◌∙◌, ap, inl, inr, arith}
 use Rattle.std.specs.List.{filter_map, cons_option, list_any}
-use Rattle.std.proofs.lemmas.Bool.{cases_Bool, or_left, or_right}
+use Rattle.std.proofs.lemmas.Bool.{cases_eq, or_left, or_right}
 use Rattle.std.proofs.lemmas.List.Folds.{list_any-append}
-use Rattle.adya_values.specs.declared.event.Entry.{Entry as EntryValue}
-use Rattle.adya_values.specs.declared.event.Version.{Version}
-use Rattle.adya_values.specs.Meaning.Keys.{key_eq}
+use Rattle.std.proofs.lemmas.Option.{none-some, same_Some}
 use Rattle.adya_values.specs.Meaning.Histories.{Entry, Event}
-use Rattle.adya_values.specs.Mirror.Events.{entry_of}
 use Rattle.adya_values.specs.Meaning.Events.{written}
-use Rattle.adya_values.specs.Computing.Faults.{entry_eq}
-use Rattle.adya_terms.specs.declared.tables.Own.{Own}
-use Rattle.adya_terms.specs.Machinery.Tables.{is_at, is_there}
-use Rattle.adya_terms.specs.Machinery.NewestWrites.{is_newest, is_found, AreWritten}
+use Rattle.adya_values.specs.Computing.Faults.{entry_eq, is_entry}
+use Rattle.adya_values.proofs.Entries.{entry_eq-turned}
+use Rattle.adya_terms.specs.Machinery.Tables.{written_at, written_by}
+use Rattle.adya_terms.specs.Machinery.NewestWrites.{AreWritten}
 use Rattle.adya_terms.proofs.Tells.{written_more}
 
-any_next : (o : Entry) (before : List Event) (e : Event)
-    → list_any (entry_eq o) (filter_map written (before ++ e ∷ [])) ≡ (list_any (entry_eq o) (filter_map written before) || list_any (entry_eq o) (cons_option (written e) []))
-any_next o before e =
-    ap (list_any (entry_eq o)) (written_more before e) ∙ list_any-append (entry_eq o) (filter_map written before) (cons_option (written e) [])
+-- no places
+pub written_zeros : (n : ℕ) (all : List Event) → AreWritten (replicate n 0) all []
+written_zeros zero all i p at o is = absurd (none-some (suc p) at)
+written_zeros (suc n) all zero p at o is = absurd cc
+written_zeros (suc n) all (suc i) p at o is = written_zeros n all i p at o is
 
-module _ (old new : List ℕ → Option EntryValue) (before : List Event) (e : Event) (m : AreWritten old before) where
-  still : (o : Entry) → is_newest old o ≡ true → list_any (entry_eq o) (filter_map written (before ++ e ∷ [])) ≡ true
-  still o there = any_next o before e ∙ or_left _ _ (m o there)
+get_set : (xs : List ℕ) (n x y : ℕ) → slice_get (set xs n x) n ≡ Some y → x ≡ y
+get_set [] n x y here = absurd (none-some y here)
+get_set (z ∷ zs) zero x y here = same_Some x y here
+get_set (z ∷ zs) (suc n) x y here = get_set zs n x y here
 
-  pub written_quiet : ((k : List ℕ) → new k ≡ old k) → AreWritten new (before ++ e ∷ [])
-  written_quiet same o there = still o (sym (ap (λ w. is_there o (option_map entry_of w)) (same o.version.key)) ∙ there)
+get_set_other : (xs : List ℕ) (n x i : ℕ) → i ≢ n → slice_get (set xs n x) i ≡ slice_get xs i
+get_set_other [] n x i other = refl
+get_set_other (y ∷ ys) zero x zero other = absurd (other refl)
+get_set_other (y ∷ ys) zero x (suc i) other = refl
+get_set_other (y ∷ ys) (suc n) x zero other = refl
+get_set_other (y ∷ ys) (suc n) x (suc i) other = get_set_other ys n x i (λ e. other (ap suc e))
 
-  pub written_write : (w : EntryValue) → written e ≡ Some (entry_of w)
-      → ((k : List ℕ) → new k ≡ cond (key_eq w.version.key k) (Some w) (old k)) → AreWritten new (before ++ e ∷ [])
-  written_write w wrote put o there =
-      let there_by : (b : Bool) → key_eq w.version.key o.version.key ≡ b
-      → is_there o (option_map entry_of (cond b (Some w) (old o.version.key))) ≡ true =
-      λ b is. ap (λ c. is_there o (option_map entry_of (cond c (Some w) (old o.version.key)))) (sym is) ∙
-      (sym (ap (λ x. is_there o (option_map entry_of x)) (put o.version.key)) ∙ there) in
-      elim (cases_Bool (key_eq w.version.key o.version.key)) [
-        | inl here ↦
-            any_next o before e ∙
-            or_right _ _ (ap (λ x. list_any (entry_eq o) (cons_option x [])) wrote ∙ or_left _ _ (there_by true here))
-        | inr other ↦ still o (there_by false other)
+module _ (places : List ℕ) (all before : List Event) (e : Event) (m : AreWritten places all before) where
+  still : (o : Entry) → list_any (entry_eq o) (filter_map written before) ≡ true → list_any (entry_eq o) (filter_map written (before ++ e ∷ [])) ≡ true
+  still o there =
+      ap (list_any (entry_eq o)) (written_more before e) ∙
+      (list_any-append (entry_eq o) (filter_map written before) (cons_option (written e) []) ∙ or_left _ _ there)
+
+  pub written_quiet : AreWritten places all (before ++ e ∷ [])
+  written_quiet i p at o is = still o (m i p at o is)
+
+  -- what the event writes was written with it
+  now_written : (o : Entry) (w : Option Entry) → written e ≡ w → is_entry w o ≡ true → list_any (entry_eq o) (filter_map written (before ++ e ∷ [])) ≡ true
+  now_written o None wrote is = absurd cc
+  now_written o (Some w) wrote is =
+      ap (list_any (entry_eq o)) (written_more before e) ∙
+      (list_any-append (entry_eq o) (filter_map written before) (cons_option (written e) []) ∙
+      or_right _ _ (ap (λ x. list_any (entry_eq o) (cons_option x [])) wrote ∙ or_left _ _ (entry_eq-turned o w ∙ is)))
+
+  pub written_write : (n at : ℕ) → slice_get all at ≡ Some e → AreWritten (set places n (at + 1)) all (before ++ e ∷ [])
+  written_write n at found i p here o is =
+      elim (cases_eq i n) [
+        | inl same ↦
+            let value = get_set places n (at + 1) (suc p) (ap (slice_get (set places n (at + 1))) (sym same) ∙ here) in
+            let this : at ≡ p = omega (arith, value) in
+            now_written o (written e) refl (ap (λ q. is_entry (written_by q) o) (sym found) ∙ (ap (λ q. is_entry (written_at all (Some q)) o) this ∙ is))
+        | inr other ↦ still o (m i p (sym (get_set_other places n (at + 1) i other) ∙ here) o is)
       ]
-
--- an entry that is the newest was written, and the other tables have all that was written
-pub found_is : (newest : List ℕ → Option EntryValue) (last : Own → Option ℕ) (replaced : Version → Option ℕ) (all before : List Event)
-    → AreWritten newest before → ((o : Entry) → is_at last replaced all o ≡ list_any (entry_eq o) (filter_map written before))
-    → (o : Entry) → is_found newest last replaced all o ≡ list_any (entry_eq o) (filter_map written before)
-found_is newest last replaced all before m is o =
-    elim (cases_Bool (is_newest newest o)) [
-      | inl yes' ↦ or_left _ _ yes' ∙ sym (m o yes')
-      | inr no' ↦ ap (λ b. b || is_at last replaced all o) no' ∙ is o
-    ]

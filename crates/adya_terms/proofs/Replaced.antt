@@ -7,19 +7,19 @@ use Rattle.std.proofs.lemmas.List.{append_assoc}
 use Rattle.std.proofs.lemmas.List.Elements.{filter_map-append}
 use Rattle.std.proofs.lemmas.List.Folds.{list_any-append}
 use Rattle.adya_values.specs.declared.event.Version.{Version}
-use Rattle.adya_terms.specs.declared.tables.Own.{Own}
+use Rattle.adya_terms.specs.Machinery.Tables.{Own}
 use Rattle.adya_values.specs.Meaning.Histories.{Entry, Event}
 use Rattle.adya_values.specs.Meaning.Events.{written, observed, last_write}
 use Rattle.adya_values.specs.Computing.Faults.{entry_eq, is_entry, was_written, faults_at, event_faults}
 use Rattle.adya_terms.specs.Machinery.Tables.{own, written_at, is_there, number_of, Tell}
-use Rattle.adya_values.proofs.Entries.{entry_eq-same, entry_eq-from}
+use Rattle.adya_values.proofs.Entries.{entry_eq-same, entry_eq-turned}
 use Rattle.adya_values.proofs.Faults.{passes_all}
 use Rattle.lemmas.proofs.Lists.{nil_left, nil_right}
 use Rattle.lemmas.proofs.Tests.{all_pass, list_all_when}
 
-there_is : (o : Entry) (q : Option Entry) → is_there o q ≡ true → is_entry q o ≡ true
-there_is o None e = absurd (cc (e))
-there_is o (Some w) e = entry_eq-from w o (sym (entry_eq-same o w e))
+pub there_is : (o : Entry) (q : Option Entry) → is_entry q o ≡ is_there o q
+there_is o None = refl
+there_is o (Some w) = entry_eq-turned w o
 
 other_number : (o : Entry) (q : Option Entry) → number_of q ≢ o.version.m → is_entry q o ≡ false
 other_number o None apart = refl
@@ -33,7 +33,7 @@ last_unless_replaced c a l v all before m o was None at =
     let last = is_there o (written_at all (l (own r.txn r.key))) in
     let there : last ≡ true =
     sym (or-false last) ∙ (ap (λ q. last || is_there o (written_at all q)) (sym at) ∙ (m.written_is o ∙ was)) in
-    sym (there_is o _ (ap (is_there o) (sym (m.last_is r.txn r.key)) ∙ there))
+    sym (there_is o _ ∙ (ap (is_there o) (sym (m.last_is r.txn r.key)) ∙ there))
 last_unless_replaced c a l v all before m o was (Some n) at =
     let r = o.version in
     let later = m.later r (ap is_some at) in

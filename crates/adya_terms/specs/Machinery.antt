@@ -5,8 +5,9 @@ pub mod OwnWrites
 pub mod Telling
 pub mod Owed
 pub mod NewestWrites
-pub mod Observed
+pub mod Scans
 pub mod EventIndex
 pub mod Checks
 pub mod Reads
+pub mod LineWriters
 pub mod Places

@@ -1,14 +1,14 @@
 //! Histories that passed their check, and the check itself.
 
-ghost use Rattle.std.specs.Prelude.{◌≡◌, ◌≢◌, ◌^◌, ◌<◌, [], true, None, map, option_map, is_none, IfOk, IfErr, MatchResult};
+ghost use Rattle.std.specs.Prelude.{◌≡◌, ◌≢◌, ◌^◌, ◌<◌, ◌+◌, [], true, None, length, map, is_none, is_some, IfOk, IfErr, MatchResult};
 ghost use Rattle.adya_values.specs.Meaning.Keys.{keys_rise};
-ghost use Rattle.adya_values.specs.Mirror.Events.{entry_of, order_of, final_of};
+ghost use Rattle.adya_values.specs.Mirror.Events.{events_of, order_of, final_of};
 ghost use Rattle.adya_values.specs.Mirror.Histories.{history_of};
-ghost use Rattle.adya_values.specs.Meaning.Events.{is_committed};
+ghost use Rattle.adya_values.specs.Meaning.Events.{is_committed, shown};
 ghost use Rattle.adya_values.specs.Computing.Faults.{first_fault, check_faults};
 ghost use Rattle.adya_values.specs.Clauses.Acceptance.{IsChecked};
 ghost use Rattle.adya_terms.specs.Clauses.Faults.{IsFault};
-ghost use Rattle.adya_terms.specs.Machinery.EventIndex.{last_in};
+ghost use Rattle.adya_terms.specs.Machinery.EventIndex.{events_in, indexed, last_in, unfinished_in};
 ghost use Rattle.adya_terms.specs.Machinery.Places.{AreInstalled, AreWrites};
 ghost use Rattle.adya_terms.specs.Machinery.Tables.{KnowsCommitted};
 ghost use Rattle.adya_terms.specs.Machinery.Checks.{Names, whole, rule_faults};
@@ -17,10 +17,11 @@ use crate::ends::{all_end, check_unfinished};
 use crate::event_index::EventIndex;
 use crate::finals::check_finals;
 use crate::laws::checked_iff_no_fault;
+use crate::line_places::LinePlaces;
 use crate::listed::check_orders;
 use crate::reads::check_reads;
-use crate::tables::{Ended, wrote_at};
-use crate::{CheckFault, Entry, Event, FinalPair, History, Order, Rule, Txn};
+use crate::tables::Ended;
+use crate::{CheckFault, Events, FinalPair, History, Order, Rule, Txn};
 use std::alloc::Global;
 use txn_table::TxnTable;
 
@@ -30,11 +31,11 @@ use txn_table::TxnTable;
 pub struct Checked<'a> {
     history: &'a History,
     ended: TxnTable<Ended>,
-    /// For each order line, the indices of the events that wrote what it names.
-    writes: Vec<Vec<usize>>,
+    /// For each order line, the places of its writers, with the indices of the events that wrote what it names.
+    lines: Vec<LinePlaces<'a>>,
     pub ghost checked: { is_none (first_fault (history_of history.now)) ≡ true },
     pub ghost commits: { KnowsCommitted ended (history_of history.now).events },
-    pub ghost written: { let h = history_of history.now in AreInstalled h.events writes.items h.orders },
+    pub ghost written: { let h = history_of history.now in AreInstalled h.events lines.items h.orders },
 }
 
 impl<'a> Checked<'a> {
@@ -61,10 +62,10 @@ impl<'a> Checked<'a> {
             history.finals(),
         ) {
             Err(fault) => Err(fault),
-            Ok((index, writes)) => Ok(Checked {
+            Ok((index, lines)) => Ok(Checked {
                 history,
                 ended: index.into_ended(),
-                writes,
+                lines,
             }),
         }
     }
@@ -86,71 +87,73 @@ impl<'a> Checked<'a> {
         self.ended.get(txn).committed
     }
 
-    /// Returns what the writer at this place of the order line at this index installed, both counted from 0: its last
-    /// write of the line's key (Adya 1999, section 3.1). `None` if there is no such line, or no such writer in it.
-    pub fn installed(&self, line: usize, place: usize) -> Option<Entry>
-        ensures { option_map entry_of result ≡ installed_at (checked_history self.now) line place }
+    /// Returns whether the writer at this place of the order line at this index, both counted from 0, installed a value: whether
+    /// its last write of the line's key is no delete (Adya 1999, section 3.1). It didn't if there is no such line, or no such
+    /// writer in it.
+    pub fn shows(&self, line: usize, place: usize) -> bool
+        ensures { result ≡ is_some (shown (installed_at (checked_history self.now) line place)) }
     {
-        let Some(writes) = self.writes.get(line) else {
-            return None;
+        let Some(places) = self.lines.get(line) else {
+            return false;
         };
-        let Some(at) = writes.get(place) else {
-            return None;
+        let Some(at) = places.write_at(place) else {
+            return false;
         };
-        wrote_at(self.history.events(), Some(*at))
+        self.history.events().shows(at)
     }
 }
 
-/// Makes the index of the events, and for each order line the indices of the events that wrote what it names, if the
-/// lists have no fault.
+/// Makes the index of the events, and for each order line the places of its writers, with the indices of the events that
+/// wrote what it names, if the lists have no fault.
 fn check<'a>(
     alloc: Global,
-    events: &'a [Event],
+    events: &'a Events,
     unfinished: &'a [Txn],
-    orders: &[Order],
+    orders: &'a [Order],
     finals: &[FinalPair],
-) -> Result<(EventIndex<'a>, Vec<Vec<usize>>), CheckFault>
+) -> Result<(EventIndex<'a>, Vec<LinePlaces<'a>>), CheckFault>
     requires orders_rise { keys_rise (map (λ o. o.key) (map order_of orders.now)) ≡ true }
     requires finals_rise { keys_rise (map (λ f. f.key) (map final_of finals.now)) ≡ true }
-    ensures faults { let faults = check_faults (whole events.now unfinished.now orders.now finals.now) in
+    ensures faults { let faults = check_faults (whole (events_of events.now) unfinished.now orders.now finals.now) in
         MatchResult result (λ t. faults ≡ []) (Names faults) }
-    ensures events { IfOk result (λ t. t.0.events.now ≡ events.now) }
-    ensures writes { IfOk result (λ t. AreWrites (last_in t.0) t.1.items (map order_of orders.now)) }
+    ensures events { IfOk result (λ t. events_in t.0 ≡ events.now) }
+    ensures lines { IfOk result (λ t. AreWrites (last_in t.0) t.1.items (map order_of orders.now)) }
 {
     let index = match EventIndex::of(alloc, events, unfinished) {
         Ok(index) => index,
         Err(fault) => return Err(fault),
     };
-    if let Err(fault) = check_unfinished(&index, events.len() + 2) {
+    let unfinished_line = events.len() + 2;
+    if let Err(fault) = check_unfinished(&index, unfinished_line) {
         return Err(fault);
     }
-    let orders_line = events.len() + 2 + unfinished.len();
-    let writes = match check_rules(alloc, &index, orders, finals, orders_line) {
-        Ok(writes) => writes,
+    let orders_line = unfinished_line + unfinished.len();
+    let lines = match check_rules(alloc, &index, orders, finals, orders_line) {
+        Ok(lines) => lines,
         Err(fault) => return Err(fault),
     };
     if let Err(fault) = check_reads(&index) {
         return Err(fault);
     }
-    Ok((index, writes))
+    Ok((index, lines))
 }
 
 /// Looks for the first fault after the unfinished transactions: a transaction that doesn't end, M7 and M8. The line
-/// of the first order is `line`. If there is none, returns for each order line the indices of the events that wrote what
-/// it names.
-fn check_rules(
+/// of the first order is `line`. If there is none, returns for each order line the places of its writers, with the indices
+/// of the events that wrote what it names.
+fn check_rules<'a>(
     alloc: Global,
     index: &EventIndex,
-    orders: &[Order],
+    orders: &'a [Order],
     finals: &[FinalPair],
     line: usize,
-) -> Result<Vec<Vec<usize>>, CheckFault>
-    requires near { line < 2 ^ 62 }
+) -> Result<Vec<LinePlaces<'a>>, CheckFault>
+    requires near { line + length orders.now + length finals.now < 2 ^ 64 }
     requires orders_rise { keys_rise (map (λ o. o.key) (map order_of orders.now)) ≡ true }
     requires finals_rise { keys_rise (map (λ f. f.key) (map final_of finals.now)) ≡ true }
-    ensures faults { let h = whole index.now.events.now index.now.unfinished.now orders.now finals.now in
+    ensures faults { let h = whole (indexed index.now) (unfinished_in index.now) orders.now finals.now in
         MatchResult result (λ u. rule_faults h line ≡ []) (Names (rule_faults h line)) }
-    ensures writes { IfOk result (λ v. AreWrites (last_in index.now) v.items (map order_of orders.now)) }
+    ensures lines { IfOk result (λ v. AreWrites (last_in index.now) v.items (map order_of orders.now)) }
 {
     if !all_end(index) {
         return Err(CheckFault::Malformed {
@@ -158,12 +161,12 @@ fn check_rules(
             rule: Rule::M6,
         });
     }
-    let writes = match check_orders(alloc, index, orders, line) {
-        Ok(writes) => writes,
+    let lines = match check_orders(alloc, index, orders, line) {
+        Ok(lines) => lines,
         Err(fault) => return Err(fault),
     };
-    match check_finals(index, orders, finals, line + orders.len()) {
-        Ok(()) => Ok(writes),
+    match check_finals(index, orders, &lines, finals, line + orders.len()) {
+        Ok(()) => Ok(lines),
         Err(fault) => Err(fault),
     }
 }

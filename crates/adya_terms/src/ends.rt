@@ -1,20 +1,20 @@
 //! M6: each transaction with an event has ended or is listed as unfinished, and none is both.
 
-ghost use Rattle.std.specs.Prelude.{◌≡◌, ◌^◌, ◌<◌, [], MatchResult};
+ghost use Rattle.std.specs.Prelude.{◌≡◌, ◌^◌, ◌<◌, ◌+◌, [], Some, length, slice_get, MatchResult};
 ghost use Rattle.std.specs.List.{list_all};
-ghost use Rattle.adya_values.specs.Mirror.Events.{event_of};
+ghost use Rattle.adya_values.specs.Meaning.Histories.{Event as EventValue};
 ghost use Rattle.adya_values.specs.Meaning.Events.{txn_of};
 ghost use Rattle.adya_values.specs.Computing.Faults.{unfinished_faults};
 ghost use Rattle.adya_terms.specs.Machinery.EventIndex.{indexed, unfinished_in, is_done};
 ghost use Rattle.adya_terms.specs.Machinery.Checks.{Names};
 
 use crate::event_index::EventIndex;
-use crate::{CheckFault, Event, Rule, Txn};
+use crate::{CheckFault, Rule};
 
 /// Returns the line of the first unfinished transaction that has ended, if there is one. The line of the first
 /// unfinished transaction is `first`.
 pub(crate) fn check_unfinished(index: &EventIndex, first: usize) -> Result<(), CheckFault>
-    requires near { first < 2 ^ 63 }
+    requires near { first + length (unfinished_in index.now) < 2 ^ 64 }
     ensures { let found = unfinished_faults (indexed index.now) first (unfinished_in index.now) in
         MatchResult result (λ u. found ≡ []) (Names found) }
 {
@@ -29,17 +29,23 @@ pub(crate) fn check_unfinished(index: &EventIndex, first: usize) -> Result<(), C
     Ok(())
 }
 
-/// Returns whether the event's transaction has ended or is unfinished.
-fn is_done(index: &EventIndex, event: &Event) -> bool
-    ensures { result ≡ is_done index.now (txn_of (event_of event.now)) }
+/// Returns whether the transaction of the event at the index has ended or is unfinished.
+fn is_done(index: &EventIndex, at: usize) -> bool
+    requires { at < length (indexed index.now) }
+    ensures { (e : EventValue) → slice_get (indexed index.now) at ≡ Some e → result ≡ is_done index.now (txn_of e) }
 {
-    let txn = event.txn();
+    let txn = index.events().txn_at(at);
     index.has_ended(txn) || index.is_unfinished(txn)
 }
 
 /// Returns whether each event's transaction has ended or is unfinished.
 pub(crate) fn all_end(index: &EventIndex) -> bool
-    ensures { result ≡ list_all (λ e. is_done index.now (txn_of (event_of e))) index.now.events.now }
+    ensures { result ≡ list_all (λ e. is_done index.now (txn_of e)) (indexed index.now) }
 {
-    index.events.iter().all(|event| is_done(index, event))
+    for i in 0..index.len() {
+        if !is_done(index, i) {
+            return false;
+        }
+    }
+    true
 }

@@ -1,18 +1,21 @@
 //! The events of a history with what the rules from M6 on, and the search for bad reads, look up in them.
 
-ghost use Rattle.std.specs.Prelude.{◌≡◌, ◌||◌, ◌==◌, [], true, map, option_map, IfOk, MatchResult};
+ghost use Rattle.std.specs.Prelude.{◌≡◌, ◌<◌, ◌^◌, ◌||◌, ◌==◌, ℕ, List, [], true, Some, length, option_map, IfNone, IfOk, IfSome, MatchResult};
 ghost use Rattle.std.specs.List.{filter_map, list_any};
-ghost use Rattle.adya_values.specs.Mirror.Events.{entry_of, event_of};
-ghost use Rattle.adya_values.specs.Meaning.Events.{aborts, is_committed, last_write, written};
+ghost use Rattle.adya_values.specs.Machinery.Seen.{key_at};
+ghost use Rattle.adya_values.specs.Mirror.Events.{events_of, value_of};
+ghost use Rattle.adya_values.specs.Mirror.Numbers.{has_seen, number_in, seen_entry};
+ghost use Rattle.adya_values.specs.Meaning.Events.{aborts, is_committed, last_write, shown, written};
 ghost use Rattle.adya_values.specs.Clauses.Rules.{has_ended};
 ghost use Rattle.adya_values.specs.Computing.Faults.{entry_eq, event_faults, is_entry};
-ghost use Rattle.adya_terms.specs.Machinery.Tables.{own, KnowsCommitted};
-ghost use Rattle.adya_terms.specs.Machinery.Telling.{Means};
+ghost use Rattle.adya_terms.specs.Machinery.Tables.{own, written_at, KnowsCommitted};
+ghost use Rattle.adya_terms.specs.Machinery.Places.{Installs};
+ghost use Rattle.adya_terms.specs.Machinery.Telling.{told, Means};
 ghost use Rattle.adya_terms.specs.Machinery.Checks.{Names, Holds};
 
 use crate::rules::tables_of;
 use crate::tables::{Ended, Tables};
-use crate::{CheckFault, Entry, Event, Key, Txn};
+use crate::{CheckFault, Content, Events, NumberedVersion, Seen, Txn, Value};
 use std::alloc::{AllocError, Global};
 use std::collections::BTreeSet;
 use txn_table::TxnTable;
@@ -20,26 +23,25 @@ use txn_table::TxnTable;
 /// The events of a history, which keep the rules M1 to M5, and its unfinished transactions, with tables of both.
 #[derive(Drop)]
 pub(crate) struct EventIndex<'a> {
-    pub events: &'a [Event],
     pub unfinished: &'a [Txn],
-    tables: Tables,
+    tables: Tables<'a>,
     unfinished_set: BTreeSet<Txn>,
-    pub ghost tell: { let all = map event_of events.now in Means tables all all },
+    pub ghost tell: { Means tables (told tables) },
     pub ghost holds: { Holds unfinished_set unfinished.now },
 }
 
 impl<'a> EventIndex<'a> {
-    ghost use Rattle.adya_terms.specs.Machinery.EventIndex.{indexed, unfinished_in, last_in};
+    ghost use Rattle.adya_terms.specs.Machinery.EventIndex.{events_in, indexed, keys_in, unfinished_in, last_in};
 
     /// Makes the index, if no event breaks one of the rules M1 to M5.
     pub fn of(
         alloc: Global,
-        events: &'a [Event],
+        events: &'a Events,
         unfinished: &'a [Txn],
     ) -> Result<EventIndex<'a>, CheckFault>
-        ensures events { IfOk result (λ x. x.events.now ≡ events.now) }
+        ensures events { IfOk result (λ x. events_in x ≡ events.now) }
         ensures unfinished { IfOk result (λ x. x.unfinished.now ≡ unfinished.now) }
-        ensures faults { let faults = event_faults [] 2 (map event_of events.now) in
+        ensures faults { let faults = event_faults [] 2 (events_of events.now) in
             MatchResult result (λ x. faults ≡ []) (Names faults) }
     {
         let tables = match tables_of(alloc, events) {
@@ -50,11 +52,25 @@ impl<'a> EventIndex<'a> {
             return Err(CheckFault::Memory);
         };
         Ok(EventIndex {
-            events,
             unfinished,
             tables,
             unfinished_set,
         })
+    }
+
+    /// Returns the events.
+    pub fn events(&self) -> &Events
+        ensures { result.now ≡ events_in self.now }
+    {
+        self.tables.writes.events
+    }
+
+    /// Returns how many events there are.
+    pub fn len(&self) -> usize
+        ensures length { result ≡ length (indexed self.now) }
+        ensures near { result < 2 ^ 60 }
+    {
+        self.events().len()
     }
 
     /// Returns whether the transaction has committed.
@@ -85,27 +101,60 @@ impl<'a> EventIndex<'a> {
         self.tables.has_aborted(txn) || self.is_unfinished(txn)
     }
 
-    /// Returns the transaction's last write of the key.
-    pub fn last_write(&self, txn: Txn, key: Key) -> Option<Entry>
-        ensures { option_map entry_of result ≡ last_write txn key (indexed self.now) }
+    /// Returns the value that the event at the index writes, if it writes one.
+    pub fn value_at(&self, at: usize) -> Option<Value>
+        ensures { option_map value_of result ≡ shown (written_at (indexed self.now) (Some at)) }
     {
-        self.tables.last_write(self.events, txn, key)
+        let Some(wrote) = self.tables.wrote_at(Some(at)) else {
+            return None;
+        };
+        match wrote.content {
+            Content::Live(value) => Some(value),
+            Content::Dead => None,
+        }
     }
 
-    /// Returns the index of the transaction's last write of the key in the list of events.
-    pub fn last_place(&self, txn: Txn, key: Key) -> Option<usize>
-        ensures { result ≡ last_in self.now (own txn key) }
+    /// Returns the index of the transaction's last write of the key with the number in the list of events. There is none if the
+    /// key has no number.
+    pub fn last_place(&self, txn: Txn, number: Option<u32>) -> Option<usize>
+        requires { IfSome number (λ n. n < length (keys_in self.now)) }
+        ensures { (k : List ℕ) → number ≡ number_in (keys_in self.now) k → result ≡ last_in self.now (own txn k) }
     {
-        self.tables.last_place(self.events, txn, key)
+        match number {
+            None => None,
+            Some(number) => self.tables.last_place(txn, number),
+        }
+    }
+
+    /// Returns the version that the event at the index installs: if its transaction has committed, and writes the key last there.
+    pub fn installed_at(&self, at: usize) -> Option<NumberedVersion>
+        ensures there { IfSome result (λ v. v.key < length (keys_in self.now)) }
+        ensures installs { IfSome result (λ v. Installs (indexed self.now) (last_in self.now) (key_at (keys_in self.now) v.key) v.txn at) }
+        ensures none { IfNone result ((k : List ℕ) (t : ℕ) → Installs (indexed self.now) (last_in self.now) k t at → ⊥) }
+    {
+        let Some(version) = self.events().numbered_at(at) else {
+            return None;
+        };
+        if !self.has_committed(version.txn) {
+            return None;
+        }
+        let Some(last) = self.last_place(version.txn, Some(version.key)) else {
+            return None;
+        };
+        if last != at {
+            return None;
+        }
+        Some(version)
     }
 
     /// Returns whether the entry, which was written, is its transaction's last write of the key.
-    pub fn is_last(&self, seen: &Entry) -> bool
-        requires { list_any (entry_eq (entry_of seen.now)) (filter_map written (indexed self.now)) ≡ true }
-        ensures { let o = entry_of seen.now in
+    pub fn is_last(&self, seen: &Seen) -> bool
+        requires there { has_seen (events_in self.now) seen.now ≡ true }
+        requires written { list_any (entry_eq (seen_entry (events_in self.now) seen.now)) (filter_map written (indexed self.now)) ≡ true }
+        ensures { let o = seen_entry (events_in self.now) seen.now in
             result ≡ is_entry (last_write o.version.txn o.version.key (indexed self.now)) o }
     {
-        !self.tables.was_replaced(seen.version)
+        !self.tables.was_replaced(seen.version())
     }
 
     /// Returns how the transactions have ended.

@@ -1,34 +1,67 @@
 //! M8: the finals hold the values of the keys' last versions.
 
-ghost use Rattle.std.specs.Prelude.{◌≡◌, ◌^◌, ◌<◌, [], true, map, option_map, is_some, MatchResult};
+ghost use Rattle.std.specs.Prelude.{◌≡◌, ◌^◌, ◌<◌, ◌+◌, [], true, Some, length, map, option_map, slice_get, is_some, MatchResult};
+ghost use Rattle.std.specs.Bool.{OnTrue};
 ghost use Rattle.adya_values.specs.Meaning.Keys.{keys_rise};
 ghost use Rattle.adya_values.specs.Mirror.Events.{order_of, final_of, value_of};
 ghost use Rattle.adya_values.specs.Clauses.Rules.{final_value};
 ghost use Rattle.adya_values.specs.Computing.Faults as faults;
 ghost use Rattle.adya_terms.specs.Machinery.Checks.{Names, final_value_faults, parts};
+ghost use Rattle.adya_terms.specs.Machinery.Places.{AreWrites, IsLineOf};
+ghost use Rattle.adya_terms.specs.Machinery.EventIndex.{indexed, last_in};
 
 use crate::event_index::EventIndex;
+use crate::line_places::LinePlaces;
 use crate::listed::line_of;
-use crate::{CheckFault, Content, FinalPair, Key, Order, Rule, Value};
+use crate::{CheckFault, FinalPair, Key, Order, Rule, Value};
 
-/// Returns the value of the key's last version, if it has one.
-fn last_value(index: &EventIndex, orders: &[Order], key: Key) -> Option<Value>
+/// Returns the value of the last version of the order line, which is at the index, if it has one. The lines have the writes
+/// that installed what the orders name.
+fn line_value(
+    index: &EventIndex,
+    orders: &[Order],
+    lines: &[LinePlaces],
+    line: usize,
+    order: &Order,
+) -> Option<Value>
     requires rise { keys_rise (map (λ o. o.key) (map order_of orders.now)) ≡ true }
-    ensures { option_map value_of result ≡ faults.last_value (parts index.now.events.now orders.now []) key }
+    requires writes { AreWrites (last_in index.now) lines.now (map order_of orders.now) }
+    requires there { slice_get orders.now line ≡ Some order.now }
+    ensures { option_map value_of result ≡ faults.last_value (parts (indexed index.now) orders.now []) order.now.key }
 {
-    let Some(order) = line_of(orders, key) else {
+    let Some(last) = order.writers.len().checked_sub(1) else {
         return None;
     };
-    let Some(txn) = order.writers.as_slice().last() else {
+    let Some(places) = lines.get(line) else {
         return None;
     };
-    let Some(last) = index.last_write(*txn, key) else {
+    let Some(at) = places.write_at(last) else {
         return None;
     };
-    match last.content {
-        Content::Live(value) => Some(value),
-        Content::Dead => None,
-    }
+    index.value_at(at)
+}
+
+/// Returns whether the final has the value of its key's last version. The key's order line is at the index.
+fn is_final(
+    index: &EventIndex,
+    orders: &[Order],
+    lines: &[LinePlaces],
+    line: Option<usize>,
+    pair: &FinalPair,
+) -> bool
+    requires rise { keys_rise (map (λ o. o.key) (map order_of orders.now)) ≡ true }
+    requires writes { AreWrites (last_in index.now) lines.now (map order_of orders.now) }
+    requires line { IsLineOf line orders.now pair.now.key }
+    ensures { let f = final_of pair.now in
+        result ≡ faults.is_value (faults.last_value (parts (indexed index.now) orders.now []) f.key) f.value }
+{
+    let Some(line) = line else {
+        return false;
+    };
+    let Some(order) = orders.get(line) else {
+        return false;
+    };
+    is_value(line_value(index, orders, lines, line, order), &pair.value)
 }
 
 fn is_value(last: Option<Value>, value: &Value) -> bool
@@ -44,45 +77,74 @@ fn is_value(last: Option<Value>, value: &Value) -> bool
 fn check_lines(
     index: &EventIndex,
     orders: &[Order],
+    lines: &[LinePlaces],
     finals: &[FinalPair],
     first: usize,
 ) -> Result<(), CheckFault>
-    requires near { first < 2 ^ 63 }
+    requires near { first + length finals.now < 2 ^ 64 }
     requires rise { keys_rise (map (λ o. o.key) (map order_of orders.now)) ≡ true }
-    ensures { let found = faults.final_faults (parts index.now.events.now orders.now finals.now) first (map final_of finals.now) in
+    requires writes { AreWrites (last_in index.now) lines.now (map order_of orders.now) }
+    ensures { let found = faults.final_faults (parts (indexed index.now) orders.now finals.now) first (map final_of finals.now) in
         MatchResult result (λ u. found ≡ []) (Names found) }
 {
+    // the keys of both lists rise, so the next line is mostly the one after the last
+    let mut next = 0usize;
     for (i, pair) in finals.iter().enumerate() {
-        if !is_value(last_value(index, orders, pair.key), &pair.value) {
+        let line = line_of(orders, pair.key, next);
+        if !is_final(index, orders, lines, line, pair) {
             return Err(CheckFault::Malformed {
                 line: first + i,
                 rule: Rule::M8,
             });
         }
+        next = line.unwrap_or(next).wrapping_add(1);
     }
     Ok(())
 }
 
-fn has_final(finals: &[FinalPair], key: Key) -> bool
+/// Returns whether the key has a final. It is looked for at the index first.
+fn has_final(finals: &[FinalPair], key: Key, first: usize) -> bool
     requires { keys_rise (map (λ f. f.key) (map final_of finals.now)) ≡ true }
     ensures { result ≡ is_some (final_value (map final_of finals.now) key) }
 {
+    if is_of(finals, first, key) {
+        return true;
+    }
     match finals.binary_search_by_key(&key, |f| f.key) {
         Err(_) => false,
         Ok(_) => true,
     }
 }
 
+/// Returns whether the final at the index is of the key.
+fn is_of(finals: &[FinalPair], at: usize, key: Key) -> bool
+    ensures { OnTrue result (option_map (λ f. f.key) (slice_get finals.now at) ≡ Some key) }
+{
+    match finals.get(at) {
+        Some(pair) => pair.key == key,
+        None => false,
+    }
+}
+
 /// Returns whether each key whose last version has a value has a final line.
-fn has_finals(index: &EventIndex, orders: &[Order], finals: &[FinalPair]) -> bool
+fn has_finals(
+    index: &EventIndex,
+    orders: &[Order],
+    lines: &[LinePlaces],
+    finals: &[FinalPair],
+) -> bool
     requires orders_rise { keys_rise (map (λ o. o.key) (map order_of orders.now)) ≡ true }
     requires finals_rise { keys_rise (map (λ f. f.key) (map final_of finals.now)) ≡ true }
-    ensures { result ≡ faults.has_finals (parts index.now.events.now orders.now finals.now) }
+    requires writes { AreWrites (last_in index.now) lines.now (map order_of orders.now) }
+    ensures { result ≡ faults.has_finals (parts (indexed index.now) orders.now finals.now) }
 {
-    for order in orders {
-        if last_value(index, orders, order.key).is_some() && !has_final(finals, order.key) {
+    let mut next = 0usize;
+    for (i, order) in orders.iter().enumerate() {
+        let has_value = line_value(index, orders, lines, i, order).is_some();
+        if has_value && !has_final(finals, order.key, next) {
             return false;
         }
+        next = next.wrapping_add(usize::from(has_value));
     }
     true
 }
@@ -92,19 +154,21 @@ fn has_finals(index: &EventIndex, orders: &[Order], finals: &[FinalPair]) -> boo
 pub(crate) fn check_finals(
     index: &EventIndex,
     orders: &[Order],
+    lines: &[LinePlaces],
     finals: &[FinalPair],
     first: usize,
 ) -> Result<(), CheckFault>
-    requires near { first < 2 ^ 63 }
+    requires near { first + length finals.now < 2 ^ 64 }
     requires orders_rise { keys_rise (map (λ o. o.key) (map order_of orders.now)) ≡ true }
     requires finals_rise { keys_rise (map (λ f. f.key) (map final_of finals.now)) ≡ true }
-    ensures { let found = final_value_faults (parts index.now.events.now orders.now finals.now) first in
+    requires writes { AreWrites (last_in index.now) lines.now (map order_of orders.now) }
+    ensures { let found = final_value_faults (parts (indexed index.now) orders.now finals.now) first in
         MatchResult result (λ u. found ≡ []) (Names found) }
 {
-    if let Err(fault) = check_lines(index, orders, finals, first) {
+    if let Err(fault) = check_lines(index, orders, lines, finals, first) {
         return Err(fault);
     }
-    if !has_finals(index, orders, finals) {
+    if !has_finals(index, orders, lines, finals) {
         return Err(CheckFault::Malformed {
             line: first + finals.len(),
             rule: Rule::M8,

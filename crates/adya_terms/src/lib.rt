@@ -6,10 +6,13 @@ mod checked;
 mod ends;
 mod event_index;
 mod finals;
+mod line_numbers;
+mod line_places;
+mod line_writers;
 mod listed;
 mod newest_writes;
-mod observed;
 mod own_writes;
+mod placing;
 mod reads;
 mod rules;
 mod scans;
@@ -17,9 +20,10 @@ mod tables;
 
 pub use adya_rules::laws;
 pub use adya_values::{
-    BadKey, BadNumber, BadShape, BadValue, CheckFault, Content, Edition, Entry, Event, FinalPair,
-    History, Key, MAX_KEY_LEN, MAX_VALUE_LEN, Mod, Order, Rule, Serial, Txn, Value, Version,
-    is_key_byte, is_value_byte,
+    BadKey, BadNumber, BadShape, BadValue, CheckFault, Content, Edition, Entry, Event, EventView,
+    Events, FinalPair, History, Key, Listed, MAX_KEY_LEN, MAX_VALUE_LEN, Mod, NumberedVersion,
+    Observed, Order, Rule, Seen, Serial, Txn, Value, Version, is_key_byte, is_value_byte,
 };
 pub use checked::Checked;
 pub use devices::{Source, Watched};
+pub use line_numbers::lines_by_number;

@@ -1,53 +1,69 @@
 //! The newest write of each key, which is what most events read.
 
-ghost use Rattle.std.specs.Prelude.{◌≡◌, ◌++◌, [], ◌∷◌, List, IfOk};
-ghost use Rattle.std.specs.HashMap.{get};
-ghost use Rattle.adya_values.specs.Meaning.Keys.{key_eq};
+ghost use Rattle.std.specs.Prelude.{◌≡◌, ◌<◌, ◌^◌, ◌++◌, [], ◌∷◌, List, Some, true, suc, slice_get, IfOk, IfSome};
+ghost use Rattle.std.specs.Bool.{OnTrue};
+ghost use Rattle.std.specs.List.{filter_map, list_any};
+ghost use Rattle.adya_values.specs.Meaning.Events.{written};
 ghost use Rattle.adya_values.specs.Meaning.Histories.{Event as EventValue};
-ghost use Rattle.adya_values.specs.Mirror.Events.{entry_of, event_of};
-ghost use Rattle.adya_terms.specs.Machinery.NewestWrites.{is_newest, Keeps};
+ghost use Rattle.adya_values.specs.Mirror.Events.{events_of};
+ghost use Rattle.adya_values.specs.Mirror.Numbers.{has_seen, seen_entry};
+ghost use Rattle.adya_values.specs.Computing.Faults.{entry_eq};
+ghost use Rattle.adya_terms.specs.Machinery.NewestWrites.{Keeps};
 
-use crate::{Entry, Event, Key};
+use crate::{Events, Seen};
 use std::alloc::{AllocError, Global};
-use std::collections::HashMap;
 
-/// Of each key its newest write. It says of most of what is read that it was written. It is much smaller than the list of
-/// events and the tables of all writes, so it answers faster.
+/// Of each key the place of its newest write in the list of events, counted from 1, at the index of the key's number; 0 if it has
+/// none. It says of most of what is read that it was written. It is much smaller than the tables of all writes, so it answers
+/// faster.
 #[derive(Drop)]
 pub(crate) struct NewestWrites {
-    writes: HashMap<Key, Entry>,
+    places: Vec<usize>,
 }
 
 impl NewestWrites {
-    /// Makes those of no events.
-    pub fn new(alloc: Global) -> NewestWrites
-        ensures { Keeps result [] }
+    /// Makes those of no events, which name so many keys.
+    pub fn new(alloc: Global, keys: usize) -> Result<NewestWrites, AllocError>
+        ensures { IfOk result (λ n. (all : List EventValue) → Keeps n all []) }
     {
-        NewestWrites {
-            writes: HashMap::new(alloc),
+        Ok(NewestWrites {
+            places: vec![in alloc; 0; keys]?,
+        })
+    }
+
+    /// Returns the place of the newest write of the key with the number.
+    fn place(&self, number: u32) -> Option<usize>
+        ensures { IfSome result (λ p. slice_get self.now.places.items number ≡ Some (suc p)) }
+    {
+        match self.places.get(number as usize) {
+            None | Some(0) => None,
+            Some(place) => Some(*place - 1),
         }
     }
 
-    /// Returns whether the newest write of the entry's key is this entry.
-    pub fn has(&self, seen: &Entry) -> bool
-        ensures { result ≡ is_newest (get key_eq self.now.writes) (entry_of seen.now) }
+    /// Returns whether the newest write of the key is this one. Then it was written.
+    pub fn has(&self, events: &Events, seen: &Seen) -> bool
+        requires { has_seen events.now seen.now ≡ true }
+        ensures { OnTrue result ((before : List EventValue)
+            → Keeps self.now (events_of events.now) before
+            → list_any (entry_eq (seen_entry events.now seen.now)) (filter_map written before) ≡ true) }
     {
-        match self.writes.get(&seen.version.key) {
+        match self.place(seen.key) {
             None => false,
-            Some(wrote) => seen.same(wrote),
+            Some(at) => events.wrote(at, seen),
         }
     }
 
-    /// Records what the event writes.
-    pub fn keep(&mut self, event: &Event) -> Result<(), AllocError>
-        ensures { IfOk result
-            (λ u. (before : List EventValue)
-            → Keeps self.old before
-            → Keeps self.new (before ++ event_of event.now ∷ [])) }
+    /// Records that the event at the place writes the key with the number.
+    pub fn keep(&mut self, number: u32, at: usize)
+        requires { at < 2 ^ 60 }
+        ensures { (all before : List EventValue) (e : EventValue)
+            → Keeps self.old all before
+            → slice_get all at ≡ Some e
+            → Keeps self.new all (before ++ e ∷ []) }
     {
-        if let Some(new) = &event.written() {
-            self.writes.insert(new.version.key, *new)?;
+        if let Some(place) = self.places.get_mut(number as usize) {
+            *place = at + 1;
         }
-        Ok(())
     }
 }

@@ -1,17 +1,16 @@
 //! The places of each transaction's writes.
 
-ghost use Rattle.std.specs.Prelude.{◌≡◌, ◌<◌, ◌==◌, ◌&&◌, ◌++◌, [], ◌∷◌, ℕ, Some, None, List, cond, map, option_map, IfOk, OnErr};
+ghost use Rattle.std.specs.Prelude.{◌≡◌, ◌<◌, ◌==◌, ◌&&◌, ◌++◌, [], ◌∷◌, ℕ, Some, None, List, cond, length, option_map, IfOk, OnErr};
 ghost use Rattle.std.specs.BTreeMap.{get};
 ghost use Rattle.std.specs.Ordering.{nat_cmp, is_eq};
 ghost use Rattle.std.specs.Cmp.Lexicographic.{slice_cmp};
 ghost use Rattle.txn_table.specs.Mirror.{value_for};
-ghost use Rattle.adya_values.specs.Meaning.Histories.{Entry as EntryValue, Event as EventValue};
-ghost use Rattle.adya_values.specs.Mirror.Events.{event_of};
-ghost use Rattle.adya_terms.specs.Machinery.Tables.{own, own_eq, written_at};
-ghost use Rattle.adya_terms.specs.Machinery.Chains.{is_hit, is_of_key, longer, mark_of, own_place, row, row_at, walk, AreFew, AreLinked};
+ghost use Rattle.adya_values.specs.Machinery.Seen.{key_at};
+ghost use Rattle.adya_values.specs.Mirror.Numbers.{keys_of, AreNumbered};
+ghost use Rattle.adya_terms.specs.Machinery.Tables.{own, own_eq, Own};
+ghost use Rattle.adya_terms.specs.Machinery.Chains.{longer, own_place, row, row_at, walk, AreFew, AreKnown, AreLinked};
 
-use crate::tables::Own;
-use crate::{Event, Key, Txn};
+use crate::{Events, Key, Txn};
 use std::alloc::{AllocError, Global};
 use std::collections::BTreeMap;
 use txn_table::TxnTable;
@@ -35,50 +34,59 @@ pub(crate) struct Row {
     pub(crate) at: usize,
     /// The row of the write before it in its chain, counted from 1; 0 if there is none.
     pub(crate) before: usize,
-    /// The mark of its key. So most events are looked at only if they write the key that is sought.
-    pub(crate) mark: u16,
+    /// The number of its key.
+    pub(crate) key: u32,
 }
 
 /// The places in the list of events at which each transaction wrote each key last. The first writes of a transaction are
-/// chained: what it wrote lies close together in most histories, so looking through a few places costs less than a search
-/// in a large table. Only the later writes of a long transaction have a table.
+/// chained: what it wrote lies close together in most histories, so looking through a few rows costs less than a search
+/// in a large table. Only the later writes of a long transaction have a table. It goes by the keys themselves, since a scan
+/// asks for those between two.
 #[derive(Drop)]
-pub(crate) struct OwnWrites {
+pub(crate) struct OwnWrites<'a> {
     alloc: Global,
+    pub(crate) events: &'a Events,
     chains: TxnTable<Chain>,
     rows: Vec<Row>,
     later: BTreeMap<Txn, BTreeMap<Key, usize>>,
-    pub ghost linked: { AreLinked (value_for chains) rows.items },
+    pub ghost numbered: { AreNumbered (keys_of events.now) },
+    pub ghost linked: { AreLinked (length (keys_of events.now)) (value_for chains) rows.items },
+    pub ghost known: { AreKnown (keys_of events.now) (λ q. own_place later q.txn q.key) },
     pub ghost few: { AreFew (value_for chains) (λ q. own_place later q.txn q.key) },
 }
 
-impl OwnWrites {
+impl<'a> OwnWrites<'a> {
     ghost use Rattle.adya_terms.specs.Machinery.OwnWrites.{place_of};
 
     /// Makes those of no events. Room for the chains of transactions with numbers below `small` is taken now.
-    pub fn new(alloc: Global, small: usize) -> Result<OwnWrites, AllocError>
-        ensures { IfOk result (λ w. (all : List EventValue) (q : Own) → place_of all w q ≡ None) }
+    pub fn new(alloc: Global, events: &'a Events, small: usize) -> Result<OwnWrites<'a>, AllocError>
+        requires { AreNumbered (keys_of events.now) }
+        ensures none { IfOk result (λ w. (q : Own) → place_of w q ≡ None) }
+        ensures events { IfOk result (λ w. w.events.now ≡ events.now) }
     {
         let none = Chain { len: 0, last: 0 };
+        let chains = TxnTable::new(alloc, small, none)?;
         Ok(OwnWrites {
             alloc,
-            chains: TxnTable::new(alloc, small, none)?,
+            events,
+            chains,
             rows: Vec::new(alloc),
             later: BTreeMap::new(alloc),
         })
     }
 
-    /// Returns the place of the transaction's last write of the key.
-    pub fn last_place(&self, events: &[Event], txn: Txn, key: Key) -> Option<usize>
-        ensures { result ≡ place_of (map event_of events.now) self.now (own txn key) }
+    /// Returns the place of the transaction's last write of the key with the number.
+    pub fn last_place(&self, txn: Txn, number: u32) -> Option<usize>
+        requires { number < length (keys_of self.now.events.now) }
+        ensures { result ≡ place_of self.now (own txn (key_at (keys_of self.now.events.now) number)) }
     {
         let chain = self.chain(txn);
         if chain.len < FEW {
-            return self.in_chain(events, chain, key);
+            return self.in_chain(chain, number);
         }
-        match self.later_place(txn, key) {
+        match self.later_place(txn, self.events.key(number)) {
             Some(at) => Some(at),
-            None => self.in_chain(events, chain, key),
+            None => self.in_chain(chain, number),
         }
     }
 
@@ -116,16 +124,15 @@ impl OwnWrites {
     }
 
     /// Returns the place of the last write of the key in the chain.
-    fn in_chain(&self, events: &[Event], chain: Chain, key: Key) -> Option<usize>
-        ensures { result ≡ walk (map event_of events.now) self.now.rows.items key chain.len chain.last }
+    fn in_chain(&self, chain: Chain, number: u32) -> Option<usize>
+        ensures { result ≡ walk self.now.rows.items number chain.len chain.last }
     {
-        let mark = mark_of(key);
         let mut link = chain.last;
         for _ in 0..chain.len {
             let Some(row) = self.row(link) else {
                 return None;
             };
-            if is_hit(events, row, key, mark) {
+            if row.key == number {
                 return Some(row.at);
             }
             link = row.before;
@@ -133,33 +140,36 @@ impl OwnWrites {
         None
     }
 
-    /// Records that the transaction's last write of the key is at the place.
-    pub fn put(&mut self, own: Own, at: usize) -> Result<(), AllocError>
-        ensures { IfOk result (λ u. (all : List EventValue) (w : EntryValue)
-            → written_at all (Some at) ≡ Some w
-            → w.version.key ≡ own.key
-            → (q : Own) → place_of all self.new q ≡ cond (own_eq own q) (Some at) (place_of all self.old q)) }
+    /// Records that the transaction's last write of the key with the number is at the place.
+    pub fn put(&mut self, txn: Txn, number: u32, at: usize) -> Result<(), AllocError>
+        requires { number < length (keys_of self.old.events.now) }
+        ensures last { let key = key_at (keys_of self.old.events.now) number in
+            IfOk result (λ u. (q : Own) → place_of self.new q ≡ cond (own_eq (own txn key) q) (Some at) (place_of self.old q)) }
+        ensures events { self.new.events ≡ self.old.events }
     {
-        let chain = self.chain(own.txn);
+        let chain = self.chain(txn);
         if chain.len >= FEW {
-            return put_later(self.alloc, &mut self.later, own.txn, own.key, at);
+            let key = self.events.key(number);
+            return put_later(self.alloc, &mut self.later, txn, key, at);
         }
-        self.lengthen(own.txn, chain, at, mark_of(own.key))
+        self.lengthen(txn, chain, at, number)
     }
 
-    /// Adds the place, with the mark of its key, to the chain of the transaction.
-    fn lengthen(&mut self, txn: Txn, chain: Chain, at: usize, mark: u16) -> Result<(), AllocError>
+    /// Adds the place, with the number of its key, to the chain of the transaction.
+    fn lengthen(&mut self, txn: Txn, chain: Chain, at: usize, number: u32) -> Result<(), AllocError>
+        requires number { number < length (keys_of self.old.events.now) }
         requires chain { value_for self.old.chains txn ≡ chain }
         requires room { chain.len < 16 }
-        ensures rows { IfOk result (λ u. self.new.rows.items ≡ self.old.rows.items ++ row at chain.last mark ∷ []) }
+        ensures rows { IfOk result (λ u. self.new.rows.items ≡ self.old.rows.items ++ row at chain.last number ∷ []) }
         ensures chains { IfOk result (λ u. (t : ℕ) → value_for self.new.chains t
             ≡ cond (txn == t) (longer chain self.old.rows.items) (value_for self.old.chains t)) }
         ensures later { self.new.later ≡ self.old.later }
+        ensures events { self.new.events ≡ self.old.events }
     {
         self.rows.push(Row {
             at,
             before: chain.last,
-            mark,
+            key: number,
         })?;
         self.chains.set(
             txn,
@@ -168,37 +178,6 @@ impl OwnWrites {
                 last: self.rows.len(),
             },
         )
-    }
-}
-
-/// Returns whether the event of the row writes the key, which has this mark.
-fn is_hit(events: &[Event], row: Row, key: Key, mark: u16) -> bool
-    requires { mark ≡ mark_of key }
-    ensures { result ≡ is_hit (map event_of events.now) key row }
-{
-    row.mark == mark && is_of_key(events, row.at, key)
-}
-
-/// Returns a number that is the same for equal keys: the last two bytes, or 0 if there are fewer.
-fn mark_of(key: Key) -> u16
-    ensures { result ≡ mark_of key }
-{
-    let bytes = key.bytes();
-    let len = bytes.len();
-    if len < 2 {
-        return 0;
-    }
-    u16::from(bytes[len - 2]) * 256 + u16::from(bytes[len - 1])
-}
-
-/// Returns whether the event at the place writes the key.
-fn is_of_key(events: &[Event], at: usize, key: Key) -> bool
-    ensures { result ≡ is_of_key (written_at (map event_of events.now) (Some at)) key }
-{
-    match events.get(at) {
-        Some(Event::Write { key: written, .. }) => *written == key,
-        Some(Event::Delete { key: written, .. }) => *written == key,
-        _ => false,
     }
 }
 

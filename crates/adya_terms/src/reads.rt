@@ -1,18 +1,17 @@
 //! Aborted reads and intermediate reads (Adya 1999, G1a and G1b).
 
-ghost use Rattle.std.specs.Prelude.{◌≡◌, [], true, MatchResult};
+ghost use Rattle.std.specs.Prelude.{◌≡◌, ◌<◌, [], true, length, slice_get, Some, MatchResult};
 ghost use Rattle.std.specs.List.{filter_map, list_all, list_any};
 ghost use Rattle.adya_values.specs.Meaning.Histories.{Event as EventValue};
-ghost use Rattle.adya_values.specs.Mirror.Events.{entry_of, event_of};
+ghost use Rattle.adya_values.specs.Mirror.Numbers.{has_seen, seen_entry};
 ghost use Rattle.adya_values.specs.Meaning.Events.{txn_of, written};
 ghost use Rattle.adya_values.specs.Computing.Faults.{entry_eq, was_written, bad_reads};
-ghost use Rattle.adya_terms.specs.Machinery.EventIndex.{indexed, unfinished_in};
+ghost use Rattle.adya_terms.specs.Machinery.EventIndex.{events_in, indexed, unfinished_in};
 ghost use Rattle.adya_terms.specs.Machinery.Checks.{Names, IsFirst, refused, whole, read_faults};
 ghost use Rattle.adya_terms.specs.Machinery.Reads.{is_good, fault_of, refusal_of};
 
 use crate::event_index::EventIndex;
-use crate::observed::Observed;
-use crate::{CheckFault, Entry, Event, Txn, Version};
+use crate::{CheckFault, Seen, Txn, Version};
 
 /// What a committed transaction must not see.
 #[derive(Clone, Copy)]
@@ -25,14 +24,15 @@ enum BadRead {
 
 impl BadRead {
     /// Returns whether the transaction may see the entry, which was written.
-    fn allows(self, index: &EventIndex, txn: Txn, seen: &Entry) -> bool
-        requires { list_any (entry_eq (entry_of seen.now)) (filter_map written (indexed index.now)) ≡ true }
+    fn allows(self, index: &EventIndex, txn: Txn, seen: &Seen) -> bool
+        requires there { has_seen (events_in index.now) seen.now ≡ true }
+        requires written { list_any (entry_eq (seen_entry (events_in index.now) seen.now)) (filter_map written (indexed index.now)) ≡ true }
         ensures { (e : EventValue) → txn_of e ≡ txn
-            → result ≡ is_good self (indexed index.now) (unfinished_in index.now) e (entry_of seen.now) }
+            → result ≡ is_good self (indexed index.now) (unfinished_in index.now) e (seen_entry (events_in index.now) seen.now) }
     {
         match self {
-            BadRead::Aborted => !index.is_aborted(seen.version.txn),
-            BadRead::Intermediate => seen.version.txn == txn || index.is_last(seen),
+            BadRead::Aborted => !index.is_aborted(seen.txn),
+            BadRead::Intermediate => seen.txn == txn || index.is_last(seen),
         }
     }
 
@@ -46,21 +46,25 @@ impl BadRead {
     }
 }
 
-/// Returns the first version that the event sees and must not, if the event's transaction is committed. All that the
-/// event sees was written.
-fn first_bad(kind: BadRead, index: &EventIndex, event: &Event) -> Option<Version>
-    requires { was_written (indexed index.now) (event_of event.now) ≡ true }
+/// Returns the first version that the event at the index sees and must not, if the event's transaction is committed. All
+/// that is seen was written.
+fn first_bad(kind: BadRead, index: &EventIndex, at: usize) -> Option<Version>
+    requires within { at < length (indexed index.now) }
+    requires written { let all = indexed index.now in list_all (was_written all) all ≡ true }
     ensures { let all = indexed index.now in
-        IsFirst (refused (is_good kind all (unfinished_in index.now)) all (event_of event.now)) result }
+        (e : EventValue)
+        → slice_get all at ≡ Some e
+        → IsFirst (refused (is_good kind all (unfinished_in index.now)) all e) result }
 {
-    let txn = event.txn();
+    let events = index.events();
+    let txn = events.txn_at(at);
     if !index.has_committed(txn) {
         return None;
     }
-    let observed = Observed::of(event);
-    for entry in observed.entries() {
-        if !kind.allows(index, txn, entry) {
-            return Some(entry.version);
+    let observed = events.observed(at);
+    for seen in observed.seen() {
+        if !kind.allows(index, txn, seen) {
+            return Some(events.version(seen.version()));
         }
     }
     None
@@ -74,8 +78,8 @@ fn check_kind(kind: BadRead, index: &EventIndex) -> Result<(), CheckFault>
         let faults = bad_reads (is_good kind all (unfinished_in index.now)) (fault_of kind) all 2 all in
         MatchResult result (λ u. faults ≡ []) (Names faults) }
 {
-    for (i, event) in index.events.iter().enumerate() {
-        if let Some(version) = first_bad(kind, index, event) {
+    for i in 0..index.len() {
+        if let Some(version) = first_bad(kind, index, i) {
             return Err(kind.fault(i + 2, version));
         }
     }
@@ -85,7 +89,7 @@ fn check_kind(kind: BadRead, index: &EventIndex) -> Result<(), CheckFault>
 /// Looks for the first aborted read, and then for the first intermediate read. All that is seen was written.
 pub(crate) fn check_reads(index: &EventIndex) -> Result<(), CheckFault>
     requires written { let all = indexed index.now in list_all (was_written all) all ≡ true }
-    ensures { let faults = read_faults (whole index.now.events.now index.now.unfinished.now [] []) in
+    ensures { let faults = read_faults (whole (indexed index.now) (unfinished_in index.now) [] []) in
         MatchResult result (λ u. faults ≡ []) (Names faults) }
 {
     if let Err(fault) = check_kind(BadRead::Aborted, index) {

@@ -1,184 +1,193 @@
 //! The rules M1 to M5 of each event, given those before it.
 
-ghost use Rattle.std.specs.Prelude.{◌≡◌, ◌+◌, ◌||◌, ℕ, List, [], true, Some, map, MatchOption, MatchResult};
-ghost use Rattle.adya_terms.specs.declared.tables.Tables.{Tables};
+ghost use Rattle.std.specs.Prelude.{◌≡◌, ◌<◌, ℕ, List, [], true, Some, length, slice_get, MatchOption, MatchResult};
 ghost use Rattle.adya_values.specs.Meaning.Histories.{Event as EventValue};
-ghost use Rattle.adya_values.specs.Mirror.Events.{entry_of, event_of};
-ghost use Rattle.adya_values.specs.Meaning.Events.{written};
+ghost use Rattle.adya_values.specs.Mirror.Events.{events_of};
+ghost use Rattle.adya_values.specs.Mirror.Numbers.{has_seen, seen_entry};
+ghost use Rattle.adya_values.specs.Meaning.Events.{last_write, written};
 ghost use Rattle.adya_values.specs.Computing.Faults as faults;
-ghost use Rattle.adya_values.specs.Meaning.Keys.{key_eq};
-ghost use Rattle.adya_values.specs.Computing.Faults.{version_eq};
-ghost use Rattle.std.specs.List.{list_all};
-ghost use Rattle.std.specs.HashMap.{get};
-ghost use Rattle.adya_terms.specs.Machinery.OwnWrites.{place_of};
-ghost use Rattle.adya_terms.specs.Machinery.Telling.{Means};
-ghost use Rattle.adya_terms.specs.Machinery.NewestWrites as newest_writes;
-ghost use Rattle.adya_terms.specs.Machinery.NewestWrites.{is_found};
+ghost use Rattle.adya_values.specs.Computing.Faults.{entry_eq};
+ghost use Rattle.std.specs.List.{filter_map, list_all, list_any};
+ghost use Rattle.adya_terms.specs.Machinery.Telling.{told, Means};
+ghost use Rattle.adya_terms.specs.Machinery.NewestWrites.{Keeps};
 ghost use Rattle.adya_terms.specs.Machinery.Checks.{Names};
 
 use crate::newest_writes::NewestWrites;
-use crate::observed::{Observed, read_entry};
-use crate::scans::{all_lie_in, keys_rise, lists_own};
+use crate::scans::Scan;
 use crate::tables::Tables;
-use crate::{CheckFault, Entry, Event, Rule};
+use crate::{CheckFault, Events, Rule, Seen, Txn};
 use std::alloc::Global;
 
 /// M1: returns whether the event's transaction is still open.
-fn is_open(tables: &Tables, event: &Event) -> bool
-    ensures { (all before : List EventValue) → Means tables.now all before → result ≡ faults.is_open before (event_of event.now) }
+fn is_open(tables: &Tables, at: usize) -> bool
+    requires { at < length (told tables.now) }
+    ensures { (before : List EventValue) (e : EventValue)
+        → Means tables.now before
+        → slice_get (told tables.now) at ≡ Some e
+        → result ≡ faults.is_open before e }
 {
-    !tables.has_ended(event.txn())
+    !tables.has_ended(tables.writes.events.txn_at(at))
 }
 
 /// M2: returns whether the event, if it writes, has the next number of its transaction's writes of the key.
-fn is_next(tables: &Tables, events: &[Event], event: &Event) -> bool
-    ensures { let all = map event_of events.now in
-        (before : List EventValue)
-        → Means tables.now all before
-        → result ≡ faults.is_next before (written (event_of event.now)) }
+fn is_next(tables: &Tables, at: usize) -> bool
+    ensures { (before : List EventValue) (e : EventValue)
+        → Means tables.now before
+        → slice_get (told tables.now) at ≡ Some e
+        → result ≡ faults.is_next before (written e) }
 {
-    let Some(new) = event.written() else {
+    let Some(new) = tables.writes.events.numbered_at(at) else {
         return true;
     };
-    let number = u32::from(new.version.m.get());
-    match tables.last_write(events, new.version.txn, new.version.key) {
+    let number = u32::from(new.m.get());
+    match tables.version_at(tables.last_place(new.txn, new.key)) {
         None => number == 1,
-        Some(last) => number == u32::from(last.version.m.get()) + 1,
+        Some(last) => number == u32::from(last.m.get()) + 1,
     }
 }
 
 /// Returns whether the version was written with this content. Most often it is the newest write of its key.
-fn is_written(tables: &Tables, newest: &NewestWrites, events: &[Event], seen: &Entry) -> bool
-    ensures { result
-        ≡ is_found (get key_eq newest.now.writes) (place_of (map event_of events.now) tables.now.writes) (get version_eq tables.now.replaced)
-        (map event_of events.now) (entry_of seen.now) }
+fn is_written(tables: &Tables, newest: &NewestWrites, seen: &Seen) -> bool
+    requires { has_seen tables.now.writes.events.now seen.now ≡ true }
+    ensures { (before : List EventValue)
+        → Means tables.now before
+        → Keeps newest.now (told tables.now) before
+        → result ≡ list_any (entry_eq (seen_entry tables.now.writes.events.now seen.now)) (filter_map written before) }
 {
-    newest.has(seen) || tables.was_written(events, seen)
-}
-
-/// Returns whether each entry was written.
-fn all_written(tables: &Tables, newest: &NewestWrites, events: &[Event], entries: &[Entry]) -> bool
-    ensures { result
-        ≡ list_all (λ w. is_found (get key_eq newest.now.writes) (place_of (map event_of events.now) tables.now.writes)
-        (get version_eq tables.now.replaced) (map event_of events.now) (entry_of w)) entries.now }
-{
-    entries
-        .iter()
-        .all(|entry| is_written(tables, newest, events, entry))
+    newest.has(tables.writes.events, seen) || tables.was_written(seen)
 }
 
 /// M3: returns whether all that the event sees was written before.
-fn was_written(tables: &Tables, newest: &NewestWrites, events: &[Event], event: &Event) -> bool
-    ensures { let all = map event_of events.now in
-        (before : List EventValue)
-        → Means tables.now all before
-        → newest_writes.Keeps newest.now before
-        → result ≡ faults.was_written before (event_of event.now) }
+fn was_written(tables: &Tables, newest: &NewestWrites, at: usize) -> bool
+    requires { at < length (told tables.now) }
+    ensures { (before : List EventValue) (e : EventValue)
+        → Means tables.now before
+        → Keeps newest.now (told tables.now) before
+        → slice_get (told tables.now) at ≡ Some e
+        → result ≡ faults.was_written before e }
 {
-    all_written(tables, newest, events, Observed::of(event).entries())
+    let observed = tables.writes.events.observed(at);
+    for seen in observed.seen() {
+        if !is_written(tables, newest, seen) {
+            return false;
+        }
+    }
+    true
+}
+
+/// Returns whether the version is the transaction's latest of its key, or the transaction has written none.
+fn is_own(tables: &Tables, txn: Txn, seen: &Seen) -> bool
+    requires { has_seen tables.now.writes.events.now seen.now ≡ true }
+    ensures { let o = seen_entry tables.now.writes.events.now seen.now in
+        (before : List EventValue) → Means tables.now before → result ≡ faults.is_none_or (last_write txn o.version.key before) o }
+{
+    match tables.last_place(txn, seen.key) {
+        None => true,
+        Some(last) => tables.writes.events.wrote(last, seen),
+    }
+}
+
+/// Returns whether that holds of all that an event sees.
+fn are_own(tables: &Tables, txn: Txn, observed: &[Seen]) -> bool
+    requires { list_all (has_seen tables.now.writes.events.now) observed.now ≡ true }
+    ensures { (before : List EventValue)
+        → Means tables.now before
+        → let es = tables.now.writes.events.now in
+        result ≡ list_all (λ s. faults.is_none_or (last_write txn (seen_entry es s).version.key before) (seen_entry es s)) observed.now }
+{
+    for seen in observed {
+        if !is_own(tables, txn, seen) {
+            return false;
+        }
+    }
+    true
 }
 
 /// M4: returns whether the event sees no other version than its transaction's latest of each key that this has written.
-fn sees_own(tables: &Tables, events: &[Event], event: &Event) -> bool
-    ensures { let all = map event_of events.now in
-        (before : List EventValue)
-        → Means tables.now all before
-        → result ≡ faults.sees_own before (event_of event.now) }
+fn sees_own(tables: &Tables, at: usize) -> bool
+    requires { at < length (told tables.now) }
+    ensures { (before : List EventValue) (e : EventValue)
+        → Means tables.now before
+        → slice_get (told tables.now) at ≡ Some e
+        → result ≡ faults.sees_own before e }
 {
-    match event {
-        Event::Read {
-            txn,
-            version,
-            value,
-        } => match tables.last_write(events, *txn, version.key) {
-            None => true,
-            Some(last) => last.same(&read_entry(*version, *value)),
-        },
-        Event::Scan {
-            txn,
-            low,
-            high,
-            entries,
-        } => lists_own(&tables.writes, events, *txn, *low, *high, entries),
-        Event::Write { .. } => true,
-        Event::Delete { .. } => true,
-        Event::Commit { .. } => true,
-        Event::Abort { .. } => true,
+    let events = tables.writes.events;
+    let txn = events.txn_at(at);
+    let observed = events.observed(at);
+    match events.bounds_at(at) {
+        None => are_own(tables, txn, observed.seen()),
+        Some((low, high)) => {
+            let scan = Scan::of(events, low, high, observed.seen());
+            scan.lists_own(&tables.writes, txn)
+        }
     }
 }
 
 /// M5: returns whether the bounds of a scan are in order, and its list has rising keys within the bounds.
-fn is_rising(event: &Event) -> bool
-    ensures { result ≡ faults.is_rising (event_of event.now) }
+fn is_rising(tables: &Tables, at: usize) -> bool
+    requires { at < length (told tables.now) }
+    ensures { (e : EventValue) → slice_get (told tables.now) at ≡ Some e → result ≡ faults.is_rising e }
 {
-    match event {
-        Event::Scan {
-            low,
-            high,
-            entries,
-            ..
-        } => *low <= *high && keys_rise(entries) && all_lie_in(*low, *high, entries),
-        Event::Read { .. } => true,
-        Event::Write { .. } => true,
-        Event::Delete { .. } => true,
-        Event::Commit { .. } => true,
-        Event::Abort { .. } => true,
+    let events = tables.writes.events;
+    let observed = events.observed(at);
+    match events.bounds_at(at) {
+        None => true,
+        Some((low, high)) => Scan::of(events, low, high, observed.seen()).is_rising(),
     }
 }
 
 /// Returns the first rule that the event breaks.
-fn broken_rule(
-    tables: &Tables,
-    newest: &NewestWrites,
-    events: &[Event],
-    event: &Event,
-) -> Option<Rule>
-    ensures { let all = map event_of events.now in
-        (before : List EventValue)
-        → Means tables.now all before
-        → newest_writes.Keeps newest.now before
+fn broken_rule(tables: &Tables, newest: &NewestWrites, at: usize) -> Option<Rule>
+    requires { at < length (told tables.now) }
+    ensures { (before : List EventValue) (e : EventValue)
+        → Means tables.now before
+        → Keeps newest.now (told tables.now) before
+        → slice_get (told tables.now) at ≡ Some e
         → (line : ℕ)
-        → MatchOption result (faults.faults_at before line (event_of event.now) ≡ [])
-        (λ r. faults.first (faults.faults_at before line (event_of event.now)) ≡ Some (faults.Malformed line r)) }
+        → MatchOption result (faults.faults_at before line e ≡ [])
+        (λ r. faults.first (faults.faults_at before line e) ≡ Some (faults.Malformed line r)) }
 {
-    if !is_open(tables, event) {
+    if !is_open(tables, at) {
         return Some(Rule::M1);
     }
-    if !is_next(tables, events, event) {
+    if !is_next(tables, at) {
         return Some(Rule::M2);
     }
-    if !was_written(tables, newest, events, event) {
+    if !was_written(tables, newest, at) {
         return Some(Rule::M3);
     }
-    if !sees_own(tables, events, event) {
+    if !sees_own(tables, at) {
         return Some(Rule::M4);
     }
-    if !is_rising(event) {
+    if !is_rising(tables, at) {
         return Some(Rule::M5);
     }
     None
 }
 
 /// Makes the tables of the events, if none of them breaks a rule.
-pub(crate) fn tables_of(alloc: Global, events: &[Event]) -> Result<Tables, CheckFault>
-    ensures { let all = map event_of events.now in
-        MatchResult result (λ t. Means t all all × (faults.event_faults [] 2 all ≡ [])) (Names (faults.event_faults [] 2 all)) }
+pub(crate) fn tables_of(alloc: Global, events: &Events) -> Result<Tables<'_>, CheckFault>
+    ensures { let all = events_of events.now in
+        MatchResult result (λ t. (t.writes.events.now ≡ events.now) × Means t all × (faults.event_faults [] 2 all ≡ []))
+        (Names (faults.event_faults [] 2 all)) }
 {
-    // a transaction has an event, so few numbers are larger if they go from 1 on
-    let Ok(mut tables) = Tables::new(alloc, events.len()) else {
+    let keys = events.key_count();
+    let Ok(mut newest) = NewestWrites::new(alloc, keys) else {
         return Err(CheckFault::Memory);
     };
-    let mut newest = NewestWrites::new(alloc);
-    for (i, event) in events.iter().enumerate() {
-        if let Some(rule) = broken_rule(&tables, &newest, events, event) {
+    let Ok(mut tables) = Tables::new(alloc, events) else {
+        return Err(CheckFault::Memory);
+    };
+    for i in 0..events.len() {
+        if let Some(rule) = broken_rule(&tables, &newest, i) {
             return Err(CheckFault::Malformed { line: i + 2, rule });
         }
-        let Ok(()) = tables.record(events, i, event) else {
+        let Ok(()) = tables.record(i) else {
             return Err(CheckFault::Memory);
         };
-        let Ok(()) = newest.keep(event) else {
-            return Err(CheckFault::Memory);
-        };
+        if let Some(new) = events.numbered_at(i) {
+            newest.keep(new.key, i);
+        }
     }
     Ok(tables)
 }

@@ -1,26 +1,26 @@
-//! What a scan lists: M3, M4 and M5.
+//! What a scan lists: M4 and M5.
 
-ghost use Rattle.std.specs.Prelude.{◌≡◌, ◌&&◌, ℕ, List, true, false, Some, map};
+ghost use Rattle.std.specs.Prelude.{◌≡◌, ◌<◌, ℕ, List, true, false, Some, get_or, length, map};
 ghost use Rattle.std.specs.Bool.{OnTrue, OnFalse};
-ghost use Rattle.std.specs.List.{list_all, list_any};
+ghost use Rattle.std.specs.List.{list_all};
+ghost use Rattle.adya_values.specs.Machinery.Seen.{key_at};
 ghost use Rattle.adya_values.specs.Meaning.Keys as keys;
-ghost use Rattle.adya_values.specs.Meaning.Histories.{Event as EventValue, Scan};
-ghost use Rattle.adya_values.specs.Mirror.Events.{entry_of, event_of};
+ghost use Rattle.adya_values.specs.Meaning.Histories as histories;
+ghost use Rattle.adya_values.specs.Meaning.Histories.{Entry as EntryValue, Event as EventValue};
+ghost use Rattle.adya_values.specs.Mirror.Events.{events_of};
+ghost use Rattle.adya_values.specs.Mirror.Numbers.{has_seen, keys_of, seen_entry, AreNumbered};
 ghost use Rattle.adya_values.specs.Computing.Faults as faults;
 ghost use Rattle.adya_values.specs.Meaning.Events.{last_write};
-ghost use Rattle.adya_values.specs.Computing.Faults.{entry_eq, none_or_lists_only, sees_own};
-ghost use Rattle.adya_terms.specs.Machinery.Checks as checks;
+ghost use Rattle.adya_values.specs.Computing.Faults.{none_or_lists_only, sees_own};
 ghost use Rattle.std.specs.BTreeMap.{get};
 ghost use Rattle.std.specs.Ordering.{nat_cmp};
 ghost use Rattle.txn_table.specs.Mirror.{value_for};
 ghost use Rattle.adya_terms.specs.Machinery.Tables.{own, written_at};
-ghost use Rattle.adya_terms.specs.Machinery.Chains.{chain_passes, key_passes};
+ghost use Rattle.adya_terms.specs.Machinery.Chains.{chain_passes};
 ghost use Rattle.adya_terms.specs.Machinery.OwnWrites.{place_of};
-ghost use Rattle.adya_terms.specs.Machinery.Owed.{AreShown};
 
 use crate::own_writes::OwnWrites;
-use crate::tables::wrote_at;
-use crate::{Entry, Event, Key, Txn};
+use crate::{Events, Key, Seen, Txn};
 
 fn lies_in(low: Key, high: Key, key: Key) -> bool
     ensures { result ≡ keys.lies_in low high key }
@@ -28,128 +28,183 @@ fn lies_in(low: Key, high: Key, key: Key) -> bool
     low <= key && key <= high
 }
 
-/// Returns whether each key lies between the two, both included.
-pub(crate) fn all_lie_in(low: Key, high: Key, entries: &[Entry]) -> bool
-    ensures { result ≡ list_all (λ w. keys.lies_in low high w.version.key) entries.now }
-{
-    entries
-        .iter()
-        .all(|entry| lies_in(low, high, entry.version.key))
+/// A scan of a list of events: its bounds, and what it lists.
+#[derive(Clone, Copy)]
+pub(crate) struct Scan<'a> {
+    pub(crate) events: &'a Events,
+    pub(crate) low: Key,
+    pub(crate) high: Key,
+    pub(crate) seen: &'a [Seen],
+    pub ghost numbered: { AreNumbered (keys_of events.now) },
+    pub ghost there: { list_all (has_seen events.now) seen.now ≡ true },
 }
 
-/// Returns whether each key is below the next.
-pub(crate) fn keys_rise(entries: &[Entry]) -> bool
-    ensures { result ≡ keys.keys_rise (map (λ w. w.version.key) (map entry_of entries.now)) }
-{
-    entries.is_sorted_by(|a, b| a.version.key < b.version.key)
-}
+impl<'a> Scan<'a> {
+    ghost use Rattle.adya_terms.specs.Machinery.Scans.{key_seen, listed};
 
-/// Returns whether the write is listed.
-fn lists(entries: &[Entry], write: &Entry) -> bool
-    ensures { result ≡ list_any (λ w. entry_eq (entry_of write.now) (entry_of w)) entries.now }
-{
-    entries.iter().any(|entry| write.same(entry))
-}
+    /// Makes the scan with these numbers of bounds.
+    pub fn of(events: &'a Events, low: u32, high: u32, seen: &'a [Seen]) -> Scan<'a>
+        requires numbered { AreNumbered (keys_of events.now) }
+        requires low { low < length (keys_of events.now) }
+        requires high { high < length (keys_of events.now) }
+        requires seen { list_all (has_seen events.now) seen.now ≡ true }
+        ensures events { result.events.now ≡ events.now }
+        ensures low { result.low ≡ key_at (keys_of events.now) low }
+        ensures high { result.high ≡ key_at (keys_of events.now) high }
+        ensures seen { result.seen.now ≡ seen.now }
+    {
+        Scan {
+            events,
+            low: events.key(low),
+            high: events.key(high),
+            seen,
+        }
+    }
 
-/// Returns whether the entry is the write, or of another key.
-fn is_of_key(write: &Entry, entry: &Entry) -> bool
-    ensures { result ≡ checks.is_of_key (entry_of write.now) (entry_of entry.now) }
-{
-    entry.version.key != write.version.key || entry.same(write)
-}
+    /// Returns the key of an entry.
+    fn key(&self, seen: &Seen) -> Key
+        ensures { result ≡ key_seen self.now seen.now }
+    {
+        self.events.key_or(seen.key, self.low)
+    }
 
-/// Returns whether nothing else of the write's key is listed.
-fn lists_no_other(entries: &[Entry], write: &Entry) -> bool
-    ensures { result ≡ list_all (λ w. checks.is_of_key (entry_of write.now) (entry_of w)) entries.now }
-{
-    entries.iter().all(|entry| is_of_key(write, entry))
-}
+    /// Returns whether each listed key lies between the bounds.
+    fn all_lie_in(&self) -> bool
+        ensures { result ≡ list_all (λ s. keys.lies_in self.now.low self.now.high (key_seen self.now s)) self.now.seen.now }
+    {
+        self.seen
+            .iter()
+            .all(|seen| lies_in(self.low, self.high, self.key(seen)))
+    }
 
-/// Returns whether the write is listed and nothing else of its key.
-fn lists_only(entries: &[Entry], write: &Entry) -> bool
-    ensures { result ≡ faults.lists_only (map entry_of entries.now) (entry_of write.now) }
-{
-    lists(entries, write) && lists_no_other(entries, write)
-}
+    /// Returns whether each listed key is below the next.
+    fn keys_rise(&self) -> bool
+        ensures { result ≡ keys.keys_rise (map (λ w. w.version.key) (listed self.now)) }
+    {
+        self.seen.is_sorted_by(|a, b| self.key(a) < self.key(b))
+    }
 
-/// Returns the same by binary search. The keys rise.
-fn finds_only(entries: &[Entry], write: &Entry) -> bool
-    requires { keys.keys_rise (map (λ w. w.version.key) (map entry_of entries.now)) ≡ true }
-    ensures { result ≡ faults.lists_only (map entry_of entries.now) (entry_of write.now) }
-{
-    match entries.binary_search_by_key(&write.version.key, |entry| entry.version.key) {
-        Err(_) => false,
-        Ok(at) => entries[at].same(write),
+    /// M4: returns whether of each key between the bounds that the transaction has written its last write is listed, and nothing
+    /// else of that key.
+    pub fn lists_own<'b>(&'b self, writes: &'b OwnWrites, txn: Txn) -> bool
+        ensures { (before : List EventValue)
+            → ((k : List ℕ) → written_at (events_of self.now.events.now) (place_of writes.now (own txn k)) ≡ last_write txn k before)
+            → result ≡ sees_own before (histories.Scan txn self.now.low self.now.high (listed self.now)) }
+    {
+        if self.high < self.low {
+            return true;
+        }
+        let list = ScanList {
+            scan: self,
+            rising: self.keys_rise(),
+        };
+        let owed = Owed { writes, txn, list };
+        owed.has_chain() && owed.has_later()
+    }
+
+    /// M5: returns whether the bounds are in order, and the list has rising keys within the bounds.
+    pub fn is_rising(&self) -> bool
+        ensures { (t : ℕ) → result ≡ faults.is_rising (histories.Scan t self.now.low self.now.high (listed self.now)) }
+    {
+        self.low <= self.high && self.keys_rise() && self.all_lie_in()
+    }
+
+    /// Returns whether the write at the place, of the key with the number, is listed and nothing else of its key.
+    fn lists_only(&self, at: usize, number: u32) -> bool
+        requires { number < length (keys_of self.now.events.now) }
+        ensures { (w : EntryValue)
+            → written_at (events_of self.now.events.now) (Some at) ≡ Some w
+            → w.version.key ≡ key_at (keys_of self.now.events.now) number
+            → result ≡ faults.lists_only (listed self.now) w }
+    {
+        let mut found = false;
+        for seen in self.seen {
+            if self.events.wrote(at, seen) {
+                found = true;
+            } else if seen.key == number {
+                return false;
+            }
+        }
+        found
+    }
+
+    /// Returns the same by binary search. The keys rise.
+    fn finds_only(&self, at: usize, number: u32) -> bool
+        requires number { number < length (keys_of self.now.events.now) }
+        requires rise { keys.keys_rise (map (λ w. w.version.key) (listed self.now)) ≡ true }
+        ensures { (w : EntryValue)
+            → written_at (events_of self.now.events.now) (Some at) ≡ Some w
+            → w.version.key ≡ key_at (keys_of self.now.events.now) number
+            → result ≡ faults.lists_only (listed self.now) w }
+    {
+        let key = self.events.key(number);
+        match self.seen.binary_search_by_key(&key, |seen| self.key(seen)) {
+            Err(_) => false,
+            Ok(i) => self.events.wrote(at, &self.seen[i]),
+        }
     }
 }
 
-/// What a scan lists, with whether its keys rise.
+/// A scan, with whether the keys that it lists rise.
 #[derive(Clone, Copy)]
-struct ScanList<'a> {
-    entries: &'a [Entry],
+struct ScanList<'a, 'b> {
+    scan: &'a Scan<'b>,
     rising: bool,
-    ghost rise: { rising ≡ true → keys.keys_rise (map (λ w. w.version.key) (map entry_of entries.now)) ≡ true },
+    ghost rise: { rising ≡ true → keys.keys_rise (map (λ w. w.version.key) (map (seen_entry scan.now.events.now) scan.now.seen.now)) ≡ true },
 }
 
-impl ScanList<'_> {
+impl ScanList<'_, '_> {
+    ghost use Rattle.adya_terms.specs.Machinery.Scans.{listed};
+
     /// Returns whether what the event at the place writes, if there is one, is listed and nothing else of its key.
-    fn has_write(&self, events: &[Event], at: Option<usize>) -> bool
+    fn has_write(&self, at: Option<usize>) -> bool
         ensures { result
-            ≡ none_or_lists_only (map entry_of self.now.entries.now) (written_at (map event_of events.now) at) }
+            ≡ none_or_lists_only (listed self.now.scan.now) (written_at (events_of self.now.scan.now.events.now) at) }
     {
-        let Some(write) = wrote_at(events, at) else {
+        let Some(at) = at else {
+            return true;
+        };
+        let Some(write) = self.scan.events.numbered_at(at) else {
             return true;
         };
         if self.rising {
-            return finds_only(self.entries, &write);
+            return self.scan.finds_only(at, write.key);
         }
-        lists_only(self.entries, &write)
+        self.scan.lists_only(at, write.key)
     }
 }
 
-/// The writes of a transaction that a scan must list: those of keys between the two.
+/// The writes of a transaction that its scan must list: those of keys between the bounds.
 #[derive(Clone, Copy)]
-struct Owed<'a> {
-    writes: &'a OwnWrites,
-    events: &'a [Event],
+struct Owed<'a, 'b, 'c> {
+    writes: &'a OwnWrites<'c>,
     txn: Txn,
-    low: Key,
-    high: Key,
+    list: ScanList<'a, 'b>,
 }
 
-impl Owed<'_> {
-    ghost use Rattle.adya_terms.specs.Machinery.Owed.{passes};
+impl Owed<'_, '_, '_> {
+    ghost use Rattle.adya_terms.specs.Machinery.Owed.{passes, AreShown};
+    ghost use Rattle.adya_terms.specs.Machinery.Scans.{listed};
 
-    /// Returns whether the last write of the key is listed and nothing else of it, if the key lies between the two.
-    fn has_key(&self, listed: &ScanList, key: Key) -> bool
-        ensures { result ≡ passes self.now (map entry_of listed.now.entries.now) key }
+    /// Returns whether the last write of the key with the number is listed and nothing else of it, if the key lies between the
+    /// bounds.
+    fn has_key(&self, number: u32) -> bool
+        requires { number < length (keys_of self.now.writes.now.events.now) }
+        ensures { result ≡ passes self.now (key_at (keys_of self.now.writes.now.events.now) number) }
     {
-        if !lies_in(self.low, self.high, key) {
+        let scan = self.list.scan;
+        if !lies_in(scan.low, scan.high, self.writes.events.key(number)) {
             return true;
         }
-        listed.has_write(
-            self.events,
-            self.writes.last_place(self.events, self.txn, key),
-        )
-    }
-
-    /// Returns whether that holds of the key of the write at the place.
-    fn has_row(&self, listed: &ScanList, at: usize) -> bool
-        ensures { result ≡ key_passes (passes self.now (map entry_of listed.now.entries.now))
-            (written_at (map event_of self.now.events.now) (Some at)) }
-    {
-        match wrote_at(self.events, Some(at)) {
-            None => true,
-            Some(wrote) => self.has_key(listed, wrote.version.key),
-        }
+        self.list
+            .has_write(self.writes.last_place(self.txn, number))
     }
 
     /// Returns whether that holds of the key of each write in the transaction's chain.
-    fn has_chain(&self, listed: &ScanList) -> bool
+    fn has_chain(&self) -> bool
         ensures { let w = self.now.writes.now in
             let chain = value_for w.chains self.now.txn in
-            result ≡ chain_passes (map event_of self.now.events.now) w.rows.items
-            (passes self.now (map entry_of listed.now.entries.now)) chain.len chain.last }
+            result ≡ chain_passes w.rows.items (λ n. passes self.now (key_at (keys_of w.events.now) n)) chain.len chain.last }
     {
         let chain = self.writes.chain(self.txn);
         let mut link = chain.last;
@@ -157,7 +212,7 @@ impl Owed<'_> {
             let Some(row) = self.writes.row(link) else {
                 return true;
             };
-            if !self.has_row(listed, row.at) {
+            if !self.has_key(row.key) {
                 return false;
             }
             link = row.before;
@@ -165,55 +220,23 @@ impl Owed<'_> {
         true
     }
 
-    /// Returns whether each of the transaction's other last writes of keys between the two is listed, and nothing else of
-    /// its key. The two don't run downward.
-    fn has_later(&self, listed: &ScanList) -> bool
-        requires { keys.key_lt self.now.high self.now.low ≡ false }
-        ensures shown { OnTrue result (AreShown (get nat_cmp self.now.writes.now.later self.now.txn) self.now.low self.now.high
-            (map entry_of listed.now.entries.now) (map event_of self.now.events.now)) }
-        ensures missed { OnFalse result (AreShown (get nat_cmp self.now.writes.now.later self.now.txn) self.now.low self.now.high
-            (map entry_of listed.now.entries.now) (map event_of self.now.events.now) → ⊥) }
+    /// Returns whether each of the transaction's other last writes of keys between the bounds is listed, and nothing else of
+    /// its key. The bounds don't run downward.
+    fn has_later(&self) -> bool
+        requires { keys.key_lt self.now.list.scan.now.high self.now.list.scan.now.low ≡ false }
+        ensures shown { let scan = self.now.list.scan.now in
+            OnTrue result (AreShown (get nat_cmp self.now.writes.now.later self.now.txn) scan.low scan.high (listed scan) (events_of scan.events.now)) }
+        ensures missed { let scan = self.now.list.scan.now in
+            OnFalse result (AreShown (get nat_cmp self.now.writes.now.later self.now.txn) scan.low scan.high (listed scan) (events_of scan.events.now) → ⊥) }
     {
         let Some(later) = self.writes.later(self.txn) else {
             return true;
         };
-        for (_, at) in later.range(self.low..=self.high) {
-            if !listed.has_write(self.events, Some(*at)) {
+        for (_, at) in later.range(self.list.scan.low..=self.list.scan.high) {
+            if !self.list.has_write(Some(*at)) {
                 return false;
             }
         }
         true
     }
-}
-
-/// Returns whether of each key between the two that the transaction has written its last write is listed, and nothing
-/// else of that key.
-pub(crate) fn lists_own(
-    writes: &OwnWrites,
-    events: &[Event],
-    txn: Txn,
-    low: Key,
-    high: Key,
-    entries: &[Entry],
-) -> bool
-    ensures { let all = map event_of events.now in
-        (before : List EventValue)
-        → ((k : List ℕ) → written_at all (place_of all writes.now (own txn k)) ≡ last_write txn k before)
-        → result ≡ sees_own before (Scan txn low high (map entry_of entries.now)) }
-{
-    if high < low {
-        return true;
-    }
-    let listed = ScanList {
-        entries,
-        rising: keys_rise(entries),
-    };
-    let owed = Owed {
-        writes,
-        events,
-        txn,
-        low,
-        high,
-    };
-    owed.has_chain(&listed) && owed.has_later(&listed)
 }

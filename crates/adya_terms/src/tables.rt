@@ -1,28 +1,22 @@
 //! What the events so far say of transactions, of their keys and of versions.
 
-ghost use Rattle.std.specs.Prelude.{◌≡◌, ◌||◌, is_some, ◌++◌, [], ◌∷◌, List, true, Some, cond, map, nat_eq, option_map, slice_get, IfOk};
-ghost use Rattle.std.specs.HashMap.{get};
+ghost use Rattle.std.specs.Prelude.{◌≡◌, ◌<◌, ◌||◌, is_some, ◌++◌, [], ◌∷◌, List, true, Some, cond, length, option_map, slice_get, IfOk, IfSome};
 ghost use Rattle.txn_table.specs.Mirror.{value_for};
-ghost use Rattle.adya_values.specs.Meaning.Histories.{Entry as EntryValue, Event as EventValue};
-ghost use Rattle.adya_values.specs.Mirror.Events.{entry_of, event_of};
+ghost use Rattle.adya_values.specs.declared.event.Version.{Version};
+ghost use Rattle.adya_values.specs.Meaning.Histories.{Abort, Commit, Event as EventValue};
+ghost use Rattle.adya_values.specs.Mirror.Events.{entry_of, events_of};
+ghost use Rattle.adya_values.specs.Machinery.Seen.{key_at};
+ghost use Rattle.adya_values.specs.Mirror.Numbers.{has_seen, keys_of, seen_entry, version_in, AreNumbered};
 ghost use Rattle.adya_values.specs.Meaning.Events.{written};
-ghost use Rattle.adya_values.specs.Computing.Faults.{is_next, version_eq};
-ghost use Rattle.adya_terms.specs.Machinery.Tables.{own, own_eq, written_at, is_there, with_replaced};
-ghost use Rattle.adya_terms.specs.Machinery.Telling.{Means};
+ghost use Rattle.adya_values.specs.Computing.Faults.{is_next};
+ghost use Rattle.adya_terms.specs.Machinery.Tables.{own, own_eq, written_at, is_at, is_there, with_replaced, Own};
 ghost use Rattle.adya_terms.specs.Machinery.OwnWrites.{place_of};
 
 use crate::own_writes::OwnWrites;
-use crate::{Entry, Event, Key, Txn, Version};
+use crate::{Entry, Events, NumberedVersion, Seen, Txn};
 use std::alloc::{AllocError, Global};
 use std::collections::HashMap;
 use txn_table::TxnTable;
-
-/// A transaction and a key.
-#[derive(Clone, Copy, PartialEq, Eq, PartialOrd, Ord, Hash)]
-pub(crate) struct Own {
-    pub txn: Txn,
-    pub key: Key,
-}
 
 /// How a transaction has ended, if it has.
 #[derive(Clone, Copy)]
@@ -34,47 +28,30 @@ pub(crate) struct Ended {
 /// Which transactions have ended, and how; the place in the list of events at which each transaction wrote each key last; and
 /// the place of each version that a later write of the same transaction replaced.
 #[derive(Drop)]
-pub(crate) struct Tables {
+pub(crate) struct Tables<'a> {
     pub ended: TxnTable<Ended>,
-    pub writes: OwnWrites,
-    pub replaced: HashMap<Version, usize>,
+    pub writes: OwnWrites<'a>,
+    pub replaced: HashMap<NumberedVersion, usize>,
 }
 
-/// Returns what the event at the place writes.
-pub(crate) fn wrote_at(events: &[Event], at: Option<usize>) -> Option<Entry>
-    ensures { option_map entry_of result ≡ written_at (map event_of events.now) at }
-{
-    let Some(at) = at else {
-        return None;
-    };
-    let Some(event) = events.get(at) else {
-        return None;
-    };
-    event.written()
-}
+impl<'a> Tables<'a> {
+    ghost use Rattle.adya_terms.specs.Machinery.Telling.{keys_in, replaced_in, told, Means};
 
-/// Returns whether it is this entry.
-pub(crate) fn is_there(seen: &Entry, wrote: Option<Entry>) -> bool
-    ensures { result ≡ is_there (entry_of seen.now) (option_map entry_of wrote) }
-{
-    match wrote {
-        None => false,
-        Some(wrote) => seen.same(&wrote),
-    }
-}
-
-impl Tables {
-    /// Makes the tables of no events. Room for the ends of transactions with numbers below `small` is taken now.
-    pub fn new(alloc: Global, small: usize) -> Result<Tables, AllocError>
-        ensures { IfOk result (λ t. (all : List EventValue) → Means t all []) }
+    /// Makes the tables of none of the events. Room for the ends of transactions with numbers below the number of events is taken
+    /// now.
+    pub fn new(alloc: Global, events: &'a Events) -> Result<Tables<'a>, AllocError>
+        requires { AreNumbered (keys_of events.now) }
+        ensures means { IfOk result (λ t. Means t []) }
+        ensures events { IfOk result (λ t. t.writes.events.now ≡ events.now) }
     {
         let open = Ended {
             committed: false,
             aborted: false,
         };
-        let ended = TxnTable::new(alloc, small, open)?;
+        // a transaction has an event, so few numbers are larger if they go from 1 on
+        let ended = TxnTable::new(alloc, events.len(), open)?;
         // most transactions have two events or more
-        let writes = OwnWrites::new(alloc, small / 2)?;
+        let writes = OwnWrites::new(alloc, events, events.len() / 2)?;
         Ok(Tables {
             ended,
             writes,
@@ -104,125 +81,147 @@ impl Tables {
         ended.committed || ended.aborted
     }
 
-    /// Returns the transaction's last write of the key.
-    pub fn last_write(&self, events: &[Event], txn: Txn, key: Key) -> Option<Entry>
-        ensures { option_map entry_of result
-            ≡ (let all = map event_of events.now in written_at all (place_of all self.now.writes (own txn key))) }
+    /// Returns what the event at the place writes.
+    pub fn wrote_at(&self, at: Option<usize>) -> Option<Entry>
+        ensures { option_map entry_of result ≡ written_at (told self.now) at }
     {
-        wrote_at(events, self.last_place(events, txn, key))
+        let Some(at) = at else {
+            return None;
+        };
+        let Some(event) = self.writes.events.get(at) else {
+            return None;
+        };
+        event.written()
     }
 
-    /// Returns the index of the transaction's last write of the key in the list of events.
-    pub fn last_place(&self, events: &[Event], txn: Txn, key: Key) -> Option<usize>
-        ensures { result ≡ place_of (map event_of events.now) self.now.writes (own txn key) }
+    /// Returns the version that the event at the place writes.
+    pub fn version_at(&self, at: Option<usize>) -> Option<NumberedVersion>
+        ensures version { option_map (version_in (keys_in self.now)) result ≡ option_map (λ w. w.version) (written_at (told self.now) at) }
+        ensures there { IfSome result (λ v. v.key < length (keys_in self.now)) }
     {
-        self.writes.last_place(events, txn, key)
+        match at {
+            None => None,
+            Some(at) => self.writes.events.numbered_at(at),
+        }
+    }
+
+    /// Returns whether the event at the place writes the entry.
+    pub fn wrote(&self, at: Option<usize>, seen: &Seen) -> bool
+        requires { has_seen self.now.writes.events.now seen.now ≡ true }
+        ensures { result ≡ is_there (seen_entry self.now.writes.events.now seen.now) (written_at (told self.now) at) }
+    {
+        match at {
+            None => false,
+            Some(at) => self.writes.events.wrote(at, seen),
+        }
+    }
+
+    /// Returns the index of the transaction's last write of the key with the number in the list of events.
+    pub fn last_place(&self, txn: Txn, number: u32) -> Option<usize>
+        requires { number < length (keys_in self.now) }
+        ensures { result ≡ place_of self.now.writes (own txn (key_at (keys_in self.now) number)) }
+    {
+        self.writes.last_place(txn, number)
     }
 
     /// Returns whether a later write of the same transaction replaced the version.
-    pub fn was_replaced(&self, version: Version) -> bool
-        ensures { result ≡ is_some (get version_eq self.now.replaced version) }
+    pub fn was_replaced(&self, version: NumberedVersion) -> bool
+        requires { version.key < length (keys_in self.now) }
+        ensures { result ≡ is_some (replaced_in self.now (version_in (keys_in self.now) version)) }
     {
         self.replaced.contains_key(&version)
     }
 
-    /// Returns whether the version was written with this content.
-    pub fn was_written(&self, events: &[Event], seen: &Entry) -> bool
-        ensures { let all = map event_of events.now in
-            let o = entry_of seen.now in
-            result
-            ≡ (is_there o (written_at all (place_of all self.now.writes (own o.version.txn o.version.key)))
-            || is_there o (written_at all (get version_eq self.now.replaced o.version))) }
+    /// Returns the place of the version if a later write of the same transaction replaced it.
+    fn replaced_place(&self, version: NumberedVersion) -> Option<usize>
+        requires { version.key < length (keys_in self.now) }
+        ensures { result ≡ replaced_in self.now (version_in (keys_in self.now) version) }
     {
-        let Version { key, txn, .. } = seen.version;
-        is_there(seen, self.last_write(events, txn, key))
-            || is_there(
-                seen,
-                wrote_at(events, self.replaced.get(&seen.version).copied()),
-            )
+        self.replaced.get(&version).copied()
+    }
+
+    /// Returns whether the version was written with this content.
+    pub fn was_written(&self, seen: &Seen) -> bool
+        requires { has_seen self.now.writes.events.now seen.now ≡ true }
+        ensures { result
+            ≡ is_at (place_of self.now.writes) (replaced_in self.now) (told self.now) (seen_entry self.now.writes.events.now seen.now) }
+    {
+        self.wrote(self.last_place(seen.txn, seen.key), seen)
+            || self.wrote(self.replaced_place(seen.version()), seen)
     }
 
     /// Records the event at the place.
-    pub fn record(&mut self, events: &[Event], at: usize, event: &Event) -> Result<(), AllocError>
-        ensures { let all = map event_of events.now in
-            IfOk result
-            (λ u. (before : List EventValue)
-            → Means self.old all before
-            → slice_get all at ≡ Some (event_of event.now)
-            → is_next before (written (event_of event.now)) ≡ true
-            → Means self.new all (before ++ event_of event.now ∷ [])) }
+    pub fn record(&mut self, at: usize) -> Result<(), AllocError>
+        requires { at < length (told self.old) }
+        ensures means { IfOk result
+            (λ u. (before : List EventValue) (e : EventValue)
+            → Means self.old before
+            → slice_get (told self.old) at ≡ Some e
+            → is_next before (written e) ≡ true
+            → Means self.new (before ++ e ∷ [])) }
+        ensures events { self.new.writes.events ≡ self.old.writes.events }
     {
-        match event {
-            Event::Write { txn, key, .. } => {
-                self.put(
-                    events,
-                    at,
-                    Own {
-                        txn: *txn,
-                        key: *key,
-                    },
-                )?;
-            }
-            Event::Delete { txn, key, .. } => {
-                self.put(
-                    events,
-                    at,
-                    Own {
-                        txn: *txn,
-                        key: *key,
-                    },
-                )?;
-            }
-            Event::Read { .. } => {}
-            Event::Scan { .. } => {}
-            Event::Commit { txn } => {
-                let aborted = self.has_aborted(*txn);
-                self.ended.set(
-                    *txn,
-                    Ended {
-                        committed: true,
-                        aborted,
-                    },
-                )?;
-            }
-            Event::Abort { txn } => {
-                let committed = self.has_committed(*txn);
-                self.ended.set(
-                    *txn,
-                    Ended {
-                        committed,
-                        aborted: true,
-                    },
-                )?;
-            }
+        if let Some(new) = self.writes.events.numbered_at(at) {
+            return self.put(at, new);
+        }
+        if let Some(txn) = self.writes.events.commit_at(at) {
+            return self.commit(txn);
+        }
+        if let Some(txn) = self.writes.events.abort_at(at) {
+            return self.abort(txn);
         }
         Ok(())
     }
 
-    /// Records that the transaction's last write of the key is at the place, and that it replaced the one before it.
-    fn put(&mut self, events: &[Event], at: usize, own: Own) -> Result<(), AllocError>
-        ensures last { let all = map event_of events.now in
-            IfOk result (λ u. (w : EntryValue)
-            → written_at all (Some at) ≡ Some w
-            → w.version.key ≡ own.key
-            → (q : Own) → place_of all self.new.writes q ≡ cond (own_eq own q) (Some at) (place_of all self.old.writes q)) }
-        ensures replaced { let all = map event_of events.now in
-            let p = place_of all self.old.writes own in
-            IfOk result
-            (λ u. (r : Version)
-            → get version_eq self.new.replaced r
-            ≡ with_replaced (written_at all p) p (get version_eq self.old.replaced) r) }
-        ensures ended { IfOk result (λ u. self.new.ended ≡ self.old.ended) }
+    fn commit(&mut self, txn: Txn) -> Result<(), AllocError>
+        ensures means { IfOk result (λ u. (before : List EventValue) → Means self.old before → Means self.new (before ++ Commit txn ∷ [])) }
+        ensures events { self.new.writes.events ≡ self.old.writes.events }
     {
-        let place = self.writes.last_place(events, own.txn, own.key);
-        self.writes.put(own, at)?;
-        let Some(old) = wrote_at(events, place) else {
+        let aborted = self.has_aborted(txn);
+        self.ended.set(
+            txn,
+            Ended {
+                committed: true,
+                aborted,
+            },
+        )
+    }
+
+    fn abort(&mut self, txn: Txn) -> Result<(), AllocError>
+        ensures means { IfOk result (λ u. (before : List EventValue) → Means self.old before → Means self.new (before ++ Abort txn ∷ [])) }
+        ensures events { self.new.writes.events ≡ self.old.writes.events }
+    {
+        let committed = self.has_committed(txn);
+        self.ended.set(
+            txn,
+            Ended {
+                committed,
+                aborted: true,
+            },
+        )
+    }
+
+    /// Records that the version is written at the place, and that it replaced the one before it.
+    fn put(&mut self, at: usize, new: NumberedVersion) -> Result<(), AllocError>
+        requires { new.key < length (keys_in self.old) }
+        ensures last { let v = version_in (keys_in self.old) new in
+            IfOk result (λ u. (q : Own) → place_of self.new.writes q ≡ cond (own_eq (own v.txn v.key) q) (Some at) (place_of self.old.writes q)) }
+        ensures replaced { let v = version_in (keys_in self.old) new in
+            let p = place_of self.old.writes (own v.txn v.key) in
+            IfOk result
+            (λ u. (r : Version) → replaced_in self.new r ≡ with_replaced (written_at (told self.old) p) p (replaced_in self.old) r) }
+        ensures ended { IfOk result (λ u. self.new.ended ≡ self.old.ended) }
+        ensures events { self.new.writes.events ≡ self.old.writes.events }
+    {
+        let place = self.last_place(new.txn, new.key);
+        self.writes.put(new.txn, new.key, at)?;
+        let Some(old) = self.version_at(place) else {
             return Ok(());
         };
         let Some(place) = place else {
             return Ok(());
         };
-        self.replaced.insert(old.version, place)?;
+        self.replaced.insert(old, place)?;
         Ok(())
     }
 }

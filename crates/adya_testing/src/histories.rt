@@ -1,13 +1,13 @@
 //! Small histories and certificates from short arguments.
 
 ghost use Rattle.std.specs.Prelude.{◌≡◌, IfOk, map};
-ghost use Rattle.adya_values.specs.Mirror.Events.{event_of, entry_of, order_of, final_of};
-ghost use Rattle.adya_values.specs.Mirror.Histories.{events_in, orders_in, finals_in, serial_txns};
+ghost use Rattle.adya_values.specs.Mirror.Events.{event_of, events_of, entry_of, order_of, final_of};
+ghost use Rattle.adya_values.specs.Mirror.Histories.{history_of, orders_in, finals_in, serial_txns};
 ghost use Rattle.adya_values.specs.Meaning.Histories.{Write, Delete, Read, Scan, Commit, Abort, Live, Dead};
 
 use adya_values::{
-    BadKey, BadNumber, BadShape, BadValue, Content, Entry, Event, FinalPair, History, Key, Mod,
-    Order, Serial, Txn, Value, Version,
+    BadKey, BadNumber, BadShape, BadValue, Content, Entry, Event, Events, FinalPair, History, Key,
+    Mod, Order, Serial, Txn, Value, Version,
 };
 use std::alloc::{AllocError, Global};
 use thiserror::Error;
@@ -164,9 +164,20 @@ pub fn history(
     orders: Vec<Order>,
     finals: Vec<FinalPair>,
 ) -> Result<History, BadHistory>
-    ensures { IfOk result (λ h. (events_in h ≡ events.items) × (orders_in h ≡ orders.items) × (finals_in h ≡ finals.items)) }
+    ensures { IfOk result (λ h. ((history_of h).events ≡ map event_of events.items) × (orders_in h ≡ orders.items) × (finals_in h ≡ finals.items)) }
 {
-    Ok(History::new(events, orders, finals)?)
+    Ok(History::new(packed(*events.allocator(), &events)?, orders, finals)?)
+}
+
+/// Makes the list of these events.
+fn packed(alloc: Global, events: &[Event]) -> Result<Events, AllocError>
+    ensures { IfOk result (λ es. events_of es ≡ map event_of events.now) }
+{
+    let mut list = Events::new(alloc);
+    for event in events {
+        list.push_owned(event)?;
+    }
+    Ok(list)
 }
 
 /// Makes the certificate with these transactions.

@@ -1,9 +1,9 @@
 //! Single lines: which are read, and events written again.
 
 use adya_line::{
-    ContentRef, EntryRef, EventRef, event, final_pair, order, read_event, txn, unfinished,
-    write_event,
+    ContentRef, EntryRef, EventRef, final_pair, order, read_event, txn, unfinished, write_event,
 };
+use adya_values::Listed;
 use devices::Watched;
 use std::alloc::Global;
 
@@ -21,7 +21,7 @@ impl Kind {
     /// Whether the line is read as none of this kind.
     pub(crate) fn refuses(self, alloc: Global, line: &[u8]) -> bool {
         match self {
-            Kind::Event => matches!(event(alloc, line), Ok(None)),
+            Kind::Event => read_event(line).is_none(),
             Kind::Unfinished => unfinished(line).is_none(),
             Kind::Order => matches!(order(alloc, line), Ok(None)),
             Kind::Final => final_pair(line).is_none(),
@@ -39,9 +39,10 @@ pub(crate) fn is_event(alloc: Global, line: &[u8]) -> bool {
 }
 
 fn written_again(alloc: Global, line: &[u8]) -> Option<Vec<u8>> {
-    let event = event(alloc, line).ok()??;
+    let event = read_event(line)?;
+    let entries = event.to_entries(alloc).ok()?;
     let mut out = Watched::new(Vec::new(alloc));
-    write_event(&event, &mut out).ok()?;
+    write_event(&event.with_entries(Listed::Plain(&entries)), &mut out).ok()?;
     Some(out.into_inner())
 }
 

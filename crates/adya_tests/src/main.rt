@@ -30,6 +30,7 @@
 mod audits;
 mod choices;
 mod edge_lists;
+mod event_lists;
 mod failing_calls;
 mod files;
 mod given;
@@ -67,6 +68,7 @@ fn say_of(rt: &HostRuntime, name: &str) -> io::Result<()> {
         "edges" => worked::say_edges(rt, name),
         "examples" => worked::say_example(rt, name),
         "values" => say_cases(rt, &values::cases(rt.alloc())),
+        "event_lists" => event_lists::say_all(rt),
         "texts" => say_cases(rt, &texts::cases(rt.alloc())),
         "sources" => say_cases(rt, &sources::cases(rt.alloc())),
         "failing_calls" => say_cases(rt, &failing_calls::cases(rt.alloc())),

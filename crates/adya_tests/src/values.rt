@@ -1,11 +1,14 @@
 //! Values, tables and checked histories, and what errors print.
 
 use crate::lines;
-use adya_line::event;
+use adya_line::read_event;
 use adya_terms::Checked;
 use adya_testing::histories::final_pair;
 use adya_text::read_history;
-use adya_values::{BadKey, BadNumber, BadShape, BadValue, Entry, Event, History, Key, Txn, Value};
+use adya_values::{
+    BadKey, BadNumber, BadShape, BadValue, Entry, Event, EventView, Events, History, Key, Listed,
+    Txn, Value,
+};
 use std::alloc::Global;
 use std::fmt::Display;
 use txn_table::TxnTable;
@@ -30,10 +33,7 @@ pub(crate) fn cases(alloc: Global) -> [(&'static str, bool); 9] {
             "valid_bytes_are_taken_as_they_are",
             is_key_taken() && is_value_taken(),
         ),
-        (
-            "a_copied_scan_lists_the_same_entries",
-            is_copy_of_scan_same(alloc),
-        ),
+        ("a_copied_scan_lists_the_same_entries", is_scan_shown(alloc)),
         ("errors_print_their_numbers", are_errors_numbered(alloc)),
         (
             "a_table_holds_small_and_large_numbers",
@@ -75,31 +75,52 @@ fn is_value_taken() -> bool {
 
 /// Returns the scan of this line.
 fn scan(alloc: Global, line: &[u8]) -> Option<Event> {
-    event(alloc, line).ok()?
-}
-
-fn entries_of(event: Option<Event>) -> Option<Vec<Entry>> {
-    match event {
-        Some(Event::Scan { entries, .. }) => Some(entries),
+    let read = read_event(line)?;
+    let entries = read.to_entries(alloc).ok()?;
+    match read.with_entries(Listed::Plain(&entries)) {
+        EventView::Scan { txn, low, high, .. } => Some(Event::Scan {
+            txn,
+            low,
+            high,
+            entries,
+        }),
         _ => None,
     }
 }
 
-/// Whether the copy of a scan lists the same entries.
-fn is_copy_of_scan_same(alloc: Global) -> bool {
-    let Some(event) = scan(alloc, b"s1(a,d;b.2:1,7;c.3:4,!)") else {
+/// Whether a list of events, and a copy of it, show a scan with its entries.
+fn is_scan_shown(alloc: Global) -> bool {
+    let Some(given) = scan(alloc, b"s1(a,d;b.2:1,7;c.3:4,!)") else {
         return false;
     };
-    let copied = entries_of(event.copy(alloc).ok());
-    match (entries_of(Some(event)), copied) {
-        (Some(given), Some(copied)) => are_same_two(&given, &copied),
+    let mut events = Events::new(alloc);
+    if events.push_owned(&given).is_err() {
+        return false;
+    }
+    let Ok(copied) = events.copy(alloc) else {
+        return false;
+    };
+    shows(&events, &given) && shows(&copied, &given)
+}
+
+/// Whether the only event is a scan with the entries of this one.
+fn shows(events: &Events, given: &Event) -> bool {
+    let Event::Scan { entries: given, .. } = given else {
+        return false;
+    };
+    match events.get(0) {
+        Some(EventView::Scan { entries, .. }) => events.len() == 1 && are_same_two(&entries, given),
         _ => false,
     }
 }
 
-fn are_same_two(given: &[Entry], copied: &[Entry]) -> bool {
-    match (given, copied) {
-        ([first, second], [one, two]) => one.same(first) && two.same(second) && !one.same(second),
+fn are_same_two(listed: &Listed<'_>, given: &[Entry]) -> bool {
+    if listed.len() != 2 {
+        return false;
+    }
+    let (first, second) = (listed.at(0), listed.at(1));
+    match given {
+        [one, two] => one.same(&first) && two.same(&second) && !one.same(&second),
         _ => false,
     }
 }
@@ -116,7 +137,7 @@ fn bad_shape(alloc: Global) -> Option<BadShape> {
     let y = final_pair("y", "1").ok()?;
     let x = final_pair("x", "1").ok()?;
     let finals = Vec::from_slice(alloc, &[y, x]).ok()?;
-    History::new(Vec::new(alloc), Vec::new(alloc), finals).err()
+    History::new(Events::new(alloc), Vec::new(alloc), finals).err()
 }
 
 /// Whether each error prints its number.

@@ -6,7 +6,7 @@ use Rattle.std.specs.Cmp.Derive.{both_true}
 use Rattle.std.proofs.lemmas.Bool.Decides.{nat_tests}
 use Rattle.std.proofs.lemmas.List.{length-append, length-map}
 use Rattle.adya_values.specs.Computing.Shapes.{is_shape}
-use Rattle.adya_values.specs.Mirror.Events.{event_of, order_of, final_of}
+use Rattle.adya_values.specs.Mirror.Events.{events_of, order_of, final_of}
 use Rattle.adya_values.specs.Mirror.Histories.{history_of}
 use Rattle.adya_values.specs.Meaning.Histories.{Event, Order, History}
 use Rattle.adya_values.specs.declared.edition.Edition.TheVariants.{One, Two}
@@ -46,13 +46,12 @@ line_counts s h (FinalLine f) may = omega (arith, length-append h.finals (f ∷ 
 line_counts s h TailLine may = omega arith
 
 pub next_is : (d : HistoryDraft) (past : List (List ℕ)) → HasLines d past
-    → line_after d.stage + (length d.events.items + (length d.unfinished.items
+    → line_after d.stage + (length (events_of d.events) + (length d.unfinished.items
     + (length d.orders.items + length d.finals.items))) ≡ suc (length past)
 next_is d past run =
     let counts = run_counts history_machine next_line line_counts d.stage (held d) past run in
-    let events = length-map d.events.items event_of in
     let orders = length-map d.orders.items order_of in
-    omega (arith, counts, events, orders, length-map d.finals.items final_of)
+    omega (arith, counts, orders, length-map d.finals.items final_of)
 
 -- ---- the value
 

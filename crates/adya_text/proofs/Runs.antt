@@ -2,6 +2,7 @@
 use Rattle.std.proofs.Common.{◌≡◌, ℕ, true, false, List, [], ◌∷◌, ◌++◌, map, refl, sym, ap, ◌∙◌, append_assoc, append-nil}
 use Rattle.std.proofs.lemmas.List.{map_push, map-append}
 use Rattle.std.specs.List.{AllByRecursion}
+use Rattle.lemmas.proofs.Indices.{all_push}
 use Rattle.adya_line.specs.Laws.{IsOneText}
 use Rattle.adya_line.specs.Clauses.OnlyLines.{SpellsOnly}
 use Rattle.adya_text.specs.Computing.Runs.{Machine, IsRun, end_of, HasRun, IsRefused, IsAllowed}
@@ -21,11 +22,6 @@ run_next : {S H L : Type 0} (m : Machine S H L) (s : S) (xs : List L) (x : L) (y
     → IsRun m s (xs ++ x ∷ ys) → m.allows (end_of m.after s xs) x ≡ true
 run_next m s [] x ys run = run.0
 run_next m s (z ∷ zs) x ys run = run_next m (m.after s z) zs x ys run.1
-
-pub all_push : {L : Type 0} (P : L → Type 0) (xs : List L) (x : L) → AllByRecursion P xs → P x
-    → AllByRecursion P (xs ++ x ∷ [])
-all_push P [] x all is = (is, tt)
-all_push P (y ∷ ys) x all is = (all.0, all_push P ys x all.1 is)
 
 pub all_append : {L : Type 0} (P : L → Type 0) (xs ys : List L) → AllByRecursion P xs → AllByRecursion P ys
     → AllByRecursion P (xs ++ ys)

@@ -2,9 +2,10 @@
 
 ghost use Rattle.std.specs.Prelude.{◌≡◌, ◌<◌, ◌+◌, ◌^◌, [], length, true, false, IfSome, IfOk, OnOk, MatchOption, map};
 ghost use Rattle.adya_values.specs.Computing.Shapes.{fits_edition, is_shape};
-ghost use Rattle.adya_values.specs.Mirror.Events.{event_of, order_of, final_of};
+ghost use Rattle.adya_values.specs.Mirror.Events.{events_of, order_of, final_of};
 ghost use Rattle.adya_values.specs.Mirror.Histories.{history_of};
-ghost use Rattle.adya_line.specs.Clauses.HistoryLines.{Line, line_of};
+ghost use Rattle.adya_line.specs.Clauses.HistoryLines.{Line, EventLine, line_of};
+ghost use Rattle.adya_line.specs.Mirror.{view};
 ghost use Rattle.adya_text.specs.Computing.Runs.{IsAllowed, IsRefused};
 ghost use Rattle.adya_text.specs.Computing.HistoryRuns.{allows, history_machine, stage_after};
 ghost use Rattle.adya_text.specs.Clauses.Grammars.{AreHistoryLines};
@@ -14,8 +15,8 @@ ghost use Rattle.adya_text.specs.Machinery.HistoryDrafts.{HasLines, Takes, line_
 use crate::line_reader::Draft;
 use crate::read_fault::Text;
 use adya_line::laws::{event_lines, history_lines};
-use adya_line::{HistoryLine, event, history_line};
-use adya_values::{Edition, Event, FinalPair, History, Key, Order, Txn};
+use adya_line::{EventRef, HistoryLine, history_line, read_event};
+use adya_values::{Edition, Entry, Events, FinalPair, History, Key, Listed, Order, Txn};
 use std::alloc::{AllocError, Global};
 
 /// How many bytes the head has, `adya 1` or `adya 2`.
@@ -39,7 +40,7 @@ enum Stage {
 }
 
 impl Stage {
-    fn allows(&self, line: &HistoryLine) -> bool
+    fn allows(&self, line: &HistoryLine<'_>) -> bool
         ensures { result ≡ allows self.now (line_of line.now) }
     {
         match line {
@@ -87,7 +88,7 @@ impl Stage {
     }
 
     /// Returns the stage after a line.
-    fn after(&self, line: &HistoryLine) -> Stage
+    fn after(&self, line: &HistoryLine<'_>) -> Stage
         ensures { result ≡ stage_after self.now (line_of line.now) }
     {
         match line {
@@ -108,10 +109,12 @@ pub(crate) struct HistoryDraft {
     stage: Stage,
     /// That of the head; the first one before it.
     edition: Edition,
-    events: Vec<Event>,
+    events: Events,
     unfinished: Vec<Txn>,
     orders: Vec<Order>,
     finals: Vec<FinalPair>,
+    /// What the last scan lists; the memory is used again.
+    entries: Vec<Entry>,
 }
 
 impl HistoryDraft {
@@ -123,15 +126,16 @@ impl HistoryDraft {
             alloc,
             stage: Stage::Head,
             edition: Edition::One,
-            events: Vec::new(alloc),
+            events: Events::new(alloc),
             unfinished: Vec::new(alloc),
             orders: Vec::new(alloc),
             finals: Vec::new(alloc),
+            entries: Vec::new(alloc),
         }
     }
 
     /// Returns the line by its kind, if it may come next.
-    fn allowed(&self, line: &[u8]) -> Result<Option<HistoryLine>, AllocError>
+    fn allowed<'a>(&self, line: &'a [u8]) -> Result<Option<HistoryLine<'a>>, AllocError>
         ensures { IfOk result
             (λ o. MatchOption o (IsRefused history_machine self.now.stage line.now)
             (λ x. IsAllowed history_machine self.now.stage line.now (line_of x))) }
@@ -155,22 +159,31 @@ impl HistoryDraft {
         let Stage::Events { .. } = self.stage else {
             return Ok(false);
         };
-        let Some(event) = event(self.alloc, line)? else {
+        let Some(event) = read_event(line) else {
             return Ok(false);
         };
-        self.events.push(event)?;
+        self.push_event(&event)?;
         Ok(true)
+    }
+
+    /// Takes the line of the event.
+    fn push_event(&mut self, event: &EventRef<'_>) -> Result<(), AllocError>
+        ensures { OnOk result (Takes self.old self.new (EventLine (view event.now))) }
+    {
+        event.read_entries(&mut self.entries)?;
+        let entries = Listed::Plain(&self.entries);
+        self.events.push(&event.with_entries(entries))
     }
 
     // Not inlined: a caller pays at its entry for all locals of what is inlined into it.
     #[inline(never)]
-    fn take_allowed(&mut self, line: HistoryLine) -> Result<(), AllocError>
-        ensures { OnOk result (Takes self.old self.new (line_of line)) }
+    fn take_allowed(&mut self, line: HistoryLine<'_>) -> Result<(), AllocError>
+        ensures { OnOk result (Takes self.old self.new (line_of line.entry)) }
     {
         let stage = self.stage.after(&line);
         match line {
             HistoryLine::Head(edition) => self.edition = edition,
-            HistoryLine::Event(event) => self.events.push(event)?,
+            HistoryLine::Event(event) => self.push_event(&event)?,
             HistoryLine::Unfinished(txn) => self.unfinished.push(txn)?,
             HistoryLine::Order(order) => self.orders.push(order)?,
             HistoryLine::Final(pair) => self.finals.push(pair)?,
@@ -246,7 +259,7 @@ impl Draft for HistoryDraft {
 /// Returns the history of the edition with these lists; `None` if no history has them.
 fn of_edition(
     edition: Edition,
-    events: Vec<Event>,
+    events: Events,
     unfinished: Vec<Txn>,
     orders: Vec<Order>,
     finals: Vec<FinalPair>,
@@ -255,7 +268,7 @@ fn of_edition(
         → MatchOption result (is_shape (map order_of orders.items) (map final_of finals.items) ≡ true → ⊥)
         (λ h. history_of h ≡ record {
           edition = edition;
-          events = map event_of events.items;
+          events = events_of events;
           unfinished = unfinished.items;
           orders = map order_of orders.items;
           finals = map final_of finals.items;
@@ -269,8 +282,8 @@ fn of_edition(
 }
 
 /// Returns how many values these are.
-fn total(events: &[Event], unfinished: &[Txn], orders: &[Order], finals: &[FinalPair]) -> usize
-    ensures count { result ≡ length events.now + (length unfinished.now + (length orders.now + length finals.now)) }
+fn total(events: &Events, unfinished: &[Txn], orders: &[Order], finals: &[FinalPair]) -> usize
+    ensures count { result ≡ length (events_of events.now) + (length unfinished.now + (length orders.now + length finals.now)) }
     ensures near { result < 2 ^ 63 }
 {
     events.len() + (unfinished.len() + (orders.len() + finals.len()))

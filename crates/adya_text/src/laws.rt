@@ -1,9 +1,9 @@
 //! The laws of texts. The calls change nothing: each contract is a law.
 
-ghost use Rattle.std.specs.Prelude.{◌<◌, length, map};
+ghost use Rattle.std.specs.Prelude.{◌<◌, length, map, slice_get, IfSome};
 ghost use Rattle.std.specs.List.{AllByRecursion};
 ghost use Rattle.adya_values.specs.Meaning.Keys.{IsTxn};
-ghost use Rattle.adya_values.specs.Mirror.Events.{event_of, order_of, final_of};
+ghost use Rattle.adya_values.specs.Mirror.Events.{events_of, order_of, final_of};
 ghost use Rattle.adya_values.specs.Mirror.Histories.{history_of, serial_txns};
 ghost use Rattle.adya_line.specs.Meaning.Limits.{IsEvent, IsOrder, IsFinal};
 ghost use Rattle.adya_text.specs.Meaning.Texts.{IsHistory, IsSerial};
@@ -12,7 +12,7 @@ ghost use Rattle.adya_text.specs.Laws.{HistoriesDiffer, SerialsDiffer, NoHistory
 ghost use Rattle.adya_text.specs.Laws.{HasOneFaultLine, HasNoFaultWithin, IsCutAfterEnd, IsWholeWithoutEnd};
 
 use adya_line::laws::{event_within, final_within, history_lines, order_within, serial_lines};
-use adya_values::{Event, FinalPair, History, Order, Serial, Txn};
+use adya_values::{Events, FinalPair, History, Order, Serial, Txn};
 
 /// Each history has a text of its own, and no history text begins with another.
 pub fn history_texts()
@@ -72,11 +72,20 @@ fn txns_within(txns: &[Txn])
     }
 }
 
-fn events_within(events: &[Event])
-    ensures { AllByRecursion IsEvent (map event_of events.now) }
+fn events_within(events: &Events)
+    ensures { AllByRecursion IsEvent (events_of events.now) }
 {
-    for event in events {
-        event_within(event);
+    for i in 0..events.len() {
+        event_at_within(events, i);
+    }
+}
+
+/// The event at the index, if there is one, is within its limits.
+fn event_at_within(events: &Events, i: usize)
+    ensures { IfSome (slice_get (events_of events.now) i) IsEvent }
+{
+    if let Some(event) = events.get(i) {
+        event_within(&event);
     }
 }
 

@@ -1,7 +1,7 @@
 //! Writing whole texts.
 
 ghost use Rattle.std.specs.Prelude.{map};
-ghost use Rattle.adya_values.specs.Mirror.Events.{event_of, order_of, final_of};
+ghost use Rattle.adya_values.specs.Mirror.Events.{events_of, order_of, final_of};
 ghost use Rattle.adya_values.specs.Mirror.Histories.{history_of, serial_txns};
 ghost use Rattle.devices.specs.Clauses.Writing.{Wrote};
 ghost use Rattle.adya_line.specs.Meaning.Spelling.{head_text, tail, event_text, unfinished_text, order_text, final_text, txn_text};
@@ -12,7 +12,7 @@ use adya_line::{
     history_head, second_head, serial_head, tail, write_event, write_final, write_order, write_txn,
     write_unfinished,
 };
-use adya_values::{Edition, Event, FinalPair, History, Order, Serial, Txn};
+use adya_values::{Edition, Events, FinalPair, History, Order, Serial, Txn};
 use devices::{Watched, put, put_line};
 use std::io;
 use std::io::Write;
@@ -76,11 +76,12 @@ fn put_tail<W: Write>(out: &mut Watched<W>) -> io::Result<()>
     put_line(tail(), out)
 }
 
-fn put_events<W: Write>(events: &[Event], out: &mut Watched<W>) -> io::Result<()>
-    ensures { Wrote W.contents out.old out.new (lines_of event_text (map event_of events.now)) result }
+fn put_events<W: Write>(events: &Events, out: &mut Watched<W>) -> io::Result<()>
+    ensures { Wrote W.contents out.old out.new (lines_of event_text (events_of events.now)) result }
 {
-    for event in events {
-        write_event(event, out)?;
+    for i in 0..events.len() {
+        let event = events.at(i);
+        write_event(&event, out)?;
         put(b"\n", out)?;
     }
     Ok(())

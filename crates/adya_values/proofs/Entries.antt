@@ -1,6 +1,7 @@
 -- Equality of contents, versions and entries, as a test and as a fact.
 use Rattle.std.proofs.Common.{◌≡◌, true, Option, Some, None, refl, sym, ◌∙◌, ap, subst}
 use Rattle.std.proofs.lemmas.Bool.{and_parts, and_from, eqb-true, eq-eqb}
+use Rattle.lemmas.proofs.Booleans.{same_test}
 use Rattle.lemmas.proofs.Orderings.{bytes_eq-same, bytes_eq-itself}
 use Rattle.adya_values.specs.declared.event.Version.{Version}
 use Rattle.adya_values.specs.Meaning.Histories.{Content, Live, Dead, Entry}
@@ -38,6 +39,10 @@ entry_eq-itself a = and_from _ _ (version_eq-itself a.version) (content_eq-itsel
 
 pub entry_eq-from : (a b : Entry) → a ≡ b → entry_eq a b ≡ true
 entry_eq-from a b e = subst (λ c. entry_eq a c ≡ true) e (entry_eq-itself a)
+
+pub entry_eq-turned : (a b : Entry) → entry_eq a b ≡ entry_eq b a
+entry_eq-turned a b =
+    same_test _ _ (λ e. entry_eq-from b a (sym (entry_eq-same a b e))) (λ e. entry_eq-from a b (sym (entry_eq-same b a e)))
 
 pub is_entry-same : (o : Option Entry) (w : Entry) → is_entry o w ≡ true → o ≡ Some w
 is_entry-same None w e = absurd (cc (e))

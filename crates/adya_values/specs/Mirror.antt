@@ -1,3 +1,4 @@
 -- What values of the code stand for.
 pub mod Events
+pub mod Numbers
 pub mod Histories

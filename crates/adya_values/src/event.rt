@@ -1,12 +1,12 @@
 //! Versions of keys, and the events that write and read them.
 
 ghost use Rattle.std.specs.Prelude.{◌≡◌, IfOk, option_map};
-ghost use Rattle.adya_values.specs.Mirror.Events.{content_of, entry_of, event_of};
+ghost use Rattle.adya_values.specs.Mirror.Events.{content_of, entry_of, event_of, view_of};
 ghost use Rattle.adya_values.specs.Meaning.Events.{txn_of, written};
+ghost use Rattle.adya_values.specs.Machinery.Packed.{entry_count};
 ghost use Rattle.adya_values.specs.Computing.Faults.{content_eq, entry_eq};
 
-use crate::{Key, Mod, Txn, Value};
-use std::alloc::{AllocError, Global};
+use crate::{Key, Listed, Mod, Txn, Value};
 use std::fmt;
 
 /// A version of a key: the result of one write or delete by one transaction (Adya 1999, section 3.1).
@@ -24,6 +24,17 @@ impl fmt::Display for Version {
     fn fmt<W: fmt::Write>(&self, f: &mut fmt::Formatter<W>) -> fmt::Result {
         write!(f, "{}.{}:{}", self.key, self.txn.get(), self.m.get())
     }
+}
+
+/// A version by the number that its key has in a list of events.
+#[derive(Clone, Copy, Debug, PartialEq, Eq, Hash)]
+pub struct NumberedVersion {
+    /// The number of the key.
+    pub key: u32,
+    /// The transaction that wrote it.
+    pub txn: Txn,
+    /// The number of the write among its transaction's writes and deletes of the key, counted from 1.
+    pub m: Mod,
 }
 
 /// What a version holds.
@@ -108,60 +119,28 @@ pub enum Event {
 }
 
 impl Event {
-    /// Returns the transaction that the event belongs to.
-    pub fn txn(&self) -> Txn
-        ensures { result ≡ txn_of (event_of self.now) }
+    /// Returns how many entries the event lists, if it is a scan; 0 if not.
+    pub fn entry_count(&self) -> usize
+        ensures { result ≡ entry_count (event_of self.now) }
     {
         match self {
-            Event::Write { txn, .. } => *txn,
-            Event::Delete { txn, .. } => *txn,
-            Event::Read { txn, .. } => *txn,
-            Event::Scan { txn, .. } => *txn,
-            Event::Commit { txn } => *txn,
-            Event::Abort { txn } => *txn,
+            Event::Scan { entries, .. } => entries.len(),
+            _ => 0,
         }
     }
 
-    /// Returns the version that the event writes, with its content, if it is a write or a delete.
-    pub fn written(&self) -> Option<Entry>
-        ensures { option_map entry_of result ≡ written (event_of self.now) }
+    /// Returns the event as a list shows it.
+    pub fn view(&self) -> EventView<'_>
+        ensures { view_of result ≡ event_of self.now }
     {
         match self {
-            Event::Write { txn, key, m, value } => Some(Entry {
-                version: Version {
-                    key: *key,
-                    txn: *txn,
-                    m: *m,
-                },
-                content: Content::Live(*value),
-            }),
-            Event::Delete { txn, key, m } => Some(Entry {
-                version: Version {
-                    key: *key,
-                    txn: *txn,
-                    m: *m,
-                },
-                content: Content::Dead,
-            }),
-            Event::Read { .. } => None,
-            Event::Scan { .. } => None,
-            Event::Commit { .. } => None,
-            Event::Abort { .. } => None,
-        }
-    }
-
-    /// Returns an equal event; `AllocError` if there is no memory for a scan's list.
-    pub fn copy(&self, alloc: Global) -> Result<Event, AllocError>
-        ensures { IfOk result (λ e. event_of e ≡ event_of self.now) }
-    {
-        Ok(match self {
-            Event::Write { txn, key, m, value } => Event::Write {
+            Event::Write { txn, key, m, value } => EventView::Write {
                 txn: *txn,
                 key: *key,
                 m: *m,
                 value: *value,
             },
-            Event::Delete { txn, key, m } => Event::Delete {
+            Event::Delete { txn, key, m } => EventView::Delete {
                 txn: *txn,
                 key: *key,
                 m: *m,
@@ -170,7 +149,7 @@ impl Event {
                 txn,
                 version,
                 value,
-            } => Event::Read {
+            } => EventView::Read {
                 txn: *txn,
                 version: *version,
                 value: *value,
@@ -180,14 +159,100 @@ impl Event {
                 low,
                 high,
                 entries,
-            } => Event::Scan {
+            } => EventView::Scan {
                 txn: *txn,
                 low: *low,
                 high: *high,
-                entries: Vec::from_slice(alloc, entries)?,
+                entries: Listed::Plain(entries),
             },
-            Event::Commit { txn } => Event::Commit { txn: *txn },
-            Event::Abort { txn } => Event::Abort { txn: *txn },
-        })
+            Event::Commit { txn } => EventView::Commit { txn: *txn },
+            Event::Abort { txn } => EventView::Abort { txn: *txn },
+        }
+    }
+}
+
+/// One step of a transaction, as a list of events shows it.
+#[derive(Clone, Copy)]
+pub enum EventView<'a> {
+    /// The transaction writes its version `m` of the key.
+    Write {
+        txn: Txn,
+        key: Key,
+        m: Mod,
+        value: Value,
+    },
+    /// The transaction deletes the key: its version `m` of it is dead.
+    Delete {
+        txn: Txn,
+        key: Key,
+        m: Mod,
+    },
+    /// The transaction reads this version and gets the value.
+    Read {
+        txn: Txn,
+        version: Version,
+        value: Value,
+    },
+    /// The transaction scans the keys from `low` to `high`, both included, and gets these versions. Of a key in the
+    /// range that isn't listed it sees the unborn version.
+    Scan {
+        txn: Txn,
+        low: Key,
+        high: Key,
+        entries: Listed<'a>,
+    },
+    /// The transaction commits.
+    Commit {
+        txn: Txn,
+    },
+    /// The transaction aborts.
+    Abort {
+        txn: Txn,
+    },
+}
+
+impl EventView<'_> {
+    /// Returns the transaction that the event belongs to.
+    #[inline(always)]
+    pub fn txn(&self) -> Txn
+        ensures { result ≡ txn_of (view_of self.now) }
+    {
+        match self {
+            EventView::Write { txn, .. } => *txn,
+            EventView::Delete { txn, .. } => *txn,
+            EventView::Read { txn, .. } => *txn,
+            EventView::Scan { txn, .. } => *txn,
+            EventView::Commit { txn } => *txn,
+            EventView::Abort { txn } => *txn,
+        }
+    }
+
+    /// Returns the version that the event writes, with its content, if it is a write or a delete.
+    #[inline(always)]
+    pub fn written(&self) -> Option<Entry>
+        ensures { option_map entry_of result ≡ written (view_of self.now) }
+    {
+        match self {
+            EventView::Write { txn, key, m, value } => Some(Entry {
+                version: Version {
+                    key: *key,
+                    txn: *txn,
+                    m: *m,
+                },
+                content: Content::Live(*value),
+            }),
+            EventView::Delete { txn, key, m } => Some(Entry {
+                version: Version {
+                    key: *key,
+                    txn: *txn,
+                    m: *m,
+                },
+                content: Content::Dead,
+            }),
+            EventView::Read { .. } => None,
+            EventView::Scan { .. } => None,
+            EventView::Commit { .. } => None,
+            EventView::Abort { .. } => None,
+        }
     }
 }

@@ -3,11 +3,11 @@
 ghost use Rattle.std.specs.Prelude.{◌≡◌, ◌↔◌, true, length, map, IsOk, IfOk, IfErr, ◌==◌, ◌&&◌, not, [], nat_lt, ◌∷◌};
 ghost use Rattle.std.specs.List.{list_all};
 ghost use Rattle.adya_values.specs.Meaning.Keys.{key_lt, keys_rise};
-ghost use Rattle.adya_values.specs.Mirror.Events.{order_of, final_of};
+ghost use Rattle.adya_values.specs.Mirror.Events.{events_of, order_of, final_of};
 ghost use Rattle.adya_values.specs.Computing.Shapes.{is_shape, numbers_rise, fits_edition};
 
 use crate::order::{FinalPair, Order};
-use crate::{Edition, Event, Key, Txn};
+use crate::{Edition, Events, Key, Txn};
 use std::fmt;
 use thiserror::Error;
 
@@ -17,7 +17,7 @@ use thiserror::Error;
 #[error("4 bad shape")]
 pub struct BadShape {
     /// The events, as given.
-    pub events: Vec<Event>,
+    pub events: Events,
     /// The unfinished transactions, as given; empty if the history was to be of the first edition.
     pub unfinished: Vec<Txn>,
     /// The orders, as given.
@@ -38,7 +38,7 @@ impl fmt::Debug for BadShape {
 #[derive(Drop)]
 pub struct History {
     edition: Edition,
-    events: Vec<Event>,
+    events: Events,
     unfinished: Vec<Txn>,
     orders: Vec<Order>,
     finals: Vec<FinalPair>,
@@ -47,12 +47,12 @@ pub struct History {
 }
 
 impl History {
-    ghost use Rattle.adya_values.specs.Mirror.Histories.{history_of, edition_in, events_in, unfinished_in, orders_in, finals_in};
+    ghost use Rattle.adya_values.specs.Mirror.Histories.{history_of, edition_in, unfinished_in, orders_in, finals_in};
 
     /// Makes a history of the first edition. Returns `BadShape` with the lists if an order has no writer, or the
     /// keys of the orders or of the finals don't strictly rise.
     pub fn new(
-        events: Vec<Event>,
+        events: Events,
         orders: Vec<Order>,
         finals: Vec<FinalPair>,
     ) -> Result<History, BadShape>
@@ -61,7 +61,7 @@ impl History {
         ensures same { IfOk result (λ h. (h.events ≡ events) × (h.orders ≡ orders) × (h.finals ≡ finals)) }
         ensures back { IfErr result (λ b. (b.events ≡ events) × (b.orders ≡ orders) × (b.finals ≡ finals)) }
     {
-        let unfinished = Vec::new(*events.allocator());
+        let unfinished = Vec::new(*orders.allocator());
         if !is_shape(&orders, &finals) {
             return Err(BadShape {
                 events,
@@ -82,7 +82,7 @@ impl History {
     /// Makes a history of the second edition. Returns `BadShape` with the lists if an order has no writer, or the
     /// unfinished transactions, the keys of the orders or the keys of the finals don't strictly rise.
     pub fn new_two(
-        events: Vec<Event>,
+        events: Events,
         unfinished: Vec<Txn>,
         orders: Vec<Order>,
         finals: Vec<FinalPair>,
@@ -126,8 +126,8 @@ impl History {
     }
 
     /// Returns the events, in the order in which they happened.
-    pub fn events(&self) -> &[Event]
-        ensures { result.now ≡ events_in self.now }
+    pub fn events(&self) -> &Events
+        ensures { events_of result.now ≡ (history_of self.now).events }
     {
         &self.events
     }

@@ -65,6 +65,7 @@ impl Key {
     }
 
     /// Makes a key of these bytes, which form one, without a second look at them.
+    #[inline(always)]
     pub fn from_valid(text: &[u8]) -> Key
         requires { is_key text.now ≡ true }
         ensures { result ≡ text.now }

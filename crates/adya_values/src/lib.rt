@@ -5,23 +5,30 @@
 //! serial run; well-formedness and acceptance are in `specs/Clauses`. `specs/Computing` has the functions that compute them.
 #![tactic(auto)]
 
+mod arena;
 mod edition;
 mod event;
+mod events;
 mod fault;
 mod history;
 mod key;
+mod listed;
 mod number;
 mod order;
 mod padded;
+mod seen;
 mod serial;
 mod value;
 
 pub use edition::Edition;
-pub use event::{Content, Entry, Event, Version};
+pub use event::{Content, Entry, Event, EventView, NumberedVersion, Version};
+pub use events::Events;
 pub use fault::{CheckFault, Rule};
 pub use history::{BadShape, History};
 pub use key::{BadKey, Key, MAX_KEY_LEN, is_key_byte};
+pub use listed::{Listed, PackedEntries};
 pub use number::{BadNumber, Mod, Txn};
 pub use order::{FinalPair, Order};
+pub use seen::{Observed, Seen};
 pub use serial::Serial;
 pub use value::{BadValue, MAX_VALUE_LEN, Value, is_value_byte};

@@ -4,6 +4,7 @@ ghost use Rattle.std.specs.Prelude.{◌≡◌, ◌≤◌, length};
 ghost use Rattle.adya_values.specs.Machinery.Padded.{padded};
 
 /// Returns the text, followed by zeros.
+#[inline(always)]
 pub(crate) fn padded<const N: usize>(text: &[u8]) -> [u8; N]
     requires { length text.now ≤ N }
     ensures { result ≡ padded N text.now }

@@ -40,6 +40,7 @@ impl Value {
     }
 
     /// Makes a value of these bytes, which form one, without a second look at them.
+    #[inline(always)]
     pub fn from_valid(text: &[u8]) -> Value
         requires { is_value text.now ≡ true }
         ensures { value_of result ≡ text.now }

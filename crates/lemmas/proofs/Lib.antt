@@ -8,3 +8,4 @@ pub mod Finds
 pub mod Counts
 pub mod Steps
 pub mod Orderings
+pub mod Indices

@@ -1,10 +1,10 @@
 -- One turn of a loop over a list, whose elements are seen as others.
-use Rattle.std.proofs.Common.{◌≡◌, ℕ, suc, ◌+◌, ◌<◌, Bool, true, false, ◌&&◌, List, [], ◌∷◌, ◌++◌, Some, slice_get, map, take, drop, length, get_or, append_assoc, refl, sym, ◌∙◌, ap, arith}
+use Rattle.std.proofs.Common.{◌≡◌, ℕ, suc, ◌+◌, ◌<◌, Bool, true, false, ◌&&◌, List, [], ◌∷◌, ◌++◌, Some, slice_get, map, take, drop, length, get_or, append_assoc, refl, sym, ◌∙◌, ap, arith, inl, inr}
 use Rattle.std.proofs.Math.Seq.{drop-cons}
 use Rattle.std.specs.List.{list_all, flat_map}
 use Rattle.std.specs.Option.{option_map}
-use Rattle.std.proofs.lemmas.Option.{slice_get-map, slice_get_read, get_or_from_slice_get}
-use Rattle.std.proofs.lemmas.List.{length-map, take_more}
+use Rattle.std.proofs.lemmas.Option.{slice_get-map, slice_get_read, slice_get_within, slice_get_cases, get_or_from_slice_get}
+use Rattle.std.proofs.lemmas.List.{take_more}
 
 -- what is left of a list at an index, by its first element
 pub drop_step : {Y : Type 0} (ys : List Y) (i : ℕ) (y : Y) → i < length ys → y ≡ get_or ys i y
@@ -20,19 +20,31 @@ pub record IsTurn {X : Type 0} (xs : List X) (i : ℕ) (x : X) : Type 0 where
   pub rest : drop i xs ≡ x ∷ drop (i + 1) xs
   pub front : take (i + 1) xs ≡ take i xs ++ x ∷ []
 
-pub turn : {X Y : Type 0} (view : Y → X) (ys : List Y) (i : ℕ) (y : Y) → i < length ys → y ≡ get_or ys i y
-    → IsTurn (map view ys) i (view y)
-turn view ys i y l at =
-    let found : slice_get (map view ys) i ≡ Some (view y) =
-    slice_get-map view ys i ∙ ap (option_map view) (slice_get_read ys (length ys) i y refl l at) in
-    let less : i < length (map view ys) = rw length-map l in
-    let item : get_or (map view ys) i (view y) ≡ view y = get_or_from_slice_get (map view ys) i (view y) (view y) found in
+-- the list has the element at the index
+pub turn_at : {X : Type 0} (xs : List X) (i : ℕ) (x : X) → slice_get xs i ≡ Some x → IsTurn xs i x
+turn_at xs i x found =
+    let less : i < length xs = slice_get_within xs i x found in
+    let item : get_or xs i x ≡ x = get_or_from_slice_get xs i x x found in
     record {
       found = found;
       less = less;
-      rest = drop_step (map view ys) i (view y) less (sym item);
-      front = take_more (map view ys) i (view y) less ∙ ap (λ z. take i (map view ys) ++ z ∷ []) item;
+      rest = drop_step xs i x less (sym item);
+      front = take_more xs i x less ∙ ap (λ z. take i xs ++ z ∷ []) item;
     }
+
+-- there is one at each index below the length
+pub turn_below : {X : Type 0} (xs : List X) (i : ℕ) → i < length xs → (x : X) × IsTurn xs i x
+turn_below xs i less =
+    elim (slice_get_cases xs i).1 [
+      | inl at ↦ (at.0, turn_at xs i at.0 at.2)
+      | inr past ↦ let beyond = past.0 in absurd (omega (arith, less, beyond))
+    ]
+
+-- the list shows another's elements
+pub turn : {X Y : Type 0} (view : Y → X) (ys : List Y) (i : ℕ) (y : Y) → i < length ys → y ≡ get_or ys i y
+    → IsTurn (map view ys) i (view y)
+turn view ys i y l at =
+    turn_at (map view ys) i (view y) (slice_get-map view ys i ∙ ap (option_map view) (slice_get_read ys (length ys) i y refl l at))
 
 -- a test of all that are left, at an element that passes or fails
 module _ {X Y : Type 0} (f : X → Bool) (view : Y → X) (ys : List Y) (i : ℕ) (y : Y) (l : i < length ys)

@@ -12,7 +12,7 @@ use adya_text::{
     ReadFault, read_event, read_history, read_history_from, read_serial, read_serial_from,
     read_texts_from, write_serial,
 };
-use adya_values::{CheckFault, History, Serial};
+use adya_values::{CheckFault, History, Listed, Serial};
 use devices::{Watched, put, put_number};
 use std::alloc::AllocError;
 use std::io;
@@ -80,10 +80,11 @@ fn events(tally: &mut Tally, worked: &Worked) -> Result<(), &'static str> {
         let Some(seen) = read_event(line.as_bytes()) else {
             continue;
         };
-        let Ok(event) = again!(tally, Err(AllocError), seen.to_event(tally.alloc())) else {
-            return Err("no event at the second try");
+        let Ok(entries) = again!(tally, Err(AllocError), seen.to_entries(tally.alloc())) else {
+            return Err("no entries at the second try");
         };
         let mut out = wanting(line.as_bytes());
+        let event = seen.with_entries(Listed::Plain(&entries));
         if write_event(&event, &mut out).is_err() || !is_met(out) {
             return Err("another event");
         }

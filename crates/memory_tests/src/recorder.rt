@@ -6,11 +6,11 @@ ghost use Rattle.ssi_recorder.specs.Mirror.{places_of};
 use crate::layers::Layer;
 use crate::reply::Reply;
 use crate::words::{Fault, Words};
-use adya_line::event;
+use adya_line::{EventRef, read_event};
 use adya_text::write_history;
-use adya_values::{Event, History, Txn};
+use adya_values::{Event, EventView, History, Listed, Txn};
 use ssi_recorder::Recorder;
-use std::alloc::Global;
+use std::alloc::{AllocError, Global};
 
 /// A recorder, and how many places it keeps.
 #[derive(Drop)]
@@ -42,8 +42,8 @@ impl Recorded {
 
     fn event(&mut self, words: &mut Words) -> Result<(), Fault> {
         let event = event_of(self.alloc, words)?;
-        self.recorder.room()?;
-        self.recorder.event(event);
+        self.recorder.room(event.entry_count())?;
+        self.recorder.event(&event);
         Ok(())
     }
 
@@ -52,7 +52,11 @@ impl Recorded {
         if self.places == 0 {
             return Err(Fault::Now);
         }
-        self.recorder.end(end);
+        match end {
+            Event::Commit { txn } => self.recorder.commit(txn),
+            Event::Abort { txn } => self.recorder.abort(txn),
+            _ => return Err(Fault::Word),
+        }
         self.places -= 1;
         Ok(())
     }
@@ -106,10 +110,36 @@ impl Layer for Recorded {
 
 /// Returns the event of the line that is left.
 fn event_of(alloc: Global, words: &mut Words) -> Result<Event, Fault> {
-    match event(alloc, words.rest().as_bytes())? {
-        Some(event) => Ok(event),
+    match read_event(words.rest().as_bytes()) {
+        Some(event) => Ok(owned(alloc, &event)?),
         None => Err(Fault::Word),
     }
+}
+
+/// Returns the event by itself.
+fn owned(alloc: Global, event: &EventRef<'_>) -> Result<Event, AllocError> {
+    let entries = event.to_entries(alloc)?;
+    Ok(match event.with_entries(Listed::Plain(&entries)) {
+        EventView::Write { txn, key, m, value } => Event::Write { txn, key, m, value },
+        EventView::Delete { txn, key, m } => Event::Delete { txn, key, m },
+        EventView::Read {
+            txn,
+            version,
+            value,
+        } => Event::Read {
+            txn,
+            version,
+            value,
+        },
+        EventView::Scan { txn, low, high, .. } => Event::Scan {
+            txn,
+            low,
+            high,
+            entries,
+        },
+        EventView::Commit { txn } => Event::Commit { txn },
+        EventView::Abort { txn } => Event::Abort { txn },
+    })
 }
 
 fn put_history(history: &History, reply: &mut Reply) -> Result<(), Fault> {

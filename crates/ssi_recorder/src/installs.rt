@@ -6,13 +6,13 @@ ghost use Rattle.std.specs.BTreeMap.{is_at, keys, values, IsOrdered};
 ghost use Rattle.std.specs.Ordering.{nat_cmp};
 ghost use Rattle.std.specs.Cmp.Lexicographic.{slice_cmp};
 ghost use Rattle.adya_values.specs.Meaning.Keys.{key_eq};
-ghost use Rattle.adya_values.specs.Mirror.Events.{entry_of, event_of, order_of, final_of, value_of};
-ghost use Rattle.adya_values.specs.Meaning.Events.{written, visible, commit_of};
+ghost use Rattle.adya_values.specs.Mirror.Events.{entry_of, events_of, order_of, final_of, value_of};
+ghost use Rattle.adya_values.specs.Meaning.Events.{written, visible};
 ghost use Rattle.adya_values.specs.Computing.Shapes.{is_shape};
 ghost use Rattle.ssi_recorder.specs.Meaning.Recorded.{by_commit, orders_of_events, finals_of_events};
 ghost use Rattle.ssi_recorder.specs.Machinery.Lines.{put_at, write_by, AreLines, order_in, final_in};
 
-use adya_values::{Content, Entry, Event, FinalPair, Key, Order, Txn, Value, Version};
+use adya_values::{Content, Entry, Events, FinalPair, Key, Order, Txn, Value, Version};
 use indexmap::IndexSet;
 use std::alloc::{AllocError, Global};
 use std::collections::BTreeMap;
@@ -24,27 +24,13 @@ pub(crate) struct Lists {
     pub finals: Vec<FinalPair>,
 }
 
-/// Returns the transaction that the event commits, if it is a commit.
-fn commit_of(event: &Event) -> Option<Txn>
-    ensures { result ≡ commit_of (event_of event.now) }
-{
-    match event {
-        Event::Write { .. } => None,
-        Event::Delete { .. } => None,
-        Event::Read { .. } => None,
-        Event::Scan { .. } => None,
-        Event::Commit { txn } => Some(*txn),
-        Event::Abort { .. } => None,
-    }
-}
-
 /// Returns the committed transactions in the order of their commits.
-fn committers(alloc: Global, events: &[Event]) -> Result<IndexSet<Txn>, AllocError>
-    ensures { IfOk result (λ s. s.keys ≡ by_commit (map event_of events.now)) }
+fn committers(alloc: Global, events: &Events) -> Result<IndexSet<Txn>, AllocError>
+    ensures { IfOk result (λ s. s.keys ≡ by_commit (events_of events.now)) }
 {
     let mut committed = IndexSet::new(alloc);
-    'events: for event in events {
-        if let Some(txn) = commit_of(event) {
+    'events: for i in 0..events.len() {
+        if let Some(txn) = events.commit_at(i) {
             committed.insert(txn)?;
         }
     }
@@ -76,16 +62,19 @@ fn put(
 /// Returns the last writes of the committed transactions, by key and by the place of their commit.
 fn lines(
     alloc: Global,
-    events: &[Event],
+    events: &Events,
     committed: &IndexSet<Txn>,
 ) -> Result<BTreeMap<Key, BTreeMap<usize, Entry>>, AllocError>
-    ensures lines { IfOk result (λ m. (q : List ℕ) (r : ℕ) → put_at q r m.entries ≡ write_by (slice_get committed.now.keys r) q (map event_of events.now)) }
+    ensures lines { IfOk result (λ m. (q : List ℕ) (r : ℕ) → put_at q r m.entries ≡ write_by (slice_get committed.now.keys r) q (events_of events.now)) }
     ensures good { IfOk result (λ m. AreLines m.entries) }
     ensures distinct { IsDistinct nat_eq committed.now.keys }
 {
     let _unique = committed.len();
     let mut lines = BTreeMap::new(alloc);
-    'events: for event in events {
+    'events: for i in 0..events.len() {
+        let Some(event) = events.get(i) else {
+            unreachable!()
+        };
         if let Some(entry) = event.written() {
             if let Some(place) = committed.get_index_of(&entry.version.txn) {
                 put(alloc, &mut lines, place, &entry)?;
@@ -164,10 +153,10 @@ fn finals(
 }
 
 /// Returns the version orders and the final values that the events make.
-pub(crate) fn installed(alloc: Global, events: &[Event]) -> Result<Lists, AllocError>
+pub(crate) fn installed(alloc: Global, events: &Events) -> Result<Lists, AllocError>
     ensures shape { IfOk result (λ i. is_shape (map order_of i.orders.items) (map final_of i.finals.items) ≡ true) }
-    ensures orders { IfOk result (λ i. map order_of i.orders.items ≡ orders_of_events (map event_of events.now)) }
-    ensures finals { IfOk result (λ i. map final_of i.finals.items ≡ finals_of_events (map event_of events.now)) }
+    ensures orders { IfOk result (λ i. map order_of i.orders.items ≡ orders_of_events (events_of events.now)) }
+    ensures finals { IfOk result (λ i. map final_of i.finals.items ≡ finals_of_events (events_of events.now)) }
 {
     let committed = committers(alloc, events)?;
     let by_key = lines(alloc, events, &committed)?;

@@ -1,24 +1,26 @@
 //! The recorder: the events so far, with room for the ends of open transactions.
 
-ghost use Rattle.std.specs.Prelude.{◌≡◌, [], ◌∷◌, ◌++◌, ◌+◌, ◌<◌, ◌≤◌, map, OnOk, OnErr, IfOk, IfErr, vec_len, vec_capacity, length, true};
-ghost use Rattle.adya_values.specs.Meaning.Histories.{Abort};
-ghost use Rattle.adya_values.specs.Mirror.Events.{event_of};
+ghost use Rattle.std.specs.Prelude.{◌≡◌, [], ◌∷◌, ◌++◌, ◌+◌, ◌<◌, map, OnOk, OnErr, IfOk, IfErr, length, true};
+ghost use Rattle.adya_values.specs.Meaning.Histories.{Abort, Commit};
+ghost use Rattle.adya_values.specs.Mirror.Events as lists;
+ghost use Rattle.adya_values.specs.Mirror.Events.{event_of, HasRows};
 ghost use Rattle.adya_values.specs.Mirror.Histories.{history_of};
+ghost use Rattle.adya_values.specs.Machinery.Packed.{entry_count};
 ghost use Rattle.adya_values.specs.Computing.Shapes.{numbers_rise};
 ghost use Rattle.adya_values.specs.declared.edition.Edition.TheVariants as Edition;
 ghost use Rattle.ssi_recorder.specs.Meaning.Recorded.{history_of_events};
 
 use crate::installs::installed;
-use adya_values::{Event, History, Txn};
+use adya_values::{Event, Events, History, Txn};
 use std::alloc::{AllocError, Global};
 
 /// The events so far, in the order in which they happened, with a place kept for the end of each open transaction.
 #[derive(Drop)]
 pub struct Recorder {
     alloc: Global,
-    events: Vec<Event>,
+    events: Events,
     places: usize,
-    ghost kept: { vec_len events + places ≤ vec_capacity events },
+    ghost kept: { HasRows events places },
 }
 
 impl Recorder {
@@ -31,7 +33,7 @@ impl Recorder {
     {
         Recorder {
             alloc,
-            events: Vec::new(alloc),
+            events: Events::new(alloc),
             places: 0,
         }
     }
@@ -43,40 +45,49 @@ impl Recorder {
         ensures places { OnOk result (places_of self.new ≡ places_of self.old + 1) }
         ensures err { OnErr result (places_of self.new ≡ places_of self.old) }
     {
-        self.room()?;
+        self.room(0)?;
         self.places += 1;
         Ok(())
     }
 
-    /// Makes room for one event, which the next call of [`Recorder::event`] needs. Returns `AllocError` if memory runs
-    /// out. Either way the events and the kept places are as before.
-    pub fn room(&mut self) -> Result<(), AllocError>
+    /// Makes room for one event that lists up to so many entries, which the next call of [`Recorder::event`] needs. Returns
+    /// `AllocError` if memory runs out. Either way the events and the kept places are as before.
+    pub fn room(&mut self, entries: usize) -> Result<(), AllocError>
         ensures same { IsAsBefore self.old self.new }
-        ensures room { OnOk result (HasRoom self.new) }
+        ensures room { OnOk result (HasRoom self.new entries) }
     {
-        if self.events.capacity() - self.events.len() > self.places {
-            return Ok(());
-        }
-        self.events.reserve(self.places + 1)
+        self.events.reserve(self.places + 1, entries)
     }
 
     /// Records an event in the room that [`Recorder::room`] made. It takes no memory.
-    pub fn event(&mut self, event: Event)
-        requires { HasRoom self.old }
-        ensures events { events_of self.new ≡ events_of self.old ++ event_of event ∷ [] }
+    pub fn event(&mut self, event: &Event)
+        requires { HasRoom self.old (entry_count (event_of event.now)) }
+        ensures events { events_of self.new ≡ events_of self.old ++ event_of event.now ∷ [] }
         ensures places { places_of self.new ≡ places_of self.old }
     {
-        self.events.push_reserved(event);
+        let Ok(()) = self.events.push_owned(event) else {
+            unreachable!()
+        };
     }
 
-    /// Records a commit or an abort in a kept place. It takes no memory.
-    pub fn end(&mut self, end: Event)
+    /// Records the transaction's commit in a kept place. It takes no memory.
+    pub fn commit(&mut self, txn: Txn)
         requires { 0 < places_of self.old }
-        ensures events { events_of self.new ≡ events_of self.old ++ event_of end ∷ [] }
+        ensures events { events_of self.new ≡ events_of self.old ++ Commit txn ∷ [] }
         ensures places { places_of self.new + 1 ≡ places_of self.old }
     {
         self.places -= 1;
-        self.events.push_reserved(end);
+        self.events.commit(txn);
+    }
+
+    /// Records the transaction's abort in a kept place. It takes no memory.
+    pub fn abort(&mut self, txn: Txn)
+        requires { 0 < places_of self.old }
+        ensures events { events_of self.new ≡ events_of self.old ++ Abort txn ∷ [] }
+        ensures places { places_of self.new + 1 ≡ places_of self.old }
+    {
+        self.places -= 1;
+        self.events.abort(txn);
     }
 
     /// Returns the history of the first edition that these events make, with an abort at the end for each of the
@@ -85,11 +96,11 @@ impl Recorder {
         ensures history { IfOk result (λ h. history_of h ≡ history_of_events Edition.One [] (events_of self ++ map Abort open_txns.now)) }
         ensures err { IfErr result (λ e. IsAsBefore self e.0) }
     {
-        let lists = match installed(self.alloc, self.events.as_slice()) {
+        let lists = match installed(self.alloc, &self.events) {
             Ok(lists) => lists,
             Err(e) => return Err((self, e)),
         };
-        if let Err(e) = self.events.reserve(open_txns.len()) {
+        if let Err(e) = self.events.reserve(open_txns.len(), 0) {
             return Err((self, e));
         }
         let events = with_aborts(self.events, open_txns);
@@ -102,8 +113,8 @@ impl Recorder {
         requires { numbers_rise open_txns.now ≡ true }
         ensures { IfOk result (λ h. history_of h ≡ history_of_events Edition.Two open_txns.now (events_of self.now)) }
     {
-        let lists = installed(self.alloc, self.events.as_slice())?;
-        let events = copies(self.alloc, self.events.as_slice())?;
+        let lists = installed(self.alloc, &self.events)?;
+        let events = self.events.copy(self.alloc)?;
         let unfinished = Vec::from_slice(self.alloc, open_txns)?;
         let history = History::new_two(events, unfinished, lists.orders, lists.finals).unwrap();
         Ok(history)
@@ -111,24 +122,12 @@ impl Recorder {
 }
 
 /// Adds an abort for each of the transactions, in reserved room.
-fn with_aborts(mut events: Vec<Event>, open_txns: &[Txn]) -> Vec<Event>
-    requires { vec_len events + length open_txns.now ≤ vec_capacity events }
-    ensures { map event_of result.items ≡ map event_of events.items ++ map Abort open_txns.now }
+fn with_aborts(mut events: Events, open_txns: &[Txn]) -> Events
+    requires { HasRows events (length open_txns.now) }
+    ensures { lists.events_of result ≡ lists.events_of events ++ map Abort open_txns.now }
 {
     'open_txns: for txn in open_txns {
-        events.push_reserved(Event::Abort { txn: *txn });
+        events.abort(*txn);
     }
     events
-}
-
-/// Returns equal events.
-fn copies(alloc: Global, events: &[Event]) -> Result<Vec<Event>, AllocError>
-    ensures { IfOk result (λ v. map event_of v.items ≡ map event_of events.now) }
-{
-    let mut copies = Vec::new(alloc);
-    'events: for event in events {
-        let copy = event.copy(alloc)?;
-        copies.push(copy)?;
-    }
-    Ok(copies)
 }

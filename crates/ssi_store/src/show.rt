@@ -38,13 +38,13 @@ impl<C: Chains + Drop, M: Marks + Drop> Engine<C, M> {
             → IsAt C.held M.marked self.new (Then c m (answer_of result)) }
     {
         laws_below();
-        self.recorder.room()?;
+        self.recorder.room(event.entry_count())?;
         let answer = self.tracker.on_read(txn, low, high)?;
         if let Answer::Unsafe { pivot } = answer {
             self.drop_txn(session, txn);
             return Ok(Reply::Unsafe { pivot });
         }
-        self.recorder.event(event);
+        self.recorder.event(&event);
         count_at(&mut self.sessions, session);
         Ok(reply)
     }
@@ -63,8 +63,8 @@ impl<C: Chains + Drop, M: Marks + Drop> Engine<C, M> {
             → IsAt C.held M.marked self.new (Then c m (answer_of result)) }
     {
         laws_below();
-        self.recorder.room()?;
-        self.recorder.event(event);
+        self.recorder.room(event.entry_count())?;
+        self.recorder.event(&event);
         count_at(&mut self.sessions, session);
         Ok(reply)
     }

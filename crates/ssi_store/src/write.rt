@@ -29,10 +29,10 @@ impl<C: Chains + Drop, M: Marks + Drop> Engine<C, M> {
             return Err(Refusal::Idle);
         };
         open.may_go_on()?;
-        self.recorder.room()?;
+        self.recorder.room(0)?;
         let m = open.write(key, content)?;
         let txn = open.view.txn();
-        self.recorder.event(write_event(txn, key, m, content));
+        self.recorder.event(&write_event(txn, key, m, content));
         Ok(Reply::Done)
     }
 }

@@ -1,9 +1,12 @@
 //! A table by transactions: an array for small numbers, and an ordered map for all others.
 #![tactic(auto)]
 
+mod places;
+
 ghost use Rattle.std.specs.Prelude.{◌≡◌, ◌==◌, ℕ, cond, IfOk, OnOk, OnErr};
 
 use adya_values::Txn;
+pub use places::places_of;
 use std::alloc::{AllocError, Global};
 use std::collections::BTreeMap;
 

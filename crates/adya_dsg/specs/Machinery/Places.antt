@@ -1,13 +1,12 @@
--- What tables of places in a list of transactions mean.
-use Rattle.std.specs.Prelude.{◌≡◌, ℕ, leb, if◌then◌else◌, List, [], length}
-use Rattle.txn_table.specs.declared.TxnTable.{TxnTable}
-use Rattle.txn_table.specs.Mirror.{value_for}
-use Rattle.adya_values.specs.Meaning.Orders.{place}
+-- Tables of the writers of order lines.
+use Rattle.std.specs.Prelude.{◌≡◌, ℕ, Some}
+use Rattle.std.specs.BTreeMap.{BTreeMap, get}
+use Rattle.std.specs.Ordering.{nat_cmp}
+use Rattle.adya_values.specs.Meaning.Histories.{History}
+use Rattle.adya_values.specs.Meaning.Orders.{writers}
+use Rattle.adya_dsg.specs.declared.txn_places.TxnPlaces.{TxnPlaces}
+use Rattle.adya_dsg.specs.Machinery.Choices.{key_at}
 
--- the table has how many transactions of the list come before each
-abbrev pub HasPlaces : TxnTable ℕ → List ℕ → Type 0
-HasPlaces m ts = (t : ℕ) → value_for m t ≡ place ts t
-
--- the writers of a line that is read through to find one aren't in a table
-abbrev pub tabled : List ℕ → List ℕ
-tabled ws = if leb (length ws) 32 then [] else ws
+-- each table is of the writers of its line
+abbrev pub AreTables : History → BTreeMap ℕ TxnPlaces → Type 0
+AreTables h tables = (line : ℕ) (t : TxnPlaces) → get nat_cmp tables line ≡ Some t → t.txns.now ≡ writers h (key_at h line)

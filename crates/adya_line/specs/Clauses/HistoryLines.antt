@@ -3,11 +3,12 @@ use Rattle.std.specs.Prelude.{ℕ}
 use Rattle.adya_values.specs.declared.edition.Edition.{Edition}
 use Rattle.adya_values.specs.Meaning.Keys.{Bytes, IsTxn}
 use Rattle.adya_values.specs.Meaning.Histories.{Event, Order, FinalPair}
-use Rattle.adya_values.specs.Mirror.Events.{event_of, order_of, final_of}
+use Rattle.adya_values.specs.Mirror.Events.{order_of, final_of}
 use Rattle.adya_line.specs.Meaning.Spelling.{head_text, tail, event_text, unfinished_text, order_text, final_text}
 use Rattle.adya_line.specs.Meaning.Limits.{IsEvent, IsOrder, IsFinal}
 use Rattle.adya_line.specs.declared.history_lines.HistoryLine.{HistoryLine as LineValue}
 use Rattle.adya_line.specs.declared.history_lines.HistoryLine.TheVariants as In
+use Rattle.adya_line.specs.Mirror.{view}
 use Rattle.adya_line.specs.Meaning.Lines.{Spells, SpellsNone}
 use Rattle.adya_line.specs.Clauses.OnlyLines.{SpellsOnly}
 
@@ -22,7 +23,7 @@ pub data Line : Type 0 where
 
 abbrev pub line_of : LineValue → Line
 line_of (In.Head e) = HeadLine e
-line_of (In.Event v) = EventLine (event_of v)
+line_of (In.Event v) = EventLine (view v)
 line_of (In.Unfinished t) = UnfinishedLine t
 line_of (In.Order o) = OrderLine (order_of o)
 line_of (In.Final f) = FinalLine (final_of f)

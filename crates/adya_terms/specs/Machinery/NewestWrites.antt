@@ -1,29 +1,16 @@
--- What the map of the keys' newest writes says about the events that it was made of.
-use Rattle.std.specs.Prelude.{◌≡◌, ℕ, Bool, true, ◌||◌, List, Option, option_map}
+-- What the places of the keys' newest writes say about the events that they were made of.
+use Rattle.std.specs.Prelude.{◌≡◌, ℕ, suc, true, List, Some, slice_get}
 use Rattle.std.specs.List.{filter_map, list_any}
-use Rattle.std.specs.HashMap.{get}
-use Rattle.adya_values.specs.declared.event.Entry.{Entry as EntryValue}
-use Rattle.adya_values.specs.declared.event.Version.{Version}
-use Rattle.adya_values.specs.Meaning.Keys.{key_eq}
 use Rattle.adya_values.specs.Meaning.Histories.{Entry, Event}
-use Rattle.adya_values.specs.Mirror.Events.{entry_of}
 use Rattle.adya_values.specs.Meaning.Events.{written}
-use Rattle.adya_values.specs.Computing.Faults.{entry_eq}
+use Rattle.adya_values.specs.Computing.Faults.{entry_eq, is_entry}
 use Rattle.adya_terms.specs.declared.newest_writes.NewestWrites.{NewestWrites}
-use Rattle.adya_terms.specs.declared.tables.Own.{Own}
-use Rattle.adya_terms.specs.Machinery.Tables.{is_there, is_at}
+use Rattle.adya_terms.specs.Machinery.Tables.{written_at}
 
--- the entry is its key's newest write
-abbrev pub is_newest : (List ℕ → Option EntryValue) → Entry → Bool
-is_newest newest o = is_there o (option_map entry_of (newest o.version.key))
+-- what is written at the places was written by the events before
+abbrev pub AreWritten : List ℕ → List Event → List Event → Type 0
+AreWritten places all before =
+    (i p : ℕ) → slice_get places i ≡ Some (suc p) → (o : Entry) → is_entry (written_at all (Some p)) o ≡ true → list_any (entry_eq o) (filter_map written before) ≡ true
 
--- it is there, or where the tables of all writes have it
-abbrev pub is_found : (List ℕ → Option EntryValue) → (Own → Option ℕ) → (Version → Option ℕ) → List Event → Entry → Bool
-is_found newest last replaced all o = is_newest newest o || is_at last replaced all o
-
--- what is newest was written by the events before
-abbrev pub AreWritten : (List ℕ → Option EntryValue) → List Event → Type 0
-AreWritten newest before = (o : Entry) → is_newest newest o ≡ true → list_any (entry_eq o) (filter_map written before) ≡ true
-
-abbrev pub Keeps : NewestWrites → List Event → Type 0
-Keeps n before = AreWritten (get key_eq n.writes) before
+abbrev pub Keeps : NewestWrites → List Event → List Event → Type 0
+Keeps n all before = AreWritten n.places.items all before

@@ -1,96 +1,123 @@
--- What the array says that the check of the order lines makes: the places of writers in the lines of their keys, from 1
--- on, each at the index of the writer's last write of the key in the list of events.
-use Rattle.std.specs.Prelude.{◌≡◌, ℕ, suc, ◌<◌, ◌==◌, Bool, true, false, cond, not, List, [], ◌∷◌, ◌++◌, take, Option, Some, slice_get, slice_index, count_by, Contains, Vec, map}
-use Rattle.std.specs.Global.{Global}
-use Rattle.std.specs.List.{list_all}
-use Rattle.std.specs.BTreeSet.{BTreeSet, contains}
-use Rattle.std.specs.Ordering.{nat_cmp}
-use Rattle.std.specs.Cmp.Lexicographic.{slice_cmp}
-use Rattle.adya_terms.specs.declared.tables.Own.{Own}
+-- What is known of the places of writers in the lines of their keys, when the last writes of committed transactions up to an index
+-- are found. A place holds the index of its writer's last write of the key and 1, or 0 if that isn't found.
+use Rattle.std.specs.Prelude.{◌≡◌, ℕ, zero, suc, ◌<◌, ◌==◌, Bool, true, false, not, ◌&&◌, List, Option, Some, None, length, slice_get, slice_index, replicate, count_by, map, option_map, MatchOption}
+use Rattle.std.specs.List.{list_all, list_any}
+use Rattle.adya_values.specs.declared.order.Order.{Order as OrderValue}
 use Rattle.adya_values.specs.Meaning.Histories.{Event, Order}
-use Rattle.adya_values.specs.Meaning.Events.{last_write}
+use Rattle.adya_values.specs.Meaning.Keys.{Key, key_eq}
+use Rattle.adya_values.specs.Meaning.Events.{is_committed, last_write}
+use Rattle.adya_values.specs.Mirror.Events.{order_of}
 use Rattle.adya_values.specs.Clauses.Rules.{installs}
 use Rattle.adya_values.specs.Computing.Faults.{lists_exactly}
-use Rattle.adya_terms.specs.Machinery.Tables.{own, written_at}
+use Rattle.adya_terms.specs.declared.line_places.LinePlaces.{LinePlaces}
+use Rattle.adya_terms.specs.declared.placing.Placing.{Placing}
+use Rattle.adya_terms.specs.Machinery.Tables.{own, written_at, Own}
+use Rattle.adya_terms.specs.Mirror.LineNumbers.{FindsLines}
 
-abbrev pub line : List ℕ → List ℕ → Order
-line k ts = record { key = k; writers = ts }
-
--- the line lists only committed writers of its key, once each
-abbrev pub lists_once : List Event → Order → Bool
-lists_once all o = list_all (λ t. count_by (λ u. u == t) o.writers == cond (installs all o.key t) 1 0) o.writers
-
--- the place stands at the index of the transaction's last write of the key
-pub record HasPlace (last : Own → Option ℕ) (ps : List ℕ) (t : ℕ) (k : List ℕ) (place : ℕ) : Type 0 where
-  pub at : ℕ
+-- the event at the index is the last write of the key by the transaction, which has committed
+pub record Installs (all : List Event) (last : Own → Option ℕ) (k : List ℕ) (t at : ℕ) : Type 0 where
+  pub committed : is_committed all t ≡ true
   pub last_is : last (own t k) ≡ Some at
-  pub place_is : slice_index ps at ≡ place
 
--- the index is that of the last write of the key by the writer at the place of one of the lines
-pub record IsOfWriter (last : Own → Option ℕ) (os : List Order) (place at : ℕ) : Type 0 where
-  pub order : Order
-  pub there : Contains os order
+-- an index is that of the last write of one key by one transaction alone
+abbrev pub IsInjective : (Own → Option ℕ) → Type 0
+IsInjective last = (t : ℕ) (k : List ℕ) (u : ℕ) (j : List ℕ) (at : ℕ) → last (own t k) ≡ Some at → last (own u j) ≡ Some at → (t ≡ u) × (k ≡ j)
+
+-- the index that a place holds
+abbrev pub held : ℕ → Option ℕ
+held zero = None
+held (suc at) = Some at
+
+-- ---- a line of the key, by its writers and what their places hold
+
+-- the index is that of the last write of the key by the writer at the place, and is before the other one
+pub record IsOfWriter (all : List Event) (last : Own → Option ℕ) (i : ℕ) (k ts : List ℕ) (place at : ℕ) : Type 0 where
+  pub before : at < i
   pub txn : ℕ
-  pub writer_is : slice_get order.writers place ≡ Some txn
-  pub last_is : last (own txn order.key) ≡ Some at
+  pub writer_is : slice_get ts place ≡ Some txn
+  pub installs : Installs all last k txn at
 
--- each writer of the lines has its place
-abbrev pub ArePlaced : (Own → Option ℕ) → List ℕ → List Order → Type 0
-ArePlaced last ps os = (o : Order) → Contains os o → (i t : ℕ) → slice_get o.writers i ≡ Some t → HasPlace last ps t o.key (suc i)
+-- a place of the transaction holds the index
+pub record HasPlace (ts ws : List ℕ) (t at : ℕ) : Type 0 where
+  pub place : ℕ
+  pub writer_is : slice_get ts place ≡ Some t
+  pub holds : slice_index ws place ≡ suc at
 
--- each place is that of a writer of the lines
-abbrev pub ArePlaces : (Own → Option ℕ) → List ℕ → List Order → Type 0
-ArePlaces last ps os = (at i : ℕ) → slice_index ps at ≡ suc i → IsOfWriter last os i at
+-- a committed writer of the key isn't in the line
+pub record Lacks (all : List Event) (last : Own → Option ℕ) (k ts : List ℕ) : Type 0 where
+  pub txn : ℕ
+  pub at : ℕ
+  pub installs : Installs all last k txn at
+  pub missing : count_by (λ u. u == txn) ts ≡ 0
 
--- the array has the places of the writers of the lines, and no others
-pub record Places (last : Own → Option ℕ) (ps : List ℕ) (os : List Order) : Type 0 where
-  pub placed : ArePlaced last ps os
-  pub only : ArePlaces last ps os
+-- the last writes before the index are found
+pub record IsPlaced (all : List Event) (last : Own → Option ℕ) (i : ℕ) (k ts ws : List ℕ) (lacks : Bool) : Type 0 where
+  pub count : length ws ≡ length ts
+  pub filled : (place at : ℕ) → slice_index ws place ≡ suc at → IsOfWriter all last i k ts place at
+  pub once : (p q at : ℕ) → slice_index ws p ≡ suc at → slice_index ws q ≡ suc at → p ≡ q
+  pub placed : (t at : ℕ) → Installs all last k t at → at < i → lacks ≡ false → HasPlace ts ws t at
+  pub lacking : lacks ≡ true → Lacks all last k ts
+
+-- each place holds an index, and no writer is missing
+abbrev pub is_full : List ℕ → Bool → Bool
+is_full ws lacks = not lacks && list_all (λ w. not (w == 0)) ws
+
+-- ---- all lines
+
+-- the writers, what their places hold and whether one is missing
+abbrev pub shape : LinePlaces → List ℕ × List ℕ × Bool
+shape x = (x.writers.txns.now, x.writes.items, x.lacks)
+
+-- before any event
+abbrev pub blank : List ℕ → List ℕ × List ℕ × Bool
+blank ts = (ts, replicate (length ts) 0, false)
+
+pub record IsLine (all : List Event) (last : Own → Option ℕ) (i : ℕ) (o : Order) (x : LinePlaces) : Type 0 where
+  pub writers_are : x.writers.txns.now ≡ o.writers
+  pub placed : IsPlaced all last i o.key o.writers x.writes.items x.lacks
+
+pub record AreLines (all : List Event) (last : Own → Option ℕ) (i : ℕ) (os : List Order) (xs : List LinePlaces) : Type 0 where
+  pub count : length xs ≡ length os
+  pub lines : (l : ℕ) (o : Order) (x : LinePlaces) → slice_get os l ≡ Some o → slice_get xs l ≡ Some x → IsLine all last i o x
+
+abbrev pub has_line : List Order → List ℕ → Bool
+has_line os k = list_any (λ o. key_eq o.key k) os
+
+-- the index of the key's line, or none if it has none
+abbrev pub IsLineOf : Option ℕ → List OrderValue → List ℕ → Type 0
+IsLineOf i os k = MatchOption i (has_line (map order_of os) k ≡ false) (λ j. option_map (λ o. o.key) (slice_get os j) ≡ Some k)
+
+-- a key with a committed writer has no line
+pub record LeavesOut (all : List Event) (last : Own → Option ℕ) (os : List Order) : Type 0 where
+  pub key : List ℕ
+  pub txn : ℕ
+  pub at : ℕ
+  pub installs : Installs all last key txn at
+  pub missing : has_line os key ≡ false
+
+pub record ArePlaced (all : List Event) (last : Own → Option ℕ) (i : ℕ) (ks : List Key) (os : List OrderValue) (x : Placing) : Type 0 where
+  pub finds : FindsLines x.numbers.items ks os (length os)
+  pub lines : AreLines all last i (map order_of os) x.lines.items
+  pub left : x.left_out ≡ true → LeavesOut all last (map order_of os)
+  pub covered : x.left_out ≡ false → (k : List ℕ) (t at : ℕ) → Installs all last k t at → at < i → has_line (map order_of os) k ≡ true
+
+-- those lines are right that are full
+pub record Judges (all : List Event) (os : List Order) (xs : List LinePlaces) : Type 0 where
+  pub count : length xs ≡ length os
+  pub exact : (l : ℕ) (o : Order) (x : LinePlaces) → slice_get os l ≡ Some o → slice_get xs l ≡ Some x
+      → lists_exactly (installs all o.key) o.writers all ≡ is_full x.writes.items x.lacks
+
+-- ---- what the lines hold in the end
 
 -- the indices of the last writes of the key by the writers of its line
 abbrev pub line_writes : (Own → Option ℕ) → Order → List (Option ℕ)
 line_writes last o = map (λ t. last (own t o.key)) o.writers
 
--- the lists are those indices of the lines
-abbrev pub AreWrites : (Own → Option ℕ) → List (Vec ℕ Global) → List Order → Type 0
-AreWrites last ws os = map (λ v. map Some v.items) ws ≡ map (line_writes last) os
+-- the places of the lines hold those indices
+abbrev pub AreWrites : (Own → Option ℕ) → List LinePlaces → List Order → Type 0
+AreWrites last xs os = map (λ x. map held x.writes.items) xs ≡ map (line_writes last) os
 
--- the indices are those of events that wrote what the lines name
-abbrev pub AreInstalled : List Event → List (Vec ℕ Global) → List Order → Type 0
-AreInstalled all ws os =
-    map (λ v. map (λ at. written_at all (Some at)) v.items) ws ≡ map (λ o. map (λ t. last_write t o.key all) o.writers) os
-
--- after one more line that was placed whole, or in part
-abbrev pub AfterLine : List Event → (Own → Option ℕ) → List ℕ → List Order → Order → Bool → Type 0
-AfterLine all last ps os o true = (lists_once all o ≡ true) × Places last ps (os ++ o ∷ [])
-AfterLine all last ps os o false = (lists_once all o ≡ false) × ArePlaced last ps os × ArePlaces last ps (os ++ o ∷ [])
-
--- after the lines before the index, and a part of the line at it
-pub record AfterLines (all : List Event) (last : Own → Option ℕ) (ps : List ℕ) (os : List Order) (n : ℕ) : Type 0 where
-  pub once : (o : Order) → Contains (take n os) o → lists_once all o ≡ true
-  pub not_once : (o : Order) → slice_get os n ≡ Some o → lists_once all o ≡ false
-  pub placed : ArePlaced last ps (take n os)
-  pub only : ArePlaces last ps os
-
--- the index is that of the last write of the key by the transaction, which is committed, and no place stands there
-pub record IsLeft (all : List Event) (last : Own → Option ℕ) (ps : List ℕ) (k : List ℕ) (t at : ℕ) : Type 0 where
-  pub installs_is : installs all k t ≡ true
-  pub last_is : last (own t k) ≡ Some at
-  pub place_is : slice_index ps at ≡ 0
-
--- the key has such a last write
-pub record HasLeft (all : List Event) (last : Own → Option ℕ) (ps : List ℕ) (k : List ℕ) : Type 0 where
-  pub txn : ℕ
-  pub at : ℕ
-  pub left : IsLeft all last ps k txn at
-
--- the set has the keys that have such a last write
-pub record Leaves (all : List Event) (last : Own → Option ℕ) (ps : List ℕ) (s : BTreeSet (List ℕ)) : Type 0 where
-  pub from : (k : List ℕ) → contains (slice_cmp nat_cmp) s k ≡ true → HasLeft all last ps k
-  pub has : (k : List ℕ) → HasLeft all last ps k → contains (slice_cmp nat_cmp) s k ≡ true
-
--- of the lines before the index those are wrong whose key the set has, and the line at the index is wrong
-pub record Judges (all : List Event) (os : List Order) (s : BTreeSet (List ℕ)) (n : ℕ) : Type 0 where
-  pub before : (i : ℕ) (o : Order) → i < n → slice_get os i ≡ Some o
-      → lists_exactly (installs all o.key) o.writers all ≡ not (contains (slice_cmp nat_cmp) s o.key)
-  pub wrong : (o : Order) → slice_get os n ≡ Some o → lists_exactly (installs all o.key) o.writers all ≡ false
+-- the places hold the indices of events that wrote what the lines name
+abbrev pub AreInstalled : List Event → List LinePlaces → List Order → Type 0
+AreInstalled all xs os =
+    map (λ x. map (λ above. written_at all (held above)) x.writes.items) xs ≡ map (λ o. map (λ t. last_write t o.key all) o.writers) os

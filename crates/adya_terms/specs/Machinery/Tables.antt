@@ -1,15 +1,19 @@
 -- What the tables of the check say about the events that they were made of.
-use Rattle.std.specs.Prelude.{◌≡◌, ℕ, ◌<◌, ◌==◌, Bool, false, ◌&&◌, ◌||◌, cond, List, length, Option, Some, None, is_some, IsSome, slice_get}
+use Rattle.std.specs.Prelude.{◌≡◌, ℕ, ◌<◌, ◌==◌, Bool, false, ◌&&◌, ◌||◌, cond, List, length, Option, Some, None, is_some, IsSome, option_and_then, slice_get}
 use Rattle.std.specs.List.{filter_map, list_any}
 use Rattle.txn_table.specs.declared.TxnTable.{TxnTable}
 use Rattle.txn_table.specs.Mirror.{value_for}
 use Rattle.adya_values.specs.declared.event.Version.{Version}
 use Rattle.adya_terms.specs.declared.tables.Ended.{Ended}
-use Rattle.adya_terms.specs.declared.tables.Own.{Own}
 use Rattle.adya_values.specs.Meaning.Histories.{Entry, Event}
 use Rattle.adya_values.specs.Meaning.Events.{written, writes_of, last_write, is_committed, aborts}
 use Rattle.adya_values.specs.Meaning.Keys.{key_eq}
 use Rattle.adya_values.specs.Computing.Faults.{version_eq, entry_eq}
+
+-- a transaction and a key
+pub record Own : Type 0 where
+  pub txn : ℕ
+  pub key : List ℕ
 
 abbrev pub own : ℕ → List ℕ → Own
 own t k = record { txn = t; key = k }
@@ -18,8 +22,7 @@ abbrev pub own_eq : Own → Own → Bool
 own_eq a b = (a.txn == b.txn) && key_eq a.key b.key
 
 abbrev pub written_by : Option Event → Option Entry
-written_by None = None
-written_by (Some e) = written e
+written_by e = option_and_then written e
 
 -- what the event at the place writes
 abbrev pub written_at : List Event → Option ℕ → Option Entry

@@ -1,7 +1,7 @@
 -- What a draft of a history holds of the lines so far.
 use Rattle.std.specs.Prelude.{◌≡◌, ℕ, ◌+◌, List, length, map, Option, Some, None}
 use Rattle.adya_values.specs.Meaning.Histories.{History}
-use Rattle.adya_values.specs.Mirror.Events.{event_of, order_of, final_of}
+use Rattle.adya_values.specs.Mirror.Events.{events_of, order_of, final_of}
 use Rattle.adya_text.specs.Computing.Runs.{HasRun}
 use Rattle.adya_line.specs.Clauses.HistoryLines.{Line}
 use Rattle.adya_text.specs.Computing.HistoryRuns.{history_machine, stage_after, with_line}
@@ -29,7 +29,7 @@ next_line s h = line_after s + (length h.events + (length h.unfinished + (length
 abbrev pub held : HistoryDraft → History
 held d = record {
   edition = d.edition;
-  events = map event_of d.events.items;
+  events = events_of d.events;
   unfinished = d.unfinished.items;
   orders = map order_of d.orders.items;
   finals = map final_of d.finals.items;

@@ -1,19 +1,18 @@
 -- What a history and a certificate of the code hold: the plain history, and each list.
 use Rattle.std.specs.Prelude.{List, map}
 use Rattle.adya_values.specs.declared.edition.Edition.{Edition}
-use Rattle.adya_values.specs.declared.event.Event.{Event as EventValue}
 use Rattle.adya_values.specs.declared.order.Order.{Order as OrderValue}
 use Rattle.adya_values.specs.declared.order.FinalPair.{FinalPair as FinalValue}
 use Rattle.adya_values.specs.declared.history.History.{History as HistoryValue}
 use Rattle.adya_values.specs.declared.serial.Serial.{Serial as SerialValue}
 use Rattle.adya_values.specs.Meaning.Histories.{Txns, History}
-use Rattle.adya_values.specs.Mirror.Events.{event_of, order_of, final_of}
+use Rattle.adya_values.specs.Mirror.Events.{events_of, order_of, final_of}
 
 -- the plain history
 abbrev pub history_of : HistoryValue → History
 history_of h = record {
   edition = h.edition;
-  events = map event_of h.events.items;
+  events = events_of h.events;
   unfinished = h.unfinished.items;
   orders = map order_of h.orders.items;
   finals = map final_of h.finals.items;
@@ -21,9 +20,6 @@ history_of h = record {
 
 abbrev pub edition_in : HistoryValue → Edition
 edition_in h = h.edition
-
-abbrev pub events_in : HistoryValue → List EventValue
-events_in h = h.events.items
 
 abbrev pub unfinished_in : HistoryValue → Txns
 unfinished_in h = h.unfinished.items

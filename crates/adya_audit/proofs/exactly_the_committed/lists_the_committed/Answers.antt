@@ -1,8 +1,6 @@
-use Rattle.std.proofs.Common.{◌&&◌, ℕ, map, sym, ◌∙◌, ap, nat_cmp}
+use Rattle.std.proofs.Common.{◌&&◌, ℕ, sym, ◌∙◌, ap, nat_cmp}
 use Rattle.std.specs.List.{list_all}
 use Rattle.std.specs.BTreeSet.{contains}
-use Rattle.std.proofs.lemmas.List.Folds.{list_all-map}
-use Rattle.adya_values.specs.Mirror.Events.{event_of}
 use Rattle.adya_values.specs.Mirror.Histories.{history_of}
 use Rattle.adya_audit.specs.Machinery.ExactlyTheCommitted.{commit_passes}
 use Rattle.adya_audit.proofs.ExactlyTheCommitted.{twice_fails, lists_by_set}
@@ -20,12 +18,11 @@ returns c =
     let h = history_of c.args.checked.now.history.now in
     let listed = λ (t : ℕ). contains nat_cmp c.in-Some.listed t in
     let all = lists_by_set h.events c.args.txns.now listed (rw c.in-Some.is at c.in_ok-listed.ensures) in
-    let events = c.events-events.ensures ∙ ap (λ x. x.events.items) c.history.ensures.same in
+    let events = c.events-events.ensures ∙ ap (λ x. (history_of x).events) c.history.ensures.same in
     let rest = list_all (commit_passes listed) h.events in
     elim c.if-all_committed.branch [
       | then-all_committed w ↦
-          w.result-is ∙ w.all_listed.ensures ∙ sym (list_all-map (commit_passes listed) event_of c.events-events.result.now)
-          ∙ ap (λ es. list_all (commit_passes listed) (map event_of es)) events
+          w.result-is ∙ w.all_listed.ensures ∙ ap (λ es. list_all (commit_passes listed) es) events
           ∙ ap (λ b. b && rest) (sym w.if-all_committed.true ∙ c.all_committed.ensures) ∙ all
       | else-all_committed w ↦
           w.result-is ∙ w.if-all_committed.false

@@ -28,7 +28,7 @@ loop-part-preserved c a =
     ]
 
 -- once the loop has ended
-all_there : (c : goal.After-drop-edges-2) → (a : Arc)
+all_there : (c : goal.After-drop-selector-3) → (a : Arc)
     → Contains c.loop-part.arcs.items a ↔ Contains (map ends (dependencies (ordered_history c.args.versions.now))) a
 all_there c a =
     let n = c.count_parts-part-end.ensures in

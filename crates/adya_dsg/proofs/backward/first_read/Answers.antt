@@ -1,12 +1,13 @@
-use Rattle.std.proofs.Common.{◌+◌, map, option_map, drop, filter, flat_map, sym, ◌∙◌, ap}
+use Rattle.std.proofs.Common.{◌<◌, ◌+◌, option_map, drop, filter, flat_map, sym, ◌∙◌, ap, subst}
 use Rattle.std.specs.List.{find}
 use Rattle.adya_values.specs.Meaning.Histories.{Event}
-use Rattle.adya_values.specs.Mirror.Events.{event_of}
 use Rattle.adya_values.specs.Meaning.Events.{txn_of, is_committed}
 use Rattle.adya_values.specs.Computing.EdgeList.{event_edges}
 use Rattle.adya_dsg.specs.Machinery.VersionOrders.{ordered_history}
 use Rattle.adya_dsg.specs.Mirror.{edge_of}
+use Rattle.adya_dsg.specs.Machinery.Choices.{event_at}
 use Rattle.adya_dsg.specs.Machinery.PartEdges.{is_backward}
+use Rattle.adya_dsg.proofs.EventsAt.{found_at}
 use Rattle.adya_dsg.proofs.FlatMaps.{from_kept, from_left_out, found_in_front, none_in_front}
 use Rattle.adya_dsg.proofs.backward.first_read.Goals as goal
 use Rattle.adya_dsg.proofs.backward.first_read.Goals.{then-is_committed+in_ok-found+in_default, else-is_committed}
@@ -14,36 +15,33 @@ use Rattle.adya_dsg.proofs.backward.first_read.Goals.{then-is_committed+in_ok-fo
 pub returns-in-Some : goal.returns-in-Some
 returns-in-Some c =
     let h = ordered_history c.args.versions.now in
-    let events = c.events-events.result.now in
-    let i = c.loop-event.event-index in
-    let e = c.event-item.result in
+    let i = c.loop-event.event in
+    let e = event_at h i in
+    let found = found_at h.events i (subst (λ n. i < n) c.event_count-event-end.ensures c.loop-event-test.true) in
     let keep = λ (x : Event). is_committed h.events (txn_of x) in
     sym (c.loop-event.invariant ∙
     found_in_front (is_backward c.args.certificate.now.txns.now)
-    (flat_map (event_edges h) (filter keep (map event_of (drop i events)))) (event_edges h (event_of e))
-    (flat_map (event_edges h) (filter keep (map event_of (drop (i + 1) events)))) (edge_of c.in-Some.found)
-    (from_kept (event_edges h) event_of events i e c.loop-event-test.true c.event-item.is keep
-    (sym c.is_committed.ensures ∙ c.if-is_committed.true))
+    (flat_map (event_edges h) (filter keep (drop i h.events))) (event_edges h e)
+    (flat_map (event_edges h) (filter keep (drop (i + 1) h.events))) (edge_of c.in-Some.found)
+    (from_kept (event_edges h) h.events i e found keep (sym c.is_committed.ensures ∙ c.if-is_committed.true))
     (sym c.in_ok-found.ensures ∙ ap (option_map edge_of) c.in-Some.is))
 
 pub loop-event-preserved : goal.loop-event-preserved
 loop-event-preserved c =
     let h = ordered_history c.args.versions.now in
     let p = is_backward c.args.certificate.now.txns.now in
-    let events = c.events-events.result.now in
-    let i = c.loop-event.event-index in
-    let e = c.event-item.result in
+    let i = c.loop-event.event in
+    let e = event_at h i in
+    let found = found_at h.events i (subst (λ n. i < n) c.event_count-event-end.ensures c.loop-event-test.true) in
     let keep = λ (x : Event). is_committed h.events (txn_of x) in
     c.loop-event.invariant ∙
     elim c.if-is_committed.branch [
       | then-is_committed+in_ok-found+in_default w ↦
-          none_in_front p (flat_map (event_edges h) (filter keep (map event_of (drop i events))))
-          (event_edges h (event_of e)) (flat_map (event_edges h) (filter keep (map event_of (drop (i + 1) events))))
-          (from_kept (event_edges h) event_of events i e c.loop-event-test.true c.event-item.is keep
-          (sym c.is_committed.ensures ∙ w.if-is_committed.true))
+          none_in_front p (flat_map (event_edges h) (filter keep (drop i h.events)))
+          (event_edges h e) (flat_map (event_edges h) (filter keep (drop (i + 1) h.events)))
+          (from_kept (event_edges h) h.events i e found keep (sym c.is_committed.ensures ∙ w.if-is_committed.true))
           (sym w.in_ok-found.ensures ∙ ap (option_map edge_of) w.in_default.is)
       | else-is_committed w ↦
           ap (find p)
-          (from_left_out (event_edges h) event_of events i e c.loop-event-test.true c.event-item.is keep
-          (sym c.is_committed.ensures ∙ w.if-is_committed.false))
+          (from_left_out (event_edges h) h.events i e found keep (sym c.is_committed.ensures ∙ w.if-is_committed.false))
     ]

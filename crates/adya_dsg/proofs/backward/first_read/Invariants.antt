@@ -1,6 +1,5 @@
-use Rattle.std.proofs.Common.{◌≡◌, map, drop, filter, flat_map}
+use Rattle.std.proofs.Common.{◌≡◌, drop, filter, flat_map}
 use Rattle.std.specs.List.{find}
-use Rattle.adya_values.specs.Mirror.Events.{event_of}
 use Rattle.adya_values.specs.Meaning.Events.{txn_of, is_committed}
 use Rattle.adya_values.specs.Computing.EdgeList.{event_edges}
 use Rattle.adya_dsg.specs.Machinery.VersionOrders.{ordered_history}
@@ -13,4 +12,4 @@ invariant-loop-event l =
     find (is_backward l.certificate.txns.now)
     (flat_map (event_edges h) (filter (λ e. is_committed h.events (txn_of e)) h.events))
     ≡ find (is_backward l.certificate.txns.now)
-    (flat_map (event_edges h) (filter (λ e. is_committed h.events (txn_of e)) (map event_of (drop l.event-index l.events))))
+    (flat_map (event_edges h) (filter (λ e. is_committed h.events (txn_of e)) (drop l.event h.events)))

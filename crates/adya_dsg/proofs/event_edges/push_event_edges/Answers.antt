@@ -1,9 +1,8 @@
 use Rattle.std.proofs.Common.{◌<◌, ◌+◌, ◌++◌, List, map, drop, flat_map, length, get_or, sym, ◌∙◌, ap, subst}
-use Rattle.adya_values.specs.Mirror.Events.{event_of}
 use Rattle.adya_dsg.specs.Machinery.VersionOrders.{ordered_history, order_lines}
 use Rattle.adya_dsg.specs.declared.selection.Selection.{Selection}
 use Rattle.adya_dsg.specs.Mirror.{edge_of}
-use Rattle.adya_dsg.specs.Machinery.Choices.{choice_of}
+use Rattle.adya_dsg.specs.Machinery.Choices.{choice_of, event_at}
 use Rattle.adya_dsg.specs.Machinery.PartEdges.{choice_edges}
 use Rattle.lemmas.proofs.Steps.{flat_map_step}
 use Rattle.adya_dsg.proofs.FlatMaps.{drop_at}
@@ -13,26 +12,26 @@ use Rattle.adya_dsg.proofs.event_edges.push_event_edges.Goals as goal
 pub loop-at-init : goal.loop-at-init
 loop-at-init c =
     let h = ordered_history c.args.versions.now in
-    let e = event_of c.args.event.now in
+    let e = event_at h c.args.event in
     let old = map edge_of c.args.edges.now.items in
-    ap (λ zs. old ++ flat_map (choice_edges h e) (map (choice_of h) zs)) c.deref-at-items.ensures.value ∙
-    (ap (λ cs. old ++ flat_map (choice_edges h e) cs) c.in_ok-selections.ensures.choices ∙
+    ap (λ zs. old ++ flat_map (choice_edges h e) (map (choice_of h) zs)) c.as_slice-at-items.ensures.value ∙
+    (ap (λ cs. old ++ flat_map (choice_edges h e) cs) c.in_ok-select.ensures.choices ∙
     ap (λ es. old ++ es) (sym (event_edges_are h e)))
 
-pub push_edges_at-requires : goal.push_edges_at-requires
-push_edges_at-requires c =
+pub push_edges_at-requires-clause-within : goal.push_edges_at-requires-clause-within
+push_edges_at-requires-clause-within c =
     let i = c.loop-at.at-index in
     let os = order_lines c.args.versions.now in
     let none : Selection = record { line = 0; place = 0 } in
-    subst (λ (zs : List Selection). (get_or zs i none).line < length os) (sym c.deref-at-items.ensures.value)
-    (c.in_ok-selections.ensures.within i none
-    (subst (λ (zs : List Selection). i < length zs) c.deref-at-items.ensures.value c.loop-at-test.true))
+    subst (λ (zs : List Selection). (get_or zs i none).line < length os) (sym c.as_slice-at-items.ensures.value)
+    (c.in_ok-select.ensures.within i none
+    (subst (λ (zs : List Selection). i < length zs) c.as_slice-at-items.ensures.value c.loop-at-test.true))
 
 pub loop-at-preserved : goal.loop-at-preserved
 loop-at-preserved c =
     let h = ordered_history c.args.versions.now in
-    let e = event_of c.args.event.now in
-    let ss = c.deref-at-items.result.now in
+    let e = event_at h c.args.event in
+    let ss = c.as_slice-at-items.result.now in
     let i = c.loop-at.at-index in
     let s = get_or ss i (record { line = 0; place = 0 }) in
     let rest = map (choice_of h) (drop (i + 1) ss) in

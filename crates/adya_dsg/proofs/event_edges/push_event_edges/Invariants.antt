@@ -1,15 +1,14 @@
 use Rattle.std.proofs.Common.{◌≡◌, ◌++◌, map, drop, flat_map}
-use Rattle.adya_values.specs.Mirror.Events.{event_of}
 use Rattle.adya_values.specs.Computing.EdgeList.{event_edges}
 use Rattle.adya_dsg.specs.Machinery.VersionOrders.{ordered_history}
 use Rattle.adya_dsg.specs.Mirror.{edge_of}
-use Rattle.adya_dsg.specs.Machinery.Choices.{choice_of}
+use Rattle.adya_dsg.specs.Machinery.Choices.{choice_of, event_at}
 use Rattle.adya_dsg.specs.Machinery.PartEdges.{choice_edges}
 use Rattle.adya_dsg.proofs.event_edges.push_event_edges.Given as goal
 
 abbrev pub invariant-loop-at : goal.invariant-loop-at
 invariant-loop-at l =
     let h = ordered_history l.versions in
-    let e = event_of l.event in
+    let e = event_at h l.event in
     map edge_of l.edges.items ++ flat_map (choice_edges h e) (map (choice_of h) (drop l.at-index l.at-items)) ≡
     map edge_of l.fn.edges.items ++ event_edges h e

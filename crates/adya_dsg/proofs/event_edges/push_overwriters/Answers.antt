@@ -1,6 +1,5 @@
 use Rattle.std.proofs.Common.{◌+◌, ◌++◌, ℕ, suc, Vec, Global, Some, map, drop, filter, flat_map, get_or, slice_get, nat_lt, sym, ◌∙◌, ap, append_assoc, add-one}
 use Rattle.std.proofs.lemmas.Bool.{lt-ltb, le-ltb}
-use Rattle.adya_values.specs.Mirror.Events.{event_of}
 use Rattle.adya_values.specs.Meaning.Events.{txn_of}
 use Rattle.adya_values.specs.Meaning.Orders.{installer}
 use Rattle.adya_values.specs.Meaning.Edges.{Rw}
@@ -8,7 +7,7 @@ use Rattle.adya_values.specs.Computing.EdgeList.{joined}
 use Rattle.adya_dsg.specs.Machinery.VersionOrders.{ordered_history}
 use Rattle.adya_dsg.specs.declared.edge.Edge.{Edge as EdgeValue}
 use Rattle.adya_dsg.specs.Mirror.{edge_of}
-use Rattle.adya_dsg.specs.Machinery.Choices.{key_at}
+use Rattle.adya_dsg.specs.Machinery.Choices.{event_at, key_at}
 use Rattle.adya_dsg.proofs.FlatMaps.{kept_step, passed_step, at_end, drop_at}
 use Rattle.adya_dsg.proofs.Numbers.{got}
 use Rattle.adya_dsg.proofs.ChoiceEdges.{overwrite_edges_visible, overwrite_edges_hidden}
@@ -46,7 +45,7 @@ loop-place-preserved c =
 pub returns : goal.returns
 returns c =
     let h = ordered_history c.args.versions.now in
-    let e = event_of c.args.event.now in
+    let e = event_at h c.args.event in
     let k = key_at h c.args.at.line in
     let p = c.args.at.place in
     let t = c.txn-txn.result in

@@ -1,14 +1,13 @@
 use Rattle.std.proofs.Common.{◌≡◌, ◌+◌, ◌++◌, ℕ, Vec, Global, Some, map, drop, filter, flat_map, get_or, nat_lt, sym, ◌∙◌, ap, append_assoc}
 use Rattle.std.proofs.lemmas.Bool.{lt-ltb, le-ltb}
 use Rattle.std.proofs.lemmas.Result.{on_ok_weaker}
-use Rattle.adya_values.specs.Mirror.Events.{event_of}
 use Rattle.adya_values.specs.Meaning.Orders.{installer}
 use Rattle.adya_values.specs.Meaning.Edges.{Wr}
 use Rattle.adya_values.specs.Computing.EdgeList.{joined, read_edges}
 use Rattle.adya_dsg.specs.Machinery.VersionOrders.{ordered_history}
 use Rattle.adya_dsg.specs.declared.edge.Edge.{Edge as EdgeValue}
 use Rattle.adya_dsg.specs.Mirror.{edge_of}
-use Rattle.adya_dsg.specs.Machinery.Choices.{key_at}
+use Rattle.adya_dsg.specs.Machinery.Choices.{event_at, key_at}
 use Rattle.adya_dsg.specs.Machinery.Links.{changed_places}
 use Rattle.adya_dsg.proofs.FlatMaps.{kept_step, passed_step, at_end, drop_at}
 use Rattle.adya_dsg.proofs.ChoiceEdges.{read_edges_are}
@@ -44,7 +43,7 @@ loop-place-preserved c =
 pub returns : goal.returns
 returns c =
     let h = ordered_history c.args.versions.now in
-    let e = event_of c.args.event.now in
+    let e = event_at h c.args.event in
     let k = key_at h c.args.at.line in
     let p = c.args.at.place in
     let t = c.txn-txn.result in

@@ -1,10 +1,9 @@
 use Rattle.std.proofs.Common.{◌≡◌, ◌&&◌, not, false, slice_get, sym, ◌∙◌, ap}
 use Rattle.std.proofs.lemmas.Bool.{and_left, and_right}
-use Rattle.adya_values.specs.Mirror.Events.{event_of}
 use Rattle.adya_values.specs.Meaning.Orders.{is_visible_at}
 use Rattle.adya_values.specs.Meaning.Selections.{is_scan}
 use Rattle.adya_dsg.specs.Machinery.VersionOrders.{ordered_history}
-use Rattle.adya_dsg.specs.Machinery.Choices.{key_at}
+use Rattle.adya_dsg.specs.Machinery.Choices.{event_at, key_at}
 use Rattle.adya_dsg.specs.Machinery.Links.{installer_at}
 use Rattle.adya_dsg.proofs.Numbers.{got}
 use Rattle.adya_dsg.proofs.ChoiceEdges.{overwriter_hidden, overwriter_next}
@@ -14,7 +13,7 @@ use Rattle.adya_dsg.proofs.event_links.overwriter.Goals.{else-is_scan-via-then-i
 pub returns-in_err-place : goal.returns-in_err-place
 returns-in_err-place c =
     let h = ordered_history c.args.versions.now in
-    let e = event_of c.args.event.now in
+    let e = event_at h c.args.event in
     let k = key_at h c.args.at.line in
     let p = c.args.at.place in
     let scan = sym c.is_scan.ensures ∙ c.if-is_scan.true in
@@ -25,7 +24,7 @@ returns-in_err-place c =
 pub returns-then-not-is_visible : goal.returns-then-not-is_visible
 returns-then-not-is_visible c =
     let h = ordered_history c.args.versions.now in
-    let e = event_of c.args.event.now in
+    let e = event_at h c.args.event in
     let k = key_at h c.args.at.line in
     let p = c.args.at.place in
     let scan = sym c.is_scan.ensures ∙ c.if-is_scan.true in
@@ -36,7 +35,7 @@ returns-then-not-is_visible c =
 pub returns : goal.returns
 returns c =
     let h = ordered_history c.args.versions.now in
-    let e = event_of c.args.event.now in
+    let e = event_at h c.args.event in
     let k = key_at h c.args.at.line in
     let p = c.args.at.place in
     let test : (is_scan e && not (is_visible_at h k p)) ≡ false =

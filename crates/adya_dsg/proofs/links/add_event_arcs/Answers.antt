@@ -1,12 +1,13 @@
-use Rattle.std.proofs.Common.{◌+◌, ◌++◌, List, Vec, Global, map, drop, filter, flat_map, sym, ◌∙◌, ap}
+use Rattle.std.proofs.Common.{◌<◌, ◌+◌, ◌++◌, List, Vec, Global, map, drop, filter, flat_map, sym, ◌∙◌, ap, subst}
 use Rattle.adya_values.specs.Meaning.Histories.{Event}
-use Rattle.adya_values.specs.Mirror.Events.{event_of}
 use Rattle.adya_values.specs.Meaning.Events.{txn_of, is_committed}
 use Rattle.digraph.specs.declared.arc.Arc.{Arc}
 use Rattle.adya_dsg.specs.Machinery.VersionOrders.{ordered_history}
 use Rattle.adya_dsg.specs.Mirror.{edge_of}
 use Rattle.adya_dsg.specs.Machinery.Arcs.{ends}
+use Rattle.adya_dsg.specs.Machinery.Choices.{event_at}
 use Rattle.adya_dsg.specs.Machinery.Links.{event_links}
+use Rattle.adya_dsg.proofs.EventsAt.{found_at}
 use Rattle.adya_dsg.proofs.FlatMaps.{from_kept, from_left_out, added_front}
 use Rattle.adya_dsg.proofs.links.add_event_arcs.Goals as goal
 use Rattle.adya_dsg.proofs.links.add_event_arcs.Goals.{then-is_committed+in_ok-push_event_links+in_ok-add_arcs, else-is_committed}
@@ -14,29 +15,27 @@ use Rattle.adya_dsg.proofs.links.add_event_arcs.Goals.{then-is_committed+in_ok-p
 pub loop-event-preserved : goal.loop-event-preserved
 loop-event-preserved c =
     let h = ordered_history c.args.versions.now in
-    let events = c.events-events.result.now in
-    let i = c.loop-event.event-index in
-    let e = c.event-item.result in
+    let i = c.loop-event.event in
+    let e = event_at h i in
+    let found = found_at h.events i (subst (λ n. i < n) c.event_count-event-end.ensures c.loop-event-test.true) in
     let keep = λ (x : Event). is_committed h.events (txn_of x) in
-    let here = flat_map (event_links h) (filter keep (map event_of (drop i events))) in
-    let rest = flat_map (event_links h) (filter keep (map event_of (drop (i + 1) events))) in
+    let here = flat_map (event_links h) (filter keep (drop i h.events)) in
+    let rest = flat_map (event_links h) (filter keep (drop (i + 1) h.events)) in
     let done = c.loop-event.arcs.items in
     elim c.if-is_committed.branch [
       | then-is_committed+in_ok-push_event_links+in_ok-add_arcs w ↦
           let given = ap (map edge_of) w.deref.ensures.value ∙
           (w.in_ok-push_event_links.ensures ∙
-          ap (λ es. map edge_of es ++ event_links h (event_of e)) w.clear.ensures.items) in
+          ap (λ es. map edge_of es ++ event_links h e) w.clear.ensures.items) in
           ap (λ (v : Vec Arc Global). v.items ++ map ends rest) w.arcs-is ∙
           (ap (λ (zs : List Arc). zs ++ map ends rest)
           (w.in_ok-add_arcs.ensures ∙ ap (λ es. done ++ map ends es) given) ∙
-          added_front ends done _ here (event_links h (event_of e)) rest
-          (from_kept (event_links h) event_of events i e c.loop-event-test.true c.event-item.is keep
-          (sym c.is_committed.ensures ∙ w.if-is_committed.true))
+          added_front ends done _ here (event_links h e) rest
+          (from_kept (event_links h) h.events i e found keep (sym c.is_committed.ensures ∙ w.if-is_committed.true))
           c.loop-event.invariant)
       | else-is_committed w ↦
           ap (λ (v : Vec Arc Global). v.items ++ map ends rest) w.arcs-is ∙
           (ap (λ es. done ++ map ends es)
-          (sym (from_left_out (event_links h) event_of events i e c.loop-event-test.true c.event-item.is keep
-          (sym c.is_committed.ensures ∙ w.if-is_committed.false))) ∙
+          (sym (from_left_out (event_links h) h.events i e found keep (sym c.is_committed.ensures ∙ w.if-is_committed.false))) ∙
           c.loop-event.invariant)
     ]

@@ -1,5 +1,4 @@
 use Rattle.std.proofs.Common.{◌≡◌, ◌++◌, map, drop, filter, flat_map}
-use Rattle.adya_values.specs.Mirror.Events.{event_of}
 use Rattle.adya_values.specs.Meaning.Events.{txn_of, is_committed}
 use Rattle.adya_dsg.specs.Machinery.VersionOrders.{ordered_history}
 use Rattle.adya_dsg.specs.Machinery.Arcs.{ends}
@@ -10,5 +9,5 @@ abbrev pub invariant-loop-event : goal.invariant-loop-event
 invariant-loop-event l =
     let h = ordered_history l.versions in
     l.arcs.items ++ map ends
-    (flat_map (event_links h) (filter (λ e. is_committed h.events (txn_of e)) (map event_of (drop l.event-index l.events))))
+    (flat_map (event_links h) (filter (λ e. is_committed h.events (txn_of e)) (drop l.event h.events)))
     ≡ l.fn.arcs.items ++ map ends (flat_map (event_links h) (filter (λ e. is_committed h.events (txn_of e)) h.events))

@@ -2,11 +2,11 @@ use Rattle.std.proofs.Common.{◌≡◌, ◌++◌, true, List, map, OnOk, append
 use Rattle.adya_values.specs.declared.order.Order.{Order as OrderValue}
 use Rattle.adya_values.specs.Meaning.Keys.{keys_rise}
 use Rattle.adya_values.specs.Meaning.Histories.{Order}
-use Rattle.adya_values.specs.Mirror.Events.{event_of, order_of}
+use Rattle.adya_values.specs.Mirror.Events.{order_of}
 use Rattle.adya_values.specs.Meaning.Edges.{Edge}
 use Rattle.adya_dsg.specs.Machinery.VersionOrders.{ordered_history}
 use Rattle.adya_dsg.specs.Mirror.{edge_of}
-use Rattle.adya_dsg.proofs.Parts.{of_line, occurs, of_committed, of_other}
+use Rattle.adya_dsg.proofs.Parts.{of_line, of_committed, of_other}
 use Rattle.adya_dsg.proofs.part_edges.push_part_edges.Goals as goal
 
 pub returns-then-part-orders : goal.returns-then-part-orders
@@ -21,25 +21,19 @@ returns-then-part-orders c =
     o c.if-part-orders.true c.index-orders-part.is)
     c.push_write_edges.ensures
 
-pub push_event_edges-requires : goal.push_event_edges-requires
-push_event_edges-requires c =
-    occurs (ordered_history c.args.versions.now) c.orders-orders.result.now (ap (map order_of) c.orders-orders.ensures.value)
-    c.args.part c.events.result.now (ap (map event_of) c.events.ensures) c.requires
-    (omega (arith, c.if-part-orders.false)) c.index-events-part.result c.index-events-part.is
-
 pub returns-in_ok-push_event_edges : goal.returns-in_ok-push_event_edges
 returns-in_ok-push_event_edges c =
+    let h = ordered_history c.args.versions.now in
+    let os = c.orders-orders.result.now in
     c.in_ok-push_event_edges.ensures ∙
     ap (λ es. map edge_of c.args.edges.now.items ++ es)
-    (of_committed (ordered_history c.args.versions.now) c.orders-orders.result.now (ap (map order_of) c.orders-orders.ensures.value)
-    c.args.part c.events.result.now (ap (map event_of) c.events.ensures) c.requires
-    (omega (arith, c.if-part-orders.false)) c.index-events-part.result c.index-events-part.is
+    (of_committed h os (ap (map order_of) c.orders-orders.ensures.value) c.args.part (omega (arith, c.if-part-orders.false)) c.requires
     (sym c.is_committed.ensures ∙ c.if-is_committed.true))
 
 pub returns-else-is_committed : goal.returns-else-is_committed
 returns-else-is_committed c =
+    let h = ordered_history c.args.versions.now in
+    let os = c.orders-orders.result.now in
     sym (ap (λ es. map edge_of c.args.edges.now.items ++ es)
-    (of_other (ordered_history c.args.versions.now) c.orders-orders.result.now (ap (map order_of) c.orders-orders.ensures.value)
-    c.args.part c.events.result.now (ap (map event_of) c.events.ensures) c.requires
-    (omega (arith, c.if-part-orders.false)) c.index-events-part.result c.index-events-part.is
+    (of_other h os (ap (map order_of) c.orders-orders.ensures.value) c.args.part (omega (arith, c.if-part-orders.false)) c.requires
     (sym c.is_committed.ensures ∙ c.if-is_committed.false)) ∙ append-nil (map edge_of c.args.edges.now.items))

@@ -1,16 +1,35 @@
-use Rattle.std.proofs.Common.{rules}
-use Rattle.std.proofs.lemmas.List.Sorted.{answers_always}
-use Rattle.adya_values.specs.declared.event.Entry.{Entry as EntryValue}
-use Rattle.adya_dsg.proofs.EntrySearch.{listed_found, listed_missed}
+use Rattle.std.proofs.Common.{length, option_map, sym, ◌∙◌, ap}
+use Rattle.std.proofs.lemmas.Bool.{ltb-true}
+use Rattle.adya_terms.specs.Clauses.Checked.{history_in}
+use Rattle.adya_dsg.specs.Machinery.Choices.{key_at}
+use Rattle.adya_dsg.specs.Machinery.VersionOrders.{ordered_entry, ordered_history, order_lines}
+use Rattle.adya_dsg.proofs.Lines.{line_once, lines_rise}
+use Rattle.adya_dsg.proofs.Listed.{listed_here, unlisted}
 use Rattle.adya_dsg.proofs.selection.listed.Goals as goal
 
-pub returns-in-Err : goal.returns-in-Err
-returns-in-Err c =
-    let by_key = c.in-Err.ensures.position (λ (w : EntryValue). w.version.key) (answers_always _ _ _ (λ f a r g called. search rules)) in
-    listed_missed c.args.entries.now c.args.key c.in-Err.field-0 c.requires by_key
+pub returns-in_err-line_of : goal.returns-in_err-line_of
+returns-in_err-line_of c =
+    let g = c.args.versions.now in
+    ap (option_map (ordered_entry g)) c.from_residual-in_err-line_of.ensures ∙
+    unlisted (ordered_entry g) c.args.seen.now c.args.at c.in_ok-seen.seen.now
+    (ltb-true c.args.at (length c.args.seen.now) (sym c.in_ok-seen.ensures.lookup.0)) c.in_ok-seen.ensures.lookup.1
+    (key_at (ordered_history g) c.args.line) c.requires.rise c.requires.reached
+    (λ same. c.in_err-line_of.ensures.none c.args.line c.requires.within (sym same))
 
-pub returns-in-Ok : goal.returns-in-Ok
-returns-in-Ok c =
-    let by_key = c.in-Ok.ensures.position (λ (w : EntryValue). w.version.key) (answers_always _ _ _ (λ f a r g called. search rules)) in
-    listed_found c.args.entries.now c.args.key c.in-Ok.at c.index-entries-at.result c.requires c.in-Ok.ensures.bound
-    c.index-entries-at.is by_key
+pub returns-then-branch-line : goal.returns-then-branch-line
+returns-then-branch-line c =
+    let g = c.args.versions.now in
+    let at = key_at (ordered_history g) in
+    listed_here (ordered_entry g) c.args.seen.now c.args.at c.in_ok-seen.seen.now
+    (ltb-true c.args.at (length c.args.seen.now) (sym c.in_ok-seen.ensures.lookup.0)) c.in_ok-seen.ensures.lookup.1
+    (at c.args.line) (sym c.in_ok-line_of.ensures.found ∙ ap at c.if-branch-line.true)
+
+pub returns : goal.returns
+returns c =
+    let g = c.args.versions.now in
+    unlisted (ordered_entry g) c.args.seen.now c.args.at c.in_ok-seen.seen.now
+    (ltb-true c.args.at (length c.args.seen.now) (sym c.in_ok-seen.ensures.lookup.0)) c.in_ok-seen.ensures.lookup.1
+    (key_at (ordered_history g) c.args.line) c.requires.rise c.requires.reached
+    (λ same. c.if-branch-line.false
+    (line_once (order_lines g) (lines_rise (history_in g.checked.now)) c.in_ok-line_of.field-0 c.args.line
+    c.in_ok-line_of.ensures.within c.requires.within (c.in_ok-line_of.ensures.found ∙ same)))

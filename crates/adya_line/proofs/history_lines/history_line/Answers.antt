@@ -1,12 +1,13 @@
 use Rattle.std.proofs.Common.{rules, refl}
 use Rattle.adya_values.specs.declared.edition.Edition.TheVariants.{One, Two}
-use Rattle.adya_values.specs.Mirror.Events.{event_of, order_of, final_of}
+use Rattle.adya_values.specs.Mirror.Events.{order_of, final_of}
+use Rattle.adya_line.specs.Mirror.{view}
 use Rattle.adya_line.specs.Clauses.HistoryLines.{HeadLine, TailLine}
 use Rattle.adya_line.proofs.HistoryLines.{only_line, event_line, unfinished_line, order_line, final_line, no_line}
 use Rattle.adya_line.proofs.history_lines.history_line.Goals as goal
 
 pub returns-in-Some : goal.returns-in-Some
-returns-in-Some c = event_line c.args.text.now (event_of c.in-Some.event) (search rules)
+returns-in-Some c = event_line c.args.text.now (view c.in-Some.event) c.in-Some.ensures.exact
 
 pub returns-in-Some-unfinished : goal.returns-in-Some-unfinished
 returns-in-Some-unfinished c =

@@ -1,35 +1,27 @@
 use Rattle.std.proofs.Common.{◌≡◌, ℕ, ◌+◌, List, ◌++◌, ◌∙◌, sym, ap, subst, length, [], Result, MatchResult}
-use Rattle.std.specs.List.{list_all}
 use Rattle.std.proofs.lemmas.List.{length-map}
-use Rattle.std.proofs.lemmas.List.Folds.{list_all-map}
-use Rattle.adya_values.specs.declared.event.Event.{Event as EventValue}
 use Rattle.adya_values.specs.declared.fault.Rule.TheVariants.{M6}
 use Rattle.adya_values.specs.declared.fault.CheckFault.{CheckFault}
 use Rattle.adya_values.specs.Computing.Faults.{Malformed, first, fault_unless, all_end}
 use Rattle.adya_values.specs.declared.order.Order.{Order as OrderValue}
 use Rattle.adya_values.specs.declared.order.FinalPair.{FinalPair as FinalValue}
-use Rattle.adya_values.specs.Mirror.Events.{event_of, order_of}
-use Rattle.adya_values.specs.Meaning.Events.{txn_of}
-use Rattle.adya_terms.specs.declared.event_index.EventIndex.{EventIndex}
-use Rattle.adya_terms.specs.Machinery.Checks.{Names, whole, ends, listing_faults, final_value_faults, rule_faults}
-use Rattle.adya_terms.specs.Machinery.EventIndex.{indexed, unfinished_in, is_done}
+use Rattle.adya_values.specs.Mirror.Events.{order_of}
+use Rattle.adya_values.specs.Meaning.Histories.{Event}
+use Rattle.adya_terms.specs.Machinery.Checks.{Names, whole, listing_faults, final_value_faults, rule_faults}
+use Rattle.adya_terms.specs.Machinery.EventIndex.{indexed, unfinished_in}
 use Rattle.adya_terms.proofs.Firsts.{found_behind, names_front, names_behind}
 use Rattle.adya_terms.proofs.checked.check_rules.Goals as goal
 use Rattle.adya_values.proofs.Faults.{first_left}
 
--- what is said of each event is said of what it means
-all_ended : (x : EventIndex) → list_all (λ e. is_done x (txn_of (event_of e))) x.events.now ≡ list_all (ends (indexed x) (unfinished_in x)) (indexed x)
-all_ended x = sym (list_all-map (ends (indexed x) (unfinished_in x)) event_of x.events.now)
-
 pub returns-then-not-all_end-clause-faults : goal.returns-then-not-all_end-clause-faults
 returns-then-not-all_end-clause-faults c =
     let x = c.args.index.now in
-    let h = whole x.events.now x.unfinished.now c.args.orders.now c.args.finals.now in
+    let h = whole (indexed x) (unfinished_in x) c.args.orders.now c.args.finals.now in
     first_left (fault_unless (all_end h) c.args.line M6) (listing_faults h c.args.line ++ final_value_faults h (c.args.line + length h.orders)) (Malformed c.args.line M6)
-    (ap (λ b. first (fault_unless b c.args.line M6)) (sym (c.all_end.ensures ∙ all_ended x) ∙ c.if-not-all_end.true))
+    (ap (λ b. first (fault_unless b c.args.line M6)) (sym c.all_end.ensures ∙ c.if-not-all_end.true))
 
 -- what the check of the finals finds comes after the order lines, which have no fault
-after_orders : (es : List EventValue) (us : List ℕ) (os : List OrderValue) (fs : List FinalValue) (line : ℕ) (r : Result (Unit {0}) CheckFault)
+after_orders : (es : List Event) (us : List ℕ) (os : List OrderValue) (fs : List FinalValue) (line : ℕ) (r : Result (Unit {0}) CheckFault)
     → let h = whole es us os fs in fault_unless (all_end h) line M6 ≡ [] → listing_faults h line ≡ []
     → MatchResult r (λ u. final_value_faults h (line + length os) ≡ []) (Names (final_value_faults h (line + length os)))
     → MatchResult r (λ u. rule_faults h line ≡ []) (Names (rule_faults h line))
@@ -43,26 +35,26 @@ after_orders es us os fs line r ends lists finals =
 pub returns-in-Err-clause-faults : goal.returns-in-Err-clause-faults
 returns-in-Err-clause-faults c =
     let x = c.args.index.now in
-    let h = whole x.events.now x.unfinished.now c.args.orders.now c.args.finals.now in
+    let h = whole (indexed x) (unfinished_in x) c.args.orders.now c.args.finals.now in
     let ends : fault_unless (all_end h) c.args.line M6 ≡ [] =
-    ap (λ b. fault_unless b c.args.line M6) (sym (c.all_end.ensures ∙ all_ended x) ∙ c.if-not-all_end.false) in
+    ap (λ b. fault_unless b c.args.line M6) (sym c.all_end.ensures ∙ c.if-not-all_end.false) in
     names_behind (fault_unless (all_end h) c.args.line M6) _ c.in-Err.fault ends
     (names_front (listing_faults h c.args.line) (final_value_faults h (c.args.line + length h.orders)) c.in-Err.fault c.in-Err.ensures.faults)
 
 pub returns-in-Ok-check_finals-clause-faults : goal.returns-in-Ok-check_finals-clause-faults
 returns-in-Ok-check_finals-clause-faults c =
     let x = c.args.index.now in
-    let h = whole x.events.now x.unfinished.now c.args.orders.now c.args.finals.now in
+    let h = whole (indexed x) (unfinished_in x) c.args.orders.now c.args.finals.now in
     let ends : fault_unless (all_end h) c.args.line M6 ≡ [] =
-    ap (λ b. fault_unless b c.args.line M6) (sym (c.all_end.ensures ∙ all_ended x) ∙ c.if-not-all_end.false) in
+    ap (λ b. fault_unless b c.args.line M6) (sym c.all_end.ensures ∙ c.if-not-all_end.false) in
     subst (λ r. MatchResult r (λ u. rule_faults h c.args.line ≡ []) (Names (rule_faults h c.args.line))) c.in-Ok-check_finals.is
-    (after_orders x.events.now x.unfinished.now c.args.orders.now c.args.finals.now c.args.line c.check_finals.result ends c.in-Ok.ensures.faults c.check_finals.ensures)
+    (after_orders (indexed x) (unfinished_in x) c.args.orders.now c.args.finals.now c.args.line c.check_finals.result ends c.in-Ok.ensures.faults c.check_finals.ensures)
 
-pub returns-in-Err-check_finals-clause-faults : goal.returns-in-Err-check_finals-clause-faults
-returns-in-Err-check_finals-clause-faults c =
+pub returns-clause-faults : goal.returns-clause-faults
+returns-clause-faults c =
     let x = c.args.index.now in
-    let h = whole x.events.now x.unfinished.now c.args.orders.now c.args.finals.now in
+    let h = whole (indexed x) (unfinished_in x) c.args.orders.now c.args.finals.now in
     let ends : fault_unless (all_end h) c.args.line M6 ≡ [] =
-    ap (λ b. fault_unless b c.args.line M6) (sym (c.all_end.ensures ∙ all_ended x) ∙ c.if-not-all_end.false) in
+    ap (λ b. fault_unless b c.args.line M6) (sym c.all_end.ensures ∙ c.if-not-all_end.false) in
     subst (λ r. MatchResult r (λ u. rule_faults h c.args.line ≡ []) (Names (rule_faults h c.args.line))) c.in-Err-check_finals.is
-    (after_orders x.events.now x.unfinished.now c.args.orders.now c.args.finals.now c.args.line c.check_finals.result ends c.in-Ok.ensures.faults c.check_finals.ensures)
+    (after_orders (indexed x) (unfinished_in x) c.args.orders.now c.args.finals.now c.args.line c.check_finals.result ends c.in-Ok.ensures.faults c.check_finals.ensures)

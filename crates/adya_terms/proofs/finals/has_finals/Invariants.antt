@@ -4,11 +4,12 @@ use Rattle.adya_values.specs.Meaning.Histories.{Order}
 use Rattle.adya_values.specs.Mirror.Events.{order_of}
 use Rattle.adya_values.specs.Clauses.Rules.{final_value}
 use Rattle.adya_values.specs.Computing.Faults.{last_value}
+use Rattle.adya_terms.specs.Machinery.EventIndex.{indexed}
 use Rattle.adya_terms.specs.Machinery.Checks.{parts}
 use Rattle.adya_terms.proofs.finals.has_finals.Given as goal
 
-abbrev pub invariant-loop-order : goal.invariant-loop-order
-invariant-loop-order l =
-    let h = parts l.index.events.now l.orders l.finals in
+abbrev pub invariant-loop-i : goal.invariant-loop-i
+invariant-loop-i l =
+    let h = parts (indexed l.index) l.orders l.finals in
     let test = λ (o : Order). is_none (last_value h o.key) || is_some (final_value h.finals o.key) in
-    list_all test h.orders ≡ list_all test (map order_of (drop l.order-index l.orders))
+    list_all test h.orders ≡ list_all test (map order_of (drop l.i l.orders))

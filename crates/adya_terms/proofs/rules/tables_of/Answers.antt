@@ -1,44 +1,50 @@
-use Rattle.std.proofs.Common.{◌≡◌, ◌+◌, ◌∙◌, ap, map, take, Some, arith, refl, subst, sym}
+use Rattle.std.proofs.Common.{◌≡◌, ◌<◌, ◌+◌, ◌∙◌, ◌++◌, ◌∷◌, [], Bor, ap, take, Some, arith, subst, sym}
+use Rattle.std.specs.Prelude.{slice_get}
+use Rattle.adya_values.specs.declared.events.Events.{Events}
 use Rattle.adya_values.specs.Computing.Faults.{Malformed, first}
-use Rattle.adya_values.specs.Mirror.Events.{event_of}
-use Rattle.adya_terms.specs.Machinery.Telling.{Means}
-use Rattle.adya_terms.specs.Machinery.NewestWrites as newest_writes
+use Rattle.adya_values.specs.Mirror.Events.{events_of}
+use Rattle.adya_terms.specs.Machinery.NewestWrites.{Keeps}
+use Rattle.adya_terms.specs.Machinery.Telling.{told, Means}
 use Rattle.adya_terms.proofs.Firsts.{fault_here, fault_later}
+use Rattle.adya_terms.proofs.NewestWrites.{written_quiet}
 use Rattle.adya_terms.proofs.rules.tables_of.Goals as goal
+use Rattle.adya_terms.proofs.rules.tables_of.Goals.{in-Some-numbered_at, in_default-numbered_at}
 use Rattle.adya_values.proofs.Faults.{passes_all}
-use Rattle.lemmas.proofs.Steps.{turn}
+use Rattle.lemmas.proofs.Steps.{turn_below}
 
 pub returns-in-Some : goal.returns-in-Some
 returns-in-Some c =
-    let all = map event_of c.args.events.now in
+    let all = events_of c.args.events.now in
     let i = c.loop-i.i in
-    let e = c.index-events-i.result in
-    let t = turn event_of c.args.events.now i e c.loop-i-test.true c.index-events-i.is in
+    let t = turn_below all i (subst (λ n. i < n) c.len-i-end.ensures.length c.loop-i-test.true) in
+    let same : told c.loop-i.tables ≡ all = ap events_of c.loop-i.invariant.same in
     let line : 2 + i ≡ i + 2 = omega arith in
     ap first c.loop-i.invariant.faults ∙
-    (fault_here all i (event_of e) t (Malformed (2 + i) c.in-Some.rule) (c.in-Some.ensures (take i all) c.loop-i.invariant.means c.loop-i.invariant.newest (2 + i)) ∙
+    (fault_here all i t.0 t.1 (Malformed (2 + i) c.in-Some.rule)
+    (c.in-Some.ensures (take i all) t.0 c.loop-i.invariant.means (subst (λ xs. Keeps c.loop-i.newest xs (take i all)) (sym same) c.loop-i.invariant.newest)
+    (ap (λ xs. slice_get xs i) same ∙ t.1.found) (2 + i)) ∙
     ap (λ n. Some (Malformed n c.in-Some.rule)) line)
-
-pub loop-i-init : goal.loop-i-init
-loop-i-init c =
-    let all = map event_of c.args.events.now in
-    record {
-      means = c.in-Ok.ensures all;
-      newest = c.new-newest.ensures;
-      faults = refl;
-    }
 
 pub loop-i-preserved : goal.loop-i-preserved
 loop-i-preserved c =
-    let all = map event_of c.args.events.now in
+    let all = events_of c.args.events.now in
     let i = c.loop-i.i in
-    let e = c.index-events-i.result in
-    let t = turn event_of c.args.events.now i e c.loop-i-test.true c.index-events-i.is in
+    let t = turn_below all i (subst (λ n. i < n) c.len-i-end.ensures.length c.loop-i-test.true) in
+    let e = t.0 in
+    let same : told c.loop-i.tables ≡ all = ap events_of c.loop-i.invariant.same in
+    let found = ap (λ xs. slice_get xs i) same ∙ t.1.found in
     let m = c.loop-i.invariant.means in
-    let none = c.in_default-broken_rule.ensures (take i all) m c.loop-i.invariant.newest (2 + i) in
+    let newest = c.loop-i.invariant.newest in
+    let none = c.in_default-broken_rule.ensures (take i all) e m (subst (λ xs. Keeps c.loop-i.newest xs (take i all)) (sym same) newest) found (2 + i) in
     record {
-      means = subst (Means c.record.new.self all) (sym t.front)
-          (c.in-Ok-record.ensures (take i all) m t.found (passes_all (take i all) (2 + i) (event_of e) none).next);
-      newest = subst (newest_writes.Keeps c.keep.new.self) (sym t.front) (c.in-Ok-keep.ensures (take i all) c.loop-i.invariant.newest);
-      faults = c.loop-i.invariant.faults ∙ fault_later all i (event_of e) t none;
+      same = ap (λ (x : Bor Events). x.now) c.record.ensures.events ∙ c.loop-i.invariant.same;
+      means = subst (Means c.record.new.self) (sym t.1.front) (c.in-Ok-record.ensures.means (take i all) e m found (passes_all (take i all) (2 + i) e none).next);
+      newest = subst (Keeps c.match-numbered_at.newest all) (sym t.1.front)
+          (elim c.match-numbered_at.branch [
+            | in-Some-numbered_at v ↦
+                subst (λ n. Keeps n all (take i all ++ e ∷ [])) (sym v.newest-is) (v.keep.ensures all (take i all) e newest t.1.found)
+            | in_default-numbered_at v ↦
+                subst (λ n. Keeps n all (take i all ++ e ∷ [])) (sym v.newest-is) (written_quiet c.loop-i.newest.places.items all (take i all) e newest)
+          ]);
+      faults = c.loop-i.invariant.faults ∙ fault_later all i e t.1 none;
     }

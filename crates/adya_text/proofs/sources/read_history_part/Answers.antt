@@ -114,3 +114,6 @@ returns-clause-rest g c =
           end
           (λ stream cut is. is ∙ ap (λ (l : List ℕ). Some l) (sym (part_of_all stream past line other cut).1)))
     ]
+
+pub returns-clause-stream : goal.returns-clause-stream
+returns-clause-stream g c = g.met.S.Source.same_trans _ _ _ c.loop-line.invariant.0 c.next_line.ensures.stream

@@ -1,6 +1,6 @@
 use Rattle.std.proofs.Common.{map, slice_get, ap, ◌∙◌}
 use Rattle.std.specs.List.{filter_map}
-use Rattle.adya_values.specs.Mirror.Events.{event_of, order_of}
+use Rattle.adya_values.specs.Mirror.Events.{events_of, order_of}
 use Rattle.adya_values.specs.Computing.Shapes.{is_shape}
 use Rattle.ssi_recorder.specs.Machinery.Lines.{final_in, write_by}
 use Rattle.ssi_recorder.proofs.Ranks.{line_versions}
@@ -18,7 +18,7 @@ returns-clause-shape c =
 pub returns-clause-orders : goal.returns-clause-orders
 returns-clause-orders c =
     let es = c.in_ok-by_key.by_key.entries in
-    let events = map event_of c.args.events.now in
+    let events = events_of c.args.events.now in
     c.in_ok-orders.ensures.orders ∙
     orders_are events es c.in_ok-by_key.ensures.good c.in_ok-orders.ensures.ordered
     (λ k. line_versions k events es c.in_ok-by_key.ensures.good
@@ -27,7 +27,7 @@ returns-clause-orders c =
 pub returns-clause-finals : goal.returns-clause-finals
 returns-clause-finals c =
     let es = c.in_ok-by_key.by_key.entries in
-    let events = map event_of c.args.events.now in
+    let events = events_of c.args.events.now in
     c.in_ok-finals.ensures ∙
     finals_are events es c.in_ok-by_key.ensures.good c.in_ok-orders.ensures.ordered
     (λ k. line_versions k events es c.in_ok-by_key.ensures.good

@@ -1,24 +1,13 @@
-use Rattle.std.proofs.Common.{◌≡◌, ◌∙◌, sym}
-use Rattle.std.specs.HashMap.{get}
-use Rattle.adya_values.specs.Meaning.Keys.{key_eq}
-use Rattle.adya_dsg.specs.Machinery.VersionOrders.{order_lines}
-use Rattle.adya_dsg.proofs.LineNumbers.{line_within, line_found, line_missing}
+use Rattle.std.proofs.Common.{◌≡◌, ◌-◌, suc, sym, ◌∙◌, arith}
+use Rattle.std.proofs.lemmas.List.{get_or_read}
 use Rattle.adya_dsg.proofs.version_orders.VersionOrders.line_of.Goals as goal
 
-looked_up : (c : goal.After-copied) → get key_eq c.args.self.now.lines c.args.key ≡ c.copied.result
-looked_up c = sym (c.copied.ensures ∙ c.get.ensures.value)
-
-pub returns-clause-within : goal.returns-clause-within
-returns-clause-within c =
+pub returns-in_default-clause-within : goal.returns-in_default-clause-within
+returns-in_default-clause-within c =
     let g = c.args.self.now in
-    line_within (get key_eq g.lines) (order_lines g) g.found c.args.key c.copied.result (looked_up c)
-
-pub returns-clause-found : goal.returns-clause-found
-returns-clause-found c =
-    let g = c.args.self.now in
-    line_found (get key_eq g.lines) (order_lines g) g.found c.args.key c.copied.result (looked_up c)
-
-pub returns-clause-none : goal.returns-clause-none
-returns-clause-none c =
-    let g = c.args.self.now in
-    line_missing (get key_eq g.lines) (order_lines g) g.found c.args.key c.copied.result (looked_up c)
+    let v = c.index.result.now in
+    let n = g.found.count in
+    let some = c.in_default in
+    let above : v ≡ suc (v - 1) = omega (arith, some) in
+    (g.found.found c.args.key (v - 1) c.requires
+    (sym (get_or_read g.lines.items _ _ (omega (arith, n, c.requires)) c.index.ensures 0) ∙ above)).0

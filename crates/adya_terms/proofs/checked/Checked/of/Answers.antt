@@ -1,7 +1,7 @@
 use Rattle.std.proofs.Common.{◌≡◌, ◌∙◌, ℕ, List, ap, subst, map, is_none}
 use Rattle.adya_terms.proofs.Parts.{found_whole, faultless_whole}
 use Rattle.adya_terms.proofs.Judged.{refused_when_found}
-use Rattle.adya_values.specs.Mirror.Events.{event_of, order_of}
+use Rattle.adya_values.specs.Mirror.Events.{events_of, order_of}
 use Rattle.adya_values.specs.Mirror.Histories.{history_of}
 use Rattle.adya_values.specs.declared.order.Order.{Order}
 use Rattle.adya_values.specs.Meaning.Events.{last_write}
@@ -13,15 +13,15 @@ use Rattle.adya_terms.proofs.checked.Checked.of.Goals as goal
 
 pub returns-in-Err-clause-found : goal.returns-in-Err-clause-found
 returns-in-Err-clause-found c =
-    found_whole c.args.history.now c.events.result.now c.unfinished.result.now c.orders.result.now c.finals.result.now
+    found_whole c.args.history.now (events_of c.events.result.now) c.unfinished.result.now c.orders.result.now c.finals.result.now
     c.events.ensures c.unfinished.ensures.value c.orders.ensures.value c.finals.ensures c.in-Err.fault c.in-Err.ensures.faults
 
 pub invariant_of-result : goal.invariant_of-result
 invariant_of-result c =
-    let none = faultless_whole c.args.history.now c.events.result.now c.unfinished.result.now c.orders.result.now c.finals.result.now
+    let none = faultless_whole c.args.history.now (events_of c.events.result.now) c.unfinished.result.now c.orders.result.now c.finals.result.now
     c.events.ensures c.unfinished.ensures.value c.orders.ensures.value c.finals.ensures c.in-Ok.ensures.faults in
     let h = history_of c.args.history.now in
-    let same : indexed c.in-Ok.index ≡ h.events = ap (map event_of) (c.in-Ok.ensures.events ∙ c.events.ensures) in
+    let same : indexed c.in-Ok.index ≡ h.events = ap events_of c.in-Ok.ensures.events ∙ c.events.ensures in
     record {
       checked = ap is_none none;
       commits = subst (KnowsCommitted c.into_ended.result) same c.into_ended.ensures;
@@ -29,18 +29,18 @@ invariant_of-result c =
           installed_if_last (last_in c.in-Ok.index) h.events
           (subst (λ all. (t : ℕ) (k : List ℕ) → written_at all (last_in c.in-Ok.index (own t k)) ≡ last_write t k all) same
           c.in-Ok.index.tell.last_is)
-          c.in-Ok.writes.items h.orders
-          (subst (λ (os : List Order). AreWrites (last_in c.in-Ok.index) c.in-Ok.writes.items (map order_of os)) c.orders.ensures.value c.in-Ok.ensures.writes);
+          c.in-Ok.lines.items h.orders
+          (subst (λ (os : List Order). AreWrites (last_in c.in-Ok.index) c.in-Ok.lines.items (map order_of os)) c.orders.ensures.value c.in-Ok.ensures.lines);
     }
 
 pub returns-in-Ok-clause-checked : goal.returns-in-Ok-clause-checked
 returns-in-Ok-clause-checked c =
     c.checked_iff_no_fault.ensures.sound (history_of c.args.history.now)
-    (faultless_whole c.args.history.now c.events.result.now c.unfinished.result.now c.orders.result.now c.finals.result.now
+    (faultless_whole c.args.history.now (events_of c.events.result.now) c.unfinished.result.now c.orders.result.now c.finals.result.now
     c.events.ensures c.unfinished.ensures.value c.orders.ensures.value c.finals.ensures c.in-Ok.ensures.faults)
 
 pub returns-in-Err-clause-refused : goal.returns-in-Err-clause-refused
 returns-in-Err-clause-refused c =
     refused_when_found c.checked_iff_no_fault.ensures.exact (history_of c.args.history.now) c.args.history.now.shape c.in-Err.fault
-    (found_whole c.args.history.now c.events.result.now c.unfinished.result.now c.orders.result.now c.finals.result.now
+    (found_whole c.args.history.now (events_of c.events.result.now) c.unfinished.result.now c.orders.result.now c.finals.result.now
     c.events.ensures c.unfinished.ensures.value c.orders.ensures.value c.finals.ensures c.in-Err.fault c.in-Err.ensures.faults)

@@ -1,17 +1,15 @@
-use Rattle.std.proofs.Common.{◌≡◌, suc, ◌+◌, ◌-◌, ◌∙◌, false, map, sym, ap, Some, arith}
-use Rattle.adya_values.specs.Mirror.Events.{event_of}
-use Rattle.adya_terms.specs.Machinery.Chains.{is_hit, row_at, walk}
+use Rattle.std.proofs.Common.{◌≡◌, suc, ◌+◌, ◌-◌, ◌∙◌, sym, ap, Some, arith}
+use Rattle.std.proofs.lemmas.Bool.{ne_eqb}
+use Rattle.adya_terms.specs.Machinery.Chains.{row_at, walk}
 use Rattle.adya_terms.proofs.Chains.{walk_goes_on}
 use Rattle.adya_terms.proofs.own_writes.OwnWrites.in_chain.Goals as goal
 
 pub loop-preserved : goal.loop-preserved
 loop-preserved c =
-    let all = map event_of c.args.events.now in
     let rows = c.args.self.now.rows.items in
     let less = c.loop-test.true in
     let step : c.args.chain.len - c.loop.counter ≡ suc (c.args.chain.len - (c.loop.counter + 1)) = omega (arith, less) in
     let here : row_at rows c.loop.link ≡ Some c.in-Some.row = sym c.row.ensures ∙ c.in-Some.is in
-    let miss : is_hit all c.args.key c.in-Some.row ≡ false = sym c.is_hit.ensures ∙ c.if-is_hit.false in
     c.loop.invariant
-    ∙ ap (λ n. walk all rows c.args.key n c.loop.link) step
-    ∙ walk_goes_on all rows c.args.key (c.args.chain.len - (c.loop.counter + 1)) c.loop.link c.in-Some.row here miss
+    ∙ ap (λ n. walk rows c.args.number n c.loop.link) step
+    ∙ walk_goes_on rows c.args.number (c.args.chain.len - (c.loop.counter + 1)) c.loop.link c.in-Some.row here (ne_eqb _ _ c.if-row-number.false)

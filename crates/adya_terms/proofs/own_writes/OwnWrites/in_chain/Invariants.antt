@@ -1,10 +1,8 @@
-use Rattle.std.proofs.Common.{◌≡◌, ◌-◌, map}
-use Rattle.adya_values.specs.Mirror.Events.{event_of}
+use Rattle.std.proofs.Common.{◌≡◌, ◌-◌}
 use Rattle.adya_terms.specs.Machinery.Chains.{walk}
 use Rattle.adya_terms.proofs.own_writes.OwnWrites.in_chain.Given as goal
 
 abbrev pub invariant-loop : goal.invariant-loop
 invariant-loop l =
-    let all = map event_of l.events in
     let rows = l.self.rows.items in
-    walk all rows l.key l.fn.chain.len l.fn.chain.last ≡ walk all rows l.key (l.end - l.counter) l.link
+    walk rows l.number l.fn.chain.len l.fn.chain.last ≡ walk rows l.number (l.end - l.counter) l.link

@@ -1,23 +1,30 @@
-use Rattle.std.proofs.Common.{◌≡◌, ◌∙◌, ◌<◌, ℕ, Option, None, map, sym, ap, subst}
+use Rattle.std.proofs.Common.{◌≡◌, ◌∙◌, ◌<◌, ℕ, length, Option, None, option_and_then, sym, ap, subst}
 use Rattle.std.specs.Option.{option_or}
 use Rattle.txn_table.specs.Mirror.{value_for}
-use Rattle.adya_values.specs.Mirror.Events.{event_of}
+use Rattle.adya_values.specs.Machinery.Seen.{key_at}
+use Rattle.adya_values.specs.Mirror.Numbers.{keys_of}
 use Rattle.adya_terms.specs.declared.own_writes.Chain.{Chain}
+use Rattle.adya_terms.specs.declared.own_writes.OwnWrites.{OwnWrites}
 use Rattle.adya_terms.specs.Machinery.Tables.{own}
 use Rattle.adya_terms.specs.Machinery.Chains.{own_place, walk}
+use Rattle.adya_terms.specs.Machinery.OwnWrites.{place_numbered, place_of}
 use Rattle.adya_terms.proofs.own_writes.OwnWrites.last_place.Goals as goal
+
+abbrev found : OwnWrites → ℕ → Chain → Option ℕ
+found w n x = walk w.rows.items n x.len x.last
+
+-- in the chain, if the transaction has no later write of the key
+in_chain_is : (w : OwnWrites) (t n : ℕ) → n < length (keys_of w.events.now) → (x : Chain) → x ≡ value_for w.chains t
+    → own_place w.later t (key_at (keys_of w.events.now) n) ≡ None → found w n x ≡ place_of w (own t (key_at (keys_of w.events.now) n))
+in_chain_is w t n within x is none =
+    let q = own t (key_at (keys_of w.events.now) n) in
+    ap (found w n) is ∙ (ap (λ o. option_or o (found w n (value_for w.chains t))) (sym none) ∙
+    sym (ap (option_and_then (place_numbered w q)) (w.numbered n within)))
 
 pub returns-then-chain-lt-FEW : goal.returns-then-chain-lt-FEW
 returns-then-chain-lt-FEW c =
     let w = c.args.self.now in
-    let found : Chain → Option ℕ = λ x. walk (map event_of c.args.events.now) w.rows.items c.args.key x.len x.last in
-    let none : own_place w.later c.args.txn c.args.key ≡ None =
-    w.few (own c.args.txn c.args.key) (subst (λ (x : Chain). x.len < 16) c.chain-chain.ensures c.if-chain-lt-FEW.true) in
-    c.in_chain.ensures ∙ ap found c.chain-chain.ensures ∙ ap (λ o. option_or o (found (value_for w.chains c.args.txn))) (sym none)
-
-pub returns-in-None : goal.returns-in-None
-returns-in-None c =
-    let w = c.args.self.now in
-    let found : Chain → Option ℕ = λ x. walk (map event_of c.args.events.now) w.rows.items c.args.key x.len x.last in
-    let none : own_place w.later c.args.txn c.args.key ≡ None = sym c.later_place.ensures ∙ c.in-None.is in
-    c.in_chain-in-None.ensures ∙ ap found c.chain-chain.ensures ∙ ap (λ o. option_or o (found (value_for w.chains c.args.txn))) (sym none)
+    let key = key_at (keys_of w.events.now) c.args.number in
+    c.in_chain.ensures ∙
+    in_chain_is w c.args.txn c.args.number c.requires c.chain-chain.result c.chain-chain.ensures
+    (w.few (own c.args.txn key) (subst (λ (x : Chain). x.len < 16) c.chain-chain.ensures c.if-chain-lt-FEW.true))

@@ -1,5 +1,6 @@
-use Rattle.std.proofs.Common.{◌≡◌, ◌-◌, map}
-use Rattle.adya_values.specs.Mirror.Events.{entry_of, event_of}
+use Rattle.std.proofs.Common.{◌≡◌, ◌-◌, ℕ, Bool}
+use Rattle.adya_values.specs.Machinery.Seen.{key_at}
+use Rattle.adya_values.specs.Mirror.Numbers.{keys_of}
 use Rattle.txn_table.specs.Mirror.{value_for}
 use Rattle.adya_terms.specs.Machinery.Chains.{chain_passes}
 use Rattle.adya_terms.specs.Machinery.Owed.{passes}
@@ -7,8 +8,7 @@ use Rattle.adya_terms.proofs.scans.Owed.has_chain.Given as goal
 
 abbrev pub invariant-loop : goal.invariant-loop
 invariant-loop l =
-    let all = map event_of l.self.events.now in
     let w = l.self.writes.now in
     let chain = value_for w.chains l.self.txn in
-    let test = passes l.self (map entry_of l.listed.entries.now) in
-    chain_passes all w.rows.items test chain.len chain.last ≡ chain_passes all w.rows.items test (l.end - l.counter) l.link
+    let test : ℕ → Bool = λ n. passes l.self (key_at (keys_of w.events.now) n) in
+    chain_passes w.rows.items test chain.len chain.last ≡ chain_passes w.rows.items test (l.end - l.counter) l.link

@@ -1,6 +1,7 @@
 use Rattle.std.proofs.Common.{rules, ◌≡◌, map}
 use Rattle.adya_values.specs.declared.edition.Edition.TheVariants as Edition
-use Rattle.adya_values.specs.Mirror.Events.{event_of, order_of, final_of}
+use Rattle.adya_values.specs.Mirror.Events.{order_of, final_of}
+use Rattle.adya_values.specs.Mirror.Events as lists
 use Rattle.ssi_recorder.specs.Meaning.Recorded.{orders_of_events, finals_of_events}
 use Rattle.ssi_recorder.specs.Mirror.{events_of}
 use Rattle.ssi_recorder.proofs.Ended.{same_history}
@@ -11,7 +12,7 @@ returns c =
     let made = c.unwrap-history.result in
     let events = events_of c.args.self.now in
     let is_two : made.edition ≡ Edition.Two = Prim.search rules in
-    let has_events : map event_of made.events.items ≡ events = Prim.search rules in
+    let has_events : lists.events_of made.events ≡ events = Prim.search rules in
     let names_unfinished : made.unfinished.items ≡ c.args.open_txns.now = Prim.search rules in
     let orders : map order_of made.orders.items ≡ orders_of_events events = Prim.search rules in
     let finals : map final_of made.finals.items ≡ finals_of_events events = Prim.search rules in

@@ -1,6 +1,4 @@
-use Rattle.std.proofs.Common.{arith, rules}
-use Rattle.std.proofs.lemmas.Grind.{common_steps}
 use Rattle.ssi_recorder.proofs.recorder.Recorder.event.Goals as goal
 
-pub returns-clause-events : goal.returns-clause-events
-returns-clause-events c = grind (arith, common_steps)
+pub invariant_of-self : goal.invariant_of-self
+invariant_of-self c = record { kept = c.push_owned.ensures.rows c.args.self.now.places c.requires.0 }

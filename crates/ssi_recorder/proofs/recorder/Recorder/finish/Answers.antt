@@ -1,7 +1,8 @@
 use Rattle.std.proofs.Common.{rules, ◌≡◌, [], ◌++◌, map, ◌∙◌}
 use Rattle.adya_values.specs.declared.edition.Edition.TheVariants as Edition
 use Rattle.adya_values.specs.Meaning.Histories.{Abort}
-use Rattle.adya_values.specs.Mirror.Events.{event_of, order_of, final_of}
+use Rattle.adya_values.specs.Mirror.Events.{order_of, final_of}
+use Rattle.adya_values.specs.Mirror.Events as lists
 use Rattle.ssi_recorder.specs.Meaning.Recorded.{orders_of_events, finals_of_events}
 use Rattle.ssi_recorder.specs.Mirror.{events_of}
 use Rattle.ssi_recorder.proofs.Ended.{orders_ended, finals_ended, same_history}
@@ -12,7 +13,7 @@ returns-clause-history c =
     let made = c.unwrap.result in
     let events = events_of c.args.self in
     let is_one : made.edition ≡ Edition.One = Prim.search rules in
-    let has_events : map event_of made.events.items ≡ events ++ map Abort c.args.open_txns.now = Prim.search rules in
+    let has_events : lists.events_of made.events ≡ events ++ map Abort c.args.open_txns.now = Prim.search rules in
     let none_unfinished : made.unfinished.items ≡ [] = Prim.search rules in
     let orders : map order_of made.orders.items ≡ orders_of_events events = Prim.search rules in
     let finals : map final_of made.finals.items ≡ finals_of_events events = Prim.search rules in
@@ -21,3 +22,6 @@ returns-clause-history c =
 
 pub returns-in-Err-clause-err : goal.returns-in-Err-clause-err
 returns-in-Err-clause-err c = search rules
+
+pub invariant_of-self : goal.invariant_of-self
+invariant_of-self c = record { kept = c.reserve.ensures.kept c.args.self.places c.args.self.kept }

@@ -1,5 +1,4 @@
-use Rattle.std.proofs.Common.{rules}
 use Rattle.ssi_recorder.proofs.recorder.Recorder.room.Goals as goal
 
-pub returns-clause-room : goal.returns-clause-room
-returns-clause-room c = search rules
+pub invariant_of-self : goal.invariant_of-self
+invariant_of-self c = record { kept = c.reserve.ensures.kept c.args.self.now.places c.args.self.now.kept }

@@ -1,0 +1,62 @@
+-- What is told of the event at an index.
+use Rattle.std.proofs.Common.{◌≡◌, ℕ, zero, suc, ◌<◌, ◌≤◌, List, [], ◌∷◌, length, get_or, slice_get, Option, Some, None, is_some, option_map, option_and_then, refl, sym, ◌∙◌, ap, arith}
+use Rattle.std.proofs.lemmas.Option.{none-some, same_Some, slice_get-get_or}
+use Rattle.adya_values.specs.declared.event.Version.{Version}
+use Rattle.adya_values.specs.Meaning.Events.{observed, txn_of}
+use Rattle.adya_values.specs.Meaning.Histories.{Entry, Event, Write, Delete, Read, Scan, Commit, Abort}
+use Rattle.adya_values.specs.Meaning.Keys.{Key}
+use Rattle.adya_values.specs.Meaning.Selections.{is_scan}
+use Rattle.adya_values.specs.Mirror.Numbers.{bounds}
+
+pub found_at : (es : List Event) (i : ℕ) → i < length es → slice_get es i ≡ Some (get_or es i (Abort 0))
+found_at es i l = slice_get-get_or es i (Abort 0) l
+
+pub told : {Y : Type 0} (f : Event → Y) (es : List Event) (i : ℕ) → i < length es → (y : Y)
+    → option_map f (slice_get es i) ≡ Some y → y ≡ f (get_or es i (Abort 0))
+told f es i l y e =
+    same_Some y (f (get_or es i (Abort 0))) (sym e ∙ ap (option_map f) (found_at es i l))
+
+-- past the end there is nothing to tell
+pub told_if : {Y : Type 0} (f : Event → Option Y) → f (Abort 0) ≡ None → (es : List Event) (i : ℕ)
+    → option_and_then f (slice_get es i) ≡ f (get_or es i (Abort 0))
+told_if f none [] i = sym none
+told_if f none (e ∷ es) zero = refl
+told_if f none (e ∷ es) (suc i) = told_if f none es i
+
+pub scan_has_bounds : (e : Event) → is_some (bounds e) ≡ is_scan e
+scan_has_bounds (Write t k m v) = refl
+scan_has_bounds (Delete t k m) = refl
+scan_has_bounds (Read t r v) = refl
+scan_has_bounds (Scan t low high es) = refl
+scan_has_bounds (Commit t) = refl
+scan_has_bounds (Abort t) = refl
+
+-- an event with bounds is the scan that lists what it sees
+pub scan_is : (e : Event) (low high : Key) → bounds e ≡ Some (low, high) → e ≡ Scan (txn_of e) low high (observed e)
+scan_is (Write t k m v) low high b = absurd (none-some (low, high) b)
+scan_is (Delete t k m) low high b = absurd (none-some (low, high) b)
+scan_is (Read t r v) low high b = absurd (none-some (low, high) b)
+scan_is (Scan t x y es) low high b =
+    ap (λ (p : Key × Key). Scan t p.0 p.1 es) (same_Some (x, y) (low, high) b)
+scan_is (Commit t) low high b = absurd (none-some (low, high) b)
+scan_is (Abort t) low high b = absurd (none-some (low, high) b)
+
+abbrev first_version : Version → List Entry → Version
+first_version r [] = r
+first_version r (w ∷ ws) = w.version
+
+-- an event that sees one entry and is no scan reads its version
+pub read_is : (e : Event) (w : Entry) → bounds e ≡ None → observed e ≡ w ∷ []
+    → (v : List ℕ) × (e ≡ Read (txn_of e) w.version v)
+read_is (Write t k m v) w b o = absurd (cc (o))
+read_is (Delete t k m) w b o = absurd (cc (o))
+read_is (Read t r v) w b o = (v, ap (λ x. Read t x v) (ap (first_version r) o))
+read_is (Scan t x y es) w b o = absurd (none-some (x, y) (sym b))
+read_is (Commit t) w b o = absurd (cc (o))
+read_is (Abort t) w b o = absurd (cc (o))
+
+-- a list of one element
+pub alone : {X : Type 0} (xs : List X) (x : X) → 1 ≤ length xs → length xs < 2 → x ≡ get_or xs 0 x → xs ≡ x ∷ []
+alone [] x l m e = absurd (omega (arith, l))
+alone (y ∷ []) x l m e = ap (λ z. z ∷ []) (sym e)
+alone (y ∷ z ∷ xs) x l m e = absurd (omega (arith, m))

@@ -1,0 +1,41 @@
+//! Where writers were found last in order lines.
+
+ghost use Rattle.std.specs.Prelude.{◌≡◌, ◌<◌, suc, length};
+ghost use Rattle.adya_values.specs.Meaning.Orders.{writers, place};
+ghost use Rattle.adya_dsg.specs.Machinery.VersionOrders.{ordered_history, order_lines};
+ghost use Rattle.adya_dsg.specs.Machinery.Choices.{key_at};
+
+use crate::version_orders::VersionOrders;
+use adya_values::Txn;
+use std::alloc::{AllocError, Global};
+
+/// For each order line the index among its writers where one was found last, and 0 at the start.
+///
+/// Events are looked at in the order in which they happened, and most of them read the newest version of their key. So
+/// the next writer that is looked for in a line is mostly this one or comes soon after it.
+#[derive(Drop)]
+pub(crate) struct Hints {
+    indexes: Vec<usize>,
+}
+
+impl Hints {
+    /// Makes the hints for these version orders; `AllocError` if memory is refused.
+    pub fn of(alloc: Global, versions: &VersionOrders) -> Result<Hints, AllocError> {
+        let indexes = vec![in alloc; 0; versions.orders().len()]?;
+        Ok(Hints { indexes })
+    }
+
+    /// Returns the place of the transaction in the line, or the place after the last one if it isn't there.
+    pub fn place(&mut self, versions: &VersionOrders, line: usize, txn: Txn) -> usize
+        requires { line < length (order_lines versions.now) }
+        ensures { let h = ordered_history versions.now in
+            result ≡ suc (place (writers h (key_at h line)) txn) }
+    {
+        let Some(hint) = self.indexes.get_mut(line) else {
+            return versions.place(line, txn);
+        };
+        let place = versions.place_near(line, txn, *hint);
+        *hint = place - 1;
+        place
+    }
+}

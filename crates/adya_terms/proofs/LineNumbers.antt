@@ -1,0 +1,90 @@
+-- The lines of keys in an array by the numbers of the keys: one more line.
+use Rattle.std.proofs.Common.{◌≡◌, ℕ, suc, ◌+◌, ◌<◌, true, cond, List, [], length, get_or, set, map, slice_get, slice_index, Some, None, sym, ◌∙◌, ap, subst, arith, inl, inr}
+use Rattle.std.specs.List.{position_or_len}
+use Rattle.std.proofs.lemmas.Bool.{cases_lt, cases_eq, lt-ltb, le-ltb}
+use Rattle.std.proofs.lemmas.Grind.{get_or-set_at}
+use Rattle.std.proofs.lemmas.List.{get_or-set_other, length-set}
+use Rattle.std.proofs.lemmas.List.Sums.{passes_at_first}
+use Rattle.std.proofs.lemmas.Option.{none-some, same_Some}
+use Rattle.lemmas.proofs.Orderings.{bytes_eq-same}
+use Rattle.adya_values.specs.declared.order.Order.{Order}
+use Rattle.adya_values.specs.Meaning.Keys.{Key, key_eq}
+use Rattle.adya_values.specs.Mirror.Events.{order_of}
+use Rattle.adya_values.specs.Mirror.Numbers.{number_in, AreNumbered}
+use Rattle.adya_values.specs.Machinery.Seen.{key_at}
+use Rattle.adya_terms.specs.Mirror.LineNumbers.{key_of, FindsLines}
+use Rattle.lemmas.proofs.Steps.{turn}
+
+abbrev line_key : List Order → ℕ → Key
+line_key os i = key_of (slice_get (map order_of os) i)
+
+key_is : (os : List Order) (i : ℕ) (o : Order) → i < length os → o ≡ get_or os i o → line_key os i ≡ o.key
+key_is os i o l at = ap key_of (turn order_of os i o l at).found
+
+-- the key has the number that it is found with
+pub number_found : (ks : List Key) (k : Key) (n : ℕ) → number_in ks k ≡ Some n → (n < length ks) × (key_at ks n ≡ k)
+number_found ks k n e =
+    let p = position_or_len (key_eq k) ks in
+    elim (cases_lt p (length ks)) [
+      | inl l ↦
+          let same : p ≡ n = same_Some p n (sym (ap (λ b. cond b (Some p) None) (lt-ltb p (length ks) l)) ∙ e) in
+          let at : key_eq k (key_at ks p) ≡ true = passes_at_first (key_eq k) ks [] l in
+          (subst (λ i. i < length ks) same l, ap (key_at ks) (sym same) ∙ sym (bytes_eq-same k (key_at ks p) at))
+      | inr m ↦ absurd (none-some n (sym (ap (λ b. cond b (Some p) None) (le-ltb p (length ks) m)) ∙ e))
+    ]
+
+module _ (ls : List ℕ) (ks : List Key) (numbered : AreNumbered ks) (os : List Order) (i : ℕ) (o : Order) (l : i < length os)
+    (at : o ≡ get_or os i o) (had : FindsLines ls ks os i) where
+  -- the line is of no key with another number
+  apart : (k : ℕ) → k < length ks → line_key os i ≡ key_at ks k → number_in ks o.key ≡ Some k
+  apart k m same = ap (number_in ks) (sym (key_is os i o l at) ∙ same) ∙ numbered k m
+
+  pub none_more : number_in ks o.key ≡ None → FindsLines ls ks os (i + 1)
+  none_more none = record {
+    count = had.count;
+    found = λ k j m e. let was = had.found k j m e in let low = was.0 in (omega (arith, low), was.1);
+    missing = λ k m e j less same. elim (cases_lt j i) [
+      | inl low ↦ had.missing k m e j low same
+      | inr high ↦
+          let here : j ≡ i = omega (arith, less, high) in
+          none-some k (sym none ∙ apart k m (ap (line_key os) (sym here) ∙ same))
+    ];
+  }
+
+  module _ (n : ℕ) (number : number_in ks o.key ≡ Some n) where
+    found_here : (n < length ks) × (key_at ks n ≡ o.key)
+    found_here = number_found ks o.key n number
+
+    abbrev put : List ℕ
+    put = set ls n (i + 1)
+
+    here : (k : ℕ) → k ≡ n → slice_index put k ≡ i + 1
+    here k same = let m = found_here.0 in let c = had.count in get_or-set_at ls n k (i + 1) 0 same (omega (arith, m, c))
+
+    found : (k j : ℕ) → k < length ks → slice_index put k ≡ suc j → (j < i + 1) × (line_key os j ≡ key_at ks k)
+    found k j m e =
+        elim (cases_eq k n) [
+          | inl same ↦
+              let at_i : j ≡ i = let is = here k same in omega (arith, e, is) in
+              (omega (arith, at_i), ap (line_key os) at_i ∙ (key_is os i o l at ∙ (sym found_here.1 ∙ ap (key_at ks) (sym same))))
+          | inr other ↦
+              let was = had.found k j m (sym (get_or-set_other ls n k (i + 1) 0 other) ∙ e) in
+              let low = was.0 in
+              (omega (arith, low), was.1)
+        ]
+
+    missing : (k : ℕ) → k < length ks → slice_index put k ≡ 0 → (j : ℕ) → j < i + 1 → line_key os j ≡ key_at ks k → ⊥
+    missing k m e j less same =
+        elim (cases_eq k n) [
+          | inl this ↦ let is = here k this in omega (arith, e, is)
+          | inr other ↦
+              elim (cases_lt j i) [
+                | inl low ↦ had.missing k m (sym (get_or-set_other ls n k (i + 1) 0 other) ∙ e) j low same
+                | inr high ↦
+                    let at_i : j ≡ i = omega (arith, less, high) in
+                    other (same_Some k n (sym (apart k m (ap (line_key os) (sym at_i) ∙ same)) ∙ number))
+              ]
+        ]
+
+    pub one_more : FindsLines (set ls n (i + 1)) ks os (i + 1)
+    one_more = record { count = length-set ls n (i + 1) ∙ had.count; found = found; missing = missing }

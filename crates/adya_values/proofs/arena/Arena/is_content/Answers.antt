@@ -1,0 +1,24 @@
+use Rattle.std.proofs.Common.{◌≡◌, ◌∙◌, ◌-◌, ◌+◌, ap, sym, refl, arith, drop, take}
+use Rattle.adya_values.specs.Meaning.Histories.{Live}
+use Rattle.adya_values.specs.Meaning.Keys.{key_eq}
+use Rattle.adya_values.specs.Machinery.Seen.{part}
+use Rattle.adya_values.specs.Computing.Faults.{content_eq}
+use Rattle.adya_values.proofs.PackedParts.{live_content}
+use Rattle.adya_values.proofs.arena.Arena.is_content.Goals as goal
+
+pub returns : goal.returns
+returns c =
+    let bs = c.args.self.now.bytes.items in
+    let at = c.args.at in
+    let n = c.args.len in
+    let s = c.args.seen.now in
+    let xs = c.deref.result.now in
+    let ys = c.deref-2.result.now in
+    let one : (at + n) - at ≡ n = omega arith in
+    let two : (s.at + s.len) - s.at ≡ s.len = omega arith in
+    let same : key_eq (part at n xs) (part s.at s.len ys) ≡ key_eq (part at n bs) (part s.at s.len bs) =
+    rw (c.deref.ensures.value, c.deref-2.ensures.value) refl in
+    c.eq.ensures ∙
+    (ap (λ i. key_eq (take i (drop at xs)) (take ((s.at + s.len) - s.at) (drop s.at ys))) one ∙
+    (ap (λ i. key_eq (part at n xs) (take i (drop s.at ys))) two ∙
+    (same ∙ sym (ap (content_eq (Live (part at n bs))) (live_content bs s.at s.len (sym c.is_dead.ensures ∙ c.if-is_dead.false))))))

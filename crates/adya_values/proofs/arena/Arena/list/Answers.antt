@@ -1,0 +1,90 @@
+use Rattle.std.proofs.Common.{◌≡◌, ◌∙◌, ◌+◌, ◌*◌, ◌++◌, ◌≤◌, [], ◌∷◌, ℕ, length, map, ap, sym, subst, arith, Some, slice_get, Vec, Global, vec_len, vec_capacity}
+use Rattle.std.proofs.Math.Bool.{false≢true}
+use Rattle.std.specs.Result.{is_ok}
+use Rattle.adya_values.specs.declared.seen.Seen.{Seen}
+use Rattle.std.proofs.lemmas.Bool.{and_from, le-leb}
+use Rattle.std.proofs.lemmas.List.{length-append, length-map}
+use Rattle.adya_values.specs.Meaning.Histories.{Scan}
+use Rattle.adya_values.specs.Mirror.Events.{entries_of}
+use Rattle.adya_values.specs.declared.arena.Listing.{Listing}
+use Rattle.adya_values.specs.Machinery.Seen.{key_at, part}
+use Rattle.adya_values.specs.Machinery.Packed.{entry_of_seen, is_listing, scan_in}
+use Rattle.adya_values.proofs.PackedParts.{IsKeyAt, found_key, front_same, front_trans, key_stays_in, last_part, slice_get_end}
+use Rattle.adya_values.proofs.arena.Arena.list.Goals as goal
+
+pub returns-in_err-high-clause-extends : goal.returns-in_err-high-clause-extends
+returns-in_err-high-clause-extends c = record {
+  keys = front_trans _ _ _ c.number.ensures.front c.number-2.ensures.front;
+  bytes = front_same _ _ (ap (λ v. v.items) (c.number-2.ensures.bytes ∙ c.number.ensures.bytes));
+  listings = front_same _ _ (ap (λ v. v.items) (c.number-2.ensures.listings ∙ c.number.ensures.listings));
+  seen = front_same _ _ (ap (λ v. v.items) (c.number-2.ensures.seen ∙ c.number.ensures.seen));
+}
+
+pub returns-in_err-add_entries-clause-succeeds : goal.returns-in_err-add_entries-clause-succeeds
+returns-in_err-add_entries-clause-succeeds c room =
+    let n = length (entries_of c.args.entries.now) in
+    let fits = c.add_entries.ensures.succeeds
+    (record {
+      keys = omega (arith, room.keys, c.number.ensures.spare, c.number-2.ensures.spare);
+      numbers = omega (arith, room.numbers, c.number.ensures.count, c.number-2.ensures.count);
+      bytes = subst (λ (v : Vec ℕ Global). vec_len v + n * 64 ≤ vec_capacity v) (sym (c.number-2.ensures.bytes ∙ c.number.ensures.bytes)) (omega (arith, room.bytes));
+      seen = subst (λ (v : Vec Seen Global). vec_len v + n ≤ vec_capacity v) (sym (c.number-2.ensures.seen ∙ c.number.ensures.seen)) room.seen;
+    }) in
+    absurd (false≢true (sym (ap is_ok c.in_err-add_entries.was) ∙ fits))
+
+abbrev listing : goal.In_ok-push → Listing
+listing c = record {
+  low = c.in_ok-low.low;
+  high = c.in_ok-high.high;
+  from = c.len-from.result;
+  count = c.len.result;
+}
+
+found : (c : goal.In_ok-push) → slice_get c.push.new.self.items c.len-listing.result ≡ Some (listing c)
+found c =
+    let ls = c.number-2.new.self.listings in
+    ap (λ v. slice_get v c.len-listing.result) (c.in_ok-push.ensures.items ∙ ap (λ v. v.items ++ listing c ∷ []) c.add_entries.ensures.listings) ∙
+    (ap (slice_get (ls.items ++ listing c ∷ [])) (c.len-listing.ensures ∙ ls.ok.0) ∙ slice_get_end ls.items (listing c))
+
+low_at : (c : goal.In_ok-push) → IsKeyAt c.add_entries.new.self.keys.keys c.in_ok-low.low c.args.low
+low_at c =
+    key_stays_in _ _ c.add_entries.ensures.extends.keys c.in_ok-low.low c.args.low
+    (key_stays_in c.number.new.self.keys.keys c.number-2.new.self.keys.keys c.number-2.ensures.front c.in_ok-low.low c.args.low
+    (found_key c.number.new.self.keys.keys c.in_ok-low.low c.args.low c.in_ok-low.ensures.number))
+
+high_at : (c : goal.In_ok-push) → IsKeyAt c.add_entries.new.self.keys.keys c.in_ok-high.high c.args.high
+high_at c =
+    key_stays_in _ _ c.add_entries.ensures.extends.keys c.in_ok-high.high c.args.high
+    (found_key c.number-2.new.self.keys.keys c.in_ok-high.high c.args.high c.in_ok-high.ensures.number)
+
+pub returns-clause-listed : goal.returns-clause-listed
+returns-clause-listed c =
+    let l = listing c in
+    let b = c.add_entries.new.self in
+    let a = c.number-2.new.self in
+    let es = entries_of c.args.entries.now in
+    let count : length b.seen.items ≡ length a.seen.items + length es =
+    sym (length-map b.seen.items (entry_of_seen b)) ∙
+    (ap length c.in_ok-add_entries.ensures.entries ∙
+    (length-append (map (entry_of_seen a) a.seen.items) es ∙ ap (λ n. n + length es) (length-map a.seen.items (entry_of_seen a)))) in
+    let within : l.from + l.count ≤ length b.seen.items = omega (arith, c.len-from.ensures, a.seen.ok.0, count, c.len.ensures) in
+    ap (is_listing (length b.keys.keys) (length b.seen.items)) (found c) ∙
+    and_from _ _ (low_at c).there (and_from _ _ (high_at c).there (le-leb (l.from + l.count) (length b.seen.items) within))
+
+pub returns-clause-scan : goal.returns-clause-scan
+returns-clause-scan c t =
+    let l = listing c in
+    let b = c.add_entries.new.self in
+    let a = c.number-2.new.self in
+    let es = entries_of c.args.entries.now in
+    let ks = b.keys.keys in
+    let before = map (entry_of_seen a) a.seen.items in
+    let all = map (entry_of_seen b) b.seen.items in
+    let from : l.from ≡ length before = c.len-from.ensures ∙ (a.seen.ok.0 ∙ sym (length-map a.seen.items (entry_of_seen a))) in
+    ap (scan_in ks all t) (found c) ∙
+    (ap (λ k. Scan t k (key_at ks l.high) (part l.from l.count all)) (low_at c).key ∙
+    (ap (λ k. Scan t c.args.low k (part l.from l.count all)) (high_at c).key ∙
+    ap (Scan t c.args.low c.args.high)
+    (ap (λ n. part n l.count all) from ∙
+    (ap (λ n. part (length before) n all) c.len.ensures ∙
+    (ap (part (length before) (length es)) c.in_ok-add_entries.ensures.entries ∙ last_part before es)))))

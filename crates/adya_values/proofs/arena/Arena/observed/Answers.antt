@@ -1,0 +1,18 @@
+use Rattle.std.proofs.Common.{◌≡◌, ◌∙◌, ap, sym, subst, length, map, true}
+use Rattle.adya_values.specs.Meaning.Events.{observed}
+use Rattle.adya_values.specs.Mirror.Events.{event_of_row}
+use Rattle.adya_values.specs.Machinery.Packed.{entry_of_seen, is_row_of, scan_in}
+use Rattle.adya_values.proofs.PackedParts.{part-map}
+use Rattle.adya_values.proofs.PackedRows.{found_listing}
+use Rattle.adya_values.proofs.arena.Arena.observed.Goals as goal
+
+pub returns-in-Scan-clause-entries : goal.returns-in-Scan-clause-entries
+returns-in-Scan-clause-entries c =
+    let a = c.args.self.now in
+    let l = c.index.result.now in
+    let es = map (entry_of_seen a) a.seen.items in
+    let there = subst (λ r. is_row_of a r ≡ true) c.in-Scan.is c.requires in
+    let found = found_listing (length a.keys.keys) (length a.seen.items) a.listings.items c.in-Scan.listing l c.index.ensures there in
+    ap (map (entry_of_seen a)) c.listed.ensures.seen ∙
+    (sym (part-map (entry_of_seen a) l.from l.count a.seen.items) ∙
+    (sym (ap (λ o. observed (scan_in a.keys.keys es c.in-Scan.txn o)) found) ∙ ap (λ r. observed (event_of_row a r)) (sym c.in-Scan.is)))

@@ -1,5 +1,0 @@
-use Rattle.std.proofs.Common.{rules}
-use Rattle.adya_values.proofs.event.Event.copy.Goals as goal
-
-pub returns : goal.returns
-returns c = search rules

@@ -1,0 +1,5 @@
+use Rattle.adya_values.proofs.KeyNumbers.{are_numbered}
+use Rattle.adya_values.proofs.events.Events.key_count.Goals as goal
+
+pub returns-clause-numbered : goal.returns-clause-numbered
+returns-clause-numbered c = are_numbered c.args.self.now.arena.keys.keys c.args.self.now.arena.unique

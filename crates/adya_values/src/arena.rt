@@ -1,0 +1,652 @@
+//! What events hold, packed: each key once, the bytes of all values one after the other, and what scans list.
+
+ghost use Rattle.std.specs.Prelude.{◌≡◌, ◌≤◌, ◌<◌, ◌+◌, ◌++◌, ◌∷◌, [], ℕ, List, true, map, Some, slice_get, slice_index_or, length, vec_len, vec_capacity, IsOk, IfOk, OnOk, OnErr, option_map, is_some, false, IfSome, MatchOption};
+ghost use Rattle.adya_values.specs.Meaning.Keys.{is_value, key_eq};
+ghost use Rattle.adya_values.specs.Meaning.Histories.{Abort, Live, Scan};
+ghost use Rattle.adya_values.specs.Meaning.Events.{aborts, observed, shown, txn_of, written};
+ghost use Rattle.adya_values.specs.Computing.Faults.{content_eq, is_entry, version_eq};
+ghost use Rattle.adya_values.specs.Machinery.Seen.{content_in, is_content, is_part, is_seen, key_at, part, IsFront};
+ghost use Rattle.std.specs.List.{list_all};
+ghost use Rattle.std.proofs.Props.{props};
+ghost use Rattle.indexmap.specs.IndexSet.{spare, IsUnique};
+
+use crate::{
+    Content, Entry, Event, EventView, Key, Listed, MAX_VALUE_LEN, Mod, NumberedVersion, Observed,
+    PackedEntries, Seen, Txn, Value, Version,
+};
+use indexmap::IndexSet;
+use std::alloc::{AllocError, Global};
+
+/// So many keys have numbers.
+const MOST_KEYS: usize = 4_294_967_295;
+
+/// An event of a list. Of its key it has the number, and of its value the place where the bytes begin and how many there are.
+/// The fields stand in such an order that they leave no gap: a row takes 24 bytes.
+#[derive(Clone, Copy)]
+pub(crate) enum Row {
+    Write {
+        len: u8,
+        m: Mod,
+        txn: Txn,
+        key: u32,
+        at: usize,
+    },
+    Delete {
+        m: Mod,
+        txn: Txn,
+        key: u32,
+    },
+    Read {
+        len: u8,
+        m: Mod,
+        txn: Txn,
+        writer: Txn,
+        key: u32,
+        at: usize,
+    },
+    /// The place of its listing says the rest.
+    Scan {
+        txn: Txn,
+        listing: usize,
+    },
+    Commit {
+        txn: Txn,
+    },
+    Abort {
+        txn: Txn,
+    },
+}
+
+/// The numbers of the bounds of a scan, and which of the entries it lists.
+#[derive(Clone, Copy)]
+pub(crate) struct Listing {
+    pub(crate) low: u32,
+    pub(crate) high: u32,
+    pub(crate) from: usize,
+    pub(crate) count: usize,
+}
+
+/// The keys, each of which has its index for a number, the bytes of values, and what scans list.
+#[derive(Drop)]
+pub(crate) struct Arena {
+    pub(crate) keys: IndexSet<Key>,
+    pub(crate) bytes: Vec<u8>,
+    pub(crate) listings: Vec<Listing>,
+    pub(crate) seen: Vec<Seen>,
+    pub ghost there: { list_all (is_seen (length keys.keys) bytes.items) seen.items ≡ true },
+    pub ghost few: { length keys.keys < 4294967296 },
+    pub ghost unique: { IsUnique key_eq keys } by { Prim.hlevel props },
+}
+
+impl Arena {
+    ghost use Rattle.adya_values.specs.Mirror.Events.{content_of, entries_of, entry_of, event_of, event_of_row, view_of, value_of};
+    ghost use Rattle.adya_values.specs.Mirror.Numbers.{bounds, both_at, number_in, seen_in, version_in};
+    ghost use Rattle.adya_values.specs.Machinery.Packed.{entry_of_seen, is_row_of, is_listing, is_seen_of, scan_in, entry_count, CanSee, Extends, HasRoomIn};
+
+    /// Makes an empty arena. It takes no memory.
+    pub(crate) fn new(alloc: Global) -> Arena {
+        Arena {
+            keys: IndexSet::new(alloc),
+            bytes: Vec::new(alloc),
+            listings: Vec::new(alloc),
+            seen: Vec::new(alloc),
+        }
+    }
+
+    /// Makes room for what one event holds that lists no more than so many entries. What was there stays.
+    pub(crate) fn reserve(&mut self, entries: usize) -> Result<(), AllocError>
+        ensures room { OnOk result (HasRoomIn self.new entries) }
+        ensures keys { self.new.keys.keys ≡ self.old.keys.keys }
+        ensures bytes { self.new.bytes.items ≡ self.old.bytes.items }
+        ensures listings { self.new.listings.items ≡ self.old.listings.items }
+        ensures seen { self.new.seen.items ≡ self.old.seen.items }
+    {
+        if entries >= MOST_KEYS - 2 || self.keys.len() >= MOST_KEYS - 2 - entries {
+            return Err(AllocError);
+        }
+        self.keys.reserve(entries + 2)?;
+        self.bytes.reserve((entries + 1) * MAX_VALUE_LEN)?;
+        self.listings.reserve(1)?;
+        self.seen.reserve(entries)
+    }
+
+    /// Returns an equal arena.
+    pub(crate) fn copy(&self, alloc: Global) -> Result<Arena, AllocError>
+        ensures keys { IfOk result (λ a. a.keys.keys ≡ self.now.keys.keys) }
+        ensures bytes { IfOk result (λ a. a.bytes.items ≡ self.now.bytes.items) }
+        ensures listings { IfOk result (λ a. a.listings.items ≡ self.now.listings.items) }
+        ensures seen { IfOk result (λ a. a.seen.items ≡ self.now.seen.items) }
+    {
+        Ok(Arena {
+            keys: self.keys.clone()?,
+            bytes: Vec::from_slice(alloc, &self.bytes)?,
+            listings: Vec::from_slice(alloc, &self.listings)?,
+            seen: Vec::from_slice(alloc, &self.seen)?,
+        })
+    }
+
+    /// Returns the event of the row.
+    #[inline(always)]
+    pub(crate) fn event(&self, row: Row) -> EventView<'_>
+        requires { is_row_of self.now row ≡ true }
+        ensures { view_of result ≡ event_of_row self.now row }
+    {
+        match row {
+            Row::Write {
+                txn,
+                m,
+                key,
+                at,
+                len,
+            } => EventView::Write {
+                txn,
+                key: self.key(key),
+                m,
+                value: self.value(at, len),
+            },
+            Row::Delete { txn, m, key } => EventView::Delete {
+                txn,
+                key: self.key(key),
+                m,
+            },
+            Row::Read {
+                txn,
+                writer,
+                m,
+                key,
+                at,
+                len,
+            } => EventView::Read {
+                txn,
+                version: Version {
+                    key: self.key(key),
+                    txn: writer,
+                    m,
+                },
+                value: self.value(at, len),
+            },
+            Row::Scan { txn, listing } => self.scan(txn, self.listings[listing]),
+            Row::Commit { txn } => EventView::Commit { txn },
+            Row::Abort { txn } => EventView::Abort { txn },
+        }
+    }
+
+    /// Returns the transaction of the event of the row.
+    #[inline(always)]
+    pub(crate) fn txn(&self, row: Row) -> Txn
+        requires { is_row_of self.now row ≡ true }
+        ensures { result ≡ txn_of (event_of_row self.now row) }
+    {
+        match row {
+            Row::Write { txn, .. } => txn,
+            Row::Delete { txn, .. } => txn,
+            Row::Read { txn, .. } => txn,
+            Row::Scan { txn, .. } => txn,
+            Row::Commit { txn } => txn,
+            Row::Abort { txn } => txn,
+        }
+    }
+
+    /// Returns the transaction that the event of the row aborts, if it is an abort.
+    #[inline(always)]
+    pub(crate) fn abort(&self, row: Row) -> Option<Txn>
+        requires { is_row_of self.now row ≡ true }
+        ensures { MatchOption result ((t : ℕ) → aborts t (event_of_row self.now row) ≡ false) (λ t. event_of_row self.now row ≡ Abort t) }
+    {
+        match row {
+            Row::Abort { txn } => Some(txn),
+            Row::Write { .. } => None,
+            Row::Delete { .. } => None,
+            Row::Read { .. } => None,
+            Row::Scan { .. } => None,
+            Row::Commit { .. } => None,
+        }
+    }
+
+    /// Returns whether the event of the row writes a value.
+    #[inline(always)]
+    pub(crate) fn shows(&self, row: Row) -> bool
+        requires { is_row_of self.now row ≡ true }
+        ensures { result ≡ is_some (shown (written (event_of_row self.now row))) }
+    {
+        match row {
+            Row::Write { .. } => true,
+            Row::Delete { .. } => false,
+            Row::Read { .. } => false,
+            Row::Scan { .. } => false,
+            Row::Commit { .. } => false,
+            Row::Abort { .. } => false,
+        }
+    }
+
+    /// Returns the version that the event of the row writes, by the number of its key.
+    #[inline(always)]
+    pub(crate) fn numbered(&self, row: Row) -> Option<NumberedVersion>
+        requires { is_row_of self.now row ≡ true }
+        ensures version { option_map (version_in self.now.keys.keys) result ≡ option_map (λ w. w.version) (written (event_of_row self.now row)) }
+        ensures there { IfSome result (λ v. v.key < length self.now.keys.keys) }
+    {
+        match row {
+            Row::Write { txn, m, key, .. } => Some(NumberedVersion { key, txn, m }),
+            Row::Delete { txn, m, key } => Some(NumberedVersion { key, txn, m }),
+            Row::Read { .. } => None,
+            Row::Scan { .. } => None,
+            Row::Commit { .. } => None,
+            Row::Abort { .. } => None,
+        }
+    }
+
+    /// Returns what the event of the row sees.
+    #[inline(always)]
+    pub(crate) fn observed(&self, row: Row) -> Observed<'_>
+        requires { is_row_of self.now row ≡ true }
+        ensures entries { map (entry_of_seen self.now) (seen_in result) ≡ observed (event_of_row self.now row) }
+        ensures there { list_all (is_seen_of self.now) (seen_in result) ≡ true }
+    {
+        match row {
+            Row::Read {
+                len,
+                m,
+                writer,
+                key,
+                at,
+                ..
+            } => Observed::One([Seen {
+                len,
+                m,
+                txn: writer,
+                key,
+                at,
+            }]),
+            Row::Scan { listing, .. } => Observed::Many(self.listed(self.listings[listing])),
+            Row::Write { .. } => Observed::Many(&[]),
+            Row::Delete { .. } => Observed::Many(&[]),
+            Row::Commit { .. } => Observed::Many(&[]),
+            Row::Abort { .. } => Observed::Many(&[]),
+        }
+    }
+
+    /// Returns the numbers of the bounds of the scan, if the row is that of one.
+    #[inline(always)]
+    pub(crate) fn bounds(&self, row: Row) -> Option<(u32, u32)>
+        requires { is_row_of self.now row ≡ true }
+        ensures keys { option_map (both_at self.now.keys.keys) result ≡ bounds (event_of_row self.now row) }
+        ensures there { IfSome result (λ b. (b.0 < length self.now.keys.keys) × (b.1 < length self.now.keys.keys)) }
+    {
+        match row {
+            Row::Scan { listing, .. } => {
+                let Listing { low, high, .. } = self.listings[listing];
+                Some((low, high))
+            }
+            Row::Write { .. } => None,
+            Row::Delete { .. } => None,
+            Row::Read { .. } => None,
+            Row::Commit { .. } => None,
+            Row::Abort { .. } => None,
+        }
+    }
+
+    /// Returns whether the event of the row writes the version that is seen with its content.
+    #[inline(always)]
+    pub(crate) fn wrote(&self, row: Row, seen: &Seen) -> bool
+        requires row { is_row_of self.now row ≡ true }
+        requires seen { is_seen_of self.now seen.now ≡ true }
+        ensures { result ≡ is_entry (written (event_of_row self.now row)) (entry_of_seen self.now seen.now) }
+    {
+        match row {
+            Row::Write {
+                txn,
+                m,
+                key,
+                at,
+                len,
+            } => {
+                self.is_version(NumberedVersion { key, txn, m }, seen)
+                    && self.is_content(at, len, seen)
+            }
+            Row::Delete { txn, m, key } => {
+                self.is_version(NumberedVersion { key, txn, m }, seen) && seen.is_dead()
+            }
+            Row::Read { .. } => false,
+            Row::Scan { .. } => false,
+            Row::Commit { .. } => false,
+            Row::Abort { .. } => false,
+        }
+    }
+
+    #[inline(always)]
+    fn is_version(&self, version: NumberedVersion, seen: &Seen) -> bool
+        requires version { version.key < length self.now.keys.keys }
+        requires seen { is_seen_of self.now seen.now ≡ true }
+        ensures { result ≡ version_eq (version_in self.now.keys.keys version) (entry_of_seen self.now seen.now).version }
+    {
+        version == seen.version()
+    }
+
+    #[inline(always)]
+    fn is_content(&self, at: usize, len: u8, seen: &Seen) -> bool
+        requires value { is_part self.now.bytes.items at len ≡ true }
+        requires seen { is_content self.now.bytes.items seen.now.at seen.now.len ≡ true }
+        ensures { result ≡ content_eq (Live (part at len self.now.bytes.items)) (content_in self.now.bytes.items seen.now.at seen.now.len) }
+    {
+        if seen.is_dead() {
+            return false;
+        }
+        &self.bytes[at..at + len as usize] == &self.bytes[seen.at..seen.at + seen.len as usize]
+    }
+
+    /// Returns the entry that is seen.
+    #[inline(always)]
+    pub(crate) fn entry(&self, seen: &Seen) -> Entry
+        requires { is_seen_of self.now seen.now ≡ true }
+        ensures { entry_of result ≡ entry_of_seen self.now seen.now }
+    {
+        seen.entry(self.keys.as_slice(), &self.bytes)
+    }
+
+    /// Returns how many keys there are.
+    #[inline(always)]
+    pub(crate) fn key_count(&self) -> usize
+        ensures { result ≡ length self.now.keys.keys }
+    {
+        self.keys.len()
+    }
+
+    /// Returns the number of the key.
+    #[inline(always)]
+    pub(crate) fn number_of(&self, key: Key) -> Option<u32>
+        ensures number { result ≡ number_in self.now.keys.keys key }
+        ensures there { IfSome result (λ n. n < length self.now.keys.keys) }
+    {
+        match self.keys.get_index_of(&key) {
+            Some(number) => Some(number as u32),
+            None => None,
+        }
+    }
+
+    /// Returns the version.
+    #[inline(always)]
+    pub(crate) fn version_of(&self, version: NumberedVersion) -> Version
+        requires { version.key < length self.now.keys.keys }
+        ensures { result ≡ version_in self.now.keys.keys version }
+    {
+        Version {
+            key: self.key(version.key),
+            txn: version.txn,
+            m: version.m,
+        }
+    }
+
+    /// Returns the key with the number.
+    #[inline(always)]
+    pub(crate) fn key(&self, number: u32) -> Key
+        requires { number < length self.now.keys.keys }
+        ensures { result ≡ key_at self.now.keys.keys number }
+    {
+        self.keys.as_slice()[number as usize]
+    }
+
+    /// Returns the key with the number; the other key if no key has the number.
+    #[inline(always)]
+    pub(crate) fn key_or(&self, number: u32, other: Key) -> Key
+        ensures { result ≡ slice_index_or self.now.keys.keys number other }
+    {
+        match self.keys.get_index(number as usize) {
+            Some(key) => *key,
+            None => other,
+        }
+    }
+
+    #[inline(always)]
+    fn value(&self, at: usize, len: u8) -> Value
+        requires { is_part self.now.bytes.items at len ≡ true }
+        ensures { value_of result ≡ part at len self.now.bytes.items }
+    {
+        Value::from_valid(&self.bytes[at..at + len as usize])
+    }
+
+    #[inline(always)]
+    fn scan(&self, txn: Txn, listing: Listing) -> EventView<'_>
+        requires { is_listing (length self.now.keys.keys) (length self.now.seen.items) (Some listing) ≡ true }
+        ensures { view_of result ≡ scan_in self.now.keys.keys (map (entry_of_seen self.now) self.now.seen.items) txn (Some listing) }
+    {
+        EventView::Scan {
+            txn,
+            low: self.key(listing.low),
+            high: self.key(listing.high),
+            entries: Listed::Packed(PackedEntries {
+                keys: self.keys.as_slice(),
+                bytes: &self.bytes,
+                seen: self.listed(listing),
+            }),
+        }
+    }
+
+    /// Returns what the listing lists.
+    #[inline(always)]
+    fn listed(&self, listing: Listing) -> &[Seen]
+        requires { is_listing (length self.now.keys.keys) (length self.now.seen.items) (Some listing) ≡ true }
+        ensures seen { result.now ≡ part listing.from listing.count self.now.seen.items }
+        ensures there { list_all (is_seen_of self.now) result.now ≡ true }
+    {
+        &self.seen[listing.from..listing.from + listing.count]
+    }
+
+    /// Keeps what the event holds, and returns its row. If memory is refused, or if there are 4,294,967,295 keys, what was
+    /// there is still where it was.
+    pub(crate) fn keep(&mut self, event: &EventView<'_>) -> Result<Row, AllocError>
+        ensures extends { Extends self.old self.new }
+        ensures row { IfOk result (λ r. is_row_of self.new r ≡ true) }
+        ensures event { IfOk result (λ r. event_of_row self.new r ≡ view_of event.now) }
+        ensures succeeds { HasRoomIn self.old (entry_count (view_of event.now)) → IsOk result }
+    {
+        match event {
+            EventView::Write { txn, key, m, value } => {
+                let key = self.number(*key)?;
+                let at = self.add(value.bytes())?;
+                Ok(Row::Write {
+                    txn: *txn,
+                    m: *m,
+                    key,
+                    at,
+                    len: value.bytes().len() as u8,
+                })
+            }
+            EventView::Delete { txn, key, m } => Ok(Row::Delete {
+                txn: *txn,
+                m: *m,
+                key: self.number(*key)?,
+            }),
+            EventView::Read {
+                txn,
+                version,
+                value,
+            } => {
+                let key = self.number(version.key)?;
+                let at = self.add(value.bytes())?;
+                Ok(Row::Read {
+                    txn: *txn,
+                    writer: version.txn,
+                    m: version.m,
+                    key,
+                    at,
+                    len: value.bytes().len() as u8,
+                })
+            }
+            EventView::Scan {
+                txn,
+                low,
+                high,
+                entries,
+            } => {
+                let listing = self.list(*low, *high, entries)?;
+                Ok(Row::Scan { txn: *txn, listing })
+            }
+            EventView::Commit { txn } => Ok(Row::Commit { txn: *txn }),
+            EventView::Abort { txn } => Ok(Row::Abort { txn: *txn }),
+        }
+    }
+
+    /// Keeps what the event holds, as [`keep`](Arena::keep) does.
+    pub(crate) fn keep_owned(&mut self, event: &Event) -> Result<Row, AllocError>
+        ensures extends { Extends self.old self.new }
+        ensures row { IfOk result (λ r. is_row_of self.new r ≡ true) }
+        ensures event { IfOk result (λ r. event_of_row self.new r ≡ event_of event.now) }
+        ensures succeeds { HasRoomIn self.old (entry_count (event_of event.now)) → IsOk result }
+    {
+        let Some(view) = Some(event.view()) else {
+            unreachable!()
+        };
+        self.keep(&view)
+    }
+
+    /// Returns the number of the key, which it gets if it has none.
+    fn number(&mut self, key: Key) -> Result<u32, AllocError>
+        ensures number { IfOk result (λ n. slice_get self.new.keys.keys n ≡ Some key) }
+        ensures front { IsFront self.old.keys.keys self.new.keys.keys }
+        ensures bytes { self.new.bytes ≡ self.old.bytes }
+        ensures listings { self.new.listings ≡ self.old.listings }
+        ensures seen { self.new.seen ≡ self.old.seen }
+        ensures succeeds { 1 ≤ spare self.old.keys → length self.old.keys.keys + 1 < 4294967296 → IsOk result }
+        ensures spare { spare self.old.keys ≤ spare self.new.keys + 1 }
+        ensures count { length self.new.keys.keys ≤ length self.old.keys.keys + 1 }
+    {
+        number_in(&mut self.keys, key)
+    }
+
+    /// Adds a text, and returns its place.
+    fn add(&mut self, text: &[u8]) -> Result<usize, AllocError>
+        ensures at { IfOk result (λ n. n ≡ length self.old.bytes.items) }
+        ensures bytes { OnOk result (self.new.bytes.items ≡ self.old.bytes.items ++ text.now) }
+        ensures front { IsFront self.old.bytes.items self.new.bytes.items }
+        ensures keys { self.new.keys ≡ self.old.keys }
+        ensures listings { self.new.listings ≡ self.old.listings }
+        ensures seen { self.new.seen ≡ self.old.seen }
+        ensures len { vec_len self.new.bytes ≤ vec_len self.old.bytes + length text.now }
+        ensures capacity { vec_capacity self.old.bytes ≤ vec_capacity self.new.bytes }
+        ensures succeeds { vec_len self.old.bytes + length text.now ≤ vec_capacity self.old.bytes → IsOk result }
+    {
+        add_to(&mut self.bytes, text)
+    }
+
+    /// Keeps the entry, and returns its row. If memory is refused, what was there is still where it was.
+    fn see(&mut self, entry: &Entry) -> Result<Seen, AllocError>
+        ensures extends { Extends self.old self.new }
+        ensures listings { self.new.listings ≡ self.old.listings }
+        ensures seen { self.new.seen ≡ self.old.seen }
+        ensures there { IfOk result (λ s. is_seen_of self.new s ≡ true) }
+        ensures entry { IfOk result (λ s. entry_of_seen self.new s ≡ entry_of entry.now) }
+        ensures succeeds { (n : ℕ) → CanSee self.old (n + 1) → IsOk result × CanSee self.new n }
+    {
+        let key = self.number(entry.version.key)?;
+        let (at, len) = self.keep_content(&entry.content)?;
+        Ok(Seen {
+            len,
+            m: entry.version.m,
+            txn: entry.version.txn,
+            key,
+            at,
+        })
+    }
+
+    /// Keeps the value, if there is one, and returns its place and its length.
+    fn keep_content(&mut self, content: &Content) -> Result<(usize, u8), AllocError>
+        ensures kept { IfOk result (λ p. is_content self.new.bytes.items p.0 p.1 ≡ true) }
+        ensures content { IfOk result (λ p. content_in self.new.bytes.items p.0 p.1 ≡ content_of content.now) }
+        ensures front { IsFront self.old.bytes.items self.new.bytes.items }
+        ensures keys { self.new.keys ≡ self.old.keys }
+        ensures listings { self.new.listings ≡ self.old.listings }
+        ensures seen { self.new.seen ≡ self.old.seen }
+        ensures len { vec_len self.new.bytes ≤ vec_len self.old.bytes + 64 }
+        ensures capacity { vec_capacity self.old.bytes ≤ vec_capacity self.new.bytes }
+        ensures succeeds { vec_len self.old.bytes + 64 ≤ vec_capacity self.old.bytes → IsOk result }
+    {
+        match content {
+            Content::Dead => Ok((0, 0)),
+            Content::Live(value) => {
+                let at = self.add(value.bytes())?;
+                Ok((at, value.bytes().len() as u8))
+            }
+        }
+    }
+
+    fn add_entry(&mut self, entry: &Entry) -> Result<(), AllocError>
+        ensures extends { Extends self.old self.new }
+        ensures listings { self.new.listings ≡ self.old.listings }
+        ensures entries { OnOk result (map (entry_of_seen self.new) self.new.seen.items
+            ≡ map (entry_of_seen self.old) self.old.seen.items ++ entry_of entry.now ∷ []) }
+        ensures succeeds { (n : ℕ) → CanSee self.old (n + 1) → IsOk result × CanSee self.new n }
+    {
+        let seen = self.see(entry)?;
+        self.seen.push(seen)?;
+        Ok(())
+    }
+
+    fn add_entries(&mut self, entries: &Listed<'_>) -> Result<(), AllocError>
+        ensures extends { Extends self.old self.new }
+        ensures listings { self.new.listings ≡ self.old.listings }
+        ensures entries { OnOk result (map (entry_of_seen self.new) self.new.seen.items
+            ≡ map (entry_of_seen self.old) self.old.seen.items ++ entries_of entries.now) }
+        ensures succeeds { CanSee self.old (length (entries_of entries.now)) → IsOk result }
+    {
+        for j in 0..entries.len() {
+            self.add_entry(&entries.at(j))?;
+        }
+        Ok(())
+    }
+
+    /// Adds a listing with these bounds and entries, and returns its place.
+    fn list(&mut self, low: Key, high: Key, entries: &Listed<'_>) -> Result<usize, AllocError>
+        ensures extends { Extends self.old self.new }
+        ensures listed { IfOk result (λ l. is_listing (length self.new.keys.keys) (length self.new.seen.items) (slice_get self.new.listings.items l) ≡ true) }
+        ensures scan { (t : ℕ) → IfOk result (λ l. scan_in self.new.keys.keys (map (entry_of_seen self.new) self.new.seen.items) t (slice_get self.new.listings.items l)
+            ≡ Scan t low high (entries_of entries.now)) }
+        ensures succeeds { HasRoomIn self.old (length (entries_of entries.now)) → IsOk result }
+    {
+        let low = self.number(low)?;
+        let high = self.number(high)?;
+        let listing = self.listings.len();
+        let from = self.seen.len();
+        self.add_entries(entries)?;
+        self.listings.push(Listing {
+            low,
+            high,
+            from,
+            count: entries.len(),
+        })?;
+        Ok(listing)
+    }
+}
+
+/// Returns the number of the key among the keys, to which it is added if it isn't there.
+fn number_in(keys: &mut IndexSet<Key>, key: Key) -> Result<u32, AllocError>
+    requires few { length keys.old.keys < 4294967296 }
+    requires unique { IsUnique key_eq keys.old }
+    ensures number { IfOk result (λ n. slice_get keys.new.keys n ≡ Some key) }
+    ensures front { IsFront keys.old.keys keys.new.keys }
+    ensures few { length keys.new.keys < 4294967296 }
+    ensures unique { IsUnique key_eq keys.new }
+    ensures succeeds { 1 ≤ spare keys.old → length keys.old.keys + 1 < 4294967296 → IsOk result }
+    ensures spare { spare keys.old ≤ spare keys.new + 1 }
+    ensures count { length keys.new.keys ≤ length keys.old.keys + 1 }
+{
+    if keys.len() >= MOST_KEYS {
+        return Err(AllocError);
+    }
+    let (index, _) = keys.insert_full(key)?;
+    Ok(index as u32)
+}
+
+/// Adds the text to the bytes, and returns its place.
+fn add_to(bytes: &mut Vec<u8>, text: &[u8]) -> Result<usize, AllocError>
+    ensures at { IfOk result (λ n. n ≡ length bytes.old.items) }
+    ensures bytes { OnOk result (bytes.new.items ≡ bytes.old.items ++ text.now) }
+    ensures front { IsFront bytes.old.items bytes.new.items }
+    ensures len { vec_len bytes.new ≤ vec_len bytes.old + length text.now }
+    ensures capacity { vec_capacity bytes.old ≤ vec_capacity bytes.new }
+    ensures succeeds { vec_len bytes.old + length text.now ≤ vec_capacity bytes.old → IsOk result }
+{
+    let at = bytes.len();
+    bytes.extend_from_slice(text)?;
+    Ok(at)
+}

@@ -1,0 +1,95 @@
+//! What the events of a list see, by the numbers of keys.
+
+ghost use Rattle.std.specs.Prelude.{◌≡◌, ◌==◌, length, true};
+ghost use Rattle.adya_values.specs.Machinery.Seen.{content_in, entry_in, is_content, is_seen};
+
+use crate::{Content, Entry, Key, Mod, NumberedVersion, Txn, Value, Version};
+
+/// An entry that an event of a list sees, packed. Of its key it has the number, and of its value the place where the bytes
+/// begin and how many there are; a dead version has none. The list says the rest.
+#[derive(Clone, Copy)]
+pub struct Seen {
+    pub(crate) len: u8,
+    /// The number of the write among its transaction's writes and deletes of the key, counted from 1.
+    pub m: Mod,
+    /// The transaction that wrote it.
+    pub txn: Txn,
+    /// The number of the key.
+    pub key: u32,
+    pub(crate) at: usize,
+}
+
+impl Seen {
+    ghost use Rattle.adya_values.specs.Mirror.Events.{content_of, entry_of};
+
+    /// Returns the version, by the number of its key.
+    #[inline(always)]
+    pub fn version(&self) -> NumberedVersion
+        ensures { result ≡ record { key = self.now.key; txn = self.now.txn; m = self.now.m } }
+    {
+        NumberedVersion {
+            key: self.key,
+            txn: self.txn,
+            m: self.m,
+        }
+    }
+
+    /// Returns whether the version is dead.
+    #[inline(always)]
+    pub(crate) fn is_dead(&self) -> bool
+        ensures { result ≡ (self.now.len == 0) }
+    {
+        self.len == 0
+    }
+
+    /// Returns the entry, given the keys and the bytes of all values.
+    #[inline(always)]
+    pub(crate) fn entry(&self, keys: &[Key], bytes: &[u8]) -> Entry
+        requires { is_seen (length keys.now) bytes.now self.now ≡ true }
+        ensures { entry_of result ≡ entry_in keys.now bytes.now self.now }
+    {
+        Entry {
+            version: Version {
+                key: keys[self.key as usize],
+                txn: self.txn,
+                m: self.m,
+            },
+            content: self.content(bytes),
+        }
+    }
+
+    #[inline(always)]
+    fn content(&self, bytes: &[u8]) -> Content
+        requires { is_content bytes.now self.now.at self.now.len ≡ true }
+        ensures { content_of result ≡ content_in bytes.now self.now.at self.now.len }
+    {
+        if self.len == 0 {
+            return Content::Dead;
+        }
+        Content::Live(Value::from_valid(&bytes[self.at..self.at + self.len as usize]))
+    }
+}
+
+/// What an event sees: the entry that it reads, or all that a scan lists.
+#[derive(Clone, Copy)]
+pub enum Observed<'a> {
+    /// An entry.
+    One([Seen; 1]),
+    /// So many entries, or none.
+    Many(&'a [Seen]),
+}
+
+impl Observed<'_> {
+    ghost use Rattle.adya_values.specs.Mirror.Numbers.{seen_in};
+
+    /// Returns the entries, packed.
+    #[inline(always)]
+    pub fn seen(&self) -> &[Seen]
+        ensures { result.now ≡ seen_in self.now }
+    {
+        match self {
+            Observed::One(seen) => seen,
+            Observed::Many(seen) => seen,
+        }
+    }
+}

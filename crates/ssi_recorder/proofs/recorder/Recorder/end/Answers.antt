@@ -1,6 +1,0 @@
-use Rattle.std.proofs.Common.{arith, rules}
-use Rattle.std.proofs.lemmas.Grind.{common_steps}
-use Rattle.ssi_recorder.proofs.recorder.Recorder.end.Goals as goal
-
-pub returns-clause-events : goal.returns-clause-events
-returns-clause-events c = grind (arith, common_steps)
