@@ -91,10 +91,18 @@ fn audit_files<'a, R: Runtime + AllocGlobal>(
 
 fn order_file<'a, R: Runtime + AllocGlobal>(rt: &R, history: &'a str) -> Result<Status, Fault<'a>> {
     let mut history_file = opened(rt, history)?;
-    let mut output = Watched::new(io::writer(rt));
-    match order_text(rt.alloc(), &mut history_file, &mut output) {
-        Ok(status) => Ok(status),
-        Err(fault) => Err(Fault::of_run(fault, history, history)),
+    // a certificate has a line for each transaction
+    let Ok(buffered) = BufWriter::new(rt.alloc(), io::writer(rt)) else {
+        return Err(Fault::Memory);
+    };
+    let mut output = Watched::new(buffered);
+    let status = match order_text(rt.alloc(), &mut history_file, &mut output) {
+        Ok(status) => status,
+        Err(fault) => return Err(Fault::of_run(fault, history, history)),
+    };
+    match output.flush() {
+        Ok(()) => Ok(status),
+        Err(_) => Err(Fault::Write("stdout")),
     }
 }
 
