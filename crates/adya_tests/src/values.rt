@@ -11,7 +11,7 @@ use adya_values::{
 };
 use std::alloc::Global;
 use std::fmt::Display;
-use txn_table::TxnTable;
+use txn_table::{TxnTable, places_of};
 
 const LONGEST: &[u8] = b"ABCDEFGHIJKLMNOPQRSTUVWXYZabcdefghijklmnopqrstuvwxyz0123456789_.";
 
@@ -22,7 +22,7 @@ const LISTED_AND_ABORTED_WRITERS: &[u8] =
     b"adya 1\nw1(x.1:1,4)\nw1(x.1:2,5)\nw2(x.2:1,6)\nc1\nc2\nw3(x.3:1,7)\nw3(y.3:1,8)\na3\n[x:2<<1]\n{x,5}\nend\n";
 
 /// Returns the cases, each with its name.
-pub(crate) fn cases(alloc: Global) -> [(&'static str, bool); 9] {
+pub(crate) fn cases(alloc: Global) -> [(&'static str, bool); 10] {
     [
         (
             "entries_come_in_the_order_of_the_line",
@@ -42,6 +42,10 @@ pub(crate) fn cases(alloc: Global) -> [(&'static str, bool); 9] {
         (
             "a_table_without_an_array_holds_all_numbers",
             are_numbers_held_without_array(alloc).unwrap_or(false),
+        ),
+        (
+            "places_are_the_first_ones_or_the_length",
+            are_places_first(alloc).unwrap_or(false),
         ),
         ("check_succeeds_with_ample_memory", is_checked(alloc)),
         (
@@ -186,6 +190,13 @@ fn are_numbers_held_without_array(alloc: Global) -> Option<bool> {
     let mut table = TxnTable::new(alloc, 0, false).ok()?;
     table.set(first, true).ok()?;
     Some(table.get(first) && !table.get(second))
+}
+
+/// Whether the table of a list with a repeat has first places, and the length for one that isn't listed.
+fn are_places_first(alloc: Global) -> Option<bool> {
+    let (two, five, nine) = (Txn::new(2).ok()?, Txn::new(5).ok()?, Txn::new(9).ok()?);
+    let places = places_of(alloc, &[five, two, five], 4).ok()?;
+    Some(places.get(five) == 0 && places.get(two) == 1 && places.get(nine) == 3)
 }
 
 /// Whether a history is checked if there is ample memory.
