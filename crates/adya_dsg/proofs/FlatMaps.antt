@@ -5,7 +5,7 @@ use Rattle.std.specs.List.{find, filter, flat_map}
 use Rattle.std.specs.Option.{option_or}
 use Rattle.std.proofs.lemmas.List.{map-append, drop_all}
 use Rattle.std.proofs.lemmas.List.Folds.{find-append}
-use Rattle.lemmas.proofs.Steps.{drop_step, turn_at}
+use Rattle.lemmas.proofs.Steps.{turn_at}
 
 -- what the elements that pass a test give, by the first of them
 module _ {X A : Type 0} (test : X → Bool) (f : X → List A) (zs rest : List X) (x : X) (splits : zs ≡ x ∷ rest) where
@@ -41,12 +41,7 @@ drop_at xs i d l =
     let next : suc i ≡ i + 1 = omega arith in
     drop-cons xs i d l ∙ ap (λ j. get_or xs i d ∷ drop j xs) next
 
--- what the elements from one on give, by that element
-pub from_here : {X Y A : Type 0} (f : X → List A) (view : Y → X) (ys : List Y) (i : ℕ) (y : Y) → i < length ys
-    → y ≡ get_or ys i y → flat_map f (map view (drop i ys)) ≡ f (view y) ++ flat_map f (map view (drop (i + 1) ys))
-from_here f view ys i y l at = ap (λ zs. flat_map f (map view zs)) (drop_step ys i y l at)
-
--- the same, of the elements that pass a test
+-- what the elements from one on that pass a test give, by that element
 module _ {X A : Type 0} (f : X → List A) (xs : List X) (i : ℕ) (x : X) (found : slice_get xs i ≡ Some x)
     (keep : X → Bool) where
   pub from_kept : keep x ≡ true

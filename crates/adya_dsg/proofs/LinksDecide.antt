@@ -5,9 +5,8 @@ use Rattle.std.proofs.lemmas.Bool.{eq-eqb, eqb-true, lt-ltb, and_parts, and_from
 use Rattle.std.proofs.lemmas.Option.{none-some, same_Some}
 use Rattle.std.proofs.lemmas.List.{map-append}
 use Rattle.std.proofs.lemmas.List.Elements.{Contains-append_left, Contains-append_right, Contains-append_cases}
-use Rattle.adya_values.specs.declared.order.Order.{Order as OrderValue}
 use Rattle.adya_values.specs.Meaning.Histories.{Event, Order, History}
-use Rattle.adya_values.specs.Mirror.Events.{order_of}
+use Rattle.adya_values.specs.Meaning.Keys.{keys_rise}
 use Rattle.adya_values.specs.Meaning.Events.{txn_of, is_committed}
 use Rattle.adya_values.specs.Meaning.Orders.{place, installer}
 use Rattle.adya_values.specs.Meaning.Selections.{is_scan, changes_matches, selected, reads_from, overwritten_by}
@@ -30,7 +29,6 @@ use Rattle.lemmas.proofs.Finds.{find_none, none_found, find-source, find_when}
 use Rattle.adya_dsg.proofs.FlatMaps.{found_in_front, none_in_front}
 use Rattle.adya_dsg.proofs.Chains.{first_of, installer_within, installer_there, before_later, earlier_before}
 use Rattle.adya_values.proofs.EdgeList.{Contains-joined, joined-source, Contains-places}
-use Rattle.adya_dsg.proofs.Lines.{Lends}
 use Rattle.adya_dsg.proofs.LineEdges.{write_edges_are}
 
 -- each edge of the list goes forward
@@ -270,20 +268,23 @@ none_of_event law h checked e occurs committed ts writes links =
     (forward_from_none ts _ links))
 
 -- the ends of the links, by lines and by events
-pub ends_by_parts : (h : History) (os : List OrderValue) → Lends h os
-    → map ends (flat_map (λ (o : Order). line_edges o.key o.writers) (map order_of os))
+pub ends_by_parts : (h : History) → keys_rise (map (λ (o : Order). o.key) h.orders) ≡ true
+    → map ends (flat_map (λ (o : Order). line_edges o.key o.writers) h.orders)
     ++ map ends (flat_map (event_links h) (readers h)) ≡ map ends (links h)
-ends_by_parts h os lent =
+ends_by_parts h rise =
     let of_events = flat_map (event_links h) (readers h) in
-    sym (map-append ends (flat_map (λ (o : Order). line_edges o.key o.writers) (map order_of os)) of_events) ∙
-    ap (λ es. map ends (es ++ of_events)) (sym (write_edges_are h os lent.lines lent.rise))
+    sym (map-append ends (flat_map (λ (o : Order). line_edges o.key o.writers) h.orders) of_events) ∙
+    ap (λ es. map ends (es ++ of_events)) (sym (write_edges_are h rise))
 
 -- the first backward edge: that of the lines, else that of the events
-module _ (h : History) (os : List OrderValue) (lent : Lends h os) (ts : List ℕ) (o : Option EdgeValue)
-    (found : option_map edge_of o
-    ≡ find (is_backward ts) (flat_map (λ (x : Order). line_edges x.key x.writers) (map order_of os))) where
+module _ (h : History) (rise : keys_rise (map (λ (o : Order). o.key) h.orders) ≡ true) (os : List Order) (lines : os ≡ h.orders)
+    (ts : List ℕ) (o : Option EdgeValue)
+    (found : option_map edge_of o ≡ find (is_backward ts) (flat_map (λ (x : Order). line_edges x.key x.writers) os)) where
   of_writes : find (is_backward ts) (all_writes h) ≡ option_map edge_of o
-  of_writes = ap (find (is_backward ts)) (write_edges_are h os lent.lines lent.rise) ∙ sym found
+  of_writes =
+      ap (find (is_backward ts))
+      (write_edges_are h rise ∙ ap (flat_map (λ (x : Order). line_edges x.key x.writers)) (sym lines)) ∙
+      sym found
 
   pub no_backward_write : is_some o ≡ false → find (is_backward ts) (all_writes h) ≡ None
   no_backward_write none = of_writes ∙ ap (option_map edge_of) (none_unless_some o none)

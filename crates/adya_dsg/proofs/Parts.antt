@@ -5,22 +5,22 @@ use Rattle.std.proofs.lemmas.Option.{slice_get_within, get_or_from_slice_get}
 use Rattle.std.proofs.lemmas.List.{take_all, take_more, get_or-map, get_or_append_left, get_or-append_right, length-append, length-map, map-append}
 use Rattle.std.proofs.lemmas.List.Elements.{Contains-append_left, Contains-append_right, Contains-append_cases}
 use Rattle.std.proofs.lemmas.List.Folds.{flat_map-map}
-use Rattle.adya_values.specs.declared.order.Order.{Order as OrderValue}
-use Rattle.adya_values.specs.Meaning.Keys.{keys_rise}
 use Rattle.adya_values.specs.Meaning.Histories.{Event, Order, History}
-use Rattle.adya_values.specs.Mirror.Events.{order_of}
 use Rattle.adya_values.specs.Meaning.Events.{txn_of, is_committed}
+use Rattle.adya_values.specs.Meaning.Orders.{writers}
 use Rattle.adya_values.specs.Meaning.Edges.{Edge}
 use Rattle.adya_values.specs.Computing.EdgeList.{write_edges, event_edges, dependencies}
+use Rattle.adya_terms.specs.Mirror.LineNumbers.{key_of}
 use Rattle.digraph.specs.declared.arc.Arc.{Arc}
 use Rattle.adya_dsg.specs.declared.edge.Edge.{Edge as EdgeValue}
 use Rattle.adya_dsg.specs.Machinery.Arcs.{ends}
 use Rattle.adya_dsg.specs.Mirror.{edge_of}
-use Rattle.adya_dsg.specs.Machinery.Choices.{event_at}
+use Rattle.adya_dsg.specs.Machinery.Choices.{event_at, key_at}
 use Rattle.adya_dsg.specs.Machinery.PartEdges.{line_edges, committed_edges, parts, part_edges}
 use Rattle.adya_dsg.proofs.EventsAt.{found_at}
 use Rattle.adya_dsg.proofs.FlatMaps.{filtered}
-use Rattle.adya_dsg.proofs.LineEdges.{line_edges-at}
+use Rattle.adya_dsg.proofs.LineEdges.{line_edges-places}
+use Rattle.lemmas.proofs.Steps.{turn_below}
 
 -- the edges of the parts before this one
 abbrev pub edges_before : History → ℕ → List Edge
@@ -50,7 +50,7 @@ all_parts h n l =
     of_tested (λ (e : Event). is_committed h.events (txn_of e)) (event_edges h) h.events)))
 
 -- the part of a line
-pub of_line_at : (h : History) (i : ℕ) (o : Order) → i < length h.orders → o ≡ get_or h.orders i o
+of_line_at : (h : History) (i : ℕ) (o : Order) → i < length h.orders → o ≡ get_or h.orders i o
     → write_edges h o.key ≡ part_edges h i
 of_line_at h i o l at =
     let of_line : Order → List Edge = λ x. write_edges h x.key in
@@ -60,7 +60,7 @@ of_line_at h i o l at =
     (subst (λ n. i < n) (sym (length-map h.orders of_line)) l)))
 
 -- the part of an event
-pub of_event_at : (h : History) (n i : ℕ) (e : Event) → length h.orders ≡ n → n ≤ i
+of_event_at : (h : History) (n i : ℕ) (e : Event) → length h.orders ≡ n → n ≤ i
     → slice_get h.events (i - n) ≡ Some e → committed_edges h e ≡ part_edges h i
 of_event_at h n i e lines after found =
     let of_line : Order → List Edge = λ x. write_edges h x.key in
@@ -78,31 +78,28 @@ event_within h n i lines after l =
     let of_events = length-map h.events (committed_edges h) in
     omega (arith, l, all, of_orders, of_events, lines, after)
 
-module _ (h : History) (os : List OrderValue) (lines : map order_of os ≡ h.orders) (i : ℕ) where
-  count : length h.orders ≡ length os
-  count = ap length (sym lines) ∙ length-map os order_of
+-- the part of a line, by its writers
+pub of_line : (h : History) (i : ℕ) → i < length h.orders → line_edges (key_at h i) (writers h (key_at h i)) ≡ part_edges h i
+of_line h i l =
+    let at = turn_below h.orders i l in
+    let o = at.0 in
+    line_edges-places h (key_at h i) ∙
+    (ap (λ x. write_edges h (key_of x)) at.1.found ∙
+    of_line_at h i o l (sym (get_or_from_slice_get h.orders i o o at.1.found)))
 
-  -- the part of a line, by its writers
-  pub of_line : keys_rise (map (λ (x : Order). x.key) (map order_of os)) ≡ true → (o : OrderValue) → i < length os
-      → o ≡ get_or os i o → line_edges o.key o.writers.items ≡ part_edges h i
-  of_line rise o l at =
-      line_edges-at h os i o lines rise l at ∙
-      of_line_at h i (order_of o) (subst (λ n. i < n) (sym count) l)
-      (ap order_of at ∙ (sym (get_or-map order_of os i o (order_of o) l) ∙ ap (λ zs. get_or zs i (order_of o)) lines))
+-- the part of an event
+module _ (h : History) (n i : ℕ) (lines : length h.orders ≡ n) (after : n ≤ i) (l : i < length (parts h)) where
+  abbrev e : Event
+  e = event_at h (i - n)
 
-  -- the part of an event
-  module _ (after : length os ≤ i) (l : i < length (parts h)) where
-    abbrev e : Event
-    e = event_at h (i - length os)
+  here : committed_edges h e ≡ part_edges h i
+  here = of_event_at h n i e lines after (found_at h.events (i - n) (event_within h n i lines after l))
 
-    here : committed_edges h e ≡ part_edges h i
-    here = of_event_at h (length os) i e count after (found_at h.events (i - length os) (event_within h (length os) i count after l))
+  pub of_committed : is_committed h.events (txn_of e) ≡ true → event_edges h e ≡ part_edges h i
+  of_committed c = sym (ap (λ b. cond b (event_edges h e) []) c) ∙ here
 
-    pub of_committed : is_committed h.events (txn_of e) ≡ true → event_edges h e ≡ part_edges h i
-    of_committed c = sym (ap (λ b. cond b (event_edges h e) []) c) ∙ here
-
-    pub of_other : is_committed h.events (txn_of e) ≡ false → part_edges h i ≡ []
-    of_other c = sym here ∙ ap (λ b. cond b (event_edges h e) []) c
+  pub of_other : is_committed h.events (txn_of e) ≡ false → part_edges h i ≡ []
+  of_other c = sym here ∙ ap (λ b. cond b (event_edges h e) []) c
 
 -- arcs of the parts so far, with those of one more
 pub arcs_more : (h : History) (i : ℕ) → i < length (parts h) → (arcs now : List Arc)

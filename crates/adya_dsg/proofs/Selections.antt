@@ -1,10 +1,10 @@
 -- What is selected, line by line.
-use Rattle.std.proofs.Common.{◌≡◌, ◌≢◌, ℕ, zero, suc, ◌+◌, ◌==◌, ◌<◌, ◌≤◌, true, false, cond, not, ◌&&◌, List, [], ◌∷◌, ◌++◌, map, drop, length, get_or, Option, Some, None, option_map, option_to_list, slice_get, nat_cmp, is_le, is_lt, Ordering, Less, Equal, Greater, refl, sym, ◌∙◌, ap, subst, arith, inl, inr, append_assoc}
+use Rattle.std.proofs.Common.{◌≡◌, ◌≢◌, ℕ, zero, suc, ◌+◌, ◌==◌, ◌<◌, ◌≤◌, true, false, cond, not, ◌&&◌, List, [], ◌∷◌, ◌++◌, map, drop, length, Option, Some, None, option_map, option_to_list, slice_get, nat_cmp, is_le, is_lt, Ordering, Less, Equal, Greater, refl, sym, ◌∙◌, ap, subst, arith, inl, inr, append_assoc}
 use Rattle.std.specs.List.{filter_map, cons_option}
 use Rattle.std.specs.Ordering.{ordering_reverse}
 use Rattle.std.specs.Cmp.Lexicographic.{slice_cmp, nat_list_cmp_total}
 use Rattle.std.proofs.lemmas.Bool.{cases_lt, and_left, and_right, and_from, false_from_ne_true}
-use Rattle.std.proofs.lemmas.Option.{none-some, slice_get-get_or}
+use Rattle.std.proofs.lemmas.Option.{none-some}
 use Rattle.adya_values.specs.declared.event.Version.{Version}
 use Rattle.adya_values.specs.Meaning.Keys.{key_eq, key_lt, key_le, keys_rise, lies_in}
 use Rattle.adya_values.specs.Meaning.Histories.{Abort, Commit, Delete, Entry, Event, History, Order, Read, Scan, Write}
@@ -15,7 +15,8 @@ use Rattle.adya_values.specs.Meaning.Selections.{selected, place_of}
 use Rattle.adya_terms.specs.Mirror.LineNumbers.{key_of}
 use Rattle.adya_dsg.specs.Machinery.Choices.{Choice, choice, choices}
 use Rattle.lemmas.proofs.Orderings.{less_from_is_lt, bytes_eq-same, bytes_eq-itself}
-use Rattle.adya_dsg.proofs.Keys.{key_eq-lt, key_eq-gt, rises_at}
+use Rattle.adya_dsg.proofs.Keys.{key_eq-lt, key_eq-gt}
+use Rattle.adya_dsg.proofs.Lines.{rises_at}
 
 module _ (f : List ℕ → Option ℕ) where
   -- the choices of these lines
@@ -92,26 +93,14 @@ module _ (f : List ℕ → Option ℕ) where
 
 -- keys of lines, if they rise
 module _ (os : List Order) (rise : keys_rise (map (λ (o : Order). o.key) os) ≡ true) where
-  line_rises : (i j : ℕ) → i < j → j < length os
-      → key_lt (key_of (slice_get os i)) (key_of (slice_get os j)) ≡ true
-  line_rises i j l m = rises_in os rise i j l m
-    where
-      rises_in : (xs : List Order) → keys_rise (map (λ (o : Order). o.key) xs) ≡ true → (a b : ℕ) → a < b → b < length xs
-          → key_lt (key_of (slice_get xs a)) (key_of (slice_get xs b)) ≡ true
-      rises_in [] r a b k n = absurd (omega (arith, n))
-      rises_in (x ∷ xs) r a b k n =
-          ap (λ o. key_lt (key_of o) (key_of (slice_get (x ∷ xs) b))) (slice_get-get_or (x ∷ xs) a x (omega (arith, k, n))) ∙
-          (ap (λ o. key_lt (get_or (x ∷ xs) a x).key (key_of o)) (slice_get-get_or (x ∷ xs) b x n) ∙
-          rises_at (λ (o : Order). o.key) (x ∷ xs) a b x r k n)
-
   -- another line has another key
   pub other_key : (k : List ℕ) (i j : ℕ) → i < length os → j < length os → j ≢ i → key_of (slice_get os i) ≡ k
       → key_eq k (key_of (slice_get os j)) ≡ false
   other_key k i j l m ne e =
       elim (cases_lt j i) [
-        | inl less ↦ key_eq-gt k _ (subst (λ x. key_lt (key_of (slice_get os j)) x ≡ true) e (line_rises j i less l))
+        | inl less ↦ key_eq-gt k _ (subst (λ x. key_lt (key_of (slice_get os j)) x ≡ true) e (rises_at os rise j i less l))
         | inr more ↦ key_eq-lt k _ (subst (λ x. key_lt x (key_of (slice_get os j)) ≡ true) e
-            (line_rises i j (omega (arith, more, ne)) m))
+            (rises_at os rise i j (omega (arith, more, ne)) m))
       ]
 
 module _ (h : History) (t : ℕ) (r : Version) (v : List ℕ) where

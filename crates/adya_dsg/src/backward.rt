@@ -1,8 +1,8 @@
 //! The first edge that doesn't go forward.
 
-ghost use Rattle.std.specs.Prelude.{◌≡◌, ◌<◌, None, true, IfOk, map, option_map, filter, flat_map, length};
+ghost use Rattle.std.specs.Prelude.{◌≡◌, ◌<◌, None, true, IfOk, option_map, filter, flat_map, length};
 ghost use Rattle.std.specs.List.{find};
-ghost use Rattle.adya_values.specs.Mirror.Events.{order_of};
+ghost use Rattle.adya_values.specs.Mirror.Lines.{orders_of};
 ghost use Rattle.adya_values.specs.Mirror.Histories.{serial_txns};
 ghost use Rattle.adya_values.specs.Meaning.Events.{txn_of, is_committed};
 ghost use Rattle.adya_values.specs.Computing.EdgeList.{write_edges, event_edges};
@@ -23,7 +23,7 @@ use crate::version_orders::VersionOrders;
 use crate::write_edges::push_write_edges;
 use adya_laws::{edge_list_keeps_first, selected_is_installed};
 use adya_terms::Checked;
-use adya_values::{Order, Serial};
+use adya_values::{Orders, Serial};
 use std::alloc::{AllocError, Global};
 
 /// Returns the first of the [`edges`](crate::edges) that doesn't go forward in the certificate, if there is one: its `to`
@@ -55,15 +55,15 @@ pub fn first_backward(
 fn first_write(
     alloc: Global,
     certificate: &TxnPlaces,
-    orders: &[Order],
+    orders: &Orders,
 ) -> Result<Option<Edge>, AllocError>
     ensures { IfOk result (λ o. option_map edge_of o ≡ find (is_backward certificate.now.txns.now)
-        (flat_map (λ o. line_edges o.key o.writers) (map order_of orders.now))) }
+        (flat_map (λ o. line_edges o.key o.writers) (orders_of orders.now))) }
 {
     let mut edges = Vec::new(alloc);
-    for order in orders {
+    for line in 0..orders.len() {
         edges.clear();
-        push_write_edges(&mut edges, order)?;
+        push_write_edges(&mut edges, orders.key(line), orders.writers(line))?;
         if let Some(found) = certificate.first_backward(&edges) {
             return Ok(Some(found));
         }

@@ -1,14 +1,15 @@
 //! The places of order lines whose versions change what a scan of the key matches.
 
-ghost use Rattle.std.specs.Prelude.{◌≡◌, ◌<◌, ◌++◌, suc, IfOk, OnOk, Some, length, slice_get};
-ghost use Rattle.adya_values.specs.Mirror.Events.{order_of};
+ghost use Rattle.std.specs.Prelude.{◌≡◌, ◌<◌, ◌++◌, suc, IfOk, OnOk, Some, length, option_map, slice_get};
 ghost use Rattle.adya_values.specs.Meaning.Orders.{writers};
 ghost use Rattle.adya_terms.specs.Clauses.Checked.{checked_history};
-ghost use Rattle.adya_dsg.specs.Machinery.LineChanges.{AreChanges, AreStarts, line_places};
+ghost use Rattle.adya_dsg.specs.Machinery.Choices.{key_at};
+ghost use Rattle.adya_terms.specs.Machinery.LinePlaces.{AreStarts, line_places};
+ghost use Rattle.adya_dsg.specs.Machinery.LineChanges.{AreChanges};
 ghost use Rattle.adya_dsg.specs.Machinery.Links.{changed_places};
 
 use adya_terms::Checked;
-use adya_values::Order;
+use adya_values::Txn;
 use std::alloc::{AllocError, Global};
 
 /// The places of all order lines in one list, which takes less memory than a list for each line.
@@ -39,26 +40,28 @@ pub(crate) fn line_changes(alloc: Global, checked: &Checked) -> Result<LineChang
     let mut places = Vec::new(alloc);
     let mut starts = Vec::with_capacity(alloc, orders.len().saturating_add(1))?;
     starts.push(0)?;
-    for (line, order) in orders.iter().enumerate() {
-        push_changed(&mut places, checked, line, order)?;
+    for line in 0..orders.len() {
+        push_changed(&mut places, checked, line, orders.writers(line))?;
         starts.push(places.len())?;
     }
     Ok(LineChanges { places, starts })
 }
 
-/// Adds the places of the order line at the index whose versions change the matches.
+/// Adds the places of the order line at the index, which has these writers, whose versions change the matches.
 fn push_changed(
     places: &mut Vec<usize>,
     checked: &Checked,
     line: usize,
-    order: &Order,
+    txns: &[Txn],
 ) -> Result<(), AllocError>
-    requires here { slice_get (checked_history checked.now).orders line ≡ Some (order_of order.now) }
-    requires writers { writers (checked_history checked.now) order.now.key ≡ order.now.writers.items }
-    ensures { OnOk result (places.new.items ≡ places.old.items ++ changed_places (checked_history checked.now) order.now.key) }
+    requires here { option_map (λ o. o.writers) (slice_get (checked_history checked.now).orders line) ≡ Some txns.now }
+    requires writers { let h = checked_history checked.now in
+        txns.now ≡ writers h (key_at h line) }
+    ensures { let h = checked_history checked.now in
+        OnOk result (places.new.items ≡ places.old.items ++ changed_places h (key_at h line)) }
 {
     let mut was = false;
-    for i in 0..order.writers.len() {
+    for i in 0..txns.len() {
         let now = checked.shows(line, i);
         if now != was {
             places.push(i + 1)?;

@@ -3,7 +3,7 @@
 ghost use Rattle.std.specs.Prelude.{◌≡◌, ◌<◌, ◌++◌, length, map, true, OnOk};
 ghost use Rattle.adya_values.specs.Meaning.Selections.{is_scan};
 ghost use Rattle.adya_values.specs.Computing.EdgeList.{event_edges, read_edges, overwrite_edges};
-ghost use Rattle.adya_dsg.specs.Machinery.VersionOrders.{ordered_history, order_lines};
+ghost use Rattle.adya_dsg.specs.Machinery.VersionOrders.{ordered_history};
 ghost use Rattle.adya_dsg.specs.Mirror.{edge_of};
 ghost use Rattle.adya_dsg.specs.Machinery.Choices.{choice_of, event_at, key_at};
 ghost use Rattle.adya_dsg.specs.Machinery.PartEdges.{choice_edges};
@@ -40,7 +40,7 @@ fn push_edges_at(
     at: Selection,
 ) -> Result<(), AllocError>
     requires there { event < length (ordered_history versions.now).events }
-    requires within { at.line < length (order_lines versions.now) }
+    requires within { at.line < length (ordered_history versions.now).orders }
     ensures { let h = ordered_history versions.now in
         OnOk result (map edge_of edges.new.items
         ≡ map edge_of edges.old.items ++ choice_edges h (event_at h event) (choice_of h at)) }
@@ -62,12 +62,12 @@ fn push_sources(
 ) -> Result<(), AllocError>
     requires scan { is_scan (event_at (ordered_history versions.now) event) ≡ true }
     requires there { event < length (ordered_history versions.now).events }
-    requires within { at.line < length (order_lines versions.now) }
+    requires within { at.line < length (ordered_history versions.now).orders }
     ensures { let h = ordered_history versions.now in
         OnOk result (map edge_of edges.new.items
         ≡ map edge_of edges.old.items ++ read_edges h (event_at h event) (key_at h at.line) at.place) }
 {
-    let key = versions.order(at.line).key;
+    let key = versions.key(at.line);
     let txn = versions.txn(event);
     let changes = versions.changes(at.line);
     for place in changes {
@@ -90,16 +90,16 @@ fn push_overwriters(
 ) -> Result<(), AllocError>
     requires scan { is_scan (event_at (ordered_history versions.now) event) ≡ true }
     requires there { event < length (ordered_history versions.now).events }
-    requires within { at.line < length (order_lines versions.now) }
+    requires within { at.line < length (ordered_history versions.now).orders }
     ensures { let h = ordered_history versions.now in
         OnOk result (map edge_of edges.new.items
         ≡ map edge_of edges.old.items ++ overwrite_edges h (event_at h event) (key_at h at.line) at.place) }
 {
-    let key = versions.order(at.line).key;
+    let key = versions.key(at.line);
     let txn = versions.txn(event);
     let mut seen = at.place;
     if versions.is_visible(at.line, at.place) {
-        let to = versions.order(at.line).writers.get(at.place).copied();
+        let to = versions.writers(at.line).get(at.place).copied();
         push_edge(edges, Some(txn), Kind::Rw, key, to)?;
         seen = at.place + 1;
     }

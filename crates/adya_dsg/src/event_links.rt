@@ -1,7 +1,7 @@
 //! The links of an event.
 
 ghost use Rattle.std.specs.Prelude.{◌≡◌, ◌<◌, ◌++◌, length, map, OnOk};
-ghost use Rattle.adya_dsg.specs.Machinery.VersionOrders.{ordered_history, order_lines};
+ghost use Rattle.adya_dsg.specs.Machinery.VersionOrders.{ordered_history};
 ghost use Rattle.adya_dsg.specs.Mirror.{edge_of};
 ghost use Rattle.adya_dsg.specs.Machinery.Choices.{choice_of, event_at, key_at};
 ghost use Rattle.adya_dsg.specs.Machinery.Links.{overwriter, choice_links, event_links};
@@ -40,12 +40,12 @@ pub(crate) fn push_links_at(
     at: Selection,
 ) -> Result<(), AllocError>
     requires there { event < length (ordered_history versions.now).events }
-    requires within { at.line < length (order_lines versions.now) }
+    requires within { at.line < length (ordered_history versions.now).orders }
     ensures { let h = ordered_history versions.now in
         OnOk result (map edge_of edges.new.items
         ≡ map edge_of edges.old.items ++ choice_links h (event_at h event) (choice_of h at)) }
 {
-    let key = versions.order(at.line).key;
+    let key = versions.key(at.line);
     let txn = versions.txn(event);
     let from = versions.installer(at.line, at.place);
     push_edge(edges, from, Kind::Wr, key, Some(txn))?;
@@ -56,7 +56,7 @@ pub(crate) fn push_links_at(
 /// Returns who installed the first version that overwrites what the event reads or selects: the next one, or, if a scan
 /// selects a version that isn't visible, the next visible one.
 fn overwriter(versions: &VersionOrders, event: usize, at: Selection) -> Option<Txn>
-    requires { at.line < length (order_lines versions.now) }
+    requires { at.line < length (ordered_history versions.now).orders }
     ensures { let h = ordered_history versions.now in
         result ≡ overwriter h (event_at h event) (key_at h at.line) at.place }
 {
@@ -64,5 +64,5 @@ fn overwriter(versions: &VersionOrders, event: usize, at: Selection) -> Option<T
         let place = versions.next_change(at.line, at.place)?;
         return versions.installer(at.line, place);
     }
-    versions.order(at.line).writers.get(at.place).copied()
+    versions.writers(at.line).get(at.place).copied()
 }

@@ -2,7 +2,7 @@
 
 ghost use Rattle.std.specs.Prelude.{◌≡◌, ◌<◌, suc, length};
 ghost use Rattle.adya_values.specs.Meaning.Orders.{writers, place};
-ghost use Rattle.adya_dsg.specs.Machinery.VersionOrders.{ordered_history, order_lines};
+ghost use Rattle.adya_dsg.specs.Machinery.VersionOrders.{ordered_history};
 ghost use Rattle.adya_dsg.specs.Machinery.Choices.{key_at};
 
 use crate::version_orders::VersionOrders;
@@ -21,13 +21,13 @@ pub(crate) struct Hints {
 impl Hints {
     /// Makes the hints for these version orders; `AllocError` if memory is refused.
     pub fn of(alloc: Global, versions: &VersionOrders) -> Result<Hints, AllocError> {
-        let indexes = vec![in alloc; 0; versions.orders().len()]?;
+        let indexes = vec![in alloc; 0; versions.line_count()]?;
         Ok(Hints { indexes })
     }
 
     /// Returns the place of the transaction in the line, or the place after the last one if it isn't there.
     pub fn place(&mut self, versions: &VersionOrders, line: usize, txn: Txn) -> usize
-        requires { line < length (order_lines versions.now) }
+        requires { line < length (ordered_history versions.now).orders }
         ensures { let h = ordered_history versions.now in
             result ≡ suc (place (writers h (key_at h line)) txn) }
     {

@@ -22,9 +22,10 @@ pub(crate) fn line_tables<'a>(
 {
     let orders = checked.history().orders();
     let mut tables = BTreeMap::new(alloc);
-    for (line, order) in orders.iter().enumerate() {
-        if order.writers.len() > SHORT_LINE {
-            tables.insert(line, TxnPlaces::of(alloc, &order.writers, 0)?)?;
+    for line in 0..orders.len() {
+        let txns = orders.writers(line);
+        if txns.len() > SHORT_LINE {
+            tables.insert(line, TxnPlaces::of(alloc, txns, 0)?)?;
         }
     }
     Ok(tables)

@@ -1,7 +1,7 @@
 //! The links of a history: the few edges that decide whether all go forward.
 
 ghost use Rattle.std.specs.Prelude.{◌≡◌, ◌++◌, IfOk, OnOk, map, filter, flat_map};
-ghost use Rattle.adya_values.specs.Mirror.Events.{order_of};
+ghost use Rattle.adya_values.specs.Mirror.Lines.{orders_of};
 ghost use Rattle.adya_values.specs.Meaning.Events.{txn_of, is_committed};
 ghost use Rattle.adya_values.specs.Computing.EdgeList.{edge_list};
 ghost use Rattle.adya_values.specs.Clauses.Acceptance.{IsChecked};
@@ -16,7 +16,7 @@ use crate::selection::Selector;
 use crate::version_orders::VersionOrders;
 use crate::write_edges::push_write_edges;
 use adya_laws::{edge_list_keeps_first, selected_is_installed};
-use adya_values::Order;
+use adya_values::Orders;
 use digraph::Arc;
 use std::alloc::{AllocError, Global};
 
@@ -35,14 +35,14 @@ pub(crate) fn links(alloc: Global, versions: &VersionOrders) -> Result<Vec<Arc>,
     Ok(arcs)
 }
 
-fn add_write_arcs(alloc: Global, orders: &[Order], arcs: &mut Vec<Arc>) -> Result<(), AllocError>
+fn add_write_arcs(alloc: Global, orders: &Orders, arcs: &mut Vec<Arc>) -> Result<(), AllocError>
     ensures { OnOk result (arcs.new.items ≡ arcs.old.items
-        ++ map ends (flat_map (λ o. line_edges o.key o.writers) (map order_of orders.now))) }
+        ++ map ends (flat_map (λ o. line_edges o.key o.writers) (orders_of orders.now))) }
 {
     let mut edges = Vec::new(alloc);
-    for order in orders {
+    for line in 0..orders.len() {
         edges.clear();
-        push_write_edges(&mut edges, order)?;
+        push_write_edges(&mut edges, orders.key(line), orders.writers(line))?;
         add_arcs(arcs, &edges)?;
     }
     Ok(())

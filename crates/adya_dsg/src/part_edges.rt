@@ -16,7 +16,7 @@ use std::alloc::AllocError;
 pub(crate) fn count_parts(versions: &VersionOrders) -> usize
     ensures { result ≡ length (parts (ordered_history versions.now)) }
 {
-    versions.orders().len() + versions.event_count()
+    versions.line_count() + versions.event_count()
 }
 
 /// Adds the edges of the part: of the order line at this index or, if there are only so many lines, of the event. Only
@@ -31,11 +31,11 @@ pub(crate) fn push_part_edges(
     ensures { OnOk result (map edge_of edges.new.items
         ≡ map edge_of edges.old.items ++ part_edges (ordered_history versions.now) part) }
 {
-    let orders = versions.orders();
-    if part < orders.len() {
-        return push_write_edges(edges, &orders[part]);
+    let lines = versions.line_count();
+    if part < lines {
+        return push_write_edges(edges, versions.key(part), versions.writers(part));
     }
-    let event = part - orders.len();
+    let event = part - lines;
     if versions.is_committed(event) {
         push_event_edges(selector, edges, versions, event)?;
     }

@@ -7,7 +7,7 @@ ghost use Rattle.adya_values.specs.Meaning.Histories.{Event, Read, Scan};
 ghost use Rattle.adya_values.specs.Mirror.Numbers.{bounds, has_seen};
 ghost use Rattle.adya_values.specs.Meaning.Events.{listed, observed, txn_of};
 ghost use Rattle.adya_values.specs.Meaning.Selections.{place_of};
-ghost use Rattle.adya_dsg.specs.Machinery.VersionOrders.{ordered_entry, ordered_events, ordered_history, order_lines, IsNumber, numbered};
+ghost use Rattle.adya_dsg.specs.Machinery.VersionOrders.{ordered_entry, ordered_events, ordered_history, IsNumber, numbered};
 ghost use Rattle.adya_dsg.specs.Machinery.Choices.{choices, choice_of, event_at, key_at};
 
 use crate::hints::Hints;
@@ -43,7 +43,7 @@ impl Selector {
     /// Puts into the selections, in place of what they are, those of the event.
     pub fn select(&mut self, versions: &VersionOrders, event: usize) -> Result<(), AllocError>
         requires { event < length (ordered_history versions.now).events }
-        ensures within { OnOk result (All (λ s. s.line < length (order_lines versions.now)) self.new.selections.items) }
+        ensures within { OnOk result (All (λ s. s.line < length (ordered_history versions.now).orders) self.new.selections.items) }
         ensures choices { let h = ordered_history versions.now in
             OnOk result (map (choice_of h) self.new.selections.items ≡ choices h (event_at h event)) }
     {
@@ -73,7 +73,7 @@ fn select_read(
 ) -> Result<(), AllocError>
     requires none { selections.old.items ≡ [] }
     requires there { list_all (has_seen (ordered_events versions.now)) seen.now ≡ true }
-    ensures within { OnOk result (All (λ s. s.line < length (order_lines versions.now)) selections.new.items) }
+    ensures within { OnOk result (All (λ s. s.line < length (ordered_history versions.now).orders) selections.new.items) }
     ensures choices { let h = ordered_history versions.now in
         (e : Event)
         → txn_of e ≡ txn
@@ -92,7 +92,7 @@ fn select_read(
 
 fn of_read(hints: &mut Hints, versions: &VersionOrders, txn: Txn, read: &Seen) -> Option<Selection>
     requires { has_seen (ordered_events versions.now) read.now ≡ true }
-    ensures within { IfSome result (λ s. s.line < length (order_lines versions.now)) }
+    ensures within { IfSome result (λ s. s.line < length (ordered_history versions.now).orders) }
     ensures choice { let h = ordered_history versions.now in
         (value : List ℕ)
         → option_to_list (option_map (choice_of h) result)
@@ -124,7 +124,7 @@ fn select_scanned(
     requires high { IsNumber versions.now high }
     requires there { list_all (has_seen (ordered_events versions.now)) seen.now ≡ true }
     requires rise { keys_rise (map (λ w. w.version.key) (map (ordered_entry versions.now) seen.now)) ≡ true }
-    ensures within { OnOk result (All (λ s. s.line < length (order_lines versions.now)) selections.new.items) }
+    ensures within { OnOk result (All (λ s. s.line < length (ordered_history versions.now).orders) selections.new.items) }
     ensures choices { let h = ordered_history versions.now in
         OnOk result (map (choice_of h) selections.new.items
         ≡ choices h (Scan txn (numbered versions.now low) (numbered versions.now high) (map (ordered_entry versions.now) seen.now))) }
@@ -147,7 +147,7 @@ fn reached(versions: &VersionOrders, seen: &[Seen], from: usize, line: usize) ->
         let w = ordered_entry versions.now in
         (i : ℕ)
         → line ≤ i
-        → i < length (order_lines versions.now)
+        → i < length (ordered_history versions.now).orders
         → listed (key_at h i) (map w (drop result seen.now)) ≡ listed (key_at h i) (map w (drop from seen.now)) }
     ensures reached { (s : Seen)
         → slice_get seen.now result ≡ Some s
@@ -166,7 +166,7 @@ fn is_passed(versions: &VersionOrders, seen: &Seen, line: usize) -> bool
     requires { has_seen (ordered_events versions.now) seen.now ≡ true }
     ensures passed { result ≡ true → (i : ℕ)
         → line ≤ i
-        → i < length (order_lines versions.now)
+        → i < length (ordered_history versions.now).orders
         → key_at (ordered_history versions.now) i ≡ numbered versions.now seen.now.key → ⊥ }
     ensures reached { result ≡ false
         → key_lt (numbered versions.now seen.now.key) (key_at (ordered_history versions.now) line) ≡ false }
@@ -179,7 +179,7 @@ fn is_passed(versions: &VersionOrders, seen: &Seen, line: usize) -> bool
 
 /// Returns the entry of the line's key, if it is listed. It is at the index then, and no entry of a smaller key.
 fn listed(versions: &VersionOrders, seen: &[Seen], at: usize, line: usize) -> Option<Seen>
-    requires within { line < length (order_lines versions.now) }
+    requires within { line < length (ordered_history versions.now).orders }
     requires there { list_all (has_seen (ordered_events versions.now)) seen.now ≡ true }
     requires rise { keys_rise (map (λ w. w.version.key) (map (ordered_entry versions.now) seen.now)) ≡ true }
     requires reached { (s : Seen)
@@ -203,7 +203,7 @@ fn selected(
     line: usize,
     listed: Option<Seen>,
 ) -> Option<usize>
-    requires { line < length (order_lines versions.now) }
+    requires { line < length (ordered_history versions.now).orders }
     ensures { let h = ordered_history versions.now in
         result ≡ place_of h txn (key_at h line) (option_map (ordered_entry versions.now) listed) }
 {

@@ -5,9 +5,9 @@ ghost use Rattle.std.specs.List.{find, list_all};
 ghost use Rattle.std.specs.List.Sorted.{IsNonDecreasingBy, IsPartitionPoint};
 ghost use Rattle.adya_values.specs.Meaning.Keys.{key_lt, keys_rise};
 ghost use Rattle.adya_values.specs.Meaning.Selections.{is_scan};
-ghost use Rattle.adya_values.specs.Mirror.Events.{events_of, order_of};
+ghost use Rattle.adya_values.specs.Mirror.Events.{events_of};
+ghost use Rattle.adya_values.specs.Mirror.Lines.{orders_of};
 ghost use Rattle.adya_values.specs.Mirror.Numbers.{bounds, both_at, has_seen, keys_of, seen_entry, seen_in};
-ghost use Rattle.adya_values.specs.Mirror.Histories.{orders_in};
 ghost use Rattle.adya_values.specs.Meaning.Events.{txn_of, is_committed, observed};
 ghost use Rattle.adya_values.specs.Meaning.Orders.{writers, place, installer, is_visible_at};
 ghost use Rattle.adya_terms.specs.Clauses.Checked.{checked_history, history_in};
@@ -20,9 +20,9 @@ ghost use Rattle.adya_dsg.specs.Machinery.Places.{AreTables};
 use crate::changes::{LineChanges, line_changes};
 use crate::line_tables::{SHORT_LINE, line_tables};
 use crate::txn_places::TxnPlaces;
+use adya_terms::Checked;
 use adya_terms::laws::checked_iff_no_fault;
-use adya_terms::{Checked, lines_by_number};
-use adya_values::{Events, Key, Observed, Order, Txn};
+use adya_values::{Events, Key, Observed, Orders, Txn};
 use std::alloc::{AllocError, Global};
 use std::collections::BTreeMap;
 
@@ -36,32 +36,30 @@ pub(crate) struct VersionOrders<'a> {
     checked: &'a Checked<'a>,
     events: &'a Events,
     /// By the number of each key the index of its line and 1; 0 if it has none.
-    lines: Vec<usize>,
+    lines: &'a [usize],
     /// Tables of the writers of the long lines, by the index of the line.
     tables: BTreeMap<usize, TxnPlaces<'a>>,
     changes: LineChanges,
     ghost same: { events_of events.now ≡ (checked_history checked.now).events },
-    ghost found: { let os = orders_in (history_in checked.now) in FindsLines lines.items (keys_of events.now) os (length os) },
+    ghost found: { let os = (checked_history checked.now).orders in FindsLines lines.now (keys_of events.now) os (length os) },
     ghost tabled: { AreTables (checked_history checked.now) tables },
     ghost changed: { let h = checked_history checked.now in
         AreChanges h changes.places.items changes.starts.items (length h.orders) },
 }
 
 impl<'a> VersionOrders<'a> {
-    ghost use Rattle.adya_dsg.specs.Machinery.VersionOrders.{ordered_history, ordered_events, order_lines, IsNumber, numbered};
+    ghost use Rattle.adya_dsg.specs.Machinery.VersionOrders.{ordered_history, ordered_events, IsNumber, numbered};
 
     /// Takes the orders of the history, and finds what changes the matches; `AllocError` if memory is refused.
     pub fn of(alloc: Global, checked: &'a Checked<'a>) -> Result<VersionOrders<'a>, AllocError>
         ensures same { IfOk result (λ g. history_in g.checked.now ≡ history_in checked.now) }
     {
-        let events = checked.history().events();
-        let lines = lines_by_number(alloc, events, checked.history().orders())?;
         let tables = line_tables(alloc, checked)?;
         let changes = line_changes(alloc, checked)?;
         Ok(VersionOrders {
             checked,
-            events,
-            lines,
+            events: checked.events(),
+            lines: checked.line_numbers(),
             tables,
             changes,
         })
@@ -118,32 +116,44 @@ impl<'a> VersionOrders<'a> {
     }
 
     /// Returns the order lines.
-    pub fn orders(&self) -> &[Order]
-        ensures value { result.now ≡ order_lines self.now }
-        ensures rise { keys_rise (map (λ o. o.key) (map order_of (order_lines self.now))) ≡ true }
+    pub fn orders(&self) -> &Orders
+        ensures value { orders_of result.now ≡ (ordered_history self.now).orders }
+        ensures rise { keys_rise (map (λ o. o.key) (ordered_history self.now).orders) ≡ true }
     {
         self.checked.history().orders()
     }
 
-    /// Returns the order line.
-    pub fn order(&self, line: usize) -> &Order
-        requires { line < length (order_lines self.now) }
-        ensures line { slice_get (order_lines self.now) line ≡ Some result.now }
-        ensures key { result.now.key ≡ key_at (ordered_history self.now) line }
-        ensures writers { let h = ordered_history self.now in
-            result.now.writers.items ≡ writers h (key_at h line) }
+    /// Returns how many order lines the history has.
+    pub fn line_count(&self) -> usize
+        ensures { result ≡ length (ordered_history self.now).orders }
     {
-        &self.orders()[line]
+        self.orders().len()
+    }
+
+    /// Returns the key of the order line.
+    pub fn key(&self, line: usize) -> Key
+        requires { line < length (ordered_history self.now).orders }
+        ensures { result ≡ key_at (ordered_history self.now) line }
+    {
+        self.orders().key(line)
+    }
+
+    /// Returns the writers of the order line.
+    pub fn writers(&self, line: usize) -> &[Txn]
+        requires { line < length (ordered_history self.now).orders }
+        ensures { let h = ordered_history self.now in
+            result.now ≡ writers h (key_at h line) }
+    {
+        self.orders().writers(line)
     }
 
     /// Returns the place of the transaction in the line, or the place after the last one if it isn't there.
     pub fn place(&self, line: usize, txn: Txn) -> usize
-        requires { line < length (order_lines self.now) }
+        requires { line < length (ordered_history self.now).orders }
         ensures { let h = ordered_history self.now in
             result ≡ suc (place (writers h (key_at h line)) txn) }
     {
-        let order = self.order(line);
-        self.count_before(line, &order.writers, txn) + 1
+        self.count_before(line, self.writers(line), txn) + 1
     }
 
     /// Returns how many of the writers of the line, which are these, come before the transaction.
@@ -163,13 +173,12 @@ impl<'a> VersionOrders<'a> {
     /// Returns the same as [`place`](VersionOrders::place), and finds it fastest if the transaction is at the index of the
     /// hint among the writers of the line, or soon after. The hint may be any number.
     pub fn place_near(&self, line: usize, txn: Txn, hint: usize) -> usize
-        requires { line < length (order_lines self.now) }
+        requires { line < length (ordered_history self.now).orders }
         ensures { let h = ordered_history self.now in
             result ≡ suc (place (writers h (key_at h line)) txn) }
     {
         checked_iff_no_fault();
-        let order = self.order(line);
-        match near(order.writers.as_slice(), txn, hint) {
+        match near(self.writers(line), txn, hint) {
             Some(index) => index + 1,
             None => self.place(line, txn),
         }
@@ -177,29 +186,29 @@ impl<'a> VersionOrders<'a> {
 
     /// Returns who installed the version at the place of the line.
     pub fn installer(&self, line: usize, place: usize) -> Option<Txn>
-        requires { line < length (order_lines self.now) }
+        requires { line < length (ordered_history self.now).orders }
         ensures { let h = ordered_history self.now in
             result ≡ installer h (key_at h line) place }
     {
         if place == 0 {
             return None;
         }
-        self.order(line).writers.get(place - 1).copied()
+        self.writers(line).get(place - 1).copied()
     }
 
     /// Returns whether the version at the place of the line is neither unborn nor dead.
     pub fn is_visible(&self, line: usize, place: usize) -> bool
-        requires { line < length (order_lines self.now) }
+        requires { line < length (ordered_history self.now).orders }
         ensures { let h = ordered_history self.now in
             result ≡ is_visible_at h (key_at h line) place }
     {
         // the unborn version isn't visible, and each change turns that round
-        place <= self.order(line).writers.len() && self.changes_up_to(line, place) % 2 == 1
+        place <= self.writers(line).len() && self.changes_up_to(line, place) % 2 == 1
     }
 
     /// Returns the places of the line where the version is visible and the one before isn't, or the other way round.
     pub fn changes(&self, line: usize) -> &[usize]
-        requires { line < length (order_lines self.now) }
+        requires { line < length (ordered_history self.now).orders }
         ensures { let h = ordered_history self.now in
             result.now ≡ changed_places h (key_at h line) }
     {
@@ -208,7 +217,7 @@ impl<'a> VersionOrders<'a> {
 
     /// Returns how many of these places come before this one or are it.
     fn changes_up_to(&self, line: usize, place: usize) -> usize
-        requires { line < length (order_lines self.now) }
+        requires { line < length (ordered_history self.now).orders }
         ensures within { let h = ordered_history self.now in
             result ≤ length (changed_places h (key_at h line)) }
         ensures up_to { let h = ordered_history self.now in
@@ -224,7 +233,7 @@ impl<'a> VersionOrders<'a> {
 
     /// Returns the first such place after this one.
     pub fn next_change(&self, line: usize, place: usize) -> Option<usize>
-        requires { line < length (order_lines self.now) }
+        requires { line < length (ordered_history self.now).orders }
         ensures { let h = ordered_history self.now in
             result ≡ find (λ q. nat_lt place q) (changed_places h (key_at h line)) }
     {
@@ -235,9 +244,9 @@ impl<'a> VersionOrders<'a> {
     /// Returns the line of the key with the number.
     pub fn line_of(&self, key: u32) -> Option<usize>
         requires { IsNumber self.now key }
-        ensures within { IfSome result (λ i. i < length (order_lines self.now)) }
+        ensures within { IfSome result (λ i. i < length (ordered_history self.now).orders) }
         ensures found { IfSome result (λ i. key_at (ordered_history self.now) i ≡ numbered self.now key) }
-        ensures none { IfNone result ((i : ℕ) → i < length (order_lines self.now)
+        ensures none { IfNone result ((i : ℕ) → i < length (ordered_history self.now).orders
             → key_at (ordered_history self.now) i ≡ numbered self.now key → ⊥) }
     {
         match self.lines[key as usize] {
@@ -249,10 +258,10 @@ impl<'a> VersionOrders<'a> {
     /// Returns how many lines have smaller keys than the one with the number. If it has a line, this takes no search.
     pub fn lines_below(&self, key: u32) -> usize
         requires { IsNumber self.now key }
-        ensures within { result ≤ length (order_lines self.now) }
+        ensures within { result ≤ length (ordered_history self.now).orders }
         ensures below { (i : ℕ) → i < result
             → key_lt (key_at (ordered_history self.now) i) (numbered self.now key) ≡ true }
-        ensures others { (i : ℕ) → result ≤ i → i < length (order_lines self.now)
+        ensures others { (i : ℕ) → result ≤ i → i < length (ordered_history self.now).orders
             → key_lt (key_at (ordered_history self.now) i) (numbered self.now key) ≡ false }
     {
         match self.line_of(key) {
@@ -263,22 +272,22 @@ impl<'a> VersionOrders<'a> {
 
     /// Returns how many lines have smaller keys.
     fn orders_below(&self, key: Key) -> usize
-        ensures within { result ≤ length (order_lines self.now) }
+        ensures within { result ≤ length (ordered_history self.now).orders }
         ensures below { (i : ℕ) → i < result
             → key_lt (key_at (ordered_history self.now) i) key ≡ true }
-        ensures others { (i : ℕ) → result ≤ i → i < length (order_lines self.now)
+        ensures others { (i : ℕ) → result ≤ i → i < length (ordered_history self.now).orders
             → key_lt (key_at (ordered_history self.now) i) key ≡ false }
     {
-        self.orders().partition_point(|o| is_below(o.key, key))
+        self.orders().below(key)
     }
 
     /// Returns how many lines have no larger keys than the one with the number. If it has a line, this takes no search.
     pub fn lines_up_to(&self, key: u32) -> usize
         requires { IsNumber self.now key }
-        ensures within { result ≤ length (order_lines self.now) }
+        ensures within { result ≤ length (ordered_history self.now).orders }
         ensures up_to { (i : ℕ) → i < result
             → key_lt (numbered self.now key) (key_at (ordered_history self.now) i) ≡ false }
-        ensures above { (i : ℕ) → result ≤ i → i < length (order_lines self.now)
+        ensures above { (i : ℕ) → result ≤ i → i < length (ordered_history self.now).orders
             → key_lt (numbered self.now key) (key_at (ordered_history self.now) i) ≡ true }
     {
         match self.line_of(key) {
@@ -323,10 +332,4 @@ fn are_up_to(places: &[usize], place: usize) -> bool
         Some(last) => *last <= place,
         None => true,
     }
-}
-
-fn is_below(low: Key, high: Key) -> bool
-    ensures { result ≡ key_lt low high }
-{
-    low < high
 }

@@ -1,17 +1,20 @@
 //! The lines of events.
 
-ghost use Rattle.std.specs.Prelude.{◌≡◌, None, IfSome, MatchOption};
+ghost use Rattle.std.specs.Prelude.{◌≡◌, None, map, IfOk, IfSome, MatchOption};
+ghost use Rattle.adya_values.specs.Mirror.Events.{entry_of};
 ghost use Rattle.adya_values.specs.Meaning.Histories.{Event as Plain};
 ghost use Rattle.adya_line.specs.Computing.Reading.{Gives, write_at, delete_at, read_at, scan_at, event_at};
 ghost use Rattle.adya_line.specs.Machinery.Fronts.{scan_after};
 ghost use Rattle.adya_line.specs.Meaning.Spelling.{event_text};
 ghost use Rattle.adya_line.specs.Meaning.Limits.{IsEvent};
-ghost use Rattle.adya_line.specs.Mirror.{view};
+ghost use Rattle.adya_line.specs.Mirror.{entries_in, view};
 
-use crate::entries::after_entries;
+use crate::entries::{after_entries, take_entries};
 use crate::event_ref::{DeleteRef, EndRef, EventRef, ReadRef, ScanRef, WriteRef};
 use crate::fields::{after, key_at, txn_at, value_at, version_at};
 use crate::txn_line::txn_at_line;
+use adya_values::Entry;
+use std::alloc::AllocError;
 
 /// Reads a write after its letter.
 #[tactic(auto, unfolding(crate::specs::Computing::Reading::write_at))]
@@ -127,4 +130,47 @@ pub fn read_event(line: &[u8]) -> Option<EventRef<'_>>
     ensures only { (e : Plain) → IsEvent e → line.now ≡ event_text e → MatchOption result ⊥ (λ r. view r ≡ e) }
 {
     event_at(line)
+}
+
+/// Reads a scan after its letter, and puts its entries in place of what is there.
+fn scan_with<'a>(
+    bytes: &'a [u8],
+    entries: &mut Vec<Entry>,
+) -> Result<Option<EventRef<'a>>, AllocError>
+    ensures exact { IfOk result (λ r. Gives view r (scan_at bytes.now)) }
+    ensures entries { IfOk result (λ r. IfSome r (λ e. map entry_of entries.new.items ≡ entries_in (view e))) }
+{
+    let Some(scan) = scan_front(bytes) else {
+        return Ok(None);
+    };
+    let left = take_entries(scan.listed, entries)?;
+    let Some(rest) = after(b')', left) else {
+        return Ok(None);
+    };
+    if !rest.is_empty() {
+        return Ok(None);
+    }
+    Ok(Some(EventRef::Scan(scan)))
+}
+
+/// Reads the line of an event as [`read_event`] does, and puts the entries of a scan in place of what is there, in the order of
+/// the line; other events have none. So a scan's entries are read once. `AllocError` if there is no memory for them, which says
+/// nothing of the line; then some of them are there.
+// Not inlined: a caller pays at its entry for all locals of what is inlined into it.
+#[inline(never)]
+pub fn read_event_with<'a>(
+    line: &'a [u8],
+    entries: &mut Vec<Entry>,
+) -> Result<Option<EventRef<'a>>, AllocError>
+    ensures exact { IfOk result (λ r. Gives view r (event_at line.now)) }
+    ensures entries { IfOk result (λ r. IfSome r (λ e. map entry_of entries.new.items ≡ entries_in (view e))) }
+{
+    if let [b's', rest @ ..] = line {
+        return scan_with(rest, entries);
+    }
+    let Some(event) = event_at(line) else {
+        return Ok(None);
+    };
+    event.read_entries(entries)?;
+    Ok(Some(event))
 }

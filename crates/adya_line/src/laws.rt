@@ -3,7 +3,7 @@
 ghost use Rattle.std.specs.Prelude.{ℕ, ◌<◌, length};
 ghost use Rattle.std.specs.List.{AllByRecursion};
 ghost use Rattle.adya_values.specs.Meaning.Keys.{IsTxn};
-ghost use Rattle.adya_values.specs.Mirror.Events.{entries_of, entry_of, view_of, order_of, final_of};
+ghost use Rattle.adya_values.specs.Mirror.Events.{entries_of, entry_of, view_of, final_of};
 ghost use Rattle.adya_line.specs.Meaning.Spelling.{event_text, unfinished_text, order_text, final_text, txn_text};
 ghost use Rattle.adya_line.specs.Meaning.Limits.{IsEntry, IsEvent, IsOrder, IsFinal};
 ghost use Rattle.adya_line.specs.Computing.Reading.{event_at, unfinished_at, order_at, final_at, txn_at_line};
@@ -11,7 +11,7 @@ ghost use Rattle.adya_line.specs.Laws.{IsReaderOf, IsOneText, HasPlainTexts};
 ghost use Rattle.adya_line.specs.Clauses.HistoryLines.{IsLine as IsHistoryLine, line_text as history_line_text};
 ghost use Rattle.adya_line.specs.Clauses.SerialLines.{IsLine as IsSerialLine, line_text as serial_line_text};
 
-use adya_values::{Content, Entry, EventView, FinalPair, Listed, Order};
+use adya_values::{Content, Entry, EventView, FinalPair, Key, Listed, Txn};
 
 /// The lines of events are the texts of the events within their limits.
 pub fn event_lines()
@@ -118,12 +118,12 @@ fn entry_within(entry: &Entry)
     }
 }
 
-/// Each order that has a writer is within its limits.
-pub fn order_within(order: &Order)
-    ensures { 0 < length order.now.writers.items → IsOrder (order_of order.now) }
+/// The order of a key and writers, if there is a writer, is within its limits.
+pub fn order_within(key: Key, writers: &[Txn])
+    ensures { 0 < length writers.now → IsOrder (record { key = key; writers = writers.now }) }
 {
-    let _ = order.key.bytes();
-    for txn in &order.writers {
+    let _ = key.bytes();
+    for txn in writers {
         let _ = txn.get();
     }
 }

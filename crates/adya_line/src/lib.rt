@@ -18,7 +18,7 @@ mod writing;
 
 pub use entries::Entries;
 pub use entry_ref::{ContentRef, EntryRef, ValueRef};
-pub use event_line::read_event;
+pub use event_line::{read_event, read_event_with};
 pub use event_ref::{DeleteRef, EndRef, EventRef, ReadRef, ScanRef, VersionRef, WriteRef};
 pub use final_line::final_pair;
 pub use fixed_line::{history_head, is_tail, second_head, serial_head, tail};

@@ -1,13 +1,13 @@
 //! Writing lines.
 
 ghost use Rattle.std.specs.Prelude.{◌++◌, codes, decimal, flat_map};
-ghost use Rattle.adya_values.specs.Mirror.Events.{content_of, entries_of, entry_of, view_of, order_of, final_of, value_of};
+ghost use Rattle.adya_values.specs.Mirror.Events.{content_of, entries_of, entry_of, view_of, final_of, value_of};
 ghost use Rattle.devices.specs.Clauses.Writing.{Wrote};
 ghost use Rattle.adya_line.specs.Machinery.Fronts.{front_text};
 ghost use Rattle.adya_line.specs.Meaning.Spelling.{version_text, content_text, entry_text, event_text, unfinished_text};
 ghost use Rattle.adya_line.specs.Meaning.Spelling.{later_text, writers_text, order_text, final_text, txn_text};
 
-use adya_values::{Content, Entry, EventView, FinalPair, Key, Listed, Order, Txn, Value, Version};
+use adya_values::{Content, Entry, EventView, FinalPair, Key, Listed, Txn, Value, Version};
 use devices::{Watched, put, put_number};
 use std::io;
 use std::io::Write;
@@ -51,16 +51,16 @@ pub fn write_event<W: Write>(event: &EventView<'_>, out: &mut Watched<W>) -> io:
     }
 }
 
-/// Writes the order's line, without its line feed. Returns an error only if the device has failed; how
+/// Writes the line of the key's order, without its line feed. Returns an error only if the device has failed; how
 /// much it took is then not said.
 #[tactic(auto, unfolding(crate::specs::Meaning::Spelling::order_text))]
-pub fn write_order<W: Write>(order: &Order, out: &mut Watched<W>) -> io::Result<()>
-    ensures { Wrote W.contents out.old out.new (order_text (order_of order.now)) result }
+pub fn write_order<W: Write>(key: Key, writers: &[Txn], out: &mut Watched<W>) -> io::Result<()>
+    ensures { Wrote W.contents out.old out.new (order_text (record { key = key; writers = writers.now })) result }
 {
     put(b"[", out)?;
-    put(order.key.bytes(), out)?;
+    put(key.bytes(), out)?;
     put(b":", out)?;
-    put_writers(&order.writers, out)?;
+    put_writers(writers, out)?;
     put(b"]", out)
 }
 

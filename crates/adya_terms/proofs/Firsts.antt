@@ -2,10 +2,10 @@
 use Rattle.std.proofs.Common.{◌≡◌, ℕ, suc, ◌+◌, ◌<◌, not, length, get_or, Result, MatchResult, true, false, List, [], ◌∷◌, ◌++◌, Some, take, drop, sym, ◌∙◌, ap, subst, arith}
 use Rattle.adya_values.specs.declared.fault.CheckFault.{CheckFault}
 use Rattle.adya_values.specs.declared.fault.CheckFault.TheVariants as Checked
-use Rattle.adya_values.specs.declared.fault.Rule.TheVariants.{M6, M7}
-use Rattle.adya_values.specs.Meaning.Histories.{Event, Order}
+use Rattle.adya_values.specs.declared.fault.Rule.TheVariants.{M6, M7, M8}
+use Rattle.adya_values.specs.Meaning.Histories.{Event, FinalPair, History, Order}
 use Rattle.adya_values.specs.Clauses.Rules.{has_ended, installs}
-use Rattle.adya_values.specs.Computing.Faults.{Fault, Malformed, first, faults_at, event_faults, fault_unless, lists_exactly, order_faults, unfinished_faults}
+use Rattle.adya_values.specs.Computing.Faults.{Fault, Malformed, first, faults_at, event_faults, fault_unless, lists_exactly, order_faults, unfinished_faults, final_faults, is_value, last_value}
 use Rattle.adya_terms.specs.Machinery.Checks.{Names}
 use Rattle.lemmas.proofs.Steps.{drop_step, IsTurn}
 use Rattle.adya_values.proofs.Faults.{first_left}
@@ -43,6 +43,21 @@ order_later all line os i o t e =
     ap (order_faults all (line + i)) t.rest ∙
     (ap (λ b. fault_unless b (line + i) M7 ++ order_faults all (suc (line + i)) (drop (i + 1) os)) e ∙
     ap (λ n. order_faults all n (drop (i + 1) os)) next)
+
+-- the same of finals
+pub final_here : (h : History) (line : ℕ) (fs : List FinalPair) (i : ℕ) (f : FinalPair) → IsTurn fs i f → is_value (last_value h f.key) f.value ≡ false
+    → first (final_faults h line (drop i fs)) ≡ Some (Malformed line M8)
+final_here h line fs i f t e =
+    ap (λ xs. first (final_faults h line xs)) t.rest ∙
+    ap (λ b. first (fault_unless b line M8 ++ final_faults h (suc line) (drop (i + 1) fs))) e
+
+pub final_later : (h : History) (line : ℕ) (fs : List FinalPair) (i : ℕ) (f : FinalPair) → IsTurn fs i f → is_value (last_value h f.key) f.value ≡ true
+    → final_faults h (line + i) (drop i fs) ≡ final_faults h (line + (i + 1)) (drop (i + 1) fs)
+final_later h line fs i f t e =
+    let next : suc (line + i) ≡ line + (i + 1) = omega arith in
+    ap (final_faults h (line + i)) t.rest ∙
+    (ap (λ b. fault_unless b (line + i) M8 ++ final_faults h (suc (line + i)) (drop (i + 1) fs)) e ∙
+    ap (λ n. final_faults h n (drop (i + 1) fs)) next)
 
 -- what is found of a list, behind one with no fault or before any
 pub names_front : (xs ys : List Fault) (e : CheckFault) → Names xs e → Names (xs ++ ys) e

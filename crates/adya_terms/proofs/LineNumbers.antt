@@ -1,5 +1,5 @@
 -- The lines of keys in an array by the numbers of the keys: one more line.
-use Rattle.std.proofs.Common.{◌≡◌, ℕ, suc, ◌+◌, ◌<◌, true, cond, List, [], length, get_or, set, map, slice_get, slice_index, Some, None, sym, ◌∙◌, ap, subst, arith, inl, inr}
+use Rattle.std.proofs.Common.{◌≡◌, ℕ, suc, ◌+◌, ◌<◌, true, cond, List, [], length, set, Option, option_map, slice_get, slice_index, Some, None, sym, ◌∙◌, ap, subst, arith, inl, inr}
 use Rattle.std.specs.List.{position_or_len}
 use Rattle.std.proofs.lemmas.Bool.{cases_lt, cases_eq, lt-ltb, le-ltb}
 use Rattle.std.proofs.lemmas.Grind.{get_or-set_at}
@@ -7,19 +7,18 @@ use Rattle.std.proofs.lemmas.List.{get_or-set_other, length-set}
 use Rattle.std.proofs.lemmas.List.Sums.{passes_at_first}
 use Rattle.std.proofs.lemmas.Option.{none-some, same_Some}
 use Rattle.lemmas.proofs.Orderings.{bytes_eq-same}
-use Rattle.adya_values.specs.declared.order.Order.{Order}
+use Rattle.adya_values.specs.Meaning.Histories.{Order}
 use Rattle.adya_values.specs.Meaning.Keys.{Key, key_eq}
-use Rattle.adya_values.specs.Mirror.Events.{order_of}
 use Rattle.adya_values.specs.Mirror.Numbers.{number_in, AreNumbered}
 use Rattle.adya_values.specs.Machinery.Seen.{key_at}
 use Rattle.adya_terms.specs.Mirror.LineNumbers.{key_of, FindsLines}
-use Rattle.lemmas.proofs.Steps.{turn}
 
 abbrev line_key : List Order → ℕ → Key
-line_key os i = key_of (slice_get (map order_of os) i)
+line_key os i = key_of (slice_get os i)
 
-key_is : (os : List Order) (i : ℕ) (o : Order) → i < length os → o ≡ get_or os i o → line_key os i ≡ o.key
-key_is os i o l at = ap key_of (turn order_of os i o l at).found
+key_is : (o : Option Order) (k : Key) → option_map (λ (x : Order). x.key) o ≡ Some k → key_of o ≡ k
+key_is None k e = absurd (none-some k e)
+key_is (Some o) k e = same_Some _ _ e
 
 -- the key has the number that it is found with
 pub number_found : (ks : List Key) (k : Key) (n : ℕ) → number_in ks k ≡ Some n → (n < length ks) × (key_at ks n ≡ k)
@@ -33,13 +32,16 @@ number_found ks k n e =
       | inr m ↦ absurd (none-some n (sym (ap (λ b. cond b (Some p) None) (le-ltb p (length ks) m)) ∙ e))
     ]
 
-module _ (ls : List ℕ) (ks : List Key) (numbered : AreNumbered ks) (os : List Order) (i : ℕ) (o : Order) (l : i < length os)
-    (at : o ≡ get_or os i o) (had : FindsLines ls ks os i) where
-  -- the line is of no key with another number
-  apart : (k : ℕ) → k < length ks → line_key os i ≡ key_at ks k → number_in ks o.key ≡ Some k
-  apart k m same = ap (number_in ks) (sym (key_is os i o l at) ∙ same) ∙ numbered k m
+module _ (ls : List ℕ) (ks : List Key) (numbered : AreNumbered ks) (os : List Order) (i : ℕ) (key : Key)
+    (is : option_map (λ (x : Order). x.key) (slice_get os i) ≡ Some key) (had : FindsLines ls ks os i) where
+  at : line_key os i ≡ key
+  at = key_is (slice_get os i) key is
 
-  pub none_more : number_in ks o.key ≡ None → FindsLines ls ks os (i + 1)
+  -- the line is of no key with another number
+  apart : (k : ℕ) → k < length ks → line_key os i ≡ key_at ks k → number_in ks key ≡ Some k
+  apart k m same = ap (number_in ks) (sym at ∙ same) ∙ numbered k m
+
+  pub none_more : number_in ks key ≡ None → FindsLines ls ks os (i + 1)
   none_more none = record {
     count = had.count;
     found = λ k j m e. let was = had.found k j m e in let low = was.0 in (omega (arith, low), was.1);
@@ -51,9 +53,9 @@ module _ (ls : List ℕ) (ks : List Key) (numbered : AreNumbered ks) (os : List 
     ];
   }
 
-  module _ (n : ℕ) (number : number_in ks o.key ≡ Some n) where
-    found_here : (n < length ks) × (key_at ks n ≡ o.key)
-    found_here = number_found ks o.key n number
+  module _ (n : ℕ) (number : number_in ks key ≡ Some n) where
+    found_here : (n < length ks) × (key_at ks n ≡ key)
+    found_here = number_found ks key n number
 
     abbrev put : List ℕ
     put = set ls n (i + 1)
@@ -66,7 +68,7 @@ module _ (ls : List ℕ) (ks : List Key) (numbered : AreNumbered ks) (os : List 
         elim (cases_eq k n) [
           | inl same ↦
               let at_i : j ≡ i = let is = here k same in omega (arith, e, is) in
-              (omega (arith, at_i), ap (line_key os) at_i ∙ (key_is os i o l at ∙ (sym found_here.1 ∙ ap (key_at ks) (sym same))))
+              (omega (arith, at_i), ap (line_key os) at_i ∙ (at ∙ (sym found_here.1 ∙ ap (key_at ks) (sym same))))
           | inr other ↦
               let was = had.found k j m (sym (get_or-set_other ls n k (i + 1) 0 other) ∙ e) in
               let low = was.0 in

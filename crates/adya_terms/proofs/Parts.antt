@@ -1,10 +1,8 @@
 -- What the parts of a check say, in the words of the whole.
 use Rattle.std.proofs.Common.{◌≡◌, ℕ, List, [], ◌++◌, None, sym, ◌∙◌, ap, subst}
-use Rattle.adya_values.specs.declared.order.Order.{Order as OrderValue}
-use Rattle.adya_values.specs.declared.order.FinalPair.{FinalPair as FinalValue}
 use Rattle.adya_values.specs.declared.history.History.{History as HistoryValue}
 use Rattle.adya_values.specs.Mirror.Histories.{history_of}
-use Rattle.adya_values.specs.Meaning.Histories.{Event, History}
+use Rattle.adya_values.specs.Meaning.Histories.{Event, FinalPair, History, Order}
 use Rattle.adya_values.specs.Computing.Faults.{Fault, first, first_fault, malformed, check_faults, event_faults, fault_unless, unfinished_faults, all_end, order_faults, has_lines, unfinished_line, orders_line, finals_line}
 use Rattle.adya_terms.specs.Clauses.Faults.{IsFault}
 use Rattle.adya_terms.specs.Machinery.Checks.{Names, whole, final_value_faults, rule_faults, read_faults}
@@ -56,14 +54,14 @@ module _ (h : History) where
           (both_nil (unfinished_faults h.events (unfinished_line h) h.unfinished) (rule_faults h (orders_line h)) ended rules)
 
 -- what is found of the lists of a history is found of it
-module _ (h : HistoryValue) (es : List Event) (us : List ℕ) (os : List OrderValue) (fs : List FinalValue)
-    (e_is : es ≡ (history_of h).events) (u_is : us ≡ h.unfinished.items) (o_is : os ≡ h.orders.items) (f_is : fs ≡ h.finals.items) where
+module _ (h : HistoryValue) (es : List Event) (us : List ℕ) (os : List Order) (fs : List FinalPair)
+    (e_is : es ≡ (history_of h).events) (u_is : us ≡ h.unfinished.items) (o_is : os ≡ (history_of h).orders) (f_is : fs ≡ (history_of h).finals) where
   whole_is : check_faults (whole es us os fs) ≡ check_faults (history_of h)
   whole_is =
       ap (λ xs. check_faults (whole xs us os fs)) e_is ∙
       (ap (λ xs. check_faults (whole (history_of h).events xs os fs)) u_is ∙
       (ap (λ xs. check_faults (whole (history_of h).events h.unfinished.items xs fs)) o_is ∙
-      ap (λ xs. check_faults (whole (history_of h).events h.unfinished.items h.orders.items xs)) f_is))
+      ap (λ xs. check_faults (whole (history_of h).events h.unfinished.items (history_of h).orders xs)) f_is))
 
   pub found_whole : (e : CheckFault) → Names (check_faults (whole es us os fs)) e → IsFault (first_fault (history_of h)) e
   found_whole e n = subst (λ xs. Names xs e) whole_is n

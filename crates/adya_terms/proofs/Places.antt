@@ -73,14 +73,14 @@ module _ (c a : ℕ → Bool) (l : Own → Option ℕ) (v : Version → Option �
 
 -- ---- a line, event by event
 
-zeros : (n at : ℕ) → get_or {A = ℕ} (replicate n 0) at 0 ≡ 0
-zeros zero at = refl
-zeros (suc n) zero = refl
-zeros (suc n) (suc at) = zeros n at
+pub all_alike : {A : Type 0} (a : A) (n at : ℕ) → get_or (replicate n a) at a ≡ a
+all_alike a zero at = refl
+all_alike a (suc n) zero = refl
+all_alike a (suc n) (suc at) = all_alike a n at
 
 pub none_placed : (all : List Event) (l : Own → Option ℕ) (k ts : List ℕ) → IsPlaced all l 0 k ts (replicate (length ts) 0) false
 none_placed all l k ts =
-    let empty : (p at : ℕ) → get_or (replicate (length ts) 0) p 0 ≡ suc at → ⊥ = λ p at e. let none = zeros (length ts) p in omega (arith, e, none) in
+    let empty : (p at : ℕ) → get_or (replicate (length ts) 0) p 0 ≡ suc at → ⊥ = λ p at e. let none = all_alike {A = ℕ} 0 (length ts) p in omega (arith, e, none) in
     record {
       count = length-replicate (length ts) 0;
       filled = λ p at e. absurd (empty p at e);

@@ -9,5 +9,6 @@ pub mod Scans
 pub mod EventIndex
 pub mod Checks
 pub mod Reads
+pub mod LinePlaces
 pub mod LineWriters
 pub mod Places

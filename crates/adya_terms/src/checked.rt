@@ -2,13 +2,17 @@
 
 ghost use Rattle.std.specs.Prelude.{◌≡◌, ◌≢◌, ◌^◌, ◌<◌, ◌+◌, [], true, None, length, map, is_none, is_some, IfOk, IfErr, MatchResult};
 ghost use Rattle.adya_values.specs.Meaning.Keys.{keys_rise};
-ghost use Rattle.adya_values.specs.Mirror.Events.{events_of, order_of, final_of};
+ghost use Rattle.adya_values.specs.Mirror.Events.{events_of};
+ghost use Rattle.adya_values.specs.Mirror.Lines.{finals_of, orders_of};
 ghost use Rattle.adya_values.specs.Mirror.Histories.{history_of};
+ghost use Rattle.adya_values.specs.Mirror.Numbers.{keys_of};
 ghost use Rattle.adya_values.specs.Meaning.Events.{is_committed, shown};
 ghost use Rattle.adya_values.specs.Computing.Faults.{first_fault, check_faults};
 ghost use Rattle.adya_values.specs.Clauses.Acceptance.{IsChecked};
 ghost use Rattle.adya_terms.specs.Clauses.Faults.{IsFault};
-ghost use Rattle.adya_terms.specs.Machinery.EventIndex.{events_in, indexed, last_in, unfinished_in};
+ghost use Rattle.adya_terms.specs.Machinery.EventIndex.{indexed, keys_in, last_in, unfinished_in};
+ghost use Rattle.adya_terms.specs.Machinery.EventIndex as tables;
+ghost use Rattle.adya_terms.specs.Mirror.LineNumbers.{FindsLines};
 ghost use Rattle.adya_terms.specs.Machinery.Places.{AreInstalled, AreWrites};
 ghost use Rattle.adya_terms.specs.Machinery.Tables.{KnowsCommitted};
 ghost use Rattle.adya_terms.specs.Machinery.Checks.{Names, whole, rule_faults};
@@ -19,9 +23,10 @@ use crate::finals::check_finals;
 use crate::laws::checked_iff_no_fault;
 use crate::line_places::LinePlaces;
 use crate::listed::check_orders;
+use crate::placing::Placed;
 use crate::reads::check_reads;
 use crate::tables::Ended;
-use crate::{CheckFault, Events, FinalPair, History, Order, Rule, Txn};
+use crate::{CheckFault, Events, Finals, History, Orders, Rule, Txn};
 use std::alloc::Global;
 use txn_table::TxnTable;
 
@@ -30,16 +35,21 @@ use txn_table::TxnTable;
 #[derive(Drop)]
 pub struct Checked<'a> {
     history: &'a History,
+    events: &'a Events,
     ended: TxnTable<Ended>,
+    /// By the number of each key the index of its order line and 1; 0 if it has none.
+    numbers: Vec<usize>,
     /// For each order line, the places of its writers, with the indices of the events that wrote what it names.
-    lines: Vec<LinePlaces<'a>>,
+    lines: LinePlaces,
     pub ghost checked: { is_none (first_fault (history_of history.now)) ≡ true },
     pub ghost commits: { KnowsCommitted ended (history_of history.now).events },
-    pub ghost written: { let h = history_of history.now in AreInstalled h.events lines.items h.orders },
+    pub ghost listed: { events_of events.now ≡ (history_of history.now).events },
+    pub ghost found: { let os = (history_of history.now).orders in FindsLines numbers.items (keys_of events.now) os (length os) },
+    pub ghost written: { let h = history_of history.now in AreInstalled h.events lines h.orders },
 }
 
 impl<'a> Checked<'a> {
-    ghost use Rattle.adya_terms.specs.Clauses.Checked.{checked_history, history_in, installed_at};
+    ghost use Rattle.adya_terms.specs.Clauses.Checked.{checked_history, events_in, history_in, installed_at};
 
     /// Checks the history. Returns its first fault if it has one: broken rules come before aborted reads, and these
     /// before intermediate reads; within a kind the first line decides, and then the first rule. Returns
@@ -54,18 +64,21 @@ impl<'a> Checked<'a> {
         ensures refused { IfErr result (λ e. e ≢ CheckFault.Memory → IsChecked (history_of history.now) → ⊥) }
     {
         checked_iff_no_fault();
+        let events = history.events();
         match check(
             alloc,
-            history.events(),
+            events,
             history.unfinished(),
             history.orders(),
             history.finals(),
         ) {
             Err(fault) => Err(fault),
-            Ok((index, lines)) => Ok(Checked {
+            Ok((index, placed)) => Ok(Checked {
                 history,
+                events,
                 ended: index.into_ended(),
-                lines,
+                numbers: placed.numbers,
+                lines: placed.lines,
             }),
         }
     }
@@ -78,6 +91,21 @@ impl<'a> Checked<'a> {
     {
         checked_iff_no_fault();
         self.history
+    }
+
+    /// Returns the events of the history.
+    pub fn events(&self) -> &Events
+        ensures same { result.now ≡ events_in self.now }
+        ensures events { events_of result.now ≡ (checked_history self.now).events }
+    {
+        self.events
+    }
+
+    /// Returns by the number of each key, which the events give, the index of its order line and 1; 0 if it has no line.
+    pub fn line_numbers(&self) -> &[usize]
+        ensures { let os = (checked_history self.now).orders in FindsLines result.now (keys_of (events_in self.now)) os (length os) }
+    {
+        &self.numbers
     }
 
     /// Returns whether the transaction has committed.
@@ -93,31 +121,32 @@ impl<'a> Checked<'a> {
     pub fn shows(&self, line: usize, place: usize) -> bool
         ensures { result ≡ is_some (shown (installed_at (checked_history self.now) line place)) }
     {
-        let Some(places) = self.lines.get(line) else {
+        if line >= self.history.orders().len() {
+            return false;
+        }
+        let Some(at) = self.lines.write_at(line, place) else {
             return false;
         };
-        let Some(at) = places.write_at(place) else {
-            return false;
-        };
-        self.history.events().shows(at)
+        self.events.shows(at)
     }
 }
 
-/// Makes the index of the events, and for each order line the places of its writers, with the indices of the events that
-/// wrote what it names, if the lists have no fault.
+/// Makes the index of the events, and returns with it the order lines of the keys and the last writes of the writers that
+/// these name, if the lists have no fault.
 fn check<'a>(
     alloc: Global,
     events: &'a Events,
     unfinished: &'a [Txn],
-    orders: &'a [Order],
-    finals: &[FinalPair],
-) -> Result<(EventIndex<'a>, Vec<LinePlaces<'a>>), CheckFault>
-    requires orders_rise { keys_rise (map (λ o. o.key) (map order_of orders.now)) ≡ true }
-    requires finals_rise { keys_rise (map (λ f. f.key) (map final_of finals.now)) ≡ true }
-    ensures faults { let faults = check_faults (whole (events_of events.now) unfinished.now orders.now finals.now) in
+    orders: &Orders,
+    finals: &Finals,
+) -> Result<(EventIndex<'a>, Placed), CheckFault>
+    requires orders_rise { keys_rise (map (λ o. o.key) (orders_of orders.now)) ≡ true }
+    requires finals_rise { keys_rise (map (λ f. f.key) (finals_of finals.now)) ≡ true }
+    ensures faults { let faults = check_faults (whole (events_of events.now) unfinished.now (orders_of orders.now) (finals_of finals.now)) in
         MatchResult result (λ t. faults ≡ []) (Names faults) }
-    ensures events { IfOk result (λ t. events_in t.0 ≡ events.now) }
-    ensures lines { IfOk result (λ t. AreWrites (last_in t.0) t.1.items (map order_of orders.now)) }
+    ensures events { IfOk result (λ t. tables.events_in t.0 ≡ events.now) }
+    ensures numbers { let os = orders_of orders.now in IfOk result (λ t. FindsLines t.1.numbers.items (keys_of events.now) os (length os)) }
+    ensures lines { IfOk result (λ t. AreWrites (last_in t.0) t.1.lines (orders_of orders.now)) }
 {
     let index = match EventIndex::of(alloc, events, unfinished) {
         Ok(index) => index,
@@ -128,32 +157,35 @@ fn check<'a>(
         return Err(fault);
     }
     let orders_line = unfinished_line + unfinished.len();
-    let lines = match check_rules(alloc, &index, orders, finals, orders_line) {
-        Ok(lines) => lines,
+    // all lines can be counted, since the lists are in memory
+    let (_orders, _finals) = (orders.len(), finals.len());
+    let placed = match check_rules(alloc, &index, orders, finals, orders_line) {
+        Ok(placed) => placed,
         Err(fault) => return Err(fault),
     };
     if let Err(fault) = check_reads(&index) {
         return Err(fault);
     }
-    Ok((index, lines))
+    Ok((index, placed))
 }
 
 /// Looks for the first fault after the unfinished transactions: a transaction that doesn't end, M7 and M8. The line
-/// of the first order is `line`. If there is none, returns for each order line the places of its writers, with the indices
-/// of the events that wrote what it names.
-fn check_rules<'a>(
+/// of the first order is `line`. If there is none, returns the order lines of the keys and the last writes of the writers that
+/// these name.
+fn check_rules(
     alloc: Global,
     index: &EventIndex,
-    orders: &'a [Order],
-    finals: &[FinalPair],
+    orders: &Orders,
+    finals: &Finals,
     line: usize,
-) -> Result<Vec<LinePlaces<'a>>, CheckFault>
-    requires near { line + length orders.now + length finals.now < 2 ^ 64 }
-    requires orders_rise { keys_rise (map (λ o. o.key) (map order_of orders.now)) ≡ true }
-    requires finals_rise { keys_rise (map (λ f. f.key) (map final_of finals.now)) ≡ true }
-    ensures faults { let h = whole (indexed index.now) (unfinished_in index.now) orders.now finals.now in
+) -> Result<Placed, CheckFault>
+    requires near { line + length (orders_of orders.now) + length (finals_of finals.now) < 2 ^ 64 }
+    requires orders_rise { keys_rise (map (λ o. o.key) (orders_of orders.now)) ≡ true }
+    requires finals_rise { keys_rise (map (λ f. f.key) (finals_of finals.now)) ≡ true }
+    ensures faults { let h = whole (indexed index.now) (unfinished_in index.now) (orders_of orders.now) (finals_of finals.now) in
         MatchResult result (λ u. rule_faults h line ≡ []) (Names (rule_faults h line)) }
-    ensures lines { IfOk result (λ v. AreWrites (last_in index.now) v.items (map order_of orders.now)) }
+    ensures numbers { let os = orders_of orders.now in IfOk result (λ p. FindsLines p.numbers.items (keys_in index.now) os (length os)) }
+    ensures lines { IfOk result (λ p. AreWrites (last_in index.now) p.lines (orders_of orders.now)) }
 {
     if !all_end(index) {
         return Err(CheckFault::Malformed {
@@ -161,12 +193,12 @@ fn check_rules<'a>(
             rule: Rule::M6,
         });
     }
-    let lines = match check_orders(alloc, index, orders, line) {
-        Ok(lines) => lines,
+    let placed = match check_orders(alloc, index, orders, line) {
+        Ok(placed) => placed,
         Err(fault) => return Err(fault),
     };
-    match check_finals(index, orders, &lines, finals, line + orders.len()) {
-        Ok(()) => Ok(lines),
+    match check_finals(index, orders, &placed.lines, finals, line + orders.len()) {
+        Ok(()) => Ok(placed),
         Err(fault) => Err(fault),
     }
 }

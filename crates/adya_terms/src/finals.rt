@@ -1,9 +1,11 @@
 //! M8: the finals hold the values of the keys' last versions.
 
 ghost use Rattle.std.specs.Prelude.{◌≡◌, ◌^◌, ◌<◌, ◌+◌, [], true, Some, length, map, option_map, slice_get, is_some, MatchResult};
-ghost use Rattle.std.specs.Bool.{OnTrue};
+ghost use Rattle.std.specs.Bool.{OnTrue, OnFalse};
 ghost use Rattle.adya_values.specs.Meaning.Keys.{keys_rise};
-ghost use Rattle.adya_values.specs.Mirror.Events.{order_of, final_of, value_of};
+ghost use Rattle.adya_values.specs.Meaning.Histories.{Order};
+ghost use Rattle.adya_values.specs.Mirror.Events.{final_of, value_of};
+ghost use Rattle.adya_values.specs.Mirror.Lines.{finals_of, orders_of};
 ghost use Rattle.adya_values.specs.Clauses.Rules.{final_value};
 ghost use Rattle.adya_values.specs.Computing.Faults as faults;
 ghost use Rattle.adya_terms.specs.Machinery.Checks.{Names, final_value_faults, parts};
@@ -13,29 +15,21 @@ ghost use Rattle.adya_terms.specs.Machinery.EventIndex.{indexed, last_in};
 use crate::event_index::EventIndex;
 use crate::line_places::LinePlaces;
 use crate::listed::line_of;
-use crate::{CheckFault, FinalPair, Key, Order, Rule, Value};
+use crate::{CheckFault, FinalPair, Finals, Key, Orders, Rule, Value};
 
 /// Returns the value of the last version of the order line, which is at the index, if it has one. The lines have the writes
 /// that installed what the orders name.
-fn line_value(
-    index: &EventIndex,
-    orders: &[Order],
-    lines: &[LinePlaces],
-    line: usize,
-    order: &Order,
-) -> Option<Value>
-    requires rise { keys_rise (map (λ o. o.key) (map order_of orders.now)) ≡ true }
-    requires writes { AreWrites (last_in index.now) lines.now (map order_of orders.now) }
-    requires there { slice_get orders.now line ≡ Some order.now }
-    ensures { option_map value_of result ≡ faults.last_value (parts (indexed index.now) orders.now []) order.now.key }
+fn line_value(index: &EventIndex, orders: &Orders, lines: &LinePlaces, line: usize) -> Option<Value>
+    requires rise { keys_rise (map (λ o. o.key) (orders_of orders.now)) ≡ true }
+    requires writes { AreWrites (last_in index.now) lines.now (orders_of orders.now) }
+    requires there { line < length (orders_of orders.now) }
+    ensures { (o : Order) → slice_get (orders_of orders.now) line ≡ Some o
+        → option_map value_of result ≡ faults.last_value (parts (indexed index.now) (orders_of orders.now) []) o.key }
 {
-    let Some(last) = order.writers.len().checked_sub(1) else {
+    let Some(last) = orders.writers(line).len().checked_sub(1) else {
         return None;
     };
-    let Some(places) = lines.get(line) else {
-        return None;
-    };
-    let Some(at) = places.write_at(last) else {
+    let Some(at) = lines.write_at(line, last) else {
         return None;
     };
     index.value_at(at)
@@ -44,24 +38,21 @@ fn line_value(
 /// Returns whether the final has the value of its key's last version. The key's order line is at the index.
 fn is_final(
     index: &EventIndex,
-    orders: &[Order],
-    lines: &[LinePlaces],
+    orders: &Orders,
+    lines: &LinePlaces,
     line: Option<usize>,
     pair: &FinalPair,
 ) -> bool
-    requires rise { keys_rise (map (λ o. o.key) (map order_of orders.now)) ≡ true }
-    requires writes { AreWrites (last_in index.now) lines.now (map order_of orders.now) }
-    requires line { IsLineOf line orders.now pair.now.key }
+    requires rise { keys_rise (map (λ o. o.key) (orders_of orders.now)) ≡ true }
+    requires writes { AreWrites (last_in index.now) lines.now (orders_of orders.now) }
+    requires line { IsLineOf line (orders_of orders.now) pair.now.key }
     ensures { let f = final_of pair.now in
-        result ≡ faults.is_value (faults.last_value (parts (indexed index.now) orders.now []) f.key) f.value }
+        result ≡ faults.is_value (faults.last_value (parts (indexed index.now) (orders_of orders.now) []) f.key) f.value }
 {
     let Some(line) = line else {
         return false;
     };
-    let Some(order) = orders.get(line) else {
-        return false;
-    };
-    is_value(line_value(index, orders, lines, line, order), &pair.value)
+    is_value(line_value(index, orders, lines, line), &pair.value)
 }
 
 fn is_value(last: Option<Value>, value: &Value) -> bool
@@ -76,22 +67,23 @@ fn is_value(last: Option<Value>, value: &Value) -> bool
 /// Returns the first line of a final that isn't the value of its key's last version, if there is one.
 fn check_lines(
     index: &EventIndex,
-    orders: &[Order],
-    lines: &[LinePlaces],
-    finals: &[FinalPair],
+    orders: &Orders,
+    lines: &LinePlaces,
+    finals: &Finals,
     first: usize,
 ) -> Result<(), CheckFault>
-    requires near { first + length finals.now < 2 ^ 64 }
-    requires rise { keys_rise (map (λ o. o.key) (map order_of orders.now)) ≡ true }
-    requires writes { AreWrites (last_in index.now) lines.now (map order_of orders.now) }
-    ensures { let found = faults.final_faults (parts (indexed index.now) orders.now finals.now) first (map final_of finals.now) in
+    requires near { first + length (finals_of finals.now) < 2 ^ 64 }
+    requires rise { keys_rise (map (λ o. o.key) (orders_of orders.now)) ≡ true }
+    requires writes { AreWrites (last_in index.now) lines.now (orders_of orders.now) }
+    ensures { let found = faults.final_faults (parts (indexed index.now) (orders_of orders.now) (finals_of finals.now)) first (finals_of finals.now) in
         MatchResult result (λ u. found ≡ []) (Names found) }
 {
     // the keys of both lists rise, so the next line is mostly the one after the last
     let mut next = 0usize;
-    for (i, pair) in finals.iter().enumerate() {
+    for i in 0..finals.len() {
+        let pair = finals.at(i);
         let line = line_of(orders, pair.key, next);
-        if !is_final(index, orders, lines, line, pair) {
+        if !is_final(index, orders, lines, line, &pair) {
             return Err(CheckFault::Malformed {
                 line: first + i,
                 rule: Rule::M8,
@@ -103,45 +95,35 @@ fn check_lines(
 }
 
 /// Returns whether the key has a final. It is looked for at the index first.
-fn has_final(finals: &[FinalPair], key: Key, first: usize) -> bool
-    requires { keys_rise (map (λ f. f.key) (map final_of finals.now)) ≡ true }
-    ensures { result ≡ is_some (final_value (map final_of finals.now) key) }
+fn has_final(finals: &Finals, key: Key, first: usize) -> bool
+    requires { keys_rise (map (λ f. f.key) (finals_of finals.now)) ≡ true }
+    ensures { result ≡ is_some (final_value (finals_of finals.now) key) }
 {
     if is_of(finals, first, key) {
         return true;
     }
-    match finals.binary_search_by_key(&key, |f| f.key) {
-        Err(_) => false,
-        Ok(_) => true,
-    }
+    is_of(finals, finals.below(key), key)
 }
 
 /// Returns whether the final at the index is of the key.
-fn is_of(finals: &[FinalPair], at: usize, key: Key) -> bool
-    ensures { OnTrue result (option_map (λ f. f.key) (slice_get finals.now at) ≡ Some key) }
+fn is_of(finals: &Finals, at: usize, key: Key) -> bool
+    ensures yes { OnTrue result (option_map (λ f. f.key) (slice_get (finals_of finals.now) at) ≡ Some key) }
+    ensures no { OnFalse result (option_map (λ f. f.key) (slice_get (finals_of finals.now) at) ≡ Some key → ⊥) }
 {
-    match finals.get(at) {
-        Some(pair) => pair.key == key,
-        None => false,
-    }
+    at < finals.len() && finals.key(at) == key
 }
 
 /// Returns whether each key whose last version has a value has a final line.
-fn has_finals(
-    index: &EventIndex,
-    orders: &[Order],
-    lines: &[LinePlaces],
-    finals: &[FinalPair],
-) -> bool
-    requires orders_rise { keys_rise (map (λ o. o.key) (map order_of orders.now)) ≡ true }
-    requires finals_rise { keys_rise (map (λ f. f.key) (map final_of finals.now)) ≡ true }
-    requires writes { AreWrites (last_in index.now) lines.now (map order_of orders.now) }
-    ensures { result ≡ faults.has_finals (parts (indexed index.now) orders.now finals.now) }
+fn has_finals(index: &EventIndex, orders: &Orders, lines: &LinePlaces, finals: &Finals) -> bool
+    requires orders_rise { keys_rise (map (λ o. o.key) (orders_of orders.now)) ≡ true }
+    requires finals_rise { keys_rise (map (λ f. f.key) (finals_of finals.now)) ≡ true }
+    requires writes { AreWrites (last_in index.now) lines.now (orders_of orders.now) }
+    ensures { result ≡ faults.has_finals (parts (indexed index.now) (orders_of orders.now) (finals_of finals.now)) }
 {
     let mut next = 0usize;
-    for (i, order) in orders.iter().enumerate() {
-        let has_value = line_value(index, orders, lines, i, order).is_some();
-        if has_value && !has_final(finals, order.key, next) {
+    for i in 0..orders.len() {
+        let has_value = line_value(index, orders, lines, i).is_some();
+        if has_value && !has_final(finals, orders.key(i), next) {
             return false;
         }
         next = next.wrapping_add(usize::from(has_value));
@@ -153,16 +135,16 @@ fn has_finals(
 /// finals if a key whose last version has a value has no final. The line of the first final is `first`.
 pub(crate) fn check_finals(
     index: &EventIndex,
-    orders: &[Order],
-    lines: &[LinePlaces],
-    finals: &[FinalPair],
+    orders: &Orders,
+    lines: &LinePlaces,
+    finals: &Finals,
     first: usize,
 ) -> Result<(), CheckFault>
-    requires near { first + length finals.now < 2 ^ 64 }
-    requires orders_rise { keys_rise (map (λ o. o.key) (map order_of orders.now)) ≡ true }
-    requires finals_rise { keys_rise (map (λ f. f.key) (map final_of finals.now)) ≡ true }
-    requires writes { AreWrites (last_in index.now) lines.now (map order_of orders.now) }
-    ensures { let found = final_value_faults (parts (indexed index.now) orders.now finals.now) first in
+    requires near { first + length (finals_of finals.now) < 2 ^ 64 }
+    requires orders_rise { keys_rise (map (λ o. o.key) (orders_of orders.now)) ≡ true }
+    requires finals_rise { keys_rise (map (λ f. f.key) (finals_of finals.now)) ≡ true }
+    requires writes { AreWrites (last_in index.now) lines.now (orders_of orders.now) }
+    ensures { let found = final_value_faults (parts (indexed index.now) (orders_of orders.now) (finals_of finals.now)) first in
         MatchResult result (λ u. found ≡ []) (Names found) }
 {
     if let Err(fault) = check_lines(index, orders, lines, finals, first) {

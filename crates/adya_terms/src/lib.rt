@@ -21,9 +21,9 @@ mod tables;
 pub use adya_rules::laws;
 pub use adya_values::{
     BadKey, BadNumber, BadShape, BadValue, CheckFault, Content, Edition, Entry, Event, EventView,
-    Events, FinalPair, History, Key, Listed, MAX_KEY_LEN, MAX_VALUE_LEN, Mod, NumberedVersion,
-    Observed, Order, Rule, Seen, Serial, Txn, Value, Version, is_key_byte, is_value_byte,
+    Events, FinalPair, Finals, History, Key, Listed, MAX_KEY_LEN, MAX_VALUE_LEN, Mod,
+    NumberedVersion, Observed, Order, Orders, Rule, Seen, Serial, Txn, Value, Version, is_key_byte,
+    is_value_byte,
 };
 pub use checked::Checked;
 pub use devices::{Source, Watched};
-pub use line_numbers::lines_by_number;

@@ -1,23 +1,24 @@
 //! The order line of each key that the events name.
 
 ghost use Rattle.std.specs.Prelude.{length, IfOk};
+ghost use Rattle.adya_values.specs.Mirror.Lines.{orders_of};
 ghost use Rattle.adya_values.specs.Mirror.Numbers.{keys_of};
 ghost use Rattle.adya_terms.specs.Mirror.LineNumbers.{FindsLines};
 
-use crate::{Events, Order};
+use crate::{Events, Orders};
 use std::alloc::{AllocError, Global};
 
 /// Returns by the number of each key, which the events give, the index of its order line and 1; 0 if it has no line.
-pub fn lines_by_number(
+pub(crate) fn lines_by_number(
     alloc: Global,
     events: &Events,
-    orders: &[Order],
+    orders: &Orders,
 ) -> Result<Vec<usize>, AllocError>
-    ensures { IfOk result (λ v. FindsLines v.items (keys_of events.now) orders.now (length orders.now)) }
+    ensures { IfOk result (λ v. FindsLines v.items (keys_of events.now) (orders_of orders.now) (length (orders_of orders.now))) }
 {
     let mut lines = vec![in alloc; 0; events.key_count()]?;
-    for (i, order) in orders.iter().enumerate() {
-        if let Some(number) = events.number_of(order.key) {
+    for i in 0..orders.len() {
+        if let Some(number) = events.number_of(orders.key(i)) {
             lines[number as usize] = i + 1;
         }
     }

@@ -1,91 +1,93 @@
-//! An order line with the last writes of its writers, as far as they are found.
+//! The last writes of the writers that the order lines name, as far as they are found.
 
-ghost use Rattle.std.specs.Prelude.{◌≡◌, ◌<◌, ◌^◌, ◌==◌, ℕ, List, Option, Some, false, suc, length, replicate, set, slice_get, not, option_and_then, IfOk, OnOk};
+ghost use Rattle.std.specs.Prelude.{◌≡◌, ◌<◌, ◌^◌, ◌+◌, ◌==◌, suc, length, set, slice_get, slice_index, not, option_and_then, IfOk};
 ghost use Rattle.std.specs.List.{list_all};
-ghost use Rattle.adya_values.specs.Meaning.Histories.{Event as EventValue};
-ghost use Rattle.adya_terms.specs.Machinery.Tables.{Own};
-ghost use Rattle.adya_terms.specs.Machinery.Places.{held, is_full, Installs, IsInjective, IsPlaced};
+ghost use Rattle.adya_values.specs.Mirror.Lines.{orders_of};
+ghost use Rattle.adya_terms.specs.Machinery.LinePlaces.{blank, line_places, AreParts, AreStarts};
 
-use crate::Txn;
-use crate::line_writers::LineWriters;
+use crate::Orders;
 use std::alloc::{AllocError, Global};
 
-/// The writers that an order line names, with the indices of their last writes of its key, as far as these are found.
+/// For each writer that an order line names the index of its last write of the line's key, as far as it is found. One list for
+/// all lines takes less memory than a list for each of them.
 #[derive(Drop)]
-pub(crate) struct LinePlaces<'a> {
-    writers: LineWriters<'a>,
-    /// At each place the index of the last write that was found for it and 1; 0 if none was.
+pub(crate) struct LinePlaces {
+    /// Line after line, and at each place of a line the index of the last write that was found for it and 1; 0 if none was.
     writes: Vec<usize>,
-    /// The place after the one that was found last: most lines name their writers in the order of these writes.
-    next: usize,
-    /// Whether a committed writer of the key isn't named.
-    lacks: bool,
+    /// Where the places of each line start, and at last the end of the list.
+    starts: Vec<usize>,
+    pub ghost ordered: { AreStarts starts.items (length writes.items) },
 }
 
-impl<'a> LinePlaces<'a> {
-    /// Makes the places of these writers, none of which is found.
-    pub fn new(alloc: Global, writers: &'a [Txn]) -> Result<LinePlaces<'a>, AllocError>
-        ensures writers { IfOk result (λ x. x.writers.txns.now ≡ writers.now) }
-        ensures writes { IfOk result (λ x. x.writes.items ≡ replicate (length writers.now) 0) }
-        ensures lacks { IfOk result (λ x. x.lacks ≡ false) }
+impl LinePlaces {
+    ghost use Rattle.adya_terms.specs.Machinery.Places.{held, places_in};
+
+    /// Makes the places of the writers of these lines, none of which is found.
+    pub fn new(alloc: Global, orders: &Orders) -> Result<LinePlaces, AllocError>
+        ensures { let os = orders_of orders.now in IfOk result (λ x. AreParts (blank os) x.writes.items x.starts.items (length os)) }
     {
-        let writes = vec![in alloc; 0; writers.len()]?;
-        Ok(LinePlaces {
-            writers: LineWriters::of(writers),
-            writes,
-            next: 0,
-            lacks: false,
-        })
+        let mut writes = Vec::with_capacity(alloc, writer_count(orders))?;
+        let mut starts = Vec::with_capacity(alloc, orders.len().saturating_add(1))?;
+        starts.push(0)?;
+        for i in 0..orders.len() {
+            writes.resize(writes.len() + orders.writers(i).len(), 0)?;
+            starts.push(writes.len())?;
+        }
+        Ok(LinePlaces { writes, starts })
     }
 
-    /// Records that the last write of the key by the transaction, which has committed, is at the index.
-    pub fn put(&mut self, alloc: Global, txn: Txn, at: usize) -> Result<(), AllocError>
+    /// Records that the last write of the writer at the place of the line is at the index.
+    pub fn fill(&mut self, line: usize, place: usize, at: usize)
         requires { at < 2 ^ 60 }
-        ensures writers { OnOk result (self.new.writers.txns ≡ self.old.writers.txns) }
-        ensures placed { OnOk result ((all : List EventValue) (last : Own → Option ℕ) (k : List ℕ)
-            → IsInjective last
-            → Installs all last k txn at
-            → IsPlaced all last at k self.old.writers.txns.now self.old.writes.items self.old.lacks
-            → IsPlaced all last (suc at) k self.old.writers.txns.now self.new.writes.items self.new.lacks) }
+        ensures starts { self.new.starts ≡ self.old.starts }
+        ensures writes { let ws = self.old.writes.items in let ss = self.old.starts.items in
+            suc line < length ss
+            → place < length (line_places ws ss line)
+            → self.new.writes.items ≡ set ws (slice_index ss line + place) (suc at) }
     {
-        let Some(place) = self.writers.place(alloc, self.next, txn)? else {
-            self.lacks = true;
-            return Ok(());
+        let Some(start) = self.starts.get(line) else {
+            return;
         };
-        self.fill(place, at);
-        Ok(())
-    }
-
-    /// Records that the last write of the writer at the place is at the index.
-    fn fill(&mut self, place: usize, at: usize)
-        requires at { at < 2 ^ 60 }
-        requires place { place < length self.old.writers.txns.now }
-        ensures writers { self.new.writers ≡ self.old.writers }
-        ensures writes { self.new.writes.items ≡ set self.old.writes.items place (suc at) }
-        ensures lacks { self.new.lacks ≡ self.old.lacks }
-    {
-        if let Some(write) = self.writes.get_mut(place) {
+        if let Some(write) = self.writes.get_mut(start.saturating_add(place)) {
             *write = at + 1;
-            self.next = place + 1;
         }
     }
 
-    /// Returns whether each place is found, and no committed writer is missing.
-    pub fn is_full(&self) -> bool
-        ensures { result ≡ is_full self.now.writes.items self.now.lacks }
+    /// Returns the places of the line.
+    fn of(&self, line: usize) -> &[usize]
+        requires { suc line < length self.now.starts.items }
+        ensures { result.now ≡ places_in self.now line }
     {
-        !self.lacks && none_is_zero(&self.writes)
+        &self.writes[self.starts[line]..self.starts[line + 1]]
     }
 
-    /// Returns the index of the last write that was found for the place.
-    pub fn write_at(&self, place: usize) -> Option<usize>
-        ensures { result ≡ option_and_then held (slice_get self.now.writes.items place) }
+    /// Returns whether each place of the line is found.
+    pub fn is_full(&self, line: usize) -> bool
+        requires { suc line < length self.now.starts.items }
+        ensures { result ≡ list_all (λ w. not (w == 0)) (places_in self.now line) }
     {
-        match self.writes.get(place) {
+        none_is_zero(self.of(line))
+    }
+
+    /// Returns the index of the last write that was found for the place of the line.
+    pub fn write_at(&self, line: usize, place: usize) -> Option<usize>
+        requires { suc line < length self.now.starts.items }
+        ensures { result ≡ option_and_then held (slice_get (places_in self.now line) place) }
+    {
+        match self.of(line).get(place) {
             None | Some(0) => None,
             Some(above) => Some(*above - 1),
         }
     }
+}
+
+/// Returns how many writers the lines name, as far as that can be counted.
+fn writer_count(orders: &Orders) -> usize {
+    let mut count = 0usize;
+    for i in 0..orders.len() {
+        count = count.saturating_add(orders.writers(i).len());
+    }
+    count
 }
 
 fn none_is_zero(writes: &[usize]) -> bool

@@ -1,13 +1,15 @@
-//! The writers that an order line names, and where one of them is.
+//! The writers that the order lines name, and where one of them is.
 
-ghost use Rattle.std.specs.Prelude.{◌≡◌, ◌<◌, Some, slice_get, IfOk, IfSome, OnOk};
+ghost use Rattle.std.specs.Prelude.{◌≡◌, ◌<◌, Some, length, slice_get, IfOk, IfSome, OnOk};
 ghost use Rattle.std.specs.Bool.{OnTrue, OnFalse};
-ghost use Rattle.std.specs.Option.{ForSome};
 ghost use Rattle.txn_table.specs.Mirror.{HasPlaces};
-ghost use Rattle.adya_terms.specs.Machinery.LineWriters.{IsPlaceOf};
+ghost use Rattle.adya_values.specs.Mirror.Lines.{orders_of};
+ghost use Rattle.adya_terms.specs.Machinery.LinePlaces.{writers_at};
+ghost use Rattle.adya_terms.specs.Machinery.LineWriters.{AreTables, IsPlaceOf};
 
-use crate::Txn;
+use crate::{Orders, Txn};
 use std::alloc::{AllocError, Global};
+use std::collections::BTreeMap;
 use txn_table::{TxnTable, places_of};
 
 /// How far from the place at which a writer is expected it is looked for before the line is read through: writers of a key
@@ -17,58 +19,92 @@ const NEAR: usize = 16;
 /// A line with at most so many writers is read through to find one, which takes less time than a table of them.
 const SHORT_LINE: usize = 256;
 
-/// The writers that an order line names.
+/// The writers that the order lines name.
 #[derive(Drop)]
 pub(crate) struct LineWriters<'a> {
-    txns: &'a [Txn],
-    /// The places of the writers of a long line, made when one of them is first looked for that isn't near.
-    table: Option<Box<TxnTable<usize>>>,
-    ghost tabled: { ForSome table (λ b. HasPlaces b.value txns.now) },
+    pub orders: &'a Orders,
+    /// For each line the place after the one that was found last: most lines name their writers in the order in which these
+    /// are looked for.
+    next: Vec<usize>,
+    /// The places of the writers of long lines, by line. A line's are made when one of its writers is first looked for that
+    /// isn't near.
+    tables: BTreeMap<usize, TxnTable<usize>>,
+    ghost tabled: { AreTables tables (orders_of orders.now) },
 }
 
 impl<'a> LineWriters<'a> {
-    /// Makes that of these writers.
-    pub fn of(txns: &'a [Txn]) -> LineWriters<'a>
-        ensures { result.txns.now ≡ txns.now }
+    /// Makes those of these orders.
+    pub fn of(alloc: Global, orders: &'a Orders) -> Result<LineWriters<'a>, AllocError>
+        ensures { IfOk result (λ x. x.orders.now ≡ orders.now) }
     {
-        LineWriters { txns, table: None }
+        Ok(LineWriters {
+            orders,
+            next: vec![in alloc; 0; orders.len()]?,
+            tables: BTreeMap::new(alloc),
+        })
     }
 
-    /// Returns a place of the transaction among the writers: the first one to look at, or one near to it, if it is there;
-    /// `AllocError` if memory is refused.
+    /// Returns a place of the transaction among the writers of the line: one near to the place at which it is expected, if it
+    /// is there; `AllocError` if memory is refused.
     pub fn place(
         &mut self,
         alloc: Global,
-        first: usize,
+        line: usize,
         txn: Txn,
     ) -> Result<Option<usize>, AllocError>
-        ensures found { IfOk result (λ o. IsPlaceOf o self.old.txns.now txn) }
-        ensures txns { OnOk result (self.new.txns ≡ self.old.txns) }
+        requires { line < length (orders_of self.old.orders.now) }
+        ensures found { IfOk result (λ o. IsPlaceOf o (writers_at (orders_of self.old.orders.now) line) txn) }
+        ensures orders { OnOk result (self.new.orders ≡ self.old.orders) }
     {
-        if is_at(self.txns, first, txn) {
+        let orders = self.orders;
+        let writers = orders.writers(line);
+        let first = self.next(line);
+        if is_at(writers, first, txn) {
             return Ok(Some(first));
         }
-        if let Some(place) = place_near(self.txns, first, txn) {
+        if let Some(place) = place_near(writers, first, txn) {
             return Ok(Some(place));
         }
-        if self.txns.len() <= SHORT_LINE {
-            return Ok(any_place(self.txns, txn));
+        if writers.len() <= SHORT_LINE {
+            return Ok(any_place(writers, txn));
         }
-        self.tabled_place(alloc, txn)
+        self.tabled_place(alloc, line, txn)
     }
 
     /// Returns a place of the transaction among the writers of a long line.
-    fn tabled_place(&mut self, alloc: Global, txn: Txn) -> Result<Option<usize>, AllocError>
-        ensures found { IfOk result (λ o. IsPlaceOf o self.old.txns.now txn) }
-        ensures txns { OnOk result (self.new.txns ≡ self.old.txns) }
+    fn tabled_place(
+        &mut self,
+        alloc: Global,
+        line: usize,
+        txn: Txn,
+    ) -> Result<Option<usize>, AllocError>
+        requires { line < length (orders_of self.old.orders.now) }
+        ensures found { IfOk result (λ o. IsPlaceOf o (writers_at (orders_of self.old.orders.now) line) txn) }
+        ensures orders { OnOk result (self.new.orders ≡ self.old.orders) }
     {
-        if let Some(table) = &self.table {
-            return Ok(place_in(self.txns, table, txn));
+        let orders = self.orders;
+        let writers = orders.writers(line);
+        if let Some(table) = self.tables.get(&line) {
+            return Ok(place_in(writers, table, txn));
         }
-        let table = places_of(alloc, self.txns, 0)?;
-        let place = place_in(self.txns, &table, txn);
-        self.table = Some(Box::new(alloc, table)?);
+        let table = places_of(alloc, writers, 0)?;
+        let place = place_in(writers, &table, txn);
+        self.tables.insert(line, table)?;
         Ok(place)
+    }
+
+    /// Returns the place at which the next writer of the line is expected.
+    fn next(&self, line: usize) -> usize {
+        self.next.get(line).copied().unwrap_or(0)
+    }
+
+    /// Expects the next writer of the line after this place.
+    pub fn pass(&mut self, line: usize, place: usize)
+        ensures { self.new.orders ≡ self.old.orders }
+    {
+        if let Some(next) = self.next.get_mut(line) {
+            *next = place.saturating_add(1);
+        }
     }
 }
 

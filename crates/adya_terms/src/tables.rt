@@ -37,8 +37,7 @@ pub(crate) struct Tables<'a> {
 impl<'a> Tables<'a> {
     ghost use Rattle.adya_terms.specs.Machinery.Telling.{keys_in, replaced_in, told, Means};
 
-    /// Makes the tables of none of the events. Room for the ends of transactions with numbers below the number of events is taken
-    /// now.
+    /// Makes the tables of none of the events. Their arrays take their room now.
     pub fn new(alloc: Global, events: &'a Events) -> Result<Tables<'a>, AllocError>
         requires { AreNumbered (keys_of events.now) }
         ensures means { IfOk result (λ t. Means t []) }
@@ -48,10 +47,9 @@ impl<'a> Tables<'a> {
             committed: false,
             aborted: false,
         };
-        // a transaction has an event, so few numbers are larger if they go from 1 on
-        let ended = TxnTable::new(alloc, events.len(), open)?;
-        // most transactions have two events or more
-        let writes = OwnWrites::new(alloc, events, events.len() / 2)?;
+        let small = array_length(events);
+        let ended = TxnTable::new(alloc, small, open)?;
+        let writes = OwnWrites::new(alloc, events, small)?;
         Ok(Tables {
             ended,
             writes,
@@ -224,4 +222,14 @@ impl<'a> Tables<'a> {
         self.replaced.insert(old, place)?;
         Ok(())
     }
+}
+
+/// Returns how many numbers of transactions, from 0 on, are kept in arrays: up to the largest, but no more than there are
+/// events, since large numbers may be few.
+fn array_length(events: &Events) -> usize {
+    let mut largest = 0u32;
+    for i in 0..events.len() {
+        largest = largest.max(events.txn_at(i).get());
+    }
+    events.len().min((largest as usize).saturating_add(1))
 }

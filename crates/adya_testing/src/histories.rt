@@ -2,12 +2,13 @@
 
 ghost use Rattle.std.specs.Prelude.{◌≡◌, IfOk, map};
 ghost use Rattle.adya_values.specs.Mirror.Events.{event_of, events_of, entry_of, order_of, final_of};
-ghost use Rattle.adya_values.specs.Mirror.Histories.{history_of, orders_in, finals_in, serial_txns};
+ghost use Rattle.adya_values.specs.Mirror.Histories.{history_of, serial_txns};
+ghost use Rattle.adya_values.specs.Mirror.Lines.{finals_of, orders_of};
 ghost use Rattle.adya_values.specs.Meaning.Histories.{Write, Delete, Read, Scan, Commit, Abort, Live, Dead};
 
 use adya_values::{
-    BadKey, BadNumber, BadShape, BadValue, Content, Entry, Event, Events, FinalPair, History, Key,
-    Mod, Order, Serial, Txn, Value, Version,
+    BadKey, BadNumber, BadShape, BadValue, Content, Entry, Event, Events, FinalPair, Finals,
+    History, Key, Mod, Order, Orders, Serial, Txn, Value, Version,
 };
 use std::alloc::{AllocError, Global};
 use thiserror::Error;
@@ -164,9 +165,15 @@ pub fn history(
     orders: Vec<Order>,
     finals: Vec<FinalPair>,
 ) -> Result<History, BadHistory>
-    ensures { IfOk result (λ h. ((history_of h).events ≡ map event_of events.items) × (orders_in h ≡ orders.items) × (finals_in h ≡ finals.items)) }
+    ensures events { IfOk result (λ h. (history_of h).events ≡ map event_of events.items) }
+    ensures orders { IfOk result (λ h. (history_of h).orders ≡ map order_of orders.items) }
+    ensures finals { IfOk result (λ h. (history_of h).finals ≡ map final_of finals.items) }
 {
-    Ok(History::new(packed(*events.allocator(), &events)?, orders, finals)?)
+    let alloc = *events.allocator();
+    let events = packed(alloc, &events)?;
+    let orders = packed_orders(alloc, &orders)?;
+    let finals = packed_finals(alloc, &finals)?;
+    Ok(History::new(events, orders, finals)?)
 }
 
 /// Makes the list of these events.
@@ -176,6 +183,28 @@ fn packed(alloc: Global, events: &[Event]) -> Result<Events, AllocError>
     let mut list = Events::new(alloc);
     for event in events {
         list.push_owned(event)?;
+    }
+    Ok(list)
+}
+
+/// Makes the list of these orders.
+pub fn packed_orders(alloc: Global, orders: &[Order]) -> Result<Orders, AllocError>
+    ensures { IfOk result (λ os. orders_of os ≡ map order_of orders.now) }
+{
+    let mut list = Orders::new(alloc);
+    for order in orders {
+        list.push(order)?;
+    }
+    Ok(list)
+}
+
+/// Makes the list of these final values.
+pub fn packed_finals(alloc: Global, finals: &[FinalPair]) -> Result<Finals, AllocError>
+    ensures { IfOk result (λ fs. finals_of fs ≡ map final_of finals.now) }
+{
+    let mut list = Finals::new(alloc);
+    for pair in finals {
+        list.push(pair)?;
     }
     Ok(list)
 }

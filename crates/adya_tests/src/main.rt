@@ -35,6 +35,7 @@ mod failing_calls;
 mod files;
 mod given;
 mod graphs;
+mod line_lists;
 mod lines;
 mod long_scan;
 mod orders;
@@ -69,6 +70,7 @@ fn say_of(rt: &HostRuntime, name: &str) -> io::Result<()> {
         "examples" => worked::say_example(rt, name),
         "values" => say_cases(rt, &values::cases(rt.alloc())),
         "event_lists" => event_lists::say_all(rt),
+        "line_lists" => line_lists::say_all(rt),
         "texts" => say_cases(rt, &texts::cases(rt.alloc())),
         "sources" => say_cases(rt, &sources::cases(rt.alloc())),
         "failing_calls" => say_cases(rt, &failing_calls::cases(rt.alloc())),

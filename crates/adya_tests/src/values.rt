@@ -3,11 +3,11 @@
 use crate::lines;
 use adya_line::read_event;
 use adya_terms::Checked;
-use adya_testing::histories::final_pair;
+use adya_testing::histories::{final_pair, packed_finals};
 use adya_text::read_history;
 use adya_values::{
     BadKey, BadNumber, BadShape, BadValue, Entry, Event, EventView, Events, History, Key, Listed,
-    Txn, Value,
+    Orders, Txn, Value,
 };
 use std::alloc::Global;
 use std::fmt::Display;
@@ -140,8 +140,8 @@ fn is_printed<E: Display>(alloc: Global, error: &E, wanted: &str) -> bool {
 fn bad_shape(alloc: Global) -> Option<BadShape> {
     let y = final_pair("y", "1").ok()?;
     let x = final_pair("x", "1").ok()?;
-    let finals = Vec::from_slice(alloc, &[y, x]).ok()?;
-    History::new(Events::new(alloc), Vec::new(alloc), finals).err()
+    let finals = packed_finals(alloc, &[y, x]).ok()?;
+    History::new(Events::new(alloc), Orders::new(alloc), finals).err()
 }
 
 /// Whether each error prints its number.

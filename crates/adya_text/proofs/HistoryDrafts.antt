@@ -4,10 +4,11 @@ use Rattle.std.specs.Prelude.{not, MatchOption}
 use Rattle.std.specs.List.{AllByRecursion, list_all}
 use Rattle.std.specs.Cmp.Derive.{both_true}
 use Rattle.std.proofs.lemmas.Bool.Decides.{nat_tests}
-use Rattle.std.proofs.lemmas.List.{length-append, length-map}
+use Rattle.std.proofs.lemmas.List.{length-append}
 use Rattle.adya_values.specs.Computing.Shapes.{is_shape}
-use Rattle.adya_values.specs.Mirror.Events.{events_of, order_of, final_of}
+use Rattle.adya_values.specs.Mirror.Events.{events_of}
 use Rattle.adya_values.specs.Mirror.Histories.{history_of}
+use Rattle.adya_values.specs.Mirror.Lines.{finals_of, orders_of}
 use Rattle.adya_values.specs.Meaning.Histories.{Event, Order, History}
 use Rattle.adya_values.specs.declared.edition.Edition.TheVariants.{One, Two}
 use Rattle.adya_values.specs.declared.history.History.{History as HistoryValue}
@@ -16,8 +17,9 @@ use Rattle.adya_line.specs.Clauses.HistoryLines.{Line, HeadLine, EventLine, Unfi
 use Rattle.adya_text.specs.Meaning.Texts.{IsHistory, history_lines, with_ends}
 use Rattle.adya_text.specs.Clauses.Grammars.{AreHistoryLines}
 use Rattle.adya_text.specs.Clauses.Reading.{ReadsHistory}
+use Rattle.adya_text.specs.Computing.Runs.{IsAllowed, IsRefused}
 use Rattle.adya_text.specs.Computing.HistoryRuns.{allows, stage_after, with_line, history_machine}
-use Rattle.adya_text.specs.Machinery.HistoryDrafts.{HasLines, held, line_after, longest_line, next_line}
+use Rattle.adya_text.specs.Machinery.HistoryDrafts.{HasLines, Takes, held, line_after, longest_line, next_line}
 use Rattle.adya_text.specs.Machinery.LongLines.{IsLonger}
 use Rattle.adya_text.specs.declared.history_draft.Stage.{Stage}
 use Rattle.adya_text.specs.declared.history_draft.Stage.TheVariants.{Head, Done}
@@ -47,11 +49,26 @@ line_counts s h TailLine may = omega arith
 
 pub next_is : (d : HistoryDraft) (past : List (List ℕ)) → HasLines d past
     → line_after d.stage + (length (events_of d.events) + (length d.unfinished.items
-    + (length d.orders.items + length d.finals.items))) ≡ suc (length past)
-next_is d past run =
-    let counts = run_counts history_machine next_line line_counts d.stage (held d) past run in
-    let orders = length-map d.orders.items order_of in
-    omega (arith, counts, orders, length-map d.finals.items final_of)
+    + (length (orders_of d.orders) + length (finals_of d.finals)))) ≡ suc (length past)
+next_is d past run = omega (arith, run_counts history_machine next_line line_counts d.stage (held d) past run)
+
+-- ---- a line that was no event
+
+module _ (old mid : HistoryDraft) (stage : mid.stage ≡ old.stage) (same : held mid ≡ held old) where
+  pub still_has : (past : List (List ℕ)) → HasLines old past → HasLines mid past
+  still_has past run = rw (stage, same) run
+
+  pub still_allowed : (line : List ℕ) (x : Line) → IsAllowed history_machine mid.stage line x → IsAllowed history_machine old.stage line x
+  still_allowed line x allowed = subst (λ s. IsAllowed history_machine s line x) stage allowed
+
+  pub still_refused : (line : List ℕ) → IsRefused history_machine mid.stage line → IsRefused history_machine old.stage line
+  still_refused line refused = subst (λ s. IsRefused history_machine s line) stage refused
+
+  pub still_takes : (new : HistoryDraft) (x : Line) → Takes mid new x → Takes old new x
+  still_takes new x takes = record {
+    stage = takes.stage ∙ ap (λ s. stage_after s x) stage;
+    holds = takes.holds ∙ ap (λ h. with_line h x) same;
+  }
 
 -- ---- the value
 

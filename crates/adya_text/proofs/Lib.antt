@@ -14,3 +14,4 @@ pub mod SerialDrafts
 pub mod TextLaws
 pub mod WrittenTexts
 pub mod HaveTexts
+pub mod Orders

@@ -1,22 +1,23 @@
 //! Histories in the making.
 
-ghost use Rattle.std.specs.Prelude.{◌≡◌, ◌<◌, ◌+◌, ◌^◌, [], length, true, false, IfSome, IfOk, OnOk, MatchOption, map};
+ghost use Rattle.std.specs.Prelude.{◌≡◌, ◌<◌, ◌+◌, ◌^◌, [], length, map, true, false, IfSome, IfOk, OnOk, MatchOption};
 ghost use Rattle.adya_values.specs.Computing.Shapes.{fits_edition, is_shape};
-ghost use Rattle.adya_values.specs.Mirror.Events.{events_of, order_of, final_of};
+ghost use Rattle.adya_values.specs.Mirror.Events.{entry_of, events_of};
 ghost use Rattle.adya_values.specs.Mirror.Histories.{history_of};
+ghost use Rattle.adya_values.specs.Mirror.Lines.{finals_of, orders_of};
 ghost use Rattle.adya_line.specs.Clauses.HistoryLines.{Line, EventLine, line_of};
-ghost use Rattle.adya_line.specs.Mirror.{view};
+ghost use Rattle.adya_line.specs.Mirror.{entries_in, view};
 ghost use Rattle.adya_text.specs.Computing.Runs.{IsAllowed, IsRefused};
 ghost use Rattle.adya_text.specs.Computing.HistoryRuns.{allows, history_machine, stage_after};
 ghost use Rattle.adya_text.specs.Clauses.Grammars.{AreHistoryLines};
 ghost use Rattle.adya_text.specs.Clauses.Reading.{ReadsHistory};
-ghost use Rattle.adya_text.specs.Machinery.HistoryDrafts.{HasLines, Takes, line_after, longest_line};
+ghost use Rattle.adya_text.specs.Machinery.HistoryDrafts.{HasLines, Takes, held, line_after, longest_line};
 
 use crate::line_reader::Draft;
 use crate::read_fault::Text;
 use adya_line::laws::{event_lines, history_lines};
-use adya_line::{EventRef, HistoryLine, history_line, read_event};
-use adya_values::{Edition, Entry, Events, FinalPair, History, Key, Listed, Order, Txn};
+use adya_line::{EventRef, HistoryLine, history_line, read_event_with};
+use adya_values::{Edition, Entry, Events, Finals, History, Key, Listed, Orders, Txn};
 use std::alloc::{AllocError, Global};
 
 /// How many bytes the head has, `adya 1` or `adya 2`.
@@ -111,8 +112,8 @@ pub(crate) struct HistoryDraft {
     edition: Edition,
     events: Events,
     unfinished: Vec<Txn>,
-    orders: Vec<Order>,
-    finals: Vec<FinalPair>,
+    orders: Orders,
+    finals: Finals,
     /// What the last scan lists; the memory is used again.
     entries: Vec<Entry>,
 }
@@ -128,8 +129,8 @@ impl HistoryDraft {
             edition: Edition::One,
             events: Events::new(alloc),
             unfinished: Vec::new(alloc),
-            orders: Vec::new(alloc),
-            finals: Vec::new(alloc),
+            orders: Orders::new(alloc),
+            finals: Finals::new(alloc),
             entries: Vec::new(alloc),
         }
     }
@@ -149,21 +150,31 @@ impl HistoryDraft {
         Ok(Some(read))
     }
 
-    /// Takes the line if it is that of an event, as most are, and may come next. Returns whether it did.
+    /// Takes the line if it is that of an event, as most are, and may come next. Returns whether it did; if not, the draft holds
+    /// what it held.
     fn take_event(&mut self, line: &[u8]) -> Result<bool, AllocError>
         ensures taken { IfOk result (λ b. b ≡ true
             → (x : Line) × IsAllowed history_machine self.old.stage line.now x × Takes self.old self.new x) }
-        ensures left { IfOk result (λ b. b ≡ false → self.new ≡ self.old) }
+        ensures left { IfOk result (λ b. b ≡ false → (self.new.stage ≡ self.old.stage) × (held self.new ≡ held self.old)) }
     {
         event_lines();
         let Stage::Events { .. } = self.stage else {
             return Ok(false);
         };
-        let Some(event) = read_event(line) else {
+        let Some(event) = read_event_with(line, &mut self.entries)? else {
             return Ok(false);
         };
-        self.push_event(&event)?;
+        self.push_with_entries(&event)?;
         Ok(true)
+    }
+
+    /// Takes the line of the event, whose entries are those that were read last.
+    fn push_with_entries(&mut self, event: &EventRef<'_>) -> Result<(), AllocError>
+        requires { map entry_of self.old.entries.items ≡ entries_in (view event.now) }
+        ensures { OnOk result (Takes self.old self.new (EventLine (view event.now))) }
+    {
+        let entries = Listed::Plain(&self.entries);
+        self.events.push(&event.with_entries(entries))
     }
 
     /// Takes the line of the event.
@@ -171,8 +182,7 @@ impl HistoryDraft {
         ensures { OnOk result (Takes self.old self.new (EventLine (view event.now))) }
     {
         event.read_entries(&mut self.entries)?;
-        let entries = Listed::Plain(&self.entries);
-        self.events.push(&event.with_entries(entries))
+        self.push_with_entries(event)
     }
 
     // Not inlined: a caller pays at its entry for all locals of what is inlined into it.
@@ -185,8 +195,8 @@ impl HistoryDraft {
             HistoryLine::Head(edition) => self.edition = edition,
             HistoryLine::Event(event) => self.push_event(&event)?,
             HistoryLine::Unfinished(txn) => self.unfinished.push(txn)?,
-            HistoryLine::Order(order) => self.orders.push(order)?,
-            HistoryLine::Final(pair) => self.finals.push(pair)?,
+            HistoryLine::Order(order) => self.orders.push(&order)?,
+            HistoryLine::Final(pair) => self.finals.push(&pair)?,
             HistoryLine::Tail => {}
         }
         self.stage = stage;
@@ -261,17 +271,17 @@ fn of_edition(
     edition: Edition,
     events: Events,
     unfinished: Vec<Txn>,
-    orders: Vec<Order>,
-    finals: Vec<FinalPair>,
+    orders: Orders,
+    finals: Finals,
 ) -> Option<History>
     ensures of_lists { fits_edition edition unfinished.items ≡ true
-        → MatchOption result (is_shape (map order_of orders.items) (map final_of finals.items) ≡ true → ⊥)
+        → MatchOption result (is_shape (orders_of orders) (finals_of finals) ≡ true → ⊥)
         (λ h. history_of h ≡ record {
           edition = edition;
           events = events_of events;
           unfinished = unfinished.items;
-          orders = map order_of orders.items;
-          finals = map final_of finals.items;
+          orders = orders_of orders;
+          finals = finals_of finals;
         }) }
     ensures same { IfSome result (λ h. (h.events ≡ events) × (h.orders ≡ orders) × (h.finals ≡ finals)) }
 {
@@ -282,8 +292,8 @@ fn of_edition(
 }
 
 /// Returns how many values these are.
-fn total(events: &Events, unfinished: &[Txn], orders: &[Order], finals: &[FinalPair]) -> usize
-    ensures count { result ≡ length (events_of events.now) + (length unfinished.now + (length orders.now + length finals.now)) }
+fn total(events: &Events, unfinished: &[Txn], orders: &Orders, finals: &Finals) -> usize
+    ensures count { result ≡ length (events_of events.now) + (length unfinished.now + (length (orders_of orders.now) + length (finals_of finals.now))) }
     ensures near { result < 2 ^ 63 }
 {
     events.len() + (unfinished.len() + (orders.len() + finals.len()))

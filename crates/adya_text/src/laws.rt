@@ -1,10 +1,11 @@
 //! The laws of texts. The calls change nothing: each contract is a law.
 
-ghost use Rattle.std.specs.Prelude.{◌<◌, length, map, slice_get, IfSome};
+ghost use Rattle.std.specs.Prelude.{◌<◌, length, slice_get, IfSome};
 ghost use Rattle.std.specs.List.{AllByRecursion};
 ghost use Rattle.adya_values.specs.Meaning.Keys.{IsTxn};
-ghost use Rattle.adya_values.specs.Mirror.Events.{events_of, order_of, final_of};
+ghost use Rattle.adya_values.specs.Mirror.Events.{events_of};
 ghost use Rattle.adya_values.specs.Mirror.Histories.{history_of, serial_txns};
+ghost use Rattle.adya_values.specs.Mirror.Lines.{finals_of, orders_of};
 ghost use Rattle.adya_line.specs.Meaning.Limits.{IsEvent, IsOrder, IsFinal};
 ghost use Rattle.adya_text.specs.Meaning.Texts.{IsHistory, IsSerial};
 ghost use Rattle.adya_text.specs.Clauses.Grammars.{AreHistoryLines, AreSerialLines};
@@ -12,7 +13,7 @@ ghost use Rattle.adya_text.specs.Laws.{HistoriesDiffer, SerialsDiffer, NoHistory
 ghost use Rattle.adya_text.specs.Laws.{HasOneFaultLine, HasNoFaultWithin, IsCutAfterEnd, IsWholeWithoutEnd};
 
 use adya_line::laws::{event_within, final_within, history_lines, order_within, serial_lines};
-use adya_values::{Events, FinalPair, History, Order, Serial, Txn};
+use adya_values::{Events, Finals, History, Orders, Serial, Txn};
 
 /// Each history has a text of its own, and no history text begins with another.
 pub fn history_texts()
@@ -89,18 +90,19 @@ fn event_at_within(events: &Events, i: usize)
     }
 }
 
-fn orders_within(orders: &[Order])
-    ensures { AllByRecursion (λ o. 0 < length o.writers → IsOrder o) (map order_of orders.now) }
+fn orders_within(orders: &Orders)
+    ensures { AllByRecursion (λ o. 0 < length o.writers → IsOrder o) (orders_of orders.now) }
 {
-    for order in orders {
-        order_within(order);
+    for i in 0..orders.len() {
+        order_within(orders.key(i), orders.writers(i));
     }
 }
 
-fn finals_within(finals: &[FinalPair])
-    ensures { AllByRecursion IsFinal (map final_of finals.now) }
+fn finals_within(finals: &Finals)
+    ensures { AllByRecursion IsFinal (finals_of finals.now) }
 {
-    for pair in finals {
-        final_within(pair);
+    for i in 0..finals.len() {
+        let pair = finals.at(i);
+        final_within(&pair);
     }
 }

@@ -48,12 +48,13 @@ pub(crate) trait Draft: Drop {
         ensures { (past : List (List ℕ)) → has_lines self.now past → (start : List ℕ) → IsLonger result start
             → StartsNoLine grammar past start };
 
-    /// Takes the next line, without its line feed, and returns true. If no text goes on with it, returns false and
-    /// leaves the draft as it was.
+    /// Takes the next line, without its line feed, and returns true. If no text goes on with it, returns false, and the lines
+    /// stay those before it.
     fn take(&mut self, line: &[u8]) -> Result<bool, AllocError>
         ensures taken { IfOk result (λ taken. taken ≡ true → (past : List (List ℕ)) → has_lines self.old past
             → has_lines self.new (past ++ line.now ∷ [])) }
-        ensures left { IfOk result (λ taken. taken ≡ false → self.new ≡ self.old) }
+        ensures left { IfOk result (λ taken. taken ≡ false → (past : List (List ℕ)) → has_lines self.old past
+            → has_lines self.new past) }
         ensures refused { IfOk result (λ taken. taken ≡ false → (past : List (List ℕ)) → has_lines self.old past
             → Begins grammar (past ++ line.now ∷ []) → ⊥) };
 

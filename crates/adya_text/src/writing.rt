@@ -1,8 +1,8 @@
 //! Writing whole texts.
 
-ghost use Rattle.std.specs.Prelude.{map};
-ghost use Rattle.adya_values.specs.Mirror.Events.{events_of, order_of, final_of};
+ghost use Rattle.adya_values.specs.Mirror.Events.{events_of};
 ghost use Rattle.adya_values.specs.Mirror.Histories.{history_of, serial_txns};
+ghost use Rattle.adya_values.specs.Mirror.Lines.{finals_of, orders_of};
 ghost use Rattle.devices.specs.Clauses.Writing.{Wrote};
 ghost use Rattle.adya_line.specs.Meaning.Spelling.{head_text, tail, event_text, unfinished_text, order_text, final_text, txn_text};
 ghost use Rattle.adya_text.specs.Meaning.Texts.{history_text, serial_text};
@@ -12,7 +12,7 @@ use adya_line::{
     history_head, second_head, serial_head, tail, write_event, write_final, write_order, write_txn,
     write_unfinished,
 };
-use adya_values::{Edition, Events, FinalPair, History, Order, Serial, Txn};
+use adya_values::{Edition, Events, Finals, History, Orders, Serial, Txn};
 use devices::{Watched, put, put_line};
 use std::io;
 use std::io::Write;
@@ -97,21 +97,22 @@ fn put_unfinished<W: Write>(txns: &[Txn], out: &mut Watched<W>) -> io::Result<()
     Ok(())
 }
 
-fn put_orders<W: Write>(orders: &[Order], out: &mut Watched<W>) -> io::Result<()>
-    ensures { Wrote W.contents out.old out.new (lines_of order_text (map order_of orders.now)) result }
+fn put_orders<W: Write>(orders: &Orders, out: &mut Watched<W>) -> io::Result<()>
+    ensures { Wrote W.contents out.old out.new (lines_of order_text (orders_of orders.now)) result }
 {
-    for order in orders {
-        write_order(order, out)?;
+    for i in 0..orders.len() {
+        write_order(orders.key(i), orders.writers(i), out)?;
         put(b"\n", out)?;
     }
     Ok(())
 }
 
-fn put_finals<W: Write>(finals: &[FinalPair], out: &mut Watched<W>) -> io::Result<()>
-    ensures { Wrote W.contents out.old out.new (lines_of final_text (map final_of finals.now)) result }
+fn put_finals<W: Write>(finals: &Finals, out: &mut Watched<W>) -> io::Result<()>
+    ensures { Wrote W.contents out.old out.new (lines_of final_text (finals_of finals.now)) result }
 {
-    for pair in finals {
-        write_final(pair, out)?;
+    for i in 0..finals.len() {
+        let pair = finals.at(i);
+        write_final(&pair, out)?;
         put(b"\n", out)?;
     }
     Ok(())

@@ -3,11 +3,11 @@
 ghost use Rattle.std.specs.Prelude.{◌≡◌, ◌↔◌, true, length, map, IsOk, IfOk, IfErr, ◌==◌, ◌&&◌, not, [], nat_lt, ◌∷◌};
 ghost use Rattle.std.specs.List.{list_all};
 ghost use Rattle.adya_values.specs.Meaning.Keys.{key_lt, keys_rise};
-ghost use Rattle.adya_values.specs.Mirror.Events.{events_of, order_of, final_of};
+ghost use Rattle.adya_values.specs.Mirror.Events.{events_of};
+ghost use Rattle.adya_values.specs.Mirror.Lines.{finals_of, orders_of};
 ghost use Rattle.adya_values.specs.Computing.Shapes.{is_shape, numbers_rise, fits_edition};
 
-use crate::order::{FinalPair, Order};
-use crate::{Edition, Events, Key, Txn};
+use crate::{Edition, Events, Finals, Orders, Txn};
 use std::fmt;
 use thiserror::Error;
 
@@ -21,9 +21,9 @@ pub struct BadShape {
     /// The unfinished transactions, as given; empty if the history was to be of the first edition.
     pub unfinished: Vec<Txn>,
     /// The orders, as given.
-    pub orders: Vec<Order>,
+    pub orders: Orders,
     /// The finals, as given.
-    pub finals: Vec<FinalPair>,
+    pub finals: Finals,
 }
 
 impl fmt::Debug for BadShape {
@@ -40,10 +40,10 @@ pub struct History {
     edition: Edition,
     events: Events,
     unfinished: Vec<Txn>,
-    orders: Vec<Order>,
-    finals: Vec<FinalPair>,
+    orders: Orders,
+    finals: Finals,
     pub ghost edited: { fits_edition edition unfinished.items ≡ true },
-    pub ghost shape: { is_shape (map order_of orders.items) (map final_of finals.items) ≡ true },
+    pub ghost shape: { is_shape (orders_of orders) (finals_of finals) ≡ true },
 }
 
 impl History {
@@ -51,17 +51,13 @@ impl History {
 
     /// Makes a history of the first edition. Returns `BadShape` with the lists if an order has no writer, or the
     /// keys of the orders or of the finals don't strictly rise.
-    pub fn new(
-        events: Events,
-        orders: Vec<Order>,
-        finals: Vec<FinalPair>,
-    ) -> Result<History, BadShape>
-        ensures limits { IsOk result ↔ (is_shape (map order_of orders.items) (map final_of finals.items) ≡ true) }
+    pub fn new(events: Events, orders: Orders, finals: Finals) -> Result<History, BadShape>
+        ensures limits { IsOk result ↔ (is_shape (orders_of orders) (finals_of finals) ≡ true) }
         ensures edition { IfOk result (λ h. (edition_in h ≡ Edition.One) × (unfinished_in h ≡ [])) }
         ensures same { IfOk result (λ h. (h.events ≡ events) × (h.orders ≡ orders) × (h.finals ≡ finals)) }
         ensures back { IfErr result (λ b. (b.events ≡ events) × (b.orders ≡ orders) × (b.finals ≡ finals)) }
     {
-        let unfinished = Vec::new(*orders.allocator());
+        let unfinished = Vec::new(orders.allocator());
         if !is_shape(&orders, &finals) {
             return Err(BadShape {
                 events,
@@ -84,11 +80,11 @@ impl History {
     pub fn new_two(
         events: Events,
         unfinished: Vec<Txn>,
-        orders: Vec<Order>,
-        finals: Vec<FinalPair>,
+        orders: Orders,
+        finals: Finals,
     ) -> Result<History, BadShape>
         ensures limits { IsOk result
-            ↔ ((numbers_rise unfinished.items && is_shape (map order_of orders.items) (map final_of finals.items)) ≡ true) }
+            ↔ ((numbers_rise unfinished.items && is_shape (orders_of orders) (finals_of finals)) ≡ true) }
         ensures edition { IfOk result (λ h. edition_in h ≡ Edition.Two) }
         ensures same { IfOk result (λ h. (h.events ≡ events) × (h.unfinished ≡ unfinished) × (h.orders ≡ orders) × (h.finals ≡ finals)) }
         ensures back { IfErr result (λ b. (b.events ≡ events) × (b.unfinished ≡ unfinished) × (b.orders ≡ orders) × (b.finals ≡ finals)) }
@@ -133,7 +129,7 @@ impl History {
     }
 
     /// Returns the version orders, by rising key.
-    pub fn orders(&self) -> &[Order]
+    pub fn orders(&self) -> &Orders
         ensures value { result.now ≡ orders_in self.now }
         ensures shape { is_shape (history_of self.now).orders (history_of self.now).finals ≡ true }
     {
@@ -141,7 +137,7 @@ impl History {
     }
 
     /// Returns the final values, by rising key.
-    pub fn finals(&self) -> &[FinalPair]
+    pub fn finals(&self) -> &Finals
         ensures { result.now ≡ finals_in self.now }
     {
         &self.finals
@@ -164,26 +160,19 @@ fn numbers_rise(txns: &[Txn]) -> bool
     true
 }
 
-fn is_shape(orders: &[Order], finals: &[FinalPair]) -> bool
-    ensures { result ≡ is_shape (map order_of orders.now) (map final_of finals.now) }
+fn is_shape(orders: &Orders, finals: &Finals) -> bool
+    ensures { result ≡ is_shape (orders_of orders.now) (finals_of finals.now) }
 {
-    all_have_writers(orders) && order_keys_rise(orders) && final_keys_rise(finals)
+    all_have_writers(orders) && orders.keys_rise() && finals.keys_rise()
 }
 
-fn all_have_writers(orders: &[Order]) -> bool
-    ensures { result ≡ list_all (λ o. not (length o.writers.items == 0)) orders.now }
+fn all_have_writers(orders: &Orders) -> bool
+    ensures { result ≡ list_all (λ o. not (length o.writers == 0)) (orders_of orders.now) }
 {
-    orders.iter().all(|o| !o.writers.is_empty())
-}
-
-fn order_keys_rise(orders: &[Order]) -> bool
-    ensures { result ≡ keys_rise (map (λ o. o.key) (map order_of orders.now)) }
-{
-    orders.is_sorted_by(|a, b| a.key < b.key)
-}
-
-fn final_keys_rise(finals: &[FinalPair]) -> bool
-    ensures { result ≡ keys_rise (map (λ f. f.key) (map final_of finals.now)) }
-{
-    finals.is_sorted_by(|a, b| a.key < b.key)
+    for i in 0..orders.len() {
+        if orders.writers(i).is_empty() {
+            return false;
+        }
+    }
+    true
 }

@@ -1,9 +1,10 @@
-//! The layers of the store by themselves: each call is a line, and so is its reply.
+//! The layers of the store, and packed lists, by themselves: each call is a line, and so is its reply.
 //!
 //! A line is a call, and if the call replies, ` -> ` and the reply. A line that begins with `! ` is carried out only if
 //! the call before it was refused memory, and shows that all is as it was; then that call is made again.
 
 use crate::marks::Marked;
+use crate::packed::Packed;
 use crate::recorder::Recorded;
 use crate::reply::{Reply, is_replied, replying};
 use crate::tally::Tally;
@@ -31,6 +32,11 @@ pub(crate) fn marks(tally: &mut Tally, lines: &str) -> Result<(), &'static str> 
     let alloc = tally.alloc();
     run(tally, Marked(IndexMarks::new(alloc)), lines)?;
     run(tally, Marked(ListMarks::new(alloc)), lines)
+}
+
+/// Tries packed orders and final values.
+pub(crate) fn packed(tally: &mut Tally, lines: &str) -> Result<(), &'static str> {
+    run(tally, Packed::new(tally.alloc()), lines)
 }
 
 /// Tries the tracker over both representations of the marks.

@@ -14,6 +14,7 @@ mod histories;
 mod layers;
 mod list_histories;
 mod marks;
+mod packed;
 mod recorder;
 mod reply;
 mod scripts;
@@ -109,6 +110,7 @@ fn said_of_store(tally: &mut Tally, kind: &str, texts: &str) -> Result<(), &'sta
         "course-over-lists" => courses::over_lists(tally, &Course::of(texts)?),
         "versions" => layers::versions(tally, texts),
         "marks" => layers::marks(tally, texts),
+        "packed" => layers::packed(tally, texts),
         "tracker" => layers::tracker(tally, texts),
         "recorder" => layers::recorder(tally, texts),
         _ => Err("no such kind"),

@@ -8,11 +8,14 @@ ghost use Rattle.std.specs.Cmp.Lexicographic.{slice_cmp};
 ghost use Rattle.adya_values.specs.Meaning.Keys.{key_eq};
 ghost use Rattle.adya_values.specs.Mirror.Events.{entry_of, events_of, order_of, final_of, value_of};
 ghost use Rattle.adya_values.specs.Meaning.Events.{written, visible};
+ghost use Rattle.adya_values.specs.Mirror.Lines.{finals_of, orders_of};
 ghost use Rattle.adya_values.specs.Computing.Shapes.{is_shape};
 ghost use Rattle.ssi_recorder.specs.Meaning.Recorded.{by_commit, orders_of_events, finals_of_events};
 ghost use Rattle.ssi_recorder.specs.Machinery.Lines.{put_at, write_by, AreLines, order_in, final_in};
 
-use adya_values::{Content, Entry, Events, FinalPair, Key, Order, Txn, Value, Version};
+use adya_values::{
+    Content, Entry, Events, FinalPair, Finals, Key, Order, Orders, Txn, Value, Version,
+};
 use indexmap::IndexSet;
 use std::alloc::{AllocError, Global};
 use std::collections::BTreeMap;
@@ -20,8 +23,8 @@ use std::collections::BTreeMap;
 /// The version orders and the final values, both by rising key.
 #[derive(Drop)]
 pub(crate) struct Lists {
-    pub orders: Vec<Order>,
-    pub finals: Vec<FinalPair>,
+    pub orders: Orders,
+    pub finals: Finals,
 }
 
 /// Returns the committed transactions in the order of their commits.
@@ -112,15 +115,15 @@ fn order(alloc: Global, key: Key, line: &BTreeMap<usize, Entry>) -> Result<Order
 fn orders(
     alloc: Global,
     lines: &BTreeMap<Key, BTreeMap<usize, Entry>>,
-) -> Result<Vec<Order>, AllocError>
-    ensures orders { IfOk result (λ v. map order_of v.items ≡ map order_in lines.now.entries) }
+) -> Result<Orders, AllocError>
+    ensures orders { IfOk result (λ os. orders_of os ≡ map order_in lines.now.entries) }
     ensures ordered { IsOrdered (slice_cmp nat_cmp) lines.now }
 {
     let _ordered = lines.len();
-    let mut orders = Vec::new(alloc);
+    let mut orders = Orders::new(alloc);
     'lines: for (key, line) in lines.iter() {
         let order = order(alloc, *key, line)?;
-        orders.push(order)?;
+        orders.push(&order)?;
     }
     Ok(orders)
 }
@@ -140,13 +143,13 @@ fn final_pair(key: Key, line: &BTreeMap<usize, Entry>) -> Option<FinalPair>
 fn finals(
     alloc: Global,
     lines: &BTreeMap<Key, BTreeMap<usize, Entry>>,
-) -> Result<Vec<FinalPair>, AllocError>
-    ensures { IfOk result (λ v. map final_of v.items ≡ filter_map final_in lines.now.entries) }
+) -> Result<Finals, AllocError>
+    ensures { IfOk result (λ fs. finals_of fs ≡ filter_map final_in lines.now.entries) }
 {
-    let mut finals = Vec::new(alloc);
+    let mut finals = Finals::new(alloc);
     'lines: for (key, line) in lines.iter() {
         if let Some(pair) = final_pair(*key, line) {
-            finals.push(pair)?;
+            finals.push(&pair)?;
         }
     }
     Ok(finals)
@@ -154,9 +157,9 @@ fn finals(
 
 /// Returns the version orders and the final values that the events make.
 pub(crate) fn installed(alloc: Global, events: &Events) -> Result<Lists, AllocError>
-    ensures shape { IfOk result (λ i. is_shape (map order_of i.orders.items) (map final_of i.finals.items) ≡ true) }
-    ensures orders { IfOk result (λ i. map order_of i.orders.items ≡ orders_of_events (events_of events.now)) }
-    ensures finals { IfOk result (λ i. map final_of i.finals.items ≡ finals_of_events (events_of events.now)) }
+    ensures shape { IfOk result (λ i. is_shape (orders_of i.orders) (finals_of i.finals) ≡ true) }
+    ensures orders { IfOk result (λ i. orders_of i.orders ≡ orders_of_events (events_of events.now)) }
+    ensures finals { IfOk result (λ i. finals_of i.finals ≡ finals_of_events (events_of events.now)) }
 {
     let committed = committers(alloc, events)?;
     let by_key = lines(alloc, events, &committed)?;

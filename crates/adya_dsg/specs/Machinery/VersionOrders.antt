@@ -1,22 +1,16 @@
 -- The history whose version orders are held.
-use Rattle.std.specs.Prelude.{ℕ, ◌<◌, List, length}
+use Rattle.std.specs.Prelude.{ℕ, ◌<◌, length}
 use Rattle.adya_values.specs.declared.events.Events.{Events}
-use Rattle.adya_values.specs.declared.order.Order.{Order}
 use Rattle.adya_values.specs.declared.seen.Seen.{Seen}
 use Rattle.adya_values.specs.Machinery.Seen.{key_at}
 use Rattle.adya_values.specs.Meaning.Histories.{Entry, History}
 use Rattle.adya_values.specs.Meaning.Keys.{Key}
-use Rattle.adya_values.specs.Mirror.Histories.{orders_in}
 use Rattle.adya_values.specs.Mirror.Numbers.{keys_of, seen_entry}
-use Rattle.adya_terms.specs.Clauses.Checked.{history_in, checked_history}
+use Rattle.adya_terms.specs.Clauses.Checked.{checked_history}
 use Rattle.adya_dsg.specs.declared.version_orders.VersionOrders.{VersionOrders}
 
 abbrev pub ordered_history : VersionOrders → History
 ordered_history v = checked_history v.checked.now
-
--- its order lines
-abbrev pub order_lines : VersionOrders → List Order
-order_lines v = orders_in (history_in v.checked.now)
 
 -- its events, which give numbers to the keys that they name
 abbrev pub ordered_events : VersionOrders → Events

@@ -1,5 +1,6 @@
 -- The history that passed its check.
 use Rattle.std.specs.Prelude.{ℕ, Option, option_and_then, slice_get}
+use Rattle.adya_values.specs.declared.events.Events.{Events}
 use Rattle.adya_values.specs.declared.history.History.{History as HistoryValue}
 use Rattle.adya_values.specs.Meaning.Histories.{Entry, History}
 use Rattle.adya_values.specs.Meaning.Events.{last_write}
@@ -9,6 +10,10 @@ use Rattle.adya_terms.specs.declared.checked.Checked.{Checked}
 -- the history of the code
 abbrev pub history_in : Checked → HistoryValue
 history_in c = c.history.now
+
+-- the events of the code
+abbrev pub events_in : Checked → Events
+events_in c = c.events.now
 
 -- the plain history
 abbrev pub checked_history : Checked → History

@@ -4,13 +4,10 @@ use Rattle.std.specs.List.{list_any}
 use Rattle.std.specs.BTreeSet.{BTreeSet, contains}
 use Rattle.std.specs.Ordering.{nat_cmp}
 use Rattle.adya_values.specs.declared.event.Version.{Version}
-use Rattle.adya_values.specs.declared.order.Order.{Order as OrderValue}
-use Rattle.adya_values.specs.declared.order.FinalPair.{FinalPair as FinalValue}
 use Rattle.adya_values.specs.declared.fault.Rule.TheVariants.{M6, M7, M8}
 use Rattle.adya_values.specs.declared.fault.CheckFault.{CheckFault}
 use Rattle.adya_values.specs.Meaning.Keys.{key_eq}
-use Rattle.adya_values.specs.Meaning.Histories.{Entry, Event, History}
-use Rattle.adya_values.specs.Mirror.Events.{order_of, final_of}
+use Rattle.adya_values.specs.Meaning.Histories.{Entry, Event, FinalPair, History, Order}
 use Rattle.adya_values.specs.declared.edition.Edition.TheVariants.{One, Two}
 use Rattle.adya_values.specs.Meaning.Events.{txn_of, observed, is_committed, aborts, last_write}
 use Rattle.adya_values.specs.Clauses.Rules.{has_ended}
@@ -22,23 +19,23 @@ abbrev pub Names : List Fault → CheckFault → Type 0
 Names fs e = IsFault (first fs) e
 
 -- the history of these parts
-abbrev pub parts : List Event → List OrderValue → List FinalValue → History
+abbrev pub parts : List Event → List Order → List FinalPair → History
 parts events orders finals = record {
   edition = One;
   events = events;
   unfinished = [];
-  orders = map order_of orders;
-  finals = map final_of finals;
+  orders = orders;
+  finals = finals;
 }
 
 -- the same with unfinished transactions
-abbrev pub whole : List Event → List ℕ → List OrderValue → List FinalValue → History
+abbrev pub whole : List Event → List ℕ → List Order → List FinalPair → History
 whole events unfinished orders finals = record {
   edition = Two;
   events = events;
   unfinished = unfinished;
-  orders = map order_of orders;
-  finals = map final_of finals;
+  orders = orders;
+  finals = finals;
 }
 
 -- the entry is of no aborted or unfinished transaction

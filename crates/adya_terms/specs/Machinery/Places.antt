@@ -1,16 +1,16 @@
 -- What is known of the places of writers in the lines of their keys, when the last writes of committed transactions up to an index
 -- are found. A place holds the index of its writer's last write of the key and 1, or 0 if that isn't found.
-use Rattle.std.specs.Prelude.{◌≡◌, ℕ, zero, suc, ◌<◌, ◌==◌, Bool, true, false, not, ◌&&◌, List, Option, Some, None, length, slice_get, slice_index, replicate, count_by, map, option_map, MatchOption}
+use Rattle.std.specs.Prelude.{◌≡◌, ℕ, zero, suc, ◌<◌, ◌==◌, Bool, true, false, not, ◌&&◌, List, Option, Some, None, length, slice_get, slice_index, get_or, count_by, map, option_map, MatchOption}
 use Rattle.std.specs.List.{list_all, list_any}
-use Rattle.adya_values.specs.declared.order.Order.{Order as OrderValue}
 use Rattle.adya_values.specs.Meaning.Histories.{Event, Order}
 use Rattle.adya_values.specs.Meaning.Keys.{Key, key_eq}
 use Rattle.adya_values.specs.Meaning.Events.{is_committed, last_write}
-use Rattle.adya_values.specs.Mirror.Events.{order_of}
+use Rattle.adya_values.specs.Mirror.Lines.{orders_of}
 use Rattle.adya_values.specs.Clauses.Rules.{installs}
 use Rattle.adya_values.specs.Computing.Faults.{lists_exactly}
 use Rattle.adya_terms.specs.declared.line_places.LinePlaces.{LinePlaces}
 use Rattle.adya_terms.specs.declared.placing.Placing.{Placing}
+use Rattle.adya_terms.specs.Machinery.LinePlaces.{line_places}
 use Rattle.adya_terms.specs.Machinery.Tables.{own, written_at, Own}
 use Rattle.adya_terms.specs.Mirror.LineNumbers.{FindsLines}
 
@@ -64,28 +64,33 @@ is_full ws lacks = not lacks && list_all (λ w. not (w == 0)) ws
 
 -- ---- all lines
 
--- the writers, what their places hold and whether one is missing
-abbrev pub shape : LinePlaces → List ℕ × List ℕ × Bool
-shape x = (x.writers.txns.now, x.writes.items, x.lacks)
+-- the orders of the lines
+abbrev pub orders_in : Placing → List Order
+orders_in x = orders_of x.writers.orders.now
 
--- before any event
-abbrev pub blank : List ℕ → List ℕ × List ℕ × Bool
-blank ts = (ts, replicate (length ts) 0, false)
+-- what the places of the line hold
+abbrev pub places_in : LinePlaces → ℕ → List ℕ
+places_in x line = line_places x.writes.items x.starts.items line
 
-pub record IsLine (all : List Event) (last : Own → Option ℕ) (i : ℕ) (o : Order) (x : LinePlaces) : Type 0 where
-  pub writers_are : x.writers.txns.now ≡ o.writers
-  pub placed : IsPlaced all last i o.key o.writers x.writes.items x.lacks
+-- whether the line lacks a committed writer
+abbrev pub lacks_at : List Bool → ℕ → Bool
+lacks_at lacks line = get_or lacks line false
 
-pub record AreLines (all : List Event) (last : Own → Option ℕ) (i : ℕ) (os : List Order) (xs : List LinePlaces) : Type 0 where
-  pub count : length xs ≡ length os
-  pub lines : (l : ℕ) (o : Order) (x : LinePlaces) → slice_get os l ≡ Some o → slice_get xs l ≡ Some x → IsLine all last i o x
+-- the last writes before the index are found in each line
+pub record AreLines (all : List Event) (last : Own → Option ℕ) (i : ℕ) (os : List Order) (writes starts : List ℕ) (lacks : List Bool) : Type 0 where
+  pub count : length starts ≡ suc (length os)
+  pub flags : length lacks ≡ length os
+  pub lines : (line : ℕ) (o : Order) → slice_get os line ≡ Some o → IsPlaced all last i o.key o.writers (line_places writes starts line) (lacks_at lacks line)
+
+abbrev pub AreLinesOf : List Event → (Own → Option ℕ) → ℕ → List Order → Placing → Type 0
+AreLinesOf all last i os x = AreLines all last i os x.lines.writes.items x.lines.starts.items x.lacks.items
 
 abbrev pub has_line : List Order → List ℕ → Bool
 has_line os k = list_any (λ o. key_eq o.key k) os
 
 -- the index of the key's line, or none if it has none
-abbrev pub IsLineOf : Option ℕ → List OrderValue → List ℕ → Type 0
-IsLineOf i os k = MatchOption i (has_line (map order_of os) k ≡ false) (λ j. option_map (λ o. o.key) (slice_get os j) ≡ Some k)
+abbrev pub IsLineOf : Option ℕ → List Order → List ℕ → Type 0
+IsLineOf i os k = MatchOption i (has_line os k ≡ false) (λ j. option_map (λ o. o.key) (slice_get os j) ≡ Some k)
 
 -- a key with a committed writer has no line
 pub record LeavesOut (all : List Event) (last : Own → Option ℕ) (os : List Order) : Type 0 where
@@ -95,17 +100,21 @@ pub record LeavesOut (all : List Event) (last : Own → Option ℕ) (os : List O
   pub installs : Installs all last key txn at
   pub missing : has_line os key ≡ false
 
-pub record ArePlaced (all : List Event) (last : Own → Option ℕ) (i : ℕ) (ks : List Key) (os : List OrderValue) (x : Placing) : Type 0 where
+pub record ArePlaced (all : List Event) (last : Own → Option ℕ) (i : ℕ) (ks : List Key) (os : List Order) (x : Placing) : Type 0 where
   pub finds : FindsLines x.numbers.items ks os (length os)
-  pub lines : AreLines all last i (map order_of os) x.lines.items
-  pub left : x.left_out ≡ true → LeavesOut all last (map order_of os)
-  pub covered : x.left_out ≡ false → (k : List ℕ) (t at : ℕ) → Installs all last k t at → at < i → has_line (map order_of os) k ≡ true
+  pub lines : AreLinesOf all last i os x
+  pub left : x.left_out ≡ true → LeavesOut all last os
+  pub covered : x.left_out ≡ false → (k : List ℕ) (t at : ℕ) → Installs all last k t at → at < i → has_line os k ≡ true
+
+-- the lines have places
+abbrev pub HasLines : LinePlaces → List Order → Type 0
+HasLines x os = length x.starts.items ≡ suc (length os)
 
 -- those lines are right that are full
-pub record Judges (all : List Event) (os : List Order) (xs : List LinePlaces) : Type 0 where
-  pub count : length xs ≡ length os
-  pub exact : (l : ℕ) (o : Order) (x : LinePlaces) → slice_get os l ≡ Some o → slice_get xs l ≡ Some x
-      → lists_exactly (installs all o.key) o.writers all ≡ is_full x.writes.items x.lacks
+abbrev pub Judges : List Event → List Order → Placing → Type 0
+Judges all os x =
+    (line : ℕ) (o : Order) → slice_get os line ≡ Some o
+    → lists_exactly (installs all o.key) o.writers all ≡ is_full (places_in x.lines line) (lacks_at x.lacks.items line)
 
 -- ---- what the lines hold in the end
 
@@ -114,10 +123,12 @@ abbrev pub line_writes : (Own → Option ℕ) → Order → List (Option ℕ)
 line_writes last o = map (λ t. last (own t o.key)) o.writers
 
 -- the places of the lines hold those indices
-abbrev pub AreWrites : (Own → Option ℕ) → List LinePlaces → List Order → Type 0
-AreWrites last xs os = map (λ x. map held x.writes.items) xs ≡ map (line_writes last) os
+pub record AreWrites (last : Own → Option ℕ) (x : LinePlaces) (os : List Order) : Type 0 where
+  pub count : HasLines x os
+  pub same : (line : ℕ) (o : Order) → slice_get os line ≡ Some o → map held (places_in x line) ≡ line_writes last o
 
 -- the places hold the indices of events that wrote what the lines name
-abbrev pub AreInstalled : List Event → List LinePlaces → List Order → Type 0
-AreInstalled all xs os =
-    map (λ x. map (λ above. written_at all (held above)) x.writes.items) xs ≡ map (λ o. map (λ t. last_write t o.key all) o.writers) os
+pub record AreInstalled (all : List Event) (x : LinePlaces) (os : List Order) : Type 0 where
+  pub count : HasLines x os
+  pub same : (line : ℕ) (o : Order) → slice_get os line ≡ Some o
+      → map (λ above. written_at all (held above)) (places_in x line) ≡ map (λ t. last_write t o.key all) o.writers

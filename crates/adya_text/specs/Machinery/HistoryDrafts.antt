@@ -1,7 +1,8 @@
 -- What a draft of a history holds of the lines so far.
-use Rattle.std.specs.Prelude.{◌≡◌, ℕ, ◌+◌, List, length, map, Option, Some, None}
+use Rattle.std.specs.Prelude.{◌≡◌, ℕ, ◌+◌, List, length, Option, Some, None}
 use Rattle.adya_values.specs.Meaning.Histories.{History}
-use Rattle.adya_values.specs.Mirror.Events.{events_of, order_of, final_of}
+use Rattle.adya_values.specs.Mirror.Events.{events_of}
+use Rattle.adya_values.specs.Mirror.Lines.{finals_of, orders_of}
 use Rattle.adya_text.specs.Computing.Runs.{HasRun}
 use Rattle.adya_line.specs.Clauses.HistoryLines.{Line}
 use Rattle.adya_text.specs.Computing.HistoryRuns.{history_machine, stage_after, with_line}
@@ -31,8 +32,8 @@ held d = record {
   edition = d.edition;
   events = events_of d.events;
   unfinished = d.unfinished.items;
-  orders = map order_of d.orders.items;
-  finals = map final_of d.finals.items;
+  orders = orders_of d.orders;
+  finals = finals_of d.finals;
 }
 
 -- the lines so far are those of a run to the draft's stage, and the draft holds what they hold

@@ -3,50 +3,46 @@ use Rattle.std.specs.List.{find}
 use Rattle.std.proofs.lemmas.Result.{IfOk-weaker}
 use Rattle.adya_values.specs.declared.history.History.{History as HistoryValue}
 use Rattle.adya_values.specs.Mirror.Histories.{history_of, serial_txns}
+use Rattle.adya_values.specs.Mirror.Lines.{orders_of}
 use Rattle.adya_values.specs.Computing.EdgeList.{event_edges}
 use Rattle.adya_values.specs.Computing.Certificates.{first_backward}
 use Rattle.adya_terms.specs.Clauses.Checked.{history_in}
 use Rattle.adya_dsg.specs.declared.edge.Edge.{Edge}
 use Rattle.adya_dsg.specs.Mirror.{edge_of}
 use Rattle.adya_dsg.specs.Machinery.PartEdges.{is_backward}
-use Rattle.adya_dsg.proofs.Lines.{lends}
+use Rattle.adya_dsg.proofs.Lines.{lent_lines, lines_rise}
 use Rattle.adya_dsg.proofs.LinksDecide.{all_writes, readers, no_backward_write, first_is_of_writes, first_is_of_reads}
 use Rattle.adya_dsg.proofs.backward.first_backward.Goals as goal
 
 pub returns-then-is_some : goal.returns-then-is_some
 returns-then-is_some c =
     let history = history_in c.args.checked.now in
-    let os = c.orders.result.now in
     let h = history_of history in
-    first_is_of_writes h os
-    (lends history c.history.result.now os c.history.ensures.same c.orders.ensures.value c.orders.ensures.shape)
-    c.in_ok-certificate.certificate.txns.now c.in_ok-found.found c.in_ok-found.ensures c.edge_list_keeps_first.ensures
-    (sym c.is_some.ensures ∙ c.if-is_some.true) ∙
+    let lent = lent_lines history c.history.result.now c.orders.result.now c.history.ensures.same c.orders.ensures.value in
+    first_is_of_writes h (lines_rise history) (orders_of c.orders.result.now) lent c.in_ok-certificate.certificate.txns.now
+    c.in_ok-found.found c.in_ok-found.ensures c.edge_list_keeps_first.ensures (sym c.is_some.ensures ∙ c.if-is_some.true) ∙
     ap (first_backward h) (c.in_ok-certificate.ensures ∙ c.txns-txns.ensures)
 
 pub first_read-requires-clause-writes : goal.first_read-requires-clause-writes
 first_read-requires-clause-writes c =
     let history = history_in c.args.checked.now in
-    let os = c.orders.result.now in
+    let lent = lent_lines history c.history.result.now c.orders.result.now c.history.ensures.same c.orders.ensures.value in
     let ts = c.in_ok-certificate.certificate.txns.now in
     subst (λ (x : HistoryValue). find (is_backward ts) (all_writes (history_of x)) ≡ None)
     (sym c.in_ok-versions.ensures.same)
-    (no_backward_write (history_of history) os
-    (lends history c.history.result.now os c.history.ensures.same c.orders.ensures.value c.orders.ensures.shape)
-    ts c.in_ok-found.found c.in_ok-found.ensures (sym c.is_some.ensures ∙ c.if-is_some.false))
+    (no_backward_write (history_of history) (lines_rise history) (orders_of c.orders.result.now) lent ts c.in_ok-found.found
+    c.in_ok-found.ensures (sym c.is_some.ensures ∙ c.if-is_some.false))
 
 pub returns : goal.returns
 returns c =
     let history = history_in c.args.checked.now in
-    let os = c.orders.result.now in
     let h = history_of history in
+    let lent = lent_lines history c.history.result.now c.orders.result.now c.history.ensures.same c.orders.ensures.value in
     let ts = c.in_ok-certificate.certificate.txns.now in
     let of_reads = λ (x : HistoryValue). find (is_backward ts)
     (flat_map (event_edges (history_of x)) (readers (history_of x))) in
-    let none = first_is_of_reads h os
-    (lends history c.history.result.now os c.history.ensures.same c.orders.ensures.value c.orders.ensures.shape)
-    ts c.in_ok-found.found c.in_ok-found.ensures c.edge_list_keeps_first.ensures
-    (sym c.is_some.ensures ∙ c.if-is_some.false) in
+    let none = first_is_of_reads h (lines_rise history) (orders_of c.orders.result.now) lent ts c.in_ok-found.found
+    c.in_ok-found.ensures c.edge_list_keeps_first.ensures (sym c.is_some.ensures ∙ c.if-is_some.false) in
     IfOk-weaker c.first_read.result
     (λ (o : Option Edge). option_map edge_of o ≡ of_reads (history_in c.in_ok-versions.versions.checked.now))
     (λ (o : Option Edge). option_map edge_of o ≡ first_backward h (serial_txns c.args.serial.now))

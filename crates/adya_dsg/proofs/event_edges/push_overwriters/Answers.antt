@@ -32,7 +32,7 @@ loop-place-preserved c =
       | then-seen-place+in_ok-push_edge-2 w ↦
           ap (λ (v : Vec EdgeValue Global). map edge_of v.items ++ rest) w.edges-is ∙
           (ap (λ es. es ++ rest) w.in_ok-push_edge-2.ensures ∙
-          (ap (λ j. (done ++ joined Rw j (Some t) w.installer-to.result) ++ rest) c.order.ensures.key ∙
+          (ap (λ j. (done ++ joined Rw j (Some t) w.installer-to.result) ++ rest) c.key-key.ensures ∙
           (ap (λ o. (done ++ joined Rw k (Some t) o) ++ rest) w.installer-to.ensures ∙
           kept_step test gives (drop i qs) (drop (i + 1) qs) q splits done _ (lt-ltb seen q w.if-seen-place.true)
           c.loop-place.invariant)))
@@ -61,11 +61,11 @@ returns c =
     elim c.if-is_visible.branch [
       | then-is_visible+in_ok-push_edge w ↦
           let to = w.copied-to.ensures ∙
-          (got w.deref.result.now p w.get.result w.get.ensures.lookup.0 w.get.ensures.lookup.1 ∙
-          ap (λ xs. slice_get xs p) (w.deref.ensures.value ∙ w.order-then-is_visible.ensures.writers)) in
+          (got w.writers.result.now p w.get.result w.get.ensures.lookup.0 w.get.ensures.lookup.1 ∙
+          ap (λ xs. slice_get xs p) w.writers.ensures) in
           ap (λ (v : Vec EdgeValue Global). map edge_of v.items ++ behind seen) w.edges-is ∙
           (ap (λ es. es ++ behind seen) w.in_ok-push_edge.ensures ∙
-          (ap (λ j. (old ++ joined Rw j (Some t) w.copied-to.result) ++ behind seen) c.order.ensures.key ∙
+          (ap (λ j. (old ++ joined Rw j (Some t) w.copied-to.result) ++ behind seen) c.key-key.ensures ∙
           (ap (λ o. (old ++ joined Rw k (Some t) o) ++ behind seen) to ∙
           (ap (λ s. (old ++ gives t (suc p)) ++ behind s) (w.seen-is ∙ add-one p) ∙
           (append_assoc old (gives t (suc p)) (behind (suc p)) ∙

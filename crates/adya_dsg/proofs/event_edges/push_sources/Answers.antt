@@ -30,7 +30,7 @@ loop-place-preserved c =
       | then-place-at+in_ok-push_edge w ↦
           ap (λ (v : Vec EdgeValue Global). map edge_of v.items ++ rest) w.edges-is ∙
           (ap (λ es. es ++ rest) w.in_ok-push_edge.ensures ∙
-          (ap (λ j. (done ++ joined Wr j w.installer-from.result (Some c.txn-txn.result)) ++ rest) c.order.ensures.key ∙
+          (ap (λ j. (done ++ joined Wr j w.installer-from.result (Some c.txn-txn.result)) ++ rest) c.key-key.ensures ∙
           (ap (λ o. (done ++ joined Wr k o (Some c.txn-txn.result)) ++ rest) w.installer-from.ensures ∙
           kept_step test gives (drop i qs) (drop (i + 1) qs) q splits done _ (lt-ltb q c.args.at.place w.if-place-at.true)
           c.loop-place.invariant)))
@@ -60,7 +60,7 @@ returns c =
     ap (λ es. old ++ es) (sym (read_edges_are h e k p c.requires.scan))) in
     on_ok_weaker c.push_edge-2.result
     (λ is. is ∙
-    (ap (λ j. map edge_of c.loop-place.edges.items ++ joined Wr j c.installer-from-2.result (Some t)) c.order.ensures.key ∙
+    (ap (λ j. map edge_of c.loop-place.edges.items ++ joined Wr j c.installer-from-2.result (Some t)) c.key-key.ensures ∙
     (ap (λ o. map edge_of c.loop-place.edges.items ++ joined Wr k o (Some t)) c.installer-from-2.ensures ∙
     (ap (λ es. es ++ gives t p) done ∙ (append_assoc old front (gives t p) ∙ all)))))
     c.push_edge-2.ensures

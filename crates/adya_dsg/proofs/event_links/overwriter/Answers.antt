@@ -44,5 +44,5 @@ returns c =
       | else-is_scan-via-else-is_scan w ↦ and_left _ _ (sym c.is_scan.ensures ∙ w.if-is_scan.false)
     ] in
     c.copied.ensures ∙
-    (got c.deref.result.now p c.get.result c.get.ensures.lookup.0 c.get.ensures.lookup.1 ∙
-    (ap (λ xs. slice_get xs p) (c.deref.ensures.value ∙ c.order.ensures.writers) ∙ sym (overwriter_next h e k p test)))
+    (got c.writers.result.now p c.get.result c.get.ensures.lookup.0 c.get.ensures.lookup.1 ∙
+    (ap (λ xs. slice_get xs p) c.writers.ensures ∙ sym (overwriter_next h e k p test)))

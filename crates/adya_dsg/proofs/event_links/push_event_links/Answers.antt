@@ -1,5 +1,5 @@
 use Rattle.std.proofs.Common.{◌<◌, ◌+◌, ◌++◌, List, map, drop, flat_map, length, get_or, sym, ◌∙◌, ap, subst}
-use Rattle.adya_dsg.specs.Machinery.VersionOrders.{ordered_history, order_lines}
+use Rattle.adya_dsg.specs.Machinery.VersionOrders.{ordered_history}
 use Rattle.adya_dsg.specs.declared.selection.Selection.{Selection}
 use Rattle.adya_dsg.specs.Mirror.{edge_of}
 use Rattle.adya_dsg.specs.Machinery.Choices.{choice_of, event_at}
@@ -19,7 +19,7 @@ loop-at-init c =
 pub push_links_at-requires-clause-within : goal.push_links_at-requires-clause-within
 push_links_at-requires-clause-within c =
     let i = c.loop-at.at-index in
-    let os = order_lines c.args.versions.now in
+    let os = (ordered_history c.args.versions.now).orders in
     let none : Selection = record { line = 0; place = 0 } in
     subst (λ (zs : List Selection). (get_or zs i none).line < length os) (sym c.as_slice-at-items.ensures.value)
     (c.in_ok-select.ensures.within i none

@@ -1,8 +1,6 @@
-use Rattle.std.proofs.Common.{◌≡◌, ◌++◌, true, List, map, flat_map, ◌∙◌, sym, ap, subst}
-use Rattle.adya_values.specs.declared.order.Order.{Order as OrderValue}
-use Rattle.adya_values.specs.Meaning.Keys.{keys_rise}
+use Rattle.std.proofs.Common.{◌≡◌, ◌++◌, List, map, flat_map, ◌∙◌, ap}
 use Rattle.adya_values.specs.Meaning.Histories.{Order}
-use Rattle.adya_values.specs.Mirror.Events.{order_of}
+use Rattle.adya_values.specs.Mirror.Lines.{orders_of}
 use Rattle.digraph.specs.declared.arc.Arc.{Arc}
 use Rattle.adya_dsg.specs.Machinery.VersionOrders.{ordered_history}
 use Rattle.adya_dsg.specs.Machinery.Arcs.{ends}
@@ -16,17 +14,13 @@ are_ends : (c : goal.In_ok-add_event_arcs)
     → c.add_event_arcs.new.arcs.items ≡ map ends (links (ordered_history c.args.versions.now))
 are_ends c =
     let h = ordered_history c.args.versions.now in
-    let os = c.orders.result.now in
-    let of_lines = map ends (flat_map (λ (o : Order). line_edges o.key o.writers) (map order_of os)) in
+    let of_lines : List Order → List Arc = λ os. map ends (flat_map (λ o. line_edges o.key o.writers) os) in
     let of_events = map ends (flat_map (event_links h) (readers h)) in
     c.in_ok-add_event_arcs.ensures ∙
     (ap (λ (zs : List Arc). zs ++ of_events)
-    (c.in_ok-add_write_arcs.ensures ∙ ap (λ (zs : List Arc). zs ++ of_lines) c.new-arcs.ensures.items) ∙
-    ends_by_parts h os
-    (record {
-      lines = ap (map order_of) (sym c.orders.ensures.value);
-      rise = subst (λ (zs : List OrderValue). keys_rise (map (λ (o : Order). o.key) (map order_of zs)) ≡ true) (sym c.orders.ensures.value) c.orders.ensures.rise;
-    }))
+    (c.in_ok-add_write_arcs.ensures ∙
+    (ap (λ (zs : List Arc). zs ++ of_lines (orders_of c.orders.result.now)) c.new-arcs.ensures.items ∙ ap of_lines c.orders.ensures.value)) ∙
+    ends_by_parts h c.orders.ensures.rise)
 
 pub returns-clause-sound : goal.returns-clause-sound
 returns-clause-sound c =

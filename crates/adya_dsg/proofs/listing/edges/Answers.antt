@@ -17,7 +17,7 @@ held (Ok v) all holds same it = subst holds (sym same) it
 held (Err e) all holds same it = tt
 
 -- the version orders are those of the history
-same_list : (c : goal.After-drop-versions-4) → edge_list (ordered_history c.in_ok-versions.versions) ≡ edge_list (checked_history c.args.checked.now)
+same_list : (c : goal.After-drop-versions-3) → edge_list (ordered_history c.in_ok-versions.versions) ≡ edge_list (checked_history c.args.checked.now)
 same_list c = ap (λ (g : HistoryValue). edge_list (history_of g)) c.in_ok-versions.ensures.same
 
 pub returns-clause-exact : goal.returns-clause-exact

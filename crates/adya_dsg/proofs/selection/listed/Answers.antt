@@ -2,7 +2,7 @@ use Rattle.std.proofs.Common.{length, option_map, sym, ◌∙◌, ap}
 use Rattle.std.proofs.lemmas.Bool.{ltb-true}
 use Rattle.adya_terms.specs.Clauses.Checked.{history_in}
 use Rattle.adya_dsg.specs.Machinery.Choices.{key_at}
-use Rattle.adya_dsg.specs.Machinery.VersionOrders.{ordered_entry, ordered_history, order_lines}
+use Rattle.adya_dsg.specs.Machinery.VersionOrders.{ordered_entry, ordered_history}
 use Rattle.adya_dsg.proofs.Lines.{line_once, lines_rise}
 use Rattle.adya_dsg.proofs.Listed.{listed_here, unlisted}
 use Rattle.adya_dsg.proofs.selection.listed.Goals as goal
@@ -31,5 +31,5 @@ returns c =
     (ltb-true c.args.at (length c.args.seen.now) (sym c.in_ok-seen.ensures.lookup.0)) c.in_ok-seen.ensures.lookup.1
     (key_at (ordered_history g) c.args.line) c.requires.rise c.requires.reached
     (λ same. c.if-branch-line.false
-    (line_once (order_lines g) (lines_rise (history_in g.checked.now)) c.in_ok-line_of.field-0 c.args.line
+    (line_once (ordered_history g).orders (lines_rise (history_in g.checked.now)) c.in_ok-line_of.field-0 c.args.line
     c.in_ok-line_of.ensures.within c.requires.within (c.in_ok-line_of.ensures.found ∙ same)))

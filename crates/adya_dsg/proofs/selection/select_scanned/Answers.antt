@@ -1,11 +1,10 @@
 use Rattle.std.proofs.Common.{◌≡◌, ◌<◌, ◌≤◌, ◌+◌, ◌++◌, ◌∷◌, [], ℕ, Vec, Global, map, drop, length, get_or, refl, sym, ◌∙◌, ap, subst, append-nil, arith}
 use Rattle.std.specs.List.{All}
-use Rattle.std.proofs.lemmas.List.{length-map, map-append}
+use Rattle.std.proofs.lemmas.List.{map-append}
 use Rattle.std.proofs.lemmas.List.Elements.{All-push, All-nil}
 use Rattle.adya_values.specs.Meaning.Histories.{Scan}
-use Rattle.adya_values.specs.Mirror.Events.{order_of}
 use Rattle.adya_values.specs.Meaning.Selections.{selected, place_of}
-use Rattle.adya_dsg.specs.Machinery.VersionOrders.{ordered_entry, ordered_history, order_lines, numbered}
+use Rattle.adya_dsg.specs.Machinery.VersionOrders.{ordered_entry, ordered_history, numbered}
 use Rattle.adya_dsg.specs.declared.selection.Selection.{Selection}
 use Rattle.adya_dsg.specs.Machinery.Choices.{choice_of, key_at}
 use Rattle.adya_dsg.proofs.Selections.{chosen_in, scan_starts, scan_ends, inside, chosen_step, passed_step}
@@ -16,7 +15,7 @@ pub loop-line-init : goal.loop-line-init
 loop-line-init c =
     let g = c.args.versions.now in
     let h = ordered_history g in
-    let os = order_lines g in
+    let os = h.orders in
     let low = numbered g c.args.low in
     let high = numbered g c.args.high in
     let es = map (ordered_entry g) c.args.seen.now in
@@ -34,7 +33,7 @@ pub loop-line-preserved : goal.loop-line-preserved
 loop-line-preserved c =
     let g = c.args.versions.now in
     let h = ordered_history g in
-    let os = order_lines g in
+    let os = h.orders in
     let low = numbered g c.args.low in
     let high = numbered g c.args.high in
     let es = map (ordered_entry g) c.args.seen.now in
@@ -43,7 +42,6 @@ loop-line-preserved c =
     let k = key_at h i in
     let end = c.lines_up_to-line-end.ensures.within in
     let within : i < length os = omega (arith, end, c.loop-line-test.true) in
-    let there : i < length h.orders = subst (λ (n : ℕ). i < n) (sym (length-map os order_of)) within in
     let passed = λ (j : ℕ) (l : i ≤ j) (m : j < length os).
     c.reached-next.ensures.same j l m ∙ c.loop-line.invariant.passed j l m in
     let later = λ (j : ℕ) (l : i + 1 ≤ j) (m : j < length os). passed j (omega (arith, l)) m in
@@ -65,7 +63,7 @@ loop-line-preserved c =
                 ap (λ (v : Vec Selection Global). map (choice_of h) v.items ++ rest) w.selections-is ∙
                 (ap (λ zs. map (choice_of h) zs ++ rest) w.in_ok-push.ensures.items ∙
                 (ap (λ zs. zs ++ rest) (map-append (choice_of h) c.loop-line.selections.items (s ∷ [])) ∙
-                chosen_step f h.orders i there done _ c.loop-line.invariant.choices w.in-Some.place (gives ∙ w.in-Some.is)));
+                chosen_step f h.orders i within done _ c.loop-line.invariant.choices w.in-Some.place (gives ∙ w.in-Some.is)));
             passed = later;
           }
       | in_default w ↦ record {
@@ -73,7 +71,7 @@ loop-line-preserved c =
             c.loop-line.invariant.within;
         choices =
             ap (λ (v : Vec Selection Global). map (choice_of h) v.items ++ rest) w.selections-is ∙
-            passed_step f h.orders i there done _ c.loop-line.invariant.choices (gives ∙ w.in_default.is);
+            passed_step f h.orders i within done _ c.loop-line.invariant.choices (gives ∙ w.in_default.is);
         passed = later;
       }
     ]
@@ -88,6 +86,5 @@ returns-clause-choices c =
     sym (append-nil done) ∙
     (ap (λ zs. done ++ zs)
     (sym (scan_ends h c.args.txn (numbered g c.args.low) (numbered g c.args.high) es c.loop-line.line
-    (λ i l m. c.lines_up_to-line-end.ensures.above i (omega (arith, end, l))
-    (subst (λ (n : ℕ). i < n) (length-map (order_lines g) order_of) m)))) ∙
+    (λ i l m. c.lines_up_to-line-end.ensures.above i (omega (arith, end, l)) m))) ∙
     c.loop-line.invariant.choices)

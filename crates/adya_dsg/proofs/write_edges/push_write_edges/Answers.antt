@@ -8,9 +8,9 @@ use Rattle.adya_dsg.proofs.write_edges.push_write_edges.Goals as goal
 
 pub loop-to-preserved : goal.loop-to-preserved
 loop-to-preserved c =
-    let k = c.args.order.now.key in
-    let xs = drop 1 c.as_slice.result.now in
-    let rest = take (length c.as_slice.result.now - 1) xs in
+    let k = c.args.key in
+    let xs = drop 1 c.args.writers.now in
+    let rest = take (length c.args.writers.now - 1) xs in
     let i = c.loop-to.to-index in
     let x = c.to-item.result in
     let done = map edge_of c.loop-to.edges.items in

@@ -4,4 +4,4 @@ use Rattle.adya_values.specs.Meaning.Keys.{IsTxn}
 use Rattle.adya_line.proofs.laws.order_within.Given as goal
 
 abbrev pub invariant-loop-txn : goal.invariant-loop-txn
-invariant-loop-txn l = AllByRecursion IsTxn (take l.txn-index l.order.writers.items)
+invariant-loop-txn l = AllByRecursion IsTxn (take l.txn-index l.writers)

@@ -2,11 +2,10 @@ use Rattle.std.proofs.lemmas.Grind.{common_steps}
 use Rattle.std.proofs.Common.{◌<◌, ◌^◌, ◌≡◌, ◌∙◌, ◌+◌, ℕ, List, true, sym, ap, subst, length, [], arith}
 use Rattle.std.specs.List.{list_all}
 use Rattle.adya_values.specs.declared.events.Events.{Events}
-use Rattle.adya_values.specs.declared.order.Order.{Order as OrderValue}
-use Rattle.adya_values.specs.declared.order.FinalPair.{FinalPair as FinalValue}
 use Rattle.adya_terms.specs.declared.event_index.EventIndex.{EventIndex}
-use Rattle.adya_values.specs.Meaning.Histories.{History}
+use Rattle.adya_values.specs.Meaning.Histories.{FinalPair, History, Order}
 use Rattle.adya_values.specs.Mirror.Events.{events_of}
+use Rattle.adya_values.specs.Mirror.Lines.{finals_of, orders_of}
 use Rattle.adya_values.specs.Computing.Faults.{was_written, malformed, unfinished_faults, unfinished_line, orders_line}
 use Rattle.adya_terms.specs.Machinery.EventIndex.{events_in, indexed, unfinished_in}
 use Rattle.adya_terms.specs.Machinery.Checks.{Names, whole, rule_faults, read_faults}
@@ -17,20 +16,20 @@ use Rattle.adya_terms.proofs.checked.check.Goals as goal
 use Rattle.lemmas.proofs.Lists.{both_nil}
 
 -- the index is of the same events and unfinished transactions
-same_lists : (x : EventIndex) (es : Events) (us : List ℕ) (os : List OrderValue) (fs : List FinalValue) → events_in x ≡ es → x.unfinished.now ≡ us
+same_lists : (x : EventIndex) (es : Events) (us : List ℕ) (os : List Order) (fs : List FinalPair) → events_in x ≡ es → x.unfinished.now ≡ us
     → whole (indexed x) (unfinished_in x) os fs ≡ whole (events_of es) us os fs
 same_lists x es us os fs e u =
     ap (λ v. whole (events_of v) (unfinished_in x) os fs) e ∙ ap (λ v. whole (events_of es) v os fs) u
 
 pub returns-in-Err-clause-faults : goal.returns-in-Err-clause-faults
 returns-in-Err-clause-faults c =
-    let h = whole (events_of c.args.events.now) c.args.unfinished.now c.args.orders.now c.args.finals.now in
+    let h = whole (events_of c.args.events.now) c.args.unfinished.now (orders_of c.args.orders.now) (finals_of c.args.finals.now) in
     events_first h c.in-Err.fault c.in-Err.ensures.faults
 
 pub returns-in-Err-check_unfinished-clause-faults : goal.returns-in-Err-check_unfinished-clause-faults
 returns-in-Err-check_unfinished-clause-faults c =
-    let h = whole (events_of c.args.events.now) c.args.unfinished.now c.args.orders.now c.args.finals.now in
-    let same = same_lists c.in-Ok.index c.args.events.now c.args.unfinished.now c.args.orders.now c.args.finals.now c.in-Ok.ensures.events c.in-Ok.ensures.unfinished in
+    let h = whole (events_of c.args.events.now) c.args.unfinished.now (orders_of c.args.orders.now) (finals_of c.args.finals.now) in
+    let same = same_lists c.in-Ok.index c.args.events.now c.args.unfinished.now (orders_of c.args.orders.now) (finals_of c.args.finals.now) c.in-Ok.ensures.events c.in-Ok.ensures.unfinished in
     let n = c.len-unfinished_line.ensures.length in
     let at : c.len-unfinished_line.result + 2 ≡ unfinished_line h = omega (arith, n) in
     let fault = c.in-Err-check_unfinished.fault in
@@ -40,8 +39,8 @@ returns-in-Err-check_unfinished-clause-faults c =
 
 pub returns-in-Err-check_rules-clause-faults : goal.returns-in-Err-check_rules-clause-faults
 returns-in-Err-check_rules-clause-faults c =
-    let h = whole (events_of c.args.events.now) c.args.unfinished.now c.args.orders.now c.args.finals.now in
-    let same = same_lists c.in-Ok.index c.args.events.now c.args.unfinished.now c.args.orders.now c.args.finals.now c.in-Ok.ensures.events c.in-Ok.ensures.unfinished in
+    let h = whole (events_of c.args.events.now) c.args.unfinished.now (orders_of c.args.orders.now) (finals_of c.args.finals.now) in
+    let same = same_lists c.in-Ok.index c.args.events.now c.args.unfinished.now (orders_of c.args.orders.now) (finals_of c.args.finals.now) c.in-Ok.ensures.events c.in-Ok.ensures.unfinished in
     let n = c.len-unfinished_line.ensures.length in
     let at : c.len-unfinished_line.result + 2 ≡ unfinished_line h = omega (arith, n) in
     let ended = subst (λ k. unfinished_faults h.events k h.unfinished ≡ []) at
@@ -54,8 +53,8 @@ returns-in-Err-check_rules-clause-faults c =
 
 pub returns-in-Err-check_reads-clause-faults : goal.returns-in-Err-check_reads-clause-faults
 returns-in-Err-check_reads-clause-faults c =
-    let h = whole (events_of c.args.events.now) c.args.unfinished.now c.args.orders.now c.args.finals.now in
-    let same = same_lists c.in-Ok.index c.args.events.now c.args.unfinished.now c.args.orders.now c.args.finals.now c.in-Ok.ensures.events c.in-Ok.ensures.unfinished in
+    let h = whole (events_of c.args.events.now) c.args.unfinished.now (orders_of c.args.orders.now) (finals_of c.args.finals.now) in
+    let same = same_lists c.in-Ok.index c.args.events.now c.args.unfinished.now (orders_of c.args.orders.now) (finals_of c.args.finals.now) c.in-Ok.ensures.events c.in-Ok.ensures.unfinished in
     let n = c.len-unfinished_line.ensures.length in
     let at : c.len-unfinished_line.result + 2 ≡ unfinished_line h = omega (arith, n) in
     let ended = subst (λ k. unfinished_faults h.events k h.unfinished ≡ []) at
@@ -68,8 +67,8 @@ returns-in-Err-check_reads-clause-faults c =
 
 pub returns-clause-faults : goal.returns-clause-faults
 returns-clause-faults c =
-    let h = whole (events_of c.args.events.now) c.args.unfinished.now c.args.orders.now c.args.finals.now in
-    let same = same_lists c.in-Ok.index c.args.events.now c.args.unfinished.now c.args.orders.now c.args.finals.now c.in-Ok.ensures.events c.in-Ok.ensures.unfinished in
+    let h = whole (events_of c.args.events.now) c.args.unfinished.now (orders_of c.args.orders.now) (finals_of c.args.finals.now) in
+    let same = same_lists c.in-Ok.index c.args.events.now c.args.unfinished.now (orders_of c.args.orders.now) (finals_of c.args.finals.now) c.in-Ok.ensures.events c.in-Ok.ensures.unfinished in
     let n = c.len-unfinished_line.ensures.length in
     let at : c.len-unfinished_line.result + 2 ≡ unfinished_line h = omega (arith, n) in
     let ended = subst (λ k. unfinished_faults h.events k h.unfinished ≡ []) at
@@ -95,4 +94,12 @@ check_unfinished-requires c =
     }
 
 pub check_rules-requires-clause-near : goal.check_rules-requires-clause-near
-check_rules-requires-clause-near c = grind (arith, common_steps)
+check_rules-requires-clause-near c =
+    omega (
+      arith,
+      c.len-orders.ensures.length,
+      c.len-orders.ensures.near,
+      c.len-finals.ensures.length,
+      c.len-finals.ensures.near,
+      c.len-unfinished_line.ensures.near,
+    )

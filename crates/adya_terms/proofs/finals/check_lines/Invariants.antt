@@ -1,5 +1,5 @@
-use Rattle.std.proofs.Common.{◌≡◌, ◌+◌, map, drop}
-use Rattle.adya_values.specs.Mirror.Events.{final_of}
+use Rattle.std.proofs.Common.{◌≡◌, ◌+◌, drop}
+use Rattle.adya_values.specs.Mirror.Lines.{finals_of, orders_of}
 use Rattle.adya_values.specs.Computing.Faults.{final_faults}
 use Rattle.adya_terms.specs.Machinery.EventIndex.{indexed}
 use Rattle.adya_terms.specs.Machinery.Checks.{parts}
@@ -7,5 +7,5 @@ use Rattle.adya_terms.proofs.finals.check_lines.Given as goal
 
 abbrev pub invariant-loop-i : goal.invariant-loop-i
 invariant-loop-i l =
-    let h = parts (indexed l.index) l.orders l.finals in
-    final_faults h l.first (map final_of l.finals) ≡ final_faults h (l.first + l.i) (map final_of (drop l.i l.finals))
+    let h = parts (indexed l.index) (orders_of l.orders) (finals_of l.finals) in
+    final_faults h l.first h.finals ≡ final_faults h (l.first + l.i) (drop l.i h.finals)

@@ -1,6 +1,7 @@
-use Rattle.std.proofs.Common.{map, slice_get, ap, ◌∙◌}
+use Rattle.std.proofs.Common.{slice_get, ap, ◌∙◌}
 use Rattle.std.specs.List.{filter_map}
-use Rattle.adya_values.specs.Mirror.Events.{events_of, order_of}
+use Rattle.adya_values.specs.Mirror.Events.{events_of}
+use Rattle.adya_values.specs.Mirror.Lines.{orders_of}
 use Rattle.adya_values.specs.Computing.Shapes.{is_shape}
 use Rattle.ssi_recorder.specs.Machinery.Lines.{final_in, write_by}
 use Rattle.ssi_recorder.proofs.Ranks.{line_versions}
@@ -11,7 +12,7 @@ use Rattle.ssi_recorder.proofs.installs.installed.Goals as goal
 pub returns-clause-shape : goal.returns-clause-shape
 returns-clause-shape c =
     let es = c.in_ok-by_key.by_key.entries in
-    ap (is_shape (map order_of c.in_ok-orders.orders.items)) c.in_ok-finals.ensures ∙
+    ap (is_shape (orders_of c.in_ok-orders.orders)) c.in_ok-finals.ensures ∙
     ap (λ os. is_shape os (filter_map final_in es)) c.in_ok-orders.ensures.orders ∙
     shape_of es c.in_ok-by_key.ensures.good c.in_ok-orders.ensures.ordered
 

@@ -4,7 +4,7 @@ use Rattle.adya_terms.specs.Clauses.Checked.{history_in}
 use Rattle.lemmas.proofs.Orderings.{bytes_lt-apart}
 use Rattle.adya_values.specs.Meaning.Keys.{key_lt}
 use Rattle.adya_dsg.specs.Machinery.Choices.{key_at}
-use Rattle.adya_dsg.specs.Machinery.VersionOrders.{ordered_history, order_lines, numbered}
+use Rattle.adya_dsg.specs.Machinery.VersionOrders.{ordered_history, numbered}
 use Rattle.adya_dsg.proofs.Keys.{lt-other, lt-turned}
 use Rattle.adya_dsg.proofs.Lines.{lines_rise, line_above, line_below}
 use Rattle.adya_dsg.proofs.version_orders.VersionOrders.lines_up_to.Goals as goal
@@ -18,7 +18,7 @@ returns-in-Some-clause-up_to c = λ i l.
     elim (cases_lt i n) [
       | inl below ↦
           lt-turned (at i) k
-          (line_below (order_lines g) (lines_rise (history_in g.checked.now)) k n c.in-Some.ensures.within
+          (line_below (ordered_history g).orders (lines_rise (history_in g.checked.now)) k n c.in-Some.ensures.within
           c.in-Some.ensures.found i below)
       | inr more ↦
           let here : i ≡ n = omega (arith, l, more) in
@@ -28,7 +28,7 @@ returns-in-Some-clause-up_to c = λ i l.
 pub returns-in-Some-clause-above : goal.returns-in-Some-clause-above
 returns-in-Some-clause-above c = λ i l m.
     let g = c.args.self.now in
-    line_above (order_lines g) (lines_rise (history_in g.checked.now)) (numbered g c.args.key) c.in-Some.line
+    line_above (ordered_history g).orders (lines_rise (history_in g.checked.now)) (numbered g c.args.key) c.in-Some.line
     c.in-Some.ensures.found i (omega (arith, l)) m
 
 pub returns-in-None-clause-up_to : goal.returns-in-None-clause-up_to

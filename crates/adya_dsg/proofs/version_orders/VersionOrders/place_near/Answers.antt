@@ -12,5 +12,5 @@ returns-in-Some c =
     let h = ordered_history g in
     let i = c.in-Some.index in
     let is_checked = c.checked_iff_no_fault.ensures.sound h (none_from (first_fault h) g.checked.now.checked) in
-    let there = ap (λ ws. slice_get ws i) (sym (c.as_slice.ensures.value ∙ c.order-order.ensures.writers)) ∙ c.in-Some.ensures in
+    let there = ap (λ ws. slice_get ws i) (sym c.writers.ensures) ∙ c.in-Some.ensures in
     add-one i ∙ ap suc (sym (named_at h is_checked (key_at h c.args.line) c.args.txn i there))

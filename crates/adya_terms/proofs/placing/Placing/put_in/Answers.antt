@@ -1,22 +1,37 @@
-use Rattle.std.proofs.Common.{◌≡◌, ap, arith, length, refl, Some, slice_get}
-use Rattle.std.proofs.lemmas.Bool.{both_ways}
-use Rattle.std.proofs.lemmas.Option.{slice_get_read, slice_get_within}
-use Rattle.adya_terms.proofs.PlacedLines.{line_more}
+use Rattle.std.proofs.Common.{◌≡◌, ◌∙◌, Some, Vec, Global, ℕ, ap, slice_get, subst, suc, sym}
+use Rattle.adya_terms.specs.Machinery.LinePlaces.{named, writers_at}
+use Rattle.adya_terms.specs.Machinery.LineWriters.{IsPlaceOf}
+use Rattle.adya_terms.specs.Machinery.Places.{orders_in, AreLines}
+use Rattle.adya_terms.proofs.PlacedLines.{has_place, has_start, line_filled, line_lacking}
 use Rattle.adya_terms.proofs.placing.Placing.put_in.Goals as goal
-
-pub returns-clause-lines : goal.returns-clause-lines
-returns-clause-lines c all last os o rise inj there here had =
-    let xs = c.args.self.now.lines.items in
-    let within = slice_get_within os c.args.line o there in
-    let count = had.count in
-    let x = c.in-Some.places.now in
-    let at : slice_get xs c.args.line ≡ Some x = slice_get_read xs (length xs) c.args.line x refl (omega (arith, within, count)) c.in-Some.ensures.value in
-    line_more all last c.args.at os xs had rise inj c.args.line c.args.txn o there here x c.put.new.self at (ap (λ w. w.now) c.in_ok-put.ensures.writers) (c.in_ok-put.ensures.placed all last o.key inj here)
+use Rattle.lemmas.proofs.Counts.{count}
 
 pub returns-in_default-clause-lines : goal.returns-in_default-clause-lines
-returns-in_default-clause-lines c all last os o rise inj there here had =
-    let xs = c.args.self.now.lines.items in
-    let within = slice_get_within os c.args.line o there in
-    let count = had.count in
-    let same = c.args.self.now.lines.ok.0 in
-    absurd (both_ways _ refl (c.in_default.ensures.variant.1 (omega (arith, within, count, same))))
+returns-in_default-clause-lines c all last o rise inj there here had =
+    let x = c.args.self.now in
+    let os = orders_in x in
+    let i = c.args.line in
+    let t = c.args.txn in
+    let at = c.args.at in
+    let ws = x.lines.writes.items in
+    let ss = x.lines.starts.items in
+    let none = ap (λ y. count (named y) t) (sym there) ∙ subst (λ p. IsPlaceOf p (writers_at os i) t) c.in_default.is c.in_ok-place.ensures.found in
+    subst (AreLines all last (suc at) os ws ss) (sym c.raise.ensures) (line_lacking all last at os ws ss x.lacks.items had rise inj i t o there here none)
+
+pub returns-clause-lines : goal.returns-clause-lines
+returns-clause-lines c all last o rise inj there here had =
+    let x = c.args.self.now in
+    let os = orders_in x in
+    let i = c.args.line in
+    let t = c.args.txn in
+    let at = c.args.at in
+    let p = c.in-Some.place in
+    let ws = x.lines.writes.items in
+    let ss = x.lines.starts.items in
+    let fs = x.lacks.items in
+    let writer : slice_get o.writers p ≡ Some t =
+    ap (λ y. slice_get (named y) p) (sym there) ∙ subst (λ q. IsPlaceOf q (writers_at os i) t) c.in-Some.is c.in_ok-place.ensures.found in
+    let filled = c.fill.ensures.writes (has_start all last at os ws ss fs had rise inj i t o there here) (has_place all last at os ws ss fs had rise inj i t o there here p writer) in
+    subst (λ (v : Vec ℕ Global). AreLines all last (suc at) os c.fill.new.self.writes.items v.items fs) (sym c.fill.ensures.starts)
+    (subst (λ zs. AreLines all last (suc at) os zs ss fs) (sym filled)
+    (line_filled all last at os ws ss fs had rise inj i t o there here x.lines.ordered p writer))

@@ -9,4 +9,5 @@ returns-clause-taken c =
     let v = view c.in-Some.event in
     let at : event_at c.args.line.now ≡ Some v = search rules in
     let reads = (c.event_lines.ensures.reading c.args.line.now v).0 at in
-    λ _. (EventLine v, (record { good = reads.0; same = reads.1 }, rw c.in-Events.is refl), c.in_ok-push_event.ensures)
+    let takes = c.in_ok-push_with_entries.ensures in
+    λ _. (EventLine v, (record { good = reads.0; same = reads.1 }, rw c.in-Events.is refl), record { stage = takes.stage; holds = takes.holds })

@@ -3,4 +3,4 @@ use Rattle.adya_text.proofs.HistoryDrafts.{next_is}
 use Rattle.adya_text.proofs.history_draft.HistoryDraftDraft.next_line.Goals as goal
 
 pub returns : goal.returns
-returns c = λ past run. omega (arith, next_is c.args.self.now past run, c.line_after.ensures, c.total.ensures.count, c.deref.ensures.len, c.deref-2.ensures.len, c.deref-3.ensures.len)
+returns c = λ past run. omega (arith, next_is c.args.self.now past run, c.line_after.ensures, c.total.ensures.count, c.deref.ensures.len)

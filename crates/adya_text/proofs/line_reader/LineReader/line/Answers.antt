@@ -1,4 +1,4 @@
-use Rattle.std.proofs.Common.{◌≡◌, ◌∷◌, [], suc, length, sym, subst, ◌∙◌, arith}
+use Rattle.std.proofs.Common.{◌≡◌, ◌∷◌, [], suc, length, sym, ◌∙◌, arith}
 use Rattle.std.proofs.lemmas.List.{length-append}
 use Rattle.adya_text.proofs.FaultLines.{fault_at}
 use Rattle.adya_text.proofs.LineReaders.{fed_going, fed_stays}
@@ -14,8 +14,7 @@ returns g c = λ past fed.
     let old = c.args.self.now in
     let going = fed_going g.D.Draft.grammar g.D.Draft.has_lines old.draft old.fault past fed
     (sym c.is_some.ensures ∙ c.if-is_some.false) in
-    let left = c.in_ok-take.ensures.left c.if-branch.false in
-    let still = subst (λ d. g.D.Draft.has_lines d past) (sym left) going in
+    let still = c.in_ok-take.ensures.left c.if-branch.false past going in
     let line : c.next_line-line.result ≡ suc (length past) = c.next_line-line.ensures past still in (
       omega (arith, line, length-append past (c.args.line.now ∷ [])),
       rw line (fault_at g.D.Draft.grammar past c.args.line.now (c.begins.ensures past still)

@@ -1,7 +1,7 @@
 use Rattle.std.proofs.Common.{rules, ◌≡◌, [], ◌++◌, map, ◌∙◌}
 use Rattle.adya_values.specs.declared.edition.Edition.TheVariants as Edition
 use Rattle.adya_values.specs.Meaning.Histories.{Abort}
-use Rattle.adya_values.specs.Mirror.Events.{order_of, final_of}
+use Rattle.adya_values.specs.Mirror.Lines.{finals_of, orders_of}
 use Rattle.adya_values.specs.Mirror.Events as lists
 use Rattle.ssi_recorder.specs.Meaning.Recorded.{orders_of_events, finals_of_events}
 use Rattle.ssi_recorder.specs.Mirror.{events_of}
@@ -15,8 +15,8 @@ returns-clause-history c =
     let is_one : made.edition ≡ Edition.One = Prim.search rules in
     let has_events : lists.events_of made.events ≡ events ++ map Abort c.args.open_txns.now = Prim.search rules in
     let none_unfinished : made.unfinished.items ≡ [] = Prim.search rules in
-    let orders : map order_of made.orders.items ≡ orders_of_events events = Prim.search rules in
-    let finals : map final_of made.finals.items ≡ finals_of_events events = Prim.search rules in
+    let orders : orders_of made.orders ≡ orders_of_events events = Prim.search rules in
+    let finals : finals_of made.finals ≡ finals_of_events events = Prim.search rules in
     same_history is_one has_events none_unfinished (orders ∙ orders_ended events c.args.open_txns.now)
     (finals ∙ finals_ended events c.args.open_txns.now)
 

@@ -1,0 +1,5 @@
+use Rattle.std.proofs.lemmas.Simd.{map-map}
+use Rattle.adya_values.proofs.orders.Orders.keys_rise.Goals as goal
+
+pub returns : goal.returns
+returns c = rw map-map c.keys_rise.ensures
