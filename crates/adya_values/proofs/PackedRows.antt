@@ -1,5 +1,6 @@
 -- What rows stand for stays when something is added behind what they name.
 use Rattle.std.proofs.Common.{◌≡◌, ◌∙◌, ℕ, zero, suc, ◌+◌, ◌≤◌, Bool, true, false, if◌then◌else◌, List, [], ◌∷◌, ◌++◌, map, length, Option, Some, None, get_or, slice_get, sym, ap, refl, subst, arith}
+use Rattle.adya_values.specs.Machinery.KeyTables.{keys_in}
 use Rattle.std.specs.List.{list_all}
 use Rattle.std.specs.Prelude.{nat_lt}
 use Rattle.std.specs.Prelude.{OnErr}
@@ -123,19 +124,19 @@ extends_trans a b c x y = record {
 module _ (a b : Arena) (x : Extends a b) (rs : List Row) (e : list_all (is_row_of a) rs ≡ true) where
   pub valid_stays : list_all (is_row_of b) rs ≡ true
   valid_stays =
-      rows_stay_in a.keys.keys b.keys.keys x.keys.0 a.bytes.items b.bytes.items x.bytes.0 a.listings.items b.listings.items x.listings.0
+      rows_stay_in (keys_in a.keys) (keys_in b.keys) x.keys.0 a.bytes.items b.bytes.items x.bytes.0 a.listings.items b.listings.items x.listings.0
       x.keys.1 x.bytes.1 x.listings.1
       (length a.seen.items) (length b.seen.items) (omega (arith, ap length x.seen.1, length-append a.seen.items x.seen.0)) rs e
 
   pub same_events : map (event_of_row b) rs ≡ map (event_of_row a) rs
   same_events =
-      events_stay_in a.keys.keys b.keys.keys x.keys.0 a.bytes.items b.bytes.items x.bytes.0 a.listings.items b.listings.items x.listings.0
+      events_stay_in (keys_in a.keys) (keys_in b.keys) x.keys.0 a.bytes.items b.bytes.items x.bytes.0 a.listings.items b.listings.items x.listings.0
       (map (entry_of_seen a) a.seen.items) (map (entry_of_seen b) b.seen.items) (map (entry_of_seen b) x.seen.0) x.keys.1 x.bytes.1 x.listings.1
       (ap (map (entry_of_seen b)) x.seen.1 ∙
       (map-append (entry_of_seen b) a.seen.items x.seen.0 ∙
       ap (λ es. es ++ map (entry_of_seen b) x.seen.0)
-      (same_entries_in a.keys.keys b.keys.keys a.bytes.items b.bytes.items x.keys x.bytes a.seen.items a.there))) rs
-      (subst (λ n. list_all (is_row (length a.keys.keys) a.bytes.items a.listings.items n) rs ≡ true) (sym (length-map a.seen.items (entry_of_seen a))) e)
+      (same_entries_in (keys_in a.keys) (keys_in b.keys) a.bytes.items b.bytes.items x.keys x.bytes a.seen.items a.there))) rs
+      (subst (λ n. list_all (is_row (length (keys_in a.keys)) a.bytes.items a.listings.items n) rs ≡ true) (sym (length-map a.seen.items (entry_of_seen a))) e)
 
 -- a listing that a row names
 pub found_listing : (k n : ℕ) (ls : List Listing) (i : ℕ) (l : Listing) → l ≡ get_or ls i l → is_listing k n (slice_get ls i) ≡ true → slice_get ls i ≡ Some l

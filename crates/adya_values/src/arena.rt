@@ -5,20 +5,16 @@ ghost use Rattle.adya_values.specs.Meaning.Keys.{is_value, key_eq};
 ghost use Rattle.adya_values.specs.Meaning.Histories.{Abort, Live, Scan};
 ghost use Rattle.adya_values.specs.Meaning.Events.{aborts, observed, shown, txn_of, written};
 ghost use Rattle.adya_values.specs.Computing.Faults.{content_eq, is_entry, version_eq};
+ghost use Rattle.adya_values.specs.Machinery.KeyTables.{keys_in, CanTake};
 ghost use Rattle.adya_values.specs.Machinery.Seen.{content_in, is_content, is_part, is_seen, key_at, part, IsFront};
 ghost use Rattle.std.specs.List.{list_all};
-ghost use Rattle.std.proofs.Props.{props};
-ghost use Rattle.indexmap.specs.IndexSet.{spare, IsUnique};
 
+use crate::key_table::{KeyTable, MOST_KEYS};
 use crate::{
     Content, Entry, Event, EventView, Key, Listed, MAX_VALUE_LEN, Mod, NumberedVersion, Observed,
     PackedEntries, Seen, Txn, Value, Version,
 };
-use indexmap::IndexSet;
 use std::alloc::{AllocError, Global};
-
-/// So many keys have numbers.
-const MOST_KEYS: usize = 4_294_967_295;
 
 /// An event of a list. Of its key it has the number, and of its value the place where the bytes begin and how many there are.
 /// The fields stand in such an order that they leave no gap: a row takes 24 bytes.
@@ -69,13 +65,11 @@ pub(crate) struct Listing {
 /// The keys, each of which has its index for a number, the bytes of values, and what scans list.
 #[derive(Drop)]
 pub(crate) struct Arena {
-    pub(crate) keys: IndexSet<Key>,
+    pub(crate) keys: KeyTable,
     pub(crate) bytes: Vec<u8>,
     pub(crate) listings: Vec<Listing>,
     pub(crate) seen: Vec<Seen>,
-    pub ghost there: { list_all (is_seen (length keys.keys) bytes.items) seen.items ≡ true },
-    pub ghost few: { length keys.keys < 4294967296 },
-    pub ghost unique: { IsUnique key_eq keys } by { Prim.hlevel props },
+    pub ghost there: { list_all (is_seen (length (keys_in keys)) bytes.items) seen.items ≡ true },
 }
 
 impl Arena {
@@ -86,7 +80,7 @@ impl Arena {
     /// Makes an empty arena. It takes no memory.
     pub(crate) fn new(alloc: Global) -> Arena {
         Arena {
-            keys: IndexSet::new(alloc),
+            keys: KeyTable::new(alloc),
             bytes: Vec::new(alloc),
             listings: Vec::new(alloc),
             seen: Vec::new(alloc),
@@ -96,7 +90,7 @@ impl Arena {
     /// Makes room for what one event holds that lists no more than so many entries. What was there stays.
     pub(crate) fn reserve(&mut self, entries: usize) -> Result<(), AllocError>
         ensures room { OnOk result (HasRoomIn self.new entries) }
-        ensures keys { self.new.keys.keys ≡ self.old.keys.keys }
+        ensures keys { keys_in self.new.keys ≡ keys_in self.old.keys }
         ensures bytes { self.new.bytes.items ≡ self.old.bytes.items }
         ensures listings { self.new.listings.items ≡ self.old.listings.items }
         ensures seen { self.new.seen.items ≡ self.old.seen.items }
@@ -112,13 +106,13 @@ impl Arena {
 
     /// Returns an equal arena.
     pub(crate) fn copy(&self, alloc: Global) -> Result<Arena, AllocError>
-        ensures keys { IfOk result (λ a. a.keys.keys ≡ self.now.keys.keys) }
+        ensures keys { IfOk result (λ a. keys_in a.keys ≡ keys_in self.now.keys) }
         ensures bytes { IfOk result (λ a. a.bytes.items ≡ self.now.bytes.items) }
         ensures listings { IfOk result (λ a. a.listings.items ≡ self.now.listings.items) }
         ensures seen { IfOk result (λ a. a.seen.items ≡ self.now.seen.items) }
     {
         Ok(Arena {
-            keys: self.keys.clone()?,
+            keys: self.keys.copy(alloc)?,
             bytes: Vec::from_slice(alloc, &self.bytes)?,
             listings: Vec::from_slice(alloc, &self.listings)?,
             seen: Vec::from_slice(alloc, &self.seen)?,
@@ -223,8 +217,8 @@ impl Arena {
     #[inline(always)]
     pub(crate) fn numbered(&self, row: Row) -> Option<NumberedVersion>
         requires { is_row_of self.now row ≡ true }
-        ensures version { option_map (version_in self.now.keys.keys) result ≡ option_map (λ w. w.version) (written (event_of_row self.now row)) }
-        ensures there { IfSome result (λ v. v.key < length self.now.keys.keys) }
+        ensures version { option_map (version_in (keys_in self.now.keys)) result ≡ option_map (λ w. w.version) (written (event_of_row self.now row)) }
+        ensures there { IfSome result (λ v. v.key < length (keys_in self.now.keys)) }
     {
         match row {
             Row::Write { txn, m, key, .. } => Some(NumberedVersion { key, txn, m }),
@@ -270,8 +264,8 @@ impl Arena {
     #[inline(always)]
     pub(crate) fn bounds(&self, row: Row) -> Option<(u32, u32)>
         requires { is_row_of self.now row ≡ true }
-        ensures keys { option_map (both_at self.now.keys.keys) result ≡ bounds (event_of_row self.now row) }
-        ensures there { IfSome result (λ b. (b.0 < length self.now.keys.keys) × (b.1 < length self.now.keys.keys)) }
+        ensures keys { option_map (both_at (keys_in self.now.keys)) result ≡ bounds (event_of_row self.now row) }
+        ensures there { IfSome result (λ b. (b.0 < length (keys_in self.now.keys)) × (b.1 < length (keys_in self.now.keys))) }
     {
         match row {
             Row::Scan { listing, .. } => {
@@ -316,9 +310,9 @@ impl Arena {
 
     #[inline(always)]
     fn is_version(&self, version: NumberedVersion, seen: &Seen) -> bool
-        requires version { version.key < length self.now.keys.keys }
+        requires version { version.key < length (keys_in self.now.keys) }
         requires seen { is_seen_of self.now seen.now ≡ true }
-        ensures { result ≡ version_eq (version_in self.now.keys.keys version) (entry_of_seen self.now seen.now).version }
+        ensures { result ≡ version_eq (version_in (keys_in self.now.keys) version) (entry_of_seen self.now seen.now).version }
     {
         version == seen.version()
     }
@@ -341,13 +335,13 @@ impl Arena {
         requires { is_seen_of self.now seen.now ≡ true }
         ensures { entry_of result ≡ entry_of_seen self.now seen.now }
     {
-        seen.entry(self.keys.as_slice(), &self.bytes)
+        seen.entry(&self.keys, &self.bytes)
     }
 
     /// Returns how many keys there are.
     #[inline(always)]
     pub(crate) fn key_count(&self) -> usize
-        ensures { result ≡ length self.now.keys.keys }
+        ensures { result ≡ length (keys_in self.now.keys) }
     {
         self.keys.len()
     }
@@ -355,20 +349,17 @@ impl Arena {
     /// Returns the number of the key.
     #[inline(always)]
     pub(crate) fn number_of(&self, key: Key) -> Option<u32>
-        ensures number { result ≡ number_in self.now.keys.keys key }
-        ensures there { IfSome result (λ n. n < length self.now.keys.keys) }
+        ensures number { result ≡ number_in (keys_in self.now.keys) key }
+        ensures there { IfSome result (λ n. n < length (keys_in self.now.keys)) }
     {
-        match self.keys.get_index_of(&key) {
-            Some(number) => Some(number as u32),
-            None => None,
-        }
+        self.keys.number_of(&key)
     }
 
     /// Returns the version.
     #[inline(always)]
     pub(crate) fn version_of(&self, version: NumberedVersion) -> Version
-        requires { version.key < length self.now.keys.keys }
-        ensures { result ≡ version_in self.now.keys.keys version }
+        requires { version.key < length (keys_in self.now.keys) }
+        ensures { result ≡ version_in (keys_in self.now.keys) version }
     {
         Version {
             key: self.key(version.key),
@@ -380,21 +371,21 @@ impl Arena {
     /// Returns the key with the number.
     #[inline(always)]
     pub(crate) fn key(&self, number: u32) -> Key
-        requires { number < length self.now.keys.keys }
-        ensures { result ≡ key_at self.now.keys.keys number }
+        requires { number < length (keys_in self.now.keys) }
+        ensures { result ≡ key_at (keys_in self.now.keys) number }
     {
-        self.keys.as_slice()[number as usize]
+        self.keys.key(number)
     }
 
     /// Returns the key with the number; the other key if no key has the number.
     #[inline(always)]
     pub(crate) fn key_or(&self, number: u32, other: Key) -> Key
-        ensures { result ≡ slice_index_or self.now.keys.keys number other }
+        ensures { result ≡ slice_index_or (keys_in self.now.keys) number other }
     {
-        match self.keys.get_index(number as usize) {
-            Some(key) => *key,
-            None => other,
+        if number as usize >= self.keys.len() {
+            return other;
         }
+        self.keys.key(number)
     }
 
     #[inline(always)]
@@ -407,15 +398,15 @@ impl Arena {
 
     #[inline(always)]
     fn scan(&self, txn: Txn, listing: Listing) -> EventView<'_>
-        requires { is_listing (length self.now.keys.keys) (length self.now.seen.items) (Some listing) ≡ true }
-        ensures { view_of result ≡ scan_in self.now.keys.keys (map (entry_of_seen self.now) self.now.seen.items) txn (Some listing) }
+        requires { is_listing (length (keys_in self.now.keys)) (length self.now.seen.items) (Some listing) ≡ true }
+        ensures { view_of result ≡ scan_in (keys_in self.now.keys) (map (entry_of_seen self.now) self.now.seen.items) txn (Some listing) }
     {
         EventView::Scan {
             txn,
             low: self.key(listing.low),
             high: self.key(listing.high),
             entries: Listed::Packed(PackedEntries {
-                keys: self.keys.as_slice(),
+                keys: &self.keys,
                 bytes: &self.bytes,
                 seen: self.listed(listing),
             }),
@@ -425,7 +416,7 @@ impl Arena {
     /// Returns what the listing lists.
     #[inline(always)]
     fn listed(&self, listing: Listing) -> &[Seen]
-        requires { is_listing (length self.now.keys.keys) (length self.now.seen.items) (Some listing) ≡ true }
+        requires { is_listing (length (keys_in self.now.keys)) (length self.now.seen.items) (Some listing) ≡ true }
         ensures seen { result.now ≡ part listing.from listing.count self.now.seen.items }
         ensures there { list_all (is_seen_of self.now) result.now ≡ true }
     {
@@ -502,16 +493,16 @@ impl Arena {
 
     /// Returns the number of the key, which it gets if it has none.
     fn number(&mut self, key: Key) -> Result<u32, AllocError>
-        ensures number { IfOk result (λ n. slice_get self.new.keys.keys n ≡ Some key) }
-        ensures front { IsFront self.old.keys.keys self.new.keys.keys }
+        ensures number { IfOk result (λ n. slice_get (keys_in self.new.keys) n ≡ Some key) }
+        ensures front { IsFront (keys_in self.old.keys) (keys_in self.new.keys) }
         ensures bytes { self.new.bytes ≡ self.old.bytes }
         ensures listings { self.new.listings ≡ self.old.listings }
         ensures seen { self.new.seen ≡ self.old.seen }
-        ensures succeeds { 1 ≤ spare self.old.keys → length self.old.keys.keys + 1 < 4294967296 → IsOk result }
-        ensures spare { spare self.old.keys ≤ spare self.new.keys + 1 }
-        ensures count { length self.new.keys.keys ≤ length self.old.keys.keys + 1 }
+        ensures count { length (keys_in self.new.keys) ≤ length (keys_in self.old.keys) + 1 }
+        ensures succeeds { CanTake self.old.keys 1 → length (keys_in self.old.keys) + 1 < 4294967296 → IsOk result }
+        ensures room { (n : ℕ) → CanTake self.old.keys (n + 1) → CanTake self.new.keys n }
     {
-        number_in(&mut self.keys, key)
+        self.keys.number(key)
     }
 
     /// Adds a text, and returns its place.
@@ -598,8 +589,8 @@ impl Arena {
     /// Adds a listing with these bounds and entries, and returns its place.
     fn list(&mut self, low: Key, high: Key, entries: &Listed<'_>) -> Result<usize, AllocError>
         ensures extends { Extends self.old self.new }
-        ensures listed { IfOk result (λ l. is_listing (length self.new.keys.keys) (length self.new.seen.items) (slice_get self.new.listings.items l) ≡ true) }
-        ensures scan { (t : ℕ) → IfOk result (λ l. scan_in self.new.keys.keys (map (entry_of_seen self.new) self.new.seen.items) t (slice_get self.new.listings.items l)
+        ensures listed { IfOk result (λ l. is_listing (length (keys_in self.new.keys)) (length self.new.seen.items) (slice_get self.new.listings.items l) ≡ true) }
+        ensures scan { (t : ℕ) → IfOk result (λ l. scan_in (keys_in self.new.keys) (map (entry_of_seen self.new) self.new.seen.items) t (slice_get self.new.listings.items l)
             ≡ Scan t low high (entries_of entries.now)) }
         ensures succeeds { HasRoomIn self.old (length (entries_of entries.now)) → IsOk result }
     {
@@ -616,25 +607,6 @@ impl Arena {
         })?;
         Ok(listing)
     }
-}
-
-/// Returns the number of the key among the keys, to which it is added if it isn't there.
-fn number_in(keys: &mut IndexSet<Key>, key: Key) -> Result<u32, AllocError>
-    requires few { length keys.old.keys < 4294967296 }
-    requires unique { IsUnique key_eq keys.old }
-    ensures number { IfOk result (λ n. slice_get keys.new.keys n ≡ Some key) }
-    ensures front { IsFront keys.old.keys keys.new.keys }
-    ensures few { length keys.new.keys < 4294967296 }
-    ensures unique { IsUnique key_eq keys.new }
-    ensures succeeds { 1 ≤ spare keys.old → length keys.old.keys + 1 < 4294967296 → IsOk result }
-    ensures spare { spare keys.old ≤ spare keys.new + 1 }
-    ensures count { length keys.new.keys ≤ length keys.old.keys + 1 }
-{
-    if keys.len() >= MOST_KEYS {
-        return Err(AllocError);
-    }
-    let (index, _) = keys.insert_full(key)?;
-    Ok(index as u32)
 }
 
 /// Adds the text to the bytes, and returns its place.

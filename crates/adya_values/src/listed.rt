@@ -2,17 +2,19 @@
 
 ghost use Rattle.std.specs.Prelude.{◌≡◌, ◌<◌, true, Some, length, option_map, slice_get};
 ghost use Rattle.std.specs.List.{list_all};
+ghost use Rattle.adya_values.specs.Machinery.KeyTables.{keys_in};
 ghost use Rattle.adya_values.specs.Machinery.Seen.{entry_in, is_seen};
 
-use crate::{Entry, Key, Seen};
+use crate::key_table::KeyTable;
+use crate::{Entry, Seen};
 
 /// Entries that a list of events holds: they name the keys by their numbers, and places in the bytes of all values.
 #[derive(Clone, Copy)]
 pub struct PackedEntries<'a> {
-    pub(crate) keys: &'a [Key],
+    pub(crate) keys: &'a KeyTable,
     pub(crate) bytes: &'a [u8],
     pub(crate) seen: &'a [Seen],
-    pub ghost there: { list_all (is_seen (length keys.now) bytes.now) seen.now ≡ true },
+    pub ghost there: { list_all (is_seen (length (keys_in keys.now)) bytes.now) seen.now ≡ true },
 }
 
 impl PackedEntries<'_> {
@@ -21,7 +23,7 @@ impl PackedEntries<'_> {
     /// Returns the entry at the index, counted from 0.
     fn at(&self, i: usize) -> Entry
         requires { i < length self.now.seen.now }
-        ensures { option_map (entry_in self.now.keys.now self.now.bytes.now) (slice_get self.now.seen.now i) ≡ Some (entry_of result) }
+        ensures { option_map (entry_in (keys_in self.now.keys.now) self.now.bytes.now) (slice_get self.now.seen.now i) ≡ Some (entry_of result) }
     {
         let seen = self.seen[i];
         seen.entry(self.keys, self.bytes)

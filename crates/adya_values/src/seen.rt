@@ -3,7 +3,8 @@
 ghost use Rattle.std.specs.Prelude.{◌≡◌, ◌==◌, length, true};
 ghost use Rattle.adya_values.specs.Machinery.Seen.{content_in, entry_in, is_content, is_seen};
 
-use crate::{Content, Entry, Key, Mod, NumberedVersion, Txn, Value, Version};
+use crate::key_table::KeyTable;
+use crate::{Content, Entry, Mod, NumberedVersion, Txn, Value, Version};
 
 /// An entry that an event of a list sees, packed. Of its key it has the number, and of its value the place where the bytes
 /// begin and how many there are; a dead version has none. The list says the rest.
@@ -20,6 +21,7 @@ pub struct Seen {
 }
 
 impl Seen {
+    ghost use Rattle.adya_values.specs.Machinery.KeyTables.{keys_in};
     ghost use Rattle.adya_values.specs.Mirror.Events.{content_of, entry_of};
 
     /// Returns the version, by the number of its key.
@@ -44,13 +46,13 @@ impl Seen {
 
     /// Returns the entry, given the keys and the bytes of all values.
     #[inline(always)]
-    pub(crate) fn entry(&self, keys: &[Key], bytes: &[u8]) -> Entry
-        requires { is_seen (length keys.now) bytes.now self.now ≡ true }
-        ensures { entry_of result ≡ entry_in keys.now bytes.now self.now }
+    pub(crate) fn entry(&self, keys: &KeyTable, bytes: &[u8]) -> Entry
+        requires { is_seen (length (keys_in keys.now)) bytes.now self.now ≡ true }
+        ensures { entry_of result ≡ entry_in (keys_in keys.now) bytes.now self.now }
     {
         Entry {
             version: Version {
-                key: keys[self.key as usize],
+                key: keys.key(self.key),
                 txn: self.txn,
                 m: self.m,
             },

@@ -1,6 +1,6 @@
 -- The events that rows stand for: the keys, the bytes, the listings and the entries of the arena say the rest.
 use Rattle.std.specs.Prelude.{ℕ, ◌+◌, ◌*◌, ◌<◌, ◌≤◌, Bool, true, false, ◌&&◌, nat_le, nat_lt, List, length, Option, Some, None, slice_get, vec_len, vec_capacity}
-use Rattle.indexmap.specs.IndexSet.{spare}
+use Rattle.adya_values.specs.Machinery.KeyTables.{keys_in, CanTake}
 use Rattle.adya_values.specs.Meaning.Keys.{Bytes, Key}
 use Rattle.adya_values.specs.Meaning.Histories.{Event, Entry, Write, Delete, Read, Scan, Commit, Abort}
 use Rattle.adya_values.specs.Machinery.Seen.{entry_in, is_part, is_seen, key_at, part, IsFront}
@@ -38,18 +38,18 @@ is_row n bs ls m (In.Commit t) = true
 is_row n bs ls m (In.Abort t) = true
 
 abbrev pub is_row_of : Arena → Row → Bool
-is_row_of a r = is_row (length a.keys.keys) a.bytes.items a.listings.items (length a.seen.items) r
+is_row_of a r = is_row (length (keys_in a.keys)) a.bytes.items a.listings.items (length a.seen.items) r
 
 -- the entry of the packed entry
 abbrev pub entry_of_seen : Arena → Seen → Entry
-entry_of_seen a s = entry_in a.keys.keys a.bytes.items s
+entry_of_seen a s = entry_in (keys_in a.keys) a.bytes.items s
 
 abbrev pub is_seen_of : Arena → Seen → Bool
-is_seen_of a s = is_seen (length a.keys.keys) a.bytes.items s
+is_seen_of a s = is_seen (length (keys_in a.keys)) a.bytes.items s
 
 -- what was in the arena is still where it was
 pub record Extends (old new : Arena) : Type 0 where
-  pub keys : IsFront old.keys.keys new.keys.keys
+  pub keys : IsFront (keys_in old.keys) (keys_in new.keys)
   pub bytes : IsFront old.bytes.items new.bytes.items
   pub listings : IsFront old.listings.items new.listings.items
   pub seen : IsFront old.seen.items new.seen.items
@@ -65,15 +65,15 @@ entry_count (Abort t) = 0
 
 -- so many entries fit
 pub record CanSee (a : Arena) (n : ℕ) : Type 0 where
-  pub keys : n ≤ spare a.keys
-  pub numbers : length a.keys.keys + n < 4294967296
+  pub keys : CanTake a.keys n
+  pub numbers : length (keys_in a.keys) + n < 4294967296
   pub bytes : vec_len a.bytes + n * 64 ≤ vec_capacity a.bytes
   pub seen : vec_len a.seen + n ≤ vec_capacity a.seen
 
 -- any event fits that lists no more than so many entries
 pub record HasRoomIn (a : Arena) (n : ℕ) : Type 0 where
-  pub keys : n + 2 ≤ spare a.keys
-  pub numbers : length a.keys.keys + (n + 2) < 4294967296
+  pub keys : CanTake a.keys (n + 2)
+  pub numbers : length (keys_in a.keys) + (n + 2) < 4294967296
   pub bytes : vec_len a.bytes + (n + 1) * 64 ≤ vec_capacity a.bytes
   pub listings : vec_len a.listings < vec_capacity a.listings
   pub seen : vec_len a.seen + n ≤ vec_capacity a.seen

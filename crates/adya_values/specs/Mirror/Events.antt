@@ -1,5 +1,6 @@
 -- The plain value that an event, an order line or a final value of the code holds.
 use Rattle.std.specs.Prelude.{ℕ, ◌+◌, ◌≤◌, List, map, take, vec_len, vec_capacity}
+use Rattle.adya_values.specs.Machinery.KeyTables.{keys_in}
 use Rattle.adya_values.specs.declared.event.Event.{Event as EventValue}
 use Rattle.adya_values.specs.declared.order.Order.{Order as OrderValue}
 use Rattle.adya_values.specs.declared.order.FinalPair.{FinalPair as FinalValue}
@@ -42,7 +43,7 @@ event_of (In.Abort t) = Abort t
 -- what a scan lists
 abbrev pub entries_of : Listed → List Entry
 entries_of (As.Plain es) = map entry_of es.now
-entries_of (As.Packed p) = map (entry_in p.keys.now p.bytes.now) p.seen.now
+entries_of (As.Packed p) = map (entry_in (keys_in p.keys.now) p.bytes.now) p.seen.now
 
 abbrev pub view_of : EventView → Event
 view_of (Seen.Write t k m v) = Write t k m (value_of v)
@@ -54,7 +55,7 @@ view_of (Seen.Abort t) = Abort t
 
 -- the event of a row
 abbrev pub event_of_row : Arena → Row → Event
-event_of_row a r = event_in a.keys.keys a.bytes.items a.listings.items (map (entry_of_seen a) a.seen.items) r
+event_of_row a r = event_in (keys_in a.keys) a.bytes.items a.listings.items (map (entry_of_seen a) a.seen.items) r
 
 abbrev pub events_of : Events → List Event
 events_of es = map (event_of_row es.arena) es.rows.items

@@ -1,5 +1,6 @@
 -- What the events of a list say by the numbers of keys: each key that they name has its index among the keys for a number.
 use Rattle.std.specs.Prelude.{◌≡◌, ℕ, ◌<◌, Bool, List, length, Option, Some, None, position}
+use Rattle.adya_values.specs.Machinery.KeyTables.{keys_in}
 use Rattle.adya_values.specs.declared.event.NumberedVersion.{NumberedVersion}
 use Rattle.adya_values.specs.declared.event.Version.{Version}
 use Rattle.adya_values.specs.declared.events.Events.{Events}
@@ -13,7 +14,7 @@ use Rattle.adya_values.specs.Machinery.Packed.{entry_of_seen, is_seen_of}
 
 -- the keys that the events name, by their numbers
 abbrev pub keys_of : Events → List Key
-keys_of es = es.arena.keys.keys
+keys_of es = (keys_in es.arena.keys)
 
 -- the number of the key, if it has one
 abbrev pub number_in : List Key → Key → Option ℕ

@@ -1,4 +1,5 @@
 use Rattle.adya_values.proofs.PackedParts.{all_stay_in, front_same}
+use Rattle.adya_values.specs.Machinery.KeyTables.{keys_in}
 use Rattle.std.proofs.Common.{refl}
 use Rattle.adya_values.proofs.arena.Arena.add.Goals as goal
 
@@ -6,7 +7,5 @@ pub invariant_of-self : goal.invariant_of-self
 invariant_of-self c =
     let a = c.args.self.now in
     record {
-      there = all_stay_in a.keys.keys a.keys.keys a.bytes.items c.add_to.new.bytes.items (front_same _ _ refl) c.add_to.ensures.front a.seen.items a.there;
-      few = a.few;
-      unique = a.unique;
+      there = all_stay_in (keys_in a.keys) (keys_in a.keys) a.bytes.items c.add_to.new.bytes.items (front_same _ _ refl) c.add_to.ensures.front a.seen.items a.there;
     }

@@ -1,4 +1,5 @@
 use Rattle.std.proofs.Common.{◌∙◌, ◌++◌, ◌∷◌, [], ap, arith, map, refl, vec_capacity, vec_len}
+use Rattle.adya_values.specs.Machinery.KeyTables.{keys_in}
 use Rattle.std.proofs.lemmas.List.{map-append}
 use Rattle.adya_values.specs.Machinery.Packed.{entry_of_seen}
 use Rattle.adya_values.proofs.PackedParts.{same_entries_in}
@@ -13,7 +14,7 @@ returns-clause-entries c =
     ap (map (entry_of_seen b)) (c.in_ok-push.ensures.items ∙ ap (λ v. v.items ++ s ∷ []) c.see.ensures.seen) ∙
     (map-append (entry_of_seen b) a.seen.items (s ∷ []) ∙
     (ap (λ es. es ++ entry_of_seen b s ∷ [])
-    (same_entries_in a.keys.keys b.keys.keys a.bytes.items b.bytes.items c.see.ensures.extends.keys c.see.ensures.extends.bytes a.seen.items a.there) ∙
+    (same_entries_in (keys_in a.keys) (keys_in b.keys) a.bytes.items b.bytes.items c.see.ensures.extends.keys c.see.ensures.extends.bytes a.seen.items a.there) ∙
     ap (λ e. before ++ e ∷ []) c.in_ok-seen.ensures.entry))
 
 pub returns-clause-succeeds : goal.returns-clause-succeeds

@@ -1,4 +1,5 @@
 use Rattle.std.proofs.Common.{◌≡◌, ◌∙◌, ◌++◌, length, ap, sym, subst, true}
+use Rattle.adya_values.specs.Machinery.KeyTables.{keys_in}
 use Rattle.std.proofs.lemmas.Bool.{and_from}
 use Rattle.adya_values.specs.Meaning.Keys.{is_value}
 use Rattle.adya_values.specs.Meaning.Histories.{Delete, Read, Write}
@@ -7,10 +8,10 @@ use Rattle.adya_values.specs.Machinery.Seen.{part}
 use Rattle.adya_values.proofs.PackedParts.{IsKept, IsKeyAt, found_key, kept}
 use Rattle.adya_values.proofs.arena.Arena.keep.Goals as goal
 
-write_key : (c : goal.After-bytes-in-Write) → IsKeyAt c.add.new.self.keys.keys c.in_ok-key-in-Write.key c.in-Write.key
+write_key : (c : goal.After-bytes-in-Write) → IsKeyAt (keys_in c.add.new.self.keys) c.in_ok-key-in-Write.key c.in-Write.key
 write_key c =
-    subst (λ s. IsKeyAt s.keys c.in_ok-key-in-Write.key c.in-Write.key) (sym c.add.ensures.keys)
-    (found_key c.number.new.self.keys.keys c.in_ok-key-in-Write.key c.in-Write.key c.in_ok-key-in-Write.ensures.number)
+    subst (λ s. IsKeyAt (keys_in s) c.in_ok-key-in-Write.key c.in-Write.key) (sym c.add.ensures.keys)
+    (found_key (keys_in c.number.new.self.keys) c.in_ok-key-in-Write.key c.in-Write.key c.in_ok-key-in-Write.ensures.number)
 
 write_value : (c : goal.After-bytes-in-Write)
     → IsKept c.add.new.self.bytes.items (value_of c.in-Write.value) c.in_ok-at-in-Write.at (length c.bytes-in-Write.result.now)
@@ -20,10 +21,10 @@ write_value c =
     c.in_ok-at-in-Write.ensures.at (ap length c.bytes-in-Write.ensures.same)
     (subst (λ x. is_value x ≡ true) c.bytes.ensures.same c.bytes.ensures.limits)
 
-read_key : (c : goal.After-bytes-in-Read-2) → IsKeyAt c.add-in-Read.new.self.keys.keys c.in_ok-key-in-Read.key c.in-Read.version.key
+read_key : (c : goal.After-bytes-in-Read-2) → IsKeyAt (keys_in c.add-in-Read.new.self.keys) c.in_ok-key-in-Read.key c.in-Read.version.key
 read_key c =
-    subst (λ s. IsKeyAt s.keys c.in_ok-key-in-Read.key c.in-Read.version.key) (sym c.add-in-Read.ensures.keys)
-    (found_key c.number-in-Read.new.self.keys.keys c.in_ok-key-in-Read.key c.in-Read.version.key c.in_ok-key-in-Read.ensures.number)
+    subst (λ s. IsKeyAt (keys_in s) c.in_ok-key-in-Read.key c.in-Read.version.key) (sym c.add-in-Read.ensures.keys)
+    (found_key (keys_in c.number-in-Read.new.self.keys) c.in_ok-key-in-Read.key c.in-Read.version.key c.in_ok-key-in-Read.ensures.number)
 
 read_value : (c : goal.After-bytes-in-Read-2)
     → IsKept c.add-in-Read.new.self.bytes.items (value_of c.in-Read.value) c.in_ok-at-in-Read.at (length c.bytes-in-Read-2.result.now)
@@ -44,12 +45,12 @@ returns-in_ok-at-in-Write-clause-event c =
 
 pub returns-in_ok-number-in-Delete-clause-row : goal.returns-in_ok-number-in-Delete-clause-row
 returns-in_ok-number-in-Delete-clause-row c =
-    (found_key c.number-in-Delete.new.self.keys.keys c.in_ok-number-in-Delete.field-0 c.in-Delete.key c.in_ok-number-in-Delete.ensures.number).there
+    (found_key (keys_in c.number-in-Delete.new.self.keys) c.in_ok-number-in-Delete.field-0 c.in-Delete.key c.in_ok-number-in-Delete.ensures.number).there
 
 pub returns-in_ok-number-in-Delete-clause-event : goal.returns-in_ok-number-in-Delete-clause-event
 returns-in_ok-number-in-Delete-clause-event c =
     ap (λ k. Delete c.in-Delete.txn k c.in-Delete.m)
-    (found_key c.number-in-Delete.new.self.keys.keys c.in_ok-number-in-Delete.field-0 c.in-Delete.key c.in_ok-number-in-Delete.ensures.number).key ∙
+    (found_key (keys_in c.number-in-Delete.new.self.keys) c.in_ok-number-in-Delete.field-0 c.in-Delete.key c.in_ok-number-in-Delete.ensures.number).key ∙
     sym (ap view_of c.in-Delete.is)
 
 pub returns-in_ok-at-in-Read-clause-row : goal.returns-in_ok-at-in-Read-clause-row

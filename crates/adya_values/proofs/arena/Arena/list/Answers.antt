@@ -1,4 +1,5 @@
 use Rattle.std.proofs.Common.{◌≡◌, ◌∙◌, ◌+◌, ◌*◌, ◌++◌, ◌≤◌, [], ◌∷◌, ℕ, length, map, ap, sym, subst, arith, Some, slice_get, Vec, Global, vec_len, vec_capacity}
+use Rattle.adya_values.specs.Machinery.KeyTables.{keys_in, CanTake}
 use Rattle.std.proofs.Math.Bool.{false≢true}
 use Rattle.std.specs.Result.{is_ok}
 use Rattle.adya_values.specs.declared.seen.Seen.{Seen}
@@ -10,6 +11,7 @@ use Rattle.adya_values.specs.declared.arena.Listing.{Listing}
 use Rattle.adya_values.specs.Machinery.Seen.{key_at, part}
 use Rattle.adya_values.specs.Machinery.Packed.{entry_of_seen, is_listing, scan_in}
 use Rattle.adya_values.proofs.PackedParts.{IsKeyAt, found_key, front_same, front_trans, key_stays_in, last_part, slice_get_end}
+use Rattle.adya_values.proofs.KeyChains.{takes_less}
 use Rattle.adya_values.proofs.arena.Arena.list.Goals as goal
 
 pub returns-in_err-high-clause-extends : goal.returns-in_err-high-clause-extends
@@ -20,12 +22,21 @@ returns-in_err-high-clause-extends c = record {
   seen = front_same _ _ (ap (λ v. v.items) (c.number-2.ensures.seen ∙ c.number.ensures.seen));
 }
 
+pub returns-in_err-high-clause-succeeds : goal.returns-in_err-high-clause-succeeds
+returns-in_err-high-clause-succeeds c room =
+    let n = length (entries_of c.args.entries.now) in
+    let numbers = room.numbers in
+    let count = c.number.ensures.count in
+    let left = c.number.ensures.room (n + 1) (subst (CanTake c.args.self.now.keys) (omega arith) room.keys) in
+    let fits = c.number-2.ensures.succeeds (takes_less _ n 1 (subst (CanTake c.number.new.self.keys) (omega arith) left)) (omega (arith, numbers, count)) in
+    absurd (false≢true (sym (ap is_ok c.in_err-high.was) ∙ fits))
+
 pub returns-in_err-add_entries-clause-succeeds : goal.returns-in_err-add_entries-clause-succeeds
 returns-in_err-add_entries-clause-succeeds c room =
     let n = length (entries_of c.args.entries.now) in
     let fits = c.add_entries.ensures.succeeds
     (record {
-      keys = omega (arith, room.keys, c.number.ensures.spare, c.number-2.ensures.spare);
+      keys = c.number-2.ensures.room n (c.number.ensures.room (n + 1) (subst (CanTake c.args.self.now.keys) (omega arith) room.keys));
       numbers = omega (arith, room.numbers, c.number.ensures.count, c.number-2.ensures.count);
       bytes = subst (λ (v : Vec ℕ Global). vec_len v + n * 64 ≤ vec_capacity v) (sym (c.number-2.ensures.bytes ∙ c.number.ensures.bytes)) (omega (arith, room.bytes));
       seen = subst (λ (v : Vec Seen Global). vec_len v + n ≤ vec_capacity v) (sym (c.number-2.ensures.seen ∙ c.number.ensures.seen)) room.seen;
@@ -46,16 +57,16 @@ found c =
     ap (λ v. slice_get v c.len-listing.result) (c.in_ok-push.ensures.items ∙ ap (λ v. v.items ++ listing c ∷ []) c.add_entries.ensures.listings) ∙
     (ap (slice_get (ls.items ++ listing c ∷ [])) (c.len-listing.ensures ∙ ls.ok.0) ∙ slice_get_end ls.items (listing c))
 
-low_at : (c : goal.In_ok-push) → IsKeyAt c.add_entries.new.self.keys.keys c.in_ok-low.low c.args.low
+low_at : (c : goal.In_ok-push) → IsKeyAt (keys_in c.add_entries.new.self.keys) c.in_ok-low.low c.args.low
 low_at c =
     key_stays_in _ _ c.add_entries.ensures.extends.keys c.in_ok-low.low c.args.low
-    (key_stays_in c.number.new.self.keys.keys c.number-2.new.self.keys.keys c.number-2.ensures.front c.in_ok-low.low c.args.low
-    (found_key c.number.new.self.keys.keys c.in_ok-low.low c.args.low c.in_ok-low.ensures.number))
+    (key_stays_in (keys_in c.number.new.self.keys) (keys_in c.number-2.new.self.keys) c.number-2.ensures.front c.in_ok-low.low c.args.low
+    (found_key (keys_in c.number.new.self.keys) c.in_ok-low.low c.args.low c.in_ok-low.ensures.number))
 
-high_at : (c : goal.In_ok-push) → IsKeyAt c.add_entries.new.self.keys.keys c.in_ok-high.high c.args.high
+high_at : (c : goal.In_ok-push) → IsKeyAt (keys_in c.add_entries.new.self.keys) c.in_ok-high.high c.args.high
 high_at c =
     key_stays_in _ _ c.add_entries.ensures.extends.keys c.in_ok-high.high c.args.high
-    (found_key c.number-2.new.self.keys.keys c.in_ok-high.high c.args.high c.in_ok-high.ensures.number)
+    (found_key (keys_in c.number-2.new.self.keys) c.in_ok-high.high c.args.high c.in_ok-high.ensures.number)
 
 pub returns-clause-listed : goal.returns-clause-listed
 returns-clause-listed c =
@@ -68,7 +79,7 @@ returns-clause-listed c =
     (ap length c.in_ok-add_entries.ensures.entries ∙
     (length-append (map (entry_of_seen a) a.seen.items) es ∙ ap (λ n. n + length es) (length-map a.seen.items (entry_of_seen a)))) in
     let within : l.from + l.count ≤ length b.seen.items = omega (arith, c.len-from.ensures, a.seen.ok.0, count, c.len.ensures) in
-    ap (is_listing (length b.keys.keys) (length b.seen.items)) (found c) ∙
+    ap (is_listing (length (keys_in b.keys)) (length b.seen.items)) (found c) ∙
     and_from _ _ (low_at c).there (and_from _ _ (high_at c).there (le-leb (l.from + l.count) (length b.seen.items) within))
 
 pub returns-clause-scan : goal.returns-clause-scan
@@ -77,7 +88,7 @@ returns-clause-scan c t =
     let b = c.add_entries.new.self in
     let a = c.number-2.new.self in
     let es = entries_of c.args.entries.now in
-    let ks = b.keys.keys in
+    let ks = (keys_in b.keys) in
     let before = map (entry_of_seen a) a.seen.items in
     let all = map (entry_of_seen b) b.seen.items in
     let from : l.from ≡ length before = c.len-from.ensures ∙ (a.seen.ok.0 ∙ sym (length-map a.seen.items (entry_of_seen a))) in

@@ -1,4 +1,5 @@
 use Rattle.adya_values.proofs.PackedParts.{all_stay_in, front_same}
+use Rattle.adya_values.specs.Machinery.KeyTables.{keys_in}
 use Rattle.std.proofs.Common.{refl}
 use Rattle.adya_values.proofs.arena.Arena.number.Goals as goal
 
@@ -6,7 +7,5 @@ pub invariant_of-self : goal.invariant_of-self
 invariant_of-self c =
     let a = c.args.self.now in
     record {
-      there = all_stay_in a.keys.keys c.number_in.new.keys.keys a.bytes.items a.bytes.items c.number_in.ensures.front (front_same _ _ refl) a.seen.items a.there;
-      few = c.number_in.ensures.few;
-      unique = c.number_in.ensures.unique;
+      there = all_stay_in (keys_in a.keys) (keys_in c.number.new.self) a.bytes.items a.bytes.items c.number.ensures.front (front_same _ _ refl) a.seen.items a.there;
     }

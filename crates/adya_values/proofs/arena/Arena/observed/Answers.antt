@@ -1,4 +1,5 @@
 use Rattle.std.proofs.Common.{◌≡◌, ◌∙◌, ap, sym, subst, length, map, true}
+use Rattle.adya_values.specs.Machinery.KeyTables.{keys_in}
 use Rattle.adya_values.specs.Meaning.Events.{observed}
 use Rattle.adya_values.specs.Mirror.Events.{event_of_row}
 use Rattle.adya_values.specs.Machinery.Packed.{entry_of_seen, is_row_of, scan_in}
@@ -12,7 +13,7 @@ returns-in-Scan-clause-entries c =
     let l = c.index.result.now in
     let es = map (entry_of_seen a) a.seen.items in
     let there = subst (λ r. is_row_of a r ≡ true) c.in-Scan.is c.requires in
-    let found = found_listing (length a.keys.keys) (length a.seen.items) a.listings.items c.in-Scan.listing l c.index.ensures there in
+    let found = found_listing (length (keys_in a.keys)) (length a.seen.items) a.listings.items c.in-Scan.listing l c.index.ensures there in
     ap (map (entry_of_seen a)) c.listed.ensures.seen ∙
     (sym (part-map (entry_of_seen a) l.from l.count a.seen.items) ∙
-    (sym (ap (λ o. observed (scan_in a.keys.keys es c.in-Scan.txn o)) found) ∙ ap (λ r. observed (event_of_row a r)) (sym c.in-Scan.is)))
+    (sym (ap (λ o. observed (scan_in (keys_in a.keys) es c.in-Scan.txn o)) found) ∙ ap (λ r. observed (event_of_row a r)) (sym c.in-Scan.is)))

@@ -1,4 +1,5 @@
 use Rattle.std.proofs.Common.{◌≡◌, ◌∙◌, ap, sym, map, refl}
+use Rattle.adya_values.specs.Machinery.KeyTables.{keys_in}
 use Rattle.adya_values.specs.Meaning.Histories.{Scan}
 use Rattle.adya_values.specs.Machinery.Seen.{entry_in, key_at, part}
 use Rattle.adya_values.specs.Machinery.Packed.{entry_of_seen}
@@ -7,7 +8,7 @@ use Rattle.adya_values.proofs.arena.Arena.scan.Goals as goal
 
 pub invariant_of-result : goal.invariant_of-result
 invariant_of-result c = record {
-  there = rw (c.as_slice.ensures.keys, c.deref.ensures.value) c.listed.ensures.there;
+  there = rw c.deref.ensures.value c.listed.ensures.there;
 }
 
 pub returns : goal.returns
@@ -16,10 +17,10 @@ returns c =
     let t = c.args.txn in
     let a = c.args.self.now in
     let ss = c.listed.result.now in
-    let es = map (entry_in c.as_slice.result.now c.deref.result.now) ss in
-    let same : es ≡ map (entry_of_seen a) ss = rw (c.as_slice.ensures.keys, c.deref.ensures.value) refl in
+    let es = map (entry_in (keys_in a.keys) c.deref.result.now) ss in
+    let same : es ≡ map (entry_of_seen a) ss = rw c.deref.ensures.value refl in
     let listed : es ≡ part l.from l.count (map (entry_of_seen a) a.seen.items) =
     same ∙ (ap (map (entry_of_seen a)) c.listed.ensures.seen ∙ sym (part-map (entry_of_seen a) l.from l.count a.seen.items)) in
     ap (λ k. Scan t k c.key-2.result es) c.key.ensures ∙
-    (ap (λ k. Scan t (key_at a.keys.keys l.low) k es) c.key-2.ensures ∙
-    ap (λ xs. Scan t (key_at a.keys.keys l.low) (key_at a.keys.keys l.high) xs) listed)
+    (ap (λ k. Scan t (key_at (keys_in a.keys) l.low) k es) c.key-2.ensures ∙
+    ap (λ xs. Scan t (key_at (keys_in a.keys) l.low) (key_at (keys_in a.keys) l.high) xs) listed)

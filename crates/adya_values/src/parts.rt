@@ -1,0 +1,101 @@
+//! Lists, packed into one.
+
+ghost use Rattle.std.specs.Prelude.{◌≡◌, ◌<◌, ◌≤◌, ◌-◌, ◌+◌, ◌++◌, ◌∷◌, ◌^◌, ℕ, [], true, Some, length, slice_get, IfOk, IsOk, OnOk, OnErr};
+ghost use Rattle.adya_values.specs.Machinery.Seen.{part};
+ghost use Rattle.adya_values.specs.Machinery.Ends.{are_ends, end_before};
+
+use std::alloc::{AllocError, Global};
+
+/// Lists of elements, one after the other in one list, and where each of them ends.
+#[derive(Drop)]
+pub(crate) struct Parts<T> {
+    all: Vec<T>,
+    ends: Vec<usize>,
+    pub ghost valid: { are_ends (length all.items) ends.items 0 ≡ true },
+}
+
+impl<T: Copy> Parts<T> {
+    ghost use Rattle.adya_values.specs.Machinery.Parts.{parts_of, HasRoom};
+
+    /// Makes that of no lists. It takes no memory.
+    pub(crate) fn new(alloc: Global) -> Parts<T>
+        ensures { parts_of result ≡ [] }
+    {
+        Parts {
+            all: Vec::new(alloc),
+            ends: Vec::new(alloc),
+        }
+    }
+
+    /// Makes room for so many more lists of so many elements in all. The lists stay, also if memory is refused.
+    pub(crate) fn reserve(&mut self, parts: usize, elements: usize) -> Result<(), AllocError>
+        ensures room { OnOk result (HasRoom self.new parts elements) }
+        ensures same { parts_of self.new ≡ parts_of self.old }
+    {
+        self.ends.reserve(parts)?;
+        self.all.reserve(elements)
+    }
+
+    /// Adds a list at the end. If memory is refused, the lists stay as they were.
+    pub(crate) fn push(&mut self, part: &[T]) -> Result<(), AllocError>
+        ensures ok { OnOk result (parts_of self.new ≡ parts_of self.old ++ part.now ∷ []) }
+        ensures err { OnErr result (parts_of self.new ≡ parts_of self.old) }
+        ensures succeeds { HasRoom self.old 1 (length part.now) → IsOk result }
+        ensures room { (n m : ℕ) → HasRoom self.old (n + 1) (m + length part.now) → HasRoom self.new n m }
+    {
+        self.ends.reserve(1)?;
+        self.all.extend_from_slice(part)?;
+        self.ends.push_reserved(self.all.len());
+        Ok(())
+    }
+
+    /// Returns equal lists.
+    pub(crate) fn copy(&self, alloc: Global) -> Result<Parts<T>, AllocError>
+        ensures { IfOk result (λ p. parts_of p ≡ parts_of self.now) }
+    {
+        Ok(Parts {
+            all: Vec::from_slice(alloc, &self.all)?,
+            ends: Vec::from_slice(alloc, &self.ends)?,
+        })
+    }
+
+    /// Returns how many lists there are.
+    #[inline(always)]
+    pub(crate) fn len(&self) -> usize
+        ensures length { result ≡ length (parts_of self.now) }
+        ensures near { result < 2 ^ 60 }
+    {
+        self.ends.as_slice().len()
+    }
+
+    /// Returns where the list at the index begins.
+    #[inline(always)]
+    fn begin(&self, i: usize) -> usize
+        requires { i < length (parts_of self.now) }
+        ensures { result ≡ end_before self.now.ends.items 0 i }
+    {
+        if i == 0 {
+            return 0;
+        }
+        self.ends[i - 1]
+    }
+
+    /// Returns the list at the index, counted from 0.
+    #[inline(always)]
+    pub(crate) fn at(&self, i: usize) -> &[T]
+        requires { i < length (parts_of self.now) }
+        ensures { slice_get (parts_of self.now) i ≡ Some result.now }
+    {
+        between(&self.all, self.begin(i), self.ends[i])
+    }
+}
+
+/// Returns the elements from one place up to another.
+#[inline(always)]
+fn between<T>(all: &[T], from: usize, to: usize) -> &[T]
+    requires order { from ≤ to }
+    requires within { to ≤ length all.now }
+    ensures { result.now ≡ part from (to - from) all.now }
+{
+    &all[from..to]
+}
