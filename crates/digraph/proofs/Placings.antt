@@ -4,29 +4,29 @@ use Rattle.std.proofs.lemmas.Bool.{eq-eqb, ne_eqb, cases_eq, cases_lt, cond-true
 use Rattle.std.proofs.lemmas.List.{get_or_default}
 use Rattle.std.proofs.lemmas.List.Sums.{count_by_more_yes, count_by_more_no}
 use Rattle.std.specs.List.{list_any}
-use Rattle.std.specs.Ordering.{nat_cmp, is_eq}
 use Rattle.lemmas.proofs.Counts.{count, count-cons, count_same, count_other}
 use Rattle.digraph.specs.declared.arc.Arc.{Arc}
 use Rattle.digraph.specs.Clauses.Graphs.{place, IsBefore}
 use Rattle.digraph.specs.Machinery.Placings.{Places, StandsForward, KeepsOrder}
 use Rattle.digraph.proofs.Orders.{place_same, place_other}
-use Rattle.digraph.proofs.Sets.{updated_here, updated_apart}
 
 -- a node that is removed from the set counts in the list
 pub one_removed : (ts : List ℕ) (i : ℕ) (was now : ℕ → Bool) → i < length ts → was (get_or ts i 0) ≡ true
-    → ((q : ℕ) → now q ≡ cond (is_eq (nat_cmp (get_or ts i 0) q)) false (was q)) → (q : ℕ)
+    → ((q : ℕ) → now q ≡ cond (get_or ts i 0 == q) false (was q)) → (q : ℕ)
     → count_by (λ u. u == q) (take (i + 1) ts) + cond (now q) 1 0 ≡ count_by (λ u. u == q) (take i ts) + cond (was q) 1 0
 one_removed ts i was now within there up q =
     let t = get_or ts i 0 in
     elim (cases_eq t q) [
       | inl e ↦
           let more = count_by_more_yes (λ u. u == q) ts i 0 within (eq-eqb t q e) in
-          let now' = cond-false {A = ℕ} (now q) 1 0 (updated_here t q (now q) (was q) false (up q) e) in
+          let gone = up q ∙ cond-true {A = Bool} (t == q) false (was q) (eq-eqb t q e) in
+          let now' = cond-false {A = ℕ} (now q) 1 0 gone in
           let was' = cond-true {A = ℕ} (was q) 1 0 (subst (λ x. was x ≡ true) e there) in
           omega (arith, more, now', was')
       | inr ne ↦
           let more = count_by_more_no (λ u. u == q) ts i 0 within (ne_eqb t q ne) in
-          let same = ap (λ b. cond {A = ℕ} b 1 0) (updated_apart t q (now q) (was q) false (up q) ne) in
+          let left = up q ∙ cond-false {A = Bool} (t == q) false (was q) (ne_eqb t q ne) in
+          let same = ap (λ b. cond {A = ℕ} b 1 0) left in
           omega (arith, more, same)
     ]
 
@@ -106,3 +106,11 @@ all_removed nodes arcs was now ts all counts keep =
             | inr still ↦ absurd (true≢false (sym still ∙ gone))
           ];
     }
+
+-- the same of a set with the same nodes
+pub same_remaining : (nodes : List ℕ) (arcs : List Arc) (was now : ℕ → Bool) (ts : List ℕ) → ((q : ℕ) → now q ≡ was q)
+    → Places nodes ts arcs was → Places nodes ts arcs now
+same_remaining nodes arcs was now ts same p = record {
+  once = λ q. ap (λ b. count ts q + cond {A = ℕ} b 1 0) (same q) ∙ p.once q;
+  forward = λ a here gone. p.forward a here (sym (same a.to) ∙ gone);
+}

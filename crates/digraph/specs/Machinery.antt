@@ -1,3 +1,5 @@
 -- What only this crate's loops and tables need.
+pub mod Marks
+pub mod NodeSets
 pub mod Placings
 pub mod Traces

@@ -9,6 +9,8 @@ mod counts;
 mod distinct;
 mod incoming;
 mod laws;
+mod marks;
+mod node_set;
 mod order;
 mod outgoing;
 mod placing;

@@ -1,5 +1,7 @@
 //! Slots of nodes in tables.
 
+ghost use Rattle.std.specs.Prelude.{◌≤◌, All};
+
 use crate::sorted::Sorted;
 use std::alloc::{AllocError, Global};
 
@@ -13,8 +15,11 @@ pub(crate) enum Slots {
     Sorted(Sorted),
 }
 
-// The least and the greatest node.
-fn bounds(nodes: &[u32]) -> (u32, u32) {
+/// Returns the least and the greatest node; 0 if there is none.
+pub(crate) fn bounds(nodes: &[u32]) -> (u32, u32)
+    ensures least { All (λ u. result.0 ≤ u) nodes.now }
+    ensures greatest { All (λ u. u ≤ result.1) nodes.now }
+{
     let least = nodes.iter().copied().min().unwrap_or(0);
     let greatest = nodes.iter().copied().max().unwrap_or(0);
     (least, greatest)

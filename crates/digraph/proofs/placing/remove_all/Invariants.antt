@@ -1,8 +1,7 @@
 use Rattle.std.proofs.Common.{◌≡◌, ◌==◌, ◌+◌, ℕ, cond, count_by, take}
-use Rattle.std.specs.Ordering.{nat_cmp}
-use Rattle.std.specs.BTreeSet.{contains}
+use Rattle.digraph.specs.Machinery.NodeSets.{has}
 use Rattle.digraph.proofs.placing.remove_all.Given as goal
 
 abbrev pub invariant-loop-t : goal.invariant-loop-t
-invariant-loop-t l = (q : ℕ) → count_by (λ u. u == q) (take l.t-index l.nodes) + cond (contains nat_cmp l.set q) 1 0
-    ≡ cond (contains nat_cmp l.initial.set q) 1 0
+invariant-loop-t l = (q : ℕ) → count_by (λ u. u == q) (take l.t-index l.nodes) + cond (has l.set q) 1 0
+    ≡ cond (has l.initial.set q) 1 0

@@ -3,7 +3,7 @@ use Rattle.std.specs.List.{list_any}
 use Rattle.std.proofs.lemmas.List.Folds.{list_any_more}
 use Rattle.std.proofs.lemmas.List.{take_all}
 use Rattle.digraph.proofs.Sets.{added}
-use Rattle.digraph.proofs.placing.set_of.Goals as goal
+use Rattle.digraph.proofs.node_set.tree_of.Goals as goal
 
 pub loop-t-preserved : goal.loop-t-preserved
 loop-t-preserved c q =
