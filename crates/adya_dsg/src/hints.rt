@@ -9,13 +9,14 @@ use crate::version_orders::VersionOrders;
 use adya_values::Txn;
 use std::alloc::{AllocError, Global};
 
-/// For each order line the index among its writers where one was found last, and 0 at the start.
+/// For each order line the index among its writers where one was found last, and 0 at the start. An index that is too large
+/// for 32 bits is kept as the largest number of 32 bits.
 ///
 /// Events are looked at in the order in which they happened, and most of them read the newest version of their key. So
 /// the next writer that is looked for in a line is mostly this one or comes soon after it.
 #[derive(Drop)]
 pub(crate) struct Hints {
-    indexes: Vec<usize>,
+    indexes: Vec<u32>,
 }
 
 impl Hints {
@@ -34,8 +35,8 @@ impl Hints {
         let Some(hint) = self.indexes.get_mut(line) else {
             return versions.place(line, txn);
         };
-        let place = versions.place_near(line, txn, *hint);
-        *hint = place - 1;
+        let place = versions.place_near(line, txn, *hint as usize);
+        *hint = (place - 1).min(u32::MAX as usize) as u32;
         place
     }
 }

@@ -154,10 +154,10 @@ module _ (keys : ℕ) (old new : ℕ → Chain) (rows : List Row) (at key : ℕ)
     rows_in = rows_more;
   }
 
-pub few_longer : (old new : ℕ → Chain) (later : Own → Option ℕ) (rows : List Row) (t : ℕ) → AreFew old later → (old t).len < 16
-    → ((u : ℕ) → new u ≡ cond (t == u) (longer (old t) rows) (old u)) → AreFew new later
-few_longer old new later rows t few room set q less =
+pub few_longer : (room : ℕ) (old new : ℕ → Chain) (later : Own → Option ℕ) (rows : List Row) (t : ℕ) → AreFew room old later → (old t).len < room
+    → ((u : ℕ) → new u ≡ cond (t == u) (longer (old t) rows) (old u)) → AreFew room new later
+few_longer room old new later rows t few short set q less =
     elim (cases_Bool (t == q.txn)) [
-      | inl here ↦ few q (subst (λ u. (old u).len < 16) (eqb-true t q.txn here) room)
+      | inl here ↦ few q (subst (λ u. (old u).len < room) (eqb-true t q.txn here) short)
       | inr other ↦ few q (rw (set q.txn, other) at less)
     ]

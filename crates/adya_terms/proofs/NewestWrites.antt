@@ -1,5 +1,5 @@
 -- What the places of the keys' newest writes say after one more event.
-use Rattle.std.proofs.Common.{◌≡◌, ◌≢◌, ℕ, zero, suc, ◌+◌, true, List, [], ◌∷◌, ◌++◌, replicate, set, Option, Some, None, slice_get, refl, sym, ◌∙◌, ap, inl, inr, arith}
+use Rattle.std.proofs.Common.{◌≡◌, ◌≢◌, ℕ, zero, suc, true, List, [], ◌∷◌, ◌++◌, replicate, set, Option, Some, None, slice_get, refl, sym, ◌∙◌, ap, inl, inr}
 use Rattle.std.specs.List.{filter_map, cons_option, list_any}
 use Rattle.std.proofs.lemmas.Bool.{cases_eq, or_left, or_right}
 use Rattle.std.proofs.lemmas.List.Folds.{list_any-append}
@@ -47,12 +47,11 @@ module _ (places : List ℕ) (all before : List Event) (e : Event) (m : AreWritt
       (list_any-append (entry_eq o) (filter_map written before) (cons_option (written e) []) ∙
       or_right _ _ (ap (λ x. list_any (entry_eq o) (cons_option x [])) wrote ∙ or_left _ _ (entry_eq-turned o w ∙ is)))
 
-  pub written_write : (n at : ℕ) → slice_get all at ≡ Some e → AreWritten (set places n (at + 1)) all (before ++ e ∷ [])
-  written_write n at found i p here o is =
+  pub written_write : (n at x : ℕ) → ((p : ℕ) → x ≡ suc p → at ≡ p) → slice_get all at ≡ Some e → AreWritten (set places n x) all (before ++ e ∷ [])
+  written_write n at x counted found i p here o is =
       elim (cases_eq i n) [
         | inl same ↦
-            let value = get_set places n (at + 1) (suc p) (ap (slice_get (set places n (at + 1))) (sym same) ∙ here) in
-            let this : at ≡ p = omega (arith, value) in
+            let this : at ≡ p = counted p (get_set places n x (suc p) (ap (slice_get (set places n x)) (sym same) ∙ here)) in
             now_written o (written e) refl (ap (λ q. is_entry (written_by q) o) (sym found) ∙ (ap (λ q. is_entry (written_at all (Some q)) o) this ∙ is))
-        | inr other ↦ still o (m i p (sym (get_set_other places n (at + 1) i other) ∙ here) o is)
+        | inr other ↦ still o (m i p (sym (get_set_other places n x i other) ∙ here) o is)
       ]

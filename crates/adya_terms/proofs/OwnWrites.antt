@@ -31,10 +31,10 @@ module _ (ks : List Key) (numbered : AreNumbered ks) (t n at : ℕ) (within : n 
   own_key = own t (key_at ks n)
 
   -- a write in its transaction's chain
-  pub place_longer : (old new : ℕ → Chain) (rows : List Row) (later : Own → Option ℕ) → AreLinked (length ks) old rows → AreFew old later
-      → (old t).len < 16 → ((u : ℕ) → new u ≡ cond (t == u) (longer (old t) rows) (old u))
+  pub place_longer : (room : ℕ) (old new : ℕ → Chain) (rows : List Row) (later : Own → Option ℕ) → AreLinked (length ks) old rows
+      → AreFew room old later → (old t).len < room → ((u : ℕ) → new u ≡ cond (t == u) (longer (old t) rows) (old u))
       → (q : Own) → place_by ks new (rows ++ row at (old t).last n ∷ []) later q ≡ cond (own_eq own_key q) (Some at) (place_by ks old rows later q)
-  place_longer old new rows later linked few room set q = by (number_in ks q.key) refl
+  place_longer room old new rows later linked few short set q = by (number_in ks q.key) refl
     where
       after : List Row
       after = rows ++ row at (old t).last n ∷ []
@@ -60,7 +60,7 @@ module _ (ks : List Key) (numbered : AreNumbered ks) (t n at : ℕ) (within : n 
               elim (cases_Bool (t == q.txn)) [
                 | inl here ↦
                     let same : t ≡ q.txn = eqb-true t q.txn here in
-                    let none : later q ≡ None = few q (subst (λ u. (old u).len < 16) same room) in
+                    let none : later q ≡ None = few q (subst (λ u. (old u).len < room) same short) in
                     rw (set q.txn, here, none)
                     (walk_longer rows (old t) at n j (length ks) linked.rows_in (linked.chains_in t)
                     ∙ ap (λ u. cond (n == j) (Some at) (walk rows j (old u).len (old u).last)) same)
@@ -91,13 +91,13 @@ module _ (ks : List Key) (numbered : AreNumbered ks) (t n at : ℕ) (within : n 
           ])
 
   -- it had no room in its chain
-  pub few_later : (chains : ℕ → Chain) (old new : Own → Option ℕ) → 16 ≤ (chains t).len → AreFew chains old
-      → ((q : Own) → new q ≡ cond (own_eq own_key q) (Some at) (old q)) → AreFew chains new
-  few_later chains old new full few set q less =
+  pub few_later : (room : ℕ) (chains : ℕ → Chain) (old new : Own → Option ℕ) → room ≤ (chains t).len → AreFew room chains old
+      → ((q : Own) → new q ≡ cond (own_eq own_key q) (Some at) (old q)) → AreFew room chains new
+  few_later room chains old new full few set q less =
       elim (cases_Bool (own_eq own_key q)) [
         | inl here ↦
             let same : t ≡ q.txn = eqb-true t q.txn (and_parts (t == q.txn) _ here).0 in
-            let short : (chains t).len < 16 = subst (λ u. (chains u).len < 16) (sym same) less in
+            let short : (chains t).len < room = subst (λ u. (chains u).len < room) (sym same) less in
             absurd (omega (arith, full, short))
         | inr other ↦ set q ∙ (ap (λ b. cond b (Some at) (old q)) other ∙ few q less)
       ]

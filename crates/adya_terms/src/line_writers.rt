@@ -24,8 +24,8 @@ const SHORT_LINE: usize = 256;
 pub(crate) struct LineWriters<'a> {
     pub orders: &'a Orders,
     /// For each line the place after the one that was found last: most lines name their writers in the order in which these
-    /// are looked for.
-    next: Vec<usize>,
+    /// are looked for. A place that is too large for 32 bits is kept as the largest number of 32 bits.
+    next: Vec<u32>,
     /// The places of the writers of long lines, by line. A line's are made when one of its writers is first looked for that
     /// isn't near.
     tables: BTreeMap<usize, TxnTable<usize>>,
@@ -95,7 +95,7 @@ impl<'a> LineWriters<'a> {
 
     /// Returns the place at which the next writer of the line is expected.
     fn next(&self, line: usize) -> usize {
-        self.next.get(line).copied().unwrap_or(0)
+        self.next.get(line).copied().unwrap_or(0) as usize
     }
 
     /// Expects the next writer of the line after this place.
@@ -103,7 +103,7 @@ impl<'a> LineWriters<'a> {
         ensures { self.new.orders ≡ self.old.orders }
     {
         if let Some(next) = self.next.get_mut(line) {
-            *next = place.saturating_add(1);
+            *next = place.saturating_add(1).min(u32::MAX as usize) as u32;
         }
     }
 }

@@ -1,6 +1,6 @@
 //! The newest write of each key, which is what most events read.
 
-ghost use Rattle.std.specs.Prelude.{◌≡◌, ◌<◌, ◌^◌, ◌++◌, [], ◌∷◌, List, Some, true, suc, slice_get, IfOk, IfSome};
+ghost use Rattle.std.specs.Prelude.{◌≡◌, ◌++◌, [], ◌∷◌, ℕ, List, Some, true, suc, slice_get, IfOk, IfSome};
 ghost use Rattle.std.specs.Bool.{OnTrue};
 ghost use Rattle.std.specs.List.{filter_map, list_any};
 ghost use Rattle.adya_values.specs.Meaning.Events.{written};
@@ -14,11 +14,11 @@ use crate::{Events, Seen};
 use std::alloc::{AllocError, Global};
 
 /// Of each key the place of its newest write in the list of events, counted from 1, at the index of the key's number; 0 if it has
-/// none. It says of most of what is read that it was written. It is much smaller than the tables of all writes, so it answers
-/// faster.
+/// none, or if that place is too large for 32 bits. It says of most of what is read that it was written. It is much smaller than
+/// the tables of all writes, so it answers faster.
 #[derive(Drop)]
 pub(crate) struct NewestWrites {
-    places: Vec<usize>,
+    places: Vec<u32>,
 }
 
 impl NewestWrites {
@@ -37,7 +37,7 @@ impl NewestWrites {
     {
         match self.places.get(number as usize) {
             None | Some(0) => None,
-            Some(place) => Some(*place - 1),
+            Some(place) => Some(*place as usize - 1),
         }
     }
 
@@ -56,14 +56,23 @@ impl NewestWrites {
 
     /// Records that the event at the place writes the key with the number.
     pub fn keep(&mut self, number: u32, at: usize)
-        requires { at < 2 ^ 60 }
         ensures { (all before : List EventValue) (e : EventValue)
             → Keeps self.old all before
             → slice_get all at ≡ Some e
             → Keeps self.new all (before ++ e ∷ []) }
     {
         if let Some(place) = self.places.get_mut(number as usize) {
-            *place = at + 1;
+            *place = counted(at);
         }
     }
+}
+
+/// Returns the place counted from 1; 0 if that is too large for 32 bits.
+fn counted(at: usize) -> u32
+    ensures { (p : ℕ) → result ≡ suc p → at ≡ p }
+{
+    if at < u32::MAX as usize {
+        return at as u32 + 1;
+    }
+    0
 }

@@ -52,9 +52,9 @@ abbrev pub chain_passes : List Row → (ℕ → Bool) → ℕ → ℕ → Bool
 chain_passes rows test zero link = true
 chain_passes rows test (suc n) link = row_passes test (row_at rows link) (chain_passes rows test n)
 
--- a transaction with room in its chain has no later writes
-abbrev pub AreFew : (ℕ → Chain) → (Own → Option ℕ) → Type 0
-AreFew chains later = (q : Own) → (chains q.txn).len < 16 → later q ≡ None
+-- a transaction whose chain is shorter than the room for one has no later writes
+abbrev pub AreFew : ℕ → (ℕ → Chain) → (Own → Option ℕ) → Type 0
+AreFew room chains later = (q : Own) → (chains q.txn).len < room → later q ≡ None
 
 -- the keys of later writes are among these
 abbrev pub AreKnown : List (List ℕ) → (Own → Option ℕ) → Type 0

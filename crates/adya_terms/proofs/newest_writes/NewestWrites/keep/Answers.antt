@@ -5,4 +5,4 @@ pub returns-in_default : goal.returns-in_default
 returns-in_default c all before e m found = written_quiet c.args.self.now.places.items all before e m
 
 pub returns-in-Some : goal.returns-in-Some
-returns-in-Some c all before e m found = written_write c.args.self.now.places.items all before e m c.args.number c.args.at found
+returns-in-Some c all before e m found = written_write c.args.self.now.places.items all before e m c.args.number c.args.at c.counted.result c.counted.ensures found

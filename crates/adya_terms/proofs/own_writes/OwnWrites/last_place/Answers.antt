@@ -21,10 +21,10 @@ in_chain_is w t n within x is none =
     ap (found w n) is ∙ (ap (λ o. option_or o (found w n (value_for w.chains t))) (sym none) ∙
     sym (ap (option_and_then (place_numbered w q)) (w.numbered n within)))
 
-pub returns-then-chain-lt-FEW : goal.returns-then-chain-lt-FEW
-returns-then-chain-lt-FEW c =
+pub returns-then-chain-self : goal.returns-then-chain-self
+returns-then-chain-self c =
     let w = c.args.self.now in
     let key = key_at (keys_of w.events.now) c.args.number in
     c.in_chain.ensures ∙
     in_chain_is w c.args.txn c.args.number c.requires c.chain-chain.result c.chain-chain.ensures
-    (w.few (own c.args.txn key) (subst (λ (x : Chain). x.len < 16) c.chain-chain.ensures c.if-chain-lt-FEW.true))
+    (w.few (own c.args.txn key) (subst (λ (x : Chain). x.len < w.room) c.chain-chain.ensures c.if-chain-self.true))

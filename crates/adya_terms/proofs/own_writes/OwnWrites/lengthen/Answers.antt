@@ -50,14 +50,14 @@ invariant_of-self-2 c = by_result c.set.result c.set.ensures.set c.set.ensures.r
     by_result : (r : Result (Unit {0}) AllocError)
         → OnOk r ((u : ℕ) → new u ≡ cond (t == u) (record { len = c.args.chain.len + 1; last = c.len.result }) (old u))
         → OnErr r ((u : ℕ) → new u ≡ old u)
-        → record { numbered : AreNumbered ks; linked : AreLinked (length ks) new c.push.new.self.items; known : AreKnown ks later; few : AreFew new later }
+        → record { numbered : AreNumbered ks; linked : AreLinked (length ks) new c.push.new.self.items; known : AreKnown ks later; few : AreFew c.args.self.now.room new later }
     by_result (Ok _) set refused =
         let longer_set : (u : ℕ) → new u ≡ cond (t == u) (longer (old t) rows) (old u) = λ u. rw (sym value) (set u) in
         record {
           numbered = c.args.self.now.numbered;
           known = c.args.self.now.known;
           linked = rw grown (linked_longer (length ks) old new rows c.args.at c.args.number t c.requires.number c.args.self.now.linked longer_set);
-          few = few_longer old new later rows t c.args.self.now.few (rw is c.requires.room) longer_set;
+          few = few_longer c.args.self.now.room old new later rows t c.args.self.now.few (rw is c.requires.room) longer_set;
         }
     by_result (Err _) set refused =
         record {
