@@ -40,6 +40,10 @@ module _ (rows : List Row) (test : ℕ → Bool) where
             | inr miss ↦ next r.before both.1 k at (rw miss at found)
           ]
 
+  pub passes_ends : (n link : ℕ) → row_at rows link ≡ None → chain_passes rows test n link ≡ true
+  passes_ends zero link none = refl
+  passes_ends (suc n) link none = ap (λ o. row_passes test o (chain_passes rows test n)) none
+
   pub passes_goes_on : (n link : ℕ) (r : Row) → row_at rows link ≡ Some r → test r.key ≡ true
       → chain_passes rows test (suc n) link ≡ chain_passes rows test n r.before
   passes_goes_on n link r at pass = ap (λ o. row_passes test o (chain_passes rows test n)) at ∙ rw pass refl

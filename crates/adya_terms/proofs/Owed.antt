@@ -27,18 +27,18 @@ use Rattle.adya_terms.specs.Machinery.Owed.{passes, AreShown}
 use Rattle.adya_terms.proofs.Chains.{fails_somewhere, passes_found}
 
 module _ (o : Owed) (before : List Event)
-    (places : (k : List ℕ) → written_at (events_of o.list.scan.now.events.now) (place_of o.writes.now (own o.txn k)) ≡ last_write o.txn k before) where
+    (places : (k : List ℕ) → written_at (events_of o.scan.now.events.now) (place_of o.writes.now (own o.txn k)) ≡ last_write o.txn k before) where
   abbrev all : List Event
-  all = events_of o.list.scan.now.events.now
+  all = events_of o.scan.now.events.now
 
   abbrev es : List Entry
-  es = listed o.list.scan.now
+  es = listed o.scan.now
 
   abbrev low : List ℕ
-  low = o.list.scan.now.low
+  low = o.scan.now.low
 
   abbrev high : List ℕ
-  high = o.list.scan.now.high
+  high = o.scan.now.high
 
   abbrev asked : List ℕ → Bool
   asked k = not (lies_in low high k) || none_or_lists_only es (last_write o.txn k before)

@@ -94,11 +94,11 @@ impl<'a> Scan<'a> {
         if self.high < self.low {
             return true;
         }
-        let list = ScanList {
+        let owed = Owed {
+            writes,
+            txn,
             scan: self,
-            rising: self.keys_rise(),
         };
-        let owed = Owed { writes, txn, list };
         owed.has_chain() && owed.has_later()
     }
 
@@ -179,7 +179,7 @@ impl ScanList<'_, '_> {
 struct Owed<'a, 'b, 'c> {
     writes: &'a OwnWrites<'c>,
     txn: Txn,
-    list: ScanList<'a, 'b>,
+    scan: &'a Scan<'b>,
 }
 
 impl Owed<'_, '_, '_> {
@@ -192,12 +192,16 @@ impl Owed<'_, '_, '_> {
         requires { number < length (keys_of self.now.writes.now.events.now) }
         ensures { result ≡ passes self.now (key_at (keys_of self.now.writes.now.events.now) number) }
     {
-        let scan = self.list.scan;
+        let scan = self.scan;
         if !lies_in(scan.low, scan.high, self.writes.events.key(number)) {
             return true;
         }
-        self.list
-            .has_write(self.writes.last_place(self.txn, number))
+        // few writes are chained, so the list is read through for each of them
+        let list = ScanList {
+            scan,
+            rising: false,
+        };
+        list.has_write(self.writes.last_place(self.txn, number))
     }
 
     /// Returns whether that holds of the key of each write in the transaction's chain.
@@ -223,17 +227,22 @@ impl Owed<'_, '_, '_> {
     /// Returns whether each of the transaction's other last writes of keys between the bounds is listed, and nothing else of
     /// its key. The bounds don't run downward.
     fn has_later(&self) -> bool
-        requires { keys.key_lt self.now.list.scan.now.high self.now.list.scan.now.low ≡ false }
-        ensures shown { let scan = self.now.list.scan.now in
+        requires { keys.key_lt self.now.scan.now.high self.now.scan.now.low ≡ false }
+        ensures shown { let scan = self.now.scan.now in
             OnTrue result (AreShown (get nat_cmp self.now.writes.now.later self.now.txn) scan.low scan.high (listed scan) (events_of scan.events.now)) }
-        ensures missed { let scan = self.now.list.scan.now in
+        ensures missed { let scan = self.now.scan.now in
             OnFalse result (AreShown (get nat_cmp self.now.writes.now.later self.now.txn) scan.low scan.high (listed scan) (events_of scan.events.now) → ⊥) }
     {
         let Some(later) = self.writes.later(self.txn) else {
             return true;
         };
-        for (_, at) in later.range(self.list.scan.low..=self.list.scan.high) {
-            if !self.list.has_write(Some(*at)) {
+        let scan = self.scan;
+        let list = ScanList {
+            scan,
+            rising: scan.keys_rise(),
+        };
+        for (_, at) in later.range(scan.low..=scan.high) {
+            if !list.has_write(Some(*at)) {
                 return false;
             }
         }

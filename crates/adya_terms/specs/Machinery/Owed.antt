@@ -14,7 +14,7 @@ use Rattle.adya_terms.specs.Machinery.Scans.{listed}
 -- the key isn't between the bounds, or the list has its last write and nothing else of it
 abbrev pub passes : Owed → List ℕ → Bool
 passes o k =
-    let scan = o.list.scan.now in
+    let scan = o.scan.now in
     not (lies_in scan.low scan.high k) || none_or_lists_only (listed scan) (written_at (events_of scan.events.now) (place_of o.writes.now (own o.txn k)))
 
 -- the entries have what was written at the place of each key between the two, and nothing else of the key

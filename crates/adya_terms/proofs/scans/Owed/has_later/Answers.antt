@@ -13,12 +13,12 @@ use Rattle.adya_terms.proofs.scans.Owed.has_later.Goals as goal
 
 pub range-at-items-requires : goal.range-at-items-requires
 range-at-items-requires c =
-    rw c.new.ensures.start (rw c.new.ensures.end (runs_forward c.args.self.now.list.scan.now.low c.args.self.now.list.scan.now.high c.requires))
+    rw c.new.ensures.start (rw c.new.ensures.end (runs_forward c.args.self.now.scan.now.low c.args.self.now.scan.now.high c.requires))
 
 pub returns-then-not-has_write-clause-missed : goal.returns-then-not-has_write-clause-missed
 returns-then-not-has_write-clause-missed c shown =
     let o = c.args.self.now in
-    let scan = o.list.scan.now in
+    let scan = o.scan.now in
     let es = listed scan in
     let all = events_of scan.events.now in
     let items = c.range-at-items.result in
@@ -35,7 +35,7 @@ returns-then-not-has_write-clause-missed c shown =
 pub returns-clause-shown : goal.returns-clause-shown
 returns-clause-shown c =
     let o = c.args.self.now in
-    let scan = o.list.scan.now in
+    let scan = o.scan.now in
     let es = listed scan in
     let all = events_of scan.events.now in
     let items = c.range-at-items.result in
