@@ -3,17 +3,17 @@
 ghost use Rattle.std.specs.Prelude.{◌≡◌, ◌<◌, ◌≤◌, ◌++◌, ◌∷◌, ◌^◌, [], true, Some, length, map, option_map, slice_get, OnOk, OnErr};
 ghost use Rattle.std.specs.List.{list_all};
 ghost use Rattle.adya_values.specs.Meaning.Keys.{is_value, keys_rise};
-ghost use Rattle.adya_values.specs.Machinery.Lines.{lines_in};
+ghost use Rattle.adya_values.specs.Machinery.Lines.{lines_of};
 
 use crate::lines::Lines;
 use crate::{FinalPair, Key, Value};
 use std::alloc::{AllocError, Global};
 
-/// Final values, packed: beside their lines the keys' bytes one after the other, and those of the values.
+/// Final values, packed: lines of a key and its value's bytes.
 #[derive(Drop)]
 pub struct Finals {
     pub(crate) lines: Lines<u8>,
-    ghost values: { list_all (λ l. is_value l.1) (lines_in lines.bytes.items lines.items.items lines.ends.items 0 0) ≡ true },
+    ghost values: { list_all (λ l. is_value l.1) (lines_of lines) ≡ true },
 }
 
 impl Finals {

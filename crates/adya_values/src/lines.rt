@@ -1,40 +1,34 @@
 //! Lines of a key and items each, packed.
 
-ghost use Rattle.std.specs.Prelude.{◌≡◌, ◌<◌, ◌≤◌, ◌-◌, ◌++◌, ◌∷◌, ◌^◌, ℕ, [], true, false, Some, length, map, option_map, slice_get, IfOk, OnOk, OnErr};
+ghost use Rattle.std.specs.Prelude.{◌≡◌, ◌<◌, ◌≤◌, ◌++◌, ◌∷◌, ◌^◌, ℕ, [], true, false, Some, length, map, option_map, slice_get, IfOk, OnOk, OnErr};
+ghost use Rattle.std.specs.List.{list_all};
 ghost use Rattle.adya_values.specs.Meaning.Keys.{is_key, key_lt, keys_rise};
-ghost use Rattle.adya_values.specs.Machinery.Seen.{part};
-ghost use Rattle.adya_values.specs.Machinery.Lines.{are_lines, end_before};
+ghost use Rattle.adya_values.specs.Machinery.Parts.{parts_of};
 
 use crate::Key;
+use crate::parts::Parts;
 use std::alloc::{AllocError, Global};
 
-/// Where a line ends: its key among the bytes, and its items among all items. It begins where the line before ends.
-#[derive(Clone, Copy)]
-pub(crate) struct LineEnd {
-    pub(crate) key: usize,
-    pub(crate) items: usize,
-}
-
-/// Lines of a key and items each: the keys' bytes one after the other, and the items.
+/// Lines of a key and items each: the bytes of all keys in one list, and all items in another.
 #[derive(Drop)]
 pub(crate) struct Lines<T> {
-    bytes: Vec<u8>,
-    items: Vec<T>,
-    ends: Vec<LineEnd>,
-    pub ghost valid: { are_lines bytes.items items.items ends.items 0 0 ≡ true },
+    keys: Parts<u8>,
+    items: Parts<T>,
+    pub ghost valid: { list_all is_key (parts_of keys) ≡ true },
+    pub ghost paired: { length (parts_of items) ≡ length (parts_of keys) },
 }
 
 impl<T: Copy> Lines<T> {
-    ghost use Rattle.adya_values.specs.Mirror.Lines.{lines_of, IsBelow};
+    ghost use Rattle.adya_values.specs.Machinery.Lines.{lines_of};
+    ghost use Rattle.adya_values.specs.Mirror.Lines.{IsBelow};
 
     /// Makes those of no lines. It takes no memory.
     pub(crate) fn new(alloc: Global) -> Lines<T>
         ensures { lines_of result ≡ [] }
     {
         Lines {
-            bytes: Vec::new(alloc),
-            items: Vec::new(alloc),
-            ends: Vec::new(alloc),
+            keys: Parts::new(alloc),
+            items: Parts::new(alloc),
         }
     }
 
@@ -43,16 +37,9 @@ impl<T: Copy> Lines<T> {
         ensures ok { OnOk result (lines_of self.new ≡ lines_of self.old ++ (key, items.now) ∷ []) }
         ensures err { OnErr result (lines_of self.new ≡ lines_of self.old) }
     {
-        let text = key.bytes();
-        self.ends.reserve(1)?;
-        self.bytes.reserve(text.len())?;
-        self.items.extend_from_slice(items)?;
-        self.bytes.extend_from_slice(text)?;
-        self.ends.push_reserved(LineEnd {
-            key: self.bytes.len(),
-            items: self.items.len(),
-        });
-        Ok(())
+        self.items.reserve(1, items.len())?;
+        self.keys.push(key.bytes())?;
+        self.items.push(items)
     }
 
     /// Returns how many lines there are.
@@ -61,19 +48,7 @@ impl<T: Copy> Lines<T> {
         ensures length { result ≡ length (lines_of self.now) }
         ensures near { result < 2 ^ 60 }
     {
-        self.ends.as_slice().len()
-    }
-
-    /// Returns where the line before the one at the index ends.
-    #[inline(always)]
-    fn end_before(&self, i: usize) -> LineEnd
-        requires { i < length (lines_of self.now) }
-        ensures { (result.key, result.items) ≡ end_before self.now.ends.items 0 0 i }
-    {
-        if i == 0 {
-            return LineEnd { key: 0, items: 0 };
-        }
-        self.ends[i - 1]
+        self.keys.len()
     }
 
     /// Returns the bytes of the key of the line at the index, counted from 0.
@@ -83,9 +58,7 @@ impl<T: Copy> Lines<T> {
         ensures same { option_map (λ l. l.0) (slice_get (lines_of self.now) i) ≡ Some result.now }
         ensures limits { is_key result.now ≡ true }
     {
-        let start = self.end_before(i);
-        let end = self.ends[i];
-        between(&self.bytes, start.key, end.key)
+        self.keys.at(i)
     }
 
     /// Returns the key of the line at the index, counted from 0.
@@ -103,9 +76,7 @@ impl<T: Copy> Lines<T> {
         requires { i < length (lines_of self.now) }
         ensures { option_map (λ l. l.1) (slice_get (lines_of self.now) i) ≡ Some result.now }
     {
-        let start = self.end_before(i);
-        let end = self.ends[i];
-        between(&self.items, start.items, end.items)
+        self.items.at(i)
     }
 
     /// Returns how many lines have keys below this one, if the keys rise.
@@ -139,18 +110,8 @@ impl<T: Copy> Lines<T> {
     }
 
     pub(crate) fn allocator(&self) -> Global {
-        *self.ends.allocator()
+        self.keys.allocator()
     }
-}
-
-/// Returns the elements from one place up to another.
-#[inline(always)]
-fn between<T>(all: &[T], from: usize, to: usize) -> &[T]
-    requires order { from ≤ to }
-    requires within { to ≤ length all.now }
-    ensures { result.now ≡ part from (to - from) all.now }
-{
-    &all[from..to]
 }
 
 #[inline(always)]

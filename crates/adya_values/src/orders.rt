@@ -7,7 +7,7 @@ use crate::lines::Lines;
 use crate::{Key, Order, Txn};
 use std::alloc::{AllocError, Global};
 
-/// Version orders, packed: beside their lines the keys' bytes one after the other, and the writers.
+/// Version orders, packed: lines of a key and its writers.
 #[derive(Drop)]
 pub struct Orders {
     pub(crate) lines: Lines<Txn>,

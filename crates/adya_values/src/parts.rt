@@ -88,6 +88,10 @@ impl<T: Copy> Parts<T> {
     {
         between(&self.all, self.begin(i), self.ends[i])
     }
+
+    pub(crate) fn allocator(&self) -> Global {
+        *self.ends.allocator()
+    }
 }
 
 /// Returns the elements from one place up to another.

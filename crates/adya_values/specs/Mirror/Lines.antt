@@ -2,13 +2,9 @@
 use Rattle.std.specs.Prelude.{◌≡◌, ℕ, ◌<◌, ◌≤◌, true, false, List, Some, map, slice_get}
 use Rattle.adya_values.specs.Meaning.Histories.{FinalPair, Order}
 use Rattle.adya_values.specs.Meaning.Keys.{Key, key_lt}
-use Rattle.adya_values.specs.Machinery.Lines.{lines_in}
-use Rattle.adya_values.specs.declared.lines.Lines.{Lines}
+use Rattle.adya_values.specs.Machinery.Lines.{lines_of}
 use Rattle.adya_values.specs.declared.orders.Orders.{Orders}
 use Rattle.adya_values.specs.declared.finals.Finals.{Finals}
-
-abbrev pub lines_of : {A : Type 0} → Lines A → List (Key × List A)
-lines_of ls = lines_in ls.bytes.items ls.items.items ls.ends.items 0 0
 
 abbrev pub orders_of : Orders → List Order
 orders_of os = map (λ l. record { key = l.0; writers = l.1 }) (lines_of os.lines)

@@ -1,7 +1,7 @@
 use Rattle.std.proofs.Common.{ap, ◌∙◌, ◌+◌, ◌-◌, ◌/◌, arith, map, sym}
 use Rattle.std.proofs.lemmas.Option.{slice_get-map}
 use Rattle.adya_values.specs.Meaning.Keys.{key_lt}
-use Rattle.adya_values.specs.Mirror.Lines.{lines_of}
+use Rattle.adya_values.specs.Machinery.Lines.{lines_of}
 use Rattle.adya_values.proofs.RisingKeys.{below_up_to, none_from}
 use Rattle.adya_values.proofs.lines.Lines.below.Goals as goal
 

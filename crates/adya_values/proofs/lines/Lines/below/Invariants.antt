@@ -1,7 +1,7 @@
 -- The keys before the one place are below the key, and those from the other place on aren't.
 use Rattle.std.proofs.Common.{◌≡◌, ◌-◌, ◌<◌, ◌≤◌, ℕ, Some, false, length, map, slice_get, true}
 use Rattle.adya_values.specs.Meaning.Keys.{key_lt, keys_rise, Key}
-use Rattle.adya_values.specs.Mirror.Lines.{lines_of}
+use Rattle.adya_values.specs.Machinery.Lines.{lines_of}
 use Rattle.adya_values.proofs.lines.Lines.below.Given as goal
 
 pub record IsBetween (g : goal.Over) (l : goal.Live-loop-low g) : Type 0 where

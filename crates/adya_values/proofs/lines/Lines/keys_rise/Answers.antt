@@ -1,7 +1,7 @@
 use Rattle.std.proofs.Common.{◌≡◌, ◌∙◌, ◌+◌, ◌-◌, ◌&&◌, ap, arith, drop, map, sym}
 use Rattle.std.proofs.lemmas.List.{length-map}
 use Rattle.adya_values.specs.Meaning.Keys.{keys_rise}
-use Rattle.adya_values.specs.Mirror.Lines.{lines_of}
+use Rattle.adya_values.specs.Machinery.Lines.{lines_of}
 use Rattle.adya_values.proofs.RisingKeys.{rise_before, rise_end}
 use Rattle.adya_values.proofs.lines.Lines.keys_rise.Goals as goal
 

@@ -1,7 +1,7 @@
 -- The keys before the index rise, so they all do if those from the one before it on do.
 use Rattle.std.proofs.Common.{◌≡◌, ◌-◌, ◌≤◌, drop, map}
 use Rattle.adya_values.specs.Meaning.Keys.{keys_rise}
-use Rattle.adya_values.specs.Mirror.Lines.{lines_of}
+use Rattle.adya_values.specs.Machinery.Lines.{lines_of}
 use Rattle.adya_values.proofs.lines.Lines.keys_rise.Given as goal
 
 pub record HaveRisen (g : goal.Over) (l : goal.Live-loop-i g) : Type 0 where
