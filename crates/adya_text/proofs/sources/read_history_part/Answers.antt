@@ -117,3 +117,9 @@ returns-clause-rest g c =
 
 pub returns-clause-stream : goal.returns-clause-stream
 returns-clause-stream g c = g.met.S.Source.same_trans _ _ _ c.loop-line.invariant.0 c.next_line.ensures.stream
+
+pub returns-then-is_tail-clause-stream : goal.returns-then-is_tail-clause-stream
+returns-then-is_tail-clause-stream g c = g.met.S.Source.same_trans _ _ _ c.loop-line.invariant.0 c.next_line.ensures.stream
+
+pub returns-then-has_failed-clause-stream : goal.returns-then-has_failed-clause-stream
+returns-then-has_failed-clause-stream g c = g.met.S.Source.same_trans _ _ _ c.loop-line.invariant.0 c.next_line.ensures.stream
