@@ -68,20 +68,27 @@ impl<'a> Scan<'a> {
         self.events.key_or(seen.key, self.low)
     }
 
-    /// Returns whether each listed key lies between the bounds.
+    /// Returns whether each listed key lies between the bounds. The keys rise, so the first and the last one tell.
     fn all_lie_in(&self) -> bool
+        requires { keys.keys_rise (map (λ w. w.version.key) (listed self.now)) ≡ true }
         ensures { result ≡ list_all (λ s. keys.lies_in self.now.low self.now.high (key_seen self.now s)) self.now.seen.now }
     {
-        self.seen
-            .iter()
-            .all(|seen| lies_in(self.low, self.high, self.key(seen)))
+        let (Some(first), Some(last)) = (self.seen.first(), self.seen.last()) else {
+            return true;
+        };
+        self.low <= self.key(first) && self.key(last) <= self.high
     }
 
     /// Returns whether each listed key is below the next.
     fn keys_rise(&self) -> bool
         ensures { result ≡ keys.keys_rise (map (λ w. w.version.key) (listed self.now)) }
     {
-        self.seen.is_sorted_by(|a, b| self.key(a) < self.key(b))
+        for i in 1..self.seen.len() {
+            if !self.events.is_below(self.seen[i - 1].key, self.seen[i].key) {
+                return false;
+            }
+        }
+        true
     }
 
     /// M4: returns whether of each key between the bounds that the transaction has written its last write is listed, and nothing

@@ -1,7 +1,7 @@
 //! What events hold, packed: each key once, the bytes of all values one after the other, and what scans list.
 
 ghost use Rattle.std.specs.Prelude.{◌≡◌, ◌≤◌, ◌<◌, ◌+◌, ◌++◌, ◌∷◌, [], ℕ, List, true, map, Some, slice_get, slice_index_or, length, vec_len, vec_capacity, IsOk, IfOk, OnOk, OnErr, option_map, is_some, false, IfSome, MatchOption};
-ghost use Rattle.adya_values.specs.Meaning.Keys.{is_value, key_eq};
+ghost use Rattle.adya_values.specs.Meaning.Keys.{is_value, key_eq, key_lt};
 ghost use Rattle.adya_values.specs.Meaning.Histories.{Abort, Live, Scan};
 ghost use Rattle.adya_values.specs.Meaning.Events.{aborts, observed, shown, txn_of, written};
 ghost use Rattle.adya_values.specs.Computing.Faults.{content_eq, is_entry, version_eq};
@@ -375,6 +375,16 @@ impl Arena {
         ensures { result ≡ key_at (keys_in self.now.keys) number }
     {
         self.keys.key(number)
+    }
+
+    /// Returns whether the one key is below the other, by their numbers.
+    #[inline(always)]
+    pub(crate) fn is_below(&self, low: u32, high: u32) -> bool
+        requires low { low < length (keys_in self.now.keys) }
+        requires high { high < length (keys_in self.now.keys) }
+        ensures { result ≡ key_lt (key_at (keys_in self.now.keys) low) (key_at (keys_in self.now.keys) high) }
+    {
+        self.keys.is_below(low, high)
     }
 
     /// Returns the key with the number; the other key if no key has the number.

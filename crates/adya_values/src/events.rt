@@ -23,6 +23,7 @@ impl Events {
     ghost use Rattle.adya_values.specs.Meaning.Events.{aborts, commit_of, observed, shown, txn_of, written};
     ghost use Rattle.adya_values.specs.Computing.Faults.{is_entry};
     ghost use Rattle.adya_values.specs.Meaning.Histories.{Abort, Commit};
+    ghost use Rattle.adya_values.specs.Meaning.Keys.{key_lt};
     ghost use Rattle.adya_values.specs.Mirror.Numbers.{bounds, both_at, has_seen, keys_of, number_in, seen_entry, seen_in, version_in, AreNumbered};
     ghost use Rattle.adya_values.specs.Machinery.Seen.{key_at};
     ghost use Rattle.adya_values.specs.Mirror.Events.{entry_of, event_of, event_of_row, view_of, events_of, HasRows, HasRoomFor};
@@ -244,6 +245,16 @@ impl Events {
         ensures { result ≡ key_at (keys_of self.now) number }
     {
         self.arena.key(number)
+    }
+
+    /// Returns whether the one key is below the other, by their numbers.
+    #[inline(always)]
+    pub fn is_below(&self, low: u32, high: u32) -> bool
+        requires low { low < length (keys_of self.now) }
+        requires high { high < length (keys_of self.now) }
+        ensures { result ≡ key_lt (key_at (keys_of self.now) low) (key_at (keys_of self.now) high) }
+    {
+        self.arena.is_below(low, high)
     }
 
     /// Returns the key with the number; the other key if no key has the number.

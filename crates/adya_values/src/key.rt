@@ -8,7 +8,7 @@ ghost use Rattle.std.specs.Cmp.Rules.{hashing};
 ghost use Rattle.std.specs.Hash as fed;
 ghost use Rattle.std.proofs.Common.{rules};
 ghost use Rattle.std.specs.List.{list_all};
-ghost use Rattle.adya_values.specs.Meaning.Keys.{is_key, is_key_byte};
+ghost use Rattle.adya_values.specs.Meaning.Keys.{is_key, is_key_byte, key_lt};
 ghost use Rattle.adya_values.specs.Machinery.Words.{first_word};
 
 use crate::padded::padded;
@@ -103,6 +103,14 @@ fn all_key_bytes(text: &[u8]) -> bool
     ensures { result ≡ list_all is_key_byte text.now }
 {
     text.iter().all(|b| is_key_byte(*b))
+}
+
+/// Returns whether the bytes of the one key come before those of the other.
+#[inline(always)]
+pub(crate) fn is_below(low: &[u8], high: &[u8]) -> bool
+    ensures { result ≡ key_lt low.now high.now }
+{
+    low.cmp(high).is_lt()
 }
 
 impl fmt::Display for Key {

@@ -3,11 +3,12 @@
 ghost use Rattle.std.specs.Prelude.{◌≡◌, ◌<◌, ◌≤◌, ◌+◌, ◌++◌, ◌∷◌, ℕ, [], true, suc, Some, length, set, slice_get, slice_index, vec_len, vec_capacity, IfNone, IfOk, IfSome, IsOk, OnErr, OnOk};
 ghost use Rattle.std.specs.List.{list_all};
 ghost use Rattle.std.proofs.Props.{props};
-ghost use Rattle.adya_values.specs.Meaning.Keys.{is_key, key_eq};
+ghost use Rattle.adya_values.specs.Meaning.Keys.{is_key, key_eq, key_lt};
 ghost use Rattle.adya_values.specs.Machinery.Seen.{key_at, IsFront};
 ghost use Rattle.adya_values.specs.Machinery.Buckets.{AreChained, AreOthers, IsTable};
 ghost use Rattle.adya_values.specs.Machinery.Parts.{parts_of};
 
+use crate::key::is_below;
 use crate::key_hash::bucket_of;
 use crate::parts::Parts;
 use crate::{Key, MAX_KEY_LEN};
@@ -82,6 +83,16 @@ impl KeyTable {
         ensures limits { is_key result.now ≡ true }
     {
         self.texts.at(number as usize)
+    }
+
+    /// Returns whether the one key is below the other, by their numbers.
+    #[inline(always)]
+    pub(crate) fn is_below(&self, low: u32, high: u32) -> bool
+        requires low { low < length (keys_in self.now) }
+        requires high { high < length (keys_in self.now) }
+        ensures { result ≡ key_lt (key_at (keys_in self.now) low) (key_at (keys_in self.now) high) }
+    {
+        is_below(self.text(low), self.text(high))
     }
 
     /// Returns whether the key has the number.

@@ -2,10 +2,11 @@
 
 ghost use Rattle.std.specs.Prelude.{◌≡◌, ◌<◌, ◌≤◌, ◌++◌, ◌∷◌, ◌^◌, ℕ, [], true, false, Some, length, map, option_map, slice_get, IfOk, OnOk, OnErr};
 ghost use Rattle.std.specs.List.{list_all};
-ghost use Rattle.adya_values.specs.Meaning.Keys.{is_key, key_lt, keys_rise};
+ghost use Rattle.adya_values.specs.Meaning.Keys.{is_key, keys_rise};
 ghost use Rattle.adya_values.specs.Machinery.Parts.{parts_of};
 
 use crate::Key;
+use crate::key::is_below;
 use crate::parts::Parts;
 use std::alloc::{AllocError, Global};
 
@@ -112,11 +113,4 @@ impl<T: Copy> Lines<T> {
     pub(crate) fn allocator(&self) -> Global {
         self.keys.allocator()
     }
-}
-
-#[inline(always)]
-fn is_below(low: &[u8], high: &[u8]) -> bool
-    ensures { result ≡ key_lt low.now high.now }
-{
-    low.cmp(high).is_lt()
 }
