@@ -1,5 +1,6 @@
 -- The places of writers in all lines, event by event and in the end.
 use Rattle.std.proofs.Common.{◌≡◌, ◌≢◌, ℕ, suc, ◌+◌, ◌<◌, Bool, true, false, not, is_some, ◌||◌, List, [], length, get_or, set, replicate, Option, Some, slice_get, slice_index, map, refl, sym, ◌∙◌, ap, subst, inl, inr, arith, get_or-set_other, get_or-set_same}
+use Rattle.adya_terms.specs.Machinery.Indices.{indices_in}
 use Rattle.std.specs.List.{filter_map, list_all}
 use Rattle.std.proofs.lemmas.Bool.{and_from, both_ways, cases_eq, cases_lt, false_from_ne_true, not-true, or_cases}
 use Rattle.std.proofs.lemmas.List.{length-replicate, length-set}
@@ -63,7 +64,7 @@ placed_in os ps P same rise p = subst P same (p (ap (λ zs. keys_rise (map (λ (
 -- ---- before any event
 
 pub nothing_placed : (all : List Event) (l : Own → Option ℕ) (ks : List Key) (os : List Order) (x : Placing) → FindsLines x.numbers.items ks os (length os)
-    → AreParts (blank os) x.lines.writes.items x.lines.starts.items (length os) → x.lacks.items ≡ replicate (length os) false → x.left_out ≡ false
+    → AreParts (blank os) (indices_in x.lines.writes) x.lines.starts.items (length os) → x.lacks.items ≡ replicate (length os) false → x.left_out ≡ false
     → ArePlaced all l 0 ks os x
 nothing_placed all l ks os x finds parts flags covers = record {
   finds = finds;
@@ -169,7 +170,7 @@ module _ (all : List Event) (l : Own → Option ℕ) (at : ℕ) (ks : List Key) 
   pub event_passed : ((k : List ℕ) (t : ℕ) → Installs all l k t at → ⊥) → ArePlaced all l (suc at) ks os x
   event_passed none = record {
     finds = had.finds;
-    lines = lines_passed all l at os x.lines.writes.items x.lines.starts.items x.lacks.items had.lines (λ n o e t. none o.key t);
+    lines = lines_passed all l at os (indices_in x.lines.writes) x.lines.starts.items x.lacks.items had.lines (λ n o e t. none o.key t);
     left = had.left;
     covered = λ covers k t i y less. elim (cases_lt i at) [
       | inl old ↦ had.covered covers k t i y old
@@ -223,9 +224,9 @@ module _ (all : List Event) (l : Own → Option ℕ) (at : ℕ) (ks : List Key) 
       left_out_more y numbers same flags left_out = record {
         finds = subst (λ v. FindsLines v ks os (length os)) (ap (λ v. v.items) (sym numbers)) had.finds;
         lines =
-            subst (λ (v : LinePlaces). AreLines all l (suc at) os v.writes.items v.starts.items y.lacks.items) (sym same)
-            (subst (λ v. AreLines all l (suc at) os x.lines.writes.items x.lines.starts.items v) (ap (λ v. v.items) (sym flags))
-            (lines_passed all l at os x.lines.writes.items x.lines.starts.items x.lacks.items had.lines
+            subst (λ (v : LinePlaces). AreLines all l (suc at) os (indices_in v.writes) v.starts.items y.lacks.items) (sym same)
+            (subst (λ v. AreLines all l (suc at) os (indices_in x.lines.writes) x.lines.starts.items v) (ap (λ v. v.items) (sym flags))
+            (lines_passed all l at os (indices_in x.lines.writes) x.lines.starts.items x.lacks.items had.lines
             (λ i o e u w.
             let keys = inj u o.key t (key_at ks n) at w.last_is here.last_is in
             no_line_has i o e keys.1)));

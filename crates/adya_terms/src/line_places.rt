@@ -1,11 +1,13 @@
 //! The last writes of the writers that the order lines name, as far as they are found.
 
-ghost use Rattle.std.specs.Prelude.{◌≡◌, ◌<◌, ◌^◌, ◌+◌, ◌==◌, suc, length, set, slice_get, slice_index, not, option_and_then, IfOk};
+ghost use Rattle.std.specs.Prelude.{◌≡◌, ◌<◌, ◌^◌, ◌+◌, ◌==◌, suc, length, set, slice_get, slice_index, not, option_and_then, IfOk, OnOk};
 ghost use Rattle.std.specs.List.{list_all};
 ghost use Rattle.adya_values.specs.Mirror.Lines.{orders_of};
+ghost use Rattle.adya_terms.specs.Machinery.Indices.{indices_in};
 ghost use Rattle.adya_terms.specs.Machinery.LinePlaces.{blank, line_places, AreParts, AreStarts};
 
 use crate::Orders;
+use crate::indices::Indices;
 use std::alloc::{AllocError, Global};
 
 /// For each writer that an order line names the index of its last write of the line's key, as far as it is found. One list for
@@ -13,10 +15,10 @@ use std::alloc::{AllocError, Global};
 #[derive(Drop)]
 pub(crate) struct LinePlaces {
     /// Line after line, and at each place of a line the index of the last write that was found for it and 1; 0 if none was.
-    writes: Vec<usize>,
+    writes: Indices,
     /// Where the places of each line start, and at last the end of the list.
     starts: Vec<usize>,
-    pub ghost ordered: { AreStarts starts.items (length writes.items) },
+    pub ghost ordered: { AreStarts starts.items (length (indices_in writes)) },
 }
 
 impl LinePlaces {
@@ -24,41 +26,37 @@ impl LinePlaces {
 
     /// Makes the places of the writers of these lines, none of which is found.
     pub fn new(alloc: Global, orders: &Orders) -> Result<LinePlaces, AllocError>
-        ensures { let os = orders_of orders.now in IfOk result (λ x. AreParts (blank os) x.writes.items x.starts.items (length os)) }
+        ensures { let os = orders_of orders.now in IfOk result (λ x. AreParts (blank os) (indices_in x.writes) x.starts.items (length os)) }
     {
-        let mut writes = Vec::with_capacity(alloc, writer_count(orders))?;
+        let mut writes = Indices::with_capacity(alloc, writer_count(orders))?;
         let mut starts = Vec::with_capacity(alloc, orders.len().saturating_add(1))?;
         starts.push(0)?;
         for i in 0..orders.len() {
-            writes.resize(writes.len() + orders.writers(i).len(), 0)?;
+            writes.add_zeros(orders.writers(i).len())?;
             starts.push(writes.len())?;
         }
         Ok(LinePlaces { writes, starts })
     }
 
     /// Records that the last write of the writer at the place of the line is at the index.
-    pub fn fill(&mut self, line: usize, place: usize, at: usize)
+    pub fn fill(
+        &mut self,
+        alloc: Global,
+        line: usize,
+        place: usize,
+        at: usize,
+    ) -> Result<(), AllocError>
         requires { at < 2 ^ 60 }
         ensures starts { self.new.starts ≡ self.old.starts }
-        ensures writes { let ws = self.old.writes.items in let ss = self.old.starts.items in
-            suc line < length ss
+        ensures writes { let ws = indices_in self.old.writes in let ss = self.old.starts.items in
+            OnOk result (suc line < length ss
             → place < length (line_places ws ss line)
-            → self.new.writes.items ≡ set ws (slice_index ss line + place) (suc at) }
+            → indices_in self.new.writes ≡ set ws (slice_index ss line + place) (suc at)) }
     {
         let Some(start) = self.starts.get(line) else {
-            return;
+            return Ok(());
         };
-        if let Some(write) = self.writes.get_mut(start.saturating_add(place)) {
-            *write = at + 1;
-        }
-    }
-
-    /// Returns the places of the line.
-    fn of(&self, line: usize) -> &[usize]
-        requires { suc line < length self.now.starts.items }
-        ensures { result.now ≡ places_in self.now line }
-    {
-        &self.writes[self.starts[line]..self.starts[line + 1]]
+        self.writes.set(alloc, start.saturating_add(place), at + 1)
     }
 
     /// Returns whether each place of the line is found.
@@ -66,7 +64,8 @@ impl LinePlaces {
         requires { suc line < length self.now.starts.items }
         ensures { result ≡ list_all (λ w. not (w == 0)) (places_in self.now line) }
     {
-        none_is_zero(self.of(line))
+        self.writes
+            .none_is_zero(self.starts[line], self.starts[line + 1])
     }
 
     /// Returns the index of the last write that was found for the place of the line.
@@ -74,9 +73,13 @@ impl LinePlaces {
         requires { suc line < length self.now.starts.items }
         ensures { result ≡ option_and_then held (slice_get (places_in self.now line) place) }
     {
-        match self.of(line).get(place) {
+        let start = self.starts[line];
+        if place >= self.starts[line + 1] - start {
+            return None;
+        }
+        match self.writes.get(start + place) {
             None | Some(0) => None,
-            Some(above) => Some(*above - 1),
+            Some(above) => Some(above - 1),
         }
     }
 }
@@ -88,15 +91,4 @@ fn writer_count(orders: &Orders) -> usize {
         count = count.saturating_add(orders.writers(i).len());
     }
     count
-}
-
-fn none_is_zero(writes: &[usize]) -> bool
-    ensures { result ≡ list_all (λ w. not (w == 0)) writes.now }
-{
-    for write in writes {
-        if *write == 0 {
-            return false;
-        }
-    }
-    true
 }

@@ -8,6 +8,7 @@ ghost use Rattle.adya_values.specs.Mirror.Lines.{orders_of};
 ghost use Rattle.adya_values.specs.Mirror.Numbers.{keys_of};
 ghost use Rattle.adya_terms.specs.Machinery.EventIndex.{indexed, keys_in, last_in};
 ghost use Rattle.adya_terms.specs.Machinery.Tables.{Own};
+ghost use Rattle.adya_terms.specs.Machinery.Indices.{indices_in};
 ghost use Rattle.adya_terms.specs.Machinery.LinePlaces.{blank, AreParts};
 ghost use Rattle.adya_terms.specs.Machinery.Places.{is_full, lacks_at, orders_in, places_in, AreLinesOf, ArePlaced, IsInjective, Installs};
 ghost use Rattle.adya_terms.specs.Mirror.LineNumbers.{FindsLines};
@@ -47,7 +48,7 @@ impl<'a> Placing<'a> {
         ensures numbers { let os = orders_of orders.now in IfOk result (λ x. FindsLines x.numbers.items (keys_of events.now) os (length os)) }
         ensures orders { IfOk result (λ x. orders_in x ≡ orders_of orders.now) }
         ensures lines { let os = orders_of orders.now in
-            IfOk result (λ x. AreParts (blank os) x.lines.writes.items x.lines.starts.items (length os)) }
+            IfOk result (λ x. AreParts (blank os) (indices_in x.lines.writes) x.lines.starts.items (length os)) }
         ensures lacks { IfOk result (λ x. x.lacks.items ≡ replicate (length (orders_of orders.now)) false) }
         ensures left_out { IfOk result (λ x. x.left_out ≡ false) }
     {
@@ -115,7 +116,7 @@ impl<'a> Placing<'a> {
             return Ok(());
         };
         self.writers.pass(line, place);
-        self.lines.fill(line, place, at);
+        self.lines.fill(alloc, line, place, at)?;
         Ok(())
     }
 

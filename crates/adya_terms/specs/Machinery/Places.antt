@@ -1,6 +1,7 @@
 -- What is known of the places of writers in the lines of their keys, when the last writes of committed transactions up to an index
 -- are found. A place holds the index of its writer's last write of the key and 1, or 0 if that isn't found.
 use Rattle.std.specs.Prelude.{◌≡◌, ℕ, zero, suc, ◌<◌, ◌==◌, Bool, true, false, not, ◌&&◌, List, Option, Some, None, length, slice_get, slice_index, get_or, count_by, map, option_map, MatchOption}
+use Rattle.adya_terms.specs.Machinery.Indices.{indices_in}
 use Rattle.std.specs.List.{list_all, list_any}
 use Rattle.adya_values.specs.Meaning.Histories.{Event, Order}
 use Rattle.adya_values.specs.Meaning.Keys.{Key, key_eq}
@@ -70,7 +71,7 @@ orders_in x = orders_of x.writers.orders.now
 
 -- what the places of the line hold
 abbrev pub places_in : LinePlaces → ℕ → List ℕ
-places_in x line = line_places x.writes.items x.starts.items line
+places_in x line = line_places (indices_in x.writes) x.starts.items line
 
 -- whether the line lacks a committed writer
 abbrev pub lacks_at : List Bool → ℕ → Bool
@@ -83,7 +84,7 @@ pub record AreLines (all : List Event) (last : Own → Option ℕ) (i : ℕ) (os
   pub lines : (line : ℕ) (o : Order) → slice_get os line ≡ Some o → IsPlaced all last i o.key o.writers (line_places writes starts line) (lacks_at lacks line)
 
 abbrev pub AreLinesOf : List Event → (Own → Option ℕ) → ℕ → List Order → Placing → Type 0
-AreLinesOf all last i os x = AreLines all last i os x.lines.writes.items x.lines.starts.items x.lacks.items
+AreLinesOf all last i os x = AreLines all last i os (indices_in x.lines.writes) x.lines.starts.items x.lacks.items
 
 abbrev pub has_line : List Order → List ℕ → Bool
 has_line os k = list_any (λ o. key_eq o.key k) os
