@@ -1,6 +1,7 @@
 //! The edges of an event.
 
 ghost use Rattle.std.specs.Prelude.{◌≡◌, ◌<◌, ◌++◌, length, map, true, OnOk};
+ghost use Rattle.std.specs.List.{list_any};
 ghost use Rattle.adya_values.specs.Meaning.Selections.{is_scan};
 ghost use Rattle.adya_values.specs.Computing.EdgeList.{event_edges, read_edges, overwrite_edges};
 ghost use Rattle.adya_dsg.specs.Machinery.VersionOrders.{ordered_history};
@@ -84,6 +85,7 @@ fn push_sources(
     at: Selection,
 ) -> Result<(), AllocError>
     requires scan { is_scan (event_at (ordered_history versions.now) event) ≡ true }
+    requires scans { list_any is_scan (ordered_history versions.now).events ≡ true }
     requires there { event < length (ordered_history versions.now).events }
     requires within { at.line < length (ordered_history versions.now).orders }
     ensures { let h = ordered_history versions.now in
@@ -112,6 +114,7 @@ fn push_overwriters(
     at: Selection,
 ) -> Result<(), AllocError>
     requires scan { is_scan (event_at (ordered_history versions.now) event) ≡ true }
+    requires scans { list_any is_scan (ordered_history versions.now).events ≡ true }
     requires there { event < length (ordered_history versions.now).events }
     requires within { at.line < length (ordered_history versions.now).orders }
     ensures { let h = ordered_history versions.now in
