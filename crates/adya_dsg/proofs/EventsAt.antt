@@ -23,13 +23,21 @@ told_if f none [] i = sym none
 told_if f none (e ∷ es) zero = refl
 told_if f none (e ∷ es) (suc i) = told_if f none es i
 
-pub scan_has_bounds : (e : Event) → is_some (bounds e) ≡ is_scan e
+some_mapped : {X Y : Type 0} (f : X → Y) (o : Option X) → is_some o ≡ is_some (option_map f o)
+some_mapped f None = refl
+some_mapped f (Some x) = refl
+
+scan_has_bounds : (e : Event) → is_some (bounds e) ≡ is_scan e
 scan_has_bounds (Write t k m v) = refl
 scan_has_bounds (Delete t k m) = refl
 scan_has_bounds (Read t r v) = refl
 scan_has_bounds (Scan t low high es) = refl
 scan_has_bounds (Commit t) = refl
 scan_has_bounds (Abort t) = refl
+
+-- bounds are told of scans alone
+pub scan_told : {X : Type 0} (f : X → Key × Key) (o : Option X) (e : Event) → option_map f o ≡ bounds e → is_some o ≡ is_scan e
+scan_told f o e told = some_mapped f o ∙ (ap is_some told ∙ scan_has_bounds e)
 
 -- an event with bounds is the scan that lists what it sees
 pub scan_is : (e : Event) (low high : Key) → bounds e ≡ Some (low, high) → e ≡ Scan (txn_of e) low high (observed e)

@@ -1,6 +1,6 @@
 -- The write dependencies of an order line, by its writers and by the places of its versions.
-use Rattle.std.proofs.Common.{◌≡◌, ℕ, zero, suc, ◌+◌, true, List, [], ◌∷◌, ◌++◌, Some, option_map, map, flat_map, length, drop, slice_get, refl, sym, ◌∙◌, ap}
-use Rattle.std.proofs.lemmas.Option.{slice_get_within}
+use Rattle.std.proofs.Common.{◌≡◌, ℕ, zero, suc, ◌+◌, true, List, [], ◌∷◌, ◌++◌, Option, Some, None, option_map, map, flat_map, length, drop, slice_get, refl, sym, ◌∙◌, ap}
+use Rattle.std.proofs.lemmas.Option.{none-some, slice_get_within}
 use Rattle.lemmas.proofs.Steps.{turn_at}
 use Rattle.adya_values.specs.Meaning.Keys.{keys_rise}
 use Rattle.adya_values.specs.Meaning.Histories.{Order, History}
@@ -57,3 +57,16 @@ pub edges_from : (os : List Order) (i : ℕ) (k ws : List ℕ) → option_map (�
     ≡ line_edges k ws ++ flat_map (λ (o : Order). line_edges o.key o.writers) (drop (i + 1) os)
 edges_from os i k ws key of =
     ap (flat_map (λ (o : Order). line_edges o.key o.writers)) (turn_at os i _ (line_told (slice_get os i) k ws key of)).rest
+
+key_told : (o : Option Order) (ws : List ℕ) → option_map (λ (x : Order). x.writers) o ≡ Some ws
+    → (k : List ℕ) × (option_map (λ (x : Order). x.key) o ≡ Some k)
+key_told None ws of = absurd (none-some ws of)
+key_told (Some o) ws of = (o.key, refl)
+
+-- the same, if only the writers are told
+pub edges_here : (os : List Order) (i : ℕ) (ws : List ℕ) → option_map (λ (o : Order). o.writers) (slice_get os i) ≡ Some ws
+    → (k : List ℕ) × (flat_map (λ (o : Order). line_edges o.key o.writers) (drop i os)
+    ≡ line_edges k ws ++ flat_map (λ (o : Order). line_edges o.key o.writers) (drop (i + 1) os))
+edges_here os i ws of =
+    let key = key_told (slice_get os i) ws of in
+    (key.0, edges_from os i key.0 ws key.1 of)

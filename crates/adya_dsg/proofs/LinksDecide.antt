@@ -1,6 +1,6 @@
 -- Links are edges, and decide whether all edges go forward.
-use Rattle.std.proofs.Common.{◌≡◌, ◌≢◌, ◌↔◌, ℕ, ◌<◌, ◌≤◌, ◌==◌, Bool, true, false, ◌&&◌, nat_lt, List, ◌++◌, map, option_map, Option, Some, None, is_some, refl, sym, ◌∙◌, ap, subst, arith, inl, inr, ltb-true}
-use Rattle.std.specs.List.{find, filter, flat_map, Contains}
+use Rattle.std.proofs.Common.{◌≡◌, ◌≢◌, ◌↔◌, ℕ, ◌<◌, ◌≤◌, ◌==◌, Bool, true, false, not, ◌&&◌, nat_lt, List, ◌++◌, map, option_map, Option, Some, None, is_some, refl, sym, ◌∙◌, ap, subst, arith, inl, inr, ltb-true}
+use Rattle.std.specs.List.{find, filter, flat_map, list_all, Contains}
 use Rattle.std.proofs.lemmas.Bool.{eq-eqb, eqb-true, lt-ltb, and_parts, and_from, or_cases, or_left, not_from_true, not-false}
 use Rattle.std.proofs.lemmas.Option.{none-some, same_Some}
 use Rattle.std.proofs.lemmas.List.{map-append}
@@ -13,7 +13,7 @@ use Rattle.adya_values.specs.Meaning.Selections.{is_scan, changes_matches, selec
 use Rattle.adya_values.specs.Meaning.Edges.{Wr, Rw, Edge}
 use Rattle.adya_values.specs.Computing.EdgeList.{places, joined, write_edges, read_edges, overwrite_edges, place_edges, event_edges, dependencies, edge_list}
 use Rattle.adya_values.specs.Clauses.Acceptance.{IsChecked, IsBefore}
-use Rattle.adya_values.specs.Computing.Certificates.{first_backward}
+use Rattle.adya_values.specs.Computing.Certificates.{is_forward, first_backward}
 use Rattle.adya_laws.specs.Laws.{EdgeListKeepsFirst, SelectedIsInstalled}
 use Rattle.digraph.specs.declared.arc.Arc.{Arc}
 use Rattle.adya_dsg.specs.declared.edge.Edge.{Edge as EdgeValue}
@@ -26,6 +26,7 @@ use Rattle.lemmas.proofs.Options.{none_unless_some, some_value}
 use Rattle.lemmas.proofs.Members.{none_contained, Contains-map, map-source, Contains-flat_map, flat_map-source}
 use Rattle.lemmas.proofs.Filters.{Contains-filter, filter-source, Contains-filter_map, filter_map-source}
 use Rattle.lemmas.proofs.Finds.{find_none, none_found, find-source, find_when}
+use Rattle.lemmas.proofs.Tests.{all_pass, list_all-failed}
 use Rattle.adya_dsg.proofs.FlatMaps.{found_in_front, none_in_front}
 use Rattle.adya_dsg.proofs.Chains.{first_of, installer_within, installer_there, before_later, earlier_before}
 use Rattle.adya_values.proofs.EdgeList.{Contains-joined, joined-source, Contains-places}
@@ -38,6 +39,16 @@ AllForward ts es = (x : Edge) → Contains es x → IsBefore ts x.from x.to
 forward_from_none : (ts : List ℕ) (es : List Edge) → find (is_backward ts) es ≡ None → AllForward ts es
 forward_from_none ts es none x c =
     ltb-true (place ts x.from) (place ts x.to) (not-false _ (find_none (is_backward ts) es x none c))
+
+-- of edges that all go forward none goes backward, and otherwise there is a first
+pub all_forward_none : (ts : List ℕ) (es : List Edge) → list_all (is_forward ts) es ≡ true → find (is_backward ts) es ≡ None
+all_forward_none ts es all = none_found (is_backward ts) es (λ x c. ap not (all_pass (is_forward ts) es x all c))
+
+pub not_all_forward : (ts : List ℕ) (es : List Edge) → list_all (is_forward ts) es ≡ false
+    → (x : Edge) × (find (is_backward ts) es ≡ Some x)
+not_all_forward ts es some =
+    let failed = list_all-failed (is_forward ts) es some in
+    find_when (is_backward ts) es failed.0 failed.1 (ap not failed.2)
 
 none_from_forward : (ts : List ℕ) (es : List Edge) → AllForward ts es → find (is_backward ts) es ≡ None
 none_from_forward ts es forward =

@@ -41,7 +41,7 @@ pub(crate) fn arcs_of_edges(alloc: Global, versions: &VersionOrders) -> Result<V
 }
 
 /// Adds the arcs of the edges.
-pub(crate) fn add_arcs(arcs: &mut Vec<Arc>, edges: &[Edge]) -> Result<(), AllocError>
+fn add_arcs(arcs: &mut Vec<Arc>, edges: &[Edge]) -> Result<(), AllocError>
     ensures { OnOk result (arcs.new.items ≡ arcs.old.items ++ map ends (map edge_of edges.now)) }
 {
     for edge in edges {

@@ -16,14 +16,14 @@ ghost use Rattle.adya_dsg.specs.Machinery.PartEdges.{line_edges, is_backward};
 
 use crate::Edge;
 use crate::event_edges::push_event_edges;
-use crate::event_links::push_event_links;
+use crate::event_links::links_go_forward;
 use crate::selection::Selector;
 use crate::txn_places::TxnPlaces;
 use crate::version_orders::VersionOrders;
 use crate::write_edges::push_write_edges;
 use adya_laws::{edge_list_keeps_first, selected_is_installed};
 use adya_terms::Checked;
-use adya_values::{Orders, Serial};
+use adya_values::{Key, Orders, Serial, Txn};
 use std::alloc::{AllocError, Global};
 
 /// Returns the first of the [`edges`](crate::edges) that doesn't go forward in the certificate, if there is one: its `to`
@@ -60,15 +60,28 @@ fn first_write(
     ensures { IfOk result (λ o. option_map edge_of o ≡ find (is_backward certificate.now.txns.now)
         (flat_map (λ o. line_edges o.key o.writers) (orders_of orders.now))) }
 {
-    let mut edges = Vec::new(alloc);
     for line in 0..orders.len() {
-        edges.clear();
-        push_write_edges(&mut edges, orders.key(line), orders.writers(line))?;
-        if let Some(found) = certificate.first_backward(&edges) {
-            return Ok(Some(found));
+        let writers = orders.writers(line);
+        if !certificate.keeps_order(writers) {
+            return first_of_line(alloc, certificate, orders.key(line), writers);
         }
     }
     Ok(None)
+}
+
+/// Returns the first write dependency of the order line of this key, with these writers, that doesn't go forward.
+fn first_of_line(
+    alloc: Global,
+    certificate: &TxnPlaces,
+    key: Key,
+    writers: &[Txn],
+) -> Result<Option<Edge>, AllocError>
+    ensures { IfOk result (λ o. option_map edge_of o
+        ≡ find (is_backward certificate.now.txns.now) (line_edges key writers.now)) }
+{
+    let mut edges = Vec::new(alloc);
+    push_write_edges(&mut edges, key, writers)?;
+    Ok(certificate.first_backward(&edges))
 }
 
 /// Returns the first edge of a committed transaction's event that doesn't go forward, if all write dependencies do.
@@ -122,9 +135,7 @@ fn first_of_event(
         ≡ find (is_backward certificate.now.txns.now) (event_edges h (event_at h event))) }
 {
     selected_is_installed();
-    edges.clear();
-    push_event_links(selector, edges, versions, event)?;
-    if certificate.first_backward(edges).is_none() {
+    if links_go_forward(selector, certificate, versions, event)? {
         return Ok(None);
     }
     edges.clear();

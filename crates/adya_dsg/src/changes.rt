@@ -1,6 +1,9 @@
 //! The places of order lines whose versions change what a scan of the key matches.
 
-ghost use Rattle.std.specs.Prelude.{◌≡◌, ◌<◌, ◌++◌, suc, IfOk, OnOk, Some, length, option_map, slice_get};
+ghost use Rattle.std.specs.Prelude.{◌≡◌, ◌<◌, ◌++◌, suc, true, IfOk, OnOk, Some, length, option_map, slice_get};
+ghost use Rattle.std.specs.List.{list_any};
+ghost use Rattle.adya_values.specs.Mirror.Events.{events_of};
+ghost use Rattle.adya_values.specs.Meaning.Selections.{is_scan};
 ghost use Rattle.adya_values.specs.Meaning.Orders.{writers};
 ghost use Rattle.adya_terms.specs.Clauses.Checked.{checked_history};
 ghost use Rattle.adya_dsg.specs.Machinery.Choices.{key_at};
@@ -9,7 +12,7 @@ ghost use Rattle.adya_dsg.specs.Machinery.LineChanges.{AreChanges};
 ghost use Rattle.adya_dsg.specs.Machinery.Links.{changed_places};
 
 use adya_terms::Checked;
-use adya_values::Txn;
+use adya_values::{Events, Txn};
 use std::alloc::{AllocError, Global};
 
 /// The places of all order lines in one list, which takes less memory than a list for each line.
@@ -22,6 +25,14 @@ pub(crate) struct LineChanges {
 }
 
 impl LineChanges {
+    /// Makes the changes of no lines. They take no memory.
+    fn none(alloc: Global) -> LineChanges {
+        LineChanges {
+            places: Vec::new(alloc),
+            starts: Vec::new(alloc),
+        }
+    }
+
     /// Returns the places of the line.
     pub fn of(&self, line: usize) -> &[usize]
         requires { suc line < length self.now.starts.items }
@@ -31,8 +42,33 @@ impl LineChanges {
     }
 }
 
+/// Returns for each order line the places whose versions change the matches, if an event is a scan. Only scans ask for
+/// them, so without one this doesn't look at the lines; `AllocError` if memory is refused.
+pub(crate) fn scan_changes(alloc: Global, checked: &Checked) -> Result<LineChanges, AllocError>
+    ensures { let h = checked_history checked.now in
+        IfOk result (λ c. list_any is_scan h.events ≡ true
+        → AreChanges h c.places.items c.starts.items (length h.orders)) }
+{
+    if has_scans(checked.events()) {
+        return line_changes(alloc, checked);
+    }
+    Ok(LineChanges::none(alloc))
+}
+
+/// Returns whether an event is a scan.
+pub(crate) fn has_scans(events: &Events) -> bool
+    ensures { result ≡ list_any is_scan (events_of events.now) }
+{
+    for event in 0..events.len() {
+        if events.bounds_at(event).is_some() {
+            return true;
+        }
+    }
+    false
+}
+
 /// Returns for each order line the places whose versions change the matches.
-pub(crate) fn line_changes(alloc: Global, checked: &Checked) -> Result<LineChanges, AllocError>
+fn line_changes(alloc: Global, checked: &Checked) -> Result<LineChanges, AllocError>
     ensures { let h = checked_history checked.now in
         IfOk result (λ c. AreChanges h c.places.items c.starts.items (length h.orders)) }
 {

@@ -1,6 +1,7 @@
 //! Edges of the direct serialization graph (Adya 1999, section 3.1.4).
 
-ghost use Rattle.std.specs.Prelude.{◌≡◌, ◌++◌, OnOk, map};
+ghost use Rattle.std.specs.Prelude.{◌≡◌, ◌++◌, ℕ, List, OnOk, map};
+ghost use Rattle.adya_values.specs.Meaning.Edges.{Kind as PlainKind};
 ghost use Rattle.adya_values.specs.Computing.EdgeList.{joined};
 ghost use Rattle.adya_dsg.specs.Mirror.{kind_of, edge_of};
 ghost use Rattle.adya_dsg.specs.Machinery.Arcs.{ends};
@@ -67,5 +68,28 @@ pub(crate) fn push_edge(
             to,
         })?;
     }
+    Ok(())
+}
+
+/// Adds the arc between the two transactions, if both are given and differ: the ends of the edge that [`push_edge`] adds,
+/// whatever its kind and key.
+pub(crate) fn push_arc(
+    arcs: &mut Vec<Arc>,
+    from: Option<Txn>,
+    to: Option<Txn>,
+) -> Result<(), AllocError>
+    ensures { OnOk result ((kind : PlainKind) (key : List ℕ)
+        → arcs.new.items ≡ arcs.old.items ++ map ends (joined kind key from to)) }
+{
+    let (Some(from), Some(to)) = (from, to) else {
+        return Ok(());
+    };
+    if from == to {
+        return Ok(());
+    }
+    arcs.push(Arc {
+        from: from.get(),
+        to: to.get(),
+    })?;
     Ok(())
 }

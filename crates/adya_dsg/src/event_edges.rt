@@ -1,15 +1,17 @@
 //! The edges of an event.
 
 ghost use Rattle.std.specs.Prelude.{◌≡◌, ◌<◌, ◌++◌, length, map, true, OnOk};
+ghost use Rattle.std.specs.List.{list_any};
 ghost use Rattle.adya_values.specs.Meaning.Selections.{is_scan};
 ghost use Rattle.adya_values.specs.Computing.EdgeList.{event_edges, read_edges, overwrite_edges};
 ghost use Rattle.adya_dsg.specs.Machinery.VersionOrders.{ordered_history};
 ghost use Rattle.adya_dsg.specs.Mirror.{edge_of};
 ghost use Rattle.adya_dsg.specs.Machinery.Choices.{choice_of, event_at, key_at};
+ghost use Rattle.adya_dsg.specs.Machinery.Links.{choice_links};
 ghost use Rattle.adya_dsg.specs.Machinery.PartEdges.{choice_edges};
 
 use crate::edge::push_edge;
-use crate::event_links::push_links_at;
+use crate::event_links::overwriter;
 use crate::selection::{Selection, Selector};
 use crate::version_orders::VersionOrders;
 use crate::{Edge, Kind};
@@ -46,10 +48,32 @@ fn push_edges_at(
         ≡ map edge_of edges.old.items ++ choice_edges h (event_at h event) (choice_of h at)) }
 {
     if !versions.is_scan(event) {
-        return push_links_at(edges, versions, event, at);
+        return push_read_edges(edges, versions, event, at);
     }
     push_sources(edges, versions, event, at)?;
     push_overwriters(edges, versions, event, at)
+}
+
+/// Adds the edges of a read, which are its links: the read dependency on whoever installed what it reads, and the
+/// anti-dependency on whoever overwrites it.
+fn push_read_edges(
+    edges: &mut Vec<Edge>,
+    versions: &VersionOrders,
+    event: usize,
+    at: Selection,
+) -> Result<(), AllocError>
+    requires there { event < length (ordered_history versions.now).events }
+    requires within { at.line < length (ordered_history versions.now).orders }
+    ensures { let h = ordered_history versions.now in
+        OnOk result (map edge_of edges.new.items
+        ≡ map edge_of edges.old.items ++ choice_links h (event_at h event) (choice_of h at)) }
+{
+    let key = versions.key(at.line);
+    let txn = versions.txn(event);
+    let writer = versions.installer(at.line, at.place);
+    push_edge(edges, writer, Kind::Wr, key, Some(txn))?;
+    let to = overwriter(versions, event, at);
+    push_edge(edges, Some(txn), Kind::Rw, key, to)
 }
 
 /// Adds the read dependencies of a scan: on whoever installed the version that it selects, and on those before who
@@ -61,6 +85,7 @@ fn push_sources(
     at: Selection,
 ) -> Result<(), AllocError>
     requires scan { is_scan (event_at (ordered_history versions.now) event) ≡ true }
+    requires scans { list_any is_scan (ordered_history versions.now).events ≡ true }
     requires there { event < length (ordered_history versions.now).events }
     requires within { at.line < length (ordered_history versions.now).orders }
     ensures { let h = ordered_history versions.now in
@@ -89,6 +114,7 @@ fn push_overwriters(
     at: Selection,
 ) -> Result<(), AllocError>
     requires scan { is_scan (event_at (ordered_history versions.now) event) ≡ true }
+    requires scans { list_any is_scan (ordered_history versions.now).events ≡ true }
     requires there { event < length (ordered_history versions.now).events }
     requires within { at.line < length (ordered_history versions.now).orders }
     ensures { let h = ordered_history versions.now in

@@ -10,11 +10,10 @@ ghost use Rattle.adya_dsg.specs.Machinery.Arcs.{AreEnds, Decide, ends};
 ghost use Rattle.adya_dsg.specs.Machinery.PartEdges.{line_edges};
 ghost use Rattle.adya_dsg.specs.Machinery.Links.{event_links};
 
-use crate::arcs::add_arcs;
 use crate::event_links::push_event_links;
 use crate::selection::Selector;
 use crate::version_orders::VersionOrders;
-use crate::write_edges::push_write_edges;
+use crate::write_edges::push_write_arcs;
 use adya_laws::{edge_list_keeps_first, selected_is_installed};
 use adya_values::Orders;
 use digraph::Arc;
@@ -30,20 +29,17 @@ pub(crate) fn links(alloc: Global, versions: &VersionOrders) -> Result<Vec<Arc>,
     edge_list_keeps_first();
     selected_is_installed();
     let mut arcs = Vec::new(alloc);
-    add_write_arcs(alloc, versions.orders(), &mut arcs)?;
+    add_write_arcs(versions.orders(), &mut arcs)?;
     add_event_arcs(alloc, versions, &mut arcs)?;
     Ok(arcs)
 }
 
-fn add_write_arcs(alloc: Global, orders: &Orders, arcs: &mut Vec<Arc>) -> Result<(), AllocError>
+fn add_write_arcs(orders: &Orders, arcs: &mut Vec<Arc>) -> Result<(), AllocError>
     ensures { OnOk result (arcs.new.items ≡ arcs.old.items
         ++ map ends (flat_map (λ o. line_edges o.key o.writers) (orders_of orders.now))) }
 {
-    let mut edges = Vec::new(alloc);
     for line in 0..orders.len() {
-        edges.clear();
-        push_write_edges(&mut edges, orders.key(line), orders.writers(line))?;
-        add_arcs(arcs, &edges)?;
+        push_write_arcs(arcs, orders.writers(line))?;
     }
     Ok(())
 }
@@ -58,12 +54,9 @@ fn add_event_arcs(
         ++ map ends (flat_map (event_links h) (filter (λ e. is_committed h.events (txn_of e)) h.events))) }
 {
     let mut selector = Selector::of(alloc, versions)?;
-    let mut edges = Vec::new(alloc);
     for event in 0..versions.event_count() {
         if versions.is_committed(event) {
-            edges.clear();
-            push_event_links(&mut selector, &mut edges, versions, event)?;
-            add_arcs(arcs, &edges)?;
+            push_event_links(&mut selector, arcs, versions, event)?;
         }
     }
     Ok(())

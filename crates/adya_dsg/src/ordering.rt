@@ -1,9 +1,7 @@
 //! A certificate of a history, or a cycle of its graph.
 
 ghost use Rattle.std.specs.Prelude.{◌≡◌, ◌↔◌, All, IfOk, map};
-ghost use Rattle.std.specs.List.{list_any};
 ghost use Rattle.adya_values.specs.Meaning.Keys.{IsTxn};
-ghost use Rattle.adya_values.specs.Meaning.Selections.{is_scan};
 ghost use Rattle.adya_values.specs.Computing.EdgeList.{edge_list};
 ghost use Rattle.adya_values.specs.Clauses.Acceptance.{IsChecked};
 ghost use Rattle.adya_values.specs.Meaning.Phenomena.{HasG1, HasG2};
@@ -69,20 +67,8 @@ fn sorted(alloc: Global, versions: &VersionOrders, nodes: &[u32]) -> Result<Outc
     edge_list_is_exact();
     edges_join_committed();
     let outcome = topological_order(alloc, nodes, links(alloc, versions)?)?;
-    if matches!(outcome, Outcome::Order(_)) || !has_scans(versions) {
+    if matches!(outcome, Outcome::Order(_)) || !versions.has_scans() {
         return Ok(outcome);
     }
     topological_order(alloc, nodes, arcs_of_edges(alloc, versions)?)
-}
-
-/// Returns whether an event is a scan.
-fn has_scans(versions: &VersionOrders) -> bool
-    ensures { result ≡ list_any is_scan (ordered_history versions.now).events }
-{
-    for event in 0..versions.event_count() {
-        if versions.is_scan(event) {
-            return true;
-        }
-    }
-    false
 }

@@ -1,12 +1,14 @@
 //! A list of transactions with a table of the places in it.
 
-ghost use Rattle.std.specs.Prelude.{◌≡◌, IfOk, map, option_map};
-ghost use Rattle.std.specs.List.{find};
+ghost use Rattle.std.specs.Prelude.{◌≡◌, ℕ, List, IfOk, map, option_map};
+ghost use Rattle.std.specs.List.{find, list_all};
+ghost use Rattle.adya_values.specs.Meaning.Edges.{Kind};
+ghost use Rattle.adya_values.specs.Computing.EdgeList.{joined};
 ghost use Rattle.adya_values.specs.Meaning.Orders.{place};
 ghost use Rattle.adya_values.specs.Computing.Certificates.{is_forward};
 ghost use Rattle.txn_table.specs.Mirror.{HasPlaces};
 ghost use Rattle.adya_dsg.specs.Mirror.{edge_of};
-ghost use Rattle.adya_dsg.specs.Machinery.PartEdges.{is_backward};
+ghost use Rattle.adya_dsg.specs.Machinery.PartEdges.{is_backward, line_edges};
 
 use crate::Edge;
 use adya_values::Txn;
@@ -43,6 +45,36 @@ impl<'a> TxnPlaces<'a> {
         ensures { result ≡ is_forward self.now.txns.now (edge_of edge) }
     {
         self.place(edge.from) < self.place(edge.to)
+    }
+
+    /// Returns whether an edge between the two transactions goes forward in the list, whatever its kind and key. There is
+    /// no edge unless both are given and differ, and then nothing goes backward.
+    pub fn goes_forward(&self, from: Option<Txn>, to: Option<Txn>) -> bool
+        ensures { (kind : Kind) (key : List ℕ)
+            → result ≡ list_all (is_forward self.now.txns.now) (joined kind key from to) }
+    {
+        let (Some(from), Some(to)) = (from, to) else {
+            return true;
+        };
+        from == to || self.place(from) < self.place(to)
+    }
+
+    /// Returns whether all write dependencies of an order line with these writers go forward in the list, whatever its
+    /// key.
+    pub fn keeps_order(&self, writers: &[Txn]) -> bool
+        ensures { (key : List ℕ) → result ≡ list_all (is_forward self.now.txns.now) (line_edges key writers.now) }
+    {
+        let [first, rest @ ..] = writers else {
+            return true;
+        };
+        let mut last = *first;
+        for to in rest {
+            if !self.goes_forward(Some(last), Some(*to)) {
+                return false;
+            }
+            last = *to;
+        }
+        true
     }
 
     /// Returns the first of the edges that doesn't go forward in the list.

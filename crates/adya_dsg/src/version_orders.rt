@@ -1,7 +1,7 @@
 //! The version orders of a history, with what changes the matches of scans.
 
 ghost use Rattle.std.specs.Prelude.{◌≡◌, ◌<◌, ◌≤◌, ℕ, suc, Some, slice_get, List, nat_lt, leb, length, map, option_map, true, false, IfNone, IfSome, IfOk};
-ghost use Rattle.std.specs.List.{find, list_all};
+ghost use Rattle.std.specs.List.{find, list_all, list_any};
 ghost use Rattle.std.specs.List.Sorted.{IsNonDecreasingBy, IsPartitionPoint};
 ghost use Rattle.adya_values.specs.Meaning.Keys.{key_lt, keys_rise};
 ghost use Rattle.adya_values.specs.Meaning.Selections.{is_scan};
@@ -17,7 +17,7 @@ ghost use Rattle.adya_dsg.specs.Machinery.LineChanges.{AreChanges};
 ghost use Rattle.adya_dsg.specs.Machinery.Links.{changed_places};
 ghost use Rattle.adya_dsg.specs.Machinery.Places.{AreTables};
 
-use crate::changes::{LineChanges, line_changes};
+use crate::changes::{LineChanges, has_scans, scan_changes};
 use crate::line_tables::{SHORT_LINE, line_tables};
 use crate::txn_places::TxnPlaces;
 use adya_terms::Checked;
@@ -39,12 +39,13 @@ pub(crate) struct VersionOrders<'a> {
     lines: &'a [usize],
     /// Tables of the writers of the long lines, by the index of the line.
     tables: BTreeMap<usize, TxnPlaces<'a>>,
+    /// Empty if no event is a scan.
     changes: LineChanges,
     ghost same: { events_of events.now ≡ (checked_history checked.now).events },
     ghost found: { let os = (checked_history checked.now).orders in FindsLines lines.now (keys_of events.now) os (length os) },
     ghost tabled: { AreTables (checked_history checked.now) tables },
     ghost changed: { let h = checked_history checked.now in
-        AreChanges h changes.places.items changes.starts.items (length h.orders) },
+        list_any is_scan h.events ≡ true → AreChanges h changes.places.items changes.starts.items (length h.orders) },
 }
 
 impl<'a> VersionOrders<'a> {
@@ -55,7 +56,7 @@ impl<'a> VersionOrders<'a> {
         ensures same { IfOk result (λ g. history_in g.checked.now ≡ history_in checked.now) }
     {
         let tables = line_tables(alloc, checked)?;
-        let changes = line_changes(alloc, checked)?;
+        let changes = scan_changes(alloc, checked)?;
         Ok(VersionOrders {
             checked,
             events: checked.events(),
@@ -100,9 +101,17 @@ impl<'a> VersionOrders<'a> {
 
     /// Returns whether the event is a scan.
     pub fn is_scan(&self, event: usize) -> bool
-        ensures { result ≡ is_scan (event_at (ordered_history self.now) event) }
+        ensures scan { result ≡ is_scan (event_at (ordered_history self.now) event) }
+        ensures some { result ≡ true → list_any is_scan (ordered_history self.now).events ≡ true }
     {
         self.bounds(event).is_some()
+    }
+
+    /// Returns whether an event is a scan.
+    pub fn has_scans(&self) -> bool
+        ensures { result ≡ list_any is_scan (ordered_history self.now).events }
+    {
+        has_scans(self.events)
     }
 
     /// Returns what the event sees.
@@ -196,9 +205,11 @@ impl<'a> VersionOrders<'a> {
         self.writers(line).get(place - 1).copied()
     }
 
-    /// Returns whether the version at the place of the line is neither unborn nor dead.
+    /// Returns whether the version at the place of the line is neither unborn nor dead. Like the calls below about
+    /// changes, it is for histories with scans: others keep no changes.
     pub fn is_visible(&self, line: usize, place: usize) -> bool
-        requires { line < length (ordered_history self.now).orders }
+        requires scans { list_any is_scan (ordered_history self.now).events ≡ true }
+        requires within { line < length (ordered_history self.now).orders }
         ensures { let h = ordered_history self.now in
             result ≡ is_visible_at h (key_at h line) place }
     {
@@ -208,7 +219,8 @@ impl<'a> VersionOrders<'a> {
 
     /// Returns the places of the line where the version is visible and the one before isn't, or the other way round.
     pub fn changes(&self, line: usize) -> &[usize]
-        requires { line < length (ordered_history self.now).orders }
+        requires scans { list_any is_scan (ordered_history self.now).events ≡ true }
+        requires within { line < length (ordered_history self.now).orders }
         ensures { let h = ordered_history self.now in
             result.now ≡ changed_places h (key_at h line) }
     {
@@ -217,7 +229,8 @@ impl<'a> VersionOrders<'a> {
 
     /// Returns how many of these places come before this one or are it.
     fn changes_up_to(&self, line: usize, place: usize) -> usize
-        requires { line < length (ordered_history self.now).orders }
+        requires scans { list_any is_scan (ordered_history self.now).events ≡ true }
+        requires within { line < length (ordered_history self.now).orders }
         ensures within { let h = ordered_history self.now in
             result ≤ length (changed_places h (key_at h line)) }
         ensures up_to { let h = ordered_history self.now in
@@ -233,7 +246,8 @@ impl<'a> VersionOrders<'a> {
 
     /// Returns the first such place after this one.
     pub fn next_change(&self, line: usize, place: usize) -> Option<usize>
-        requires { line < length (ordered_history self.now).orders }
+        requires scans { list_any is_scan (ordered_history self.now).events ≡ true }
+        requires within { line < length (ordered_history self.now).orders }
         ensures { let h = ordered_history self.now in
             result ≡ find (λ q. nat_lt place q) (changed_places h (key_at h line)) }
     {

@@ -10,6 +10,6 @@ pub returns-then-not-is_scan : goal.returns-then-not-is_scan
 returns-then-not-is_scan c =
     let h = ordered_history c.args.versions.now in
     let e = event_at h c.args.event in
-    let same = item_edges_are h e (key_at h c.args.at.line) c.args.at.place (sym c.is_scan.ensures ∙ c.if-not-is_scan.true) in
-    on_ok_weaker c.push_links_at.result (λ is. is ∙ ap (λ es. map edge_of c.args.edges.now.items ++ es) (sym same))
-    c.push_links_at.ensures
+    let same = item_edges_are h e (key_at h c.args.at.line) c.args.at.place (sym c.is_scan.ensures.scan ∙ c.if-not-is_scan.true) in
+    on_ok_weaker c.push_read_edges.result (λ is. is ∙ ap (λ es. map edge_of c.args.edges.now.items ++ es) (sym same))
+    c.push_read_edges.ensures

@@ -16,7 +16,7 @@ returns-in_err-place c =
     let e = event_at h c.args.event in
     let k = key_at h c.args.at.line in
     let p = c.args.at.place in
-    let scan = sym c.is_scan.ensures ∙ c.if-is_scan.true in
+    let scan = sym c.is_scan.ensures.scan ∙ c.if-is_scan.true in
     let hidden = sym c.is_visible.ensures ∙ c.if-not-is_visible.true in
     c.from_residual.ensures ∙
     (ap (installer_at h k) c.in_err-place.ensures ∙ sym (overwriter_hidden h e k p scan hidden))
@@ -27,7 +27,7 @@ returns-then-not-is_visible c =
     let e = event_at h c.args.event in
     let k = key_at h c.args.at.line in
     let p = c.args.at.place in
-    let scan = sym c.is_scan.ensures ∙ c.if-is_scan.true in
+    let scan = sym c.is_scan.ensures.scan ∙ c.if-is_scan.true in
     let hidden = sym c.is_visible.ensures ∙ c.if-not-is_visible.true in
     c.installer.ensures ∙
     (ap (installer_at h k) c.in_ok-place.ensures ∙ sym (overwriter_hidden h e k p scan hidden))
@@ -41,7 +41,7 @@ returns c =
     let test : (is_scan e && not (is_visible_at h k p)) ≡ false =
     elim c.else-is_scan.branch [
       | else-is_scan-via-then-is_scan+else-not-is_visible w ↦ and_right _ _ (ap not (sym w.is_visible.ensures ∙ w.if-not-is_visible.false))
-      | else-is_scan-via-else-is_scan w ↦ and_left _ _ (sym c.is_scan.ensures ∙ w.if-is_scan.false)
+      | else-is_scan-via-else-is_scan w ↦ and_left _ _ (sym c.is_scan.ensures.scan ∙ w.if-is_scan.false)
     ] in
     c.copied.ensures ∙
     (got c.writers.result.now p c.get.result c.get.ensures.lookup.0 c.get.ensures.lookup.1 ∙

@@ -3,14 +3,13 @@ use Rattle.adya_values.specs.Meaning.Histories.{Event}
 use Rattle.adya_values.specs.Meaning.Events.{txn_of, is_committed}
 use Rattle.digraph.specs.declared.arc.Arc.{Arc}
 use Rattle.adya_dsg.specs.Machinery.VersionOrders.{ordered_history}
-use Rattle.adya_dsg.specs.Mirror.{edge_of}
 use Rattle.adya_dsg.specs.Machinery.Arcs.{ends}
 use Rattle.adya_dsg.specs.Machinery.Choices.{event_at}
 use Rattle.adya_dsg.specs.Machinery.Links.{event_links}
 use Rattle.adya_dsg.proofs.EventsAt.{found_at}
 use Rattle.adya_dsg.proofs.FlatMaps.{from_kept, from_left_out, added_front}
 use Rattle.adya_dsg.proofs.links.add_event_arcs.Goals as goal
-use Rattle.adya_dsg.proofs.links.add_event_arcs.Goals.{then-is_committed+in_ok-push_event_links+in_ok-add_arcs, else-is_committed}
+use Rattle.adya_dsg.proofs.links.add_event_arcs.Goals.{then-is_committed+in_ok-push_event_links, else-is_committed}
 
 pub loop-event-preserved : goal.loop-event-preserved
 loop-event-preserved c =
@@ -23,13 +22,9 @@ loop-event-preserved c =
     let rest = flat_map (event_links h) (filter keep (drop (i + 1) h.events)) in
     let done = c.loop-event.arcs.items in
     elim c.if-is_committed.branch [
-      | then-is_committed+in_ok-push_event_links+in_ok-add_arcs w ↦
-          let given = ap (map edge_of) w.deref.ensures.value ∙
-          (w.in_ok-push_event_links.ensures ∙
-          ap (λ es. map edge_of es ++ event_links h e) w.clear.ensures.items) in
+      | then-is_committed+in_ok-push_event_links w ↦
           ap (λ (v : Vec Arc Global). v.items ++ map ends rest) w.arcs-is ∙
-          (ap (λ (zs : List Arc). zs ++ map ends rest)
-          (w.in_ok-add_arcs.ensures ∙ ap (λ es. done ++ map ends es) given) ∙
+          (ap (λ (zs : List Arc). zs ++ map ends rest) w.in_ok-push_event_links.ensures ∙
           added_front ends done _ here (event_links h e) rest
           (from_kept (event_links h) h.events i e found keep (sym c.is_committed.ensures ∙ w.if-is_committed.true))
           c.loop-event.invariant)

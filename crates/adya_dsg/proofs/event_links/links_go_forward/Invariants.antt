@@ -1,0 +1,14 @@
+use Rattle.std.proofs.Common.{◌≡◌, map, drop, flat_map}
+use Rattle.std.specs.List.{list_all}
+use Rattle.adya_values.specs.Computing.Certificates.{is_forward}
+use Rattle.adya_dsg.specs.Machinery.VersionOrders.{ordered_history}
+use Rattle.adya_dsg.specs.Machinery.Choices.{choice_of, event_at}
+use Rattle.adya_dsg.specs.Machinery.Links.{choice_links, event_links}
+use Rattle.adya_dsg.proofs.event_links.links_go_forward.Given as goal
+
+abbrev pub invariant-loop-at : goal.invariant-loop-at
+invariant-loop-at l =
+    let h = ordered_history l.versions in
+    let e = event_at h l.event in
+    list_all (is_forward l.certificate.txns.now) (event_links h e) ≡
+    list_all (is_forward l.certificate.txns.now) (flat_map (choice_links h e) (map (choice_of h) (drop l.at-index l.at-items)))
