@@ -6,22 +6,22 @@ ghost use Rattle.adya_values.specs.Computing.EdgeList.{edge_list};
 ghost use Rattle.adya_values.specs.Clauses.Acceptance.{IsChecked};
 ghost use Rattle.adya_values.specs.Meaning.Phenomena.{HasG1, HasG2};
 ghost use Rattle.adya_terms.specs.Clauses.Checked.{checked_history};
-ghost use Rattle.adya_dsg.specs.Machinery.Arcs.{IsSorted};
+ghost use Rattle.adya_dsg.specs.Machinery.Arcs.{AreEnds, Decide, IsSorted};
 ghost use Rattle.adya_dsg.specs.Mirror.{edge_of};
-ghost use Rattle.adya_dsg.specs.Machinery.VersionOrders.{ordered_history};
 ghost use Rattle.adya_dsg.specs.Machinery.Nodes.{committed};
 ghost use Rattle.adya_dsg.specs.Clauses.Found.{IsFound, NoneBesideCycle, HasCertificate};
 
 use crate::Found;
 use crate::along::edges_along;
 use crate::arcs::arcs_of_edges;
+use crate::changes::has_scans;
 use crate::laws::{certified_iff_no_phenomenon, cycle_excludes_certificates, edges_join_committed};
 use crate::links::links;
 use crate::nodes::{committed, serial_of};
 use crate::version_orders::VersionOrders;
 use adya_laws::edge_list_is_exact;
 use adya_terms::Checked;
-use digraph::{Outcome, topological_order};
+use digraph::{Arc, Outcome, topological_order};
 use std::alloc::{AllocError, Global};
 
 /// Finds a certificate that the history is accepted with, or else a cycle in its graph; `AllocError` if memory is
@@ -39,36 +39,58 @@ pub fn order(alloc: Global, checked: &Checked) -> Result<Found, AllocError>
     certified_iff_no_phenomenon();
     cycle_excludes_certificates();
     let nodes = committed(alloc, checked.history().events())?;
-    let versions = VersionOrders::of(alloc, checked)?;
-    found(alloc, &versions, &nodes)
+    found(alloc, checked, &nodes)
 }
 
 /// Makes a certificate of an order, and of a cycle the first edges along it.
-fn found(alloc: Global, versions: &VersionOrders, nodes: &[u32]) -> Result<Found, AllocError>
-    requires checked { IsChecked (ordered_history versions.now) }
-    requires nodes { nodes.now ≡ committed (ordered_history versions.now).events }
+fn found(alloc: Global, checked: &Checked, nodes: &[u32]) -> Result<Found, AllocError>
+    requires checked { IsChecked (checked_history checked.now) }
+    requires nodes { nodes.now ≡ committed (checked_history checked.now).events }
     requires numbers { All IsTxn nodes.now }
-    ensures { IfOk result (IsFound (ordered_history versions.now)) }
+    ensures { IfOk result (IsFound (checked_history checked.now)) }
 {
     edge_list_is_exact();
-    match sorted(alloc, versions, nodes)? {
+    match sorted(alloc, checked, nodes)? {
         Outcome::Order(order) => Ok(Found::Serial(serial_of(alloc, &order)?)),
-        Outcome::Cycle(cycle) => Ok(Found::Cycle(edges_along(alloc, versions, &cycle)?)),
+        Outcome::Cycle(cycle) => {
+            let versions = VersionOrders::of(alloc, checked)?;
+            Ok(Found::Cycle(edges_along(alloc, &versions, &cycle)?))
+        }
     }
 }
 
 /// Sorts the nodes by the links, which are few. If these have a cycle, by all edges; without scans these have no other
 /// ends.
-fn sorted(alloc: Global, versions: &VersionOrders, nodes: &[u32]) -> Result<Outcome, AllocError>
-    requires checked { IsChecked (ordered_history versions.now) }
-    requires nodes { nodes.now ≡ committed (ordered_history versions.now).events }
-    ensures { IfOk result (IsSorted (edge_list (ordered_history versions.now)) nodes.now) }
+fn sorted(alloc: Global, checked: &Checked, nodes: &[u32]) -> Result<Outcome, AllocError>
+    requires checked { IsChecked (checked_history checked.now) }
+    requires nodes { nodes.now ≡ committed (checked_history checked.now).events }
+    ensures { IfOk result (IsSorted (edge_list (checked_history checked.now)) nodes.now) }
 {
     edge_list_is_exact();
     edges_join_committed();
-    let outcome = topological_order(alloc, nodes, links(alloc, versions)?)?;
-    if matches!(outcome, Outcome::Order(_)) || !versions.has_scans() {
+    let outcome = topological_order(alloc, nodes, arcs_of_links(alloc, checked)?)?;
+    if matches!(outcome, Outcome::Order(_)) || !has_scans(checked.events()) {
         return Ok(outcome);
     }
-    topological_order(alloc, nodes, arcs_of_edges(alloc, versions)?)
+    topological_order(alloc, nodes, arcs_of_all(alloc, checked)?)
+}
+
+/// Returns the arcs of the links. The version orders that tell them are left before the arcs are sorted, so memory holds only one
+/// of both at a time.
+fn arcs_of_links(alloc: Global, checked: &Checked) -> Result<Vec<Arc>, AllocError>
+    requires { IsChecked (checked_history checked.now) }
+    ensures sound { IfOk result (λ v. AreEnds (edge_list (checked_history checked.now)) v.items) }
+    ensures enough { IfOk result (λ v. Decide (edge_list (checked_history checked.now)) v.items) }
+{
+    let versions = VersionOrders::of(alloc, checked)?;
+    links(alloc, &versions)
+}
+
+/// Returns the arcs of all edges, likewise.
+fn arcs_of_all(alloc: Global, checked: &Checked) -> Result<Vec<Arc>, AllocError>
+    ensures sound { IfOk result (λ v. AreEnds (edge_list (checked_history checked.now)) v.items) }
+    ensures enough { IfOk result (λ v. Decide (edge_list (checked_history checked.now)) v.items) }
+{
+    let versions = VersionOrders::of(alloc, checked)?;
+    arcs_of_edges(alloc, &versions)
 }

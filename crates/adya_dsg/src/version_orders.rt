@@ -17,7 +17,7 @@ ghost use Rattle.adya_dsg.specs.Machinery.LineChanges.{AreChanges};
 ghost use Rattle.adya_dsg.specs.Machinery.Links.{changed_places};
 ghost use Rattle.adya_dsg.specs.Machinery.Places.{AreTables};
 
-use crate::changes::{LineChanges, has_scans, scan_changes};
+use crate::changes::{LineChanges, scan_changes};
 use crate::line_tables::{SHORT_LINE, line_tables};
 use crate::txn_places::TxnPlaces;
 use adya_terms::Checked;
@@ -105,13 +105,6 @@ impl<'a> VersionOrders<'a> {
         ensures some { result ≡ true → list_any is_scan (ordered_history self.now).events ≡ true }
     {
         self.bounds(event).is_some()
-    }
-
-    /// Returns whether an event is a scan.
-    pub fn has_scans(&self) -> bool
-        ensures { result ≡ list_any is_scan (ordered_history self.now).events }
-    {
-        has_scans(self.events)
     }
 
     /// Returns what the event sees.

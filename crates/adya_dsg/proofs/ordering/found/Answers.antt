@@ -1,10 +1,15 @@
-use Rattle.std.proofs.Common.{All, sym, subst, ◌∙◌}
+use Rattle.std.proofs.Common.{All, map, sym, subst, ◌∙◌}
 use Rattle.digraph.specs.Clauses.Graphs.{IsCycle as IsArcCycle, IsOrderOrCycle}
 use Rattle.adya_values.specs.Meaning.Keys.{IsTxn}
 use Rattle.adya_values.specs.Computing.EdgeList.{edge_list}
 use Rattle.adya_values.specs.Clauses.Acceptance.{IsAccepted}
 use Rattle.adya_dsg.specs.Machinery.Arcs.{AreEnds}
+use Rattle.adya_terms.specs.Clauses.Checked.{checked_history}
+use Rattle.adya_values.specs.Meaning.Edges.{IsCycle}
 use Rattle.adya_dsg.specs.Machinery.VersionOrders.{ordered_history}
+use Rattle.adya_dsg.specs.Mirror.{edge_of}
+use Rattle.adya_values.specs.Mirror.Histories.{history_of}
+use Rattle.adya_values.specs.declared.history.History.{History as HistoryValue}
 use Rattle.adya_dsg.proofs.CommittedNodes.{order_has_numbers}
 use Rattle.adya_dsg.proofs.Certificates.{accepted_if_sorted, cycle_has_edges, first_edges_are_cycle}
 use Rattle.adya_dsg.proofs.ordering.found.Goals as goal
@@ -19,7 +24,7 @@ serial_of-requires c =
 
 pub returns-in_ok-serial_of-in-Order : goal.returns-in_ok-serial_of-in-Order
 returns-in_ok-serial_of-in-Order c =
-    let h = ordered_history c.args.versions.now in
+    let h = checked_history c.args.checked.now in
     let nodes = c.args.nodes.now in
     let s = c.in_ok-order.ensures in
     let order = subst (IsOrderOrCycle nodes s.arcs) c.in-Order.is s.is in
@@ -29,17 +34,18 @@ returns-in_ok-serial_of-in-Order c =
 
 pub edges_along-requires : goal.edges_along-requires
 edges_along-requires c =
-    let es = edge_list (ordered_history c.args.versions.now) in
     let s = c.in_ok-order.ensures in
     let cyclic = subst (IsOrderOrCycle c.args.nodes.now s.arcs) c.in-Cycle.is s.is in
-    subst (AreEnds es) (sym c.deref-in-Cycle.ensures.value)
-    (cycle_has_edges es s.arcs c.in-Cycle.cycle.items s.sound cyclic)
+    let ends = cycle_has_edges (edge_list (checked_history c.args.checked.now)) s.arcs c.in-Cycle.cycle.items s.sound cyclic in
+    subst (λ (g : HistoryValue). AreEnds (edge_list (history_of g)) c.deref-in-Cycle.result.now) (sym c.in_ok-versions-in-Cycle.ensures.same)
+    (subst (AreEnds (edge_list (checked_history c.args.checked.now))) (sym c.deref-in-Cycle.ensures.value) ends)
 
 pub returns-in_ok-edges_along-in-Cycle : goal.returns-in_ok-edges_along-in-Cycle
 returns-in_ok-edges_along-in-Cycle c =
     let s = c.in_ok-order.ensures in
     let cyclic = subst (IsOrderOrCycle c.args.nodes.now s.arcs) c.in-Cycle.is s.is in
-    first_edges_are_cycle (ordered_history c.args.versions.now) c.edge_list_is_exact.ensures _ s.arcs
+    subst (λ (g : HistoryValue). IsCycle (history_of g) (map edge_of c.in_ok-edges_along-in-Cycle.field-0.items)) c.in_ok-versions-in-Cycle.ensures.same
+    (first_edges_are_cycle (ordered_history c.in_ok-versions-in-Cycle.versions) c.edge_list_is_exact.ensures _ s.arcs
     c.deref-in-Cycle.result.now
     (subst (IsArcCycle s.arcs) (sym c.deref-in-Cycle.ensures.value) cyclic)
-    c.in_ok-edges_along-in-Cycle.ensures
+    c.in_ok-edges_along-in-Cycle.ensures)

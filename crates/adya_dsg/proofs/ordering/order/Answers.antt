@@ -1,10 +1,10 @@
-use Rattle.std.proofs.Common.{◌≡◌, ◌↔◌, IfOk, subst}
+use Rattle.std.proofs.Common.{◌≡◌, ◌↔◌, subst}
 use Rattle.adya_values.specs.Mirror.Histories.{history_of}
 use Rattle.adya_values.specs.declared.history.History.{History as HistoryValue}
 use Rattle.adya_values.specs.Meaning.Phenomena.{HasG1, HasG2}
 use Rattle.adya_values.specs.Clauses.Acceptance.{IsChecked}
 use Rattle.adya_terms.specs.Clauses.Checked.{checked_history, history_in}
-use Rattle.adya_dsg.specs.Clauses.Found.{IsFound, HasCertificate}
+use Rattle.adya_dsg.specs.Clauses.Found.{HasCertificate}
 use Rattle.adya_dsg.specs.Laws.{CertifiedIffNoPhenomenon}
 use Rattle.adya_dsg.proofs.Certificates.{none_beside_result}
 use Rattle.adya_dsg.proofs.ordering.order.Goals as goal
@@ -17,7 +17,7 @@ decided law own lent same checked =
 pub returns-clause-refused : goal.returns-clause-refused
 returns-clause-refused c =
     none_beside_result c.cycle_excludes_certificates.ensures (checked_history c.args.checked.now)
-    c.found.result (subst (λ (g : HistoryValue). IfOk c.found.result (IsFound (history_of g))) c.in_ok-versions.ensures.same c.found.ensures)
+    c.found.result c.found.ensures
 
 pub returns-clause-decided : goal.returns-clause-decided
 returns-clause-decided c =
@@ -26,10 +26,5 @@ returns-clause-decided c =
 
 pub returns-in_err-nodes-clause-decided : goal.returns-in_err-nodes-clause-decided
 returns-in_err-nodes-clause-decided c =
-    decided c.certified_iff_no_phenomenon.ensures (history_in c.args.checked.now) c.history.result.now
-    c.history.ensures.same c.history.ensures.checked
-
-pub returns-in_err-versions-clause-decided : goal.returns-in_err-versions-clause-decided
-returns-in_err-versions-clause-decided c =
     decided c.certified_iff_no_phenomenon.ensures (history_in c.args.checked.now) c.history.result.now
     c.history.ensures.same c.history.ensures.checked
