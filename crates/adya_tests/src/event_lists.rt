@@ -276,9 +276,7 @@ fn is_ordered(events: &Events, low: &[u8], high: &[u8]) -> bool {
     };
     match (events.number_of(low), events.number_of(high)) {
         (Some(low), Some(high)) => {
-            events.is_below(low, high)
-                && !events.is_below(high, low)
-                && !events.is_below(low, low)
+            events.is_below(low, high) && !events.is_below(high, low) && !events.is_below(low, low)
         }
         _ => false,
     }
