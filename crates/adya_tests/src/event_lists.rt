@@ -262,23 +262,8 @@ fn have_numbers(events: &Events) -> bool {
                 && has_number(events, b"e", other)
                 && has_number(events, b"f", other)
                 && has_no_number(events, other)
-                && is_ordered(events, b"a", b"b")
-                && is_ordered(events, b"b", b"f")
         }
         Err(_) => false,
-    }
-}
-
-/// Whether the one key is below the other by their numbers, and neither the other way round nor below itself.
-fn is_ordered(events: &Events, low: &[u8], high: &[u8]) -> bool {
-    let (Ok(low), Ok(high)) = (Key::new(low), Key::new(high)) else {
-        return false;
-    };
-    match (events.number_of(low), events.number_of(high)) {
-        (Some(low), Some(high)) => {
-            events.is_below(low, high) && !events.is_below(high, low) && !events.is_below(low, low)
-        }
-        _ => false,
     }
 }
 
