@@ -7,7 +7,7 @@ use Rattle.std.proofs.lemmas.List.{drop-append-le, drop-map, get_or_append_left,
 use Rattle.std.proofs.lemmas.Option.{get_or_from_slice_get, none-some, same_Some, slice_get_within}
 use Rattle.std.proofs.lemmas.Bool.{and_from, and_parts, le-leb, leb-true, lt-ltb, ltb-true}
 use Rattle.adya_values.specs.Meaning.Keys.{Bytes, Key, is_value}
-use Rattle.adya_values.specs.Machinery.Seen.{content_in, entry_in, is_content, is_part, is_seen, key_at, part, IsFront}
+use Rattle.adya_values.specs.Machinery.Seen.{content_in, entry_in, is_content, is_part, is_seen, key_at, part, IsFront, IsKept}
 use Rattle.adya_values.specs.declared.seen.Seen.{Seen}
 use Rattle.std.specs.List.{list_all}
 use Rattle.adya_values.specs.Meaning.Histories.{Live}
@@ -31,10 +31,6 @@ part_stays at n xs more l =
     take-append-le n (drop at xs) more (omega (arith, l, length-drop at xs))
 
 -- a value that was put at the end of the bytes is found there
-pub record IsKept (bs v : Bytes) (at n : ℕ) : Type 0 where
-  pub there : is_part bs at n ≡ true
-  pub value : part at n bs ≡ v
-
 pub kept : (bs old v : Bytes) (at n : ℕ) → bs ≡ old ++ v → at ≡ length old → n ≡ length v → is_value v ≡ true → IsKept bs v at n
 kept bs old v at n e a f fine =
     let there : is_part (old ++ v) (length old) (length v) ≡ true =

@@ -16,7 +16,7 @@ use Rattle.adya_values.specs.declared.arena.Listing.{Listing}
 use Rattle.adya_values.specs.declared.arena.Arena.{Arena}
 use Rattle.adya_values.specs.Mirror.Events.{event_of_row}
 use Rattle.adya_values.specs.Machinery.Seen.{is_part, key_at, part}
-use Rattle.adya_values.specs.Machinery.Packed.{entry_of_seen, Extends, event_in, is_listing, is_row, is_row_of, scan_in}
+use Rattle.adya_values.specs.Machinery.Packed.{entry_of_seen, Extends, event_in, is_listing, is_row, is_row_of, listing_of, scan_in}
 use Rattle.adya_values.proofs.PackedParts.{front_same, front_trans, is_part_stays, key_stays, part_stays, same_entries_in}
 
 module _ (ks km : List Key) where
@@ -59,7 +59,8 @@ module _ (ks km : List Key) (bs bm : Bytes) (ls lm : List Listing) where
   row_stays n m l (In.Read v x t w k at) e =
       let (key, value) = and_parts (nat_lt k (length ks)) _ e in
       and_from _ _ (key_stays ks km k key).there (is_part_stays bs bm at v value)
-  row_stays n m l (In.Scan t i) e =
+  row_stays n m l (In.Scan c t k h at) e = listing_stays ks km n m (Some (listing_of k h at c)) l e
+  row_stays n m l (In.Long t i) e =
       ap (is_listing (length (ks ++ km)) m) (same_listing ks km n ls lm i e) ∙ listing_stays ks km n m (slice_get ls i) l e
   row_stays n m l (In.Commit t) e = e
   row_stays n m l (In.Abort t) e = e
@@ -81,7 +82,8 @@ module _ (ks km : List Key) (bs bm : Bytes) (ls lm : List Listing) where
       let (key, value) = and_parts (nat_lt k (length ks)) _ e in
       ap (λ x. Read t (record { key = x; txn = w; m = m }) (part at v (bs ++ bm))) (key_stays ks km k key).key ∙
       ap (λ x. Read t (record { key = key_at ks k; txn = w; m = m }) x) (same_value at v value)
-  event_stays es em (In.Scan t i) e =
+  event_stays es em (In.Scan c t k h at) e = scan_stays ks km es em t (Some (listing_of k h at c)) e
+  event_stays es em (In.Long t i) e =
       ap (scan_in (ks ++ km) (es ++ em) t) (same_listing ks km (length es) ls lm i e) ∙
       scan_stays ks km es em t (slice_get ls i) e
   event_stays es em (In.Commit t) e = refl

@@ -6,7 +6,7 @@ ghost use Rattle.adya_values.specs.Meaning.Histories.{Abort, Live, Scan};
 ghost use Rattle.adya_values.specs.Meaning.Events.{aborts, observed, shown, txn_of, written};
 ghost use Rattle.adya_values.specs.Computing.Faults.{content_eq, is_entry, version_eq};
 ghost use Rattle.adya_values.specs.Machinery.KeyTables.{keys_in, CanTake};
-ghost use Rattle.adya_values.specs.Machinery.Seen.{content_in, is_content, is_part, is_seen, key_at, part, IsFront};
+ghost use Rattle.adya_values.specs.Machinery.Seen.{content_in, is_content, is_part, is_seen, key_at, part, IsFront, IsKept};
 ghost use Rattle.std.specs.List.{list_all};
 
 use crate::key_table::{KeyTable, MOST_KEYS};
@@ -40,8 +40,16 @@ pub(crate) enum Row {
         key: u32,
         at: usize,
     },
-    /// The place of its listing says the rest.
+    /// The numbers of the bounds, and which of the entries it lists, which are fewer than 65,536.
     Scan {
+        count: u16,
+        txn: Txn,
+        low: u32,
+        high: u32,
+        from: usize,
+    },
+    /// A scan that lists more. The place of its listing says the rest.
+    Long {
         txn: Txn,
         listing: usize,
     },
@@ -62,11 +70,31 @@ pub(crate) struct Listing {
     pub(crate) count: usize,
 }
 
+impl Listing {
+    ghost use Rattle.adya_values.specs.Machinery.Packed.{listing_of};
+
+    /// Returns that of a scan that is short enough for its row.
+    #[inline(always)]
+    fn short(low: u32, high: u32, from: usize, count: u16) -> Listing
+        ensures { result ≡ listing_of low high from count }
+    {
+        Listing {
+            low,
+            high,
+            from,
+            count: count as usize,
+        }
+    }
+}
+
 /// The keys, each of which has its index for a number, the bytes of values, and what scans list.
 #[derive(Drop)]
 pub(crate) struct Arena {
     pub(crate) keys: KeyTable,
     pub(crate) bytes: Vec<u8>,
+    /// For each key, by its number, where the last value that was added for it begins. Most reads are of this value, and then its
+    /// bytes need not be kept twice. Nothing depends on it: what is found there is compared.
+    last_values: Vec<u32>,
     pub(crate) listings: Vec<Listing>,
     pub(crate) seen: Vec<Seen>,
     pub ghost there: { list_all (is_seen (length (keys_in keys)) bytes.items) seen.items ≡ true },
@@ -82,6 +110,7 @@ impl Arena {
         Arena {
             keys: KeyTable::new(alloc),
             bytes: Vec::new(alloc),
+            last_values: Vec::new(alloc),
             listings: Vec::new(alloc),
             seen: Vec::new(alloc),
         }
@@ -114,6 +143,7 @@ impl Arena {
         Ok(Arena {
             keys: self.keys.copy(alloc)?,
             bytes: Vec::from_slice(alloc, &self.bytes)?,
+            last_values: Vec::from_slice(alloc, &self.last_values)?,
             listings: Vec::from_slice(alloc, &self.listings)?,
             seen: Vec::from_slice(alloc, &self.seen)?,
         })
@@ -159,7 +189,14 @@ impl Arena {
                 },
                 value: self.value(at, len),
             },
-            Row::Scan { txn, listing } => self.scan(txn, self.listings[listing]),
+            Row::Scan {
+                count,
+                txn,
+                low,
+                high,
+                from,
+            } => self.scan(txn, Listing::short(low, high, from, count)),
+            Row::Long { txn, listing } => self.scan(txn, self.listings[listing]),
             Row::Commit { txn } => EventView::Commit { txn },
             Row::Abort { txn } => EventView::Abort { txn },
         }
@@ -176,6 +213,7 @@ impl Arena {
             Row::Delete { txn, .. } => txn,
             Row::Read { txn, .. } => txn,
             Row::Scan { txn, .. } => txn,
+            Row::Long { txn, .. } => txn,
             Row::Commit { txn } => txn,
             Row::Abort { txn } => txn,
         }
@@ -193,6 +231,7 @@ impl Arena {
             Row::Delete { .. } => None,
             Row::Read { .. } => None,
             Row::Scan { .. } => None,
+            Row::Long { .. } => None,
             Row::Commit { .. } => None,
         }
     }
@@ -208,6 +247,7 @@ impl Arena {
             Row::Delete { .. } => false,
             Row::Read { .. } => false,
             Row::Scan { .. } => false,
+            Row::Long { .. } => false,
             Row::Commit { .. } => false,
             Row::Abort { .. } => false,
         }
@@ -225,6 +265,7 @@ impl Arena {
             Row::Delete { txn, m, key } => Some(NumberedVersion { key, txn, m }),
             Row::Read { .. } => None,
             Row::Scan { .. } => None,
+            Row::Long { .. } => None,
             Row::Commit { .. } => None,
             Row::Abort { .. } => None,
         }
@@ -252,7 +293,14 @@ impl Arena {
                 key,
                 at,
             }]),
-            Row::Scan { listing, .. } => Observed::Many(self.listed(self.listings[listing])),
+            Row::Scan {
+                count,
+                low,
+                high,
+                from,
+                ..
+            } => Observed::Many(self.listed(Listing::short(low, high, from, count))),
+            Row::Long { listing, .. } => Observed::Many(self.listed(self.listings[listing])),
             Row::Write { .. } => Observed::Many(&[]),
             Row::Delete { .. } => Observed::Many(&[]),
             Row::Commit { .. } => Observed::Many(&[]),
@@ -268,7 +316,8 @@ impl Arena {
         ensures there { IfSome result (λ b. (b.0 < length (keys_in self.now.keys)) × (b.1 < length (keys_in self.now.keys))) }
     {
         match row {
-            Row::Scan { listing, .. } => {
+            Row::Scan { low, high, .. } => Some((low, high)),
+            Row::Long { listing, .. } => {
                 let Listing { low, high, .. } = self.listings[listing];
                 Some((low, high))
             }
@@ -303,6 +352,7 @@ impl Arena {
             }
             Row::Read { .. } => false,
             Row::Scan { .. } => false,
+            Row::Long { .. } => false,
             Row::Commit { .. } => false,
             Row::Abort { .. } => false,
         }
@@ -325,6 +375,9 @@ impl Arena {
     {
         if seen.is_dead() {
             return false;
+        }
+        if at == seen.at && len == seen.len {
+            return true;
         }
         &self.bytes[at..at + len as usize] == &self.bytes[seen.at..seen.at + seen.len as usize]
     }
@@ -444,7 +497,7 @@ impl Arena {
         match event {
             EventView::Write { txn, key, m, value } => {
                 let key = self.number(*key)?;
-                let at = self.add(value.bytes())?;
+                let at = self.add_value(key, value)?;
                 Ok(Row::Write {
                     txn: *txn,
                     m: *m,
@@ -464,7 +517,7 @@ impl Arena {
                 value,
             } => {
                 let key = self.number(version.key)?;
-                let at = self.add(value.bytes())?;
+                let at = self.keep_value(key, value)?;
                 Ok(Row::Read {
                     txn: *txn,
                     writer: version.txn,
@@ -481,7 +534,7 @@ impl Arena {
                 entries,
             } => {
                 let listing = self.list(*low, *high, entries)?;
-                Ok(Row::Scan { txn: *txn, listing })
+                self.scan_row(*txn, listing)
             }
             EventView::Commit { txn } => Ok(Row::Commit { txn: *txn }),
             EventView::Abort { txn } => Ok(Row::Abort { txn: *txn }),
@@ -530,6 +583,42 @@ impl Arena {
         add_to(&mut self.bytes, text)
     }
 
+    /// Adds the value of the key, and returns its place.
+    fn add_value(&mut self, key: u32, value: &Value) -> Result<usize, AllocError>
+        ensures kept { let v = value_of value.now in IfOk result (λ n. IsKept self.new.bytes.items v n (length v)) }
+        ensures front { IsFront self.old.bytes.items self.new.bytes.items }
+        ensures keys { self.new.keys ≡ self.old.keys }
+        ensures listings { self.new.listings ≡ self.old.listings }
+        ensures seen { self.new.seen ≡ self.old.seen }
+        ensures len { vec_len self.new.bytes ≤ vec_len self.old.bytes + 64 }
+        ensures capacity { vec_capacity self.old.bytes ≤ vec_capacity self.new.bytes }
+        ensures succeeds { vec_len self.old.bytes + 64 ≤ vec_capacity self.old.bytes → IsOk result }
+    {
+        let at = self.add(value.bytes())?;
+        note(&mut self.last_values, key, at);
+        Ok(at)
+    }
+
+    /// Returns the place of the value of the key. It isn't added again if the last one that was added for the key begins with it.
+    fn keep_value(&mut self, key: u32, value: &Value) -> Result<usize, AllocError>
+        ensures kept { let v = value_of value.now in IfOk result (λ n. IsKept self.new.bytes.items v n (length v)) }
+        ensures front { IsFront self.old.bytes.items self.new.bytes.items }
+        ensures keys { self.new.keys ≡ self.old.keys }
+        ensures listings { self.new.listings ≡ self.old.listings }
+        ensures seen { self.new.seen ≡ self.old.seen }
+        ensures len { vec_len self.new.bytes ≤ vec_len self.old.bytes + 64 }
+        ensures capacity { vec_capacity self.old.bytes ≤ vec_capacity self.new.bytes }
+        ensures succeeds { vec_len self.old.bytes + 64 ≤ vec_capacity self.old.bytes → IsOk result }
+    {
+        if let Some(last) = self.last_values.get(key as usize) {
+            let at = *last as usize;
+            if holds(&self.bytes, at, value.bytes()) {
+                return Ok(at);
+            }
+        }
+        self.add_value(key, value)
+    }
+
     /// Keeps the entry, and returns its row. If memory is refused, what was there is still where it was.
     fn see(&mut self, entry: &Entry) -> Result<Seen, AllocError>
         ensures extends { Extends self.old self.new }
@@ -540,7 +629,7 @@ impl Arena {
         ensures succeeds { (n : ℕ) → CanSee self.old (n + 1) → IsOk result × CanSee self.new n }
     {
         let key = self.number(entry.version.key)?;
-        let (at, len) = self.keep_content(&entry.content)?;
+        let (at, len) = self.keep_content(key, &entry.content)?;
         Ok(Seen {
             len,
             m: entry.version.m,
@@ -551,7 +640,7 @@ impl Arena {
     }
 
     /// Keeps the value, if there is one, and returns its place and its length.
-    fn keep_content(&mut self, content: &Content) -> Result<(usize, u8), AllocError>
+    fn keep_content(&mut self, key: u32, content: &Content) -> Result<(usize, u8), AllocError>
         ensures kept { IfOk result (λ p. is_content self.new.bytes.items p.0 p.1 ≡ true) }
         ensures content { IfOk result (λ p. content_in self.new.bytes.items p.0 p.1 ≡ content_of content.now) }
         ensures front { IsFront self.old.bytes.items self.new.bytes.items }
@@ -565,7 +654,7 @@ impl Arena {
         match content {
             Content::Dead => Ok((0, 0)),
             Content::Live(value) => {
-                let at = self.add(value.bytes())?;
+                let at = self.keep_value(key, value)?;
                 Ok((at, value.bytes().len() as u8))
             }
         }
@@ -596,26 +685,51 @@ impl Arena {
         Ok(())
     }
 
-    /// Adds a listing with these bounds and entries, and returns its place.
-    fn list(&mut self, low: Key, high: Key, entries: &Listed<'_>) -> Result<usize, AllocError>
+    /// Adds the entries, and returns their listing with these bounds.
+    fn list(&mut self, low: Key, high: Key, entries: &Listed<'_>) -> Result<Listing, AllocError>
         ensures extends { Extends self.old self.new }
-        ensures listed { IfOk result (λ l. is_listing (length (keys_in self.new.keys)) (length self.new.seen.items) (slice_get self.new.listings.items l) ≡ true) }
-        ensures scan { (t : ℕ) → IfOk result (λ l. scan_in (keys_in self.new.keys) (map (entry_of_seen self.new) self.new.seen.items) t (slice_get self.new.listings.items l)
+        ensures listings { self.new.listings ≡ self.old.listings }
+        ensures listed { IfOk result (λ l. is_listing (length (keys_in self.new.keys)) (length self.new.seen.items) (Some l) ≡ true) }
+        ensures scan { (t : ℕ) → IfOk result (λ l. scan_in (keys_in self.new.keys) (map (entry_of_seen self.new) self.new.seen.items) t (Some l)
             ≡ Scan t low high (entries_of entries.now)) }
         ensures succeeds { HasRoomIn self.old (length (entries_of entries.now)) → IsOk result }
     {
         let low = self.number(low)?;
         let high = self.number(high)?;
-        let listing = self.listings.len();
         let from = self.seen.len();
         self.add_entries(entries)?;
-        self.listings.push(Listing {
+        Ok(Listing {
             low,
             high,
             from,
             count: entries.len(),
-        })?;
-        Ok(listing)
+        })
+    }
+
+    /// Returns the row of the scan. If it lists too many entries for a row, the listing is kept.
+    fn scan_row(&mut self, txn: Txn, listing: Listing) -> Result<Row, AllocError>
+        requires { is_listing (length (keys_in self.old.keys)) (length self.old.seen.items) (Some listing) ≡ true }
+        ensures extends { Extends self.old self.new }
+        ensures row { IfOk result (λ r. is_row_of self.new r ≡ true) }
+        ensures event { IfOk result (λ r. event_of_row self.new r
+            ≡ scan_in (keys_in self.old.keys) (map (entry_of_seen self.old) self.old.seen.items) txn (Some listing)) }
+        ensures succeeds { vec_len self.old.listings < vec_capacity self.old.listings → IsOk result }
+    {
+        if listing.count <= u16::MAX as usize {
+            return Ok(Row::Scan {
+                count: listing.count as u16,
+                txn,
+                low: listing.low,
+                high: listing.high,
+                from: listing.from,
+            });
+        }
+        let place = self.listings.len();
+        self.listings.push(listing)?;
+        Ok(Row::Long {
+            txn,
+            listing: place,
+        })
     }
 }
 
@@ -631,4 +745,29 @@ fn add_to(bytes: &mut Vec<u8>, text: &[u8]) -> Result<usize, AllocError>
     let at = bytes.len();
     bytes.extend_from_slice(text)?;
     Ok(at)
+}
+
+/// Notes where the last value of the key begins, if 32 bits can say that and memory isn't refused.
+fn note(last_values: &mut Vec<u32>, key: u32, at: usize) {
+    let Ok(at) = u32::try_from(at) else {
+        return;
+    };
+    let key = key as usize;
+    if key >= last_values.len() && last_values.resize(key + 1, 0).is_err() {
+        return;
+    }
+    if let Some(place) = last_values.get_mut(key) {
+        *place = at;
+    }
+}
+
+/// Returns whether the text is in the bytes at the place.
+#[inline(always)]
+fn holds(bytes: &[u8], at: usize, text: &[u8]) -> bool
+    ensures { result ≡ true → (at + length text.now ≤ length bytes.now) × (part at (length text.now) bytes.now ≡ text.now) }
+{
+    match bytes.get(at..at.saturating_add(text.len())) {
+        Some(found) => found == text,
+        None => false,
+    }
 }

@@ -15,11 +15,16 @@ abbrev pub scan_in : List Key → List Entry → ℕ → Option Listing → Even
 scan_in ks es t None = Abort t
 scan_in ks es t (Some l) = Scan t (key_at ks l.low) (key_at ks l.high) (part l.from l.count es)
 
+-- the listing that the row of a scan says
+abbrev pub listing_of : ℕ → ℕ → ℕ → ℕ → Listing
+listing_of l h at n = record { low = l; high = h; from = at; count = n }
+
 abbrev pub event_in : List Key → Bytes → List Listing → List Entry → Row → Event
 event_in ks bs ls es (In.Write v m t k at) = Write t (key_at ks k) m (part at v bs)
 event_in ks bs ls es (In.Delete m t k) = Delete t (key_at ks k) m
 event_in ks bs ls es (In.Read v m t w k at) = Read t (record { key = key_at ks k; txn = w; m = m }) (part at v bs)
-event_in ks bs ls es (In.Scan t l) = scan_in ks es t (slice_get ls l)
+event_in ks bs ls es (In.Scan n t l h at) = scan_in ks es t (Some (listing_of l h at n))
+event_in ks bs ls es (In.Long t l) = scan_in ks es t (slice_get ls l)
 event_in ks bs ls es (In.Commit t) = Commit t
 event_in ks bs ls es (In.Abort t) = Abort t
 
@@ -33,7 +38,8 @@ abbrev pub is_row : ℕ → Bytes → List Listing → ℕ → Row → Bool
 is_row n bs ls m (In.Write v x t k at) = nat_lt k n && is_part bs at v
 is_row n bs ls m (In.Delete x t k) = nat_lt k n
 is_row n bs ls m (In.Read v x t w k at) = nat_lt k n && is_part bs at v
-is_row n bs ls m (In.Scan t l) = is_listing n m (slice_get ls l)
+is_row n bs ls m (In.Scan c t l h at) = is_listing n m (Some (listing_of l h at c))
+is_row n bs ls m (In.Long t l) = is_listing n m (slice_get ls l)
 is_row n bs ls m (In.Commit t) = true
 is_row n bs ls m (In.Abort t) = true
 

@@ -39,3 +39,8 @@ is_seen n bs s = nat_lt s.key n && is_content bs s.at s.len
 -- the second list begins with the first
 abbrev pub IsFront : {A : Type 0} → List A → List A → Type 0
 IsFront xs ys = (more : List _) × (ys ≡ xs ++ more)
+
+-- the value is in the bytes at this place, and has so many
+pub record IsKept (bs v : Bytes) (at n : ℕ) : Type 0 where
+  pub there : is_part bs at n ≡ true
+  pub value : part at n bs ≡ v

@@ -1,4 +1,4 @@
-use Rattle.std.proofs.Common.{◌≡◌, ◌∙◌, ◌+◌, ◌*◌, ◌++◌, ◌≤◌, [], ◌∷◌, ℕ, length, map, ap, sym, subst, arith, Some, slice_get, Vec, Global, vec_len, vec_capacity}
+use Rattle.std.proofs.Common.{◌≡◌, ◌∙◌, ◌+◌, ◌*◌, ◌≤◌, ℕ, length, map, ap, sym, subst, arith, Vec, Global, vec_len, vec_capacity}
 use Rattle.adya_values.specs.Machinery.KeyTables.{keys_in, CanTake}
 use Rattle.std.proofs.Math.Bool.{false≢true}
 use Rattle.std.specs.Result.{is_ok}
@@ -7,10 +7,9 @@ use Rattle.std.proofs.lemmas.Bool.{and_from, le-leb}
 use Rattle.std.proofs.lemmas.List.{length-append, length-map}
 use Rattle.adya_values.specs.Meaning.Histories.{Scan}
 use Rattle.adya_values.specs.Mirror.Events.{entries_of}
-use Rattle.adya_values.specs.declared.arena.Listing.{Listing}
 use Rattle.adya_values.specs.Machinery.Seen.{key_at, part}
-use Rattle.adya_values.specs.Machinery.Packed.{entry_of_seen, is_listing, scan_in}
-use Rattle.adya_values.proofs.PackedParts.{IsKeyAt, found_key, front_same, front_trans, key_stays_in, last_part, slice_get_end}
+use Rattle.adya_values.specs.Machinery.Packed.{entry_of_seen, listing_of}
+use Rattle.adya_values.proofs.PackedParts.{IsKeyAt, found_key, front_same, front_trans, key_stays_in, last_part}
 use Rattle.adya_values.proofs.KeyChains.{takes_less}
 use Rattle.adya_values.proofs.arena.Arena.list.Goals as goal
 
@@ -43,34 +42,20 @@ returns-in_err-add_entries-clause-succeeds c room =
     }) in
     absurd (false≢true (sym (ap is_ok c.in_err-add_entries.was) ∙ fits))
 
-abbrev listing : goal.In_ok-push → Listing
-listing c = record {
-  low = c.in_ok-low.low;
-  high = c.in_ok-high.high;
-  from = c.len-from.result;
-  count = c.len.result;
-}
-
-found : (c : goal.In_ok-push) → slice_get c.push.new.self.items c.len-listing.result ≡ Some (listing c)
-found c =
-    let ls = c.number-2.new.self.listings in
-    ap (λ v. slice_get v c.len-listing.result) (c.in_ok-push.ensures.items ∙ ap (λ v. v.items ++ listing c ∷ []) c.add_entries.ensures.listings) ∙
-    (ap (slice_get (ls.items ++ listing c ∷ [])) (c.len-listing.ensures ∙ ls.ok.0) ∙ slice_get_end ls.items (listing c))
-
-low_at : (c : goal.In_ok-push) → IsKeyAt (keys_in c.add_entries.new.self.keys) c.in_ok-low.low c.args.low
+low_at : (c : goal.After-len) → IsKeyAt (keys_in c.add_entries.new.self.keys) c.in_ok-low.low c.args.low
 low_at c =
     key_stays_in _ _ c.add_entries.ensures.extends.keys c.in_ok-low.low c.args.low
     (key_stays_in (keys_in c.number.new.self.keys) (keys_in c.number-2.new.self.keys) c.number-2.ensures.front c.in_ok-low.low c.args.low
     (found_key (keys_in c.number.new.self.keys) c.in_ok-low.low c.args.low c.in_ok-low.ensures.number))
 
-high_at : (c : goal.In_ok-push) → IsKeyAt (keys_in c.add_entries.new.self.keys) c.in_ok-high.high c.args.high
+high_at : (c : goal.After-len) → IsKeyAt (keys_in c.add_entries.new.self.keys) c.in_ok-high.high c.args.high
 high_at c =
     key_stays_in _ _ c.add_entries.ensures.extends.keys c.in_ok-high.high c.args.high
     (found_key (keys_in c.number-2.new.self.keys) c.in_ok-high.high c.args.high c.in_ok-high.ensures.number)
 
 pub returns-clause-listed : goal.returns-clause-listed
 returns-clause-listed c =
-    let l = listing c in
+    let l = listing_of c.in_ok-low.low c.in_ok-high.high c.len-from.result c.len.result in
     let b = c.add_entries.new.self in
     let a = c.number-2.new.self in
     let es = entries_of c.args.entries.now in
@@ -79,12 +64,11 @@ returns-clause-listed c =
     (ap length c.in_ok-add_entries.ensures.entries ∙
     (length-append (map (entry_of_seen a) a.seen.items) es ∙ ap (λ n. n + length es) (length-map a.seen.items (entry_of_seen a)))) in
     let within : l.from + l.count ≤ length b.seen.items = omega (arith, c.len-from.ensures, a.seen.ok.0, count, c.len.ensures) in
-    ap (is_listing (length (keys_in b.keys)) (length b.seen.items)) (found c) ∙
     and_from _ _ (low_at c).there (and_from _ _ (high_at c).there (le-leb (l.from + l.count) (length b.seen.items) within))
 
 pub returns-clause-scan : goal.returns-clause-scan
 returns-clause-scan c t =
-    let l = listing c in
+    let l = listing_of c.in_ok-low.low c.in_ok-high.high c.len-from.result c.len.result in
     let b = c.add_entries.new.self in
     let a = c.number-2.new.self in
     let es = entries_of c.args.entries.now in
@@ -92,10 +76,9 @@ returns-clause-scan c t =
     let before = map (entry_of_seen a) a.seen.items in
     let all = map (entry_of_seen b) b.seen.items in
     let from : l.from ≡ length before = c.len-from.ensures ∙ (a.seen.ok.0 ∙ sym (length-map a.seen.items (entry_of_seen a))) in
-    ap (scan_in ks all t) (found c) ∙
-    (ap (λ k. Scan t k (key_at ks l.high) (part l.from l.count all)) (low_at c).key ∙
+    ap (λ k. Scan t k (key_at ks l.high) (part l.from l.count all)) (low_at c).key ∙
     (ap (λ k. Scan t c.args.low k (part l.from l.count all)) (high_at c).key ∙
     ap (Scan t c.args.low c.args.high)
     (ap (λ n. part n l.count all) from ∙
     (ap (λ n. part (length before) n all) c.len.ensures ∙
-    (ap (part (length before) (length es)) c.in_ok-add_entries.ensures.entries ∙ last_part before es)))))
+    (ap (part (length before) (length es)) c.in_ok-add_entries.ensures.entries ∙ last_part before es))))
