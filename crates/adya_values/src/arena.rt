@@ -10,6 +10,7 @@ ghost use Rattle.adya_values.specs.Machinery.Seen.{content_in, is_content, is_pa
 ghost use Rattle.std.specs.List.{list_all};
 
 use crate::key_table::{KeyTable, MOST_KEYS};
+use crate::place::Place;
 use crate::{
     Content, Entry, Event, EventView, Key, Listed, MAX_VALUE_LEN, Mod, NumberedVersion, Observed,
     PackedEntries, Seen, Txn, Value, Version,
@@ -291,7 +292,7 @@ impl Arena {
                 m,
                 txn: writer,
                 key,
-                at,
+                at: Place::new(at),
             }]),
             Row::Scan {
                 count,
@@ -376,10 +377,11 @@ impl Arena {
         if seen.is_dead() {
             return false;
         }
-        if at == seen.at && len == seen.len {
+        let place = seen.at.get();
+        if at == place && len == seen.len {
             return true;
         }
-        &self.bytes[at..at + len as usize] == &self.bytes[seen.at..seen.at + seen.len as usize]
+        &self.bytes[at..at + len as usize] == &self.bytes[place..place + seen.len as usize]
     }
 
     /// Returns the entry that is seen.
@@ -635,7 +637,7 @@ impl Arena {
             m: entry.version.m,
             txn: entry.version.txn,
             key,
-            at,
+            at: Place::new(at),
         })
     }
 

@@ -22,6 +22,7 @@ mod order;
 mod orders;
 mod padded;
 mod parts;
+mod place;
 mod seen;
 mod serial;
 mod value;

@@ -4,10 +4,11 @@ ghost use Rattle.std.specs.Prelude.{◌≡◌, ◌==◌, length, true};
 ghost use Rattle.adya_values.specs.Machinery.Seen.{content_in, entry_in, is_content, is_seen};
 
 use crate::key_table::KeyTable;
+use crate::place::Place;
 use crate::{Content, Entry, Mod, NumberedVersion, Txn, Value, Version};
 
 /// An entry that an event of a list sees, packed. Of its key it has the number, and of its value the place where the bytes
-/// begin and how many there are; a dead version has none. The list says the rest.
+/// begin and how many there are; a dead version has none. The list says the rest. It takes 20 bytes.
 #[derive(Clone, Copy)]
 pub struct Seen {
     pub(crate) len: u8,
@@ -17,7 +18,7 @@ pub struct Seen {
     pub txn: Txn,
     /// The number of the key.
     pub key: u32,
-    pub(crate) at: usize,
+    pub(crate) at: Place,
 }
 
 impl Seen {
@@ -68,7 +69,8 @@ impl Seen {
         if self.len == 0 {
             return Content::Dead;
         }
-        Content::Live(Value::from_valid(&bytes[self.at..self.at + self.len as usize]))
+        let at = self.at.get();
+        Content::Live(Value::from_valid(&bytes[at..at + self.len as usize]))
     }
 }
 

@@ -14,11 +14,13 @@ returns c =
     let s = c.args.seen.now in
     let xs = c.deref.result.now in
     let ys = c.deref-2.result.now in
+    let p = c.get-place.result in
     let one : (at + n) - at ≡ n = omega arith in
-    let two : (s.at + s.len) - s.at ≡ s.len = omega arith in
-    let same : key_eq (part at n xs) (part s.at s.len ys) ≡ key_eq (part at n bs) (part s.at s.len bs) =
+    let two : (p + s.len) - p ≡ s.len = omega arith in
+    let same : key_eq (part at n xs) (part p s.len ys) ≡ key_eq (part at n bs) (part p s.len bs) =
     rw (c.deref.ensures.value, c.deref-2.ensures.value) refl in
     c.eq.ensures ∙
-    (ap (λ i. key_eq (take i (drop at xs)) (take ((s.at + s.len) - s.at) (drop s.at ys))) one ∙
-    (ap (λ i. key_eq (part at n xs) (take i (drop s.at ys))) two ∙
-    (same ∙ sym (ap (content_eq (Live (part at n bs))) (live_content bs s.at s.len (sym c.is_dead.ensures ∙ c.if-is_dead.false))))))
+    (ap (λ i. key_eq (take i (drop at xs)) (take ((p + s.len) - p) (drop p ys))) one ∙
+    (ap (λ i. key_eq (part at n xs) (take i (drop p ys))) two ∙
+    (same ∙ (ap (λ q. key_eq (part at n bs) (part q s.len bs)) c.get-place.ensures ∙
+    sym (ap (content_eq (Live (part at n bs))) (live_content bs s.at s.len (sym c.is_dead.ensures ∙ c.if-is_dead.false)))))))
