@@ -1,26 +1,13 @@
 -- An event that lies in a line, without the line.
 use Rattle.std.specs.Prelude.{◌≡◌, List, [], ◌∷◌, Option, Some, None}
-use Rattle.adya_values.specs.declared.event.Version.{Version}
-use Rattle.adya_values.specs.Meaning.Histories.{Content, Entry, Event}
+use Rattle.adya_values.specs.Meaning.Histories.{Entry, Event}
 use Rattle.adya_values.specs.Meaning.Histories as plain
-use Rattle.adya_line.specs.declared.event_ref.VersionRef.{VersionRef}
 use Rattle.adya_line.specs.declared.event_ref.EventRef.{EventRef}
 use Rattle.adya_line.specs.declared.event_ref.EventRef.TheVariants.{Write, Delete, Read, Scan, Commit, Abort}
-use Rattle.adya_line.specs.declared.entry_ref.ContentRef.{ContentRef}
-use Rattle.adya_line.specs.declared.entry_ref.ContentRef.TheVariants.{Live, Dead}
-use Rattle.adya_line.specs.declared.entry_ref.EntryRef.{EntryRef}
+use Rattle.adya_values.specs.declared.entry_ref.EntryRef.{EntryRef}
+use Rattle.adya_values.specs.Mirror.Refs.{view_entry, view_version}
 use Rattle.adya_line.specs.declared.entries.Entries.{Entries}
 use Rattle.adya_line.specs.Computing.Reading.{entries_of}
-
-abbrev pub view_version : VersionRef → Version
-view_version v = record { key = v.key.now; txn = v.txn; m = v.m }
-
-abbrev pub view_content : ContentRef → Content
-view_content (Live v) = plain.Live v.bytes.now
-view_content Dead = plain.Dead
-
-abbrev pub view_entry : EntryRef → Entry
-view_entry e = record { version = view_version e.version; content = view_content e.content }
 
 abbrev pub view : EventRef → Event
 view (Write w) = plain.Write w.version.txn w.version.key.now w.version.m w.value.now

@@ -1,13 +1,12 @@
 //! The entries of a scan that lies in a line.
 
 ghost use Rattle.std.specs.Prelude.{◌≡◌, map, IfOk, OnOk};
-ghost use Rattle.adya_values.specs.Mirror.Events.{entry_of};
+ghost use Rattle.adya_values.specs.Mirror.Refs.{view_content, view_entry};
 ghost use Rattle.adya_line.specs.Computing.Reading.{Gives, content_at, entry_at, entries_of, after_entries};
-ghost use Rattle.adya_line.specs.Mirror.{view_content, view_entry, entries_left};
+ghost use Rattle.adya_line.specs.Mirror.{entries_left};
 
-use crate::entry_ref::{ContentRef, EntryRef, ValueRef};
 use crate::fields::{after, value_at, version_at};
-use adya_values::Entry;
+use adya_values::{ContentRef, EntryRef, ValueRef};
 use std::alloc::AllocError;
 
 /// The entries of a scan, in the order of the line. They are read from the line one by one, and take no memory.
@@ -80,15 +79,15 @@ pub(crate) fn after_entries(bytes: &[u8]) -> &[u8]
 /// `AllocError` if there is no memory for them; then some of them are there.
 pub(crate) fn take_entries<'a>(
     bytes: &'a [u8],
-    entries: &mut Vec<Entry>,
+    entries: &mut Vec<EntryRef<'a>>,
 ) -> Result<&'a [u8], AllocError>
     ensures rest { IfOk result (λ r. r.now ≡ after_entries bytes.now) }
-    ensures entries { OnOk result (map entry_of entries.new.items ≡ entries_of bytes.now) }
+    ensures entries { OnOk result (map view_entry entries.new.items ≡ entries_of bytes.now) }
 {
     entries.clear();
     let mut left = bytes;
     'entries: while let Some((entry, rest)) = entry_at(left) {
-        entries.push(entry.to_entry())?;
+        entries.push(entry)?;
         left = rest;
     }
     Ok(left)

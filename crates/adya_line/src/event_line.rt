@@ -1,7 +1,7 @@
 //! The lines of events.
 
 ghost use Rattle.std.specs.Prelude.{◌≡◌, None, map, IfOk, IfSome, MatchOption};
-ghost use Rattle.adya_values.specs.Mirror.Events.{entry_of};
+ghost use Rattle.adya_values.specs.Mirror.Refs.{view_entry};
 ghost use Rattle.adya_values.specs.Meaning.Histories.{Event as Plain};
 ghost use Rattle.adya_line.specs.Computing.Reading.{Gives, write_at, delete_at, read_at, scan_at, event_at};
 ghost use Rattle.adya_line.specs.Machinery.Fronts.{scan_after};
@@ -13,7 +13,7 @@ use crate::entries::{after_entries, take_entries};
 use crate::event_ref::{DeleteRef, EndRef, EventRef, ReadRef, ScanRef, WriteRef};
 use crate::fields::{after, key_at, txn_at, value_at, version_at};
 use crate::txn_line::txn_at_line;
-use adya_values::Entry;
+use adya_values::EntryRef;
 use std::alloc::AllocError;
 
 /// Reads a write after its letter.
@@ -135,10 +135,10 @@ pub fn read_event(line: &[u8]) -> Option<EventRef<'_>>
 /// Reads a scan after its letter, and puts its entries in place of what is there.
 fn scan_with<'a>(
     bytes: &'a [u8],
-    entries: &mut Vec<Entry>,
+    entries: &mut Vec<EntryRef<'a>>,
 ) -> Result<Option<EventRef<'a>>, AllocError>
     ensures exact { IfOk result (λ r. Gives view r (scan_at bytes.now)) }
-    ensures entries { IfOk result (λ r. IfSome r (λ e. map entry_of entries.new.items ≡ entries_in (view e))) }
+    ensures entries { IfOk result (λ r. IfSome r (λ e. map view_entry entries.new.items ≡ entries_in (view e))) }
 {
     let Some(scan) = scan_front(bytes) else {
         return Ok(None);
@@ -160,10 +160,10 @@ fn scan_with<'a>(
 #[inline(never)]
 pub fn read_event_with<'a>(
     line: &'a [u8],
-    entries: &mut Vec<Entry>,
+    entries: &mut Vec<EntryRef<'a>>,
 ) -> Result<Option<EventRef<'a>>, AllocError>
     ensures exact { IfOk result (λ r. Gives view r (event_at line.now)) }
-    ensures entries { IfOk result (λ r. IfSome r (λ e. map entry_of entries.new.items ≡ entries_in (view e))) }
+    ensures entries { IfOk result (λ r. IfSome r (λ e. map view_entry entries.new.items ≡ entries_in (view e))) }
 {
     if let [b's', rest @ ..] = line {
         return scan_with(rest, entries);

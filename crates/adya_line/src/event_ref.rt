@@ -1,26 +1,13 @@
 //! Events that lie in a line.
 
 ghost use Rattle.std.specs.Prelude.{◌≡◌, true};
-ghost use Rattle.adya_values.specs.Meaning.Keys.{is_key, is_value, IsTxn, IsMod};
-ghost use Rattle.adya_values.specs.Mirror.Events.{value_of};
+ghost use Rattle.adya_values.specs.Meaning.Keys.{is_key, is_value, IsTxn};
 
-use crate::entries::Entries;
-use adya_values::{Entry, EventView, Key, Listed, Mod, Txn, Value, Version};
+use crate::entries::{Entries, take_entries};
+use adya_values::{
+    Entry, EntryRef, EventView, Events, Key, Listed, Txn, Value, Version, VersionRef,
+};
 use std::alloc::{AllocError, Global};
-
-/// A version whose key is a slice of the line.
-#[derive(Clone, Copy)]
-pub struct VersionRef<'a> {
-    /// The bytes of the key, 1 to 32.
-    pub key: &'a [u8],
-    /// Who wrote it, from 1 on.
-    pub txn: u32,
-    /// Which of the writes of this key by this transaction it was, counted from 1.
-    pub m: u16,
-    pub ghost is_key: { is_key key.now ≡ true },
-    pub ghost is_txn: { IsTxn txn },
-    pub ghost is_mod: { IsMod m },
-}
 
 /// A write whose key and value are slices of the line.
 #[derive(Clone, Copy)]
@@ -95,8 +82,9 @@ pub enum EventRef<'a> {
 }
 
 impl<'a> EventRef<'a> {
-    ghost use Rattle.std.specs.Prelude.{map, IfOk, OnOk};
-    ghost use Rattle.adya_values.specs.Mirror.Events.{entries_of, entry_of, view_of};
+    ghost use Rattle.std.specs.Prelude.{◌++◌, ◌∷◌, [], map, IfOk, OnErr, OnOk};
+    ghost use Rattle.adya_values.specs.Mirror.Events.{entries_of, entry_of, events_of, view_of};
+    ghost use Rattle.adya_values.specs.Mirror.Refs.{view_entry};
     ghost use Rattle.adya_line.specs.Mirror.{view, entries_in, entries_left};
 
     /// Walks the entries of a scan, in the order of the line; their keys and values are slices of the line. Other
@@ -117,21 +105,51 @@ impl<'a> EventRef<'a> {
         ensures { IfOk result (λ v. map entry_of v.items ≡ entries_in (view self.now)) }
     {
         let mut entries = Vec::new(alloc);
-        self.read_entries(&mut entries)?;
+        let mut left = self.entries();
+        while let Some(entry) = left.next() {
+            entries.push(entry.entry())?;
+        }
         Ok(entries)
     }
 
-    /// Puts the entries of a scan by themselves in place of what is there, in the order of the line; other events have none.
-    /// `AllocError` if there is no memory for them; then some of them are there.
-    pub fn read_entries(&self, entries: &mut Vec<Entry>) -> Result<(), AllocError>
-        ensures { OnOk result (map entry_of entries.new.items ≡ entries_in (view self.now)) }
+    /// Puts the entries of a scan in place of what is there, in the order of the line; other events have none. Their keys and
+    /// values are slices of the line. `AllocError` if there is no memory for them; then some of them are there.
+    pub fn read_entries(&self, entries: &mut Vec<EntryRef<'a>>) -> Result<(), AllocError>
+        ensures { OnOk result (map view_entry entries.new.items ≡ entries_in (view self.now)) }
     {
-        entries.clear();
-        let mut left = self.entries();
-        while let Some(entry) = left.next() {
-            entries.push(entry.to_entry())?;
+        match self {
+            EventRef::Scan(scan) => {
+                take_entries(scan.listed, entries)?;
+            }
+            _ => entries.clear(),
         }
         Ok(())
+    }
+
+    /// Adds the event to the list, with these entries in place of those in the line, which only a scan has. `AllocError` if memory
+    /// is refused; then the list has the same events as before.
+    pub fn add_to(&self, events: &mut Events, entries: &Listed<'_>) -> Result<(), AllocError>
+        ensures ok { entries_of entries.now ≡ entries_in (view self.now)
+            → OnOk result (events_of events.new ≡ events_of events.old ++ view self.now ∷ []) }
+        ensures err { OnErr result (events_of events.new ≡ events_of events.old) }
+    {
+        match self {
+            EventRef::Write(w) => {
+                let v = w.version;
+                events.push_write(v.writer(), v.key, v.modification(), w.value)
+            }
+            EventRef::Delete(d) => {
+                let v = d.version;
+                events.push_delete(v.writer(), v.key, v.modification())
+            }
+            EventRef::Read(r) => {
+                let v = r.version;
+                events.push_read(txn_of(r.txn), v.key, v.writer(), v.modification(), r.value)
+            }
+            EventRef::Scan(s) => events.push_scan(txn_of(s.txn), s.low, s.high, entries),
+            EventRef::Commit(e) => events.push(&EventView::Commit { txn: txn_of(e.txn) }),
+            EventRef::Abort(e) => events.push(&EventView::Abort { txn: txn_of(e.txn) }),
+        }
     }
 
     /// Returns the event with these entries in place of those in the line, which only a scan has.
@@ -145,7 +163,7 @@ impl<'a> EventRef<'a> {
                     txn,
                     key,
                     m,
-                    value: value_of(w.value),
+                    value: Value::from_valid(w.value),
                 }
             }
             EventRef::Delete(d) => {
@@ -155,12 +173,12 @@ impl<'a> EventRef<'a> {
             EventRef::Read(r) => EventView::Read {
                 txn: txn_of(r.txn),
                 version: r.version.version(),
-                value: value_of(r.value),
+                value: Value::from_valid(r.value),
             },
             EventRef::Scan(s) => EventView::Scan {
                 txn: txn_of(s.txn),
-                low: key_of(s.low),
-                high: key_of(s.high),
+                low: Key::from_valid(s.low),
+                high: Key::from_valid(s.high),
                 entries,
             },
             EventRef::Commit(e) => EventView::Commit { txn: txn_of(e.txn) },
@@ -181,37 +199,9 @@ impl<'a> ScanRef<'a> {
     }
 }
 
-impl VersionRef<'_> {
-    ghost use Rattle.adya_line.specs.Mirror.{view_version};
-
-    pub(crate) fn version(&self) -> Version
-        ensures { result ≡ view_version self.now }
-    {
-        Version {
-            key: key_of(self.key),
-            txn: txn_of(self.txn),
-            m: Mod::new(u64::from(self.m)).unwrap(),
-        }
-    }
-}
-
 fn txn_of(number: u32) -> Txn
     requires { IsTxn number }
     ensures { result ≡ number }
 {
     Txn::new(u64::from(number)).unwrap()
-}
-
-fn key_of(bytes: &[u8]) -> Key
-    requires { is_key bytes.now ≡ true }
-    ensures { result ≡ bytes.now }
-{
-    Key::from_valid(bytes)
-}
-
-pub(crate) fn value_of(bytes: &[u8]) -> Value
-    requires { is_value bytes.now ≡ true }
-    ensures { value_of result ≡ bytes.now }
-{
-    Value::from_valid(bytes)
 }

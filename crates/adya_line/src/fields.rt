@@ -5,10 +5,9 @@ ghost use Rattle.std.specs.List.{prefix_len};
 ghost use Rattle.adya_values.specs.Meaning.Keys.{is_key, is_value, is_key_byte, is_value_byte, IsTxn, IsMod};
 ghost use Rattle.adya_line.specs.Computing.Reading.{Gives, after, text_at, txn_at, mod_at, version_at, key_between};
 ghost use Rattle.adya_line.specs.Machinery.Numbers.{digit_at, number_from};
-ghost use Rattle.adya_line.specs.Mirror.{view_version};
+ghost use Rattle.adya_values.specs.Mirror.Refs.{view_version};
 
-use crate::event_ref::VersionRef;
-use adya_values::{MAX_KEY_LEN, MAX_VALUE_LEN, is_key_byte, is_value_byte};
+use adya_values::{MAX_KEY_LEN, MAX_VALUE_LEN, VersionRef, is_key_byte, is_value_byte};
 
 /// Returns what follows the byte, if it stands at the front.
 #[tactic(auto, unfolding(crate::specs::Computing::Reading::after))]

@@ -2,7 +2,6 @@
 #![tactic(auto)]
 
 mod entries;
-mod entry_ref;
 mod event_line;
 mod event_ref;
 mod fields;
@@ -16,10 +15,10 @@ mod txn_line;
 mod unfinished_line;
 mod writing;
 
+pub use adya_values::{ContentRef, EntryRef, ValueRef, VersionRef};
 pub use entries::Entries;
-pub use entry_ref::{ContentRef, EntryRef, ValueRef};
 pub use event_line::{read_event, read_event_with};
-pub use event_ref::{DeleteRef, EndRef, EventRef, ReadRef, ScanRef, VersionRef, WriteRef};
+pub use event_ref::{DeleteRef, EndRef, EventRef, ReadRef, ScanRef, WriteRef};
 pub use final_line::final_pair;
 pub use fixed_line::{history_head, is_tail, second_head, serial_head, tail};
 pub use history_lines::{HistoryLine, history_line};

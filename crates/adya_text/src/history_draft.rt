@@ -2,7 +2,8 @@
 
 ghost use Rattle.std.specs.Prelude.{◌≡◌, ◌<◌, ◌+◌, ◌^◌, [], length, map, true, false, IfSome, IfOk, OnOk, MatchOption};
 ghost use Rattle.adya_values.specs.Computing.Shapes.{fits_edition, is_shape};
-ghost use Rattle.adya_values.specs.Mirror.Events.{entry_of, events_of};
+ghost use Rattle.adya_values.specs.Mirror.Events.{events_of};
+ghost use Rattle.adya_values.specs.Mirror.Refs.{view_entry};
 ghost use Rattle.adya_values.specs.Mirror.Histories.{history_of};
 ghost use Rattle.adya_values.specs.Mirror.Lines.{finals_of, orders_of};
 ghost use Rattle.adya_line.specs.Clauses.HistoryLines.{Line, EventLine, line_of};
@@ -17,7 +18,7 @@ use crate::line_reader::Draft;
 use crate::read_fault::Text;
 use adya_line::laws::{event_lines, history_lines};
 use adya_line::{EventRef, HistoryLine, history_line, read_event_with};
-use adya_values::{Edition, Entry, Events, Finals, History, Key, Listed, Orders, Txn};
+use adya_values::{Edition, EntryRef, Events, Finals, History, Key, Listed, Orders, Txn};
 use std::alloc::{AllocError, Global};
 
 /// How many bytes the head has, `adya 1` or `adya 2`.
@@ -114,8 +115,6 @@ pub(crate) struct HistoryDraft {
     unfinished: Vec<Txn>,
     orders: Orders,
     finals: Finals,
-    /// What the last scan lists; the memory is used again.
-    entries: Vec<Entry>,
 }
 
 impl HistoryDraft {
@@ -131,7 +130,6 @@ impl HistoryDraft {
             unfinished: Vec::new(alloc),
             orders: Orders::new(alloc),
             finals: Finals::new(alloc),
-            entries: Vec::new(alloc),
         }
     }
 
@@ -161,28 +159,33 @@ impl HistoryDraft {
         let Stage::Events { .. } = self.stage else {
             return Ok(false);
         };
-        let Some(event) = read_event_with(line, &mut self.entries)? else {
+        let mut entries = Vec::new(self.alloc);
+        let Some(event) = read_event_with(line, &mut entries)? else {
             return Ok(false);
         };
-        self.push_with_entries(&event)?;
+        self.push_with_entries(&event, &entries)?;
         Ok(true)
     }
 
-    /// Takes the line of the event, whose entries are those that were read last.
-    fn push_with_entries(&mut self, event: &EventRef<'_>) -> Result<(), AllocError>
-        requires { map entry_of self.old.entries.items ≡ entries_in (view event.now) }
+    /// Takes the line of the event, which lists these entries.
+    fn push_with_entries(
+        &mut self,
+        event: &EventRef<'_>,
+        entries: &[EntryRef<'_>],
+    ) -> Result<(), AllocError>
+        requires { map view_entry entries.now ≡ entries_in (view event.now) }
         ensures { OnOk result (Takes self.old self.new (EventLine (view event.now))) }
     {
-        let entries = Listed::Plain(&self.entries);
-        self.events.push(&event.with_entries(entries))
+        event.add_to(&mut self.events, &Listed::Slices(entries))
     }
 
     /// Takes the line of the event.
     fn push_event(&mut self, event: &EventRef<'_>) -> Result<(), AllocError>
         ensures { OnOk result (Takes self.old self.new (EventLine (view event.now))) }
     {
-        event.read_entries(&mut self.entries)?;
-        self.push_with_entries(event)
+        let mut entries = Vec::new(self.alloc);
+        event.read_entries(&mut entries)?;
+        self.push_with_entries(event, &entries)
     }
 
     // Not inlined: a caller pays at its entry for all locals of what is inlined into it.

@@ -1,8 +1,8 @@
 //! What events hold, packed: each key once, the bytes of all values one after the other, and what scans list.
 
 ghost use Rattle.std.specs.Prelude.{◌≡◌, ◌≤◌, ◌<◌, ◌+◌, ◌++◌, ◌∷◌, [], ℕ, List, true, map, Some, slice_get, slice_index_or, length, vec_len, vec_capacity, IsOk, IfOk, OnOk, OnErr, option_map, is_some, false, IfSome, MatchOption};
-ghost use Rattle.adya_values.specs.Meaning.Keys.{is_value, key_eq, key_lt};
-ghost use Rattle.adya_values.specs.Meaning.Histories.{Abort, Live, Scan};
+ghost use Rattle.adya_values.specs.Meaning.Keys.{is_key, is_value, key_eq, key_lt};
+ghost use Rattle.adya_values.specs.Meaning.Histories.{Abort, Delete, Live, Read, Scan, Write};
 ghost use Rattle.adya_values.specs.Meaning.Events.{aborts, observed, shown, txn_of, written};
 ghost use Rattle.adya_values.specs.Computing.Faults.{content_eq, is_entry, version_eq};
 ghost use Rattle.adya_values.specs.Machinery.KeyTables.{keys_in, CanTake};
@@ -12,8 +12,8 @@ ghost use Rattle.std.specs.List.{list_all};
 use crate::key_table::{KeyTable, MOST_KEYS};
 use crate::place::Place;
 use crate::{
-    Content, Entry, Event, EventView, Key, Listed, MAX_VALUE_LEN, Mod, NumberedVersion, Observed,
-    PackedEntries, Seen, Txn, Value, Version,
+    ContentRef, Entry, EntryRef, Event, EventView, Key, Listed, MAX_VALUE_LEN, Mod,
+    NumberedVersion, Observed, PackedEntries, Seen, Txn, Value, Version,
 };
 use std::alloc::{AllocError, Global};
 
@@ -102,7 +102,8 @@ pub(crate) struct Arena {
 }
 
 impl Arena {
-    ghost use Rattle.adya_values.specs.Mirror.Events.{content_of, entries_of, entry_of, event_of, event_of_row, view_of, value_of};
+    ghost use Rattle.adya_values.specs.Mirror.Refs.{view_content, view_entry};
+    ghost use Rattle.adya_values.specs.Mirror.Events.{entries_of, entry_of, event_of, event_of_row, view_of, value_of};
     ghost use Rattle.adya_values.specs.Mirror.Numbers.{bounds, both_at, number_in, seen_in, version_in};
     ghost use Rattle.adya_values.specs.Machinery.Packed.{entry_of_seen, is_row_of, is_listing, is_seen_of, scan_in, entry_count, CanSee, Extends, HasRoomIn};
 
@@ -390,7 +391,7 @@ impl Arena {
         requires { is_seen_of self.now seen.now ≡ true }
         ensures { entry_of result ≡ entry_of_seen self.now seen.now }
     {
-        seen.entry(&self.keys, &self.bytes)
+        seen.slices(&self.keys, &self.bytes).entry()
     }
 
     /// Returns how many keys there are.
@@ -407,7 +408,7 @@ impl Arena {
         ensures number { result ≡ number_in (keys_in self.now.keys) key }
         ensures there { IfSome result (λ n. n < length (keys_in self.now.keys)) }
     {
-        self.keys.number_of(&key)
+        self.keys.number_of(key.bytes())
     }
 
     /// Returns the version.
@@ -498,49 +499,115 @@ impl Arena {
     {
         match event {
             EventView::Write { txn, key, m, value } => {
-                let key = self.number(*key)?;
-                let at = self.add_value(key, value)?;
-                Ok(Row::Write {
-                    txn: *txn,
-                    m: *m,
-                    key,
-                    at,
-                    len: value.bytes().len() as u8,
-                })
+                self.keep_write(*txn, key.bytes(), *m, value.bytes())
             }
-            EventView::Delete { txn, key, m } => Ok(Row::Delete {
-                txn: *txn,
-                m: *m,
-                key: self.number(*key)?,
-            }),
+            EventView::Delete { txn, key, m } => self.keep_delete(*txn, key.bytes(), *m),
             EventView::Read {
                 txn,
                 version,
                 value,
             } => {
-                let key = self.number(version.key)?;
-                let at = self.keep_value(key, value)?;
-                Ok(Row::Read {
-                    txn: *txn,
-                    writer: version.txn,
-                    m: version.m,
+                let Version {
                     key,
-                    at,
-                    len: value.bytes().len() as u8,
-                })
+                    txn: writer,
+                    m,
+                } = version;
+                self.keep_read(*txn, key.bytes(), *writer, *m, value.bytes())
             }
             EventView::Scan {
                 txn,
                 low,
                 high,
                 entries,
-            } => {
-                let listing = self.list(*low, *high, entries)?;
-                self.scan_row(*txn, listing)
-            }
+            } => self.keep_scan(*txn, low.bytes(), high.bytes(), entries),
             EventView::Commit { txn } => Ok(Row::Commit { txn: *txn }),
             EventView::Abort { txn } => Ok(Row::Abort { txn: *txn }),
         }
+    }
+
+    /// Keeps what the write holds, as [`keep`](Arena::keep) does.
+    pub(crate) fn keep_write(
+        &mut self,
+        txn: Txn,
+        key: &[u8],
+        m: Mod,
+        value: &[u8],
+    ) -> Result<Row, AllocError>
+        requires key { is_key key.now ≡ true }
+        requires value { is_value value.now ≡ true }
+        ensures extends { Extends self.old self.new }
+        ensures row { IfOk result (λ r. is_row_of self.new r ≡ true) }
+        ensures event { IfOk result (λ r. event_of_row self.new r ≡ Write txn key.now m value.now) }
+        ensures succeeds { HasRoomIn self.old 0 → IsOk result }
+    {
+        let key = self.number(key)?;
+        let at = self.add_value(key, value)?;
+        Ok(Row::Write {
+            txn,
+            m,
+            key,
+            at,
+            len: value.len() as u8,
+        })
+    }
+
+    /// Keeps what the delete holds, as [`keep`](Arena::keep) does.
+    pub(crate) fn keep_delete(&mut self, txn: Txn, key: &[u8], m: Mod) -> Result<Row, AllocError>
+        requires { is_key key.now ≡ true }
+        ensures extends { Extends self.old self.new }
+        ensures row { IfOk result (λ r. is_row_of self.new r ≡ true) }
+        ensures event { IfOk result (λ r. event_of_row self.new r ≡ Delete txn key.now m) }
+        ensures succeeds { HasRoomIn self.old 0 → IsOk result }
+    {
+        let key = self.number(key)?;
+        Ok(Row::Delete { txn, m, key })
+    }
+
+    /// Keeps what the read holds, as [`keep`](Arena::keep) does.
+    pub(crate) fn keep_read(
+        &mut self,
+        txn: Txn,
+        key: &[u8],
+        writer: Txn,
+        m: Mod,
+        value: &[u8],
+    ) -> Result<Row, AllocError>
+        requires key { is_key key.now ≡ true }
+        requires value { is_value value.now ≡ true }
+        ensures extends { Extends self.old self.new }
+        ensures row { IfOk result (λ r. is_row_of self.new r ≡ true) }
+        ensures event { IfOk result (λ r. event_of_row self.new r ≡ Read txn (record { key = key.now; txn = writer; m = m }) value.now) }
+        ensures succeeds { HasRoomIn self.old 0 → IsOk result }
+    {
+        let key = self.number(key)?;
+        let at = self.keep_value(key, value)?;
+        Ok(Row::Read {
+            txn,
+            writer,
+            m,
+            key,
+            at,
+            len: value.len() as u8,
+        })
+    }
+
+    /// Keeps what the scan holds, as [`keep`](Arena::keep) does.
+    pub(crate) fn keep_scan(
+        &mut self,
+        txn: Txn,
+        low: &[u8],
+        high: &[u8],
+        entries: &Listed<'_>,
+    ) -> Result<Row, AllocError>
+        requires low { is_key low.now ≡ true }
+        requires high { is_key high.now ≡ true }
+        ensures extends { Extends self.old self.new }
+        ensures row { IfOk result (λ r. is_row_of self.new r ≡ true) }
+        ensures event { IfOk result (λ r. event_of_row self.new r ≡ Scan txn low.now high.now (entries_of entries.now)) }
+        ensures succeeds { HasRoomIn self.old (length (entries_of entries.now)) → IsOk result }
+    {
+        let listing = self.list(low, high, entries)?;
+        self.scan_row(txn, listing)
     }
 
     /// Keeps what the event holds, as [`keep`](Arena::keep) does.
@@ -557,8 +624,9 @@ impl Arena {
     }
 
     /// Returns the number of the key, which it gets if it has none.
-    fn number(&mut self, key: Key) -> Result<u32, AllocError>
-        ensures number { IfOk result (λ n. slice_get (keys_in self.new.keys) n ≡ Some key) }
+    fn number(&mut self, key: &[u8]) -> Result<u32, AllocError>
+        requires { is_key key.now ≡ true }
+        ensures number { IfOk result (λ n. slice_get (keys_in self.new.keys) n ≡ Some key.now) }
         ensures front { IsFront (keys_in self.old.keys) (keys_in self.new.keys) }
         ensures bytes { self.new.bytes ≡ self.old.bytes }
         ensures listings { self.new.listings ≡ self.old.listings }
@@ -586,8 +654,9 @@ impl Arena {
     }
 
     /// Adds the value of the key, and returns its place.
-    fn add_value(&mut self, key: u32, value: &Value) -> Result<usize, AllocError>
-        ensures kept { let v = value_of value.now in IfOk result (λ n. IsKept self.new.bytes.items v n (length v)) }
+    fn add_value(&mut self, key: u32, value: &[u8]) -> Result<usize, AllocError>
+        requires { is_value value.now ≡ true }
+        ensures kept { IfOk result (λ n. IsKept self.new.bytes.items value.now n (length value.now)) }
         ensures front { IsFront self.old.bytes.items self.new.bytes.items }
         ensures keys { self.new.keys ≡ self.old.keys }
         ensures listings { self.new.listings ≡ self.old.listings }
@@ -596,14 +665,15 @@ impl Arena {
         ensures capacity { vec_capacity self.old.bytes ≤ vec_capacity self.new.bytes }
         ensures succeeds { vec_len self.old.bytes + 64 ≤ vec_capacity self.old.bytes → IsOk result }
     {
-        let at = self.add(value.bytes())?;
+        let at = self.add(value)?;
         note(&mut self.last_values, key, at);
         Ok(at)
     }
 
     /// Returns the place of the value of the key. It isn't added again if the last one that was added for the key begins with it.
-    fn keep_value(&mut self, key: u32, value: &Value) -> Result<usize, AllocError>
-        ensures kept { let v = value_of value.now in IfOk result (λ n. IsKept self.new.bytes.items v n (length v)) }
+    fn keep_value(&mut self, key: u32, value: &[u8]) -> Result<usize, AllocError>
+        requires { is_value value.now ≡ true }
+        ensures kept { IfOk result (λ n. IsKept self.new.bytes.items value.now n (length value.now)) }
         ensures front { IsFront self.old.bytes.items self.new.bytes.items }
         ensures keys { self.new.keys ≡ self.old.keys }
         ensures listings { self.new.listings ≡ self.old.listings }
@@ -614,7 +684,7 @@ impl Arena {
     {
         if let Some(last) = self.last_values.get(key as usize) {
             let at = *last as usize;
-            if holds(&self.bytes, at, value.bytes()) {
+            if holds(&self.bytes, at, value) {
                 return Ok(at);
             }
         }
@@ -622,29 +692,34 @@ impl Arena {
     }
 
     /// Keeps the entry, and returns its row. If memory is refused, what was there is still where it was.
-    fn see(&mut self, entry: &Entry) -> Result<Seen, AllocError>
+    fn see(&mut self, entry: &EntryRef<'_>) -> Result<Seen, AllocError>
         ensures extends { Extends self.old self.new }
         ensures listings { self.new.listings ≡ self.old.listings }
         ensures seen { self.new.seen ≡ self.old.seen }
         ensures there { IfOk result (λ s. is_seen_of self.new s ≡ true) }
-        ensures entry { IfOk result (λ s. entry_of_seen self.new s ≡ entry_of entry.now) }
+        ensures entry { IfOk result (λ s. entry_of_seen self.new s ≡ view_entry entry.now) }
         ensures succeeds { (n : ℕ) → CanSee self.old (n + 1) → IsOk result × CanSee self.new n }
     {
-        let key = self.number(entry.version.key)?;
+        let version = &entry.version;
+        let key = self.number(version.key)?;
         let (at, len) = self.keep_content(key, &entry.content)?;
         Ok(Seen {
             len,
-            m: entry.version.m,
-            txn: entry.version.txn,
+            m: version.modification(),
+            txn: version.writer(),
             key,
             at: Place::new(at),
         })
     }
 
     /// Keeps the value, if there is one, and returns its place and its length.
-    fn keep_content(&mut self, key: u32, content: &Content) -> Result<(usize, u8), AllocError>
+    fn keep_content(
+        &mut self,
+        key: u32,
+        content: &ContentRef<'_>,
+    ) -> Result<(usize, u8), AllocError>
         ensures kept { IfOk result (λ p. is_content self.new.bytes.items p.0 p.1 ≡ true) }
-        ensures content { IfOk result (λ p. content_in self.new.bytes.items p.0 p.1 ≡ content_of content.now) }
+        ensures content { IfOk result (λ p. content_in self.new.bytes.items p.0 p.1 ≡ view_content content.now) }
         ensures front { IsFront self.old.bytes.items self.new.bytes.items }
         ensures keys { self.new.keys ≡ self.old.keys }
         ensures listings { self.new.listings ≡ self.old.listings }
@@ -654,19 +729,19 @@ impl Arena {
         ensures succeeds { vec_len self.old.bytes + 64 ≤ vec_capacity self.old.bytes → IsOk result }
     {
         match content {
-            Content::Dead => Ok((0, 0)),
-            Content::Live(value) => {
-                let at = self.keep_value(key, value)?;
-                Ok((at, value.bytes().len() as u8))
+            ContentRef::Dead => Ok((0, 0)),
+            ContentRef::Live(value) => {
+                let at = self.keep_value(key, value.bytes)?;
+                Ok((at, value.bytes.len() as u8))
             }
         }
     }
 
-    fn add_entry(&mut self, entry: &Entry) -> Result<(), AllocError>
+    fn add_entry(&mut self, entry: &EntryRef<'_>) -> Result<(), AllocError>
         ensures extends { Extends self.old self.new }
         ensures listings { self.new.listings ≡ self.old.listings }
         ensures entries { OnOk result (map (entry_of_seen self.new) self.new.seen.items
-            ≡ map (entry_of_seen self.old) self.old.seen.items ++ entry_of entry.now ∷ []) }
+            ≡ map (entry_of_seen self.old) self.old.seen.items ++ view_entry entry.now ∷ []) }
         ensures succeeds { (n : ℕ) → CanSee self.old (n + 1) → IsOk result × CanSee self.new n }
     {
         let seen = self.see(entry)?;
@@ -682,18 +757,20 @@ impl Arena {
         ensures succeeds { CanSee self.old (length (entries_of entries.now)) → IsOk result }
     {
         for j in 0..entries.len() {
-            self.add_entry(&entries.at(j))?;
+            self.add_entry(&entries.slices_at(j))?;
         }
         Ok(())
     }
 
     /// Adds the entries, and returns their listing with these bounds.
-    fn list(&mut self, low: Key, high: Key, entries: &Listed<'_>) -> Result<Listing, AllocError>
+    fn list(&mut self, low: &[u8], high: &[u8], entries: &Listed<'_>) -> Result<Listing, AllocError>
+        requires low { is_key low.now ≡ true }
+        requires high { is_key high.now ≡ true }
         ensures extends { Extends self.old self.new }
         ensures listings { self.new.listings ≡ self.old.listings }
         ensures listed { IfOk result (λ l. is_listing (length (keys_in self.new.keys)) (length self.new.seen.items) (Some l) ≡ true) }
         ensures scan { (t : ℕ) → IfOk result (λ l. scan_in (keys_in self.new.keys) (map (entry_of_seen self.new) self.new.seen.items) t (Some l)
-            ≡ Scan t low high (entries_of entries.now)) }
+            ≡ Scan t low.now high.now (entries_of entries.now)) }
         ensures succeeds { HasRoomIn self.old (length (entries_of entries.now)) → IsOk result }
     {
         let low = self.number(low)?;

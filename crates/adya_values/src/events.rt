@@ -5,7 +5,9 @@ ghost use Rattle.std.specs.List.{list_all};
 ghost use Rattle.adya_values.specs.Machinery.Packed.{entry_count, is_row_of};
 
 use crate::arena::{Arena, Row};
-use crate::{Entry, Event, EventView, Key, NumberedVersion, Observed, Seen, Txn, Version};
+use crate::{
+    Entry, Event, EventView, Key, Listed, Mod, NumberedVersion, Observed, Seen, Txn, Version,
+};
 use std::alloc::{AllocError, Global};
 
 /// Events in the order in which they happened, packed: a row of a fixed size for each, and beside the rows each key once, the bytes
@@ -22,11 +24,11 @@ impl Events {
     ghost use Rattle.std.specs.Prelude.{false, is_some, option_and_then, slice_index_or, IfSome, MatchOption};
     ghost use Rattle.adya_values.specs.Meaning.Events.{aborts, commit_of, observed, shown, txn_of, written};
     ghost use Rattle.adya_values.specs.Computing.Faults.{is_entry};
-    ghost use Rattle.adya_values.specs.Meaning.Histories.{Abort, Commit};
-    ghost use Rattle.adya_values.specs.Meaning.Keys.{key_lt};
+    ghost use Rattle.adya_values.specs.Meaning.Histories.{Abort, Commit, Delete, Read, Scan, Write};
+    ghost use Rattle.adya_values.specs.Meaning.Keys.{is_key, is_value, key_lt};
     ghost use Rattle.adya_values.specs.Mirror.Numbers.{bounds, both_at, has_seen, keys_of, number_in, seen_entry, seen_in, version_in, AreNumbered};
     ghost use Rattle.adya_values.specs.Machinery.Seen.{key_at};
-    ghost use Rattle.adya_values.specs.Mirror.Events.{entry_of, event_of, event_of_row, view_of, events_of, HasRows, HasRoomFor};
+    ghost use Rattle.adya_values.specs.Mirror.Events.{entries_of, entry_of, event_of, event_of_row, view_of, events_of, HasRows, HasRoomFor};
 
     /// Makes a list of no events. It takes no memory.
     pub fn new(alloc: Global) -> Events
@@ -58,6 +60,77 @@ impl Events {
         ensures rows { (n : ℕ) → HasRows self.old (n + 1) → HasRows self.new n }
     {
         let row = self.arena.keep_owned(event)?;
+        self.add(row)
+    }
+
+    /// Adds the transaction's write of a key, as [`push`](Events::push) does. The bytes form a key and a value.
+    pub fn push_write(
+        &mut self,
+        txn: Txn,
+        key: &[u8],
+        m: Mod,
+        value: &[u8],
+    ) -> Result<(), AllocError>
+        requires key { is_key key.now ≡ true }
+        requires value { is_value value.now ≡ true }
+        ensures ok { OnOk result (events_of self.new ≡ events_of self.old ++ Write txn key.now m value.now ∷ []) }
+        ensures err { OnErr result (events_of self.new ≡ events_of self.old) }
+        ensures fits { HasRows self.old 1 → HasRoomFor self.old 0 → IsOk result }
+        ensures rows { (n : ℕ) → HasRows self.old (n + 1) → HasRows self.new n }
+    {
+        let row = self.arena.keep_write(txn, key, m, value)?;
+        self.add(row)
+    }
+
+    /// Adds the transaction's delete of a key, as [`push`](Events::push) does. The bytes form a key.
+    pub fn push_delete(&mut self, txn: Txn, key: &[u8], m: Mod) -> Result<(), AllocError>
+        requires { is_key key.now ≡ true }
+        ensures ok { OnOk result (events_of self.new ≡ events_of self.old ++ Delete txn key.now m ∷ []) }
+        ensures err { OnErr result (events_of self.new ≡ events_of self.old) }
+        ensures fits { HasRows self.old 1 → HasRoomFor self.old 0 → IsOk result }
+        ensures rows { (n : ℕ) → HasRows self.old (n + 1) → HasRows self.new n }
+    {
+        let row = self.arena.keep_delete(txn, key, m)?;
+        self.add(row)
+    }
+
+    /// Adds the transaction's read of a version, as [`push`](Events::push) does. The bytes form a key and a value.
+    pub fn push_read(
+        &mut self,
+        txn: Txn,
+        key: &[u8],
+        writer: Txn,
+        m: Mod,
+        value: &[u8],
+    ) -> Result<(), AllocError>
+        requires key { is_key key.now ≡ true }
+        requires value { is_value value.now ≡ true }
+        ensures ok { OnOk result (events_of self.new
+            ≡ events_of self.old ++ Read txn (record { key = key.now; txn = writer; m = m }) value.now ∷ []) }
+        ensures err { OnErr result (events_of self.new ≡ events_of self.old) }
+        ensures fits { HasRows self.old 1 → HasRoomFor self.old 0 → IsOk result }
+        ensures rows { (n : ℕ) → HasRows self.old (n + 1) → HasRows self.new n }
+    {
+        let row = self.arena.keep_read(txn, key, writer, m, value)?;
+        self.add(row)
+    }
+
+    /// Adds the transaction's scan of a range of keys, as [`push`](Events::push) does. The bytes form keys.
+    pub fn push_scan(
+        &mut self,
+        txn: Txn,
+        low: &[u8],
+        high: &[u8],
+        entries: &Listed<'_>,
+    ) -> Result<(), AllocError>
+        requires low { is_key low.now ≡ true }
+        requires high { is_key high.now ≡ true }
+        ensures ok { OnOk result (events_of self.new ≡ events_of self.old ++ Scan txn low.now high.now (entries_of entries.now) ∷ []) }
+        ensures err { OnErr result (events_of self.new ≡ events_of self.old) }
+        ensures fits { HasRows self.old 1 → HasRoomFor self.old (length (entries_of entries.now)) → IsOk result }
+        ensures rows { (n : ℕ) → HasRows self.old (n + 1) → HasRows self.new n }
+    {
+        let row = self.arena.keep_scan(txn, low, high, entries)?;
         self.add(row)
     }
 

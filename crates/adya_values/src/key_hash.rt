@@ -3,11 +3,9 @@
 ghost use Rattle.std.specs.Prelude.{◌≡◌, ◌<◌, ◌*◌, ◌/◌, fold};
 ghost use Rattle.adya_values.specs.Machinery.KeyHash.{bucket_of, hash_of, mixed};
 
-use crate::Key;
-
 /// Returns the key's bucket among so many.
 #[inline(always)]
-pub(crate) fn bucket_of(key: &Key, buckets: usize) -> usize
+pub(crate) fn bucket_of(key: &[u8], buckets: usize) -> usize
     requires some { 0 < buckets }
     requires few { buckets < 4294967296 }
     ensures within { result < buckets }
@@ -27,10 +25,10 @@ fn bucket(hash: u32, buckets: usize) -> usize
 }
 
 #[inline(always)]
-fn hash_of(key: &Key) -> u32
+fn hash_of(key: &[u8]) -> u32
     ensures { result ≡ hash_of key.now }
 {
-    let sum = key.bytes().iter().fold(0, |h, b| mixed(h, *b));
+    let sum = key.iter().fold(0, |h, b| mixed(h, *b));
     (sum / 4_294_967_296) as u32
 }
 

@@ -77,7 +77,7 @@ impl KeyTable {
 
     /// Returns the bytes of the key with the number.
     #[inline(always)]
-    fn text(&self, number: u32) -> &[u8]
+    pub(crate) fn text(&self, number: u32) -> &[u8]
         requires { number < length (keys_in self.now) }
         ensures same { result.now ≡ key_at (keys_in self.now) number }
         ensures limits { is_key result.now ≡ true }
@@ -97,15 +97,15 @@ impl KeyTable {
 
     /// Returns whether the key has the number.
     #[inline(always)]
-    fn is_at(&self, key: &Key, number: u32) -> bool
+    fn is_at(&self, key: &[u8], number: u32) -> bool
         requires { number < length (keys_in self.now) }
         ensures { result ≡ key_eq key.now (key_at (keys_in self.now) number) }
     {
-        key.bytes() == self.text(number)
+        key == self.text(number)
     }
 
     /// Returns the number of the key.
-    pub(crate) fn number_of(&self, key: &Key) -> Option<u32>
+    pub(crate) fn number_of(&self, key: &[u8]) -> Option<u32>
         ensures number { result ≡ number_in (keys_in self.now) key.now }
         ensures there { IfSome result (λ n. n < length (keys_in self.now)) }
         ensures same { IfSome result (λ n. slice_get (keys_in self.now) n ≡ Some key.now) }
@@ -127,24 +127,26 @@ impl KeyTable {
 
     /// Returns the number of the key, which it gets if it has none. If memory is refused, or if there are 4,294,967,295 keys, the
     /// keys stay as they were.
-    pub(crate) fn number(&mut self, key: Key) -> Result<u32, AllocError>
-        ensures number { IfOk result (λ n. slice_get (keys_in self.new) n ≡ Some key) }
+    pub(crate) fn number(&mut self, key: &[u8]) -> Result<u32, AllocError>
+        requires { is_key key.now ≡ true }
+        ensures number { IfOk result (λ n. slice_get (keys_in self.new) n ≡ Some key.now) }
         ensures front { IsFront (keys_in self.old) (keys_in self.new) }
         ensures count { length (keys_in self.new) ≤ length (keys_in self.old) + 1 }
         ensures succeeds { CanTake self.old 1 → length (keys_in self.old) + 1 < 4294967296 → IsOk result }
         ensures room { (n : ℕ) → CanTake self.old (n + 1) → CanTake self.new n }
     {
-        if let Some(number) = self.number_of(&key) {
+        if let Some(number) = self.number_of(key) {
             return Ok(number);
         }
         self.add(key)
     }
 
     /// Adds a key that has no number, and returns its number.
-    fn add(&mut self, key: Key) -> Result<u32, AllocError>
-        requires { AreOthers (keys_in self.old) key 0 }
-        ensures number { IfOk result (λ n. slice_get (keys_in self.new) n ≡ Some key) }
-        ensures ok { OnOk result (keys_in self.new ≡ keys_in self.old ++ key ∷ []) }
+    fn add(&mut self, key: &[u8]) -> Result<u32, AllocError>
+        requires limits { is_key key.now ≡ true }
+        requires fresh { AreOthers (keys_in self.old) key.now 0 }
+        ensures number { IfOk result (λ n. slice_get (keys_in self.new) n ≡ Some key.now) }
+        ensures ok { OnOk result (keys_in self.new ≡ keys_in self.old ++ key.now ∷ []) }
         ensures err { OnErr result (keys_in self.new ≡ keys_in self.old) }
         ensures succeeds { CanTake self.old 1 → length (keys_in self.old) + 1 < 4294967296 → IsOk result }
         ensures room { (n : ℕ) → CanTake self.old (n + 1) → CanTake self.new n }
@@ -155,9 +157,9 @@ impl KeyTable {
         }
         self.widen()?;
         self.next.reserve(1)?;
-        self.texts.push(key.bytes())?;
+        self.texts.push(key)?;
         self.next.push_reserved(0);
-        let bucket = bucket_of(&key, self.heads.len());
+        let bucket = bucket_of(key, self.heads.len());
         chain(&mut self.heads, &mut self.next, bucket, count as u32);
         Ok(count as u32)
     }
@@ -235,8 +237,8 @@ fn heads_of(
 {
     let mut heads = vec![in alloc; 0; buckets]?;
     for number in 0..texts.len() {
-        let key = Key::from_valid(texts.at(number));
-        chain(&mut heads, next, bucket_of(&key, buckets), number as u32);
+        let bucket = bucket_of(texts.at(number), buckets);
+        chain(&mut heads, next, bucket, number as u32);
     }
     Ok(heads)
 }

@@ -7,6 +7,7 @@
 
 mod arena;
 mod edition;
+mod entry_ref;
 mod event;
 mod events;
 mod fault;
@@ -28,6 +29,7 @@ mod serial;
 mod value;
 
 pub use edition::Edition;
+pub use entry_ref::{ContentRef, EntryRef, ValueRef, VersionRef};
 pub use event::{Content, Entry, Event, EventView, NumberedVersion, Version};
 pub use events::Events;
 pub use fault::{CheckFault, Rule};

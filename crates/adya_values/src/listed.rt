@@ -6,7 +6,7 @@ ghost use Rattle.adya_values.specs.Machinery.KeyTables.{keys_in};
 ghost use Rattle.adya_values.specs.Machinery.Seen.{entry_in, is_seen};
 
 use crate::key_table::KeyTable;
-use crate::{Entry, Seen};
+use crate::{Entry, EntryRef, Seen};
 
 /// Entries that a list of events holds: they name the keys by their numbers, and places in the bytes of all values.
 #[derive(Clone, Copy)]
@@ -18,15 +18,16 @@ pub struct PackedEntries<'a> {
 }
 
 impl PackedEntries<'_> {
-    ghost use Rattle.adya_values.specs.Mirror.Events.{entry_of};
+    ghost use Rattle.adya_values.specs.Mirror.Refs.{view_entry};
 
     /// Returns the entry at the index, counted from 0.
-    fn at(&self, i: usize) -> Entry
+    #[inline(always)]
+    fn at(&self, i: usize) -> EntryRef<'_>
         requires { i < length self.now.seen.now }
-        ensures { option_map (entry_in (keys_in self.now.keys.now) self.now.bytes.now) (slice_get self.now.seen.now i) ≡ Some (entry_of result) }
+        ensures { option_map (entry_in (keys_in self.now.keys.now) self.now.bytes.now) (slice_get self.now.seen.now i) ≡ Some (view_entry result) }
     {
         let seen = self.seen[i];
-        seen.entry(self.keys, self.bytes)
+        seen.slices(self.keys, self.bytes)
     }
 }
 
@@ -35,12 +36,15 @@ impl PackedEntries<'_> {
 pub enum Listed<'a> {
     /// A list of entries.
     Plain(&'a [Entry]),
+    /// A list of entries whose keys and values are slices of a text.
+    Slices(&'a [EntryRef<'a>]),
     /// Entries that a list of events holds.
     Packed(PackedEntries<'a>),
 }
 
 impl Listed<'_> {
     ghost use Rattle.adya_values.specs.Mirror.Events.{entries_of, entry_of};
+    ghost use Rattle.adya_values.specs.Mirror.Refs.{view_entry};
 
     /// Returns how many entries there are.
     pub fn len(&self) -> usize
@@ -48,6 +52,7 @@ impl Listed<'_> {
     {
         match self {
             Listed::Plain(entries) => entries.len(),
+            Listed::Slices(entries) => entries.len(),
             Listed::Packed(packed) => packed.seen.len(),
         }
     }
@@ -57,8 +62,23 @@ impl Listed<'_> {
         requires { i < length (entries_of self.now) }
         ensures { slice_get (entries_of self.now) i ≡ Some (entry_of result) }
     {
+        self.slices_at(i).entry()
+    }
+
+    /// Returns the same entry with slices of its key and value.
+    #[inline(always)]
+    pub(crate) fn slices_at(&self, i: usize) -> EntryRef<'_>
+        requires { i < length (entries_of self.now) }
+        ensures { slice_get (entries_of self.now) i ≡ Some (view_entry result) }
+    {
         match self {
             Listed::Plain(entries) => {
+                let Some(entry) = entries.get(i) else {
+                    unreachable!()
+                };
+                entry.slices()
+            }
+            Listed::Slices(entries) => {
                 let Some(entry) = entries.get(i) else {
                     unreachable!()
                 };

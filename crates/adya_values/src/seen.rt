@@ -5,7 +5,7 @@ ghost use Rattle.adya_values.specs.Machinery.Seen.{content_in, entry_in, is_cont
 
 use crate::key_table::KeyTable;
 use crate::place::Place;
-use crate::{Content, Entry, Mod, NumberedVersion, Txn, Value, Version};
+use crate::{ContentRef, EntryRef, Mod, NumberedVersion, Txn, ValueRef, VersionRef};
 
 /// An entry that an event of a list sees, packed. Of its key it has the number, and of its value the place where the bytes
 /// begin and how many there are; a dead version has none. The list says the rest. It takes 20 bytes.
@@ -23,7 +23,7 @@ pub struct Seen {
 
 impl Seen {
     ghost use Rattle.adya_values.specs.Machinery.KeyTables.{keys_in};
-    ghost use Rattle.adya_values.specs.Mirror.Events.{content_of, entry_of};
+    ghost use Rattle.adya_values.specs.Mirror.Refs.{view_content, view_entry};
 
     /// Returns the version, by the number of its key.
     #[inline(always)]
@@ -47,30 +47,28 @@ impl Seen {
 
     /// Returns the entry, given the keys and the bytes of all values.
     #[inline(always)]
-    pub(crate) fn entry(&self, keys: &KeyTable, bytes: &[u8]) -> Entry
+    pub(crate) fn slices<'a>(&self, keys: &'a KeyTable, bytes: &'a [u8]) -> EntryRef<'a>
         requires { is_seen (length (keys_in keys.now)) bytes.now self.now ≡ true }
-        ensures { entry_of result ≡ entry_in (keys_in keys.now) bytes.now self.now }
+        ensures { view_entry result ≡ entry_in (keys_in keys.now) bytes.now self.now }
     {
-        Entry {
-            version: Version {
-                key: keys.key(self.key),
-                txn: self.txn,
-                m: self.m,
-            },
+        EntryRef {
+            version: VersionRef::of(keys.text(self.key), self.txn, self.m),
             content: self.content(bytes),
         }
     }
 
     #[inline(always)]
-    fn content(&self, bytes: &[u8]) -> Content
+    fn content<'a>(&self, bytes: &'a [u8]) -> ContentRef<'a>
         requires { is_content bytes.now self.now.at self.now.len ≡ true }
-        ensures { content_of result ≡ content_in bytes.now self.now.at self.now.len }
+        ensures { view_content result ≡ content_in bytes.now self.now.at self.now.len }
     {
         if self.len == 0 {
-            return Content::Dead;
+            return ContentRef::Dead;
         }
         let at = self.at.get();
-        Content::Live(Value::from_valid(&bytes[at..at + self.len as usize]))
+        ContentRef::Live(ValueRef {
+            bytes: &bytes[at..at + self.len as usize],
+        })
     }
 }
 

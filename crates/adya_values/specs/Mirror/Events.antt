@@ -9,6 +9,7 @@ use Rattle.adya_values.specs.declared.value.Value.{Value}
 use Rattle.adya_values.specs.declared.event.Content.{Content as ContentValue}
 use Rattle.adya_values.specs.declared.event.Entry.{Entry as EntryValue}
 use Rattle.adya_values.specs.Meaning.Keys.{Bytes}
+use Rattle.adya_values.specs.Mirror.Refs.{view_entry}
 use Rattle.adya_values.specs.declared.listed.Listed.{Listed}
 use Rattle.adya_values.specs.declared.listed.Listed.TheVariants as As
 use Rattle.adya_values.specs.Machinery.Seen.{entry_in}
@@ -43,6 +44,7 @@ event_of (In.Abort t) = Abort t
 -- what a scan lists
 abbrev pub entries_of : Listed → List Entry
 entries_of (As.Plain es) = map entry_of es.now
+entries_of (As.Slices es) = map view_entry es.now
 entries_of (As.Packed p) = map (entry_in (keys_in p.keys.now) p.bytes.now) p.seen.now
 
 abbrev pub view_of : EventView → Event

@@ -1,9 +1,6 @@
 use Rattle.std.proofs.Common.{◌∙◌, ◌+◌, ◌<◌, ◌≡◌, [], ap, arith, length, set, slice_index, subst, suc, sym}
 use Rattle.std.proofs.lemmas.List.{length-set}
 use Rattle.std.proofs.lemmas.Option.{get_or_from_slice_get}
-use Rattle.lemmas.proofs.Members.{Contains-slice_get}
-use Rattle.lemmas.proofs.Tests.{all_pass}
-use Rattle.adya_values.specs.Meaning.Keys.{is_key}
 use Rattle.adya_values.specs.Machinery.KeyHash.{bucket_of}
 use Rattle.adya_values.specs.Machinery.Buckets.{place_in, AreChained}
 use Rattle.adya_values.specs.Machinery.Seen.{key_at}
@@ -11,25 +8,20 @@ use Rattle.adya_values.specs.Machinery.Parts.{parts_of}
 use Rattle.adya_values.proofs.KeyChains.{one_more_chained}
 use Rattle.adya_values.proofs.key_table.heads_of.Goals as goal
 
-pub from_valid-key-requires : goal.from_valid-key-requires
-from_valid-key-requires c =
-    let ks = parts_of c.args.texts.now in
-    all_pass is_key ks c.at.result.now c.requires.valid (Contains-slice_get ks c.loop-number.number c.at.result.now c.at.ensures)
-
 pub loop-number-preserved : goal.loop-number-preserved
 loop-number-preserved c =
     let ks = parts_of c.args.texts.now in
     let n = c.loop-number.number in
     let hs = c.loop-number.heads.items in
     let before = c.loop-number.next.items in
-    let b = c.bucket_of.result in
+    let b = c.bucket_of-bucket.result in
     let i = c.loop-number.invariant in
     let same = i.buckets in
-    let within = c.bucket_of.ensures.within in
+    let within = c.bucket_of-bucket.ensures.within in
     let less : b < length hs = omega (arith, within, same) in
     let place : b ≡ place_in ks (length hs) n =
-    c.bucket_of.ensures.value ∙
-    (ap (bucket_of c.args.buckets) (c.from_valid-key.ensures ∙ sym (get_or_from_slice_get ks n c.at.result.now [] c.at.ensures)) ∙
+    c.bucket_of-bucket.ensures.value ∙
+    (ap (bucket_of c.args.buckets) (sym (get_or_from_slice_get ks n c.at.result.now [] c.at.ensures)) ∙
     ap (λ m. bucket_of m (key_at ks n)) (sym same)) in
     let turn = c.loop-number-test.true in
     let counted = i.count in

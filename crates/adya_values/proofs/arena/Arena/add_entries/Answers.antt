@@ -3,7 +3,8 @@ use Rattle.std.proofs.lemmas.List.{take_all}
 use Rattle.std.proofs.Math.Bool.{false≢true}
 use Rattle.std.specs.Result.{is_ok}
 use Rattle.lemmas.proofs.Steps.{turn_at}
-use Rattle.adya_values.specs.Mirror.Events.{entries_of, entry_of}
+use Rattle.adya_values.specs.Mirror.Events.{entries_of}
+use Rattle.adya_values.specs.Mirror.Refs.{view_entry}
 use Rattle.adya_values.specs.Machinery.Packed.{entry_of_seen, CanSee}
 use Rattle.adya_values.proofs.PackedRows.{extends_itself, extends_trans}
 use Rattle.adya_values.proofs.arena.Arena.add_entries.Goals as goal
@@ -26,7 +27,7 @@ pub returns-in_err-add_entry-clause-succeeds : goal.returns-in_err-add_entry-cla
 returns-in_err-add_entry-clause-succeeds c room =
     let es = entries_of c.args.entries.now in
     let j = c.loop-j.j in
-    let turn = turn_at es j (entry_of c.at.result) c.at.ensures in
+    let turn = turn_at es j (view_entry c.slices_at.result) c.slices_at.ensures in
     let more : length es - j ≡ length es - (j + 1) + 1 = omega (arith, turn.less) in
     let fits = c.add_entry.ensures.succeeds (length es - (j + 1)) (subst (CanSee c.loop-j.self) more (c.loop-j.invariant.room room)) in
     absurd (false≢true (sym (ap is_ok c.in_err-add_entry.was) ∙ fits.0))
@@ -36,8 +37,8 @@ loop-j-preserved c =
     let es = entries_of c.args.entries.now in
     let a = c.args.self.now in
     let j = c.loop-j.j in
-    let e = entry_of c.at.result in
-    let turn = turn_at es j e c.at.ensures in
+    let e = view_entry c.slices_at.result in
+    let turn = turn_at es j e c.slices_at.ensures in
     let before = map (entry_of_seen a) a.seen.items in
     let more : length es - j ≡ length es - (j + 1) + 1 = omega (arith, turn.less) in
     record {

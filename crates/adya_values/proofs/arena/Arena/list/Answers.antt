@@ -42,16 +42,16 @@ returns-in_err-add_entries-clause-succeeds c room =
     }) in
     absurd (false≢true (sym (ap is_ok c.in_err-add_entries.was) ∙ fits))
 
-low_at : (c : goal.After-len) → IsKeyAt (keys_in c.add_entries.new.self.keys) c.in_ok-low.low c.args.low
+low_at : (c : goal.After-len) → IsKeyAt (keys_in c.add_entries.new.self.keys) c.in_ok-low.low c.args.low.now
 low_at c =
-    key_stays_in _ _ c.add_entries.ensures.extends.keys c.in_ok-low.low c.args.low
-    (key_stays_in (keys_in c.number.new.self.keys) (keys_in c.number-2.new.self.keys) c.number-2.ensures.front c.in_ok-low.low c.args.low
-    (found_key (keys_in c.number.new.self.keys) c.in_ok-low.low c.args.low c.in_ok-low.ensures.number))
+    key_stays_in _ _ c.add_entries.ensures.extends.keys c.in_ok-low.low c.args.low.now
+    (key_stays_in (keys_in c.number.new.self.keys) (keys_in c.number-2.new.self.keys) c.number-2.ensures.front c.in_ok-low.low c.args.low.now
+    (found_key (keys_in c.number.new.self.keys) c.in_ok-low.low c.args.low.now c.in_ok-low.ensures.number))
 
-high_at : (c : goal.After-len) → IsKeyAt (keys_in c.add_entries.new.self.keys) c.in_ok-high.high c.args.high
+high_at : (c : goal.After-len) → IsKeyAt (keys_in c.add_entries.new.self.keys) c.in_ok-high.high c.args.high.now
 high_at c =
-    key_stays_in _ _ c.add_entries.ensures.extends.keys c.in_ok-high.high c.args.high
-    (found_key (keys_in c.number-2.new.self.keys) c.in_ok-high.high c.args.high c.in_ok-high.ensures.number)
+    key_stays_in _ _ c.add_entries.ensures.extends.keys c.in_ok-high.high c.args.high.now
+    (found_key (keys_in c.number-2.new.self.keys) c.in_ok-high.high c.args.high.now c.in_ok-high.ensures.number)
 
 pub returns-clause-listed : goal.returns-clause-listed
 returns-clause-listed c =
@@ -77,8 +77,8 @@ returns-clause-scan c t =
     let all = map (entry_of_seen b) b.seen.items in
     let from : l.from ≡ length before = c.len-from.ensures ∙ (a.seen.ok.0 ∙ sym (length-map a.seen.items (entry_of_seen a))) in
     ap (λ k. Scan t k (key_at ks l.high) (part l.from l.count all)) (low_at c).key ∙
-    (ap (λ k. Scan t c.args.low k (part l.from l.count all)) (high_at c).key ∙
-    ap (Scan t c.args.low c.args.high)
+    (ap (λ k. Scan t c.args.low.now k (part l.from l.count all)) (high_at c).key ∙
+    ap (Scan t c.args.low.now c.args.high.now)
     (ap (λ n. part n l.count all) from ∙
     (ap (λ n. part (length before) n all) c.len.ensures ∙
     (ap (part (length before) (length es)) c.in_ok-add_entries.ensures.entries ∙ last_part before es))))

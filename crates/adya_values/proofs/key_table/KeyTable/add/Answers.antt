@@ -17,10 +17,10 @@ invariant_of-self-2 c =
     let count : c.len-count.result ≡ length ks = c.len-count.ensures ∙ ap length (sym same) in
     let buckets : c.len.result ≡ length t.heads.items = c.len.ensures ∙ t.heads.ok.0 in
     let within = c.bucket_of-bucket.ensures.within in
-    let made = table_with ks t.heads.items t.next.items c.args.key b t.table c.bytes.ensures.limits
-    (subst (λ js. AreOthers js c.args.key 0) (sym same) c.requires) (omega (arith, count, c.if-count-ge-MOST_KEYS.false))
-    (c.bucket_of-bucket.ensures.value ∙ ap (λ m. bucket_of m c.args.key) buckets) (omega (arith, within, buckets)) in
-    let texts : parts_of c.push.new.self ≡ ks ++ c.args.key ∷ [] = c.in_ok-push.ensures.ok ∙ ap (λ k. ks ++ k ∷ []) c.bytes.ensures.same in
+    let made = table_with ks t.heads.items t.next.items c.args.key.now b t.table c.requires.limits
+    (subst (λ js. AreOthers js c.args.key.now 0) (sym same) c.requires.fresh) (omega (arith, count, c.if-count-ge-MOST_KEYS.false))
+    (c.bucket_of-bucket.ensures.value ∙ ap (λ m. bucket_of m c.args.key.now) buckets) (omega (arith, within, buckets)) in
+    let texts : parts_of c.push.new.self ≡ ks ++ c.args.key.now ∷ [] = c.in_ok-push.ensures.ok in
     let links : c.push_reserved.new.self.items ≡ t.next.items ++ 0 ∷ [] = c.push_reserved.ensures.items ∙ ap (λ xs. xs ++ 0 ∷ []) c.reserve.ensures.items in
     let heads : c.chain.new.heads.items ≡ set t.heads.items b (suc (length ks)) = c.chain.ensures.heads ∙ ap (λ n. set t.heads.items b (suc n)) count in
     let next : c.chain.new.next.items ≡ set (t.next.items ++ 0 ∷ []) (length ks) (slice_index t.heads.items b) =
@@ -35,17 +35,16 @@ returns-clause-number c =
     let ks = parts_of t.texts in
     let same : keys_in t ≡ keys_in c.args.self.now = ap parts_of c.widen.ensures.texts in
     let count : c.len-count.result ≡ length ks = c.len-count.ensures ∙ ap length (sym same) in
-    let texts : parts_of c.push.new.self ≡ ks ++ c.args.key ∷ [] = c.in_ok-push.ensures.ok ∙ ap (λ k. ks ++ k ∷ []) c.bytes.ensures.same in
-    ap (λ js. slice_get js c.len-count.result) texts ∙ (ap (slice_get (ks ++ c.args.key ∷ [])) count ∙ slice_get_end ks c.args.key)
+    let texts : parts_of c.push.new.self ≡ ks ++ c.args.key.now ∷ [] = c.in_ok-push.ensures.ok in
+    ap (λ js. slice_get js c.len-count.result) texts ∙ (ap (slice_get (ks ++ c.args.key.now ∷ [])) count ∙ slice_get_end ks c.args.key.now)
 
 pub returns-clause-room : goal.returns-clause-room
 returns-clause-room c n room =
     let t = c.widen.new.self in
     let b = c.bucket_of-bucket.result in
-    let fits = key_fits c.args.key c.bytes.ensures.limits in
-    let count = ap length c.bytes.ensures.same in
+    let fits = key_fits c.args.key.now c.requires.limits in
     let texts : HasRoom t.texts (n + 1) ((n + 1) * 32) = subst (λ p. HasRoom p (n + 1) ((n + 1) * 32)) (sym c.widen.ensures.texts) room.texts in
-    let left : HasRoom t.texts (n + 1) (n * 32 + length c.bytes.result.now) = record { ends = texts.ends; all = let all = texts.all in omega (arith, all, fits, count) } in
+    let left : HasRoom t.texts (n + 1) (n * 32 + length c.args.key.now) = record { ends = texts.ends; all = let all = texts.all in omega (arith, all, fits) } in
     let kept : 0 < length t.heads.items = c.widen.ensures.kept room.buckets in
     record {
       buckets = subst (λ m. 0 < m) (sym (ap length c.chain.ensures.heads ∙ length-set t.heads.items b _)) kept;

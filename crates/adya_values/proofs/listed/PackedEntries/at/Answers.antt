@@ -11,4 +11,4 @@ returns c =
     let ss = c.args.self.now.seen.now in
     let s = get_or ss c.args.i c.index-self-i.result in
     let found : slice_get ss c.args.i ≡ Some s = slice_get-get_or ss c.args.i c.index-self-i.result c.requires in
-    ap (option_map (entry_in ks bs)) found ∙ ap Some (sym c.entry.ensures)
+    ap (option_map (entry_in ks bs)) found ∙ ap Some (sym c.slices.ensures)
