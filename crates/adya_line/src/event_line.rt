@@ -16,6 +16,9 @@ use crate::txn_line::txn_at_line;
 use adya_values::EntryRef;
 use std::alloc::AllocError;
 
+/// How many bytes the text of an entry has, about, with a short key and value.
+const ENTRY_LEN: usize = 24;
+
 /// Reads a write after its letter.
 #[tactic(auto, unfolding(crate::specs::Computing::Reading::write_at))]
 fn write_at(bytes: &[u8]) -> Option<EventRef<'_>>
@@ -143,6 +146,7 @@ fn scan_with<'a>(
     let Some(scan) = scan_front(bytes) else {
         return Ok(None);
     };
+    entries.reserve(scan.listed.len() / ENTRY_LEN)?;
     let left = take_entries(scan.listed, entries)?;
     let Some(rest) = after(b')', left) else {
         return Ok(None);
