@@ -1,6 +1,5 @@
 -- The places of writers in all lines, event by event and in the end.
 use Rattle.std.proofs.Common.{◌≡◌, ◌≢◌, ℕ, suc, ◌+◌, ◌<◌, Bool, true, false, not, is_some, ◌||◌, List, [], length, get_or, set, replicate, Option, Some, slice_get, slice_index, map, refl, sym, ◌∙◌, ap, subst, inl, inr, arith, get_or-set_other, get_or-set_same}
-use Rattle.adya_terms.specs.Machinery.Indices.{indices_in}
 use Rattle.std.specs.List.{filter_map, list_all}
 use Rattle.std.proofs.lemmas.Bool.{and_from, both_ways, cases_eq, cases_lt, false_from_ne_true, not-true, or_cases}
 use Rattle.std.proofs.lemmas.List.{length-replicate, length-set}
@@ -12,6 +11,7 @@ use Rattle.adya_values.specs.Meaning.Events.{is_committed, last_write, written}
 use Rattle.adya_values.specs.declared.fault.Rule.TheVariants.{M7}
 use Rattle.adya_values.specs.Clauses.Rules.{installs}
 use Rattle.adya_values.specs.Computing.Faults.{lists_exactly, order_faults}
+use Rattle.adya_values.specs.Machinery.Indices.{indices_in}
 use Rattle.adya_values.specs.Machinery.Seen.{key_at}
 use Rattle.adya_values.proofs.Faults.{each_passes}
 use Rattle.adya_values.proofs.Keys.{rises_pairs}

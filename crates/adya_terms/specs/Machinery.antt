@@ -9,7 +9,6 @@ pub mod Scans
 pub mod EventIndex
 pub mod Checks
 pub mod Reads
-pub mod Indices
 pub mod LinePlaces
 pub mod LineWriters
 pub mod Places

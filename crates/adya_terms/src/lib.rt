@@ -6,7 +6,6 @@ mod checked;
 mod ends;
 mod event_index;
 mod finals;
-mod indices;
 mod line_numbers;
 mod line_places;
 mod line_writers;

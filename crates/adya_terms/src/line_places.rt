@@ -3,11 +3,11 @@
 ghost use Rattle.std.specs.Prelude.{◌≡◌, ◌<◌, ◌^◌, ◌+◌, ◌==◌, suc, length, set, slice_get, slice_index, not, option_and_then, IfOk, OnOk};
 ghost use Rattle.std.specs.List.{list_all};
 ghost use Rattle.adya_values.specs.Mirror.Lines.{orders_of};
-ghost use Rattle.adya_terms.specs.Machinery.Indices.{indices_in};
+ghost use Rattle.adya_values.specs.Machinery.Indices.{indices_in};
 ghost use Rattle.adya_terms.specs.Machinery.LinePlaces.{blank, line_places, AreParts, AreStarts};
 
 use crate::Orders;
-use crate::indices::Indices;
+use adya_values::Indices;
 use std::alloc::{AllocError, Global};
 
 /// For each writer that an order line names the index of its last write of the line's key, as far as it is found. One list for

@@ -3,12 +3,12 @@
 ghost use Rattle.std.specs.Prelude.{◌≡◌, ◌<◌, ◌^◌, ℕ, List, Option, Some, false, true, suc, length, get_or, map, replicate, set, slice_get, slice_index, IfOk, MatchOption, OnOk};
 ghost use Rattle.adya_values.specs.Meaning.Keys.{Key as KeyValue, keys_rise};
 ghost use Rattle.adya_values.specs.Meaning.Histories.{Event, Order};
+ghost use Rattle.adya_values.specs.Machinery.Indices.{indices_in};
 ghost use Rattle.adya_values.specs.Machinery.Seen.{key_at};
 ghost use Rattle.adya_values.specs.Mirror.Lines.{orders_of};
 ghost use Rattle.adya_values.specs.Mirror.Numbers.{keys_of};
 ghost use Rattle.adya_terms.specs.Machinery.EventIndex.{indexed, keys_in, last_in};
 ghost use Rattle.adya_terms.specs.Machinery.Tables.{Own};
-ghost use Rattle.adya_terms.specs.Machinery.Indices.{indices_in};
 ghost use Rattle.adya_terms.specs.Machinery.LinePlaces.{blank, AreParts};
 ghost use Rattle.adya_terms.specs.Machinery.Places.{is_full, lacks_at, orders_in, places_in, AreLinesOf, ArePlaced, IsInjective, Installs};
 ghost use Rattle.adya_terms.specs.Mirror.LineNumbers.{FindsLines};

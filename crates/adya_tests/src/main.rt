@@ -35,6 +35,7 @@ mod failing_calls;
 mod files;
 mod given;
 mod graphs;
+mod index_lists;
 mod line_lists;
 mod lines;
 mod long_scan;
@@ -71,6 +72,7 @@ fn say_of(rt: &HostRuntime, name: &str) -> io::Result<()> {
         "values" => say_cases(rt, &values::cases(rt.alloc())),
         "event_lists" => event_lists::say_all(rt),
         "line_lists" => line_lists::say_all(rt),
+        "index_lists" => say_cases(rt, &index_lists::cases(rt.alloc())),
         "texts" => say_cases(rt, &texts::cases(rt.alloc())),
         "sources" => say_cases(rt, &sources::cases(rt.alloc())),
         "failing_calls" => say_cases(rt, &failing_calls::cases(rt.alloc())),

@@ -97,6 +97,9 @@ of_known buffer a text P none known all =
     let same : prepend_known buffer a ≡ Some text = ap (λ l. prepend_known l a) none ∙ prepend_known-nil a ∙ known in
     subst (λ o. IfSome o P) same all
 
+pub of_all : (buffer : List ℕ) (a : Option (List ℕ)) (P : List ℕ → Type 0) → buffer ≡ [] → IfSome (prepend_known buffer a) P → IfSome a P
+of_all buffer a P none all = subst (λ o. IfSome o P) (ap (λ l. prepend_known l a) none ∙ prepend_known-nil a) all
+
 pub on_ok : {T E : Type 0} {P : Type 0} (result : Result T E) → P → OnOk result P
 on_ok (Ok x) p = p
 on_ok (Err e) p = tt

@@ -1,5 +1,5 @@
 -- Keys chained by the buckets of a table: a key is found along the chain of its bucket, or it isn't there.
-use Rattle.std.proofs.Common.{◌≡◌, ◌∙◌, ◌≢◌, ℕ, zero, suc, ◌+◌, ◌<◌, ◌≤◌, ◌==◌, ◌&&◌, true, false, cond, List, [], ◌∷◌, ◌++◌, length, set, get_or, replicate, slice_get, slice_index, Some, None, sym, ap, subst, refl, arith, inl, inr, get_or-set_other, get_or-set_same}
+use Rattle.std.proofs.Common.{◌≡◌, ◌∙◌, ◌≢◌, ℕ, zero, suc, ◌+◌, ◌*◌, ◌<◌, ◌≤◌, ◌==◌, ◌&&◌, true, false, cond, List, [], ◌∷◌, ◌++◌, length, set, get_or, replicate, slice_get, slice_index, Some, None, sym, ap, subst, refl, arith, inl, inr, get_or-set_other, get_or-set_same}
 use Rattle.std.specs.Prelude.{nat_le, nat_lt}
 use Rattle.std.specs.List.{position_or_len, list_all, AllByRecursion, IsDistinct}
 use Rattle.std.proofs.lemmas.Bool.{and_from, and_parts, both_ways, cases_Bool, cases_eq, cases_lt, eq-eqb, eqb-true, leb-true, ltb-true}
@@ -15,6 +15,7 @@ use Rattle.adya_values.specs.Machinery.Buckets.{last_in, place_in, AreChained, A
 use Rattle.adya_values.specs.Machinery.KeyTables.{CanTake}
 use Rattle.adya_values.specs.declared.key_table.KeyTable.{KeyTable}
 use Rattle.adya_values.specs.Mirror.Numbers.{number_in}
+use Rattle.adya_values.proofs.IndexRoom.{fewer_fit}
 use Rattle.adya_values.proofs.KeyNumbers.{are_numbered}
 
 -- ---- the last in a bucket
@@ -264,10 +265,15 @@ key_fits k e = leb-true (length k) 32 (and_parts (nat_lt 0 (length k)) (nat_le (
 pub takes_less : (t : KeyTable) (n m : ℕ) → CanTake t (n + m) → CanTake t m
 takes_less t n m room =
     let next = room.next in
-    let ends = room.texts.ends in
-    let all = room.texts.all in
+    let texts = room.texts in
+    let all = texts.all in
+    let few = texts.few in
     record {
       buckets = room.buckets;
       next = omega (arith, next);
-      texts = record { ends = omega (arith, ends); all = omega (arith, all) };
+      texts = record {
+        ends = fewer_fit t.texts.ends (n + m) m (length t.texts.all.items + (n + m) * 32) (length t.texts.all.items + m * 32) (omega arith) (omega arith) texts.ends;
+        all = omega (arith, all);
+        few = omega (arith, few);
+      };
     }

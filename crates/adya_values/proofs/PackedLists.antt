@@ -1,10 +1,10 @@
 -- Packed lists: what is at an index, and what stays when a list is added.
-use Rattle.std.proofs.Common.{◌≡◌, ◌∙◌, ℕ, zero, suc, ◌+◌, ◌-◌, ◌<◌, ◌≤◌, true, List, [], ◌∷◌, ◌++◌, length, Some, slice_get, get_or, sym, ap, subst, refl, arith}
+use Rattle.std.proofs.Common.{◌≡◌, ◌∙◌, ℕ, zero, suc, ◌+◌, ◌-◌, ◌≤◌, true, List, [], ◌∷◌, ◌++◌, length, Some, slice_get, sym, ap, subst, refl, arith}
 use Rattle.std.proofs.Math.Nat.{le_trans}
 use Rattle.std.specs.Prelude.{nat_le}
 use Rattle.std.proofs.lemmas.Bool.{and_from, and_parts, eq-eqb, eqb-true, le-leb, leb-true}
 use Rattle.std.proofs.lemmas.List.{length-append}
-use Rattle.std.proofs.lemmas.Option.{none-some, same_Some, slice_get-get_or}
+use Rattle.std.proofs.lemmas.Option.{none-some, same_Some}
 use Rattle.adya_values.specs.Machinery.Seen.{part}
 use Rattle.adya_values.specs.Machinery.Ends.{are_ends, end_before, parts_in}
 use Rattle.adya_values.proofs.PackedParts.{last_part, part_stays}
@@ -42,9 +42,6 @@ pub begins_after : (es : List ℕ) (at i e : ℕ) → slice_get es i ≡ Some e 
 begins_after [] at i e g = absurd (none-some e g)
 begins_after (d ∷ es) at zero e g = same_Some d e g
 begins_after (d ∷ es) at (suc i) e g = begins_after es d i e g
-
-pub at_index : {A : Type 0} (xs : List A) (i : ℕ) (x : A) → x ≡ get_or xs i x → i < length xs → slice_get xs i ≡ Some x
-at_index xs i x e l = slice_get-get_or xs i x l ∙ ap Some (sym e)
 
 module _ {A : Type 0} (xs : List A) where
   pub found_part : (es : List ℕ) (at i e : ℕ) → slice_get es i ≡ Some e
@@ -103,11 +100,9 @@ pub record IsFound {A : Type 0} (xs : List A) (es : List ℕ) (i begin e : ℕ) 
   pub between : IsBetween (length xs) begin e
   pub get : slice_get (parts_in xs es 0) i ≡ Some (part begin (e - begin) xs)
 
-pub found : {A : Type 0} (xs : List A) (es : List ℕ) (i begin e : ℕ) → are_ends (length xs) es 0 ≡ true → i < length (parts_in xs es 0)
-    → begin ≡ end_before es 0 i → e ≡ get_or es i e → IsFound xs es i begin e
-found xs es i begin e v l b g =
-    let there : slice_get es i ≡ Some e = at_index es i e g (omega (arith, l, length-parts_in xs es 0)) in
-    record {
-      between = rw b (end_at (length xs) es 0 i e v there);
-      get = rw b (found_part xs es 0 i e there);
-    }
+pub found : {A : Type 0} (xs : List A) (es : List ℕ) (i begin e : ℕ) → are_ends (length xs) es 0 ≡ true
+    → begin ≡ end_before es 0 i → slice_get es i ≡ Some e → IsFound xs es i begin e
+found xs es i begin e v b there = record {
+  between = rw b (end_at (length xs) es 0 i e v there);
+  get = rw b (found_part xs es 0 i e there);
+}

@@ -20,7 +20,7 @@ pub(crate) const MOST_KEYS: usize = 4_294_967_295;
 /// How many buckets a table begins with.
 const FIRST_BUCKETS: usize = 16;
 
-/// Keys, each of which has its index for a number. Their bytes lie one after the other, and a key takes some 20 bytes beside its
+/// Keys, each of which has its index for a number. Their bytes lie one after the other, and a key takes some 16 bytes beside its
 /// own: keys in a set by themselves would take 61.
 #[derive(Drop)]
 pub(crate) struct KeyTable {

@@ -3,15 +3,21 @@
 ghost use Rattle.std.specs.Prelude.{◌≡◌, ◌<◌, ◌≤◌, ◌-◌, ◌+◌, ◌++◌, ◌∷◌, ◌^◌, ℕ, [], true, Some, length, slice_get, IfOk, IsOk, OnOk, OnErr};
 ghost use Rattle.adya_values.specs.Machinery.Seen.{part};
 ghost use Rattle.adya_values.specs.Machinery.Ends.{are_ends, end_before};
+ghost use Rattle.adya_values.specs.Machinery.Indices.{indices_in};
 
+use crate::Indices;
 use std::alloc::{AllocError, Global};
+
+/// So many lists can be counted. Memory is refused long before.
+const MOST_PARTS: usize = (1 << 60) - 1;
 
 /// Lists of elements, one after the other in one list, and where each of them ends.
 #[derive(Drop)]
 pub(crate) struct Parts<T> {
     all: Vec<T>,
-    ends: Vec<usize>,
-    pub ghost valid: { are_ends (length all.items) ends.items 0 ≡ true },
+    ends: Indices,
+    pub ghost valid: { are_ends (length all.items) (indices_in ends) 0 ≡ true },
+    pub ghost few: { length (indices_in ends) < 2 ^ 60 },
 }
 
 impl<T: Copy> Parts<T> {
@@ -23,7 +29,7 @@ impl<T: Copy> Parts<T> {
     {
         Parts {
             all: Vec::new(alloc),
-            ends: Vec::new(alloc),
+            ends: Indices::new(alloc),
         }
     }
 
@@ -32,8 +38,11 @@ impl<T: Copy> Parts<T> {
         ensures room { OnOk result (HasRoom self.new parts elements) }
         ensures same { parts_of self.new ≡ parts_of self.old }
     {
-        self.ends.reserve(parts)?;
-        self.all.reserve(elements)
+        if parts > MOST_PARTS - self.ends.len() {
+            return Err(AllocError);
+        }
+        self.all.reserve(elements)?;
+        self.ends.reserve(parts, self.all.len() + elements)
     }
 
     /// Adds a list at the end. If memory is refused, the lists stay as they were.
@@ -43,7 +52,11 @@ impl<T: Copy> Parts<T> {
         ensures succeeds { HasRoom self.old 1 (length part.now) → IsOk result }
         ensures room { (n m : ℕ) → HasRoom self.old (n + 1) (m + length part.now) → HasRoom self.new n m }
     {
-        self.ends.reserve(1)?;
+        if self.ends.len() == MOST_PARTS {
+            return Err(AllocError);
+        }
+        self.ends
+            .reserve(1, self.all.len().saturating_add(part.len()))?;
         self.all.extend_from_slice(part)?;
         self.ends.push_reserved(self.all.len());
         Ok(())
@@ -55,7 +68,7 @@ impl<T: Copy> Parts<T> {
     {
         Ok(Parts {
             all: Vec::from_slice(alloc, &self.all)?,
-            ends: Vec::from_slice(alloc, &self.ends)?,
+            ends: self.ends.copy(alloc)?,
         })
     }
 
@@ -65,19 +78,19 @@ impl<T: Copy> Parts<T> {
         ensures length { result ≡ length (parts_of self.now) }
         ensures near { result < 2 ^ 60 }
     {
-        self.ends.as_slice().len()
+        self.ends.len()
     }
 
     /// Returns where the list at the index begins.
     #[inline(always)]
     fn begin(&self, i: usize) -> usize
         requires { i < length (parts_of self.now) }
-        ensures { result ≡ end_before self.now.ends.items 0 i }
+        ensures { result ≡ end_before (indices_in self.now.ends) 0 i }
     {
         if i == 0 {
             return 0;
         }
-        self.ends[i - 1]
+        self.ends.at(i - 1)
     }
 
     /// Returns the list at the index, counted from 0.
@@ -86,11 +99,11 @@ impl<T: Copy> Parts<T> {
         requires { i < length (parts_of self.now) }
         ensures { slice_get (parts_of self.now) i ≡ Some result.now }
     {
-        between(&self.all, self.begin(i), self.ends[i])
+        between(&self.all, self.begin(i), self.ends.at(i))
     }
 
     pub(crate) fn allocator(&self) -> Global {
-        *self.ends.allocator()
+        self.ends.allocator()
     }
 }
 

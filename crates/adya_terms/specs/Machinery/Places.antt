@@ -1,11 +1,11 @@
 -- What is known of the places of writers in the lines of their keys, when the last writes of committed transactions up to an index
 -- are found. A place holds the index of its writer's last write of the key and 1, or 0 if that isn't found.
 use Rattle.std.specs.Prelude.{◌≡◌, ℕ, zero, suc, ◌<◌, ◌==◌, Bool, true, false, not, ◌&&◌, List, Option, Some, None, length, slice_get, slice_index, get_or, count_by, map, option_map, MatchOption}
-use Rattle.adya_terms.specs.Machinery.Indices.{indices_in}
 use Rattle.std.specs.List.{list_all, list_any}
 use Rattle.adya_values.specs.Meaning.Histories.{Event, Order}
 use Rattle.adya_values.specs.Meaning.Keys.{Key, key_eq}
 use Rattle.adya_values.specs.Meaning.Events.{is_committed, last_write}
+use Rattle.adya_values.specs.Machinery.Indices.{indices_in}
 use Rattle.adya_values.specs.Mirror.Lines.{orders_of}
 use Rattle.adya_values.specs.Clauses.Rules.{installs}
 use Rattle.adya_values.specs.Computing.Faults.{lists_exactly}

@@ -2,7 +2,7 @@ use Rattle.std.proofs.Common.{refl}
 use Rattle.adya_text.specs.Meaning.Texts.{history_text}
 use Rattle.adya_text.specs.Clauses.Reading.{ReadsHistory}
 use Rattle.adya_text.proofs.TextLaws.{only_history}
-use Rattle.adya_text.proofs.LinesRead.{of_known}
+use Rattle.adya_text.proofs.LinesRead.{of_all, of_known}
 use Rattle.adya_text.proofs.sources.read_history_from.Goals as goal
 
 pub returns-in_ok-pass_over-clause-only : goal.returns-in_ok-pass_over-clause-only
@@ -18,3 +18,6 @@ returns-else-is_err-clause-only g c = λ value is known.
     let reads = of_known _ _ (history_text value) (λ text. ReadsHistory text c.read_rest-read.result) c.new-lines.ensures
     known c.read_rest-read.ensures.answer in
     only_history laws.one_text laws.no_line_feed (history_text value) c.read_rest-read.result reads value is refl
+
+pub returns-else-is_err-clause-answer : goal.returns-else-is_err-clause-answer
+returns-else-is_err-clause-answer g c = of_all _ _ (λ text. ReadsHistory text c.read_rest-read.result) c.new-lines.ensures c.read_rest-read.ensures.answer

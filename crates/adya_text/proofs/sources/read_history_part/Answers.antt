@@ -16,7 +16,7 @@ use Rattle.adya_text.proofs.sources.read_history_part.Goals as goal
 
 pub loop-line-init : goal.loop-line-init
 loop-line-init g c =
-    (search rules, search rules, search rules, ([], c.new-reader.ensures [] c.new.ensures, All-nil _, none_read))
+    (g.met.S.Source.same_refl _, refl, λ none. inl none, ([], c.new-reader.ensures [] c.new.ensures, All-nil _, none_read))
 
 pub returns-then-is_tail-clause-answer : goal.returns-then-is_tail-clause-answer
 returns-then-is_tail-clause-answer g c =

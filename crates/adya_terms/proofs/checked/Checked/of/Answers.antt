@@ -51,3 +51,8 @@ returns-in-Err-clause-refused c =
     refused_when_found c.checked_iff_no_fault.ensures.exact (history_of c.args.history.now) c.args.history.now.shape c.in-Err.fault
     (found_whole c.args.history.now (events_of c.events-events.result.now) c.unfinished.result.now (orders_of c.orders.result.now) (finals_of c.finals.result.now)
     c.events-events.ensures c.unfinished.ensures.value (ap orders_of c.orders.ensures.value) (ap finals_of c.finals.ensures) c.in-Err.fault c.in-Err.ensures.faults)
+
+pub returns-in-Ok-clause-found : goal.returns-in-Ok-clause-found
+returns-in-Ok-clause-found c =
+    faultless_whole c.args.history.now (events_of c.events-events.result.now) c.unfinished.result.now (orders_of c.orders.result.now) (finals_of c.finals.result.now)
+    c.events-events.ensures c.unfinished.ensures.value (ap orders_of c.orders.ensures.value) (ap finals_of c.finals.ensures) c.in-Ok.ensures.faults

@@ -1,6 +1,6 @@
 use Rattle.std.proofs.Common.{ap, length, replicate, sym}
 use Rattle.adya_values.specs.Mirror.Lines.{orders_of}
-use Rattle.adya_terms.specs.Machinery.Indices.{indices_in}
+use Rattle.adya_values.specs.Machinery.Indices.{indices_in}
 use Rattle.adya_terms.specs.Machinery.LinePlaces.{blank}
 use Rattle.adya_terms.proofs.LineParts.{line_added, named_is}
 use Rattle.adya_terms.proofs.line_places.LinePlaces.new.Goals as goal
@@ -12,4 +12,4 @@ loop-i-preserved c =
     let ts = c.writers.result.now in
     let named = named_is _ ts c.writers.ensures in
     line_added (blank os) (indices_in c.loop-i.writes) c.loop-i.starts.items i c.loop-i.invariant (replicate (length ts) 0) (ap (λ us. replicate (length us) 0) (sym named))
-    (indices_in c.add_zeros.new.self) c.push-in-loop-i.new.self.items c.len-in-loop-i.result c.in_ok-add_zeros.ensures c.len-in-loop-i.ensures.length c.in_ok-push-2.ensures.items
+    (indices_in c.add_zeros.new.self) c.push-in-loop-i.new.self.items c.len-in-loop-i.result c.in_ok-add_zeros.ensures.ok c.len-in-loop-i.ensures.length c.in_ok-push-2.ensures.items

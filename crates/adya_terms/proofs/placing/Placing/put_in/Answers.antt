@@ -1,5 +1,5 @@
 use Rattle.std.proofs.Common.{◌≡◌, ◌∙◌, Some, Vec, Global, ℕ, ap, slice_get, subst, suc, sym}
-use Rattle.adya_terms.specs.Machinery.Indices.{indices_in}
+use Rattle.adya_values.specs.Machinery.Indices.{indices_in}
 use Rattle.adya_terms.specs.Machinery.LinePlaces.{named, writers_at}
 use Rattle.adya_terms.specs.Machinery.LineWriters.{IsPlaceOf}
 use Rattle.adya_terms.specs.Machinery.Places.{orders_in, AreLines}

@@ -1,9 +1,10 @@
-use Rattle.std.proofs.Common.{◌∙◌, ◌*◌, ◌+◌, ◌<◌, ◌≡◌, ◌++◌, ◌∷◌, [], ap, arith, length, set, slice_get, slice_index, subst, suc, sym}
+use Rattle.std.proofs.Common.{◌∙◌, ◌*◌, ◌+◌, ◌<◌, ◌≡◌, ◌++◌, ◌∷◌, ℕ, [], ap, arith, length, set, slice_get, slice_index, subst, suc, sym}
 use Rattle.std.proofs.lemmas.List.{length-set}
 use Rattle.adya_values.specs.Machinery.KeyHash.{bucket_of}
 use Rattle.adya_values.specs.Machinery.KeyTables.{keys_in}
 use Rattle.adya_values.specs.Machinery.Buckets.{AreOthers}
 use Rattle.adya_values.specs.Machinery.Parts.{parts_of, HasRoom}
+use Rattle.adya_values.proofs.IndexRoom.{fewer_fit}
 use Rattle.adya_values.proofs.KeyChains.{key_fits, table_with}
 use Rattle.adya_values.proofs.PackedParts.{slice_get_end}
 use Rattle.adya_values.proofs.key_table.KeyTable.add.Goals as goal
@@ -44,7 +45,14 @@ returns-clause-room c n room =
     let b = c.bucket_of-bucket.result in
     let fits = key_fits c.args.key.now c.requires.limits in
     let texts : HasRoom t.texts (n + 1) ((n + 1) * 32) = subst (λ p. HasRoom p (n + 1) ((n + 1) * 32)) (sym c.widen.ensures.texts) room.texts in
-    let left : HasRoom t.texts (n + 1) (n * 32 + length c.args.key.now) = record { ends = texts.ends; all = let all = texts.all in omega (arith, all, fits) } in
+    let stored : ℕ = length t.texts.all.items in
+    let size : ℕ = length c.args.key.now in
+    let left : HasRoom t.texts (n + 1) (n * 32 + size) =
+    record {
+      ends = fewer_fit t.texts.ends (n + 1) (n + 1) (stored + (n + 1) * 32) (stored + (n * 32 + size)) (omega arith) (omega (arith, fits)) texts.ends;
+      all = let all = texts.all in omega (arith, all, fits);
+      few = texts.few;
+    } in
     let kept : 0 < length t.heads.items = c.widen.ensures.kept room.buckets in
     record {
       buckets = subst (λ m. 0 < m) (sym (ap length c.chain.ensures.heads ∙ length-set t.heads.items b _)) kept;
