@@ -11,6 +11,7 @@ use Rattle.adya_values.specs.Meaning.Events.{is_committed, last_write, written}
 use Rattle.adya_values.specs.declared.fault.Rule.TheVariants.{M7}
 use Rattle.adya_values.specs.Clauses.Rules.{installs}
 use Rattle.adya_values.specs.Computing.Faults.{lists_exactly, order_faults}
+use Rattle.adya_values.specs.declared.indices.Indices.{Indices}
 use Rattle.adya_values.specs.Machinery.Indices.{indices_in}
 use Rattle.adya_values.specs.Machinery.Seen.{key_at}
 use Rattle.adya_values.proofs.Faults.{each_passes}
@@ -63,8 +64,8 @@ placed_in os ps P same rise p = subst P same (p (ap (λ zs. keys_rise (map (λ (
 
 -- ---- before any event
 
-pub nothing_placed : (all : List Event) (l : Own → Option ℕ) (ks : List Key) (os : List Order) (x : Placing) → FindsLines x.numbers.items ks os (length os)
-    → AreParts (blank os) (indices_in x.lines.writes) x.lines.starts.items (length os) → x.lacks.items ≡ replicate (length os) false → x.left_out ≡ false
+pub nothing_placed : (all : List Event) (l : Own → Option ℕ) (ks : List Key) (os : List Order) (x : Placing) → FindsLines (indices_in x.numbers) ks os (length os)
+    → AreParts (blank os) (indices_in x.lines.writes) (indices_in x.lines.starts) (length os) → x.lacks.items ≡ replicate (length os) false → x.left_out ≡ false
     → ArePlaced all l 0 ks os x
 nothing_placed all l ks os x finds parts flags covers = record {
   finds = finds;
@@ -170,7 +171,7 @@ module _ (all : List Event) (l : Own → Option ℕ) (at : ℕ) (ks : List Key) 
   pub event_passed : ((k : List ℕ) (t : ℕ) → Installs all l k t at → ⊥) → ArePlaced all l (suc at) ks os x
   event_passed none = record {
     finds = had.finds;
-    lines = lines_passed all l at os (indices_in x.lines.writes) x.lines.starts.items x.lacks.items had.lines (λ n o e t. none o.key t);
+    lines = lines_passed all l at os (indices_in x.lines.writes) (indices_in x.lines.starts) x.lacks.items had.lines (λ n o e t. none o.key t);
     left = had.left;
     covered = λ covers k t i y less. elim (cases_lt i at) [
       | inl old ↦ had.covered covers k t i y old
@@ -188,7 +189,7 @@ module _ (all : List Event) (l : Own → Option ℕ) (at : ℕ) (ks : List Key) 
       pub there : slice_get os i ≡ Some line
       pub key_is : line.key ≡ key_at ks n
 
-    pub line_found : (i : ℕ) → slice_index x.numbers.items n ≡ suc i → IsLineOfKey i
+    pub line_found : (i : ℕ) → slice_index (indices_in x.numbers) n ≡ suc i → IsLineOfKey i
     line_found i e =
         let found = had.finds.found n i within e in
         let o = turn_below os i found.0 in
@@ -202,7 +203,7 @@ module _ (all : List Event) (l : Own → Option ℕ) (at : ℕ) (ks : List Key) 
     pub line_placed : (y : Placing) (i : ℕ) → IsLineOfKey i → y.numbers ≡ x.numbers → y.left_out ≡ x.left_out
         → AreLinesOf all l (suc at) os y → ArePlaced all l (suc at) ks os y
     line_placed y i line numbers left_out placed = record {
-      finds = subst (λ v. FindsLines v ks os (length os)) (ap (λ v. v.items) (sym numbers)) had.finds;
+      finds = subst (λ (v : Indices). FindsLines (indices_in v) ks os (length os)) (sym numbers) had.finds;
       lines = placed;
       left = λ e. had.left (sym left_out ∙ e);
       covered = λ e k u j w less. elim (cases_lt j at) [
@@ -214,7 +215,7 @@ module _ (all : List Event) (l : Own → Option ℕ) (at : ℕ) (ks : List Key) 
       ];
     }
 
-    module _ (none : slice_index x.numbers.items n ≡ 0) where
+    module _ (none : slice_index (indices_in x.numbers) n ≡ 0) where
       no_line_has : (i : ℕ) (o : Order) → slice_get os i ≡ Some o → o.key ≡ key_at ks n → ⊥
       no_line_has i o e same =
           had.finds.missing n within none i (slice_get_within os i o e) (ap key_of e ∙ same)
@@ -222,11 +223,11 @@ module _ (all : List Event) (l : Own → Option ℕ) (at : ℕ) (ks : List Key) 
       -- its key has no line
       pub left_out_more : (y : Placing) → y.numbers ≡ x.numbers → y.lines ≡ x.lines → y.lacks ≡ x.lacks → y.left_out ≡ true → ArePlaced all l (suc at) ks os y
       left_out_more y numbers same flags left_out = record {
-        finds = subst (λ v. FindsLines v ks os (length os)) (ap (λ v. v.items) (sym numbers)) had.finds;
+        finds = subst (λ (v : Indices). FindsLines (indices_in v) ks os (length os)) (sym numbers) had.finds;
         lines =
-            subst (λ (v : LinePlaces). AreLines all l (suc at) os (indices_in v.writes) v.starts.items y.lacks.items) (sym same)
-            (subst (λ v. AreLines all l (suc at) os (indices_in x.lines.writes) x.lines.starts.items v) (ap (λ v. v.items) (sym flags))
-            (lines_passed all l at os (indices_in x.lines.writes) x.lines.starts.items x.lacks.items had.lines
+            subst (λ (v : LinePlaces). AreLines all l (suc at) os (indices_in v.writes) (indices_in v.starts) y.lacks.items) (sym same)
+            (subst (λ v. AreLines all l (suc at) os (indices_in x.lines.writes) (indices_in x.lines.starts) v) (ap (λ v. v.items) (sym flags))
+            (lines_passed all l at os (indices_in x.lines.writes) (indices_in x.lines.starts) x.lacks.items had.lines
             (λ i o e u w.
             let keys = inj u o.key t (key_at ks n) at w.last_is here.last_is in
             no_line_has i o e keys.1)));

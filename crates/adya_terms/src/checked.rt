@@ -2,6 +2,7 @@
 
 ghost use Rattle.std.specs.Prelude.{◌≡◌, ◌≢◌, ◌^◌, ◌<◌, ◌+◌, [], true, None, length, map, is_none, is_some, IfOk, IfErr, MatchResult};
 ghost use Rattle.adya_values.specs.Meaning.Keys.{keys_rise};
+ghost use Rattle.adya_values.specs.Machinery.Indices.{indices_in};
 ghost use Rattle.adya_values.specs.Mirror.Events.{events_of};
 ghost use Rattle.adya_values.specs.Mirror.Lines.{finals_of, orders_of};
 ghost use Rattle.adya_values.specs.Mirror.Histories.{history_of};
@@ -27,6 +28,7 @@ use crate::placing::Placed;
 use crate::reads::check_reads;
 use crate::tables::Ended;
 use crate::{CheckFault, Events, Finals, History, Orders, Rule, Txn};
+use adya_values::Indices;
 use std::alloc::Global;
 use txn_table::TxnTable;
 
@@ -38,13 +40,13 @@ pub struct Checked<'a> {
     events: &'a Events,
     ended: TxnTable<Ended>,
     /// By the number of each key the index of its order line and 1; 0 if it has none.
-    numbers: Vec<usize>,
+    numbers: Indices,
     /// For each order line, the places of its writers, with the indices of the events that wrote what it names.
     lines: LinePlaces,
     pub ghost checked: { is_none (first_fault (history_of history.now)) ≡ true },
     pub ghost commits: { KnowsCommitted ended (history_of history.now).events },
     pub ghost listed: { events_of events.now ≡ (history_of history.now).events },
-    pub ghost found: { let os = (history_of history.now).orders in FindsLines numbers.items (keys_of events.now) os (length os) },
+    pub ghost found: { let os = (history_of history.now).orders in FindsLines (indices_in numbers) (keys_of events.now) os (length os) },
     pub ghost written: { let h = history_of history.now in AreInstalled h.events lines h.orders },
 }
 
@@ -102,8 +104,8 @@ impl<'a> Checked<'a> {
     }
 
     /// Returns by the number of each key, which the events give, the index of its order line and 1; 0 if it has no line.
-    pub fn line_numbers(&self) -> &[usize]
-        ensures { let os = (checked_history self.now).orders in FindsLines result.now (keys_of (events_in self.now)) os (length os) }
+    pub fn line_numbers(&self) -> &Indices
+        ensures { let os = (checked_history self.now).orders in FindsLines (indices_in result.now) (keys_of (events_in self.now)) os (length os) }
     {
         &self.numbers
     }
@@ -145,7 +147,7 @@ fn check<'a>(
     ensures faults { let faults = check_faults (whole (events_of events.now) unfinished.now (orders_of orders.now) (finals_of finals.now)) in
         MatchResult result (λ t. faults ≡ []) (Names faults) }
     ensures events { IfOk result (λ t. tables.events_in t.0 ≡ events.now) }
-    ensures numbers { let os = orders_of orders.now in IfOk result (λ t. FindsLines t.1.numbers.items (keys_of events.now) os (length os)) }
+    ensures numbers { let os = orders_of orders.now in IfOk result (λ t. FindsLines (indices_in t.1.numbers) (keys_of events.now) os (length os)) }
     ensures lines { IfOk result (λ t. AreWrites (last_in t.0) t.1.lines (orders_of orders.now)) }
 {
     let index = match EventIndex::of(alloc, events, unfinished) {
@@ -184,7 +186,7 @@ fn check_rules(
     requires finals_rise { keys_rise (map (λ f. f.key) (finals_of finals.now)) ≡ true }
     ensures faults { let h = whole (indexed index.now) (unfinished_in index.now) (orders_of orders.now) (finals_of finals.now) in
         MatchResult result (λ u. rule_faults h line ≡ []) (Names (rule_faults h line)) }
-    ensures numbers { let os = orders_of orders.now in IfOk result (λ p. FindsLines p.numbers.items (keys_in index.now) os (length os)) }
+    ensures numbers { let os = orders_of orders.now in IfOk result (λ p. FindsLines (indices_in p.numbers) (keys_in index.now) os (length os)) }
     ensures lines { IfOk result (λ p. AreWrites (last_in index.now) p.lines (orders_of orders.now)) }
 {
     if !all_end(index) {

@@ -17,8 +17,8 @@ pub(crate) struct LinePlaces {
     /// Line after line, and at each place of a line the index of the last write that was found for it and 1; 0 if none was.
     writes: Indices,
     /// Where the places of each line start, and at last the end of the list.
-    starts: Vec<usize>,
-    pub ghost ordered: { AreStarts starts.items (length (indices_in writes)) },
+    starts: Indices,
+    pub ghost ordered: { AreStarts (indices_in starts) (length (indices_in writes)) },
 }
 
 impl LinePlaces {
@@ -26,10 +26,10 @@ impl LinePlaces {
 
     /// Makes the places of the writers of these lines, none of which is found.
     pub fn new(alloc: Global, orders: &Orders) -> Result<LinePlaces, AllocError>
-        ensures { let os = orders_of orders.now in IfOk result (λ x. AreParts (blank os) (indices_in x.writes) x.starts.items (length os)) }
+        ensures { let os = orders_of orders.now in IfOk result (λ x. AreParts (blank os) (indices_in x.writes) (indices_in x.starts) (length os)) }
     {
         let mut writes = Indices::with_capacity(alloc, writer_count(orders))?;
-        let mut starts = Vec::with_capacity(alloc, orders.len().saturating_add(1))?;
+        let mut starts = Indices::with_capacity(alloc, orders.len().saturating_add(1))?;
         starts.push(0)?;
         for i in 0..orders.len() {
             writes.add_zeros(orders.writers(i).len())?;
@@ -48,7 +48,7 @@ impl LinePlaces {
     ) -> Result<(), AllocError>
         requires { at < 2 ^ 60 }
         ensures starts { self.new.starts ≡ self.old.starts }
-        ensures writes { let ws = indices_in self.old.writes in let ss = self.old.starts.items in
+        ensures writes { let ws = indices_in self.old.writes in let ss = (indices_in self.old.starts) in
             OnOk result (suc line < length ss
             → place < length (line_places ws ss line)
             → indices_in self.new.writes ≡ set ws (slice_index ss line + place) (suc at)) }
@@ -61,20 +61,20 @@ impl LinePlaces {
 
     /// Returns whether each place of the line is found.
     pub fn is_full(&self, line: usize) -> bool
-        requires { suc line < length self.now.starts.items }
+        requires { suc line < length (indices_in self.now.starts) }
         ensures { result ≡ list_all (λ w. not (w == 0)) (places_in self.now line) }
     {
         self.writes
-            .none_is_zero(self.starts[line], self.starts[line + 1])
+            .none_is_zero(self.starts.at(line), self.starts.at(line + 1))
     }
 
     /// Returns the index of the last write that was found for the place of the line.
     pub fn write_at(&self, line: usize, place: usize) -> Option<usize>
-        requires { suc line < length self.now.starts.items }
+        requires { suc line < length (indices_in self.now.starts) }
         ensures { result ≡ option_and_then held (slice_get (places_in self.now line) place) }
     {
-        let start = self.starts[line];
-        if place >= self.starts[line + 1] - start {
+        let start = self.starts.at(line);
+        if place >= self.starts.at(line + 1) - start {
             return None;
         }
         match self.writes.get(start + place) {

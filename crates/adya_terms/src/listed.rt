@@ -2,6 +2,7 @@
 
 ghost use Rattle.std.specs.Prelude.{◌≡◌, ◌^◌, ◌<◌, ◌+◌, ℕ, List, [], true, Some, length, map, option_map, slice_get, IfOk, MatchResult};
 ghost use Rattle.std.specs.Bool.{OnTrue, OnFalse};
+ghost use Rattle.adya_values.specs.Machinery.Indices.{indices_in};
 ghost use Rattle.adya_values.specs.Meaning.Keys.{keys_rise};
 ghost use Rattle.adya_values.specs.Meaning.Histories.{Event, Order};
 ghost use Rattle.adya_values.specs.Mirror.Lines.{orders_of};
@@ -50,7 +51,7 @@ pub(crate) fn check_orders(
     requires rise { keys_rise (map (λ o. o.key) (orders_of orders.now)) ≡ true }
     ensures faults { let found = listing_faults (parts (indexed index.now) (orders_of orders.now) []) first in
         MatchResult result (λ u. found ≡ []) (Names found) }
-    ensures numbers { let os = orders_of orders.now in IfOk result (λ p. FindsLines p.numbers.items (keys_in index.now) os (length os)) }
+    ensures numbers { let os = orders_of orders.now in IfOk result (λ p. FindsLines (indices_in p.numbers) (keys_in index.now) os (length os)) }
     ensures lines { IfOk result (λ p. AreWrites (last_in index.now) p.lines (orders_of orders.now)) }
 {
     let Ok(placing) = Placing::of(alloc, index, orders) else {

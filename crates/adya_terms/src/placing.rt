@@ -18,13 +18,14 @@ use crate::line_numbers::lines_by_number;
 use crate::line_places::LinePlaces;
 use crate::line_writers::LineWriters;
 use crate::{Events, Orders, Txn};
+use adya_values::Indices;
 use std::alloc::{AllocError, Global};
 
 /// The order lines of the keys, and the last writes of the writers that they name.
 #[derive(Drop)]
 pub(crate) struct Placed {
     /// By the number of each key the index of its line and 1; 0 if it has none.
-    pub numbers: Vec<usize>,
+    pub numbers: Indices,
     pub lines: LinePlaces,
 }
 
@@ -33,7 +34,7 @@ pub(crate) struct Placed {
 #[derive(Drop)]
 pub(crate) struct Placing<'a> {
     /// By the number of each key the index of its line and 1; 0 if it has none.
-    pub numbers: Vec<usize>,
+    pub numbers: Indices,
     writers: LineWriters<'a>,
     pub lines: LinePlaces,
     /// By line, whether a committed writer of the key isn't named.
@@ -45,10 +46,10 @@ pub(crate) struct Placing<'a> {
 impl<'a> Placing<'a> {
     /// Makes that of the lines, before any event.
     fn new(alloc: Global, events: &Events, orders: &'a Orders) -> Result<Placing<'a>, AllocError>
-        ensures numbers { let os = orders_of orders.now in IfOk result (λ x. FindsLines x.numbers.items (keys_of events.now) os (length os)) }
+        ensures numbers { let os = orders_of orders.now in IfOk result (λ x. FindsLines (indices_in x.numbers) (keys_of events.now) os (length os)) }
         ensures orders { IfOk result (λ x. orders_in x ≡ orders_of orders.now) }
         ensures lines { let os = orders_of orders.now in
-            IfOk result (λ x. AreParts (blank os) (indices_in x.lines.writes) x.lines.starts.items (length os)) }
+            IfOk result (λ x. AreParts (blank os) (indices_in x.lines.writes) (indices_in x.lines.starts) (length os)) }
         ensures lacks { IfOk result (λ x. x.lacks.items ≡ replicate (length (orders_of orders.now)) false) }
         ensures left_out { IfOk result (λ x. x.left_out ≡ false) }
     {
@@ -84,13 +85,14 @@ impl<'a> Placing<'a> {
 
     /// Returns the index of the line of the key with the number.
     fn line(&self, key: u32) -> Option<usize>
-        ensures { let above = slice_index self.now.numbers.items key in
+        ensures { let above = slice_index (indices_in self.now.numbers) key in
             MatchOption result (above ≡ 0) (λ i. above ≡ suc i) }
     {
-        match self.numbers.get(key as usize) {
-            None | Some(0) => None,
-            Some(above) => Some(*above - 1),
+        let above = self.numbers.get(key as usize).unwrap_or(0);
+        if above == 0 {
+            return None;
         }
+        Some(above - 1)
     }
 
     /// Records that the last write of the line's key by the transaction, which has committed, is at the index.
@@ -148,7 +150,7 @@ impl<'a> Placing<'a> {
 
     /// Returns whether each place of the line is found, and no committed writer is missing.
     pub fn is_full(&self, line: usize) -> bool
-        requires { suc line < length self.now.lines.starts.items }
+        requires { suc line < length (indices_in self.now.lines.starts) }
         ensures { result ≡ is_full (places_in self.now.lines line) (lacks_at self.now.lacks.items line) }
     {
         !is_raised(&self.lacks, line) && self.lines.is_full(line)

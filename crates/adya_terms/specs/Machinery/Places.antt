@@ -71,7 +71,7 @@ orders_in x = orders_of x.writers.orders.now
 
 -- what the places of the line hold
 abbrev pub places_in : LinePlaces → ℕ → List ℕ
-places_in x line = line_places (indices_in x.writes) x.starts.items line
+places_in x line = line_places (indices_in x.writes) (indices_in x.starts) line
 
 -- whether the line lacks a committed writer
 abbrev pub lacks_at : List Bool → ℕ → Bool
@@ -84,7 +84,7 @@ pub record AreLines (all : List Event) (last : Own → Option ℕ) (i : ℕ) (os
   pub lines : (line : ℕ) (o : Order) → slice_get os line ≡ Some o → IsPlaced all last i o.key o.writers (line_places writes starts line) (lacks_at lacks line)
 
 abbrev pub AreLinesOf : List Event → (Own → Option ℕ) → ℕ → List Order → Placing → Type 0
-AreLinesOf all last i os x = AreLines all last i os (indices_in x.lines.writes) x.lines.starts.items x.lacks.items
+AreLinesOf all last i os x = AreLines all last i os (indices_in x.lines.writes) (indices_in x.lines.starts) x.lacks.items
 
 abbrev pub has_line : List Order → List ℕ → Bool
 has_line os k = list_any (λ o. key_eq o.key k) os
@@ -102,14 +102,14 @@ pub record LeavesOut (all : List Event) (last : Own → Option ℕ) (os : List O
   pub missing : has_line os key ≡ false
 
 pub record ArePlaced (all : List Event) (last : Own → Option ℕ) (i : ℕ) (ks : List Key) (os : List Order) (x : Placing) : Type 0 where
-  pub finds : FindsLines x.numbers.items ks os (length os)
+  pub finds : FindsLines (indices_in x.numbers) ks os (length os)
   pub lines : AreLinesOf all last i os x
   pub left : x.left_out ≡ true → LeavesOut all last os
   pub covered : x.left_out ≡ false → (k : List ℕ) (t at : ℕ) → Installs all last k t at → at < i → has_line os k ≡ true
 
 -- the lines have places
 abbrev pub HasLines : LinePlaces → List Order → Type 0
-HasLines x os = length x.starts.items ≡ suc (length os)
+HasLines x os = length (indices_in x.starts) ≡ suc (length os)
 
 -- those lines are right that are full
 abbrev pub Judges : List Event → List Order → Placing → Type 0

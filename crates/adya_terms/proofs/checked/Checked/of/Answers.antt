@@ -1,6 +1,7 @@
 use Rattle.std.proofs.Common.{◌≡◌, ◌∙◌, ℕ, List, ap, length, subst, is_none}
 use Rattle.adya_terms.proofs.Parts.{found_whole, faultless_whole}
 use Rattle.adya_terms.proofs.Judged.{refused_when_found}
+use Rattle.adya_values.specs.Machinery.Indices.{indices_in}
 use Rattle.adya_values.specs.Mirror.Events.{events_of}
 use Rattle.adya_values.specs.Mirror.Lines.{finals_of, orders_of}
 use Rattle.adya_values.specs.Mirror.Histories.{history_of}
@@ -36,7 +37,7 @@ invariant_of-result c =
           (subst (AreWrites (last_in c.in-Ok.index) c.in-Ok.placed.lines) (ap orders_of c.orders.ensures.value) c.in-Ok.ensures.lines);
       listed = c.events-events.ensures;
       found =
-          subst (λ (os : List Order). FindsLines c.in-Ok.placed.numbers.items (keys_of c.events-events.result.now) os (length os)) (ap orders_of c.orders.ensures.value)
+          subst (λ (os : List Order). FindsLines (indices_in c.in-Ok.placed.numbers) (keys_of c.events-events.result.now) os (length os)) (ap orders_of c.orders.ensures.value)
           c.in-Ok.ensures.numbers;
     }
 

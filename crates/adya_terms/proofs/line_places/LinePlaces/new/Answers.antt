@@ -11,5 +11,5 @@ loop-i-preserved c =
     let i = c.loop-i.i in
     let ts = c.writers.result.now in
     let named = named_is _ ts c.writers.ensures in
-    line_added (blank os) (indices_in c.loop-i.writes) c.loop-i.starts.items i c.loop-i.invariant (replicate (length ts) 0) (ap (λ us. replicate (length us) 0) (sym named))
-    (indices_in c.add_zeros.new.self) c.push-in-loop-i.new.self.items c.len-in-loop-i.result c.in_ok-add_zeros.ensures.ok c.len-in-loop-i.ensures.length c.in_ok-push-2.ensures.items
+    line_added (blank os) (indices_in c.loop-i.writes) (indices_in c.loop-i.starts) i c.loop-i.invariant (replicate (length ts) 0) (ap (λ us. replicate (length us) 0) (sym named))
+    (indices_in c.add_zeros.new.self) (indices_in c.push-in-loop-i.new.self) c.len-in-loop-i.result c.in_ok-add_zeros.ensures.ok c.len-in-loop-i.ensures.length c.in_ok-push-2.ensures.ok

@@ -1,4 +1,5 @@
 use Rattle.std.proofs.Common.{◌≡◌, ◌+◌, ◌∙◌, ap, suc, arith, length, subst, sym}
+use Rattle.adya_values.specs.Machinery.Indices.{indices_in}
 use Rattle.adya_values.specs.declared.events.Events.{Events}
 use Rattle.adya_values.specs.Mirror.Lines.{orders_of}
 use Rattle.adya_values.specs.Mirror.Numbers.{keys_of}
@@ -19,7 +20,7 @@ loop-at-init c =
       orders = c.in_ok-placing.ensures.orders;
       placed =
           nothing_placed (indexed x) (last_in x) (keys_in x) os y
-          (subst (λ (es : Events). FindsLines y.numbers.items (keys_of es) os (length os)) c.events.ensures c.in_ok-placing.ensures.numbers)
+          (subst (λ (es : Events). FindsLines (indices_in y.numbers) (keys_of es) os (length os)) c.events.ensures c.in_ok-placing.ensures.numbers)
           c.in_ok-placing.ensures.lines c.in_ok-placing.ensures.lacks c.in_ok-placing.ensures.left_out;
     }
 

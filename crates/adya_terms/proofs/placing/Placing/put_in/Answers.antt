@@ -1,4 +1,5 @@
-use Rattle.std.proofs.Common.{◌≡◌, ◌∙◌, Some, Vec, Global, ℕ, ap, slice_get, subst, suc, sym}
+use Rattle.std.proofs.Common.{◌≡◌, ◌∙◌, Some, ap, slice_get, subst, suc, sym}
+use Rattle.adya_values.specs.declared.indices.Indices.{Indices}
 use Rattle.adya_values.specs.Machinery.Indices.{indices_in}
 use Rattle.adya_terms.specs.Machinery.LinePlaces.{named, writers_at}
 use Rattle.adya_terms.specs.Machinery.LineWriters.{IsPlaceOf}
@@ -15,7 +16,7 @@ returns-in_default-clause-lines c all last o rise inj there here had =
     let t = c.args.txn in
     let at = c.args.at in
     let ws = indices_in x.lines.writes in
-    let ss = x.lines.starts.items in
+    let ss = (indices_in x.lines.starts) in
     let none = ap (λ y. count (named y) t) (sym there) ∙ subst (λ p. IsPlaceOf p (writers_at os i) t) c.in_default.is c.in_ok-place.ensures.found in
     subst (AreLines all last (suc at) os ws ss) (sym c.raise.ensures) (line_lacking all last at os ws ss x.lacks.items had rise inj i t o there here none)
 
@@ -28,11 +29,11 @@ returns-clause-lines c all last o rise inj there here had =
     let at = c.args.at in
     let p = c.in-Some.place in
     let ws = indices_in x.lines.writes in
-    let ss = x.lines.starts.items in
+    let ss = (indices_in x.lines.starts) in
     let fs = x.lacks.items in
     let writer : slice_get o.writers p ≡ Some t =
     ap (λ y. slice_get (named y) p) (sym there) ∙ subst (λ q. IsPlaceOf q (writers_at os i) t) c.in-Some.is c.in_ok-place.ensures.found in
     let filled = c.in_ok-fill.ensures.writes (has_start all last at os ws ss fs had rise inj i t o there here) (has_place all last at os ws ss fs had rise inj i t o there here p writer) in
-    subst (λ (v : Vec ℕ Global). AreLines all last (suc at) os (indices_in c.fill.new.self.writes) v.items fs) (sym c.fill.ensures.starts)
+    subst (λ (v : Indices). AreLines all last (suc at) os (indices_in c.fill.new.self.writes) (indices_in v) fs) (sym c.fill.ensures.starts)
     (subst (λ zs. AreLines all last (suc at) os zs ss fs) (sym filled)
     (line_filled all last at os ws ss fs had rise inj i t o there here x.lines.ordered p writer))
