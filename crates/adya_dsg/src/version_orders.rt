@@ -5,6 +5,7 @@ ghost use Rattle.std.specs.List.{find, list_all, list_any};
 ghost use Rattle.std.specs.List.Sorted.{IsNonDecreasingBy, IsPartitionPoint};
 ghost use Rattle.adya_values.specs.Meaning.Keys.{key_lt, keys_rise};
 ghost use Rattle.adya_values.specs.Meaning.Selections.{is_scan};
+ghost use Rattle.adya_values.specs.Machinery.Indices.{indices_in};
 ghost use Rattle.adya_values.specs.Mirror.Events.{events_of};
 ghost use Rattle.adya_values.specs.Mirror.Lines.{orders_of};
 ghost use Rattle.adya_values.specs.Mirror.Numbers.{bounds, both_at, has_seen, keys_of, seen_entry, seen_in};
@@ -22,7 +23,7 @@ use crate::line_tables::{SHORT_LINE, line_tables};
 use crate::txn_places::TxnPlaces;
 use adya_terms::Checked;
 use adya_terms::laws::checked_iff_no_fault;
-use adya_values::{Events, Key, Observed, Orders, Txn};
+use adya_values::{Events, Indices, Key, Observed, Orders, Txn};
 use std::alloc::{AllocError, Global};
 use std::collections::BTreeMap;
 
@@ -36,13 +37,13 @@ pub(crate) struct VersionOrders<'a> {
     checked: &'a Checked<'a>,
     events: &'a Events,
     /// By the number of each key the index of its line and 1; 0 if it has none.
-    lines: &'a [usize],
+    lines: &'a Indices,
     /// Tables of the writers of the long lines, by the index of the line.
     tables: BTreeMap<usize, TxnPlaces<'a>>,
     /// Empty if no event is a scan.
     changes: LineChanges,
     ghost same: { events_of events.now ≡ (checked_history checked.now).events },
-    ghost found: { let os = (checked_history checked.now).orders in FindsLines lines.now (keys_of events.now) os (length os) },
+    ghost found: { let os = (checked_history checked.now).orders in FindsLines (indices_in lines.now) (keys_of events.now) os (length os) },
     ghost tabled: { AreTables (checked_history checked.now) tables },
     ghost changed: { let h = checked_history checked.now in
         list_any is_scan h.events ≡ true → AreChanges h changes.places.items changes.starts.items (length h.orders) },
@@ -256,10 +257,11 @@ impl<'a> VersionOrders<'a> {
         ensures none { IfNone result ((i : ℕ) → i < length (ordered_history self.now).orders
             → key_at (ordered_history self.now) i ≡ numbered self.now key → ⊥) }
     {
-        match self.lines[key as usize] {
-            0 => None,
-            above => Some(above - 1),
+        let above = self.lines.at(key as usize);
+        if above == 0 {
+            return None;
         }
+        Some(above - 1)
     }
 
     /// Returns how many lines have smaller keys than the one with the number. If it has a line, this takes no search.

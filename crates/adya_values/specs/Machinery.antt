@@ -1,5 +1,5 @@
--- What only the code of this crate needs: texts in arrays of fixed size, numbers of their first bytes, numbers of 32 bits while
--- they fit, events in an arena, and packed lines.
+-- What only the code of this crate needs: texts in arrays of fixed size, numbers of their first bytes, tables of keys with their
+-- buckets and hashes, numbers of 32 bits while they fit, packed lists and lines, and events in an arena.
 pub mod Buckets
 pub mod Ends
 pub mod Indices

@@ -7,12 +7,21 @@ use std::alloc::{AllocError, Global};
 
 /// Numbers by their indices, counted from 0. Indices and places are below 4,294,967,296 in all but the longest histories, and take
 /// half the memory then.
-#[derive(Drop)]
 pub enum Indices {
     /// None of them is larger than 32 bits can say.
     Small(Vec<u32>),
     /// Any numbers.
     Large(Vec<usize>),
+}
+
+// Written out, so that what drops one makes a call and no cases.
+impl Drop for Indices {
+    fn drop(self) {
+        match self {
+            Indices::Small(numbers) => drop(numbers),
+            Indices::Large(numbers) => drop(numbers),
+        }
+    }
 }
 
 impl Indices {
