@@ -132,6 +132,26 @@ check 'a scan of a hundred million bytes' $'out: no 2 malformed 2 M3\nstatus 1' 
 check 'a scan that is too long for the memory' $'err: ssi: memory\nstatus 3' "$(kibibytes=100000 scan ')')"
 check 'a scan of a hundred million bytes that has no end' $'out: no 1 syntax history 2\nstatus 1' "$(scan '')"
 
+# A scan that lists as many versions as its row in the list of events has room for, and one that lists one more.
+wide() { # how many keys transaction 1 writes and 2 scans, and the value that the scan lists last; prints the verdict
+    seq -f 'k%06.0f' "$1" >keys
+    {
+        echo 'adya 1'
+        sed 's/.*/w1(&.1:1,v)/' keys
+        printf 'c1\ns2(a,z'
+        sed "s/.*/;&.1:1,v/; \$s/v\$/$2/" keys | tr -d '\n'
+        printf ')\nc2\n'
+        sed 's/.*/[&:1]/' keys
+        sed 's/.*/{&,v}/' keys
+        printf '%s\n' end 'serial 1' 1 2 end
+    } | run
+}
+for size in 65535 65536; do
+    check "a scan of $size versions" "$answer" "$(wide $size v)"
+    check "a scan of $size versions, the last of which nobody wrote" "out: no 2 malformed $((size + 3)) M3
+status 1" "$(wide $size w)"
+done
+
 # Standard input and output.
 check 'empty input' $'out: no 1 syntax history 1\nstatus 1' "$(run </dev/null)"
 check 'a folder as standard input' $'err: ssi: read fault: stdin\nstatus 3' "$(run <folder)"

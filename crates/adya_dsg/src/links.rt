@@ -19,6 +19,10 @@ use adya_values::Orders;
 use digraph::Arc;
 use std::alloc::{AllocError, Global};
 
+/// For how many arcs there is room at first for each event. Most events have one or two links. Room for all of them at once leaves
+/// no holes in memory, as a list that grows does.
+const ARCS_OF_EVENT: usize = 2;
+
 /// Returns the arcs of the links, which decide for each order of the transactions whether all edges go forward in it;
 /// `AllocError` if memory is refused.
 pub(crate) fn links(alloc: Global, versions: &VersionOrders) -> Result<Vec<Arc>, AllocError>
@@ -28,7 +32,7 @@ pub(crate) fn links(alloc: Global, versions: &VersionOrders) -> Result<Vec<Arc>,
 {
     edge_list_keeps_first();
     selected_is_installed();
-    let mut arcs = Vec::new(alloc);
+    let mut arcs = Vec::with_capacity(alloc, versions.event_count() * ARCS_OF_EVENT)?;
     add_write_arcs(versions.orders(), &mut arcs)?;
     add_event_arcs(alloc, versions, &mut arcs)?;
     Ok(arcs)

@@ -19,7 +19,7 @@ are_ends c =
     c.in_ok-add_event_arcs.ensures ∙
     (ap (λ (zs : List Arc). zs ++ of_events)
     (c.in_ok-add_write_arcs.ensures ∙
-    (ap (λ (zs : List Arc). zs ++ of_lines (orders_of c.orders.result.now)) c.new-arcs.ensures.items ∙ ap of_lines c.orders.ensures.value)) ∙
+    (ap (λ (zs : List Arc). zs ++ of_lines (orders_of c.orders.result.now)) c.in_ok-arcs.ensures.items ∙ ap of_lines c.orders.ensures.value)) ∙
     ends_by_parts h c.orders.ensures.rise)
 
 pub returns-clause-sound : goal.returns-clause-sound
