@@ -20,7 +20,7 @@ from reference import Event, history_text, last_write
 TOP = os.path.dirname(os.path.dirname(os.path.abspath(__file__)))
 KEYS = [["a"], ["a", "b"], ["a", "ab", "b"], ["a", "b", "c", "d"]]
 KINDS = ["wr", "wrs", "wrsd", "wdss", "wwdrs"]
-VALUES = ["1", "2", "x"]
+VALUES = ["1", "2", "x", "12"]  # one begins with another
 SPLINTERS = ["0", "\n", ",", ";", ":", "<<", " ", "1", "a", "end\n", "c1\n", "\r", "\xff", "99999999999", "-", "A"]
 SPLINTERS += ["[a:1]\n", "{a,1}\n", "u1\n", "adya 2\n"]
 

@@ -14,10 +14,10 @@ pub(crate) struct Candidate {
     pub nodes: Vec<u32>,
     slots: Slots,
     // The place of the node of each slot, or `NO_PLACE`.
-    places: Vec<usize>,
+    places: Vec<u32>,
 }
 
-const NO_PLACE: usize = usize::MAX;
+const NO_PLACE: u32 = u32::MAX;
 
 impl Candidate {
     // Begins with no node placed.
@@ -34,7 +34,7 @@ impl Candidate {
 
     // Places the node of the slot next, and returns whether it is placed for the first time.
     fn push(&mut self, slot: usize) -> Result<bool, AllocError> {
-        let next = self.nodes.len();
+        let next = self.nodes.len().min(NO_PLACE as usize) as u32;
         match (self.places.get_mut(slot), self.slots.number(slot)) {
             (Some(place), Some(node)) if *place == NO_PLACE => {
                 *place = next;
@@ -68,6 +68,6 @@ impl Candidate {
     /// Returns the place of a node that is in the candidate; of another, any number.
     pub fn place(&self, node: u32) -> usize {
         let slot = self.slots.slot(node);
-        self.places.get(slot).copied().unwrap_or(NO_PLACE)
+        self.places.get(slot).copied().unwrap_or(NO_PLACE) as usize
     }
 }

@@ -44,9 +44,9 @@ fn place_rest(alloc: Global, arcs: &[Arc], begun: Placing) -> Result<Outcome, Al
 
 /// Returns a topological order of the graph, or a cycle of its arcs; `AllocError` if memory is refused. A list may
 /// repeat nodes and arcs. For n nodes and a arcs it takes O(n log n + a) steps if there is an order and at least a
-/// quarter of the numbers from the least node to the greatest are nodes, and O((n + a) log n) otherwise. Beside the arcs
-/// it needs four bytes for each of them, and for each node some 30 to 40 if the numbers of the nodes follow one another,
-/// and up to some 100 otherwise.
+/// quarter of the numbers from the least node to the greatest are nodes, and O((n + a) log n) otherwise; with more than
+/// 4,294,967,295 arcs it may take much longer. Beside the arcs it needs four bytes for each of them, and for each node some
+/// 20 to 30 if the numbers of the nodes follow one another, and up to some 90 otherwise.
 ///
 /// Of the topological orders it returns the one that is smallest place by place: among the nodes whose predecessors
 /// have all been placed, the smallest always comes next.

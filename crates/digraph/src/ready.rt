@@ -11,13 +11,13 @@ use std::collections::BinaryHeap;
 /// contract, as slots have none.
 #[derive(Drop)]
 pub(crate) struct Ready {
-    waits: Vec<usize>,
+    waits: Vec<u32>,
     ready: BinaryHeap<Reverse<usize>>,
 }
 
 // How many arcs go into the node of each slot.
-fn arcs_into(alloc: Global, slots: &Slots, arcs: &[Arc]) -> Result<Vec<usize>, AllocError> {
-    let mut into = Vec::from_elem(alloc, 0usize, slots.len())?;
+fn arcs_into(alloc: Global, slots: &Slots, arcs: &[Arc]) -> Result<Vec<u32>, AllocError> {
+    let mut into = Vec::from_elem(alloc, 0u32, slots.len())?;
     for a in arcs {
         add_one(&mut into, slots.slot(a.to));
     }
