@@ -52,10 +52,10 @@ def least(arguments, stdin, stdout, limit, runs=RUNS):
     return best
 
 
-def least_of_both(arguments, stdin, stdout, sorted_path, limit):
+def least_of_both(arguments, stdin, stdout, sorted_path, limit, runs=2 * RUNS):
     """The same of a command, and the time of sorting the lines of a file, by turns: so both have the machine at its best."""
     best, sorting = Run(arguments, stdin, stdout, limit), sort_time(sorted_path, limit, 1)
-    for _ in range(2 * RUNS - 1):
+    for _ in range(runs - 1):
         if best.is_late or best.status not in (0, 1):
             break
         best = min(best, Run(arguments, stdin, stdout, limit), key=lambda run: run.time)
