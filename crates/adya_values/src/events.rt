@@ -193,13 +193,32 @@ impl Events {
         self.rows.as_slice().len()
     }
 
+    /// Returns the row at the index, if there is one.
+    #[inline(always)]
+    fn row(&self, i: usize) -> Option<Row>
+        ensures event { option_map (event_of_row self.now.arena) result ≡ slice_get (events_of self.now) i }
+        ensures there { IfSome result (λ r. is_row_of self.now.arena r ≡ true) }
+    {
+        self.rows.get(i).copied()
+    }
+
+    /// Returns the row at the index, which is below the length.
+    #[inline(always)]
+    fn row_at(&self, i: usize) -> Row
+        requires { i < length (events_of self.now) }
+        ensures event { slice_get (events_of self.now) i ≡ Some (event_of_row self.now.arena result) }
+        ensures there { is_row_of self.now.arena result ≡ true }
+    {
+        self.rows[i]
+    }
+
     /// Returns the event at the index, counted from 0; `None` if the list is no longer than that.
     #[inline(always)]
     pub fn get(&self, i: usize) -> Option<EventView<'_>>
         ensures { option_map view_of result ≡ slice_get (events_of self.now) i }
     {
-        match self.rows.get(i) {
-            Some(row) => Some(self.arena.event(*row)),
+        match self.row(i) {
+            Some(row) => Some(self.arena.event(row)),
             None => None,
         }
     }
@@ -210,7 +229,7 @@ impl Events {
         requires { i < length (events_of self.now) }
         ensures { slice_get (events_of self.now) i ≡ Some (view_of result) }
     {
-        self.arena.event(self.rows[i])
+        self.arena.event(self.row_at(i))
     }
 
     /// Returns the transaction of the event at the index, counted from 0, which is below the length.
@@ -219,7 +238,7 @@ impl Events {
         requires { i < length (events_of self.now) }
         ensures { option_map txn_of (slice_get (events_of self.now) i) ≡ Some result }
     {
-        self.arena.txn(self.rows[i])
+        self.arena.txn(self.row_at(i))
     }
 
     /// Returns whether the event at the index, counted from 0, writes a value.
@@ -227,8 +246,8 @@ impl Events {
     pub fn shows(&self, i: usize) -> bool
         ensures { result ≡ is_some (shown (option_and_then written (slice_get (events_of self.now) i))) }
     {
-        match self.rows.get(i) {
-            Some(row) => self.arena.shows(*row),
+        match self.row(i) {
+            Some(row) => self.arena.shows(row),
             None => false,
         }
     }
@@ -241,8 +260,8 @@ impl Events {
             ≡ option_map (λ w. w.version) (option_and_then written (slice_get (events_of self.now) i)) }
         ensures there { IfSome result (λ v. v.key < length (keys_of self.now)) }
     {
-        match self.rows.get(i) {
-            Some(row) => self.arena.numbered(*row),
+        match self.row(i) {
+            Some(row) => self.arena.numbered(row),
             None => None,
         }
     }
@@ -255,7 +274,7 @@ impl Events {
         ensures entries { option_map observed (slice_get (events_of self.now) i) ≡ Some (map (seen_entry self.now) (seen_in result)) }
         ensures there { list_all (has_seen self.now) (seen_in result) ≡ true }
     {
-        self.arena.observed(self.rows[i])
+        self.arena.observed(self.row_at(i))
     }
 
     /// Returns the numbers of the bounds of the scan at the index, counted from 0; `None` if the event isn't a scan or there is
@@ -265,8 +284,8 @@ impl Events {
         ensures keys { option_map (both_at (keys_of self.now)) result ≡ option_and_then bounds (slice_get (events_of self.now) i) }
         ensures there { IfSome result (λ b. (b.0 < length (keys_of self.now)) × (b.1 < length (keys_of self.now))) }
     {
-        match self.rows.get(i) {
-            Some(row) => self.arena.bounds(*row),
+        match self.row(i) {
+            Some(row) => self.arena.bounds(row),
             None => None,
         }
     }
@@ -277,8 +296,8 @@ impl Events {
         requires { has_seen self.now seen.now ≡ true }
         ensures { result ≡ is_entry (option_and_then written (slice_get (events_of self.now) i)) (seen_entry self.now seen.now) }
     {
-        match self.rows.get(i) {
-            Some(row) => self.arena.wrote(*row, seen),
+        match self.row(i) {
+            Some(row) => self.arena.wrote(row, seen),
             None => false,
         }
     }
@@ -354,7 +373,7 @@ impl Events {
         requires { i < length (events_of self.now) }
         ensures { option_and_then commit_of (slice_get (events_of self.now) i) ≡ result }
     {
-        match self.rows[i] {
+        match self.row_at(i) {
             Row::Commit { txn } => Some(txn),
             _ => None,
         }
@@ -368,6 +387,6 @@ impl Events {
         ensures { MatchOption result ((t : ℕ) → option_map (aborts t) (slice_get (events_of self.now) i) ≡ Some false)
             (λ t. slice_get (events_of self.now) i ≡ Some (Abort t)) }
     {
-        self.arena.abort(self.rows[i])
+        self.arena.abort(self.row_at(i))
     }
 }

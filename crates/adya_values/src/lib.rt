@@ -14,6 +14,7 @@ mod fault;
 mod finals;
 mod history;
 mod indices;
+mod keeping;
 mod key;
 mod key_hash;
 mod key_table;
