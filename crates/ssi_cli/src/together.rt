@@ -1,14 +1,16 @@
 //! A run over all connections of a socket at once.
 
-ghost use Rattle.std.specs.Prelude.{◌≡◌, true, Err, IfOk};
+ghost use Rattle.std.specs.Prelude.{◌≡◌, false, true, Err, IfOk};
 ghost use Rattle.devices.specs.Mirror.{has_failed};
 ghost use Rattle.ssi_store.specs.Meaning.Courses.{New};
 ghost use Rattle.ssi_store.specs.Mirror.Stores.{IsAt};
 ghost use Rattle.ssi_line.specs.Meaning.Steps.{AllMayFollow, course_after};
 ghost use Rattle.ssi_line.specs.Clauses.Ends.{WentOn};
 ghost use Rattle.ssi_hub.specs.Clauses.Calls.{all_steps};
+ghost use Rattle.ssi_hub.specs.Mirror.{is_stopped};
 ghost use Rattle.ssi_cli.specs.Clauses.Scripts.{Certified};
 ghost use Rattle.ssi_cli.specs.Clauses.Serving.{Together, ends_by_stop};
+ghost use Rattle.ssi_cli.specs.Machinery.HubRuns.{HasRun};
 
 use crate::ScriptFault;
 use crate::clients::{Clients, LISTENER};
@@ -94,21 +96,41 @@ pub fn serve_together<C: Chains + Drop, M: Marks + Drop>(
         × WentOn (IsAt C.held M.marked) store.old (all_steps together.calls) store.new }
 {
     let mut clients = Clients::new(alloc, at_close);
-    let Ok(mut events) = Events::with_capacity(alloc, MOST_EVENTS) else {
+    let Some(mut events) = listen(alloc, poll, listener) else {
         return Served::SocketFault;
     };
-    let Ok(()) = poll
-        .registry()
+    serve_clients(alloc, poll, listener, &mut events, &mut clients, store)
+}
+
+/// Waits for connections from now on. Returns room for the events of a wait; `None` if there is no memory for them, or if the
+/// listener can't be waited for.
+fn listen(alloc: Global, poll: &Poll, listener: &mut UnixListener) -> Option<Events> {
+    let events = Events::with_capacity(alloc, MOST_EVENTS).ok()?;
+    poll.registry()
         .register(listener, LISTENER, Interest::READABLE)
-    else {
-        return Served::SocketFault;
-    };
+        .ok()?;
+    Some(events)
+}
+
+/// Carries out the lines of all connections, as [`serve_together`] does, until one is `stop` or waiting fails.
+fn serve_clients<C: Chains + Drop, M: Marks + Drop>(
+    alloc: Global,
+    poll: &mut Poll,
+    listener: &UnixListener,
+    events: &mut Events,
+    clients: &mut Clients,
+    store: &mut Store<C, M>,
+) -> Served
+    requires { is_stopped clients.old.hub ≡ false }
+    ensures run { HasRun (IsAt C.held M.marked) clients.old.hub store.old clients.new.hub store.new }
+    ensures ends { is_stopped clients.new.hub ≡ ends_by_stop result }
+{
     let mut room = [0u8; ROOM];
     for _ in 0..u64::MAX {
-        let Ok(()) = poll.poll(&mut events, clients.longest_wait()) else {
+        let Ok(()) = poll.poll(events, clients.longest_wait()) else {
             return Served::SocketFault;
         };
-        clients.round(alloc, &events, store, &mut room);
+        clients.round(alloc, events, store, &mut room);
         clients.accept(alloc, listener, poll.registry());
         if clients.is_stopped() {
             clients.write_all();

@@ -18,7 +18,16 @@ fn without_waiting(listener: net::UnixListener) -> io::Result<mio::net::UnixList
 /// Whether a store answers a peer that has written all its lines, one of them without an end.
 pub(crate) fn are_peers_answered(rt: &HostRuntime) -> io::Result<bool> {
     let (listener, mut peer) = peer_with(rt, b"begin A\ncommit A\nstop\nbegin B\nbeg")?;
-    let mut listener = without_waiting(listener)?;
+    if !is_stopped(rt, without_waiting(listener)?)? {
+        return Ok(false);
+    }
+    let mut replies = Vec::new(rt.alloc());
+    peer.read_to_end(&mut replies)?;
+    Ok(replies.as_slice() == b"begun 1\ncommitted\nstopped\n".as_slice())
+}
+
+/// Whether a store serves the connections of the listener until one of them sends `stop`.
+fn is_stopped(rt: &HostRuntime, mut listener: mio::net::UnixListener) -> io::Result<bool> {
     let mut poll = Poll::new(rt)?;
     let mut store = new_store(rt.alloc());
     let served = serve_together(
@@ -28,12 +37,7 @@ pub(crate) fn are_peers_answered(rt: &HostRuntime) -> io::Result<bool> {
         AtClose::Keep,
         &mut store,
     );
-    if served != Served::Stopped {
-        return Ok(false);
-    }
-    let mut replies = Vec::new(rt.alloc());
-    peer.read_to_end(&mut replies)?;
-    Ok(replies.as_slice() == b"begun 1\ncommitted\nstopped\n".as_slice())
+    Ok(served == Served::Stopped)
 }
 
 /// Whether what a peer has asked for is in the texts at the end.

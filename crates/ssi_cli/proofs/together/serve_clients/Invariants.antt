@@ -3,7 +3,7 @@ use Rattle.std.proofs.Common.{◌≡◌, false}
 use Rattle.ssi_store.specs.Mirror.Stores.{IsAt}
 use Rattle.ssi_hub.specs.Mirror.{is_stopped}
 use Rattle.ssi_cli.specs.Machinery.HubRuns.{HasRun}
-use Rattle.ssi_cli.proofs.together.serve_together.Given as goal
+use Rattle.ssi_cli.proofs.together.serve_clients.Given as goal
 
 abbrev pub invariant-loop : goal.invariant-loop
 invariant-loop g l =
