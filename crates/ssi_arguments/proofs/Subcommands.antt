@@ -1,8 +1,8 @@
 -- The subcommands of a command, and that of a parse, from its name and its matches.
-use Rattle.std.proofs.Common.{◌≡◌, List, Option, Some, None, Result, IfOk, option_map, subst}
+use Rattle.std.proofs.Common.{◌≡◌, List, Option, Some, None, option_map}
 use Rattle.std.specs.Prelude.{Box}
 use Rattle.std.specs.Box.{box_value}
-use Rattle.clap.specs.Words.{App, Row, Text, subcommand_name_of, subcommand_rows, subcommand_rows_of, with_subcommand}
+use Rattle.clap.specs.Words.{Row, Text, subcommand_name_of, subcommand_rows, subcommand_rows_of}
 use Rattle.clap.specs.declared.parser.matches.ArgMatches.{ArgMatches}
 use Rattle.clap.specs.declared.parser.matches.ArgMatches.TheViews.{out-ArgMatches, out-SubCommand}
 use Rattle.clap.specs.declared.parser.matches.SubCommand.{SubCommand}
@@ -17,11 +17,3 @@ module _ {Z : Type 0} where
 pub rows_of_subcommand : (m : ArgMatches) (name : Text) (rows : List Row) → Some name ≡ subcommand_name_of m
     → Some rows ≡ option_map (λ p. p.1) (subcommand_rows_of m) → subcommand_rows_of m ≡ Some (name, rows)
 rows_of_subcommand m name rows n r = rows_by_parts (out-ArgMatches m).subcommand name rows n r
-
--- a command with two more, whose descriptions are known
-pub with_both : {T E : Type 0} (r : Result T E) (app : T → App) (command : App) {first second one other : App} → first ≡ one
-    → second ≡ other → IfOk r (λ c. app c ≡ with_subcommand (with_subcommand command first.top) second.top)
-    → IfOk r (λ c. app c ≡ with_subcommand (with_subcommand command one.top) other.top)
-with_both r app command {first} {second} {one} {other} p q made =
-    subst (λ a. IfOk r (λ c. app c ≡ with_subcommand (with_subcommand command a.top) other.top)) p
-    (subst (λ b. IfOk r (λ c. app c ≡ with_subcommand (with_subcommand command first.top) b.top)) q made)

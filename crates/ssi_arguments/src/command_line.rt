@@ -1,7 +1,7 @@
 //! The command line: its commands, their files and their help.
 
 ghost use Rattle.std.specs.Prelude.{◌≡◌, false, IfOk};
-ghost use Rattle.clap.specs.Words.{app_of, new_app, rule_of, with_rule, with_subcommand};
+ghost use Rattle.clap.specs.Words.{App, app_of, new_app, rule_of, with_rule, with_subcommand};
 ghost use Rattle.clap.specs.declared.builder.command.Command.TheViews.{out-Command as fields_of};
 ghost use Rattle.ssi_arguments.specs.Machinery.Parser.{file_rule, flag_rule, with_texts, audit_app, order_app, script_app, serve_app, ssi_app};
 
@@ -14,36 +14,21 @@ pub fn command_line<'a>(alloc: Global) -> Result<Command<'a>, AllocError>
     ensures { IfOk result (λ c. app_of c ≡ ssi_app) }
 {
     let ssi = bare(alloc, "ssi", help::ABOUT, help::MORE);
-    with_runs(alloc, with_audits(alloc, ssi)?)
+    let ssi = with_command(ssi, audit(alloc))?;
+    let ssi = with_command(ssi, order(alloc))?;
+    let ssi = with_command(ssi, script(alloc))?;
+    with_command(ssi, serve(alloc))
 }
 
-fn with_audits<'a>(alloc: Global, command: Command<'a>) -> Result<Command<'a>, AllocError>
-    ensures { IfOk result (λ c. app_of c
-        ≡ with_subcommand (with_subcommand (app_of command.entry) audit_app.top) order_app.top) }
-{
-    let audit = audit(alloc)?;
-    let order = order(alloc)?;
-    with_pair(command, audit, order)
-}
-
-fn with_runs<'a>(alloc: Global, command: Command<'a>) -> Result<Command<'a>, AllocError>
-    ensures { IfOk result (λ c. app_of c
-        ≡ with_subcommand (with_subcommand (app_of command.entry) script_app.top) serve_app.top) }
-{
-    let script = script(alloc)?;
-    let serve = serve(alloc)?;
-    with_pair(command, script, serve)
-}
-
-fn with_pair<'a>(
+/// Adds what was made, if there was memory to make it.
+fn with_command<'a>(
     command: Command<'a>,
-    first: Command<'a>,
-    second: Command<'a>,
+    made: Result<Command<'a>, AllocError>,
 ) -> Result<Command<'a>, AllocError>
-    ensures { (fields_of first.entry).has_globals ≡ false → (fields_of second.entry).has_globals ≡ false → IfOk result (λ c.
-        app_of c ≡ with_subcommand (with_subcommand (app_of command.entry) (app_of first.entry).top) (app_of second.entry).top) }
+    ensures { (app : App) → IfOk made.entry (λ one. app_of one ≡ app) → IfOk made.entry (λ one. (fields_of one).has_globals ≡ false)
+        → IfOk result (λ c. app_of c ≡ with_subcommand (app_of command.entry) app.top) }
 {
-    command.subcommand(first)?.subcommand(second)
+    command.subcommand(made?)
 }
 
 fn audit<'a>(alloc: Global) -> Result<Command<'a>, AllocError>
@@ -77,8 +62,8 @@ fn serve<'a>(alloc: Global) -> Result<Command<'a>, AllocError>
     let serve = bare(alloc, "serve", help::SERVE, help::SERVE_MORE);
     let serve = with_file(alloc, serve, "SOCKET", help::SOCKET)?;
     let serve = with_texts(alloc, serve, help::NEW_HISTORY, help::NEW_CERTIFICATE)?;
-    let serve = serve.arg(flag(alloc, "concurrent", help::CONCURRENT))?;
-    serve.arg(flag(alloc, "abort-on-close", help::ABORT_ON_CLOSE))
+    let serve = with_flag(alloc, serve, "concurrent", help::CONCURRENT)?;
+    with_flag(alloc, serve, "abort-on-close", help::ABORT_ON_CLOSE)
 }
 
 /// A command without files.
@@ -113,6 +98,18 @@ fn with_file<'a>(
     ensures local { (fields_of command.entry).has_globals ≡ false → IfOk result (λ c. (fields_of c).has_globals ≡ false) }
 {
     command.arg(file(alloc, name, help))
+}
+
+fn with_flag<'a>(
+    alloc: Global,
+    command: Command<'a>,
+    name: &'a str,
+    help: &'a str,
+) -> Result<Command<'a>, AllocError>
+    ensures app { IfOk result (λ c. app_of c ≡ with_rule (app_of command.entry) (flag_rule name.entry.now)) }
+    ensures local { (fields_of command.entry).has_globals ≡ false → IfOk result (λ c. (fields_of c).has_globals ≡ false) }
+{
+    command.arg(flag(alloc, name, help))
 }
 
 fn file<'a>(alloc: Global, name: &'a str, help: &'a str) -> Arg<'a>
