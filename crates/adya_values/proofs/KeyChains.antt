@@ -1,5 +1,5 @@
 -- Keys chained by the buckets of a table: a key is found along the chain of its bucket, or it isn't there.
-use Rattle.std.proofs.Common.{◌≡◌, ◌∙◌, ◌≢◌, ℕ, zero, suc, ◌+◌, ◌*◌, ◌<◌, ◌≤◌, ◌==◌, ◌&&◌, true, false, cond, List, [], ◌∷◌, ◌++◌, length, set, get_or, replicate, slice_get, slice_index, Some, None, sym, ap, subst, refl, arith, inl, inr, get_or-set_other, get_or-set_same}
+use Rattle.std.proofs.Common.{◌≡◌, ◌∙◌, ◌≢◌, ℕ, zero, suc, ◌+◌, ◌*◌, ◌<◌, ◌≤◌, ◌==◌, ◌&&◌, true, false, cond, List, [], ◌∷◌, ◌++◌, length, set, get_or, replicate, slice_get, slice_index, Some, None, sym, ap, subst, refl, arith, inl, inr, get_or-set_other, get_or-set_same, vec_capacity, vec_len}
 use Rattle.std.specs.Prelude.{nat_le, nat_lt}
 use Rattle.std.specs.List.{position_or_len, list_all, AllByRecursion, IsDistinct}
 use Rattle.std.proofs.lemmas.Bool.{and_from, and_parts, both_ways, cases_Bool, cases_eq, cases_lt, eq-eqb, eqb-true, leb-true, ltb-true}
@@ -13,7 +13,9 @@ use Rattle.adya_values.specs.Machinery.Seen.{key_at}
 use Rattle.adya_values.specs.Machinery.KeyHash.{bucket_of}
 use Rattle.adya_values.specs.Machinery.Buckets.{last_in, place_in, AreChained, AreOthers, IsTable}
 use Rattle.adya_values.specs.Machinery.KeyTables.{CanTake}
+use Rattle.adya_values.specs.Machinery.Parts.{HasRoom}
 use Rattle.adya_values.specs.declared.key_table.KeyTable.{KeyTable}
+use Rattle.adya_values.specs.declared.parts.Parts.{Parts}
 use Rattle.adya_values.specs.Mirror.Numbers.{number_in}
 use Rattle.adya_values.proofs.IndexRoom.{fewer_fit}
 use Rattle.adya_values.proofs.KeyNumbers.{are_numbered}
@@ -276,4 +278,27 @@ takes_less t n m room =
         all = omega (arith, all);
         few = omega (arith, few);
       };
+    }
+
+-- the same of a table with the same keys
+pub takes_one_less : (t u : KeyTable) (n : ℕ) → u.texts ≡ t.texts → (0 < length t.heads.items → 0 < length u.heads.items)
+    → vec_len u.next ≡ vec_len t.next → vec_capacity t.next ≤ vec_capacity u.next → CanTake t (n + 1) → CanTake u n
+takes_one_less t u n texts kept len capacity room =
+    let less = takes_less t 1 n (subst (CanTake t) (omega arith) room) in
+    let next = less.next in
+    record {
+      buckets = kept room.buckets;
+      next = omega (arith, next, len, capacity);
+      texts = subst (λ p. HasRoom p n (n * 32)) (sym texts) less.texts;
+    }
+
+-- where so many keys fit, this one does
+pub has_room_for : (p : Parts ℕ) (n : ℕ) (k : Key) → is_key k ≡ true → HasRoom p (n + 1) ((n + 1) * 32) → HasRoom p (n + 1) (n * 32 + length k)
+has_room_for p n k key room =
+    let fits = key_fits k key in
+    let all = room.all in
+    record {
+      ends = fewer_fit p.ends (n + 1) (n + 1) (length p.all.items + (n + 1) * 32) (length p.all.items + (n * 32 + length k)) (omega arith) (omega (arith, fits)) room.ends;
+      all = omega (arith, all, fits);
+      few = room.few;
     }

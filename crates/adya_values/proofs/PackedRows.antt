@@ -1,5 +1,5 @@
 -- What rows stand for stays when something is added behind what they name.
-use Rattle.std.proofs.Common.{◌≡◌, ◌∙◌, ℕ, zero, suc, ◌+◌, ◌≤◌, Bool, true, false, if◌then◌else◌, List, [], ◌∷◌, ◌++◌, map, length, Option, Some, None, get_or, slice_get, sym, ap, refl, subst, arith}
+use Rattle.std.proofs.Common.{◌≡◌, ◌∙◌, ℕ, zero, suc, ◌+◌, ◌<◌, ◌≤◌, Bool, true, false, if◌then◌else◌, List, [], ◌∷◌, ◌++◌, map, length, Option, Some, None, get_or, slice_get, sym, ap, refl, subst, arith}
 use Rattle.adya_values.specs.Machinery.KeyTables.{keys_in}
 use Rattle.std.specs.List.{list_all}
 use Rattle.std.specs.Prelude.{nat_lt}
@@ -7,7 +7,7 @@ use Rattle.std.specs.Prelude.{OnErr}
 use Rattle.std.proofs.Common.{Result, Ok, Err}
 use Rattle.std.proofs.Math.Bool.{false≢true}
 use Rattle.std.proofs.lemmas.List.{length-append, length-map, map-append}
-use Rattle.std.proofs.lemmas.Bool.{and_from, and_parts, le-leb, leb-true}
+use Rattle.std.proofs.lemmas.Bool.{and_from, and_parts, le-leb, leb-true, ltb-true}
 use Rattle.adya_values.specs.Meaning.Keys.{Bytes, Key}
 use Rattle.adya_values.specs.Meaning.Histories.{Entry, Delete, Read, Scan, Write}
 use Rattle.adya_values.specs.declared.arena.Row.{Row}
@@ -15,7 +15,7 @@ use Rattle.adya_values.specs.declared.arena.Row.TheVariants as In
 use Rattle.adya_values.specs.declared.arena.Listing.{Listing}
 use Rattle.adya_values.specs.declared.arena.Arena.{Arena}
 use Rattle.adya_values.specs.Mirror.Events.{event_of_row}
-use Rattle.adya_values.specs.Machinery.Seen.{is_part, key_at, part}
+use Rattle.adya_values.specs.Machinery.Seen.{is_part, key_at, part, IsFront}
 use Rattle.adya_values.specs.Machinery.Packed.{entry_of_seen, Extends, event_in, is_listing, is_row, is_row_of, listing_of, scan_in}
 use Rattle.adya_values.proofs.PackedParts.{front_same, front_trans, is_part_stays, key_stays, part_stays, same_entries_in}
 
@@ -123,6 +123,24 @@ extends_trans a b c x y = record {
   seen = front_trans _ _ _ x.seen y.seen;
 }
 
+-- keys were added
+pub extends_keys : (a b : Arena) → IsFront (keys_in a.keys) (keys_in b.keys) → b.bytes ≡ a.bytes → b.listings ≡ a.listings → b.seen ≡ a.seen → Extends a b
+extends_keys a b front bytes listings seen = record {
+  keys = front;
+  bytes = front_same _ _ (ap (λ v. v.items) bytes);
+  listings = front_same _ _ (ap (λ v. v.items) listings);
+  seen = front_same _ _ (ap (λ v. v.items) seen);
+}
+
+-- bytes were added
+pub extends_bytes : (a b : Arena) → b.keys ≡ a.keys → IsFront a.bytes.items b.bytes.items → b.listings ≡ a.listings → b.seen ≡ a.seen → Extends a b
+extends_bytes a b keys front listings seen = record {
+  keys = front_same _ _ (ap keys_in keys);
+  bytes = front;
+  listings = front_same _ _ (ap (λ v. v.items) listings);
+  seen = front_same _ _ (ap (λ v. v.items) seen);
+}
+
 module _ (a b : Arena) (x : Extends a b) (rs : List Row) (e : list_all (is_row_of a) rs ≡ true) where
   pub valid_stays : list_all (is_row_of b) rs ≡ true
   valid_stays =
@@ -145,6 +163,18 @@ pub found_listing : (k n : ℕ) (ls : List Listing) (i : ℕ) (l : Listing) → 
 found_listing k n [] i l e there = absurd (false≢true there)
 found_listing k n (x ∷ xs) zero l e there = ap Some (sym e)
 found_listing k n (x ∷ xs) (suc i) l e there = found_listing k n xs i l e there
+
+-- the place of a listing that a row names
+pub listing_within : (k n : ℕ) (ls : List Listing) (i : ℕ) → is_listing k n (slice_get ls i) ≡ true → i < length ls
+listing_within k n [] i there = absurd (false≢true there)
+listing_within k n (x ∷ xs) zero there = omega arith
+listing_within k n (x ∷ xs) (suc i) there = let less = listing_within k n xs i there in omega (arith, less)
+
+-- the keys that a listing names
+pub bounds_within : (k n : ℕ) (l : Listing) → is_listing k n (Some l) ≡ true → (l.low < k) × (l.high < k)
+bounds_within k n l there =
+    let (low, rest) = and_parts (nat_lt l.low k) _ there in
+    (ltb-true l.low k low, ltb-true l.high k (and_parts (nat_lt l.high k) _ rest).0)
 
 -- one more row, if there was room for it
 pub all_with : {A : Type 0} (f : A → Bool) (xs : List A) (x : A) (more : Bool) → list_all f xs ≡ true → f x ≡ true

@@ -1,6 +1,7 @@
-use Rattle.std.proofs.Common.{◌≡◌, ◌∙◌, ◌+◌, ◌*◌, ◌≤◌, ℕ, length, map, ap, sym, subst, arith, Vec, Global, vec_len, vec_capacity}
+use Rattle.std.proofs.Common.{◌≡◌, ◌∙◌, ◌+◌, ◌*◌, ◌≤◌, ℕ, length, map, ap, sym, subst, arith, refl, Vec, Global, vec_len, vec_capacity}
 use Rattle.adya_values.specs.Machinery.KeyTables.{keys_in, CanTake}
 use Rattle.std.proofs.Math.Bool.{false≢true}
+use Rattle.std.proofs.lemmas.Result.{IfOk-from_err}
 use Rattle.std.specs.Result.{is_ok}
 use Rattle.adya_values.specs.declared.seen.Seen.{Seen}
 use Rattle.std.proofs.lemmas.Bool.{and_from, le-leb}
@@ -9,17 +10,44 @@ use Rattle.adya_values.specs.Meaning.Histories.{Scan}
 use Rattle.adya_values.specs.Mirror.Events.{entries_of}
 use Rattle.adya_values.specs.Machinery.Seen.{key_at, part}
 use Rattle.adya_values.specs.Machinery.Packed.{entry_of_seen, listing_of}
-use Rattle.adya_values.proofs.PackedParts.{IsKeyAt, found_key, front_same, front_trans, key_stays_in, last_part}
+use Rattle.adya_values.proofs.PackedParts.{IsKeyAt, found_key, key_stays_in, last_part}
+use Rattle.adya_values.proofs.PackedRows.{extends_keys, extends_trans}
 use Rattle.adya_values.proofs.KeyChains.{takes_less}
 use Rattle.adya_values.proofs.arena.Arena.list.Goals as goal
 
+pub returns-in_err-low-clause-extends : goal.returns-in_err-low-clause-extends
+returns-in_err-low-clause-extends c =
+    extends_keys _ _ c.number.ensures.front c.number.ensures.bytes c.number.ensures.listings c.number.ensures.seen
+
+pub returns-in_err-low-clause-listings : goal.returns-in_err-low-clause-listings
+returns-in_err-low-clause-listings c = c.number.ensures.listings
+
+pub returns-in_err-low-clause-listed : goal.returns-in_err-low-clause-listed
+returns-in_err-low-clause-listed c = IfOk-from_err c.from_residual.result _ c.from_residual.ensures.0
+
+pub returns-in_err-low-clause-scan : goal.returns-in_err-low-clause-scan
+returns-in_err-low-clause-scan c t = IfOk-from_err c.from_residual.result _ c.from_residual.ensures.0
+
+pub returns-in_err-low-clause-succeeds : goal.returns-in_err-low-clause-succeeds
+returns-in_err-low-clause-succeeds c room =
+    let n = length (entries_of c.args.entries.now) in
+    let fits = c.number.ensures.succeeds (takes_less _ (n + 1) 1 (subst (CanTake c.args.self.now.keys) (omega arith) room.keys)) (omega (arith, room.numbers)) in
+    absurd (false≢true (sym (ap is_ok c.in_err-low.was) ∙ fits))
+
 pub returns-in_err-high-clause-extends : goal.returns-in_err-high-clause-extends
-returns-in_err-high-clause-extends c = record {
-  keys = front_trans _ _ _ c.number.ensures.front c.number-2.ensures.front;
-  bytes = front_same _ _ (ap (λ v. v.items) (c.number-2.ensures.bytes ∙ c.number.ensures.bytes));
-  listings = front_same _ _ (ap (λ v. v.items) (c.number-2.ensures.listings ∙ c.number.ensures.listings));
-  seen = front_same _ _ (ap (λ v. v.items) (c.number-2.ensures.seen ∙ c.number.ensures.seen));
-}
+returns-in_err-high-clause-extends c =
+    extends_trans c.args.self.now c.number.new.self c.number-2.new.self
+    (extends_keys _ _ c.number.ensures.front c.number.ensures.bytes c.number.ensures.listings c.number.ensures.seen)
+    (extends_keys _ _ c.number-2.ensures.front c.number-2.ensures.bytes c.number-2.ensures.listings c.number-2.ensures.seen)
+
+pub returns-in_err-high-clause-listings : goal.returns-in_err-high-clause-listings
+returns-in_err-high-clause-listings c = c.number-2.ensures.listings ∙ c.number.ensures.listings
+
+pub returns-in_err-high-clause-listed : goal.returns-in_err-high-clause-listed
+returns-in_err-high-clause-listed c = IfOk-from_err c.from_residual-in_err-high.result _ c.from_residual-in_err-high.ensures.0
+
+pub returns-in_err-high-clause-scan : goal.returns-in_err-high-clause-scan
+returns-in_err-high-clause-scan c t = IfOk-from_err c.from_residual-in_err-high.result _ c.from_residual-in_err-high.ensures.0
 
 pub returns-in_err-high-clause-succeeds : goal.returns-in_err-high-clause-succeeds
 returns-in_err-high-clause-succeeds c room =
@@ -29,6 +57,25 @@ returns-in_err-high-clause-succeeds c room =
     let left = c.number.ensures.room (n + 1) (subst (CanTake c.args.self.now.keys) (omega arith) room.keys) in
     let fits = c.number-2.ensures.succeeds (takes_less _ n 1 (subst (CanTake c.number.new.self.keys) (omega arith) left)) (omega (arith, numbers, count)) in
     absurd (false≢true (sym (ap is_ok c.in_err-high.was) ∙ fits))
+
+pub returns-in_err-add_entries-clause-extends : goal.returns-in_err-add_entries-clause-extends
+returns-in_err-add_entries-clause-extends c =
+    extends_trans c.args.self.now c.number-2.new.self c.add_entries.new.self
+    (extends_trans c.args.self.now c.number.new.self c.number-2.new.self
+    (extends_keys _ _ c.number.ensures.front c.number.ensures.bytes c.number.ensures.listings c.number.ensures.seen)
+    (extends_keys _ _ c.number-2.ensures.front c.number-2.ensures.bytes c.number-2.ensures.listings c.number-2.ensures.seen)) c.add_entries.ensures.extends
+
+pub returns-in_err-add_entries-clause-listings : goal.returns-in_err-add_entries-clause-listings
+returns-in_err-add_entries-clause-listings c =
+    c.add_entries.ensures.listings ∙ (c.number-2.ensures.listings ∙ c.number.ensures.listings)
+
+pub returns-in_err-add_entries-clause-listed : goal.returns-in_err-add_entries-clause-listed
+returns-in_err-add_entries-clause-listed c =
+    IfOk-from_err c.from_residual-in_err-add_entries.result _ c.from_residual-in_err-add_entries.ensures.0
+
+pub returns-in_err-add_entries-clause-scan : goal.returns-in_err-add_entries-clause-scan
+returns-in_err-add_entries-clause-scan c t =
+    IfOk-from_err c.from_residual-in_err-add_entries.result _ c.from_residual-in_err-add_entries.ensures.0
 
 pub returns-in_err-add_entries-clause-succeeds : goal.returns-in_err-add_entries-clause-succeeds
 returns-in_err-add_entries-clause-succeeds c room =
@@ -41,6 +88,19 @@ returns-in_err-add_entries-clause-succeeds c room =
       seen = subst (λ (v : Vec Seen Global). vec_len v + n ≤ vec_capacity v) (sym (c.number-2.ensures.seen ∙ c.number.ensures.seen)) room.seen;
     }) in
     absurd (false≢true (sym (ap is_ok c.in_err-add_entries.was) ∙ fits))
+
+pub returns-clause-extends : goal.returns-clause-extends
+returns-clause-extends c =
+    extends_trans c.args.self.now c.number-2.new.self c.add_entries.new.self
+    (extends_trans c.args.self.now c.number.new.self c.number-2.new.self
+    (extends_keys _ _ c.number.ensures.front c.number.ensures.bytes c.number.ensures.listings c.number.ensures.seen)
+    (extends_keys _ _ c.number-2.ensures.front c.number-2.ensures.bytes c.number-2.ensures.listings c.number-2.ensures.seen)) c.add_entries.ensures.extends
+
+pub returns-clause-listings : goal.returns-clause-listings
+returns-clause-listings c = c.add_entries.ensures.listings ∙ (c.number-2.ensures.listings ∙ c.number.ensures.listings)
+
+pub returns-clause-succeeds : goal.returns-clause-succeeds
+returns-clause-succeeds c room = refl
 
 low_at : (c : goal.After-len) → IsKeyAt (keys_in c.add_entries.new.self.keys) c.in_ok-low.low c.args.low.now
 low_at c =
