@@ -4,8 +4,11 @@ pub mod FaultLines
 pub mod LineLists
 pub mod PrefixFaults
 pub mod LinesRead
+pub mod ReadFaults
 pub mod LongLines
+pub mod LineTaken
 pub mod StreamParts
+pub mod BothTexts
 pub mod LineReaders
 pub mod HistoryTexts
 pub mod HistoryDrafts

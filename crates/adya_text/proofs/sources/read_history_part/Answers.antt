@@ -1,4 +1,4 @@
-use Rattle.std.proofs.Common.{◌≡◌, ◌≢◌, List, [], ◌∷◌, ◌++◌, ℕ, Some, rules, refl, sym, ap, ◌∙◌, subst, inl, inr}
+use Rattle.std.proofs.Common.{◌≡◌, ◌≢◌, List, [], ◌∷◌, ◌++◌, ℕ, Some, refl, sym, ap, ◌∙◌, subst, inl, inr}
 use Rattle.std.specs.Io.KnownBytes.{prepend_known}
 use Rattle.std.proofs.lemmas.Bool.{false≢true}
 use Rattle.adya_line.specs.Meaning.Spelling.{tail}
@@ -6,11 +6,12 @@ use Rattle.adya_text.specs.Clauses.Faults.{IsCut}
 use Rattle.adya_text.specs.Machinery.LineReaders.{complete, stopped, long}
 use Rattle.adya_text.specs.Machinery.LongLines.{HasStart, StartsNoLine}
 use Rattle.adya_text.specs.Clauses.Grammars.{AreHistoryLines}
-use Rattle.adya_text.specs.Clauses.Reading.{ReadsHistory}
+use Rattle.adya_text.specs.Clauses.Reading.{IsOfText, ReadsHistory}
 use Rattle.adya_text.specs.Clauses.Streams.{history_part, serial_part}
 use Rattle.std.proofs.lemmas.List.Elements.{All-nil, All-push}
 use Rattle.adya_text.proofs.LinesRead.{none_read, line_read, rest_unread, prefix_read, start_read, all_read, on_ok, on_err}
 use Rattle.adya_text.specs.Laws.{HasNoEnd}
+use Rattle.adya_text.proofs.ReadFaults.{of_any, text_no_device, ok_no_error, of_memory, memory_no_device, of_no_line, line_device, device_line}
 use Rattle.adya_text.proofs.StreamParts.{part_front, part_start, part_at_end, part_of_all}
 use Rattle.adya_text.proofs.sources.read_history_part.Goals as goal
 
@@ -62,9 +63,9 @@ loop-line-preserved g c =
     let (stream, same, works, (past, fed, other, read)) = c.loop-line.invariant in
     let line = c.next_line.new.line.items in
     let next = c.in_ok-next_line.ensures in (
-      search rules,
-      search rules,
-      search rules,
+      g.met.S.Source.same_trans _ _ _ stream c.next_line.ensures.stream,
+      next.unfailed ok_no_error ∙ same,
+      λ empty. inr (next.works (works empty)),
       (
         past ++ line ∷ [],
         rw c.deref.ensures.value at (c.in_ok-line.ensures past fed),
@@ -123,3 +124,86 @@ returns-then-is_tail-clause-stream g c = g.met.S.Source.same_trans _ _ _ c.loop-
 
 pub returns-then-has_failed-clause-stream : goal.returns-then-has_failed-clause-stream
 returns-then-has_failed-clause-stream g c = g.met.S.Source.same_trans _ _ _ c.loop-line.invariant.0 c.next_line.ensures.stream
+
+pub returns-clause-fault : goal.returns-clause-fault
+returns-clause-fault g c = λ is. absurd (text_no_device c.finish-2.result c.finish-2.ensures.of_text is)
+
+pub returns-then-is_tail-clause-fault : goal.returns-then-is_tail-clause-fault
+returns-then-is_tail-clause-fault g c = λ is. absurd (text_no_device c.finish.result c.finish.ensures.of_text is)
+
+pub returns-then-has_failed-clause-fault : goal.returns-then-has_failed-clause-fault
+returns-then-has_failed-clause-fault g c = λ is.
+    absurd (text_no_device c.finish-then-has_failed.result c.finish-then-has_failed.ensures.of_text is)
+
+pub returns-clause-unfailed : goal.returns-clause-unfailed
+returns-clause-unfailed g c = λ none. c.in_ok-next_line.ensures.unfailed ok_no_error ∙ c.loop-line.invariant.1
+
+pub returns-then-is_tail-clause-unfailed : goal.returns-then-is_tail-clause-unfailed
+returns-then-is_tail-clause-unfailed g c = λ none. c.in_ok-next_line.ensures.unfailed ok_no_error ∙ c.loop-line.invariant.1
+
+pub returns-then-has_failed-clause-unfailed : goal.returns-then-has_failed-clause-unfailed
+returns-then-has_failed-clause-unfailed g c = λ none. c.in_ok-next_line.ensures.unfailed ok_no_error ∙ c.loop-line.invariant.1
+
+pub returns-clause-works : goal.returns-clause-works
+returns-clause-works g c = λ empty of. c.in_ok-next_line.ensures.works (c.loop-line.invariant.2 empty)
+
+pub returns-then-is_tail-clause-works : goal.returns-then-is_tail-clause-works
+returns-then-is_tail-clause-works g c = λ empty of. c.in_ok-next_line.ensures.works (c.loop-line.invariant.2 empty)
+
+pub returns-then-has_failed-clause-works : goal.returns-then-has_failed-clause-works
+returns-then-has_failed-clause-works g c = λ empty of. c.in_ok-next_line.ensures.works (c.loop-line.invariant.2 empty)
+
+pub returns-then-has_failed-clause-rest : goal.returns-then-has_failed-clause-rest
+returns-then-has_failed-clause-rest g c =
+    let (stream, same, works, (past, fed, other, read)) = c.loop-line.invariant in
+    let line = c.next_line.new.line.items in
+    let more = rw c.deref.ensures.value at (c.in_ok-line.ensures past fed) in
+    on_err _ c.finish-then-has_failed.result (c.finish-then-has_failed.ensures.refused (past ++ line ∷ []) more
+    (inl (c.if-has_failed.ensures.stops (past ++ line ∷ []) more)))
+
+pub returns-in_err-next_line-clause-answer : goal.returns-in_err-next_line-clause-answer
+returns-in_err-next_line-clause-answer g c =
+    of_any _ _ (λ stream. of_no_line (ReadsHistory (history_part stream)) c.from_residual.result _ c.from_residual.ensures.1 tt tt)
+
+pub returns-in_err-next_line-clause-rest : goal.returns-in_err-next_line-clause-rest
+returns-in_err-next_line-clause-rest g c = on_err _ c.from_residual.result c.from_residual.ensures.0
+
+pub returns-in_err-next_line-clause-fault : goal.returns-in_err-next_line-clause-fault
+returns-in_err-next_line-clause-fault g c = λ is.
+    c.in_err-next_line.ensures.fault (line_device c.from_residual.result _ c.from_residual.ensures.1 is)
+
+pub returns-in_err-next_line-clause-unfailed : goal.returns-in_err-next_line-clause-unfailed
+returns-in_err-next_line-clause-unfailed g c = λ none.
+    c.in_err-next_line.ensures.unfailed (λ is. none (device_line c.from_residual.result _ c.from_residual.ensures.1 is))
+    ∙ c.loop-line.invariant.1
+
+pub returns-in_err-next_line-clause-works : goal.returns-in_err-next_line-clause-works
+returns-in_err-next_line-clause-works g c = λ empty of.
+    absurd (of_no_line (λ r. IsOfText r → ⊥) c.from_residual.result _ c.from_residual.ensures.1 (λ no. no) (λ no. no) of)
+
+pub returns-in_err-next_line-clause-stream : goal.returns-in_err-next_line-clause-stream
+returns-in_err-next_line-clause-stream g c = g.met.S.Source.same_trans _ _ _ c.loop-line.invariant.0 c.next_line.ensures.stream
+
+pub returns-in_err-line-clause-answer : goal.returns-in_err-line-clause-answer
+returns-in_err-line-clause-answer g c =
+    of_any _ _ (λ stream. of_memory (ReadsHistory (history_part stream)) c.from_residual-in_err-line.result
+    c.from_residual-in_err-line.ensures.1 tt)
+
+pub returns-in_err-line-clause-rest : goal.returns-in_err-line-clause-rest
+returns-in_err-line-clause-rest g c = on_err _ c.from_residual-in_err-line.result c.from_residual-in_err-line.ensures.0
+
+pub returns-in_err-line-clause-fault : goal.returns-in_err-line-clause-fault
+returns-in_err-line-clause-fault g c = λ is.
+    absurd (memory_no_device c.from_residual-in_err-line.result c.from_residual-in_err-line.ensures.1 is)
+
+pub returns-in_err-line-clause-unfailed : goal.returns-in_err-line-clause-unfailed
+returns-in_err-line-clause-unfailed g c = λ none. c.in_ok-next_line.ensures.unfailed ok_no_error ∙ c.loop-line.invariant.1
+
+pub returns-in_err-line-clause-works : goal.returns-in_err-line-clause-works
+returns-in_err-line-clause-works g c = λ empty of. c.in_ok-next_line.ensures.works (c.loop-line.invariant.2 empty)
+
+pub returns-in_err-line-clause-stream : goal.returns-in_err-line-clause-stream
+returns-in_err-line-clause-stream g c = g.met.S.Source.same_trans _ _ _ c.loop-line.invariant.0 c.next_line.ensures.stream
+
+pub loop-line-smaller : goal.loop-line-smaller
+loop-line-smaller g c = c.in_ok-next_line.ensures.less c.if-branch.true
