@@ -8,3 +8,4 @@ pub mod PlainTexts
 pub mod LineReaders
 pub mod HistoryLines
 pub mod SerialLines
+pub mod Written
