@@ -68,8 +68,8 @@ loop-line-preserved g c =
       as_before _ _ works_now fill.kept ∙ same,
       λ _. inr works_now,
       filled _ _ _ c.take_line.new.line.items c.take_line.new.self c.fill.new.self
-      (piece_taken _ _ c.loop-line.line.items taken [] c.take_line.new.self c.loop-line.self _ eaten moved grown)
-      left fill.bytes,
+          (piece_taken _ _ c.loop-line.line.items taken [] c.take_line.new.self c.loop-line.self _ eaten moved grown)
+          left fill.bytes,
     )
 
 pub loop-line-smaller : goal.loop-line-smaller
