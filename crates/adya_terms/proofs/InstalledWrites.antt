@@ -1,10 +1,11 @@
 -- The writes that installed the versions of the order lines.
-use Rattle.std.proofs.Common.{◌≡◌, ℕ, ◌<◌, List, [], ◌∷◌, Option, Some, None, length, map, option_map, slice_get, refl, sym, ◌∙◌, ap}
+use Rattle.std.proofs.Common.{◌≡◌, ℕ, suc, ◌<◌, ◌≤◌, false, List, [], ◌∷◌, Option, Some, None, is_some, arith, length, map, option_map, slice_get, refl, sym, ◌∙◌, ap}
 use Rattle.std.specs.Prelude.{option_and_then}
 use Rattle.std.proofs.lemmas.Simd.{map-map}
-use Rattle.std.proofs.lemmas.Option.{slice_get-map}
-use Rattle.adya_values.specs.Meaning.Histories.{Entry, Event, Order}
-use Rattle.adya_values.specs.Meaning.Events.{last_write}
+use Rattle.std.proofs.lemmas.Option.{slice_get-map, slice_get_past}
+use Rattle.adya_values.specs.Meaning.Histories.{Entry, Event, History, Order}
+use Rattle.adya_values.specs.Meaning.Events.{last_write, shown}
+use Rattle.adya_values.specs.Machinery.Indices.{indices_in}
 use Rattle.adya_terms.specs.Machinery.Tables.{Own}
 use Rattle.adya_terms.specs.declared.checked.Checked.{Checked}
 use Rattle.adya_terms.specs.declared.line_places.LinePlaces.{LinePlaces}
@@ -75,3 +76,12 @@ module _ (x : Checked) (line place : ℕ) where
   at_place less at found =
       let o = turn_below os line less in
       installs all x.lines os line place o.0 x.written o.1.found at found ∙ ap (option_and_then (wrote_last all place)) (sym o.1.found)
+
+-- there is no such line
+pub none_installed : (h : History) (line place n : ℕ) → n ≡ length h.orders → n ≤ line → false ≡ is_some (shown (installed_at h line place))
+none_installed h line place n count past =
+    let at : Option Order → Option Entry = λ o. option_and_then (λ (p : Order). option_and_then (λ t. last_write t p.key h.events) (slice_get p.writers place)) o in
+    sym (ap (λ o. is_some (shown (at o))) (slice_get_past h.orders line (omega (arith, count, past))))
+
+pub line_starts : (x : Checked) (line n : ℕ) → n ≡ length (checked_history x).orders → line < n → suc line < length (indices_in x.lines.starts)
+line_starts x line n count less = let starts = x.written.count in omega (arith, starts, count, less)

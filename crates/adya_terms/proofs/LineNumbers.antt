@@ -1,11 +1,13 @@
 -- The lines of keys in an array by the numbers of the keys: one more line.
-use Rattle.std.proofs.Common.{◌≡◌, ℕ, suc, ◌+◌, ◌<◌, true, cond, List, [], length, set, Option, option_map, slice_get, slice_index, Some, None, sym, ◌∙◌, ap, subst, arith, inl, inr}
+use Rattle.std.proofs.Common.{◌≡◌, ℕ, zero, suc, ◌+◌, ◌<◌, ◌≤◌, ◌++◌, true, cond, List, [], length, refl, replicate, set, Option, option_map, slice_get, slice_index, Some, None, sym, ◌∙◌, ap, subst, arith, inl, inr}
 use Rattle.std.specs.List.{position_or_len}
 use Rattle.std.proofs.lemmas.Bool.{cases_lt, cases_eq, lt-ltb, le-ltb}
 use Rattle.std.proofs.lemmas.Grind.{get_or-set_at}
-use Rattle.std.proofs.lemmas.List.{get_or-set_other, length-set}
+use Rattle.std.proofs.lemmas.List.{get_or-set_other, length-replicate, length-set}
 use Rattle.std.proofs.lemmas.List.Sums.{passes_at_first}
 use Rattle.std.proofs.lemmas.Option.{none-some, same_Some}
+use mir.Syntax.{w64}
+use mir.Val.{Fits}
 use Rattle.lemmas.proofs.Orderings.{bytes_eq-same}
 use Rattle.adya_values.specs.Meaning.Histories.{Order}
 use Rattle.adya_values.specs.Meaning.Keys.{Key, key_eq}
@@ -90,3 +92,26 @@ module _ (ls : List ℕ) (ks : List Key) (numbered : AreNumbered ks) (os : List 
 
     pub one_more : FindsLines (set ls n (i + 1)) ks os (i + 1)
     one_more = record { count = length-set ls n (i + 1) ∙ had.count; found = found; missing = missing }
+
+zero_at : (n k : ℕ) → slice_index (replicate n 0) k ≡ 0
+zero_at zero k = refl
+zero_at (suc n) zero = refl
+zero_at (suc n) (suc k) = zero_at n k
+
+-- before any line
+pub none_found : (ls xs : List ℕ) (ks : List Key) (os : List Order) (n : ℕ) → ls ≡ xs ++ replicate n 0 → xs ≡ [] → n ≡ length ks
+    → FindsLines ls ks os 0
+none_found ls xs ks os n is empty count =
+    let zeros : ls ≡ replicate n 0 = is ∙ ap (λ us. us ++ replicate n 0) empty in
+    let none : (k : ℕ) → slice_index ls k ≡ 0 = λ k. ap (λ us. slice_index us k) zeros ∙ zero_at n k in
+    record {
+      count = ap length zeros ∙ (length-replicate n 0 ∙ count);
+      found = λ k i m e. let z = none k in absurd (omega (arith, z, e));
+      missing = λ k m e i none. absurd (omega (arith, none));
+    }
+
+pub fits_number : (k n : ℕ) (ks : List Key) → k < length ks → n ≡ length ks → n < 4294967296 → Fits w64 k
+fits_number k n ks less count near = omega (arith, less, count, near)
+
+pub all_seen : (i n m : ℕ) → i ≤ n → n ≤ i → n ≡ m → i ≡ m
+all_seen i n m upto past same = omega (arith, upto, past, same)

@@ -1,7 +1,8 @@
-use Rattle.std.proofs.Common.{◌≡◌, ◌<◌, ◌+◌, ◌∙◌, ◌++◌, ◌∷◌, [], Bor, ap, take, Some, arith, subst, sym}
+use Rattle.std.proofs.Common.{◌≡◌, ◌<◌, ◌+◌, ◌∙◌, ◌++◌, ◌∷◌, [], ◌≤◌, Bor, ap, length, refl, take, Some, arith, subst, sym}
+use Rattle.std.proofs.lemmas.List.{drop_all, take_all}
 use Rattle.std.specs.Prelude.{slice_get}
 use Rattle.adya_values.specs.declared.events.Events.{Events}
-use Rattle.adya_values.specs.Computing.Faults.{Malformed, first}
+use Rattle.adya_values.specs.Computing.Faults.{Malformed, event_faults, first}
 use Rattle.adya_values.specs.Mirror.Events.{events_of}
 use Rattle.adya_terms.specs.Machinery.NewestWrites.{Keeps}
 use Rattle.adya_terms.specs.Machinery.Telling.{told, Means}
@@ -48,3 +49,33 @@ loop-i-preserved c =
           ]);
       faults = c.loop-i.invariant.faults ∙ fault_later all i e t.1 none;
     }
+
+pub new-requires-2 : goal.new-requires-2
+new-requires-2 c = c.key_count-keys.ensures.numbered
+
+pub loop-i-init : goal.loop-i-init
+loop-i-init c =
+    record {
+      same = c.in-Ok-new.ensures.events;
+      means = c.in-Ok-new.ensures.means;
+      newest = c.in-Ok.ensures (events_of c.args.events.now);
+      faults = refl;
+    }
+
+pub broken_rule-requires : goal.broken_rule-requires
+broken_rule-requires c =
+    subst (λ n. c.loop-i.i < n) (c.len-i-end.ensures.length ∙ ap (λ es. length (events_of es)) (sym c.loop-i.invariant.same)) c.loop-i-test.true
+
+pub record-requires : goal.record-requires
+record-requires c =
+    subst (λ n. c.loop-i.i < n) (c.len-i-end.ensures.length ∙ ap (λ es. length (events_of es)) (sym c.loop-i.invariant.same)) c.loop-i-test.true
+
+pub returns : goal.returns
+returns c =
+    let all = events_of c.args.events.now in
+    let i = c.loop-i.i in
+    let past = subst (λ n. n ≤ i) c.len-i-end.ensures.length c.loop-i-test.false in (
+      c.loop-i.invariant.same,
+      subst (Means c.loop-i.tables) (take_all i all past) c.loop-i.invariant.means,
+      c.loop-i.invariant.faults ∙ ap (event_faults (take i all) (2 + i)) (drop_all i all past),
+    )

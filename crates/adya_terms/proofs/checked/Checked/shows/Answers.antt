@@ -3,8 +3,17 @@ use Rattle.adya_values.specs.Meaning.Events.{shown}
 use Rattle.adya_values.specs.Mirror.Lines.{orders_of}
 use Rattle.adya_terms.specs.Clauses.Checked.{checked_history}
 use Rattle.adya_terms.specs.Machinery.Tables.{written_at}
-use Rattle.adya_terms.proofs.InstalledWrites.{at_place}
+use Rattle.adya_terms.proofs.InstalledWrites.{at_place, line_starts, none_installed}
 use Rattle.adya_terms.proofs.checked.Checked.shows.Goals as goal
+
+pub write_at-requires : goal.write_at-requires
+write_at-requires c =
+    line_starts c.args.self.now c.args.line c.len.result (c.len.ensures.length ∙ ap (λ os. length (orders_of os)) c.orders.ensures.value) c.if-line-len.false
+
+pub returns-then-line-len : goal.returns-then-line-len
+returns-then-line-len c =
+    none_installed (checked_history c.args.self.now) c.args.line c.args.place c.len.result
+    (c.len.ensures.length ∙ ap (λ os. length (orders_of os)) c.orders.ensures.value) c.if-line-len.true
 
 pub returns-in_default : goal.returns-in_default
 returns-in_default c =

@@ -1,9 +1,11 @@
-use Rattle.std.proofs.Common.{◌≡◌, ◌∙◌, Some, ap, slice_get, subst, suc, sym}
+use Rattle.std.proofs.Common.{◌≡◌, ◌<◌, ◌∙◌, Some, ap, refl, slice_get, subst, suc, sym}
+use Rattle.std.proofs.lemmas.Result.{IfOk-from_err}
 use Rattle.adya_values.specs.declared.indices.Indices.{Indices}
 use Rattle.adya_values.specs.Machinery.Indices.{indices_in}
 use Rattle.adya_terms.specs.Machinery.LinePlaces.{named, writers_at}
 use Rattle.adya_terms.specs.Machinery.LineWriters.{IsPlaceOf}
 use Rattle.adya_terms.specs.Machinery.Places.{orders_in, AreLines}
+use Rattle.adya_terms.proofs.Compared.{absent}
 use Rattle.adya_terms.proofs.PlacedLines.{has_place, has_start, line_filled, line_lacking}
 use Rattle.adya_terms.proofs.placing.Placing.put_in.Goals as goal
 use Rattle.lemmas.proofs.Counts.{count}
@@ -37,3 +39,35 @@ returns-clause-lines c all last o rise inj there here had =
     subst (λ (v : Indices). AreLines all last (suc at) os (indices_in c.fill.new.self.writes) (indices_in v) fs) (sym c.fill.ensures.starts)
     (subst (λ zs. AreLines all last (suc at) os zs ss fs) (sym filled)
     (line_filled all last at os ws ss fs had rise inj i t o there here x.lines.ordered p writer))
+
+pub place-requires : goal.place-requires
+place-requires c = subst (λ n. c.args.line < n) c.len.ensures c.if-line-len.false
+
+pub returns-then-line-len : goal.returns-then-line-len
+returns-then-line-len c =
+    record {
+      orders = refl;
+      numbers = refl;
+      left_out = refl;
+      lines = λ all last o rise inj there here had. absent (orders_in c.args.self.now) c.args.line c.len.result o c.len.ensures c.if-line-len.true there;
+    }
+
+pub returns-in_err-place : goal.returns-in_err-place
+returns-in_err-place c =
+    let failed = c.from_residual.ensures.0 in
+    record {
+      orders = IfOk-from_err _ _ failed;
+      numbers = IfOk-from_err _ _ failed;
+      left_out = IfOk-from_err _ _ failed;
+      lines = IfOk-from_err _ _ failed;
+    }
+
+pub returns-in_err-fill : goal.returns-in_err-fill
+returns-in_err-fill c =
+    let failed = c.from_residual-in_err-fill.ensures.0 in
+    record {
+      orders = IfOk-from_err _ _ failed;
+      numbers = IfOk-from_err _ _ failed;
+      left_out = IfOk-from_err _ _ failed;
+      lines = IfOk-from_err _ _ failed;
+    }

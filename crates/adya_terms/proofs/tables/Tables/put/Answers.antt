@@ -1,4 +1,5 @@
-use Rattle.std.proofs.Common.{◌≡◌, ◌<◌, ◌∙◌, Bor, Some, length, option_and_then, option_map, sym, ap, subst}
+use Rattle.std.proofs.Common.{◌≡◌, ◌<◌, ◌∙◌, Bor, Some, length, option_and_then, option_map, refl, sym, ap, subst}
+use Rattle.std.proofs.lemmas.Result.{IfOk-from_err}
 use Rattle.std.specs.HashMap.{get}
 use Rattle.adya_values.specs.declared.events.Events.{Events}
 use Rattle.adya_values.specs.Meaning.Histories.{Entry}
@@ -26,3 +27,44 @@ returns-clause-replaced c r =
     sym (replaced_is (written_at (told t) p) p (replaced_in t) (version_in (keys_in t) old) place
     (subst (λ q. Some (version_in (keys_in t) old) ≡ option_map (λ (w : Entry). w.version) (written_at (told t) q)) at wrote)
     (sym at ∙ c.in-Some-place.is) r))
+
+pub put-requires : goal.put-requires
+put-requires c = c.requires
+
+pub returns-in_err-put : goal.returns-in_err-put
+returns-in_err-put c =
+    let failed = c.from_residual.ensures.0 in
+    record {
+      last = IfOk-from_err _ _ failed;
+      replaced = IfOk-from_err _ _ failed;
+      ended = IfOk-from_err _ _ failed;
+      events = c.put.ensures.events;
+    }
+
+pub returns-in_err-insert : goal.returns-in_err-insert
+returns-in_err-insert c =
+    let failed = c.from_residual-in_err-insert.ensures.0 in
+    record {
+      last = IfOk-from_err _ _ failed;
+      replaced = IfOk-from_err _ _ failed;
+      ended = IfOk-from_err _ _ failed;
+      events = c.put.ensures.events;
+    }
+
+pub returns-clause-last : goal.returns-clause-last
+returns-clause-last c = c.in_ok-put.ensures.last
+
+pub returns-clause-ended : goal.returns-clause-ended
+returns-clause-ended c = refl
+
+pub returns-clause-events : goal.returns-clause-events
+returns-clause-events c = c.put.ensures.events
+
+pub returns-in_default-clause-last : goal.returns-in_default-clause-last
+returns-in_default-clause-last c = c.in_ok-put.ensures.last
+
+pub returns-in_default-clause-ended : goal.returns-in_default-clause-ended
+returns-in_default-clause-ended c = refl
+
+pub returns-in_default-clause-events : goal.returns-in_default-clause-events
+returns-in_default-clause-events c = c.put.ensures.events
