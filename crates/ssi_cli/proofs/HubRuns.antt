@@ -1,11 +1,12 @@
 -- Calls of a hub, one after the other.
-use Rattle.std.proofs.Common.{◌≡◌, ℕ, Bool, true, false, cond, List, [], ◌∷◌, ◌++◌, refl, sym, ap, subst, ◌∙◌, append_assoc, append-nil}
+use Rattle.std.proofs.Common.{◌≡◌, ℕ, Bool, true, false, cond, List, [], ◌∷◌, ◌++◌, Option, Result, Ok, Err, OnOk, OnErr, MatchResult, refl, sym, ap, subst, ◌∙◌, append_assoc, append-nil}
 use Rattle.ssi_store.specs.Meaning.Courses.{Course}
 use Rattle.ssi_line.specs.Meaning.Steps.{Step}
 use Rattle.ssi_line.specs.Clauses.Ends.{WentOn}
 use Rattle.ssi_hub.specs.declared.hub.Hub.{Hub}
-use Rattle.ssi_hub.specs.Clauses.Calls.{Call, Opened, token_of, is_open, with_call, with_run, all_steps}
-use Rattle.ssi_hub.specs.Mirror.{is_stopped, Stands}
+use Rattle.ssi_hub.specs.Clauses.Calls.{Call, Opened, Received, token_of, is_open, with_call, with_run, all_steps}
+use Rattle.ssi_hub.specs.Clauses.Buffers.{Buffers}
+use Rattle.ssi_hub.specs.Mirror.{is_stopped, Stands, IsSame, Changed}
 use Rattle.ssi_cli.specs.Machinery.HubRuns.{WasCalled, HasRun}
 use Rattle.ssi_cli.proofs.ScriptRuns.{went_on_both}
 
@@ -31,6 +32,16 @@ pub called_opened : (old new : Hub) (t : ℕ) → is_stopped new ≡ is_stopped 
 called_opened old new t stopped stands = record {
   stopped = stopped;
   stands = λ calls s. (Opened t ∷ calls, stands calls s, refl);
+}
+
+pub called_received : {T E : Type 0} (old new : Hub) (t : ℕ) (bytes : List ℕ) (now : Option Buffers) (result : Result T E)
+    → OnOk result (Changed old new t now) → OnErr result (IsSame old new) → ((calls : List Call) → Stands old calls
+    → MatchResult result (λ _. Stands new (with_call (Received t bytes) calls)) (λ _. Stands new calls)) → WasCalled old new
+called_received old new t bytes now (Ok x) changed same stands =
+    called_with old new (Received t bytes) (λ calls. refl) changed.stopped stands
+called_received old new t bytes now (Err e) changed same stands = record {
+  stopped = same.stopped;
+  stands = λ calls s. (calls, stands calls s, refl);
 }
 
 pub not_called : (hub : Hub) → WasCalled hub hub

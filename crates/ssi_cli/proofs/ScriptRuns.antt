@@ -26,3 +26,7 @@ went_on_both is_at old mid new some more before now = λ course at.
 pub if_ok : {T E : Type 0} {P Q : T → Type 0} (r : Result T E) → ((x : T) → P x → Q x) → IfOk r P → IfOk r Q
 if_ok (Ok x) more is = more x is
 if_ok (Err e) more is = tt
+
+pub both_ok : {T E P Q R : Type 0} (r : Result T E) → (P → Q → R) → IfOk r (λ _. P) → IfOk r (λ _. Q) → IfOk r (λ _. R)
+both_ok (Ok x) more p q = more p q
+both_ok (Err e) more p q = tt

@@ -1,2 +1,1 @@
-pub mod Remains
 pub mod HubRuns

@@ -224,6 +224,13 @@ impl Clients {
             room,
         );
         let due = peer.is_due();
+        self.end_turn(token, index, due);
+    }
+
+    /// Notes whether the connection has more to do, and forgets it if it is closed.
+    fn end_turn(&mut self, token: u64, index: usize, due: bool)
+        ensures { self.new.hub ≡ self.old.hub }
+    {
         self.is_busy = self.is_busy || due;
         if !due && !self.hub.is_open(token) {
             let _ = self.peers.swap_remove_index(index);

@@ -3,13 +3,14 @@
 ghost use Rattle.std.specs.Prelude.{◌≡◌, [], true, Err, IfOk};
 ghost use Rattle.adya_values.specs.Mirror.Histories.{history_of, serial_txns};
 ghost use Rattle.devices.specs.Mirror.{has_failed};
-ghost use Rattle.devices.specs.Clauses.Writing.{Wrote};
+ghost use Rattle.devices.specs.Clauses.Writing.{Grew, Wrote};
 ghost use Rattle.adya_text.specs.Meaning.Texts.{history_text, serial_text};
 ghost use Rattle.ssi_store.specs.Meaning.Courses.{Course};
+ghost use Rattle.ssi_store.specs.Meaning.Faces.{Records};
+ghost use Rattle.ssi_store.specs.Clauses.Finished.{finished};
 ghost use Rattle.ssi_store.specs.Mirror.Finished.{recorded_in};
 ghost use Rattle.ssi_store.specs.Mirror.Stores.{IsAt};
 ghost use Rattle.ssi_cli.specs.Clauses.Scripts.{Certified};
-ghost use Rattle.ssi_cli.specs.Machinery.Remains.{Remains};
 
 use crate::ScriptFault;
 use adya_text::{WriteFault, write_history, write_serial};
@@ -38,33 +39,67 @@ pub(crate) fn write_texts<C: Chains + Drop, M: Marks + Drop, H: Write, W: Write>
     ensures memory { result ≡ Err ScriptFault.Memory
         → (history.new ≡ history.old) × (certificate.new ≡ certificate.old) }
 {
-    let Ok((finished, serial)) = end(alloc, store) else {
+    let Ok(ended) = end(store) else {
         return Err(ScriptFault::Memory);
     };
-    let Ok(()) = put_history(finished.history(), history) else {
-        return Err(ScriptFault::History);
-    };
-    let Ok(()) = put_serial(&serial, certificate) else {
-        return Err(ScriptFault::Certificate);
-    };
-    Ok(())
+    write_ended(alloc, &ended, history, certificate)
 }
 
-/// Ends the store, and certifies its history.
-fn end<C: Chains + Drop, M: Marks + Drop>(
-    alloc: Global,
-    store: Store<C, M>,
-) -> Result<(Finished, Serial), AllocError>
-    ensures { IfOk result (λ r. (course : Course) → IsAt C.held M.marked store course
-        → Remains course (recorded_in r.0) (serial_txns r.1)) }
+/// Ends the store.
+fn end<C: Chains + Drop, M: Marks + Drop>(store: Store<C, M>) -> Result<Finished, AllocError>
+    ensures { IfOk result (λ f. (course : Course) → IsAt C.held M.marked store course
+        → (recorded_in f ≡ finished course) × Records (recorded_in f) course) }
 {
     let Ok(finished) = store.finish() else {
         return Err(AllocError);
     };
-    let Ok(serial) = certify(alloc, &finished) else {
-        return Err(AllocError);
+    Ok(finished)
+}
+
+/// Writes the history of a store that has ended, and then a certificate of it.
+fn write_ended<H: Write, W: Write>(
+    alloc: Global,
+    ended: &Finished,
+    history: &mut Watched<H>,
+    certificate: &mut Watched<W>,
+) -> Result<(), ScriptFault>
+    ensures certified { IfOk result (λ _. (course : Course) → recorded_in ended.now ≡ finished course
+        → Records (recorded_in ended.now) course
+        → Certified course H.contents history.old history.new W.contents certificate.old certificate.new) }
+    ensures history_fault { result ≡ Err ScriptFault.History
+        → (has_failed history.new ≡ true) × (certificate.new ≡ certificate.old) }
+    ensures certificate_fault { result ≡ Err ScriptFault.Certificate → has_failed certificate.new ≡ true }
+    ensures memory { result ≡ Err ScriptFault.Memory
+        → (history.new ≡ history.old) × (certificate.new ≡ certificate.old) }
+{
+    let Ok(serial) = certify(alloc, ended) else {
+        return Err(ScriptFault::Memory);
     };
-    Ok((finished, serial))
+    put_texts(ended.history(), &serial, history, certificate)
+}
+
+fn put_texts<H: Write, W: Write>(
+    recorded: &History,
+    serial: &Serial,
+    history: &mut Watched<H>,
+    certificate: &mut Watched<W>,
+) -> Result<(), ScriptFault>
+    ensures history_written { IfOk result (λ _. Grew H.contents history.old history.new
+        (history_text (history_of recorded.now))) }
+    ensures certificate_written { IfOk result (λ _. Grew W.contents certificate.old certificate.new
+        (serial_text (serial_txns serial.now))) }
+    ensures history_fault { result ≡ Err ScriptFault.History
+        → (has_failed history.new ≡ true) × (certificate.new ≡ certificate.old) }
+    ensures certificate_fault { result ≡ Err ScriptFault.Certificate → has_failed certificate.new ≡ true }
+    ensures memory { result ≡ Err ScriptFault.Memory → ⊥ }
+{
+    let Ok(()) = put_history(recorded, history) else {
+        return Err(ScriptFault::History);
+    };
+    let Ok(()) = put_serial(serial, certificate) else {
+        return Err(ScriptFault::Certificate);
+    };
+    Ok(())
 }
 
 // What the device holds back is written, too.

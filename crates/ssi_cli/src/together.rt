@@ -96,10 +96,25 @@ pub fn serve_together<C: Chains + Drop, M: Marks + Drop>(
         × WentOn (IsAt C.held M.marked) store.old (all_steps together.calls) store.new }
 {
     let mut clients = Clients::new(alloc, at_close);
+    serve_listener(alloc, poll, listener, &mut clients, store)
+}
+
+/// Waits for connections, and carries out the lines of all of them, as [`serve_together`] does.
+fn serve_listener<C: Chains + Drop, M: Marks + Drop>(
+    alloc: Global,
+    poll: &mut Poll,
+    listener: &mut UnixListener,
+    clients: &mut Clients,
+    store: &mut Store<C, M>,
+) -> Served
+    requires { is_stopped clients.old.hub ≡ false }
+    ensures run { HasRun (IsAt C.held M.marked) clients.old.hub store.old clients.new.hub store.new }
+    ensures ends { is_stopped clients.new.hub ≡ ends_by_stop result }
+{
     let Some(mut events) = listen(alloc, poll, listener) else {
         return Served::SocketFault;
     };
-    serve_clients(alloc, poll, listener, &mut events, &mut clients, store)
+    serve_clients(alloc, poll, listener, &mut events, clients, store)
 }
 
 /// Waits for connections from now on. Returns room for the events of a wait; `None` if there is no memory for them, or if the

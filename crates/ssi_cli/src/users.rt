@@ -51,15 +51,14 @@ impl Users {
 
     fn add(&mut self, alloc: Global, token: u64, session: Session) -> Result<(), AllocError> {
         if let Some(sessions) = self.used.get_mut(&token) {
-            return match sessions.insert(session) {
-                Ok(_) => Ok(()),
-                Err(_) => Err(AllocError),
-            };
+            return put(sessions, session);
         }
         let mut sessions = IndexSet::new(alloc);
-        let Ok(_) = sessions.insert(session) else {
-            return Err(AllocError);
-        };
+        put(&mut sessions, session)?;
+        self.keep(token, sessions)
+    }
+
+    fn keep(&mut self, token: u64, sessions: IndexSet<Session>) -> Result<(), AllocError> {
         match self.used.insert(token, sessions) {
             Ok(_) => Ok(()),
             Err(_) => Err(AllocError),
@@ -69,26 +68,42 @@ impl Users {
     /// Returns a session that the connection has used last. `None` if there is none.
     pub(crate) fn next_of(&mut self, token: u64) -> Option<Session> {
         for _ in 0..u64::MAX {
-            let session = *self.used.get(&token)?.last()?;
+            let session = self.last_used(token)?;
             if self.is_last(token, &session) {
                 return Some(session);
             }
-            let _ = self.used.get_mut(&token)?.pop();
+            self.pop(token);
         }
         None
     }
 
-    /// Forgets a session that [`next_of`](Users::next_of) has returned.
-    pub(crate) fn forget(&mut self, token: u64, session: &Session) {
-        let _ = self.last.swap_remove(session);
+    fn last_used(&self, token: u64) -> Option<Session> {
+        let session = self.used.get(&token)?.last()?;
+        Some(*session)
+    }
+
+    fn pop(&mut self, token: u64) {
         if let Some(sessions) = self.used.get_mut(&token) {
             let _ = sessions.pop();
         }
     }
 
+    /// Forgets a session that [`next_of`](Users::next_of) has returned.
+    pub(crate) fn forget(&mut self, token: u64, session: &Session) {
+        let _ = self.last.swap_remove(session);
+        self.pop(token);
+    }
+
     /// Forgets a connection.
     pub(crate) fn remove(&mut self, token: u64) {
         let _ = self.used.swap_remove(&token);
+    }
+}
+
+fn put(sessions: &mut IndexSet<Session>, session: Session) -> Result<(), AllocError> {
+    match sessions.insert(session) {
+        Ok(_) => Ok(()),
+        Err(_) => Err(AllocError),
     }
 }
 

@@ -1,5 +1,23 @@
+use Rattle.std.proofs.Common.{refl}
+use Rattle.ssi_cli.proofs.ScriptRuns.{if_ok}
 use Rattle.ssi_cli.proofs.texts.write_texts.Goals as goal
 
--- The fault of the certificate isn't that of the history.
-pub returns-in_default-put_serial-clause-history_fault : goal.returns-in_default-put_serial-clause-history_fault
-returns-in_default-put_serial-clause-history_fault g c = λ same. absurd (cc same)
+pub returns-clause-certified : goal.returns-clause-certified
+returns-clause-certified g c =
+    if_ok c.write_ended.result (λ _ certified course at.
+    let (is, records) = c.in-Ok.ensures course at in certified course is records) c.write_ended.ensures.certified
+
+pub returns-clause-history_fault : goal.returns-clause-history_fault
+returns-clause-history_fault g c = c.write_ended.ensures.history_fault
+
+pub returns-clause-certificate_fault : goal.returns-clause-certificate_fault
+returns-clause-certificate_fault g c = c.write_ended.ensures.certificate_fault
+
+pub returns-clause-memory : goal.returns-clause-memory
+returns-clause-memory g c = c.write_ended.ensures.memory
+
+pub returns-in_default-clause-certified : goal.returns-in_default-clause-certified
+returns-in_default-clause-certified g c = tt
+
+pub returns-in_default-clause-memory : goal.returns-in_default-clause-memory
+returns-in_default-clause-memory g c = λ _. (refl, refl)
