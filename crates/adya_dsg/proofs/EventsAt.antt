@@ -1,5 +1,7 @@
 -- What is told of the event at an index.
-use Rattle.std.proofs.Common.{◌≡◌, ℕ, zero, suc, ◌<◌, ◌≤◌, List, [], ◌∷◌, length, get_or, slice_get, Option, Some, None, is_some, option_map, option_and_then, refl, sym, ◌∙◌, ap, arith}
+use Rattle.std.proofs.Common.{◌≡◌, ℕ, zero, suc, ◌<◌, ◌≤◌, List, [], ◌∷◌, length, get_or, slice_get, Option, Some, None, is_some, option_map, option_and_then, refl, sym, ◌∙◌, ap, arith, Bool, true, ◌||◌, false}
+use Rattle.std.proofs.lemmas.Bool.{false≢true}
+use Rattle.std.specs.List.{list_any}
 use Rattle.std.proofs.lemmas.Option.{none-some, same_Some, slice_get-get_or}
 use Rattle.adya_values.specs.declared.event.Version.{Version}
 use Rattle.adya_values.specs.Meaning.Events.{observed, txn_of}
@@ -68,3 +70,13 @@ pub alone : {X : Type 0} (xs : List X) (x : X) → 1 ≤ length xs → length xs
 alone [] x l m e = absurd (omega (arith, l))
 alone (y ∷ []) x l m e = ap (λ z. z ∷ []) (sym e)
 alone (y ∷ z ∷ xs) x l m e = absurd (omega (arith, m))
+
+or_true : (b : Bool) → (b || true) ≡ true
+or_true true = refl
+or_true false = refl
+
+-- an event that is a scan
+pub any_scan : (es : List Event) (i : ℕ) → is_scan (get_or es i (Abort 0)) ≡ true → list_any is_scan es ≡ true
+any_scan [] i e = absurd (false≢true e)
+any_scan (x ∷ es) zero e = ap (λ b. b || list_any is_scan es) e
+any_scan (x ∷ es) (suc i) e = ap (λ b. is_scan x || b) (any_scan es i e) ∙ or_true (is_scan x)

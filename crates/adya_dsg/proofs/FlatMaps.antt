@@ -1,10 +1,10 @@
 -- What the elements of a list give, in loops that add it or look for the first in it.
-use Rattle.std.proofs.Common.{◌≡◌, ℕ, suc, ◌+◌, ◌<◌, ◌≤◌, Bool, true, false, cond, List, [], ◌∷◌, ◌++◌, map, drop, get_or, slice_get, length, Option, Some, None, refl, sym, ◌∙◌, ap, arith, append_assoc, append-nil}
+use Rattle.std.proofs.Common.{◌≡◌, ℕ, suc, ◌+◌, ◌<◌, ◌≤◌, Bool, true, false, ◌&&◌, cond, List, [], ◌∷◌, ◌++◌, map, drop, get_or, slice_get, length, Option, Some, None, refl, sym, ◌∙◌, ap, arith, append_assoc, append-nil}
 use Rattle.std.proofs.Math.Seq.{drop-cons}
-use Rattle.std.specs.List.{find, filter, flat_map}
+use Rattle.std.specs.List.{find, filter, flat_map, list_all}
 use Rattle.std.specs.Option.{option_or}
 use Rattle.std.proofs.lemmas.List.{map-append, drop_all}
-use Rattle.std.proofs.lemmas.List.Folds.{find-append}
+use Rattle.std.proofs.lemmas.List.Folds.{find-append, list_all-append}
 use Rattle.lemmas.proofs.Steps.{turn_at}
 
 -- what the elements that pass a test give, by the first of them
@@ -72,3 +72,27 @@ pub none_in_front : {A : Type 0} (test : A → Bool) (here front rest : List A) 
     → find test front ≡ None → find test here ≡ find test rest
 none_in_front test here front rest splits e =
     ap (find test) splits ∙ (find-append test front rest ∙ ap (λ o. option_or o (find test rest)) e)
+
+-- what is left of a list whose elements, seen as others, give it
+module _ {X Y A : Type 0} (f : X → List A) (view : Y → X) (ys : List Y) (i : ℕ) where
+  pub left_step : (d : Y) → i < length ys
+      → flat_map f (map view (drop i ys)) ≡ f (view (get_or ys i d)) ++ flat_map f (map view (drop (i + 1) ys))
+  left_step d l = ap (λ zs. flat_map f (map view zs)) (drop_at ys i d l)
+
+  pub left_end : length ys ≤ i → flat_map f (map view (drop i ys)) ≡ []
+  left_end l = ap (λ zs. flat_map f (map view zs)) (drop_all i ys l)
+
+-- nothing is left to add
+pub all_added : {A B : Type 0} (g : A → B) (done all : List B) (rest : List A) → rest ≡ [] → done ++ map g rest ≡ all → done ≡ all
+all_added g done all rest none s = sym (append-nil done) ∙ (ap (λ zs. done ++ map g zs) (sym none) ∙ s)
+
+-- a test of all, at a front that passes or fails
+module _ {A : Type 0} (test : A → Bool) (here front rest : List A) (splits : here ≡ front ++ rest) where
+  split : (b : Bool) → list_all test front ≡ b → list_all test here ≡ (b && list_all test rest)
+  split b e = ap (list_all test) splits ∙ (list_all-append test front rest ∙ ap (λ c. c && list_all test rest) e)
+
+  pub passes_in_front : list_all test front ≡ true → list_all test here ≡ list_all test rest
+  passes_in_front = split true
+
+  pub fails_in_front : list_all test front ≡ false → list_all test here ≡ false
+  fails_in_front = split false

@@ -1,5 +1,6 @@
 -- The write dependencies of an order line, by its writers and by the places of its versions.
-use Rattle.std.proofs.Common.{◌≡◌, ℕ, zero, suc, ◌+◌, true, List, [], ◌∷◌, ◌++◌, Option, Some, None, option_map, map, flat_map, length, drop, slice_get, refl, sym, ◌∙◌, ap}
+use Rattle.std.proofs.Common.{◌≡◌, ℕ, zero, suc, ◌+◌, true, List, [], ◌∷◌, ◌++◌, Option, Some, None, option_map, map, flat_map, length, drop, slice_get, refl, sym, ◌∙◌, ap, ◌<◌, ◌≤◌, ◌-◌, take, get_or, arith}
+use Rattle.std.proofs.lemmas.List.{take_all, drop_all}
 use Rattle.std.proofs.lemmas.Option.{none-some, slice_get_within}
 use Rattle.lemmas.proofs.Steps.{turn_at}
 use Rattle.adya_values.specs.Meaning.Keys.{keys_rise}
@@ -70,3 +71,17 @@ pub edges_here : (os : List Order) (i : ℕ) (ws : List ℕ) → option_map (λ 
 edges_here os i ws of =
     let key = key_told (slice_get os i) ws of in
     (key.0, edges_from os i key.0 ws key.1 of)
+
+-- a line without writers has no edges
+pub no_line : (k ws : List ℕ) → length ws < 1 → line_edges k ws ≡ []
+no_line k [] l = refl
+no_line k (x ∷ ws) l = absurd (omega (arith, l))
+
+-- the line of its first writer and the others
+pub first_and_rest : (ws : List ℕ) (x : ℕ) → 1 ≤ length ws → x ≡ get_or ws 0 x → x ∷ take (length ws - 1) (drop 1 ws) ≡ ws
+first_and_rest [] x l e = absurd (omega (arith, l))
+first_and_rest (y ∷ ws) x l e = ap (λ z. z ∷ take (length (y ∷ ws) - 1) ws) e ∙ ap (λ zs. y ∷ zs) (take_all _ ws (omega arith))
+
+-- no edge leaves the last writer
+pub after_last : (k : List ℕ) (last : ℕ) (rest : List ℕ) (i : ℕ) → length rest ≤ i → line_edges k (last ∷ drop i rest) ≡ []
+after_last k last rest i l = ap (λ ws. line_edges k (last ∷ ws)) (drop_all i rest l)

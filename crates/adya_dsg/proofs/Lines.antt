@@ -1,16 +1,18 @@
 -- Order lines by their indexes in the list of lines.
-use Rattle.std.proofs.Common.{◌≡◌, ℕ, zero, suc, ◌<◌, ◌≤◌, true, false, cond, List, [], ◌∷◌, map, length, slice_get, Option, Some, None, option_map, refl, sym, ◌∙◌, ap, arith, inl, inr}
+use Rattle.std.proofs.Common.{◌≡◌, ℕ, zero, suc, ◌<◌, ◌≤◌, true, false, cond, List, [], ◌∷◌, map, length, slice_get, Option, Some, None, option_map, refl, sym, ◌∙◌, ap, arith, inl, inr, ◌≢◌, ◌-◌, ◌+◌, ◌==◌, drop, get_or}
+use Rattle.std.proofs.lemmas.List.{drop_all}
 use Rattle.std.proofs.lemmas.Bool.{cases_Bool, cases_eq, cases_lt, eq-eqb, ne_eqb, and_parts}
 use Rattle.std.proofs.lemmas.Option.{none-some, same_Some}
 use Rattle.adya_values.proofs.Keys.{keys_rise-tail}
 use Rattle.adya_values.specs.declared.history.History.{History as HistoryValue}
 use Rattle.adya_values.specs.declared.orders.Orders.{Orders}
-use Rattle.adya_values.specs.Meaning.Histories.{Order}
+use Rattle.adya_values.specs.Meaning.Histories.{Order, History}
 use Rattle.adya_values.specs.Meaning.Keys.{key_lt, keys_rise}
-use Rattle.adya_values.specs.Meaning.Orders.{place, line_of}
+use Rattle.adya_values.specs.Meaning.Orders.{place, line_of, writers, installer}
 use Rattle.adya_values.specs.Mirror.Histories.{history_of, orders_in}
 use Rattle.adya_values.specs.Mirror.Lines.{IsBelow, orders_of}
 use Rattle.adya_terms.specs.Mirror.LineNumbers.{key_of}
+use Rattle.lemmas.proofs.Steps.{drop_step}
 use Rattle.adya_dsg.proofs.Keys.{key_eq-lt, rise_skip}
 use Rattle.lemmas.proofs.Orderings.{bytes_eq-itself, bytes_lt-trans, bytes_lt-apart}
 
@@ -130,3 +132,30 @@ module _ (os : List Order) (rise : keys_rise (map (λ (o : Order). o.key) os) �
         ]
         | inr not ↦ not
       ]
+
+-- the installer of a version that isn't the unborn one
+pub installer_after : (h : History) (k : List ℕ) (p : ℕ) → p ≢ 0 → slice_get (writers h k) (p - 1) ≡ installer h k p
+installer_after h k zero is = absurd (is refl)
+installer_after h k (suc p) is = let e : suc p - 1 ≡ p = omega arith in ap (slice_get (writers h k)) e
+
+-- a search for a place, at the writer of a turn and past the last
+module _ (ws : List ℕ) (t i : ℕ) (before : place ws t ≡ i + place (drop i ws) t) where
+  module _ (x : ℕ) (l : i < length ws) (is : x ≡ get_or ws i x) where
+    here : place (drop i ws) t ≡ cond (x == t) 0 (suc (place (drop (i + 1) ws) t))
+    here = ap (λ zs. place zs t) (drop_step ws i x l is)
+
+    pub place_found : (x == t) ≡ true → i ≡ place ws t
+    place_found e =
+        let none : place (drop i ws) t ≡ 0 = here ∙ ap (λ b. cond b 0 (suc (place (drop (i + 1) ws) t))) e in
+        omega (arith, before, none)
+
+    pub place_passed : (x == t) ≡ false → place ws t ≡ (i + 1) + place (drop (i + 1) ws) t
+    place_passed e =
+        let more : place (drop i ws) t ≡ suc (place (drop (i + 1) ws) t) =
+        here ∙ ap (λ b. cond b 0 (suc (place (drop (i + 1) ws) t))) e in
+        omega (arith, before, more)
+
+  pub place_past : i ≤ length ws → length ws ≤ i → length ws ≡ place ws t
+  place_past l m =
+      let none : place (drop i ws) t ≡ 0 = ap (λ zs. place zs t) (drop_all i ws m) in
+      omega (arith, before, none, l, m)

@@ -70,7 +70,7 @@ of_event_at h n i e lines after found =
     (length-map h.orders of_line ∙ lines) after))
 
 -- that event is there
-event_within : (h : History) (n i : ℕ) → length h.orders ≡ n → n ≤ i → i < length (parts h) → i - n < length h.events
+pub event_within : (h : History) (n i : ℕ) → length h.orders ≡ n → n ≤ i → i < length (parts h) → i - n < length h.events
 event_within h n i lines after l =
     let of_line : Order → List Edge = λ x. write_edges h x.key in
     let all = length-append (map of_line h.orders) (map (committed_edges h) h.events) in
@@ -127,3 +127,11 @@ pub pushed : (h : History) (i : ℕ) (lent now cleared : List EdgeValue) → len
     → map edge_of now ≡ map edge_of cleared ++ part_edges h i → cleared ≡ [] → map edge_of lent ≡ part_edges h i
 pushed h i lent now cleared same adds empty =
     ap (map edge_of) same ∙ (adds ∙ ap (λ zs. map edge_of zs ++ part_edges h i) empty)
+
+pub count_of_parts : (h : History) (m n : ℕ) → m ≡ length h.orders → n ≡ length h.events → m + n ≡ length (parts h)
+count_of_parts h m n lines events =
+    let of_line : Order → List Edge = λ x. write_edges h x.key in
+    let all = length-append (map of_line h.orders) (map (committed_edges h) h.events) in
+    let of_orders = length-map h.orders of_line in
+    let of_events = length-map h.events (committed_edges h) in
+    omega (arith, all, of_orders, of_events, lines, events)

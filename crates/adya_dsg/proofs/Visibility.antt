@@ -2,7 +2,7 @@
 use Rattle.std.proofs.Common.{◌≡◌, ℕ, zero, suc, ◌+◌, ◌%◌, ◌==◌, ◌<◌, ◌≤◌, Bool, true, false, cond, not, leb, List, [], ◌∷◌, length, is_some, filter, refl, sym, ◌∙◌, ap, arith, inl, inr}
 use Rattle.std.specs.List.Sorted.{IsPartitionPoint}
 use Rattle.std.proofs.Math.Nat.{suc-mod, mod-lt}
-use Rattle.std.proofs.lemmas.Bool.{cases_lt, le-leb, lt-leb}
+use Rattle.std.proofs.lemmas.Bool.{cases_lt, le-leb, lt-leb, false≢true}
 use Rattle.std.proofs.lemmas.Option.{slice_get_past}
 use Rattle.adya_values.specs.Meaning.Histories.{History}
 use Rattle.adya_values.specs.Meaning.Orders.{writers, shown_by, is_visible_at}
@@ -117,3 +117,9 @@ module _ (h : History) (k : List ℕ) where
   pub not_visible : (p : ℕ) → length (writers h k) < p → is_visible_at h k p ≡ false
   not_visible zero l = absurd (omega (arith, l))
   not_visible (suc p) l = ap (λ o. is_some (shown_by k h.events o)) (slice_get_past (writers h k) p (omega (arith, l)))
+
+  pub visible_within : (p : ℕ) → is_visible_at h k p ≡ true → p ≤ length (writers h k)
+  visible_within p is = elim (cases_lt (length (writers h k)) p) [
+    | inl past ↦ absurd (false≢true (sym (not_visible p past) ∙ is))
+    | inr within ↦ within
+  ]

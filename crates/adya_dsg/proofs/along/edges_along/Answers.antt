@@ -1,4 +1,5 @@
-use Rattle.std.proofs.Common.{get_or, sym, ◌∙◌, ap, map, option_map, is_some, Some}
+use Rattle.std.proofs.Common.{get_or, sym, ◌∙◌, ap, map, option_map, is_some, Some, falls}
+use Rattle.std.proofs.lemmas.Result.{IfOk-from_err}
 use Rattle.std.proofs.lemmas.List.Elements.{Contains-get_or}
 use Rattle.digraph.specs.declared.arc.Arc.{Arc}
 use Rattle.adya_values.specs.Computing.EdgeList.{edge_list}
@@ -30,3 +31,21 @@ loop-a-preserved c =
     (c.edge_list_keeps_first.ensures h (joins a) ∙
     (sym (c.in_ok-first.ensures a there) ∙ ap (option_map edge_of) c.index.ensures))
     c.loop-a.invariant
+
+pub edge_list_keeps_first-requires : goal.edge_list_keeps_first-requires
+edge_list_keeps_first-requires c = tt
+
+pub first_edges-requires : goal.first_edges-requires
+first_edges-requires c = tt
+
+pub returns-in_err-first : goal.returns-in_err-first
+returns-in_err-first c = IfOk-from_err c.from_residual.result _ c.from_residual.ensures.0
+
+pub bounds-cycle-a-index : goal.bounds-cycle-a-index
+bounds-cycle-a-index c = c.loop-a-test.true
+
+pub returns-in_err-push : goal.returns-in_err-push
+returns-in_err-push c = IfOk-from_err c.from_residual-in_err-push.result _ c.from_residual-in_err-push.ensures.0
+
+pub loop-a-smaller : goal.loop-a-smaller
+loop-a-smaller c = falls _ _ c.loop-a-test.true

@@ -1,4 +1,5 @@
-use Rattle.std.proofs.Common.{◌==◌, ◌&&◌, ◌||◌, take, get_or, ap, sym, ◌∙◌}
+use Rattle.std.proofs.Common.{◌==◌, ◌&&◌, ◌||◌, take, get_or, ap, sym, ◌∙◌, falls}
+use Rattle.std.proofs.lemmas.Result.{IfOk-from_err}
 use Rattle.std.specs.List.{list_any}
 use Rattle.std.specs.Ordering.{is_eq}
 use Rattle.std.specs.BTreeSet.{contains}
@@ -22,3 +23,12 @@ loop-a-preserved c q =
     (ap (λ b. b || here) (c.loop-a.invariant q) ∙
     (ap (λ b. list_any has (take i cycle) || b) (ends_tied (a.from, a.to) q) ∙
     sym (list_any_more has cycle i none c.loop-a-test.true))))
+
+pub bounds-cycle-a-index : goal.bounds-cycle-a-index
+bounds-cycle-a-index c = c.loop-a-test.true
+
+pub returns-in_err-insert : goal.returns-in_err-insert
+returns-in_err-insert c = IfOk-from_err c.from_residual.result _ c.from_residual.ensures.0
+
+pub loop-a-smaller : goal.loop-a-smaller
+loop-a-smaller c = falls _ _ c.loop-a-test.true

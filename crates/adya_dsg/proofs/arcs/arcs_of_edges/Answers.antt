@@ -1,4 +1,5 @@
-use Rattle.std.proofs.Common.{◌<◌, ◌+◌, ◌++◌, ◌∙◌, ◌↔◌, Vec, Global, Contains, map, sym, ap, subst, arith}
+use Rattle.std.proofs.Common.{◌<◌, ◌+◌, ◌++◌, ◌∙◌, ◌↔◌, Vec, Global, Contains, map, sym, ap, subst, arith, falls}
+use Rattle.std.proofs.lemmas.Result.{IfOk-from_err}
 use Rattle.digraph.specs.declared.arc.Arc.{Arc}
 use Rattle.adya_values.specs.Computing.EdgeList.{dependencies}
 use Rattle.adya_dsg.specs.Machinery.VersionOrders.{ordered_history}
@@ -43,3 +44,42 @@ returns-clause-sound c =
 pub returns-clause-enough : goal.returns-clause-enough
 returns-clause-enough c =
     edges_decide c.edge_list_keeps_first.ensures (ordered_history c.args.versions.now) c.loop-part.arcs.items (all_there c)
+
+pub edge_list_keeps_first-requires : goal.edge_list_keeps_first-requires
+edge_list_keeps_first-requires c = tt
+
+pub of-requires : goal.of-requires
+of-requires c = tt
+
+pub count_parts-part-end-requires : goal.count_parts-part-end-requires
+count_parts-part-end-requires c = tt
+
+pub add_arcs-requires : goal.add_arcs-requires
+add_arcs-requires c = tt
+
+pub each_once-arcs-requires : goal.each_once-arcs-requires
+each_once-arcs-requires c = tt
+
+pub push_part_edges-requires : goal.push_part_edges-requires
+push_part_edges-requires c = subst (λ n. c.loop-part.part < n) c.count_parts-part-end.ensures c.loop-part-test.true
+
+pub loop-part-smaller : goal.loop-part-smaller
+loop-part-smaller c = falls _ _ c.loop-part-test.true
+
+pub returns-in_err-selector-clause-sound : goal.returns-in_err-selector-clause-sound
+returns-in_err-selector-clause-sound c = IfOk-from_err c.from_residual.result _ c.from_residual.ensures.0
+
+pub returns-in_err-selector-clause-enough : goal.returns-in_err-selector-clause-enough
+returns-in_err-selector-clause-enough c = IfOk-from_err c.from_residual.result _ c.from_residual.ensures.0
+
+pub returns-in_err-push_part_edges-clause-sound : goal.returns-in_err-push_part_edges-clause-sound
+returns-in_err-push_part_edges-clause-sound c = IfOk-from_err c.from_residual-in_err-push_part_edges.result _ c.from_residual-in_err-push_part_edges.ensures.0
+
+pub returns-in_err-push_part_edges-clause-enough : goal.returns-in_err-push_part_edges-clause-enough
+returns-in_err-push_part_edges-clause-enough c = IfOk-from_err c.from_residual-in_err-push_part_edges.result _ c.from_residual-in_err-push_part_edges.ensures.0
+
+pub returns-in_err-add_arcs-clause-sound : goal.returns-in_err-add_arcs-clause-sound
+returns-in_err-add_arcs-clause-sound c = IfOk-from_err c.from_residual-in_err-add_arcs.result _ c.from_residual-in_err-add_arcs.ensures.0
+
+pub returns-in_err-add_arcs-clause-enough : goal.returns-in_err-add_arcs-clause-enough
+returns-in_err-add_arcs-clause-enough c = IfOk-from_err c.from_residual-in_err-add_arcs.result _ c.from_residual-in_err-add_arcs.ensures.0

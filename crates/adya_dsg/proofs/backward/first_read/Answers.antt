@@ -1,4 +1,6 @@
-use Rattle.std.proofs.Common.{◌<◌, ◌+◌, option_map, drop, filter, flat_map, sym, ◌∙◌, ap, subst}
+use Rattle.std.proofs.Common.{◌<◌, ◌+◌, option_map, drop, filter, flat_map, sym, ◌∙◌, ap, subst, ◌≤◌, falls, refl}
+use Rattle.std.proofs.lemmas.List.{drop_all}
+use Rattle.std.proofs.lemmas.Result.{IfOk-from_err}
 use Rattle.std.specs.List.{find}
 use Rattle.adya_values.specs.Meaning.Histories.{Event}
 use Rattle.adya_values.specs.Meaning.Events.{txn_of, is_committed}
@@ -45,3 +47,44 @@ loop-event-preserved c =
           ap (find p)
           (from_left_out (event_edges h) h.events i e found keep (sym c.is_committed.ensures ∙ w.if-is_committed.false))
     ]
+
+pub of-requires : goal.of-requires
+of-requires c = tt
+
+pub returns-in_err-selector : goal.returns-in_err-selector
+returns-in_err-selector c = IfOk-from_err c.from_residual.result _ c.from_residual.ensures.0
+
+pub event_count-event-end-requires : goal.event_count-event-end-requires
+event_count-event-end-requires c = tt
+
+pub loop-event-init : goal.loop-event-init
+loop-event-init c = refl
+
+pub is_committed-requires : goal.is_committed-requires
+is_committed-requires c = subst (λ n. c.loop-event.event < n) c.event_count-event-end.ensures c.loop-event-test.true
+
+pub first_of_event-requires-clause-checked : goal.first_of_event-requires-clause-checked
+first_of_event-requires-clause-checked c = c.requires.checked
+
+pub first_of_event-requires-clause-writes : goal.first_of_event-requires-clause-writes
+first_of_event-requires-clause-writes c = c.requires.writes
+
+pub first_of_event-requires-clause-occurs : goal.first_of_event-requires-clause-occurs
+first_of_event-requires-clause-occurs c = subst (λ n. c.loop-event.event < n) c.event_count-event-end.ensures c.loop-event-test.true
+
+pub first_of_event-requires-clause-committed : goal.first_of_event-requires-clause-committed
+first_of_event-requires-clause-committed c = sym c.is_committed.ensures ∙ c.if-is_committed.true
+
+pub returns-in_err-found : goal.returns-in_err-found
+returns-in_err-found c = IfOk-from_err c.from_residual-in_err-found.result _ c.from_residual-in_err-found.ensures.0
+
+pub loop-event-smaller : goal.loop-event-smaller
+loop-event-smaller c = falls _ _ c.loop-event-test.true
+
+pub returns : goal.returns
+returns c =
+    let h = ordered_history c.args.versions.now in
+    let keep = λ (x : Event). is_committed h.events (txn_of x) in
+    sym (c.loop-event.invariant ∙
+    ap (λ es. find (is_backward c.args.certificate.now.txns.now) (flat_map (event_edges h) (filter keep es)))
+    (drop_all c.loop-event.event h.events (subst (λ n. n ≤ c.loop-event.event) c.event_count-event-end.ensures c.loop-event-test.false)))

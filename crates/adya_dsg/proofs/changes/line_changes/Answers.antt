@@ -1,4 +1,5 @@
-use Rattle.std.proofs.Common.{◌≡◌, ◌<◌, ℕ, List, Some, length, option_map, slice_get, refl, sym, ◌∙◌, ap, subst, arith}
+use Rattle.std.proofs.Common.{◌≡◌, ◌<◌, ℕ, List, Some, length, option_map, slice_get, refl, sym, ◌∙◌, ap, subst, arith, falls}
+use Rattle.std.proofs.lemmas.Result.{IfOk-from_err}
 use Rattle.adya_values.specs.Meaning.Histories.{Order}
 use Rattle.adya_terms.specs.Clauses.Checked.{checked_history, history_in}
 use Rattle.adya_dsg.specs.Machinery.Choices.{key_at}
@@ -45,3 +46,39 @@ returns c =
     let past = c.loop-line-test.false in
     let all : c.loop-line.line ≡ length h.orders = omega (arith, n, end, past) in
     subst (AreChanges h c.loop-line.places.items c.loop-line.starts.items) all c.loop-line.invariant
+
+pub history-requires : goal.history-requires
+history-requires c = tt
+
+pub orders-orders-requires : goal.orders-orders-requires
+orders-orders-requires c = tt
+
+pub len-requires : goal.len-requires
+len-requires c = tt
+
+pub saturating_add-requires : goal.saturating_add-requires
+saturating_add-requires c = tt
+
+pub len-line-end-requires : goal.len-line-end-requires
+len-line-end-requires c = tt
+
+pub returns-in_err-starts : goal.returns-in_err-starts
+returns-in_err-starts c = IfOk-from_err c.from_residual.result _ c.from_residual.ensures.0
+
+pub returns-in_err-push : goal.returns-in_err-push
+returns-in_err-push c = IfOk-from_err c.from_residual-in_err-push.result _ c.from_residual-in_err-push.ensures.0
+
+pub writers-requires : goal.writers-requires
+writers-requires c = subst (λ n. c.loop-line.line < n) c.len-line-end.ensures.length c.loop-line-test.true
+
+pub returns-in_err-push_changed : goal.returns-in_err-push_changed
+returns-in_err-push_changed c = IfOk-from_err c.from_residual-in_err-push_changed.result _ c.from_residual-in_err-push_changed.ensures.0
+
+pub returns-in_err-push-2 : goal.returns-in_err-push-2
+returns-in_err-push-2 c = IfOk-from_err c.from_residual-in_err-push-2.result _ c.from_residual-in_err-push-2.ensures.0
+
+pub loop-line-smaller : goal.loop-line-smaller
+loop-line-smaller c = falls _ _ c.loop-line-test.true
+
+pub invariant_of-result : goal.invariant_of-result
+invariant_of-result c = record { ordered = c.loop-line.invariant.ordered }

@@ -1,4 +1,6 @@
-use Rattle.std.proofs.Common.{◌≡◌, ◌+◌, ◌<◌, ◌++◌, ℕ, suc, List, Vec, Global, filter, length, drop, get_or, Option, Some, None, is_some, option_map, slice_get, sym, ◌∙◌, ap}
+use Rattle.std.proofs.Common.{◌≡◌, ◌+◌, ◌<◌, ◌++◌, ℕ, suc, List, Vec, Global, filter, length, drop, get_or, Option, Some, None, is_some, option_map, slice_get, sym, ◌∙◌, ap, falls, refl, append-nil}
+use Rattle.std.proofs.lemmas.List.{drop_all}
+use Rattle.std.proofs.lemmas.Result.{IfOk-from_err}
 use Rattle.std.specs.Prelude.{option_and_then}
 use Rattle.std.proofs.lemmas.Option.{none-some, same_Some, get_or_from_slice_get, slice_get-get_or}
 use Rattle.adya_values.specs.Meaning.Histories.{Event, History, Order}
@@ -58,3 +60,30 @@ loop-i-preserved c =
             c.loop-i.places.items _ w.if-now-was.false c.loop-i.invariant.all;
       }
     ]
+
+pub loop-i-init : goal.loop-i-init
+loop-i-init c =
+    let h = checked_history c.args.checked.now in
+    let test = changes_matches h (key_at h c.args.line) in record {
+      before = refl;
+      all = ap (λ ws. c.args.places.now.items ++ filter test (numbers 1 (length ws))) c.requires.writers;
+    }
+
+pub shows-now-requires : goal.shows-now-requires
+shows-now-requires c = tt
+
+pub returns-in_err-push : goal.returns-in_err-push
+returns-in_err-push c = IfOk-from_err c.from_residual.result _ c.from_residual.ensures.0
+
+pub loop-i-smaller : goal.loop-i-smaller
+loop-i-smaller c = falls _ _ c.loop-i-test.true
+
+pub returns : goal.returns
+returns c =
+    let h = checked_history c.args.checked.now in
+    let test = changes_matches h (key_at h c.args.line) in
+    let now = c.loop-i.places.items in
+    let i = c.loop-i.i in
+    sym (append-nil now) ∙
+    (ap (λ (ws : List ℕ). now ++ filter test (numbers (suc i) (length ws))) (sym (drop_all i c.args.txns.now c.loop-i-test.false)) ∙
+    c.loop-i.invariant.all)

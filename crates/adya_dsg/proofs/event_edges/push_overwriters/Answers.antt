@@ -1,4 +1,5 @@
-use Rattle.std.proofs.Common.{◌+◌, ◌++◌, ℕ, suc, Vec, Global, Some, map, drop, filter, flat_map, get_or, slice_get, nat_lt, sym, ◌∙◌, ap, append_assoc, add-one}
+use Rattle.std.proofs.Common.{◌+◌, ◌++◌, ℕ, suc, Vec, Global, Some, map, drop, filter, flat_map, get_or, slice_get, nat_lt, sym, ◌∙◌, ap, append_assoc, add-one, falls, refl, length, arith}
+use Rattle.std.proofs.lemmas.Result.{IfOk-from_err}
 use Rattle.std.proofs.lemmas.Bool.{lt-ltb, le-ltb}
 use Rattle.adya_values.specs.Meaning.Events.{txn_of}
 use Rattle.adya_values.specs.Meaning.Orders.{installer}
@@ -8,6 +9,7 @@ use Rattle.adya_dsg.specs.Machinery.VersionOrders.{ordered_history}
 use Rattle.adya_dsg.specs.declared.edge.Edge.{Edge as EdgeValue}
 use Rattle.adya_dsg.specs.Mirror.{edge_of}
 use Rattle.adya_dsg.specs.Machinery.Choices.{event_at, key_at}
+use Rattle.adya_dsg.proofs.Visibility.{visible_within}
 use Rattle.adya_dsg.proofs.FlatMaps.{kept_step, passed_step, at_end, drop_at}
 use Rattle.adya_dsg.proofs.Numbers.{got}
 use Rattle.adya_dsg.proofs.ChoiceEdges.{overwrite_edges_visible, overwrite_edges_hidden}
@@ -81,3 +83,56 @@ returns c =
           ap (λ es. old ++ es)
           (sym (overwrite_edges_hidden h e k p c.requires.scan (sym c.is_visible.ensures ∙ w.if-is_visible.false))))))
     ]
+
+pub key-key-requires : goal.key-key-requires
+key-key-requires c = c.requires.within
+
+pub txn-txn-requires : goal.txn-txn-requires
+txn-txn-requires c = c.requires.there
+
+pub is_visible-requires-clause-scans : goal.is_visible-requires-clause-scans
+is_visible-requires-clause-scans c = c.requires.scans
+
+pub is_visible-requires-clause-within : goal.is_visible-requires-clause-within
+is_visible-requires-clause-within c = c.requires.within
+
+pub writers-requires : goal.writers-requires
+writers-requires c = c.requires.within
+
+pub push_edge-requires : goal.push_edge-requires
+push_edge-requires c = tt
+
+pub returns-in_err-push_edge : goal.returns-in_err-push_edge
+returns-in_err-push_edge c = IfOk-from_err c.from_residual.result _ c.from_residual.ensures.0
+
+pub changes-changes-requires-clause-scans : goal.changes-changes-requires-clause-scans
+changes-changes-requires-clause-scans c = c.requires.scans
+
+pub changes-changes-requires-clause-within : goal.changes-changes-requires-clause-within
+changes-changes-requires-clause-within c = c.requires.within
+
+pub loop-place-init : goal.loop-place-init
+loop-place-init c = refl
+
+pub bounds-changes-place-index : goal.bounds-changes-place-index
+bounds-changes-place-index c = c.loop-place-test.true
+
+pub installer-to-requires : goal.installer-to-requires
+installer-to-requires c = c.requires.within
+
+pub push_edge-requires-then-seen-place : goal.push_edge-requires-then-seen-place
+push_edge-requires-then-seen-place c = tt
+
+pub returns-in_err-push_edge-2 : goal.returns-in_err-push_edge-2
+returns-in_err-push_edge-2 c = IfOk-from_err c.from_residual-in_err-push_edge-2.result _ c.from_residual-in_err-push_edge-2.ensures.0
+
+pub loop-place-smaller : goal.loop-place-smaller
+loop-place-smaller c = falls _ _ c.loop-place-test.true
+
+pub overflow_add-seen : goal.overflow_add-seen
+overflow_add-seen c =
+    let h = ordered_history c.args.versions.now in
+    let k = key_at h c.args.at.line in
+    let within = visible_within h k c.args.at.place (sym c.is_visible.ensures ∙ c.if-is_visible.true) in
+    let same = ap length c.writers.ensures in
+    record { fits = omega (arith, within, same) }

@@ -1,6 +1,6 @@
-use Rattle.std.proofs.Common.{◌≡◌, ◌+◌, ◌++◌, ℕ, Vec, Global, Some, map, drop, filter, flat_map, get_or, nat_lt, sym, ◌∙◌, ap, append_assoc}
+use Rattle.std.proofs.Common.{◌≡◌, ◌+◌, ◌++◌, ℕ, Vec, Global, Some, map, drop, filter, flat_map, get_or, nat_lt, sym, ◌∙◌, ap, append_assoc, falls, refl}
 use Rattle.std.proofs.lemmas.Bool.{lt-ltb, le-ltb}
-use Rattle.std.proofs.lemmas.Result.{on_ok_weaker}
+use Rattle.std.proofs.lemmas.Result.{on_ok_weaker, IfOk-from_err}
 use Rattle.adya_values.specs.Meaning.Orders.{installer}
 use Rattle.adya_values.specs.Meaning.Edges.{Wr}
 use Rattle.adya_values.specs.Computing.EdgeList.{joined, read_edges}
@@ -64,3 +64,39 @@ returns c =
     (ap (λ o. map edge_of c.loop-place.edges.items ++ joined Wr k o (Some t)) c.installer-from-2.ensures ∙
     (ap (λ es. es ++ gives t p) done ∙ (append_assoc old front (gives t p) ∙ all)))))
     c.push_edge-2.ensures
+
+pub key-key-requires : goal.key-key-requires
+key-key-requires c = c.requires.within
+
+pub txn-txn-requires : goal.txn-txn-requires
+txn-txn-requires c = c.requires.there
+
+pub changes-changes-requires-clause-scans : goal.changes-changes-requires-clause-scans
+changes-changes-requires-clause-scans c = c.requires.scans
+
+pub changes-changes-requires-clause-within : goal.changes-changes-requires-clause-within
+changes-changes-requires-clause-within c = c.requires.within
+
+pub loop-place-init : goal.loop-place-init
+loop-place-init c = refl
+
+pub bounds-changes-place-index : goal.bounds-changes-place-index
+bounds-changes-place-index c = c.loop-place-test.true
+
+pub installer-from-requires : goal.installer-from-requires
+installer-from-requires c = c.requires.within
+
+pub push_edge-requires : goal.push_edge-requires
+push_edge-requires c = tt
+
+pub returns-in_err-push_edge : goal.returns-in_err-push_edge
+returns-in_err-push_edge c = IfOk-from_err c.from_residual.result _ c.from_residual.ensures.0
+
+pub loop-place-smaller : goal.loop-place-smaller
+loop-place-smaller c = falls _ _ c.loop-place-test.true
+
+pub installer-from-requires-2 : goal.installer-from-requires-2
+installer-from-requires-2 c = c.requires.within
+
+pub push_edge-requires-2 : goal.push_edge-requires-2
+push_edge-requires-2 c = tt

@@ -1,4 +1,5 @@
 use Rattle.std.proofs.Common.{◌≡◌, ◌++◌, List, map, flat_map, ◌∙◌, ap}
+use Rattle.std.proofs.lemmas.Result.{IfOk-from_err}
 use Rattle.adya_values.specs.Meaning.Histories.{Order}
 use Rattle.adya_values.specs.Mirror.Lines.{orders_of}
 use Rattle.digraph.specs.declared.arc.Arc.{Arc}
@@ -31,3 +32,39 @@ pub returns-clause-enough : goal.returns-clause-enough
 returns-clause-enough c =
     links_decide c.edge_list_keeps_first.ensures (ordered_history c.args.versions.now)
     c.add_event_arcs.new.arcs.items (are_ends c) c.selected_is_installed.ensures c.requires
+
+pub edge_list_keeps_first-requires : goal.edge_list_keeps_first-requires
+edge_list_keeps_first-requires c = tt
+
+pub selected_is_installed-requires : goal.selected_is_installed-requires
+selected_is_installed-requires c = tt
+
+pub event_count-requires : goal.event_count-requires
+event_count-requires c = tt
+
+pub orders-requires : goal.orders-requires
+orders-requires c = tt
+
+pub add_write_arcs-requires : goal.add_write_arcs-requires
+add_write_arcs-requires c = tt
+
+pub add_event_arcs-requires : goal.add_event_arcs-requires
+add_event_arcs-requires c = tt
+
+pub returns-in_err-arcs-clause-sound : goal.returns-in_err-arcs-clause-sound
+returns-in_err-arcs-clause-sound c = IfOk-from_err c.from_residual.result _ c.from_residual.ensures.0
+
+pub returns-in_err-arcs-clause-enough : goal.returns-in_err-arcs-clause-enough
+returns-in_err-arcs-clause-enough c = IfOk-from_err c.from_residual.result _ c.from_residual.ensures.0
+
+pub returns-in_err-add_write_arcs-clause-sound : goal.returns-in_err-add_write_arcs-clause-sound
+returns-in_err-add_write_arcs-clause-sound c = IfOk-from_err c.from_residual-in_err-add_write_arcs.result _ c.from_residual-in_err-add_write_arcs.ensures.0
+
+pub returns-in_err-add_write_arcs-clause-enough : goal.returns-in_err-add_write_arcs-clause-enough
+returns-in_err-add_write_arcs-clause-enough c = IfOk-from_err c.from_residual-in_err-add_write_arcs.result _ c.from_residual-in_err-add_write_arcs.ensures.0
+
+pub returns-in_err-add_event_arcs-clause-sound : goal.returns-in_err-add_event_arcs-clause-sound
+returns-in_err-add_event_arcs-clause-sound c = IfOk-from_err c.from_residual-in_err-add_event_arcs.result _ c.from_residual-in_err-add_event_arcs.ensures.0
+
+pub returns-in_err-add_event_arcs-clause-enough : goal.returns-in_err-add_event_arcs-clause-enough
+returns-in_err-add_event_arcs-clause-enough c = IfOk-from_err c.from_residual-in_err-add_event_arcs.result _ c.from_residual-in_err-add_event_arcs.ensures.0

@@ -1,4 +1,5 @@
 use Rattle.std.proofs.Common.{◌≡◌, ◌↔◌, subst}
+use Rattle.std.proofs.lemmas.Result.{IfOk-from_err}
 use Rattle.adya_values.specs.Mirror.Histories.{history_of}
 use Rattle.adya_values.specs.declared.history.History.{History as HistoryValue}
 use Rattle.adya_values.specs.Meaning.Phenomena.{HasG1, HasG2}
@@ -28,3 +29,24 @@ pub returns-in_err-nodes-clause-decided : goal.returns-in_err-nodes-clause-decid
 returns-in_err-nodes-clause-decided c =
     decided c.certified_iff_no_phenomenon.ensures (history_in c.args.checked.now) c.history.result.now
     c.history.ensures.same c.history.ensures.checked
+
+pub certified_iff_no_phenomenon-requires : goal.certified_iff_no_phenomenon-requires
+certified_iff_no_phenomenon-requires c = tt
+
+pub cycle_excludes_certificates-requires : goal.cycle_excludes_certificates-requires
+cycle_excludes_certificates-requires c = tt
+
+pub history-requires : goal.history-requires
+history-requires c = tt
+
+pub events-requires : goal.events-requires
+events-requires c = tt
+
+pub committed-requires : goal.committed-requires
+committed-requires c = tt
+
+pub returns-in_err-nodes-clause-found : goal.returns-in_err-nodes-clause-found
+returns-in_err-nodes-clause-found c = IfOk-from_err c.from_residual.result _ c.from_residual.ensures.0
+
+pub returns-in_err-nodes-clause-refused : goal.returns-in_err-nodes-clause-refused
+returns-in_err-nodes-clause-refused c = IfOk-from_err c.from_residual.result _ c.from_residual.ensures.0

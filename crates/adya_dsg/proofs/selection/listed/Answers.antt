@@ -1,8 +1,12 @@
-use Rattle.std.proofs.Common.{length, option_map, sym, ◌∙◌, ap}
-use Rattle.std.proofs.lemmas.Bool.{ltb-true}
+use Rattle.std.proofs.Common.{length, option_map, sym, ◌∙◌, ap, map, ltb-false, ◌≡◌, true}
+use Rattle.std.proofs.lemmas.List.Sums.{AllPass-from_list_all}
+use Rattle.std.proofs.lemmas.List.{drop_all}
+use Rattle.std.proofs.lemmas.Bool.{ltb-true, and_parts}
 use Rattle.adya_terms.specs.Clauses.Checked.{history_in}
 use Rattle.adya_dsg.specs.Machinery.Choices.{key_at}
-use Rattle.adya_dsg.specs.Machinery.VersionOrders.{ordered_entry, ordered_history}
+use Rattle.adya_dsg.specs.Machinery.VersionOrders.{ordered_entry, ordered_history, ordered_events}
+use Rattle.adya_values.specs.Meaning.Events.{listed}
+use Rattle.adya_values.specs.Mirror.Numbers.{has_seen}
 use Rattle.adya_dsg.proofs.Lines.{line_once, lines_rise}
 use Rattle.adya_dsg.proofs.Listed.{listed_here, unlisted}
 use Rattle.adya_dsg.proofs.selection.listed.Goals as goal
@@ -33,3 +37,21 @@ returns c =
     (λ same. c.if-branch-line.false
     (line_once (ordered_history g).orders (lines_rise (history_in g.checked.now)) c.in_ok-line_of.field-0 c.args.line
     c.in_ok-line_of.ensures.within c.requires.within (c.in_ok-line_of.ensures.found ∙ same)))
+
+pub returns-in_err-seen : goal.returns-in_err-seen
+returns-in_err-seen c =
+    let g = c.args.versions.now in
+    let seen = c.args.seen.now in
+    let w = ordered_entry g in
+    let past = ltb-false c.args.at (length seen) (sym c.in_err-seen.ensures.lookup.0) in
+    ap (option_map w) c.from_residual.ensures ∙
+    sym (ap (λ ss. listed (key_at (ordered_history g) c.args.line) (map w ss)) (drop_all c.args.at seen past))
+
+pub line_of-requires : goal.line_of-requires
+line_of-requires c =
+    let seen = c.args.seen.now in
+    let s = c.in_ok-seen.seen.now in
+    let test = has_seen (ordered_events c.args.versions.now) in
+    let there = ltb-true c.args.at (length seen) (sym c.in_ok-seen.ensures.lookup.0) in
+    let is : test s ≡ true = ap test c.in_ok-seen.ensures.lookup.1 ∙ AllPass-from_list_all test seen c.requires.there c.args.at _ there in
+    ltb-true s.key _ (and_parts _ _ is).0

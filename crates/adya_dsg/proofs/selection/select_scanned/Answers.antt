@@ -1,4 +1,5 @@
-use Rattle.std.proofs.Common.{◌≡◌, ◌<◌, ◌≤◌, ◌+◌, ◌++◌, ◌∷◌, [], ℕ, Vec, Global, map, drop, length, get_or, refl, sym, ◌∙◌, ap, subst, append-nil, arith}
+use Rattle.std.proofs.Common.{◌≡◌, ◌<◌, ◌≤◌, ◌+◌, ◌++◌, ◌∷◌, [], ℕ, Vec, Global, map, drop, length, get_or, refl, sym, ◌∙◌, ap, subst, append-nil, arith, falls, lt_of_lt_of_le}
+use Rattle.std.proofs.lemmas.Result.{IfOk-from_err}
 use Rattle.std.specs.List.{All}
 use Rattle.std.proofs.lemmas.List.{map-append}
 use Rattle.std.proofs.lemmas.List.Elements.{All-push, All-nil}
@@ -88,3 +89,39 @@ returns-clause-choices c =
     (sym (scan_ends h c.args.txn (numbered g c.args.low) (numbered g c.args.high) es c.loop-line.line
     (λ i l m. c.lines_up_to-line-end.ensures.above i (omega (arith, end, l)) m))) ∙
     c.loop-line.invariant.choices)
+
+pub lines_below-line-requires : goal.lines_below-line-requires
+lines_below-line-requires c = c.requires.low
+
+pub lines_up_to-line-end-requires : goal.lines_up_to-line-end-requires
+lines_up_to-line-end-requires c = c.requires.high
+
+pub reached-next-requires : goal.reached-next-requires
+reached-next-requires c = c.requires.there
+
+pub listed-listed-requires-clause-within : goal.listed-listed-requires-clause-within
+listed-listed-requires-clause-within c = lt_of_lt_of_le c.loop-line-test.true c.lines_up_to-line-end.ensures.within
+
+pub listed-listed-requires-clause-there : goal.listed-listed-requires-clause-there
+listed-listed-requires-clause-there c = c.requires.there
+
+pub listed-listed-requires-clause-rise : goal.listed-listed-requires-clause-rise
+listed-listed-requires-clause-rise c = c.requires.rise
+
+pub listed-listed-requires-clause-reached : goal.listed-listed-requires-clause-reached
+listed-listed-requires-clause-reached c = c.reached-next.ensures.reached
+
+pub selected-requires : goal.selected-requires
+selected-requires c = lt_of_lt_of_le c.loop-line-test.true c.lines_up_to-line-end.ensures.within
+
+pub returns-in_err-push-clause-within : goal.returns-in_err-push-clause-within
+returns-in_err-push-clause-within c = IfOk-from_err c.from_residual.result _ c.from_residual.ensures.0
+
+pub returns-in_err-push-clause-choices : goal.returns-in_err-push-clause-choices
+returns-in_err-push-clause-choices c = IfOk-from_err c.from_residual.result _ c.from_residual.ensures.0
+
+pub loop-line-smaller : goal.loop-line-smaller
+loop-line-smaller c = falls _ _ c.loop-line-test.true
+
+pub returns-clause-within : goal.returns-clause-within
+returns-clause-within c = c.loop-line.invariant.within

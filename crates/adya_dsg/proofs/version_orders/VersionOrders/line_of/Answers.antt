@@ -1,4 +1,4 @@
-use Rattle.std.proofs.Common.{◌≡◌, ◌<◌, ◌∙◌, ◌-◌, arith, length, slice_get, suc}
+use Rattle.std.proofs.Common.{◌≡◌, ◌<◌, ◌∙◌, ◌-◌, arith, length, slice_get, suc, sym, subst, pos_of_ne-zero}
 use Rattle.std.proofs.lemmas.Option.{get_or_from_slice_get}
 use Rattle.adya_values.specs.Machinery.Indices.{indices_in}
 use Rattle.adya_terms.specs.Mirror.LineNumbers.{key_of}
@@ -19,3 +19,24 @@ returns-clause-within c = (line_found c).0
 
 pub returns-clause-found : goal.returns-clause-found
 returns-clause-found c = (line_found c).1
+
+pub at-above-requires : goal.at-above-requires
+at-above-requires c = subst (λ n. c.args.key < n) (sym c.args.self.now.found.count) c.requires
+
+pub returns-then-above-eq0-clause-within : goal.returns-then-above-eq0-clause-within
+returns-then-above-eq0-clause-within c = tt
+
+pub returns-then-above-eq0-clause-found : goal.returns-then-above-eq0-clause-found
+returns-then-above-eq0-clause-found c = tt
+
+pub returns-then-above-eq0-clause-none : goal.returns-then-above-eq0-clause-none
+returns-then-above-eq0-clause-none c =
+    let g = c.args.self.now in
+    g.found.missing c.args.key c.requires
+    (get_or_from_slice_get (indices_in g.lines.now) c.args.key c.at-above.result 0 c.at-above.ensures ∙ c.if-above-eq0.true)
+
+pub overflow_sub-result : goal.overflow_sub-result
+overflow_sub-result c = pos_of_ne-zero c.if-above-eq0.false
+
+pub returns-clause-none : goal.returns-clause-none
+returns-clause-none c = tt
