@@ -1,9 +1,9 @@
 -- Passing over white space and comments one by one.
-use Rattle.std.proofs.Common.{◌≡◌, ℕ, suc, ◌-◌, ◌≤◌, ◌==◌, List, [], ◌∷◌, length, get_or, take, drop, Some, None, inl, inr, refl, ap, subst, arith}
-use Rattle.std.proofs.lemmas.Grind.{common_steps}
+use Rattle.std.proofs.Common.{◌≡◌, ℕ, ◌-◌, ◌≤◌, ◌==◌, List, [], ◌∷◌, length, get_or, take, drop, Some, None, inl, inr, refl, ap, subst, arith}
 use Rattle.edn.specs.Meaning.Bytes.{is_space}
 use Rattle.edn.specs.Computing.Gaps.{after_line, after_one, after_gap_in}
 use Rattle.edn.proofs.Choices.{chosen}
+use Rattle.edn.proofs.Fronts.{behind_is}
 
 comment_open : (c bs : List ℕ) → after_line bs ≡ None → after_gap_in (Some c) bs ≡ c
 comment_open c [] e = refl
@@ -42,17 +42,14 @@ one_gap b bs r e =
       ]
     ]
 
-tail_is : (bs : List ℕ) → take (suc (length bs) - 1) bs ≡ bs
-tail_is bs = grind (arith, common_steps)
-
 -- the same for a text that isn't empty
 pub no_gap_in : (xs : List ℕ) → 1 ≤ length xs → after_one (get_or xs 0 0) (take (length xs - 1) (drop 1 xs)) ≡ None
     → after_gap_in None xs ≡ xs
 no_gap_in [] some e = absurd (omega arith)
-no_gap_in (b ∷ bs) some e = no_gap b bs (subst (λ x. after_one b x ≡ None) (tail_is bs) e)
+no_gap_in (b ∷ bs) some e = no_gap b bs (subst (λ x. after_one b x ≡ None) (behind_is bs) e)
 
 pub one_gap_in : (xs r : List ℕ) → 1 ≤ length xs
     → after_one (get_or xs 0 0) (take (length xs - 1) (drop 1 xs)) ≡ Some r
     → after_gap_in None xs ≡ after_gap_in None r
 one_gap_in [] r some e = absurd (omega arith)
-one_gap_in (b ∷ bs) r some e = one_gap b bs r (subst (λ x. after_one b x ≡ Some r) (tail_is bs) e)
+one_gap_in (b ∷ bs) r some e = one_gap b bs r (subst (λ x. after_one b x ≡ Some r) (behind_is bs) e)

@@ -1,4 +1,5 @@
 pub mod Choices
+pub mod Fronts
 pub mod Gaps
 pub mod Held
 pub mod ItemsRun
