@@ -1,15 +1,15 @@
 -- What a pairing holds after one operation more.
-use Rattle.std.proofs.Common.{◌≡◌, ◌⊎◌, ℕ, ℤ, true, false, List, [], ◌∷◌, ◌++◌, length, map, Option, Some, None, option_map, refl, sym, ap, ◌∙◌, inl, inr, int_eq, int_cmp, zero, suc, arith}
+use Rattle.std.proofs.Common.{◌≡◌, ◌⊎◌, ℕ, ℤ, true, false, List, [], ◌∷◌, ◌++◌, length, map, Option, Some, None, option_map, refl, sym, ap, subst, ◌∙◌, inl, inr, int_eq, int_cmp, zero, suc, arith}
 use Rattle.std.proofs.Common.{Result, Ok, Err, OnOk, IfErr}
-use Rattle.std.specs.Prelude.{is_some, slice_get, slice_index_or, slice_set, IfSome, IsSomeAnd, ◌<◌}
+use Rattle.std.specs.Prelude.{is_some, slice_get, slice_index_or, slice_set, IfSome, IsSomeAnd, ◌<◌, ◌≤◌}
 use Rattle.std.specs.BTreeMap.{get, Updates}
 use Rattle.std.proofs.lemmas.Bool.{both_ways, cases_Bool}
 use Rattle.std.proofs.lemmas.Bool.Decides.{Decides-int_eq}
 use Rattle.std.proofs.lemmas.List.{length-map, map-append, map-set}
-use Rattle.std.proofs.lemmas.Option.{slice_get-map}
+use Rattle.std.proofs.lemmas.Option.{slice_get-map, slice_get_within, none-some, same_Some}
 use Rattle.append_values.specs.declared.transaction.Outcome.TheVariants.{Unknown}
 use Rattle.append_values.specs.declared.transaction.Transaction.{Transaction as TransactionValue}
-use Rattle.append_values.specs.Meaning.Histories.{Operation, Append, Read, LostRead, Transaction, transaction_of}
+use Rattle.append_values.specs.Meaning.Histories.{Operation, Append, Read, LostRead, Transaction, transaction_of, operation_of}
 use Rattle.append_text.specs.declared.pairing.Pairing.{Pairing}
 use Rattle.append_text.specs.declared.pairing.Style.{Style}
 use Rattle.append_text.specs.declared.pairing.Style.TheVariants.{Undecided, Invoked, Completed}
@@ -19,7 +19,7 @@ use Rattle.append_text.specs.declared.read_fault.Refusal.{Refusal}
 use Rattle.append_text.specs.declared.read_fault.Refusal.TheVariants.{Memory}
 use Rattle.append_text.specs.Meaning.Steps.{without_result, outcome_of, told, ended}
 use Rattle.append_text.specs.Meaning.Pairing.{Op, Found, is_invoke, is_invocation, is_of, found, alone, invoked, transactions, last_of, MayEnd, MayPair, MayFollow}
-use Rattle.append_text.specs.Machinery.Pairings.{open_at, style_by, style_or_by, style_at, is_alone, HasTaken, Ends, MayNotEnd}
+use Rattle.append_text.specs.Machinery.Pairings.{open_at, style_by, style_or_by, style_at, is_alone, HasTaken, Waits, Ends, MayNotEnd}
 use Rattle.append_text.proofs.Pairings.{IsOpen, open_is, closed_last, open_push_other, open_push_end, open_push_invocation, invoked_push_invocation}
 
 -- ---- the style of a text
@@ -341,3 +341,25 @@ at_is (x ∷ items) (suc place) t within = at_is items place t (omega (arith, wi
 pub item_is : (items : List TransactionValue) (place : ℕ) (t : TransactionValue) → place < length items
     → t ≡ slice_index_or items place t → slice_get (map transaction_of items) place ≡ Some (transaction_of t)
 item_is items place t within is = at_is items place t within ∙ ap (λ x. Some (transaction_of x)) (sym is)
+
+-- a process for which no transaction waits, or none at the place, or one that may not end so
+module _ (p : Pairing) (o : Op) where
+  pub none_waits : get int_cmp p.waiting o.label.process ≡ None → MayNotEnd p o
+  none_waits none t w may = none-some _ (sym none ∙ w.at)
+
+  at_place : (place : ℕ) → get int_cmp p.waiting o.label.process ≡ Some place → (t : Transaction)
+      → Waits p o.label.process t → slice_get (map transaction_of p.transactions.items) place ≡ Some t
+  at_place place at t w = ap (slice_get (map transaction_of p.transactions.items)) (same_Some place w.place (sym at ∙ w.at)) ∙ w.is
+
+  pub none_at : (place : ℕ) → get int_cmp p.waiting o.label.process ≡ Some place → length p.transactions.items ≤ place
+      → MayNotEnd p o
+  none_at place at past t w may =
+      let within = slice_get_within (map transaction_of p.transactions.items) place t (at_place place at t w) in
+      let same = length-map p.transactions.items transaction_of in omega (arith, past, within, same)
+
+  pub other_steps : (place : ℕ) (t : TransactionValue) → get int_cmp p.waiting o.label.process ≡ Some place
+      → slice_get (map transaction_of p.transactions.items) place ≡ Some (transaction_of t)
+      → (MayEnd o.kind (map operation_of t.operations.items) o.steps → ⊥) → MayNotEnd p o
+  other_steps place t at is refused u w may =
+      refused (subst (λ (v : Transaction). MayEnd o.kind v.operations o.steps)
+      (same_Some u (transaction_of t) (sym (at_place place at u w) ∙ is)) may)
