@@ -23,7 +23,7 @@ pub(crate) fn say_all(rt: &HostRuntime) -> io::Result<()> {
 }
 
 /// Returns the cases, each with its name.
-fn cases(alloc: Global, events: &Events) -> [(&'static str, bool); 14] {
+fn cases(alloc: Global, events: &Events) -> [(&'static str, bool); 15] {
     [
         ("each_event_is_of_its_transaction", have_txns(events)),
         ("no_event_is_past_the_last", has_last(events)),
@@ -36,6 +36,7 @@ fn cases(alloc: Global, events: &Events) -> [(&'static str, bool); 14] {
         ("scans_have_bounds", have_bounds(events)),
         ("commits_and_aborts_are_apart", have_ends(events)),
         ("each_key_has_one_number", have_numbers(events)),
+        ("keys_are_in_the_order_of_their_bytes", have_order(events)),
         ("a_shown_scan_lists_its_entries", is_scan_shown(events)),
         ("a_list_of_ones_own_has_its_entries", is_line_listed(alloc)),
         ("a_shown_scan_may_be_empty", is_empty_shown(events)),
@@ -273,6 +274,32 @@ fn has_no_number(events: &Events, key: Key) -> bool {
         && events.number_of(key).is_none()
         && events.key_or(6, key) == key
         && events.key_or(u32::MAX, key) == key
+}
+
+fn have_order(events: &Events) -> bool {
+    is_below(events, b"a", b"b")
+        && is_below(events, b"b", b"f")
+        && !is_below(events, b"b", b"a")
+        && !is_below(events, b"c", b"c")
+}
+
+/// Whether both keys have numbers, and by these the one is below the other.
+fn is_below(events: &Events, low: &[u8], high: &[u8]) -> bool {
+    match (numbered(events, low), numbered(events, high)) {
+        (Some(low), Some(high)) => {
+            (low as usize) < events.key_count()
+                && (high as usize) < events.key_count()
+                && events.is_below(low, high)
+        }
+        _ => false,
+    }
+}
+
+fn numbered(events: &Events, key: &[u8]) -> Option<u32> {
+    match Key::new(key) {
+        Ok(key) => events.number_of(key),
+        Err(_) => None,
+    }
 }
 
 fn are_both_listed(listed: &Listed<'_>) -> bool {

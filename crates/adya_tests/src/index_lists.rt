@@ -25,7 +25,7 @@ pub(crate) fn cases(alloc: Global) -> [(&'static str, bool); 3] {
 }
 
 /// Whether the list has these numbers and no others.
-fn has(numbers: &Indices, wanted: &[usize]) -> bool {
+pub(crate) fn has(numbers: &Indices, wanted: &[usize]) -> bool {
     if numbers.len() != wanted.len() {
         return false;
     }

@@ -1,5 +1,6 @@
 //! Values, tables and checked histories, and what errors print.
 
+use crate::index_lists::has;
 use crate::lines;
 use adya_line::read_event;
 use adya_terms::Checked;
@@ -22,7 +23,7 @@ const LISTED_AND_ABORTED_WRITERS: &[u8] =
     b"adya 1\nw1(x.1:1,4)\nw1(x.1:2,5)\nw2(x.2:1,6)\nc1\nc2\nw3(x.3:1,7)\nw3(y.3:1,8)\na3\n[x:2<<1]\n{x,5}\nend\n";
 
 /// Returns the cases, each with its name.
-pub(crate) fn cases(alloc: Global) -> [(&'static str, bool); 10] {
+pub(crate) fn cases(alloc: Global) -> [(&'static str, bool); 11] {
     [
         (
             "entries_come_in_the_order_of_the_line",
@@ -51,6 +52,10 @@ pub(crate) fn cases(alloc: Global) -> [(&'static str, bool); 10] {
         (
             "only_the_committed_have_committed",
             are_only_committed_so(alloc),
+        ),
+        (
+            "keys_have_their_lines_and_lines_their_writers",
+            are_lines_found(alloc),
         ),
     ]
 }
@@ -230,6 +235,27 @@ fn have_two_committed(alloc: Global, history: &History) -> bool {
 fn are_only_committed_so(alloc: Global) -> bool {
     match read_history(alloc, LISTED_AND_ABORTED_WRITERS) {
         Ok(history) => have_two_committed(alloc, &history),
+        Err(_) => false,
+    }
+}
+
+/// Whether the first key has the first line, which has two writers, and the second key has none.
+fn has_lines(alloc: Global, history: &History) -> bool {
+    match Checked::of(alloc, history) {
+        Ok(checked) => {
+            has(checked.line_numbers(), &[1, 0])
+                && checked.shows(0, 0)
+                && checked.shows(0, 1)
+                && !checked.shows(0, 2)
+                && !checked.shows(1, 0)
+        }
+        Err(_) => false,
+    }
+}
+
+fn are_lines_found(alloc: Global) -> bool {
+    match read_history(alloc, LISTED_AND_ABORTED_WRITERS) {
+        Ok(history) => has_lines(alloc, &history),
         Err(_) => false,
     }
 }
