@@ -6,21 +6,22 @@
     scripts/hub_reference.py --check
     scripts/hub_reference.py --compare N [--seed N]
 
-The first form writes the calls again with their answers, as the program of crates/ssi_hub_tests does, whose first page says
-what the calls are. The second prints N lists of random calls, each after a `new`: pieces of lines of any size, connections
-that are read from late or end in the middle of a line, and often a `stop`. The third compares the answers to that program's
-calls with those that stand beside them, the fourth those that the program gives to N lists of random calls; both print
-`N passed, M failed`.
+The first form writes the calls again with their answers, as the program of crates/ssi_store_tests does; its src/hub_calls.rt
+says what the calls are. The second prints N lists of random calls, each after a `new`: pieces of lines of any size, connections
+that are read from late or end in the middle of a line, and often a `stop`. The third compares the answers to the calls in
+its data/hub_calls with those that stand at the end of its stdout, the fourth those that the program gives to N lists of
+random calls; both print `N passed, M failed`.
 """
 import argparse
 import os
 import random
 import subprocess
 import sys
+import tempfile
 
 import store_reference
 
-TESTS = os.path.join(os.path.dirname(os.path.dirname(os.path.abspath(__file__))), "crates/ssi_hub_tests")
+TESTS = os.path.join(os.path.dirname(os.path.dirname(os.path.abspath(__file__))), "crates/ssi_store_tests")
 MOST_UNSENT = 65536
 
 
@@ -164,8 +165,9 @@ def schedule():
 
 
 def check():
-    with open(os.path.join(TESTS, "stdin")) as calls, open(os.path.join(TESTS, "stdout")) as answers:
-        wanted, got = answers.read().splitlines(), dialogue(calls.read().splitlines()).splitlines()
+    with open(os.path.join(TESTS, "data/hub_calls")) as calls, open(os.path.join(TESTS, "stdout")) as answers:
+        got = dialogue(calls.read().splitlines()).splitlines()
+        wanted = answers.read().splitlines()[-len(got) :]
     wrong = sum(a != b for a, b in zip(wanted, got)) + abs(len(wanted) - len(got))
     print("%d passed, %d failed" % (len(wanted) - wrong, wrong))
     sys.exit(1 if wrong else 0)
@@ -177,7 +179,11 @@ def compare(count):
     for _ in range(count):
         calls = schedule()
         text = "\n".join(calls) + "\n"
-        ran = subprocess.run([os.path.join(TESTS, "out/ssi_hub_tests")], input=text, capture_output=True, text=True)
+        with tempfile.NamedTemporaryFile("w") as file:
+            file.write(text)
+            file.flush()
+            words = [os.path.join(TESTS, "out/ssi_store_tests"), file.name, "hub"]
+            ran = subprocess.run(words, stdin=subprocess.DEVNULL, capture_output=True, text=True)
         if ran.stdout != dialogue(calls):
             wrong += 1
             print("other answers, or status %d, to these calls:\n%s" % (ran.returncode, text))

@@ -13,10 +13,13 @@
 //! - `hostile_lines`: lines that are no commands, and lines that are too long;
 //! - `endless_streams`: inputs that never end;
 //! - `many_sessions`: hundreds of transactions at once;
-//! - `random_lines`: lines made by chance.
+//! - `random_lines`: lines made by chance;
+//! - `hub_calls`: calls of a hub, which are written again with their answers.
 //!
 //! With the name of a file: it holds courses, each ended by a line `end`. For each the program writes the replies, the
 //! history, the certificate, the verdict on both, and a line `end of list`. `scripts/compare_store.py` reads them.
+//!
+//! With the name of a file and `hub`: it holds calls of a hub. `scripts/hub_reference.py` reads what is written.
 #![tactic(auto)]
 
 mod answers;
@@ -28,6 +31,7 @@ mod failing_scripts;
 mod failing_serves;
 mod faults;
 mod hostile_lines;
+mod hub_calls;
 mod limits;
 mod lists;
 mod many_sessions;
@@ -42,9 +46,10 @@ use std::{env, io};
 fn main(rt: HostRuntime) -> io::Result<()> {
     let mut arguments = env::args(&rt)?;
     let _program = arguments.next();
-    match arguments.next() {
-        Some(path) => lists::write_outcomes(&rt, path.as_str()),
-        None => write_named(&rt),
+    match (arguments.next(), arguments.next()) {
+        (Some(path), Some(_hub)) => hub_calls::write_answers(&rt, path.as_str()),
+        (Some(path), None) => lists::write_outcomes(&rt, path.as_str()),
+        _ => write_named(&rt),
     }
 }
 
@@ -66,6 +71,7 @@ fn write_lines(rt: &HostRuntime, name: &str) -> io::Result<()> {
         "endless_streams" => write_endless_streams(rt),
         "many_sessions" => write_many_sessions(rt),
         "random_lines" => write_line(rt, name, random_lines::are_answered(rt)?),
+        "hub_calls" => hub_calls::write_answers(rt, name),
         _ => print!(rt; "{}", worked::line_of(rt, name)?),
     }
 }

@@ -1,20 +1,50 @@
-//! Calls by their names.
+//! A hub over one store, tried call by call.
+//!
+//! Each line of the file is a call. `/` stands for a line feed, in what is sent and in what is to be written. A line that
+//! begins with `#` says what comes next. The answers that are wanted of the first calls were worked by hand; those after
+//! the first `new` were made by chance, and their answers by scripts/hub_reference.py. The calls are these:
+//!
+//! - `new`: begins anew, with a hub and a store of their own
+//! - `open`: opens a connection; the answer is its token
+//! - `send T TEXT`: connection T sends the text
+//! - `fill T N`: it sends N bytes `x`
+//! - `many T N`: it sends N times the line `x`, which is no command
+//! - `next T`: the answer is the first of its lines that wait
+//! - `run T N`: up to N of its lines are carried out
+//! - `show T`: the answer is what is to be written to it
+//! - `count T`: the answer is how many bytes these are
+//! - `wrote T N`: N bytes were written to it
+//! - `close T`: it is gone
+//! - `wants T`: the answer is whether it is to be read from, run and written to, and whether the hub is stopped; or `gone`
 
+use crate::worked::text;
 use ssi_hub::Hub;
 use ssi_reads::IndexMarks;
 use ssi_store::Store;
 use ssi_versions::KeyChains;
 use std::alloc::{AllocError, Global};
+use std::{fs, io};
+
+/// Writes the calls of the file again, each with its answer.
+pub(crate) fn write_answers(rt: &HostRuntime, path: &str) -> io::Result<()> {
+    let bytes = fs::read(rt, path)?;
+    let mut tried = Tried::new(rt.alloc());
+    for call in text(&bytes).lines() {
+        let answer = tried.answer(rt.alloc(), call)?;
+        print!(rt; "{call}{answer}\n")?;
+    }
+    Ok(())
+}
 
 /// A hub, and the store that it uses.
 #[derive(Drop)]
-pub(crate) struct Tried {
+struct Tried {
     hub: Hub,
     store: Store<KeyChains, IndexMarks>,
 }
 
 impl Tried {
-    pub(crate) fn new(alloc: Global) -> Tried {
+    fn new(alloc: Global) -> Tried {
         Tried {
             hub: Hub::new(alloc),
             store: Store::new(alloc, KeyChains::new(alloc), IndexMarks::new(alloc)),
@@ -22,7 +52,7 @@ impl Tried {
     }
 
     /// Returns what is written behind the line.
-    pub(crate) fn answer(&mut self, alloc: Global, line: &str) -> Result<String, AllocError> {
+    fn answer(&mut self, alloc: Global, line: &str) -> Result<String, AllocError> {
         let (name, rest) = line.split_once(" ").unwrap_or((line, ""));
         let (token, rest) = rest.split_once(" ").unwrap_or((rest, ""));
         let token = token.parse::<u64>().unwrap_or(u64::MAX);
