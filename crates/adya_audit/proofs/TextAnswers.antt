@@ -2,7 +2,7 @@
 use Rattle.std.proofs.Common.{◌≡◌, ℕ, true, List, Option, Some, None, IfSome, Ok, refl, subst}
 use Rattle.std.proofs.lemmas.List.Elements.{All-contains, All-from_recursion}
 use Rattle.adya_values.specs.declared.history.History.{History as HistoryValue}
-use Rattle.adya_values.specs.Meaning.Keys.{IsTxn}
+use Rattle.adya_keys.specs.Meaning.Keys.{IsTxn}
 use Rattle.adya_values.specs.Meaning.Histories.{History, Event, Write, Delete, Read, Scan, Commit, Abort}
 use Rattle.adya_values.specs.Mirror.Histories.{history_of}
 use Rattle.adya_values.specs.Meaning.Events.{commits, is_committed}

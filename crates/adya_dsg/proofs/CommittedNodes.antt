@@ -6,7 +6,7 @@ use Rattle.lemmas.proofs.Booleans.{cond-positive}
 use Rattle.lemmas.proofs.Members.{All-from_contained}
 use Rattle.lemmas.proofs.Tests.{list_any-source}
 use Rattle.lemmas.proofs.Counts.{count, count_contained}
-use Rattle.adya_values.specs.Meaning.Keys.{IsTxn}
+use Rattle.adya_keys.specs.Meaning.Keys.{IsTxn}
 use Rattle.std.proofs.lemmas.Option.{slice_get-get_or}
 use Rattle.std.proofs.lemmas.List.{take_more}
 use Rattle.std.proofs.lemmas.List.Elements.{filter_map-append, All-contains}

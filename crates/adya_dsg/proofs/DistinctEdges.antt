@@ -4,7 +4,7 @@ use Rattle.std.specs.List.{list_any}
 use Rattle.std.proofs.lemmas.List.{map-append}
 use Rattle.lemmas.proofs.Booleans.{and_regroup}
 use Rattle.indexmap.specs.IndexSet.{insert_key}
-use Rattle.adya_values.specs.Meaning.Keys.{key_eq}
+use Rattle.adya_keys.specs.Meaning.Keys.{key_eq}
 use Rattle.adya_values.specs.Meaning.Edges.{Edge}
 use Rattle.adya_values.specs.Computing.EdgeList.{kind_eq, edge_eq, with_edge}
 use Rattle.adya_dsg.specs.Mirror.{kind_of, edge_of}

@@ -6,7 +6,7 @@ use Rattle.std.proofs.lemmas.Option.{none-some, same_Some, slice_get-get_or}
 use Rattle.adya_values.specs.declared.event.Version.{Version}
 use Rattle.adya_values.specs.Meaning.Events.{observed, txn_of}
 use Rattle.adya_values.specs.Meaning.Histories.{Entry, Event, Write, Delete, Read, Scan, Commit, Abort}
-use Rattle.adya_values.specs.Meaning.Keys.{Key}
+use Rattle.adya_keys.specs.Meaning.Keys.{Key}
 use Rattle.adya_values.specs.Meaning.Selections.{is_scan}
 use Rattle.adya_values.specs.Mirror.Numbers.{bounds}
 

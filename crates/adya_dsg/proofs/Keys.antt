@@ -4,7 +4,7 @@ use Rattle.std.specs.Cmp.Lexicographic.{slice_cmp, nat_list_cmp_total}
 use Rattle.std.specs.Ordering.{ordering_reverse}
 use Rattle.std.proofs.lemmas.Bool.{and_parts, and_from}
 use Rattle.lemmas.proofs.Orderings.{bytes_eq-other, bytes_lt-trans, bytes_lt-apart, less_from_is_lt, tied_bytes}
-use Rattle.adya_values.specs.Meaning.Keys.{key_eq, key_lt, keys_rise}
+use Rattle.adya_keys.specs.Meaning.Keys.{key_eq, key_lt, keys_rise}
 
 pub key_eq-lt : (a b : List ℕ) → key_lt a b ≡ true → key_eq a b ≡ false
 key_eq-lt a b h = bytes_eq-other a b (bytes_lt-apart a b h)

@@ -3,7 +3,7 @@ use Rattle.std.proofs.Common.{◌≡◌, ℕ, zero, suc, ◌+◌, true, List, []
 use Rattle.std.proofs.lemmas.List.{take_all, drop_all}
 use Rattle.std.proofs.lemmas.Option.{none-some, slice_get_within}
 use Rattle.lemmas.proofs.Steps.{turn_at}
-use Rattle.adya_values.specs.Meaning.Keys.{keys_rise}
+use Rattle.adya_keys.specs.Meaning.Keys.{keys_rise}
 use Rattle.adya_values.specs.Meaning.Histories.{Order, History}
 use Rattle.adya_values.specs.Meaning.Orders.{writers, installer}
 use Rattle.adya_values.specs.Meaning.Edges.{Ww, Edge}

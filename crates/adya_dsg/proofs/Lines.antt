@@ -3,14 +3,15 @@ use Rattle.std.proofs.Common.{◌≡◌, ℕ, zero, suc, ◌<◌, ◌≤◌, tru
 use Rattle.std.proofs.lemmas.List.{drop_all}
 use Rattle.std.proofs.lemmas.Bool.{cases_Bool, cases_eq, cases_lt, eq-eqb, ne_eqb, and_parts}
 use Rattle.std.proofs.lemmas.Option.{none-some, same_Some}
-use Rattle.adya_values.proofs.Keys.{keys_rise-tail}
+use Rattle.adya_keys.proofs.Keys.{keys_rise-tail}
 use Rattle.adya_values.specs.declared.history.History.{History as HistoryValue}
 use Rattle.adya_values.specs.declared.orders.Orders.{Orders}
 use Rattle.adya_values.specs.Meaning.Histories.{Order, History}
-use Rattle.adya_values.specs.Meaning.Keys.{key_lt, keys_rise}
+use Rattle.adya_keys.specs.Meaning.Keys.{key_lt, keys_rise}
 use Rattle.adya_values.specs.Meaning.Orders.{place, line_of, writers, installer}
 use Rattle.adya_values.specs.Mirror.Histories.{history_of, orders_in}
-use Rattle.adya_values.specs.Mirror.Lines.{IsBelow, orders_of}
+use Rattle.adya_values.specs.Mirror.Lines.{orders_of}
+use Rattle.adya_keys.specs.Mirror.{IsBelow}
 use Rattle.adya_terms.specs.Mirror.LineNumbers.{key_of}
 use Rattle.lemmas.proofs.Steps.{drop_step}
 use Rattle.adya_dsg.proofs.Keys.{key_eq-lt, rise_skip}

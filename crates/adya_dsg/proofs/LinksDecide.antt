@@ -6,7 +6,7 @@ use Rattle.std.proofs.lemmas.Option.{none-some, same_Some}
 use Rattle.std.proofs.lemmas.List.{map-append}
 use Rattle.std.proofs.lemmas.List.Elements.{Contains-append_left, Contains-append_right, Contains-append_cases}
 use Rattle.adya_values.specs.Meaning.Histories.{Event, Order, History}
-use Rattle.adya_values.specs.Meaning.Keys.{keys_rise}
+use Rattle.adya_keys.specs.Meaning.Keys.{keys_rise}
 use Rattle.adya_values.specs.Meaning.Events.{txn_of, is_committed}
 use Rattle.adya_values.specs.Meaning.Orders.{place, installer}
 use Rattle.adya_values.specs.Meaning.Selections.{is_scan, changes_matches, selected, reads_from, overwritten_by}

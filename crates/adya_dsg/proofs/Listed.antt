@@ -4,9 +4,9 @@ use Rattle.std.proofs.lemmas.Bool.{and_parts}
 use Rattle.std.proofs.lemmas.Option.{slice_get_read}
 use Rattle.lemmas.proofs.Orderings.{bytes_eq-from, bytes_eq-other, bytes_lt-trans}
 use Rattle.lemmas.proofs.Steps.{drop_step}
-use Rattle.adya_values.proofs.Keys.{keys_rise-tail}
+use Rattle.adya_keys.proofs.Keys.{keys_rise-tail}
 use Rattle.adya_values.specs.declared.seen.Seen.{Seen}
-use Rattle.adya_values.specs.Meaning.Keys.{Key, key_lt, keys_rise}
+use Rattle.adya_keys.specs.Meaning.Keys.{Key, key_lt, keys_rise}
 use Rattle.adya_values.specs.Meaning.Histories.{Entry}
 use Rattle.adya_values.specs.Meaning.Events.{listed}
 use Rattle.adya_dsg.proofs.Keys.{key_eq-gt, lt-other}

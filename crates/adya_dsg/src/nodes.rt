@@ -1,7 +1,7 @@
 //! The nodes of a history's graph.
 
 ghost use Rattle.std.specs.Prelude.{◌≡◌, All, IfOk};
-ghost use Rattle.adya_values.specs.Meaning.Keys.{IsTxn};
+ghost use Rattle.adya_keys.specs.Meaning.Keys.{IsTxn};
 ghost use Rattle.adya_values.specs.Mirror.Events.{events_of};
 ghost use Rattle.adya_values.specs.Mirror.Histories.{serial_txns};
 ghost use Rattle.adya_dsg.specs.Machinery.Nodes.{committed};

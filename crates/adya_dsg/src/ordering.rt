@@ -1,7 +1,7 @@
 //! A certificate of a history, or a cycle of its graph.
 
 ghost use Rattle.std.specs.Prelude.{◌≡◌, ◌↔◌, All, IfOk, map};
-ghost use Rattle.adya_values.specs.Meaning.Keys.{IsTxn};
+ghost use Rattle.adya_keys.specs.Meaning.Keys.{IsTxn};
 ghost use Rattle.adya_values.specs.Computing.EdgeList.{edge_list};
 ghost use Rattle.adya_values.specs.Clauses.Acceptance.{IsChecked};
 ghost use Rattle.adya_values.specs.Meaning.Phenomena.{HasG1, HasG2};

@@ -2,7 +2,7 @@
 
 ghost use Rattle.std.specs.Prelude.{◌≡◌, ◌<◌, ◌≤◌, [], ℕ, List, Some, length, map, drop, slice_get, true, false, IfSome, OnOk, All, option_map, option_to_list};
 ghost use Rattle.std.specs.List.{list_all};
-ghost use Rattle.adya_values.specs.Meaning.Keys.{key_lt, keys_rise};
+ghost use Rattle.adya_keys.specs.Meaning.Keys.{key_lt, keys_rise};
 ghost use Rattle.adya_values.specs.Meaning.Histories.{Event, Read, Scan};
 ghost use Rattle.adya_values.specs.Mirror.Numbers.{bounds, has_seen};
 ghost use Rattle.adya_values.specs.Meaning.Events.{listed, observed, txn_of};

@@ -3,9 +3,9 @@
 ghost use Rattle.std.specs.Prelude.{◌≡◌, ◌<◌, ◌≤◌, ℕ, suc, Some, slice_get, List, nat_lt, leb, length, map, option_map, true, false, IfNone, IfSome, IfOk};
 ghost use Rattle.std.specs.List.{find, list_all, list_any};
 ghost use Rattle.std.specs.List.Sorted.{IsNonDecreasingBy, IsPartitionPoint};
-ghost use Rattle.adya_values.specs.Meaning.Keys.{key_lt, keys_rise};
+ghost use Rattle.adya_keys.specs.Meaning.Keys.{key_lt, keys_rise};
 ghost use Rattle.adya_values.specs.Meaning.Selections.{is_scan};
-ghost use Rattle.adya_values.specs.Machinery.Indices.{indices_in};
+ghost use Rattle.adya_keys.specs.Machinery.Indices.{indices_in};
 ghost use Rattle.adya_values.specs.Mirror.Events.{events_of};
 ghost use Rattle.adya_values.specs.Mirror.Lines.{orders_of};
 ghost use Rattle.adya_values.specs.Mirror.Numbers.{bounds, both_at, has_seen, keys_of, seen_entry, seen_in};

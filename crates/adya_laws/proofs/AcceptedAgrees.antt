@@ -6,7 +6,7 @@ use Rattle.std.proofs.lemmas.List.Elements.{filter-append, Contains-append_left,
 use Rattle.adya_values.specs.Meaning.Histories.{Event, History}
 use Rattle.adya_values.specs.Meaning.Events.{txn_of, is_committed}
 use Rattle.adya_values.specs.Meaning.Orders.{writers, value_at}
-use Rattle.adya_values.specs.Meaning.Keys.{keys_rise}
+use Rattle.adya_keys.specs.Meaning.Keys.{keys_rise}
 use Rattle.adya_values.specs.Meaning.Serial.{pair, Contents, empty, after, run, events_of, AllSee, Agrees}
 use Rattle.adya_values.specs.Clauses.Rules.{EachAfter, WasWritten, SeesOwnWrites, IsRising}
 use Rattle.adya_values.specs.Clauses.Acceptance.{IsAccepted}

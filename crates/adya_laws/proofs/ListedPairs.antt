@@ -3,7 +3,7 @@ use Rattle.std.proofs.Common.{◌≡◌, ℕ, true, ◌↔◌, List, map, Option
 use Rattle.std.specs.List.{All, Contains}
 use Rattle.std.proofs.lemmas.Option.{none-some, same_Some}
 use Rattle.std.proofs.lemmas.List.Elements.{All-contains}
-use Rattle.adya_values.specs.Meaning.Keys.{lies_in, keys_rise}
+use Rattle.adya_keys.specs.Meaning.Keys.{lies_in, keys_rise}
 use Rattle.adya_values.specs.Meaning.Histories.{Content, Entry, FinalPair}
 use Rattle.adya_values.specs.Meaning.Events.{listed, visible, shown}
 use Rattle.adya_values.specs.Clauses.Rules.{final_value}

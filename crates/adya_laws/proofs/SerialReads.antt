@@ -4,7 +4,7 @@ use Rattle.std.specs.List.{filter_map, Contains}
 use Rattle.std.proofs.lemmas.Bool.{cases_Bool, cases_lt, and_from, eq-eqb, ne_eqb, lt-ltb, or_left, or_right, cond-true, cond-false, not_from_false}
 use Rattle.std.proofs.lemmas.List.Elements.{All-contains}
 use Rattle.adya_values.specs.declared.event.Version.{Version}
-use Rattle.adya_values.specs.Meaning.Keys.{key_eq, lies_in, keys_rise}
+use Rattle.adya_keys.specs.Meaning.Keys.{key_eq, lies_in, keys_rise}
 use Rattle.adya_values.specs.Meaning.Histories.{Live, Entry, Event, Write, Delete, Read, Scan, Commit, Abort, History}
 use Rattle.adya_values.specs.Meaning.Events.{txn_of, entry, written, observed, last_write, is_committed, listed, shown}
 use Rattle.adya_values.specs.Meaning.Orders.{place, writers, installer, shown_by, value_at, is_visible_at}

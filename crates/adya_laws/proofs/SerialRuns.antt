@@ -4,7 +4,7 @@ use Rattle.adya_values.specs.Meaning.Histories.{Entry}
 use Rattle.adya_values.specs.Meaning.Histories.{Live, Dead}
 use Rattle.adya_values.specs.Meaning.Histories.{Event}
 use Rattle.adya_values.specs.Meaning.Histories.{Write, Delete, Read, Scan, Commit, Abort}
-use Rattle.adya_values.specs.Meaning.Keys.{key_eq}
+use Rattle.adya_keys.specs.Meaning.Keys.{key_eq}
 use Rattle.adya_values.specs.Meaning.Events.{version, entry, writes_of, last, last_write, shown}
 use Rattle.adya_values.specs.Meaning.Serial.{Contents, after, run, events_of, AllSee}
 

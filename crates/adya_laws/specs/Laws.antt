@@ -1,7 +1,7 @@
 -- What acceptance of a history and a certificate implies (Adya 1999, sections 3.1 and 3.2).
 use Rattle.std.specs.Prelude.{◌≡◌, ◌≢◌, ◌<◌, ◌↔◌, ℕ, Bool, true, None, Some, Contains}
 use Rattle.std.specs.List.{find, AllPairs}
-use Rattle.adya_values.specs.Meaning.Keys.{Key}
+use Rattle.adya_keys.specs.Meaning.Keys.{Key}
 use Rattle.adya_values.specs.Meaning.Histories.{Txns, Event, History}
 use Rattle.adya_values.specs.Meaning.Events.{txn_of, is_committed}
 use Rattle.adya_values.specs.Meaning.Orders.{installer}

@@ -6,7 +6,7 @@ use Rattle.std.proofs.lemmas.Bool.{eqb-true, eq-eqb, and_parts}
 use Rattle.std.proofs.lemmas.Option.{none-some, same_Some}
 use Rattle.adya_values.specs.declared.event.Version.{Version}
 use Rattle.adya_values.specs.Meaning.Histories.{Event, Write, Delete, Read, Scan, Commit, Abort}
-use Rattle.adya_values.specs.Meaning.Keys.{is_value, is_value_byte, IsTxn}
+use Rattle.adya_keys.specs.Meaning.Keys.{is_value, is_value_byte, IsTxn}
 use Rattle.adya_line.specs.Meaning.Spelling.{version_text, event_text, unfinished_text}
 use Rattle.adya_line.specs.Meaning.Limits.{IsVersion, IsEvent}
 use Rattle.adya_line.specs.Computing.Reading.{Gives, ◌>>=◌, after, txn_at_line, write_at, delete_at, read_at, event_at}

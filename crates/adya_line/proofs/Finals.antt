@@ -1,7 +1,7 @@
 -- What is read is the line's final, and each final is read from its line.
 use Rattle.std.proofs.Common.{◌≡◌, ℕ, List, [], ◌∷◌, ◌++◌, Some, refl, sym, ◌∙◌, append_assoc}
 use Rattle.std.specs.Prelude.{codes}
-use Rattle.adya_values.specs.Meaning.Keys.{is_key_byte, is_value_byte}
+use Rattle.adya_keys.specs.Meaning.Keys.{is_key_byte, is_value_byte}
 use Rattle.adya_values.specs.Meaning.Histories.{FinalPair}
 use Rattle.adya_line.specs.Meaning.Spelling.{final_text}
 use Rattle.adya_line.specs.Meaning.Limits.{IsFinal}

@@ -3,7 +3,7 @@ use Rattle.std.proofs.Common.{◌≡◌, ℕ, List, Option, Some, None, if◌the
 use Rattle.std.specs.Str.{bytes_eq}
 use Rattle.std.proofs.lemmas.Option.{none-some}
 use Rattle.adya_values.specs.declared.edition.Edition.TheVariants.{One, Two}
-use Rattle.adya_values.specs.Meaning.Keys.{IsTxn}
+use Rattle.adya_keys.specs.Meaning.Keys.{IsTxn}
 use Rattle.adya_values.specs.Meaning.Histories.{Event, Order, FinalPair}
 use Rattle.adya_line.specs.Meaning.Spelling.{history_head, second_head, tail, unfinished_text, order_text, final_text}
 use Rattle.adya_line.specs.Meaning.Limits.{IsOrder, IsFinal}

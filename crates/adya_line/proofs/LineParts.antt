@@ -15,7 +15,7 @@ use Rattle.std.proofs.lemmas.List.Folds.{length-prefix_len}
 use Rattle.std.proofs.lemmas.Fmt.{decimal-digits_value, digits_decimal, digits_value-decimal, decimal_nonempty}
 use Rattle.std.proofs.lemmas.Fmt.{first_decimal}
 use Rattle.adya_values.specs.declared.event.Version.{Version}
-use Rattle.adya_values.specs.Meaning.Keys.{is_text, is_key, is_key_byte, IsTxn, IsMod}
+use Rattle.adya_keys.specs.Meaning.Keys.{is_text, is_key, is_key_byte, IsTxn, IsMod}
 use Rattle.adya_line.specs.Meaning.Spelling.{version_text}
 use Rattle.adya_line.specs.Meaning.Limits.{IsVersion}
 use Rattle.adya_line.specs.Computing.Reading.{Gives, ◌>>=◌, after, text_at, txn_at, mod_at, version_at, txn_at_line, none_or}

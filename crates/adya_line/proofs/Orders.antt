@@ -6,7 +6,7 @@ use Rattle.std.specs.Char.{is_ascii_digit}
 use Rattle.std.specs.List.{flat_map, AllByRecursion}
 use Rattle.std.proofs.lemmas.List.Concat.{flat_map-cons}
 use Rattle.std.proofs.lemmas.List.{length-append, append-nil}
-use Rattle.adya_values.specs.Meaning.Keys.{is_key_byte, IsTxn}
+use Rattle.adya_keys.specs.Meaning.Keys.{is_key_byte, IsTxn}
 use Rattle.adya_values.specs.Meaning.Histories.{Order}
 use Rattle.adya_line.specs.Meaning.Spelling.{later_text, writers_text, order_text}
 use Rattle.adya_line.specs.Meaning.Limits.{IsOrder}

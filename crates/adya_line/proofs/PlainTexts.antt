@@ -9,7 +9,7 @@ use Rattle.std.proofs.lemmas.List.Elements.{All-append, All-from_recursion}
 use Rattle.std.proofs.lemmas.List.Concat.{flat_map-cons}
 use Rattle.std.proofs.lemmas.Fmt.{digits_decimal}
 use Rattle.adya_values.specs.declared.event.Version.{Version}
-use Rattle.adya_values.specs.Meaning.Keys.{is_key, is_value, is_key_byte, is_value_byte, IsTxn}
+use Rattle.adya_keys.specs.Meaning.Keys.{is_key, is_value, is_key_byte, is_value_byte, IsTxn}
 use Rattle.adya_values.specs.Meaning.Histories.{Content, Live, Dead, Entry, Write, Delete, Read, Scan, Commit, Abort}
 use Rattle.adya_line.specs.Meaning.Spelling.{history_head, second_head, serial_head, tail, version_text, content_text}
 use Rattle.adya_line.specs.Meaning.Spelling.{entry_text, event_text, unfinished_text, later_text, writers_text, order_text}

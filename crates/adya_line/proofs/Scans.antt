@@ -8,7 +8,7 @@ use Rattle.std.proofs.lemmas.Bool.Decides.{eqb_tells}
 use Rattle.std.proofs.lemmas.List.Concat.{flat_map-cons}
 use Rattle.std.proofs.lemmas.List.{length-append}
 use Rattle.adya_values.specs.declared.event.Version.{Version}
-use Rattle.adya_values.specs.Meaning.Keys.{is_key, is_value, is_key_byte, is_value_byte, IsTxn}
+use Rattle.adya_keys.specs.Meaning.Keys.{is_key, is_value, is_key_byte, is_value_byte, IsTxn}
 use Rattle.adya_values.specs.Meaning.Histories.{Content, Live, Dead, Entry, Scan}
 use Rattle.adya_line.specs.Meaning.Spelling.{version_text, content_text, entry_text, event_text}
 use Rattle.adya_line.specs.Meaning.Limits.{IsContent, IsEntry, IsEvent}

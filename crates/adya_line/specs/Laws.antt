@@ -1,6 +1,6 @@
 -- What holds of the lines of each kind.
 use Rattle.std.specs.Prelude.{◌≡◌, ◌↔◌, Option, Some}
-use Rattle.adya_values.specs.Meaning.Keys.{Bytes}
+use Rattle.adya_keys.specs.Meaning.Keys.{Bytes}
 use Rattle.adya_line.specs.Meaning.Lines.{IsPlain}
 
 -- reading gives x exactly if x is within its limits and the line is its text

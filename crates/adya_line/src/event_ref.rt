@@ -1,7 +1,7 @@
 //! Events that lie in a line.
 
 ghost use Rattle.std.specs.Prelude.{◌≡◌, true};
-ghost use Rattle.adya_values.specs.Meaning.Keys.{is_key, is_value, IsTxn};
+ghost use Rattle.adya_keys.specs.Meaning.Keys.{is_key, is_value, IsTxn};
 
 use crate::entries::{Entries, take_entries};
 use adya_values::{

@@ -2,7 +2,7 @@
 
 ghost use Rattle.std.specs.Prelude.{◌≡◌, ◌<◌, ◌≤◌, length, true, IfSome};
 ghost use Rattle.std.specs.List.{prefix_len};
-ghost use Rattle.adya_values.specs.Meaning.Keys.{is_key, is_value, is_key_byte, is_value_byte, IsTxn, IsMod};
+ghost use Rattle.adya_keys.specs.Meaning.Keys.{is_key, is_value, is_key_byte, is_value_byte, IsTxn, IsMod};
 ghost use Rattle.adya_line.specs.Computing.Reading.{Gives, after, text_at, txn_at, mod_at, version_at, key_between};
 ghost use Rattle.adya_line.specs.Machinery.Numbers.{digit_at, number_from};
 ghost use Rattle.adya_values.specs.Mirror.Refs.{view_version};

@@ -1,7 +1,7 @@
 //! The lines of certificates.
 
 ghost use Rattle.std.specs.Prelude.{IfSome};
-ghost use Rattle.adya_values.specs.Meaning.Keys.{IsTxn};
+ghost use Rattle.adya_keys.specs.Meaning.Keys.{IsTxn};
 ghost use Rattle.adya_line.specs.Computing.Reading.{Gives, txn_at_line};
 
 use crate::fields::txn_at;

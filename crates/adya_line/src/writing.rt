@@ -1,7 +1,8 @@
 //! Writing lines.
 
 ghost use Rattle.std.specs.Prelude.{◌++◌, codes, decimal, flat_map};
-ghost use Rattle.adya_values.specs.Mirror.Events.{content_of, entries_of, entry_of, view_of, final_of, value_of};
+ghost use Rattle.adya_values.specs.Mirror.Events.{content_of, entries_of, entry_of, view_of, final_of};
+ghost use Rattle.adya_keys.specs.Mirror.{value_of};
 ghost use Rattle.devices.specs.Clauses.Writing.{Wrote};
 ghost use Rattle.adya_line.specs.Machinery.Fronts.{front_text};
 ghost use Rattle.adya_line.specs.Meaning.Spelling.{version_text, content_text, entry_text, event_text, unfinished_text};

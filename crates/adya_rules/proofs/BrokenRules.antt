@@ -8,7 +8,7 @@ use Rattle.std.proofs.lemmas.List.Elements.{Contains-append_left, Contains-appen
 use Rattle.adya_values.specs.declared.fault.Rule.{Rule}
 use Rattle.adya_values.specs.declared.fault.Rule.TheVariants.{M1, M2, M3, M4, M5, M6, M7, M8}
 use Rattle.adya_values.specs.Computing.Faults.{Fault, Malformed, is_open, is_next, was_written, sees_own, is_rising, fault_unless, faults_at, event_faults, all_end, has_lines, last_value, has_finals}
-use Rattle.adya_values.specs.Meaning.Keys.{key_eq}
+use Rattle.adya_keys.specs.Meaning.Keys.{key_eq}
 use Rattle.adya_values.specs.Meaning.Histories.{Event, History}
 use Rattle.adya_values.specs.Meaning.Events.{txn_of, written, is_committed, is_unfinished}
 use Rattle.adya_values.specs.Clauses.Rules.{has_ended, final_value}

@@ -6,7 +6,7 @@ use Rattle.std.proofs.lemmas.Option.{same_Some, none-some}
 use Rattle.lemmas.proofs.Booleans.{or_unless}
 use Rattle.lemmas.proofs.Tests.{all_pass, list_all_when, list_any-source, list_any_when, All-from_test, test-from_All}
 use Rattle.lemmas.proofs.Orderings.{bytes_eq-same, bytes_eq-from}
-use Rattle.adya_values.specs.Meaning.Keys.{key_eq, lies_in}
+use Rattle.adya_keys.specs.Meaning.Keys.{key_eq, lies_in}
 use Rattle.adya_values.specs.Meaning.Histories.{Live, Entry, Event, Write, Delete, Read, Scan, Commit, Abort, Order, History}
 use Rattle.adya_values.specs.Meaning.Events.{entry, written, observed, writes_of, last_write}
 use Rattle.adya_values.specs.Clauses.Rules.{IsOpen, IsNumbered, WasWritten, ListsOnly, SeesOwnWrites, IsRising, installs}

@@ -4,9 +4,9 @@ use Rattle.std.specs.List.{list_any}
 use Rattle.std.specs.Bool.{OnTrue, OnFalse}
 use Rattle.std.proofs.lemmas.Bool.{both_ways, cases_lt, false_from_ne_true}
 use Rattle.std.proofs.lemmas.Option.{get_or_from_slice_get, slice_get-map, slice_get_within}
-use Rattle.adya_values.specs.Meaning.Keys.{key_eq, key_lt, keys_rise}
-use Rattle.adya_values.specs.Mirror.Lines.{IsBelow}
-use Rattle.adya_values.proofs.Keys.{rises_pairs}
+use Rattle.adya_keys.specs.Meaning.Keys.{key_eq, key_lt, keys_rise}
+use Rattle.adya_keys.specs.Mirror.{IsBelow}
+use Rattle.adya_keys.proofs.Keys.{rises_pairs}
 use Rattle.lemmas.proofs.Members.{Contains-slice_get, slice_get-contained}
 use Rattle.lemmas.proofs.Orderings.{bytes_eq-from, bytes_eq-same, bytes_lt-apart}
 use Rattle.lemmas.proofs.Steps.{turn_below}

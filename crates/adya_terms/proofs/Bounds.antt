@@ -13,10 +13,10 @@ use Rattle.adya_values.specs.Mirror.Numbers.{seen_entry}
 use Rattle.adya_terms.specs.declared.scans.Scan.{Scan}
 use Rattle.adya_terms.specs.Machinery.Scans.{key_seen, listed}
 use Rattle.adya_terms.proofs.Numbers.{seen_keys}
-use Rattle.adya_values.specs.Meaning.Keys.{Key, key_le, key_lt, keys_rise, lies_in}
-use Rattle.adya_values.proofs.KeyOrder.{key_le-from_lt, key_le-trans}
-use Rattle.adya_values.proofs.Keys.{keys_rise-tail}
-use Rattle.adya_values.proofs.RisingKeys.{earlier_below}
+use Rattle.adya_keys.specs.Meaning.Keys.{Key, key_le, key_lt, keys_rise, lies_in}
+use Rattle.adya_keys.proofs.KeyOrder.{key_le-from_lt, key_le-trans}
+use Rattle.adya_keys.proofs.Keys.{keys_rise-tail}
+use Rattle.adya_keys.proofs.RisingKeys.{earlier_below}
 
 module _ (low high : Key) where
   -- of two keys, the lesser within the lower bound and the greater within the upper one

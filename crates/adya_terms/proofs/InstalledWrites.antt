@@ -5,7 +5,7 @@ use Rattle.std.proofs.lemmas.Simd.{map-map}
 use Rattle.std.proofs.lemmas.Option.{slice_get-map, slice_get_past}
 use Rattle.adya_values.specs.Meaning.Histories.{Entry, Event, History, Order}
 use Rattle.adya_values.specs.Meaning.Events.{last_write, shown}
-use Rattle.adya_values.specs.Machinery.Indices.{indices_in}
+use Rattle.adya_keys.specs.Machinery.Indices.{indices_in}
 use Rattle.adya_terms.specs.Machinery.Tables.{Own}
 use Rattle.adya_terms.specs.declared.checked.Checked.{Checked}
 use Rattle.adya_terms.specs.declared.line_places.LinePlaces.{LinePlaces}

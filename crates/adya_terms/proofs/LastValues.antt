@@ -2,7 +2,7 @@
 use Rattle.std.proofs.Common.{◌≡◌, ◌∙◌, ℕ, suc, Bool, List, [], Option, Some, None, ap, length, map, refl, slice_get, sym, true}
 use Rattle.std.specs.Prelude.{option_and_then}
 use Rattle.adya_values.specs.declared.event.Version.{Version}
-use Rattle.adya_values.specs.Meaning.Keys.{keys_rise}
+use Rattle.adya_keys.specs.Meaning.Keys.{keys_rise}
 use Rattle.adya_values.specs.Meaning.Histories.{Event, Order}
 use Rattle.adya_values.specs.Meaning.Events.{last_write, shown}
 use Rattle.adya_values.specs.Meaning.Orders.{installer, line_of, shown_by}

@@ -10,9 +10,9 @@ use mir.Syntax.{w64}
 use mir.Val.{Fits}
 use Rattle.lemmas.proofs.Orderings.{bytes_eq-same}
 use Rattle.adya_values.specs.Meaning.Histories.{Order}
-use Rattle.adya_values.specs.Meaning.Keys.{Key, key_eq}
-use Rattle.adya_values.specs.Mirror.Numbers.{number_in, AreNumbered}
-use Rattle.adya_values.specs.Machinery.Seen.{key_at}
+use Rattle.adya_keys.specs.Meaning.Keys.{Key, key_eq}
+use Rattle.adya_keys.specs.Mirror.{number_in, AreNumbered}
+use Rattle.adya_keys.specs.Machinery.Within.{key_at}
 use Rattle.adya_terms.specs.Mirror.LineNumbers.{key_of, FindsLines}
 
 abbrev line_key : List Order → ℕ → Key

@@ -3,11 +3,12 @@ use Rattle.std.proofs.Common.{◌≡◌, ℕ, suc, ◌==◌, ◌<◌, Bool, cond
 use Rattle.std.proofs.lemmas.Option.{none-some, same_Some}
 use Rattle.adya_values.specs.declared.event.NumberedVersion.{NumberedVersion}
 use Rattle.adya_values.specs.declared.event.Version.{Version}
-use Rattle.adya_values.specs.Meaning.Keys.{Key}
+use Rattle.adya_keys.specs.Meaning.Keys.{Key}
 use Rattle.adya_values.specs.Meaning.Histories.{Entry, Event}
 use Rattle.adya_values.specs.Meaning.Events.{writes_of}
 use Rattle.adya_values.specs.Computing.Faults.{is_next, version_eq}
-use Rattle.adya_values.specs.Mirror.Numbers.{number_in, version_in, AreNumbered}
+use Rattle.adya_values.specs.Mirror.Numbers.{version_in}
+use Rattle.adya_keys.specs.Mirror.{number_in, AreNumbered}
 use Rattle.adya_terms.specs.Machinery.Tables.{number_of, own, with_replaced, written_at, Own, Tell}
 use Rattle.adya_terms.specs.Machinery.Telling.{numbered_eq, with_number}
 use Rattle.adya_terms.proofs.Numbers.{no_number, same_number}

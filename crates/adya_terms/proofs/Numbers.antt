@@ -10,9 +10,10 @@ use Rattle.lemmas.proofs.Booleans.{same_test}
 use Rattle.lemmas.proofs.Orderings.{bytes_eq-from, bytes_eq-same}
 use Rattle.adya_values.specs.declared.events.Events.{Events}
 use Rattle.adya_values.specs.declared.seen.Seen.{Seen}
-use Rattle.adya_values.specs.Meaning.Keys.{Key, key_eq}
-use Rattle.adya_values.specs.Machinery.Seen.{key_at}
-use Rattle.adya_values.specs.Mirror.Numbers.{has_seen, keys_of, number_in, seen_entry, AreNumbered}
+use Rattle.adya_keys.specs.Meaning.Keys.{Key, key_eq}
+use Rattle.adya_keys.specs.Machinery.Within.{key_at}
+use Rattle.adya_values.specs.Mirror.Numbers.{has_seen, keys_of, seen_entry}
+use Rattle.adya_keys.specs.Mirror.{number_in, AreNumbered}
 
 -- the key of a number
 pub key_is : (ks : List Key) (k : Key) (n : ℕ) → number_in ks k ≡ Some n → key_at ks n ≡ k

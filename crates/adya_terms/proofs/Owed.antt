@@ -7,7 +7,7 @@ use Rattle.std.specs.BTreeMap.{get}
 use Rattle.std.specs.Ordering.{nat_cmp}
 use Rattle.std.proofs.lemmas.Bool.{cases_Bool, both_ways, not-true, or_cases, or_left, or_right}
 use Rattle.txn_table.specs.Mirror.{value_for}
-use Rattle.adya_values.specs.Meaning.Keys.{lies_in}
+use Rattle.adya_keys.specs.Meaning.Keys.{lies_in}
 use Rattle.adya_values.specs.Meaning.Histories.{Entry, Event, Scan}
 use Rattle.adya_values.specs.Meaning.Events.{written, last_write}
 use Rattle.adya_values.specs.Mirror.Events.{events_of}
@@ -20,8 +20,9 @@ use Rattle.adya_terms.specs.Machinery.Chains.{chain_passes, own_place, walk}
 use Rattle.adya_terms.specs.Machinery.OwnWrites.{place_numbered, place_of}
 use Rattle.adya_terms.specs.Machinery.Scans.{listed}
 use Rattle.adya_terms.proofs.Numbers.{key_is}
-use Rattle.adya_values.specs.Machinery.Seen.{key_at}
-use Rattle.adya_values.specs.Mirror.Numbers.{keys_of, number_in}
+use Rattle.adya_keys.specs.Machinery.Within.{key_at}
+use Rattle.adya_values.specs.Mirror.Numbers.{keys_of}
+use Rattle.adya_keys.specs.Mirror.{number_in}
 use Rattle.lemmas.proofs.Options.{some_value}
 use Rattle.adya_terms.specs.Machinery.Owed.{passes, AreShown}
 use Rattle.adya_terms.proofs.Chains.{fails_somewhere, passes_found}

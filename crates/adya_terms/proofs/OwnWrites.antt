@@ -9,9 +9,9 @@ use Rattle.std.specs.BTreeMap.{BTreeMap, get}
 use Rattle.std.proofs.lemmas.Bool.{and_parts, cases_Bool, eqb-true}
 use Rattle.adya_terms.specs.declared.own_writes.Chain.{Chain}
 use Rattle.adya_terms.specs.declared.own_writes.Row.{Row}
-use Rattle.adya_values.specs.Meaning.Keys.{Key, key_eq}
-use Rattle.adya_values.specs.Machinery.Seen.{key_at}
-use Rattle.adya_values.specs.Mirror.Numbers.{number_in, AreNumbered}
+use Rattle.adya_keys.specs.Meaning.Keys.{Key, key_eq}
+use Rattle.adya_keys.specs.Machinery.Within.{key_at}
+use Rattle.adya_keys.specs.Mirror.{number_in, AreNumbered}
 use Rattle.adya_terms.specs.Machinery.Tables.{own, own_eq, Own}
 use Rattle.adya_terms.specs.Machinery.Chains.{longer, own_place, place_in, row, walk, AreFew, AreKnown, AreLinked}
 use Rattle.adya_terms.proofs.Chains.{walk_longer, walk_stays}

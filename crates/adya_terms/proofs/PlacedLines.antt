@@ -5,17 +5,17 @@ use Rattle.std.proofs.lemmas.Bool.{and_from, both_ways, cases_eq, cases_lt, fals
 use Rattle.std.proofs.lemmas.List.{length-replicate, length-set}
 use Rattle.std.proofs.lemmas.Option.{get_or_from_slice_get, same_Some, slice_get_within}
 use Rattle.adya_values.specs.declared.event.Version.{Version}
-use Rattle.adya_values.specs.Meaning.Keys.{Key, key_eq, keys_rise}
+use Rattle.adya_keys.specs.Meaning.Keys.{Key, key_eq, keys_rise}
 use Rattle.adya_values.specs.Meaning.Histories.{Entry, Event, Order}
 use Rattle.adya_values.specs.Meaning.Events.{is_committed, last_write, written}
 use Rattle.adya_values.specs.declared.fault.Rule.TheVariants.{M7}
 use Rattle.adya_values.specs.Clauses.Rules.{installs}
 use Rattle.adya_values.specs.Computing.Faults.{lists_exactly, order_faults}
-use Rattle.adya_values.specs.declared.indices.Indices.{Indices}
-use Rattle.adya_values.specs.Machinery.Indices.{indices_in}
-use Rattle.adya_values.specs.Machinery.Seen.{key_at}
+use Rattle.adya_keys.specs.declared.indices.Indices.{Indices}
+use Rattle.adya_keys.specs.Machinery.Indices.{indices_in}
+use Rattle.adya_keys.specs.Machinery.Within.{key_at}
 use Rattle.adya_values.proofs.Faults.{each_passes}
-use Rattle.adya_values.proofs.Keys.{rises_pairs}
+use Rattle.adya_keys.proofs.Keys.{rises_pairs}
 use Rattle.adya_values.proofs.Writes.{has_last_write, last_write_from}
 use Rattle.adya_terms.specs.declared.line_places.LinePlaces.{LinePlaces}
 use Rattle.adya_terms.specs.declared.placing.Placing.{Placing}

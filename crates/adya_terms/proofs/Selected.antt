@@ -12,7 +12,7 @@ use Rattle.std.proofs.lemmas.Map.Lookups.{CmpEqualImpliesEq}
 use Rattle.std.proofs.lemmas.Map.Views.{btree_map_get_iff}
 use Rattle.std.specs.Cmp.Lexicographic.{slice_cmp}
 use Rattle.std.proofs.lemmas.Bool.{or_from, not_from_true, cases_Bool, and_parts, and_from, both_ways, or_left, or_right}
-use Rattle.adya_values.specs.Meaning.Keys.{key_eq, key_le, key_lt, keys_rise, lies_in}
+use Rattle.adya_keys.specs.Meaning.Keys.{key_eq, key_le, key_lt, keys_rise, lies_in}
 use Rattle.adya_values.specs.Meaning.Histories.{Entry, Event}
 use Rattle.adya_values.specs.Computing.Faults.{entry_eq, lists_only, none_or_lists_only}
 use Rattle.adya_terms.specs.Machinery.Tables.{written_at}
@@ -20,7 +20,7 @@ use Rattle.adya_terms.specs.Machinery.Owed.{AreShown}
 use Rattle.adya_terms.specs.Machinery.Checks.{is_of_key}
 use Rattle.std.proofs.lemmas.List.Elements.{All-contains}
 use Rattle.adya_values.proofs.Entries.{entry_eq-same, entry_eq-from}
-use Rattle.adya_values.proofs.Keys.{rises_below, keys_rise-tail}
+use Rattle.adya_keys.proofs.Keys.{rises_below, keys_rise-tail}
 use Rattle.lemmas.proofs.Filters.{Contains-filter}
 use Rattle.lemmas.proofs.Members.{none_contained}
 use Rattle.lemmas.proofs.Orderings.{bytes_eq-same, bytes_eq-from, bytes_lt-trans, bytes_lt-apart, tied_bytes}

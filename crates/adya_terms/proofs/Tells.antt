@@ -11,7 +11,7 @@ use Rattle.std.proofs.lemmas.List.Folds.{list_any-append}
 use Rattle.adya_values.specs.declared.event.Version.{Version}
 use Rattle.adya_terms.specs.Machinery.Tables.{Own}
 use Rattle.adya_terms.specs.declared.tables.Ended.{Ended}
-use Rattle.adya_values.specs.Meaning.Keys.{key_eq}
+use Rattle.adya_keys.specs.Meaning.Keys.{key_eq}
 use Rattle.adya_values.specs.Meaning.Histories.{Entry, Event}
 use Rattle.adya_values.specs.Meaning.Events.{written, writes_of, last, last_write, is_committed, commits, aborts}
 use Rattle.adya_values.specs.Computing.Faults.{content_eq, version_eq, entry_eq}

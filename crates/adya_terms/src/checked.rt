@@ -1,8 +1,8 @@
 //! Histories that passed their check, and the check itself.
 
 ghost use Rattle.std.specs.Prelude.{◌≡◌, ◌≢◌, ◌^◌, ◌<◌, ◌+◌, [], true, None, length, map, is_none, is_some, IfOk, IfErr, MatchResult};
-ghost use Rattle.adya_values.specs.Meaning.Keys.{keys_rise};
-ghost use Rattle.adya_values.specs.Machinery.Indices.{indices_in};
+ghost use Rattle.adya_keys.specs.Meaning.Keys.{keys_rise};
+ghost use Rattle.adya_keys.specs.Machinery.Indices.{indices_in};
 ghost use Rattle.adya_values.specs.Mirror.Events.{events_of};
 ghost use Rattle.adya_values.specs.Mirror.Lines.{finals_of, orders_of};
 ghost use Rattle.adya_values.specs.Mirror.Histories.{history_of};

@@ -2,9 +2,10 @@
 
 ghost use Rattle.std.specs.Prelude.{◌≡◌, ◌<◌, ◌^◌, ◌||◌, ◌==◌, ℕ, List, [], true, Some, length, option_map, IfNone, IfOk, IfSome, MatchResult};
 ghost use Rattle.std.specs.List.{filter_map, list_any};
-ghost use Rattle.adya_values.specs.Machinery.Seen.{key_at};
-ghost use Rattle.adya_values.specs.Mirror.Events.{events_of, value_of};
-ghost use Rattle.adya_values.specs.Mirror.Numbers.{has_seen, number_in, seen_entry};
+ghost use Rattle.adya_keys.specs.Machinery.Within.{key_at};
+ghost use Rattle.adya_values.specs.Mirror.Events.{events_of};
+ghost use Rattle.adya_keys.specs.Mirror.{value_of, number_in};
+ghost use Rattle.adya_values.specs.Mirror.Numbers.{has_seen, seen_entry};
 ghost use Rattle.adya_values.specs.Meaning.Events.{aborts, is_committed, last_write, shown, written};
 ghost use Rattle.adya_values.specs.Clauses.Rules.{has_ended};
 ghost use Rattle.adya_values.specs.Computing.Faults.{entry_eq, event_faults, is_entry};

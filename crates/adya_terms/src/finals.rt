@@ -2,9 +2,10 @@
 
 ghost use Rattle.std.specs.Prelude.{◌≡◌, ◌^◌, ◌<◌, ◌+◌, [], true, Some, length, map, option_map, slice_get, is_some, MatchResult};
 ghost use Rattle.std.specs.Bool.{OnTrue, OnFalse};
-ghost use Rattle.adya_values.specs.Meaning.Keys.{keys_rise};
+ghost use Rattle.adya_keys.specs.Meaning.Keys.{keys_rise};
 ghost use Rattle.adya_values.specs.Meaning.Histories.{Order};
-ghost use Rattle.adya_values.specs.Mirror.Events.{final_of, value_of};
+ghost use Rattle.adya_values.specs.Mirror.Events.{final_of};
+ghost use Rattle.adya_keys.specs.Mirror.{value_of};
 ghost use Rattle.adya_values.specs.Mirror.Lines.{finals_of, orders_of};
 ghost use Rattle.adya_values.specs.Clauses.Rules.{final_value};
 ghost use Rattle.adya_values.specs.Computing.Faults as faults;

@@ -1,7 +1,7 @@
 //! The order line of each key that the events name.
 
 ghost use Rattle.std.specs.Prelude.{length, IfOk};
-ghost use Rattle.adya_values.specs.Machinery.Indices.{indices_in};
+ghost use Rattle.adya_keys.specs.Machinery.Indices.{indices_in};
 ghost use Rattle.adya_values.specs.Mirror.Lines.{orders_of};
 ghost use Rattle.adya_values.specs.Mirror.Numbers.{keys_of};
 ghost use Rattle.adya_terms.specs.Mirror.LineNumbers.{FindsLines};

@@ -3,7 +3,7 @@
 ghost use Rattle.std.specs.Prelude.{◌≡◌, ◌<◌, ◌^◌, ◌+◌, ◌==◌, suc, length, set, slice_get, slice_index, not, option_and_then, IfOk, OnOk};
 ghost use Rattle.std.specs.List.{list_all};
 ghost use Rattle.adya_values.specs.Mirror.Lines.{orders_of};
-ghost use Rattle.adya_values.specs.Machinery.Indices.{indices_in};
+ghost use Rattle.adya_keys.specs.Machinery.Indices.{indices_in};
 ghost use Rattle.adya_terms.specs.Machinery.LinePlaces.{blank, line_places, AreParts, AreStarts};
 
 use crate::Orders;

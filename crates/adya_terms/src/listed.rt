@@ -2,8 +2,8 @@
 
 ghost use Rattle.std.specs.Prelude.{◌≡◌, ◌^◌, ◌<◌, ◌+◌, ℕ, List, [], true, Some, length, map, option_map, slice_get, IfOk, MatchResult};
 ghost use Rattle.std.specs.Bool.{OnTrue, OnFalse};
-ghost use Rattle.adya_values.specs.Machinery.Indices.{indices_in};
-ghost use Rattle.adya_values.specs.Meaning.Keys.{keys_rise};
+ghost use Rattle.adya_keys.specs.Machinery.Indices.{indices_in};
+ghost use Rattle.adya_keys.specs.Meaning.Keys.{keys_rise};
 ghost use Rattle.adya_values.specs.Meaning.Histories.{Event, Order};
 ghost use Rattle.adya_values.specs.Mirror.Lines.{orders_of};
 ghost use Rattle.adya_values.specs.Computing.Faults as faults;

@@ -6,8 +6,9 @@ ghost use Rattle.std.specs.BTreeMap.{get};
 ghost use Rattle.std.specs.Ordering.{nat_cmp, is_eq};
 ghost use Rattle.std.specs.Cmp.Lexicographic.{slice_cmp};
 ghost use Rattle.txn_table.specs.Mirror.{value_for};
-ghost use Rattle.adya_values.specs.Machinery.Seen.{key_at};
-ghost use Rattle.adya_values.specs.Mirror.Numbers.{keys_of, AreNumbered};
+ghost use Rattle.adya_keys.specs.Machinery.Within.{key_at};
+ghost use Rattle.adya_values.specs.Mirror.Numbers.{keys_of};
+ghost use Rattle.adya_keys.specs.Mirror.{AreNumbered};
 ghost use Rattle.adya_terms.specs.Machinery.Tables.{own, own_eq, Own};
 ghost use Rattle.adya_terms.specs.Machinery.Chains.{longer, own_place, row, row_at, walk, AreFew, AreKnown, AreLinked};
 

@@ -1,10 +1,10 @@
 //! The places of the last writes of committed transactions in the order lines of their keys.
 
 ghost use Rattle.std.specs.Prelude.{◌≡◌, ◌<◌, ◌^◌, ℕ, List, Option, Some, false, true, suc, length, get_or, map, replicate, set, slice_get, slice_index, IfOk, MatchOption, OnOk};
-ghost use Rattle.adya_values.specs.Meaning.Keys.{Key as KeyValue, keys_rise};
+ghost use Rattle.adya_keys.specs.Meaning.Keys.{Key as KeyValue, keys_rise};
 ghost use Rattle.adya_values.specs.Meaning.Histories.{Event, Order};
-ghost use Rattle.adya_values.specs.Machinery.Indices.{indices_in};
-ghost use Rattle.adya_values.specs.Machinery.Seen.{key_at};
+ghost use Rattle.adya_keys.specs.Machinery.Indices.{indices_in};
+ghost use Rattle.adya_keys.specs.Machinery.Within.{key_at};
 ghost use Rattle.adya_values.specs.Mirror.Lines.{orders_of};
 ghost use Rattle.adya_values.specs.Mirror.Numbers.{keys_of};
 ghost use Rattle.adya_terms.specs.Machinery.EventIndex.{indexed, keys_in, last_in};

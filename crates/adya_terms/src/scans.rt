@@ -3,12 +3,13 @@
 ghost use Rattle.std.specs.Prelude.{◌≡◌, ◌<◌, ℕ, List, true, false, Some, get_or, length, map};
 ghost use Rattle.std.specs.Bool.{OnTrue, OnFalse};
 ghost use Rattle.std.specs.List.{list_all};
-ghost use Rattle.adya_values.specs.Machinery.Seen.{key_at};
-ghost use Rattle.adya_values.specs.Meaning.Keys as keys;
+ghost use Rattle.adya_keys.specs.Machinery.Within.{key_at};
+ghost use Rattle.adya_keys.specs.Meaning.Keys as keys;
 ghost use Rattle.adya_values.specs.Meaning.Histories as histories;
 ghost use Rattle.adya_values.specs.Meaning.Histories.{Entry as EntryValue, Event as EventValue};
 ghost use Rattle.adya_values.specs.Mirror.Events.{events_of};
-ghost use Rattle.adya_values.specs.Mirror.Numbers.{has_seen, keys_of, seen_entry, AreNumbered};
+ghost use Rattle.adya_values.specs.Mirror.Numbers.{has_seen, keys_of, seen_entry};
+ghost use Rattle.adya_keys.specs.Mirror.{AreNumbered};
 ghost use Rattle.adya_values.specs.Computing.Faults as faults;
 ghost use Rattle.adya_values.specs.Meaning.Events.{last_write};
 ghost use Rattle.adya_values.specs.Computing.Faults.{none_or_lists_only, sees_own};

@@ -2,7 +2,7 @@
 use Rattle.std.proofs.Common.{◌≡◌, ℕ, suc, length, nat_lt, true, List, [], ◌∷◌, ◌++◌, map, refl, sym, ap, ◌∙◌}
 use Rattle.std.specs.List.{AllByRecursion}
 use Rattle.std.proofs.lemmas.Bool.{eqb-true, and_parts, and_from}
-use Rattle.adya_values.specs.Meaning.Keys.{keys_rise, key_lt, IsTxn}
+use Rattle.adya_keys.specs.Meaning.Keys.{keys_rise, key_lt, IsTxn}
 use Rattle.adya_values.specs.Computing.Shapes.{numbers_rise, fits_edition}
 use Rattle.adya_values.specs.declared.edition.Edition.{Edition}
 use Rattle.adya_values.specs.declared.edition.Edition.TheVariants.{One, Two}

@@ -1,7 +1,7 @@
 -- The lines of a certificate are those of a run from the head to the tail, and no others are.
 use Rattle.std.proofs.Common.{◌≡◌, ℕ, List, [], ◌∷◌, ◌++◌, map, refl, sym, ap, ◌∙◌}
 use Rattle.std.specs.List.{AllByRecursion}
-use Rattle.adya_values.specs.Meaning.Keys.{IsTxn}
+use Rattle.adya_keys.specs.Meaning.Keys.{IsTxn}
 use Rattle.adya_line.specs.Meaning.Spelling.{serial_head, tail, txn_text}
 use Rattle.adya_text.specs.Meaning.Texts.{IsSerial, serial_lines}
 use Rattle.adya_text.specs.Clauses.Grammars.{AreSerialLines}

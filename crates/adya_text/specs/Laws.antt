@@ -1,6 +1,6 @@
 -- What holds of texts.
 use Rattle.std.specs.Prelude.{◌≡◌, ◌≢◌, ℕ, List, [], ◌∷◌, ◌++◌, All}
-use Rattle.adya_values.specs.Meaning.Keys.{Bytes}
+use Rattle.adya_keys.specs.Meaning.Keys.{Bytes}
 use Rattle.adya_line.specs.Meaning.Spelling.{tail}
 use Rattle.adya_line.specs.Meaning.Lines.{IsPlain}
 use Rattle.adya_values.specs.Meaning.Histories.{Txns, History}

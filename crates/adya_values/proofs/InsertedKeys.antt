@@ -4,10 +4,10 @@ use Rattle.std.proofs.Common.{◌≡◌, ◌⊎◌, ℕ, true, List, [], ◌∷�
 use Rattle.std.proofs.lemmas.Bool.{and_from, and_parts, cases_Bool}
 use Rattle.lemmas.proofs.Members.{none_contained, Contains-head, Contains-cons, Contains-cases}
 use Rattle.lemmas.proofs.Orderings.{bytes_eq-same, bytes_lt-trans}
-use Rattle.adya_values.specs.Meaning.Keys.{key_eq, key_lt, keys_rise}
+use Rattle.adya_keys.specs.Meaning.Keys.{key_eq, key_lt, keys_rise}
 use Rattle.adya_values.specs.Meaning.KeySets.{insert}
-use Rattle.adya_values.proofs.Keys.{keys_rise-tail}
-use Rattle.adya_values.proofs.KeyOrder.{key_lt-from_not}
+use Rattle.adya_keys.proofs.Keys.{keys_rise-tail}
+use Rattle.adya_keys.proofs.KeyOrder.{key_lt-from_not}
 
 pub head_below : (x : List ℕ) (ys : List (List ℕ)) (y : List ℕ) → keys_rise (x ∷ ys) ≡ true → Contains ys y
     → key_lt x y ≡ true

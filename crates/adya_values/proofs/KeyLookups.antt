@@ -6,12 +6,12 @@ use Rattle.std.proofs.lemmas.Option.{same_Some, none-some}
 use Rattle.lemmas.proofs.Members.{none_contained, Contains-head, Contains-cons, Contains-cases}
 use Rattle.lemmas.proofs.Orderings.{bytes_eq-same, bytes_eq-from}
 use Rattle.lemmas.proofs.Options.{is_some-cond}
-use Rattle.adya_values.specs.Meaning.Keys.{key_eq, keys_rise}
+use Rattle.adya_keys.specs.Meaning.Keys.{key_eq, keys_rise}
 use Rattle.adya_values.specs.Meaning.Histories.{Entry, Order, FinalPair}
 use Rattle.adya_values.specs.Meaning.Events.{listed}
 use Rattle.adya_values.specs.Meaning.Orders.{line_of}
 use Rattle.adya_values.specs.Clauses.Rules.{final_value}
-use Rattle.adya_values.proofs.Keys.{keys_rise-tail, rises_other}
+use Rattle.adya_keys.proofs.Keys.{keys_rise-tail, rises_other}
 
 -- ---- order lines
 

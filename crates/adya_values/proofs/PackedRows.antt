@@ -1,6 +1,6 @@
 -- What rows stand for stays when something is added behind what they name.
 use Rattle.std.proofs.Common.{◌≡◌, ◌∙◌, ℕ, zero, suc, ◌+◌, ◌<◌, ◌≤◌, Bool, true, false, if◌then◌else◌, List, [], ◌∷◌, ◌++◌, map, length, Option, Some, None, get_or, slice_get, sym, ap, refl, subst, arith}
-use Rattle.adya_values.specs.Machinery.KeyTables.{keys_in}
+use Rattle.adya_keys.specs.Machinery.KeyTables.{keys_in}
 use Rattle.std.specs.List.{list_all}
 use Rattle.std.specs.Prelude.{nat_lt}
 use Rattle.std.specs.Prelude.{OnErr}
@@ -8,16 +8,18 @@ use Rattle.std.proofs.Common.{Result, Ok, Err}
 use Rattle.std.proofs.Math.Bool.{false≢true}
 use Rattle.std.proofs.lemmas.List.{length-append, length-map, map-append}
 use Rattle.std.proofs.lemmas.Bool.{and_from, and_parts, le-leb, leb-true, ltb-true}
-use Rattle.adya_values.specs.Meaning.Keys.{Bytes, Key}
+use Rattle.adya_keys.specs.Meaning.Keys.{Bytes, Key}
 use Rattle.adya_values.specs.Meaning.Histories.{Entry, Delete, Read, Scan, Write}
 use Rattle.adya_values.specs.declared.arena.Row.{Row}
 use Rattle.adya_values.specs.declared.arena.Row.TheVariants as In
 use Rattle.adya_values.specs.declared.arena.Listing.{Listing}
 use Rattle.adya_values.specs.declared.arena.Arena.{Arena}
 use Rattle.adya_values.specs.Mirror.Events.{event_of_row}
-use Rattle.adya_values.specs.Machinery.Seen.{is_part, key_at, part, IsFront}
+use Rattle.adya_values.specs.Machinery.Seen.{is_part}
+use Rattle.adya_keys.specs.Machinery.Within.{key_at, part, IsFront}
 use Rattle.adya_values.specs.Machinery.Packed.{entry_of_seen, Extends, event_in, is_listing, is_row, is_row_of, listing_of, scan_in}
-use Rattle.adya_values.proofs.PackedParts.{front_same, front_trans, is_part_stays, key_stays, part_stays, same_entries_in}
+use Rattle.adya_values.proofs.PackedParts.{is_part_stays, same_entries_in}
+use Rattle.adya_keys.proofs.Within.{front_same, front_trans, key_stays, part_stays}
 
 module _ (ks km : List Key) where
   listing_stays : (n m : ℕ) (o : Option Listing) → n ≤ m → is_listing (length ks) n o ≡ true → is_listing (length (ks ++ km)) m o ≡ true

@@ -8,7 +8,7 @@ use Rattle.lemmas.proofs.Filters.{Contains-filter, filter-source, filter_map-sou
 use Rattle.lemmas.proofs.Options.{some_value, some_unless_none}
 use Rattle.lemmas.proofs.Tests.{list_any-source}
 use Rattle.lemmas.proofs.Orderings.{bytes_eq-same, bytes_eq-from}
-use Rattle.adya_values.specs.Meaning.Keys.{key_eq}
+use Rattle.adya_keys.specs.Meaning.Keys.{key_eq}
 use Rattle.adya_values.specs.Meaning.Histories.{Entry, Event, Write, Delete, Read, Scan, Commit, Abort}
 use Rattle.adya_values.specs.Meaning.Events.{txn_of, written, writes_of, last, last_write, commits, is_committed}
 use Rattle.adya_values.specs.Clauses.Rules.{installs}

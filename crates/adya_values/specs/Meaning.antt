@@ -1,5 +1,4 @@
 -- What the promises mean, in reading order.
-pub mod Keys
 pub mod Histories
 pub mod Events
 pub mod Orders

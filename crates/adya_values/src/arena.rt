@@ -1,20 +1,20 @@
 //! What events hold, packed: each key once, the bytes of all values one after the other, and what scans list.
 
 ghost use Rattle.std.specs.Prelude.{◌≡◌, ◌<◌, ℕ, true, map, Some, slice_index_or, length, IfOk, OnOk, option_map, is_some, false, IfSome, MatchOption};
-ghost use Rattle.adya_values.specs.Meaning.Keys.{key_lt};
+ghost use Rattle.adya_keys.specs.Meaning.Keys.{key_lt};
 ghost use Rattle.adya_values.specs.Meaning.Histories.{Abort, Live};
 ghost use Rattle.adya_values.specs.Meaning.Events.{aborts, observed, shown, txn_of, written};
 ghost use Rattle.adya_values.specs.Computing.Faults.{content_eq, is_entry, version_eq};
-ghost use Rattle.adya_values.specs.Machinery.KeyTables.{keys_in};
-ghost use Rattle.adya_values.specs.Machinery.Seen.{content_in, is_content, is_part, is_seen, key_at, part};
+ghost use Rattle.adya_keys.specs.Machinery.KeyTables.{keys_in};
+ghost use Rattle.adya_values.specs.Machinery.Seen.{content_in, is_content, is_part, is_seen};
+ghost use Rattle.adya_keys.specs.Machinery.Within.{key_at, part};
 ghost use Rattle.std.specs.List.{list_all};
 
-use crate::key_table::{KeyTable, MOST_KEYS};
-use crate::place::Place;
 use crate::{
     Entry, EventView, Key, Listed, MAX_VALUE_LEN, Mod, NumberedVersion, Observed, PackedEntries,
     Seen, Txn, Value, Version,
 };
+use adya_keys::{KeyTable, MOST_KEYS, Place};
 use std::alloc::{AllocError, Global};
 
 /// An event of a list. Of its key it has the number, and of its value the place where the bytes begin and how many there are.
@@ -102,8 +102,9 @@ pub(crate) struct Arena {
 }
 
 impl Arena {
-    ghost use Rattle.adya_values.specs.Mirror.Events.{entry_of, event_of_row, view_of, value_of};
-    ghost use Rattle.adya_values.specs.Mirror.Numbers.{bounds, both_at, number_in, seen_in, version_in};
+    ghost use Rattle.adya_values.specs.Mirror.Events.{entry_of, event_of_row, view_of};
+    ghost use Rattle.adya_keys.specs.Mirror.{value_of, number_in};
+    ghost use Rattle.adya_values.specs.Mirror.Numbers.{bounds, both_at, seen_in, version_in};
     ghost use Rattle.adya_values.specs.Machinery.Packed.{entry_of_seen, is_row_of, is_listing, is_seen_of, scan_in, HasRoomIn};
 
     /// Makes an empty arena. It takes no memory.

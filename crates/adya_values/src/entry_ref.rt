@@ -1,7 +1,7 @@
 //! Versions and entries whose keys and values are slices of a text.
 
 ghost use Rattle.std.specs.Prelude.{◌≡◌, true};
-ghost use Rattle.adya_values.specs.Meaning.Keys.{is_key, is_value, IsTxn, IsMod};
+ghost use Rattle.adya_keys.specs.Meaning.Keys.{is_key, is_value, IsTxn, IsMod};
 
 use crate::{Content, Entry, Key, Mod, Txn, Value, Version};
 

@@ -25,9 +25,10 @@ impl Events {
     ghost use Rattle.adya_values.specs.Meaning.Events.{aborts, commit_of, observed, shown, txn_of, written};
     ghost use Rattle.adya_values.specs.Computing.Faults.{is_entry};
     ghost use Rattle.adya_values.specs.Meaning.Histories.{Abort, Commit, Delete, Read, Scan, Write};
-    ghost use Rattle.adya_values.specs.Meaning.Keys.{is_key, is_value, key_lt};
-    ghost use Rattle.adya_values.specs.Mirror.Numbers.{bounds, both_at, has_seen, keys_of, number_in, seen_entry, seen_in, version_in, AreNumbered};
-    ghost use Rattle.adya_values.specs.Machinery.Seen.{key_at};
+    ghost use Rattle.adya_keys.specs.Meaning.Keys.{is_key, is_value, key_lt};
+    ghost use Rattle.adya_values.specs.Mirror.Numbers.{bounds, both_at, has_seen, keys_of, seen_entry, seen_in, version_in};
+    ghost use Rattle.adya_keys.specs.Mirror.{number_in, AreNumbered};
+    ghost use Rattle.adya_keys.specs.Machinery.Within.{key_at};
     ghost use Rattle.adya_values.specs.Mirror.Events.{entries_of, entry_of, event_of, event_of_row, view_of, events_of, HasRows, HasRoomFor};
 
     /// Makes a list of no events. It takes no memory.

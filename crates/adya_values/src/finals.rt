@@ -2,11 +2,11 @@
 
 ghost use Rattle.std.specs.Prelude.{◌≡◌, ◌<◌, ◌≤◌, ◌++◌, ◌∷◌, ◌^◌, [], true, Some, length, map, option_map, slice_get, OnOk, OnErr};
 ghost use Rattle.std.specs.List.{list_all};
-ghost use Rattle.adya_values.specs.Meaning.Keys.{is_value, keys_rise};
-ghost use Rattle.adya_values.specs.Machinery.Lines.{lines_of};
+ghost use Rattle.adya_keys.specs.Meaning.Keys.{is_value, keys_rise};
+ghost use Rattle.adya_keys.specs.Machinery.Lines.{lines_of};
 
-use crate::lines::Lines;
 use crate::{FinalPair, Key, Value};
+use adya_keys::Lines;
 use std::alloc::{AllocError, Global};
 
 /// Final values, packed: lines of a key and its value's bytes.
@@ -18,7 +18,8 @@ pub struct Finals {
 
 impl Finals {
     ghost use Rattle.adya_values.specs.Mirror.Events.{final_of};
-    ghost use Rattle.adya_values.specs.Mirror.Lines.{finals_of, IsBelow};
+    ghost use Rattle.adya_values.specs.Mirror.Lines.{finals_of};
+    ghost use Rattle.adya_keys.specs.Mirror.{IsBelow};
 
     /// Makes a list of no final values. It takes no memory.
     pub fn new(alloc: Global) -> Finals

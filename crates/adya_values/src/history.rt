@@ -2,7 +2,7 @@
 
 ghost use Rattle.std.specs.Prelude.{◌≡◌, ◌↔◌, true, length, map, IsOk, IfOk, IfErr, ◌==◌, ◌&&◌, not, [], nat_lt, ◌∷◌};
 ghost use Rattle.std.specs.List.{list_all};
-ghost use Rattle.adya_values.specs.Meaning.Keys.{key_lt, keys_rise};
+ghost use Rattle.adya_keys.specs.Meaning.Keys.{key_lt, keys_rise};
 ghost use Rattle.adya_values.specs.Mirror.Events.{events_of};
 ghost use Rattle.adya_values.specs.Mirror.Lines.{finals_of, orders_of};
 ghost use Rattle.adya_values.specs.Computing.Shapes.{is_shape, numbers_rise, fits_edition};

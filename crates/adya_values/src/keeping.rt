@@ -1,14 +1,15 @@
 //! How what events hold is added to the arena.
 
 ghost use Rattle.std.specs.Prelude.{◌≡◌, ◌≤◌, ◌<◌, ◌+◌, ◌++◌, ◌∷◌, [], ℕ, true, map, Some, slice_get, length, vec_len, vec_capacity, IsOk, IfOk, OnOk};
-ghost use Rattle.adya_values.specs.Meaning.Keys.{is_key, is_value};
+ghost use Rattle.adya_keys.specs.Meaning.Keys.{is_key, is_value};
 ghost use Rattle.adya_values.specs.Meaning.Histories.{Delete, Read, Scan, Write};
-ghost use Rattle.adya_values.specs.Machinery.KeyTables.{keys_in, CanTake};
-ghost use Rattle.adya_values.specs.Machinery.Seen.{content_in, is_content, part, IsFront, IsKept};
+ghost use Rattle.adya_keys.specs.Machinery.KeyTables.{keys_in, CanTake};
+ghost use Rattle.adya_values.specs.Machinery.Seen.{content_in, is_content, IsKept};
+ghost use Rattle.adya_keys.specs.Machinery.Within.{part, IsFront};
 
 use crate::arena::{Arena, Listing, Row};
-use crate::place::Place;
 use crate::{ContentRef, EntryRef, Event, EventView, Listed, Mod, Seen, Txn, Version};
+use adya_keys::Place;
 use std::alloc::AllocError;
 
 impl Arena {

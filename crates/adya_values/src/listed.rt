@@ -2,11 +2,11 @@
 
 ghost use Rattle.std.specs.Prelude.{◌≡◌, ◌<◌, true, Some, length, option_map, slice_get};
 ghost use Rattle.std.specs.List.{list_all};
-ghost use Rattle.adya_values.specs.Machinery.KeyTables.{keys_in};
+ghost use Rattle.adya_keys.specs.Machinery.KeyTables.{keys_in};
 ghost use Rattle.adya_values.specs.Machinery.Seen.{entry_in, is_seen};
 
-use crate::key_table::KeyTable;
 use crate::{Entry, EntryRef, Seen};
+use adya_keys::KeyTable;
 
 /// Entries that a list of events holds: they name the keys by their numbers, and places in the bytes of all values.
 #[derive(Clone, Copy)]

@@ -1,10 +1,10 @@
 //! The version orders of a history.
 
 ghost use Rattle.std.specs.Prelude.{◌≡◌, ◌<◌, ◌≤◌, ◌++◌, ◌∷◌, ◌^◌, [], true, Some, length, map, option_map, slice_get, OnOk, OnErr};
-ghost use Rattle.adya_values.specs.Meaning.Keys.{keys_rise};
+ghost use Rattle.adya_keys.specs.Meaning.Keys.{keys_rise};
 
-use crate::lines::Lines;
 use crate::{Key, Order, Txn};
+use adya_keys::Lines;
 use std::alloc::{AllocError, Global};
 
 /// Version orders, packed: lines of a key and its writers.
@@ -15,7 +15,8 @@ pub struct Orders {
 
 impl Orders {
     ghost use Rattle.adya_values.specs.Mirror.Events.{order_of};
-    ghost use Rattle.adya_values.specs.Mirror.Lines.{orders_of, IsBelow};
+    ghost use Rattle.adya_values.specs.Mirror.Lines.{orders_of};
+    ghost use Rattle.adya_keys.specs.Mirror.{IsBelow};
 
     /// Makes a list of no orders. It takes no memory.
     pub fn new(alloc: Global) -> Orders

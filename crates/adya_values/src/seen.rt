@@ -3,9 +3,8 @@
 ghost use Rattle.std.specs.Prelude.{◌≡◌, ◌==◌, length, true};
 ghost use Rattle.adya_values.specs.Machinery.Seen.{content_in, entry_in, is_content, is_seen};
 
-use crate::key_table::KeyTable;
-use crate::place::Place;
 use crate::{ContentRef, EntryRef, Mod, NumberedVersion, Txn, ValueRef, VersionRef};
+use adya_keys::{KeyTable, Place};
 
 /// An entry that an event of a list sees, packed. Of its key it has the number, and of its value the place where the bytes
 /// begin and how many there are; a dead version has none. The list says the rest. It takes 20 bytes.
@@ -22,7 +21,7 @@ pub struct Seen {
 }
 
 impl Seen {
-    ghost use Rattle.adya_values.specs.Machinery.KeyTables.{keys_in};
+    ghost use Rattle.adya_keys.specs.Machinery.KeyTables.{keys_in};
     ghost use Rattle.adya_values.specs.Mirror.Refs.{view_content, view_entry};
 
     /// Returns the version, by the number of its key.

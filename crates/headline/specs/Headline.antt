@@ -10,7 +10,7 @@
 --   Recording (the history of a course), Faces (what a history shows of the answers)
 --   ssi_line, specs/Meaning: Spelling, Replies, Steps (lines, what is made of them, and what ends a run)
 use Rattle.std.specs.Prelude.{◌≡◌, ◌⊎◌, List, ◌++◌}
-use Rattle.adya_values.specs.Meaning.Keys.{Bytes}
+use Rattle.adya_keys.specs.Meaning.Keys.{Bytes}
 use Rattle.adya_values.specs.Meaning.Histories.{History}
 use Rattle.adya_line.specs.Meaning.Lines.{IsPlain}
 use Rattle.adya_text.specs.Meaning.Texts.{history_text, with_ends}

@@ -1,7 +1,7 @@
 //! A store of versions, and the view of one transaction at a time.
 
 ghost use Rattle.std.specs.Prelude.{◌≡◌, [], true, IfOk};
-ghost use Rattle.adya_values.specs.Meaning.Keys.{key_le};
+ghost use Rattle.adya_keys.specs.Meaning.Keys.{key_le};
 ghost use Rattle.ssi_versions.specs.Mirror.{IsAbove};
 
 use crate::layers::Layer;

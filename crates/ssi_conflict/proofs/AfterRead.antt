@@ -1,7 +1,7 @@
 -- What a read changes.
 use Rattle.std.proofs.Common.{◌≡◌, ◌≢◌, ℕ, ◌<◌, ◌==◌, ◌⊎◌, Bool, true, false, true≢false, ◌&&◌, ◌||◌, List, ◌∷◌, Option, Some, None, is_some, refl, sym, ◌∙◌, ap, subst, arith, inl, inr}
 use Rattle.std.proofs.lemmas.Bool.{eqb-true, eq-eqb, ne_eqb, cases_eq, and_parts, and_from, ltb-true, lt-ltb, both_ways}
-use Rattle.adya_values.specs.Meaning.Keys.{lies_in}
+use Rattle.adya_keys.specs.Meaning.Keys.{lies_in}
 use Rattle.ssi_conflict.specs.Meaning.Calls.{Call, Reads, snapshot_of, stamp_of, is_committed, is_at_or_below, are_concurrent}
 use Rattle.ssi_conflict.specs.Clauses.Allowed.{AreAllowed}
 use Rattle.ssi_conflict.specs.Clauses.Pairs.{IsPair, IsAtMost, IsOrderedPivot, IsSmallest}

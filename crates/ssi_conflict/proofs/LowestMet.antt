@@ -15,7 +15,7 @@ use Rattle.std.proofs.lemmas.Cmp.{eq_by_cmp_equiv, then_total, on_total, nat_cmp
 use Rattle.std.proofs.lemmas.Map.Keys.{IsDistinct-from_sorted}
 use Rattle.std.proofs.lemmas.Map.Lookups.{CmpEqualImpliesEq, exact_bytes, exact_unsigned}
 use Rattle.std.proofs.lemmas.Map.Views.{tells_apart, Contains-from_lookup, lookup-from_Contains}
-use Rattle.adya_values.specs.Meaning.Keys.{lies_in, key_le}
+use Rattle.adya_keys.specs.Meaning.Keys.{lies_in, key_le}
 use Rattle.ssi_conflict.specs.Meaning.Calls.{is_at_or_below}
 use Rattle.ssi_conflict.specs.Computing.Steps.{is_earlier}
 use Rattle.ssi_conflict.specs.Machinery.Rows.{Row, sooner, read_conflict, read_pivot, IsSmallestRow, IsLeastStamp}

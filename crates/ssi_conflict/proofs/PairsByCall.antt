@@ -2,7 +2,7 @@
 -- adds it.
 use Rattle.std.proofs.Common.{◌≡◌, ◌≢◌, ℕ, ◌<◌, ◌==◌, ◌⊎◌, true, false, not, ◌&&◌, List, ◌∷◌, Option, Some, None, is_some, refl, sym, ◌∙◌, ap, subst, arith, inl, inr}
 use Rattle.std.proofs.lemmas.Bool.{eqb-true, eq-eqb, ne_eqb, cases_eq, cond-true, cond-false, and_parts, and_from, or_cases, or_left, or_right, not-true, not_from_false, lt-leb, both_ways}
-use Rattle.adya_values.specs.Meaning.Keys.{lies_in}
+use Rattle.adya_keys.specs.Meaning.Keys.{lies_in}
 use Rattle.ssi_conflict.specs.Meaning.Calls.{Call, Begins, Reads, Commits, Aborts, snapshot_of, stamp_of, keys_of, has_begun, is_committed, is_aborted, meets, is_at_or_below, precedes, are_concurrent}
 use Rattle.ssi_conflict.specs.Clauses.Pairs.{before_commit, IsPair}
 use Rattle.ssi_conflict.specs.Clauses.Allowed.{AreAllowed}

@@ -1,7 +1,7 @@
 -- What ties pairs and pivots call by call to those that look back over all calls, that each pivot of the commit-order
 -- rule is one of the two-pair rule, and why transactions that aren't kept can be forgotten.
 use Rattle.std.specs.Prelude.{◌≡◌, ◌↔◌, ℕ, true, false, List, ◌∷◌, Option}
-use Rattle.adya_values.specs.Meaning.Keys.{Key}
+use Rattle.adya_keys.specs.Meaning.Keys.{Key}
 use Rattle.ssi_conflict.specs.Meaning.Calls.{Call, Begins, Reads, Commits, Aborts, has_begun}
 use Rattle.ssi_conflict.specs.Clauses.Allowed.{AreAllowed}
 use Rattle.ssi_conflict.specs.Clauses.Pairs.{IsPair, IsPivot, IsOrderedPivot, IsSmallest}

@@ -2,7 +2,7 @@
 use Rattle.std.specs.Prelude.{◌≡◌, ℕ, Bool, true, List, ◌∷◌, Option, Some, None, Result, Ok, Err, is_some}
 use Rattle.std.specs.List.{list_any}
 use Rattle.std.specs.declared.alloc.AllocError.{AllocError}
-use Rattle.adya_values.specs.Meaning.Keys.{Key}
+use Rattle.adya_keys.specs.Meaning.Keys.{Key}
 use Rattle.ssi_reads.specs.Clauses.Marks.{has_txn}
 use Rattle.ssi_conflict.specs.Meaning.Calls.{Call, Commits}
 use Rattle.ssi_conflict.specs.Clauses.Allowed.{IsAllowed, last_stamp}

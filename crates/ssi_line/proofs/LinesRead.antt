@@ -3,7 +3,7 @@ use Rattle.std.proofs.Common.{◌≡◌, ℕ, ◌^◌, true, List, ◌∷◌, �
 use Rattle.std.specs.Prelude.{codes, decimal, nat_lt, MatchOption}
 use Rattle.std.proofs.lemmas.Bool.{ltb-true, lt-ltb}
 use Rattle.std.proofs.lemmas.Option.{same_Some, none-some}
-use Rattle.adya_values.specs.Meaning.Keys.{is_key, is_value, IsTxn, IsMod}
+use Rattle.adya_keys.specs.Meaning.Keys.{is_key, is_value, IsTxn, IsMod}
 use Rattle.adya_line.specs.Meaning.Spelling.{txn_text}
 use Rattle.adya_line.specs.Laws.{IsReaderOf}
 use Rattle.adya_line.specs.Computing.Reading.{Gives, txn_at_line}

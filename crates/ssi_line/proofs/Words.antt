@@ -6,7 +6,7 @@ use Rattle.std.specs.List.{list_all}
 use Rattle.std.specs.Cmp.Lexicographic.{pointwise}
 use Rattle.std.proofs.lemmas.Bool.{eqb-true, and_parts}
 use Rattle.memchr.specs.Find.{Nowhere, Passes, is_byte}
-use Rattle.adya_values.specs.Meaning.Keys.{is_text, is_key, is_key_byte}
+use Rattle.adya_keys.specs.Meaning.Keys.{is_text, is_key, is_key_byte}
 use Rattle.ssi_store.specs.Meaning.Sessions.{is_session, is_session_byte}
 use Rattle.ssi_line.specs.Computing.Reading.{cut, is_word}
 

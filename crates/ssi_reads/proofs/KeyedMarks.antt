@@ -6,7 +6,7 @@ use Rattle.std.specs.Cmp.Lexicographic.{slice_cmp}
 use Rattle.std.specs.BTreeMap.{BTreeMap, get}
 use Rattle.std.specs.BTreeSet.{BTreeSet}
 use Rattle.std.proofs.lemmas.Bool.{cases_Bool, cases_eq, eq-eqb, ne_eqb, cond-true, cond-false, and_parts}
-use Rattle.adya_values.specs.Meaning.Keys.{lies_in}
+use Rattle.adya_keys.specs.Meaning.Keys.{lies_in}
 use Rattle.ssi_reads.specs.Machinery.Indexed.{txn_in, key_in, indexed, listed}
 use Rattle.ssi_reads.proofs.Numbers.{is_eq-nat_cmp, txn_at, same_txn, same_key, lies_at, cond_or}
 use Rattle.ssi_reads.proofs.Maps.{has_more, has_same}

@@ -9,7 +9,7 @@ use Rattle.std.specs.Cmp.Lexicographic.{slice_cmp, nat_list_cmp_total}
 use Rattle.std.specs.BTreeMap.{BTreeMap, get}
 use Rattle.std.specs.BTreeSet.{BTreeSet}
 use Rattle.std.proofs.lemmas.Map.Keys.{sorted_head}
-use Rattle.adya_values.specs.Meaning.Keys.{key_le, key_lt}
+use Rattle.adya_keys.specs.Meaning.Keys.{key_le, key_lt}
 use Rattle.lemmas.proofs.Orderings.{less_from_is_lt, tied_bytes}
 use Rattle.ssi_reads.specs.declared.span.Mark.{Mark}
 use Rattle.ssi_reads.specs.declared.place.Place.{Place}

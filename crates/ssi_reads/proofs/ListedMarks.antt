@@ -1,7 +1,7 @@
 -- Marks in a list, without those of one transaction.
 use Rattle.std.proofs.Common.{◌≡◌, ℕ, ◌==◌, Bool, true, false, cond, not, ◌&&◌, ◌||◌, List, [], ◌∷◌, filter, refl, sym, ◌∙◌, ap, inl, inr}
 use Rattle.std.proofs.lemmas.Bool.{cases_eq, eq-eqb, ne_eqb}
-use Rattle.adya_values.specs.Meaning.Keys.{lies_in}
+use Rattle.adya_keys.specs.Meaning.Keys.{lies_in}
 use Rattle.ssi_reads.specs.declared.span.Mark.{Mark}
 use Rattle.ssi_reads.specs.Clauses.Marks.{without}
 use Rattle.ssi_reads.specs.Machinery.Listed.{is_over, is_of_other, list_marked}

@@ -7,7 +7,7 @@ use Rattle.std.specs.declared.cmp.Ordering.{Ordering}
 use Rattle.std.specs.declared.cmp.Ordering.TheVariants.{Less, Equal, Greater}
 use Rattle.std.proofs.lemmas.Bool.{cases_Bool, cond-true, cond-false, eqb-true, and_parts, and_from, cases_lt}
 use Rattle.std.proofs.lemmas.Bool.Decides.{nat_tests}
-use Rattle.adya_values.specs.Meaning.Keys.{key_le, lies_in}
+use Rattle.adya_keys.specs.Meaning.Keys.{key_le, lies_in}
 use Rattle.lemmas.proofs.Booleans.{same_test}
 use Rattle.lemmas.proofs.Members.{Contains-head, Contains-cons}
 use Rattle.lemmas.proofs.Tests.{list_any_when}

@@ -1,7 +1,7 @@
 //! Where a range stands: under a prefix of its keys.
 
 ghost use Rattle.std.specs.Prelude.{◌≡◌, ◌≤◌, ℕ, List, length, take};
-ghost use Rattle.adya_values.specs.Meaning.Keys.{lies_in};
+ghost use Rattle.adya_keys.specs.Meaning.Keys.{lies_in};
 ghost use Rattle.ssi_reads.specs.Machinery.Prefixes.{prefix_of, shared, covers};
 
 use crate::span::Span;

@@ -3,7 +3,7 @@
 ghost use Rattle.std.specs.Prelude.{◌≡◌, ◌≢◌, ◌&&◌, ◌||◌, ◌≤◌, ℕ, List, Option, Bool, length, take, false, OnOk, OnErr};
 ghost use Rattle.std.specs.BTreeSet.{contains};
 ghost use Rattle.std.specs.Ordering.{nat_cmp, is_eq};
-ghost use Rattle.adya_values.specs.Meaning.Keys.{lies_in};
+ghost use Rattle.adya_keys.specs.Meaning.Keys.{lies_in};
 ghost use Rattle.ssi_reads.specs.Clauses.Marks.{with_mark, without, IsSame, IsEmpty};
 ghost use Rattle.ssi_reads.specs.Machinery.Prefixes.{prefix_of};
 ghost use Rattle.ssi_reads.specs.Machinery.Ranged.{HasMorePlaces, HasMoreMarks, HasSamePlaces, HasSameMarks, HasOthers, filed, mark_of, place_of, counts, any_counts, under, ranged};

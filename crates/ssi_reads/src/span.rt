@@ -1,7 +1,7 @@
 //! Ranges of keys.
 
 ghost use Rattle.std.specs.Prelude.{◌≡◌};
-ghost use Rattle.adya_values.specs.Meaning.Keys.{lies_in};
+ghost use Rattle.adya_keys.specs.Meaning.Keys.{lies_in};
 
 use adya_values::{Key, Txn};
 

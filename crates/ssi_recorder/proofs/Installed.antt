@@ -13,12 +13,12 @@ use Rattle.lemmas.proofs.Members.{none_contained, Contains-head, Contains-cons, 
 use Rattle.lemmas.proofs.Filters.{filter_map-source}
 use Rattle.lemmas.proofs.Orderings.{bytes_eq-same, bytes_eq-itself, bytes_eq-other, bytes_lt-apart}
 use Rattle.adya_values.specs.declared.event.Entry.{Entry as EntryValue}
-use Rattle.adya_values.specs.Meaning.Keys.{keys_rise}
+use Rattle.adya_keys.specs.Meaning.Keys.{keys_rise}
 use Rattle.adya_values.specs.Meaning.Histories.{Entry, Event}
 use Rattle.adya_values.specs.Mirror.Events.{entry_of}
 use Rattle.adya_values.specs.Meaning.Events.{written, last, last_write, shown}
 use Rattle.adya_values.specs.Meaning.Serial.{visible_pair_of}
-use Rattle.adya_values.proofs.Keys.{keys_rise-tail}
+use Rattle.adya_keys.proofs.Keys.{keys_rise-tail}
 use Rattle.adya_values.proofs.Writes.{last_contained, last_write_from}
 use Rattle.adya_values.specs.Meaning.Orders.{shown_by}
 use Rattle.ssi_recorder.specs.Meaning.Recorded.{writers_by_commit, last_shown, written_keys, order_line, orders_of_events, finals_of_events, by_commit}

@@ -8,7 +8,7 @@ use Rattle.std.specs.declared.cmp.Ordering.TheVariants.{Less, Equal, Greater}
 use Rattle.std.specs.Cmp.Lexicographic.{slice_cmp, texts_ties, same_text}
 use Rattle.std.proofs.lemmas.Bool.{ne_eqb}
 use Rattle.adya_values.specs.declared.event.Entry.{Entry as EntryValue}
-use Rattle.adya_values.specs.Meaning.Keys.{key_eq}
+use Rattle.adya_keys.specs.Meaning.Keys.{key_eq}
 use Rattle.adya_values.specs.Mirror.Events.{entry_of}
 use Rattle.ssi_recorder.specs.Machinery.Lines.{Line, line_at, put_in, put_at, IsLine, AreLines}
 

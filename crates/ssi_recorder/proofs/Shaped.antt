@@ -9,7 +9,7 @@ use Rattle.std.specs.Cmp.Lexicographic.{slice_cmp}
 use Rattle.std.proofs.lemmas.Bool.{and_from}
 use Rattle.std.proofs.lemmas.List.{length-map}
 use Rattle.adya_values.specs.declared.event.Entry.{Entry as EntryValue}
-use Rattle.adya_values.specs.Meaning.Keys.{key_lt, keys_rise}
+use Rattle.adya_keys.specs.Meaning.Keys.{key_lt, keys_rise}
 use Rattle.adya_values.specs.Meaning.Histories.{Entry, Order, FinalPair}
 use Rattle.adya_values.specs.Mirror.Events.{entry_of}
 use Rattle.adya_values.specs.Meaning.Events.{last, shown}

@@ -4,10 +4,10 @@ use Rattle.std.proofs.Common.{◌≡◌, ℕ, true, ◌⊎◌, List, [], ◌∷�
 use Rattle.std.specs.List.{Contains, filter_map, cons_option}
 use Rattle.lemmas.proofs.Members.{none_contained, Contains-head, Contains-cons, Contains-cases}
 use Rattle.lemmas.proofs.Orderings.{bytes_lt-trans, bytes_lt-apart}
-use Rattle.adya_values.specs.Meaning.Keys.{key_lt, keys_rise}
+use Rattle.adya_keys.specs.Meaning.Keys.{key_lt, keys_rise}
 use Rattle.adya_values.specs.Meaning.Histories.{Entry}
 use Rattle.adya_values.specs.Meaning.KeySets.{insert}
-use Rattle.adya_values.proofs.Keys.{keys_rise-tail}
+use Rattle.adya_keys.proofs.Keys.{keys_rise-tail}
 use Rattle.adya_values.proofs.InsertedKeys.{head_below, Contains-insert, Contains-inserted, insert_rises}
 
 -- ---- the keys of writes

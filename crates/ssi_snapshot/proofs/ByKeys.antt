@@ -3,7 +3,7 @@ use Rattle.std.proofs.Common.{◌≡◌, ◌<◌, ℕ, suc, length, false, if◌
 use Rattle.std.specs.List.{filter_map, cons_option, Contains}
 use Rattle.lemmas.proofs.Members.{Contains-head, Contains-cons, map-source}
 use Rattle.lemmas.proofs.Orderings.{bytes_eq-itself}
-use Rattle.adya_values.specs.Meaning.Keys.{key_eq}
+use Rattle.adya_keys.specs.Meaning.Keys.{key_eq}
 use Rattle.adya_values.specs.Meaning.Histories.{Entry}
 use Rattle.adya_values.specs.Meaning.Events.{listed}
 use Rattle.ssi_versions.specs.Clauses.Conditions.{AreApart}

@@ -9,7 +9,7 @@ use Rattle.std.proofs.lemmas.Bool.{and_parts, and_from}
 use Rattle.lemmas.proofs.Steps.{drop_step}
 use Rattle.lemmas.proofs.Orderings.{bytes_eq-same, bytes_eq-itself}
 use Rattle.adya_values.specs.declared.event.Entry.{Entry as EntryValue}
-use Rattle.adya_values.specs.Meaning.Keys.{key_eq, key_lt, keys_rise, lies_in}
+use Rattle.adya_keys.specs.Meaning.Keys.{key_eq, key_lt, keys_rise, lies_in}
 use Rattle.adya_values.specs.Meaning.Histories.{Entry}
 use Rattle.adya_values.specs.Mirror.Events.{entry_of}
 use Rattle.adya_values.specs.Meaning.Events.{listed}

@@ -10,11 +10,11 @@ use Rattle.std.proofs.lemmas.Cmp.{tied_itself}
 use Rattle.lemmas.proofs.Booleans.{same_test}
 use Rattle.lemmas.proofs.Members.{Contains-head, Contains-cons}
 use Rattle.lemmas.proofs.Orderings.{less_from_is_lt, tied_bytes, bytes_eq-same, bytes_lt-trans}
-use Rattle.adya_values.specs.Meaning.Keys.{key_eq, key_lt, key_le, keys_rise, lies_in}
+use Rattle.adya_keys.specs.Meaning.Keys.{key_eq, key_lt, key_le, keys_rise, lies_in}
 use Rattle.adya_values.specs.Meaning.Histories.{Entry, FinalPair}
 use Rattle.adya_values.specs.Meaning.Events.{last, listed, visible}
 use Rattle.adya_values.specs.Meaning.Serial.{pair, visible_pair_of, visible_pairs}
-use Rattle.adya_values.proofs.Keys.{keys_rise-tail}
+use Rattle.adya_keys.proofs.Keys.{keys_rise-tail}
 use Rattle.adya_values.proofs.KeyLookups.{listed_found}
 use Rattle.ssi_snapshot.specs.Clauses.Listings.{keys, within, IsListing, up_to}
 use Rattle.ssi_snapshot.specs.Meaning.Reached.{key_or, reached}

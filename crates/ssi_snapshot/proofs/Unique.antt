@@ -6,10 +6,10 @@ use Rattle.std.specs.Cmp.Lexicographic.{slice_cmp, nat_list_cmp_total}
 use Rattle.std.proofs.lemmas.Bool.{and_parts, and_from, cases_Bool}
 use Rattle.std.proofs.lemmas.Option.{same_Some, none-some}
 use Rattle.lemmas.proofs.Orderings.{bytes_eq-same, bytes_eq-itself, bytes_eq-other, bytes_lt-trans, bytes_lt-apart, tied_bytes}
-use Rattle.adya_values.specs.Meaning.Keys.{key_eq, key_lt, keys_rise}
+use Rattle.adya_keys.specs.Meaning.Keys.{key_eq, key_lt, keys_rise}
 use Rattle.adya_values.specs.Meaning.Histories.{Entry}
 use Rattle.adya_values.specs.Meaning.Events.{listed}
-use Rattle.adya_values.proofs.Keys.{keys_rise-tail}
+use Rattle.adya_keys.proofs.Keys.{keys_rise-tail}
 use Rattle.ssi_snapshot.specs.Clauses.Listings.{keys}
 
 pub skip : (k j : List ℕ) (ws : List Entry) → key_lt k j ≡ true → keys_rise (j ∷ keys ws) ≡ true → keys_rise (k ∷ keys ws) ≡ true

@@ -2,7 +2,7 @@
 use Rattle.std.proofs.Common.{◌≡◌, ℕ, ◌+◌, ◌≤◌, true, false, if◌then◌else◌, List, [], ◌∷◌, ◌++◌, Some, is_some, refl, ◌∙◌, ap, sym, arith}
 use Rattle.std.proofs.lemmas.Bool.{both_ways}
 use Rattle.lemmas.proofs.Orderings.{bytes_eq-same, bytes_eq-from, bytes_eq-other}
-use Rattle.adya_values.specs.Meaning.Keys.{key_eq}
+use Rattle.adya_keys.specs.Meaning.Keys.{key_eq}
 use Rattle.adya_values.specs.Meaning.Histories.{Entry}
 use Rattle.adya_values.specs.Meaning.Events.{listed}
 use Rattle.ssi_snapshot.specs.Clauses.Writes.{put_write, mod_of}

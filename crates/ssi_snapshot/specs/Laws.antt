@@ -1,7 +1,7 @@
 -- What follows from the definitions.
 use Rattle.std.specs.Prelude.{◌≡◌, ◌<◌, ℕ, if◌then◌else◌, List, [], ◌∷◌, ◌++◌, take, Option, Some, is_some}
 use Rattle.std.specs.List.{filter_map}
-use Rattle.adya_values.specs.Meaning.Keys.{Key, key_eq}
+use Rattle.adya_keys.specs.Meaning.Keys.{Key, key_eq}
 use Rattle.adya_values.specs.Meaning.Histories.{Entry}
 use Rattle.adya_values.specs.Meaning.Events.{listed}
 use Rattle.adya_values.specs.Meaning.Serial.{visible_pairs}

@@ -4,7 +4,7 @@ ghost use Rattle.std.specs.Prelude.{◌≡◌, ℕ, List, Some, None, true, if�
 ghost use Rattle.std.specs.BTreeMap.{values, IsOrdered};
 ghost use Rattle.std.specs.Ordering.{nat_cmp};
 ghost use Rattle.std.specs.Cmp.Lexicographic.{slice_cmp};
-ghost use Rattle.adya_values.specs.Meaning.Keys.{key_eq, lies_in};
+ghost use Rattle.adya_keys.specs.Meaning.Keys.{key_eq, lies_in};
 ghost use Rattle.adya_values.specs.Mirror.Events.{entry_of};
 ghost use Rattle.adya_values.specs.Meaning.Events.{listed};
 ghost use Rattle.ssi_versions.specs.Meaning.Changes.{otherwise, entry_in};

@@ -1,7 +1,7 @@
 //! Views.
 
 ghost use Rattle.std.specs.Prelude.{◌≡◌, ℕ, suc, List, [], ◌+◌, ◌<◌, ◌≤◌, true, map, option_map, OnOk, OnErr, IfOk, is_some};
-ghost use Rattle.adya_values.specs.Meaning.Keys.{key_le};
+ghost use Rattle.adya_keys.specs.Meaning.Keys.{key_le};
 ghost use Rattle.adya_values.specs.Meaning.Histories.{Entry as PlainEntry};
 ghost use Rattle.adya_values.specs.Mirror.Events.{content_of, entry_of};
 ghost use Rattle.adya_values.specs.Meaning.Events.{listed};

@@ -5,7 +5,7 @@ use Rattle.std.proofs.lemmas.Bool.{cases_Bool, cond-false, cond-true, false_from
 use Rattle.std.proofs.lemmas.List.{append-nil}
 use Rattle.indexmap.specs.IndexMap.{insert_entry}
 use Rattle.lemmas.proofs.Options.{none_unless_some, some_value}
-use Rattle.adya_values.specs.Meaning.Keys.{key_eq}
+use Rattle.adya_keys.specs.Meaning.Keys.{key_eq}
 use Rattle.adya_values.specs.Meaning.Histories.{Event}
 use Rattle.ssi_conflict.specs.Computing.Steps.{smallest_ordered_pivot}
 use Rattle.ssi_conflict.specs.Meaning.Calls.{Call, Begins as Enters}

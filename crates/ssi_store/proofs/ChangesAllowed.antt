@@ -6,7 +6,7 @@ use Rattle.std.proofs.lemmas.List.Kept.{AllPairs-cons}
 use Rattle.lemmas.proofs.Filters.{Contains-filter, filter_map-source}
 use Rattle.lemmas.proofs.Members.{All-from_contained, Contains-map}
 use Rattle.adya_values.specs.Meaning.Histories.{Entry}
-use Rattle.adya_values.specs.Meaning.Keys.{key_eq}
+use Rattle.adya_keys.specs.Meaning.Keys.{key_eq}
 use Rattle.ssi_versions.specs.Clauses.Conditions.{AreInstallable, IsProtected, last_installed}
 use Rattle.ssi_store.specs.Meaning.Acts.{Aborts, Act, Collects, Commits, Gets, Scans, Begins, Writes, has_aborted, has_committed, is_open, open_txns, begun}
 use Rattle.ssi_store.specs.Meaning.Seeing.{changed, commit_count, own_keys, own_write, snapshot}

@@ -11,7 +11,7 @@ use Rattle.adya_values.specs.Clauses.Acceptance.{IsChecked}
 use Rattle.adya_values.specs.Meaning.Events.{aborts, is_aborted, is_committed, shown, txn_of}
 use Rattle.adya_values.specs.Clauses.Rules.{has_ended, IsRising, IsWellFormed, final_value}
 use Rattle.adya_values.specs.Meaning.Histories.{Entry, Event, FinalPair}
-use Rattle.adya_values.specs.Meaning.Keys.{key_eq}
+use Rattle.adya_keys.specs.Meaning.Keys.{key_eq}
 use Rattle.adya_values.specs.Meaning.Orders.{installer, value_at, shown_by, writers}
 use Rattle.adya_values.specs.Meaning.Phenomena.{ReadsCommitted}
 use Rattle.adya_values.specs.Meaning.Serial.{visible_pair_of}

@@ -3,7 +3,7 @@ use Rattle.std.proofs.Common.{List, None, Option, Some, ap, arith, cond, true, i
 use Rattle.std.specs.List.{All}
 use Rattle.std.proofs.lemmas.List.Elements.{All-append, All-cons, All-nil}
 use Rattle.indexmap.specs.IndexMap.{shift_remove_entry}
-use Rattle.adya_values.specs.Meaning.Keys.{key_eq}
+use Rattle.adya_keys.specs.Meaning.Keys.{key_eq}
 use Rattle.adya_values.specs.Meaning.Histories.{Entry, Event, Commit as Done}
 use Rattle.adya_values.specs.Meaning.Events.{listed}
 use Rattle.ssi_versions.specs.Mirror.{chain_of, IsAbove}

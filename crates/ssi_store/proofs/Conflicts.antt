@@ -5,13 +5,13 @@ use Rattle.std.proofs.lemmas.Bool.{and_parts, both_ways, cases_Bool, cond-false,
 use Rattle.std.proofs.lemmas.Option.{same_Some}
 use Rattle.lemmas.proofs.Finds.{find-source, find_none}
 use Rattle.lemmas.proofs.Members.{Contains-cases, none_contained}
-use Rattle.adya_values.specs.Meaning.Keys.{key_le, key_lt, keys_rise}
-use Rattle.adya_values.proofs.Keys.{keys_rise-tail}
+use Rattle.adya_keys.specs.Meaning.Keys.{key_le, key_lt, keys_rise}
+use Rattle.adya_keys.proofs.Keys.{keys_rise-tail}
 use Rattle.ssi_store.specs.Meaning.Acts.{Act}
 use Rattle.ssi_store.specs.Meaning.Replies.{conflict, is_overtaken}
 use Rattle.ssi_store.specs.Meaning.Seeing.{keys, wrote}
 use Rattle.ssi_store.specs.Laws.{ConflictIsLeast, IsLeastOvertaken}
-use Rattle.adya_values.proofs.KeyOrder.{key_le-anti, key_le-from_eq, key_le-from_lt}
+use Rattle.adya_keys.proofs.KeyOrder.{key_le-anti, key_le-from_eq, key_le-from_lt}
 use Rattle.adya_values.proofs.InsertedKeys.{head_below}
 use Rattle.ssi_store.proofs.OwnWrites.{keys_of_log_rise, wrote_key}
 

@@ -1,7 +1,7 @@
 -- Abort, and the ends of transactions by an abort.
 use Rattle.std.proofs.Common.{List, None, Option, Some, ap, cond, inl, nat_eq, refl, sym, ◌≡◌, ◌∷◌, ◌++◌, ◌∙◌, ℕ, []}
 use Rattle.indexmap.specs.IndexMap.{shift_remove_entry}
-use Rattle.adya_values.specs.Meaning.Keys.{key_eq}
+use Rattle.adya_keys.specs.Meaning.Keys.{key_eq}
 use Rattle.adya_values.specs.Meaning.Histories.{Event, Abort as Ended}
 use Rattle.ssi_conflict.specs.Computing.Steps.{smallest_ordered_pivot}
 use Rattle.ssi_conflict.specs.Meaning.Calls.{Call, Aborts as Drops}

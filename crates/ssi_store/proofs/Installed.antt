@@ -5,7 +5,7 @@ use Rattle.std.proofs.lemmas.Bool.{both_ways, cases_Bool, cond-false, cond-true}
 use Rattle.lemmas.proofs.Members.{none_contained}
 use Rattle.lemmas.proofs.Orderings.{bytes_eq-from, bytes_eq-same}
 use Rattle.adya_values.specs.Meaning.Histories.{Order}
-use Rattle.adya_values.specs.Meaning.Keys.{key_eq}
+use Rattle.adya_keys.specs.Meaning.Keys.{key_eq}
 use Rattle.adya_values.specs.Meaning.Orders.{line_of, writers}
 use Rattle.adya_values.specs.declared.edition.Edition.{Edition}
 use Rattle.ssi_recorder.specs.Meaning.Recorded.{order_line}

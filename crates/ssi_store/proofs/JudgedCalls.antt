@@ -1,6 +1,6 @@
 -- The tracker may be told of a read or a commit before its answer is known.
 use Rattle.std.proofs.Common.{List, Some, subst, take, true, ℕ, ◌∷◌, ◌≡◌, Bool}
-use Rattle.adya_values.specs.Meaning.Keys.{key_le}
+use Rattle.adya_keys.specs.Meaning.Keys.{key_le}
 use Rattle.std.proofs.lemmas.Option.{none-some, same_Some}
 use Rattle.ssi_conflict.specs.Clauses.Allowed.{AreAllowed}
 use Rattle.ssi_snapshot.specs.Meaning.Reached.{reached}

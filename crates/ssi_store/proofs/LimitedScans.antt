@@ -2,7 +2,7 @@
 use Rattle.std.proofs.Common.{List, None, Option, Some, ap, false, true, if◌then◌else◌, inl, length, nat_le, nat_lt, refl, subst, sym, take, ◌≡◌, ◌∷◌, ◌<◌, ◌==◌, ◌≤◌, ◌∙◌, ℕ, []}
 use Rattle.std.proofs.lemmas.Bool.{cond-false, cond-true, le-leb, lt-leb, lt-ltb}
 use Rattle.adya_values.specs.Meaning.Events.{last}
-use Rattle.adya_values.specs.Meaning.Keys.{key_le, key_lt, lies_in}
+use Rattle.adya_keys.specs.Meaning.Keys.{key_le, key_lt, lies_in}
 use Rattle.adya_values.specs.Meaning.Histories.{Entry, FinalPair, Scan as Listed}
 use Rattle.adya_values.specs.Meaning.Serial.{visible_pairs}
 use Rattle.ssi_conflict.specs.Computing.Steps.{smallest_ordered_pivot}
@@ -22,7 +22,7 @@ use Rattle.ssi_store.specs.Machinery.Opens.{Sessions, open_at, number_of}
 use Rattle.ssi_store.specs.Machinery.Looks.{IsLook}
 use Rattle.ssi_store.specs.declared.open.Open.{Open}
 use Rattle.ssi_store.proofs.Gets.{sees_is}
-use Rattle.adya_values.proofs.KeyOrder.{key_le-from_not}
+use Rattle.adya_keys.proofs.KeyOrder.{key_le-from_not}
 use Rattle.ssi_store.proofs.ReachedKeys.{reached_upward}
 use Rattle.ssi_store.proofs.Scans.{scan_listing, scan_allowed}
 use Rattle.ssi_store.proofs.Steps.{opened, idle, open_of, answer_memory, refused_same}

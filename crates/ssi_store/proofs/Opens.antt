@@ -2,7 +2,7 @@
 use Rattle.std.proofs.Common.{Bool, List, None, Option, Some, ap, cond, false, true, inl, inr, is_some, not, refl, subst, suc, sym, ◌≡◌, ◌∷◌, ◌++◌, ◌==◌, ◌&&◌, ◌∙◌, ℕ, [], if◌then◌else◌}
 use Rattle.std.proofs.lemmas.Bool.{and_left, both_ways, cases_Bool, cond-false, cond-true, eq-eqb, eqb-true, false_from_ne_true, ne_eqb, or_parts}
 use Rattle.lemmas.proofs.Orderings.{bytes_eq-same}
-use Rattle.adya_values.specs.Meaning.Keys.{key_eq}
+use Rattle.adya_keys.specs.Meaning.Keys.{key_eq}
 use Rattle.adya_values.specs.Meaning.Histories.{Content, Entry}
 use Rattle.adya_values.specs.Meaning.Events.{version, entry, listed}
 use Rattle.ssi_snapshot.specs.Clauses.Listings.{keys}

@@ -9,8 +9,8 @@ use Rattle.lemmas.proofs.Members.{Contains-cases, Contains-cons, Contains-head, 
 use Rattle.adya_values.proofs.RisingNumbers.{only_one}
 use Rattle.adya_values.specs.declared.event.Version.{Version}
 use Rattle.adya_values.specs.declared.event.Content.{Content}
-use Rattle.adya_values.proofs.Keys.{keys_rise-tail}
-use Rattle.adya_values.specs.Meaning.Keys.{key_le, key_lt, keys_rise}
+use Rattle.adya_keys.proofs.Keys.{keys_rise-tail}
+use Rattle.adya_keys.specs.Meaning.Keys.{key_le, key_lt, keys_rise}
 use Rattle.ssi_versions.specs.Meaning.Changes.{Held, held, is_installed_above, last_version}
 use Rattle.ssi_versions.specs.Clauses.ByStamp.{newest, is_above}
 use Rattle.ssi_versions.specs.Mirror.{chain_of, write_of}
@@ -22,7 +22,7 @@ use Rattle.ssi_store.specs.Machinery.Below.{Below}
 use Rattle.ssi_store.specs.Machinery.Overtaken.{IsLeast, is_passed, passed_by, key_of, lesser}
 use Rattle.ssi_store.specs.declared.overtaken.Overtaken.{Overtaken}
 use Rattle.ssi_store.proofs.ChangesAllowed.{changed_installable}
-use Rattle.adya_values.proofs.KeyOrder.{key_le-itself, key_le-from_lt, key_le-from_not, key_le-trans, key_lt-from_le_lt, key_lt-never}
+use Rattle.adya_keys.proofs.KeyOrder.{key_le-itself, key_le-from_lt, key_le-from_not, key_le-trans, key_lt-from_le_lt, key_lt-never}
 use Rattle.adya_values.proofs.InsertedKeys.{head_below}
 use Rattle.ssi_store.proofs.OwnWrites.{keys_of_log_rise, own_key_there, own_key_written, wrote_key}
 

@@ -10,7 +10,7 @@ use Rattle.lemmas.proofs.Orderings.{bytes_eq-itself, bytes_eq-same}
 use Rattle.adya_values.specs.Meaning.Events.{entry, listed, version}
 use Rattle.adya_values.specs.Meaning.Histories.{Content, Entry}
 use Rattle.adya_values.specs.Meaning.KeySets.{insert}
-use Rattle.adya_values.specs.Meaning.Keys.{key_eq, keys_rise}
+use Rattle.adya_keys.specs.Meaning.Keys.{key_eq, keys_rise}
 use Rattle.ssi_versions.specs.Meaning.Changes.{contents, entry_in, otherwise, stamped}
 use Rattle.ssi_store.specs.Meaning.Acts.{Aborts, Act, Collects, Commits, Gets, Scans, Begins, Writes}
 use Rattle.ssi_store.specs.Meaning.Seeing.{changed, commit_count, committed, keys, last_writes, own_keys, own_write, write_count, wrote}

@@ -7,15 +7,15 @@ use Rattle.lemmas.proofs.Filters.{filter_map-source}
 use Rattle.lemmas.proofs.Members.{Contains-cons, Contains-head}
 use Rattle.adya_values.specs.Meaning.Events.{last, visible}
 use Rattle.adya_values.specs.Meaning.Histories.{Entry, FinalPair}
-use Rattle.adya_values.specs.Meaning.Keys.{key_le, key_lt, keys_rise, lies_in}
+use Rattle.adya_keys.specs.Meaning.Keys.{key_le, key_lt, keys_rise, lies_in}
 use Rattle.adya_values.specs.Meaning.Serial.{visible_pair_of, visible_pairs}
-use Rattle.adya_values.proofs.Keys.{keys_rise-tail}
+use Rattle.adya_keys.proofs.Keys.{keys_rise-tail}
 use Rattle.adya_values.proofs.Writes.{last_contained}
 use Rattle.ssi_snapshot.specs.Meaning.Reached.{key_or, reached}
 use Rattle.ssi_store.specs.Meaning.Acts.{Act}
 use Rattle.ssi_store.specs.Meaning.Replies.{rows}
 use Rattle.ssi_store.specs.Meaning.Seeing.{keys, scanned, sees}
-use Rattle.adya_values.proofs.KeyOrder.{key_le-from_eq, key_le-from_lt, key_le-itself, key_le-trans, key_lt-from_le_lt, key_lt-never}
+use Rattle.adya_keys.proofs.KeyOrder.{key_le-from_eq, key_le-from_lt, key_le-itself, key_le-trans, key_lt-from_le_lt, key_lt-never}
 use Rattle.ssi_store.proofs.Lists.{Contains-take, filter_map_same, last_of_some, take_all}
 use Rattle.adya_values.proofs.InsertedKeys.{head_below}
 use Rattle.ssi_store.proofs.Rules.{scanned_source}

@@ -8,7 +8,7 @@ use Rattle.std.proofs.lemmas.List.Folds.{list_any-append}
 use Rattle.lemmas.proofs.Orderings.{bytes_eq-same}
 use Rattle.adya_values.specs.Meaning.Events.{aborts, commits, entry, is_committed, last, last_write, version, writes_of, written, commit_of}
 use Rattle.adya_values.specs.Meaning.Histories.{Abort, Commit, Content, Dead, Delete, Entry, Event, Live, Read, Scan, Write}
-use Rattle.adya_values.specs.Meaning.Keys.{key_eq}
+use Rattle.adya_keys.specs.Meaning.Keys.{key_eq}
 use Rattle.adya_values.specs.declared.event.Version.{Version}
 use Rattle.ssi_store.specs.Meaning.Acts.{Aborts, Act, Collects, Commits, Gets, Scans, Begins, Writes, has_aborted, has_committed}
 use Rattle.ssi_store.specs.Meaning.Recording.{events, get_event, get_found, write_event}

@@ -7,7 +7,7 @@ use Rattle.lemmas.proofs.Members.{Contains-cons, Contains-head}
 use Rattle.adya_values.specs.Computing.Shapes.{numbers_rise}
 use Rattle.adya_values.specs.Meaning.Events.{shown, visible}
 use Rattle.adya_values.specs.Meaning.Histories.{Content, Dead, Entry, Event, FinalPair, Live}
-use Rattle.adya_values.specs.Meaning.Keys.{key_lt}
+use Rattle.adya_keys.specs.Meaning.Keys.{key_lt}
 use Rattle.adya_values.specs.Meaning.Serial.{visible_pair_of, visible_pairs}
 use Rattle.ssi_versions.specs.Meaning.Changes.{held_count, key_count}
 use Rattle.ssi_conflict.specs.Meaning.Calls.{Call}

@@ -7,8 +7,8 @@ use Rattle.lemmas.proofs.Members.{map-source, none_contained}
 use Rattle.lemmas.proofs.Orderings.{bytes_eq-from, bytes_eq-same}
 use Rattle.adya_values.specs.Meaning.Events.{listed}
 use Rattle.adya_values.specs.Meaning.Histories.{Entry}
-use Rattle.adya_values.specs.Meaning.Keys.{key_eq, key_lt, keys_rise}
-use Rattle.adya_values.proofs.Keys.{keys_rise-tail}
+use Rattle.adya_keys.specs.Meaning.Keys.{key_eq, key_lt, keys_rise}
+use Rattle.adya_keys.proofs.Keys.{keys_rise-tail}
 use Rattle.adya_values.proofs.InsertedKeys.{head_below, rises_with_head}
 
 rises_step : {Y : Type 0} (key : Y → List ℕ) (f : List ℕ → Option Y)

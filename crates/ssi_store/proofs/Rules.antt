@@ -11,14 +11,14 @@ use Rattle.adya_values.proofs.RisingNumbers.{only_one}
 use Rattle.lemmas.proofs.Orderings.{bytes_eq-itself, bytes_eq-same}
 use Rattle.adya_values.specs.Meaning.Events.{entry, last_write, listed, observed, txn_of, writes_of, written}
 use Rattle.adya_values.specs.Meaning.Histories.{Abort, Commit, Content, Dead, Delete, Entry, Event, Live, Read, Scan, Write}
-use Rattle.adya_values.specs.Meaning.Keys.{key_eq, key_le, lies_in}
+use Rattle.adya_keys.specs.Meaning.Keys.{key_eq, key_le, lies_in}
 use Rattle.adya_values.specs.Clauses.Rules.{EachAfter, IsNumbered, IsOpen, IsRising, ListsOnly, SeesOwnWrites, WasWritten}
 use Rattle.adya_values.proofs.KeyLookups.{listed_from}
 use Rattle.ssi_versions.specs.Meaning.Changes.{otherwise}
 use Rattle.ssi_store.specs.Meaning.Acts.{Aborts, Act, Collects, Commits, Gets, Scans, Begins, Writes, has_committed, has_begun}
 use Rattle.ssi_store.specs.Meaning.Recording.{events, get_event, get_found, recorded, write_event}
 use Rattle.ssi_store.specs.Meaning.Seeing.{commit_count, committed, keys, own_write, scanned, sees, snapshot, write_count, wrote}
-use Rattle.adya_values.proofs.KeyOrder.{key_le-itself, lies_in-itself}
+use Rattle.adya_keys.proofs.KeyOrder.{key_le-itself, lies_in-itself}
 use Rattle.ssi_store.proofs.Lists.{option_cases}
 use Rattle.ssi_store.proofs.Recorded.{aborted_events, committed_events, count_of_events, made, of_get, of_write, own_of_events, versions, versions_of_events, written_write}
 use Rattle.ssi_store.proofs.SeenByEvents.{all_seen, get_shows, get_txn, otherwise_cases, scanned_is, scanned_rises, sees_is, shows, begun_stays}

@@ -3,7 +3,7 @@ use Rattle.std.specs.List.{Contains}
 use Rattle.std.proofs.Common.{List, None, Option, Some, ap, false, true, if◌then◌else◌, inl, inr, nat_le, refl, subst, sym, ◌≡◌, ◌⊎◌, ◌∷◌, ◌<◌, ◌≤◌, ◌∙◌, ℕ, []}
 use Rattle.std.proofs.lemmas.Bool.{cases_Bool, cond-false, cond-true, le-leb, lt-leb}
 use Rattle.std.proofs.lemmas.Option.{none-some}
-use Rattle.adya_values.specs.Meaning.Keys.{key_le, key_lt, lies_in}
+use Rattle.adya_keys.specs.Meaning.Keys.{key_le, key_lt, lies_in}
 use Rattle.adya_values.specs.Meaning.Histories.{Entry, FinalPair, Scan as Listed}
 use Rattle.adya_values.specs.Meaning.Serial.{visible_pairs}
 use Rattle.ssi_conflict.specs.Computing.Steps.{smallest_ordered_pivot}
@@ -22,7 +22,7 @@ use Rattle.ssi_store.specs.Machinery.Looks.{IsLook}
 use Rattle.ssi_store.specs.Machinery.Opens.{Sessions, open_at, number_of}
 use Rattle.ssi_store.specs.declared.open.Open.{Open}
 use Rattle.ssi_store.proofs.Gets.{sees_is}
-use Rattle.adya_values.proofs.KeyOrder.{key_le-from_not}
+use Rattle.adya_keys.proofs.KeyOrder.{key_le-from_not}
 use Rattle.ssi_store.proofs.Lists.{option_cases}
 use Rattle.ssi_store.proofs.RisingKeys.{listed_made, made_rises}
 use Rattle.ssi_store.proofs.SeenByEvents.{sees_is as seen_key}

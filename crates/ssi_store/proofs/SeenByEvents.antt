@@ -9,12 +9,12 @@ use Rattle.adya_values.proofs.RisingNumbers.{only_one}
 use Rattle.lemmas.proofs.Orderings.{bytes_eq-from, bytes_eq-itself, bytes_eq-same}
 use Rattle.adya_values.specs.Meaning.Events.{entry, listed, txn_of}
 use Rattle.adya_values.specs.Meaning.Histories.{Abort, Commit, Content, Dead, Delete, Entry, Event, Live, Read, Scan, Write}
-use Rattle.adya_values.specs.Meaning.Keys.{key_eq, keys_rise, lies_in}
+use Rattle.adya_keys.specs.Meaning.Keys.{key_eq, keys_rise, lies_in}
 use Rattle.ssi_versions.specs.Meaning.Changes.{otherwise}
 use Rattle.ssi_store.specs.Meaning.Acts.{Aborts, Act, Collects, Commits, Gets, Scans, Begins, Writes, has_begun}
 use Rattle.ssi_store.specs.Meaning.Recording.{events, get_event, get_found, recorded}
 use Rattle.ssi_store.specs.Meaning.Seeing.{commit_count, committed, keys, own_write, scanned, sees, snapshot, write_count, wrote}
-use Rattle.adya_values.proofs.KeyOrder.{lies_in-one}
+use Rattle.adya_keys.proofs.KeyOrder.{lies_in-one}
 use Rattle.ssi_store.proofs.Lists.{option_cases}
 use Rattle.ssi_store.proofs.Recorded.{of_write}
 use Rattle.adya_values.proofs.InsertedKeys.{Contains-inserted}

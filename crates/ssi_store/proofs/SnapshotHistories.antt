@@ -8,7 +8,7 @@ use Rattle.adya_values.specs.Clauses.Acceptance.{IsChecked}
 use Rattle.adya_values.specs.Meaning.Edges.{Depends, DependsByOverwrite, Edge, Kind, Rw, Wr, Ww}
 use Rattle.adya_values.specs.Meaning.Events.{entry, is_committed, listed, txn_of}
 use Rattle.adya_values.specs.Meaning.Histories.{Abort, Commit, Delete, Entry, Event, History, Live, Read, Scan, Write}
-use Rattle.adya_values.specs.Meaning.Keys.{key_eq, lies_in}
+use Rattle.adya_keys.specs.Meaning.Keys.{key_eq, lies_in}
 use Rattle.adya_values.specs.Meaning.Orders.{installer, place, writers}
 use Rattle.adya_values.specs.Meaning.Selections.{place_of, selected}
 use Rattle.adya_values.specs.declared.edition.Edition.{Edition}

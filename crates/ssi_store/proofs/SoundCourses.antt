@@ -5,7 +5,7 @@ use Rattle.std.proofs.lemmas.Option.{none-some, same_Some}
 use Rattle.lemmas.proofs.Orderings.{bytes_eq-from, bytes_eq-itself, bytes_eq-other, bytes_eq-same}
 use Rattle.adya_values.specs.Meaning.Events.{shown}
 use Rattle.adya_values.specs.Meaning.Histories.{Dead, FinalPair, Live}
-use Rattle.adya_values.specs.Meaning.Keys.{key_eq, key_le, key_lt}
+use Rattle.adya_keys.specs.Meaning.Keys.{key_eq, key_le, key_lt}
 use Rattle.ssi_conflict.specs.Meaning.Calls.{Call}
 use Rattle.ssi_snapshot.specs.Meaning.Reached.{reached}
 use Rattle.ssi_store.specs.Meaning.Acts.{Aborts, Act, Collects, Commits, Gets, Scans, Begins, Writes, act_by, act_of, acts, has_aborted, has_committed, has_begun, is_open, operations}
@@ -15,7 +15,7 @@ use Rattle.ssi_store.specs.Clauses.Following.{Follows}
 use Rattle.ssi_store.specs.Meaning.Seeing.{sees}
 use Rattle.ssi_store.specs.Meaning.Tracked.{tracked}
 use Rattle.ssi_store.proofs.Closing.{open_to}
-use Rattle.adya_values.proofs.KeyOrder.{key_le-from_not}
+use Rattle.adya_keys.proofs.KeyOrder.{key_le-from_not}
 use Rattle.ssi_store.proofs.ReachedKeys.{reached_upward}
 use Rattle.ssi_store.proofs.Recorded.{versions}
 use Rattle.ssi_store.proofs.SoundLogs.{Allowed, Safe, SafeAct, Sound, aborted_begun, committed_begun, open_from}

@@ -5,7 +5,7 @@ use Rattle.std.proofs.lemmas.Bool.{and_parts, both_ways, cases_Bool, cond-false,
 use Rattle.std.proofs.lemmas.List.Elements.{Contains-append_left, Contains-append_right}
 use Rattle.std.proofs.lemmas.Option.{none-some, same_Some}
 use Rattle.lemmas.proofs.Members.{Contains-head}
-use Rattle.adya_values.specs.Meaning.Keys.{key_eq, key_le, lies_in}
+use Rattle.adya_keys.specs.Meaning.Keys.{key_eq, key_le, lies_in}
 use Rattle.ssi_conflict.specs.Meaning.Calls.{Call}
 use Rattle.ssi_store.specs.Meaning.Acts.{Aborts, Act, Collects, Commits, Gets, Scans, Begins, Writes, has_aborted, has_committed, has_begun, is_open, begun}
 use Rattle.ssi_store.specs.Meaning.Replies.{conflict}

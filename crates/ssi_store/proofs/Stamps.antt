@@ -6,7 +6,7 @@ use Rattle.lemmas.proofs.Counts.{count, count-append, count_other, count_same}
 use Rattle.lemmas.proofs.Finds.{find_none}
 use Rattle.adya_values.specs.Meaning.Events.{listed}
 use Rattle.adya_values.specs.Meaning.Histories.{Entry}
-use Rattle.adya_values.specs.Meaning.Keys.{key_eq}
+use Rattle.adya_keys.specs.Meaning.Keys.{key_eq}
 use Rattle.adya_values.specs.Meaning.Orders.{place}
 use Rattle.adya_values.specs.declared.edition.Edition.{Edition}
 use Rattle.adya_values.proofs.Places.{place_at, place_other, place_same}

@@ -4,7 +4,7 @@ use Rattle.std.specs.Option.{option_map}
 use Rattle.std.proofs.lemmas.Bool.{both_ways, cases_Bool, cond-false, cond-true}
 use Rattle.std.proofs.lemmas.Option.{same_Some}
 use Rattle.lemmas.proofs.Orderings.{bytes_eq-from, bytes_eq-same}
-use Rattle.adya_values.specs.Meaning.Keys.{key_eq}
+use Rattle.adya_keys.specs.Meaning.Keys.{key_eq}
 use Rattle.ssi_conflict.specs.Computing.Steps.{smallest_ordered_pivot}
 use Rattle.ssi_store.specs.Meaning.Acts.{Act, acts, act_by, act_of}
 use Rattle.ssi_store.specs.Meaning.Courses.{Command, Command as Do, Answer, Refused, Refusal, Course, Then, is_of, txn_in, txn_after, txn_for, next_txn}

@@ -5,13 +5,13 @@ use Rattle.std.proofs.lemmas.Bool.{and_left, and_parts, and_right, both_ways, ca
 use Rattle.std.proofs.lemmas.List.Elements.{Contains-get_or}
 use Rattle.std.proofs.lemmas.List.Quantifiers.{all_pairs_push}
 use Rattle.lemmas.proofs.Orderings.{bytes_eq-from, bytes_eq-other, bytes_eq-same}
-use Rattle.adya_values.specs.Meaning.Keys.{key_eq, lies_in}
+use Rattle.adya_keys.specs.Meaning.Keys.{key_eq, lies_in}
 use Rattle.ssi_conflict.specs.Meaning.Calls.{begun as told_begun, has_begun as has_told_begun, is_aborted, is_committed as committed_told, is_open as open_told, keys_of, meets, snapshot_of, stamp_of}
 use Rattle.ssi_conflict.specs.Clauses.Allowed.{AreAllowed, MayCommit, last_stamp}
 use Rattle.ssi_store.specs.Meaning.Acts.{Aborts, Act, Collects, Commits, Gets, Scans, Begins, Writes, has_aborted, has_committed, has_begun, is_open, begun}
 use Rattle.ssi_store.specs.Meaning.Seeing.{commit_count, own_keys, snapshot, wrote}
 use Rattle.ssi_store.specs.Meaning.Tracked.{tracked}
-use Rattle.adya_values.proofs.KeyOrder.{key_le-itself, lies_in-itself, lies_in-one}
+use Rattle.adya_keys.proofs.KeyOrder.{key_le-itself, lies_in-itself, lies_in-one}
 use Rattle.ssi_store.proofs.SoundLogs.{Sound, has_read, not_open, stamp}
 use Rattle.ssi_store.proofs.OwnWrites.{own_key_there, own_key_written}
 

@@ -5,7 +5,7 @@ use Rattle.std.proofs.lemmas.Option.{none-some}
 use Rattle.adya_values.specs.Computing.Shapes.{numbers_rise}
 use Rattle.adya_values.specs.Meaning.Events.{shown}
 use Rattle.adya_values.specs.Meaning.Histories.{FinalPair}
-use Rattle.adya_values.specs.Meaning.Keys.{key_le, key_lt}
+use Rattle.adya_keys.specs.Meaning.Keys.{key_le, key_lt}
 use Rattle.ssi_conflict.specs.Computing.Steps.{smallest_ordered_pivot, smallest_pivot}
 use Rattle.ssi_conflict.specs.Meaning.Calls.{Call}
 use Rattle.ssi_conflict.specs.Clauses.Pairs.{IsSmallest}
@@ -17,7 +17,7 @@ use Rattle.ssi_store.specs.Meaning.Replies.{conflict, got, reply, reply_for, rep
 use Rattle.ssi_store.specs.Clauses.Following.{Follows}
 use Rattle.ssi_store.specs.Meaning.Seeing.{sees}
 use Rattle.ssi_store.specs.Meaning.Tracked.{tracked}
-use Rattle.adya_values.proofs.KeyOrder.{key_le-from_not}
+use Rattle.adya_keys.proofs.KeyOrder.{key_le-from_not}
 use Rattle.ssi_store.proofs.ReachedKeys.{reached_upward}
 use Rattle.ssi_store.proofs.PivotRules.{IsRule, ordered_names_earlier}
 use Rattle.ssi_store.proofs.SoundLogs.{Sound}

@@ -5,7 +5,7 @@ use Rattle.lemmas.proofs.Finds.{find_agree}
 use Rattle.adya_values.specs.Meaning.Events.{entry, listed, shown, version}
 use Rattle.adya_values.specs.Meaning.Histories.{FinalPair}
 use Rattle.adya_values.specs.Meaning.KeySets.{insert}
-use Rattle.adya_values.specs.Meaning.Keys.{key_eq, lies_in}
+use Rattle.adya_keys.specs.Meaning.Keys.{key_eq, lies_in}
 use Rattle.adya_values.specs.Meaning.Serial.{visible_pairs}
 use Rattle.ssi_versions.specs.Meaning.Changes.{contents, entry_in, is_installed_above, last_version, otherwise, stamped}
 use Rattle.ssi_conflict.specs.Meaning.Calls.{Aborts as Drops, Begins as Enters, Call, Commits as Ends, Reads}

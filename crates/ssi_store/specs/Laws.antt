@@ -2,7 +2,7 @@
 use Rattle.std.specs.Prelude.{◌≡◌, ℕ, ◌≤◌, Bool, true, false, List, [], ◌∷◌, take, Option, Some, None, ◌↔◌, ◌<◌, if◌then◌else◌, length, map}
 use Rattle.ssi_conflict.specs.Meaning.Kept.{open_count}
 use Rattle.adya_values.specs.Meaning.Events.{listed}
-use Rattle.adya_values.specs.Meaning.Keys.{Key, Bytes, key_le, keys_rise, lies_in}
+use Rattle.adya_keys.specs.Meaning.Keys.{Key, Bytes, key_le, keys_rise, lies_in}
 use Rattle.adya_values.specs.Meaning.Histories.{Entry}
 use Rattle.adya_values.specs.Computing.Shapes.{numbers_rise}
 use Rattle.ssi_conflict.specs.Meaning.Calls.{Call}

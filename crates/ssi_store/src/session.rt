@@ -7,7 +7,7 @@ ghost use Rattle.std.specs.Cmp.Rules.{hashing};
 ghost use Rattle.std.specs.Hash as fed;
 ghost use Rattle.std.proofs.Common.{rules};
 ghost use Rattle.std.specs.List.{list_all};
-ghost use Rattle.adya_values.specs.Machinery.Padded.{padded as with_zeros};
+ghost use Rattle.adya_keys.specs.Machinery.Padded.{padded as with_zeros};
 ghost use Rattle.ssi_store.specs.Meaning.Sessions.{is_session, is_session_byte};
 
 use std::hash::{Hash, Hasher};
@@ -25,7 +25,7 @@ pub struct Session {
 
 impl Model for Session {
     ghost use Rattle.std.specs.Prelude.{ℕ, List, length, take};
-    ghost use Rattle.adya_values.specs.Machinery.Padded.{IsText, padded, padded_back};
+    ghost use Rattle.adya_keys.specs.Machinery.Padded.{IsText, padded, padded_back};
     ghost use Rattle.ssi_store.specs.Meaning.Sessions.{is_session};
 
     ghost Value = { List ℕ };

@@ -2,7 +2,7 @@
 
 ghost use Rattle.std.specs.Prelude.{◌≡◌, ◌<◌, ◌≤◌, ◌+◌, List, ℕ, Some, None, cond, is_some, if◌then◌else◌, IfSome, IfOk, IfErr};
 ghost use Rattle.indexmap.specs.IndexMap.{index_map_len, spare};
-ghost use Rattle.adya_values.specs.Meaning.Keys.{key_eq};
+ghost use Rattle.adya_keys.specs.Meaning.Keys.{key_eq};
 ghost use Rattle.ssi_store.specs.Machinery.Opens.{open_at, AreCounted, IsReplaced};
 ghost use Rattle.ssi_store.specs.declared.command.Refusal.TheVariants.{Idle};
 

@@ -7,7 +7,7 @@ use Rattle.std.proofs.lemmas.List.{length-append}
 use Rattle.std.proofs.lemmas.List.Elements.{filter_agree}
 use Rattle.lemmas.proofs.Members.{none_contained, Contains-head, Contains-cons, Contains-cases}
 use Rattle.lemmas.proofs.Filters.{filter-source, Contains-filter}
-use Rattle.adya_values.specs.Meaning.Keys.{key_eq}
+use Rattle.adya_keys.specs.Meaning.Keys.{key_eq}
 use Rattle.ssi_versions.specs.Meaning.Changes.{Change, Held, held, held_count, key_count, installed_keys}
 use Rattle.ssi_versions.specs.Mirror.{is_of, chain_of, key_total}
 use Rattle.ssi_versions.specs.Laws.Counts.{Holds}

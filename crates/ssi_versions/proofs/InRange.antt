@@ -16,7 +16,7 @@ use Rattle.std.proofs.lemmas.Map.{lookup-none}
 use Rattle.std.proofs.lemmas.Option.{same_Some}
 use Rattle.std.proofs.lemmas.Map.Keys.{IsDistinct-tail, IsDistinct-from_sorted}
 use Rattle.std.proofs.lemmas.Map.Entries.{none_past_head}
-use Rattle.adya_values.specs.Meaning.Keys.{key_eq, key_le, keys_rise, lies_in}
+use Rattle.adya_keys.specs.Meaning.Keys.{key_eq, key_le, keys_rise, lies_in}
 use Rattle.ssi_versions.specs.Meaning.Changes.{Held, otherwise}
 use Rattle.ssi_versions.specs.Clauses.ByStamp.{newest_within}
 use Rattle.ssi_versions.specs.Mirror.{is_of, chain_of, found_in, key_in}

@@ -4,10 +4,10 @@ use Rattle.std.specs.List.{AllPairs, Contains, filter}
 use Rattle.std.proofs.lemmas.Bool.{cases_Bool}
 use Rattle.std.proofs.lemmas.List.Elements.{Contains-get_or}
 use Rattle.lemmas.proofs.Orderings.{bytes_eq-same}
-use Rattle.adya_values.specs.Meaning.Keys.{key_eq, keys_rise}
+use Rattle.adya_keys.specs.Meaning.Keys.{key_eq, keys_rise}
 use Rattle.adya_values.specs.Meaning.Histories.{Entry}
 use Rattle.adya_values.specs.Meaning.Events.{listed}
-use Rattle.adya_values.proofs.Keys.{keys_rise-tail, rises_other}
+use Rattle.adya_keys.proofs.Keys.{keys_rise-tail, rises_other}
 use Rattle.adya_values.proofs.InsertedKeys.{Contains-insert, Contains-inserted, insert_rises}
 use Rattle.adya_values.specs.Meaning.KeySets.{insert}
 use Rattle.ssi_versions.specs.Meaning.Changes.{Change, Installs, Collects, held, insert_keys, installed_keys, is_needed, listing, stamped}

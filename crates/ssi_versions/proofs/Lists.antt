@@ -3,7 +3,7 @@ use Rattle.std.proofs.Common.{◌≡◌, ◌⊎◌, inl, inr, zero, suc, ℕ, �
 use Rattle.std.specs.List.{filter, list_all, list_any, AllWithin, AllPairs, Contains}
 use Rattle.lemmas.proofs.Members.{Contains-cons, Contains-head}
 use Rattle.std.proofs.lemmas.List.Elements.{AllWithin-more}
-use Rattle.adya_values.specs.Meaning.Keys.{is_key, is_key_byte}
+use Rattle.adya_keys.specs.Meaning.Keys.{is_key, is_key_byte}
 use Rattle.std.proofs.lemmas.Bool.{and_parts, and_from, lt-ltb, ltb-true, le-ltb, leb-true, leb-false, lt-leb, ne_eqb}
 use Rattle.std.proofs.lemmas.List.{drop_more, take-append-drop, get_or_default}
 

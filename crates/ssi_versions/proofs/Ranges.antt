@@ -7,7 +7,7 @@ use Rattle.std.specs.Ordering.{nat_cmp, match_ordering, is_eq, is_lt}
 use Rattle.std.specs.List.Sorted.{IsStrictlySortedBy}
 use Rattle.std.specs.Cmp.Lexicographic.{slice_cmp, texts_ties, same_text, nat_list_eq_equiv}
 use Rattle.std.proofs.lemmas.Bool.{and_parts, and_from}
-use Rattle.adya_values.specs.Meaning.Keys.{key_eq, key_lt, keys_rise, lies_in}
+use Rattle.adya_keys.specs.Meaning.Keys.{key_eq, key_lt, keys_rise, lies_in}
 use Rattle.ssi_versions.specs.Meaning.Changes.{Held, otherwise}
 use Rattle.ssi_versions.specs.Clauses.ByStamp.{newest_within}
 use Rattle.ssi_versions.specs.declared.held.Held.{Held as HeldValue}

@@ -3,7 +3,7 @@ use Rattle.std.specs.Prelude.{◌<◌, ℕ, suc, Bool, if◌then◌else◌, List
 use Rattle.std.specs.List.{list_any, All}
 use Rattle.adya_values.specs.declared.event.Version.{Version}
 use Rattle.adya_values.specs.declared.event.Content.{Content}
-use Rattle.adya_values.specs.Meaning.Keys.{Key, key_eq}
+use Rattle.adya_keys.specs.Meaning.Keys.{Key, key_eq}
 use Rattle.adya_values.specs.Meaning.Histories.{Entry}
 use Rattle.adya_values.specs.Mirror.Events.{content_of}
 use Rattle.adya_values.specs.Meaning.Events.{entry}

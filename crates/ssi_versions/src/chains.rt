@@ -1,7 +1,7 @@
 //! What a store of versions promises, however it keeps them.
 
 ghost use Rattle.std.specs.Prelude.{◌≡◌, ◌++◌, ℕ, List, None, if◌then◌else◌, true, length, map, filter, option_map, OnOk, OnErr, IfOk};
-ghost use Rattle.adya_values.specs.Meaning.Keys.{key_le, keys_rise, lies_in};
+ghost use Rattle.adya_keys.specs.Meaning.Keys.{key_le, keys_rise, lies_in};
 ghost use Rattle.adya_values.specs.Meaning.Events.{listed};
 ghost use Rattle.ssi_versions.specs.Meaning.Changes.{Held as HeldVersion, listing, stamped};
 ghost use Rattle.ssi_versions.specs.Clauses.ByStamp.{newest, newest_within, IsByStamp, is_wanted};

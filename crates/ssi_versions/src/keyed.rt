@@ -7,7 +7,7 @@ ghost use Rattle.std.specs.BTreeMap.Range.{entries_between};
 ghost use Rattle.std.specs.declared.ops.Bound.TheVariants.{Included};
 ghost use Rattle.std.specs.Ordering.{nat_cmp};
 ghost use Rattle.std.specs.Cmp.Lexicographic.{slice_cmp};
-ghost use Rattle.adya_values.specs.Meaning.Keys.{key_eq, key_le};
+ghost use Rattle.adya_keys.specs.Meaning.Keys.{key_eq, key_le};
 ghost use Rattle.ssi_versions.specs.Clauses.ByStamp.{newest, newest_within, IsByStamp};
 ghost use Rattle.ssi_versions.specs.Clauses.Conditions.{AreApart};
 ghost use Rattle.ssi_versions.specs.Mirror.{held_of, write_of, chain_of};

@@ -9,7 +9,7 @@ ghost use Rattle.std.specs.Map.{lookup};
 ghost use Rattle.std.specs.BTreeMap.{is_at, values, IsOrdered};
 ghost use Rattle.std.specs.Ordering.{nat_cmp};
 ghost use Rattle.std.specs.Cmp.Lexicographic.{slice_cmp};
-ghost use Rattle.adya_values.specs.Meaning.Keys.{key_le, keys_rise, lies_in};
+ghost use Rattle.adya_keys.specs.Meaning.Keys.{key_le, keys_rise, lies_in};
 ghost use Rattle.ssi_versions.specs.Clauses.ByStamp.{newest, newest_within, IsByStamp};
 ghost use Rattle.ssi_versions.specs.Mirror.{held_of, write_of, chain_of, found_in, key_in, key_total, is_of};
 ghost use Rattle.ssi_versions.specs.Computing.Kept.{is_kept_before, next_stamp, kept_in};

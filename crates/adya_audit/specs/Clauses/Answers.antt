@@ -1,6 +1,6 @@
 -- The answers of a search for a certificate.
 use Rattle.std.specs.Prelude.{◌≡◌, List, map}
-use Rattle.adya_values.specs.Meaning.Keys.{Bytes}
+use Rattle.adya_keys.specs.Meaning.Keys.{Bytes}
 use Rattle.adya_values.specs.Mirror.Histories.{serial_txns}
 use Rattle.adya_values.specs.Meaning.Histories.{Txns, History}
 use Rattle.adya_values.specs.Meaning.Edges.{Edge, IsCycle}

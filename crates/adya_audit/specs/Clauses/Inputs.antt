@@ -2,7 +2,7 @@
 use Rattle.std.specs.Prelude.{Option, IfSome}
 use Rattle.devices.specs.declared.watched.Watched.{Watched}
 use Rattle.devices.specs.Mirror.{watched_remaining}
-use Rattle.adya_values.specs.Meaning.Keys.{Bytes}
+use Rattle.adya_keys.specs.Meaning.Keys.{Bytes}
 
 -- this holds of the text that the device holds
 abbrev pub OnText : {D : Type 0} → (D → Option Bytes) → Watched D → (Bytes → Type 0) → Type 0

@@ -2,7 +2,7 @@
 use Rattle.std.specs.Prelude.{List, ◌++◌, length, flat_map, decimal, codes}
 use Rattle.adya_values.specs.declared.fault.Rule.{Rule}
 use Rattle.adya_values.specs.declared.fault.Rule.TheVariants.{M1, M2, M3, M4, M5, M6, M7, M8}
-use Rattle.adya_values.specs.Meaning.Keys.{Bytes}
+use Rattle.adya_keys.specs.Meaning.Keys.{Bytes}
 use Rattle.adya_values.specs.Meaning.Edges.{Kind, Ww, Wr, Rw, Edge}
 use Rattle.adya_line.specs.Meaning.Spelling.{version_text}
 use Rattle.adya_text.specs.declared.read_fault.Text.{Text}

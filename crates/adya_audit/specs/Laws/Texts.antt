@@ -1,6 +1,6 @@
 -- What a yes on texts implies.
 use Rattle.std.specs.Prelude.{◌≡◌, ◌↔◌}
-use Rattle.adya_values.specs.Meaning.Keys.{Bytes}
+use Rattle.adya_keys.specs.Meaning.Keys.{Bytes}
 use Rattle.adya_values.specs.Meaning.Histories.{Txns, History}
 use Rattle.adya_values.specs.Clauses.Acceptance.{IsAccepted}
 use Rattle.adya_text.specs.Meaning.Texts.{IsHistory, history_text, serial_text}

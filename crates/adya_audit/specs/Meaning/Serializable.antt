@@ -3,7 +3,7 @@ use Rattle.std.specs.Prelude.{◌≡◌}
 use Rattle.adya_values.specs.Meaning.Histories.{Txns, History}
 use Rattle.adya_values.specs.Meaning.Phenomena.{HasG1, HasG2}
 use Rattle.adya_values.specs.Meaning.Serial.{Agrees}
-use Rattle.adya_values.specs.Meaning.Keys.{Bytes}
+use Rattle.adya_keys.specs.Meaning.Keys.{Bytes}
 use Rattle.adya_text.specs.Meaning.Texts.{IsHistory, IsSerial, history_text, serial_text}
 
 -- the history has neither G1 nor G2, and its committed transactions, run serially in this order, give all reads and

@@ -2,9 +2,9 @@
 use Rattle.std.specs.Prelude.{ℕ, ◌<◌, length}
 use Rattle.adya_values.specs.declared.events.Events.{Events}
 use Rattle.adya_values.specs.declared.seen.Seen.{Seen}
-use Rattle.adya_values.specs.Machinery.Seen.{key_at}
+use Rattle.adya_keys.specs.Machinery.Within.{key_at}
 use Rattle.adya_values.specs.Meaning.Histories.{Entry, History}
-use Rattle.adya_values.specs.Meaning.Keys.{Key}
+use Rattle.adya_keys.specs.Meaning.Keys.{Key}
 use Rattle.adya_values.specs.Mirror.Numbers.{keys_of, seen_entry}
 use Rattle.adya_terms.specs.Clauses.Checked.{checked_history}
 use Rattle.adya_dsg.specs.declared.version_orders.VersionOrders.{VersionOrders}

@@ -1,7 +1,7 @@
 -- The lines of a history text, by their kind.
 use Rattle.std.specs.Prelude.{ℕ}
 use Rattle.adya_values.specs.declared.edition.Edition.{Edition}
-use Rattle.adya_values.specs.Meaning.Keys.{Bytes, IsTxn}
+use Rattle.adya_keys.specs.Meaning.Keys.{Bytes, IsTxn}
 use Rattle.adya_values.specs.Meaning.Histories.{Event, Order, FinalPair}
 use Rattle.adya_values.specs.Mirror.Events.{order_of, final_of}
 use Rattle.adya_line.specs.Meaning.Spelling.{head_text, tail, event_text, unfinished_text, order_text, final_text}

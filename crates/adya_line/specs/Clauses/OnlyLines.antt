@@ -1,6 +1,6 @@
 -- Texts that are those of one line alone.
 use Rattle.std.specs.Prelude.{◌≡◌}
-use Rattle.adya_values.specs.Meaning.Keys.{Bytes}
+use Rattle.adya_keys.specs.Meaning.Keys.{Bytes}
 use Rattle.adya_line.specs.Meaning.Lines.{Spells}
 
 -- the text is that of this line, and of no other

@@ -1,6 +1,6 @@
 -- The lines of a certificate text, by their kind.
 use Rattle.std.specs.Prelude.{ℕ}
-use Rattle.adya_values.specs.Meaning.Keys.{Bytes, IsTxn}
+use Rattle.adya_keys.specs.Meaning.Keys.{Bytes, IsTxn}
 use Rattle.adya_line.specs.Meaning.Spelling.{serial_head, tail, txn_text}
 use Rattle.adya_line.specs.declared.serial_lines.SerialLine.{SerialLine as LineValue}
 use Rattle.adya_line.specs.declared.serial_lines.SerialLine.TheVariants as In

@@ -5,7 +5,7 @@ use Rattle.std.specs.List.{prefix_len}
 use Rattle.std.specs.Char.{is_ascii_digit}
 use Rattle.std.specs.Str.Parse.{digits_value}
 use Rattle.adya_values.specs.declared.event.Version.{Version}
-use Rattle.adya_values.specs.Meaning.Keys.{is_key_byte, is_value_byte}
+use Rattle.adya_keys.specs.Meaning.Keys.{is_key_byte, is_value_byte}
 use Rattle.adya_values.specs.Meaning.Histories.{Content, Live, Dead, Entry, Event, Write, Delete, Read, Scan, Commit, Abort}
 use Rattle.adya_values.specs.Meaning.Histories.{Order, FinalPair}
 

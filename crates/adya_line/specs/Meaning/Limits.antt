@@ -2,7 +2,7 @@
 use Rattle.std.specs.Prelude.{◌≡◌, ◌<◌, true, length}
 use Rattle.std.specs.List.{AllByRecursion}
 use Rattle.adya_values.specs.declared.event.Version.{Version}
-use Rattle.adya_values.specs.Meaning.Keys.{is_key, is_value, IsTxn, IsMod}
+use Rattle.adya_keys.specs.Meaning.Keys.{is_key, is_value, IsTxn, IsMod}
 use Rattle.adya_values.specs.Meaning.Histories.{Content, Live, Dead, Entry, Event, Write, Delete, Read, Scan, Commit, Abort, Order, FinalPair}
 
 pub record IsVersion (v : Version) : Type 0 where

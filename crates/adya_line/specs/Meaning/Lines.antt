@@ -1,7 +1,7 @@
 -- Lines of any kind: which are within their limits, and the text of each.
 use Rattle.std.specs.Prelude.{◌≡◌, ◌≢◌}
 use Rattle.std.specs.List.{All}
-use Rattle.adya_values.specs.Meaning.Keys.{Bytes}
+use Rattle.adya_keys.specs.Meaning.Keys.{Bytes}
 
 -- without line feeds
 abbrev pub IsPlain : Bytes → Type 0

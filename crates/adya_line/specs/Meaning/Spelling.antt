@@ -3,7 +3,7 @@ use Rattle.std.specs.Prelude.{ℕ, [], ◌∷◌, ◌++◌, codes, decimal, flat
 use Rattle.adya_values.specs.declared.edition.Edition.{Edition}
 use Rattle.adya_values.specs.declared.edition.Edition.TheVariants.{One, Two}
 use Rattle.adya_values.specs.declared.event.Version.{Version}
-use Rattle.adya_values.specs.Meaning.Keys.{Bytes}
+use Rattle.adya_keys.specs.Meaning.Keys.{Bytes}
 use Rattle.adya_values.specs.Meaning.Histories.{Txns, Content, Live, Dead, Entry, Event, Write, Delete, Read, Scan, Commit, Abort, Order, FinalPair}
 
 abbrev pub history_head : Bytes

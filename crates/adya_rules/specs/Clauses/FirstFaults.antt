@@ -4,7 +4,7 @@ use Rattle.std.specs.Prelude.{◌≡◌, ◌≢◌, ◌⊎◌, ℕ, ◌+◌, ◌
 use Rattle.adya_values.specs.declared.event.Version.{Version}
 use Rattle.adya_values.specs.declared.fault.Rule.{Rule}
 use Rattle.adya_values.specs.declared.fault.Rule.TheVariants.{M1, M2, M3, M4, M5, M6, M7, M8}
-use Rattle.adya_values.specs.Meaning.Keys.{Key, Bytes}
+use Rattle.adya_keys.specs.Meaning.Keys.{Key, Bytes}
 use Rattle.adya_values.specs.Meaning.Histories.{Txns, Entry, Event, Order, FinalPair, History}
 use Rattle.adya_values.specs.Meaning.Events.{txn_of, observed, last_write, is_committed, is_unfinished, is_aborted}
 use Rattle.adya_values.specs.Clauses.Rules.{has_ended, IsOpen, IsNumbered, WasWritten, SeesOwnWrites, IsRising, installs}

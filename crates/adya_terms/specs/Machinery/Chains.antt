@@ -3,7 +3,7 @@ use Rattle.std.specs.Prelude.{◌≡◌, ◌<◌, ◌≤◌, ℕ, zero, suc, ◌
 use Rattle.std.specs.Ordering.{nat_cmp}
 use Rattle.std.specs.Cmp.Lexicographic.{slice_cmp}
 use Rattle.std.specs.BTreeMap.{BTreeMap, get}
-use Rattle.adya_values.specs.Mirror.Numbers.{number_in}
+use Rattle.adya_keys.specs.Mirror.{number_in}
 use Rattle.adya_terms.specs.declared.own_writes.Chain.{Chain}
 use Rattle.adya_terms.specs.declared.own_writes.Row.{Row}
 use Rattle.adya_terms.specs.Machinery.Tables.{Own}

@@ -2,7 +2,7 @@
 use Rattle.std.specs.Prelude.{ℕ, Bool, ◌||◌, ◌==◌, List, Option}
 use Rattle.std.specs.List.{list_any}
 use Rattle.adya_values.specs.declared.events.Events.{Events}
-use Rattle.adya_values.specs.Meaning.Keys.{Key}
+use Rattle.adya_keys.specs.Meaning.Keys.{Key}
 use Rattle.adya_values.specs.Meaning.Histories.{Event}
 use Rattle.adya_values.specs.Mirror.Events.{events_of}
 use Rattle.adya_values.specs.Mirror.Numbers.{keys_of}

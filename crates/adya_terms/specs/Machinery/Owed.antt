@@ -1,7 +1,7 @@
 -- What a scan has to list of its own transaction's writes.
 use Rattle.std.specs.Prelude.{◌≡◌, ℕ, Bool, true, not, ◌||◌, List, Option, Some}
 use Rattle.std.specs.BTreeMap.{BTreeMap}
-use Rattle.adya_values.specs.Meaning.Keys.{lies_in}
+use Rattle.adya_keys.specs.Meaning.Keys.{lies_in}
 use Rattle.adya_values.specs.Meaning.Histories.{Entry, Event}
 use Rattle.adya_values.specs.Mirror.Events.{events_of}
 use Rattle.adya_values.specs.Computing.Faults.{none_or_lists_only}

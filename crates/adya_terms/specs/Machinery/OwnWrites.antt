@@ -2,7 +2,8 @@
 use Rattle.std.specs.Prelude.{ℕ, Option, option_and_then}
 use Rattle.std.specs.Option.{option_or}
 use Rattle.txn_table.specs.Mirror.{value_for}
-use Rattle.adya_values.specs.Mirror.Numbers.{keys_of, number_in}
+use Rattle.adya_values.specs.Mirror.Numbers.{keys_of}
+use Rattle.adya_keys.specs.Mirror.{number_in}
 use Rattle.adya_terms.specs.declared.own_writes.OwnWrites.{OwnWrites}
 use Rattle.adya_terms.specs.Machinery.Chains.{own_place, walk}
 use Rattle.adya_terms.specs.Machinery.Tables.{Own}

@@ -3,9 +3,9 @@
 use Rattle.std.specs.Prelude.{◌≡◌, ℕ, zero, suc, ◌<◌, ◌==◌, Bool, true, false, not, ◌&&◌, List, Option, Some, None, length, slice_get, slice_index, get_or, count_by, map, option_map, MatchOption}
 use Rattle.std.specs.List.{list_all, list_any}
 use Rattle.adya_values.specs.Meaning.Histories.{Event, Order}
-use Rattle.adya_values.specs.Meaning.Keys.{Key, key_eq}
+use Rattle.adya_keys.specs.Meaning.Keys.{Key, key_eq}
 use Rattle.adya_values.specs.Meaning.Events.{is_committed, last_write}
-use Rattle.adya_values.specs.Machinery.Indices.{indices_in}
+use Rattle.adya_keys.specs.Machinery.Indices.{indices_in}
 use Rattle.adya_values.specs.Mirror.Lines.{orders_of}
 use Rattle.adya_values.specs.Clauses.Rules.{installs}
 use Rattle.adya_values.specs.Computing.Faults.{lists_exactly}

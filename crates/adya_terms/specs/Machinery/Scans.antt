@@ -1,7 +1,7 @@
 -- What a scan lists.
 use Rattle.std.specs.Prelude.{List, get_or, map}
 use Rattle.adya_values.specs.declared.seen.Seen.{Seen}
-use Rattle.adya_values.specs.Meaning.Keys.{Key}
+use Rattle.adya_keys.specs.Meaning.Keys.{Key}
 use Rattle.adya_values.specs.Meaning.Histories.{Entry}
 use Rattle.adya_values.specs.Mirror.Numbers.{keys_of, seen_entry}
 use Rattle.adya_terms.specs.declared.scans.Scan.{Scan}

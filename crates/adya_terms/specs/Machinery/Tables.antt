@@ -7,7 +7,7 @@ use Rattle.adya_values.specs.declared.event.Version.{Version}
 use Rattle.adya_terms.specs.declared.tables.Ended.{Ended}
 use Rattle.adya_values.specs.Meaning.Histories.{Entry, Event}
 use Rattle.adya_values.specs.Meaning.Events.{written, writes_of, last_write, is_committed, aborts}
-use Rattle.adya_values.specs.Meaning.Keys.{key_eq}
+use Rattle.adya_keys.specs.Meaning.Keys.{key_eq}
 use Rattle.adya_values.specs.Computing.Faults.{version_eq, entry_eq}
 
 -- a transaction and a key

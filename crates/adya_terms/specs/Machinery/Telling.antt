@@ -4,10 +4,11 @@ use Rattle.std.specs.HashMap.{get}
 use Rattle.txn_table.specs.Mirror.{value_for}
 use Rattle.adya_values.specs.declared.event.NumberedVersion.{NumberedVersion}
 use Rattle.adya_values.specs.declared.event.Version.{Version}
-use Rattle.adya_values.specs.Meaning.Keys.{Key}
+use Rattle.adya_keys.specs.Meaning.Keys.{Key}
 use Rattle.adya_values.specs.Meaning.Histories.{Event}
 use Rattle.adya_values.specs.Mirror.Events.{events_of}
-use Rattle.adya_values.specs.Mirror.Numbers.{keys_of, number_in}
+use Rattle.adya_values.specs.Mirror.Numbers.{keys_of}
+use Rattle.adya_keys.specs.Mirror.{number_in}
 use Rattle.adya_terms.specs.declared.tables.Tables.{Tables}
 use Rattle.adya_terms.specs.Machinery.Tables.{Tell}
 use Rattle.adya_terms.specs.Machinery.OwnWrites.{place_of}

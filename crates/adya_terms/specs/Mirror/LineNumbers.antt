@@ -1,8 +1,8 @@
 -- What an array of the order lines of keys means, by the numbers of the keys.
 use Rattle.std.specs.Prelude.{◌≡◌, ℕ, suc, ◌<◌, List, [], length, Option, Some, None, slice_get, slice_index}
-use Rattle.adya_values.specs.Meaning.Keys.{Key}
+use Rattle.adya_keys.specs.Meaning.Keys.{Key}
 use Rattle.adya_values.specs.Meaning.Histories.{Order}
-use Rattle.adya_values.specs.Machinery.Seen.{key_at}
+use Rattle.adya_keys.specs.Machinery.Within.{key_at}
 
 -- the key of the line
 abbrev pub key_of : Option Order → Key

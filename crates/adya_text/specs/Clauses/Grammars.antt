@@ -1,6 +1,6 @@
 -- The lists of lines that the texts of histories and of certificates have.
 use Rattle.std.specs.Prelude.{◌≡◌, List}
-use Rattle.adya_values.specs.Meaning.Keys.{Bytes}
+use Rattle.adya_keys.specs.Meaning.Keys.{Bytes}
 use Rattle.adya_values.specs.Meaning.Histories.{Txns, History}
 use Rattle.adya_text.specs.Meaning.Texts.{IsHistory, IsSerial, history_lines, serial_lines}
 

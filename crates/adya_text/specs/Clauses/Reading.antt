@@ -1,6 +1,6 @@
 -- What a call that reads a text returns.
 use Rattle.std.specs.Prelude.{◌≡◌, Result, Ok, Err}
-use Rattle.adya_values.specs.Meaning.Keys.{Bytes}
+use Rattle.adya_keys.specs.Meaning.Keys.{Bytes}
 use Rattle.adya_values.specs.Meaning.Histories.{History}
 use Rattle.adya_values.specs.Mirror.Histories.{history_of, serial_txns}
 use Rattle.adya_values.specs.declared.history.History.{History as HistoryValue}

@@ -2,7 +2,7 @@
 use Rattle.std.specs.Prelude.{Bool, true, false, nat_lt, [], ◌∷◌, ◌++◌}
 use Rattle.adya_values.specs.declared.edition.Edition.{Edition}
 use Rattle.adya_values.specs.declared.edition.Edition.TheVariants.{One, Two}
-use Rattle.adya_values.specs.Meaning.Keys.{key_lt}
+use Rattle.adya_keys.specs.Meaning.Keys.{key_lt}
 use Rattle.adya_values.specs.Meaning.Histories.{History}
 use Rattle.adya_line.specs.Clauses.HistoryLines.{Line, HeadLine, EventLine, UnfinishedLine, OrderLine, FinalLine, TailLine, IsLine, line_text}
 use Rattle.adya_text.specs.Computing.Runs.{Machine}

@@ -1,7 +1,7 @@
 -- The texts of histories and of certificates.
 use Rattle.std.specs.Prelude.{◌≡◌, true, List, [], ◌∷◌, ◌++◌, map}
 use Rattle.std.specs.List.{AllByRecursion}
-use Rattle.adya_values.specs.Meaning.Keys.{Bytes, IsTxn, keys_rise}
+use Rattle.adya_keys.specs.Meaning.Keys.{Bytes, IsTxn, keys_rise}
 use Rattle.adya_values.specs.Computing.Shapes.{fits_edition}
 use Rattle.adya_values.specs.Meaning.Histories.{Txns, History}
 use Rattle.adya_line.specs.Meaning.Spelling.{head_text, serial_head, tail, event_text, unfinished_text, order_text, final_text, txn_text}

@@ -1,7 +1,7 @@
 -- When a history is well-formed: one definition for each rule.
 use Rattle.std.specs.Prelude.{◌≡◌, ℕ, suc, ◌==◌, Bool, true, false, cond, ◌&&◌, ◌||◌, if◌then◌else◌, List, [], ◌∷◌, ◌++◌, length, Option, Some, None, is_some, IfSome, count_by, map, All, Contains}
 use Rattle.std.specs.List.{filter_map, list_any}
-use Rattle.adya_values.specs.Meaning.Keys.{Key, Bytes, key_eq, key_le, lies_in, keys_rise}
+use Rattle.adya_keys.specs.Meaning.Keys.{Key, Bytes, key_eq, key_le, lies_in, keys_rise}
 use Rattle.adya_values.specs.Meaning.Histories.{Live, Entry, Event, Read, Scan, FinalPair, History}
 use Rattle.adya_values.specs.Meaning.Events.{txn_of, entry, written, observed, writes_of, last_write, is_committed, is_unfinished, aborts}
 use Rattle.adya_values.specs.Meaning.Orders.{writers, value_at}

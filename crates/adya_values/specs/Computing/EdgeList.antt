@@ -1,7 +1,7 @@
 -- The edges of a history as one list, which computes `IsEdge`.
 use Rattle.std.specs.Prelude.{ℕ, zero, suc, ◌==◌, Bool, true, false, ◌&&◌, if◌then◌else◌, List, [], ◌∷◌, ◌++◌, length, Option, Some, None, filter, flat_map, fold}
 use Rattle.std.specs.List.{list_any}
-use Rattle.adya_values.specs.Meaning.Keys.{key_eq}
+use Rattle.adya_keys.specs.Meaning.Keys.{key_eq}
 use Rattle.adya_values.specs.Meaning.Histories.{Event, History}
 use Rattle.adya_values.specs.Meaning.Events.{txn_of, is_committed}
 use Rattle.adya_values.specs.Meaning.Orders.{writers, installer}

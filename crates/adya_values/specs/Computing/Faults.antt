@@ -5,7 +5,7 @@ use Rattle.std.specs.List.{filter_map, list_any, list_all}
 use Rattle.adya_values.specs.declared.event.Version.{Version}
 use Rattle.adya_values.specs.declared.fault.Rule.{Rule}
 use Rattle.adya_values.specs.declared.fault.Rule.TheVariants.{M1, M2, M3, M4, M5, M6, M7, M8}
-use Rattle.adya_values.specs.Meaning.Keys.{key_eq, key_le, lies_in, keys_rise}
+use Rattle.adya_keys.specs.Meaning.Keys.{key_eq, key_le, lies_in, keys_rise}
 use Rattle.adya_values.specs.Meaning.Histories.{Content, Live, Dead, Entry, Event, Write, Delete, Read, Scan, Commit, Abort, Order, FinalPair, History}
 use Rattle.adya_values.specs.Meaning.Events.{txn_of, entry, written, observed, writes_of, last_write, is_committed, is_unfinished, is_aborted}
 use Rattle.adya_values.specs.Clauses.Rules.{has_ended, installs, final_value}

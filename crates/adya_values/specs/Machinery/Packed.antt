@@ -1,9 +1,10 @@
 -- The events that rows stand for: the keys, the bytes, the listings and the entries of the arena say the rest.
 use Rattle.std.specs.Prelude.{ℕ, ◌+◌, ◌*◌, ◌<◌, ◌≤◌, Bool, true, false, ◌&&◌, nat_le, nat_lt, List, length, Option, Some, None, slice_get, vec_len, vec_capacity}
-use Rattle.adya_values.specs.Machinery.KeyTables.{keys_in, CanTake}
-use Rattle.adya_values.specs.Meaning.Keys.{Bytes, Key}
+use Rattle.adya_keys.specs.Machinery.KeyTables.{keys_in, CanTake}
+use Rattle.adya_keys.specs.Meaning.Keys.{Bytes, Key}
 use Rattle.adya_values.specs.Meaning.Histories.{Event, Entry, Write, Delete, Read, Scan, Commit, Abort}
-use Rattle.adya_values.specs.Machinery.Seen.{entry_in, is_part, is_seen, key_at, part, IsFront}
+use Rattle.adya_values.specs.Machinery.Seen.{entry_in, is_part, is_seen}
+use Rattle.adya_keys.specs.Machinery.Within.{key_at, part, IsFront}
 use Rattle.adya_values.specs.declared.seen.Seen.{Seen}
 use Rattle.adya_values.specs.declared.arena.Row.{Row}
 use Rattle.adya_values.specs.declared.arena.Row.TheVariants as In

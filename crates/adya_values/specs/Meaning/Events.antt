@@ -2,7 +2,7 @@
 use Rattle.std.specs.Prelude.{ℕ, ◌==◌, Bool, false, ◌&&◌, ◌||◌, if◌then◌else◌, List, [], ◌∷◌, Option, Some, None, filter, filter_map}
 use Rattle.std.specs.List.{list_any}
 use Rattle.adya_values.specs.declared.event.Version.{Version}
-use Rattle.adya_values.specs.Meaning.Keys.{Key, Bytes, key_eq}
+use Rattle.adya_keys.specs.Meaning.Keys.{Key, Bytes, key_eq}
 use Rattle.adya_values.specs.Meaning.Histories.{Content, Live, Dead, Entry, Event, Write, Delete, Read, Scan, Commit, Abort, History}
 
 abbrev pub txn_of : Event → ℕ

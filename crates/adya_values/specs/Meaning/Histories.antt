@@ -3,7 +3,7 @@
 use Rattle.std.specs.Prelude.{ℕ, List}
 use Rattle.adya_values.specs.declared.event.Version.{Version}
 use Rattle.adya_values.specs.declared.edition.Edition.{Edition}
-use Rattle.adya_values.specs.Meaning.Keys.{Key, Bytes}
+use Rattle.adya_keys.specs.Meaning.Keys.{Key, Bytes}
 
 -- transactions, by their numbers
 abbrev pub Txns : Type 0

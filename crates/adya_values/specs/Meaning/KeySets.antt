@@ -1,6 +1,6 @@
 -- Rising lists of keys.
 use Rattle.std.specs.Prelude.{if◌then◌else◌, List, [], ◌∷◌}
-use Rattle.adya_values.specs.Meaning.Keys.{Key, key_eq, key_lt}
+use Rattle.adya_keys.specs.Meaning.Keys.{Key, key_eq, key_lt}
 
 -- with the key in its place, unless it has it already
 abbrev pub insert : Key → List Key → List Key

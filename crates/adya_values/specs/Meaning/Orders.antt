@@ -1,7 +1,7 @@
 -- The versions of a key in their order (Adya 1999, section 3.1.2). Place 0 is the unborn version. Each writer that
 -- the key's order line names has the next place, for its last write of the key.
 use Rattle.std.specs.Prelude.{ℕ, zero, suc, ◌==◌, Bool, if◌then◌else◌, List, [], ◌∷◌, Option, Some, None, is_some, slice_get}
-use Rattle.adya_values.specs.Meaning.Keys.{Key, Bytes, key_eq}
+use Rattle.adya_keys.specs.Meaning.Keys.{Key, Bytes, key_eq}
 use Rattle.adya_values.specs.Meaning.Histories.{Txns, Event, Order, History}
 use Rattle.adya_values.specs.Meaning.Events.{last_write, shown}
 

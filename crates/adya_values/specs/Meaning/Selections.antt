@@ -1,7 +1,7 @@
 -- The place in a key's version order that an event sees, and the places that what it sees depends on (Adya 1999,
 -- section 3.1.3). A scan is a predicate read: a version matches if its key is within the bounds and it has a value.
 use Rattle.std.specs.Prelude.{ℕ, zero, suc, ◌==◌, Bool, true, false, not, ◌&&◌, ◌||◌, nat_lt, if◌then◌else◌, Option, Some, None}
-use Rattle.adya_values.specs.Meaning.Keys.{Key, key_eq, lies_in}
+use Rattle.adya_keys.specs.Meaning.Keys.{Key, key_eq, lies_in}
 use Rattle.adya_values.specs.Meaning.Histories.{Entry, Event, Read, Scan, History}
 use Rattle.adya_values.specs.Meaning.Events.{listed}
 use Rattle.adya_values.specs.Meaning.Orders.{writers, is_visible_at, place}

@@ -1,7 +1,7 @@
 -- The run of transactions, one at a time, on one map of keys, and when a history agrees with it.
 use Rattle.std.specs.Prelude.{◌≡◌, ℕ, ◌==◌, true, if◌then◌else◌, ◌↔◌, List, [], ◌∷◌, Option, Some, None, filter, flat_map, Contains}
 use Rattle.std.specs.List.{filter_map}
-use Rattle.adya_values.specs.Meaning.Keys.{Key, Bytes, key_eq, lies_in}
+use Rattle.adya_keys.specs.Meaning.Keys.{Key, Bytes, key_eq, lies_in}
 use Rattle.adya_values.specs.Meaning.Histories.{Txns, Entry, Event, Write, Delete, Read, Scan, FinalPair, History}
 use Rattle.adya_values.specs.Meaning.Events.{txn_of, visible}
 

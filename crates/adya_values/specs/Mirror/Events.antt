@@ -1,14 +1,13 @@
 -- The plain value that an event, an order line or a final value of the code holds.
-use Rattle.std.specs.Prelude.{ℕ, ◌+◌, ◌≤◌, List, map, take, vec_len, vec_capacity}
-use Rattle.adya_values.specs.Machinery.KeyTables.{keys_in}
+use Rattle.std.specs.Prelude.{ℕ, ◌+◌, ◌≤◌, List, map, vec_len, vec_capacity}
+use Rattle.adya_keys.specs.Machinery.KeyTables.{keys_in}
 use Rattle.adya_values.specs.declared.event.Event.{Event as EventValue}
 use Rattle.adya_values.specs.declared.order.Order.{Order as OrderValue}
 use Rattle.adya_values.specs.declared.order.FinalPair.{FinalPair as FinalValue}
 use Rattle.adya_values.specs.Meaning.Histories.{Abort, Commit, Content, Dead, Delete, Entry, Event, FinalPair, Live, Order, Read, Scan, Write}
-use Rattle.adya_values.specs.declared.value.Value.{Value}
 use Rattle.adya_values.specs.declared.event.Content.{Content as ContentValue}
 use Rattle.adya_values.specs.declared.event.Entry.{Entry as EntryValue}
-use Rattle.adya_values.specs.Meaning.Keys.{Bytes}
+use Rattle.adya_keys.specs.Mirror.{value_of}
 use Rattle.adya_values.specs.Mirror.Refs.{view_entry}
 use Rattle.adya_values.specs.declared.listed.Listed.{Listed}
 use Rattle.adya_values.specs.declared.listed.Listed.TheVariants as As
@@ -21,10 +20,6 @@ use Rattle.adya_values.specs.declared.event.EventView.TheVariants as Seen
 use Rattle.adya_values.specs.declared.events.Events.{Events}
 use Rattle.adya_values.specs.declared.arena.Arena.{Arena}
 use Rattle.adya_values.specs.declared.arena.Row.{Row}
-
--- the bytes of a value
-abbrev pub value_of : Value → Bytes
-value_of v = take v.len v.bytes
 
 abbrev pub content_of : ContentValue → Content
 content_of (Holds.Live v) = Live (value_of v)

@@ -1,28 +1,20 @@
 -- What the events of a list say by the numbers of keys: each key that they name has its index among the keys for a number.
-use Rattle.std.specs.Prelude.{◌≡◌, ℕ, ◌<◌, Bool, List, length, Option, Some, None, position}
-use Rattle.adya_values.specs.Machinery.KeyTables.{keys_in}
+use Rattle.std.specs.Prelude.{ℕ, Bool, List, Option, Some, None}
+use Rattle.adya_keys.specs.Machinery.KeyTables.{keys_in}
 use Rattle.adya_values.specs.declared.event.NumberedVersion.{NumberedVersion}
 use Rattle.adya_values.specs.declared.event.Version.{Version}
 use Rattle.adya_values.specs.declared.events.Events.{Events}
 use Rattle.adya_values.specs.declared.seen.Observed.{Observed}
 use Rattle.adya_values.specs.declared.seen.Observed.TheVariants.{One, Many}
 use Rattle.adya_values.specs.declared.seen.Seen.{Seen}
-use Rattle.adya_values.specs.Meaning.Keys.{Key, key_eq}
+use Rattle.adya_keys.specs.Meaning.Keys.{Key}
 use Rattle.adya_values.specs.Meaning.Histories.{Entry, Event, Write, Delete, Read, Scan, Commit, Abort}
-use Rattle.adya_values.specs.Machinery.Seen.{key_at}
+use Rattle.adya_keys.specs.Machinery.Within.{key_at}
 use Rattle.adya_values.specs.Machinery.Packed.{entry_of_seen, is_seen_of}
 
 -- the keys that the events name, by their numbers
 abbrev pub keys_of : Events → List Key
 keys_of es = (keys_in es.arena.keys)
-
--- the number of the key, if it has one
-abbrev pub number_in : List Key → Key → Option ℕ
-number_in ks k = position (key_eq k) ks
-
--- each number is that of its key alone
-abbrev pub AreNumbered : List Key → Type 0
-AreNumbered ks = (n : ℕ) → n < length ks → number_in ks (key_at ks n) ≡ Some n
 
 -- the version, whose key the number says
 abbrev pub version_in : List Key → NumberedVersion → Version

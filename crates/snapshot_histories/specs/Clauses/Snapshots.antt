@@ -3,7 +3,7 @@
 -- commit before it began. A history doesn't record when a transaction began, so `snapshot_of` gives its snapshot.
 use Rattle.std.specs.Prelude.{◌≡◌, ◌≢◌, ℕ, zero, suc, ◌<◌, ◌≤◌, true, Some, Contains}
 use Rattle.std.specs.List.{filter_map}
-use Rattle.adya_values.specs.Meaning.Keys.{Key}
+use Rattle.adya_keys.specs.Meaning.Keys.{Key}
 use Rattle.adya_values.specs.Meaning.Histories.{Event, History}
 use Rattle.adya_values.specs.Meaning.Events.{txn_of, is_committed, commit_of}
 use Rattle.adya_values.specs.Meaning.Orders.{place, installer}

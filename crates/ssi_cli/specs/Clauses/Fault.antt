@@ -2,7 +2,7 @@
 use Rattle.std.specs.Prelude.{◌++◌, codes}
 use Rattle.ssi_cli.specs.declared.fault.Fault.{Fault}
 use Rattle.ssi_cli.specs.declared.fault.Fault.TheVariants.{Read, Write, Socket, Memory}
-use Rattle.adya_values.specs.Meaning.Keys.{Bytes}
+use Rattle.adya_keys.specs.Meaning.Keys.{Bytes}
 
 -- reading at this place failed
 abbrev pub read_fault : Bytes → Bytes

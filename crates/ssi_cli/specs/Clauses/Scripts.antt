@@ -1,6 +1,6 @@
 -- What a run over a script has done when it ends, and what is written of it.
 use Rattle.std.specs.Prelude.{◌≡◌, List, Option}
-use Rattle.adya_values.specs.Meaning.Keys.{Bytes}
+use Rattle.adya_keys.specs.Meaning.Keys.{Bytes}
 use Rattle.adya_values.specs.Meaning.Histories.{Txns, History}
 use Rattle.adya_values.specs.Clauses.Acceptance.{IsAccepted}
 use Rattle.devices.specs.declared.watched.Watched.{Watched}

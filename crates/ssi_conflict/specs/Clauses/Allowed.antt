@@ -1,7 +1,7 @@
 -- What may be called after other calls of a conflict tracker.
 use Rattle.std.specs.Prelude.{◌≡◌, ℕ, suc, ◌<◌, true, false, List, [], ◌∷◌}
 use Rattle.std.specs.List.{AllPairs}
-use Rattle.adya_values.specs.Meaning.Keys.{Key, key_eq, key_le}
+use Rattle.adya_keys.specs.Meaning.Keys.{Key, key_eq, key_le}
 use Rattle.ssi_conflict.specs.Meaning.Calls.{Aborts, Begins, Call, Commits, Reads, has_begun, is_open}
 
 -- the greatest stamp so far

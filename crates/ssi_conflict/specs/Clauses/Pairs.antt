@@ -1,6 +1,6 @@
 -- Pairs and pivots (Cahill, Röhm and Fekete 2008), looking back over all calls of a tracker.
 use Rattle.std.specs.Prelude.{◌≡◌, ℕ, ◌==◌, ◌<◌, ◌≤◌, true, false, List, Option, Some, None, Contains, if◌then◌else◌, [], ◌∷◌}
-use Rattle.adya_values.specs.Meaning.Keys.{Key}
+use Rattle.adya_keys.specs.Meaning.Keys.{Key}
 use Rattle.ssi_conflict.specs.Meaning.Calls.{Call, stamp_of, keys_of, is_committed, is_aborted, meets, Commits, are_concurrent}
 
 -- what was before the transaction committed

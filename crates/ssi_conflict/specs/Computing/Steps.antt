@@ -1,7 +1,7 @@
 -- Pairs and pivots call by call: the computing twins of `IsPair`, `IsPivot` and `IsOrderedPivot`.
 use Rattle.std.specs.Prelude.{ℕ, ◌==◌, Bool, true, false, not, ◌&&◌, ◌||◌, nat_lt, nat_le, List, [], ◌∷◌, Option, Some, None}
 use Rattle.std.specs.List.{list_any, find}
-use Rattle.adya_values.specs.Meaning.Keys.{lies_in}
+use Rattle.adya_keys.specs.Meaning.Keys.{lies_in}
 use Rattle.ssi_conflict.specs.Meaning.Calls.{Call, Reads, Commits, stamp_of, keys_of, is_committed, is_aborted, meets, begun, are_concurrent}
 
 -- the call adds the pair: a read, one with each concurrent transaction that has committed and wrote a key of the range;

@@ -6,7 +6,7 @@ use Rattle.std.specs.Ordering.{nat_cmp, is_eq, ordering_then}
 use Rattle.std.specs.declared.cmp.Ordering.{Ordering}
 use Rattle.std.specs.Cmp.Lexicographic.{slice_cmp}
 use Rattle.std.specs.BTreeMap.{get}
-use Rattle.adya_values.specs.Meaning.Keys.{lies_in}
+use Rattle.adya_keys.specs.Meaning.Keys.{lies_in}
 use Rattle.ssi_conflict.specs.Computing.Steps.{is_earlier}
 use Rattle.ssi_conflict.specs.Machinery.Rows.{Row, sooner}
 use Rattle.ssi_conflict.specs.declared.reading.Reading.{Reading}

@@ -1,7 +1,7 @@
 -- What a tracker keeps of a transaction, and when what it keeps stands for a list of calls.
 use Rattle.std.specs.Prelude.{◌≡◌, ℕ, ◌==◌, ◌≤◌, Bool, true, false, not, ◌&&◌, if◌then◌else◌, nat_lt, List, [], Option, Some, None, is_some}
 use Rattle.std.specs.List.{list_any}
-use Rattle.adya_values.specs.Meaning.Keys.{lies_in}
+use Rattle.adya_keys.specs.Meaning.Keys.{lies_in}
 use Rattle.ssi_conflict.specs.Meaning.Calls.{Call, snapshot_of, stamp_of, keys_of, is_aborted, meets, is_at_or_below}
 use Rattle.ssi_conflict.specs.Clauses.Allowed.{AreAllowed}
 use Rattle.ssi_conflict.specs.Clauses.Pairs.{IsPair, IsOrderedPivot}

@@ -1,7 +1,7 @@
 -- The calls of a conflict tracker, and what they say of each transaction. The newest call stands first, so that the
 -- tail of a list is what was before.
 use Rattle.std.specs.Prelude.{ℕ, ◌==◌, Bool, false, not, ◌&&◌, ◌||◌, if◌then◌else◌, List, [], ◌∷◌, ◌++◌, Option, Some, None, is_some, nat_le}
-use Rattle.adya_values.specs.Meaning.Keys.{Key, lies_in}
+use Rattle.adya_keys.specs.Meaning.Keys.{Key, lies_in}
 use Rattle.adya_values.specs.Meaning.Histories.{Txns}
 
 pub data Call : Type 0 where

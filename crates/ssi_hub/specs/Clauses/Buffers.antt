@@ -1,6 +1,6 @@
 -- What a hub has of a connection.
 use Rattle.std.specs.Prelude.{ℕ, List, [], ◌++◌, take, drop, Option, Some, None}
-use Rattle.adya_values.specs.Meaning.Keys.{Bytes}
+use Rattle.adya_keys.specs.Meaning.Keys.{Bytes}
 use Rattle.ssi_hub.specs.Clauses.Clipping.{clipped}
 
 pub record Buffers : Type 0 where

@@ -1,7 +1,7 @@
 -- The calls of a hub, and what they say of each connection. The newest call stands first, so that the tail of a list is
 -- what was before.
 use Rattle.std.specs.Prelude.{ℕ, ◌==◌, Bool, false, not, ◌&&◌, ◌||◌, if◌then◌else◌, List, [], ◌∷◌, ◌++◌}
-use Rattle.adya_values.specs.Meaning.Keys.{Bytes}
+use Rattle.adya_keys.specs.Meaning.Keys.{Bytes}
 use Rattle.ssi_line.specs.Meaning.Steps.{Step}
 
 pub data Call : Type 0 where

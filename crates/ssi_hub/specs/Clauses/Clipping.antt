@@ -1,7 +1,7 @@
 -- What is kept of the bytes of a connection that are not carried out.
 use Rattle.std.specs.Prelude.{ℕ, suc, ◌==◌, nat_lt, List, [], ◌∷◌, if◌then◌else◌, Bool}
 use Rattle.std.specs.List.{list_any}
-use Rattle.adya_values.specs.Meaning.Keys.{Bytes}
+use Rattle.adya_keys.specs.Meaning.Keys.{Bytes}
 
 -- a line feed is among them, so they begin with a whole line
 abbrev pub has_line : Bytes → Bool

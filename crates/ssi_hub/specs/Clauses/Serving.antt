@@ -1,7 +1,7 @@
 -- When what a hub has stands for a list of calls.
 use Rattle.std.specs.Prelude.{◌≡◌, ℕ, ◌<◌, Bool, if◌then◌else◌, List, ◌++◌, All, Option, Some, None}
 use Rattle.std.specs.List.{AllByRecursion}
-use Rattle.adya_values.specs.Meaning.Keys.{Bytes}
+use Rattle.adya_keys.specs.Meaning.Keys.{Bytes}
 use Rattle.adya_line.specs.Meaning.Lines.{IsPlain}
 use Rattle.adya_text.specs.Meaning.Texts.{with_ends}
 use Rattle.ssi_line.specs.Meaning.Steps.{AreSteps, steps_text}

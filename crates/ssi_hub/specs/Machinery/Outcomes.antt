@@ -1,6 +1,6 @@
 -- What was made of one line.
 use Rattle.std.specs.Prelude.{◌≡◌, ℕ, Bool, true, false, List, [], ◌∷◌, ◌++◌}
-use Rattle.adya_values.specs.Meaning.Keys.{Bytes}
+use Rattle.adya_keys.specs.Meaning.Keys.{Bytes}
 use Rattle.adya_line.specs.Meaning.Lines.{IsPlain}
 use Rattle.ssi_store.specs.Meaning.Courses.{Course}
 use Rattle.ssi_line.specs.Meaning.Steps.{Step, IsStep, step_text, is_stop}

@@ -2,7 +2,7 @@
 use Rattle.std.specs.Prelude.{◌≡◌, ℕ, Bool, nat_le, length, Option, Some, None, Result, Ok, Err, if◌then◌else◌}
 use Rattle.devices.specs.declared.watched.Watched.{Watched}
 use Rattle.devices.specs.Clauses.Writing.{Grew, Broke}
-use Rattle.adya_values.specs.Meaning.Keys.{Bytes}
+use Rattle.adya_keys.specs.Meaning.Keys.{Bytes}
 use Rattle.ssi_line.specs.Meaning.Steps.{Step, IsStep, step_text, is_stop}
 
 -- what is kept of a line: all of it, if it has at most 4096 bytes

@@ -1,5 +1,5 @@
 -- What a line is read as.
-use Rattle.adya_values.specs.Meaning.Keys.{Bytes}
+use Rattle.adya_keys.specs.Meaning.Keys.{Bytes}
 use Rattle.ssi_store.specs.Mirror.Commands.{command_of}
 use Rattle.ssi_line.specs.declared.line.Line.{Line as LineValue}
 use Rattle.adya_line.specs.Clauses.OnlyLines.{SpellsOnly}

@@ -1,7 +1,7 @@
 -- Reading a line word by word.
 use Rattle.std.specs.Prelude.{ℕ, ◌^◌, ◌==◌, Bool, nat_eq, nat_lt, List, [], ◌∷◌, codes, Option, Some, None, if◌then◌else◌}
 use Rattle.std.specs.Cmp.Lexicographic.{pointwise}
-use Rattle.adya_values.specs.Meaning.Keys.{is_key, is_value}
+use Rattle.adya_keys.specs.Meaning.Keys.{is_key, is_value}
 use Rattle.adya_line.specs.Computing.Reading.{◌>>=◌, txn_at_line}
 use Rattle.ssi_store.specs.Meaning.Sessions.{is_session}
 use Rattle.ssi_store.specs.Meaning.Courses.{Command, Begin, Get, Put, Del, Scan, ScanFirst, Commit, Abort, Collect, Stat}

@@ -1,6 +1,6 @@
 -- The one line of each answer.
 use Rattle.std.specs.Prelude.{◌++◌, codes, decimal, flat_map, length}
-use Rattle.adya_values.specs.Meaning.Keys.{Bytes}
+use Rattle.adya_keys.specs.Meaning.Keys.{Bytes}
 use Rattle.adya_values.specs.Meaning.Histories.{FinalPair}
 use Rattle.ssi_store.specs.Meaning.Courses.{Refusal, Busy, Idle, Range, Long, Spent, Memory, Answer, Begun, Value, Absent, Done, Rows, Committed, Aborted, Conflict, Unsafe, Kept, Counts, Refused}
 

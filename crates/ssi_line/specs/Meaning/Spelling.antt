@@ -1,6 +1,6 @@
 -- The lines of the protocol, each without its line feed.
 use Rattle.std.specs.Prelude.{◌≡◌, true, List, [], ◌∷◌, ◌++◌, codes, decimal}
-use Rattle.adya_values.specs.Meaning.Keys.{Bytes, is_key, is_value, IsMod}
+use Rattle.adya_keys.specs.Meaning.Keys.{Bytes, is_key, is_value, IsMod}
 use Rattle.ssi_store.specs.Meaning.Sessions.{is_session}
 use Rattle.ssi_store.specs.Meaning.Courses.{Command, Begin, Get, Put, Del, Scan, ScanFirst, Commit, Abort, Collect, Stat}
 use Rattle.adya_line.specs.Meaning.Lines.{Spells, SpellsNone}

@@ -1,6 +1,6 @@
 -- What is made of a line, what is written for it, how the store's course goes on, and which step ends a run.
 use Rattle.std.specs.Prelude.{◌≡◌, ◌<◌, ◌≤◌, Bool, true, false, List, [], ◌∷◌, ◌++◌, codes, length, flat_map, All}
-use Rattle.adya_values.specs.Meaning.Keys.{Bytes}
+use Rattle.adya_keys.specs.Meaning.Keys.{Bytes}
 use Rattle.adya_values.specs.Meaning.Histories.{Txns, History}
 use Rattle.adya_values.specs.Clauses.Acceptance.{IsAccepted}
 use Rattle.adya_text.specs.Meaning.Texts.{history_text, serial_text}

@@ -1,7 +1,7 @@
 -- Sets of marks. A set tells of each transaction and each key whether the transaction has a mark over the key.
 use Rattle.std.specs.Prelude.{◌≡◌, ℕ, ◌==◌, Bool, false, not, ◌&&◌, ◌||◌}
 use Rattle.std.specs.List.{list_any}
-use Rattle.adya_values.specs.Meaning.Keys.{Key, lies_in}
+use Rattle.adya_keys.specs.Meaning.Keys.{Key, lies_in}
 use Rattle.adya_values.specs.Meaning.Histories.{Txns}
 
 -- the set with one more mark: of t, over the keys from low to high

@@ -1,7 +1,7 @@
 -- Marks in a list.
 use Rattle.std.specs.Prelude.{ℕ, ◌==◌, Bool, not, ◌&&◌, List}
 use Rattle.std.specs.List.{list_any}
-use Rattle.adya_values.specs.Meaning.Keys.{lies_in}
+use Rattle.adya_keys.specs.Meaning.Keys.{lies_in}
 use Rattle.ssi_reads.specs.declared.span.Mark.{Mark}
 
 -- the mark is of this transaction and over this key

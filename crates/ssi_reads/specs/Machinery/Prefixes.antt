@@ -5,7 +5,7 @@ use Rattle.std.specs.Option.{option_cmp}
 use Rattle.std.specs.Ordering.{nat_cmp, is_eq, ordering_then}
 use Rattle.std.specs.Cmp.Lexicographic.{slice_cmp}
 use Rattle.std.specs.declared.cmp.Ordering.{Ordering}
-use Rattle.adya_values.specs.Meaning.Keys.{is_key, lies_in}
+use Rattle.adya_keys.specs.Meaning.Keys.{is_key, lies_in}
 use Rattle.ssi_reads.specs.declared.span.Span.{Span}
 use Rattle.ssi_reads.specs.declared.span.Mark.{Mark}
 use Rattle.ssi_reads.specs.declared.place.Place.{Place}

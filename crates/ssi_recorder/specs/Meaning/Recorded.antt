@@ -3,7 +3,7 @@
 use Rattle.std.specs.Prelude.{ℕ, nat_eq, if◌then◌else◌, List, [], ◌∷◌, ◌++◌, Option, Some, None, is_some, filter, fold}
 use Rattle.std.specs.List.{filter_map, list_any}
 use Rattle.adya_values.specs.declared.edition.Edition.{Edition}
-use Rattle.adya_values.specs.Meaning.Keys.{Key, Bytes}
+use Rattle.adya_keys.specs.Meaning.Keys.{Key, Bytes}
 use Rattle.adya_values.specs.Meaning.Histories.{Txns, Event, Order, FinalPair, History}
 use Rattle.adya_values.specs.Meaning.Events.{commit_of, written, last, last_write}
 use Rattle.adya_values.specs.Meaning.Orders.{shown_by}

@@ -1,6 +1,6 @@
 -- What a scan lists: entries by rising key.
 use Rattle.std.specs.Prelude.{◌≡◌, ℕ, zero, suc, true, if◌then◌else◌, List, [], ◌∷◌, map, Option, None, is_some}
-use Rattle.adya_values.specs.Meaning.Keys.{Key, keys_rise, lies_in}
+use Rattle.adya_keys.specs.Meaning.Keys.{Key, keys_rise, lies_in}
 use Rattle.adya_values.specs.Meaning.Histories.{Entry}
 use Rattle.adya_values.specs.Meaning.Events.{listed, visible}
 

@@ -1,6 +1,6 @@
 -- The writes of a transaction: its last write of each key, in the order of its first writes of the keys.
 use Rattle.std.specs.Prelude.{ℕ, suc, if◌then◌else◌, List, [], ◌∷◌, Option, Some, None}
-use Rattle.adya_values.specs.Meaning.Keys.{Key, key_eq}
+use Rattle.adya_keys.specs.Meaning.Keys.{Key, key_eq}
 use Rattle.adya_values.specs.Meaning.Histories.{Content, Entry}
 use Rattle.adya_values.specs.Meaning.Events.{version, entry, listed}
 

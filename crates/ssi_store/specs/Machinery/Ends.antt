@@ -1,6 +1,6 @@
 -- Commands that abort a transaction.
 use Rattle.std.specs.Prelude.{◌≡◌, ℕ, true, List, [], ◌∷◌, Option, Some, None}
-use Rattle.adya_values.specs.Meaning.Keys.{key_eq}
+use Rattle.adya_keys.specs.Meaning.Keys.{key_eq}
 use Rattle.ssi_conflict.specs.Computing.Steps.{smallest_ordered_pivot}
 use Rattle.ssi_store.specs.Meaning.Courses.{Command, Answer, Course, Then, is_of, txn_in, txn_for, txn_after, next_txn}
 use Rattle.ssi_store.specs.Clauses.Following.{is_proper}

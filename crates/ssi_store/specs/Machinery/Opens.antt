@@ -1,7 +1,7 @@
 -- Open transactions by session, and when one is that of a log.
 use Rattle.std.specs.Prelude.{◌≡◌, ℕ, suc, cond, List, Option, Some}
 use Rattle.std.specs.Map.{lookup}
-use Rattle.adya_values.specs.Meaning.Keys.{key_eq}
+use Rattle.adya_keys.specs.Meaning.Keys.{key_eq}
 use Rattle.ssi_snapshot.specs.Clauses.Listings.{keys}
 use Rattle.ssi_snapshot.specs.Mirror.{txn_of, snapshot_of, written, own, IsAsBefore}
 use Rattle.ssi_store.specs.Meaning.Acts.{Act, operations}

@@ -1,6 +1,6 @@
 -- Keys of a transaction of which another transaction has committed a version since it began.
 use Rattle.std.specs.Prelude.{◌≡◌, ℕ, Bool, true, false, if◌then◌else◌, List, Option, Some, None, Contains}
-use Rattle.adya_values.specs.Meaning.Keys.{key_lt, key_le}
+use Rattle.adya_keys.specs.Meaning.Keys.{key_lt, key_le}
 use Rattle.ssi_versions.specs.Meaning.Changes.{Held}
 use Rattle.ssi_versions.specs.Clauses.ByStamp.{newest, is_above}
 use Rattle.ssi_versions.specs.Mirror.{chain_of}

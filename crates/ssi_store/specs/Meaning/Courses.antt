@@ -1,6 +1,6 @@
 -- Commands, answers and courses of a store, and which transaction a session has.
 use Rattle.std.specs.Prelude.{ℕ, suc, Bool, false, if◌then◌else◌, List, Option, Some, None}
-use Rattle.adya_values.specs.Meaning.Keys.{Key, Bytes, key_eq}
+use Rattle.adya_keys.specs.Meaning.Keys.{Key, Bytes, key_eq}
 use Rattle.adya_values.specs.Meaning.Histories.{FinalPair}
 
 pub data Command : Type 0 where

@@ -1,6 +1,6 @@
 -- What steps and events show to the outside, and when a history records a course.
 use Rattle.std.specs.Prelude.{◌≡◌, ℕ, List, [], ◌∷◌, ◌++◌, Option, Some, None, map}
-use Rattle.adya_values.specs.Meaning.Keys.{Key, Bytes}
+use Rattle.adya_keys.specs.Meaning.Keys.{Key, Bytes}
 use Rattle.adya_values.specs.Meaning.Histories.{Content, Live, Dead, Event, Write, Delete, Read, Scan, Commit, Abort, FinalPair, History}
 use Rattle.adya_values.specs.Meaning.Serial.{visible_pairs}
 use Rattle.ssi_store.specs.Meaning.Courses.{Command, Command as Do, Answer, Value, Absent, Done, Rows, Committed, Aborted, Conflict, Unsafe, Course, New, Then, txn_for}

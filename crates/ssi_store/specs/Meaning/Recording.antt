@@ -1,7 +1,7 @@
 -- What is recorded of the acts of a course, and its history.
 use Rattle.std.specs.Prelude.{ℕ, suc, List, [], ◌∷◌, ◌++◌, Option, Some, None}
 use Rattle.adya_values.specs.declared.edition.Edition.TheVariants.{Two}
-use Rattle.adya_values.specs.Meaning.Keys.{Key}
+use Rattle.adya_keys.specs.Meaning.Keys.{Key}
 use Rattle.adya_values.specs.Meaning.Histories.{Entry, Content, Live, Dead, Event, Write, Delete, Read, Scan, Commit, Abort, History}
 use Rattle.ssi_recorder.specs.Meaning.Recorded.{history_of_events}
 use Rattle.ssi_store.specs.Meaning.Courses.{Course}

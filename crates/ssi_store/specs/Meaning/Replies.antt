@@ -3,7 +3,7 @@
 -- commit-order rule (Ports and Grittner 2012, section 3.3).
 use Rattle.std.specs.Prelude.{◌≡◌, ◌⊎◌, ℕ, Bool, true, false, ◌&&◌, nat_lt, nat_le, if◌then◌else◌, List, ◌∷◌, take, Option, Some, None}
 use Rattle.std.specs.List.{find}
-use Rattle.adya_values.specs.Meaning.Keys.{Key, Bytes, key_lt}
+use Rattle.adya_keys.specs.Meaning.Keys.{Key, Bytes, key_lt}
 use Rattle.adya_values.specs.Meaning.Histories.{FinalPair}
 use Rattle.adya_values.specs.Meaning.Events.{shown}
 use Rattle.adya_values.specs.Meaning.Serial.{visible_pairs}

@@ -1,7 +1,7 @@
 -- Snapshots, own writes, and what a transaction sees. The nth commit of a log has stamp n.
 use Rattle.std.specs.Prelude.{ℕ, suc, ◌==◌, Bool, not, ◌&&◌, if◌then◌else◌, List, [], ◌∷◌, ◌++◌, Option, Some, None, is_some, map}
 use Rattle.std.specs.List.{filter_map}
-use Rattle.adya_values.specs.Meaning.Keys.{Key, key_eq, lies_in}
+use Rattle.adya_keys.specs.Meaning.Keys.{Key, key_eq, lies_in}
 use Rattle.adya_values.specs.Meaning.Histories.{Entry}
 use Rattle.adya_values.specs.Meaning.Events.{version, entry}
 use Rattle.adya_values.specs.Meaning.KeySets.{insert}

@@ -1,6 +1,6 @@
 -- The names of sessions.
 use Rattle.std.specs.Prelude.{ℕ, Bool, ◌||◌, ◌==◌}
-use Rattle.adya_values.specs.Meaning.Keys.{Bytes, is_within, is_text}
+use Rattle.adya_keys.specs.Meaning.Keys.{Bytes, is_within, is_text}
 
 -- A-Z, a-z, 0-9 and _
 unfoldable pub is_session_byte : ℕ → Bool

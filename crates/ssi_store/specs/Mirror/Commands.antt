@@ -1,9 +1,10 @@
 -- The commands and answers of the code, as those of a course.
 use Rattle.std.specs.Prelude.{map, Result, Ok, Err}
 use Rattle.std.specs.Int.NonZero.{non_zero_u16_get}
-use Rattle.adya_values.specs.Meaning.Keys.{Key, Bytes}
+use Rattle.adya_keys.specs.Meaning.Keys.{Key, Bytes}
 use Rattle.adya_values.specs.Meaning.Histories.{Content, Live, Dead}
-use Rattle.adya_values.specs.Mirror.Events.{value_of, final_of}
+use Rattle.adya_values.specs.Mirror.Events.{final_of}
+use Rattle.adya_keys.specs.Mirror.{value_of}
 use Rattle.ssi_store.specs.Meaning.Courses.{Command, Command as Do, Answer, Answer as Is, Refusal, Refusal as Why}
 use Rattle.ssi_store.specs.declared.command.Command.{Command as CommandValue}
 use Rattle.ssi_store.specs.declared.command.Command.TheVariants as Given

@@ -1,7 +1,7 @@
 -- When the engine of a store stands for a course: the course is one of replies, each part of the engine was told of the
 -- acts of the course, and each session has the transaction that it has in the course.
 use Rattle.std.specs.Prelude.{◌≡◌, ℕ, Bool, List, map, option_map, IfSome}
-use Rattle.adya_values.specs.Meaning.Keys.{Key, Bytes}
+use Rattle.adya_keys.specs.Meaning.Keys.{Key, Bytes}
 use Rattle.adya_values.specs.Meaning.Histories.{Txns, Event}
 use Rattle.ssi_versions.specs.Meaning.Changes.{Held, held}
 use Rattle.ssi_versions.specs.Mirror.{chain_of}

@@ -1,6 +1,6 @@
 -- When a store stands for a course.
 use Rattle.std.specs.Prelude.{ℕ, Bool, List}
-use Rattle.adya_values.specs.Meaning.Keys.{Key}
+use Rattle.adya_keys.specs.Meaning.Keys.{Key}
 use Rattle.ssi_versions.specs.Meaning.Changes.{Held}
 use Rattle.ssi_versions.specs.declared.chains.Chains.{Ghosts as HeldBy}
 use Rattle.ssi_reads.specs.declared.marks.Marks.{Ghosts as MarkedBy}

@@ -1,7 +1,7 @@
 -- What a caller of a store of versions has to keep.
 use Rattle.std.specs.Prelude.{◌≡◌, ℕ, ◌<◌, ◌≤◌, ◌⊎◌, false, List, [], ◌∷◌, Contains}
 use Rattle.std.specs.List.{AllPairs}
-use Rattle.adya_values.specs.Meaning.Keys.{key_eq}
+use Rattle.adya_keys.specs.Meaning.Keys.{key_eq}
 use Rattle.adya_values.specs.Meaning.Histories.{Entry}
 use Rattle.ssi_versions.specs.Meaning.Changes.{Change, Collects, Installs}
 

@@ -1,6 +1,6 @@
 -- That collections drop nothing that is still asked for.
 use Rattle.std.specs.Prelude.{◌≡◌, ℕ, List, ◌∷◌, filter, Contains}
-use Rattle.adya_values.specs.Meaning.Keys.{Key}
+use Rattle.adya_keys.specs.Meaning.Keys.{Key}
 use Rattle.ssi_versions.specs.Meaning.Changes.{Change, Collects, contents, last_version, is_installed_above, held}
 use Rattle.ssi_versions.specs.Clauses.ByStamp.{is_above, is_wanted, newest, newest_within, IsByStamp}
 use Rattle.ssi_versions.specs.Clauses.Conditions.{AreInstallable, IsProtected}

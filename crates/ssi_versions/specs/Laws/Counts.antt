@@ -1,6 +1,6 @@
 -- How many versions are held, and of how many keys, told from a list that agrees with what is held key by key.
 use Rattle.std.specs.Prelude.{◌≡◌, List, length}
-use Rattle.adya_values.specs.Meaning.Keys.{Key}
+use Rattle.adya_keys.specs.Meaning.Keys.{Key}
 use Rattle.ssi_versions.specs.Meaning.Changes.{Change, Held, held, held_count, key_count}
 use Rattle.ssi_versions.specs.Mirror.{chain_of, key_total}
 

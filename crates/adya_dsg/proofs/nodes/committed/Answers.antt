@@ -2,7 +2,7 @@ use Rattle.std.proofs.Common.{◌<◌, ◌∙◌, All, Vec, Global, ℕ, ◌++�
 use Rattle.std.specs.List.{cons_option}
 use Rattle.std.proofs.lemmas.List.Elements.{All-push}
 use Rattle.std.proofs.lemmas.Grind.{common_steps}
-use Rattle.adya_values.specs.Meaning.Keys.{IsTxn}
+use Rattle.adya_keys.specs.Meaning.Keys.{IsTxn}
 use Rattle.adya_values.specs.Mirror.Events.{events_of}
 use Rattle.adya_dsg.proofs.CommittedNodes.{one_more}
 use Rattle.adya_dsg.proofs.nodes.committed.Goals as goal

@@ -1,5 +1,5 @@
 use Rattle.std.proofs.Common.{◌≡◌, All, take}
-use Rattle.adya_values.specs.Meaning.Keys.{IsTxn}
+use Rattle.adya_keys.specs.Meaning.Keys.{IsTxn}
 use Rattle.adya_values.specs.Mirror.Events.{events_of}
 use Rattle.adya_dsg.specs.Machinery.Nodes.{committed}
 use Rattle.adya_dsg.proofs.nodes.committed.Given as goal

@@ -2,7 +2,7 @@ use Rattle.std.proofs.Common.{◌∙◌, ap, falls, [], ◌∷◌, ◌++◌, tak
 use Rattle.std.proofs.lemmas.Bool.{false≢true}
 use Rattle.std.proofs.lemmas.Result.{IfOk-from_err}
 use Rattle.std.proofs.lemmas.List.{take_all, take_more}
-use Rattle.adya_values.specs.Meaning.Keys.{IsTxn}
+use Rattle.adya_keys.specs.Meaning.Keys.{IsTxn}
 use Rattle.adya_dsg.proofs.nodes.serial_of.Goals as goal
 
 pub returns : goal.returns

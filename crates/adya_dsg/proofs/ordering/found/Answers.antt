@@ -1,6 +1,6 @@
 use Rattle.std.proofs.Common.{All, map, sym, subst, ◌∙◌}
 use Rattle.digraph.specs.Clauses.Graphs.{IsCycle as IsArcCycle, IsOrderOrCycle}
-use Rattle.adya_values.specs.Meaning.Keys.{IsTxn}
+use Rattle.adya_keys.specs.Meaning.Keys.{IsTxn}
 use Rattle.adya_values.specs.Computing.EdgeList.{edge_list}
 use Rattle.adya_values.specs.Clauses.Acceptance.{IsAccepted}
 use Rattle.adya_dsg.specs.Machinery.Arcs.{AreEnds}

@@ -1,7 +1,7 @@
 use Rattle.std.proofs.Common.{refl, sym, ◌∙◌, ap, arith}
 use Rattle.std.proofs.lemmas.Bool.{ltb-true, ltb-false}
 use Rattle.adya_terms.specs.Clauses.Checked.{history_in}
-use Rattle.adya_values.specs.Meaning.Keys.{key_lt}
+use Rattle.adya_keys.specs.Meaning.Keys.{key_lt}
 use Rattle.adya_dsg.specs.Machinery.Choices.{key_at}
 use Rattle.adya_dsg.specs.Machinery.VersionOrders.{ordered_history}
 use Rattle.adya_dsg.proofs.Lines.{lines_rise, line_from, line_once}

@@ -6,7 +6,7 @@ use Rattle.adya_dsg.specs.Machinery.Choices.{key_at}
 use Rattle.adya_dsg.specs.Machinery.VersionOrders.{ordered_history, ordered_entry, ordered_events, numbered}
 use Rattle.adya_values.specs.declared.seen.Seen.{Seen}
 use Rattle.adya_values.specs.Meaning.Events.{listed}
-use Rattle.adya_values.specs.Meaning.Keys.{key_lt}
+use Rattle.adya_keys.specs.Meaning.Keys.{key_lt}
 use Rattle.adya_values.specs.Mirror.Numbers.{has_seen}
 use Rattle.adya_dsg.proofs.Listed.{passed_over}
 use Rattle.adya_dsg.proofs.selection.reached.Goals as goal

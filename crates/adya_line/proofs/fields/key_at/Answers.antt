@@ -1,5 +1,5 @@
 use Rattle.std.proofs.Common.{arith}
-use Rattle.adya_values.specs.Meaning.Keys.{is_key_byte}
+use Rattle.adya_keys.specs.Meaning.Keys.{is_key_byte}
 use Rattle.adya_line.proofs.LineParts.{front_good}
 use Rattle.adya_line.proofs.fields.key_at.Goals as goal
 

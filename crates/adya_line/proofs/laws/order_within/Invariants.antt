@@ -1,6 +1,6 @@
 use Rattle.std.proofs.Common.{take}
 use Rattle.std.specs.List.{AllByRecursion}
-use Rattle.adya_values.specs.Meaning.Keys.{IsTxn}
+use Rattle.adya_keys.specs.Meaning.Keys.{IsTxn}
 use Rattle.adya_line.proofs.laws.order_within.Given as goal
 
 abbrev pub invariant-loop-txn : goal.invariant-loop-txn

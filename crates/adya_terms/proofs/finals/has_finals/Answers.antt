@@ -1,8 +1,8 @@
 use Rattle.std.proofs.Common.{◌≡◌, ◌+◌, ◌∙◌, ◌||◌, ◌&&◌, Bool, Option, Some, None, List, true, false, not, ap, arith, drop, is_none, is_some, option_map, refl, sym, ℕ}
 use Rattle.std.specs.List.{list_all}
-use Rattle.adya_values.specs.declared.value.Value.{Value}
+use Rattle.adya_keys.specs.declared.value.Value.{Value}
 use Rattle.adya_values.specs.Meaning.Histories.{Order}
-use Rattle.adya_values.specs.Mirror.Events.{value_of}
+use Rattle.adya_keys.specs.Mirror.{value_of}
 use Rattle.adya_values.specs.Mirror.Lines.{finals_of, orders_of}
 use Rattle.adya_values.specs.Clauses.Rules.{final_value}
 use Rattle.adya_values.specs.Computing.Faults.{last_value}

@@ -1,6 +1,6 @@
 use Rattle.std.proofs.Common.{◌∙◌, ap, refl, slice_get, subst, []}
 use Rattle.adya_values.specs.Meaning.Histories.{Order}
-use Rattle.adya_values.specs.Mirror.Events.{value_of}
+use Rattle.adya_keys.specs.Mirror.{value_of}
 use Rattle.adya_values.specs.Mirror.Lines.{orders_of}
 use Rattle.adya_values.specs.Computing.Faults.{is_value, last_value}
 use Rattle.adya_values.proofs.KeyLookups.{line_missing}

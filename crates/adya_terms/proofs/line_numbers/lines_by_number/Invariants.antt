@@ -1,4 +1,4 @@
-use Rattle.adya_values.specs.Machinery.Indices.{indices_in}
+use Rattle.adya_keys.specs.Machinery.Indices.{indices_in}
 use Rattle.adya_values.specs.Mirror.Lines.{orders_of}
 use Rattle.adya_values.specs.Mirror.Numbers.{keys_of}
 use Rattle.adya_terms.specs.Mirror.LineNumbers.{FindsLines}

@@ -2,7 +2,7 @@ use Rattle.std.proofs.Common.{◌<◌, ◌∙◌, subst, sym}
 use Rattle.std.proofs.lemmas.Bool.{both_ways}
 use Rattle.lemmas.proofs.Orderings.{bytes_eq-from, bytes_eq-same}
 use Rattle.adya_values.specs.Meaning.Histories.{Order}
-use Rattle.adya_values.specs.Meaning.Keys.{Key}
+use Rattle.adya_keys.specs.Meaning.Keys.{Key}
 use Rattle.adya_values.specs.Mirror.Lines.{orders_of}
 use Rattle.adya_terms.proofs.Compared.{none_found, none_same, when_other, when_same}
 use Rattle.adya_terms.proofs.listed.is_of.Goals as goal

@@ -1,7 +1,7 @@
 -- The numbers so far are within their limits.
 use Rattle.std.proofs.Common.{take}
 use Rattle.std.specs.List.{AllByRecursion}
-use Rattle.adya_values.specs.Meaning.Keys.{IsTxn}
+use Rattle.adya_keys.specs.Meaning.Keys.{IsTxn}
 use Rattle.adya_text.proofs.laws.txns_within.Given as goal
 
 abbrev pub invariant-loop-txn : goal.invariant-loop-txn

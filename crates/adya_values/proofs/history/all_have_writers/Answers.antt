@@ -2,7 +2,7 @@ use Rattle.std.proofs.Common.{◌≡◌, ◌∙◌, ◌+◌, ◌==◌, ◌&&◌,
 use Rattle.std.specs.List.{list_all}
 use Rattle.adya_values.specs.Meaning.Histories.{Order}
 use Rattle.adya_values.specs.Mirror.Lines.{orders_of}
-use Rattle.adya_values.proofs.PackedLines.{all_from, none_left}
+use Rattle.adya_keys.proofs.PackedLines.{all_from, none_left}
 use Rattle.adya_values.proofs.history.all_have_writers.Goals as goal
 
 pub returns-then-is_empty : goal.returns-then-is_empty

@@ -1,6 +1,6 @@
 use Rattle.std.proofs.Common.{ap, sym, subst, ◌∙◌, take, slice_get, option_map, if◌then◌else◌, ◌&&◌, Some}
 use Rattle.adya_values.specs.Mirror.Events.{entry_of, events_of, view_of}
-use Rattle.adya_values.specs.Meaning.Keys.{key_eq}
+use Rattle.adya_keys.specs.Meaning.Keys.{key_eq}
 use Rattle.std.specs.BTreeMap.{is_at}
 use Rattle.std.specs.Ordering.{nat_cmp}
 use Rattle.ssi_recorder.specs.Machinery.Lines.{put_at, write_by, AreLines}

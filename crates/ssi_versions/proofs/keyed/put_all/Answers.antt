@@ -1,5 +1,5 @@
 use Rattle.std.proofs.Common.{rules, arith, get_or, ◌≡◌, ◌++◌, [], ◌∷◌, false, subst, sym, ◌<◌, ◌+◌, length, ◌∙◌, ap, take, map, if◌then◌else◌}
-use Rattle.adya_values.specs.Meaning.Keys.{key_eq}
+use Rattle.adya_keys.specs.Meaning.Keys.{key_eq}
 use Rattle.ssi_versions.specs.Mirror.{held_of, chain_of}
 use Rattle.ssi_versions.specs.Machinery.Plain.{as_held}
 use Rattle.ssi_versions.specs.Machinery.Keyed.{held_at, filled_count}

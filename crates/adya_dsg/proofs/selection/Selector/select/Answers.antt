@@ -3,7 +3,7 @@ use Rattle.std.specs.List.{list_all}
 use Rattle.std.proofs.lemmas.Result.{on_ok_weaker}
 use Rattle.adya_values.specs.Meaning.Events.{observed}
 use Rattle.adya_values.specs.Meaning.Histories.{Entry, Scan}
-use Rattle.adya_values.specs.Meaning.Keys.{keys_rise}
+use Rattle.adya_keys.specs.Meaning.Keys.{keys_rise}
 use Rattle.adya_values.specs.Computing.Faults.{first_fault}
 use Rattle.adya_values.specs.Clauses.Rules.{IsRising}
 use Rattle.adya_values.specs.Mirror.Numbers.{both_at, keys_of, has_seen}

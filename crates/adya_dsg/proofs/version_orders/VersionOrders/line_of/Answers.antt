@@ -1,6 +1,6 @@
 use Rattle.std.proofs.Common.{◌≡◌, ◌<◌, ◌∙◌, ◌-◌, arith, length, slice_get, suc, sym, subst, pos_of_ne-zero}
 use Rattle.std.proofs.lemmas.Option.{get_or_from_slice_get}
-use Rattle.adya_values.specs.Machinery.Indices.{indices_in}
+use Rattle.adya_keys.specs.Machinery.Indices.{indices_in}
 use Rattle.adya_terms.specs.Mirror.LineNumbers.{key_of}
 use Rattle.adya_dsg.specs.Machinery.VersionOrders.{ordered_history, numbered}
 use Rattle.adya_dsg.proofs.version_orders.VersionOrders.line_of.Goals as goal

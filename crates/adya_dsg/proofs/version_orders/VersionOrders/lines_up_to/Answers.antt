@@ -2,7 +2,7 @@ use Rattle.std.proofs.Common.{◌≡◌, ap, sym, ◌∙◌, arith, inl, inr}
 use Rattle.std.proofs.lemmas.Bool.{cases_lt, false_from_ne_true}
 use Rattle.adya_terms.specs.Clauses.Checked.{history_in}
 use Rattle.lemmas.proofs.Orderings.{bytes_lt-apart}
-use Rattle.adya_values.specs.Meaning.Keys.{key_lt}
+use Rattle.adya_keys.specs.Meaning.Keys.{key_lt}
 use Rattle.adya_dsg.specs.Machinery.Choices.{key_at}
 use Rattle.adya_dsg.specs.Machinery.VersionOrders.{ordered_history, numbered}
 use Rattle.adya_dsg.proofs.Keys.{lt-other, lt-turned}

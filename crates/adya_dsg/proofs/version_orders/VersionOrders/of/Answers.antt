@@ -1,7 +1,7 @@
 use Rattle.std.proofs.Common.{refl, length, subst, sym}
 use Rattle.std.proofs.lemmas.Result.{IfOk-from_err}
 use Rattle.adya_values.specs.declared.events.Events.{Events}
-use Rattle.adya_values.specs.Machinery.Indices.{indices_in}
+use Rattle.adya_keys.specs.Machinery.Indices.{indices_in}
 use Rattle.adya_values.specs.Mirror.Numbers.{keys_of}
 use Rattle.adya_terms.specs.Clauses.Checked.{checked_history}
 use Rattle.adya_terms.specs.Mirror.LineNumbers.{FindsLines}

@@ -1,7 +1,7 @@
 use Rattle.std.proofs.Common.{◌≡◌, ◌≤◌, true, List, map, length, subst}
 use Rattle.adya_values.specs.Meaning.Histories.{Order}
-use Rattle.adya_values.specs.Meaning.Keys.{keys_rise}
-use Rattle.adya_values.specs.Mirror.Lines.{IsBelow}
+use Rattle.adya_keys.specs.Meaning.Keys.{keys_rise}
+use Rattle.adya_keys.specs.Mirror.{IsBelow}
 use Rattle.adya_dsg.specs.Machinery.VersionOrders.{ordered_history}
 use Rattle.adya_dsg.proofs.Lines.{keys_below, keys_from}
 use Rattle.adya_dsg.proofs.version_orders.VersionOrders.orders_below.Goals as goal

@@ -1,7 +1,7 @@
 use Rattle.std.proofs.Common.{◌≡◌, ◌∙◌, ℕ, List, ap, length, subst, is_none}
 use Rattle.adya_terms.proofs.Parts.{found_whole, faultless_whole}
 use Rattle.adya_terms.proofs.Judged.{refused_when_found}
-use Rattle.adya_values.specs.Machinery.Indices.{indices_in}
+use Rattle.adya_keys.specs.Machinery.Indices.{indices_in}
 use Rattle.adya_values.specs.Mirror.Events.{events_of}
 use Rattle.adya_values.specs.Mirror.Lines.{finals_of, orders_of}
 use Rattle.adya_values.specs.Mirror.Histories.{history_of}

@@ -6,9 +6,10 @@ use Rattle.adya_values.specs.declared.event.Version.{Version}
 use Rattle.adya_values.specs.declared.events.Events.{Events}
 use Rattle.adya_values.specs.Meaning.Events.{is_committed}
 use Rattle.adya_values.specs.Meaning.Histories.{Entry}
-use Rattle.adya_values.specs.Machinery.Seen.{key_at}
+use Rattle.adya_keys.specs.Machinery.Within.{key_at}
 use Rattle.adya_values.specs.Mirror.Events.{events_of}
-use Rattle.adya_values.specs.Mirror.Numbers.{keys_of, number_in, version_in}
+use Rattle.adya_values.specs.Mirror.Numbers.{keys_of, version_in}
+use Rattle.adya_keys.specs.Mirror.{number_in}
 use Rattle.adya_terms.specs.declared.event_index.EventIndex.{EventIndex}
 use Rattle.adya_terms.specs.Machinery.EventIndex.{events_in, indexed, keys_in, last_in}
 use Rattle.adya_terms.specs.Machinery.Places.{Installs}

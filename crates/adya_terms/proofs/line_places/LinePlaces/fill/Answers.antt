@@ -1,5 +1,5 @@
 use Rattle.std.proofs.Common.{◌<◌, ◌^◌, ◌∙◌, length, refl, rules, sym}
-use Rattle.adya_values.specs.Machinery.Indices.{indices_in}
+use Rattle.adya_keys.specs.Machinery.Indices.{indices_in}
 use Rattle.adya_terms.proofs.ReadPlaces.{filled_at, fits_more, no_line, starts_kept}
 use Rattle.adya_terms.proofs.line_places.LinePlaces.fill.Goals as goal
 

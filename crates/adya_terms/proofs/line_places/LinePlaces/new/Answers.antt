@@ -1,6 +1,6 @@
 use Rattle.std.proofs.Common.{ap, length, replicate, sym}
 use Rattle.adya_values.specs.Mirror.Lines.{orders_of}
-use Rattle.adya_values.specs.Machinery.Indices.{indices_in}
+use Rattle.adya_keys.specs.Machinery.Indices.{indices_in}
 use Rattle.adya_terms.specs.Machinery.LinePlaces.{blank}
 use Rattle.adya_terms.proofs.LineParts.{line_added, named_is}
 use Rattle.adya_terms.proofs.line_places.LinePlaces.new.Goals as goal

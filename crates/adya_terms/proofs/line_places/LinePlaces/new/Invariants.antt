@@ -1,5 +1,5 @@
 use Rattle.adya_values.specs.Mirror.Lines.{orders_of}
-use Rattle.adya_values.specs.Machinery.Indices.{indices_in}
+use Rattle.adya_keys.specs.Machinery.Indices.{indices_in}
 use Rattle.adya_terms.specs.Machinery.LinePlaces.{blank, AreParts}
 use Rattle.adya_terms.proofs.line_places.LinePlaces.new.Given as goal
 

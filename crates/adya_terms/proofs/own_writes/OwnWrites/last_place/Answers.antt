@@ -1,7 +1,7 @@
 use Rattle.std.proofs.Common.{◌≡◌, ◌∙◌, ◌<◌, ℕ, length, Option, None, option_and_then, sym, ap, subst}
 use Rattle.std.specs.Option.{option_or}
 use Rattle.txn_table.specs.Mirror.{value_for}
-use Rattle.adya_values.specs.Machinery.Seen.{key_at}
+use Rattle.adya_keys.specs.Machinery.Within.{key_at}
 use Rattle.adya_values.specs.Mirror.Numbers.{keys_of}
 use Rattle.adya_terms.specs.declared.own_writes.Chain.{Chain}
 use Rattle.adya_terms.specs.declared.own_writes.OwnWrites.{OwnWrites}

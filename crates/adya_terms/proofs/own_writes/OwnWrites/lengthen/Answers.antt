@@ -4,8 +4,9 @@ use Rattle.txn_table.specs.Mirror.{value_for}
 use Rattle.adya_terms.specs.declared.own_writes.Chain.{Chain}
 use Rattle.adya_terms.specs.declared.own_writes.Row.{Row}
 use Rattle.adya_terms.specs.Machinery.Tables.{Own}
-use Rattle.adya_values.specs.Mirror.Numbers.{keys_of, AreNumbered}
-use Rattle.adya_values.specs.Meaning.Keys.{Key}
+use Rattle.adya_values.specs.Mirror.Numbers.{keys_of}
+use Rattle.adya_keys.specs.Mirror.{AreNumbered}
+use Rattle.adya_keys.specs.Meaning.Keys.{Key}
 use Rattle.adya_terms.specs.Machinery.Chains.{longer, own_place, row, AreFew, AreKnown, AreLinked}
 use Rattle.adya_terms.proofs.Chains.{few_longer, linked_longer, linked_stays, longer_is}
 use Rattle.adya_terms.proofs.own_writes.OwnWrites.lengthen.Goals as goal

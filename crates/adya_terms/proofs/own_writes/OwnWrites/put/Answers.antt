@@ -1,8 +1,8 @@
 use Rattle.std.proofs.Common.{◌≡◌, ◌==◌, ◌<◌, ◌++◌, [], ◌∷◌, ℕ, Bor, List, Some, cond, ap, subst, Option, Ok, Err, Result, IfOk, ◌∙◌}
 use Rattle.std.specs.declared.alloc.AllocError.{AllocError}
 use Rattle.txn_table.specs.Mirror.{value_for}
-use Rattle.adya_values.specs.Meaning.Keys.{Key}
-use Rattle.adya_values.specs.Machinery.Seen.{key_at}
+use Rattle.adya_keys.specs.Meaning.Keys.{Key}
+use Rattle.adya_keys.specs.Machinery.Within.{key_at}
 use Rattle.adya_values.specs.Mirror.Numbers.{keys_of}
 use Rattle.std.specs.BTreeMap.{BTreeMap}
 use Rattle.adya_values.specs.declared.events.Events.{Events}

@@ -1,9 +1,10 @@
 use Rattle.std.proofs.Common.{◌≡◌, ℕ, List, Some, cond, length, subst, Option, Ok, Err, Result, IfOk, OnErr, ◌∙◌}
 use Rattle.std.specs.declared.alloc.AllocError.{AllocError}
 use Rattle.txn_table.specs.Mirror.{value_for}
-use Rattle.adya_values.specs.Meaning.Keys.{Key}
-use Rattle.adya_values.specs.Machinery.Seen.{key_at}
-use Rattle.adya_values.specs.Mirror.Numbers.{keys_of, AreNumbered}
+use Rattle.adya_keys.specs.Meaning.Keys.{Key}
+use Rattle.adya_keys.specs.Machinery.Within.{key_at}
+use Rattle.adya_values.specs.Mirror.Numbers.{keys_of}
+use Rattle.adya_keys.specs.Mirror.{AreNumbered}
 use Rattle.std.specs.Prelude.{◌&&◌, IsSome}
 use Rattle.std.specs.Ordering.{is_eq, nat_cmp}
 use Rattle.std.specs.Cmp.Lexicographic.{slice_cmp}

@@ -1,7 +1,7 @@
 use Rattle.std.proofs.Common.{◌≡◌, ◌∙◌, ◌-◌, ℕ, List, Option, ap, arith, slice_get, slice_index, suc, sym}
 use Rattle.std.specs.Option.{unwrap_or}
 use Rattle.std.proofs.lemmas.Option.{unwrap_or-slice_get}
-use Rattle.adya_values.specs.Machinery.Indices.{indices_in}
+use Rattle.adya_keys.specs.Machinery.Indices.{indices_in}
 use Rattle.adya_terms.proofs.placing.Placing.line.Goals as goal
 
 found : (xs : List ℕ) (k : ℕ) (o : Option ℕ) (above : ℕ) → o ≡ slice_get xs k → above ≡ unwrap_or o 0 → slice_index xs k ≡ above

@@ -1,7 +1,7 @@
 use Rattle.std.proofs.Common.{◌≡◌, ◌<◌, ◌∙◌, Some, ap, refl, slice_get, subst, suc, sym}
 use Rattle.std.proofs.lemmas.Result.{IfOk-from_err}
-use Rattle.adya_values.specs.declared.indices.Indices.{Indices}
-use Rattle.adya_values.specs.Machinery.Indices.{indices_in}
+use Rattle.adya_keys.specs.declared.indices.Indices.{Indices}
+use Rattle.adya_keys.specs.Machinery.Indices.{indices_in}
 use Rattle.adya_terms.specs.Machinery.LinePlaces.{named, writers_at}
 use Rattle.adya_terms.specs.Machinery.LineWriters.{IsPlaceOf}
 use Rattle.adya_terms.specs.Machinery.Places.{orders_in, AreLines}

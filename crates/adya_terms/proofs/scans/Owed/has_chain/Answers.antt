@@ -1,5 +1,5 @@
 use Rattle.std.proofs.Common.{◌≡◌, suc, ◌+◌, ◌-◌, ◌∙◌, ℕ, Bool, sym, ap, None, Some, arith}
-use Rattle.adya_values.specs.Machinery.Seen.{key_at}
+use Rattle.adya_keys.specs.Machinery.Within.{key_at}
 use Rattle.adya_values.specs.Mirror.Numbers.{keys_of}
 use Rattle.adya_terms.specs.Machinery.Chains.{chain_passes, row_at}
 use Rattle.adya_terms.specs.Machinery.Owed.{passes}

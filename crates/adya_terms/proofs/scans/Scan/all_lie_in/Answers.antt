@@ -1,5 +1,5 @@
 use Rattle.std.proofs.Common.{◌∙◌, ◌&&◌, ap, sym}
-use Rattle.adya_values.specs.Meaning.Keys.{key_le}
+use Rattle.adya_keys.specs.Meaning.Keys.{key_le}
 use Rattle.adya_terms.specs.Machinery.Scans.{key_seen}
 use Rattle.adya_terms.proofs.Bounds.{all_lie}
 use Rattle.adya_terms.proofs.scans.Scan.all_lie_in.Goals as goal

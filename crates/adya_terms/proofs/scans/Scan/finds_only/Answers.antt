@@ -4,13 +4,13 @@ use Rattle.std.specs.Ordering.{nat_cmp}
 use Rattle.std.specs.Cmp.Lexicographic.{slice_cmp}
 use Rattle.std.proofs.lemmas.Fn.{always_returns_same}
 use Rattle.adya_values.specs.declared.seen.Seen.{Seen}
-use Rattle.adya_values.specs.Meaning.Keys.{key_eq, keys_rise}
+use Rattle.adya_keys.specs.Meaning.Keys.{key_eq, keys_rise}
 use Rattle.adya_values.specs.Meaning.Histories.{Entry}
 use Rattle.adya_values.specs.Mirror.Numbers.{has_seen, seen_entry}
 use Rattle.adya_values.specs.Computing.Faults.{is_entry}
 use Rattle.lemmas.proofs.Orderings.{search_misses_test, tied_bytes}
 use Rattle.adya_values.proofs.Entries.{entry_eq-turned}
-use Rattle.adya_values.proofs.Keys.{rises_pairs}
+use Rattle.adya_keys.proofs.Keys.{rises_pairs}
 use Rattle.adya_terms.specs.Machinery.Scans.{key_seen, listed}
 use Rattle.adya_values.specs.Mirror.Events.{events_of}
 use Rattle.adya_terms.specs.Machinery.Tables.{written_at}

@@ -3,7 +3,7 @@ use Rattle.std.specs.List.{list_all}
 use Rattle.std.proofs.Math.Bool.{false≢true}
 use Rattle.std.proofs.lemmas.Bool.{and_from}
 use Rattle.std.proofs.lemmas.List.Folds.{list_all-map}
-use Rattle.adya_values.specs.Meaning.Keys.{key_le, keys_rise, lies_in}
+use Rattle.adya_keys.specs.Meaning.Keys.{key_le, keys_rise, lies_in}
 use Rattle.adya_values.specs.Meaning.Histories.{Entry}
 use Rattle.adya_terms.specs.Machinery.Scans.{key_seen, listed}
 use Rattle.adya_terms.proofs.Numbers.{seen_keys}

@@ -2,8 +2,8 @@ use Rattle.std.proofs.Common.{◌≡◌, ◌∙◌, ◌+◌, ◌-◌, ◌<◌, �
 use Rattle.std.proofs.lemmas.List.{length-map}
 use Rattle.std.proofs.lemmas.Option.{slice_get-get_or}
 use Rattle.adya_values.specs.declared.seen.Seen.{Seen}
-use Rattle.adya_values.specs.Meaning.Keys.{key_lt, keys_rise}
-use Rattle.adya_values.proofs.RisingKeys.{rise_before, rise_end}
+use Rattle.adya_keys.specs.Meaning.Keys.{key_lt, keys_rise}
+use Rattle.adya_keys.proofs.RisingKeys.{rise_before, rise_end}
 use Rattle.adya_terms.specs.declared.scans.Scan.{Scan}
 use Rattle.adya_terms.proofs.Bounds.{entry_key, entry_keys}
 use Rattle.adya_terms.proofs.scans.Scan.keys_rise.Goals as goal

@@ -1,6 +1,6 @@
 -- The keys before the index rise, so they all do if those from the one before it on do.
 use Rattle.std.proofs.Common.{◌≡◌, ◌-◌, ◌≤◌, drop, map}
-use Rattle.adya_values.specs.Meaning.Keys.{keys_rise}
+use Rattle.adya_keys.specs.Meaning.Keys.{keys_rise}
 use Rattle.adya_terms.proofs.Bounds.{entry_key}
 use Rattle.adya_terms.proofs.scans.Scan.keys_rise.Given as goal
 

@@ -5,8 +5,8 @@ use Rattle.std.proofs.Math.Bool.{and-true, or-false}
 use Rattle.lemmas.proofs.Orderings.{bytes_eq-from}
 use Rattle.lemmas.proofs.Steps.{drop_step}
 use Rattle.adya_values.specs.declared.seen.Seen.{Seen}
-use Rattle.adya_values.specs.Meaning.Keys.{key_eq}
-use Rattle.adya_values.specs.Machinery.Seen.{key_at}
+use Rattle.adya_keys.specs.Meaning.Keys.{key_eq}
+use Rattle.adya_keys.specs.Machinery.Within.{key_at}
 use Rattle.adya_values.specs.Mirror.Numbers.{has_seen, keys_of, seen_entry}
 use Rattle.adya_values.specs.Computing.Faults.{entry_eq, is_entry}
 use Rattle.adya_terms.specs.declared.scans.Scan.{Scan}

@@ -3,7 +3,7 @@ use Rattle.std.specs.List.{list_all, list_any}
 use Rattle.adya_values.specs.Meaning.Histories.{Entry}
 use Rattle.adya_values.specs.Mirror.Events.{events_of}
 use Rattle.adya_values.specs.Mirror.Numbers.{keys_of, seen_entry}
-use Rattle.adya_values.specs.Machinery.Seen.{key_at}
+use Rattle.adya_keys.specs.Machinery.Within.{key_at}
 use Rattle.adya_values.specs.Computing.Faults.{entry_eq, lists_only}
 use Rattle.adya_terms.specs.Machinery.Checks.{is_of_key}
 use Rattle.adya_terms.specs.Machinery.Tables.{written_at}

@@ -1,7 +1,8 @@
 use Rattle.std.proofs.Common.{◌≡◌, Option, Some, None, option_and_then, ap, refl}
 use Rattle.adya_terms.specs.declared.tables.Ended.{Ended}
 use Rattle.std.specs.HashMap.{get}
-use Rattle.adya_values.specs.Mirror.Numbers.{keys_of, number_in}
+use Rattle.adya_values.specs.Mirror.Numbers.{keys_of}
+use Rattle.adya_keys.specs.Mirror.{number_in}
 use Rattle.adya_terms.specs.Machinery.Telling.{numbered_eq, with_number}
 use Rattle.adya_terms.proofs.Tells.{tell_none}
 use Rattle.adya_terms.proofs.tables.Tables.new.Goals as goal

@@ -4,7 +4,8 @@ use Rattle.std.specs.HashMap.{get}
 use Rattle.adya_values.specs.declared.events.Events.{Events}
 use Rattle.adya_values.specs.Meaning.Histories.{Entry}
 use Rattle.adya_values.specs.Mirror.Events.{events_of}
-use Rattle.adya_values.specs.Mirror.Numbers.{keys_of, number_in, version_in}
+use Rattle.adya_values.specs.Mirror.Numbers.{keys_of, version_in}
+use Rattle.adya_keys.specs.Mirror.{number_in}
 use Rattle.adya_terms.specs.Machinery.OwnWrites.{place_of}
 use Rattle.adya_terms.specs.Machinery.Tables.{own, written_at}
 use Rattle.adya_terms.specs.Machinery.Telling.{keys_in, numbered_eq, replaced_in, told, with_number}

@@ -1,5 +1,6 @@
-use Rattle.adya_values.proofs.PackedParts.{all_stay_in, front_same}
-use Rattle.adya_values.specs.Machinery.KeyTables.{keys_in}
+use Rattle.adya_values.proofs.PackedParts.{all_stay_in}
+use Rattle.adya_keys.proofs.Within.{front_same}
+use Rattle.adya_keys.specs.Machinery.KeyTables.{keys_in}
 use Rattle.std.proofs.Common.{refl}
 use Rattle.adya_values.proofs.arena.Arena.add.Goals as goal
 

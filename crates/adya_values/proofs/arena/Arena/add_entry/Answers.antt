@@ -3,10 +3,11 @@ use Rattle.std.proofs.Math.Bool.{false≢true}
 use Rattle.std.proofs.lemmas.Result.{IfOk-from_err}
 use Rattle.std.specs.List.{list_all}
 use Rattle.std.specs.Result.{is_ok}
-use Rattle.adya_values.specs.Machinery.KeyTables.{keys_in}
+use Rattle.adya_keys.specs.Machinery.KeyTables.{keys_in}
 use Rattle.std.proofs.lemmas.List.{map-append}
 use Rattle.adya_values.specs.Machinery.Packed.{entry_of_seen, is_seen_of}
-use Rattle.adya_values.proofs.PackedParts.{front_same, front_trans, same_entries_in}
+use Rattle.adya_values.proofs.PackedParts.{same_entries_in}
+use Rattle.adya_keys.proofs.Within.{front_same, front_trans}
 use Rattle.adya_values.proofs.PackedRows.{all_with}
 use Rattle.adya_values.proofs.arena.Arena.add_entry.Goals as goal
 

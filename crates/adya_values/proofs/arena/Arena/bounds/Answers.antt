@@ -1,5 +1,5 @@
 use Rattle.std.proofs.Common.{◌≡◌, ◌∙◌, ◌<◌, Some, ap, length, map, slice_get, subst, sym, true}
-use Rattle.adya_values.specs.Machinery.KeyTables.{keys_in}
+use Rattle.adya_keys.specs.Machinery.KeyTables.{keys_in}
 use Rattle.adya_values.specs.Mirror.Events.{event_of_row}
 use Rattle.adya_values.specs.Mirror.Numbers.{bounds}
 use Rattle.adya_values.specs.Machinery.Packed.{entry_of_seen, is_listing, is_row_of, listing_of, scan_in}

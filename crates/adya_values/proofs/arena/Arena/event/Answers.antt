@@ -1,11 +1,12 @@
 use Rattle.std.proofs.Common.{◌≡◌, ◌∙◌, ◌<◌, Some, ap, length, map, subst, sym, true}
 use Rattle.std.specs.Prelude.{nat_lt}
 use Rattle.std.proofs.lemmas.Bool.{and_parts, ltb-true}
-use Rattle.adya_values.specs.Machinery.KeyTables.{keys_in}
+use Rattle.adya_keys.specs.Machinery.KeyTables.{keys_in}
 use Rattle.adya_values.specs.Meaning.Histories.{Delete, Read, Write}
-use Rattle.adya_values.specs.Mirror.Events.{event_of_row, value_of}
+use Rattle.adya_values.specs.Mirror.Events.{event_of_row}
+use Rattle.adya_keys.specs.Mirror.{value_of}
 use Rattle.adya_values.specs.Machinery.Packed.{entry_of_seen, is_listing, is_row_of, scan_in}
-use Rattle.adya_values.specs.Machinery.Seen.{key_at}
+use Rattle.adya_keys.specs.Machinery.Within.{key_at}
 use Rattle.adya_values.specs.declared.arena.Listing.{Listing}
 use Rattle.adya_values.proofs.PackedRows.{found_listing, listing_within}
 use Rattle.adya_values.proofs.arena.Arena.event.Goals as goal

@@ -1,7 +1,7 @@
 use Rattle.std.proofs.Common.{◌≡◌, ◌∙◌, ◌-◌, ◌+◌, ap, sym, refl, arith, drop, take}
 use Rattle.adya_values.specs.Meaning.Histories.{Live}
-use Rattle.adya_values.specs.Meaning.Keys.{key_eq}
-use Rattle.adya_values.specs.Machinery.Seen.{part}
+use Rattle.adya_keys.specs.Meaning.Keys.{key_eq}
+use Rattle.adya_keys.specs.Machinery.Within.{part}
 use Rattle.adya_values.specs.Computing.Faults.{content_eq}
 use Rattle.adya_values.proofs.PackedParts.{live_content}
 use Rattle.adya_values.proofs.arena.Arena.is_content.Goals as goal

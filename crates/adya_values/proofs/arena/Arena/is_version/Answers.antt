@@ -1,9 +1,9 @@
 use Rattle.std.proofs.Common.{◌∙◌, ◌==◌, ◌&&◌, ap, length}
-use Rattle.adya_values.specs.Machinery.KeyTables.{keys_in}
+use Rattle.adya_keys.specs.Machinery.KeyTables.{keys_in}
 use Rattle.std.proofs.lemmas.Bool.{and_parts, ltb-true}
 use Rattle.std.specs.Prelude.{nat_lt}
 use Rattle.adya_values.specs.declared.event.NumberedVersion.{NumberedVersion}
-use Rattle.adya_values.proofs.KeyNumbers.{same_number}
+use Rattle.adya_keys.proofs.KeyNumbers.{same_number}
 use Rattle.adya_values.proofs.arena.Arena.is_version.Goals as goal
 
 pub returns : goal.returns

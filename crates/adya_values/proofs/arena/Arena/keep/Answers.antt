@@ -2,7 +2,7 @@ use Rattle.std.proofs.Common.{◌≡◌, ◌∙◌, ap, refl, subst, sym, true}
 use Rattle.std.proofs.lemmas.Result.{IfOk-weaker}
 use Rattle.adya_values.specs.Machinery.Packed.{entry_count, HasRoomIn}
 use Rattle.adya_values.specs.Meaning.Histories.{Delete, Read, Scan, Write}
-use Rattle.adya_values.specs.Meaning.Keys.{is_key}
+use Rattle.adya_keys.specs.Meaning.Keys.{is_key}
 use Rattle.adya_values.specs.Mirror.Events.{entries_of, view_of}
 use Rattle.adya_values.proofs.PackedRows.{extends_itself}
 use Rattle.adya_values.proofs.arena.Arena.keep.Goals as goal

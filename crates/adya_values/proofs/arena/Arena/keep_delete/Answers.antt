@@ -2,10 +2,10 @@ use Rattle.std.proofs.Common.{◌∙◌, ap, arith, refl, sym}
 use Rattle.std.proofs.Math.Bool.{false≢true}
 use Rattle.std.proofs.lemmas.Result.{IfOk-from_err}
 use Rattle.std.specs.Result.{is_ok}
-use Rattle.adya_values.specs.Machinery.KeyTables.{keys_in}
+use Rattle.adya_keys.specs.Machinery.KeyTables.{keys_in}
 use Rattle.adya_values.specs.Meaning.Histories.{Delete}
-use Rattle.adya_values.proofs.KeyChains.{takes_less}
-use Rattle.adya_values.proofs.PackedParts.{found_key}
+use Rattle.adya_keys.proofs.KeyChains.{takes_less}
+use Rattle.adya_keys.proofs.Within.{found_key}
 use Rattle.adya_values.proofs.PackedRows.{extends_keys}
 use Rattle.adya_values.proofs.arena.Arena.keep_delete.Goals as goal
 

@@ -1,13 +1,14 @@
 use Rattle.std.proofs.Common.{◌∙◌, length, ap, arith, refl, sym, subst, vec_capacity, vec_len}
-use Rattle.adya_values.specs.Machinery.KeyTables.{keys_in}
+use Rattle.adya_keys.specs.Machinery.KeyTables.{keys_in}
 use Rattle.std.proofs.Math.Bool.{false≢true}
 use Rattle.std.proofs.lemmas.Bool.{and_from}
 use Rattle.std.proofs.lemmas.Result.{IfOk-from_err}
 use Rattle.std.specs.Result.{is_ok}
 use Rattle.adya_values.specs.Meaning.Histories.{Read}
-use Rattle.adya_values.specs.Machinery.Seen.{part, IsKept}
-use Rattle.adya_values.proofs.KeyChains.{takes_less}
-use Rattle.adya_values.proofs.PackedParts.{IsKeyAt, found_key}
+use Rattle.adya_values.specs.Machinery.Seen.{IsKept}
+use Rattle.adya_keys.specs.Machinery.Within.{part}
+use Rattle.adya_keys.proofs.KeyChains.{takes_less}
+use Rattle.adya_keys.proofs.Within.{IsKeyAt, found_key}
 use Rattle.adya_values.proofs.PackedRows.{extends_bytes, extends_keys, extends_trans}
 use Rattle.adya_values.proofs.arena.Arena.keep_read.Goals as goal
 

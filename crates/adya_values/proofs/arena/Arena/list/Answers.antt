@@ -1,5 +1,5 @@
 use Rattle.std.proofs.Common.{◌≡◌, ◌∙◌, ◌+◌, ◌*◌, ◌≤◌, ℕ, length, map, ap, sym, subst, arith, refl, Vec, Global, vec_len, vec_capacity}
-use Rattle.adya_values.specs.Machinery.KeyTables.{keys_in, CanTake}
+use Rattle.adya_keys.specs.Machinery.KeyTables.{keys_in, CanTake}
 use Rattle.std.proofs.Math.Bool.{false≢true}
 use Rattle.std.proofs.lemmas.Result.{IfOk-from_err}
 use Rattle.std.specs.Result.{is_ok}
@@ -8,11 +8,11 @@ use Rattle.std.proofs.lemmas.Bool.{and_from, le-leb}
 use Rattle.std.proofs.lemmas.List.{length-append, length-map}
 use Rattle.adya_values.specs.Meaning.Histories.{Scan}
 use Rattle.adya_values.specs.Mirror.Events.{entries_of}
-use Rattle.adya_values.specs.Machinery.Seen.{key_at, part}
+use Rattle.adya_keys.specs.Machinery.Within.{key_at, part}
 use Rattle.adya_values.specs.Machinery.Packed.{entry_of_seen, listing_of}
-use Rattle.adya_values.proofs.PackedParts.{IsKeyAt, found_key, key_stays_in, last_part}
+use Rattle.adya_keys.proofs.Within.{IsKeyAt, found_key, key_stays_in, last_part}
 use Rattle.adya_values.proofs.PackedRows.{extends_keys, extends_trans}
-use Rattle.adya_values.proofs.KeyChains.{takes_less}
+use Rattle.adya_keys.proofs.KeyChains.{takes_less}
 use Rattle.adya_values.proofs.arena.Arena.list.Goals as goal
 
 pub returns-in_err-low-clause-extends : goal.returns-in_err-low-clause-extends

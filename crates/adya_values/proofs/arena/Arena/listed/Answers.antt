@@ -1,8 +1,8 @@
 use Rattle.std.proofs.Common.{◌≡◌, ◌-◌, ◌+◌, subst, sym, arith, true}
 use Rattle.std.specs.List.{list_all}
-use Rattle.adya_values.specs.Machinery.Seen.{part}
+use Rattle.adya_keys.specs.Machinery.Within.{part}
 use Rattle.adya_values.specs.Machinery.Packed.{is_seen_of}
-use Rattle.adya_values.proofs.PackedParts.{all_in_part}
+use Rattle.adya_keys.proofs.Within.{all_in_part}
 use Rattle.adya_values.proofs.arena.Arena.listed.Goals as goal
 
 pub returns-clause-there : goal.returns-clause-there

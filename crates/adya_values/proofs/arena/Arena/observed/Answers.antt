@@ -1,14 +1,16 @@
 use Rattle.std.proofs.Common.{◌≡◌, ◌∙◌, ◌<◌, ◌∷◌, [], Some, ap, refl, sym, subst, length, map, true}
 use Rattle.std.specs.Prelude.{nat_lt}
 use Rattle.std.proofs.lemmas.Bool.{and_from, and_parts}
-use Rattle.adya_values.specs.Machinery.KeyTables.{keys_in}
+use Rattle.adya_keys.specs.Machinery.KeyTables.{keys_in}
 use Rattle.adya_values.specs.Meaning.Events.{observed}
 use Rattle.adya_values.specs.Meaning.Histories.{Live}
 use Rattle.adya_values.specs.Mirror.Events.{event_of_row}
 use Rattle.adya_values.specs.declared.arena.Listing.{Listing}
-use Rattle.adya_values.specs.Machinery.Seen.{content_in, is_content, key_at, part}
+use Rattle.adya_values.specs.Machinery.Seen.{content_in, is_content}
+use Rattle.adya_keys.specs.Machinery.Within.{key_at, part}
 use Rattle.adya_values.specs.Machinery.Packed.{entry_of_seen, is_listing, is_row_of, scan_in}
-use Rattle.adya_values.proofs.PackedParts.{content_kept, part-map}
+use Rattle.adya_values.proofs.PackedParts.{content_kept}
+use Rattle.adya_keys.proofs.Within.{part-map}
 use Rattle.adya_values.proofs.PackedRows.{found_listing, listing_within}
 use Rattle.adya_values.proofs.arena.Arena.observed.Goals as goal
 

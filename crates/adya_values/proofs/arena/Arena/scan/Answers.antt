@@ -1,9 +1,10 @@
 use Rattle.std.proofs.Common.{◌≡◌, ◌∙◌, ap, sym, map, refl}
-use Rattle.adya_values.specs.Machinery.KeyTables.{keys_in}
+use Rattle.adya_keys.specs.Machinery.KeyTables.{keys_in}
 use Rattle.adya_values.specs.Meaning.Histories.{Scan}
-use Rattle.adya_values.specs.Machinery.Seen.{entry_in, key_at, part}
+use Rattle.adya_values.specs.Machinery.Seen.{entry_in}
+use Rattle.adya_keys.specs.Machinery.Within.{key_at, part}
 use Rattle.adya_values.specs.Machinery.Packed.{entry_of_seen}
-use Rattle.adya_values.proofs.PackedParts.{part-map}
+use Rattle.adya_keys.proofs.Within.{part-map}
 use Rattle.adya_values.proofs.arena.Arena.scan.Goals as goal
 
 pub invariant_of-result : goal.invariant_of-result

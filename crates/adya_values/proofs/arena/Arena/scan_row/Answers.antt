@@ -2,9 +2,9 @@ use Rattle.std.proofs.Common.{◌≡◌, ◌∙◌, ◌++◌, ◌∷◌, [], Som
 use Rattle.std.proofs.Math.Bool.{false≢true}
 use Rattle.std.proofs.lemmas.Result.{IfOk-from_err}
 use Rattle.std.specs.Result.{is_ok}
-use Rattle.adya_values.specs.Machinery.KeyTables.{keys_in}
+use Rattle.adya_keys.specs.Machinery.KeyTables.{keys_in}
 use Rattle.adya_values.specs.Machinery.Packed.{entry_of_seen, is_listing, scan_in}
-use Rattle.adya_values.proofs.PackedParts.{front_same, slice_get_end}
+use Rattle.adya_keys.proofs.Within.{front_same, slice_get_end}
 use Rattle.adya_values.proofs.PackedRows.{extends_itself}
 use Rattle.adya_values.proofs.arena.Arena.scan_row.Goals as goal
 

@@ -2,12 +2,13 @@ use Rattle.std.proofs.Common.{◌≡◌, ◌∙◌, ◌&&◌, ◌==◌, ℕ, zer
 use Rattle.std.specs.Prelude.{nat_lt}
 use Rattle.std.proofs.lemmas.Bool.{and_parts, ltb-true, ne_eqb}
 use Rattle.adya_values.specs.Computing.Faults.{content_eq, is_entry}
-use Rattle.adya_values.specs.Machinery.KeyTables.{keys_in}
+use Rattle.adya_keys.specs.Machinery.KeyTables.{keys_in}
 use Rattle.adya_values.specs.Machinery.Packed.{entry_of_seen, is_row_of, scan_in}
-use Rattle.adya_values.specs.Machinery.Seen.{content_in, part}
+use Rattle.adya_values.specs.Machinery.Seen.{content_in}
+use Rattle.adya_keys.specs.Machinery.Within.{part}
 use Rattle.adya_values.specs.Meaning.Events.{written}
 use Rattle.adya_values.specs.Meaning.Histories.{Dead, Entry, Live}
-use Rattle.adya_values.specs.Meaning.Keys.{Bytes, Key}
+use Rattle.adya_keys.specs.Meaning.Keys.{Bytes, Key}
 use Rattle.adya_values.specs.Mirror.Events.{event_of_row}
 use Rattle.adya_values.specs.declared.arena.Listing.{Listing}
 use Rattle.adya_values.proofs.arena.Arena.wrote.Goals as goal

@@ -1,5 +1,5 @@
-use Rattle.adya_values.proofs.KeyNumbers.{are_numbered}
-use Rattle.adya_values.specs.Machinery.KeyTables.{keys_in}
+use Rattle.adya_keys.proofs.KeyNumbers.{are_numbered}
+use Rattle.adya_keys.specs.Machinery.KeyTables.{keys_in}
 use Rattle.adya_values.proofs.events.Events.key_count.Goals as goal
 
 pub returns-clause-numbered : goal.returns-clause-numbered

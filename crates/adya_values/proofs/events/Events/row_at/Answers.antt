@@ -3,7 +3,7 @@ use Rattle.std.proofs.lemmas.List.{length-map}
 use Rattle.std.proofs.lemmas.Option.{slice_get-map, slice_get_read}
 use Rattle.adya_values.specs.Mirror.Events.{event_of_row}
 use Rattle.adya_values.specs.Machinery.Packed.{is_row_of}
-use Rattle.adya_values.proofs.PackedParts.{all_found}
+use Rattle.adya_keys.proofs.Within.{all_found}
 use Rattle.adya_values.proofs.events.Events.row_at.Goals as goal
 
 pub index-requires : goal.index-requires

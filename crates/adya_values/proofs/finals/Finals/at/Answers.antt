@@ -1,7 +1,7 @@
 use Rattle.std.proofs.Common.{◌∙◌, Some, ap, sym}
-use Rattle.adya_values.specs.Meaning.Keys.{Bytes, Key, is_value}
-use Rattle.adya_values.specs.Machinery.Lines.{lines_of}
-use Rattle.adya_values.proofs.PackedLines.{of_parts, one_of_all}
+use Rattle.adya_keys.specs.Meaning.Keys.{Bytes, Key, is_value}
+use Rattle.adya_keys.specs.Machinery.Lines.{lines_of}
+use Rattle.adya_keys.proofs.PackedLines.{of_parts, one_of_all}
 use Rattle.adya_values.proofs.finals.Finals.at.Goals as goal
 
 pub from_valid-requires : goal.from_valid-requires

@@ -3,7 +3,7 @@ use Rattle.std.proofs.Math.Bool.{false≢true}
 use Rattle.std.proofs.lemmas.Bool.{lt-ltb, ltb-true}
 use Rattle.std.proofs.lemmas.List.{length-map}
 use Rattle.std.proofs.lemmas.Option.{slice_get-map, slice_get_read}
-use Rattle.adya_values.specs.Machinery.KeyTables.{keys_in}
+use Rattle.adya_keys.specs.Machinery.KeyTables.{keys_in}
 use Rattle.adya_values.specs.Machinery.Seen.{entry_in}
 use Rattle.adya_values.specs.Mirror.Events.{entries_of, entry_of}
 use Rattle.adya_values.specs.Mirror.Refs.{view_entry}

@@ -1,5 +1,5 @@
 use Rattle.std.proofs.Common.{◌≡◌, ◌∙◌, ap, map, if◌then◌else◌, None, true}
-use Rattle.adya_values.specs.Meaning.Keys.{keys_rise, lies_in}
+use Rattle.adya_keys.specs.Meaning.Keys.{keys_rise, lies_in}
 use Rattle.adya_values.specs.Mirror.Events.{entry_of}
 use Rattle.adya_values.specs.Meaning.Events.{listed}
 use Rattle.ssi_versions.specs.Meaning.Changes.{otherwise, entry_in}

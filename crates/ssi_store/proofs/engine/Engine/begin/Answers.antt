@@ -1,6 +1,6 @@
 use Rattle.std.proofs.Common.{rules, arith, ap, refl, subst, sym, length, ◌+◌, ◌<◌, ◌∙◌, cond, Some}
 use Rattle.std.proofs.lemmas.Result.{err_from_is_err_and}
-use Rattle.adya_values.specs.Meaning.Keys.{key_eq}
+use Rattle.adya_keys.specs.Meaning.Keys.{key_eq}
 use Rattle.ssi_store.specs.Machinery.Opens.{open_at}
 use Rattle.ssi_store.proofs.RisingOpens.{below_same, below_next, below_begun}
 use Rattle.ssi_store.proofs.Begins.{begin_busy, begin_memory, begun}

@@ -3,7 +3,7 @@ use Rattle.std.proofs.lemmas.Result.{err_from_is_err_and}
 use Rattle.adya_values.specs.Mirror.Events.{entry_of, final_of}
 use Rattle.adya_values.specs.Meaning.Serial.{visible_pairs}
 use Rattle.ssi_store.specs.Meaning.Courses.{Scan}
-use Rattle.adya_values.proofs.KeyOrder.{key_le-from_not}
+use Rattle.adya_keys.proofs.KeyOrder.{key_le-from_not}
 use Rattle.ssi_store.proofs.Scans.{scan_idle, scan_range, scan_long, scan_memory, scan_is}
 use Rattle.ssi_store.proofs.engine.Engine.scan.Goals as goal
 

@@ -6,7 +6,7 @@ use Rattle.adya_values.specs.Meaning.Serial.{visible_pairs}
 use Rattle.ssi_snapshot.specs.Clauses.Listings.{up_to}
 use Rattle.ssi_snapshot.specs.Meaning.Reached.{reached}
 use Rattle.ssi_store.specs.Meaning.Courses.{ScanFirst}
-use Rattle.adya_values.proofs.KeyOrder.{key_le-from_not}
+use Rattle.adya_keys.proofs.KeyOrder.{key_le-from_not}
 use Rattle.ssi_store.proofs.LimitedScans.{first_idle, first_range, first_long, first_memory, first_is}
 use Rattle.ssi_store.proofs.engine.Engine.scan_first.Goals as goal
 

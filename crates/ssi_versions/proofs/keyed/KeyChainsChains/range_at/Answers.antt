@@ -1,5 +1,5 @@
 use Rattle.std.proofs.Common.{◌∙◌, ap, map}
-use Rattle.adya_values.specs.Meaning.Keys.{keys_rise}
+use Rattle.adya_keys.specs.Meaning.Keys.{keys_rise}
 use Rattle.ssi_versions.specs.Mirror.{found_in, key_in}
 use Rattle.ssi_versions.proofs.Entries.{chains_by_stamp, range_by_stamp}
 use Rattle.ssi_versions.proofs.InRange.{found_between, rising_between}

@@ -1,5 +1,5 @@
 use Rattle.std.proofs.Common.{ap, ◌∙◌, map}
-use Rattle.adya_values.specs.Meaning.Keys.{keys_rise}
+use Rattle.adya_keys.specs.Meaning.Keys.{keys_rise}
 use Rattle.ssi_versions.specs.Mirror.{held_of, found_in, key_in}
 use Rattle.ssi_versions.proofs.Ranges.{found_values, rising_values, seen_at}
 use Rattle.ssi_versions.proofs.plain.PlainChainsChains.range_at.Goals as goal

@@ -1,0 +1,11 @@
+pub mod Keys
+pub mod IndexRoom
+pub mod Within
+pub mod KeyNumbers
+pub mod KeyChains
+pub mod PackedLists
+pub mod PackedLines
+pub mod KeysRise
+pub mod KeyOrder
+pub mod RisingKeys
+pub mod Words
