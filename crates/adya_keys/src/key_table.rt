@@ -130,6 +130,8 @@ impl KeyTable {
     pub fn number(&mut self, key: &[u8]) -> Result<u32, AllocError>
         requires { is_key key.now ≡ true }
         ensures number { IfOk result (λ n. slice_get (keys_in self.new) n ≡ Some key.now) }
+        ensures known { IfSome (number_in (keys_in self.old) key.now) (λ _. keys_in self.new ≡ keys_in self.old) }
+        ensures added { IfNone (number_in (keys_in self.old) key.now) (OnOk result (keys_in self.new ≡ keys_in self.old ++ key.now ∷ [])) }
         ensures front { IsFront (keys_in self.old) (keys_in self.new) }
         ensures err { OnErr result (keys_in self.new ≡ keys_in self.old) }
         ensures count { length (keys_in self.new) ≤ length (keys_in self.old) + 1 }

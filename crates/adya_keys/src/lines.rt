@@ -110,6 +110,7 @@ impl<T: Copy> Lines<T> {
         true
     }
 
+    /// Returns where the lines take their memory.
     pub fn allocator(&self) -> Global {
         self.keys.allocator()
     }
