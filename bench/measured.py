@@ -52,13 +52,14 @@ def least(arguments, stdin, stdout, limit, runs=RUNS):
     return best
 
 
-def least_of_both(arguments, stdin, stdout, sorted_path, limit, runs=2 * RUNS):
-    """The same of a command, and the time of sorting the lines of a file, by turns: so both have the machine at its best."""
-    best, sorting = Run(arguments, stdin, stdout, limit), sort_time(sorted_path, limit, 1)
+def least_by_turns(commands, stdin, answers, sorted_path, limit, runs=2 * RUNS):
+    """The same of several commands, each with a file for its answer, and the time of sorting the lines of a file. They run by
+    turns, so each has the machine at its best."""
+    best, sorting = [Run(it, stdin, answer, limit) for it, answer in zip(commands, answers)], sort_time(sorted_path, limit, 1)
     for _ in range(runs - 1):
-        if best.is_late or best.status not in (0, 1):
-            break
-        best = min(best, Run(arguments, stdin, stdout, limit), key=lambda run: run.time)
+        for at, (command, answer) in enumerate(zip(commands, answers)):
+            if not best[at].is_late and best[at].status in (0, 1):
+                best[at] = min(best[at], Run(command, stdin, answer, limit), key=lambda run: run.time)
         sorting = min(sorting, sort_time(sorted_path, limit, 1))
     return best, sorting
 

@@ -1,0 +1,191 @@
+#!/usr/bin/env python3
+"""Looks up in the repository what its pages name.
+
+    scripts/pages.py
+
+In each page every link must lead to a file, and to the heading that it names, or to code or definitions that have the name of
+the link. In docs, README.md and bench/README.md, every file of code or definitions must be there, every name like
+`Rules.IsWellFormed` must stand in a file of definitions of that name, and every name with an underscore must occur
+somewhere. What docs/proved.md names of a crate, the edits and definitions in docs/verdicts.md, and the definitions in
+docs/glossary.md must be of the crate, and of the folder, that the page says. docs/edits.md must list all edits, each with the
+file that it changes, and no others. The last line is `N passed, M failed`.
+"""
+import os
+import re
+import subprocess
+import sys
+
+TOP = os.path.dirname(os.path.dirname(os.path.abspath(__file__)))
+DEFINITION = re.compile(r"([A-Z]\w*)\.(\w+)")
+SOURCE = re.compile(r"[\w/]+\.(?:rt|antt)")
+WORD = re.compile(r"[A-Za-z_]\w*")
+CODE = (".rt", ".antt", ".py", ".sh", ".txt")
+
+
+class Tally:
+    def __init__(self):
+        self.passed, self.failures = 0, []
+
+    def check(self, is_right, said):
+        if is_right:
+            self.passed += 1
+        else:
+            self.failures.append(said)
+
+
+class Repository:
+    """The files that git tracks, and the words in those of code, definitions, proofs and scripts."""
+
+    def __init__(self):
+        listed = subprocess.run(["git", "ls-files", "-co", "--exclude-standard"], cwd=TOP, check=True, stdout=subprocess.PIPE)
+        self.files = [name for name in listed.stdout.decode().splitlines() if os.path.exists(f"{TOP}/{name}")]
+        self.pages = {name: text_of(name) for name in self.files if name.endswith(".md")}
+        self.edits = {(crate_of(name), stem(name)): name for name in self.files if name.endswith(".edit")}
+        self.definitions = {}
+        for name in self.files:
+            if name.endswith(".antt"):
+                self.definitions.setdefault(stem(name), []).append(name)
+        code = [name for name in self.files if name.endswith(CODE) or "." not in os.path.basename(name)]
+        self.words = {word for name in self.files for word in WORD.findall(name)}.union(*map(self.words_in, code))
+
+    def words_in(self, name):
+        return set(WORD.findall(text_of(name)))
+
+    def has_file(self, path):
+        """Whether a tracked file, or a folder of some, has this path or ends with it."""
+        return any(f"/{name}".endswith(f"/{path}") for name in self.files)
+
+    def defines(self, file, name, within=""):
+        """Whether a file of definitions of this name, whose path begins so, has the name."""
+        return any(re.search(rf"\b{name}\b", text_of(it)) for it in self.definitions.get(file, []) if it.startswith(within))
+
+
+def text_of(name):
+    with open(f"{TOP}/{name}", encoding="utf-8", errors="replace") as file:
+        return file.read()
+
+
+def stem(name):
+    return os.path.splitext(os.path.basename(name))[0]
+
+
+def crate_of(name):
+    return name.split("/")[1] if name.startswith("crates/") else ""
+
+
+def spans(text):
+    """What stands between backticks, in the order of the text."""
+    return re.findall(r"`([^`\n]+)`", text)
+
+
+def prose(page):
+    """A page without its blocks of code."""
+    return "\n".join(line for line in page.split("\n") if not line.startswith("    "))
+
+
+def anchors(page):
+    """What a link may say after `#` to lead to a heading of the page."""
+    heads = re.findall(r"(?m)^#+ (.*)$", prose(page))
+    return {re.sub(r"[^\w\- ]", "", re.sub(r"\[(.*?)\]\(.*?\)", r"\1", head)).lower().replace(" ", "-") for head in heads}
+
+
+def check_links(tally, repository, name, page):
+    for said, link in re.findall(r"\[([^\]]*)\]\(([^)\s]+)\)", prose(page)):
+        path, _, anchor = link.partition("#")
+        if ":" in path:
+            continue
+        target = os.path.normpath(os.path.join(os.path.dirname(name), path)) if path else name
+        tally.check(os.path.exists(f"{TOP}/{target}"), f"{name}: a link to {link}, which isn't there")
+        if anchor and target in repository.pages:
+            tally.check(anchor in anchors(repository.pages[target]), f"{name}: a link to {link}, which has no such heading")
+        if WORD.fullmatch(said) and SOURCE.fullmatch(target):
+            tally.check(said in {stem(target), crate_of(target)} | repository.words_in(target), f"{name}: {said} isn't in {target}")
+
+
+def check_names(tally, repository, name, page):
+    for span in spans(prose(page)):
+        definition = DEFINITION.fullmatch(span)
+        if SOURCE.fullmatch(span):
+            tally.check(repository.has_file(span), f"{name}: there is no file {span}")
+        elif definition and definition[1] in repository.definitions:
+            tally.check(repository.defines(*definition.groups()), f"{name}: {definition[1]}.antt doesn't have {definition[2]}")
+        else:
+            for word in WORD.findall(span):
+                if re.fullmatch(r"[A-Za-z]+(_[A-Za-z]+)+", word):
+                    tally.check(word in repository.words, f"{name}: {word} of `{span}` occurs nowhere")
+
+
+def check_verdicts(tally, repository):
+    crates = {crate_of(name) for name in repository.files}
+    for line in repository.pages["docs/verdicts.md"].split("\n"):
+        kind = re.match(r"- (Definition|Edit)s?: ", line)
+        crate = ""
+        for span in spans(line) if kind else []:
+            definition = DEFINITION.fullmatch(span)
+            if span in crates:
+                crate = span
+            elif kind[1] == "Edit":
+                tally.check((crate, span) in repository.edits, f"docs/verdicts.md: {crate} has no edit {span}")
+            elif definition:
+                is_there = repository.defines(*definition.groups(), f"crates/{crate}/specs/")
+                tally.check(is_there, f"docs/verdicts.md: {crate} has no {span}")
+
+
+def check_crates(tally, repository):
+    for crate, promised in re.findall(r"(?m)^\| `(\w+)` \| (.*) \|$", repository.pages["docs/proved.md"]):
+        own = [name for name in repository.files if name.startswith((f"crates/{crate}/src/", f"crates/{crate}/specs/"))]
+        words = {stem(name) for name in own}.union(*map(repository.words_in, own))
+        parts = {part for word in words for part in word.split("_")}
+        for word in WORD.findall(" ".join(spans(promised))):
+            tally.check(word in words | parts, f"docs/proved.md: {crate} has no {word}")
+
+
+def folders_in(cell):
+    """The beginnings of the paths of the files that the last column of the glossary speaks of."""
+    found, crates = [], []
+    for part in cell.split(";"):
+        crates = spans(part) or crates
+        found += [f"crates/{crate}/specs/{part.split()[-1]}" for crate in crates]
+    return found
+
+
+def check_glossary(tally, repository):
+    for row in re.findall(r"(?m)^\|(.*)\|$", repository.pages["docs/glossary.md"]):
+        *_, named, where = row.split("|")
+        for definition in filter(None, map(DEFINITION.fullmatch, spans(named))):
+            tally.check(any(repository.defines(*definition.groups(), it) for it in folders_in(where)),
+                        f"docs/glossary.md: {definition[0]} isn't in{where.rstrip()}")
+
+
+def check_edits(tally, repository):
+    listed, crate = set(), ""
+    for line in repository.pages["docs/edits.md"].split("\n"):
+        head, row = re.fullmatch(r"## (\w+)", line), re.match(r"\| `(\w+)` \| `(\S+)` \|", line)
+        crate = head[1] if head else crate
+        if row:
+            listed.add((crate, row[1]))
+            path = repository.edits.get((crate, row[1]))
+            changed = re.search(r"(?m)^file: (.*)$", text_of(path))[1] if path else ""
+            tally.check(changed == row[2], f"docs/edits.md: {crate} has no edit {row[1]} of {row[2]}")
+    for crate, edit in sorted(repository.edits.keys() - listed):
+        tally.check(False, f"docs/edits.md: the edit {edit} of {crate} is missing")
+
+
+def main():
+    if len(sys.argv) != 1:
+        sys.exit(__doc__)
+    tally, repository = Tally(), Repository()
+    for name, page in repository.pages.items():
+        check_links(tally, repository, name, page)
+        if name.startswith("docs/") or name in ("README.md", "bench/README.md"):
+            check_names(tally, repository, name, page)
+    check_crates(tally, repository)
+    check_verdicts(tally, repository)
+    check_glossary(tally, repository)
+    check_edits(tally, repository)
+    print("\n".join([*tally.failures, f"{tally.passed} passed, {len(tally.failures)} failed"]))
+    return 1 if tally.failures else 0
+
+
+if __name__ == "__main__":
+    sys.exit(main())
