@@ -1,6 +1,6 @@
 //! The events of a history with what the rules from M6 on, and the search for bad reads, look up in them.
 
-ghost use Rattle.std.specs.Prelude.{◌≡◌, ◌<◌, ◌^◌, ◌||◌, ◌==◌, ℕ, List, [], true, Some, length, option_map, IfNone, IfOk, IfSome, MatchResult};
+ghost use Rattle.std.specs.Prelude.{◌≡◌, ◌<◌, ◌^◌, ◌||◌, ◌==◌, ℕ, List, [], true, Some, is_some, length, option_map, IfNone, IfOk, IfSome, MatchResult};
 ghost use Rattle.std.specs.List.{filter_map, list_any};
 ghost use Rattle.adya_keys.specs.Machinery.Within.{key_at};
 ghost use Rattle.adya_values.specs.Mirror.Events.{events_of};
@@ -16,7 +16,7 @@ ghost use Rattle.adya_terms.specs.Machinery.Checks.{Names, Holds};
 
 use crate::rules::tables_of;
 use crate::tables::{Ended, Tables};
-use crate::{CheckFault, Content, Events, NumberedVersion, Seen, Txn, Value};
+use crate::{CheckFault, EventView, Events, NumberedVersion, Seen, Txn, Value};
 use std::alloc::{AllocError, Global};
 use std::collections::BTreeSet;
 use txn_table::TxnTable;
@@ -106,13 +106,22 @@ impl<'a> EventIndex<'a> {
     pub fn value_at(&self, at: usize) -> Option<Value>
         ensures { option_map value_of result ≡ shown (written_at (indexed self.now) (Some at)) }
     {
-        let Some(wrote) = self.tables.wrote_at(Some(at)) else {
-            return None;
-        };
-        match wrote.content {
-            Content::Live(value) => Some(value),
-            Content::Dead => None,
+        match self.events().get(at) {
+            Some(EventView::Write { value, .. }) => Some(value),
+            Some(EventView::Delete { .. }) => None,
+            Some(EventView::Read { .. }) => None,
+            Some(EventView::Scan { .. }) => None,
+            Some(EventView::Commit { .. }) => None,
+            Some(EventView::Abort { .. }) => None,
+            None => None,
         }
+    }
+
+    /// Returns whether the event at the index writes a value.
+    pub fn shows(&self, at: usize) -> bool
+        ensures { result ≡ is_some (shown (written_at (indexed self.now) (Some at))) }
+    {
+        self.events().shows(at)
     }
 
     /// Returns the index of the transaction's last write of the key with the number in the list of events. There is none if the

@@ -4,6 +4,7 @@ ghost use Rattle.std.specs.Prelude.{◌≡◌, ◌^◌, ◌<◌, ◌+◌, [], tr
 ghost use Rattle.std.specs.Bool.{OnTrue, OnFalse};
 ghost use Rattle.adya_keys.specs.Meaning.Keys.{keys_rise};
 ghost use Rattle.adya_values.specs.Meaning.Histories.{Order};
+ghost use Rattle.adya_values.specs.Meaning.Events.{shown};
 ghost use Rattle.adya_values.specs.Mirror.Events.{final_of};
 ghost use Rattle.adya_keys.specs.Mirror.{value_of};
 ghost use Rattle.adya_values.specs.Mirror.Lines.{finals_of, orders_of};
@@ -12,14 +13,29 @@ ghost use Rattle.adya_values.specs.Computing.Faults as faults;
 ghost use Rattle.adya_terms.specs.Machinery.Checks.{Names, final_value_faults, parts};
 ghost use Rattle.adya_terms.specs.Machinery.Places.{AreWrites, IsLineOf};
 ghost use Rattle.adya_terms.specs.Machinery.EventIndex.{indexed, last_in};
+ghost use Rattle.adya_terms.specs.Machinery.Tables.{written_at};
 
 use crate::event_index::EventIndex;
 use crate::line_places::LinePlaces;
 use crate::listed::line_of;
 use crate::{CheckFault, FinalPair, Finals, Key, Orders, Rule, Value};
 
-/// Returns the value of the last version of the order line, which is at the index, if it has one. The lines have the writes
-/// that installed what the orders name.
+/// Returns the index of the event that wrote the last version of the order line, which is at the index, if it has one. The lines
+/// have the writes that installed what the orders name.
+fn last_write(index: &EventIndex, orders: &Orders, lines: &LinePlaces, line: usize) -> Option<usize>
+    requires rise { keys_rise (map (λ o. o.key) (orders_of orders.now)) ≡ true }
+    requires writes { AreWrites (last_in index.now) lines.now (orders_of orders.now) }
+    requires there { line < length (orders_of orders.now) }
+    ensures { (o : Order) → slice_get (orders_of orders.now) line ≡ Some o
+        → shown (written_at (indexed index.now) result) ≡ faults.last_value (parts (indexed index.now) (orders_of orders.now) []) o.key }
+{
+    let Some(last) = orders.writers(line).len().checked_sub(1) else {
+        return None;
+    };
+    lines.write_at(line, last)
+}
+
+/// Returns the value of the last version of the order line, likewise, if it has one.
 fn line_value(index: &EventIndex, orders: &Orders, lines: &LinePlaces, line: usize) -> Option<Value>
     requires rise { keys_rise (map (λ o. o.key) (orders_of orders.now)) ≡ true }
     requires writes { AreWrites (last_in index.now) lines.now (orders_of orders.now) }
@@ -27,13 +43,24 @@ fn line_value(index: &EventIndex, orders: &Orders, lines: &LinePlaces, line: usi
     ensures { (o : Order) → slice_get (orders_of orders.now) line ≡ Some o
         → option_map value_of result ≡ faults.last_value (parts (indexed index.now) (orders_of orders.now) []) o.key }
 {
-    let Some(last) = orders.writers(line).len().checked_sub(1) else {
-        return None;
-    };
-    let Some(at) = lines.write_at(line, last) else {
-        return None;
-    };
-    index.value_at(at)
+    match last_write(index, orders, lines, line) {
+        Some(at) => index.value_at(at),
+        None => None,
+    }
+}
+
+/// Returns whether the last version of the order line, likewise, has a value. It reads no value.
+fn line_has_value(index: &EventIndex, orders: &Orders, lines: &LinePlaces, line: usize) -> bool
+    requires rise { keys_rise (map (λ o. o.key) (orders_of orders.now)) ≡ true }
+    requires writes { AreWrites (last_in index.now) lines.now (orders_of orders.now) }
+    requires there { line < length (orders_of orders.now) }
+    ensures { (o : Order) → slice_get (orders_of orders.now) line ≡ Some o
+        → result ≡ is_some (faults.last_value (parts (indexed index.now) (orders_of orders.now) []) o.key) }
+{
+    match last_write(index, orders, lines, line) {
+        Some(at) => index.shows(at),
+        None => false,
+    }
 }
 
 /// Returns whether the final has the value of its key's last version. The key's order line is at the index.
@@ -123,7 +150,7 @@ fn has_finals(index: &EventIndex, orders: &Orders, lines: &LinePlaces, finals: &
 {
     let mut next = 0usize;
     for i in 0..orders.len() {
-        let has_value = line_value(index, orders, lines, i).is_some();
+        let has_value = line_has_value(index, orders, lines, i);
         if has_value && !has_final(finals, orders.key(i), next) {
             return false;
         }

@@ -4,7 +4,6 @@ ghost use Rattle.std.specs.Prelude.{◌≡◌, ◌<◌, ◌||◌, is_some, ◌++
 ghost use Rattle.txn_table.specs.Mirror.{value_for};
 ghost use Rattle.adya_values.specs.declared.event.Version.{Version};
 ghost use Rattle.adya_values.specs.Meaning.Histories.{Abort, Commit, Event as EventValue};
-ghost use Rattle.adya_values.specs.Mirror.Events.{entry_of, events_of};
 ghost use Rattle.adya_keys.specs.Machinery.Within.{key_at};
 ghost use Rattle.adya_values.specs.Mirror.Numbers.{has_seen, keys_of, seen_entry, version_in};
 ghost use Rattle.adya_keys.specs.Mirror.{AreNumbered};
@@ -14,7 +13,7 @@ ghost use Rattle.adya_terms.specs.Machinery.Tables.{own, own_eq, written_at, is_
 ghost use Rattle.adya_terms.specs.Machinery.OwnWrites.{place_of};
 
 use crate::own_writes::OwnWrites;
-use crate::{Entry, Events, NumberedVersion, Seen, Txn};
+use crate::{Events, NumberedVersion, Seen, Txn};
 use std::alloc::{AllocError, Global};
 use std::collections::HashMap;
 use txn_table::TxnTable;
@@ -78,19 +77,6 @@ impl<'a> Tables<'a> {
     {
         let ended = self.ended.get(txn);
         ended.committed || ended.aborted
-    }
-
-    /// Returns what the event at the place writes.
-    pub fn wrote_at(&self, at: Option<usize>) -> Option<Entry>
-        ensures { option_map entry_of result ≡ written_at (told self.now) at }
-    {
-        let Some(at) = at else {
-            return None;
-        };
-        let Some(event) = self.writes.events.get(at) else {
-            return None;
-        };
-        event.written()
     }
 
     /// Returns the version that the event at the place writes.

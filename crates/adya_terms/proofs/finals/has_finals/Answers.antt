@@ -1,8 +1,6 @@
-use Rattle.std.proofs.Common.{◌≡◌, ◌+◌, ◌∙◌, ◌||◌, ◌&&◌, Bool, Option, Some, None, List, true, false, not, ap, arith, drop, is_none, is_some, option_map, refl, sym, ℕ}
+use Rattle.std.proofs.Common.{◌≡◌, ◌+◌, ◌∙◌, ◌||◌, ◌&&◌, Bool, Option, Some, None, List, true, false, not, ap, arith, drop, is_none, is_some, refl, sym, ℕ}
 use Rattle.std.specs.List.{list_all}
-use Rattle.adya_keys.specs.declared.value.Value.{Value}
 use Rattle.adya_values.specs.Meaning.Histories.{Order}
-use Rattle.adya_keys.specs.Mirror.{value_of}
 use Rattle.adya_values.specs.Mirror.Lines.{finals_of, orders_of}
 use Rattle.adya_values.specs.Clauses.Rules.{final_value}
 use Rattle.adya_values.specs.Computing.Faults.{last_value}
@@ -13,13 +11,13 @@ use Rattle.adya_terms.proofs.finals.has_finals.Goals as goal
 use Rattle.adya_terms.proofs.finals.has_finals.Goals.{else-has_value-via-then-has_value+else-not-has_final, else-has_value-via-else-has_value}
 use Rattle.lemmas.proofs.Steps.{turn_below, IsTurn}
 
-none_unless : (v : Option Value) → is_none (option_map value_of v) ≡ not (is_some v)
+none_unless : (last : Option (List ℕ)) → is_none last ≡ not (is_some last)
 none_unless None = refl
 none_unless (Some x) = refl
 
 -- whether the last version has no value
-no_value : (v : Option Value) (last : Option (List ℕ)) (b : Bool) → option_map value_of v ≡ last → b ≡ is_some v → is_none last ≡ not b
-no_value v last b e is = ap is_none (sym e) ∙ (none_unless v ∙ ap not (sym is))
+no_value : (last : Option (List ℕ)) (b : Bool) → b ≡ is_some last → is_none last ≡ not b
+no_value last b is = none_unless last ∙ ap not (sym is)
 
 -- a test of what is left, by that of the first element
 all_from : {X : Type 0} (test : X → Bool) (xs : List X) (i : ℕ) (x : X) (b : Bool) → IsTurn xs i x → test x ≡ b → list_all test (drop i xs) ≡ (b && list_all test (drop (i + 1) xs))
@@ -36,7 +34,7 @@ returns-then-not-has_final c =
     let t = turn_below os c.loop-i.i (omega (arith, less, count)) in
     let o = t.0 in
     let key : o.key ≡ c.key.result = found_is (λ (x : Order). x.key) _ o _ c.key.ensures t.1.found in
-    let last = no_value _ (last_value h o.key) _ (c.line_value.ensures o t.1.found) c.is_some-has_value.ensures ∙ ap not c.if-has_value.true in
+    let last = no_value (last_value h o.key) _ (c.line_has_value-has_value.ensures o t.1.found) ∙ ap not c.if-has_value.true in
     let no_final = ap (λ k. is_some (final_value fs k)) key ∙ (sym c.has_final.ensures ∙ c.if-not-has_final.true) in
     sym (c.loop-i.invariant ∙ all_from test os c.loop-i.i o false t.1 (ap (λ b. b || is_some (final_value fs o.key)) last ∙ no_final))
 
@@ -50,7 +48,7 @@ loop-i-preserved c =
     let count = c.len-i-end.ensures.length in
     let t = turn_below os c.loop-i.i (omega (arith, less, count)) in
     let o = t.0 in
-    let last = no_value _ (last_value h o.key) _ (c.line_value.ensures o t.1.found) c.is_some-has_value.ensures in
+    let last = no_value (last_value h o.key) _ (c.line_has_value-has_value.ensures o t.1.found) in
     c.loop-i.invariant ∙
     all_from test os c.loop-i.i o true t.1
     (elim c.else-has_value.branch [

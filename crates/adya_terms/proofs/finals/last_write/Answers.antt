@@ -1,11 +1,11 @@
-use Rattle.std.proofs.Common.{◌≡◌, ◌∙◌, ℕ, List, ap, arith, inl, inr, length, option_map, None, Some, slice_get}
+use Rattle.std.proofs.Common.{◌≡◌, ℕ, List, ap, arith, inl, inr, length, option_map, Some, slice_get}
 use Rattle.std.proofs.lemmas.Bool.{cases_lt}
 use Rattle.adya_values.specs.Meaning.Histories.{Order}
 use Rattle.adya_values.specs.Mirror.Lines.{orders_of}
 use Rattle.adya_terms.specs.Machinery.EventIndex.{indexed}
 use Rattle.adya_terms.proofs.Found.{found_is}
 use Rattle.adya_terms.proofs.LastValues.{last_held, no_writer}
-use Rattle.adya_terms.proofs.finals.line_value.Goals as goal
+use Rattle.adya_terms.proofs.finals.last_write.Goals as goal
 
 count_is : (os : List Order) (i : ℕ) (o : Order) (ts : List ℕ) → option_map (λ (x : Order). x.writers) (slice_get os i) ≡ Some ts → slice_get os i ≡ Some o
     → length o.writers ≡ length ts
@@ -25,21 +25,11 @@ returns-in_default c o e =
     ] in
     no_writer _ _ _ _ (indexed x) x.tell os c.requires.rise c.args.lines.now c.requires.writes c.args.line o e none
 
-pub returns-in_default-write_at : goal.returns-in_default-write_at
-returns-in_default-write_at c o e =
-    let x = c.args.index.now in
-    let os = orders_of c.args.orders.now in
-    let long = count_is os c.args.line o c.writers.result.now c.writers.ensures e in
-    let some = c.in-Some.ensures in
-    last_held _ _ _ _ (indexed x) x.tell os c.requires.rise c.args.lines.now c.requires.writes c.args.line o e c.in-Some.last
-    (omega (arith, long, some.0, some.1)) None c.in_default-write_at.ensures
-
 pub returns : goal.returns
 returns c o e =
     let x = c.args.index.now in
     let os = orders_of c.args.orders.now in
     let long = count_is os c.args.line o c.writers.result.now c.writers.ensures e in
     let some = c.in-Some.ensures in
-    c.value_at.ensures ∙
     last_held _ _ _ _ (indexed x) x.tell os c.requires.rise c.args.lines.now c.requires.writes c.args.line o e c.in-Some.last
-    (omega (arith, long, some.0, some.1)) (Some c.in-Some-write_at.at) c.in-Some-write_at.ensures
+    (omega (arith, long, some.0, some.1)) c.write_at.result c.write_at.ensures
