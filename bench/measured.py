@@ -3,6 +3,7 @@ import atexit
 import os
 import shutil
 import signal
+import statistics
 import subprocess
 import tempfile
 import time
@@ -52,16 +53,27 @@ def least(arguments, stdin, stdout, limit, runs=RUNS):
     return best
 
 
-def least_by_turns(commands, stdin, answers, sorted_path, limit, runs=2 * RUNS):
-    """The same of several commands, each with a file for its answer, and the time of sorting the lines of a file. They run by
-    turns, so each has the machine at its best."""
-    best, sorting = [Run(it, stdin, answer, limit) for it, answer in zip(commands, answers)], sort_time(sorted_path, limit, 1)
-    for _ in range(runs - 1):
-        for at, (command, answer) in enumerate(zip(commands, answers)):
-            if not best[at].is_late and best[at].status in (0, 1):
-                best[at] = min(best[at], Run(command, stdin, answer, limit), key=lambda run: run.time)
-        sorting = min(sorting, sort_time(sorted_path, limit, 1))
-    return best, sorting
+class Turns:
+    """Several commands, each with a file for its answer, and a sort of the lines of a file, run by turns. `best` has the run of
+    each command with the least processor time, `sorting` is the least time of the sort, and `times` has for each command the
+    median, over the turns, of its time over that of the sort in the same turn: the machine's speed changes from turn to turn."""
+
+    def __init__(self, commands, stdin, answers, sorted_path, limit, runs=2 * RUNS):
+        self.best, self.sorting, ratios = [None] * len(commands), None, [[] for _ in commands]
+        for _ in range(runs):
+            ran = [Run(it, stdin, answer, limit) if self.goes_on(at) else None
+                   for at, (it, answer) in enumerate(zip(commands, answers))]
+            sorting = sort_time(sorted_path, limit, 1)
+            self.sorting = min(sorting, self.sorting or sorting)
+            for at, it in enumerate(ran):
+                if it:
+                    ratios[at].append(it.time / sorting)
+                    self.best[at] = min(it, self.best[at] or it, key=lambda run: run.time)
+        self.times = [statistics.median(it) for it in ratios]
+
+    def goes_on(self, at):
+        """One run is enough if it ends late or with an unusual status."""
+        return not self.best[at] or not self.best[at].is_late and self.best[at].status in (0, 1)
 
 
 def sort_time(path, limit, runs=RUNS):
@@ -76,22 +88,22 @@ class Bounds:
     def __init__(self, time, growth, memory):
         self.time, self.growth, self.memory = time, growth, memory
 
-    def broken(self, ran, sorting, growth, size_in):
+    def broken(self, ran, times, growth, size_in):
         """The names of those that are broken."""
-        broken = ["time"] * (ran.time > self.time * sorting)
+        broken = ["time"] * (times > self.time)
         broken += ["growth"] * (growth is not None and growth > self.growth)
         return broken + ["memory"] * (ran.memory > self.memory * size_in)
 
     HEAD = "%8s %8s %7s %8s %6s %7s %8s %7s  bounds" % (
         "time s", "wall s", "MB/s", "peak MB", "B/B", "growth", "sort s", "x sort")
 
-    def row(self, ran, sorting, growth, size_in, is_meant):
+    def row(self, ran, sorting, times, growth, size_in, is_meant):
         """The figures, under HEAD. What is said of the bounds stands in brackets if they aren't meant for this line."""
-        broken = self.broken(ran, sorting, growth, size_in)
+        broken = self.broken(ran, times, growth, size_in)
         said = "breaks " + ", ".join(broken) if broken else "holds"
         return "%8.3f %8.3f %7.1f %8.1f %6.2f %7s %8.3f %7.2f  %s" % (
             ran.time, ran.wall, size_in / 1e6 / ran.time, ran.memory / 1e6, ran.memory / size_in,
-            "%.1f" % growth if growth else "-", sorting, ran.time / sorting,
+            "%.1f" % growth if growth else "-", sorting, times,
             said if is_meant else "(%s)" % said)
 
 
