@@ -1,8 +1,9 @@
 -- From an order or a cycle of arcs to a certificate or a cycle of the history.
-use Rattle.std.proofs.Common.{◌≡◌, ◌≢◌, ◌⊎◌, ◌==◌, ℕ, suc, true, cond, List, [], ◌∷◌, map, Contains, Any, refl, sym, ◌∙◌, ap, subst, inl, inr, arith, Some, Result, Ok, Err, IfOk}
+use Rattle.std.proofs.Common.{◌≡◌, ◌≢◌, ◌⊎◌, ◌==◌, ◌≤◌, ℕ, suc, true, cond, count_by, List, [], ◌∷◌, map, Contains, Any, refl, sym, ◌∙◌, ap, subst, inl, inr, arith, Some, Result, Ok, Err, IfOk}
 use Rattle.std.specs.declared.alloc.AllocError.{AllocError}
 use Rattle.std.specs.List.{list_any, AllByRecursion}
 use Rattle.std.proofs.lemmas.List.Elements.{All-from_recursion, All-contains}
+use Rattle.std.proofs.lemmas.List.Sums.{sum_by-cons}
 use Rattle.adya_values.specs.Meaning.Histories.{History}
 use Rattle.adya_values.specs.Meaning.Events.{is_committed}
 use Rattle.adya_values.specs.Computing.EdgeList.{edge_list}
@@ -12,7 +13,7 @@ use Rattle.adya_values.specs.Clauses.Acceptance.{IsBefore, IsChecked, IsAccepted
 use Rattle.adya_laws.specs.Laws.{EdgeListIsExact, AcceptedHasNoPhenomenon}
 use Rattle.digraph.specs.declared.arc.Arc.{Arc}
 use Rattle.adya_dsg.specs.Machinery.Arcs.{ends, AreEnds, Decide}
-use Rattle.digraph.specs.Clauses.Graphs.{IsGraph, IsTopologicalOrder, IsPath as IsArcPath, IsCycle as IsArcCycle}
+use Rattle.digraph.specs.Clauses.Graphs.{IsGraph, IsTopologicalOrder, IsPath as IsArcPath, IsCycle as IsArcCycle, IsSimple as IsArcSimple}
 use Rattle.digraph.specs.Laws.{CycleExcludesOrder, OrderOrCycleExists}
 use Rattle.lemmas.proofs.Members.{Contains-map, map-source, recursion-from_contained}
 use Rattle.adya_dsg.specs.Machinery.Nodes.{committed}
@@ -20,7 +21,7 @@ use Rattle.adya_dsg.specs.Machinery.Along.{first_along}
 use Rattle.adya_dsg.specs.declared.found.Found.{Found}
 use Rattle.adya_dsg.specs.declared.found.Found.TheVariants.{Serial, Cycle}
 use Rattle.adya_dsg.specs.Mirror.{edge_of}
-use Rattle.adya_dsg.specs.Clauses.Found.{IsFound, NoneBesideCycle}
+use Rattle.adya_dsg.specs.Clauses.Found.{IsFound, IsSimple, NoneBesideCycle}
 use Rattle.adya_dsg.specs.Laws.{CycleExcludesCertificates, EdgesJoinCommitted, CertifiedIffNoPhenomenon}
 use Rattle.adya_dsg.proofs.FirstAlong.{ends_equal, first_edges_along}
 use Rattle.adya_dsg.proofs.CommittedNodes.{committed_are_nodes}
@@ -103,6 +104,25 @@ pub first_edges_are_cycle : (h : History) → EdgeListIsExact → (found : List 
 first_edges_are_cycle h exact found arcs way c f =
     let r = first_edges_along (edge_list h) found way f in
     cycle_of_edges h arcs way found c r.0 (all_edges h exact found r.1)
+
+-- each transaction begins as many of the edges as its node begins arcs
+begun_alike : (es : List Edge) (t : ℕ)
+    → count_by (λ (a : Arc). a.from == t) (map ends es) ≡ count_by (λ (e : Edge). e.from == t) es
+begun_alike [] t = refl
+begun_alike (e ∷ es) t =
+    let arc' = sum_by-cons (λ (a : Arc). cond {A = ℕ} (a.from == t) 1 0) (ends e) (map ends es) in
+    let edge = sum_by-cons (λ (x : Edge). cond {A = ℕ} (x.from == t) 1 0) e es in
+    let rest = begun_alike es t in
+    omega (arith, arc', edge, rest)
+
+-- the first edges along the arcs of a simple cycle are a simple cycle
+pub first_edges_are_simple : (es found : List Edge) (way : List Arc) → IsArcSimple way
+    → map Some found ≡ map (first_along es) way → IsSimple found
+first_edges_are_simple es found way simple f t =
+    let same = ap (count_by (λ (a : Arc). a.from == t)) (first_edges_along es found way f).0 in
+    let alike = begun_alike found t in
+    let one = simple t in
+    omega (arith, same, alike, one)
 
 is_rw : (k : Kind) → (k ≡ Rw) ⊎ (k ≢ Rw)
 is_rw Ww = inr (λ e. absurd (cc (e)))

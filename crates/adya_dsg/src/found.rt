@@ -8,6 +8,7 @@ use adya_values::Serial;
 pub enum Found {
     /// The certificate: each committed transaction once, and each edge forward.
     Serial(Serial),
-    /// A cycle of the graph: at least one edge, in a path from a transaction back to itself.
+    /// A cycle of the graph: at least one edge, in a path from a transaction back to itself. No two of the edges begin at the
+    /// same transaction.
     Cycle(Vec<Edge>),
 }

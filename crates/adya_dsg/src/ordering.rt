@@ -9,7 +9,7 @@ ghost use Rattle.adya_terms.specs.Clauses.Checked.{checked_history};
 ghost use Rattle.adya_dsg.specs.Machinery.Arcs.{AreEnds, Decide, IsSorted};
 ghost use Rattle.adya_dsg.specs.Mirror.{edge_of};
 ghost use Rattle.adya_dsg.specs.Machinery.Nodes.{committed};
-ghost use Rattle.adya_dsg.specs.Clauses.Found.{IsFound, NoneBesideCycle, HasCertificate};
+ghost use Rattle.adya_dsg.specs.Clauses.Found.{IsFound, CycleIsSimple, NoneBesideCycle, HasCertificate};
 
 use crate::Found;
 use crate::along::edges_along;
@@ -29,9 +29,11 @@ use std::alloc::{AllocError, Global};
 ///
 /// The certificate and the cycle are those of [`topological_order`] for the numbers of the committed transactions and
 /// the edges of the graph. So in the certificate the smallest transaction that no other has to precede any more always
-/// comes next. If several edges join two neighbours on the cycle, the one that comes first in [`edges`] is taken.
+/// comes next. The cycle goes through no transaction twice. If several edges join two neighbours on it, the one that comes
+/// first in [`edges`] is taken.
 pub fn order(alloc: Global, checked: &Checked) -> Result<Found, AllocError>
     ensures found { IfOk result (IsFound (checked_history checked.now)) }
+    ensures simple { IfOk result CycleIsSimple }
     ensures refused { IfOk result (NoneBesideCycle (checked_history checked.now)) }
     ensures decided { let h = checked_history checked.now in
         HasCertificate h ↔ ((HasG1 h → ⊥) × (HasG2 h → ⊥)) }
@@ -47,7 +49,8 @@ fn found(alloc: Global, checked: &Checked, nodes: &[u32]) -> Result<Found, Alloc
     requires checked { IsChecked (checked_history checked.now) }
     requires nodes { nodes.now ≡ committed (checked_history checked.now).events }
     requires numbers { All IsTxn nodes.now }
-    ensures { IfOk result (IsFound (checked_history checked.now)) }
+    ensures found { IfOk result (IsFound (checked_history checked.now)) }
+    ensures simple { IfOk result CycleIsSimple }
 {
     edge_list_is_exact();
     match sorted(alloc, checked, nodes)? {

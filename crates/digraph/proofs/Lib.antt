@@ -6,3 +6,4 @@ pub mod Moved
 pub mod Orders
 pub mod Placings
 pub mod Sets
+pub mod SimpleCycles

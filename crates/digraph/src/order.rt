@@ -2,7 +2,7 @@
 
 ghost use Rattle.std.specs.Prelude.{◌≡◌, ℕ, List, IfOk};
 ghost use Rattle.std.specs.List.Sorted.{IsNonDecreasingBy};
-ghost use Rattle.digraph.specs.Clauses.Graphs.{IsGraph, IsOrderOrCycle};
+ghost use Rattle.digraph.specs.Clauses.Graphs.{CycleIsSimple, IsGraph, IsOrderOrCycle};
 ghost use Rattle.digraph.specs.Machinery.Placings.{IsPlacing};
 
 use crate::arc::Arc;
@@ -16,15 +16,17 @@ use std::alloc::{AllocError, Global};
 pub enum Outcome {
     /// Each node once, and each arc forward.
     Order(Vec<u32>),
-    /// At least one arc: each starts at the node where the one before ends, and the first where the last one ends.
+    /// At least one arc: each starts at the node where the one before ends, and the first where the last one ends. No two
+    /// arcs start at the same node.
     Cycle(Vec<Arc>),
 }
 
 // Places the remaining nodes, if there is no cycle among them.
 fn place_rest(alloc: Global, arcs: &[Arc], begun: Placing) -> Result<Outcome, AllocError>
     requires { IsNonDecreasingBy (λ a. a.to) arcs.now }
-    ensures { IfOk result (λ found. (nodes : List ℕ) → IsGraph nodes arcs.now → IsPlacing nodes arcs.now begun
+    ensures found { IfOk result (λ found. (nodes : List ℕ) → IsGraph nodes arcs.now → IsPlacing nodes arcs.now begun
         → IsOrderOrCycle nodes arcs.now found) }
+    ensures simple { IfOk result CycleIsSimple }
 {
     let Placing {
         mut placed,
@@ -61,7 +63,8 @@ pub fn topological_order(
     arcs: Vec<Arc>,
 ) -> Result<Outcome, AllocError>
     requires { IsGraph nodes.now arcs.items }
-    ensures { IfOk result (IsOrderOrCycle nodes.now arcs.items) }
+    ensures found { IfOk result (IsOrderOrCycle nodes.now arcs.items) }
+    ensures simple { IfOk result CycleIsSimple }
 {
     let begun = begin(alloc, nodes, &arcs)?;
     if begun.remaining.is_empty() {

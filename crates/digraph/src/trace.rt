@@ -1,11 +1,11 @@
 //! Walks backward along the arcs of a graph.
 
-ghost use Rattle.std.specs.Prelude.{◌≡◌, ◌<◌, ◌≤◌, ◌==◌, ℕ, true, length, Contains, IfOk, All, slice_index_or};
+ghost use Rattle.std.specs.Prelude.{◌≡◌, ◌<◌, ◌≤◌, ◌==◌, ℕ, true, length, Contains, IfOk, All, count_by, slice_index_or};
 ghost use Rattle.std.specs.List.{list_any};
 ghost use Rattle.std.specs.List.Sorted.{IsNonDecreasingBy};
 ghost use Rattle.std.specs.Ordering.{nat_cmp};
 ghost use Rattle.std.specs.BTreeSet.{contains};
-ghost use Rattle.digraph.specs.Clauses.Graphs.{IsCycle, IsPath};
+ghost use Rattle.digraph.specs.Clauses.Graphs.{IsCycle, IsPath, IsSimple};
 ghost use Rattle.digraph.specs.Machinery.Traces.{IsTrace};
 
 use crate::arc::Arc;
@@ -18,7 +18,7 @@ use std::collections::BTreeSet;
 pub(crate) enum Trace {
     /// At a remaining node, none of whose predecessors remains.
     Source(u32),
-    /// In a cycle.
+    /// In a simple cycle.
     Cycle(Vec<Arc>),
 }
 
@@ -54,7 +54,9 @@ fn close(path: &mut Vec<Arc>, at: u32, graph: &[Arc])
     requires returns { list_any (λ a. a.to == at) path.old.items ≡ true }
     requires path { (t : ℕ) × IsPath at path.old.items t }
     requires known { All (Contains graph.now) path.old.items }
-    ensures { IsCycle graph.now path.new.items }
+    requires once { (t : ℕ) → count_by (λ a. a.to == t) path.old.items ≤ 1 }
+    ensures closes { IsCycle graph.now path.new.items }
+    ensures simple { IsSimple path.new.items }
 {
     path.truncate(first_to(path, at) + 1);
     path.rotate_left(least_start(path));

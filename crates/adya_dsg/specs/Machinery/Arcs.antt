@@ -4,7 +4,7 @@ use Rattle.adya_values.specs.Meaning.Edges.{Edge}
 use Rattle.adya_values.specs.Clauses.Acceptance.{IsBefore}
 use Rattle.digraph.specs.declared.arc.Arc.{Arc}
 use Rattle.digraph.specs.declared.order.Outcome.{Outcome}
-use Rattle.digraph.specs.Clauses.Graphs.{IsOrderOrCycle}
+use Rattle.digraph.specs.Clauses.Graphs.{CycleIsSimple, IsOrderOrCycle}
 
 -- the ends of the edge
 abbrev pub ends : Edge → Arc
@@ -26,9 +26,10 @@ abbrev pub Decide : List Edge → List Arc → Type 0
 Decide es arcs = (ts : List ℕ) → ((a : Arc) → Contains arcs a → IsBefore ts a.from a.to)
     → (e : Edge) → Contains es e → IsBefore ts e.from e.to
 
--- an order of the nodes, or a cycle, by arcs that have the ends of these edges and decide about them
+-- an order of the nodes, or a simple cycle, by arcs that have the ends of these edges and decide about them
 pub record IsSorted (es : List Edge) (nodes : List ℕ) (outcome : Outcome) : Type 0 where
   pub arcs : List Arc
   pub sound : AreEnds es arcs
   pub enough : Decide es arcs
   pub is : IsOrderOrCycle nodes arcs outcome
+  pub simple : CycleIsSimple outcome

@@ -1,5 +1,5 @@
 -- Directed graphs as lists of nodes and arcs, their topological orders and their cycles.
-use Rattle.std.specs.Prelude.{◌≡◌, ℕ, suc, ◌==◌, ◌<◌, true, cond, List, [], ◌∷◌, Contains, count_by}
+use Rattle.std.specs.Prelude.{◌≡◌, ℕ, suc, ◌==◌, ◌<◌, ◌≤◌, true, cond, List, [], ◌∷◌, Contains, count_by}
 use Rattle.std.specs.List.{list_any, AllByRecursion}
 use Rattle.std.specs.Ordering.{nat_cmp, ordering_then}
 use Rattle.std.specs.declared.cmp.Ordering.{Ordering}
@@ -46,3 +46,12 @@ IsCycle arcs (a ∷ path) = AllByRecursion (Contains arcs) (a ∷ path) × IsPat
 abbrev pub IsOrderOrCycle : List ℕ → List Arc → Outcome → Type 0
 IsOrderOrCycle nodes arcs (Order ts) = IsTopologicalOrder nodes arcs ts.items
 IsOrderOrCycle nodes arcs (Cycle path) = IsCycle arcs path.items
+
+-- each node begins one of the arcs at most
+abbrev pub IsSimple : List Arc → Type 0
+IsSimple path = (t : ℕ) → count_by (λ (a : Arc). a.from == t) path ≤ 1
+
+-- a cycle goes through no node twice
+abbrev pub CycleIsSimple : Outcome → Type 0
+CycleIsSimple (Order ts) = Unit {0}
+CycleIsSimple (Cycle path) = IsSimple path.items

@@ -18,7 +18,7 @@ decided law own lent same checked =
 pub returns-clause-refused : goal.returns-clause-refused
 returns-clause-refused c =
     none_beside_result c.cycle_excludes_certificates.ensures (checked_history c.args.checked.now)
-    c.found.result c.found.ensures
+    c.found.result c.found.ensures.found
 
 pub returns-clause-decided : goal.returns-clause-decided
 returns-clause-decided c =
@@ -50,3 +50,6 @@ returns-in_err-nodes-clause-found c = IfOk-from_err c.from_residual.result _ c.f
 
 pub returns-in_err-nodes-clause-refused : goal.returns-in_err-nodes-clause-refused
 returns-in_err-nodes-clause-refused c = IfOk-from_err c.from_residual.result _ c.from_residual.ensures.0
+
+pub returns-in_err-nodes-clause-simple : goal.returns-in_err-nodes-clause-simple
+returns-in_err-nodes-clause-simple c = IfOk-from_err c.from_residual.result _ c.from_residual.ensures.0

@@ -17,8 +17,8 @@ place-preserved c nodes graph begun =
     (one_placed nodes arcs graph (contains nat_cmp c.place.remaining) less c.place.placed.items c.in-Source.t
     (c.place.invariant nodes graph begun) walk.0 walk.1 c.remove.ensures.updates.0)
 
-pub returns : goal.returns
-returns c nodes graph begun =
+pub returns-clause-found : goal.returns-clause-found
+returns-clause-found c nodes graph begun =
     all_placed nodes c.args.arcs.now graph (contains nat_cmp c.place.remaining) c.place.placed.items
     (c.place.invariant nodes graph begun)
     (λ q. list_any_empty _ c.place.remaining.keys
