@@ -58,10 +58,10 @@ module _ (differ : HistoriesDiffer) (serializable : AcceptedTextsAreSerializable
   answer_on_text (Certificate ts) r =
       let accepted = accepted_with ts r in (accepted, serializable text (serial_text ts) accepted)
   answer_on_text (Cycle es) r = (
-    record { history = h; history_read = is; cycle = r.0 },
+    record { history = h; history_read = is; checked = r.0; cycle = r.1; simple = r.2 },
     λ certificate a.
         let one = one_history differ text a.history h a.history_read is in
-        r.1 (a.certificate, subst (λ (x : History). IsAccepted x a.certificate) one a.accepted),
+        r.3 (a.certificate, subst (λ (x : History). IsAccepted x a.certificate) one a.accepted),
   )
   answer_on_text (Refusal v) r = (
     r.0,

@@ -1,7 +1,8 @@
 //! A certificate, a cycle or a verdict for a history text.
 
 ghost use Rattle.std.specs.Prelude.{◌≡◌, ◌≢◌, false, true, IfOk, IfErr, OnOk, IsErrOf};
-ghost use Rattle.devices.specs.Mirror.{has_failed};
+ghost use Rattle.devices.specs.Mirror.{has_failed, reads_left, watched_remaining};
+ghost use Rattle.devices.specs.Clauses.Reading.{TookFewReads};
 ghost use Rattle.devices.specs.Clauses.Writing.{Grew};
 ghost use Rattle.adya_audit.specs.Clauses.Inputs.{OnText};
 ghost use Rattle.adya_audit.specs.Clauses.Answers.{Answer as Plain, Tells, IsAnswer, answer_of, answer_text};
@@ -16,12 +17,13 @@ use std::alloc::Global;
 use std::io::{Read, Write};
 
 /// Reads a history text to the end of the stream and writes one of three answers: a certificate that is accepted with
-/// it; a cycle, if there is no such certificate; the line of a verdict of kinds 1 to 4, if the history itself has a
-/// fault. Returns which of them it wrote. It holds one line and what it has read from the lines before, and finds the
-/// whole answer before it writes. It may not read what follows a syntax fault.
+/// it; a cycle, if there is no such certificate, which goes through no transaction twice; the line of a verdict of kinds
+/// 1 to 4, if the history itself has a fault. Returns which of them it wrote. It holds one line and what it has read from
+/// the lines before, and finds the whole answer before it writes. It may not read what follows a syntax fault.
 ///
-/// `ReadHistory` if reading fails, `Write` if writing fails, `Memory` if memory runs out. Nothing has been written
-/// unless it is `Write`. It never returns `ReadSerial`.
+/// `ReadHistory` if reading fails, `Write` if writing fails, `Memory` if memory runs out, and not for a read that failed.
+/// Nothing has been written unless it is `Write`. It never returns `ReadSerial`. It takes at most one read for each byte, and
+/// one more.
 pub fn run_order<H: Read, W: Write>(
     alloc: Global,
     history: &mut Watched<H>,
@@ -32,6 +34,8 @@ pub fn run_order<H: Read, W: Write>(
         × OnText H.remaining history.old (λ text. IsAnswer text a)
         × Grew W.contents out.old out.new (answer_text a)) }
     ensures ended { OnOk result (has_failed history.new ≡ false) }
+    ensures memory { IsErrOf result RunFault.Memory → has_failed history.new ≡ has_failed history.old }
+    ensures reads { TookFewReads (watched_remaining H.remaining) reads_left history.old history.new 1 }
     ensures read_fault { IsErrOf result RunFault.ReadHistory → has_failed history.new ≡ true }
     ensures write_fault { IsErrOf result RunFault.Write → has_failed out.new ≡ true }
     ensures no_other { IsErrOf result RunFault.ReadSerial → ⊥ }
@@ -45,6 +49,8 @@ fn answer_on_stream<H: Read>(alloc: Global, history: &mut Watched<H>) -> Result<
     ensures answer { IfOk result (λ a. OnText H.remaining history.old
         (λ text. IsAnswer text (answer_of a))) }
     ensures ended { OnOk result (has_failed history.new ≡ false) }
+    ensures memory { IsErrOf result RunFault.Memory → has_failed history.new ≡ has_failed history.old }
+    ensures reads { TookFewReads (watched_remaining H.remaining) reads_left history.old history.new 1 }
     ensures read_fault { IsErrOf result RunFault.ReadHistory → has_failed history.new ≡ true }
     ensures no_serial { IsErrOf result RunFault.ReadSerial → ⊥ }
     ensures no_write { IsErrOf result RunFault.Write → ⊥ }

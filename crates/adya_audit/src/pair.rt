@@ -1,7 +1,8 @@
 //! The verdict on a history text and a certificate text in two streams.
 
 ghost use Rattle.std.specs.Prelude.{◌≡◌, ◌≢◌, ◌↔◌, ◌⊎◌, ℕ, false, true, IfOk, IfErr, OnOk, IsErrOf};
-ghost use Rattle.devices.specs.Mirror.{has_failed};
+ghost use Rattle.devices.specs.Mirror.{has_failed, reads_left, watched_remaining};
+ghost use Rattle.devices.specs.Clauses.Reading.{TookFewReads};
 ghost use Rattle.devices.specs.Clauses.Writing.{Grew};
 ghost use Rattle.adya_audit.specs.Clauses.Inputs.{OnText, OnTexts};
 ghost use Rattle.adya_audit.specs.Computing.Verdicts.{plain_verdict};
@@ -22,7 +23,9 @@ use std::io::{Read, Write};
 /// before. It may not read what follows a syntax fault, nor the certificate if the history has one.
 ///
 /// `ReadHistory` or `ReadSerial` if reading the history or the certificate fails, `Write` if writing fails, `Memory` if
-/// memory runs out. Nothing has been written unless it is `Write`.
+/// memory runs out, and not for a read that failed. Nothing has been written unless it is `Write`. The certificate's reader
+/// is as it was after `ReadHistory`, and after a syntax fault of the history. Each text is read by at most one read for each
+/// byte, and one more.
 pub fn run_audit<H: Read, C: Read, W: Write>(
     alloc: Global,
     history: &mut Watched<H>,
@@ -45,6 +48,12 @@ pub fn run_audit<H: Read, C: Read, W: Write>(
         (λ v. ((k : ℕ) × (v ≡ Verdict.Syntax Text.History k)) ⊎ (has_failed certificate.new ≡ false)) }
     ensures history_fault { IsErrOf result RunFault.ReadHistory → has_failed history.new ≡ true }
     ensures certificate_fault { IsErrOf result RunFault.ReadSerial → has_failed certificate.new ≡ true }
+    ensures memory { IsErrOf result RunFault.Memory → (has_failed history.new ≡ has_failed history.old) × (has_failed certificate.new ≡ has_failed certificate.old) }
+    ensures serial_only { IsErrOf result RunFault.ReadSerial → has_failed history.new ≡ false }
+    ensures history_first { IsErrOf result RunFault.ReadHistory → certificate.new ≡ certificate.old }
+    ensures not_needed { IfOk result (λ v. (k : ℕ) → v ≡ Verdict.Syntax Text.History k → certificate.new ≡ certificate.old) }
+    ensures history_reads { TookFewReads (watched_remaining H.remaining) reads_left history.old history.new 1 }
+    ensures certificate_reads { TookFewReads (watched_remaining C.remaining) reads_left certificate.old certificate.new 1 }
     ensures write_fault { IsErrOf result RunFault.Write → has_failed out.new ≡ true }
     ensures unwritten { IfErr result (λ e. e ≢ RunFault.Write → out.new ≡ out.old) }
 {
@@ -69,6 +78,12 @@ fn verdict_on_streams<H: Read, C: Read>(
         (λ v. ((k : ℕ) × (v ≡ Verdict.Syntax Text.History k)) ⊎ (has_failed certificate.new ≡ false)) }
     ensures history_fault { IsErrOf result RunFault.ReadHistory → has_failed history.new ≡ true }
     ensures certificate_fault { IsErrOf result RunFault.ReadSerial → has_failed certificate.new ≡ true }
+    ensures memory { IsErrOf result RunFault.Memory → (has_failed history.new ≡ has_failed history.old) × (has_failed certificate.new ≡ has_failed certificate.old) }
+    ensures serial_only { IsErrOf result RunFault.ReadSerial → has_failed history.new ≡ false }
+    ensures history_first { IsErrOf result RunFault.ReadHistory → certificate.new ≡ certificate.old }
+    ensures not_needed { IfOk result (λ v. (k : ℕ) → v ≡ Verdict.Syntax Text.History k → certificate.new ≡ certificate.old) }
+    ensures history_reads { TookFewReads (watched_remaining H.remaining) reads_left history.old history.new 1 }
+    ensures certificate_reads { TookFewReads (watched_remaining C.remaining) reads_left certificate.old certificate.new 1 }
     ensures no_write { IsErrOf result RunFault.Write → ⊥ }
 {
     fault_lines();

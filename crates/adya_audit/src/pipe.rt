@@ -1,7 +1,8 @@
 //! The verdict on a history text and a certificate text in one stream.
 
 ghost use Rattle.std.specs.Prelude.{◌≡◌, ◌≢◌, ◌↔◌, false, true, IfOk, IfErr, OnOk, IsErrOf};
-ghost use Rattle.devices.specs.Mirror.{has_failed};
+ghost use Rattle.devices.specs.Mirror.{has_failed, reads_left, watched_remaining};
+ghost use Rattle.devices.specs.Clauses.Reading.{TookFewReads};
 ghost use Rattle.devices.specs.Clauses.Writing.{Grew};
 ghost use Rattle.adya_audit.specs.Clauses.Inputs.{OnText};
 ghost use Rattle.adya_audit.specs.Computing.Verdicts.{plain_verdict};
@@ -19,8 +20,9 @@ use std::io::{Read, Write};
 /// there is no such line, the history is the whole stream. Writes the line of the verdict and returns the verdict. It
 /// holds one line and what it has read from the lines before, and may not read what follows a syntax fault.
 ///
-/// `ReadHistory` if reading either text fails, `Write` if writing fails, `Memory` if memory runs out. Nothing has been
-/// written unless it is `Write`. It never returns `ReadSerial`.
+/// `ReadHistory` if reading either text fails, `Write` if writing fails, `Memory` if memory runs out, and not for a read
+/// that failed. Nothing has been written unless it is `Write`. It never returns `ReadSerial`. It takes at most one read for
+/// each byte, and one more.
 pub fn run_pipe<R: Read, W: Write>(
     alloc: Global,
     input: &mut Watched<R>,
@@ -34,6 +36,8 @@ pub fn run_pipe<R: Read, W: Write>(
         (λ stream. v ≡ Verdict.Yes → IsSerializableStream stream)) }
     ensures written { IfOk result (λ v. Grew W.contents out.old out.new (verdict_line (plain_verdict v))) }
     ensures ended { OnOk result (has_failed input.new ≡ false) }
+    ensures memory { IsErrOf result RunFault.Memory → has_failed input.new ≡ has_failed input.old }
+    ensures reads { TookFewReads (watched_remaining R.remaining) reads_left input.old input.new 1 }
     ensures read_fault { IsErrOf result RunFault.ReadHistory → has_failed input.new ≡ true }
     ensures write_fault { IsErrOf result RunFault.Write → has_failed out.new ≡ true }
     ensures no_other { IsErrOf result RunFault.ReadSerial → ⊥ }
@@ -50,6 +54,8 @@ fn verdict_on_stream<R: Read>(alloc: Global, input: &mut Watched<R>) -> Result<V
     ensures verdict { IfOk result (λ v. OnText R.remaining input.old
         (λ stream. IsVerdictOnStream stream (plain_verdict v))) }
     ensures ended { OnOk result (has_failed input.new ≡ false) }
+    ensures memory { IsErrOf result RunFault.Memory → has_failed input.new ≡ has_failed input.old }
+    ensures reads { TookFewReads (watched_remaining R.remaining) reads_left input.old input.new 1 }
     ensures read_fault { IsErrOf result RunFault.ReadHistory → has_failed input.new ≡ true }
     ensures no_serial { IsErrOf result RunFault.ReadSerial → ⊥ }
     ensures no_write { IsErrOf result RunFault.Write → ⊥ }

@@ -18,3 +18,5 @@ pub mod TextLaws
 pub mod WrittenTexts
 pub mod HaveTexts
 pub mod Orders
+pub mod FewReads
+pub mod HistoryEnds

@@ -1,15 +1,16 @@
 -- Lines that were read of known bytes.
-use Rattle.std.proofs.Common.{◌≡◌, ℕ, List, [], ◌∷◌, ◌++◌, Bool, true, false, All, Option, None, Some, IfSome, Result}
-use Rattle.std.proofs.Common.{Ok, Err, refl, sym, ap, subst, ◌∙◌, append-nil, arith}
+use Rattle.std.proofs.Common.{◌≡◌, ◌≢◌, ℕ, List, [], ◌∷◌, ◌++◌, Bool, true, false, All, Option, None, Some, IfSome, Result}
+use Rattle.std.proofs.Common.{Ok, Err, ◌≤◌, length, refl, sym, ap, subst, ◌∙◌, append_assoc, append-nil, arith}
 use Rattle.std.specs.Prelude.{OnOk, IsErr}
-use Rattle.std.proofs.lemmas.List.Elements.{All-push}
+use Rattle.std.proofs.lemmas.List.Elements.{All-append, All-push}
 use Rattle.std.specs.Io.KnownBytes.{Consumes, IsAtEnd, prepend_known}
 use Rattle.std.proofs.KnownBytes.{Consumes-nil, Consumes-trans, prepend_known-nil}
 use Rattle.adya_text.specs.Meaning.Texts.{with_ends}
 use Rattle.adya_line.specs.Meaning.Lines.{IsPlain}
 use Rattle.adya_text.specs.Clauses.Faults.{IsCut, HasFront}
+use Rattle.adya_text.specs.Clauses.Reading.{HasReadLines}
 use Rattle.devices.specs.Clauses.Lines.{line_end}
-use Rattle.adya_text.specs.Machinery.LongLines.{HasStart}
+use Rattle.adya_text.specs.Machinery.LongLines.{EndsLine, HasStart}
 use Rattle.adya_text.proofs.LineLists.{ends_append}
 
 -- the known bytes began with these lines, and these are left
@@ -31,6 +32,35 @@ line_read {a = a} {b = b} c {lines = lines} line before is plain now =
       consumed = subst (Consumes a c) (sym (ends_append lines (line ∷ [])))
           (Consumes-trans a b c (with_ends lines) (line ++ 10 ∷ []) before.consumed whole);
     }
+
+-- the rest of a line was passed over
+pub line_passed : {a b : Option (List ℕ)} (c d : Option (List ℕ)) {lines : List (List ℕ)} (line : List ℕ) {ended : Bool}
+    → WereRead a lines b → ended ≡ false → IsPlain line → Consumes b c (line ++ line_end ended) → (ends : EndsLine c d)
+    → WereRead a (lines ++ (line ++ ends.rest) ∷ []) d
+line_passed {b = b} c d line before is plain now ends =
+    let start : Consumes b c (line ++ []) = subst (λ e. Consumes b c (line ++ line_end e)) is now in
+    let regrouped : (line ++ []) ++ (ends.rest ++ 10 ∷ []) ≡ (line ++ ends.rest) ++ 10 ∷ [] =
+    ap (λ (l : List ℕ). l ++ (ends.rest ++ 10 ∷ [])) (append-nil line) ∙ sym (append_assoc line ends.rest (10 ∷ [])) in
+    line_read d (line ++ ends.rest) {ended = true} before refl (All-append (λ x. x ≢ 10) line ends.rest plain ends.plain)
+    (subst (Consumes b d) regrouped (Consumes-trans b c d (line ++ []) (ends.rest ++ 10 ∷ []) start ends.consumed))
+
+-- what was taken out of the buffer, and what is left in it, was consumed
+all_consumed : (old buffer : List ℕ) (a b : Option (List ℕ)) (bytes : List ℕ) → old ≡ []
+    → Consumes (prepend_known old a) (prepend_known buffer b) bytes → Consumes a b (bytes ++ buffer)
+all_consumed old buffer None b bytes none eaten = tt
+all_consumed old buffer (Some x) None bytes none eaten = absurd eaten
+all_consumed old buffer (Some x) (Some y) bytes none eaten =
+    ap (λ (l : List ℕ). l ++ x) (sym none) ∙ eaten ∙ sym (append_assoc bytes buffer y)
+
+pub lines_read : (old buffer : List ℕ) (a b : Option (List ℕ)) (lines : List (List ℕ)) (k : ℕ) → old ≡ []
+    → WereRead (prepend_known old a) lines (prepend_known buffer b) → k ≤ length lines → HasReadLines k a b
+lines_read old buffer a b lines k none read within = record {
+  bytes = with_ends lines ++ buffer;
+  lines = lines;
+  consumed = all_consumed old buffer a b (with_ends lines) none read.consumed;
+  front = record { plain = read.plain; rest = buffer; whole = refl };
+  within = within;
+}
 
 -- all the bytes are the lines and then what is left
 pub rest_unread : {a b : Option (List ℕ)} {lines : List (List ℕ)} (P : List ℕ → Type 0) → WereRead a lines b

@@ -34,7 +34,7 @@ plain_lines text good plain (x ∷ xs) goods =
 module _ {S H L : Type 0} {m : Machine S H L} {Is : H → Type 0} {lines_of : H → List (List ℕ)}
     (of : IsMachineOf m Is lines_of) (tell : IsOneText m.good m.text) (plain : HasPlainTexts m.good m.text)
   where
-    lines_plain : (h : H) → Is h → All IsPlain (lines_of h)
+    pub lines_plain : (h : H) → Is h → All IsPlain (lines_of h)
     lines_plain h is =
         let run = of.run_of h is in
         subst (All IsPlain) (sym run.same) (plain_lines m.text m.good plain run.items run.goods)

@@ -1,6 +1,6 @@
 //! Readers that are fed with the lines of a text.
 
-ghost use Rattle.std.specs.Prelude.{◌≡◌, List, ℕ, suc, length, Result, Ok, Err, [], ◌∷◌, ◌++◌, OnOk, IfOk, IsErr, MatchOption, true, false};
+ghost use Rattle.std.specs.Prelude.{◌≡◌, ◌≤◌, List, ℕ, suc, length, Result, Ok, Err, [], ◌∷◌, ◌++◌, OnOk, IfOk, IsErr, IsErrOf, MatchOption, true, false};
 ghost use Rattle.std.specs.Bool.{OnTrue, OnFalse};
 ghost use Rattle.adya_text.specs.Meaning.Texts.{with_ends};
 ghost use Rattle.adya_text.specs.Clauses.Reading.{IsOfText};
@@ -137,6 +137,10 @@ impl<D: Draft> LineReader<D> {
             → (text : List ℕ) → Shows D.grammar text past rest.now → D.reads text result }
         ensures refused { (past : List (List ℕ)) → IsFed D.grammar D.has_lines self.draft self.fault past
             → BeginNone D.grammar past rest.now → IsErr result }
+        ensures within { (k : ℕ) → IsErrOf result (ReadFault.Syntax D.TEXT k) → (past : List (List ℕ))
+            → IsFed D.grammar D.has_lines self.draft self.fault past → k ≤ suc (length past) }
+        ensures fed { (k : ℕ) → IsErrOf result (ReadFault.Syntax D.TEXT k) → (past : List (List ℕ))
+            → IsFed D.grammar D.has_lines self.draft self.fault past → (Begins D.grammar past → ⊥) → k ≤ length past }
     {
         let text = D::TEXT;
         if let Some(line) = self.fault {

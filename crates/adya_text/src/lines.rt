@@ -4,7 +4,8 @@ ghost use Rattle.std.specs.Prelude.{◌≡◌, ◌≢◌, ◌↔◌, ◌⊎◌, 
 ghost use Rattle.std.specs.Prelude.{false, if◌then◌else◌, IfOk, OnOk, IfSome, IsErrOf, IsTrue, slice_range};
 ghost use Rattle.std.specs.Io.KnownBytes.{Consumes, IsAtEnd, prepend_known};
 ghost use Rattle.devices.specs.Clauses.Lines.{work_left, line_end};
-ghost use Rattle.adya_text.specs.Machinery.LongLines.{IsLonger};
+ghost use Rattle.devices.specs.Clauses.Reading.{TookFewReads};
+ghost use Rattle.adya_text.specs.Machinery.LongLines.{IsLonger, EndsLine};
 
 use devices::{LineBuffer, Source, SourceFault};
 use std::alloc::AllocError;
@@ -32,12 +33,19 @@ impl From<SourceFault> for LineFault {
     }
 }
 
+/// How far a line is read that is longer than any text has it at its place.
+#[derive(Clone, Copy)]
+pub(crate) enum LongLines {
+    /// No further than to find that out.
+    Cut,
+    /// Up to its line feed, or to the end of the input.
+    Whole,
+}
+
 /// The lines of a source, of which these bytes were read and not yet taken. It belongs to one source.
 #[derive(Drop)]
 pub(crate) struct Lines {
     buffer: LineBuffer,
-    /// Whether the last line was given up before it ended.
-    is_cut: bool,
 }
 
 impl Model for Lines {
@@ -55,7 +63,6 @@ impl Lines {
     {
         Lines {
             buffer: LineBuffer::new(),
-            is_cut: false,
         }
     }
 
@@ -76,8 +83,9 @@ impl Lines {
     }
 
     /// Drops the bytes up to the next line feed, and the line feed. Returns whether there was one.
-    fn drop_line(&mut self) -> bool
-        ensures { result ≡ false → self.new ≡ [] }
+    fn drop_piece(&mut self) -> bool
+        ensures dropped { (dropped : List ℕ) × All (λ x. x ≢ 10) dropped × (self.old ≡ dropped ++ line_end result ++ self.new) }
+        ensures all { result ≡ false → self.new ≡ [] }
     {
         let (front, ended) = self.buffer.front();
         let count = front.len();
@@ -85,10 +93,31 @@ impl Lines {
         ended
     }
 
+    /// Reads up to the next line feed, or to the end of the input. Keeps nothing of it. `Device` if the source failed.
+    fn drop_line<S: Source>(&mut self, source: &mut S) -> Result<(), LineFault>
+        ensures ended { OnOk result (EndsLine (prepend_known self.old (S.remaining source.old)) (prepend_known self.new (S.remaining source.new))
+            ⊎ ((self.new ≡ []) × IsAtEnd (S.remaining source.new))) }
+        ensures fault { IsErrOf result LineFault.Device → S.is_failed source.new ≡ true }
+        ensures memory { IsErrOf result LineFault.Memory → ⊥ }
+        ensures unfailed { (IsErrOf result LineFault.Device → ⊥) → S.is_failed source.new ≡ S.is_failed source.old }
+        ensures few { TookFewReads S.remaining S.left source.old source.new 1 }
+        ensures stream { S.same source.old source.new }
+    {
+        loop {
+            if self.drop_piece() {
+                return Ok(());
+            }
+            if !self.buffer.fill(source)? {
+                return Ok(());
+            }
+        }
+    }
+
     /// Reads the next line, without its line feed, in place of what `line` held; it may have any length if `longest` is
     /// `None`. Returns false if the input ended before a line feed, or if more than `longest` bytes came without one;
     /// `line` then holds what was read after the last one, at most 8192 bytes more than `longest`. `Device` if the source
-    /// failed, `Memory` if `line` could not grow. `work_left` falls with each line.
+    /// failed, `Memory` if `line` could not grow. `work_left` falls with each line. Each read brings a byte at least, but for
+    /// the last one of an input that has ended or failed.
     pub(crate) fn next_line<S: Source>(
         &mut self,
         source: &mut S,
@@ -104,6 +133,9 @@ impl Lines {
             → IsLonger longest line.new.items ⊎ ((self.new ≡ []) × IsAtEnd (S.remaining source.new))) }
         ensures less { IfOk result (λ ended. ended ≡ true
             → work_left (S.left source.new) self.new < work_left (S.left source.old) self.old) }
+        ensures few { TookFewReads S.remaining S.left source.old source.new 1 }
+        ensures no_idle { IfOk result (λ ended. (ended ≡ true) ⊎ IsLonger longest line.new.items
+            → TookFewReads S.remaining S.left source.old source.new 0) }
         ensures fault { IsErrOf result LineFault.Device → S.is_failed source.new ≡ true }
         ensures stream { S.same source.old source.new }
         ensures unfailed { (IsErrOf result LineFault.Device → ⊥) → S.is_failed source.new ≡ S.is_failed source.old }
@@ -116,7 +148,6 @@ impl Lines {
                 return Ok(true);
             }
             if is_longer(line, longest) {
-                self.is_cut = true;
                 return Ok(false);
             }
             if !self.buffer.fill(source)? {
@@ -125,24 +156,29 @@ impl Lines {
         }
     }
 
-    /// If the last line was given up before it ended, reads up to its line feed, or to the end of the input. Keeps
-    /// nothing of it. `Device` if the source failed.
-    pub(crate) fn pass_over<S: Source>(&mut self, source: &mut S) -> Result<(), LineFault>
+    /// Reads on after the `start` of a line, if that has more than `longest` bytes and such lines are read whole: up to the
+    /// line feed, or to the end of the input. Keeps nothing of it. `Device` if the source failed.
+    pub(crate) fn pass_over<S: Source>(
+        &mut self,
+        source: &mut S,
+        start: &[u8],
+        longest: Option<usize>,
+        long: LongLines,
+    ) -> Result<(), LineFault>
+        ensures ended { long ≡ LongLines.Whole → IsLonger longest start.now
+            → OnOk result (EndsLine (prepend_known self.old (S.remaining source.old)) (prepend_known self.new (S.remaining source.new))
+            ⊎ ((self.new ≡ []) × IsAtEnd (S.remaining source.new))) }
+        ensures untouched { ((self.new ≡ self.old) × (source.new ≡ source.old)) ⊎ IsLonger longest start.now }
         ensures fault { IsErrOf result LineFault.Device → S.is_failed source.new ≡ true }
         ensures memory { IsErrOf result LineFault.Memory → ⊥ }
         ensures unfailed { (IsErrOf result LineFault.Device → ⊥) → S.is_failed source.new ≡ S.is_failed source.old }
+        ensures few { TookFewReads S.remaining S.left source.old source.new 1 }
         ensures stream { S.same source.old source.new }
     {
-        while self.is_cut {
-            if self.drop_line() {
-                self.is_cut = false;
-                return Ok(());
-            }
-            if !self.buffer.fill(source)? {
-                return Ok(());
-            }
+        match long {
+            LongLines::Whole if is_longer(start, longest) => self.drop_line(source),
+            _ => Ok(()),
         }
-        Ok(())
     }
 }
 

@@ -5,13 +5,14 @@ ghost use Rattle.std.specs.Io.KnownBytes.{IsAtEnd, prepend_known};
 ghost use Rattle.adya_values.specs.Meaning.Histories.{History as Plain};
 ghost use Rattle.adya_values.specs.Mirror.Histories.{history_of, serial_txns};
 ghost use Rattle.adya_text.specs.Meaning.Texts.{IsHistory, IsSerial, history_text, serial_text};
-ghost use Rattle.adya_text.specs.Clauses.Reading.{IsOfText, ReadsHistory, ReadsSerial, ReadsTexts};
+ghost use Rattle.devices.specs.Clauses.Reading.{TookFewReads};
+ghost use Rattle.adya_text.specs.Clauses.Reading.{HasReadLine, IsOfText, ReadsHistory, ReadsSerial, ReadsTexts};
 ghost use Rattle.adya_text.specs.Clauses.Streams.{history_part, serial_part};
 
 use crate::history_draft::HistoryDraft;
 use crate::line_reader::{Draft, LineReader};
-use crate::lines::Lines;
-use crate::read_fault::ReadFault;
+use crate::lines::{Lines, LongLines};
+use crate::read_fault::{ReadFault, Text};
 use crate::serial_draft::SerialDraft;
 use adya_line::is_tail;
 use adya_line::laws::{history_lines, serial_lines};
@@ -32,15 +33,15 @@ pub fn read_history_from<S: Source>(alloc: Global, source: &mut S) -> Result<His
     ensures fault { IsErrOf result ReadFault.Device → S.is_failed source.new ≡ true }
     ensures unfailed { (IsErrOf result ReadFault.Device → ⊥) → S.is_failed source.new ≡ S.is_failed source.old }
     ensures works { IsOfText result → S.is_failed source.new ≡ false }
+    ensures few { TookFewReads S.remaining S.left source.old source.new 1 }
+    ensures line_read { (k : ℕ) → IsErrOf result (ReadFault.Syntax Text.History k)
+        → HasReadLine k (S.remaining source.old) (S.remaining source.new) }
     ensures stream { S.same source.old source.new }
 {
     history_lines();
     let mut lines = Lines::new();
-    let read = read_rest(alloc, HistoryDraft::new(alloc), &mut lines, source);
-    if read.is_err() {
-        lines.pass_over(source)?;
-    }
-    read
+    let history = HistoryDraft::new(alloc);
+    read_rest(alloc, history, &mut lines, source, LongLines::Whole)
 }
 
 /// Reads the text of a certificate from all that the source has left. It keeps one line and the certificate so far. It
@@ -56,15 +57,15 @@ pub fn read_serial_from<S: Source>(alloc: Global, source: &mut S) -> Result<Seri
     ensures fault { IsErrOf result ReadFault.Device → S.is_failed source.new ≡ true }
     ensures unfailed { (IsErrOf result ReadFault.Device → ⊥) → S.is_failed source.new ≡ S.is_failed source.old }
     ensures works { IsOfText result → S.is_failed source.new ≡ false }
+    ensures few { TookFewReads S.remaining S.left source.old source.new 1 }
+    ensures line_read { (k : ℕ) → IsErrOf result (ReadFault.Syntax Text.Serial k)
+        → HasReadLine k (S.remaining source.old) (S.remaining source.new) }
     ensures stream { S.same source.old source.new }
 {
     serial_lines();
     let mut lines = Lines::new();
-    let read = read_rest(alloc, SerialDraft::new(alloc), &mut lines, source);
-    if read.is_err() {
-        lines.pass_over(source)?;
-    }
-    read
+    let serial = SerialDraft::new(alloc);
+    read_rest(alloc, serial, &mut lines, source, LongLines::Whole)
 }
 
 /// Reads the text of a history as [`read_history_from`] does, but reads no further than it needs: a first line of more
@@ -77,11 +78,13 @@ pub fn read_history_early<S: Source>(alloc: Global, source: &mut S) -> Result<Hi
     ensures fault { IsErrOf result ReadFault.Device → S.is_failed source.new ≡ true }
     ensures unfailed { (IsErrOf result ReadFault.Device → ⊥) → S.is_failed source.new ≡ S.is_failed source.old }
     ensures works { IsOfText result → S.is_failed source.new ≡ false }
+    ensures few { TookFewReads S.remaining S.left source.old source.new 1 }
     ensures stream { S.same source.old source.new }
 {
     history_lines();
     let mut lines = Lines::new();
-    read_rest(alloc, HistoryDraft::new(alloc), &mut lines, source)
+    let history = HistoryDraft::new(alloc);
+    read_rest(alloc, history, &mut lines, source, LongLines::Cut)
 }
 
 /// Reads the text of a certificate as [`read_serial_from`] does, but reads no further than it needs: a first line of more
@@ -94,11 +97,13 @@ pub fn read_serial_early<S: Source>(alloc: Global, source: &mut S) -> Result<Ser
     ensures fault { IsErrOf result ReadFault.Device → S.is_failed source.new ≡ true }
     ensures unfailed { (IsErrOf result ReadFault.Device → ⊥) → S.is_failed source.new ≡ S.is_failed source.old }
     ensures works { IsOfText result → S.is_failed source.new ≡ false }
+    ensures few { TookFewReads S.remaining S.left source.old source.new 1 }
     ensures stream { S.same source.old source.new }
 {
     serial_lines();
     let mut lines = Lines::new();
-    read_rest(alloc, SerialDraft::new(alloc), &mut lines, source)
+    let serial = SerialDraft::new(alloc);
+    read_rest(alloc, serial, &mut lines, source, LongLines::Cut)
 }
 
 /// Reads the two texts of one stream: a history's, up to and with the first line `end`, and then a certificate's, to
@@ -116,6 +121,7 @@ pub fn read_texts_from<S: Source>(
     ensures fault { IsErrOf result ReadFault.Device → S.is_failed source.new ≡ true }
     ensures unfailed { (IsErrOf result ReadFault.Device → ⊥) → S.is_failed source.new ≡ S.is_failed source.old }
     ensures works { IsOfText result → S.is_failed source.new ≡ false }
+    ensures few { TookFewReads S.remaining S.left source.old source.new 1 }
     ensures stream { S.same source.old source.new }
 {
     let mut lines = Lines::new();
@@ -139,8 +145,11 @@ fn read_history_part<S: Source>(
     ensures fault { IsErrOf result ReadFault.Device → S.is_failed source.new ≡ true }
     ensures unfailed { (IsErrOf result ReadFault.Device → ⊥) → S.is_failed source.new ≡ S.is_failed source.old }
     ensures works { lines.old ≡ [] → IsOfText result → S.is_failed source.new ≡ false }
+    ensures few { TookFewReads S.remaining S.left source.old source.new 1 }
+    ensures no_idle { OnOk result (TookFewReads S.remaining S.left source.old source.new 0) }
     ensures stream { S.same source.old source.new }
 {
+    history_lines();
     let mut reader = LineReader::new(HistoryDraft::new(alloc));
     let mut line = Vec::new(alloc);
     while lines.next_line(source, &mut line, reader.longest_line())? {
@@ -167,9 +176,16 @@ fn read_serial_rest<S: Source>(
     ensures fault { IsErrOf result ReadFault.Device → S.is_failed source.new ≡ true }
     ensures unfailed { (IsErrOf result ReadFault.Device → ⊥) → S.is_failed source.new ≡ S.is_failed source.old }
     ensures works { lines.old ≡ [] → IsOfText result → S.is_failed source.new ≡ false }
+    ensures few { TookFewReads S.remaining S.left source.old source.new 1 }
     ensures stream { S.same source.old source.new }
 {
-    read_rest(alloc, SerialDraft::new(alloc), lines, source)
+    read_rest(
+        alloc,
+        SerialDraft::new(alloc),
+        lines,
+        source,
+        LongLines::Cut,
+    )
 }
 
 /// Feeds a reader with the lines of what `lines` holds and then of what the source has left, and returns its result.
@@ -178,6 +194,7 @@ fn read_rest<S: Source, D: Draft>(
     draft: D,
     lines: &mut Lines,
     source: &mut S,
+    long: LongLines,
 ) -> Result<D::Value, ReadFault>
     requires { D.has_lines draft [] }
     ensures answer { IfSome (prepend_known lines.old (S.remaining source.old)) (λ text. D.reads text result) }
@@ -185,15 +202,22 @@ fn read_rest<S: Source, D: Draft>(
     ensures fault { IsErrOf result ReadFault.Device → S.is_failed source.new ≡ true }
     ensures unfailed { (IsErrOf result ReadFault.Device → ⊥) → S.is_failed source.new ≡ S.is_failed source.old }
     ensures works { lines.old ≡ [] → IsOfText result → S.is_failed source.new ≡ false }
+    ensures few { TookFewReads S.remaining S.left source.old source.new 1 }
+    ensures line_read { long ≡ LongLines.Whole → lines.old ≡ [] → (k : ℕ) → IsErrOf result (ReadFault.Syntax D.TEXT k)
+        → HasReadLine k (S.remaining source.old) (S.remaining source.new) }
     ensures stream { S.same source.old source.new }
 {
     let mut reader = LineReader::new(draft);
     let mut line = Vec::new(alloc);
-    while lines.next_line(source, &mut line, reader.longest_line())? {
+    loop {
+        let longest = reader.longest_line();
+        if !lines.next_line(source, &mut line, longest)? {
+            lines.pass_over(source, &line, longest, long)?;
+            return reader.finish(&line);
+        }
         reader.line(&line)?;
         if reader.has_failed() {
             return reader.finish(b"");
         }
     }
-    reader.finish(&line)
 }

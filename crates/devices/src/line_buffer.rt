@@ -70,8 +70,8 @@ impl LineBuffer {
         }
     }
 
-    /// Reads more bytes after all were taken, 8192 at most. Returns whether any came: none come at the end. `SourceFault`
-    /// if the source failed.
+    /// Reads more bytes after all were taken, 8192 at most, by one read. Returns whether any came: none come at the end.
+    /// `SourceFault` if the source failed.
     pub fn fill<S: Source>(&mut self, source: &mut S) -> Result<bool, SourceFault>
         requires { self.old ≡ [] }
         ensures bytes { Consumes (S.remaining source.old) (S.remaining source.new) self.new }
@@ -82,6 +82,8 @@ impl LineBuffer {
         ensures kept { S.is_failed source.old ≡ true → S.is_failed source.new ≡ true }
         ensures less { IfOk result (λ some. some ≡ true → S.left source.new < S.left source.old) }
         ensures no_more { S.left source.new ≤ S.left source.old }
+        ensures few { S.left source.old ≤ S.left source.new + 1 }
+        ensures some { IfOk result (λ some. some ≡ true → 0 < length self.new) }
         ensures stream { S.same source.old source.new }
     {
         self.start = 0;

@@ -24,7 +24,7 @@ pub trait Source: Read {
     fn failed(&self) -> bool
         ensures { result ≡ is_failed self.now };
 
-    /// Reads as the library's `read` does; a read that gives a byte lowers the number of reads left.
+    /// Reads as the library's `read` does, by at most one of the reads left. A read that gives a byte lowers their number.
     fn pull(&mut self, buf: &mut [u8]) -> io::Result<usize>
         ensures bound { ReadsAtMost result buf.new }
         ensures bytes { ReadConsumes (Self.remaining self.old) (Self.remaining self.new) result buf.new }
@@ -32,6 +32,7 @@ pub trait Source: Read {
         ensures kept { is_failed self.old ≡ true → is_failed self.new ≡ true }
         ensures less { IfOk result (λ n. 0 < n → left self.new < left self.old) }
         ensures no_more { left self.new ≤ left self.old }
+        ensures few { left self.old ≤ left self.new + 1 }
         ensures stream { same self.old self.new };
 
     ghost same_refl: { (x : Self) → same x x };

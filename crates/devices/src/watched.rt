@@ -75,6 +75,7 @@ impl<D: Read> Read for Watched<D> {
         ensures one_less { OnOk result (reads_left self.new + 1 ≡ reads_left self.old) }
         ensures counted { has_failed self.old ≡ false → 0 < reads_left self.old → reads_left self.new + 1 ≡ reads_left self.old }
         ensures no_more { reads_left self.new ≤ reads_left self.old }
+        ensures few { reads_left self.old ≤ reads_left self.new + 1 }
         ensures met { reads_left self.old ≡ 0 → IsErr result }
         ensures untouched { reads_left self.old ≡ 0 → device_of self.new ≡ device_of self.old }
         ensures kept { has_failed self.old ≡ true → self.new ≡ self.old }

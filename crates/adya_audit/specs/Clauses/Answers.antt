@@ -4,11 +4,11 @@ use Rattle.adya_keys.specs.Meaning.Keys.{Bytes}
 use Rattle.adya_values.specs.Mirror.Histories.{serial_txns}
 use Rattle.adya_values.specs.Meaning.Histories.{Txns, History}
 use Rattle.adya_values.specs.Meaning.Edges.{Edge, IsCycle}
-use Rattle.adya_values.specs.Clauses.Acceptance.{IsAccepted}
+use Rattle.adya_values.specs.Clauses.Acceptance.{IsAccepted, IsChecked}
 use Rattle.adya_text.specs.declared.read_fault.Text.TheVariants as Of
 use Rattle.adya_text.specs.Meaning.Texts.{IsSerial, serial_text}
 use Rattle.adya_dsg.specs.Mirror.{edge_of}
-use Rattle.adya_dsg.specs.Clauses.Found.{HasCertificate}
+use Rattle.adya_dsg.specs.Clauses.Found.{HasCertificate, IsSimple}
 use Rattle.adya_audit.specs.declared.answer.Answer.{Answer as AnswerValue}
 use Rattle.adya_audit.specs.declared.answer.Answer.TheVariants as Holds
 use Rattle.adya_audit.specs.declared.ordered.Ordered.{Ordered}
@@ -53,17 +53,19 @@ IsOnHistory _ = ⊥
 -- the answer to a history, as a value
 abbrev pub IsAnswerOn : History → Answer → Type 0
 IsAnswerOn h (Certificate ts) = IsAccepted h ts
-IsAnswerOn h (Cycle es) = IsCycle h es × (HasCertificate h → ⊥)
+IsAnswerOn h (Cycle es) = IsChecked h × IsCycle h es × IsSimple es × (HasCertificate h → ⊥)
 IsAnswerOn h (Refusal v) = IsOnHistory v × ((ts : Txns) → v ≡ verdict_of h ts)
 
--- the text is that of a history with this cycle
+-- the text is that of a history without a fault, which has this cycle; the cycle goes through no transaction twice
 pub record HasCycle (text : Bytes) (es : List Edge) : Type 0 where
   pub history : History
   pub history_read : IsTextOf text history
+  pub checked : IsChecked history
   pub cycle : IsCycle history es
+  pub simple : IsSimple es
 
--- the answer to a history text: a certificate that is accepted with it, in whose order it is serializable; a cycle of
--- its edges, if no certificate is accepted; or the verdict on it, which is the same for all certificates
+-- the answer to a history text: a certificate that is accepted with it, in whose order it is serializable; a simple cycle
+-- of its edges, if no certificate is accepted; or the verdict on it, which is the same for all certificates
 abbrev pub IsAnswer : Bytes → Answer → Type 0
 IsAnswer text (Certificate ts) = AreAccepted text (serial_text ts) × AreSerializable text (serial_text ts)
 IsAnswer text (Cycle es) = HasCycle text es × ((certificate : Bytes) → AreAccepted text certificate → ⊥)

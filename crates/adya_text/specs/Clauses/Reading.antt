@@ -1,5 +1,6 @@
 -- What a call that reads a text returns.
-use Rattle.std.specs.Prelude.{◌≡◌, Result, Ok, Err}
+use Rattle.std.specs.Prelude.{◌≡◌, ◌⊎◌, ℕ, ◌≤◌, List, length, Option, Result, Ok, Err}
+use Rattle.std.specs.Io.KnownBytes.{Consumes, IsAtEnd}
 use Rattle.adya_keys.specs.Meaning.Keys.{Bytes}
 use Rattle.adya_values.specs.Meaning.Histories.{History}
 use Rattle.adya_values.specs.Mirror.Histories.{history_of, serial_txns}
@@ -7,7 +8,7 @@ use Rattle.adya_values.specs.declared.history.History.{History as HistoryValue}
 use Rattle.adya_values.specs.declared.serial.Serial.{Serial}
 use Rattle.adya_text.specs.Meaning.Texts.{IsHistory, IsSerial, history_text, serial_text}
 use Rattle.adya_text.specs.Clauses.Grammars.{AreHistoryLines, AreSerialLines}
-use Rattle.adya_text.specs.Clauses.Faults.{IsFaultLine}
+use Rattle.adya_text.specs.Clauses.Faults.{HasFront, IsFaultLine}
 use Rattle.adya_text.specs.Clauses.Streams.{history_part, serial_part}
 use Rattle.adya_text.specs.declared.read_fault.ReadFault.{ReadFault}
 use Rattle.adya_text.specs.declared.read_fault.ReadFault.TheVariants.{Syntax, Device, Memory}
@@ -47,3 +48,15 @@ ReadsTexts stream (Err (Syntax Of.Serial k)) =
     × IsFaultLine AreSerialLines (serial_part stream) k
 ReadsTexts stream (Err Device) = Unit {0}
 ReadsTexts stream (Err Memory) = Unit {0}
+
+-- what was consumed of the known bytes begins with k complete lines at least
+pub record HasReadLines (k : ℕ) (old new : Option Bytes) : Type 0 where
+  pub bytes : Bytes
+  pub lines : List Bytes
+  pub consumed : Consumes old new bytes
+  pub front : HasFront bytes lines
+  pub within : k ≤ length lines
+
+-- line k was read with its line feed, or all the bytes were
+abbrev pub HasReadLine : ℕ → Option Bytes → Option Bytes → Type 0
+HasReadLine k old new = HasReadLines k old new ⊎ IsAtEnd new

@@ -1,5 +1,6 @@
 -- The start of a line that is already too long for a text.
 use Rattle.std.specs.Prelude.{◌≡◌, ℕ, ◌<◌, Option, None, Some, List, [], ◌∷◌, ◌++◌, length, All}
+use Rattle.std.specs.Io.KnownBytes.{Consumes}
 use Rattle.adya_line.specs.Meaning.Lines.{IsPlain}
 use Rattle.adya_text.specs.Meaning.Texts.{with_ends}
 use Rattle.adya_text.specs.Clauses.Faults.{Begins}
@@ -20,3 +21,9 @@ pub record HasStart (text : List ℕ) (lines : List (List ℕ)) (bytes : List �
 pub record StartsNoLine (grammar : List (List ℕ) → Type 0) (lines : List (List ℕ)) (bytes : List ℕ) : Type 0 where
   pub some : bytes ≡ [] → ⊥
   pub stops : (more : List ℕ) → Begins grammar (lines ++ (bytes ++ more) ∷ []) → ⊥
+
+-- what was consumed is the rest of a line, up to and with its line feed
+pub record EndsLine (old new : Option (List ℕ)) : Type 0 where
+  pub rest : List ℕ
+  pub plain : IsPlain rest
+  pub consumed : Consumes old new (rest ++ 10 ∷ [])

@@ -9,6 +9,9 @@ use Rattle.adya_text.specs.Clauses.Grammars.{AreHistoryLines}
 use Rattle.adya_text.specs.Clauses.Reading.{IsOfText, ReadsHistory}
 use Rattle.adya_text.specs.Clauses.Streams.{history_part, serial_part}
 use Rattle.std.proofs.lemmas.List.Elements.{All-nil, All-push}
+use Rattle.adya_text.specs.Meaning.Texts.{with_ends}
+use Rattle.adya_text.proofs.FewReads.{took_none, took_then}
+use Rattle.adya_text.proofs.HistoryEnds.{no_history}
 use Rattle.adya_text.proofs.LinesRead.{none_read, line_read, rest_unread, prefix_read, start_read, all_read, on_ok, on_err}
 use Rattle.adya_text.specs.Laws.{HasNoEnd}
 use Rattle.adya_text.proofs.ReadFaults.{of_any, text_no_device, ok_no_error, of_memory, memory_no_device, of_no_line, line_device, device_line}
@@ -17,11 +20,11 @@ use Rattle.adya_text.proofs.sources.read_history_part.Goals as goal
 
 pub loop-line-init : goal.loop-line-init
 loop-line-init g c =
-    (g.met.S.Source.same_refl _, refl, λ none. inl none, ([], c.new-reader.ensures [] c.new.ensures, All-nil _, none_read))
+    (g.met.S.Source.same_refl _, refl, λ none. inl none, took_none _ _ _, ([], c.new-reader.ensures [] c.new.ensures, All-nil _, none_read))
 
 pub returns-then-is_tail-clause-answer : goal.returns-then-is_tail-clause-answer
 returns-then-is_tail-clause-answer g c =
-    let (stream, same, works, (past, fed, other, read)) = c.loop-line.invariant in
+    let (stream, same, works, few, (past, fed, other, read)) = c.loop-line.invariant in
     let line = c.next_line.new.line.items in
     let next = c.in_ok-next_line.ensures in
     let more = rw c.deref.ensures.value at (c.in_ok-line.ensures past fed) in
@@ -33,7 +36,7 @@ returns-then-is_tail-clause-answer g c =
 
 pub returns-then-is_tail-clause-rest : goal.returns-then-is_tail-clause-rest
 returns-then-is_tail-clause-rest g c =
-    let (stream, same, works, (past, fed, other, read)) = c.loop-line.invariant in
+    let (stream, same, works, few, (past, fed, other, read)) = c.loop-line.invariant in
     let line = c.next_line.new.line.items in
     let next = c.in_ok-next_line.ensures in
     let after = line_read _ line read c.if-branch.true next.plain next.bytes in
@@ -46,7 +49,7 @@ returns-then-is_tail-clause-rest g c =
 
 pub returns-then-has_failed-clause-answer : goal.returns-then-has_failed-clause-answer
 returns-then-has_failed-clause-answer g c =
-    let (stream, same, works, (past, fed, other, read)) = c.loop-line.invariant in
+    let (stream, same, works, few, (past, fed, other, read)) = c.loop-line.invariant in
     let line = c.next_line.new.line.items in
     let next = c.in_ok-next_line.ensures in
     let more = rw c.deref.ensures.value at (c.in_ok-line.ensures past fed) in
@@ -60,12 +63,13 @@ returns-then-has_failed-clause-answer g c =
 
 pub loop-line-preserved : goal.loop-line-preserved
 loop-line-preserved g c =
-    let (stream, same, works, (past, fed, other, read)) = c.loop-line.invariant in
+    let (stream, same, works, few, (past, fed, other, read)) = c.loop-line.invariant in
     let line = c.next_line.new.line.items in
     let next = c.in_ok-next_line.ensures in (
       g.met.S.Source.same_trans _ _ _ stream c.next_line.ensures.stream,
       next.unfailed ok_no_error ∙ same,
       λ empty. inr (next.works (works empty)),
+      took_then _ _ _ _ _ 0 0 few (next.no_idle (inl c.if-branch.true)),
       (
         past ++ line ∷ [],
         rw c.deref.ensures.value at (c.in_ok-line.ensures past fed),
@@ -77,7 +81,7 @@ loop-line-preserved g c =
 
 pub returns-clause-answer : goal.returns-clause-answer
 returns-clause-answer g c =
-    let (stream, same, works, (past, fed, other, read)) = c.loop-line.invariant in
+    let (stream, same, works, few, (past, fed, other, read)) = c.loop-line.invariant in
     let line = c.next_line.new.line.items in
     let next = c.in_ok-next_line.ensures in
     elim (next.end c.if-branch.false) [
@@ -101,7 +105,7 @@ returns-clause-answer g c =
 
 pub returns-clause-rest : goal.returns-clause-rest
 returns-clause-rest g c =
-    let (stream, same, works, (past, fed, other, read)) = c.loop-line.invariant in
+    let (stream, same, works, few, (past, fed, other, read)) = c.loop-line.invariant in
     let line = c.next_line.new.line.items in
     let next = c.in_ok-next_line.ensures in
     let left = prepend_known c.next_line.new.self (g.S.Read.remaining c.next_line.new.source) in
@@ -155,7 +159,7 @@ returns-then-has_failed-clause-works g c = λ empty of. c.in_ok-next_line.ensure
 
 pub returns-then-has_failed-clause-rest : goal.returns-then-has_failed-clause-rest
 returns-then-has_failed-clause-rest g c =
-    let (stream, same, works, (past, fed, other, read)) = c.loop-line.invariant in
+    let (stream, same, works, few, (past, fed, other, read)) = c.loop-line.invariant in
     let line = c.next_line.new.line.items in
     let more = rw c.deref.ensures.value at (c.in_ok-line.ensures past fed) in
     on_err _ c.finish-then-has_failed.result (c.finish-then-has_failed.ensures.refused (past ++ line ∷ []) more
@@ -204,6 +208,54 @@ returns-in_err-line-clause-works g c = λ empty of. c.in_ok-next_line.ensures.wo
 
 pub returns-in_err-line-clause-stream : goal.returns-in_err-line-clause-stream
 returns-in_err-line-clause-stream g c = g.met.S.Source.same_trans _ _ _ c.loop-line.invariant.0 c.next_line.ensures.stream
+
+pub returns-clause-few : goal.returns-clause-few
+returns-clause-few g c = took_then _ _ _ _ _ 0 1 c.loop-line.invariant.3 c.next_line.ensures.few
+
+pub returns-then-is_tail-clause-few : goal.returns-then-is_tail-clause-few
+returns-then-is_tail-clause-few g c = took_then _ _ _ _ _ 0 1 c.loop-line.invariant.3 c.next_line.ensures.few
+
+pub returns-then-has_failed-clause-few : goal.returns-then-has_failed-clause-few
+returns-then-has_failed-clause-few g c = took_then _ _ _ _ _ 0 1 c.loop-line.invariant.3 c.next_line.ensures.few
+
+pub returns-in_err-next_line-clause-few : goal.returns-in_err-next_line-clause-few
+returns-in_err-next_line-clause-few g c = took_then _ _ _ _ _ 0 1 c.loop-line.invariant.3 c.next_line.ensures.few
+
+pub returns-in_err-line-clause-few : goal.returns-in_err-line-clause-few
+returns-in_err-line-clause-few g c = took_then _ _ _ _ _ 0 1 c.loop-line.invariant.3 c.next_line.ensures.few
+
+pub returns-then-is_tail-clause-no_idle : goal.returns-then-is_tail-clause-no_idle
+returns-then-is_tail-clause-no_idle g c =
+    on_ok c.finish.result
+    (took_then _ _ _ _ _ 0 0 c.loop-line.invariant.3 (c.in_ok-next_line.ensures.no_idle (inl c.if-branch.true)))
+
+pub returns-then-has_failed-clause-no_idle : goal.returns-then-has_failed-clause-no_idle
+returns-then-has_failed-clause-no_idle g c =
+    on_ok c.finish-then-has_failed.result
+    (took_then _ _ _ _ _ 0 0 c.loop-line.invariant.3 (c.in_ok-next_line.ensures.no_idle (inl c.if-branch.true)))
+
+pub returns-in_err-next_line-clause-no_idle : goal.returns-in_err-next_line-clause-no_idle
+returns-in_err-next_line-clause-no_idle g c = on_err _ c.from_residual.result c.from_residual.ensures.0
+
+pub returns-in_err-line-clause-no_idle : goal.returns-in_err-line-clause-no_idle
+returns-in_err-line-clause-no_idle g c = on_err _ c.from_residual-in_err-line.result c.from_residual-in_err-line.ensures.0
+
+pub returns-clause-no_idle : goal.returns-clause-no_idle
+returns-clause-no_idle g c =
+    let (stream, same, works, few, (past, fed, other, read)) = c.loop-line.invariant in
+    let line = c.next_line.new.line.items in
+    let next = c.in_ok-next_line.ensures in
+    elim (next.end c.if-branch.false) [
+      | inl longer ↦ on_ok c.finish-2.result (took_then _ _ _ _ _ 0 0 few (next.no_idle (inr longer)))
+      | inr end ↦
+          let text = with_ends past ++ line in
+          let cut : IsCut text past line = record { plain = read.plain; plain_rest = next.plain; whole = refl } in
+          let reads = c.finish-2.ensures.answer past fed text
+          (complete (subst (IsCut text past) (sym c.deref-2.ensures.value) cut)) in
+          let laws = c.history_lines.ensures in
+          on_err _ c.finish-2.result (no_history laws.one_text laws.no_line_feed past line c.finish-2.result read.plain
+          next.plain other reads)
+    ]
 
 pub loop-line-smaller : goal.loop-line-smaller
 loop-line-smaller g c = c.in_ok-next_line.ensures.less c.if-branch.true

@@ -3,6 +3,7 @@ use Rattle.adya_values.specs.declared.history.History.{History as HistoryValue}
 use Rattle.adya_text.specs.Clauses.Reading.{ReadsTexts}
 use Rattle.adya_text.proofs.LinesRead.{of_all, on_err}
 use Rattle.adya_text.proofs.ReadFaults.{ok_no_error, text_no_device}
+use Rattle.adya_text.proofs.FewReads.{took_then}
 use Rattle.adya_text.proofs.BothTexts.{with_rest, weaker, history_fault, serial_fault, passed_to, passed_from, passed_of}
 use Rattle.adya_text.proofs.sources.read_texts_from.Goals as goal
 
@@ -88,3 +89,13 @@ returns-clause-works g c = λ of.
 pub returns-clause-stream : goal.returns-clause-stream
 returns-clause-stream g c =
     g.met.S.Source.same_trans _ _ _ c.read_history_part.ensures.stream c.read_serial_rest.ensures.stream
+
+pub returns-in_err-history-clause-few : goal.returns-in_err-history-clause-few
+returns-in_err-history-clause-few g c = c.read_history_part.ensures.few
+
+pub returns-in_err-serial-clause-few : goal.returns-in_err-serial-clause-few
+returns-in_err-serial-clause-few g c =
+    took_then _ _ _ _ _ 0 1 c.in_ok-history.ensures.no_idle c.read_serial_rest.ensures.few
+
+pub returns-clause-few : goal.returns-clause-few
+returns-clause-few g c = took_then _ _ _ _ _ 0 1 c.in_ok-history.ensures.no_idle c.read_serial_rest.ensures.few

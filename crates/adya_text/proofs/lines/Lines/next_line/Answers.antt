@@ -4,13 +4,15 @@ use Rattle.std.proofs.lemmas.Bool.{false≢true}
 use Rattle.std.proofs.lemmas.Grind.{common_steps}
 use Rattle.std.proofs.lemmas.List.Elements.{All-append}
 use Rattle.std.proofs.lemmas.Result.{IfOk-at_ok, IfOk-from_err}
+use Rattle.adya_text.specs.Machinery.LongLines.{IsLonger}
+use Rattle.adya_text.proofs.FewReads.{took_idle, took_some, took_last}
 use Rattle.adya_text.proofs.LineTaken.{unmapped, piece_taken, filled, some_taken, still_short, not_failed, as_before}
 use Rattle.adya_text.proofs.ReadFaults.{ok_no_error, err_is}
 use Rattle.adya_text.proofs.lines.Lines.next_line.Goals as goal
 
 pub returns-then-branch : goal.returns-then-branch
 returns-then-branch g c =
-    let (plain, short, stream, work, same, works, eaten) = c.loop-line.invariant in
+    let (plain, short, stream, work, same, works, few, eaten) = c.loop-line.invariant in
     let is = unmapped c.take_line.result _ _ c.map_err.ensures.cases c.map_err.ensures.variant
     (c.in_ok-map_err.was ∙ ap Ok c.if-branch.true) in
     let (taken, grown, plain_taken, moved) = IfOk-at_ok _ is c.take_line.ensures.moved in
@@ -20,6 +22,8 @@ returns-then-branch g c =
       short = still_short c.args.longest c.loop-line.line.items _ short (IfOk-at_ok _ is c.take_line.ensures.short);
       end = λ no. absurd (false≢true (sym no));
       less = λ _. omega (arith, less, work);
+      few = took_idle _ _ _ _ few;
+      no_idle = λ _. few;
       fault = λ no. absurd (ok_no_error no);
       stream = stream;
       unfailed = λ _. same;
@@ -31,7 +35,7 @@ returns-then-branch g c =
 
 pub returns-then-not-branch : goal.returns-then-not-branch
 returns-then-not-branch g c =
-    let (plain, short, stream, work, same, works, eaten) = c.loop-line.invariant in
+    let (plain, short, stream, work, same, works, few, eaten) = c.loop-line.invariant in
     let is = unmapped c.take_line.result _ _ c.map_err.ensures.cases c.map_err.ensures.variant
     (c.in_ok-map_err.was ∙ ap Ok c.if-branch.false) in
     let (taken, grown, plain_taken, moved) = IfOk-at_ok _ is c.take_line.ensures.moved in
@@ -46,6 +50,11 @@ returns-then-not-branch g c =
       short = still_short c.args.longest c.loop-line.line.items _ short (IfOk-at_ok _ is c.take_line.ensures.short);
       end = λ _. inr (fill.end c.if-not-branch.true);
       less = λ no. absurd (false≢true no);
+      few = took_last _ _ _ _ _ _ few fill.bytes fill.few;
+      no_idle = λ is. elim is [
+        | inl is_line ↦ absurd (false≢true is_line)
+        | inr longer ↦ absurd (false≢true (c.if-is_longer.ensures.1 (subst (IsLonger c.args.longest) (sym c.deref.ensures.value) longer)))
+      ];
       fault = λ no. absurd (ok_no_error no);
       stream = g.met.S.Source.same_trans _ _ _ stream fill.stream;
       unfailed = λ _. as_before _ _ works_now fill.kept ∙ same;
@@ -54,7 +63,7 @@ returns-then-not-branch g c =
 
 pub loop-line-preserved : goal.loop-line-preserved
 loop-line-preserved g c =
-    let (plain, short, stream, work, same, works, eaten) = c.loop-line.invariant in
+    let (plain, short, stream, work, same, works, few, eaten) = c.loop-line.invariant in
     let is = unmapped c.take_line.result _ _ c.map_err.ensures.cases c.map_err.ensures.variant
     (c.in_ok-map_err.was ∙ ap Ok c.if-branch.false) in
     let (taken, grown, plain_taken, moved) = IfOk-at_ok _ is c.take_line.ensures.moved in
@@ -67,6 +76,7 @@ loop-line-preserved g c =
       omega (arith, work, fill.less c.if-not-branch.false, fill.short),
       as_before _ _ works_now fill.kept ∙ same,
       λ _. inr works_now,
+      took_some _ _ _ _ _ _ few fill.bytes fill.few (fill.some c.if-not-branch.false),
       filled _ _ _ c.take_line.new.line.items c.take_line.new.self c.fill.new.self
           (piece_taken _ _ c.loop-line.line.items taken [] c.take_line.new.self c.loop-line.self _ eaten moved grown)
           left fill.bytes,
@@ -78,13 +88,15 @@ loop-line-smaller g c =
 
 pub returns-in_err-map_err : goal.returns-in_err-map_err
 returns-in_err-map_err g c =
-    let (plain, short, stream, work, same, works, eaten) = c.loop-line.invariant in
+    let (plain, short, stream, work, same, works, few, eaten) = c.loop-line.invariant in
     let failed = c.from_residual.ensures.0 in record {
       bytes = IfOk-from_err c.from_residual.result _ failed;
       plain = IfOk-from_err c.from_residual.result _ failed;
       short = IfOk-from_err c.from_residual.result _ failed;
       end = IfOk-from_err c.from_residual.result _ failed;
       less = IfOk-from_err c.from_residual.result _ failed;
+      few = took_idle _ _ _ _ few;
+      no_idle = IfOk-from_err c.from_residual.result _ failed;
       fault = search rules;
       stream = stream;
       unfailed = λ none. same;
@@ -93,13 +105,15 @@ returns-in_err-map_err g c =
 
 pub returns-in_err-fill : goal.returns-in_err-fill
 returns-in_err-fill g c =
-    let (plain, short, stream, work, same, works, eaten) = c.loop-line.invariant in
+    let (plain, short, stream, work, same, works, few, eaten) = c.loop-line.invariant in
     let fault = c.from_residual-in_err-fill in record {
       bytes = IfOk-from_err fault.result _ fault.ensures.0;
       plain = IfOk-from_err fault.result _ fault.ensures.0;
       short = IfOk-from_err fault.result _ fault.ensures.0;
       end = IfOk-from_err fault.result _ fault.ensures.0;
       less = IfOk-from_err fault.result _ fault.ensures.0;
+      few = took_last _ _ _ _ _ _ few c.fill.ensures.bytes c.fill.ensures.few;
+      no_idle = IfOk-from_err fault.result _ fault.ensures.0;
       fault = λ _. c.in_err-fill.ensures.fault.0 refl;
       stream = g.met.S.Source.same_trans _ _ _ stream c.fill.ensures.stream;
       unfailed = λ none. absurd (none (err_is fault.result _ fault.ensures.1));
