@@ -1,5 +1,5 @@
 -- Keys chained by the buckets of a table: a key is found along the chain of its bucket, or it isn't there.
-use Rattle.std.proofs.Common.{◌≡◌, ◌∙◌, ◌≢◌, ℕ, zero, suc, ◌+◌, ◌*◌, ◌<◌, ◌≤◌, ◌==◌, ◌&&◌, true, false, cond, List, [], ◌∷◌, ◌++◌, length, set, get_or, replicate, slice_get, slice_index, Some, None, sym, ap, subst, refl, arith, inl, inr, get_or-set_other, get_or-set_same, vec_capacity, vec_len}
+use Rattle.std.proofs.Common.{◌≡◌, ◌∙◌, ◌≢◌, ℕ, zero, suc, ◌+◌, ◌*◌, ◌<◌, ◌≤◌, ◌==◌, ◌&&◌, true, false, cond, List, [], ◌∷◌, ◌++◌, length, set, get_or, replicate, slice_get, slice_index, Some, None, sym, ap, subst, refl, arith, inl, inr, get_or-set_other, get_or-set_same}
 use Rattle.std.specs.Prelude.{nat_le, nat_lt}
 use Rattle.std.specs.List.{position_or_len, list_all, AllByRecursion, IsDistinct}
 use Rattle.std.proofs.lemmas.Bool.{and_from, and_parts, both_ways, cases_Bool, cases_eq, cases_lt, eq-eqb, eqb-true, leb-true, ltb-true}
@@ -270,26 +270,15 @@ takes_less t n m room =
     let texts = room.texts in
     let all = texts.all in
     let few = texts.few in
+    let buckets = room.buckets in
     record {
-      buckets = room.buckets;
+      buckets = omega (arith, buckets);
       next = omega (arith, next);
       texts = record {
         ends = fewer_fit t.texts.ends (n + m) m (length t.texts.all.items + (n + m) * 32) (length t.texts.all.items + m * 32) (omega arith) (omega arith) texts.ends;
         all = omega (arith, all);
         few = omega (arith, few);
       };
-    }
-
--- the same of a table with the same keys
-pub takes_one_less : (t u : KeyTable) (n : ℕ) → u.texts ≡ t.texts → (0 < length t.heads.items → 0 < length u.heads.items)
-    → vec_len u.next ≡ vec_len t.next → vec_capacity t.next ≤ vec_capacity u.next → CanTake t (n + 1) → CanTake u n
-takes_one_less t u n texts kept len capacity room =
-    let less = takes_less t 1 n (subst (CanTake t) (omega arith) room) in
-    let next = less.next in
-    record {
-      buckets = kept room.buckets;
-      next = omega (arith, next, len, capacity);
-      texts = subst (λ p. HasRoom p n (n * 32)) (sym texts) less.texts;
     }
 
 -- where so many keys fit, this one does

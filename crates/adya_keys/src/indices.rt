@@ -36,7 +36,8 @@ impl Indices {
 
     /// Makes an empty list that has room for so many numbers which fit into 32 bits. The only error is that memory is refused.
     pub fn with_capacity(alloc: Global, len: usize) -> Result<Indices, AllocError>
-        ensures { IfOk result (λ n. indices_in n ≡ []) }
+        ensures numbers { IfOk result (λ n. indices_in n ≡ []) }
+        ensures room { IfOk result (λ n. CanPush n len 4294967295) }
     {
         Ok(Indices::Small(Vec::with_capacity(alloc, len)?))
     }

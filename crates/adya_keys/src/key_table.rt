@@ -33,7 +33,7 @@ pub struct KeyTable {
 }
 
 impl KeyTable {
-    ghost use Rattle.adya_keys.specs.Machinery.KeyTables.{keys_in, CanTake};
+    ghost use Rattle.adya_keys.specs.Machinery.KeyTables.{buckets_in, keys_in, CanTake};
     ghost use Rattle.adya_keys.specs.Mirror.{number_in};
 
     /// Makes a table of no keys. It takes no memory.
@@ -126,7 +126,7 @@ impl KeyTable {
     }
 
     /// Returns the number of the key, which it gets if it has none. If memory is refused, or if there are 4,294,967,295 keys, the
-    /// keys stay as they were.
+    /// keys stay as they were. No memory is taken if [`reserve`](KeyTable::reserve) has made room.
     pub fn number(&mut self, key: &[u8]) -> Result<u32, AllocError>
         requires { is_key key.now ≡ true }
         ensures number { IfOk result (λ n. slice_get (keys_in self.new) n ≡ Some key.now) }
@@ -135,88 +135,89 @@ impl KeyTable {
         ensures front { IsFront (keys_in self.old) (keys_in self.new) }
         ensures err { OnErr result (keys_in self.new ≡ keys_in self.old) }
         ensures count { length (keys_in self.new) ≤ length (keys_in self.old) + 1 }
-        ensures succeeds { CanTake self.old 1 → length (keys_in self.old) + 1 < 4294967296 → IsOk result }
+        ensures succeeds { CanTake self.old 1 → IsOk result }
+        ensures buckets { CanTake self.old 1 → buckets_in self.new ≡ buckets_in self.old }
         ensures room { (n : ℕ) → CanTake self.old (n + 1) → CanTake self.new n }
     {
         if let Some(number) = self.number_of(key) {
             return Ok(number);
         }
-        self.add(key)
+        self.reserve(1)?;
+        Ok(self.add(key))
     }
 
-    /// Adds a key that has no number, and returns its number.
-    fn add(&mut self, key: &[u8]) -> Result<u32, AllocError>
+    /// Adds a key that has no number, and for which there is room, and returns its number.
+    fn add(&mut self, key: &[u8]) -> u32
         requires limits { is_key key.now ≡ true }
         requires fresh { AreOthers (keys_in self.old) key.now 0 }
-        ensures number { IfOk result (λ n. slice_get (keys_in self.new) n ≡ Some key.now) }
-        ensures ok { OnOk result (keys_in self.new ≡ keys_in self.old ++ key.now ∷ []) }
-        ensures err { OnErr result (keys_in self.new ≡ keys_in self.old) }
-        ensures succeeds { CanTake self.old 1 → length (keys_in self.old) + 1 < 4294967296 → IsOk result }
+        requires room { CanTake self.old 1 }
+        ensures number { slice_get (keys_in self.new) result ≡ Some key.now }
+        ensures keys { keys_in self.new ≡ keys_in self.old ++ key.now ∷ [] }
+        ensures buckets { buckets_in self.new ≡ buckets_in self.old }
         ensures room { (n : ℕ) → CanTake self.old (n + 1) → CanTake self.new n }
     {
         let count = self.len();
-        if count >= MOST_KEYS {
-            return Err(AllocError);
-        }
-        self.widen()?;
-        self.next.reserve(1)?;
-        self.texts.push(key)?;
+        let Ok(()) = self.texts.push(key) else {
+            unreachable!()
+        };
         self.next.push_reserved(0);
         let bucket = bucket_of(key, self.heads.len());
         chain(&mut self.heads, &mut self.next, bucket, count as u32);
-        Ok(count as u32)
+        count as u32
     }
 
-    /// Makes room for so many more keys. The keys stay, also if memory is refused.
+    /// Makes room for so many more keys. The keys stay, also if memory is refused, or if there would be more than 4,294,967,295.
     pub fn reserve(&mut self, keys: usize) -> Result<(), AllocError>
-        requires { keys < 4294967296 }
         ensures room { OnOk result (CanTake self.new keys) }
         ensures same { keys_in self.new ≡ keys_in self.old }
+        ensures succeeds { CanTake self.old keys → IsOk result }
+        ensures buckets { CanTake self.old keys → buckets_in self.new ≡ buckets_in self.old }
+        ensures keeps { (n : ℕ) → keys ≤ n → CanTake self.old n → CanTake self.new n }
     {
-        self.widen()?;
+        if keys > MOST_KEYS - self.len() {
+            return Err(AllocError);
+        }
+        self.widen(self.len() + keys)?;
         self.next.reserve(keys)?;
         self.texts.reserve(keys, keys * MAX_KEY_LEN)
     }
 
-    /// Makes more buckets if there are no more of them than keys. If memory is refused, those that are there do.
-    fn widen(&mut self) -> Result<(), AllocError>
+    /// Makes so many buckets if there are fewer. If memory is refused, those that are there stay.
+    fn widen(&mut self, count: usize) -> Result<(), AllocError>
+        requires { count < 4294967296 }
+        ensures enough { OnOk result (count ≤ buckets_in self.new) }
+        ensures succeeds { count ≤ buckets_in self.old → IsOk result }
+        ensures same { count ≤ buckets_in self.old → buckets_in self.new ≡ buckets_in self.old }
+        ensures kept { buckets_in self.old ≤ buckets_in self.new }
         ensures texts { self.new.texts ≡ self.old.texts }
-        ensures some { OnOk result (0 < length self.new.heads.items) }
-        ensures succeeds { 0 < length self.old.heads.items → IsOk result }
-        ensures kept { 0 < length self.old.heads.items → 0 < length self.new.heads.items }
         ensures next { vec_len self.new.next ≡ vec_len self.old.next }
         ensures capacity { vec_capacity self.new.next ≡ vec_capacity self.old.next }
     {
         let buckets = self.heads.len();
-        if buckets > self.texts.len() || buckets > MOST_KEYS / 2 {
+        if count <= buckets {
             return Ok(());
         }
         let alloc = *self.next.allocator();
-        match heads_of(alloc, &self.texts, &mut self.next, wider(buckets)) {
-            Ok(heads) => {
-                self.heads = heads;
-                Ok(())
-            }
-            Err(refused) => {
-                if buckets == 0 {
-                    return Err(refused);
-                }
-                Ok(())
-            }
-        }
+        let heads = heads_of(alloc, &self.texts, &mut self.next, wider(buckets, count))?;
+        self.heads = heads;
+        Ok(())
     }
 }
 
-/// Returns how many buckets a table gets that has so many.
-fn wider(buckets: usize) -> usize
-    requires { buckets < 2147483648 }
+/// Returns how many buckets a table gets that has so many and needs this many: twice as many as it has, if that is enough.
+fn wider(buckets: usize, needed: usize) -> usize
+    requires { needed < 4294967296 }
+    ensures enough { needed ≤ result }
     ensures some { 0 < result }
     ensures few { result < 4294967296 }
 {
-    if buckets == 0 {
+    if needed <= FIRST_BUCKETS {
         return FIRST_BUCKETS;
     }
-    buckets * 2
+    if buckets > MOST_KEYS / 2 {
+        return MOST_KEYS;
+    }
+    needed.max(buckets * 2)
 }
 
 /// Chains the keys anew, by so many buckets, and returns these. If memory is refused, nothing changes.

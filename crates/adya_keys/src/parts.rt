@@ -37,6 +37,8 @@ impl<T: Copy> Parts<T> {
     pub(crate) fn reserve(&mut self, parts: usize, elements: usize) -> Result<(), AllocError>
         ensures room { OnOk result (HasRoom self.new parts elements) }
         ensures same { parts_of self.new ≡ parts_of self.old }
+        ensures succeeds { HasRoom self.old parts elements → IsOk result }
+        ensures keeps { (n m : ℕ) → elements ≤ m → HasRoom self.old n m → HasRoom self.new n m }
     {
         if parts > MOST_PARTS - self.ends.len() {
             return Err(AllocError);

@@ -26,6 +26,15 @@ entries_in (plain.Scan t low high es) = es
 entries_in (plain.Commit t) = []
 entries_in (plain.Abort t) = []
 
+-- the event with this list in place of its own, if it is shown one
+abbrev pub showing : List Entry → Event → Event
+showing es (plain.Write t k m v) = plain.Write t k m v
+showing es (plain.Delete t k m) = plain.Delete t k m
+showing es (plain.Read t r v) = plain.Read t r v
+showing es (plain.Scan t low high own) = plain.Scan t low high es
+showing es (plain.Commit t) = plain.Commit t
+showing es (plain.Abort t) = plain.Abort t
+
 -- the entries that are still to come
 abbrev pub entries_left : Entries → List Entry
 entries_left it = entries_of it.rest.now

@@ -5,7 +5,7 @@ ghost use Rattle.adya_keys.specs.Meaning.Keys.{is_key, is_value, IsTxn};
 
 use crate::entries::{Entries, take_entries};
 use adya_values::{
-    Entry, EntryRef, EventView, Events, Key, Listed, Txn, Value, Version, VersionRef,
+    Entry, EntryRef, Event, EventView, Events, Key, Listed, Txn, Value, Version, VersionRef,
 };
 use std::alloc::{AllocError, Global};
 
@@ -83,9 +83,9 @@ pub enum EventRef<'a> {
 
 impl<'a> EventRef<'a> {
     ghost use Rattle.std.specs.Prelude.{◌++◌, ◌∷◌, [], map, IfOk, OnErr, OnOk};
-    ghost use Rattle.adya_values.specs.Mirror.Events.{entries_of, entry_of, events_of, view_of};
+    ghost use Rattle.adya_values.specs.Mirror.Events.{entries_of, entry_of, event_of, events_of, view_of};
     ghost use Rattle.adya_values.specs.Mirror.Refs.{view_entry};
-    ghost use Rattle.adya_line.specs.Mirror.{view, entries_in, entries_left};
+    ghost use Rattle.adya_line.specs.Mirror.{view, entries_in, entries_left, showing};
 
     /// Walks the entries of a scan, in the order of the line; their keys and values are slices of the line. Other
     /// events have none.
@@ -126,10 +126,39 @@ impl<'a> EventRef<'a> {
         Ok(())
     }
 
+    /// Returns the event by itself. `AllocError` if there is no memory for the entries of a scan.
+    pub fn to_event(&self, alloc: Global) -> Result<Event, AllocError>
+        ensures { IfOk result (λ e. event_of e ≡ view self.now) }
+    {
+        let entries = self.to_entries(alloc)?;
+        Ok(match self.with_entries(Listed::Plain(&entries)) {
+            EventView::Write { txn, key, m, value } => Event::Write { txn, key, m, value },
+            EventView::Delete { txn, key, m } => Event::Delete { txn, key, m },
+            EventView::Read {
+                txn,
+                version,
+                value,
+            } => Event::Read {
+                txn,
+                version,
+                value,
+            },
+            EventView::Scan { txn, low, high, .. } => Event::Scan {
+                txn,
+                low,
+                high,
+                entries,
+            },
+            EventView::Commit { txn } => Event::Commit { txn },
+            EventView::Abort { txn } => Event::Abort { txn },
+        })
+    }
+
     /// Adds the event to the list, with these entries in place of those in the line, which only a scan has. `AllocError` if memory
     /// is refused; then the list has the same events as before.
     pub fn add_to(&self, events: &mut Events, entries: &Listed<'_>) -> Result<(), AllocError>
-        ensures ok { entries_of entries.now ≡ entries_in (view self.now)
+        ensures ok { OnOk result (events_of events.new ≡ events_of events.old ++ showing (entries_of entries.now) (view self.now) ∷ []) }
+        ensures same { entries_of entries.now ≡ entries_in (view self.now)
             → OnOk result (events_of events.new ≡ events_of events.old ++ view self.now ∷ []) }
         ensures err { OnErr result (events_of events.new ≡ events_of events.old) }
     {
@@ -154,7 +183,8 @@ impl<'a> EventRef<'a> {
 
     /// Returns the event with these entries in place of those in the line, which only a scan has.
     pub fn with_entries<'b>(&self, entries: Listed<'b>) -> EventView<'b>
-        ensures { entries_of entries.entry ≡ entries_in (view self.now) → view_of result ≡ view self.now }
+        ensures event { view_of result ≡ showing (entries_of entries.entry) (view self.now) }
+        ensures same { entries_of entries.entry ≡ entries_in (view self.now) → view_of result ≡ view self.now }
     {
         match self {
             EventRef::Write(w) => {

@@ -3,9 +3,12 @@
 use adya_line::{
     ContentRef, EntryRef, EventRef, final_pair, order, read_event, txn, unfinished, write_event,
 };
-use adya_values::Listed;
+use adya_values::{Event, Listed};
 use devices::Watched;
 use std::alloc::Global;
+
+const EVENTS: &str =
+    "w1(x.1:1,5)\nd1(x.1:2)\nr2(x.1:1,5)\ns2(a,z;b.1:1,7;x.1:2,!)\ns3(a,b)\nc1\na2";
 
 /// What a line may hold.
 #[derive(Clone, Copy)]
@@ -44,6 +47,31 @@ fn written_again(alloc: Global, line: &[u8]) -> Option<Vec<u8>> {
     let mut out = Watched::new(Vec::new(alloc));
     write_event(&event.with_entries(Listed::Plain(&entries)), &mut out).ok()?;
     Some(out.into_inner())
+}
+
+/// Whether an event of each kind, read by itself and copied, is written as its line.
+pub(crate) fn are_events_copied(alloc: Global) -> bool {
+    for line in EVENTS.lines() {
+        if copied(alloc, line.as_bytes()) != Some(true) {
+            return false;
+        }
+    }
+    true
+}
+
+/// Whether a copy of the event of the line is written as this line.
+fn copied(alloc: Global, line: &[u8]) -> Option<bool> {
+    let event = read_event(line)?.to_event(alloc).ok()?;
+    let copy = event.copy(alloc).ok()?;
+    Some(is_line_of(alloc, &copy, line))
+}
+
+fn is_line_of(alloc: Global, event: &Event, line: &[u8]) -> bool {
+    let Some(view) = Some(event.view()) else {
+        return false;
+    };
+    let mut out = Watched::new(Vec::new(alloc));
+    write_event(&view, &mut out).is_ok() && out.into_inner().as_slice() == line
 }
 
 /// Whether a scan's entries come in the order of its line.

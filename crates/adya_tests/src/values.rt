@@ -23,7 +23,7 @@ const LISTED_AND_ABORTED_WRITERS: &[u8] =
     b"adya 1\nw1(x.1:1,4)\nw1(x.1:2,5)\nw2(x.2:1,6)\nc1\nc2\nw3(x.3:1,7)\nw3(y.3:1,8)\na3\n[x:2<<1]\n{x,5}\nend\n";
 
 /// Returns the cases, each with its name.
-pub(crate) fn cases(alloc: Global) -> [(&'static str, bool); 11] {
+pub(crate) fn cases(alloc: Global) -> [(&'static str, bool); 12] {
     [
         (
             "entries_come_in_the_order_of_the_line",
@@ -35,6 +35,10 @@ pub(crate) fn cases(alloc: Global) -> [(&'static str, bool); 11] {
             is_key_taken() && is_value_taken(),
         ),
         ("a_copied_scan_lists_the_same_entries", is_scan_shown(alloc)),
+        (
+            "events_are_read_by_themselves_and_copied",
+            lines::are_events_copied(alloc),
+        ),
         ("errors_print_their_numbers", are_errors_numbered(alloc)),
         (
             "a_table_holds_small_and_large_numbers",
@@ -84,17 +88,7 @@ fn is_value_taken() -> bool {
 
 /// Returns the scan of this line.
 fn scan(alloc: Global, line: &[u8]) -> Option<Event> {
-    let read = read_event(line)?;
-    let entries = read.to_entries(alloc).ok()?;
-    match read.with_entries(Listed::Plain(&entries)) {
-        EventView::Scan { txn, low, high, .. } => Some(Event::Scan {
-            txn,
-            low,
-            high,
-            entries,
-        }),
-        _ => None,
-    }
+    read_event(line)?.to_event(alloc).ok()
 }
 
 /// Whether a list of events, and a copy of it, show a scan with its entries.

@@ -17,8 +17,10 @@ use Rattle.adya_values.specs.declared.arena.Arena.{Arena}
 use Rattle.adya_values.specs.Mirror.Events.{event_of_row}
 use Rattle.adya_values.specs.Machinery.Seen.{is_part}
 use Rattle.adya_keys.specs.Machinery.Within.{key_at, part, IsFront}
-use Rattle.adya_values.specs.Machinery.Packed.{entry_of_seen, Extends, event_in, is_listing, is_row, is_row_of, listing_of, scan_in}
+use Rattle.adya_values.specs.Machinery.Packed.{entry_of_seen, CanNumber, Extends, event_in, is_listing, is_row, is_row_of, listing_of, scan_in}
 use Rattle.adya_values.proofs.PackedParts.{is_part_stays, same_entries_in}
+use Rattle.adya_keys.proofs.KeyChains.{takes_less}
+use Rattle.adya_keys.specs.declared.key_table.KeyTable.{KeyTable}
 use Rattle.adya_keys.proofs.Within.{front_same, front_trans, key_stays, part_stays}
 
 module _ (ks km : List Key) where
@@ -190,3 +192,9 @@ all_with f (y ∷ ys) x true e here =
 pub on_err : {A E P : Type 0} (r : Result A E) → P → OnErr r P
 on_err (Ok x) p = tt
 on_err (Err e) p = p
+
+-- where many more keys get numbers, fewer do
+pub numbers_less : (keys : KeyTable) (places n m : ℕ) → CanNumber keys places (n + m) → CanNumber keys places m
+numbers_less keys places n m room =
+    let enough = room.enough in
+    record { more = takes_less keys n m room.more; enough = omega (arith, enough) }

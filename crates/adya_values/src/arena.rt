@@ -10,6 +10,7 @@ ghost use Rattle.adya_values.specs.Machinery.Seen.{content_in, is_content, is_pa
 ghost use Rattle.adya_keys.specs.Machinery.Within.{key_at, part};
 ghost use Rattle.std.specs.List.{list_all};
 
+use crate::keeping::make_places;
 use crate::{
     Entry, EventView, Key, Listed, MAX_VALUE_LEN, Mod, NumberedVersion, Observed, PackedEntries,
     Seen, Txn, Value, Version,
@@ -118,7 +119,8 @@ impl Arena {
         }
     }
 
-    /// Makes room for what one event holds that lists no more than so many entries. What was there stays.
+    /// Makes room for what one event holds that lists no more than so many entries. What was there stays, also if memory is
+    /// refused, or if there might be more than 4,294,967,295 keys.
     pub(crate) fn reserve(&mut self, entries: usize) -> Result<(), AllocError>
         ensures room { OnOk result (HasRoomIn self.new entries) }
         ensures keys { keys_in self.new.keys ≡ keys_in self.old.keys }
@@ -126,10 +128,11 @@ impl Arena {
         ensures listings { self.new.listings.items ≡ self.old.listings.items }
         ensures seen { self.new.seen.items ≡ self.old.seen.items }
     {
-        if entries >= MOST_KEYS - 2 || self.keys.len() >= MOST_KEYS - 2 - entries {
+        if entries > MOST_KEYS - 2 {
             return Err(AllocError);
         }
         self.keys.reserve(entries + 2)?;
+        make_places(&mut self.last_values, self.keys.len() + entries + 2)?;
         self.bytes.reserve((entries + 1) * MAX_VALUE_LEN)?;
         self.listings.reserve(1)?;
         self.seen.reserve(entries)

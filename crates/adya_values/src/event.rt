@@ -7,6 +7,7 @@ ghost use Rattle.adya_values.specs.Machinery.Packed.{entry_count};
 ghost use Rattle.adya_values.specs.Computing.Faults.{content_eq, entry_eq};
 
 use crate::{Key, Listed, Mod, Txn, Value};
+use std::alloc::{AllocError, Global};
 use std::fmt;
 
 /// A version of a key: the result of one write or delete by one transaction (Adya 1999, section 3.1).
@@ -127,6 +128,47 @@ impl Event {
             Event::Scan { entries, .. } => entries.len(),
             _ => 0,
         }
+    }
+
+    /// Returns an equal event. `AllocError` if there is no memory for the entries of a scan.
+    pub fn copy(&self, alloc: Global) -> Result<Event, AllocError>
+        ensures { IfOk result (λ e. event_of e ≡ event_of self.now) }
+    {
+        Ok(match self {
+            Event::Write { txn, key, m, value } => Event::Write {
+                txn: *txn,
+                key: *key,
+                m: *m,
+                value: *value,
+            },
+            Event::Delete { txn, key, m } => Event::Delete {
+                txn: *txn,
+                key: *key,
+                m: *m,
+            },
+            Event::Read {
+                txn,
+                version,
+                value,
+            } => Event::Read {
+                txn: *txn,
+                version: *version,
+                value: *value,
+            },
+            Event::Scan {
+                txn,
+                low,
+                high,
+                entries,
+            } => Event::Scan {
+                txn: *txn,
+                low: *low,
+                high: *high,
+                entries: Vec::from_slice(alloc, entries)?,
+            },
+            Event::Commit { txn } => Event::Commit { txn: *txn },
+            Event::Abort { txn } => Event::Abort { txn: *txn },
+        })
     }
 
     /// Returns the event as a list shows it.

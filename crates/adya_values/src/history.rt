@@ -55,7 +55,7 @@ impl History {
         ensures limits { IsOk result ↔ (is_shape (orders_of orders) (finals_of finals) ≡ true) }
         ensures edition { IfOk result (λ h. (edition_in h ≡ Edition.One) × (unfinished_in h ≡ [])) }
         ensures same { IfOk result (λ h. (h.events ≡ events) × (h.orders ≡ orders) × (h.finals ≡ finals)) }
-        ensures back { IfErr result (λ b. (b.events ≡ events) × (b.orders ≡ orders) × (b.finals ≡ finals)) }
+        ensures back { IfErr result (λ b. (b.events ≡ events) × (b.unfinished.items ≡ []) × (b.orders ≡ orders) × (b.finals ≡ finals)) }
     {
         let unfinished = Vec::new(orders.allocator());
         if !is_shape(&orders, &finals) {

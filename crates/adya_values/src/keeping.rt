@@ -3,7 +3,7 @@
 ghost use Rattle.std.specs.Prelude.{◌≡◌, ◌≤◌, ◌<◌, ◌+◌, ◌++◌, ◌∷◌, [], ℕ, true, map, Some, slice_get, length, vec_len, vec_capacity, IsOk, IfOk, OnOk};
 ghost use Rattle.adya_keys.specs.Meaning.Keys.{is_key, is_value};
 ghost use Rattle.adya_values.specs.Meaning.Histories.{Delete, Read, Scan, Write};
-ghost use Rattle.adya_keys.specs.Machinery.KeyTables.{keys_in, CanTake};
+ghost use Rattle.adya_keys.specs.Machinery.KeyTables.{keys_in};
 ghost use Rattle.adya_values.specs.Machinery.Seen.{content_in, is_content, IsKept};
 ghost use Rattle.adya_keys.specs.Machinery.Within.{part, IsFront};
 
@@ -15,7 +15,7 @@ use std::alloc::AllocError;
 impl Arena {
     ghost use Rattle.adya_values.specs.Mirror.Refs.{view_content, view_entry};
     ghost use Rattle.adya_values.specs.Mirror.Events.{entries_of, event_of, event_of_row, view_of};
-    ghost use Rattle.adya_values.specs.Machinery.Packed.{entry_of_seen, is_row_of, is_listing, is_seen_of, scan_in, entry_count, CanSee, Extends, HasRoomIn};
+    ghost use Rattle.adya_values.specs.Machinery.Packed.{entry_of_seen, is_row_of, is_listing, is_seen_of, scan_in, entry_count, CanNumber, CanSee, Extends, HasRoomIn};
 
     /// Keeps what the event holds, and returns its row. If memory is refused, or if there are 4,294,967,295 keys, what was
     /// there is still where it was.
@@ -160,10 +160,13 @@ impl Arena {
         ensures listings { self.new.listings ≡ self.old.listings }
         ensures seen { self.new.seen ≡ self.old.seen }
         ensures count { length (keys_in self.new.keys) ≤ length (keys_in self.old.keys) + 1 }
-        ensures succeeds { CanTake self.old.keys 1 → length (keys_in self.old.keys) + 1 < 4294967296 → IsOk result }
-        ensures room { (n : ℕ) → CanTake self.old.keys (n + 1) → CanTake self.new.keys n }
+        ensures succeeds { CanNumber self.old.keys (vec_capacity self.old.last_values) 1 → IsOk result }
+        ensures room { (n : ℕ) → CanNumber self.old.keys (vec_capacity self.old.last_values) (n + 1)
+            → CanNumber self.new.keys (vec_capacity self.new.last_values) n }
     {
-        self.keys.number(key)
+        let number = self.keys.number(key)?;
+        make_places(&mut self.last_values, self.keys.len())?;
+        Ok(number)
     }
 
     /// Adds a text, and returns its place.
@@ -176,6 +179,7 @@ impl Arena {
         ensures seen { self.new.seen ≡ self.old.seen }
         ensures len { vec_len self.new.bytes ≤ vec_len self.old.bytes + length text.now }
         ensures capacity { vec_capacity self.old.bytes ≤ vec_capacity self.new.bytes }
+        ensures places { vec_capacity self.new.last_values ≡ vec_capacity self.old.last_values }
         ensures succeeds { vec_len self.old.bytes + length text.now ≤ vec_capacity self.old.bytes → IsOk result }
     {
         add_to(&mut self.bytes, text)
@@ -191,6 +195,7 @@ impl Arena {
         ensures seen { self.new.seen ≡ self.old.seen }
         ensures len { vec_len self.new.bytes ≤ vec_len self.old.bytes + 64 }
         ensures capacity { vec_capacity self.old.bytes ≤ vec_capacity self.new.bytes }
+        ensures places { vec_capacity self.new.last_values ≡ vec_capacity self.old.last_values }
         ensures succeeds { vec_len self.old.bytes + 64 ≤ vec_capacity self.old.bytes → IsOk result }
     {
         let at = self.add(value)?;
@@ -208,6 +213,7 @@ impl Arena {
         ensures seen { self.new.seen ≡ self.old.seen }
         ensures len { vec_len self.new.bytes ≤ vec_len self.old.bytes + 64 }
         ensures capacity { vec_capacity self.old.bytes ≤ vec_capacity self.new.bytes }
+        ensures places { vec_capacity self.new.last_values ≡ vec_capacity self.old.last_values }
         ensures succeeds { vec_len self.old.bytes + 64 ≤ vec_capacity self.old.bytes → IsOk result }
     {
         if let Some(last) = self.last_values.get(key as usize) {
@@ -254,6 +260,7 @@ impl Arena {
         ensures seen { self.new.seen ≡ self.old.seen }
         ensures len { vec_len self.new.bytes ≤ vec_len self.old.bytes + 64 }
         ensures capacity { vec_capacity self.old.bytes ≤ vec_capacity self.new.bytes }
+        ensures places { vec_capacity self.new.last_values ≡ vec_capacity self.old.last_values }
         ensures succeeds { vec_len self.old.bytes + 64 ≤ vec_capacity self.old.bytes → IsOk result }
     {
         match content {
@@ -354,16 +361,26 @@ fn add_to(bytes: &mut Vec<u8>, text: &[u8]) -> Result<usize, AllocError>
     Ok(at)
 }
 
-/// Notes where the last value of the key begins, if 32 bits can say that and memory isn't refused.
-fn note(last_values: &mut Vec<u32>, key: u32, at: usize) {
+/// Makes a place for the last value of each of so many keys. If memory is refused, those that are there stay.
+pub(crate) fn make_places(last_values: &mut Vec<u32>, keys: usize) -> Result<(), AllocError>
+    ensures enough { OnOk result (keys ≤ vec_capacity last_values.new) }
+    ensures succeeds { keys ≤ vec_capacity last_values.old → IsOk result }
+    ensures capacity { vec_capacity last_values.old ≤ vec_capacity last_values.new }
+{
+    if last_values.len() < keys {
+        last_values.resize(keys, 0)?;
+    }
+    Ok(())
+}
+
+/// Notes where the last value of the key begins, if the key has a place for it and 32 bits can say it.
+fn note(last_values: &mut Vec<u32>, key: u32, at: usize)
+    ensures { vec_capacity last_values.new ≡ vec_capacity last_values.old }
+{
     let Ok(at) = u32::try_from(at) else {
         return;
     };
-    let key = key as usize;
-    if key >= last_values.len() && last_values.resize(key + 1, 0).is_err() {
-        return;
-    }
-    if let Some(place) = last_values.get_mut(key) {
+    if let Some(place) = last_values.get_mut(key as usize) {
         *place = at;
     }
 }

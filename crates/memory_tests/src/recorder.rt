@@ -6,11 +6,11 @@ ghost use Rattle.ssi_recorder.specs.Mirror.{places_of};
 use crate::layers::Layer;
 use crate::reply::Reply;
 use crate::words::{Fault, Words};
-use adya_line::{EventRef, read_event};
+use adya_line::read_event;
 use adya_text::write_history;
-use adya_values::{Event, EventView, History, Listed, Txn};
+use adya_values::{Event, History, Txn};
 use ssi_recorder::Recorder;
-use std::alloc::{AllocError, Global};
+use std::alloc::Global;
 
 /// A recorder, and how many places it keeps.
 #[derive(Drop)]
@@ -43,7 +43,7 @@ impl Recorded {
     fn event(&mut self, words: &mut Words) -> Result<(), Fault> {
         let event = event_of(self.alloc, words)?;
         self.recorder.room(event.entry_count())?;
-        self.recorder.event(&event);
+        self.recorder.event(event);
         Ok(())
     }
 
@@ -53,8 +53,8 @@ impl Recorded {
             return Err(Fault::Now);
         }
         match end {
-            Event::Commit { txn } => self.recorder.commit(txn),
-            Event::Abort { txn } => self.recorder.abort(txn),
+            Event::Commit { txn } => self.recorder.end(Event::Commit { txn }),
+            Event::Abort { txn } => self.recorder.end(Event::Abort { txn }),
             _ => return Err(Fault::Word),
         }
         self.places -= 1;
@@ -62,8 +62,8 @@ impl Recorded {
     }
 
     fn dump(&self, words: &mut Words, reply: &mut Reply) -> Result<(), Fault> {
-        let open_txns = words.txns(self.alloc)?;
-        let dumped = match open_txns.as_slice() {
+        let active = words.txns(self.alloc)?;
+        let dumped = match active.as_slice() {
             [] => self.recorder.dump(&[])?,
             [one] => self.recorder.dump(&[*one])?,
             [one, two] if one < two => self.recorder.dump(&[*one, *two])?,
@@ -73,14 +73,14 @@ impl Recorded {
     }
 
     /// Ends the recorder; if it is refused memory, it goes on with what was handed back.
-    fn finish(&mut self, open_txns: &[Txn], reply: &mut Reply) -> Result<(), Fault> {
+    fn finish(&mut self, active: &[Txn], reply: &mut Reply) -> Result<(), Fault> {
         let new = Recorded::new(self.alloc);
         let Recorded {
             recorder,
             places,
             ..
         } = std::mem::replace(self, new);
-        match recorder.finish(open_txns) {
+        match recorder.finish(active) {
             Ok(history) => put_history(&history, reply),
             Err((recorder, _)) => {
                 self.recorder = recorder;
@@ -100,8 +100,8 @@ impl Layer for Recorded {
             "end" => self.end(words),
             "dump" => self.dump(words, reply),
             "finish" => {
-                let open_txns = words.txns(self.alloc)?;
-                self.finish(&open_txns, reply)
+                let active = words.txns(self.alloc)?;
+                self.finish(&active, reply)
             }
             _ => Err(Fault::Call),
         }
@@ -111,35 +111,9 @@ impl Layer for Recorded {
 /// Returns the event of the line that is left.
 fn event_of(alloc: Global, words: &mut Words) -> Result<Event, Fault> {
     match read_event(words.rest().as_bytes()) {
-        Some(event) => Ok(owned(alloc, &event)?),
+        Some(event) => Ok(event.to_event(alloc)?),
         None => Err(Fault::Word),
     }
-}
-
-/// Returns the event by itself.
-fn owned(alloc: Global, event: &EventRef<'_>) -> Result<Event, AllocError> {
-    let entries = event.to_entries(alloc)?;
-    Ok(match event.with_entries(Listed::Plain(&entries)) {
-        EventView::Write { txn, key, m, value } => Event::Write { txn, key, m, value },
-        EventView::Delete { txn, key, m } => Event::Delete { txn, key, m },
-        EventView::Read {
-            txn,
-            version,
-            value,
-        } => Event::Read {
-            txn,
-            version,
-            value,
-        },
-        EventView::Scan { txn, low, high, .. } => Event::Scan {
-            txn,
-            low,
-            high,
-            entries,
-        },
-        EventView::Commit { txn } => Event::Commit { txn },
-        EventView::Abort { txn } => Event::Abort { txn },
-    })
 }
 
 fn put_history(history: &History, reply: &mut Reply) -> Result<(), Fault> {

@@ -8,7 +8,7 @@ ghost use Rattle.adya_values.specs.Mirror.Histories.{history_of};
 ghost use Rattle.adya_values.specs.Machinery.Packed.{entry_count};
 ghost use Rattle.adya_values.specs.Computing.Shapes.{numbers_rise};
 ghost use Rattle.adya_values.specs.declared.edition.Edition.TheVariants as Edition;
-ghost use Rattle.ssi_recorder.specs.Meaning.Recorded.{history_of_events};
+ghost use Rattle.ssi_recorder.specs.Meaning.Recorded.{history_of_events, is_end};
 
 use crate::installs::installed;
 use adya_values::{Event, Events, History, Txn};
@@ -50,8 +50,8 @@ impl Recorder {
         Ok(())
     }
 
-    /// Makes room for one event that lists up to so many entries, which the next call of [`Recorder::event`] needs. Returns
-    /// `AllocError` if memory runs out. Either way the events and the kept places are as before.
+    /// Makes room for one event that lists up to so many entries, so that the next call of [`Recorder::event`] takes no memory.
+    /// Returns `AllocError` if memory runs out. Either way the events and the kept places are as before.
     pub fn room(&mut self, entries: usize) -> Result<(), AllocError>
         ensures same { IsAsBefore self.old self.new }
         ensures room { OnOk result (HasRoom self.new entries) }
@@ -59,19 +59,36 @@ impl Recorder {
         self.events.reserve(self.places + 1, entries)
     }
 
-    /// Records an event in the room that [`Recorder::room`] made. It takes no memory.
-    pub fn event(&mut self, event: &Event)
-        requires { HasRoom self.old (entry_count (event_of event.now)) }
-        ensures events { events_of self.new ≡ events_of self.old ++ event_of event.now ∷ [] }
+    /// Records a write, a delete, a read or a scan in the room that [`Recorder::room`] made. It takes no memory.
+    pub fn event(&mut self, event: Event)
+        requires { HasRoom self.old (entry_count (event_of event)) }
+        ensures events { events_of self.new ≡ events_of self.old ++ event_of event ∷ [] }
         ensures places { places_of self.new ≡ places_of self.old }
     {
-        let Ok(()) = self.events.push_owned(event) else {
+        let Ok(()) = self.events.push_owned(&event) else {
             unreachable!()
         };
     }
 
-    /// Records the transaction's commit in a kept place. It takes no memory.
-    pub fn commit(&mut self, txn: Txn)
+    /// Records a commit or an abort in a kept place. It takes no memory.
+    pub fn end(&mut self, end: Event)
+        requires end { is_end (event_of end) ≡ true }
+        requires place { 0 < places_of self.old }
+        ensures events { events_of self.new ≡ events_of self.old ++ event_of end ∷ [] }
+        ensures places { places_of self.new + 1 ≡ places_of self.old }
+    {
+        match end {
+            Event::Commit { txn } => self.commit(txn),
+            Event::Abort { txn } => self.abort(txn),
+            Event::Write { .. } => unreachable!(),
+            Event::Delete { .. } => unreachable!(),
+            Event::Read { .. } => unreachable!(),
+            Event::Scan { .. } => unreachable!(),
+        }
+    }
+
+    /// Records the transaction's commit in a kept place.
+    fn commit(&mut self, txn: Txn)
         requires { 0 < places_of self.old }
         ensures events { events_of self.new ≡ events_of self.old ++ Commit txn ∷ [] }
         ensures places { places_of self.new + 1 ≡ places_of self.old }
@@ -80,8 +97,8 @@ impl Recorder {
         self.events.commit(txn);
     }
 
-    /// Records the transaction's abort in a kept place. It takes no memory.
-    pub fn abort(&mut self, txn: Txn)
+    /// Records the transaction's abort in a kept place.
+    fn abort(&mut self, txn: Txn)
         requires { 0 < places_of self.old }
         ensures events { events_of self.new ≡ events_of self.old ++ Abort txn ∷ [] }
         ensures places { places_of self.new + 1 ≡ places_of self.old }
@@ -92,41 +109,41 @@ impl Recorder {
 
     /// Returns the history of the first edition that these events make, with an abort at the end for each of the
     /// active transactions. Hands the recorder back as it was if memory runs out.
-    pub fn finish(mut self, open_txns: &[Txn]) -> Result<History, (Recorder, AllocError)>
-        ensures history { IfOk result (λ h. history_of h ≡ history_of_events Edition.One [] (events_of self ++ map Abort open_txns.now)) }
+    pub fn finish(mut self, active: &[Txn]) -> Result<History, (Recorder, AllocError)>
+        ensures history { IfOk result (λ h. history_of h ≡ history_of_events Edition.One [] (events_of self ++ map Abort active.now)) }
         ensures err { IfErr result (λ e. IsAsBefore self e.0) }
     {
         let lists = match installed(self.alloc, &self.events) {
             Ok(lists) => lists,
             Err(e) => return Err((self, e)),
         };
-        if let Err(e) = self.events.reserve(open_txns.len(), 0) {
+        if let Err(e) = self.events.reserve(active.len(), 0) {
             return Err((self, e));
         }
-        let events = with_aborts(self.events, open_txns);
+        let events = with_aborts(self.events, active);
         Ok(History::new(events, lists.orders, lists.finals).unwrap())
     }
 
     /// Returns the history of the second edition that these events make, with the active transactions, which have to
     /// rise, as the unfinished ones. Returns `AllocError` if memory runs out. The recorder stays as it is.
-    pub fn dump(&self, open_txns: &[Txn]) -> Result<History, AllocError>
-        requires { numbers_rise open_txns.now ≡ true }
-        ensures { IfOk result (λ h. history_of h ≡ history_of_events Edition.Two open_txns.now (events_of self.now)) }
+    pub fn dump(&self, active: &[Txn]) -> Result<History, AllocError>
+        requires { numbers_rise active.now ≡ true }
+        ensures { IfOk result (λ h. history_of h ≡ history_of_events Edition.Two active.now (events_of self.now)) }
     {
         let lists = installed(self.alloc, &self.events)?;
         let events = self.events.copy(self.alloc)?;
-        let unfinished = Vec::from_slice(self.alloc, open_txns)?;
+        let unfinished = Vec::from_slice(self.alloc, active)?;
         let history = History::new_two(events, unfinished, lists.orders, lists.finals).unwrap();
         Ok(history)
     }
 }
 
 /// Adds an abort for each of the transactions, in reserved room.
-fn with_aborts(mut events: Events, open_txns: &[Txn]) -> Events
-    requires { HasRows events (length open_txns.now) }
-    ensures { lists.events_of result ≡ lists.events_of events ++ map Abort open_txns.now }
+fn with_aborts(mut events: Events, active: &[Txn]) -> Events
+    requires { HasRows events (length active.now) }
+    ensures { lists.events_of result ≡ lists.events_of events ++ map Abort active.now }
 {
-    'open_txns: for txn in open_txns {
+    'active: for txn in active {
         events.abort(*txn);
     }
     events

@@ -3,7 +3,7 @@
 use crate::engine::Engine;
 use crate::sessions::{open_of, remove};
 use crate::{Refusal, Reply, Session};
-use adya_values::Txn;
+use adya_values::{Event, Txn};
 use ssi_reads::Marks;
 use ssi_versions::Chains;
 
@@ -31,7 +31,7 @@ impl<C: Chains + Drop, M: Marks + Drop> Engine<C, M> {
             return;
         }
         self.roster.end(txn);
-        self.recorder.abort(txn);
+        self.recorder.end(Event::Abort { txn });
         self.tracker.on_abort(txn);
     }
 }

@@ -5,6 +5,7 @@ use crate::engine::Engine;
 use crate::overtaken::least_overtaken;
 use crate::sessions::{open_of, remove};
 use crate::{Refusal, Reply, Session};
+use adya_values::Event;
 use ssi_conflict::Answer;
 use ssi_reads::Marks;
 use ssi_versions::Chains;
@@ -39,7 +40,7 @@ impl<C: Chains + Drop, M: Marks + Drop> Engine<C, M> {
         self.tracker.on_commit(txn, self.commits + 1, keys);
         let _there = remove(&mut self.sessions, session);
         self.roster.end(txn);
-        self.recorder.commit(txn);
+        self.recorder.end(Event::Commit { txn });
         self.commits += 1;
         Ok(Reply::Committed)
     }

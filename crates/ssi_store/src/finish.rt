@@ -37,7 +37,7 @@ impl Finished {
     }
 
     /// Returns each transaction with its snapshot: the stamp of the last commit before it began.
-    pub fn snapshots(&self) -> &[(Txn, u64)]
+    pub fn starts(&self) -> &[(Txn, u64)]
         ensures { result.now ≡ snapshots_in self.now }
     {
         self.snapshots.as_slice()

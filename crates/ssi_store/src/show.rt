@@ -44,7 +44,7 @@ impl<C: Chains + Drop, M: Marks + Drop> Engine<C, M> {
             self.drop_txn(session, txn);
             return Ok(Reply::Unsafe { pivot });
         }
-        self.recorder.event(&event);
+        self.recorder.event(event);
         count_at(&mut self.sessions, session);
         Ok(reply)
     }
@@ -64,7 +64,7 @@ impl<C: Chains + Drop, M: Marks + Drop> Engine<C, M> {
     {
         laws_below();
         self.recorder.room(event.entry_count())?;
-        self.recorder.event(&event);
+        self.recorder.event(event);
         count_at(&mut self.sessions, session);
         Ok(reply)
     }

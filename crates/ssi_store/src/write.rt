@@ -32,7 +32,7 @@ impl<C: Chains + Drop, M: Marks + Drop> Engine<C, M> {
         self.recorder.room(0)?;
         let m = open.write(key, content)?;
         let txn = open.view.txn();
-        self.recorder.event(&write_event(txn, key, m, content));
+        self.recorder.event(write_event(txn, key, m, content));
         Ok(Reply::Done)
     }
 }

@@ -2,6 +2,7 @@
 use Rattle.std.specs.Prelude.{ℕ, ◌+◌, ◌*◌, ◌<◌, ◌≤◌, Bool, true, false, ◌&&◌, nat_le, nat_lt, List, length, Option, Some, None, slice_get, vec_len, vec_capacity}
 use Rattle.adya_keys.specs.Machinery.KeyTables.{keys_in, CanTake}
 use Rattle.adya_keys.specs.Meaning.Keys.{Bytes, Key}
+use Rattle.adya_keys.specs.declared.key_table.KeyTable.{KeyTable}
 use Rattle.adya_values.specs.Meaning.Histories.{Event, Entry, Write, Delete, Read, Scan, Commit, Abort}
 use Rattle.adya_values.specs.Machinery.Seen.{entry_in, is_part, is_seen}
 use Rattle.adya_keys.specs.Machinery.Within.{key_at, part, IsFront}
@@ -70,17 +71,20 @@ entry_count (Scan t low high es) = length es
 entry_count (Commit t) = 0
 entry_count (Abort t) = 0
 
+-- so many more keys fit, and there is room for a place for the last value of each key
+pub record CanNumber (keys : KeyTable) (places n : ℕ) : Type 0 where
+  pub more : CanTake keys n
+  pub enough : length (keys_in keys) + n ≤ places
+
 -- so many entries fit
 pub record CanSee (a : Arena) (n : ℕ) : Type 0 where
-  pub keys : CanTake a.keys n
-  pub numbers : length (keys_in a.keys) + n < 4294967296
+  pub keys : CanNumber a.keys (vec_capacity a.last_values) n
   pub bytes : vec_len a.bytes + n * 64 ≤ vec_capacity a.bytes
   pub seen : vec_len a.seen + n ≤ vec_capacity a.seen
 
 -- any event fits that lists no more than so many entries
 pub record HasRoomIn (a : Arena) (n : ℕ) : Type 0 where
-  pub keys : CanTake a.keys (n + 2)
-  pub numbers : length (keys_in a.keys) + (n + 2) < 4294967296
+  pub keys : CanNumber a.keys (vec_capacity a.last_values) (n + 2)
   pub bytes : vec_len a.bytes + (n + 1) * 64 ≤ vec_capacity a.bytes
   pub listings : vec_len a.listings < vec_capacity a.listings
   pub seen : vec_len a.seen + n ≤ vec_capacity a.seen

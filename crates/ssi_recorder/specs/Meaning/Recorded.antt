@@ -1,14 +1,20 @@
 -- The history that a list of events makes: of each key the version order is the order in which its writers committed
 -- (Adya 1999, section 3.1.2), and the final value is that of the last version, if that is visible.
-use Rattle.std.specs.Prelude.{ℕ, nat_eq, if◌then◌else◌, List, [], ◌∷◌, ◌++◌, Option, Some, None, is_some, filter, fold}
+use Rattle.std.specs.Prelude.{ℕ, Bool, true, false, nat_eq, if◌then◌else◌, List, [], ◌∷◌, ◌++◌, Option, Some, None, is_some, filter, fold}
 use Rattle.std.specs.List.{filter_map, list_any}
 use Rattle.adya_values.specs.declared.edition.Edition.{Edition}
 use Rattle.adya_keys.specs.Meaning.Keys.{Key, Bytes}
-use Rattle.adya_values.specs.Meaning.Histories.{Txns, Event, Order, FinalPair, History}
+use Rattle.adya_values.specs.Meaning.Histories.{Txns, Abort, Commit, Event, Order, FinalPair, History}
 use Rattle.adya_values.specs.Meaning.Events.{commit_of, written, last, last_write}
 use Rattle.adya_values.specs.Meaning.Orders.{shown_by}
 use Rattle.adya_values.specs.Meaning.Serial.{visible_pair_of}
 use Rattle.adya_values.specs.Meaning.KeySets.{insert}
+
+-- a commit or an abort
+abbrev pub is_end : Event → Bool
+is_end (Commit t) = true
+is_end (Abort t) = true
+is_end e = false
 
 -- with the number at its end, unless it has it already
 abbrev pub with_number : Txns → ℕ → Txns

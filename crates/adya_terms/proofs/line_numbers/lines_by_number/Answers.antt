@@ -35,7 +35,7 @@ overflow_cast-number c =
 
 pub loop-i-init : goal.loop-i-init
 loop-i-init c =
-    none_found _ _ _ _ c.key_count-count.result c.in_ok-add_zeros.ensures.ok c.in_ok-lines.ensures c.key_count-count.ensures.count
+    none_found _ _ _ _ c.key_count-count.result c.in_ok-add_zeros.ensures.ok c.in_ok-lines.ensures.numbers c.key_count-count.ensures.count
 
 pub returns-in_err-lines : goal.returns-in_err-lines
 returns-in_err-lines c = IfOk-from_err _ _ c.from_residual.ensures.0

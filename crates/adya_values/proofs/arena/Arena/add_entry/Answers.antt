@@ -81,7 +81,6 @@ returns-clause-succeeds c n room =
       refl,
       record {
         keys = left.keys;
-        numbers = left.numbers;
         bytes = left.bytes;
         seen =
             omega (arith, room.seen, ap vec_len c.see.ensures.seen, ap vec_capacity c.see.ensures.seen, c.in_ok-push.ensures.len, c.push.ensures.capacity);

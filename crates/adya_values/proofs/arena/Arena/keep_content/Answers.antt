@@ -17,5 +17,6 @@ returns-in_err-at-in-Live c =
       seen = c.keep_value.ensures.seen;
       len = c.keep_value.ensures.len;
       capacity = c.keep_value.ensures.capacity;
+      places = c.keep_value.ensures.places;
       succeeds = λ room. absurd (false≢true (sym (ap is_ok c.in_err-at-in-Live.was) ∙ c.keep_value.ensures.succeeds room));
     }

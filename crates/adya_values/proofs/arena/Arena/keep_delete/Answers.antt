@@ -1,10 +1,10 @@
-use Rattle.std.proofs.Common.{◌∙◌, ap, arith, refl, sym}
+use Rattle.std.proofs.Common.{◌∙◌, ap, refl, sym}
 use Rattle.std.proofs.Math.Bool.{false≢true}
 use Rattle.std.proofs.lemmas.Result.{IfOk-from_err}
 use Rattle.std.specs.Result.{is_ok}
 use Rattle.adya_keys.specs.Machinery.KeyTables.{keys_in}
 use Rattle.adya_values.specs.Meaning.Histories.{Delete}
-use Rattle.adya_keys.proofs.KeyChains.{takes_less}
+use Rattle.adya_values.proofs.PackedRows.{numbers_less}
 use Rattle.adya_keys.proofs.Within.{found_key}
 use Rattle.adya_values.proofs.PackedRows.{extends_keys}
 use Rattle.adya_values.proofs.arena.Arena.keep_delete.Goals as goal
@@ -21,7 +21,7 @@ returns-in_err-key-clause-event c = IfOk-from_err c.from_residual.result _ c.fro
 
 pub returns-in_err-key-clause-succeeds : goal.returns-in_err-key-clause-succeeds
 returns-in_err-key-clause-succeeds c room =
-    let fits = c.number.ensures.succeeds (takes_less _ 1 1 room.keys) (omega (arith, room.numbers)) in
+    let fits = c.number.ensures.succeeds (numbers_less _ _ 1 1 room.keys) in
     absurd (false≢true (sym (ap is_ok c.in_err-key.was) ∙ fits))
 
 pub returns-clause-extends : goal.returns-clause-extends

@@ -9,5 +9,6 @@ returns c = record {
   seen = c.add_value.ensures.seen;
   len = c.add_value.ensures.len;
   capacity = c.add_value.ensures.capacity;
+  places = c.add_value.ensures.places;
   succeeds = c.add_value.ensures.succeeds;
 }

@@ -7,7 +7,7 @@ use Rattle.std.specs.Result.{is_ok}
 use Rattle.adya_values.specs.Meaning.Histories.{Write}
 use Rattle.adya_values.specs.Machinery.Seen.{IsKept}
 use Rattle.adya_keys.specs.Machinery.Within.{part}
-use Rattle.adya_keys.proofs.KeyChains.{takes_less}
+use Rattle.adya_values.proofs.PackedRows.{numbers_less}
 use Rattle.adya_keys.proofs.Within.{IsKeyAt, found_key}
 use Rattle.adya_values.proofs.PackedRows.{extends_bytes, extends_keys, extends_trans}
 use Rattle.adya_values.proofs.arena.Arena.keep_write.Goals as goal
@@ -24,7 +24,7 @@ returns-in_err-key-clause-event c = IfOk-from_err c.from_residual.result _ c.fro
 
 pub returns-in_err-key-clause-succeeds : goal.returns-in_err-key-clause-succeeds
 returns-in_err-key-clause-succeeds c room =
-    let fits = c.number.ensures.succeeds (takes_less _ 1 1 room.keys) (omega (arith, room.numbers)) in
+    let fits = c.number.ensures.succeeds (numbers_less _ _ 1 1 room.keys) in
     absurd (false≢true (sym (ap is_ok c.in_err-key.was) ∙ fits))
 
 pub returns-in_err-at-clause-extends : goal.returns-in_err-at-clause-extends

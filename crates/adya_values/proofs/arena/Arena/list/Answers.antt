@@ -1,5 +1,5 @@
 use Rattle.std.proofs.Common.{◌≡◌, ◌∙◌, ◌+◌, ◌*◌, ◌≤◌, ℕ, length, map, ap, sym, subst, arith, refl, Vec, Global, vec_len, vec_capacity}
-use Rattle.adya_keys.specs.Machinery.KeyTables.{keys_in, CanTake}
+use Rattle.adya_keys.specs.Machinery.KeyTables.{keys_in}
 use Rattle.std.proofs.Math.Bool.{false≢true}
 use Rattle.std.proofs.lemmas.Result.{IfOk-from_err}
 use Rattle.std.specs.Result.{is_ok}
@@ -9,10 +9,10 @@ use Rattle.std.proofs.lemmas.List.{length-append, length-map}
 use Rattle.adya_values.specs.Meaning.Histories.{Scan}
 use Rattle.adya_values.specs.Mirror.Events.{entries_of}
 use Rattle.adya_keys.specs.Machinery.Within.{key_at, part}
-use Rattle.adya_values.specs.Machinery.Packed.{entry_of_seen, listing_of}
+use Rattle.adya_values.specs.Machinery.Packed.{entry_of_seen, listing_of, CanNumber}
 use Rattle.adya_keys.proofs.Within.{IsKeyAt, found_key, key_stays_in, last_part}
 use Rattle.adya_values.proofs.PackedRows.{extends_keys, extends_trans}
-use Rattle.adya_keys.proofs.KeyChains.{takes_less}
+use Rattle.adya_values.proofs.PackedRows.{numbers_less}
 use Rattle.adya_values.proofs.arena.Arena.list.Goals as goal
 
 pub returns-in_err-low-clause-extends : goal.returns-in_err-low-clause-extends
@@ -31,7 +31,7 @@ returns-in_err-low-clause-scan c t = IfOk-from_err c.from_residual.result _ c.fr
 pub returns-in_err-low-clause-succeeds : goal.returns-in_err-low-clause-succeeds
 returns-in_err-low-clause-succeeds c room =
     let n = length (entries_of c.args.entries.now) in
-    let fits = c.number.ensures.succeeds (takes_less _ (n + 1) 1 (subst (CanTake c.args.self.now.keys) (omega arith) room.keys)) (omega (arith, room.numbers)) in
+    let fits = c.number.ensures.succeeds (numbers_less _ _ (n + 1) 1 (subst (CanNumber c.args.self.now.keys (vec_capacity c.args.self.now.last_values)) (omega arith) room.keys)) in
     absurd (false≢true (sym (ap is_ok c.in_err-low.was) ∙ fits))
 
 pub returns-in_err-high-clause-extends : goal.returns-in_err-high-clause-extends
@@ -52,10 +52,8 @@ returns-in_err-high-clause-scan c t = IfOk-from_err c.from_residual-in_err-high.
 pub returns-in_err-high-clause-succeeds : goal.returns-in_err-high-clause-succeeds
 returns-in_err-high-clause-succeeds c room =
     let n = length (entries_of c.args.entries.now) in
-    let numbers = room.numbers in
-    let count = c.number.ensures.count in
-    let left = c.number.ensures.room (n + 1) (subst (CanTake c.args.self.now.keys) (omega arith) room.keys) in
-    let fits = c.number-2.ensures.succeeds (takes_less _ n 1 (subst (CanTake c.number.new.self.keys) (omega arith) left)) (omega (arith, numbers, count)) in
+    let left = c.number.ensures.room (n + 1) (subst (CanNumber c.args.self.now.keys (vec_capacity c.args.self.now.last_values)) (omega arith) room.keys) in
+    let fits = c.number-2.ensures.succeeds (numbers_less _ _ n 1 left) in
     absurd (false≢true (sym (ap is_ok c.in_err-high.was) ∙ fits))
 
 pub returns-in_err-add_entries-clause-extends : goal.returns-in_err-add_entries-clause-extends
@@ -82,8 +80,8 @@ returns-in_err-add_entries-clause-succeeds c room =
     let n = length (entries_of c.args.entries.now) in
     let fits = c.add_entries.ensures.succeeds
     (record {
-      keys = c.number-2.ensures.room n (c.number.ensures.room (n + 1) (subst (CanTake c.args.self.now.keys) (omega arith) room.keys));
-      numbers = omega (arith, room.numbers, c.number.ensures.count, c.number-2.ensures.count);
+      keys = c.number-2.ensures.room n
+          (c.number.ensures.room (n + 1) (subst (CanNumber c.args.self.now.keys (vec_capacity c.args.self.now.last_values)) (omega arith) room.keys));
       bytes = subst (λ (v : Vec ℕ Global). vec_len v + n * 64 ≤ vec_capacity v) (sym (c.number-2.ensures.bytes ∙ c.number.ensures.bytes)) (omega (arith, room.bytes));
       seen = subst (λ (v : Vec Seen Global). vec_len v + n ≤ vec_capacity v) (sym (c.number-2.ensures.seen ∙ c.number.ensures.seen)) room.seen;
     }) in

@@ -10,3 +10,10 @@ invariant_of-self c =
     record {
       there = all_stay_in (keys_in a.keys) (keys_in c.number.new.self) a.bytes.items a.bytes.items c.number.ensures.front (front_same _ _ refl) a.seen.items a.there;
     }
+
+pub invariant_of-self-2 : goal.invariant_of-self-2
+invariant_of-self-2 c =
+    let a = c.args.self.now in
+    record {
+      there = all_stay_in (keys_in a.keys) (keys_in c.number.new.self) a.bytes.items a.bytes.items c.number.ensures.front (front_same _ _ refl) a.seen.items a.there;
+    }

@@ -1,11 +1,11 @@
-use Rattle.std.proofs.Common.{◌≡◌, ◌∙◌, ◌+◌, ◌<◌, ap, arith, length, refl, subst, sym, true, vec_capacity, vec_len}
+use Rattle.std.proofs.Common.{◌≡◌, ◌∙◌, ap, arith, refl, subst, sym, true, vec_capacity, vec_len}
 use Rattle.std.proofs.Math.Bool.{false≢true}
 use Rattle.std.proofs.lemmas.Bool.{and_from}
 use Rattle.std.proofs.lemmas.Result.{IfOk-from_err}
 use Rattle.std.specs.Result.{is_ok}
-use Rattle.adya_keys.specs.Machinery.KeyTables.{keys_in, CanTake}
+use Rattle.adya_keys.specs.Machinery.KeyTables.{keys_in}
 use Rattle.adya_values.specs.Machinery.Seen.{is_content}
-use Rattle.adya_keys.proofs.KeyChains.{takes_less}
+use Rattle.adya_values.proofs.PackedRows.{numbers_less}
 use Rattle.adya_keys.proofs.Within.{IsKeyAt, found_key}
 use Rattle.adya_values.proofs.PackedRows.{extends_bytes, extends_keys, extends_trans}
 use Rattle.adya_values.proofs.arena.Arena.see.Goals as goal
@@ -28,7 +28,7 @@ returns-in_err-key-clause-entry c = IfOk-from_err c.from_residual.result _ c.fro
 
 pub returns-in_err-key-clause-succeeds : goal.returns-in_err-key-clause-succeeds
 returns-in_err-key-clause-succeeds c n room =
-    let fits = c.number.ensures.succeeds (takes_less _ n 1 room.keys) (omega (arith, room.numbers)) in
+    let fits = c.number.ensures.succeeds (numbers_less _ _ n 1 room.keys) in
     absurd (false≢true (sym (ap is_ok c.in_err-key.was) ∙ fits))
 
 pub returns-in_err-at-clause-extends : goal.returns-in_err-at-clause-extends
@@ -83,13 +83,10 @@ returns-clause-entry c =
 pub returns-clause-succeeds : goal.returns-clause-succeeds
 returns-clause-succeeds c n room = (
   refl,
-  let numbers = room.numbers in
-      let bytes = room.bytes in
+  let bytes = room.bytes in
       let seen = room.seen in
-      let count = c.number.ensures.count in
       record {
-        keys = subst (λ t. CanTake t n) (sym c.keep_content.ensures.keys) (c.number.ensures.room n room.keys);
-        numbers = subst (λ t. length (keys_in t) + n < 4294967296) (sym c.keep_content.ensures.keys) (omega (arith, numbers, count));
+        keys = rw (c.keep_content.ensures.keys, c.keep_content.ensures.places) (c.number.ensures.room n room.keys);
         bytes = omega (arith, bytes, ap vec_len c.number.ensures.bytes, ap vec_capacity c.number.ensures.bytes, c.keep_content.ensures.len, c.keep_content.ensures.capacity);
         seen = omega (arith, seen, ap vec_len c.number.ensures.seen, ap vec_capacity c.number.ensures.seen, ap vec_len c.keep_content.ensures.seen, ap vec_capacity c.keep_content.ensures.seen);
       },

@@ -13,7 +13,7 @@ returns c =
     let events = events_of c.args.self.now in
     let is_two : made.edition ≡ Edition.Two = Prim.search rules in
     let has_events : lists.events_of made.events ≡ events = Prim.search rules in
-    let names_unfinished : made.unfinished.items ≡ c.args.open_txns.now = Prim.search rules in
+    let names_unfinished : made.unfinished.items ≡ c.args.active.now = Prim.search rules in
     let orders : orders_of made.orders ≡ orders_of_events events = Prim.search rules in
     let finals : finals_of made.finals ≡ finals_of_events events = Prim.search rules in
     same_history is_two has_events names_unfinished orders finals

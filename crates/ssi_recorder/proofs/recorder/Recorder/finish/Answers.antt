@@ -13,12 +13,12 @@ returns-clause-history c =
     let made = c.unwrap.result in
     let events = events_of c.args.self in
     let is_one : made.edition ≡ Edition.One = Prim.search rules in
-    let has_events : lists.events_of made.events ≡ events ++ map Abort c.args.open_txns.now = Prim.search rules in
+    let has_events : lists.events_of made.events ≡ events ++ map Abort c.args.active.now = Prim.search rules in
     let none_unfinished : made.unfinished.items ≡ [] = Prim.search rules in
     let orders : orders_of made.orders ≡ orders_of_events events = Prim.search rules in
     let finals : finals_of made.finals ≡ finals_of_events events = Prim.search rules in
-    same_history is_one has_events none_unfinished (orders ∙ orders_ended events c.args.open_txns.now)
-    (finals ∙ finals_ended events c.args.open_txns.now)
+    same_history is_one has_events none_unfinished (orders ∙ orders_ended events c.args.active.now)
+    (finals ∙ finals_ended events c.args.active.now)
 
 pub returns-in-Err-clause-err : goal.returns-in-Err-clause-err
 returns-in-Err-clause-err c = search rules
