@@ -1,5 +1,8 @@
 //! Reading histories.
 
+ghost use Rattle.std.specs.Prelude.{◌≡◌, List, ℕ, Some, OnOk};
+ghost use Rattle.edn.specs.Meaning.Texts.{IsEdn};
+
 use crate::buffer::Buffer;
 use crate::edn_text::edn_text;
 use crate::history::History;
@@ -7,6 +10,7 @@ use crate::json_text::json_text;
 use crate::read_fault::ReadFault;
 use crate::text_form::TextForm;
 use devices::Source;
+use edn::Reader;
 use std::alloc::Global;
 
 /// Reads a history from all that the source has left, in JSON if its first map has a string as its first key, else in
@@ -15,15 +19,18 @@ use std::alloc::Global;
 pub fn read_history<S: Source>(alloc: Global, source: &mut S) -> Result<History, ReadFault> {
     let mut buffer = Buffer::new();
     match buffer.form(source)? {
-        TextForm::Edn => edn_text(alloc, &buffer, source),
+        TextForm::Edn => edn_text(alloc, Reader::after(alloc, buffer.pending())?, source),
         TextForm::Json => json_text(alloc, &mut buffer, source),
     }
 }
 
 /// Reads a history in EDN from all that the source has left: operations one after another, or one vector of them.
 /// `Text` with the line if the text is that of no history, `Device` if the source failed, `Memory` if memory ran out.
-pub fn read_edn<S: Source>(alloc: Global, source: &mut S) -> Result<History, ReadFault> {
-    edn_text(alloc, &Buffer::new(), source)
+/// If a history is returned, the whole text is one of EDN.
+pub fn read_edn<S: Source>(alloc: Global, source: &mut S) -> Result<History, ReadFault>
+    ensures whole { (text : List ℕ) → S.remaining source.old ≡ Some text → OnOk result (IsEdn text) }
+{
+    edn_text(alloc, Reader::new(alloc), source)
 }
 
 /// Reads a history in JSON from all that the source has left: one operation a line, or one array of them. `Text` with

@@ -8,7 +8,7 @@ use Rattle.edn.specs.Meaning.Tokens.{Token, closes, is_square}
 use Rattle.edn.specs.Meaning.Grammar.{IsItem}
 use Rattle.edn.specs.Meaning.Lexing.{no_tokens}
 use Rattle.edn.specs.Meaning.Reading.{ReadsToken, ReadsTokens}
-use Rattle.edn.specs.Meaning.Readers.{AreFirst, AreNext, IsFormAt, ReadsForm}
+use Rattle.edn.specs.Meaning.Readers.{AreFirst, AreNext, IsFormAt, ReadsForm, begun, stage_after}
 use Rattle.edn.specs.Computing.Building.{Frame, top, tagged, discarding, in_list, in_vector, in_set, in_map, is_top}
 use Rattle.edn.specs.Computing.Stages.{Built, Takes}
 use Rattle.edn.proofs.Held.{Holds, Outcome, StepHolds, step_holds, AreDiscarded, none_more}
@@ -149,23 +149,47 @@ element_at Closed ts us P (inr e) behind h = absurd (cc)
 element_at (Failed fault) ts us P (inl e) behind h = absurd (cc)
 element_at (Failed fault) ts us P (inr e) behind h = absurd (cc)
 
+-- the stage after these tokens
+forms_after : (first : Stage) (ts : List Token) → ((first ≡ Start) × BeginsOther ts) ⊎ (first ≡ Forms)
+    → stage_after first ts ≡ Forms
+forms_after first [] (inl (e, other)) = absurd other
+forms_after first (t ∷ ts) (inl (e, other)) = ap (λ s. stage_after s (t ∷ ts)) e ∙ ap begun other
+forms_after first ts (inr e) = ap (λ s. stage_after s ts) e
+
+elements_after : (first : Stage) (ts us : List Token) → (first ≡ Start) ⊎ (first ≡ Elements) → IsBehind first ts us
+    → stage_after first ts ≡ Elements
+elements_after Start ts us from (t, square, e) = ap (stage_after Start) e ∙ ap begun square
+elements_after Forms ts us (inl e) behind = absurd (cc)
+elements_after Forms ts us (inr e) behind = absurd (cc)
+elements_after Elements ts us from behind = refl
+elements_after Closed ts us (inl e) behind = absurd (cc)
+elements_after Closed ts us (inr e) behind = absurd (cc)
+elements_after (Failed fault) ts us (inl e) behind = absurd (cc)
+elements_after (Failed fault) ts us (inr e) behind = absurd (cc)
+
 -- a token that ends a form of the text
 pub form_is_read : (first stage next : Stage) (ts : List Token) (t : Token) (old new : List Frame) (o : Option Form) (f : Form)
     → o ≡ Some f → Leads first stage ts old → Takes stage t next old new o
-    → IsFormAt first (ts ++ t ∷ []) f × (new ≡ top ∷ [])
+    → IsFormAt first (ts ++ t ∷ []) f × (new ≡ top ∷ []) × (next ≡ stage_after first (ts ++ t ∷ []))
 form_is_read first Start next ts t old new o f some (is, empty, idle) (inl (vector, to, same, none)) =
     absurd (let no : None ≡ Some f = sym none ∙ some in cc)
 form_is_read first Start next ts t old new o f some (is, empty, idle) (inr (other, to, built)) =
     let made = held_step old new t (Some f) ts (holds_start old ts empty idle) (subst (Built old t new) some built) in
-    (form_at first _ (λ us. IsItem us f) (inl (is, subst (λ xs. BeginsOther (xs ++ t ∷ [])) (sym empty) other)) made.0, made.1)
+    let from = inl (is, subst (λ xs. BeginsOther (xs ++ t ∷ [])) (sym empty) other) in
+    (form_at first _ (λ us. IsItem us f) from made.0, made.1, to ∙ sym (forms_after first (ts ++ t ∷ []) from))
 form_is_read first Forms next ts t old new o f some (from, h) (to, built) =
     let made = held_step old new t (Some f) ts h (subst (Built old t new) some built) in
-    (form_at first _ (λ us. IsItem us f) (from_more first ts t from) made.0, made.1)
+    let more = from_more first ts t from in
+    (form_at first _ (λ us. IsItem us f) more made.0, made.1, to ∙ sym (forms_after first (ts ++ t ∷ []) more))
 form_is_read first Elements next ts t old new o f some (from, (us, behind, h)) (inl (to, _, is_idle, same, none)) =
     absurd (let no : None ≡ Some f = sym none ∙ some in cc)
 form_is_read first Elements next ts t old new o f some (from, (us, behind, h)) (inr (to, built)) =
     let made = held_step old new t (Some f) us h (subst (Built old t new) some built) in
-    (element_at first _ (us ++ t ∷ []) (λ xs. IsItem xs f) from (behind_more first ts us t behind) made.0, made.1)
+    let more = behind_more first ts us t behind in (
+      element_at first _ (us ++ t ∷ []) (λ xs. IsItem xs f) from more made.0,
+      made.1,
+      to ∙ sym (elements_after first (ts ++ t ∷ []) (us ++ t ∷ []) from more),
+    )
 form_is_read first Closed next ts t old new o f some h takes = absurd takes
 form_is_read first (Failed fault) next ts t old new o f some h takes = absurd takes
 
@@ -182,7 +206,7 @@ reads_more (Some text) mid new ts t (rest, lexes, is) r =
     let (gap, front, end, g, b, whole, left) = subst (λ m. ReadsToken m new t) is r in
     (end, lexes_more lexes gap front end t whole g b, left)
 
-pub reads_form : (stage : Stage) (start new : Option (List ℕ)) (ts : List Token) (f : Form) → ReadsTokens start new ts
-    → IsFormAt stage ts f → ReadsForm stage start new f
-reads_form stage None new ts f h at = tt
-reads_form stage (Some text) new ts f (rest, lexes, is) at = (ts, rest, lexes, at, is)
+pub reads_form : (stage next : Stage) (start new : Option (List ℕ)) (ts : List Token) (f : Form) → ReadsTokens start new ts
+    → IsFormAt stage ts f → next ≡ stage_after stage ts → ReadsForm stage next start new f
+reads_form stage next None new ts f h at to = tt
+reads_form stage next (Some text) new ts f (rest, lexes, is) at to = (ts, rest, lexes, at, to, is)

@@ -11,7 +11,7 @@ use Rattle.edn.specs.Computing.Building.{Frame, in_list, in_vector, in_set, in_m
 abbrev Takes : (List Form → Frame) → Type 0
 Takes c = (gs : List Form) (f : Form) (outer : List Frame) → put (c gs ∷ outer) f ≡ (c (gs ++ f ∷ []) ∷ outer, None)
 
-takes_list : Takes in_list
+pub takes_list : Takes in_list
 unfolding put
 takes_list gs f outer = refl
 
@@ -49,7 +49,7 @@ mutual
       closed_at _ ts (closes closing.Curly ∷ []) us
       ∙ pairs_run r [] (frame ∷ outer) (closes closing.Curly ∷ us)
 
-  items_run : (c : List Form → Frame) → Takes c → {ts : List Token} {fs : List Form} → AreItems ts fs
+  pub items_run : (c : List Form → Frame) → Takes c → {ts : List Token} {fs : List Form} → AreItems ts fs
       → (gs : List Form) (outer : List Frame) (us : List Token)
       → run (c gs ∷ outer) (ts ++ us) ≡ run (c (gs ++ fs) ∷ outer) us
   items_run c takes no_items gs outer us = ap (λ hs. run (c hs ∷ outer) us) (sym (append-nil gs))

@@ -16,5 +16,9 @@ pub mod NoTokens
 pub mod NoForms
 pub mod Nested
 pub mod TextOver
+pub mod NotOver
+pub mod TextsRead
+pub mod NoTexts
+pub mod Unfailed
 pub mod Tapes
 pub mod Rows

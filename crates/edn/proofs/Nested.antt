@@ -1,6 +1,5 @@
 -- As much is nested as the stack has frames.
 use Rattle.std.proofs.Common.{◌≡◌, ◌≤◌, ◌<◌, ◌⊎◌, inl, inr, ℕ, suc, pred, Bool, true, false, List, [], ◌∷◌, ◌++◌, length, Option, None, Some, Result, Ok, Err, refl, sym, ap, ◌∙◌, subst, append_assoc, arith}
-use Rattle.edn.specs.declared.builder.TheConstants.{MAX_DEPTH}
 use Rattle.edn.specs.declared.read_fault.Problem.{Problem}
 use Rattle.edn.specs.declared.read_fault.Problem.TheVariants.{Depth}
 use Rattle.edn.specs.declared.read_fault.ReadFault.{ReadFault}
@@ -99,7 +98,7 @@ deepened stack (Ok ([], o)) d = absurd d
 deepened stack (Ok (f ∷ outer, None)) d = (f, ap (λ o. Ok (f ∷ o, None)) d)
 deepened stack (Ok (f ∷ outer, Some g)) d = absurd d
 
-above : (n : ℕ) → 65 ≤ n → MAX_DEPTH < n
+above : (n : ℕ) → 65 ≤ n → 64 < n
 above n h = omega (arith, h)
 
 too_deep_with : (stack : List Frame) (ts : List Token) (t : Token) (fault : ReadFault) → Holds stack ts → Refused stack t fault
@@ -126,9 +125,9 @@ too_deep first Start start mid new ts t stack fault (is, empty, idle) reads toke
 too_deep first Forms start mid new ts t stack fault (from, h) reads token refused deep =
     inr (deep_text first start new (ts ++ t ∷ []) (reads_more start mid new ts t reads token)
     (form_at first (ts ++ t ∷ []) AreTooDeep (from_more first ts t from) (too_deep_with stack ts t fault h refused deep)))
-too_deep first Elements start mid new ts t stack fault (from, (us, behind, h)) reads token refused deep =
+too_deep first Elements start mid new ts t stack fault (from, (us, behind, h)) reads token (_, refused) deep =
     inr (deep_text first start new (ts ++ t ∷ []) (reads_more start mid new ts t reads token)
     (element_at first (ts ++ t ∷ []) (us ++ t ∷ []) AreTooDeep from (behind_more first ts us t behind)
     (too_deep_with stack us t fault h refused deep)))
-too_deep first Closed start mid new ts t stack fault leads reads token stops deep = absurd (stops deep)
+too_deep first Closed start mid new ts t stack fault leads reads token stops deep = absurd (stops.0 deep)
 too_deep first (Failed before) start mid new ts t stack fault leads reads token stops deep = inl (leads.0 ∙ ap Failed (sym stops))

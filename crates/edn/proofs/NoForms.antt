@@ -28,17 +28,17 @@ resumed (Ok (s, None)) ts us h = h s
 resumed (Ok (s, Some f)) [] us h = refl
 resumed (Ok (s, Some f)) (t ∷ ts) us h = refl
 
-run_append : (old : List Frame) (ts us : List Token) → run old (ts ++ us) ≡ resume (run old ts) us
+pub run_append : (old : List Frame) (ts us : List Token) → run old (ts ++ us) ≡ resume (run old ts) us
 run_append old [] us = refl
 run_append old (t ∷ ts) us = resumed (step old t) ts us (λ s. run_append s ts us)
 
 -- a `[` at the front is passed over
-abbrev run_first : Bool → Token → List Token → Result Step Problem
+abbrev pub run_first : Bool → Token → List Token → Result Step Problem
 run_first true t ts = run (top ∷ []) ts
 run_first false t ts = run (top ∷ []) (t ∷ ts)
 
 -- where they lead a reader that is at this stage
-abbrev runs : Stage → List Token → Result Step Problem
+abbrev pub runs : Stage → List Token → Result Step Problem
 runs Start [] = Ok (top ∷ [], None)
 runs Start (t ∷ ts) = run_first (is_square t) t ts
 runs Forms ts = run (top ∷ []) ts
@@ -47,7 +47,7 @@ runs Closed ts = run (top ∷ []) ts
 runs (Failed fault) ts = run (top ∷ []) ts
 
 -- it is known whether the text begins with `[`
-abbrev IsBegun : Stage → List Token → Type 0
+abbrev pub IsBegun : Stage → List Token → Type 0
 IsBegun Start [] = ⊥
 IsBegun Start (t ∷ ts) = Unit {0}
 IsBegun Forms ts = Unit {0}
@@ -95,7 +95,7 @@ is_stack (Ok (stack, None)) = true
 is_stack (Ok (stack, Some f)) = false
 is_stack (Err p) = false
 
-no_stack : (f : Form) (ts : List Token) (stack : List Frame) → resume (Ok (top ∷ [], Some f)) ts ≡ Ok (stack, None) → ⊥
+pub no_stack : (f : Form) (ts : List Token) (stack : List Frame) → resume (Ok (top ∷ [], Some f)) ts ≡ Ok (stack, None) → ⊥
 unfolding is_stack
 no_stack f [] stack e = let no : false ≡ true = ap is_stack e in cc
 no_stack f (t ∷ ts) stack e = let no : false ≡ true = ap is_stack e in cc
@@ -140,14 +140,14 @@ no_form first (Some text) left ts stack is (rest, l, e) bars f (us, end, m, h) =
       | inr (vs, less, _) ↦ past_form first us vs f stack h (ap (runs first) (sym less) ∙ is)
     ]
 
-first_token : {text end : List ℕ} {t : Token} {us : List Token} → Lexes text (t ∷ us) end → (rest : List ℕ) × Lexes text (t ∷ []) rest
+pub first_token : {text end : List ℕ} {t : Token} {us : List Token} → Lexes text (t ∷ us) end → (rest : List ℕ) × Lexes text (t ∷ []) rest
 first_token (next {rest = rest} gap front g h l) = (rest, next gap front g h no_tokens)
 
 ends : (first : Stage) (ts : List Token) (left : Option (List ℕ)) → HasNoToken left → Bars first ts left
 ends first ts None none = tt
 ends first ts (Some text) none = λ t us end f l h. let (rest, one) = first_token l in none t rest one
 
-same_first : {text other end rest : List ℕ} {s t : Token} {us : List Token} → Lexes text (s ∷ us) end
+pub same_first : {text other end rest : List ℕ} {s t : Token} {us : List Token} → Lexes text (s ∷ us) end
     → Lexes other (t ∷ []) rest → text ≡ other → s ≡ t
 same_first {s = s} {t = t} {us = us} l m e =
     elim (same_tokens l m e) [
@@ -195,7 +195,7 @@ first_leads first ts t stack (is, empty, idle) other =
     ap (λ s. runs s (ts ++ t ∷ [])) is ∙ ap (λ xs. runs Start (xs ++ t ∷ [])) empty ∙ ap (λ b. run_first b t []) other
     ∙ ap (λ s. resume (step s t) []) (sym idle)
 
-next_leads : (first : Stage) (ts : List Token) (t : Token) (stack : List Frame)
+pub next_leads : (first : Stage) (ts : List Token) (t : Token) (stack : List Frame)
     → IsBegun first ts × (runs first ts ≡ Ok (stack, None)) → runs first (ts ++ t ∷ []) ≡ resume (step stack t) []
 next_leads first ts t stack (begun, is) = runs_append first ts (t ∷ []) begun ∙ ap (λ r. resume r (t ∷ [])) is
 
@@ -241,7 +241,7 @@ start_leads : (first : Stage) (ts : List Token) (stack : List Frame) → (first 
 start_leads first ts stack (is, empty, idle) =
     ap (λ s. runs s ts) is ∙ ap (runs Start) empty ∙ ap (λ s. Ok (s, None)) (sym idle)
 
-refused_of : (stack : List Frame) (t : Token) (fault : ReadFault) → Refused stack t fault → IsOfText fault
+pub refused_of : (stack : List Frame) (t : Token) (fault : ReadFault) → Refused stack t fault → IsOfText fault
     → (p : Problem) × (step stack t ≡ Err p)
 refused_of stack t (Syntax line p) (inl is) of_text = (p, is)
 refused_of stack t (Syntax line p) (inr deep) of_text = absurd (of_text deep.0)
@@ -260,7 +260,7 @@ stopped first Forms start mid new ts t stack fault goes reads token refused of_t
     let (p, e) = refused_of stack t fault refused of_text in
     no_form first start mid ts stack goes.1 reads
     (refuses first ts mid new t p (next_leads first ts t stack goes ∙ ap (λ r. resume r []) e) token)
-stopped first Elements start mid new ts t stack fault goes reads token refused of_text =
+stopped first Elements start mid new ts t stack fault goes reads token (_, refused) of_text =
     let (p, e) = refused_of stack t fault refused of_text in
     no_form first start mid ts stack goes.1 reads
     (refuses first ts mid new t p (next_leads first ts t stack goes ∙ ap (λ r. resume r []) e) token)

@@ -47,7 +47,7 @@ not_hash : (b : ℕ) → is_word_byte b ≡ true → (b == 59) ≡ false
 unfolding is_end is_space
 not_hash b w = not_end b 59 w refl
 
-rest_plain : (b : ℕ) (line : List ℕ) → All (λ (c : ℕ). c ≢ 10) (b ∷ line) → All (λ (c : ℕ). c ≢ 10) line
+pub rest_plain : (b : ℕ) (line : List ℕ) → All (λ (c : ℕ). c ≢ 10) (b ∷ line) → All (λ (c : ℕ). c ≢ 10) line
 rest_plain b line all = λ k d below. all (suc k) d (omega arith)
 
 -- ---- a token is read again
@@ -207,7 +207,7 @@ unfoldable pub is_made : Result Step Problem → Bool
 is_made (Ok s) = true
 is_made (Err p) = false
 
-alone : (f g : Form) (vs : List Token) → resume (Ok (top ∷ [], Some f)) vs ≡ Ok (top ∷ [], Some g) → f ≡ g
+pub alone : (f g : Form) (vs : List Token) → resume (Ok (top ∷ [], Some f)) vs ≡ Ok (top ∷ [], Some g) → f ≡ g
 unfolding form_in is_made
 alone f g [] e = ap (form_in f) e
 alone f g (v ∷ vs) e = absurd (let no : false ≡ true = ap is_made e in cc)
@@ -249,10 +249,10 @@ begun_at Closed ts us vs f g e h k = absurd h
 begun_at (Failed fault) ts us vs f g e h k = absurd h
 
 -- what was read is the form with which the text begins
-pub only_form : (stage : Stage) (start left : Option (List ℕ)) (f g : Form) → ReadsForm stage start left f
+pub only_form : (stage later : Stage) (start left : Option (List ℕ)) (f g : Form) → ReadsForm stage later start left f
     → BeginsForm stage start g → g ≡ f
-only_form stage None left f g h k = absurd k
-only_form stage (Some text) left f g (ts, rest, l, h, is) (us, end, m, k) =
+only_form stage later None left f g h k = absurd k
+only_form stage later (Some text) left f g (ts, rest, l, h, _, is) (us, end, m, k) =
     elim (same_tokens l m refl) [
       | inl (vs, e, _) ↦ sym (begun_at stage ts us vs f g e h k)
       | inr (vs, e, _) ↦ begun_at stage us ts vs g f e k h

@@ -8,7 +8,7 @@ use Rattle.edn.specs.declared.tape.Node.{Node}
 use Rattle.edn.specs.declared.tape.Node.TheVariants.{Atom, End}
 use Rattle.edn.specs.Meaning.Forms.{Form}
 use Rattle.edn.specs.Meaning.Tapes.{first_of, forms_back}
-use Rattle.edn.specs.Machinery.Tapes.{are_atoms, is_sound, skip}
+use Rattle.edn.specs.Machinery.Tapes.{are_atoms, is_fit, is_sound, skip}
 
 -- ---- skipping forms
 
@@ -147,7 +147,10 @@ module _ (nodes front : List Node) (row : Row) (n start : ℕ) (is : reverse nod
   parts = ap is_sound (sym is) ∙ sound
 
   start_is : start ≡ length (skip (reverse front) n)
-  start_is = eqb-true _ _ (and_parts _ _ (and_parts _ _ parts).0).0
+  start_is = eqb-true _ _ (and_parts _ _ (and_parts _ _ (and_parts _ _ parts).0).0).0
+
+  pub end_fit : is_fit row n ≡ true
+  end_fit = (and_parts _ _ (and_parts _ _ parts).0).1
 
   front_is : reverse (take start front) ≡ skip (reverse front) n
   front_is = ap (λ k. reverse (take k front)) start_is ∙ take_skipped front n

@@ -14,5 +14,6 @@ pub mod Grammar
 pub mod Nesting
 pub mod Lexing
 pub mod Readers
+pub mod Texts
 pub mod Faults
 pub mod Reading

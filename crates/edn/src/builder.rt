@@ -3,7 +3,7 @@
 //! A function clears the room of all owned values that it may hold when it begins. So what holds such values, or is reached
 //! by few tokens, is not inlined into what each token goes through.
 
-ghost use Rattle.std.specs.Prelude.{◌≡◌, ◌≢◌, ◌∷◌, ◌++◌, ◌≤◌, ◌<◌, ◌+◌, [], Some, None, Ok, length, reverse, take, vec_len, false, IfOk, IfErr, OnOk, OnErr, ◌⊎◌, sum_by, if◌then◌else◌};
+ghost use Rattle.std.specs.Prelude.{◌≡◌, ◌≢◌, ◌∷◌, ◌++◌, ◌≤◌, ◌<◌, ◌+◌, [], Some, None, Ok, length, reverse, take, vec_len, true, false, IfOk, IfErr, OnOk, OnErr, ◌⊎◌, sum_by, if◌then◌else◌};
 ghost use Rattle.edn.specs.Meaning.Forms.{atom_of};
 ghost use Rattle.edn.specs.Meaning.Tapes.{collection, first_of};
 ghost use Rattle.edn.specs.Meaning.Views.{form_of};
@@ -11,6 +11,7 @@ ghost use Rattle.edn.specs.Computing.Building as Spec;
 ghost use Rattle.edn.specs.Computing.Building.{Refuses, open_frame, row_frame};
 ghost use Rattle.edn.specs.Machinery.Frames.{count_in, is_tag, to_leave};
 ghost use Rattle.edn.specs.Machinery.TapeForms.{tape_forms};
+ghost use Rattle.edn.specs.Machinery.Tapes.{is_fit};
 ghost use Rattle.edn.specs.Computing.Tokens.{token_of};
 
 use crate::atom::Atom;
@@ -165,7 +166,8 @@ impl Builder {
 
     /// Ends this collection, which is open and has so many forms.
     fn end(&mut self, row: Row, count: usize) -> Result<bool, AllocError>
-        requires { self.old.inner ≡ Open.Row row count }
+        requires open { self.old.inner ≡ Open.Row row count }
+        requires fit { is_fit row count ≡ true }
         ensures { IfOk result (λ done. Spec.put (Spec.or_top (Spec.outer_of (stack_of self.old)))
             (collection row (reverse (take count (tape_forms self.old.forms)))) ≡ (stack_of self.new, made_if done self.new)) }
     {

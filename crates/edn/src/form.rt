@@ -2,7 +2,7 @@
 
 ghost use Rattle.std.specs.Prelude.{◌≡◌, ◌≤◌, ◌++◌, [], ◌∷◌, true, length, reverse, take, IfSome, IfNone};
 ghost use Rattle.edn.specs.Meaning.Tapes.{collection, first_of, forms_in};
-ghost use Rattle.edn.specs.Machinery.Tapes.{is_sound};
+ghost use Rattle.edn.specs.Machinery.Tapes.{is_fit, is_sound};
 
 use crate::atom::Atom;
 use crate::kind::{Kind, kind_of_atom};
@@ -25,7 +25,7 @@ pub struct Forms<'a> {
 }
 
 impl<'a> Form<'a> {
-    ghost use Rattle.edn.specs.Meaning.Views.{form_of, kind_of};
+    ghost use Rattle.edn.specs.Meaning.Views.{IsPaired, form_of, kind_of};
 
     /// The last form of these nodes; `nil` if there is none.
     pub(crate) fn at_end(nodes: &'a [Node]) -> Form<'a>
@@ -37,7 +37,8 @@ impl<'a> Form<'a> {
 
     /// Returns what the form is.
     pub fn kind(self) -> Kind<'a>
-        ensures { kind_of result ≡ form_of self.entry }
+        ensures form { kind_of result ≡ form_of self.entry }
+        ensures paired { IsPaired result }
     {
         match self.nodes {
             [] => Kind::Nil,
@@ -48,19 +49,22 @@ impl<'a> Form<'a> {
 }
 
 impl<'a> Forms<'a> {
-    ghost use Rattle.edn.specs.Meaning.Views.{form_of, forms_of, kind_of};
+    ghost use Rattle.edn.specs.Meaning.Views.{IsPaired, form_of, forms_of, kind_of};
 
     /// The last forms of these nodes, so many of them.
     fn of(nodes: &'a [Node], left: usize) -> Forms<'a>
         requires sound { is_sound (reverse nodes.now) ≡ true }
         requires within { left ≤ length (forms_in nodes.now) }
-        ensures { forms_of result ≡ reverse (take left (forms_in nodes.now)) }
+        ensures forms { forms_of result ≡ reverse (take left (forms_in nodes.now)) }
+        ensures left { result.left ≡ left }
     {
         Forms { nodes, left }
     }
 
     fn in_row(self, row: Row) -> Kind<'a>
-        ensures { kind_of result ≡ collection row (forms_of self.entry) }
+        requires { is_fit row self.left ≡ true }
+        ensures kind { kind_of result ≡ collection row (forms_of self.entry) }
+        ensures paired { IsPaired result }
     {
         match row {
             Row::List => Kind::List(self),

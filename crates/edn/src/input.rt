@@ -1,10 +1,10 @@
 //! Tokens read from a source.
 
-ghost use Rattle.std.specs.Prelude.{◌≡◌, ◌≤◌, ◌<◌, ◌+◌, ◌++◌, ℕ, List, [], None, drop, length, IfOk, IfErr, IfSome, IfNone, OnOk, IsSome};
+ghost use Rattle.std.specs.Prelude.{◌≡◌, ◌≤◌, ◌<◌, ◌+◌, ◌++◌, ℕ, List, [], None, true, drop, length, IfOk, IfErr, IfSome, IfNone, OnOk, IsSome};
 ghost use Rattle.std.specs.Io.KnownBytes.{Consumes, prepend_known};
 ghost use Rattle.edn.specs.Meaning.Lexing.{IsGap};
 ghost use Rattle.edn.specs.Meaning.Faults.{IsOfDepth, IsOfText};
-ghost use Rattle.edn.specs.Meaning.Reading.{IsLinked, ReadsToken, HasNoToken, IsBlankLeft};
+ghost use Rattle.edn.specs.Meaning.Reading.{IsLinked, ReadsToken, HasNoToken, IsBlankLeft, IsKnownBlank};
 ghost use Rattle.edn.specs.Computing.Gaps.{after_gap_in};
 ghost use Rattle.edn.specs.Computing.Tokens.{token_of};
 ghost use Rattle.edn.specs.Machinery.Inputs.{work_left, to_meet};
@@ -83,7 +83,10 @@ impl Input {
             → IfOk result (λ o. IfNone o (IsBlankLeft (prepend_known self.old.pending (S.remaining source.old)))) }
         ensures refused { IsLinked self.old.beyond (S.remaining source.old)
             → IfErr result (λ e. IsOfText e → HasNoToken (prepend_known self.old.pending (S.remaining source.old))) }
+        ensures other { IsLinked self.old.beyond (S.remaining source.old)
+            → IfErr result (λ e. IsOfText e → ¬ IsKnownBlank (prepend_known self.old.pending (S.remaining source.old))) }
         ensures shallow { IfErr result (λ e. ¬ IsOfDepth e) }
+        ensures fault { IfErr result (λ e. e ≡ ReadFault.Device → S.is_failed source.new ≡ true) }
     {
         loop {
             self.pass_gap();
@@ -163,6 +166,7 @@ impl Input {
         ensures linked { OnOk result (IsLinked self.new.beyond (S.remaining source.new)) }
         ensures text { IfErr result (λ e. ¬ IsOfText e) }
         ensures shallow { IfErr result (λ e. ¬ IsOfDepth e) }
+        ensures fault { IfErr result (λ e. e ≡ ReadFault.Device → S.is_failed source.new ≡ true) }
     {
         let enough = 2 * self.pending.bytes().len();
         loop {
@@ -183,6 +187,7 @@ impl Input {
         ensures linked { OnOk result (IsLinked self.new.beyond (S.remaining source.new)) }
         ensures text { IfErr result (λ e. ¬ IsOfText e) }
         ensures shallow { IfErr result (λ e. ¬ IsOfDepth e) }
+        ensures fault { IfErr result (λ e. e ≡ ReadFault.Device → S.is_failed source.new ≡ true) }
     {
         match source.pull(&mut self.piece) {
             Ok(0) => self.beyond = Beyond::Nothing,

@@ -2,7 +2,7 @@
 
 ghost use Rattle.std.specs.Prelude.{◌≡◌};
 ghost use Rattle.edn.specs.Meaning.Forms.{atom_of};
-ghost use Rattle.edn.specs.Meaning.Views.{kind_of};
+ghost use Rattle.edn.specs.Meaning.Views.{IsPaired, kind_of};
 
 use crate::atom::Atom;
 use crate::form::Forms;
@@ -38,7 +38,8 @@ pub enum Kind<'a> {
 
 /// Returns what a form is that is no collection.
 pub(crate) fn kind_of_atom(atom: &Atom) -> Kind<'_>
-    ensures { kind_of result ≡ atom_of atom.now }
+    ensures kind { kind_of result ≡ atom_of atom.now }
+    ensures paired { IsPaired result }
 {
     match atom {
         Atom::Nil => Kind::Nil,

@@ -1,12 +1,13 @@
 //! Reading a text form by form.
 
-ghost use Rattle.std.specs.Prelude.{◌≡◌, ◌≢◌, ◌⊎◌, ◌<◌, List, ℕ, Option, true, false, IfOk, IfErr, OnOk};
+ghost use Rattle.std.specs.Prelude.{◌≡◌, ◌≢◌, ◌⊎◌, ◌<◌, ◌++◌, ◌∷◌, [], List, ℕ, Option, Some, Err as ErrSpec, true, false, IfOk, IfErr, OnOk};
 ghost use Rattle.std.specs.Io.KnownBytes.{prepend_known};
 ghost use Rattle.edn.specs.Meaning.Forms.{Form as Plain};
 ghost use Rattle.edn.specs.Meaning.Views.{form_of};
 ghost use Rattle.edn.specs.Meaning.Faults.{IsOfDepth, IsOfText};
-ghost use Rattle.edn.specs.Meaning.Readers.{BeginsForm, HasNoForm, IsOver, IsReady, IsTooDeep, ReadsForm, form_read, left_to_do, text_left};
-ghost use Rattle.edn.specs.Computing.Building.{is_top};
+ghost use Rattle.edn.specs.Meaning.Texts.{HasFailed, HasRead, IsNoText, IsText};
+ghost use Rattle.edn.specs.Meaning.Readers.{BeginsForm, EndsHere, HasNoForm, IsOver, IsReady, IsTooDeep, ReadsForm, form_read, left_to_do, text_left};
+ghost use Rattle.edn.specs.Computing.Building.{is_top, top};
 ghost use Rattle.edn.specs.Computing.Stacks.{made_if, stack_of};
 ghost use Rattle.edn.specs.Computing.Stages.{Built, Refused, Stops, Takes};
 ghost use Rattle.edn.specs.Computing.Tokens.{token_of};
@@ -51,24 +52,18 @@ impl Reader {
     pub fn new(alloc: Global) -> Reader
         ensures ready { (left : Option (List ℕ)) → IsReady result left }
         ensures text { (left : Option (List ℕ)) → text_left result left ≡ left }
+        ensures begins { (text : List ℕ) → HasRead text [] result (Some text) }
     {
-        Reader {
-            input: Input::new(alloc),
-            builder: Builder::new(alloc),
-            stage: Stage::Start,
-        }
+        Reader::of(alloc, Input::new(alloc))
     }
 
     /// A reader for a source of which these bytes, the first ones of its text, were read before.
     pub fn after(alloc: Global, front: &[u8]) -> Result<Reader, AllocError>
         ensures ready { IfOk result (λ r. (left : Option (List ℕ)) → IsReady r left) }
         ensures text { IfOk result (λ r. (left : Option (List ℕ)) → text_left r left ≡ prepend_known front.now left) }
+        ensures begins { IfOk result (λ r. (text : List ℕ) → HasRead (front.now ++ text) [] r (Some text)) }
     {
-        Ok(Reader {
-            input: Input::after(alloc, front)?,
-            builder: Builder::new(alloc),
-            stage: Stage::Start,
-        })
+        Ok(Reader::of(alloc, Input::after(alloc, front)?))
     }
 
     /// Returns the line, counted from 1, on which the last form ended; after a `Syntax` fault, its line.
@@ -81,13 +76,14 @@ impl Reader {
     /// `Memory` if memory ran out. After a fault it returns that fault again, and reads no more. What it reads is the form
     /// with which the text that is left begins: its tokens follow one another there, with white space and comments between
     /// them. If a form is there, it is read: false says that the text doesn't begin with one, and so does `Syntax`, unless
-    /// its problem is `Depth`: then more than [`MAX_DEPTH`](crate::MAX_DEPTH) forms are nested there. False says also that
-    /// only discarded forms, the bracket that closes the vector, white space and comments were left of the text.
+    /// its problem is `Depth`: then more than 64 forms are nested there. False says also that only discarded forms, the
+    /// bracket that closes the vector, white space and comments were left of the text: the forms that were read are those
+    /// of the whole text. After `Syntax`, unless its problem is `Depth`, the whole text is none of EDN.
     pub fn read<S: Source>(&mut self, source: &mut S) -> Result<bool, ReadFault>
         ensures less { IfOk result (λ some. some ≡ true
             → left_to_do (S.left source.new) self.new < left_to_do (S.left source.old) self.old) }
         ensures form { IsReady self.old (S.remaining source.old) → IfOk result (λ some. some ≡ true →
-            ReadsForm self.old.stage (text_left self.old (S.remaining source.old))
+            ReadsForm self.old.stage self.new.stage (text_left self.old (S.remaining source.old))
             (text_left self.new (S.remaining source.new)) (form_read self.new)) }
         ensures only { IsReady self.old (S.remaining source.old) → IfOk result (λ some. some ≡ true → (g : Plain)
             → BeginsForm self.old.stage (text_left self.old (S.remaining source.old)) g → g ≡ form_read self.new) }
@@ -100,6 +96,17 @@ impl Reader {
             → HasNoForm self.old.stage (text_left self.old (S.remaining source.old))) }
         ensures deep { IsReady self.old (S.remaining source.old) → IfErr result (λ e. IsOfDepth e
             → (self.old.stage ≡ Stage.Failed e) ⊎ IsTooDeep self.old.stage (text_left self.old (S.remaining source.old))) }
+        ensures extends { (text : List ℕ) (fs : List Plain) → HasRead text fs self.old (S.remaining source.old) → IfOk result
+            (λ some. some ≡ true → HasRead text (fs ++ form_read self.new ∷ []) self.new (S.remaining source.new)) }
+        ensures whole { (text : List ℕ) (fs : List Plain) → HasRead text fs self.old (S.remaining source.old) → IfOk result
+            (λ some. some ≡ false → IsText text fs) }
+        ensures refuses { (text : List ℕ) (fs : List Plain) → HasRead text fs self.old (S.remaining source.old)
+            → IfErr result (λ e. IsOfText e → IsNoText text) }
+        ensures fault { IfErr result (λ e. e ≡ ReadFault.Device
+            → HasFailed self.old e ⊎ (S.is_failed source.new ≡ true)) }
+        ensures failed { IfErr result (HasFailed self.new) }
+        ensures stays { (fault : ReadFault) → HasFailed self.old fault → (result ≡ ErrSpec fault) × (self.new ≡ self.old)
+            × (source.new ≡ source.old) }
     {
         if let Stage::Failed(fault) = self.stage {
             return Err(fault);
@@ -118,11 +125,25 @@ impl Reader {
         self.builder.form()
     }
 
+    /// A reader of which this is the input, and which took no token.
+    fn of(alloc: Global, input: Input) -> Reader
+        ensures input { result.input ≡ input }
+        ensures stage { result.stage ≡ Start }
+        ensures idle { stack_of result.builder ≡ top ∷ [] }
+    {
+        Reader {
+            input,
+            builder: Builder::new(alloc),
+            stage: Stage::Start,
+        }
+    }
+
     fn read_form<S: Source>(&mut self, source: &mut S) -> Result<bool, ReadFault>
+        requires { (fault : ReadFault) → HasFailed self.old fault → ⊥ }
         ensures less { IfOk result (λ some. some ≡ true
             → left_to_do (S.left source.new) self.new < left_to_do (S.left source.old) self.old) }
         ensures form { IsReady self.old (S.remaining source.old) → IfOk result (λ some. some ≡ true →
-            ReadsForm self.old.stage (text_left self.old (S.remaining source.old))
+            ReadsForm self.old.stage self.new.stage (text_left self.old (S.remaining source.old))
             (text_left self.new (S.remaining source.new)) (form_read self.new)) }
         ensures only { IsReady self.old (S.remaining source.old) → IfOk result (λ some. some ≡ true → (g : Plain)
             → BeginsForm self.old.stage (text_left self.old (S.remaining source.old)) g → g ≡ form_read self.new) }
@@ -135,6 +156,9 @@ impl Reader {
             → HasNoForm self.old.stage (text_left self.old (S.remaining source.old))) }
         ensures deep { IsReady self.old (S.remaining source.old) → IfErr result (λ e. IsOfDepth e
             → (self.old.stage ≡ Stage.Failed e) ⊎ IsTooDeep self.old.stage (text_left self.old (S.remaining source.old))) }
+        ensures other { IsReady self.old (S.remaining source.old) → IfErr result (λ e. IsOfText e
+            → ¬ EndsHere self.old.stage (text_left self.old (S.remaining source.old))) }
+        ensures fault { IfErr result (λ e. e ≡ ReadFault.Device → S.is_failed source.new ≡ true) }
     {
         self.builder.clear();
         let mut leaf = Leaf::new();
@@ -242,6 +266,8 @@ impl Reader {
         ensures idle { OnOk result (is_top (stack_of self.now.builder) ≡ true) }
         ensures closed { OnOk result (self.now.stage ≢ Elements) }
         ensures shallow { IfErr result (λ e. ¬ IsOfDepth e) }
+        ensures fault { IfErr result (λ e. e ≢ ReadFault.Device) }
+        ensures unfinished { IfErr result (λ _. (is_top (stack_of self.now.builder) ≡ false) ⊎ (self.now.stage ≡ Elements)) }
     {
         if !self.builder.is_idle() {
             return Err(syntax(self.input.line(), self.builder.problem_at_end()));

@@ -3,7 +3,7 @@
 ghost use Rattle.std.specs.Prelude.{◌≡◌, ◌≤◌, ◌++◌, [], ◌∷◌, true, drop, take, length, reverse, OnOk, OnErr};
 ghost use Rattle.edn.specs.Meaning.Forms.{atom_of};
 ghost use Rattle.edn.specs.Meaning.Tapes.{collection, first_of};
-ghost use Rattle.edn.specs.Machinery.Tapes.{are_atoms, is_sound, skip};
+ghost use Rattle.edn.specs.Machinery.Tapes.{are_atoms, is_fit, is_sound, skip};
 
 use crate::atom::Atom;
 use crate::form::Form;
@@ -64,7 +64,8 @@ impl Tape {
 
     /// Makes a collection of the last forms, so many of them. If memory runs out, nothing changes.
     pub(crate) fn end(&mut self, row: Row, count: usize) -> Result<(), AllocError>
-        requires { count ≤ length (tape_forms self.old) }
+        requires within { count ≤ length (tape_forms self.old) }
+        requires fit { is_fit row count ≡ true }
         ensures ended { OnOk result (tape_forms self.new
             ≡ collection row (reverse (take count (tape_forms self.old))) ∷ drop count (tape_forms self.old)) }
         ensures refused { OnErr result (tape_forms self.new ≡ tape_forms self.old) }

@@ -1,5 +1,5 @@
 -- What a token does to a reader.
-use Rattle.std.specs.Prelude.{◌≡◌, ◌⊎◌, List, true, false, Option, None, Ok}
+use Rattle.std.specs.Prelude.{◌≡◌, ◌≢◌, ◌⊎◌, List, true, false, Option, None, Ok}
 use Rattle.edn.specs.declared.read_fault.ReadFault.{ReadFault}
 use Rattle.edn.specs.declared.read_fault.ReadFault.TheVariants.{Syntax, Device, Memory}
 use Rattle.edn.specs.declared.read_fault.Refusal.TheVariants.{Problem}
@@ -17,15 +17,15 @@ Built old t new o = step old t ≡ Ok (new, o)
 -- the builder may refuse the token with this fault
 abbrev pub Refused : List Frame → Token → ReadFault → Type 0
 Refused stack t (Syntax line p) = Refuses stack (Problem p) (step stack t)
-Refused stack t Device = Unit {0}
+Refused stack t Device = ⊥
 Refused stack t Memory = Unit {0}
 
 -- so may the reader at this stage
 abbrev pub Stops : Stage → Token → List Frame → ReadFault → Type 0
 Stops Start t stack fault = (is_square t ≡ false) × Refused stack t fault
 Stops Forms t stack fault = Refused stack t fault
-Stops Elements t stack fault = Refused stack t fault
-Stops Closed t stack fault = ¬ IsOfDepth fault
+Stops Elements t stack fault = (t ≡ closes Square → is_top stack ≡ false) × Refused stack t fault
+Stops Closed t stack fault = (¬ IsOfDepth fault) × (fault ≢ Device)
 Stops (Failed before) t stack fault = fault ≡ before
 
 abbrev pub Takes : Stage → Token → Stage → List Frame → List Frame → Option Form → Type 0

@@ -1,6 +1,5 @@
 -- How deep forms are nested.
 use Rattle.std.specs.Prelude.{ℕ, suc, ◌<◌, List, [], ◌∷◌, ◌++◌}
-use Rattle.edn.specs.declared.builder.TheConstants.{MAX_DEPTH}
 use Rattle.edn.specs.Meaning.Forms.{Form}
 use Rattle.edn.specs.Meaning.Grammar.{AreItems}
 use Rattle.edn.specs.Meaning.Tokens.{Token, closes, leaf}
@@ -18,6 +17,6 @@ pub data Nests : ℕ → List Token → Type 0 where
   one_open : {n : ℕ} {ts us : List Token} {fs : List Form} (t : Token) → Nests n ts → IsOpening t → AreItems us fs
       → Nests (suc n) (ts ++ t ∷ us)
 
--- more is open than may be
+-- more than 64 are open
 abbrev pub AreTooDeep : List Token → Type 0
-AreTooDeep ts = (n : ℕ) × Nests n ts × (MAX_DEPTH < n)
+AreTooDeep ts = (n : ℕ) × Nests n ts × (64 < n)

@@ -50,11 +50,22 @@ AreNext _ _ P = ⊥
 abbrev pub IsFormAt : Stage → List Token → Form → Type 0
 IsFormAt stage ts f = AreNext stage ts (λ us. IsItem us f)
 
--- the text, if it is known, begins with the form, and goes on so
-abbrev pub ReadsForm : Stage → Option (List ℕ) → Option (List ℕ) → Form → Type 0
-ReadsForm stage None left f = Unit {0}
-ReadsForm stage (Some text) left f =
-    (ts : List Token) × (rest : List ℕ) × Lexes text ts rest × IsFormAt stage ts f × (left ≡ Some rest)
+-- the stage after the first token
+abbrev pub begun : Bool → Stage
+begun true = Elements
+begun false = Forms
+
+-- the stage after the tokens of a form
+abbrev pub stage_after : Stage → List Token → Stage
+stage_after Start (t ∷ ts) = begun (is_square t)
+stage_after stage _ = stage
+
+-- the text, if it is known, begins with the form, which leads from one stage to the next, and goes on so
+abbrev pub ReadsForm : Stage → Stage → Option (List ℕ) → Option (List ℕ) → Form → Type 0
+ReadsForm stage later None left f = Unit {0}
+ReadsForm stage later (Some text) left f =
+    (ts : List Token) × (rest : List ℕ) × Lexes text ts rest × IsFormAt stage ts f × (later ≡ stage_after stage ts)
+    × (left ≡ Some rest)
 
 -- the text is known, and begins with the form
 abbrev pub BeginsForm : Stage → Option (List ℕ) → Form → Type 0
@@ -92,3 +103,8 @@ AreLast (Failed fault) ts = ts ≡ []
 abbrev pub IsOver : Stage → Option (List ℕ) → Type 0
 IsOver stage None = Unit {0}
 IsOver stage (Some text) = (ts : List Token) × (rest : List ℕ) × Lexes text ts rest × AreLast stage ts × IsBlank rest
+
+-- the text is known, and has no other form
+abbrev pub EndsHere : Stage → Option (List ℕ) → Type 0
+EndsHere stage None = ⊥
+EndsHere stage (Some text) = IsOver stage (Some text)

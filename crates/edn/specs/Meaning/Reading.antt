@@ -33,6 +33,11 @@ abbrev pub IsBlankLeft : Option (List ℕ) → Type 0
 IsBlankLeft None = Unit {0}
 IsBlankLeft (Some text) = IsBlank text
 
+-- it is known, and has white space and comments alone
+abbrev pub IsKnownBlank : Option (List ℕ) → Type 0
+IsKnownBlank None = ⊥
+IsKnownBlank (Some text) = IsBlank text
+
 -- it begins with these tokens
 abbrev pub ReadsTokens : Option (List ℕ) → Option (List ℕ) → List Token → Type 0
 ReadsTokens None left ts = Unit {0}

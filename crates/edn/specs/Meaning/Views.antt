@@ -1,5 +1,5 @@
 -- What forms stand for.
-use Rattle.std.specs.Prelude.{List, take, reverse}
+use Rattle.std.specs.Prelude.{◌≡◌, ◌%◌, List, take, reverse, length}
 use Rattle.edn.specs.declared.form.Form.{Form as FormValue}
 use Rattle.edn.specs.declared.form.Forms.{Forms}
 use Rattle.edn.specs.declared.kind.Kind.{Kind}
@@ -28,3 +28,8 @@ kind_of (Is.List fs) = collection Of.List (forms_of fs)
 kind_of (Is.Vector fs) = collection Of.Vector (forms_of fs)
 kind_of (Is.Set fs) = collection Of.Set (forms_of fs)
 kind_of (Is.Map fs) = collection Of.Map (forms_of fs)
+
+-- a map has an even number of forms: a value for each key
+abbrev pub IsPaired : Kind → Type 0
+IsPaired (Is.Map fs) = length (forms_of fs) % 2 ≡ 0
+IsPaired _ = Unit {0}

@@ -24,5 +24,5 @@ returns-clause-some c =
     ap (λ k. reverse (take k fs)) one
     ∙ back_one fs (c.args.self.now.left - 1) there
     ∙ ap (λ xs. reverse (take (c.args.self.now.left - 1) xs) ++ first_of fs ∷ []) (sym left)
-    ∙ ap (λ xs. xs ++ first_of fs ∷ []) (sym c.of.ensures)
+    ∙ ap (λ xs. xs ++ first_of fs ∷ []) (sym c.of.ensures.forms)
     ∙ ap (λ f. forms_of c.of.result ++ f ∷ []) (sym c.at_end-form.ensures)

@@ -11,6 +11,7 @@ use Rattle.edn.specs.Computing.Tokens.{token, end, bad, token_of, token_at}
 use Rattle.edn.proofs.TokensRead.{token_rest, none_passed, more_passed, same_passed, token_read}
 use Rattle.edn.proofs.NoTokens.{no_token, none_at_end, none_at_bad}
 use Rattle.edn.proofs.TextOver.{blank_left}
+use Rattle.edn.proofs.NotOver.{bad_blank}
 use Rattle.edn.proofs.input.Input.next_token.Goals as goal
 
 pub loop-value-init : goal.loop-value-init
@@ -101,4 +102,16 @@ returns-in-Bad-clause-refused g c = λ l _.
     sym (rw (c.in-Bad.is, c.bytes-in-loop-value.ensures) at c.in_ok-token.ensures.exact) in
     let linked = subst (λ b. IsLinked b left) (sym c.pass_gap.ensures.beyond) now in
     no_token c.pass_gap.new.self.beyond p start left (none_at_bad _ p _ c.pass_gap.ensures.all is) linked
+    (more_passed _ p gap start left e is_gap passed)
+
+pub returns-in-Bad-clause-other : goal.returns-in-Bad-clause-other
+returns-in-Bad-clause-other g c = λ l _.
+    let (now, passed) = c.loop-value.invariant.1 l in
+    let (gap, is_gap, e) = c.pass_gap.ensures.passed in
+    let start = prepend_known c.args.self.now.pending (g.S.Read.remaining c.args.source.now) in
+    let left = g.S.Read.remaining c.loop-value.source in
+    let p = c.pass_gap.new.self.pending in
+    let is : token_at c.pass_gap.new.self.beyond p ≡ bad c.in-Bad.problem =
+    sym (rw (c.in-Bad.is, c.bytes-in-loop-value.ensures) at c.in_ok-token.ensures.exact) in
+    bad_blank c.pass_gap.new.self.beyond p c.in-Bad.problem start left c.pass_gap.ensures.all is
     (more_passed _ p gap start left e is_gap passed)

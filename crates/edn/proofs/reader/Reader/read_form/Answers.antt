@@ -8,6 +8,8 @@ use Rattle.edn.specs.Computing.Tokens.{token_of}
 use Rattle.edn.proofs.FormsRead.{leads_here, leads_on, form_is_read, reads_none, reads_more, reads_form}
 use Rattle.edn.proofs.NoForms.{goes_here, goes_on, stopped, ended}
 use Rattle.edn.proofs.Nested.{too_deep}
+use Rattle.edn.proofs.NotOver.{blank_over, refused_over, unfinished_over}
+use Rattle.edn.proofs.Unfailed.{no_device, takes_unfailed}
 use Rattle.edn.proofs.OneReading.{only_form}
 use Rattle.edn.proofs.TextOver.{text_over}
 use Rattle.edn.proofs.reader.Reader.read_form.Goals as goal
@@ -19,6 +21,7 @@ token-init g c = (
     ready.linked,
     ([], reads_none _, leads_here c.args.self.now.stage _ ready.idle, goes_here c.args.self.now.stage _ _ ready.idle),
   ),
+  c.requires,
 )
 
 pub returns-then-branch-clause-form : goal.returns-then-branch-clause-form
@@ -34,11 +37,11 @@ returns-then-branch-clause-form g c = λ ready yes'.
     (reads_more start _ _ ts t reads token) in
     let read = form_is_read c.args.self.now.stage c.token.self.stage c.take.new.self.stage ts t _ _ _ f
     (ap (λ done. made_if done c.take.new.self.builder) c.if-branch.true) leads c.in_ok-take.ensures.takes in
-    reads_form c.args.self.now.stage start (text_left c.take.new.self left) (ts ++ t ∷ []) f more read.0
+    reads_form c.args.self.now.stage c.take.new.self.stage start (text_left c.take.new.self left) (ts ++ t ∷ []) f more read.0 read.2
 
 pub returns-then-branch-clause-only : goal.returns-then-branch-clause-only
 returns-then-branch-clause-only g c = λ ready yes' other begins.
-    only_form c.args.self.now.stage (text_left c.args.self.now (g.S.Read.remaining c.args.source.now)) _ (form_read c.take.new.self) other
+    only_form c.args.self.now.stage c.take.new.self.stage (text_left c.args.self.now (g.S.Read.remaining c.args.source.now)) _ (form_read c.take.new.self) other
     (returns-then-branch-clause-form g c ready yes') begins
 
 pub returns-then-branch-clause-ready : goal.returns-then-branch-clause-ready
@@ -74,6 +77,7 @@ token-preserved g c =
                   token takes led,
             ),
           ),
+      takes_unfailed c.token.self.stage c.take.new.self.stage t _ _ _ c.in_ok-take.ensures.takes,
     )
 
 pub returns-in_err-token-clause-refused : goal.returns-in_err-token-clause-refused
@@ -118,3 +122,41 @@ returns-clause-end g c = λ ready no'.
     let blank = rw c.in_default.is at (c.in_ok-token.ensures.blank linked) in
     text_over c.args.self.now.stage c.token.self.stage _ _ ts _ leads c.in_ok-end.ensures.idle c.in_ok-end.ensures.closed
     reads blank
+
+pub returns-in_err-token-clause-other : goal.returns-in_err-token-clause-other
+returns-in_err-token-clause-other g c = λ ready.
+    let (linked, (ts, reads, leads, goes)) = c.token.invariant.1 (record { linked = ready.linked; idle = c.clear.ensures ∙ ready.idle }) in
+    let p = err_from_is_err_and c.from_residual.result c.from_residual.ensures.1 in
+    rw (p.1, p.2) (λ of_text. blank_over c.args.self.now.stage _ _ ts reads (c.in_err-token.ensures.refused linked of_text)
+    (c.in_err-token.ensures.other linked of_text))
+
+pub returns-in_err-take-clause-other : goal.returns-in_err-take-clause-other
+returns-in_err-take-clause-other g c = λ ready.
+    let (linked, (ts, reads, leads, goes)) = c.token.invariant.1 (record { linked = ready.linked; idle = c.clear.ensures ∙ ready.idle }) in
+    let token = rw c.in-Some.is at (c.in_ok-token.ensures.token linked) in
+    let p = err_from_is_err_and c.from_residual-in_err-take.result c.from_residual-in_err-take.ensures.1 in
+    rw (p.1, p.2) (λ of_text. refused_over c.args.self.now.stage c.token.self.stage _ _ _ ts (token_of c.next_token.new.leaf c.in-Some.token) _ _
+    goes leads reads token c.in_err-take.ensures.stops of_text)
+
+pub returns-in_err-end-clause-other : goal.returns-in_err-end-clause-other
+returns-in_err-end-clause-other g c = λ ready.
+    let (linked, (ts, reads, leads, goes)) = c.token.invariant.1 (record { linked = ready.linked; idle = c.clear.ensures ∙ ready.idle }) in
+    let none = rw c.in_default.is at (c.in_ok-token.ensures.none linked) in
+    let p = err_from_is_err_and c.from_residual-in_err-end.result c.from_residual-in_err-end.ensures.1 in
+    rw (p.1, p.2) (λ _. unfinished_over c.args.self.now.stage c.token.self.stage _ _ ts _ goes leads reads none c.in_err-end.ensures.unfinished)
+
+pub returns-in_err-token-clause-fault : goal.returns-in_err-token-clause-fault
+returns-in_err-token-clause-fault g c =
+    let p = err_from_is_err_and c.from_residual.result c.from_residual.ensures.1 in
+    rw (p.1, p.2) c.in_err-token.ensures.fault
+
+pub returns-in_err-take-clause-fault : goal.returns-in_err-take-clause-fault
+returns-in_err-take-clause-fault g c =
+    let p = err_from_is_err_and c.from_residual-in_err-take.result c.from_residual-in_err-take.ensures.1 in
+    rw (p.1, p.2) (λ device. absurd (no_device c.token.self.stage (token_of c.next_token.new.leaf c.in-Some.token) _ _ c.token.invariant.2
+    c.in_err-take.ensures.stops device))
+
+pub returns-in_err-end-clause-fault : goal.returns-in_err-end-clause-fault
+returns-in_err-end-clause-fault g c =
+    let p = err_from_is_err_and c.from_residual-in_err-end.result c.from_residual-in_err-end.ensures.1 in
+    rw (p.1, p.2) (λ device. absurd (c.in_err-end.ensures.fault device))

@@ -6,6 +6,7 @@ use Rattle.edn.specs.Meaning.Readers.{IsReady, left_to_do, text_left}
 use Rattle.edn.specs.Computing.Stacks.{stack_of}
 use Rattle.edn.proofs.FormsRead.{Leads}
 use Rattle.edn.proofs.NoForms.{Goes}
+use Rattle.edn.proofs.Unfailed.{IsUnfailed}
 use Rattle.edn.proofs.reader.Reader.read_form.Given as goal
 
 abbrev pub invariant-token : goal.invariant-token
@@ -18,6 +19,7 @@ invariant-token g l =
     × Leads l.initial.self.stage l.self.stage ts (stack_of l.self.builder)
     × Goes l.initial.self.stage l.self.stage (text_left l.initial.self (g.S.Read.remaining l.initial.source)) ts
     (stack_of l.self.builder)))
+    × IsUnfailed l.self.stage
 
 abbrev pub decreases-token : goal.decreases-token
 decreases-token g l = left_to_do (g.S.Source.left l.source) l.self

@@ -1,0 +1,9 @@
+use Rattle.std.proofs.Common.{[], sym, subst}
+use Rattle.edn.specs.Meaning.Texts.{HasRead}
+use Rattle.append_text.proofs.reading.read_edn.Goals as goal
+
+pub returns : goal.returns
+returns g c = record {
+  whole = λ text is.
+      c.edn_text.ensures.whole text (subst (HasRead text [] c.new.result) (sym is) (c.new.ensures.begins text));
+}
