@@ -26,6 +26,35 @@ for history in "$examples"/*.edn "$examples"/recorded/*.edn "$examples"/recorded
     check "$history from standard input" "out: $answer"$'\n'"status $status" "$(ends <"$history")"
 done
 
+# A read that has an element of its own transaction too early: it is appended only afterwards, or it is there twice. The
+# element begins what was read of the key so far, or another read has shown it before, with all that its transaction
+# appends or with more.
+said() { # the steps of the transactions, each of which committed; prints the answer
+    local place=0
+    for steps in "$@"; do
+        echo "{:type :ok, :f :txn, :value [$steps], :process $place, :index $place}"
+        place=$((place + 1))
+    done | "$ssi"
+}
+check 'what is appended after the read' \
+    $'not serializable: future\nT1 (index 0) read key 0 as [1], before it appended 1 itself' \
+    "$(said '[:r 0 [1]] [:append 0 1]')"
+check 'what is appended before the read, twice in it' \
+    $'not serializable: twice\nT1 (index 0) read key 0 as [1 1], with 1 twice' \
+    "$(said '[:append 0 1] [:r 0 [1 1]]')"
+check 'what is appended after a read, once another read has shown it' \
+    $'not serializable: future\nT1 (index 1) read key 0 as [1], before it appended 1 itself' \
+    "$(said '[:r 0 [1]]' '[:r 0 [1]] [:append 0 1]')"
+check 'what is appended before a read, twice in it, once another read has shown it' \
+    $'not serializable: twice\nT1 (index 1) read key 0 as [1 1], with 1 twice' \
+    "$(said '[:r 0 [1]]' '[:append 0 1] [:r 0 [1 1]]')"
+check 'a part of what is appended after a read' \
+    $'not serializable: future\nT1 (index 1) read key 0 as [1], before it appended 1 itself' \
+    "$(said '[:r 0 [1 2]]' '[:r 0 [1]] [:append 0 1] [:append 0 2]')"
+check 'a part of what is appended before a read and after it, twice in it' \
+    $'not serializable: twice\nT1 (index 1) read key 0 as [1 1], with 1 twice' \
+    "$(said '[:r 0 [1 2]]' '[:append 0 1] [:r 0 [1 1]] [:append 0 2]')"
+
 # The form of a text may be named.
 check 'a JSON history that is said to be one' 'status 0' \
     "$(run --format json "$examples/recorded/mariadb-serializable.json" | tail -n 1)"

@@ -169,6 +169,8 @@ class Witness:
         links = [self.link(sentence) for sentence in sentences]
         for (_, start, end), (_, following, _) in zip(links, links[1:] + links[:1]):
             require(start != end and end == following, "the links don't follow one another")
+        starts = [start for _, start, _ in links]
+        require(len(set(starts)) == len(starts), "a transaction is in the cycle twice")
         kinds = [kind for kind, _, _ in links]
         names = {0: "G1c" if "wr" in kinds else "G0", 1: "G-single"}
         require(name == names.get(kinds.count("rw"), "G2"), "the cycle has another name")
@@ -224,6 +226,7 @@ class Witness:
         ones, others = self.left(*lists[:5]), self.left(*lists[5:10])
         apart = any(x != y for one in ones for other in others if differ_so(one, other, *lists[10:])
                     for x, y in zip(one, other))
+        require(lists[0] != lists[5], "they are the lists of one transaction")
         require(lists[2] == lists[7] and apart, "one begins with the other")
 
     def no(self, name, sentences):

@@ -1,10 +1,11 @@
 -- The graph of all precedences, its orders and its cycles.
-use Rattle.std.proofs.Common.{◌≡◌, ℕ, suc, ◌+◌, ◌<◌, ◌==◌, Bool, true, false, cond, List, [], ◌∷◌, ◌++◌, Contains, length, length-append, refl, sym, ◌∙◌, ap, subst, arith, inl, inr}
+use Rattle.std.proofs.Common.{◌≡◌, ℕ, suc, ◌+◌, ◌<◌, ◌==◌, Bool, true, false, cond, List, [], ◌∷◌, ◌++◌, Contains, length, length-append, map, refl, sym, ◌∙◌, ap, subst, arith, inl, inr}
 use Rattle.std.specs.List.{list_any, AllByRecursion}
 use Rattle.std.proofs.lemmas.Bool.{cases_eq, cases_lt, cases_Bool, eq-eqb, ne_eqb, cond-true, cond-false}
 use Rattle.std.proofs.lemmas.Bool.Decides.{Decides-eqb}
 use Rattle.std.proofs.lemmas.List.Elements.{Contains-append_left}
-use Rattle.lemmas.proofs.Members.{none_contained, Contains-cases}
+use Rattle.std.proofs.lemmas.List.{map-append}
+use Rattle.lemmas.proofs.Members.{none_contained, Contains-cases, Contains-map, map-source}
 use Rattle.lemmas.proofs.Tests.{list_any-source, list_any_when}
 use Rattle.lemmas.proofs.Counts.{count, count_same, count_other}
 use Rattle.append_values.specs.declared.transaction.Outcome.{Outcome}
@@ -16,13 +17,14 @@ use Rattle.append_values.specs.declared.reason.Kind.TheVariants as By
 use Rattle.append_values.specs.Meaning.Histories.{Read as ReadOf, History, outcome, operations}
 use Rattle.append_values.specs.Meaning.Runs.{Occurs, Explains}
 use Rattle.append_values.specs.Meaning.Reads.{AppendersDiffer, AppendsOnce}
-use Rattle.append_values.specs.Meaning.Reasons.{Precedes, IsDue, IsChain, IsRound}
+use Rattle.append_values.specs.Meaning.Reasons.{Precedes, IsDue, IsChain, IsRound, IsSimple, AreKept}
 use Rattle.append_laws.specs.Laws.Explanations.{ExplainsExactly}
 use Rattle.digraph.specs.declared.arc.Arc.{Arc}
 use Rattle.digraph.specs.Clauses.Graphs.{IsGraph, place, IsBefore, IsTopologicalOrder, IsPath}
 use Rattle.append_check.specs.Machinery.Precedences.{place_of, AreListed, arc, IsArc, AreArcs, AreMore, HasArc, AreNodes, IsCycleOf}
 use Rattle.append_check.specs.Machinery.Wholeness.{AreFine}
 use Rattle.append_check.proofs.Each.{push_keeps, push_puts, push-cases}
+use Rattle.append_check.proofs.Starts.{count_starts}
 use Rattle.append_check.proofs.Seeing.{committed_kept}
 
 pub more_goes_on : (h : History) (u i : ℕ) (old mid new : List Arc) → AreMore h u i old mid → HasArc h u i mid new
@@ -70,9 +72,9 @@ arc_put h u v old new pushed precedes last = record {
 }
 
 pub due_precedes : (h : History) (u v : ℕ) (kind : Kind) → IsDue h u v kind → Precedes h u v
-due_precedes h u v (By.WriteRead read) d = inl d.2
-due_precedes h u v (By.ReadWrite read) d = inr (inr d.2)
-due_precedes h u v (By.WriteWrite read) d = inr (inl d.1)
+due_precedes h u v (By.WriteRead read) d = inl d.0
+due_precedes h u v (By.ReadWrite read) d = inr (inr d.0)
+due_precedes h u v (By.WriteWrite read) d = inr (inl d.0)
 
 -- a transaction that has to come before another isn't aborted, if all reads are fine
 pub source_kept : (h : History) (u v : ℕ) → AreFine h → Precedes h u v → outcome h u ≡ Aborted → ⊥
@@ -167,7 +169,7 @@ module _ (h : History) (n : ℕ) (known : (t : ℕ) → (outcome h t ≡ Aborted
 -- links that follow a path of arcs
 pub record Follows (h : History) (path : List Arc) (links : List Link) : Type 0 where
   pub chain : (s t : ℕ) → IsPath s path t → IsChain h s links t
-  pub long : length links ≡ length path
+  pub starts : map (λ (l : Link). l.from) links ≡ map (λ (a : Arc). a.from) path
 
 path_last : (path : List Arc) (a : Arc) (s t : ℕ) → IsPath s (path ++ a ∷ []) t → IsPath s path a.from × (a.to ≡ t)
 path_last [] a s t p = (sym p.0, p.1)
@@ -180,16 +182,15 @@ chain_last h (k ∷ links) l s t c due e = (c.0, c.1, chain_last h links l k.to 
 
 pub follow_more : (h : History) (path : List Arc) (links : List Link) (a : Arc) (l : Link) → Follows h path links → l.from ≡ a.from → l.to ≡ a.to
     → IsDue h l.from l.to l.kind → Follows h (path ++ a ∷ []) (links ++ l ∷ [])
-follow_more h path links a l f from to due =
-    let long = f.long in
-    let one = length-append path (a ∷ []) in
-    let two = length-append links (l ∷ []) in
-    record {
-      chain = λ s t p.
-          let q = path_last path a s t p in
-          chain_last h links l s t (f.chain s l.from (subst (IsPath s path) (sym from) q.0)) due (to ∙ q.1);
-      long = omega (arith, long, one, two);
-    }
+follow_more h path links a l f from to due = record {
+  chain = λ s t p.
+      let q = path_last path a s t p in
+      chain_last h links l s t (f.chain s l.from (subst (IsPath s path) (sym from) q.0)) due (to ∙ q.1);
+  starts =
+      map-append (λ (k : Link). k.from) links (l ∷ []) ∙
+      (ap (λ ts. ts ++ l.from ∷ []) f.starts ∙
+      (ap (λ t. map (λ (b : Arc). b.from) path ++ t ∷ []) from ∙ sym (map-append (λ (b : Arc). b.from) path (a ∷ []))));
+}
 
 all_of : {X : Type 0} (P : X → Type 0) (xs : List X) → AllByRecursion P xs → (x : X) → Contains xs x → P x
 all_of P [] all x c = absurd (none_contained x c)
@@ -199,15 +200,34 @@ all_of P (y ∷ xs) all x c =
       | inr d ↦ all_of P xs all.1 x d
     ]
 
+is_kept : (h : History) (cycle : List Arc) → IsCycleOf h cycle → (a : Arc) → Contains cycle a → outcome h a.from ≡ Aborted → ⊥
+is_kept h [] is a c = absurd is.closes
+is_kept h (b ∷ path) is a c = is.kept a (all_of (Contains is.arcs) (b ∷ path) is.closes.0 a c)
+
 pub cycle_due : (h : History) (cycle : List Arc) → IsCycleOf h cycle → (a : Arc) → Contains cycle a → Precedes h a.from a.to
 cycle_due h [] is a c = absurd is.closes
 cycle_due h (b ∷ path) is a c = is.due a (all_of (Contains is.arcs) (b ∷ path) is.closes.0 a c)
 
+-- the links begin where the arcs do
 pub round_of : (h : History) (cycle : List Arc) (links : List Link) → IsCycleOf h cycle → Follows h cycle links → IsRound h links
 round_of h [] links is f = absurd is.closes
-round_of h (a ∷ path) [] is f = let long = f.long in absurd (omega (arith, long))
+round_of h (a ∷ path) [] is f = absurd (cc (f.starts))
 round_of h (a ∷ path) (l ∷ links) is f =
     let chain = f.chain a.from a.from is.closes.1 in subst (λ s. IsChain h s (l ∷ links) s) (sym chain.0) chain
+
+pub links_are_simple : (h : History) (cycle : List Arc) (links : List Link) → IsCycleOf h cycle → Follows h cycle links → IsSimple links
+links_are_simple h cycle links is f t =
+    let one = count_starts (λ (l : Link). l.from) links t in
+    let two = count_starts (λ (a : Arc). a.from) cycle t in
+    let same = ap (λ ts. count ts t) f.starts in
+    let most = is.simple t in
+    omega (arith, one, two, same, most)
+
+pub links_are_kept : (h : History) (cycle : List Arc) (links : List Link) → IsCycleOf h cycle → Follows h cycle links → AreKept h links
+links_are_kept h cycle links is f link c =
+    let start = Contains-map (λ (l : Link). l.from) links link c in
+    let a = map-source (λ (b : Arc). b.from) cycle link.from (subst (λ ts. Contains ts link.from) f.starts start) in
+    λ e. is_kept h cycle is a.0 a.1 (ap (outcome h) a.2 ∙ e)
 
 -- the places that were listed so far
 abbrev pub AreListedTo : History → List Read → ℕ → Type 0

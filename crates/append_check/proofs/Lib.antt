@@ -1,6 +1,7 @@
 mod Seeing
 mod Running
 mod Listed
+mod Starts
 mod Holding
 mod Appending
 mod Each

@@ -101,8 +101,8 @@ fn add_arc(
     }
 }
 
-// Whether the transaction at this place is aborted. So is each one beyond the history.
-fn is_aborted(transactions: &[Transaction], place: u32) -> bool
+/// Returns whether the transaction at this place is aborted. So is each one beyond the history.
+pub(crate) fn is_aborted(transactions: &[Transaction], place: u32) -> bool
     ensures yes { result ≡ true → outcome (history_of transactions.now) place ≡ Aborted }
     ensures no { result ≡ false → outcome (history_of transactions.now) place ≡ Aborted → ⊥ }
 {

@@ -1,7 +1,7 @@
 //! The check.
 
 ghost use Rattle.std.specs.Prelude.{◌<◌, ◌^◌, length, IfOk};
-ghost use Rattle.append_check.specs.Meaning.Verdicts.{history_of, IsRight};
+ghost use Rattle.append_check.specs.Meaning.Verdicts.{history_of, IsRight, TellsRepeats};
 
 use crate::appenders::{Appenders, Made};
 use crate::plain::decide;
@@ -13,13 +13,15 @@ use append_search::{Candidate, find_candidate};
 use append_values::Transaction;
 use std::alloc::{AllocError, Global};
 
-/// Says whether an order of the transactions explains the history; `AllocError` if memory runs out.
+/// Says whether an order of the transactions explains the history, unless an element is appended twice to one list: then it
+/// names one. `AllocError` if memory runs out.
 ///
 /// A fast search finds an order or a reason, which is looked at once more before it is returned. If it didn't pass this
 /// look, a plain search would answer in its place.
 pub fn check(alloc: Global, transactions: &[Transaction]) -> Result<Verdict, AllocError>
     requires { length transactions.now < 2 ^ 31 }
-    ensures { IfOk result (IsRight (history_of transactions.now)) }
+    ensures right { IfOk result (IsRight (history_of transactions.now)) }
+    ensures repeats { IfOk result (TellsRepeats (history_of transactions.now)) }
 {
     reasons_refute();
     let appenders = match Appenders::of(alloc, transactions)? {

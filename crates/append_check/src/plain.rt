@@ -5,8 +5,8 @@
 
 ghost use Rattle.std.specs.Prelude.{◌<◌, ◌^◌, length, IfOk};
 ghost use Rattle.append_values.specs.Meaning.Reads.{AppendersDiffer, AppendsOnce};
-ghost use Rattle.append_values.specs.Meaning.Reasons.{IsRound};
-ghost use Rattle.append_check.specs.Meaning.Verdicts.{history_of, IsRight};
+ghost use Rattle.append_values.specs.Meaning.Reasons.{IsRound, IsSimple, AreKept};
+ghost use Rattle.append_check.specs.Meaning.Verdicts.{history_of, IsRight, TellsRepeats};
 ghost use Rattle.append_check.specs.Machinery.Wholeness.{AreFine};
 ghost use Rattle.append_check.specs.Machinery.Precedences.{AreListed, IsCycleOf};
 
@@ -24,7 +24,8 @@ pub(crate) fn decide(alloc: Global, transactions: &[Transaction]) -> Result<Verd
     requires size { length transactions.now < 2 ^ 31 }
     requires differ { AppendersDiffer (history_of transactions.now) }
     requires once { AppendsOnce (history_of transactions.now) }
-    ensures { IfOk result (IsRight (history_of transactions.now)) }
+    ensures right { IfOk result (IsRight (history_of transactions.now)) }
+    ensures repeats { IfOk result (TellsRepeats (history_of transactions.now)) }
 {
     reasons_refute();
     let reads = all_steps(alloc, transactions)?;
@@ -42,7 +43,8 @@ fn sort(alloc: Global, transactions: &[Transaction], reads: &[Read]) -> Result<V
     requires once { AppendsOnce (history_of transactions.now) }
     requires listed { AreListed (history_of transactions.now) reads.now }
     requires fine { AreFine (history_of transactions.now) }
-    ensures { IfOk result (IsRight (history_of transactions.now)) }
+    ensures right { IfOk result (IsRight (history_of transactions.now)) }
+    ensures repeats { IfOk result (TellsRepeats (history_of transactions.now)) }
 {
     reasons_refute();
     explains_exactly();
@@ -67,7 +69,8 @@ fn links(
 ) -> Result<Vec<Link>, AllocError>
     requires listed { AreListed (history_of transactions.now) reads.now }
     requires cycle { IsCycleOf (history_of transactions.now) cycle.now }
-    ensures { IfOk result (λ v. IsRound (history_of transactions.now) v.items) }
+    ensures { let h = history_of transactions.now in
+        IfOk result (λ v. IsRound h v.items × IsSimple v.items × AreKept h v.items) }
 {
     let mut links = Vec::new(alloc);
     'arcs: for arc in cycle {

@@ -6,11 +6,13 @@ ghost use Rattle.append_values.specs.declared.reason.Reason.TheVariants.{Interna
 ghost use Rattle.append_values.specs.declared.reason.Kind.TheVariants.{WriteRead, ReadWrite, WriteWrite};
 ghost use Rattle.append_values.specs.Meaning.Histories.{operation_of, transaction_of, outcome};
 ghost use Rattle.append_values.specs.Meaning.Reads.{appended, own};
-ghost use Rattle.append_values.specs.Meaning.Reasons.{IsDue, IsRound, Holds};
+ghost use Rattle.append_values.specs.Meaning.Reasons.{IsDue, IsRound, IsSimple, AreKept, Holds};
 ghost use Rattle.append_check.specs.Meaning.Verdicts.{history_of};
 ghost use Rattle.append_check.specs.Machinery.Precedences.{IsNoWriteRead, IsNoReadWrite, IsNoWriteWrite};
 
+use crate::arcs::is_aborted;
 use crate::pieces::{begins_with, ends_with, first_of, has, has_block, lacks, meet, same, times};
+use crate::replay::listed;
 use crate::seen::{Seen, look_at, own};
 use crate::writers::writer_of;
 use append_values::{Kind, Link, Operation, Outcome, Read, Reason, Transaction, appended};
@@ -119,18 +121,12 @@ fn future(
     let Some(seen) = look_at(transactions, read) else {
         return Ok(false);
     };
-    let mine = appended(alloc, seen.key, seen.before)?;
-    let mine = mine.as_slice();
-    if !ends_with(seen.elements, mine) {
+    if !has(seen.elements, element) {
         return Ok(false);
     }
-    let front = &seen.elements[..seen.elements.len() - mine.len()];
-    let own = own(alloc, transactions, seen.key, read.transaction)?;
-    if !has(front, element) {
-        return Ok(false);
-    }
-    let is_own = has(own.as_slice(), element);
-    Ok(is_own)
+    let later_ones = appended(alloc, seen.key, seen.after)?;
+    let is_later = has(later_ones.as_slice(), element);
+    Ok(is_later)
 }
 
 fn intermediate(
@@ -144,7 +140,7 @@ fn intermediate(
     let Some(seen) = look_at(transactions, read) else {
         return Ok(false);
     };
-    if writer == read.transaction {
+    if writer == read.transaction || is_aborted(transactions, writer) {
         return Ok(false);
     }
     let block = own(alloc, transactions, seen.key, writer)?;
@@ -170,7 +166,7 @@ fn incompatible(
     let Some(second) = look_at(transactions, other) else {
         return Ok(false);
     };
-    if first.key != second.key {
+    if first.key != second.key || one.transaction == other.transaction {
         return Ok(false);
     }
     let mine = left(alloc, &first)?;
@@ -195,6 +191,20 @@ fn left(alloc: Global, seen: &Seen<'_>) -> Result<Vec<u64>, AllocError>
 }
 
 fn cycle(alloc: Global, transactions: &[Transaction], links: &[Link]) -> Result<bool, AllocError>
+    ensures { let h = history_of transactions.now in
+        IfOk result (λ b. b ≡ true → IsRound h links.now × IsSimple links.now × AreKept h links.now) }
+{
+    let closes = closes(alloc, transactions, links)?;
+    if !closes {
+        return Ok(false);
+    }
+    let simple = is_simple(alloc, transactions, links)?;
+    Ok(simple)
+}
+
+/// Returns true if there is a link, each one is due, and each leaves the transaction that the one before enters, the first
+/// one the transaction that the last enters.
+fn closes(alloc: Global, transactions: &[Transaction], links: &[Link]) -> Result<bool, AllocError>
     ensures { IfOk result (λ b. b ≡ true → IsRound (history_of transactions.now) links.now) }
 {
     let Some((first, _)) = links.split_first() else {
@@ -212,6 +222,46 @@ fn cycle(alloc: Global, transactions: &[Transaction], links: &[Link]) -> Result<
         at = link.to;
     }
     Ok(at == first.from)
+}
+
+/// Returns true if each transaction begins one of the links at most, and no aborted one does.
+fn is_simple(
+    alloc: Global,
+    transactions: &[Transaction],
+    links: &[Link],
+) -> Result<bool, AllocError>
+    ensures { IfOk result (λ b. b ≡ true → IsSimple links.now × AreKept (history_of transactions.now) links.now) }
+{
+    let starts = starts(alloc, links)?;
+    let starts = starts.as_slice();
+    if one_aborted(transactions, starts) {
+        return Ok(false);
+    }
+    let listed = listed(alloc, transactions.len(), starts)?;
+    match listed {
+        Some(_) => Ok(true),
+        None => Ok(false),
+    }
+}
+
+/// Returns the transactions that begin the links.
+fn starts(alloc: Global, links: &[Link]) -> Result<Vec<u32>, AllocError>
+    ensures { IfOk result (λ v. v.items ≡ map (λ link. link.from) links.now) }
+{
+    links.iter().map(|link| link.from).collect(alloc)
+}
+
+/// Returns whether one of the transactions aborted.
+fn one_aborted(transactions: &[Transaction], places: &[u32]) -> bool
+    ensures { let h = history_of transactions.now in
+        result ≡ false → (t : ℕ) → Contains places.now t → outcome h t ≡ Aborted → ⊥ }
+{
+    'places: for place in places {
+        if is_aborted(transactions, *place) {
+            return true;
+        }
+    }
+    false
 }
 
 /// Returns true if the link's first transaction has to come before its second one, as its kind says.

@@ -90,7 +90,11 @@ fn is_right(outcome: Outcome, is_listed: bool) -> bool
 }
 
 /// Returns which places below the count the order lists; `None` if it lists one twice, or another one.
-fn listed(alloc: Global, count: usize, order: &[u32]) -> Result<Option<Vec<bool>>, AllocError>
+pub(crate) fn listed(
+    alloc: Global,
+    count: usize,
+    order: &[u32],
+) -> Result<Option<Vec<bool>>, AllocError>
     ensures { IfOk result (λ o. IfSome o (λ v. (length v.items ≡ count)
         × ((t : ℕ) → count_by (λ u. u == t) order.now ≡ flag v.items t))) }
 {

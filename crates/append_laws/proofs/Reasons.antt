@@ -1,24 +1,22 @@
 -- Each reason refutes every order.
-use Rattle.std.proofs.Common.{◌≡◌, ◌≢◌, ◌⊎◌, ℕ, ◌+◌, ◌<◌, ◌≤◌, List, [], ◌∷◌, ◌++◌, Contains, refl, sym, ◌∙◌, ap, subst, arith, inl, inr}
-use Rattle.append_values.specs.Meaning.Histories.{Operation, Read as ReadOf, History, outcome}
-use Rattle.append_values.specs.Meaning.Runs.{Explains}
-use Rattle.append_values.specs.Meaning.Reads.{appended, own, HasRead, left, AppendersDiffer, AppendsOnce, IsPrefixOf}
+use Rattle.std.proofs.Common.{◌≡◌, ℕ, ◌≤◌, List, [], ◌∷◌, ◌++◌, sym, ◌∙◌, ap, subst, arith, inl, inr}
+use Rattle.append_values.specs.Meaning.Histories.{Operation, Read as ReadOf, History}
+use Rattle.append_values.specs.Meaning.Reads.{appended, HasRead, left, AppendersDiffer, AppendsOnce, IsPrefixOf}
 use Rattle.append_laws.proofs.Necessity.{necessary}
 use Rattle.append_laws.proofs.Refutations as refutations
 use Rattle.append_laws.proofs.Forks.{fork_refutes}
-use Rattle.append_values.specs.declared.reason.Read.{Read}
 use Rattle.append_values.specs.declared.reason.Link.{Link}
 use Rattle.append_values.specs.declared.reason.Kind.{Kind}
 use Rattle.append_values.specs.declared.reason.Kind.TheVariants as By
 use Rattle.append_values.specs.declared.reason.Reason.{Reason}
 use Rattle.append_values.specs.declared.reason.Reason.TheVariants.{Internal, Unrepeatable, Twice, Unwritten, Future, Intermediate, Incompatible, Cycle}
-use Rattle.append_values.specs.Meaning.Reasons.{Precedes, IsRead, IsDue, IsChain, IsRound, Holds, HasNoOrder}
+use Rattle.append_values.specs.Meaning.Reasons.{Precedes, IsDue, IsChain, IsRound, Holds, HasNoOrder}
 use Rattle.digraph.specs.Clauses.Graphs.{place, IsBefore}
 
 due : (h : History) (u v : ℕ) (kind : Kind) → IsDue h u v kind → Precedes h u v
-due h u v (By.WriteRead read) d = inl d.2
-due h u v (By.ReadWrite read) d = inr (inr d.2)
-due h u v (By.WriteWrite read) d = inr (inl d.1)
+due h u v (By.WriteRead read) d = inl d.0
+due h u v (By.ReadWrite read) d = inr (inr d.0)
+due h u v (By.WriteWrite read) d = inr (inl d.0)
 
 -- along links that are due an order goes forward
 chain_forward : (h : History) (ts : List ℕ) → ((u v : ℕ) → Precedes h u v → IsBefore ts u v) → (links : List Link) (s t : ℕ)
@@ -66,10 +64,10 @@ reasons_refute h (Twice read x) differ single (r, twice) =
     refutations.twice_refutes h read.transaction r.key x r.elements r.before differ single r.has_read twice
 reasons_refute h (Unwritten read x) differ single (r, seen, only) =
     refutations.unwritten_refutes h read.transaction r.key x r.elements r.before r.has_read seen only
-reasons_refute h (Future read x) differ single (r, front, splits, seen, mine) =
-    refutations.future_refutes h read.transaction r.key x r.elements front r.before differ r.has_read splits seen mine
-reasons_refute h (Intermediate read u) differ single (r, x, seen, theirs, apart, never) =
+reasons_refute h (Future read x) differ single (r, seen, later) =
+    refutations.future_refutes h read.transaction r.key x r.elements r.before differ single r.has_read seen later
+reasons_refute h (Intermediate read u) differ single (r, x, seen, theirs, apart, kept, never) =
     refutations.intermediate_refutes h read.transaction u r.key x r.elements r.before differ r.has_read seen theirs apart never
-reasons_refute h (Incompatible one other) differ single (r, s, key, m, n) =
+reasons_refute h (Incompatible one other) differ single (r, s, key, apart, m, n) =
     fork_at h one.transaction other.transaction r.key s.key r.elements s.elements r.before s.before r.has_read s.has_read key m n
-reasons_refute h (Cycle links) differ single r = round_refutes h links.items differ r
+reasons_refute h (Cycle links) differ single (r, once, kept) = round_refutes h links.items differ r

@@ -2,8 +2,8 @@
 use Rattle.std.proofs.Common.{◌≡◌, ◌≢◌, ℕ, ◌==◌, ◌<◌, ◌≤◌, List, [], ◌∷◌, ◌++◌, append_assoc, Contains, refl, sym, ◌∙◌, ap, subst, arith, inl, inr}
 use Rattle.std.specs.List.{flat_map, count_by}
 use Rattle.std.proofs.lemmas.Bool.{cases_eq}
-use Rattle.std.proofs.lemmas.List.{append_cancel_right}
 use Rattle.std.proofs.lemmas.List.Concat.{flat_map-append}
+use Rattle.std.proofs.lemmas.List.Elements.{Contains-append_right, Contains-append_cases}
 use Rattle.lemmas.proofs.Members.{flat_map-source}
 use Rattle.lemmas.proofs.Counts.{count, count-append, count-cons, count_same, count_contained, Contains-counted}
 use Rattle.append_values.specs.declared.transaction.Outcome.{Outcome}
@@ -14,7 +14,7 @@ use Rattle.append_values.specs.Meaning.Reasons.{HasNoOrder}
 use Rattle.append_values.proofs.AppendedElements.{appended-append}
 use Rattle.append_laws.proofs.Prefixes.{both_begin}
 use Rattle.append_laws.proofs.Places.{at_contained}
-use Rattle.append_laws.proofs.Fronts.{once, aborted_never, placed, read_begins, source}
+use Rattle.append_laws.proofs.Fronts.{once, aborted_never, own_splits, placed, read_begins, source}
 
 committed_not_aborted : (o : Outcome) → o ≡ Committed → o ≡ Aborted → ⊥
 committed_not_aborted o e f = cc (e, f)
@@ -46,16 +46,28 @@ pub internal_refutes : (h : History) (t k : ℕ) (xs : List ℕ) (before : List 
 internal_refutes h t k xs before r never ts ex =
     let p = placed h ts t k xs before ex r in never (flat_map (own h k) p.front) (sym p.shows)
 
-pub future_refutes : (h : History) (t k x : ℕ) (xs front : List ℕ) (before : List Operation) → AppendersDiffer h → HasRead h t k xs before
-    → xs ≡ front ++ appended k before → Contains front x → Contains (own h k t) x → HasNoOrder h
-future_refutes h t k x xs front before differ r splits seen mine ts ex =
+pub future_refutes : (h : History) (t k x : ℕ) (xs : List ℕ) (before : List Operation) → AppendersDiffer h → AppendsOnce h
+    → (r : HasRead h t k xs before) → Contains xs x → Contains (appended k r.rest) x → HasNoOrder h
+future_refutes h t k x xs before differ single r seen later ts ex =
     let p = placed h ts t k xs before ex r in
     let early = flat_map (own h k) p.front in
-    let same : front ≡ early = append_cancel_right front early (appended k before) (sym splits ∙ sym p.shows) in
-    let w = flat_map-source (own h k) p.front x (subst (λ ys. Contains ys x) same seen) in
-    let there = count_contained p.front t (subst (Contains p.front) (differ k x w.0 t w.2 mine) w.1) in
-    let first = p.first in
-    omega (arith, there, first)
+    let mine : Contains (own h k t) x =
+    subst (λ ys. Contains ys x) (sym (own_splits h t k xs before r))
+    (Contains-append_right (appended k before) (appended k r.rest) x later) in
+    elim (Contains-append_cases early (appended k before) x (subst (λ ys. Contains ys x) (sym p.shows) seen)) [
+      | inl others ↦
+          let w = flat_map-source (own h k) p.front x others in
+          let there = count_contained p.front t (subst (Contains p.front) (differ k x w.0 t w.2 mine) w.1) in
+          let first = p.first in
+          omega (arith, there, first)
+      | inr sooner ↦
+          let one = count_contained (appended k before) x sooner in
+          let two = count_contained (appended k r.rest) x later in
+          let parts = count-append (appended k before) (appended k r.rest) x in
+          let same = ap (λ ys. count ys x) (own_splits h t k xs before r) in
+          let most = single k x t in
+          omega (arith, one, two, parts, same, most)
+    ]
 
 -- each element stands once in the list that an order makes
 once_in_all : (h : History) (k x : ℕ) → AppendersDiffer h → AppendsOnce h → (ts : List ℕ) → ((t : ℕ) → count ts t ≤ 1)

@@ -7,7 +7,6 @@ use Rattle.append_values.specs.declared.transaction.Outcome.TheVariants.{Committ
 use Rattle.append_values.specs.Meaning.Histories.{Operation, Append, Read, LostRead, History, outcome, operations}
 use Rattle.append_values.specs.Meaning.Runs.{Lists, empty, after, run, AllSee, Claims, AllClaims}
 use Rattle.append_values.specs.Meaning.Reads.{appended, own, HasRead}
-use Rattle.append_values.proofs.AppendedElements.{appended-append}
 
 -- a list after some steps has what they appended at its end
 pub run_appends : (k : ℕ) (os : List Operation) (m : Lists) → run m os k ≡ m k ++ appended k os

@@ -218,7 +218,7 @@ impl Lines {
                 }
             }
         }
-        Ok(self.found(number, read, base.len(), appends))
+        Ok(self.found(transactions, number, read, base.len(), appends))
     }
 
     /// Goes on with the line by the blocks that the read found after it. Returns a reason if it found something else.
@@ -287,7 +287,14 @@ impl Lines {
     }
 
     /// Returns which blocks a list is made of that begins the line's.
-    fn found(&self, number: usize, read: Read, length: usize, appends: bool) -> Found {
+    fn found(
+        &self,
+        transactions: &[Transaction],
+        number: usize,
+        read: Read,
+        length: usize,
+        appends: bool,
+    ) -> Found {
         let Some(line) = self.lines.get(number) else {
             return Found::Blocks {
                 line: number,
@@ -295,12 +302,12 @@ impl Lines {
             };
         };
         let Some(writers) = line.blocks(length) else {
-            return Found::Nothing(cut(line, read, length));
+            return Found::Nothing(cut(transactions, line, read, length));
         };
         if appends {
             if let Some(place) = line.place_within(writers, read.transaction) {
                 let element = line.first_element(place).unwrap_or(0);
-                return Found::Nothing(Reason::Future(read, element));
+                return Found::Nothing(too_early(transactions, line.key, read, element));
             }
         }
         Found::Blocks {
@@ -366,18 +373,50 @@ fn next_writer<W: Writers>(
         return Err(Reason::Unwritten(read, element));
     }
     if writer == read.transaction {
-        return Err(Reason::Future(read, element));
+        return Err(too_early(transactions, key, read, element));
     }
     Ok(writer)
 }
 
+/// The reason for a list that has an element of the reader before what this one has appended so far: it is appended only
+/// afterwards, or else the list has it twice.
+fn too_early(transactions: &[Transaction], key: u64, read: Read, element: u64) -> Reason {
+    if appends_later(transactions, key, read, element) {
+        return Reason::Future(read, element);
+    }
+    Reason::Twice(read, element)
+}
+
+/// Returns whether the reader appends the element to the list of the key after the read.
+fn appends_later(transactions: &[Transaction], key: u64, read: Read, element: u64) -> bool {
+    let Some(transaction) = transactions.get(read.transaction as usize) else {
+        return false;
+    };
+    let Some(later) = transaction.operations.get(read.step..) else {
+        return false;
+    };
+    later
+        .iter()
+        .any(|operation| is_append_of(operation, key, element))
+}
+
+fn is_append_of(operation: &Operation, key: u64, element: u64) -> bool {
+    match operation {
+        Operation::Append {
+            key: to,
+            element: x,
+        } => *to == key && *x == element,
+        Operation::Read { .. } | Operation::LostRead { .. } => false,
+    }
+}
+
 /// The reason for a list that ends within a block.
-fn cut(line: &Line, read: Read, length: usize) -> Reason {
+fn cut(transactions: &[Transaction], line: &Line, read: Read, length: usize) -> Reason {
     let last = length.saturating_sub(1);
     let writer = line.writer_at(last).unwrap_or(read.transaction);
     if writer == read.transaction {
         let element = line.chain.get(last).copied().unwrap_or(0);
-        return Reason::Future(read, element);
+        return too_early(transactions, line.key, read, element);
     }
     Reason::Intermediate(read, writer)
 }

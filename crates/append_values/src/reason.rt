@@ -17,8 +17,8 @@ pub enum Kind {
     WriteRead(Read),
     /// The first one read a list that lacks an element of the second one, by this read: an anti-dependency.
     ReadWrite(Read),
-    /// This read returned a list that begins with an element of the first one, and with none of the second one before
-    /// it: a write dependency.
+    /// A part of what this read returned, from its beginning on, has an element of the first one and lacks one of the
+    /// second one: a write dependency.
     WriteWrite(Read),
 }
 
@@ -44,13 +44,14 @@ pub enum Reason {
     Twice(Read, u64),
     /// The read returned an element that nobody appended, or only aborted transactions: an aborted read (G1a).
     Unwritten(Read, u64),
-    /// The read returned an element before its own transaction appended it.
+    /// The read returned an element that its own transaction appended only afterwards.
     Future(Read, u64),
-    /// The read returned an element of this transaction, and not all that this one appended, side by side: an
-    /// intermediate read (G1b).
+    /// The read returned an element of this transaction, which didn't abort, and not all that this one appended, side by
+    /// side: an intermediate read (G1b).
     Intermediate(Read, u32),
-    /// The transactions of these reads left lists of which neither begins with the other.
+    /// The transactions of these reads, which differ, left lists of which neither begins with the other.
     Incompatible(Read, Read),
-    /// Each of these has to come before the next one, and the last before the first.
+    /// Each of these has to come before the next one, and the last before the first. Each is there once, and none of them
+    /// aborted.
     Cycle(Vec<Link>),
 }

@@ -1,5 +1,5 @@
 -- What explaining a list-append history implies, and what implies it.
-use Rattle.std.specs.Prelude.{◌≡◌, ◌≢◌, ◌<◌, ◌==◌, ◌⊎◌, ◌↔◌, ℕ, List, ◌∷◌, ◌++◌, Contains, count_by, flat_map}
+use Rattle.std.specs.Prelude.{◌≡◌, ◌≢◌, ◌<◌, ◌==◌, ◌↔◌, ℕ, List, ◌∷◌, ◌++◌, Contains, count_by, flat_map}
 use Rattle.append_values.specs.declared.transaction.Outcome.TheVariants.{Aborted}
 use Rattle.append_values.specs.Meaning.Histories.{Operation, Read, History, outcome}
 use Rattle.append_values.specs.Meaning.Runs.{Occurs, Explains}
@@ -55,10 +55,10 @@ abbrev pub InternalRefutes : Type 0
 InternalRefutes = (h : History) (t k : ℕ) (xs : List ℕ) (before : List Operation) → HasRead h t k xs before
     → ((front : List ℕ) → xs ≡ front ++ appended k before → ⊥) → HasNoOrder h
 
--- before its transaction's own appends so far, a read returned an element that its own transaction appends
+-- a read returned an element that its own transaction appends only afterwards
 abbrev pub FutureRefutes : Type 0
-FutureRefutes = (h : History) (t k x : ℕ) (xs front : List ℕ) (before : List Operation) → AppendersDiffer h → HasRead h t k xs before
-    → xs ≡ front ++ appended k before → Contains front x → Contains (own h k t) x → HasNoOrder h
+FutureRefutes = (h : History) (t k x : ℕ) (xs : List ℕ) (before : List Operation) → AppendersDiffer h → AppendsOnce h
+    → (r : HasRead h t k xs before) → Contains xs x → Contains (appended k r.rest) x → HasNoOrder h
 
 -- a read returned an element twice
 abbrev pub TwiceRefutes : Type 0

@@ -1,5 +1,5 @@
 -- Why no order explains a history.
-use Rattle.std.specs.Prelude.{◌≡◌, ◌≢◌, ◌<◌, ◌==◌, ◌⊎◌, ℕ, List, [], ◌∷◌, ◌++◌, Contains, count_by, length}
+use Rattle.std.specs.Prelude.{◌≡◌, ◌≢◌, ◌<◌, ◌≤◌, ◌==◌, ◌⊎◌, ℕ, List, [], ◌∷◌, ◌++◌, Contains, count_by, length}
 use Rattle.append_values.specs.declared.transaction.Outcome.TheVariants.{Aborted}
 use Rattle.append_values.specs.declared.reason.Read.{Read}
 use Rattle.append_values.specs.declared.reason.Link.{Link}
@@ -62,11 +62,15 @@ pub record IsRead (h : History) (read : Read) : Type 0 where
   pub has_read : HasRead h read.transaction key elements before
   pub step : length before ≡ read.step
 
--- the link's first transaction has to come before its second one, as its kind says, by its read
+-- the named read is the one after these steps of this transaction
+abbrev pub IsNamed : ℕ → List Operation → Read → Type 0
+IsNamed t before read = (t ≡ read.transaction) × (length before ≡ read.step)
+
+-- the link's first transaction has to come before its second one, as its kind says, and the read that shows it is the named one
 abbrev pub IsDue : History → (u v : ℕ) → Kind → Type 0
-IsDue h u v (By.WriteRead read) = (read.transaction ≡ v) × IsRead h read × WriteRead h u v
-IsDue h u v (By.ReadWrite read) = (read.transaction ≡ u) × IsRead h read × ReadWrite h u v
-IsDue h u v (By.WriteWrite read) = IsRead h read × (w : WriteWrite h u v) × (w.reader ≡ read.transaction)
+IsDue h u v (By.WriteRead read) = (w : WriteRead h u v) × IsNamed v w.before read
+IsDue h u v (By.ReadWrite read) = (w : ReadWrite h u v) × IsNamed u w.before read
+IsDue h u v (By.WriteWrite read) = (w : WriteWrite h u v) × IsNamed w.reader w.before read
 
 -- links from one transaction to another, one after the other
 abbrev pub IsChain : History → ℕ → List Link → ℕ → Type 0
@@ -78,6 +82,14 @@ abbrev pub IsRound : History → List Link → Type 0
 IsRound h [] = ⊥
 IsRound h (link ∷ links) = IsChain h link.from (link ∷ links) link.from
 
+-- each transaction begins one of the links at most
+abbrev pub IsSimple : List Link → Type 0
+IsSimple links = (t : ℕ) → count_by (λ (link : Link). link.from == t) links ≤ 1
+
+-- no aborted transaction begins one of the links
+abbrev pub AreKept : History → List Link → Type 0
+AreKept h links = (link : Link) → Contains links link → outcome h link.from ≡ Aborted → ⊥
+
 -- the reason is there
 abbrev pub Holds : History → Reason → Type 0
 Holds h (Internal read) = (r : IsRead h read) × ((front : List ℕ) → r.elements ≡ front ++ appended r.key r.before → ⊥)
@@ -86,14 +98,13 @@ Holds h (Unrepeatable first second) = (r : IsRead h first) × (s : IsRead h seco
     × (r.elements ++ appended r.key between ≡ s.elements → ⊥)
 Holds h (Twice read x) = (r : IsRead h read) × (1 < count_by (λ y. y == x) r.elements)
 Holds h (Unwritten read x) = (r : IsRead h read) × Contains r.elements x × ((u : ℕ) → Contains (own h r.key u) x → outcome h u ≡ Aborted)
-Holds h (Future read x) = (r : IsRead h read) × (front : List ℕ) × (r.elements ≡ front ++ appended r.key r.before)
-    × Contains front x × Contains (own h r.key read.transaction) x
+Holds h (Future read x) = (r : IsRead h read) × Contains r.elements x × Contains (appended r.key r.has_read.rest) x
 Holds h (Intermediate read u) = (r : IsRead h read) × (x : ℕ) × Contains r.elements x × Contains (own h r.key u) x × (u ≢ read.transaction)
-    × ((front back : List ℕ) → r.elements ≡ front ++ (own h r.key u ++ back) → ⊥)
-Holds h (Incompatible one other) = (r : IsRead h one) × (s : IsRead h other) × (r.key ≡ s.key)
+    × (outcome h u ≡ Aborted → ⊥) × ((front back : List ℕ) → r.elements ≡ front ++ (own h r.key u ++ back) → ⊥)
+Holds h (Incompatible one other) = (r : IsRead h one) × (s : IsRead h other) × (r.key ≡ s.key) × (one.transaction ≢ other.transaction)
     × (IsPrefixOf (left h one.transaction r.key r.elements r.before r.has_read) (left h other.transaction s.key s.elements s.before s.has_read) → ⊥)
     × (IsPrefixOf (left h other.transaction s.key s.elements s.before s.has_read) (left h one.transaction r.key r.elements r.before r.has_read) → ⊥)
-Holds h (Cycle links) = IsRound h links.items
+Holds h (Cycle links) = IsRound h links.items × IsSimple links.items × AreKept h links.items
 
 -- no order explains the history
 abbrev pub HasNoOrder : History → Type 0
