@@ -67,7 +67,7 @@ fn abort<C: Chains + Drop, M: Marks + Drop>(
     hand_on(token, session.bytes(), hub);
     hand_on(token, b"\n", hub);
     let is_whole = hub.is_open(token);
-    hub.run(alloc, token, store, 1);
+    let _ = hub.run(alloc, token, store, 1);
     hub.closed(token);
     is_whole
 }

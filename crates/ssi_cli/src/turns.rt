@@ -91,7 +91,9 @@ fn carry_out<C: Chains + Drop, M: Marks + Drop>(
 {
     match users {
         Some(users) => carry_out_noted(alloc, token, users, hub, store),
-        None => hub.run(alloc, token, store, MOST_LINES),
+        None => {
+            let _ = hub.run(alloc, token, store, MOST_LINES);
+        }
     }
 }
 
@@ -116,7 +118,7 @@ fn carry_out_noted<C: Chains + Drop, M: Marks + Drop>(
             hub.closed(token);
             return;
         }
-        hub.run(alloc, token, store, 1);
+        let _ = hub.run(alloc, token, store, 1);
     }
 }
 

@@ -176,6 +176,7 @@ pub enough_ended : (outcome : Outcome) (most counter : ℕ) (lines : List (List 
     → IsEnough (stops_by outcome) (lost_by outcome) most (lines ++ line ∷ []) new
 enough_ended outcome most counter lines line new ends counted below = record {
   few = omega (arith, length_more lines line, counted, below);
+  some = λ _. omega (arith, length_more lines line);
   paused = λ a b _. absurd (ended (stops_by outcome) (lost_by outcome) (sym ends) a b);
 }
   where
@@ -194,6 +195,7 @@ none_waits is_at old mid new bytes left store between now lines steps most count
       (subst (λ s. CarriedOut is_at old bytes store false false lines steps left mid s) (sym same_store) so),
   record {
     few = omega (arith, counted, below);
+    some = λ e. cc;
     paused = λ _ _ has. absurd (both_ways (has_line new.waiting) (ap (λ (b : Buffers). has_line b.waiting) same ∙ none) has);
   },
 )
@@ -201,8 +203,8 @@ none_waits is_at old mid new bytes left store between now lines steps most count
 pub enough_unsent : (most counter : ℕ) (lines : List (List ℕ)) (new : Buffers) → length lines ≡ counter → counter < most
     → 65536 < length new.unsent → IsEnough false false most lines new
 enough_unsent most counter lines new counted below many =
-    record { few = omega (arith, counted, below); paused = λ _ _ _. inr many }
+    record { few = omega (arith, counted, below); some = λ e. cc; paused = λ _ _ _. inr many }
 
 pub enough_lines : (most : ℕ) (lines : List (List ℕ)) (new : Buffers) → length lines ≡ most
     → IsEnough false false most lines new
-enough_lines most lines new counted = record { few = omega (arith, counted); paused = λ _ _ _. inl counted }
+enough_lines most lines new counted = record { few = omega (arith, counted); some = λ e. cc; paused = λ _ _ _. inl counted }

@@ -1,7 +1,7 @@
 -- What a hub stands for after a run.
-use Rattle.std.proofs.Common.{◌≡◌, ◌≢◌, ℕ, ◌<◌, ◌≤◌, List, [], ◌∷◌, ◌++◌, Bool, true, false, cond, Option, Some, None}
+use Rattle.std.proofs.Common.{◌≡◌, ◌≢◌, ℕ, ◌<◌, ◌≤◌, List, [], ◌∷◌, ◌++◌, Bool, true, false, cond, Option, Some, None, Result, Ok, Err, length}
 use Rattle.std.proofs.Common.{refl, sym, ap, subst, ◌∙◌, append_assoc, append-nil, inl, inr, ◌⊎◌}
-use Rattle.std.specs.Prelude.{◌==◌, All, IsSome}
+use Rattle.std.specs.Prelude.{◌==◌, All, IsSome, IsOk, is_err}
 use Rattle.std.proofs.lemmas.Option.{same_Some, none-some}
 use Rattle.std.proofs.lemmas.Bool.{eq-eqb, ne_eqb, both_ways}
 use Rattle.std.proofs.lemmas.List.Elements.{All-nil, All-append}
@@ -102,7 +102,8 @@ none_added t calls = by_open (is_open t calls)
 pub ran_stands : {T : Type 0} (is_at : T → Course → Type 0) (b new : ℕ → Option Buffers) (next t : ℕ) (stops lost : Bool)
     (most : ℕ) (store after : T) (calls : List Call) → StandsFor b next false calls
     → RanAt is_at b t store stops lost most new after
-    → (lines : List (List ℕ)) × (steps : List Step) × StandsFor new next stops (with_run lost t lines steps calls)
+    → (lines : List (List ℕ)) × (steps : List Step) × (lost ≡ true → 0 < length lines)
+    × StandsFor new next stops (with_run lost t lines steps calls)
     × WentOn is_at store steps after × (all_steps (with_run lost t lines steps calls) ≡ all_steps calls ++ steps)
 ran_stands is_at b new next t stops lost most store after calls s ran =
     let (bytes, unsent, served, has) = s.served t in
@@ -110,6 +111,7 @@ ran_stands is_at b new next t stops lost most store after calls s ran =
     let (lines, steps, left, so, enough) = ran.carried bytes (ap (λ (x : Buffers). x.waiting) is) in (
       lines,
       steps,
+      enough.some,
       by_loss lost bytes unsent left lines steps opened served is so ran.changes,
       so.went,
       run_adds lost t lines steps calls opened,
@@ -157,45 +159,51 @@ one_is x = refl
 
 -- ---- a run, whatever it met
 
+pub no_error : {T E : Type 0} (r : Result T E) → IsOk r → is_err r ≡ false
+no_error (Ok x) is = refl
+no_error (Err e) is = cc
+
 pub run_stands : {T : Type 0} (is_at : T → Course → Type 0) (b new : ℕ → Option Buffers) (next later t : ℕ)
-    (stopped ends : Bool) (most : ℕ) (store after : T) (calls : List Call) → StandsFor b next stopped calls
+    (stopped ends lost : Bool) (most : ℕ) (store after : T) (calls : List Call) → StandsFor b next stopped calls
     → ((stopped ≡ true) ⊎ (b t ≡ None) → ((u : ℕ) → new u ≡ b u) × (ends ≡ stopped) × (after ≡ store))
-    → (stopped ≡ false → IsSome (b t) → (lost : Bool) × RanAt is_at b t store ends lost most new after) → later ≡ next
-    → (lost : Bool) × (lines : List (List ℕ)) × (steps : List Step)
+    → ((stopped ≡ true) ⊎ (b t ≡ None) → lost ≡ false)
+    → (stopped ≡ false → IsSome (b t) → RanAt is_at b t store ends lost most new after) → later ≡ next
+    → (lines : List (List ℕ)) × (steps : List Step) × (lost ≡ true → 0 < length lines)
     × StandsFor new later ends (with_run lost t lines steps calls) × WentOn is_at store steps after
     × (all_steps (with_run lost t lines steps calls) ≡ all_steps calls ++ steps)
-run_stands is_at b new next later t stopped ends most store after calls s idle ran next_is = by_stop stopped refl
+run_stands is_at b new next later t stopped ends lost most store after calls s idle fine ran next_is = by_stop stopped refl
   where
-    nothing : (stopped ≡ true) ⊎ (b t ≡ None) → (lost : Bool) × (lines : List (List ℕ)) × (steps : List Step)
-        × StandsFor new later ends (with_run lost t lines steps calls) × WentOn is_at store steps after
-        × (all_steps (with_run lost t lines steps calls) ≡ all_steps calls ++ steps)
+    nothing : (stopped ≡ true) ⊎ (b t ≡ None) → (lines : List (List ℕ)) × (steps : List Step)
+        × (lost ≡ true → 0 < length lines) × StandsFor new later ends (with_run lost t lines steps calls)
+        × WentOn is_at store steps after × (all_steps (with_run lost t lines steps calls) ≡ all_steps calls ++ steps)
     nothing why =
         let (same, stops, store_is) = idle why in (
-          false,
           [],
           [],
-          stands_same b new next later stopped ends (with_run false t [] [] calls) same next_is stops
-              (nothing_ran b next t stopped calls s),
+          λ e. absurd (both_ways lost (fine why) e),
+          stands_same b new next later stopped ends (with_run lost t [] [] calls) same next_is stops
+              (subst (λ e. StandsFor b next stopped (with_run e t [] [] calls)) (sym (fine why))
+              (nothing_ran b next t stopped calls s)),
           λ course at. (tt, subst (λ x. is_at x course) (sym store_is) at),
-          none_added t calls,
+          subst (λ e. all_steps (with_run e t [] [] calls) ≡ all_steps calls ++ []) (sym (fine why)) (none_added t calls),
         )
 
-    by_stop : (o : Bool) → stopped ≡ o → (lost : Bool) × (lines : List (List ℕ)) × (steps : List Step)
-        × StandsFor new later ends (with_run lost t lines steps calls) × WentOn is_at store steps after
-        × (all_steps (with_run lost t lines steps calls) ≡ all_steps calls ++ steps)
+    by_stop : (o : Bool) → stopped ≡ o → (lines : List (List ℕ)) × (steps : List Step)
+        × (lost ≡ true → 0 < length lines) × StandsFor new later ends (with_run lost t lines steps calls)
+        × WentOn is_at store steps after × (all_steps (with_run lost t lines steps calls) ≡ all_steps calls ++ steps)
     by_stop true is = nothing (inl is)
     by_stop false is = by_buffers (b t) refl
       where
-        by_buffers : (o : Option Buffers) → b t ≡ o → (lost : Bool) × (lines : List (List ℕ)) × (steps : List Step)
-            × StandsFor new later ends (with_run lost t lines steps calls) × WentOn is_at store steps after
-            × (all_steps (with_run lost t lines steps calls) ≡ all_steps calls ++ steps)
+        by_buffers : (o : Option Buffers) → b t ≡ o → (lines : List (List ℕ)) × (steps : List Step)
+            × (lost ≡ true → 0 < length lines) × StandsFor new later ends (with_run lost t lines steps calls)
+            × WentOn is_at store steps after × (all_steps (with_run lost t lines steps calls) ≡ all_steps calls ++ steps)
         by_buffers None none = nothing (inr none)
         by_buffers (Some x) some =
-            let (lost, so) = ran is (subst (λ (o : Option Buffers). IsSome o) (sym some) (one_is x)) in
-            let (lines, steps, stands, went, more) =
+            let so = ran is (subst (λ (o : Option Buffers). IsSome o) (sym some) (one_is x)) in
+            let (lines, steps, one, stands, went, more) =
             ran_stands is_at b new next t ends lost most store after calls
             (subst (λ e. StandsFor b next e calls) is s) so in
-            (lost, lines, steps, subst (λ n. StandsFor new n ends (with_run lost t lines steps calls)) (sym next_is) stands, went, more)
+            (lines, steps, one, subst (λ n. StandsFor new n ends (with_run lost t lines steps calls)) (sym next_is) stands, went, more)
 
 -- ---- the course of the store
 

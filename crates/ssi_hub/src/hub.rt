@@ -1,6 +1,6 @@
 //! The connections, and their calls.
 
-ghost use Rattle.std.specs.Prelude.{◌≡◌, ◌≢◌, ◌+◌, ◌∷◌, ◌++◌, ◌⊎◌, ℕ, Bool, List, [], None, Some, true, false, is_some, IsSome, IfSome, IfNone, not, ◌&&◌, nat_le, nat_lt, length, MatchOption, MatchResult, OnOk, OnErr, IfOk};
+ghost use Rattle.std.specs.Prelude.{◌≡◌, ◌≢◌, ◌+◌, ◌∷◌, ◌++◌, ◌⊎◌, ℕ, Bool, List, [], None, Some, true, false, is_some, IsSome, IfSome, IfNone, not, ◌&&◌, nat_le, nat_lt, ◌<◌, length, MatchOption, MatchResult, OnOk, OnErr, IfOk, is_err, IsOk, IsErr};
 ghost use Rattle.std.specs.Option.{option_map};
 ghost use Rattle.ssi_store.specs.Meaning.Courses.{Course};
 ghost use Rattle.ssi_store.specs.Mirror.Stores.{IsAt};
@@ -83,40 +83,43 @@ impl Hub {
     /// the store, and adds the replies to what is to be written to it. It stops before a further line while more than 65,536
     /// bytes are unsent, and at `stop`: after that no line of any connection is carried out.
     ///
-    /// If memory can't hold a reply, that line has been carried out, and the connection is closed.
+    /// `AllocError` if memory can't hold a reply: that line has been carried out and is the last, and the connection is
+    /// closed.
     pub fn run<C: Chains + Drop, M: Marks + Drop>(
         &mut self,
         alloc: Global,
         token: u64,
         store: &mut Store<C, M>,
         most: usize,
-    )
-        // The first of the lines that wait are carried out, each once and in order, and their replies are added.
+    ) -> Result<(), AllocError>
+        // The first of the lines that wait are carried out, each once and in order, and their replies are added. With an error
+        // they are one at least.
         ensures carried { (b : Buffers) (bytes : List ℕ) → is_stopped self.old ≡ false → buffers_of self.old token ≡ Some b
             → b.waiting ≡ clipped bytes
-            → (stops : Bool) × (lost : Bool) × (lines : List (List ℕ)) × (steps : List Step) × (left : List ℕ) × (now : Buffers)
-            × CarriedOut (IsAt C.held M.marked) b bytes store.old stops lost lines steps left now store.new
-            × IsEnough stops lost most lines now
-            × (buffers_of self.new token ≡ left_by lost now) × (is_stopped self.new ≡ stops) }
+            → (stops : Bool) × (lines : List (List ℕ)) × (steps : List Step) × (left : List ℕ) × (now : Buffers)
+            × CarriedOut (IsAt C.held M.marked) b bytes store.old stops (is_err result) lines steps left now store.new
+            × IsEnough stops (is_err result) most lines now
+            × (buffers_of self.new token ≡ left_by (is_err result) now) × (is_stopped self.new ≡ stops) }
 
-        // Nothing is done after `stop`, or of a connection that isn't open.
+        // Nothing is done after `stop`, or of a connection that isn't open, and that is no error.
         ensures after_stop { is_stopped self.old ≡ true → IsSame self.old self.new × (store.new ≡ store.old) }
         ensures missing { buffers_of self.old token ≡ None → IsSame self.old self.new × (store.new ≡ store.old) }
+        ensures fine { (is_stopped self.old ≡ true) ⊎ (buffers_of self.old token ≡ None) → IsOk result }
 
         ensures others { (u : ℕ) → u ≢ token → buffers_of self.new u ≡ buffers_of self.old u }
         ensures next { next_token self.new ≡ next_token self.old }
         ensures stands { (calls : List Call) → Stands self.old calls
-            → (lost : Bool) × (lines : List (List ℕ)) × (steps : List Step)
-            × Stands self.new (with_run lost token lines steps calls)
+            → (lines : List (List ℕ)) × (steps : List Step) × (IsErr result → 0 < length lines)
+            × Stands self.new (with_run (is_err result) token lines steps calls)
             × WentOn (IsAt C.held M.marked) store.old steps store.new
-            × (all_steps (with_run lost token lines steps calls) ≡ all_steps calls ++ steps) }
+            × (all_steps (with_run (is_err result) token lines steps calls) ≡ all_steps calls ++ steps) }
 
         // The course of the store goes on by the steps that were carried out, and by no other.
         ensures serves { (start : Course) (calls : List Call) → Serves (IsAt C.held M.marked) start self.old store.old calls
-            → (lost : Bool) × (lines : List (List ℕ)) × (steps : List Step)
-            × Serves (IsAt C.held M.marked) start self.new store.new (with_run lost token lines steps calls) }
+            → (lines : List (List ℕ)) × (steps : List Step) × (IsErr result → 0 < length lines)
+            × Serves (IsAt C.held M.marked) start self.new store.new (with_run (is_err result) token lines steps calls) }
     {
-        self.carry_out(alloc, token, store, most);
+        self.carry_out(alloc, token, store, most)
     }
 
     fn carry_out<C: Chains + Drop, M: Marks + Drop>(
@@ -125,20 +128,26 @@ impl Hub {
         token: u64,
         store: &mut Store<C, M>,
         most: usize,
-    )
+    ) -> Result<(), AllocError>
         ensures idle { (is_stopped self.old ≡ true) ⊎ (buffers_of self.old token ≡ None)
             → IsSame self.old self.new × (store.new ≡ store.old) }
+        ensures fine { (is_stopped self.old ≡ true) ⊎ (buffers_of self.old token ≡ None) → IsOk result }
         ensures ran { is_stopped self.old ≡ false → IsSome (buffers_of self.old token)
-            → (lost : Bool) × RanAt (IsAt C.held M.marked) (buffers_of self.old) token store.old (is_stopped self.new) lost most
+            → RanAt (IsAt C.held M.marked) (buffers_of self.old) token store.old (is_stopped self.new) (is_err result) most
             (buffers_of self.new) store.new }
         ensures next { next_token self.new ≡ next_token self.old }
     {
         if self.stopped {
-            return;
+            return Ok(());
         }
-        if let Some(outcome) = self.connections.run(alloc, token, store, most) {
-            self.stopped = outcome.stops();
+        let Some(outcome) = self.connections.run(alloc, token, store, most) else {
+            return Ok(());
+        };
+        self.stopped = outcome.stops();
+        if outcome.is_lost() {
+            return Err(AllocError);
         }
+        Ok(())
     }
 
     /// Returns the first whole line that waits of the connection, without its line feed. It is the next one that

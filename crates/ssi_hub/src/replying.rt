@@ -1,7 +1,6 @@
 //! Carrying out one line.
 
 ghost use Rattle.std.specs.Prelude.{◌≡◌, ℕ, List, [], ◌∷◌};
-ghost use Rattle.std.specs.Option.{option_copied};
 ghost use Rattle.ssi_store.specs.Mirror.Stores.{IsAt};
 ghost use Rattle.ssi_line.specs.Meaning.Steps.{Step, IsStep, is_stop};
 ghost use Rattle.ssi_line.specs.Clauses.Ends.{WentOn};
@@ -17,9 +16,6 @@ use ssi_versions::Chains;
 use std::alloc::Global;
 use std::mem::replace;
 
-/// The most bytes of a line, without its line feed.
-const MAX_LINE_LEN: usize = 4096;
-
 /// Carries out one line, and adds its reply to what is to be written.
 pub(crate) fn reply<C: Chains + Drop, M: Marks + Drop>(
     alloc: Global,
@@ -32,7 +28,7 @@ pub(crate) fn reply<C: Chains + Drop, M: Marks + Drop>(
         × WentOn (IsAt C.held M.marked) store.old (step ∷ []) store.new }
 {
     let mut out = Watched::new(replace(unsent, Queue::new(alloc)));
-    let answered = answer(alloc, short(line), &mut out, store);
+    let answered = answer(alloc, Some(line), &mut out, store);
     *unsent = out.into_inner();
     match answered {
         Ok(true) => Outcome::Stops,
@@ -41,16 +37,6 @@ pub(crate) fn reply<C: Chains + Drop, M: Marks + Drop>(
             stops: is_stop(line),
         },
     }
-}
-
-/// Returns the line, if it isn't too long.
-fn short(line: &[u8]) -> Option<&[u8]>
-    ensures { option_copied result ≡ kept line.now }
-{
-    if line.len() > MAX_LINE_LEN {
-        return None;
-    }
-    Some(line)
 }
 
 /// Returns whether the line is `stop`.

@@ -1,7 +1,7 @@
 //! A run over an input.
 
 ghost use Rattle.std.specs.Prelude.{◌≡◌, List, [], ◌∷◌, ℕ, IsErr, true, false};
-ghost use Rattle.std.specs.Option.{option_copied};
+ghost use Rattle.std.specs.Option.{option_copied, option_and_then};
 ghost use Rattle.devices.specs.Mirror.{has_failed};
 ghost use Rattle.ssi_store.specs.Mirror.Stores.{IsAt};
 ghost use Rattle.ssi_line.specs.Meaning.Steps.{Step, step_text};
@@ -11,7 +11,7 @@ ghost use Rattle.ssi_line.specs.Machinery.Answering.{IsDump, Said};
 
 use crate::dump::dump_text;
 use crate::lines::next_line;
-use crate::short_line::ShortLine;
+use crate::short_line::{MAX_LINE_LEN, ShortLine};
 use crate::{End, Line, read_line, write_reply};
 use adya_text::WriteFault;
 use devices::{LineBuffer, Source, Watched, put};
@@ -59,8 +59,8 @@ pub fn serve<S: Source, W: Write, C: Chains + Drop, M: Marks + Drop>(
     }
 }
 
-/// Carries out one line, given without its line feed, or `None` if it has more than 4096 bytes. It writes the answer to
-/// `out`, and returns whether the line ends the run.
+/// Carries out one line, given without its line feed. `None` stands for a line of more than 4096 bytes, and so does one that is
+/// given with as many. It writes the answer to `out`, and returns whether the line ends the run.
 ///
 /// Returns `WriteFault` only if the device has failed. The line has been carried out then, too, and the device took a front
 /// of the answer, but not all. Beside what the store takes for its commands, only `dump` takes memory; if that runs out,
@@ -71,12 +71,12 @@ pub fn answer<W: Write, C: Chains + Drop, M: Marks + Drop>(
     out: &mut Watched<W>,
     store: &mut Store<C, M>,
 ) -> Result<bool, WriteFault>
-    ensures answered { (text : List ℕ) → option_copied line.entry ≡ kept text → (step : Step)
+    ensures answered { (text : List ℕ) → option_and_then kept (option_copied line.entry) ≡ kept text → (step : Step)
         × Answered W.contents text step result out.old out.new
         × WentOn (IsAt C.held M.marked) store.old (step ∷ []) store.new }
     ensures fault { IsErr result → has_failed out.new ≡ true }
 {
-    let Some(text) = line else {
+    let Some(text) = short(line) else {
         return say(b"? long\n", out).and(Ok(false));
     };
     match read_line(text) {
@@ -88,6 +88,17 @@ pub fn answer<W: Write, C: Chains + Drop, M: Marks + Drop>(
             write_reply(&reply, out).and(Ok(false))
         }
     }
+}
+
+/// Returns the line, if it isn't too long.
+fn short(line: Option<&[u8]>) -> Option<&[u8]>
+    ensures { option_copied result ≡ option_and_then kept (option_copied line.entry) }
+{
+    let line = line?;
+    if line.len() > MAX_LINE_LEN {
+        return None;
+    }
+    Some(line)
 }
 
 /// Answers with the texts of the history so far and of a certificate, both at once, or says that memory ran out.

@@ -7,7 +7,7 @@ ghost use Rattle.ssi_line.specs.Clauses.Answers.{kept};
 use std::marker::Model;
 
 /// The most bytes of a line, without its line feed.
-const MAX_LINE_LEN: usize = 4096;
+pub(crate) const MAX_LINE_LEN: usize = 4096;
 
 /// A line of at most [`MAX_LINE_LEN`] bytes, or the fact that it is longer.
 #[derive(Drop)]

@@ -96,10 +96,7 @@ impl Tried {
                 self.hub.written(token, number(rest));
                 Ok(())
             }
-            "run" => {
-                self.hub.run(alloc, token, &mut self.store, number(rest));
-                Ok(())
-            }
+            "run" => self.hub.run(alloc, token, &mut self.store, number(rest)),
             "close" => {
                 self.hub.closed(token);
                 Ok(())

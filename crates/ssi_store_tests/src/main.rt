@@ -8,7 +8,8 @@
 //! size. The other names are these:
 //!
 //! - `limits`: a transaction of as many operations as one may have, and the last transaction number;
-//! - `scripts`: lines of any length, a second input to one store, a socket, and a socket served at once;
+//! - `scripts`: lines of any length, a second input to one store, a client that waits for each reply, a socket, and a socket
+//!   served at once;
 //! - `failing_devices`: readers and writers that fail at each of their calls;
 //! - `hostile_lines`: lines that are no commands, and lines that are too long;
 //! - `endless_streams`: inputs that never end;
@@ -32,6 +33,7 @@ mod failing_serves;
 mod faults;
 mod hostile_lines;
 mod hub_calls;
+mod in_turn;
 mod limits;
 mod lists;
 mod many_sessions;
@@ -100,6 +102,7 @@ fn write_scripts(rt: &HostRuntime) -> io::Result<()> {
         scripts::is_long_rest_passed_over(alloc),
     )?;
     write_line(rt, "second input", scripts::are_sessions_the_stores(alloc))?;
+    write_line(rt, "line after reply", in_turn::are_lines_answered(alloc))?;
     write_line(rt, "socket", scripts::are_peers_answered(rt)?)?;
     write_line(rt, "socket with texts", scripts::are_peers_recorded(rt)?)?;
     write_line(

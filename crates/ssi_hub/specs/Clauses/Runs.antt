@@ -34,10 +34,11 @@ pub record CarriedOut {T : Type 0} (is_at : T → Course → Type 0) (old : Buff
   pub ends : EndsSo stops steps
   pub begun : AreBegun (length old.unsent) steps
 
--- at most so many lines were carried out. If the run goes on and whole lines wait, then it were exactly so many, or more
--- than 65536 bytes are unsent
+-- at most so many lines were carried out, and one at least if a reply is lost. If the run goes on and whole lines wait, then
+-- they are exactly so many, or more than 65536 bytes are unsent
 pub record IsEnough (stops lost : Bool) (most : ℕ) (lines : List Bytes) (new : Buffers) : Type 0 where
   pub few : length lines ≤ most
+  pub some : lost ≡ true → 0 < length lines
   pub paused : stops ≡ false → lost ≡ false → has_line new.waiting ≡ true
       → (length lines ≡ most) ⊎ (65536 < length new.unsent)
 

@@ -1,4 +1,5 @@
 use Rattle.std.proofs.Common.{refl}
+use Rattle.std.specs.Prelude.{is_err}
 use Rattle.ssi_store.specs.Mirror.Stores.{IsAt}
 use Rattle.ssi_hub.specs.Clauses.Calls.{Closed}
 use Rattle.ssi_cli.proofs.HubRuns.{called_with, ran, run_both, run_then_called}
@@ -16,4 +17,4 @@ loop-preserved g c =
     run_both (IsAt {g = g.C.Chains} {h = g.M.Marks} g.C.Chains.held g.M.Marks.marked) c.args.hub.now c.loop.hub
     c.run.new.self c.args.store.now c.loop.store c.run.new.store c.loop.invariant
     (ran (IsAt {g = g.C.Chains} {h = g.M.Marks} g.C.Chains.held g.M.Marks.marked) c.loop.hub c.run.new.self c.loop.store
-    c.run.new.store c.args.token c.run.ensures.stands)
+    c.run.new.store c.args.token (is_err c.run.result) c.run.ensures.stands)

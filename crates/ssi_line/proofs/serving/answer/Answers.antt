@@ -1,4 +1,4 @@
-use Rattle.std.proofs.Common.{rules, ◌≡◌, false, refl, subst, ap}
+use Rattle.std.proofs.Common.{rules, ◌≡◌, ◌∙◌, false, refl, subst, ap}
 use Rattle.std.specs.Option.{option_copied}
 use Rattle.ssi_store.specs.Mirror.Commands.{command_of, answer_of}
 use Rattle.ssi_line.specs.Meaning.Spelling.{Do, IsLineOf}
@@ -11,7 +11,7 @@ use Rattle.ssi_line.proofs.serving.answer.Goals as goal
 pub returns-in-Some-Do-clause-answered : goal.returns-in-Some-Do-clause-answered
 returns-in-Some-Do-clause-answered g c = λ text is.
     let command = command_of c.in-Some-Do.command in
-    let same : c.in-Some.text.now ≡ text = (of_kept text c.in-Some.text.now (option_copied c.args.line) (ap option_copied c.in-Some.is) is).0 in
+    let same : c.in-Some.text.now ≡ text = (of_kept text c.in-Some.text.now (option_copied c.short.result) (ap option_copied c.in-Some.is) (c.short.ensures ∙ is)).0 in
     let line : IsLineOf (Do command) c.in-Some.text.now = rw c.in-Some-Do.field-0-is at c.in-Some-Do.ensures.line in
     let step = Given command (answer_of c.apply-reply.result) in (
       step,

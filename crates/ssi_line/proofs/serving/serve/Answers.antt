@@ -2,6 +2,7 @@ use Rattle.std.proofs.Common.{rules, ◌∙◌, ◌++◌, ◌∷◌, [], true, f
 use Rattle.ssi_store.specs.Mirror.Stores.{IsAt}
 use Rattle.ssi_line.specs.Meaning.Steps.{Stopped}
 use Rattle.ssi_line.specs.Machinery.Lines.{has_ended}
+use Rattle.ssi_line.proofs.KeptLines.{kept_again}
 use Rattle.ssi_line.proofs.StepLists.{went_on_more, stopped}
 use Rattle.ssi_line.proofs.Runs.{took_start, took_more, took_rest, took_pending, ended_so, told_so, ends_with}
 use Rattle.ssi_line.proofs.Runs.{go_on_more, wrote_none, wrote_more, told_broken, ends_broken}
@@ -52,7 +53,7 @@ pub returns-in-Ok-true-answer-clause-run : goal.returns-in-Ok-true-answer-clause
 returns-in-Ok-true-answer-clause-run g c =
     let (stream, unfailed, (lines, steps, took, went_on, go_on, written)) = c.loop-line.invariant in
     let (text, plain, room, eaten) = c.next_line.ensures.bytes in
-    let (step, answered, goes) = c.answer.ensures.answered text (c.text.ensures ∙ room) in
+    let (step, answered, goes) = c.answer.ensures.answered text (kept_again text _ (c.text.ensures ∙ room)) in
     let ended = ended_so c.next_line.result _ true c.in-Ok-true.is c.in-Ok-true.field-0-test in
     let told = told_so g.W.Write.contents c.answer.result _ true step _ _ c.in-Ok-true-answer.is c.in-Ok-true-answer.field-0-test answered.told in (
       lines ++ text ∷ [],
@@ -72,7 +73,7 @@ pub loop-line-preserved : goal.loop-line-preserved
 loop-line-preserved g c =
     let (stream, unfailed, (lines, steps, took, went_on, go_on, written)) = c.loop-line.invariant in
     let (text, plain, room, eaten) = c.next_line.ensures.bytes in
-    let (step, answered, goes) = c.answer.ensures.answered text (c.text.ensures ∙ room) in
+    let (step, answered, goes) = c.answer.ensures.answered text (kept_again text _ (c.text.ensures ∙ room)) in
     let ended = ended_so c.next_line.result _ true c.in-Ok-true.is c.in-Ok-true.field-0-test in
     let told = told_so g.W.Write.contents c.answer.result _ false step _ _ c.in-Ok-false-answer.is c.in-Ok-false-answer.field-0-test answered.told in (
       g.met.S.Source.same_trans _ _ _ stream c.next_line.ensures.stream,
@@ -92,7 +93,7 @@ pub returns-in-Err-answer-clause-run : goal.returns-in-Err-answer-clause-run
 returns-in-Err-answer-clause-run g c =
     let (stream, unfailed, (lines, steps, took, went_on, go_on, written)) = c.loop-line.invariant in
     let (text, plain, room, eaten) = c.next_line.ensures.bytes in
-    let (step, answered, goes) = c.answer.ensures.answered text (c.text.ensures ∙ room) in
+    let (step, answered, goes) = c.answer.ensures.answered text (kept_again text _ (c.text.ensures ∙ room)) in
     let ended = ended_so c.next_line.result _ true c.in-Ok-true.is c.in-Ok-true.field-0-test in (
       lines ++ text ∷ [],
       steps ++ step ∷ [],
