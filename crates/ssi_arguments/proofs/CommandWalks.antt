@@ -6,7 +6,7 @@ use Rattle.std.specs.List.{fold}
 use Rattle.clap.specs.Walk.{Names, Rule, Text, Walk, nothing_held, walk, walked}
 use Rattle.clap.specs.Simple.{App, Shape, built, names_of}
 use Rattle.clap.proofs.OnLiterals.{clap_on_literals}
-use Rattle.ssi_arguments.specs.Machinery.Parser.{ssi_app}
+use Rattle.ssi_arguments.specs.Clauses.CommandLine.{ssi_app}
 use Rattle.ssi_arguments.proofs.PlainArguments.{at}
 
 abbrev pub parser : App

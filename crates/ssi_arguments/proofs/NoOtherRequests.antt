@@ -8,10 +8,11 @@ use Rattle.clap.specs.Walk.{Held, Names, Text, Walk, finished, idle, nothing_hel
 use Rattle.clap.specs.Simple.{Shape, entered}
 use Rattle.clap.specs.Kinds.{Kinds, or_else}
 use Rattle.clap.specs.Faults.{built_fault, check_fault, defaults_fault, entered_fault, fault_of, is_simple_and_free, level_fault, settle_fault, turn_fault, walk_fault}
+use Rattle.clap.specs.declared.error.kind.ErrorKind.TheVariants.{DisplayHelp}
 use Rattle.clap.proofs.OnLiterals.{clap_on_literals}
 use Rattle.ssi_arguments.specs.Clauses.Arguments.{Request, pipe, audit, order, script, serve, are_plain, is_plain, arguments_of}
 use Rattle.ssi_arguments.specs.declared.arguments.Manner.TheVariants.{InTurn}
-use Rattle.ssi_arguments.specs.Machinery.Parser.{ssi_app}
+use Rattle.ssi_arguments.specs.Clauses.CommandLine.{ssi_app}
 use Rattle.ssi_arguments.proofs.CommandWalks.{names, orders, pairs, parser, serves, top_walk, stops_at_audit, stops_at_order, stops_at_script, stops_at_serve}
 use Rattle.ssi_arguments.proofs.PlainArguments.{at, turn_fault-plain}
 use Rattle.ssi_arguments.proofs.TakesRequests.{one_path, two_paths, three_paths, path_plain, paths_plain, walk_one, walk_two, walk_front, walk_three}
@@ -247,3 +248,11 @@ simple_and_free = refl
 -- arguments at which the parser has no fault are those of a request
 pub asks_request : (arguments : List Text) → are_plain (drop 1 arguments) ≡ true → fault_of ssi_app arguments ≡ [] → Ask (drop 1 arguments)
 asks_request arguments p e = asks (drop 1 arguments) p e
+
+help_fault : whole_fault (codes "--help" ∷ []) ≡ DisplayHelp ∷ []
+unfolding clap_on_literals
+help_fault = refl
+
+-- the fault at the option `--help` is help
+pub shows_help : (arguments : List Text) → drop 1 arguments ≡ codes "--help" ∷ [] → fault_of ssi_app arguments ≡ DisplayHelp ∷ []
+shows_help arguments e = ap whole_fault e ∙ help_fault

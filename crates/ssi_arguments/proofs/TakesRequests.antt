@@ -10,7 +10,7 @@ use Rattle.clap.proofs.OnLiterals.{clap_on_literals}
 use Rattle.ssi_arguments.specs.Clauses.Arguments.{Request, pipe, audit, order, script, serve, are_plain, is_plain, arguments_of, options_of, paths_of}
 use Rattle.ssi_arguments.specs.declared.arguments.Manner.{Manner}
 use Rattle.ssi_arguments.specs.declared.arguments.Manner.TheVariants.{InTurn, AtOnce, Aborting}
-use Rattle.ssi_arguments.specs.Machinery.Parser.{request_in, ssi_app}
+use Rattle.ssi_arguments.specs.Clauses.CommandLine.{request_in, ssi_app}
 use Rattle.ssi_arguments.proofs.CommandWalks.{audits, names, orders, pairs, parser, scripts, serves, top_walk}
 use Rattle.ssi_arguments.proofs.CommandWalks.{stops_at_audit, stops_at_order, stops_at_script, stops_at_serve}
 use Rattle.ssi_arguments.proofs.PlainArguments.{at, turn_passes-plain, walked-plain}

@@ -1,2 +1,3 @@
--- What a program's arguments ask for.
+-- What a program's arguments ask for, and how the parser reads them.
 pub mod Arguments
+pub mod CommandLine

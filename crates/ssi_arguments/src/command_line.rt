@@ -3,7 +3,7 @@
 ghost use Rattle.std.specs.Prelude.{◌≡◌, false, IfOk};
 ghost use Rattle.clap.specs.Words.{App, app_of, new_app, rule_of, with_rule, with_subcommand};
 ghost use Rattle.clap.specs.declared.builder.command.Command.TheViews.{out-Command as fields_of};
-ghost use Rattle.ssi_arguments.specs.Machinery.Parser.{file_rule, flag_rule, with_texts, audit_app, order_app, script_app, serve_app, ssi_app};
+ghost use Rattle.ssi_arguments.specs.Clauses.CommandLine.{file_rule, flag_rule, with_texts, audit_app, order_app, script_app, serve_app, ssi_app};
 
 use crate::help;
 use clap::{Arg, ArgAction, Command};

@@ -1,5 +1,8 @@
 -- What the arguments ask for.
 use Rattle.std.specs.Prelude.{ℕ, ◌==◌, ◌&&◌, Bool, true, not, List, [], ◌∷◌, ◌++◌, codes}
+use Rattle.clap.specs.Words.{IsAmong, Kinds, kind_of}
+use Rattle.ssi_arguments.specs.declared.arguments.NoTask.{NoTask}
+use Rattle.ssi_arguments.specs.declared.arguments.NoTask.TheVariants as no_task
 use Rattle.ssi_arguments.specs.declared.arguments.Manner.{Manner}
 use Rattle.ssi_arguments.specs.declared.arguments.Manner.TheVariants.{InTurn, AtOnce, Aborting}
 use Rattle.ssi_arguments.specs.declared.arguments.Task.{Task}
@@ -52,3 +55,9 @@ is_plain (b ∷ bs) = not (b == 45)
 abbrev pub are_plain : List (List ℕ) → Bool
 are_plain [] = true
 are_plain (argument ∷ arguments) = is_plain argument && are_plain arguments
+
+-- the parser's text is of one of these kinds, or memory ran out
+abbrev pub IsRefusal : Kinds → NoTask → Type 0
+IsRefusal kinds (no_task.Text text) = IsAmong (kind_of text) kinds
+IsRefusal kinds no_task.NotUtf8 = ⊥
+IsRefusal kinds no_task.Memory = Unit {0}

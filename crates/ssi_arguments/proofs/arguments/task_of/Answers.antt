@@ -1,9 +1,14 @@
-use Rattle.std.proofs.Common.{◌≡◌, ◌∙◌, ap, sym, subst, true, map, string_bytes, Result, Ok, Err, MatchResult}
-use Rattle.std.specs.Prelude.{IsErrAnd}
-use Rattle.clap.specs.Words.{fault_of, is_simple, is_simple_and_free, subcommand_of, takes}
-use Rattle.ssi_arguments.specs.Machinery.Parser.{request_in}
-use Rattle.ssi_arguments.specs.Clauses.Arguments.{arguments_of, are_plain}
-use Rattle.ssi_arguments.proofs.NoOtherRequests.{asks_request, simple_and_free}
+use Rattle.std.proofs.Common.{[], ◌∷◌, ◌≡◌, ◌≢◌, ◌⊎◌, ◌∙◌, ap, sym, subst, refl, inl, inr, true, map, string_bytes, Result, Ok, Err, MatchResult}
+use Rattle.std.specs.Prelude.{IfErr, IsErrAnd}
+use Rattle.clap.specs.Words.{HasKind, Kinds, fault_of, is_simple, is_simple_and_free, kind_of, subcommand_of, takes}
+use Rattle.clap.specs.declared.error.Error.{Error}
+use Rattle.clap.specs.declared.error.kind.ErrorKind.{ErrorKind}
+use Rattle.clap.specs.declared.error.kind.ErrorKind.TheVariants.{OutOfMemory, DisplayHelp}
+use Rattle.ssi_arguments.specs.declared.arguments.NoTask.{NoTask}
+use Rattle.ssi_arguments.specs.declared.arguments.NoTask.TheVariants.{Text, Memory}
+use Rattle.ssi_arguments.specs.Clauses.CommandLine.{request_in}
+use Rattle.ssi_arguments.specs.Clauses.Arguments.{IsRefusal, arguments_of, are_plain}
+use Rattle.ssi_arguments.proofs.NoOtherRequests.{asks_request, shows_help, simple_and_free}
 use Rattle.ssi_arguments.proofs.TakesRequests.{simple, takes_request, plain_paths}
 use Rattle.ssi_arguments.proofs.arguments.task_of.Goals as goal
 
@@ -11,6 +16,20 @@ told : {X E : Type 0} (r : Result X E) (A B : Type 0) (P : X → Type 0) (Q R : 
     → IsErrAnd r (λ e. (A → Q e) × (B → R e)) → MatchResult r P Q
 told (Ok x) A B P Q R a h = absurd h
 told (Err e) A B P Q R a h = h.0 a
+
+is_memory : (k : ErrorKind) → (k ≡ OutOfMemory) ⊎ (k ≢ OutOfMemory)
+is_memory OutOfMemory = inl refl
+is_memory _ = inr (λ e. cc e)
+
+refused : {X : Type 0} (kinds : Kinds) (error : Error) (r : Result X NoTask) → HasKind kinds error
+    → IsErrAnd r (λ none. (kind_of error ≡ OutOfMemory → none ≡ Memory) × (kind_of error ≢ OutOfMemory → none ≡ Text error))
+    → IfErr r (IsRefusal kinds)
+refused kinds error (Ok x) has h = absurd h
+refused kinds error (Err none) (inl memory) h = subst (IsRefusal kinds) (sym (h.0 memory)) tt
+refused kinds error (Err none) (inr among) h = elim (is_memory (kind_of error)) [
+  | inl memory ↦ subst (IsRefusal kinds) (sym (h.0 memory)) tt
+  | inr other ↦ subst (IsRefusal kinds) (sym (h.1 other)) among
+]
 
 pub returns-in_err-matches-clause-asked : goal.returns-in_err-matches-clause-asked
 returns-in_err-matches-clause-asked c = λ r p e.
@@ -24,6 +43,39 @@ returns-clause-asked c = λ r p e.
     let same = (c.in_ok-matches.ensures.matches (ap is_simple c.in_ok-command.ensures ∙ simple)).1 in
     c.task_in.ensures ∙ ap request_in (same ∙ ap (λ app. subcommand_of app arguments) c.in_ok-command.ensures)
     ∙ (takes_request arguments r p e).1
+
+pub returns-in_err-matches-clause-refusal : goal.returns-in_err-matches-clause-refusal
+returns-in_err-matches-clause-refusal c =
+    let arguments = map string_bytes c.args.arguments.now in
+    let app = c.in_ok-command.ensures in
+    let has = c.in_err-matches.ensures.kinds (ap is_simple_and_free app ∙ simple_and_free) in
+    refused _ c.in_err-matches.field-0.0 _ (subst (λ a. HasKind (fault_of a arguments) c.in_err-matches.field-0.0) app has)
+    c.from_residual-in_err-matches.ensures.1
+
+pub returns-clause-task : goal.returns-clause-task
+returns-clause-task c =
+    let arguments = map string_bytes c.args.arguments.now in
+    let app = c.in_ok-command.ensures in
+    let same = (c.in_ok-matches.ensures.matches (ap is_simple app ∙ simple)).1 in (
+      sym (ap (λ a. fault_of a arguments) app) ∙ c.in_ok-matches.ensures.kinds (ap is_simple_and_free app ∙ simple_and_free),
+      c.task_in.ensures ∙ ap request_in (same ∙ ap (λ a. subcommand_of a arguments) app),
+    )
+
+helped : {X : Type 0} (kinds : Kinds) (error : Error) (r : Result X NoTask) → kinds ≡ DisplayHelp ∷ [] → IfErr r (IsRefusal kinds)
+    → IsErrAnd r (λ none. (kind_of error ≡ OutOfMemory → none ≡ Memory) × (kind_of error ≢ OutOfMemory → none ≡ Text error))
+    → IsErrAnd r (IsRefusal (DisplayHelp ∷ []))
+helped kinds error (Ok x) same is h = absurd h
+helped kinds error (Err none) same is h = subst (λ ks. IsRefusal ks none) same is
+
+pub returns-in_err-matches-clause-help : goal.returns-in_err-matches-clause-help
+returns-in_err-matches-clause-help c = λ e.
+    helped _ c.in_err-matches.field-0.0 _ (shows_help (map string_bytes c.args.arguments.now) e)
+    (returns-in_err-matches-clause-refusal c) c.from_residual-in_err-matches.ensures.1
+
+pub returns-clause-help : goal.returns-clause-help
+returns-clause-help c = λ e.
+    let arguments = map string_bytes c.args.arguments.now in
+    absurd (cc (sym (shows_help arguments e) ∙ (returns-clause-task c).0))
 
 pub returns-clause-no_other : goal.returns-clause-no_other
 returns-clause-no_other c = λ p.

@@ -1,7 +1,7 @@
 use Rattle.std.proofs.Common.{◌≡◌, ◌∙◌, ap}
 use Rattle.std.proofs.lemmas.Result.{IfOk-weaker}
 use Rattle.clap.specs.Words.{app_of, with_subcommand}
-use Rattle.ssi_arguments.specs.Machinery.Parser.{audit_app, order_app, script_app, serve_app, ssi_app}
+use Rattle.ssi_arguments.specs.Clauses.CommandLine.{audit_app, order_app, script_app, serve_app, ssi_app}
 use Rattle.ssi_arguments.proofs.command_line.command_line.Goals as goal
 
 pub returns : goal.returns

@@ -1,7 +1,7 @@
 use Rattle.std.proofs.Common.{◌≡◌, ◌∙◌, ap, codes}
 use Rattle.std.proofs.lemmas.Result.{IfOk-weaker}
 use Rattle.clap.specs.Words.{app_of, with_rule}
-use Rattle.ssi_arguments.specs.Machinery.Parser.{file_rule, flag_rule, serve_app, with_texts}
+use Rattle.ssi_arguments.specs.Clauses.CommandLine.{file_rule, flag_rule, serve_app, with_texts}
 use Rattle.ssi_arguments.proofs.command_line.serve.Goals as goal
 
 pub returns-clause-app : goal.returns-clause-app

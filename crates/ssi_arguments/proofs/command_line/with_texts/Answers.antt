@@ -1,7 +1,7 @@
 use Rattle.std.proofs.Common.{◌≡◌, codes, subst}
 use Rattle.std.specs.Prelude.{IfOk}
 use Rattle.clap.specs.Words.{app_of, with_rule}
-use Rattle.ssi_arguments.specs.Machinery.Parser.{file_rule}
+use Rattle.ssi_arguments.specs.Clauses.CommandLine.{file_rule}
 use Rattle.ssi_arguments.proofs.command_line.with_texts.Goals as goal
 
 pub returns-clause-app : goal.returns-clause-app

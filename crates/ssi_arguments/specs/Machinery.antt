@@ -1,2 +1,0 @@
--- What only this crate's loops and tables need.
-pub mod Parser
