@@ -9,7 +9,7 @@ use Rattle.adya_text.specs.Meaning.Texts.{history_text, serial_text, with_ends}
 use Rattle.adya_audit.specs.Meaning.Verdicts.{Yes}
 use Rattle.adya_audit.specs.Clauses.TextVerdicts.{IsVerdictOn}
 use Rattle.adya_audit.specs.Laws.Texts.{AcceptedTextsGetYes}
-use Rattle.ssi_line.specs.Meaning.Steps.{Step, Stopped, steps_text, EndsWith}
+use Rattle.ssi_line.specs.Meaning.Steps.{Step, Stopped, steps_text, AllGoOn, EndsWith}
 use Rattle.ssi_line.specs.Clauses.Ends.{EndsAs}
 use Rattle.ssi_line.specs.declared.end.End.{End}
 use Rattle.ssi_line.specs.declared.end.End.TheVariants.{Eof, Stop, ReadFault, WriteFault}
@@ -35,13 +35,13 @@ split input front (Some rest) consumed = record { rest = rest; is = consumed; at
 -- what a run that no fault ended says of the rest of its input and of what it wrote
 record Ended {D : Type 0} (contents : D → Option (List ℕ)) (steps : List Step) (after : List ℕ) (left : Option (List ℕ)) (old new : Watched D) : Type 0 where
   text : Grew contents old new (steps_text steps)
-  how : (IsPlain after × IsAtEnd left) ⊎ EndsWith steps Stopped
+  how : ((AllGoOn steps × IsPlain after) × IsAtEnd left) ⊎ EndsWith steps Stopped
 
 ended : {D : Type 0} (contents : D → Option (List ℕ)) (steps : List Step) (after : List ℕ) (left : Option (List ℕ)) (old new : Watched D)
     (end : End) → (end ≡ Eof) ⊎ (end ≡ Stop) → EndsAs end contents steps after left old new → Ended contents steps after left old new
 ended contents steps after left old new end (inl e) ends =
     let as_eof : EndsAs Eof contents steps after left old new = subst (λ x. EndsAs x contents steps after left old new) e ends in
-    record { text = as_eof.0.written; how = inl (as_eof.0.unfinished, as_eof.1) }
+    record { text = as_eof.0.written; how = inl ((as_eof.0.go_on, as_eof.0.unfinished), as_eof.1) }
 ended contents steps after left old new end (inr e) ends =
     let as_stop : EndsAs Stop contents steps after left old new = subst (λ x. EndsAs x contents steps after left old new) e ends in
     record { text = as_stop.1; how = inr as_stop.0 }
@@ -71,11 +71,13 @@ module _ {D H C : Type 0} (contents : D → Option (List ℕ)) (in_history : H �
         steps = ran.steps;
         rest = ran.after ++ parts.rest;
         input_is = parts.is ∙ append_assoc (with_ends ran.lines) ran.after parts.rest;
+        plain = ran.took.plain;
         made = ran.took.made;
         follow = ran.follow;
         ended = elim end.how [
           | inl open' ↦
-              inl (subst IsPlain (sym (ap (λ ys. ran.after ++ ys) (parts.at_end open'.1) ∙ append-nil ran.after)) open'.0)
+              let rest_is = ap (λ ys. ran.after ++ ys) (parts.at_end open'.1) ∙ append-nil ran.after in
+              inl (open'.0.0, subst IsPlain (sym rest_is) open'.0.1)
           | inr stopped ↦ inr stopped
         ];
         replies_are = written contents old new (steps_text ran.steps) replies blank given end.text;
