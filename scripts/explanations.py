@@ -1,16 +1,23 @@
 #!/usr/bin/env python3
-"""Runs tools/explain.py on every history of examples/ and tools/cases/, and checks what it says and draws.
+"""Runs tools/explain.py on every history of examples/ and tools/cases/, and checks what it says and draws, and on every
+run of the store in examples/ and tools/runs/.
 
     scripts/explanations.py [PROGRAM]
 
 PROGRAM is crates/ssi/out/ssi by default; if it isn't built, scripts/reference.py answers in its place. The first
 sentence must fit the example's expected answer. If a folder has a file `explanation`, which is written by hand, all
 sentences must be the ones there. The page must be well-formed, with an arrow for each sentence about two events, and
-with each transaction that a sentence names. Wrong arguments and files must end with status 2 and one line. The last
-line is `N passed, M failed`.
+with each transaction that a sentence names. Arrowheads must be apart, and no arrow may run through another one's label.
+What is shown of an event must be its line. On random histories the dependencies of tools/cycles.py must be those of
+scripts/reference.py, and its cycles shortest ones; on random runs of the store the pivots and their conflicts must be
+those of scripts/store_reference.py. Wrong arguments and files must end with status 2 and one line. The
+last line is `N passed, M failed`.
 """
 import glob
 import html.parser
+import itertools
+import json
+import math
 import os
 import re
 import subprocess
@@ -19,8 +26,19 @@ import tempfile
 import xml.dom.minidom
 
 TOP = os.path.dirname(os.path.dirname(os.path.abspath(__file__)))
+sys.path.insert(0, os.path.join(TOP, "tools"))
+import compare  # noqa: E402  (beside this file)
+import compare_store  # noqa: E402
+import cycles  # noqa: E402  (in tools/)
+import reference  # noqa: E402
+import store_reference  # noqa: E402
+import store_run  # noqa: E402
+
 TOOL = os.path.join(TOP, "tools", "explain.py")
-MOST_TXNS = 12  # of a picture
+MOST_TXNS = 12  # of a picture, without those of a cycle
+LABEL_HIGH = "18"  # the height of the white box under a label
+HISTORIES, RUNS = 300, 60  # random ones
+APART = 8  # pixels between two arrowheads, at least
 
 
 class Balance(html.parser.HTMLParser):
@@ -45,7 +63,7 @@ class Balance(html.parser.HTMLParser):
 
 
 class Drawn:
-    """What a page shows: its headings, the numbers of its rows, and how many arrows."""
+    """What a page shows: its headings, the numbers of its rows, its arrows, and the data of its second picture."""
 
     def __init__(self, path):
         with open(path, encoding="utf-8") as file:
@@ -54,12 +72,38 @@ class Drawn:
         self.headings = [self.words(one) for tag in ("title", "h1") for one in page.getElementsByTagName(tag)
                          if one.parentNode.nodeName != "g"]
         texts = page.getElementsByTagName("text")
-        self.rows = [int(self.words(one)) for one in texts if one.getAttribute("font-weight") == "bold"]
-        self.arrows = sum(one.hasAttribute("marker-end") for one in page.getElementsByTagName("path"))
+        self.rows = [int(self.words(one)[1:]) for one in texts if one.getAttribute("font-weight") == "bold"]
+        self.hovers = [self.words(one) for one in page.getElementsByTagName("title") if one.parentNode.nodeName == "g"]
+        self.arrows = [[float(number) for number in re.findall("[-0-9.]+", one.getAttribute("d"))]
+                       for one in page.getElementsByTagName("path") if one.hasAttribute("marker-end")]
+        self.labels = [[float(one.getAttribute(name)) for name in ("x", "y", "width", "height")]
+                       for one in page.getElementsByTagName("rect") if one.getAttribute("height") == LABEL_HIGH]
+        scripts = [one for one in page.getElementsByTagName("script") if one.getAttribute("id") == "data"]
+        self.data = json.loads(self.words(scripts[0])) if scripts else None
 
     @staticmethod
     def words(element):
         return "".join(child.data for child in element.childNodes)
+
+    def close_heads(self):
+        """The pairs of arrows whose heads are close to each other."""
+        heads = [arrow[-2:] for arrow in self.arrows]
+        return [(a, b) for a, b in itertools.combinations(heads, 2) if math.dist(a, b) < APART]
+
+    def crossed_labels(self):
+        """The labels through which another arrow runs."""
+        ways = [list(points_on(arrow)) for arrow in self.arrows]
+        return [number for number, (x, y, wide, high) in enumerate(self.labels) for other, way in enumerate(ways)
+                if other != number and any(x < a < x + wide and y < b < y + high for a, b in way)]
+
+
+def points_on(arrow):
+    """Points of an arrow, given by the numbers of its path: its start, and three points for each curve."""
+    points = list(zip(arrow[::2], arrow[1::2]))
+    for at in range(0, len(points) - 1, 3):
+        for t in (n / 50 for n in range(51)):
+            parts = (1 - t) ** 3, 3 * t * (1 - t) ** 2, 3 * t * t * (1 - t), t ** 3
+            yield tuple(sum(part * p[axis] for part, p in zip(parts, points[at:at + 4])) for axis in (0, 1))
 
 
 def read(path):
@@ -83,6 +127,47 @@ def named(sentence):
     """The transactions that a sentence about two events names."""
     sentence = re.sub("`[^`]*`", "", re.sub("line [0-9]+", "", sentence))
     return {int(number) for number in re.findall(r"\b[0-9]+\b", sentence)}
+
+
+def ring(count):
+    """A history whose cycle has this many transactions, which take turns in a mixed order."""
+    keys = ["k%02d" % number for number in range(count)]
+    turns = sorted(range(count), key=lambda number: number * 7 % (count + 1))
+    lines = ["w1(%s.1:1,0)" % key for key in keys] + ["c1"]
+    lines += ["r%d(%s.1:1,0)" % (turn + 2, keys[turn]) for turn in turns]
+    lines += ["w%d(%s.%d:1,5)" % (turn + 2, keys[turn - 1], turn + 2) for turn in turns]
+    lines += ["c%d" % (turn + 2) for turn in turns]
+    lines += ["[%s:1<<%d]" % (key, (number + 1) % count + 2) for number, key in enumerate(keys)]
+    return "".join(line + "\n" for line in ["adya 1"] + lines + ["{%s,5}" % key for key in keys] + ["end"])
+
+
+class Watched(store_reference.Store):
+    """The store of scripts/store_reference.py. It keeps what was done when a pivot would have arisen."""
+
+    def __init__(self):
+        super().__init__()
+        self.dangers = []
+
+    def done_if_safe(self, act, reply):
+        course = self.course.then(act)
+        if course.pivots:
+            self.dangers.append(course)
+        return super().done_if_safe(act, reply)
+
+
+def is_cycle(edges):
+    return all(edge[3] == after[0] for edge, after in zip(edges, edges[1:] + edges[:1]))
+
+
+def shortest(edges):
+    """How many dependencies a shortest cycle has; 0 if there is none."""
+    found = []
+    for start in {edge[0] for edge in edges}:
+        met, length, ends = set(), 0, {start}
+        while ends - met:
+            met, length, ends = met | ends, length + 1, {edge[3] for edge in edges if edge[0] in ends}
+            found += [length] if start in ends else []
+    return min(found, default=0)
 
 
 class Checks:
@@ -120,16 +205,103 @@ class Checks:
             if ran.stdout.startswith("The text is no history"):
                 return
         drawn, ran = self.page(history)
-        said, *sentences = ran.stdout.splitlines()
+        said, *sentences = [one for one in ran.stdout.splitlines() if not one.startswith("This is ")]
         answer = os.path.join(folder, "order")
         if not os.path.exists(answer):  # that of a store is always a certificate
             answer = os.path.join(folder, "certificate")
         if os.path.exists(answer):
             self.check("first sentence of " + folder, first_sentence(read(answer)), said)
-        self.check("arrows of " + folder, len(sentences), drawn.arrows)
-        self.check("transactions of " + folder, set(), set().union(*map(named, sentences)) - set(drawn.rows))
-        self.check("size of the picture of " + folder, True, len(drawn.rows) <= MOST_TXNS)
+        wanted = set().union(*map(named, sentences))
+        self.check("transactions of " + folder, set(), wanted - set(drawn.rows))
+        self.check("size of the picture of " + folder, True, len(drawn.rows) <= max(MOST_TXNS, len(wanted)))
+        self.of_arrows(folder, drawn, len(sentences))
+        self.of_hovers(history, drawn)
         self.check("balance of the page of " + folder, True, Balance(drawn.text).is_balanced)
+
+    def of_arrows(self, name, drawn, count):
+        self.check("arrows and labels of " + name, [count] * 2, [len(drawn.arrows), len(drawn.labels)])
+        self.check("arrowheads of " + name, [], drawn.close_heads())
+        self.check("labels of " + name, [], drawn.crossed_labels())
+
+    def of_hovers(self, history, drawn):
+        """What is shown while the pointer is over an event has to be its line."""
+        lines = ["line %d: %s" % one for one in enumerate(read(history).splitlines(), 1)]
+        self.check("lines of " + history, set(), set(drawn.hovers) - set(lines))
+        if drawn.data:
+            events = [one for one in lines if re.match("line [0-9]+: [wdrsca][0-9]", one)]
+            self.check("all events of " + history, events, [one[2] for one in drawn.data["events"]])
+
+    def of_rings(self):
+        """Cycles of some length: each transaction reads a key that the next one overwrites."""
+        for count in (3, 4, 5, 20):
+            history = self.path("ring-%d" % count)
+            with open(history, "w", encoding="ascii") as file:
+                file.write(ring(count))
+            drawn, ran = self.page(history)
+            self.check("rows of " + history, set(range(1, count + 2)), set(drawn.rows))
+            self.of_arrows(history, drawn, count)
+            self.of_hovers(history, drawn)
+
+    def of_dependencies(self):
+        """The dependencies by which a shortest cycle is found, on random histories without a fault."""
+        maker = compare.Maker(1)
+        histories = [maker.history() for _ in range(HISTORIES)]
+        for h in histories:
+            if not reference.fault(h):
+                wanted, graph = reference.edges(h), cycles.Graph(h.events, h.orders)
+                text = reference.history_text(h)
+                for txn in graph.next:
+                    ends = {edge[3] for edge in wanted if edge[0] == txn}
+                    self.check("dependencies of %d in %s" % (txn, text), ends, set(graph.followers(txn)))
+                firsts = {(edge[0], edge[3]): edge for edge in reversed(wanted)}
+                self.check("first dependencies in " + text, firsts, {ends: graph.named(*ends) for ends in firsts})
+                found = cycles.shorter(graph, 99) or []
+                self.check("length of a shortest cycle of " + text, shortest(wanted), len(found))
+                self.check("a cycle of " + text, True, set(found) <= set(wanted) and is_cycle(found))
+
+    def of_shortest(self):
+        """A ring in which 6 also reads what 3 overwrites, and 5 overwrites the version of 3: the cycle of three is
+        found, and said to be a shortest one."""
+        lines = ring(6).replace("c5\n", "r6(k00.1:1,0)\nw5(k00.5:1,5)\nc5\n").replace("[k00:1<<3]", "[k00:1<<3<<5]")
+        history = self.path("chord")
+        said = "This is a shortest cycle. The one that `order` reports has %d dependencies."
+        with open(history, "w", encoding="ascii") as file:
+            file.write(lines)
+        wanted = "No serial order: 3 comes before 5, 5 before 6, 6 before 3."
+        reported = reference.order(lines.encode())
+        ran = self.explain("--shortest", history)
+        self.check("the shortest cycle", wanted, ran.stdout.splitlines()[0])
+        self.check("which cycle it is", said % len(reported.splitlines()[1:]), ran.stdout.splitlines()[-1])
+
+    def of_run(self, folder):
+        """A run of the store: each refused transaction has a sentence, and those about it are indented."""
+        commands, replies = os.path.join(folder, "commands"), os.path.join(folder, "replies")
+        ran = self.explain("--store", commands, replies)
+        refused = [line.split()[0] for line in read(replies).splitlines() if line.startswith(("unsafe", "conflict"))]
+        heads = [line for line in ran.stdout.splitlines() if line.startswith("line ")]
+        self.check("sentences of the run " + folder, (0, len(refused)), (ran.returncode, len(heads)))
+        if os.path.exists(os.path.join(folder, "explanation")):
+            self.check("sentences of " + folder, read(os.path.join(folder, "explanation")), ran.stdout)
+
+    def of_random_runs(self):
+        """The pivot and its two conflicts have to be those of scripts/store_reference.py."""
+        maker = compare_store.Maker(1, False)
+        for lines in (maker.commands() for _ in range(RUNS)):
+            store, run = Watched(), store_run.Run()
+            replies = "".join(store.take_all(lines)).splitlines()
+            for number, words, reply in store_run.replies_to(lines, replies):
+                run.take(number, words, reply)
+            text, found = "\n".join(lines), [line for line in run.said if " a pivot: " in line]
+            self.check("unsafe replies to " + text, len(store.dangers), len(found))
+            refused = sum(" has installed a version " in line for line in run.said)
+            self.check("conflicts of " + text, sum(one.startswith("conflict ") for one in replies), refused)
+            for line, course in zip(found, store.dangers):
+                before, pivot, _, first = map(int, re.findall("[0-9]+", line.split(" a pivot: ")[1])[:4])
+                stamps = course.stamps
+                is_first = stamps[first] < stamps[pivot] and stamps[first] <= stamps.get(before, math.inf)
+                pairs = course.is_pair(before, pivot), course.is_pair(pivot, first)
+                self.check("pivot of %s in %s" % (line, text), (min(course.pivots), True, True, True),
+                           (pivot, is_first, *pairs))
 
     def of_paths(self):
         """A path may have letters that mean something in HTML. Names of keys can't."""
@@ -151,9 +323,12 @@ class Checks:
 
     def of_faults(self):
         skew, cut = "examples/write-skew/history", "tools/cases/cut-off/history"
+        phantom = "examples/store/phantom-skew/replies"
         for name, arguments in [
                 ("a missing file", [self.path("missing")]),
                 ("a folder", [self.folder]),
+                ("missing replies", ["--store", "examples/store/write-skew/commands", self.path("missing")]),
+                ("replies to other commands", ["--store", "examples/store/write-skew/commands", phantom]),
                 ("a transaction that isn't there", ["--picture", self.path("page"), "--transactions", "2,9", skew]),
                 ("a picture of no history", ["--picture", self.path("page"), cut]),
                 ("a picture that can't be written", ["--picture", self.path("no/page"), skew])]:
@@ -167,10 +342,17 @@ def main():
     program = os.path.abspath(sys.argv[1]) if len(sys.argv) > 1 else os.path.join(TOP, "crates", "ssi", "out", "ssi")
     os.chdir(TOP)
     found = sorted(glob.glob("examples/**/history", recursive=True)) + sorted(glob.glob("tools/cases/*/history"))
+    runs = sorted(glob.glob("examples/*/*/commands") + glob.glob("tools/runs/*/commands"))
     with tempfile.TemporaryDirectory() as folder:
         checks = Checks(program, folder)
         for history in found:
             checks.of_history(os.path.dirname(history))
+        checks.of_rings()
+        for commands in runs:
+            checks.of_run(os.path.dirname(commands))
+        checks.of_random_runs()
+        checks.of_dependencies()
+        checks.of_shortest()
         checks.of_paths()
         checks.of_choices()
         checks.of_faults()

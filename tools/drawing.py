@@ -1,26 +1,42 @@
 """Draws a history for tools/explain.py: a row for each transaction, a box for each event, and an arrow for each edge.
 
 Boxes of different rows may lie above one another. Their left edges are in the order of the events, and a transaction's
-first box lies to the right of all transactions that ended before it.
+first box lies to the right of all transactions that ended before it. The transactions of a cycle stand one under the
+other in the order of the cycle. The page of a longer history also has a second picture, of all events, which page.js
+draws: it can be scrolled, and filtered by transactions and keys.
 """
-import collections
 import html
+import json
+import os
 import re
 
+import reference
+from arrows import Arrow, Filled, choose_labels, choose_ports, choose_ways
+
 MOST_TXNS, MOST_EVENTS = 12, 60  # a history with more isn't drawn whole
+MOST_SCROLLED = 3000  # events of the picture that can be scrolled
 MOST_LETTERS = 26  # of a line in a box
 FONT, LETTER, LINE = 14, 8.43, 18  # the height of the letters, the width of each, and from line to line, in pixels
 HIGH, PAD, GAP, STEP = 42, 6, 7, 24  # a box's height and its edges; between boxes of a row; between left edges
-ROW, MARGIN = 104, 8  # from row to row; around all rows
+ROW, NEAR_ROW, SCROLLED_ROW, MARGIN = 124, 60, 104, 8  # from row to row, and if no arrow runs there; around all rows
 COLOURS = {"c": "#1b5e9e", "a": "#777", "u": "#9a6700"}
 ENDS = {"c": "committed", "a": "aborted", "u": "unfinished"}
 RED, FAULTY, NAMED, PLAIN = "#b3261e", "#ffe1a6", "#fff6e0", "#fff"
+FACE = "DejaVu Sans Mono, Menlo, Consolas, monospace"
 STYLE = """body { font: 16px/1.5 sans-serif; margin: 2em; color: #222; background: #fff }
 figure { margin: 0; overflow-x: auto }
-li { margin: .3em 0 }"""
+li { margin: .3em 0 }
+#whole { overflow: auto; max-height: 80vh; border: 1px solid #ccc }
+#whole svg { display: block; font: %dpx %s }
+#line { font: %dpx %s; min-height: 1.5em; overflow-wrap: anywhere }
+label { margin-right: 1.5em }""" % (FONT, FACE, FONT, FACE)
 KEY = """Each row is a transaction: blue if it committed, grey and dashed if it aborted, brown and dashed if it is
 unfinished. The left edges of the boxes are in the order of the events. Dark yellow boxes are the two events of a
-sentence, light yellow boxes the other events that it mentions."""
+sentence, light yellow boxes the other events that it mentions. Hold the pointer over a box to see its line."""
+FILTERS = """<h2>All events</h2><p>A row may have several transactions, one after the other.
+<label>Only transactions <input id="txns" placeholder="12 13" size="16"/></label>
+<label>and keys <input id="keys" placeholder="x, k1*" size="16"/></label> <span id="count"></span></p>
+<p id="line">Hold the pointer over a box to see its line.</p><div id="whole"></div>"""
 
 
 def words(event):
@@ -44,31 +60,36 @@ def code(text):
     return re.sub("`([^`]*)`", r"<code>\1</code>", html.escape(text))
 
 
+def keys_of(event):
+    """The keys that the event writes, reads or lists."""
+    return [version[0] for version, _ in event.seen + ([event.write] if event.write else [])]
+
+
 class Choice:
     """Which transactions and events of a history are drawn: those that were asked for, or all of a small history, or
-    those of the answer. Of a transaction that the answer only mentions, the mentioned events and the end are drawn."""
+    those of the answer, with the whole of its cycle. Of a transaction that the answer only mentions, the mentioned
+    events and the end are drawn. `every` has all transactions, in the order of their first events."""
 
-    def __init__(self, events, found, asked):
-        every = list(dict.fromkeys(event.txn for event in events))
-        is_small = len(every) <= MOST_TXNS and len(events) <= MOST_EVENTS
-        partly = []
+    def __init__(self, every, events, found, asked):
+        is_small = len(every) <= MOST_TXNS and events <= MOST_EVENTS
+        self.partly, self.named = set(), {at for one in found.told for at in one.others}
         if asked or is_small:
-            txns = [txn for txn in every if txn in (asked or every)]
+            self.txns = set(asked or every)
         else:
-            of_edges = [place for one in found.told for place in (one.first, one.second)]
-            wholly = [events[place].txn for place in list(found.faulty) + of_edges] + list(found.order)
-            partly = [events[place].txn for one in found.told for place in one.others]
-            partly = [txn for txn in partly if txn not in wholly]
-            chosen = list(dict.fromkeys(wholly + partly))[:MOST_TXNS] or every[:MOST_TXNS]
-            txns = [txn for txn in every if txn in chosen]
-        named = {place for one in found.told for place in one.others}
-        self.txns = txns  # in the order of their first events
-        self.places = [place for place, event in enumerate(events) if event.txn in txns
-                       and (event.txn not in partly or place in named or event.ends)]
+            of_edges = [at for one in found.told for at in (one.first, one.second)]
+            wholly = [found.events[at].txn for at in list(found.faulty) + of_edges] + list(found.order)[:MOST_TXNS]
+            partly = [found.events[at].txn for at in sorted(self.named)]
+            chosen = list(dict.fromkeys(wholly + partly)) or every[:MOST_TXNS]
+            self.txns, self.partly = set(chosen), (set(chosen) - set(wholly)) & set(partly)
+        self.is_scrolled = not asked and not is_small and events <= MOST_SCROLLED
         self.left_out = ""
-        if len(txns) < len(every):
+        if len(self.txns) < len(every):
             self.left_out = "%d of %d transactions are drawn%s; --transactions N,N,.. chooses others" % (
-                len(txns), len(every), ", some in part" if set(partly) & set(txns) else "")
+                len(self.txns), len(every), ", some in part" if self.partly else "")
+
+    def drawn(self, events):
+        """Those of the events of these transactions, given by their lines, that are drawn."""
+        return {at: e for at, e in events.items() if e.txn not in self.partly or at in self.named or e.ends}
 
 
 class Box:
@@ -84,106 +105,157 @@ class Box:
         return self.left + self.width
 
     @property
+    def bottom(self):
+        return self.top + HIGH
+
+    @property
     def middle(self):
         return self.left + self.width / 2
 
 
+def hover(at, event):
+    return "line %d: %s" % (at, reference.event_text(event))
+
+
 class Page:
-    """The picture of a history and its explanation, of these transactions or of those that the answer names."""
+    """The picture of these events of a history, by their lines, and the explanation. `whole` has all events for the
+    picture that can be scrolled; it is empty if there is none."""
 
-    def __init__(self, history, found, asked=None):
-        self.found, self.events = found, history.events
-        choice = Choice(history.events, found, asked)
-        self.rows, self.left_out = choice.txns, choice.left_out
-        self.ends = {event.txn: event.kind if event.ends else "u" for event in history.events}
-        self.boxes = self.placed(choice.places)
-        self.arrows = [one for one in found.told if one.first in self.boxes and one.second in self.boxes]
-        self.faulty = set(found.faulty) | {place for one in found.told for place in (one.first, one.second)}
-        self.named = {place for one in found.told for place in one.others}
-        self.left = min([self.mine(txn)[0].left - self.title_width(txn) for txn in self.rows], default=0) - MARGIN
-        self.width = max([box.right for box in self.boxes.values()], default=0) + MARGIN - self.left
-        self.height = 2 * MARGIN + max(ROW * (len(self.rows) - 1), 0) + HIGH
+    def __init__(self, events, found, left_out, whole=()):
+        self.found, self.events, self.left_out, self.whole = found, events, left_out, dict(whole)
+        self.rows = self.ordered()
+        self.ends = {event.txn: event.kind if event.ends else "u" for event in events.values()}
+        self.boxes = self.placed()
+        self.mine = {txn: [box for box in self.boxes.values() if box.event.txn == txn] for txn in self.rows}
+        self.faulty = set(found.faulty) | {at for one in found.told for at in (one.first, one.second)}
+        self.named = {at for one in found.told for at in one.others}
+        self.arrows = [Arrow(one.label, self.boxes[one.first], self.boxes[one.second]) for one in found.told
+                       if one.first in self.boxes and one.second in self.boxes]
+        self.route()
+        xs = [self.title_left(txn) for txn in self.rows] + [box.right for box in self.boxes.values()]
+        xs += [x for arrow in self.arrows for x, _ in arrow.points(ROW - HIGH)]
+        xs += [arrow.label_at[0] + way * LETTER * len(arrow.label) / 2 for arrow in self.arrows for way in (-1, 1)]
+        self.left = min(xs, default=0) - MARGIN
+        self.width = max(xs, default=0) + MARGIN - self.left
+        self.height = max([box.bottom for box in self.boxes.values()], default=HIGH) + MARGIN
 
-    def placed(self, places):
-        """The boxes of the events, by their places in the history."""
-        boxes, row_right, left, ended = {}, {}, -STEP, -GAP
-        for place in places:
-            event = self.events[place]
+    def ordered(self):
+        """The transactions from top to bottom: in the order of their first events, and then those of a cycle."""
+        rows = list(dict.fromkeys(event.txn for event in self.events.values()))
+        cycle = [self.found.events[one.first].txn for one in self.found.told]
+        cycle = [txn for txn in cycle if txn in rows] if len(cycle) > 1 else []
+        first = min(map(rows.index, cycle), default=0)
+        start = cycle.index(rows[first]) if cycle else 0
+        return [txn for txn in rows if txn not in set(cycle)] + cycle[start:] + cycle[:start]
+
+    def tops(self):
+        """The upper edge of each row. Rows between which no arrow runs stand near one another."""
+        ends = [self.rows.index(self.events[at].txn) for one in self.found.told for at in (one.first, one.second)
+                if at in self.events]
+        tops, top = {}, MARGIN
+        for number, txn in enumerate(self.rows):
+            tops[txn] = top
+            top += ROW if ends and min(ends) <= number < max(ends) else NEAR_ROW
+        return tops
+
+    def placed(self):
+        """The boxes of the events, by their lines."""
+        boxes, row_right, left, ended, tops = {}, {}, -STEP, -GAP, self.tops()
+        for at, event in self.events.items():
             left = max(left + STEP, row_right.get(event.txn, ended) + GAP)
-            box = boxes[place] = Box(event, left, MARGIN + ROW * self.rows.index(event.txn))
+            box = boxes[at] = Box(event, left, tops[event.txn])
             row_right[event.txn] = box.right
             ended = max(ended, box.right) if event.ends else ended
         return boxes
 
-    def mine(self, txn):
-        return [box for box in self.boxes.values() if box.event.txn == txn]
+    def title_left(self, txn):
+        return self.mine[txn][0].left - LETTER * max(len("T%d" % txn), len(ENDS[self.ends[txn]])) - PAD
 
-    def title_width(self, txn):
-        return LETTER * max(len(str(txn)), len(ENDS[self.ends[txn]])) + PAD
+    def route(self):
+        """Says where arrows run and where labels stand."""
+        titles = [(self.title_left(txn), self.mine[txn][0].left, self.mine[txn][0].top) for txn in self.rows]
+        choose_ways(self.arrows, list(self.boxes.values()), titles)
+        choose_ports(self.arrows)
+        filled = Filled()
+        for box in self.boxes.values() if self.arrows else ():
+            filled.add_box(box.left, box.top, box.right, box.bottom, box)
+        for left, right, top in titles if self.arrows else ():
+            filled.add_box(left, top, right, top + HIGH, None)
+        choose_labels(self.arrows, filled, ROW - HIGH, LETTER)
 
     def dashes(self, txn):
         return "" if self.ends[txn] == "c" else ' stroke-dasharray="4 4"'
 
     def row(self, txn):
         """The number of the transaction, how it ended, and a line along its row."""
-        first, last = self.mine(txn)[0], self.mine(txn)[-1]
+        first, last = self.mine[txn][0], self.mine[txn][-1]
         middle, colour = first.top + HIGH / 2, COLOURS[self.ends[txn]]
-        for text, down, weight in (str(txn), -4, "bold"), (ENDS[self.ends[txn]], LINE - 4, "normal"):
+        for text, down, weight in ("T%d" % txn, -4, "bold"), (ENDS[self.ends[txn]], LINE - 4, "normal"):
             yield '<text x="%.1f" y="%.1f" fill="%s" font-weight="%s" text-anchor="end">%s</text>' % (
                 first.left - PAD, middle + down, colour, weight, text)
         yield '<line x1="%.1f" y1="%.1f" x2="%.1f" y2="%.1f" stroke="%s"%s/>' % (
             first.left, middle, last.right, middle, colour, self.dashes(txn))
 
-    def box(self, place):
-        box = self.boxes[place]
-        fill = FAULTY if place in self.faulty else NAMED if place in self.named else PLAIN
-        yield '<g><title>line %d: %s</title>' % (place + 2, html.escape(", ".join(words(box.event))))
+    def fill(self, at):
+        return FAULTY if at in self.faulty else NAMED if at in self.named else PLAIN
+
+    def box(self, at):
+        box = self.boxes[at]
+        yield '<g><title>%s</title>' % html.escape(hover(at, box.event))
         yield '<rect x="%.1f" y="%d" width="%.1f" height="%d" rx="4" fill="%s" stroke="%s"%s/>' % (
-            box.left, box.top, box.width, HIGH, fill, COLOURS[self.ends[box.event.txn]], self.dashes(box.event.txn))
+            box.left, box.top, box.width, HIGH, self.fill(at), COLOURS[self.ends[box.event.txn]],
+            self.dashes(box.event.txn))
         down = box.top + HIGH / 2 + 5 - LINE / 2 * (len(box.lines) - 1)
         for number, text in enumerate(box.lines):
             yield '<text x="%.1f" y="%.1f">%s</text>' % (box.left + PAD, down + LINE * number, html.escape(text))
         yield "</g>"
 
-    def arrow(self, one):
+    def arrow(self, arrow):
         """From the event of the transaction that comes first to that of the other one."""
-        start, end = self.boxes[one.first], self.boxes[one.second]
-        y1, y2 = (start.top + HIGH, end.top) if start.top < end.top else (start.top, end.top + HIGH)
-        bend = (y1 + y2) / 2
-        yield '<path d="M %.1f %.1f C %.1f %.1f %.1f %.1f %.1f %.1f" fill="none" stroke="%s" stroke-width="2" ' \
-            'marker-end="url(#head)"/>' % (start.middle, y1, start.middle, bend, end.middle, bend, end.middle, y2, RED)
+        curves = arrow.curves(ROW - HIGH)
+        path = "M %.1f %.1f" % curves[0][0] + "".join(" C %.1f %.1f %.1f %.1f %.1f %.1f" % (b + c + d)
+                                                      for _, b, c, d in curves)
+        yield '<path d="%s" fill="none" stroke="%s" stroke-width="2" marker-end="url(#head)"/>' % (path, RED)
 
-    def labels(self):
-        """The kind and key of each edge, beside the start of its arrow, on the side that the arrow doesn't take. A
-        second one at this place is further off."""
-        met = collections.Counter()
-        for one in self.arrows:
-            start, end = self.boxes[one.first], self.boxes[one.second]
-            side = falls, turns_right = start.top < end.top, start.middle < end.middle
-            further = LINE * met[one.first, side]
-            met[one.first, side] += 1
-            down = start.top + HIGH + 16 + further if falls else start.top - 7 - further
-            width = LETTER * len(one.label)
-            across = start.middle + (-PAD - width if turns_right else PAD)
-            across = min(max(across, self.left + MARGIN), self.left + self.width - MARGIN - width)
-            yield '<text x="%.1f" y="%.1f" fill="%s" stroke="#fff" stroke-width="4" paint-order="stroke">%s</text>' % (
-                across, down, RED, html.escape(one.label))
+    def label(self, arrow):
+        """The kind and key of the edge, on its arrow."""
+        (x, y), wide = arrow.label_at, LETTER * len(arrow.label) + 6
+        yield '<rect x="%.1f" y="%.1f" width="%.1f" height="%d" fill="#fff"/>' % (x - wide / 2, y - 9, wide, LINE)
+        yield '<text x="%.1f" y="%.1f" fill="%s" text-anchor="middle">%s</text>' % (
+            x, y + 5, RED, html.escape(arrow.label))
 
     def svg(self):
         yield '<svg xmlns="http://www.w3.org/2000/svg" viewBox="%.0f 0 %.0f %.0f" width="%.0f" height="%.0f" ' \
-            'font-family="DejaVu Sans Mono, Menlo, Consolas, monospace" font-size="%d">' % (
-                self.left, self.width, self.height, self.width, self.height, FONT)
+            'font-family="%s" font-size="%d">' % (
+                self.left, self.width, self.height, self.width, self.height, FACE, FONT)
         yield '<defs><marker id="head" viewBox="0 0 10 10" refX="9" refY="5" markerWidth="7" markerHeight="7" ' \
             'orient="auto"><path d="M 0 0 L 10 5 L 0 10 z" fill="%s"/></marker></defs>' % RED
         yield '<rect x="%.0f" width="%.0f" height="%.0f" fill="#fff"/>' % (self.left, self.width, self.height)
-        for txn in self.rows:
-            yield from self.row(txn)
-        for place in self.boxes:
-            yield from self.box(place)
-        for one in self.arrows:
-            yield from self.arrow(one)
-        yield from self.labels()
+        for parts, one_by_one in (self.row, self.rows), (self.box, self.boxes), (self.arrow, self.arrows), (
+                self.label, self.arrows):
+            for one in one_by_one:
+                yield from parts(one)
         yield "</svg>"
+
+    def data(self):
+        """What page.js draws, as JSON that may stand in a page."""
+        events = [[at, e.txn, hover(at, e), list(map(short, words(e))), keys_of(e), e.span or (), self.fill(at)]
+                  for at, e in self.whole.items()]
+        ends = {e.txn: e.kind if e.ends else "u" for e in self.whole.values()}
+        colours = {txn: [COLOURS[end], ENDS[end]] for txn, end in ends.items()}
+        arrows = [[one.first, one.second, one.label] for one in self.found.told]
+        sizes = {"letter": LETTER, "line": LINE, "high": HIGH, "pad": PAD, "gap": GAP, "step": STEP}
+        sizes.update(row=SCROLLED_ROW, red=RED)
+        text = json.dumps({"events": events, "ends": colours, "arrows": arrows, **sizes})
+        return re.sub("[<>&]", lambda found: "\\u%04x" % ord(found[0]), text)
+
+    def scrolled(self):
+        """The part of the page with all events."""
+        with open(os.path.join(os.path.dirname(os.path.abspath(__file__)), "page.js"), encoding="utf-8") as file:
+            script = file.read()
+        yield FILTERS
+        yield '<script id="data" type="application/json">%s</script>' % self.data()
+        yield "<script>//<![CDATA[\n%s//]]></script>" % script
 
     def page(self, name):
         """The lines of the page, for the history with this name."""
@@ -195,5 +267,8 @@ class Page:
         yield "</figure>"
         if self.found.told:
             yield "<ul>%s</ul>" % "".join("<li>%s</li>" % code(one.text) for one in self.found.told)
+        yield "<p>%s</p>" % code(self.found.which) if self.found.which else ""
         yield "<p>%s%s</p>" % (KEY, " %s." % html.escape(self.left_out) if self.left_out else "")
+        if self.whole:
+            yield from self.scrolled()
         yield "</body></html>"
