@@ -3,8 +3,9 @@
 
     examples/postgres/record.py serializable > history
 
-It starts a server of its own in a new folder, on a Unix socket there, and removes both at the end. It needs the
-server's programs and the client library psycopg2. On Debian, and with Debian's Python (/usr/bin/python3):
+It starts a server of its own in a new folder, on a Unix socket there, and removes both at the end, also if a signal ends it
+early; then it writes no history. It needs the server's programs and the client library psycopg2. On Debian, and with
+Debian's Python (/usr/bin/python3):
 
     apt-get install postgresql python3-psycopg2
 
@@ -29,6 +30,7 @@ import os
 import pwd
 import random
 import shutil
+import signal
 import subprocess
 import sys
 import tempfile
@@ -83,6 +85,16 @@ def user_of_server():
     return ["runuser", "-u", "postgres", "--"]
 
 
+def ended(command, folder):
+    """Runs a command to its end, also if a signal comes, since it would go on in the folder. Returns its status."""
+    child = subprocess.Popen(command, stdout=subprocess.DEVNULL, cwd=folder)
+    try:
+        return child.wait()
+    except SystemExit:
+        child.wait()
+        raise
+
+
 @contextlib.contextmanager
 def server():
     """A new server while the block runs; gives the folder of its socket."""
@@ -92,7 +104,7 @@ def server():
 
     def run(program, *words):
         command = [*as_user, os.path.join(folder, program), *words]
-        if subprocess.run(command, stdout=subprocess.DEVNULL, cwd=home).returncode != 0:
+        if ended(command, home) != 0:
             if os.path.exists(log):
                 sys.stderr.write(open(log).read())
             sys.exit("record.py: this failed: " + " ".join(command))
@@ -101,11 +113,12 @@ def server():
         if as_user:
             shutil.chown(home, "postgres")
         run("initdb", "-D", data, "-U", "postgres", "-A", "trust", "-E", "UTF8", "--no-locale", "--no-sync")
-        run("pg_ctl", "-D", data, "-l", log, "-o", "-k %s -c listen_addresses='' -c fsync=off" % home, "-w", "start")
         try:
+            run("pg_ctl", "-D", data, "-l", log, "-o", "-k %s -c listen_addresses='' -c fsync=off" % home, "-w", "start")
             yield home
         finally:
-            run("pg_ctl", "-D", data, "-m", "fast", "-w", "stop")
+            if os.path.exists(os.path.join(data, "postmaster.pid")):
+                run("pg_ctl", "-D", data, "-m", "fast", "-w", "stop")
     finally:
         shutil.rmtree(home)
 
@@ -124,6 +137,7 @@ class Recording:
         self.lines = []
         self.begun = 0
         self.installed = {}  # key -> [(seq, transaction)]
+        self.stopped = False  # by a signal: sessions begin no more transactions
 
     def begin(self):
         with self.lock:
@@ -212,6 +226,8 @@ def session(home, recording, o, number):
     keys = names(o)
     with contextlib.closing(connect(home)) as connection, connection.cursor() as cursor:
         for _ in range(o.transactions // o.sessions):
+            if recording.stopped:
+                return
             transaction = Transaction(recording, cursor, o.level)
             try:
                 work(transaction, rng, keys)
@@ -251,9 +267,24 @@ def orders_and_finals(home, recording):
             + ["{%s,%s}" % (k, v) for k, v, _ in rows if v is not None])
 
 
+def end_at_signals(recording):
+    """A signal that asks for the end goes through the blocks that remove the server."""
+    signals = (signal.SIGTERM, signal.SIGINT, signal.SIGHUP)
+
+    def end(number, _):
+        for it in signals:
+            signal.signal(it, signal.SIG_IGN)
+        recording.stopped = True
+        sys.exit(128 + number)
+
+    for it in signals:
+        signal.signal(it, end)
+
+
 def main():
     o = options()
     recording = Recording()
+    end_at_signals(recording)
     with server() as home:
         version = load(home, recording, o)
         with concurrent.futures.ThreadPoolExecutor(o.sessions) as pool:
