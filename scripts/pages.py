@@ -8,7 +8,9 @@ the link. In docs, README.md and bench/README.md, every file of code or definiti
 `Rules.IsWellFormed` must stand in a file of definitions of that name, and every name with an underscore must occur
 somewhere. What docs/proved.md names of a crate, the edits and definitions in docs/verdicts.md, and the definitions in
 docs/glossary.md must be of the crate, and of the folder, that the page says. docs/edits.md must list all edits, each with the
-file that it changes, and no others. The last line is `N passed, M failed`.
+file that it changes, and no others. The reading orders in docs/architecture.md and in the comment of the headline's page must
+name the files that `scripts/definitions` finds, with its numbers of words, and no others. The last line is `N passed, M
+failed`.
 """
 import os
 import re
@@ -20,6 +22,9 @@ DEFINITION = re.compile(r"([A-Z]\w*)\.(\w+)")
 SOURCE = re.compile(r"[\w/]+\.(?:rt|antt)")
 WORD = re.compile(r"[A-Za-z_]\w*")
 CODE = (".rt", ".antt", ".py", ".sh", ".txt")
+HEADLINE = "crates/headline/specs/Headline.antt"
+# what a reader of the headline may leave out
+BESIDE = ("adya_audit.Clauses.TextVerdicts.IsVerdictOn", "adya_values.Clauses.Acceptance.IsAccepted")
 
 
 class Tally:
@@ -171,6 +176,45 @@ def check_edits(tally, repository):
         tally.check(False, f"docs/edits.md: the edit {edit} of {crate} is missing")
 
 
+def words_by_file():
+    """How many words a reader of the headline has to read in each other file of definitions, by the file's path."""
+    without = [word for name in BESIDE for word in ("--without", name)]
+    listed = subprocess.run([f"{TOP}/scripts/definitions", *without], check=True, stdout=subprocess.PIPE)
+    rows = re.findall(r"(?m)^ *(\d+) (\S+\.antt)$", listed.stdout.decode())
+    return {path: int(count) for count, path in rows if path != HEADLINE}
+
+
+def counted_files(page):
+    """The files of the tables in a page, as `crate/Folder`: `File` 12 or `crate`: `Folder/File` 12, with the sums of their numbers."""
+    found = {}
+    for crate, folder, files in re.findall(r"`(\w+)(/\w+)?`: ((?:`[\w/]+` \d+(?:, )?)+)", page):
+        for file, count in re.findall(r"`([\w/]+)` (\d+)", files):
+            path = f"crates/{crate}/specs{folder}/{file}.antt"
+            found[path] = found.get(path, 0) + int(count)
+    return found
+
+
+def listed_files(comment):
+    """The files that a comment lists, as `crate, specs/Folder: File, File (what it has)`."""
+    found = []
+    for crate, folder, files in re.findall(r"(?m)^ +(\w+), specs/(\w+): (.*)$", comment):
+        names = re.sub(r"\([^)]*\)", "", files).split(",")
+        found += [f"crates/{crate}/specs/{folder}/{name.strip()}.antt" for name in names]
+    return found
+
+
+def check_reading(tally):
+    wanted = words_by_file()
+    counted = counted_files(text_of("docs/architecture.md"))
+    comment = re.sub(r"(?m)^--", "", text_of(HEADLINE).partition("\nuse ")[0])
+    listed = listed_files(re.sub(r"\n {5}(?=\S)", " ", comment))
+    for path in sorted(wanted.keys() | counted.keys()):
+        tally.check(wanted.get(path) == counted.get(path),
+                    f"docs/architecture.md: {counted.get(path, 0)} words for {path}, of which {wanted.get(path, 0)} are read")
+    for path in sorted(wanted.keys() | set(listed)):
+        tally.check(listed.count(path) == int(path in wanted), f"{HEADLINE}: lists {path} {listed.count(path)} times")
+
+
 def main():
     if len(sys.argv) != 1:
         sys.exit(__doc__)
@@ -183,6 +227,7 @@ def main():
     check_verdicts(tally, repository)
     check_glossary(tally, repository)
     check_edits(tally, repository)
+    check_reading(tally)
     print("\n".join([*tally.failures, f"{tally.passed} passed, {len(tally.failures)} failed"]))
     return 1 if tally.failures else 0
 
