@@ -5,8 +5,8 @@
     tools/explain.py --store COMMANDS REPLIES
 
 It runs `PROGRAM order HISTORY` (by default crates/ssi/out/ssi) and prints why there is no serial order: each edge of
-the cycle, or the fault, in a sentence with the lines of the history that make it. If there is a serial order, it prints
-that.
+the cycle, or the fault, in a sentence with the lines of the history that make it, or at which byte of a line the text is
+no history and what was wanted there. If there is a serial order, it prints that.
 
 If the cycle has more than two transactions, it looks for a shortest one, and says which it shows. In a history with
 more than 20,000 transactions it does so only with --shortest, since this takes more time and memory than all the rest.
@@ -39,6 +39,7 @@ sys.path.insert(0, os.path.join(TOP, "scripts"))
 import drawing  # noqa: E402  (beside this file)
 import reference  # noqa: E402  (in scripts/)
 import store_run  # noqa: E402
+import syntax  # noqa: E402
 from cycles import Graph, shorter  # noqa: E402  (and the others beside this file)
 from dependencies import Order  # noqa: E402
 from faults import Malformed, line  # noqa: E402
@@ -222,9 +223,7 @@ def of_broken_rule(file, at, rule):
 
 
 def of_syntax(file, number):
-    if number > file.count():
-        return Explanation("The text is no history: line %d is missing, or has no line feed at its end." % number)
-    return Explanation("The text is no history: line %d may not stand there." % number)
+    return Explanation("The text is no history: %s." % syntax.fault(file, number))
 
 
 def explanation(file, answer, is_asked=False):
