@@ -79,4 +79,5 @@ check 'a file that is missing' 'status 3' "$(run missing | tail -n 1)"
 check 'a folder' 'status 3' "$(run folder | tail -n 1)"
 check 'a full device' 'status 3' "$(timeout 60 "$ssi" "$examples/serial.edn" >/dev/full 2>err; echo "status $?")"
 check '--help' 'status 0' "$(run --help | tail -n 1)"
+check '--version' "out: lists 1.0.0 ($(rt version | grep -o 'logic [0-9a-f]*'))"$'\nstatus 0' "$(run --version)"
 report

@@ -55,6 +55,8 @@ check 'audit --help' "$help" "$(streams audit --help)"
 check 'help order' "$help" "$(streams help order)"
 check 'script --help' "$help" "$(streams script --help)"
 check 'help serve' "$help" "$(streams help serve)"
+logic=$(rt version | grep -o 'logic [0-9a-f]*')
+check '--version' "out: ssi 1.0.0 ($logic)"$'\nstatus 0' "$(run --version)"
 "$ssi" --help >text
 for text in audit order script serve 'Without a command' docs/formats.md; do
     check "--help mentions $text" found "$(grep -q -e "$text" text && echo found)"

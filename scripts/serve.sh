@@ -119,6 +119,38 @@ check 'what was in the files is gone' "$whole" "$(texts h c)"
 check 'paths that begin with a hyphen, after --' "$replied" "$(run script -- -h -c <commands)"
 check 'texts at paths that begin with a hyphen' "$whole" "$(texts -h -c)"
 
+# One file for both texts, or for a text and the socket: refused before anything is touched. Devices and pipes aren't.
+echo text >old
+ln -s old to-old
+ln old hard
+ln -s new to-new
+ln -s to-new to-to-new
+for pair in 'old old' 'old folder/../old' 'old to-old' 'to-old hard' 'new new' 'new folder/../new' "new $work/new" 'new to-new' \
+    'to-to-new to-new'; do
+    read -r one other <<<"$pair"
+    same=$'err: ssi: HISTORY and CERTIFICATE are the same file\nstatus 2'
+    check "script $pair" "$same" "$(run script "$one" "$other" <commands)"
+    for option in '' --concurrent --abort-on-close; do
+        check "serve $option socket $pair" "$same" "$(run serve ${option:+"$option"} socket "$one" "$other")"
+        check "serve $option $pair c" "${same/HISTORY and CERTIFICATE/SOCKET and HISTORY}" \
+            "$(run serve ${option:+"$option"} "$one" "$other" c)"
+        check "serve $option $one h $other" "${same/HISTORY and CERTIFICATE/SOCKET and CERTIFICATE}" \
+            "$(run serve ${option:+"$option"} "$one" h "$other")"
+    done
+done
+check 'one file is as before' text "$(cat old)"
+check 'no new file' '' "$(left new socket h c)"
+rm -f hard to-to-new
+check 'both texts to a device' "$replied" "$(run script /dev/null /dev/null <commands)"
+check 'both texts to standard output' "$(lines 'begun 1' 'done' committed "${whole%yes}")" \
+    "$("$ssi" script /dev/stdout /dev/stdout <commands | cat; echo)"
+mkfifo one-pipe
+cat one-pipe >from-pipe &
+check 'both texts to a pipe' "$replied" "$(exec 7>one-pipe; run script one-pipe one-pipe <commands)"
+wait "$!"
+check 'what came out of the pipe' "${whole%$'\nyes'}" "$(cat from-pipe)"
+rm -f one-pipe from-pipe
+
 # Clients.
 cat >peers.py <<'END'
 import socket, time
@@ -373,5 +405,120 @@ for path in folder nowhere/file /dev/full ''; do
     check "its history with the certificate to '$path'" $'adya 1\nend' "$(cat h)"
     rm -f h
 done
+
+# A server of all connections at once sees beforehand that a file can't be written, and touches nothing.
+early() { # the history, the certificate, the faulty path and the reason; checks what the server says at once
+    check "at once: '$1' and '$2'" "err: ssi: write fault: $3: $4"$'\nstatus 3' "$(run serve --concurrent socket "$1" "$2")"
+    check "at once: nothing is left of '$1' and '$2'" "$untouched" "$(ls -A)"
+}
+rm -f old to-old to-new h c
+untouched=$(ls -A)
+for reason in 'folder:it is a folder' 'nowhere/file:there is no such folder' 'commands/file:a part of the path is not a folder' \
+    "folder/$(letters 256):a name in the path is too long" ':there is no such folder'; do
+    early "${reason%%:*}" c "${reason%%:*}" "${reason#*:}"
+    early h "${reason%%:*}" "${reason%%:*}" "${reason#*:}"
+done
+shared=$(mktemp -d)
+cp "$ssi" "$shared/ssi"
+mkdir "$shared/closed"
+echo old >"$shared/closed/own"
+echo old >"$shared/closed/other"
+chmod 755 "$shared"
+chmod 555 "$shared/closed"
+chmod 444 "$shared/closed/other"
+other=()
+if [ "$(id -u)" -eq 0 ]; then # a user who may not write everywhere
+    other=(setpriv --reuid=65534 --regid=65534 --clear-groups)
+    chown 65534 "$shared/closed/own"
+    chmod 777 "$shared"
+fi
+cat >as_other <<END
+#!/usr/bin/env bash
+cd "$shared" && exec ${other[@]} ./ssi "\$@"
+END
+chmod +x as_other
+as_other() { # the arguments; as \`run\`, in that folder and as that user
+    ssi=$work/as_other run "$@"
+}
+denied() { # a path; what is said of it
+    echo "err: ssi: write fault: $1: permission denied"$'\nstatus 3'
+}
+check 'at once: a new file in a closed folder' "$(denied closed/h)" "$(as_other serve --concurrent socket closed/h c)"
+check 'at once: a closed file' "$(denied closed/other)" "$(as_other serve --concurrent socket c closed/other)"
+timeout 120 ./as_other serve --concurrent socket closed/own c >served 2>&1 &
+server=$!
+check 'at once: an own file in a closed folder' stopped "$(echo stop | talk "$shared/socket")"
+finish
+check 'at once: the end with an own file in a closed folder' 'status 0' "$ending"
+check 'at once: that file is written in its place' "$none" "$(texts "$shared/closed/own" "$shared/c" 2>&1)"
+chmod 755 "$shared/closed"
+rm -rf "$shared"
+
+# It writes beside a file and then renames, so that a full disk leaves what was there.
+echo old >h
+chmod 640 h
+echo old >real
+ln -s real to-real
+start --concurrent socket h to-real
+check 'at once: files that are there' stopped "$(echo stop | talk socket)"
+finish
+check 'at once: the end with files that are there' 'status 0' "$ending"
+check 'at once: their mode and the link are as before' '640 real' "$(stat -c %a h) $(readlink to-real)"
+check 'at once: their texts' "$none" "$(texts h real)"
+rm -f to-real
+ln -s nowhere-yet to-new
+start --concurrent socket h to-new
+check 'at once: a link to no file' stopped "$(echo stop | talk socket)"
+finish
+check 'at once: the end with a link to no file' 'status 0' "$ending"
+check 'at once: the texts by a link to no file' "$none" "$(texts h nowhere-yet)"
+rm -f to-new
+start --concurrent socket /dev/null /dev/null
+check 'at once: a device' stopped "$(echo stop | talk socket)"
+finish
+check 'at once: the end with a device' 'status 0' "$ending"
+check 'at once: the device is there' 'character special file' "$(stat -c %F /dev/null)"
+for text in h c; do echo old >"$text"; done
+(
+    trap '' XFSZ # a file that would grow too large is refused, as on a full disk
+    ulimit -f 1
+    exec timeout 120 "$ssi" serve --concurrent socket h c
+) >served 2>&1 &
+server=$!
+check 'at once: a long history' stopped \
+    "$( (echo begin A; for i in $(seq 200); do echo "put A k$i 1"; done; lines 'commit A' stop) | talk socket together | tail -n 1)"
+finish
+check 'at once: a history for which there is no space' $'ssi: write fault: h\nstatus 3' "$ending"
+check 'at once: both files are as before' $'old\nold' "$(cat h c)"
+check 'at once: nothing is left beside them' '' "$(find . -name '.ssi-*')"
+rm -f h c
+
+# The tool for a terminal.
+start --concurrent --abort-on-close socket h c
+check 'a terminal' $'begun 1\ndone\n? syntax' "$(talk socket </dev/null; lines 'begin A' 'put A x 1' nothing | "$top/tools/talk.py" socket)"
+check 'what it left open is aborted' $'! 2 idle\nstopped' "$(lines 'commit A' stop | "$top/tools/talk.py" socket)"
+finish
+check 'the end after a terminal' 'status 0' "$ending"
+check 'a terminal without a server' $'talk.py: socket: No such file or directory\nstatus 2' \
+    "$("$top/tools/talk.py" socket </dev/null 2>&1; echo "status $?")"
+rm -f h c
+
+# Why a socket can't be made.
+start --concurrent socket h c
+check 'at once: a peer' 'begun 1' "$(echo begin A | talk socket)"
+python3 -c 'import socket; socket.socket(socket.AF_UNIX).bind("stale")' # nobody listens
+too_long='the path has more than 107 bytes, or is empty'
+for reason in "$long:$too_long" "${longest}a:$too_long" ":$too_long" 'nowhere/socket:there is no such folder' \
+    'file/socket:a part of the path is not a folder' 'file:another file is there' 'folder:another file is there' \
+    'link:another file is there' 'stale:no server listens at it any more: remove the file' 'socket:a server listens at it'; do
+    path=${reason%%:*}
+    check "at once: a socket at '$path'" "err: ssi: socket fault: $path: ${reason#*:}"$'\nstatus 3' \
+        "$(run serve --concurrent "$path" history certificate)"
+done
+rm stale
+check 'at once: no files without a socket' '' "$(left history certificate)"
+check 'at once: the server at that socket goes on' stopped "$(echo stop | talk socket)"
+finish
+check 'at once: the end of that server' 'status 0' "$ending"
 
 report

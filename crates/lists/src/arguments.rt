@@ -3,6 +3,9 @@
 use clap::{Arg, ArgAction, Command};
 use std::alloc::{AllocError, Global};
 
+/// The version of the program, and the program logic with which it is proved.
+const VERSION: &str = "1.0.0 (logic dac8208d650f15bf)";
+
 const ABOUT: &str = "Says whether a list-append history is serializable.";
 
 const MORE: &str = "\
@@ -13,7 +16,10 @@ docs/lists.md describes the texts, the answers and the exit statuses.";
 
 /// The command line of the program.
 pub(crate) fn command_line<'a>(alloc: Global) -> Result<Command<'a>, AllocError> {
-    let command = Command::new(alloc, "lists").about(ABOUT).after_help(MORE);
+    let command = Command::new(alloc, "lists")
+        .version(VERSION)
+        .about(ABOUT)
+        .after_help(MORE);
     let command = command.arg(file(alloc))?;
     let command = command.arg(format(alloc))?;
     let command = command.arg(order(alloc))?;

@@ -6,7 +6,6 @@ mod arguments;
 mod cast;
 mod explanation;
 mod page;
-mod progress;
 mod tasks;
 
 use progress::Progress;
@@ -15,10 +14,6 @@ use std::process::ExitCode;
 use tasks::run;
 
 fn main(rt: HostRuntime) -> ExitCode {
-    let progress = if rt.stderr().is_terminal() {
-        Progress::Shown
-    } else {
-        Progress::Hidden
-    };
+    let progress = Progress::if_terminal(rt.stderr().is_terminal());
     ExitCode::from(run(&rt, progress))
 }

@@ -2,12 +2,12 @@
 
 use crate::answer::{in_json, in_words};
 use crate::arguments::command_line;
-use crate::progress::{Counted, Progress, Reporter};
 use append_check::{Verdict, check};
 use append_text::{History, ReadFault, read_edn, read_history, read_json};
 use clap::{ArgMatches, Error};
 use devices::{Source, Watched, put, put_number};
 use lists_verdicts::Status;
+use progress::{Counted, Progress, Reporter};
 use std::alloc::{AllocError, Global};
 use std::fs::Files;
 use std::io::{BufWriter, Write};
@@ -66,7 +66,7 @@ fn answered<'a, R: Runtime + AllocGlobal>(
     given: &ArgMatches<'a>,
     progress: Progress,
 ) -> Result<Status, Fault<'a>> {
-    let mut reporter = Reporter::new(rt, progress);
+    let mut reporter = Reporter::new(rt, "lists", progress);
     let history = match given.get_str("FILE") {
         Some(path) => {
             let Ok(file) = fs::open(rt, path) else {

@@ -2,11 +2,18 @@
 #![tactic(auto)]
 
 mod late_file;
+mod output_file;
+mod places;
+mod problem;
+mod replaced_file;
 mod tasks;
 
+use progress::Progress;
+use std::io::IsTerminal;
 use std::process::ExitCode;
 use tasks::run;
 
 fn main(rt: HostRuntime) -> ExitCode {
-    ExitCode::from(run(&rt))
+    let progress = Progress::if_terminal(rt.stderr().is_terminal());
+    ExitCode::from(run(&rt, progress))
 }

@@ -5,14 +5,19 @@ ghost use Rattle.clap.specs.Words.{kind_of};
 ghost use Rattle.clap.specs.declared.error.kind.ErrorKind.TheVariants.{DisplayHelp, DisplayVersion};
 
 use crate::late_file::LateFile;
+use crate::output_file::OutputFile;
+use crate::places::lead_to_one_file;
+use crate::problem::{Problem, unbound, unwritable};
 use clap::Error;
 use devices::Watched;
 use mio::Poll;
+use progress::{Counted, Progress, Reporter};
 use ssi_arguments::{Manner, NoTask, Task, given_arguments, task_of};
 use ssi_cli::{
     AtClose, Fault, ServingFault, Status, carry_out_commands, judge_stream, judge_texts,
     order_text, serve_commands, serve_commands_together,
 };
+use std::alloc::AllocError;
 use std::fs::Files;
 use std::io::{BufWriter, Write};
 use std::net::Net;
@@ -20,8 +25,9 @@ use std::os::unix::net::UnixListener;
 use std::rt::Runtime;
 use std::{fs, io};
 
-/// Does what the arguments ask for, and prints a fault on standard error.
-pub fn run<R: Runtime + Net + AllocGlobal>(rt: &R) -> Status {
+/// Does what the arguments ask for, and prints a fault on standard error. If the progress is shown, and reading a history or
+/// a certificate takes more than two seconds, standard error also says how much has been read.
+pub fn run<R: Runtime + Net + AllocGlobal>(rt: &R, progress: Progress) -> Status {
     let arguments = match given_arguments(rt) {
         Ok(arguments) => arguments,
         Err(none) => return without_task(rt, none),
@@ -30,23 +36,25 @@ pub fn run<R: Runtime + Net + AllocGlobal>(rt: &R) -> Status {
         Ok(task) => task,
         Err(none) => return without_task(rt, none),
     };
-    match carry_out(rt, task) {
+    let mut reporter = Reporter::new(rt, "ssi", progress);
+    match carry_out(rt, task, &mut reporter) {
         Ok(status) => status,
-        Err(fault) => fault.report(rt),
+        Err(problem) => problem.report(rt),
     }
 }
 
 fn carry_out<'a, R: Runtime + Net + AllocGlobal>(
     rt: &'a R,
     task: Task<'a>,
-) -> Result<Status, Fault<'a>> {
+    reporter: &mut Reporter<'a, R>,
+) -> Result<Status, Problem<'a>> {
     match task {
-        Task::Pipe => audit_input(rt),
+        Task::Pipe => Ok(audit_input(rt, reporter)?),
         Task::Audit {
             history,
             certificate,
-        } => audit_files(rt, history, certificate),
-        Task::Order { history } => order_file(rt, history),
+        } => Ok(audit_files(rt, history, certificate, reporter)?),
+        Task::Order { history } => Ok(order_file(rt, history, reporter)?),
         Task::Script {
             history,
             certificate,
@@ -60,8 +68,11 @@ fn carry_out<'a, R: Runtime + Net + AllocGlobal>(
     }
 }
 
-fn audit_input<R: Runtime + AllocGlobal>(rt: &R) -> Result<Status, Fault<'static>> {
-    let mut input = Watched::new(rt.reader());
+fn audit_input<R: Runtime + AllocGlobal>(
+    rt: &R,
+    reporter: &mut Reporter<'_, R>,
+) -> Result<Status, Fault<'static>> {
+    let mut input = Watched::new(Counted::new(reporter, rt.reader()));
     let mut output = Watched::new(io::writer(rt));
     match judge_stream(rt.alloc(), &mut input, &mut output) {
         Ok(status) => Ok(status),
@@ -73,9 +84,10 @@ fn audit_files<'a, R: Runtime + AllocGlobal>(
     rt: &R,
     history: &'a str,
     certificate: &'a str,
+    reporter: &mut Reporter<'_, R>,
 ) -> Result<Status, Fault<'a>> {
-    let mut history_file = opened(rt, history)?;
-    let mut certificate_file = opened(rt, certificate)?;
+    let mut history_file = Watched::new(Counted::new(reporter, opened(rt, history)?));
+    let mut certificate_file = Watched::new(opened(rt, certificate)?);
     let mut output = Watched::new(io::writer(rt));
     let judged = judge_texts(
         rt.alloc(),
@@ -89,8 +101,12 @@ fn audit_files<'a, R: Runtime + AllocGlobal>(
     }
 }
 
-fn order_file<'a, R: Runtime + AllocGlobal>(rt: &R, history: &'a str) -> Result<Status, Fault<'a>> {
-    let mut history_file = opened(rt, history)?;
+fn order_file<'a, R: Runtime + AllocGlobal>(
+    rt: &R,
+    history: &'a str,
+    reporter: &mut Reporter<'_, R>,
+) -> Result<Status, Fault<'a>> {
+    let mut history_file = Watched::new(Counted::new(reporter, opened(rt, history)?));
     // a certificate has a line for each transaction
     let Ok(buffered) = BufWriter::new(rt.alloc(), io::writer(rt)) else {
         return Err(Fault::Memory);
@@ -110,11 +126,12 @@ fn follow_input<'a, R: Runtime + AllocGlobal>(
     rt: &'a R,
     history: &'a str,
     certificate: &'a str,
-) -> Result<Status, Fault<'a>> {
+) -> Result<Status, Problem<'a>> {
+    check_texts(rt, history, certificate)?;
     let mut input = Watched::new(rt.reader());
     let mut output = Watched::new(io::writer(rt));
-    let mut history_file = late_file(rt, history)?;
-    let mut certificate_file = late_file(rt, certificate)?;
+    let mut history_file = buffered(rt, LateFile::new(rt, history))?;
+    let mut certificate_file = buffered(rt, LateFile::new(rt, certificate))?;
     let done = carry_out_commands(
         rt.alloc(),
         &mut input,
@@ -124,7 +141,7 @@ fn follow_input<'a, R: Runtime + AllocGlobal>(
     );
     match done {
         Ok(status) => Ok(status),
-        Err(fault) => Err(Fault::of_commands(fault, history, certificate)),
+        Err(fault) => Err(Problem::Fault(Fault::of_commands(fault, history, certificate))),
     }
 }
 
@@ -134,42 +151,81 @@ fn serve_connections<'a, R: Runtime + Net + AllocGlobal>(
     history: &'a str,
     certificate: &'a str,
     manner: Manner,
-) -> Result<Status, Fault<'a>> {
-    let mut history_file = late_file(rt, history)?;
-    let mut certificate_file = late_file(rt, certificate)?;
-    let listener = bound(rt, socket)?;
-    let served = match manner {
-        Manner::InTurn => serve_commands(
-            rt.alloc(),
-            &listener,
-            &mut history_file,
-            &mut certificate_file,
-        ),
-        Manner::AtOnce => serve_at_once(
-            rt,
-            listener,
-            AtClose::Keep,
-            &mut history_file,
-            &mut certificate_file,
-        ),
-        Manner::Aborting => serve_at_once(
-            rt,
-            listener,
-            AtClose::Abort,
-            &mut history_file,
-            &mut certificate_file,
-        ),
-    };
-    // A file that can't be removed is no fault.
-    let _ = fs::remove_file(rt, socket);
-    match served {
-        Ok(status) => Ok(status),
-        Err(ServingFault::Socket) => Err(Fault::Socket(socket)),
-        Err(ServingFault::Texts(fault)) => Err(Fault::of_texts(fault, history, certificate)),
+) -> Result<Status, Problem<'a>> {
+    check_texts(rt, history, certificate)?;
+    check_pair(rt, ("SOCKET", socket), ("HISTORY", history))?;
+    check_pair(rt, ("SOCKET", socket), ("CERTIFICATE", certificate))?;
+    match manner {
+        Manner::InTurn => serve_in_turn(rt, socket, history, certificate),
+        Manner::AtOnce => serve_at_once(rt, socket, history, certificate, AtClose::Keep),
+        Manner::Aborting => serve_at_once(rt, socket, history, certificate, AtClose::Abort),
     }
 }
 
-fn serve_at_once<R: Net + AllocGlobal, H: Write, C: Write>(
+/// Refuses a history and a certificate of which the later would overwrite the other.
+fn check_texts<'a, R: Files + AllocGlobal>(
+    rt: &R,
+    history: &str,
+    certificate: &str,
+) -> Result<(), Problem<'a>> {
+    check_pair(rt, ("HISTORY", history), ("CERTIFICATE", certificate))
+}
+
+fn check_pair<'a, R: Files + AllocGlobal>(
+    rt: &R,
+    one: (&'static str, &str),
+    other: (&'static str, &str),
+) -> Result<(), Problem<'a>> {
+    if lead_to_one_file(rt, one.1, other.1)? {
+        return Err(Problem::OneFile(one.0, other.0));
+    }
+    Ok(())
+}
+
+fn serve_in_turn<'a, R: Runtime + Net + AllocGlobal>(
+    rt: &'a R,
+    socket: &'a str,
+    history: &'a str,
+    certificate: &'a str,
+) -> Result<Status, Problem<'a>> {
+    let mut history_file = buffered(rt, LateFile::new(rt, history))?;
+    let mut certificate_file = buffered(rt, LateFile::new(rt, certificate))?;
+    let Ok(listener) = bound(rt, socket) else {
+        return Err(Problem::Fault(Fault::Socket(socket)));
+    };
+    let served = serve_commands(
+        rt.alloc(),
+        &listener,
+        &mut history_file,
+        &mut certificate_file,
+    );
+    ended(rt, served, socket, history, certificate)
+}
+
+fn serve_at_once<'a, R: Runtime + Net + AllocGlobal>(
+    rt: &'a R,
+    socket: &'a str,
+    history: &'a str,
+    certificate: &'a str,
+    at_close: AtClose,
+) -> Result<Status, Problem<'a>> {
+    let mut history_file = buffered(rt, looked_at(rt, history)?)?;
+    let mut certificate_file = buffered(rt, looked_at(rt, certificate)?)?;
+    let listener = match bound(rt, socket) {
+        Ok(listener) => listener,
+        Err(e) => return Err(unbound(rt, socket, e.kind())),
+    };
+    let served = serve_polled(
+        rt,
+        listener,
+        at_close,
+        &mut history_file,
+        &mut certificate_file,
+    );
+    ended(rt, served, socket, history, certificate)
+}
+
+fn serve_polled<R: Net + AllocGlobal, H: Write, C: Write>(
     rt: &R,
     listener: UnixListener,
     at_close: AtClose,
@@ -193,30 +249,58 @@ fn serve_at_once<R: Net + AllocGlobal, H: Write, C: Write>(
     )
 }
 
-// The system would make a socket without a file of the empty path.
-fn bound<'a, R: Files + Net>(rt: &R, path: &'a str) -> Result<UnixListener, Fault<'a>> {
-    if path.is_empty() {
-        return Err(Fault::Socket(path));
-    }
-    match UnixListener::bind(rt, path) {
-        Ok(listener) => Ok(listener),
-        Err(_) => Err(Fault::Socket(path)),
+/// Removes the socket, and returns how the run has ended.
+fn ended<'a, R: Files>(
+    rt: &R,
+    served: Result<Status, ServingFault>,
+    socket: &'a str,
+    history: &'a str,
+    certificate: &'a str,
+) -> Result<Status, Problem<'a>> {
+    // A file that can't be removed is no fault.
+    let _ = fs::remove_file(rt, socket);
+    match served {
+        Ok(status) => Ok(status),
+        Err(ServingFault::Socket) => Err(Problem::Fault(Fault::Socket(socket))),
+        Err(ServingFault::Texts(fault)) => Err(Problem::Fault(Fault::of_texts(
+            fault,
+            history,
+            certificate,
+        ))),
     }
 }
 
-fn late_file<'a, R: Files + AllocGlobal>(
+// The system would make a socket without a file of the empty path.
+fn bound<R: Files + Net>(rt: &R, path: &str) -> io::Result<UnixListener> {
+    if path.is_empty() {
+        return Err(io::Error::from(io::ErrorKind::InvalidInput));
+    }
+    UnixListener::bind(rt, path)
+}
+
+fn looked_at<'a, R: Files + AllocGlobal>(
     rt: &'a R,
     path: &'a str,
-) -> Result<Watched<BufWriter<LateFile<'a, R>>>, Fault<'a>> {
-    match BufWriter::new(rt.alloc(), LateFile::new(rt, path)) {
-        Ok(file) => Ok(Watched::new(file)),
-        Err(_) => Err(Fault::Memory),
+) -> Result<OutputFile<'a, R>, Problem<'a>> {
+    match OutputFile::new(rt, path) {
+        Ok(file) => Ok(file),
+        Err(e) => Err(unwritable(path, e.kind())),
     }
 }
 
-fn opened<'a, R: Files>(rt: &R, path: &'a str) -> Result<Watched<R::File>, Fault<'a>> {
-    match fs::open(rt, path) {
+fn buffered<R: AllocGlobal, W: Write + Drop>(
+    rt: &R,
+    file: W,
+) -> Result<Watched<BufWriter<W>>, AllocError> {
+    match BufWriter::new(rt.alloc(), file) {
         Ok(file) => Ok(Watched::new(file)),
+        Err(_) => Err(AllocError),
+    }
+}
+
+fn opened<'a, R: Files>(rt: &R, path: &'a str) -> Result<R::File, Fault<'a>> {
+    match fs::open(rt, path) {
+        Ok(file) => Ok(file),
         Err(_) => Err(Fault::Read(path)),
     }
 }
@@ -236,9 +320,10 @@ fn without_task<R: Print + Eprint>(rt: &R, none: NoTask) -> Status
     }
 }
 
-// Help is an answer. Whatever else the parser prints is about wrong arguments.
+// Help and the version are answers. Whatever else the parser prints is about wrong arguments.
 fn printed<R: Print + Eprint>(rt: &R, text: &Error) -> Status
     ensures help { kind_of text.now ≡ DisplayHelp → (result ≡ Status.Fine) ⊎ (result ≡ Status.Failed) }
+    ensures version { kind_of text.now ≡ DisplayVersion → (result ≡ Status.Fine) ⊎ (result ≡ Status.Failed) }
     ensures wrong { kind_of text.now ≢ DisplayHelp → kind_of text.now ≢ DisplayVersion
         → result ≡ Status.WrongArguments }
 {

@@ -8,7 +8,7 @@ use Rattle.clap.specs.Walk.{Held, Names, Text, Walk, finished, idle, nothing_hel
 use Rattle.clap.specs.Simple.{Shape, entered}
 use Rattle.clap.specs.Kinds.{Kinds, or_else}
 use Rattle.clap.specs.Faults.{built_fault, check_fault, defaults_fault, entered_fault, fault_of, is_simple_and_free, level_fault, settle_fault, turn_fault, walk_fault}
-use Rattle.clap.specs.declared.error.kind.ErrorKind.TheVariants.{DisplayHelp}
+use Rattle.clap.specs.declared.error.kind.ErrorKind.TheVariants.{DisplayHelp, DisplayVersion}
 use Rattle.clap.proofs.OnLiterals.{clap_on_literals}
 use Rattle.ssi_arguments.specs.Clauses.Arguments.{Request, pipe, audit, order, script, serve, are_plain, is_plain, arguments_of}
 use Rattle.ssi_arguments.specs.declared.arguments.Manner.TheVariants.{InTurn}
@@ -256,3 +256,12 @@ help_fault = refl
 -- the fault at the option `--help` is help
 pub shows_help : (arguments : List Text) → drop 1 arguments ≡ codes "--help" ∷ [] → fault_of ssi_app arguments ≡ DisplayHelp ∷ []
 shows_help arguments e = ap whole_fault e ∙ help_fault
+
+version_fault : whole_fault (codes "--version" ∷ []) ≡ DisplayVersion ∷ []
+unfolding clap_on_literals
+version_fault = refl
+
+-- the fault at the option `--version` is the version
+pub shows_version : (arguments : List Text) → drop 1 arguments ≡ codes "--version" ∷ []
+    → fault_of ssi_app arguments ≡ DisplayVersion ∷ []
+shows_version arguments e = ap whole_fault e ∙ version_fault

@@ -2,7 +2,7 @@
 
 ghost use Rattle.std.specs.Prelude.{◌≡◌, ◌≢◌, ◌⊎◌, [], ◌∷◌, true, map, drop, codes, string_bytes, IfOk, IfErr, IsErrAnd, MatchResult};
 ghost use Rattle.clap.specs.Words.{rows_of, found_of, kind_of, subcommand_rows_of, subcommand_of, fault_of};
-ghost use Rattle.clap.specs.declared.error.kind.ErrorKind.TheVariants.{OutOfMemory, DisplayHelp};
+ghost use Rattle.clap.specs.declared.error.kind.ErrorKind.TheVariants.{OutOfMemory, DisplayHelp, DisplayVersion};
 ghost use Rattle.ssi_arguments.specs.Clauses.CommandLine.{ssi_app, path_in, is_given, manner_in, request_in, request_named};
 ghost use Rattle.ssi_arguments.specs.Clauses.Arguments.{Request, request_of, arguments_of, paths_of, are_plain, IsRefusal};
 ghost use Rattle.ssi_arguments.specs.declared.arguments.NoTask.TheVariants.{Text, Memory};
@@ -57,7 +57,7 @@ pub enum Manner {
 /// Why the arguments ask for no task.
 #[derive(Drop)]
 pub enum NoTask {
-    /// The parser has a text to print: help, or what is wrong with the arguments.
+    /// The parser has a text to print: help, the version, or what is wrong with the arguments.
     Text(Error),
     /// The arguments are not UTF-8.
     NotUtf8,
@@ -98,17 +98,19 @@ pub fn given_arguments<R: Env + AllocGlobal>(rt: &R) -> Result<Vec<String>, NoTa
 }
 
 /// Returns what the arguments ask for; the first string is the program's name. An argument that begins with a hyphen is
-/// an option of the parser: `--help`, or `--`, after which a path may begin with a hyphen. `Text` if the parser has
+/// an option of the parser: `--help`, `--version`, or `--`, after which a path may begin with a hyphen. `Text` if the parser has
 /// something to print, `Memory` if memory runs out. It never returns `NotUtf8`.
 pub fn task_of<'a>(alloc: Global, arguments: &'a [String]) -> Result<Task<'a>, NoTask>
     // The parser has no fault at the arguments of a task, and the task is the one that its matches ask for.
     ensures task { let given = map string_bytes arguments.entry.now in
         IfOk result (λ task. (fault_of ssi_app given ≡ []) × (request_of task ≡ request_in (subcommand_of ssi_app given))) }
-    // The text is of the first fault that the parser has at the arguments; help is one.
+    // The text is of the first fault that the parser has at the arguments; help is one, and so is the version.
     ensures refusal { let given = map string_bytes arguments.entry.now in
         IfErr result (IsRefusal (fault_of ssi_app given)) }
     ensures help { let rest = drop 1 (map string_bytes arguments.entry.now) in
         rest ≡ codes "--help" ∷ [] → IsErrAnd result (IsRefusal (DisplayHelp ∷ [])) }
+    ensures version { let rest = drop 1 (map string_bytes arguments.entry.now) in
+        rest ≡ codes "--version" ∷ [] → IsErrAnd result (IsRefusal (DisplayVersion ∷ [])) }
     // The arguments of a task whose paths don't begin with a hyphen ask for it; they are refused only if memory runs out.
     // Arguments that don't begin with a hyphen ask for nothing else.
     ensures asked { let rest = drop 1 (map string_bytes arguments.entry.now) in

@@ -3,7 +3,7 @@
 ghost use Rattle.std.specs.Prelude.{◌≡◌, false, IfOk};
 ghost use Rattle.clap.specs.Words.{App, app_of, new_app, rule_of, with_rule, with_subcommand};
 ghost use Rattle.clap.specs.declared.builder.command.Command.TheViews.{out-Command as fields_of};
-ghost use Rattle.ssi_arguments.specs.Clauses.CommandLine.{file_rule, flag_rule, with_texts, audit_app, order_app, script_app, serve_app, ssi_app};
+ghost use Rattle.ssi_arguments.specs.Clauses.CommandLine.{file_rule, flag_rule, with_version, with_texts, audit_app, order_app, script_app, serve_app, ssi_app};
 
 use crate::help;
 use clap::{Arg, ArgAction, Command};
@@ -13,7 +13,7 @@ use std::alloc::{AllocError, Global};
 pub fn command_line<'a>(alloc: Global) -> Result<Command<'a>, AllocError>
     ensures { IfOk result (λ c. app_of c ≡ ssi_app) }
 {
-    let ssi = bare(alloc, "ssi", help::ABOUT, help::MORE);
+    let ssi = versioned(bare(alloc, "ssi", help::ABOUT, help::MORE));
     let ssi = with_command(ssi, audit(alloc))?;
     let ssi = with_command(ssi, order(alloc))?;
     let ssi = with_command(ssi, script(alloc))?;
@@ -72,6 +72,13 @@ fn bare<'a>(alloc: Global, name: &'a str, about: &'a str, more: &'a str) -> Comm
     ensures local { (fields_of result).has_globals ≡ false }
 {
     Command::new(alloc, name).about(about).after_help(more)
+}
+
+/// Adds the option `--version`.
+fn versioned(command: Command<'_>) -> Command<'_>
+    ensures { app_of result ≡ with_version (app_of command.entry) }
+{
+    command.version(help::VERSION)
 }
 
 /// Adds the files of a history and a certificate, with their help.

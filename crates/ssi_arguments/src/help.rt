@@ -1,5 +1,8 @@
 //! The help texts, in lines of at most 80 columns. Arguments and statuses are described in docs/formats.md alone.
 
+/// The version of the program, and the program logic with which it is proved.
+pub const VERSION: &str = "1.0.0 (logic dac8208d650f15bf)";
+
 /// What the program does.
 pub const ABOUT: &str = "Audits histories of database transactions, and runs a serializable store.";
 

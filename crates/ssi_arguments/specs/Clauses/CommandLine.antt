@@ -15,6 +15,10 @@ file_rule name = record (new_rule name) { required = true }
 abbrev pub flag_rule : Text → Rule
 flag_rule name = record (new_rule name) { long = Some name; action = Some SetTrue }
 
+-- the option `--version`
+abbrev pub with_version : App → App
+with_version app = record app { top = record app.top { has_version = true } }
+
 -- a history and a certificate
 abbrev pub with_texts : App → App
 with_texts app = with_rule (with_rule app (file_rule (codes "HISTORY"))) (file_rule (codes "CERTIFICATE"))
@@ -33,10 +37,10 @@ serve_app =
     with_rule (with_rule (with_texts (with_rule (new_app (codes "serve")) (file_rule (codes "SOCKET"))))
     (flag_rule (codes "concurrent"))) (flag_rule (codes "abort-on-close"))
 
--- no paths of its own, and four commands
+-- no paths of its own, a version, and four commands
 abbrev pub ssi_app : App
 ssi_app =
-    with_subcommand (with_subcommand (with_subcommand (with_subcommand (new_app (codes "ssi")) audit_app.top) order_app.top)
+    with_subcommand (with_subcommand (with_subcommand (with_subcommand (with_version (new_app (codes "ssi"))) audit_app.top) order_app.top)
     script_app.top) serve_app.top
 
 -- the path of this name in the matches of a command

@@ -3,12 +3,12 @@ use Rattle.std.specs.Prelude.{IfErr, IsErrAnd}
 use Rattle.clap.specs.Words.{HasKind, Kinds, fault_of, is_simple, is_simple_and_free, kind_of, subcommand_of, takes}
 use Rattle.clap.specs.declared.error.Error.{Error}
 use Rattle.clap.specs.declared.error.kind.ErrorKind.{ErrorKind}
-use Rattle.clap.specs.declared.error.kind.ErrorKind.TheVariants.{OutOfMemory, DisplayHelp}
+use Rattle.clap.specs.declared.error.kind.ErrorKind.TheVariants.{OutOfMemory, DisplayHelp, DisplayVersion}
 use Rattle.ssi_arguments.specs.declared.arguments.NoTask.{NoTask}
 use Rattle.ssi_arguments.specs.declared.arguments.NoTask.TheVariants.{Text, Memory}
 use Rattle.ssi_arguments.specs.Clauses.CommandLine.{request_in}
 use Rattle.ssi_arguments.specs.Clauses.Arguments.{IsRefusal, arguments_of, are_plain}
-use Rattle.ssi_arguments.proofs.NoOtherRequests.{asks_request, shows_help, simple_and_free}
+use Rattle.ssi_arguments.proofs.NoOtherRequests.{asks_request, shows_help, shows_version, simple_and_free}
 use Rattle.ssi_arguments.proofs.TakesRequests.{simple, takes_request, plain_paths}
 use Rattle.ssi_arguments.proofs.arguments.task_of.Goals as goal
 
@@ -61,21 +61,31 @@ returns-clause-task c =
       c.task_in.ensures ∙ ap request_in (same ∙ ap (λ a. subcommand_of a arguments) app),
     )
 
-helped : {X : Type 0} (kinds : Kinds) (error : Error) (r : Result X NoTask) → kinds ≡ DisplayHelp ∷ [] → IfErr r (IsRefusal kinds)
+shown : {X : Type 0} (kinds asked : Kinds) (error : Error) (r : Result X NoTask) → kinds ≡ asked → IfErr r (IsRefusal kinds)
     → IsErrAnd r (λ none. (kind_of error ≡ OutOfMemory → none ≡ Memory) × (kind_of error ≢ OutOfMemory → none ≡ Text error))
-    → IsErrAnd r (IsRefusal (DisplayHelp ∷ []))
-helped kinds error (Ok x) same is h = absurd h
-helped kinds error (Err none) same is h = subst (λ ks. IsRefusal ks none) same is
+    → IsErrAnd r (IsRefusal asked)
+shown kinds asked error (Ok x) same is h = absurd h
+shown kinds asked error (Err none) same is h = subst (λ ks. IsRefusal ks none) same is
 
 pub returns-in_err-matches-clause-help : goal.returns-in_err-matches-clause-help
 returns-in_err-matches-clause-help c = λ e.
-    helped _ c.in_err-matches.field-0.0 _ (shows_help (map string_bytes c.args.arguments.now) e)
+    shown _ _ c.in_err-matches.field-0.0 _ (shows_help (map string_bytes c.args.arguments.now) e)
     (returns-in_err-matches-clause-refusal c) c.from_residual-in_err-matches.ensures.1
 
 pub returns-clause-help : goal.returns-clause-help
 returns-clause-help c = λ e.
     let arguments = map string_bytes c.args.arguments.now in
     absurd (cc (sym (shows_help arguments e) ∙ (returns-clause-task c).0))
+
+pub returns-in_err-matches-clause-version : goal.returns-in_err-matches-clause-version
+returns-in_err-matches-clause-version c = λ e.
+    shown _ _ c.in_err-matches.field-0.0 _ (shows_version (map string_bytes c.args.arguments.now) e)
+    (returns-in_err-matches-clause-refusal c) c.from_residual-in_err-matches.ensures.1
+
+pub returns-clause-version : goal.returns-clause-version
+returns-clause-version c = λ e.
+    let arguments = map string_bytes c.args.arguments.now in
+    absurd (cc (sym (shows_version arguments e) ∙ (returns-clause-task c).0))
 
 pub returns-clause-no_other : goal.returns-clause-no_other
 returns-clause-no_other c = λ p.

@@ -1,4 +1,5 @@
-//! What is said while somebody waits.
+//! What a program says on standard error while somebody waits.
+#![tactic(auto)]
 
 use std::io;
 use std::io::Read;
@@ -17,26 +18,41 @@ pub enum Progress {
     Hidden,
 }
 
+impl Progress {
+    /// `Shown` if standard error is a terminal.
+    pub fn if_terminal(is_terminal: bool) -> Progress {
+        if is_terminal {
+            Progress::Shown
+        } else {
+            Progress::Hidden
+        }
+    }
+}
+
 /// When something was said last, or the work began.
 #[derive(Drop)]
-pub(crate) struct Reporter<'a, R> {
+pub struct Reporter<'a, R> {
     rt: &'a R,
+    program: &'a str,
     last: Option<Instant>,
 }
 
 impl<'a, R: Clock + Eprint> Reporter<'a, R> {
-    /// A reporter of work that begins now.
-    pub fn new(rt: &'a R, progress: Progress) -> Self {
+    /// A reporter of work that this program begins now. Without a clock it never says anything.
+    pub fn new(rt: &'a R, program: &'a str, progress: Progress) -> Self {
         let last = match progress {
             Progress::Shown => Instant::now(rt).ok(),
             Progress::Hidden => None,
         };
-        Reporter { rt, last }
+        Reporter { rt, program, last }
     }
 
     /// Returns whether it is time to say something.
     fn is_due(&mut self) -> bool {
-        let (Some(last), Ok(now)) = (self.last, Instant::now(self.rt)) else {
+        let Some(last) = self.last else {
+            return false;
+        };
+        let Ok(now) = Instant::now(self.rt) else {
             return false;
         };
         if now.duration_since(last) < Duration::from_secs(PAUSE) {
@@ -49,21 +65,21 @@ impl<'a, R: Clock + Eprint> Reporter<'a, R> {
     /// Says how many bytes were read, if it is time.
     fn bytes(&mut self, read: u64) {
         if self.is_due() {
-            let _ = eprintln!(self.rt; "lists: {} MB read", read / 1_000_000);
+            let _ = eprintln!(self.rt; "{}: {} MB read", self.program, read / 1_000_000);
         }
     }
 
     /// Says how many transactions were read, if it is time.
     pub fn transactions(&mut self, read: usize) {
         if self.is_due() {
-            let _ = eprintln!(self.rt; "lists: {read} transactions read");
+            let _ = eprintln!(self.rt; "{}: {read} transactions read", self.program);
         }
     }
 }
 
 /// A reader whose bytes are counted and reported.
 #[derive(Drop)]
-pub(crate) struct Counted<'a, 'b, R, D> {
+pub struct Counted<'a, 'b, R, D> {
     reporter: &'b mut Reporter<'a, R>,
     device: D,
     read: u64,
