@@ -122,7 +122,7 @@ def check_names(tally, repository, name, page):
 
 def check_verdicts(tally, repository):
     crates = {crate_of(name) for name in repository.files}
-    for line in repository.pages["docs/verdicts.md"].split("\n"):
+    for line in repository.pages["docs/development/verdict-clauses.md"].split("\n"):
         kind = re.match(r"- (Definition|Edit)s?: ", line)
         crate = ""
         for span in spans(line) if kind else []:
@@ -130,10 +130,10 @@ def check_verdicts(tally, repository):
             if span in crates:
                 crate = span
             elif kind[1] == "Edit":
-                tally.check((crate, span) in repository.edits, f"docs/verdicts.md: {crate} has no edit {span}")
+                tally.check((crate, span) in repository.edits, f"docs/development/verdict-clauses.md: {crate} has no edit {span}")
             elif definition:
                 is_there = repository.defines(*definition.groups(), f"crates/{crate}/specs/")
-                tally.check(is_there, f"docs/verdicts.md: {crate} has no {span}")
+                tally.check(is_there, f"docs/development/verdict-clauses.md: {crate} has no {span}")
 
 
 def check_crates(tally, repository):
