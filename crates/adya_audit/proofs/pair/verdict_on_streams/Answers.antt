@@ -1,4 +1,4 @@
-use Rattle.std.proofs.Common.{rules}
+use Rattle.std.proofs.Common.{refl, rules}
 use Rattle.adya_audit.proofs.NamesHistoryFault.{fault_named, none_named, verdict_names_none}
 use Rattle.adya_audit.proofs.TextVerdicts.{verdict_on_two}
 use Rattle.adya_audit.proofs.pair.verdict_on_streams.Goals as goal
@@ -32,3 +32,24 @@ returns-in-Err-Device-read_serial_early-clause-history_syntax g c = search rules
 
 pub returns-in-Err-Device-read_serial_early-clause-certificate_ended : goal.returns-in-Err-Device-read_serial_early-clause-certificate_ended
 returns-in-Err-Device-read_serial_early-clause-certificate_ended g c = search rules
+
+pub returns-in-Err-Device-clause-memory : goal.returns-in-Err-Device-clause-memory
+returns-in-Err-Device-clause-memory g c = λ e. absurd (cc e)
+
+pub returns-in-Err-Device-read_serial_early-clause-memory : goal.returns-in-Err-Device-read_serial_early-clause-memory
+returns-in-Err-Device-read_serial_early-clause-memory g c = λ e. absurd (cc e)
+
+pub returns-in-Err-Device-read_serial_early-clause-history_first : goal.returns-in-Err-Device-read_serial_early-clause-history_first
+returns-in-Err-Device-read_serial_early-clause-history_first g c = λ e. absurd (cc e)
+
+pub returns-in-Err-Device-read_serial_early-clause-history_fault : goal.returns-in-Err-Device-read_serial_early-clause-history_fault
+returns-in-Err-Device-read_serial_early-clause-history_fault g c = λ e. absurd (cc e)
+
+pub returns-in-Err-Device-clause-serial_only : goal.returns-in-Err-Device-clause-serial_only
+returns-in-Err-Device-clause-serial_only g c = λ e. absurd (cc e)
+
+pub returns-in-Err-Device-clause-certificate_fault : goal.returns-in-Err-Device-clause-certificate_fault
+returns-in-Err-Device-clause-certificate_fault g c = λ e. absurd (cc e)
+
+pub returns-in-Err-Syntax-clause-not_needed : goal.returns-in-Err-Syntax-clause-not_needed
+returns-in-Err-Syntax-clause-not_needed g c = λ k e. refl

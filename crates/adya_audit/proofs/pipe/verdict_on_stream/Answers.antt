@@ -16,3 +16,6 @@ returns-in-Err-Device-clause-verdict g c = search rules
 
 pub returns-in-Err-Device-clause-ended : goal.returns-in-Err-Device-clause-ended
 returns-in-Err-Device-clause-ended g c = search rules
+
+pub returns-in-Err-Device-clause-memory : goal.returns-in-Err-Device-clause-memory
+returns-in-Err-Device-clause-memory g c = λ e. absurd (cc e)
