@@ -9,19 +9,24 @@ the link. In docs, README.md and bench/README.md, every file of code or definiti
 somewhere. What docs/proved.md names of a crate, the edits and definitions in docs/verdicts.md, and the definitions in
 docs/glossary.md must be of the crate, and of the folder, that the page says. docs/edits.md must list all edits, each with the
 file that it changes, and no others. The reading orders in docs/architecture.md and in the comment of the headline's page must
-name the files that `scripts/definitions` finds, with its numbers of words, and no others. The last line is `N passed, M
-failed`.
+name the files that `scripts/definitions` finds, with its numbers of words, and no others. Each crate must have one line in
+docs/architecture.md. The figures of README.md and docs/limits.md must be those of the raw output that they name, and what
+README.md says of lines and edits right within two of a hundred; it has at most 1,200 words. The pages for users have no
+sentence of more than 40 words. The last line is `N passed, M failed`.
 """
 import os
 import re
 import subprocess
 import sys
 
+import figures  # (beside this file)
+
 TOP = os.path.dirname(os.path.dirname(os.path.abspath(__file__)))
 DEFINITION = re.compile(r"([A-Z]\w*)\.(\w+)")
 SOURCE = re.compile(r"[\w/]+\.(?:rt|antt)")
 WORD = re.compile(r"[A-Za-z_]\w*")
 CODE = (".rt", ".antt", ".py", ".sh", ".txt")
+FOR_DEVELOPERS = "docs/development/"
 HEADLINE = "crates/headline/specs/Headline.antt"
 # what a reader of the headline may leave out
 BESIDE = ("adya_audit.Clauses.TextVerdicts.IsVerdictOn", "adya_values.Clauses.Acceptance.IsAccepted")
@@ -215,6 +220,51 @@ def check_reading(tally):
         tally.check(listed.count(path) == int(path in wanted), f"{HEADLINE}: lists {path} {listed.count(path)} times")
 
 
+def check_architecture(tally):
+    listed = re.findall(r"(?m)^(\w+)(?: staticlib)?:", text_of("crates.txt"))
+    described = re.findall(r"(?m)^\| `(\w+)` \| ", text_of("docs/architecture.md"))
+    for crate in sorted(set(listed)):
+        tally.check(described.count(crate) == 1, f"docs/architecture.md: describes {crate} {described.count(crate)} times")
+
+
+def check_figures(tally, repository):
+    for name, expression, computed in figures.FIGURES:
+        found = figures.said(repository.pages[name], expression)
+        if not found:
+            tally.check(False, f"{name}: there is no {expression}")
+            continue
+        raw = os.path.normpath(os.path.join(os.path.dirname(name), found[0]))
+        wanted = computed(text_of(raw)) if os.path.exists(f"{TOP}/{raw}") else None
+        tally.check(found[1] == wanted, f"{name}: {', '.join(found[1])} of {raw}, which has {wanted}")
+
+
+def check_counts(tally, repository):
+    readme = repository.pages["README.md"]
+    counted = figures.lines_of((name, text_of(name)) for name in repository.files if name.startswith("crates/"))
+    rounded = re.search(r"code, definitions, proofs \| ([\d,]+), ([\d,]+) and ([\d,]+) lines", readme)
+    edits = re.search(r"tries some \[([\d,]+) edits\]", readme)
+    said = [int(it.replace(",", "")) for it in (*rounded.groups(), edits[1])]
+    for number, right in zip(said, [*counted, len(repository.edits)]):
+        tally.check(abs(number - right) * 50 <= right, f"README.md: {number:,}, and there are {right:,}")
+    words = len(readme.split())
+    tally.check(words <= 1200, f"README.md: {words:,} words")
+
+
+def sentences(page):
+    """The sentences of a page; of a table, what stands between semicolons too."""
+    text = "\n".join(line for line in prose(page).split("\n") if not line.startswith("#"))
+    for block in re.split(r"\n\s*\n|\n(?=[-*|] )|\n(?=\d+\. )", text):
+        for part in re.split(r"[|;]", block) if block.startswith("|") else [block]:
+            plain = re.sub(r"`[^`]*`", "Code", re.sub(r"\[([^\]]*)\]\([^)]*\)", r"\1", part))
+            yield from re.split(r"(?<=[.!?])[)\"*_]*\s+(?=[A-Z(\"*_])", " ".join(plain.split()))
+
+
+def check_sentences(tally, name, page):
+    for sentence in sentences(page):
+        is_headline = sentence.startswith("Whenever the auditor says yes")
+        tally.check(len(sentence.split()) <= 40 or is_headline, f"{name}: more than 40 words: {sentence}")
+
+
 def main():
     if len(sys.argv) != 1:
         sys.exit(__doc__)
@@ -223,11 +273,16 @@ def main():
         check_links(tally, repository, name, page)
         if name.startswith("docs/") or name in ("README.md", "bench/README.md"):
             check_names(tally, repository, name, page)
+        if name == "README.md" or name.startswith(("docs/", "examples/")) and not name.startswith(FOR_DEVELOPERS):
+            check_sentences(tally, name, page)
     check_crates(tally, repository)
     check_verdicts(tally, repository)
     check_glossary(tally, repository)
     check_edits(tally, repository)
     check_reading(tally)
+    check_architecture(tally)
+    check_figures(tally, repository)
+    check_counts(tally, repository)
     print("\n".join([*tally.failures, f"{tally.passed} passed, {len(tally.failures)} failed"]))
     return 1 if tally.failures else 0
 
