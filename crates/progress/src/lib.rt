@@ -47,6 +47,11 @@ impl<'a, R: Clock + Eprint> Reporter<'a, R> {
         Reporter { rt, program, last }
     }
 
+    /// Whether anything is ever said.
+    pub fn is_shown(&self) -> bool {
+        self.last.is_some()
+    }
+
     /// Returns whether it is time to say something.
     fn is_due(&mut self) -> bool {
         let Some(last) = self.last else {

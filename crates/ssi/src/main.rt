@@ -1,7 +1,10 @@
 //! The program `ssi`: audits histories by certificates, finds certificates or cycles, and runs the store.
 #![tactic(auto)]
 
+mod grammar;
+mod hint;
 mod late_file;
+mod noted;
 mod output_file;
 mod places;
 mod problem;

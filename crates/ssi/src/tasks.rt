@@ -4,7 +4,9 @@ ghost use Rattle.std.specs.Prelude.{◌≡◌, ◌≢◌, ◌⊎◌};
 ghost use Rattle.clap.specs.Words.{kind_of};
 ghost use Rattle.clap.specs.declared.error.kind.ErrorKind.TheVariants.{DisplayHelp, DisplayVersion};
 
+use crate::hint::hint;
 use crate::late_file::LateFile;
+use crate::noted::Noted;
 use crate::output_file::OutputFile;
 use crate::places::lead_to_one_file;
 use crate::problem::{Problem, unbound, unwritable};
@@ -86,15 +88,19 @@ fn audit_files<'a, R: Runtime + AllocGlobal>(
     certificate: &'a str,
     reporter: &mut Reporter<'_, R>,
 ) -> Result<Status, Fault<'a>> {
+    let is_shown = reporter.is_shown();
     let mut history_file = Watched::new(Counted::new(reporter, opened(rt, history)?));
     let mut certificate_file = Watched::new(opened(rt, certificate)?);
-    let mut output = Watched::new(io::writer(rt));
+    let mut output = Watched::new(Noted::new(io::writer(rt)));
     let judged = judge_texts(
         rt.alloc(),
         &mut history_file,
         &mut certificate_file,
         &mut output,
     );
+    if is_shown {
+        hint(rt, output.into_inner().first(), history, certificate);
+    }
     match judged {
         Ok(status) => Ok(status),
         Err(fault) => Err(Fault::of_run(fault, history, certificate)),
@@ -106,9 +112,10 @@ fn order_file<'a, R: Runtime + AllocGlobal>(
     history: &'a str,
     reporter: &mut Reporter<'_, R>,
 ) -> Result<Status, Fault<'a>> {
+    let is_shown = reporter.is_shown();
     let mut history_file = Watched::new(Counted::new(reporter, opened(rt, history)?));
     // a certificate has a line for each transaction
-    let Ok(buffered) = BufWriter::new(rt.alloc(), io::writer(rt)) else {
+    let Ok(buffered) = BufWriter::new(rt.alloc(), Noted::new(io::writer(rt))) else {
         return Err(Fault::Memory);
     };
     let mut output = Watched::new(buffered);
@@ -116,7 +123,11 @@ fn order_file<'a, R: Runtime + AllocGlobal>(
         Ok(status) => status,
         Err(fault) => return Err(Fault::of_run(fault, history, history)),
     };
-    match output.flush() {
+    let flushed = output.flush();
+    if is_shown {
+        hint(rt, output.into_inner().get_ref().first(), history, history);
+    }
+    match flushed {
         Ok(()) => Ok(status),
         Err(_) => Err(Fault::Write("stdout")),
     }
