@@ -68,6 +68,41 @@ for command in audit order script serve; do
     done
 done
 
+# Of a text that is no history a terminal shows why; tools/explain.py says the same. Of a certificate the same way.
+cat >terminal.py <<'END'
+"""Runs a program with a terminal as standard error, and prints what that shows."""
+import os, pty, subprocess, sys
+
+shown, screen = pty.openpty()
+subprocess.run(sys.argv[1:], stdin=subprocess.DEVNULL, stdout=subprocess.DEVNULL, stderr=screen, timeout=60)
+os.close(screen)
+text = b""
+try:
+    while piece := os.read(shown, 4096):
+        text += piece
+except OSError:
+    pass
+print(text.replace(b"\r\n", b"\n").decode(), end="")
+END
+echo 'serial 1
+end' >c
+for case in "$top"/tools/cases/{syntax-*,cut-off,leading-zero}/; do
+    wanted=$(sed 's/^The text is no history: \(.*\)\.$/\1/' "$case/explanation")
+    check "a terminal, audit $case" "ssi: $case/history: $wanted" "$(python3 terminal.py "$ssi" audit "$case/history" c)"
+    check "a terminal, order $case" "ssi: $case/history: $wanted" "$(python3 terminal.py "$ssi" order "$case/history")"
+done
+sed '/^end$/q' "$sample" >h
+for fault in 'serial 2:line 1, byte 1: the first line is `serial 1`' \
+    'serial 1;01:line 2, byte 1: a transaction is a number from 1 to 4294967295, without leading zeros' \
+    'serial 1;1,2:line 2, byte 2: the line ends before this' 'serial 1;1:line 3: the text ends before the line `end`'; do
+    tr ';' '\n' <<<"${fault%%:*}" >faulty
+    check "a terminal, ${fault%%:*}" "ssi: faulty: ${fault#*:}" "$(python3 terminal.py "$ssi" audit h faulty)"
+done
+sed '1,/^end$/d' "$sample" >c
+check 'a terminal, a yes' '' "$(python3 terminal.py "$ssi" audit h c)"
+check 'no terminal' $'out: no 1 syntax history 2\nstatus 1' "$(run audit "$top/tools/cases/leading-zero/history" c)"
+rm -f c h faulty
+
 # Files.
 sed '/^end$/q' "$sample" >h
 sed '1,/^end$/d' "$sample" >c

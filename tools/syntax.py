@@ -10,12 +10,9 @@ HEAD = re.compile("(?:adya [12])?")
 BEGINNINGS = "a line begins with w, d, r, s, c, a, u, [ or {, or is `end`"
 # the parts of a history in their order, by how their lines begin
 PARTS = [("w", "d", "r", "s", "c", "a"), ("u",), ("[",), ("{",), ("end",)]
-NAMES = ["an event", "a line of an unfinished transaction", "an order", "a final"]
-RISING = {
-    1: "unfinished transactions come by rising number, each once",
-    2: "orders come by rising key, one for each key",
-    3: "finals come by rising key, one for each key",
-}
+UNFINISHED, TAIL = 1, 4
+ORDER = "events come first, then unfinished transactions, then orders, then finals"
+RISING = "unfinished transactions, orders and finals rise, and none comes twice"
 
 
 class Misfit(Exception):
@@ -75,7 +72,7 @@ class Scanner:
         self.mark(".")
         start = self.at
         if self.txn() != (of or int(self.text[start:self.at])):
-            raise Misfit(start, "the version is the transaction's own, %d" % of)
+            raise Misfit(start, "the version is the transaction's own")
         self.mark(":")
         self.number(65535, COUNT)
 
@@ -96,9 +93,9 @@ def scan_list(scanner):
             scanner.value()
 
 
-def place_of(text):
-    """Which part of a history the line belongs to, and what puts it in its place there. Raises Misfit."""
-    scanner, rank = Scanner(text), None
+def part_of(text):
+    """Which part of a history the line belongs to. Raises Misfit."""
+    scanner = Scanner(text)
     part = next((at for at, marks in enumerate(PARTS) if text.startswith(marks)), None)
     if part is None:
         raise Misfit(0, BEGINNINGS)
@@ -115,49 +112,44 @@ def place_of(text):
         scanner.txn()
         scan_list(scanner)
     elif kind in ("c", "a", "u"):
-        rank = scanner.txn()
+        scanner.txn()
     elif kind == "[":
-        rank = scanner.key()
+        scanner.key()
         scanner.mark(":")
         scanner.txn()
         while scanner.mark("<<", "]") == "<<":
             scanner.txn()
     elif kind == "{":
-        rank = scanner.key()
+        scanner.key()
         scanner.mark(",")
         scanner.value()
         scanner.mark("}")
     scanner.end()
-    return part, rank
+    return part
 
 
 def out_of_place(head, before, text):
     """Why a line of a history may not follow this one."""
-    part, rank = place_of(text)
-    if part == 1 and head == "adya 1":
-        return "a history with unfinished transactions begins with `adya 2`"
-    part_before, rank_before = place_of(before) if before != head else (0, None)
-    if part_before == len(NAMES):
+    part = part_of(text)
+    part_before = part_of(before) if before != head else 0
+    if part_before == TAIL:
         return "nothing follows the line `end`"
-    if part < part_before:
-        return "%s can't follow %s" % (NAMES[part], NAMES[part_before])
-    if part == part_before and part in RISING and rank <= rank_before:
-        return RISING[part]
-    return "it may not stand there"
+    if part == UNFINISHED and head == "adya 1":
+        return "a history with unfinished transactions begins with `adya 2`"
+    return ORDER if part < part_before else RISING
 
 
 def missing(number, rest):
     """Why a text that ends with this rest has no such line."""
     if rest:
-        return "line %d has no line feed at its end" % number
-    wanted = "the text is empty" if number == 1 else "the text ends before the line `end`"
-    return "line %d is missing: %s" % (number, wanted)
+        return "it has no line feed at its end"
+    return "the text is empty" if number == 1 else "the text ends before the line `end`"
 
 
 def fault(file, number):
     """Why the text in the file is no history, if its fault is at this line."""
     if number > file.count():
-        return missing(number, file.line(number))
+        return "line %d: %s" % (number, missing(number, file.line(number)))
     text = file.line(number)
     try:
         if number == 1:

@@ -8,7 +8,8 @@ const TXN: &str = "a transaction is a number from 1 to 4294967295, without leadi
 
 const COUNT: &str = "the number of a write is one from 1 to 65535, without leading zeros";
 
-const CRLF: &str = "a carriage return (CRLF); lines end with a line feed alone";
+/// What is said of a carriage return before the line feed.
+pub const CRLF: &str = "a carriage return (CRLF); lines end with a line feed alone";
 
 /// The byte of a line, counted from 0, up to which it fits the grammar, and what is wanted there.
 #[derive(Clone, Copy)]

@@ -1,6 +1,6 @@
 //! What is said of a text with a syntax fault, beside the verdict.
 
-use crate::grammar::{Misfit, Part, is_entry, part_of};
+use crate::grammar::{CRLF, Misfit, Part, is_entry, part_of};
 use std::alloc::AllocError;
 use std::fs::Files;
 use std::io::Read;
@@ -138,7 +138,10 @@ impl Lines {
             return (None, self.missing());
         }
         if self.wanted == 1 {
-            return (Some(0), "the first line is `adya 1` or `adya 2`");
+            return match self.faulty.as_slice() {
+                b"adya 1\r" | b"adya 2\r" => (Some(6), CRLF),
+                _ => (Some(0), "the first line is `adya 1` or `adya 2`"),
+            };
         }
         match part_of(self.faulty.as_slice()) {
             Ok(part) => (None, self.out_of_place(part)),
