@@ -21,10 +21,13 @@ pub fn appended(alloc: Global, key: u64, operations: &[Operation]) -> Result<Vec
 fn each_appended(alloc: Global, key: u64, operations: &[Operation]) -> Result<Vec<u64>, AllocError>
     ensures { IfOk result (λ v. v.items ≡ filter_map (λ o. appended_by key (operation_of o)) operations.now) }
 {
-    operations
-        .iter()
-        .filter_map(|operation| appended_by(key, operation))
-        .collect(alloc)
+    let mut elements = Vec::new(alloc);
+    'operations: for operation in operations {
+        if let Some(element) = appended_by(key, operation) {
+            elements.push(element)?;
+        }
+    }
+    Ok(elements)
 }
 
 /// Returns the element, if the step appends one to the list of the key.

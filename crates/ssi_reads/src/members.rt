@@ -15,5 +15,9 @@ pub(crate) fn by_number(alloc: Global, set: &BTreeSet<Txn>) -> Result<Vec<Txn>, 
     ensures exact { IfOk result (λ ts. (t : ℕ) → has_txn ts.items t ≡ contains nat_cmp set.now t) }
     ensures rising { IfOk result (λ ts. IsStrictlySortedBy nat_cmp ts.items) }
 {
-    set.iter().copied().collect(alloc)
+    let mut txns = Vec::new(alloc);
+    'members: for txn in set.iter() {
+        txns.push(*txn)?;
+    }
+    Ok(txns)
 }

@@ -92,14 +92,22 @@ fn lines(
 fn versions(alloc: Global, line: &BTreeMap<usize, Entry>) -> Result<Vec<Entry>, AllocError>
     ensures { IfOk result (λ v. v.items ≡ values line.now) }
 {
-    line.values().copied().collect(alloc)
+    let mut versions = Vec::new(alloc);
+    'versions: for entry in line.values() {
+        versions.push(*entry)?;
+    }
+    Ok(versions)
 }
 
 /// Returns the writers of the versions.
 fn writers_of(alloc: Global, versions: &[Entry]) -> Result<Vec<Txn>, AllocError>
     ensures { IfOk result (λ v. v.items ≡ map (λ w. w.version.txn) versions.now) }
 {
-    versions.iter().map(|w| w.version.txn).collect(alloc)
+    let mut writers = Vec::new(alloc);
+    'versions: for entry in versions {
+        writers.push(entry.version.txn)?;
+    }
+    Ok(writers)
 }
 
 /// Returns the order line of a key.

@@ -85,5 +85,9 @@ pub(crate) fn all_values(
     ensures all { IfOk result (λ v. v.items ≡ values seen.now) }
     ensures ordered { IsOrdered (slice_cmp nat_cmp) seen.now }
 {
-    seen.values().copied().collect(alloc)
+    let mut entries = Vec::new(alloc);
+    'entries: for entry in seen.values() {
+        entries.push(*entry)?;
+    }
+    Ok(entries)
 }

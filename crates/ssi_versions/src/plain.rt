@@ -160,7 +160,11 @@ fn listed(alloc: Global, seen: &BTreeMap<Key, Held>) -> Result<Vec<Held>, AllocE
     ensures all { IfOk result (λ v. v.items ≡ values seen.now) }
     ensures ordered { IsOrdered (slice_cmp nat_cmp) seen.now }
 {
-    seen.values().copied().collect(alloc)
+    let mut found = Vec::new(alloc);
+    'found: for held in seen.values() {
+        found.push(*held)?;
+    }
+    Ok(found)
 }
 
 /// The stamp of the next version of the key.
