@@ -88,6 +88,11 @@ gap_split text rest e =
     let (gap, g, whole) = gap_passed text in
     (gap, g, whole ∙ ap (λ x. gap ++ x) (sym (dropped text rest e ∙ e)))
 
+-- what is left is what follows the gap
+pub gap_rest : (text rest : List ℕ) → rest ≡ after_gap text → drop (length text - length rest) text ≡ after_gap_in None text
+unfolding after_gap
+gap_rest text rest e = dropped text rest e ∙ e
+
 -- ---- nothing more is passed over
 
 abbrev pub IsPast : List ℕ → Type 0
@@ -115,7 +120,7 @@ not_longer : (b : ℕ) (gap bs : List ℕ) → bs ≡ gap ++ b ∷ bs → ⊥
 not_longer b gap bs e = grind (arith, common_steps, ap length e)
 
 -- so it doesn't begin with white space
-past_space : (b : ℕ) (bs : List ℕ) (v : Bool) → is_space b ≡ v → IsPast (b ∷ bs) → is_space b ≡ false
+pub past_space : (b : ℕ) (bs : List ℕ) (v : Bool) → is_space b ≡ v → IsPast (b ∷ bs) → is_space b ≡ false
 past_space b bs true s past =
     let (gap, _, whole) = gap_in bs in
     absurd (not_longer b gap bs (whole ∙ ap (λ x. gap ++ x) (rw s at past)))

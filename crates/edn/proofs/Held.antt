@@ -68,7 +68,7 @@ later_item none_more q = q
 later_item {ts = ts} {f = f} (one_more {ds = xs} {ts = ys} d r) q =
     subst (λ xs. IsItem (discard ∷ xs) f) (sym (append_assoc xs ys ts)) (a_later d (later_item r q))
 
-one_discarded : {ts : List Token} {g : Form} → IsItem ts g → AreDiscarded (discard ∷ ts)
+pub one_discarded : {ts : List Token} {g : Form} → IsItem ts g → AreDiscarded (discard ∷ ts)
 one_discarded {ts} q = subst (λ xs. AreDiscarded (discard ∷ xs)) (append-nil ts) (one_more q none_more)
 
 items_discard : {vs ds : List Token} {fs : List Form} → AreItems vs fs → AreDiscarded ds → AreItems (vs ++ ds) fs
@@ -80,7 +80,7 @@ pairs_discard {vs} {ds} {ps} r d = subst (ArePairs (vs ++ ds)) (append-nil ps) (
 
 -- ---- what follows an opening token
 
-more_after : (ts us vs : List Token) (t : Token) → ts ≡ us ++ t ∷ vs → (ds : List Token)
+pub more_after : (ts us vs : List Token) (t : Token) → ts ≡ us ++ t ∷ vs → (ds : List Token)
     → ts ++ ds ≡ us ++ t ∷ (vs ++ ds)
 more_after ts us vs t e ds = ap (λ xs. xs ++ ds) e ∙ append_assoc us (t ∷ vs) ds
 
@@ -114,7 +114,7 @@ or_top_holds : (outer : List Frame) (ts : List Token) → Holds outer ts → Hol
 or_top_holds [] ts h = absurd h
 or_top_holds (f ∷ fs) ts h = h
 
-last_pair : {ws vs : List Token} {k v : Form} → IsItem ws k → IsItem vs v → ArePairs (ws ++ vs) ((k, v) ∷ [])
+pub last_pair : {ws vs : List Token} {k v : Form} → IsItem ws k → IsItem vs v → ArePairs (ws ++ vs) ((k, v) ∷ [])
 last_pair {ws} {vs} {k} {v} a b = subst (λ xs. ArePairs xs ((k, v) ∷ [])) (append-nil (ws ++ vs)) (a_pair a b no_pairs)
 
 pub put_holds : (stack : List Frame) (ts vs : List Token) (f : Form) → Holds stack ts → IsItem vs f

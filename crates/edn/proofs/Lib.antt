@@ -16,9 +16,13 @@ pub mod NoTokens
 pub mod NoForms
 pub mod Nested
 pub mod TextOver
+pub mod LinesPassed
+pub mod BadTokens
 pub mod NotOver
 pub mod TextsRead
 pub mod NoTexts
+pub mod Closings
+pub mod Blamed
 pub mod Unfailed
 pub mod Tapes
 pub mod Rows

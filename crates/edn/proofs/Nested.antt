@@ -1,7 +1,7 @@
 -- As much is nested as the stack has frames.
 use Rattle.std.proofs.Common.{◌≡◌, ◌≤◌, ◌<◌, ◌⊎◌, inl, inr, ℕ, suc, pred, Bool, true, false, List, [], ◌∷◌, ◌++◌, length, Option, None, Some, Result, Ok, Err, refl, sym, ap, ◌∙◌, subst, append_assoc, arith}
 use Rattle.edn.specs.declared.read_fault.Problem.{Problem}
-use Rattle.edn.specs.declared.read_fault.Problem.TheVariants.{Depth}
+use Rattle.edn.specs.declared.read_fault.Problem.TheVariants.{AfterVector, Depth}
 use Rattle.edn.specs.declared.read_fault.ReadFault.{ReadFault}
 use Rattle.edn.specs.declared.read_fault.ReadFault.TheVariants.{Syntax, Device, Memory}
 use Rattle.edn.specs.declared.reader.Stage.{Stage}
@@ -13,15 +13,15 @@ use Rattle.edn.specs.Meaning.Faults.{IsOfDepth}
 use Rattle.edn.specs.Meaning.Forms.{Form}
 use Rattle.edn.specs.Meaning.Tokens.{Token, opens, closes, discard, tag, leaf}
 use Rattle.edn.specs.Meaning.Grammar.{AreItems, no_items, no_item, an_item, ArePairs, no_pairs, no_pair, a_pair}
-use Rattle.edn.specs.Meaning.Nesting.{IsOpening, Nests, none_open, one_open, AreTooDeep}
+use Rattle.edn.specs.Meaning.Nesting.{IsBefore, IsOpening, Nests, none_open, one_open, AreTooDeep}
 use Rattle.edn.specs.Meaning.Reading.{ReadsToken, ReadsTokens}
 use Rattle.edn.specs.Meaning.Readers.{AreNext, IsTooDeep}
 use Rattle.edn.specs.Computing.Building.{Frame, top, tagged, discarding, in_list, in_vector, in_set, in_map, Step, Deepens, close, step}
-use Rattle.edn.specs.Computing.Stages.{Refused, Stops}
+use Rattle.edn.specs.Computing.Stages.{Refused, Says, Stops}
 use Rattle.edn.proofs.Held.{Holds, items_append, no_forms_in, one_item}
 use Rattle.edn.proofs.FormsRead.{Leads, held_step, holds_start, from_more, behind_more, BeginsOther, form_at, element_at, reads_more}
 
-items_of : {ts : List Token} {ps : List (Form × Form)} → ArePairs ts ps → (fs : List Form) × AreItems ts fs
+pub items_of : {ts : List Token} {ps : List (Form × Form)} → ArePairs ts ps → (fs : List Form) × AreItems ts fs
 items_of no_pairs = ([], no_items)
 items_of (no_pair d r) = let (fs, q) = items_of r in (fs, no_item d q)
 items_of (a_pair {us = us} {vs = vs} {ts = ts} {k = k} {v = v} a b r) =
@@ -30,25 +30,25 @@ items_of (a_pair {us = us} {vs = vs} {ts = ts} {k = k} {v = v} a b r) =
 
 -- within what is open around it
 within : (outer : List Frame) (us vs ts : List Token) (t : Token) (fs : List Form) → Holds outer us
-    → Nests (pred (length outer)) us → IsOpening t → AreItems vs fs → ts ≡ us ++ t ∷ vs → Nests (length outer) ts
-within [] us vs ts t fs h around begins items e = absurd h
-within (f ∷ outer) us vs ts t fs h around begins items e =
-    subst (Nests (suc (length outer))) (sym e) (one_open t around begins items)
+    → Nests (pred (length outer)) us → IsOpening t → (IsBefore t → fs ≡ []) → AreItems vs fs → ts ≡ us ++ t ∷ vs → Nests (length outer) ts
+within [] us vs ts t fs h around begins none items e = absurd h
+within (f ∷ outer) us vs ts t fs h around begins none items e =
+    subst (Nests (suc (length outer))) (sym e) (one_open t around begins none items)
 
 nests : (stack : List Frame) (ts : List Token) → Holds stack ts → Nests (pred (length stack)) ts
 nests [] ts h = absurd h
 nests (top ∷ outer) ts h = subst (λ o. Nests (length o) ts) (sym h.0) (none_open (no_forms_in h.1))
-nests (tagged ∷ outer) ts (us, vs, h, d, e) = within outer us vs ts tag [] h (nests outer us h) tt (no_forms_in d) e
-nests (discarding ∷ outer) ts (us, vs, h, d, e) = within outer us vs ts discard [] h (nests outer us h) tt (no_forms_in d) e
-nests (in_list fs ∷ outer) ts (us, vs, h, r, e) = within outer us vs ts (opens opening.List) fs h (nests outer us h) tt r e
-nests (in_vector fs ∷ outer) ts (us, vs, h, r, e) = within outer us vs ts (opens opening.Vector) fs h (nests outer us h) tt r e
-nests (in_set fs ∷ outer) ts (us, vs, h, r, e) = within outer us vs ts (opens opening.Set) fs h (nests outer us h) tt r e
+nests (tagged ∷ outer) ts (us, vs, h, d, e) = within outer us vs ts tag [] h (nests outer us h) tt (λ _. refl) (no_forms_in d) e
+nests (discarding ∷ outer) ts (us, vs, h, d, e) = within outer us vs ts discard [] h (nests outer us h) tt (λ _. refl) (no_forms_in d) e
+nests (in_list fs ∷ outer) ts (us, vs, h, r, e) = within outer us vs ts (opens opening.List) fs h (nests outer us h) tt (λ no. absurd no) r e
+nests (in_vector fs ∷ outer) ts (us, vs, h, r, e) = within outer us vs ts (opens opening.Vector) fs h (nests outer us h) tt (λ no. absurd no) r e
+nests (in_set fs ∷ outer) ts (us, vs, h, r, e) = within outer us vs ts (opens opening.Set) fs h (nests outer us h) tt (λ no. absurd no) r e
 nests (in_map ps None ∷ outer) ts (us, vs, h, r, e) =
     let (fs, q) = items_of r in
-    within outer us vs ts (opens opening.Map) fs h (nests outer us h) tt q e
+    within outer us vs ts (opens opening.Map) fs h (nests outer us h) tt (λ no. absurd no) q e
 nests (in_map ps (Some k) ∷ outer) ts (us, vs, ws, ds, h, r, q, d, e) =
     let (fs, p) = items_of r in
-    within outer us (vs ++ (ws ++ ds)) ts (opens opening.Map) _ h (nests outer us h) tt
+    within outer us (vs ++ (ws ++ ds)) ts (opens opening.Map) _ h (nests outer us h) tt (λ no. absurd no)
     (items_append p (items_append (one_item q) (no_forms_in d))) e
 
 -- ---- a token that is refused for its depth
@@ -110,24 +110,36 @@ too_deep_with stack ts t (Syntax line p) h (inr (_, high, d)) deep =
 too_deep_with stack ts t Device h refused deep = absurd deep
 too_deep_with stack ts t Memory h refused deep = absurd deep
 
+not_said : (fault : ReadFault) → Says AfterVector fault → IsOfDepth fault → ⊥
+not_said (Syntax line p) said deep = let no : AfterVector ≡ Depth = sym said ∙ deep in cc
+not_said Device said deep = said
+not_said Memory said deep = said
+
 deep_text : (first : Stage) (start new : Option (List ℕ)) (ts : List Token) → ReadsTokens start new ts
     → AreNext first ts AreTooDeep → IsTooDeep first start
 deep_text first None new ts reads deep = tt
 deep_text first (Some text) new ts (rest, l, _) deep = (ts, rest, l, deep)
 
+-- a token that is refused for its depth, with those before it
+pub deep_tokens : (first stage : Stage) (ts : List Token) (t : Token) (stack : List Frame) (fault : ReadFault)
+    → Leads first stage ts stack → Stops stage t stack fault → IsOfDepth fault
+    → (first ≡ Failed fault) ⊎ AreNext first (ts ++ t ∷ []) AreTooDeep
+deep_tokens first Start ts t stack fault (is, empty, idle) (other, refused) deep =
+    inr (form_at first (ts ++ t ∷ []) AreTooDeep (inl (is, subst (λ xs. BeginsOther (xs ++ t ∷ [])) (sym empty) other))
+    (too_deep_with stack ts t fault (holds_start stack ts empty idle) refused deep))
+deep_tokens first Forms ts t stack fault (from, h) refused deep =
+    inr (form_at first (ts ++ t ∷ []) AreTooDeep (from_more first ts t from) (too_deep_with stack ts t fault h refused deep))
+deep_tokens first Elements ts t stack fault (from, (us, behind, h)) (_, refused) deep =
+    inr (element_at first (ts ++ t ∷ []) (us ++ t ∷ []) AreTooDeep from (behind_more first ts us t behind)
+    (too_deep_with stack us t fault h refused deep))
+deep_tokens first Closed ts t stack fault leads stops deep = absurd (not_said fault stops deep)
+deep_tokens first (Failed before) ts t stack fault leads stops deep = inl (leads.0 ∙ ap Failed (sym stops))
+
 pub too_deep : (first stage : Stage) (start mid new : Option (List ℕ)) (ts : List Token) (t : Token) (stack : List Frame)
     (fault : ReadFault) → Leads first stage ts stack → ReadsTokens start mid ts → ReadsToken mid new t
     → Stops stage t stack fault → IsOfDepth fault → (first ≡ Failed fault) ⊎ IsTooDeep first start
-too_deep first Start start mid new ts t stack fault (is, empty, idle) reads token (other, refused) deep =
-    inr (deep_text first start new (ts ++ t ∷ []) (reads_more start mid new ts t reads token)
-    (form_at first (ts ++ t ∷ []) AreTooDeep (inl (is, subst (λ xs. BeginsOther (xs ++ t ∷ [])) (sym empty) other))
-    (too_deep_with stack ts t fault (holds_start stack ts empty idle) refused deep)))
-too_deep first Forms start mid new ts t stack fault (from, h) reads token refused deep =
-    inr (deep_text first start new (ts ++ t ∷ []) (reads_more start mid new ts t reads token)
-    (form_at first (ts ++ t ∷ []) AreTooDeep (from_more first ts t from) (too_deep_with stack ts t fault h refused deep)))
-too_deep first Elements start mid new ts t stack fault (from, (us, behind, h)) reads token (_, refused) deep =
-    inr (deep_text first start new (ts ++ t ∷ []) (reads_more start mid new ts t reads token)
-    (element_at first (ts ++ t ∷ []) (us ++ t ∷ []) AreTooDeep from (behind_more first ts us t behind)
-    (too_deep_with stack us t fault h refused deep)))
-too_deep first Closed start mid new ts t stack fault leads reads token stops deep = absurd (stops.0 deep)
-too_deep first (Failed before) start mid new ts t stack fault leads reads token stops deep = inl (leads.0 ∙ ap Failed (sym stops))
+too_deep first stage start mid new ts t stack fault leads reads token stops deep =
+    elim (deep_tokens first stage ts t stack fault leads stops deep) [
+      | inl failed ↦ inl failed
+      | inr below ↦ inr (deep_text first start new (ts ++ t ∷ []) (reads_more start mid new ts t reads token) below)
+    ]

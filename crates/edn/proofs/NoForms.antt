@@ -55,7 +55,7 @@ IsBegun Elements ts = Unit {0}
 IsBegun Closed ts = Unit {0}
 IsBegun (Failed fault) ts = Unit {0}
 
-begun_more : (first : Stage) (ts : List Token) (t : Token) → IsBegun first (ts ++ t ∷ [])
+pub begun_more : (first : Stage) (ts : List Token) (t : Token) → IsBegun first (ts ++ t ∷ [])
 begun_more Start [] t = tt
 begun_more Start (s ∷ ts) t = tt
 begun_more Forms ts t = tt
@@ -101,14 +101,14 @@ no_stack f [] stack e = let no : false ≡ true = ap is_stack e in cc
 no_stack f (t ∷ ts) stack e = let no : false ≡ true = ap is_stack e in cc
 
 -- so tokens that begin with those of a form lead to more than a stack
-past_form : (first : Stage) (ts us : List Token) (f : Form) (stack : List Frame) → IsFormAt first ts f
+pub past_form : (first : Stage) (ts us : List Token) (f : Form) (stack : List Frame) → IsFormAt first ts f
     → runs first (ts ++ us) ≡ Ok (stack, None) → ⊥
 past_form first ts us f stack h e =
     let (begun, is) = form_runs first ts f h in
     no_stack f us stack (ap (λ r. resume r us) (sym is) ∙ sym (runs_append first ts us begun) ∙ e)
 
 -- and the first tokens of a form aren't refused
-before_refused : (first : Stage) (ts us : List Token) (f : Form) (p : Problem) → IsBegun first ts → runs first ts ≡ Err p
+pub before_refused : (first : Stage) (ts us : List Token) (f : Form) (p : Problem) → IsBegun first ts → runs first ts ≡ Err p
     → IsFormAt first (ts ++ us) f → ⊥
 unfolding is_made
 before_refused first ts us f p begun e h =
@@ -189,7 +189,7 @@ goes_here Closed start stack e = none_closed start
 goes_here (Failed fault) start stack e = none_failed start fault
 
 -- the first token, if it isn't `[`, and a later one
-first_leads : (first : Stage) (ts : List Token) (t : Token) (stack : List Frame) → (first ≡ Start) × (ts ≡ []) × (stack ≡ top ∷ [])
+pub first_leads : (first : Stage) (ts : List Token) (t : Token) (stack : List Frame) → (first ≡ Start) × (ts ≡ []) × (stack ≡ top ∷ [])
     → is_square t ≡ false → runs first (ts ++ t ∷ []) ≡ resume (step stack t) []
 first_leads first ts t stack (is, empty, idle) other =
     ap (λ s. runs s (ts ++ t ∷ [])) is ∙ ap (λ xs. runs Start (xs ++ t ∷ [])) empty ∙ ap (λ b. run_first b t []) other
@@ -236,7 +236,7 @@ goes_on first Elements following start mid new ts t old stack o none goes reads 
 goes_on first Closed following start mid new ts t old stack o none goes reads token takes leads = absurd takes
 goes_on first (Failed fault) following start mid new ts t old stack o none goes reads token takes leads = absurd takes
 
-start_leads : (first : Stage) (ts : List Token) (stack : List Frame) → (first ≡ Start) × (ts ≡ []) × (stack ≡ top ∷ [])
+pub start_leads : (first : Stage) (ts : List Token) (stack : List Frame) → (first ≡ Start) × (ts ≡ []) × (stack ≡ top ∷ [])
     → runs first ts ≡ Ok (stack, None)
 start_leads first ts stack (is, empty, idle) =
     ap (λ s. runs s ts) is ∙ ap (runs Start) empty ∙ ap (λ s. Ok (s, None)) (sym idle)

@@ -41,7 +41,7 @@ first_of_items (no_item {ts = ts} {fs = fs} d r) = later_first ts fs d (first_of
 first_of_items (an_item {us = us} {ts = ts} {f = f} {fs = fs} q r) = inr (us, ts, f, fs, q, refl, r, refl)
 
 -- of two ways to part a list, one goes on as the other does
-parted : (us vs ws xs : List Token) → us ++ vs ≡ ws ++ xs
+pub parted : (us vs ws xs : List Token) → us ++ vs ≡ ws ++ xs
     → ((ks : List Token) × (ws ≡ us ++ ks) × (vs ≡ ks ++ xs)) ⊎ ((ks : List Token) × (us ≡ ws ++ ks) × (xs ≡ ks ++ vs))
 parted [] vs ws xs e = inl (ws, refl, e)
 parted (u ∷ us) vs [] xs e = inr (u ∷ us, refl, sym e)
@@ -89,7 +89,7 @@ after_forms (one_more {ts = ts} {us = us} {fs = fs} {f = f} r q) vs gs items =
 
 -- ---- no bracket is left over
 
-unopened : (ts us : List Token) (fs gs : List Form) → AreItems ts fs → AreItems (ts ++ closes Square ∷ us) gs → ⊥
+pub unopened : (ts us : List Token) (fs gs : List Form) → AreItems ts fs → AreItems (ts ++ closes Square ∷ us) gs → ⊥
 unfolding step
 unopened ts us fs gs r q =
     not_both (run (in_list [] ∷ top ∷ []) (ts ++ closes Square ∷ us)) Unopened (in_list gs ∷ top ∷ [], None)
@@ -104,7 +104,7 @@ lexes_part {text} [] vs l = (text, no_tokens)
 lexes_part (u ∷ us) vs (next gap front g b l) = let (mid, m) = lexes_part us vs l in (mid, next gap front g b m)
 
 -- the tokens that are left have a form first, or are the last ones
-GoesOn : Stage → List Token → Type 0
+unfoldable pub GoesOn : Stage → List Token → Type 0
 GoesOn stage vs = AreLast stage vs ⊎ ((us ws : List Token) × (f : Form) × (vs ≡ us ++ ws) × IsFormAt stage us f)
 
 first_on : (b : Bool) (t : Token) (us : List Token) (f : Form) → is_square t ≡ b → AreFirst b t us (λ xs. IsItem xs f)
@@ -169,7 +169,7 @@ outside_all : (t : Token) (ts : List Token) (gs : List Form) → is_square t ≡
 outside_all t ts gs other (all_forms is items) = items
 outside_all t ts gs other (one_vector items) = absurd (let no : true ≡ false = other in cc)
 
-inside_all : (ts : List Token) (gs : List Form) → AreAll (opens opening.Vector ∷ ts) gs
+pub inside_all : (ts : List Token) (gs : List Form) → AreAll (opens opening.Vector ∷ ts) gs
     → (us : List Token) × AreItems us gs × (ts ≡ us ++ closes Square ∷ [])
 inside_all ts gs (all_forms is items) = absurd (let no : true ≡ false = is in cc)
 inside_all ts gs (one_vector {ts = us} items) = (us, items, refl)
@@ -189,7 +189,7 @@ elements_left ts vs us fs gs r items e =
           (subst (λ xs. AreItems xs fs) (more ∙ ap (λ x. us ++ x ∷ ks) square) (forms_items r)))
     ]
 
-left_on : {stage : Stage} {ts : List Token} {fs : List Form} → AreSoFar stage ts fs → (vs : List Token) (gs : List Form)
+pub left_on : {stage : Stage} {ts : List Token} {fs : List Form} → AreSoFar stage ts fs → (vs : List Token) (gs : List Form)
     → AreAll (ts ++ vs) gs → GoesOn stage vs
 left_on at_start vs gs all = start_on all
 left_on (outside {t = t} {ts = ts} other r) vs gs all =

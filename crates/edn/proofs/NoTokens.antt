@@ -87,7 +87,7 @@ dispatched_stays (b ∷ bs) others p e =
     alike (b == 123) _ _ _ _ _ (no_bad _ _ _ _ p)
     (alike (b == 95) _ _ _ _ _ (no_bad _ _ _ _ p) (word_stays tag_at p (tag_stays p) (b ∷ bs) others)) e
 
-bad_stays : (bytes others : List ℕ) (p : Problem) → token_at Unread bytes ≡ bad p → token_at Nothing (bytes ++ others) ≡ bad p
+pub bad_stays : (bytes others : List ℕ) (p : Problem) → token_at Unread bytes ≡ bad p → token_at Nothing (bytes ++ others) ≡ bad p
 unfolding token_at
 bad_stays [] others p e = absurd (let no : more ≡ bad p = e in cc)
 bad_stays (b ∷ bs) others p e =

@@ -108,7 +108,7 @@ not_nil [] us t e = cc
 not_nil (s ∷ ts) us t e = cc
 
 -- the last of the tokens is this one, or comes later
-last_split : (ts us ds : List Token) (t c : Token) → ts ++ t ∷ us ≡ ds ++ c ∷ []
+pub last_split : (ts us ds : List Token) (t c : Token) → ts ++ t ∷ us ≡ ds ++ c ∷ []
     → ((us ≡ []) × (t ≡ c) × (ts ≡ ds)) ⊎ ((ws : List Token) × (ds ≡ ts ++ t ∷ ws))
 last_split [] us [] t c e = inl (cc, cc, refl)
 last_split [] us (d ∷ ds) t c e = inr (ds, ap (λ x. x ∷ ds) (let same : d ≡ t = cc in same))
@@ -187,7 +187,7 @@ one_stack stack r e f = ap stack_in (sym e) ∙ ap stack_in f
 
 -- ---- a token that is refused
 
-refused_last : (first stage : Stage) (start : Option (List ℕ)) (ts ws : List Token) (t : Token) (stack : List Frame)
+pub refused_last : (first stage : Stage) (start : Option (List ℕ)) (ts ws : List Token) (t : Token) (stack : List Frame)
     (fault : ReadFault) → Goes first stage start ts stack → Leads first stage ts stack → Stops stage t stack fault
     → IsOfText fault → AreLast first (ts ++ t ∷ ws) → ⊥
 refused_last first Start start ts ws t stack fault (is, empty, idle) leads (other, refused) of_text last =
@@ -246,7 +246,7 @@ blank_over first (Some text) left ts (half, m, is) none other (us, rest, l, last
     let (_, same) = same_as ts us vs e n (subst HasNoToken is none) in
     other (subst IsKnownBlank (sym is) (subst IsBlank same blank))
 
-unfinished_last : (first stage : Stage) (start : Option (List ℕ)) (ts : List Token) (stack : List Frame)
+pub unfinished_last : (first stage : Stage) (start : Option (List ℕ)) (ts : List Token) (stack : List Frame)
     → Goes first stage start ts stack → Leads first stage ts stack → (is_top stack ≡ false) ⊎ (stage ≡ Elements)
     → AreLast first ts → ⊥
 unfinished_last first Start start ts stack (is, empty, idle) leads (inl busy) last =

@@ -31,7 +31,7 @@ word_is b true e h = absurd (cc)
 word_is b false e h = e
 
 -- a byte of a word is no byte that ends one
-not_end : (b n : ℕ) → is_word_byte b ≡ true → is_end n ≡ true → (b == n) ≡ false
+pub not_end : (b n : ℕ) → is_word_byte b ≡ true → is_end n ≡ true → (b == n) ≡ false
 not_end b n w h = ne_eqb b n (λ e. let no : true ≡ false = sym w ∙ ap is_word_byte e ∙ end_is n h in cc)
 
 is_space_of : (b : ℕ) (v : Bool) → is_space b ≡ v → is_end b ≡ false → is_space b ≡ false

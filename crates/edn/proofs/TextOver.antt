@@ -47,7 +47,7 @@ no_feed start (b ∷ bs) h e =
 longer : (b : ℕ) (bs : List ℕ) → length bs < length (b ∷ bs)
 longer b bs = omega arith
 
-last_line : (bytes : List ℕ) → IsPast bytes → BeginsComment bytes → IsLastLine bytes
+pub last_line : (bytes : List ℕ) → IsPast bytes → BeginsComment bytes → IsLastLine bytes
 unfolding is_space
 last_line [] past e = tt
 last_line (b ∷ bs) past e =
@@ -88,7 +88,7 @@ last_elements Closed ts us (inr e) behind close = absurd (cc)
 last_elements (Failed fault) ts us (inl e) behind close = absurd (cc)
 last_elements (Failed fault) ts us (inr e) behind close = absurd (cc)
 
-last_tokens : (first stage : Stage) (ts : List Token) (stack : List Frame) → Leads first stage ts stack
+pub last_tokens : (first stage : Stage) (ts : List Token) (stack : List Frame) → Leads first stage ts stack
     → is_top stack ≡ true → stage ≢ Elements → AreLast first ts
 last_tokens first Start ts stack (is, empty, _) idle other =
     subst (λ s. AreLast s ts) (sym is) (subst (AreLast Start) (sym empty) tt)

@@ -9,7 +9,8 @@ use Rattle.edn.specs.declared.token.Closing.TheVariants.{Square}
 use Rattle.edn.specs.Meaning.Forms.{Form}
 use Rattle.edn.specs.Meaning.Grammar.{IsItem, AreItems, no_items}
 use Rattle.edn.specs.Meaning.Lexing.{Lexes, no_tokens, next}
-use Rattle.edn.specs.Meaning.Readers.{AreFirst, AreLast, AreLastBehind, IsFormAt, IsOver, IsReady, ReadsForm, begun, stage_after, text_left}
+use Rattle.edn.specs.Meaning.Lines.{IsAt, line_after}
+use Rattle.edn.specs.Meaning.Readers.{AreFirst, AreLast, AreLastBehind, IsFormAt, IsOver, IsReady, ReadsForm, begun, line_read, stage_after, text_left}
 use Rattle.edn.specs.Meaning.Texts.{AreAll, nothing, all_forms, one_vector, AreForms, no_forms, one_more, AreSoFar, at_start, outside, inside, HasRead, IsText}
 use Rattle.edn.specs.Meaning.Tokens.{Token, opens, closes, discard, tag, leaf, is_square}
 use Rattle.edn.specs.Meaning.Reading.{IsLinked}
@@ -24,7 +25,7 @@ pub lexes_append : {text mid end : List ℕ} {ts us : List Token} → Lexes text
 lexes_append no_tokens m = m
 lexes_append (next gap text g b l) m = next gap text g b (lexes_append l m)
 
-square_is : (t : Token) → is_square t ≡ true → t ≡ opens opening.Vector
+pub square_is : (t : Token) → is_square t ≡ true → t ≡ opens opening.Vector
 square_is (opens opening.Vector) e = refl
 square_is (opens opening.List) e = absurd (let no : false ≡ true = e in cc)
 square_is (opens opening.Set) e = absurd (let no : false ≡ true = e in cc)
@@ -51,8 +52,8 @@ so_far_more (inside r) us f item = inside (one_more r item)
 
 pub reads_on : (text : List ℕ) (fs : List Form) (old new : Reader) (left more : Option (List ℕ)) (f : Form)
     → HasRead text fs old left → ReadsForm old.stage new.stage (text_left old left) (text_left new more) f → IsReady new more
-    → HasRead text (fs ++ f ∷ []) new more
-reads_on text fs old new left more f h reads ready =
+    → IsAt text (text_left new more) (line_read new) → HasRead text (fs ++ f ∷ []) new more
+reads_on text fs old new left more f h reads ready line =
     let (ts, mid, l, so, is) = h.so_far in
     let (us, rest, m, item, to, now) = subst (λ x. ReadsForm old.stage new.stage x (text_left new more) f) is reads in
     record {
@@ -64,6 +65,7 @@ reads_on text fs old new left more f h reads ready =
         subst (λ s. AreSoFar s (ts ++ us) (fs ++ f ∷ [])) (sym to) (so_far_more so us f item),
         now,
       );
+      line = line;
     }
 
 -- ---- no form more
@@ -72,7 +74,7 @@ pub forms_items : {ts : List Token} {fs : List Form} → AreForms ts fs → AreI
 forms_items no_forms = no_items
 forms_items (one_more r item) = items_append (forms_items r) (one_item item)
 
-last_items : {ts us : List Token} {fs : List Form} → AreForms ts fs → AreItems us [] → AreItems (ts ++ us) fs
+pub last_items : {ts us : List Token} {fs : List Form} → AreForms ts fs → AreItems us [] → AreItems (ts ++ us) fs
 last_items {ts} {us} {fs} r q = subst (AreItems (ts ++ us)) (append-nil fs) (items_append (forms_items r) q)
 
 nothing_more : (b : Bool) (t : Token) (us : List Token) → is_square t ≡ b → AreLastBehind b t us → AreAll (t ∷ us) []
@@ -81,7 +83,7 @@ nothing_more true t us is (ds, items, e) =
     (subst (λ xs. AreAll (opens opening.Vector ∷ xs) []) (sym e) (one_vector items))
 nothing_more false t us is items = all_forms is items
 
-all_forms_read : {stage : Stage} {ts : List Token} {fs : List Form} → AreSoFar stage ts fs → (us : List Token) → AreLast stage us
+pub all_forms_read : {stage : Stage} {ts : List Token} {fs : List Form} → AreSoFar stage ts fs → (us : List Token) → AreLast stage us
     → AreAll (ts ++ us) fs
 all_forms_read at_start [] last = nothing
 all_forms_read at_start (t ∷ us) last = nothing_more (is_square t) t us refl last
@@ -99,9 +101,13 @@ all_read text fs r left h over =
 
 -- ---- a reader that begins
 
-pub begins : (text front : List ℕ) (r : Reader) → r.input.beyond ≡ Unread → r.input.pending ≡ front → r.stage ≡ Start
-    → stack_of r.builder ≡ top ∷ [] → HasRead (front ++ text) [] r (Some text)
-begins text front r unread pending start idle = record {
+first_line : line_after [] ≡ 1
+unfolding line_after
+first_line = refl
+
+pub begins : (text front : List ℕ) (r : Reader) → r.input.beyond ≡ Unread → r.input.pending ≡ front
+    → r.input.line ≡ 1 → r.stage ≡ Start → stack_of r.builder ≡ top ∷ [] → HasRead (front ++ text) [] r (Some text)
+begins text front r unread pending first start idle = record {
   ready = record { linked = subst (λ b. IsLinked b (Some text)) (sym unread) tt; idle = idle };
   so_far = (
     [],
@@ -110,4 +116,5 @@ begins text front r unread pending start idle = record {
     subst (λ s. AreSoFar s [] []) (sym start) at_start,
     ap (λ p. Some (p ++ text)) pending,
   );
+  line = ([], front ++ text, refl, ap (λ p. Some (p ++ text)) pending, first ∙ sym first_line);
 }

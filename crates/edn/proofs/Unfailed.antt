@@ -1,5 +1,6 @@
 -- A reader that hasn't failed.
 use Rattle.std.proofs.Common.{◌≡◌, inl, inr, List, Option, refl, subst}
+use Rattle.edn.specs.declared.read_fault.Problem.TheVariants.{AfterVector}
 use Rattle.edn.specs.declared.read_fault.ReadFault.{ReadFault}
 use Rattle.edn.specs.declared.read_fault.ReadFault.TheVariants.{Device}
 use Rattle.edn.specs.declared.reader.Stage.{Stage}
@@ -7,7 +8,7 @@ use Rattle.edn.specs.declared.reader.Stage.TheVariants.{Start, Forms, Elements, 
 use Rattle.edn.specs.Meaning.Forms.{Form}
 use Rattle.edn.specs.Meaning.Tokens.{Token}
 use Rattle.edn.specs.Computing.Building.{Frame}
-use Rattle.edn.specs.Computing.Stages.{Refused, Stops, Takes}
+use Rattle.edn.specs.Computing.Stages.{Refused, Says, Stops, Takes}
 
 abbrev pub IsUnfailed : Stage → Type 0
 IsUnfailed stage = (fault : ReadFault) → stage ≡ Failed fault → ⊥
@@ -28,5 +29,5 @@ pub no_device : (stage : Stage) (t : Token) (stack : List Frame) (fault : ReadFa
 no_device Start t stack fault unfailed (_, refused) e = subst (Refused stack t) e refused
 no_device Forms t stack fault unfailed refused e = subst (Refused stack t) e refused
 no_device Elements t stack fault unfailed (_, refused) e = subst (Refused stack t) e refused
-no_device Closed t stack fault unfailed stops e = stops.1 e
+no_device Closed t stack fault unfailed stops e = subst (Says AfterVector) e stops
 no_device (Failed before) t stack fault unfailed stops e = unfailed before refl

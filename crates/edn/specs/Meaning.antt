@@ -13,7 +13,9 @@ pub mod Tokens
 pub mod Grammar
 pub mod Nesting
 pub mod Lexing
+pub mod Lines
 pub mod Readers
 pub mod Texts
+pub mod Blame
 pub mod Faults
 pub mod Reading

@@ -8,7 +8,7 @@ ghost use Rattle.edn.specs.Meaning.Forms.{atom_of};
 ghost use Rattle.edn.specs.Meaning.Tapes.{collection, first_of};
 ghost use Rattle.edn.specs.Meaning.Views.{form_of};
 ghost use Rattle.edn.specs.Computing.Building as Spec;
-ghost use Rattle.edn.specs.Computing.Building.{Refuses, open_frame, row_frame};
+ghost use Rattle.edn.specs.Computing.Building.{Refuses, open_frame, problem_left, row_frame};
 ghost use Rattle.edn.specs.Machinery.Frames.{count_in, is_tag, to_leave};
 ghost use Rattle.edn.specs.Machinery.TapeForms.{tape_forms};
 ghost use Rattle.edn.specs.Machinery.Tapes.{is_fit};
@@ -110,7 +110,8 @@ impl Builder {
 
     /// Returns what is wrong if the text ends here, within a form.
     pub(crate) fn problem_at_end(&self) -> Problem
-        ensures { result ≢ Problem.Depth }
+        ensures problem { result ≡ problem_left (stack_of self.now) }
+        ensures shallow { result ≢ Problem.Depth }
     {
         match self.inner {
             Open::Tag | Open::Discard => Problem::NoForm,

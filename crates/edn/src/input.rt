@@ -1,13 +1,15 @@
 //! Tokens read from a source.
 
-ghost use Rattle.std.specs.Prelude.{◌≡◌, ◌≤◌, ◌<◌, ◌+◌, ◌++◌, ℕ, List, [], None, true, drop, length, IfOk, IfErr, IfSome, IfNone, OnOk, IsSome};
+ghost use Rattle.std.specs.Prelude.{◌≡◌, ◌≢◌, ◌≤◌, ◌<◌, ◌+◌, ◌-◌, ◌^◌, ◌++◌, ℕ, List, [], Option, None, Ok as OkSpec, Err as ErrSpec, true, drop, take, length, min, IfOk, IfErr, IfSome, IfNone, OnOk, IsSome};
 ghost use Rattle.std.specs.Io.KnownBytes.{Consumes, prepend_known};
 ghost use Rattle.edn.specs.Meaning.Lexing.{IsGap};
 ghost use Rattle.edn.specs.Meaning.Faults.{IsOfDepth, IsOfText};
+ghost use Rattle.edn.specs.Meaning.Lines.{IsAt, NamesLine, feeds, line_after};
 ghost use Rattle.edn.specs.Meaning.Reading.{IsLinked, ReadsToken, HasNoToken, IsBlankLeft, IsKnownBlank};
 ghost use Rattle.edn.specs.Computing.Gaps.{after_gap_in};
+ghost use Rattle.edn.specs.Computing.Stages.{IsBadIn};
 ghost use Rattle.edn.specs.Computing.Tokens.{token_of};
-ghost use Rattle.edn.specs.Machinery.Inputs.{work_left, to_meet};
+ghost use Rattle.edn.specs.Machinery.Inputs.{IsSpent, work_left, to_meet};
 ghost use Rattle.edn.specs.declared.token.Beyond.TheVariants.{Unread};
 
 use crate::gap::after_gap;
@@ -38,6 +40,7 @@ impl Input {
     pub(crate) fn new(alloc: Global) -> Input
         ensures beyond { result.beyond ≡ Unread }
         ensures pending { result.pending ≡ [] }
+        ensures line { result.line ≡ 1 }
     {
         Input {
             alloc,
@@ -50,7 +53,7 @@ impl Input {
 
     /// The input of a source of which these bytes, the first ones of its text, were read before.
     pub(crate) fn after(alloc: Global, front: &[u8]) -> Result<Input, AllocError>
-        ensures { IfOk result (λ i. (i.beyond ≡ Unread) × (i.pending ≡ front.now)) }
+        ensures { IfOk result (λ i. (i.beyond ≡ Unread) × (i.pending ≡ front.now) × (i.line ≡ 1)) }
     {
         let mut input = Input::new(alloc);
         input.pending.add(alloc, front)?;
@@ -58,7 +61,9 @@ impl Input {
     }
 
     /// Returns the line, counted from 1, up to which tokens were taken.
-    pub(crate) fn line(&self) -> u64 {
+    pub(crate) fn line(&self) -> u64
+        ensures { result ≡ self.now.line }
+    {
         self.line
     }
 
@@ -87,6 +92,18 @@ impl Input {
             → IfErr result (λ e. IsOfText e → ¬ IsKnownBlank (prepend_known self.old.pending (S.remaining source.old))) }
         ensures shallow { IfErr result (λ e. ¬ IsOfDepth e) }
         ensures fault { IfErr result (λ e. e ≡ ReadFault.Device → S.is_failed source.new ≡ true) }
+        ensures kept { result ≢ ErrSpec ReadFault.Device → S.is_failed source.new ≡ S.is_failed source.old }
+        ensures spent { IfOk result (λ o. IfNone o (IsSpent self.new.beyond self.new.pending)) }
+        ensures again { IsSpent self.old.beyond self.old.pending → (result ≡ OkSpec None) × (source.new ≡ source.old) }
+        ensures line { (text : List ℕ) → IsAt text (prepend_known self.old.pending (S.remaining source.old)) self.old.line
+            → IfOk result (λ o. IsSome o → IsAt text (prepend_known self.new.pending (S.remaining source.new)) self.new.line) }
+        ensures last { (text : List ℕ) → IsLinked self.old.beyond (S.remaining source.old)
+            → IsAt text (prepend_known self.old.pending (S.remaining source.old)) self.old.line
+            → IfOk result (λ o. IfNone o (self.new.line ≡ line_after text)) }
+        ensures named { IfErr result (NamesLine self.new.line) }
+        ensures bad { (text : List ℕ) → IsLinked self.old.beyond (S.remaining source.old)
+            → IsAt text (prepend_known self.old.pending (S.remaining source.old)) self.old.line
+            → IfErr result (IsBadIn text (prepend_known self.old.pending (S.remaining source.old))) }
     {
         loop {
             self.pass_gap();
@@ -114,6 +131,9 @@ impl Input {
         ensures within { length self.new.pending ≤ length self.old.pending }
         ensures passed { (gap : List ℕ) × IsGap gap × (self.old.pending ≡ gap ++ self.new.pending) }
         ensures all { after_gap_in None self.new.pending ≡ self.new.pending }
+        ensures rest { self.new.pending ≡ after_gap_in None self.old.pending }
+        ensures line { (text : List ℕ) (left : Option (List ℕ)) → IsAt text (prepend_known self.old.pending left) self.old.line
+            → IsAt text (prepend_known self.new.pending left) self.new.line }
     {
         let bytes = self.pending.bytes();
         let gap = bytes.len() - after_gap(bytes).len();
@@ -126,6 +146,7 @@ impl Input {
         requires { count ≤ length self.old.pending }
         ensures rest { self.new.pending ≡ drop count self.old.pending }
         ensures beyond { self.new.beyond ≡ self.old.beyond }
+        ensures line { self.new.line ≡ min (self.old.line + feeds (take count self.old.pending)) (2 ^ 64 - 1) }
     {
         let passed = &self.pending.bytes()[..count];
         self.line = self.line.saturating_add(line_feeds(passed));
@@ -138,6 +159,9 @@ impl Input {
         requires { count ≤ length self.old.pending }
         ensures rest { self.new.pending ≡ drop count self.old.pending }
         ensures beyond { self.new.beyond ≡ self.old.beyond }
+        ensures leaf { token ≡ Token.Leaf
+            → self.new.line ≡ min (self.old.line + feeds (take count self.old.pending)) (2 ^ 64 - 1) }
+        ensures other { token ≢ Token.Leaf → self.new.line ≡ self.old.line }
     {
         match token {
             // a string may have line feeds
@@ -151,6 +175,7 @@ impl Input {
         requires { count ≤ length self.old.pending }
         ensures rest { self.new.pending ≡ drop count self.old.pending }
         ensures beyond { self.new.beyond ≡ self.old.beyond }
+        ensures line { self.new.line ≡ self.old.line }
     {
         self.pending.take(count);
     }
@@ -167,6 +192,8 @@ impl Input {
         ensures text { IfErr result (λ e. ¬ IsOfText e) }
         ensures shallow { IfErr result (λ e. ¬ IsOfDepth e) }
         ensures fault { IfErr result (λ e. e ≡ ReadFault.Device → S.is_failed source.new ≡ true) }
+        ensures kept { result ≢ ErrSpec ReadFault.Device → S.is_failed source.new ≡ S.is_failed source.old }
+        ensures line { self.new.line ≡ self.old.line }
     {
         let enough = 2 * self.pending.bytes().len();
         loop {
@@ -188,6 +215,8 @@ impl Input {
         ensures text { IfErr result (λ e. ¬ IsOfText e) }
         ensures shallow { IfErr result (λ e. ¬ IsOfDepth e) }
         ensures fault { IfErr result (λ e. e ≡ ReadFault.Device → S.is_failed source.new ≡ true) }
+        ensures kept { result ≢ ErrSpec ReadFault.Device → S.is_failed source.new ≡ S.is_failed source.old }
+        ensures line { self.new.line ≡ self.old.line }
     {
         match source.pull(&mut self.piece) {
             Ok(0) => self.beyond = Beyond::Nothing,
@@ -201,10 +230,24 @@ impl Input {
 }
 
 /// Returns how many line feeds these bytes have.
-fn line_feeds(bytes: &[u8]) -> u64 {
+fn line_feeds(bytes: &[u8]) -> u64
+    ensures { result ≡ feeds bytes.now }
+{
     match bytes {
         // what mostly stands between two tokens
         [] | [b' '] => 0,
-        _ => bytes.iter().filter(|byte| **byte == b'\n').count() as u64,
+        _ => count_feeds(bytes) as u64,
     }
+}
+
+fn count_feeds(bytes: &[u8]) -> usize
+    ensures { result ≡ feeds bytes.now }
+{
+    let mut count = 0;
+    'bytes: for byte in bytes {
+        if *byte == b'\n' {
+            count += 1;
+        }
+    }
+    count
 }

@@ -1,15 +1,17 @@
 //! Reading a text form by form.
 
-ghost use Rattle.std.specs.Prelude.{◌≡◌, ◌≢◌, ◌⊎◌, ◌<◌, ◌++◌, ◌∷◌, [], List, ℕ, Option, Some, Err as ErrSpec, true, false, IfOk, IfErr, OnOk};
+ghost use Rattle.std.specs.Prelude.{◌≡◌, ◌≢◌, ◌⊎◌, ◌<◌, ◌++◌, ◌∷◌, [], List, ℕ, Option, Some, Ok as OkSpec, Err as ErrSpec, true, false, IfOk, IfErr, OnOk};
 ghost use Rattle.std.specs.Io.KnownBytes.{prepend_known};
 ghost use Rattle.edn.specs.Meaning.Forms.{Form as Plain};
 ghost use Rattle.edn.specs.Meaning.Views.{form_of};
 ghost use Rattle.edn.specs.Meaning.Faults.{IsOfDepth, IsOfText};
-ghost use Rattle.edn.specs.Meaning.Texts.{HasFailed, HasRead, IsNoText, IsText};
-ghost use Rattle.edn.specs.Meaning.Readers.{BeginsForm, EndsHere, HasNoForm, IsOver, IsReady, IsTooDeep, ReadsForm, form_read, left_to_do, text_left};
+ghost use Rattle.edn.specs.Meaning.Blame.{IsFaultOf};
+ghost use Rattle.edn.specs.Meaning.Lines.{IsAt, NamesLine};
+ghost use Rattle.edn.specs.Meaning.Texts.{HasEnded, HasFailed, HasRead, IsNoText, IsText};
+ghost use Rattle.edn.specs.Meaning.Readers.{BeginsForm, EndsHere, HasNoForm, IsOver, IsReady, IsTooDeep, ReadsForm, form_read, left_to_do, line_read, text_left};
 ghost use Rattle.edn.specs.Computing.Building.{is_top, top};
 ghost use Rattle.edn.specs.Computing.Stacks.{made_if, stack_of};
-ghost use Rattle.edn.specs.Computing.Stages.{Built, Refused, Stops, Takes};
+ghost use Rattle.edn.specs.Computing.Stages.{Built, IsUnfinished, Refused, Stops, Takes};
 ghost use Rattle.edn.specs.Computing.Tokens.{token_of};
 ghost use Rattle.edn.specs.declared.reader.Stage.TheVariants.{Start, Elements};
 
@@ -67,18 +69,21 @@ impl Reader {
     }
 
     /// Returns the line, counted from 1, on which the last form ended; after a `Syntax` fault, its line.
-    pub fn line(&self) -> u64 {
+    pub fn line(&self) -> u64
+        ensures { result ≡ line_read self.now }
+    {
         self.input.line()
     }
 
     /// Reads the next form from what the source has left; [`form`](Reader::form) returns it. Returns whether there is one:
-    /// false after the last one, `Syntax` with the line if the text is none of EDN there, `Device` if the source failed,
+    /// false after the last one, and from then on, `Syntax` with the line if the text is none of EDN there, `Device` if the source failed,
     /// `Memory` if memory ran out. After a fault it returns that fault again, and reads no more. What it reads is the form
     /// with which the text that is left begins: its tokens follow one another there, with white space and comments between
     /// them. If a form is there, it is read: false says that the text doesn't begin with one, and so does `Syntax`, unless
     /// its problem is `Depth`: then more than 64 forms are nested there. False says also that only discarded forms, the
     /// bracket that closes the vector, white space and comments were left of the text: the forms that were read are those
-    /// of the whole text. After `Syntax`, unless its problem is `Depth`, the whole text is none of EDN.
+    /// of the whole text. After `Syntax`, unless its problem is `Depth`, the whole text is none of EDN, and the fault is the
+    /// first that it has. Unless `Device` is returned, the source has failed only if it had before.
     pub fn read<S: Source>(&mut self, source: &mut S) -> Result<bool, ReadFault>
         ensures less { IfOk result (λ some. some ≡ true
             → left_to_do (S.left source.new) self.new < left_to_do (S.left source.old) self.old) }
@@ -102,8 +107,14 @@ impl Reader {
             (λ some. some ≡ false → IsText text fs) }
         ensures refuses { (text : List ℕ) (fs : List Plain) → HasRead text fs self.old (S.remaining source.old)
             → IfErr result (λ e. IsOfText e → IsNoText text) }
+        ensures faulty { (text : List ℕ) (fs : List Plain) → HasRead text fs self.old (S.remaining source.old)
+            → IfErr result (IsFaultOf text) }
+        ensures line { IfErr result (λ e. HasFailed self.old e ⊎ NamesLine (line_read self.new) e) }
         ensures fault { IfErr result (λ e. e ≡ ReadFault.Device
             → HasFailed self.old e ⊎ (S.is_failed source.new ≡ true)) }
+        ensures kept { result ≢ ErrSpec ReadFault.Device → S.is_failed source.new ≡ S.is_failed source.old }
+        ensures ended { IfOk result (λ some. some ≡ false → HasEnded self.new) }
+        ensures again { HasEnded self.old → (result ≡ OkSpec false) × HasEnded self.new × (source.new ≡ source.old) }
         ensures failed { IfErr result (HasFailed self.new) }
         ensures stays { (fault : ReadFault) → HasFailed self.old fault → (result ≡ ErrSpec fault) × (self.new ≡ self.old)
             × (source.new ≡ source.old) }
@@ -158,7 +169,16 @@ impl Reader {
             → (self.old.stage ≡ Stage.Failed e) ⊎ IsTooDeep self.old.stage (text_left self.old (S.remaining source.old))) }
         ensures other { IsReady self.old (S.remaining source.old) → IfErr result (λ e. IsOfText e
             → ¬ EndsHere self.old.stage (text_left self.old (S.remaining source.old))) }
+        ensures line { (text : List ℕ) → IsAt text (text_left self.old (S.remaining source.old)) (line_read self.old)
+            → IfOk result (λ some. some ≡ true
+            → IsAt text (text_left self.new (S.remaining source.new)) (line_read self.new)) }
+        ensures faulty { (text : List ℕ) (fs : List Plain) → HasRead text fs self.old (S.remaining source.old)
+            → IfErr result (IsFaultOf text) }
+        ensures named { IfErr result (NamesLine (line_read self.new)) }
         ensures fault { IfErr result (λ e. e ≡ ReadFault.Device → S.is_failed source.new ≡ true) }
+        ensures kept { result ≢ ErrSpec ReadFault.Device → S.is_failed source.new ≡ S.is_failed source.old }
+        ensures ended { IfOk result (λ some. some ≡ false → HasEnded self.new) }
+        ensures again { HasEnded self.old → (result ≡ OkSpec false) × (source.new ≡ source.old) }
     {
         self.builder.clear();
         let mut leaf = Leaf::new();
@@ -179,6 +199,7 @@ impl Reader {
         ensures takes { IfOk result (λ done. Takes self.old.stage (token_of leaf.old token) self.new.stage
             (stack_of self.old.builder) (stack_of self.new.builder) (made_if done self.new.builder)) }
         ensures stops { IfErr result (Stops self.old.stage (token_of leaf.old token) (stack_of self.old.builder)) }
+        ensures named { IfErr result (λ e. HasFailed self.old e ⊎ NamesLine self.old.input.line e) }
     {
         match token {
             Token::Integer(value) => self.take_any(Token::Integer(value), leaf),
@@ -192,6 +213,7 @@ impl Reader {
         ensures takes { IfOk result (λ done. Takes self.old.stage (token_of leaf.old token) self.new.stage
             (stack_of self.old.builder) (stack_of self.new.builder) (made_if done self.new.builder)) }
         ensures stops { IfErr result (Stops self.old.stage (token_of leaf.old token) (stack_of self.old.builder)) }
+        ensures named { IfErr result (λ e. HasFailed self.old e ⊎ NamesLine self.old.input.line e) }
     {
         let forms = matches!(self.stage, Stage::Forms | Stage::Elements);
         if forms && !self.builder.is_idle() {
@@ -207,6 +229,7 @@ impl Reader {
         ensures takes { IfOk result (λ done. Takes self.old.stage (token_of leaf.old token) self.new.stage
             (stack_of self.old.builder) (stack_of self.new.builder) (made_if done self.new.builder)) }
         ensures stops { IfErr result (Stops self.old.stage (token_of leaf.old token) (stack_of self.old.builder)) }
+        ensures named { IfErr result (λ e. HasFailed self.old e ⊎ NamesLine self.old.input.line e) }
     {
         match self.stage {
             Stage::Start => self.take_first(token, leaf),
@@ -223,6 +246,7 @@ impl Reader {
         ensures takes { IfOk result (λ done. Takes Start (token_of leaf.old token) self.new.stage
             (stack_of self.old.builder) (stack_of self.new.builder) (made_if done self.new.builder)) }
         ensures stops { IfErr result (Stops Start (token_of leaf.old token) (stack_of self.old.builder)) }
+        ensures named { IfErr result (NamesLine self.old.input.line) }
     {
         if matches!(token, Token::Open(Opening::Vector)) {
             self.stage = Stage::Elements;
@@ -238,6 +262,7 @@ impl Reader {
         ensures takes { self.old.stage ≡ Elements → IfOk result (λ done. Takes Elements (token_of leaf.old token) self.new.stage
             (stack_of self.old.builder) (stack_of self.new.builder) (made_if done self.new.builder)) }
         ensures stops { IfErr result (Stops Elements (token_of leaf.old token) (stack_of self.old.builder)) }
+        ensures named { IfErr result (NamesLine self.old.input.line) }
     {
         if self.builder.is_idle() && matches!(token, Token::Close(Closing::Square)) {
             self.stage = Stage::Closed;
@@ -253,6 +278,7 @@ impl Reader {
         ensures built { IfOk result (λ done. Built (stack_of self.old.builder) (token_of leaf.old token)
             (stack_of self.new.builder) (made_if done self.new.builder)) }
         ensures refused { IfErr result (Refused (stack_of self.old.builder) (token_of leaf.old token)) }
+        ensures named { IfErr result (NamesLine self.old.input.line) }
     {
         match self.builder.take(token, leaf) {
             Ok(done) => Ok(done),
@@ -267,7 +293,8 @@ impl Reader {
         ensures closed { OnOk result (self.now.stage ≢ Elements) }
         ensures shallow { IfErr result (λ e. ¬ IsOfDepth e) }
         ensures fault { IfErr result (λ e. e ≢ ReadFault.Device) }
-        ensures unfinished { IfErr result (λ _. (is_top (stack_of self.now.builder) ≡ false) ⊎ (self.now.stage ≡ Elements)) }
+        ensures unfinished { IfErr result (IsUnfinished self.now.stage (stack_of self.now.builder)) }
+        ensures named { IfErr result (NamesLine self.now.input.line) }
     {
         if !self.builder.is_idle() {
             return Err(syntax(self.input.line(), self.builder.problem_at_end()));

@@ -1,6 +1,6 @@
 //! Tokens.
 
-ghost use Rattle.std.specs.Prelude.{◌≡◌, ◌≤◌, ◌<◌, ◌+◌, ℕ, List, length, take, drop, IfOk};
+ghost use Rattle.std.specs.Prelude.{◌≡◌, ◌≤◌, ◌<◌, ◌+◌, ℕ, List, length, take, drop, IfOk, IfErr};
 ghost use Rattle.std.specs.List.{prefix_len};
 ghost use Rattle.edn.specs.Meaning.Bytes.{is_word_byte};
 ghost use Rattle.edn.specs.Computing.Tokens as Spec;
@@ -95,6 +95,7 @@ pub(crate) fn read_token<'a>(
 ) -> Result<Lexed<'a>, AllocError>
     ensures exact { IfOk result (λ l. lexed_of leaf.new l ≡ Spec.token_at beyond bytes.now) }
     ensures within { IfOk result (IsRest beyond bytes.now) }
+    ensures refused { IfErr result (λ _. ¬ BeginsComment bytes.now) }
 {
     match bytes {
         [] | [b';', ..] => Ok(no_token(beyond)),

@@ -67,6 +67,12 @@ is_top (in_vector fs ∷ outer) = false
 is_top (in_set fs ∷ outer) = false
 is_top (in_map ps k ∷ outer) = false
 
+-- what is wrong with a text that ends there
+abbrev pub problem_left : List Frame → Problem
+problem_left (tagged ∷ outer) = problem.NoForm
+problem_left (discarding ∷ outer) = problem.NoForm
+problem_left _ = problem.Unclosed
+
 -- nothing is open around nothing
 abbrev pub or_top : List Frame → List Frame
 or_top [] = top ∷ []

@@ -25,6 +25,10 @@ left_to_do reads r = work_left reads r.input.pending
 abbrev pub text_left : Reader → Option (List ℕ) → Option (List ℕ)
 text_left r left = prepend_known r.input.pending left
 
+-- the line up to which the text was read
+abbrev pub line_read : Reader → ℕ
+line_read r = r.input.line
+
 -- the form that was read last
 abbrev pub form_read : Reader → Form
 form_read r = first_of (tape_forms r.builder.forms)

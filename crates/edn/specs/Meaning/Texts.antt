@@ -1,5 +1,5 @@
 -- Whole texts, and how far a reader has come in one.
-use Rattle.std.specs.Prelude.{◌≡◌, ℕ, false, List, [], ◌∷◌, ◌++◌, Option, Some}
+use Rattle.std.specs.Prelude.{◌≡◌, ◌≢◌, ℕ, true, false, List, [], ◌∷◌, ◌++◌, Option, Some}
 use Rattle.edn.specs.declared.reader.Reader.{Reader}
 use Rattle.edn.specs.declared.reader.Stage.{Stage}
 use Rattle.edn.specs.declared.reader.Stage.TheVariants.{Start, Forms, Elements, Failed}
@@ -10,7 +10,11 @@ use Rattle.edn.specs.Meaning.Forms.{Form}
 use Rattle.edn.specs.Meaning.Tokens.{Token, opens, closes, is_square}
 use Rattle.edn.specs.Meaning.Grammar.{IsItem, AreItems}
 use Rattle.edn.specs.Meaning.Lexing.{IsBlank, Lexes}
-use Rattle.edn.specs.Meaning.Readers.{IsReady, text_left}
+use Rattle.edn.specs.Meaning.Lines.{IsAt}
+use Rattle.edn.specs.Meaning.Readers.{IsReady, line_read, text_left}
+use Rattle.edn.specs.Computing.Building.{is_top}
+use Rattle.edn.specs.Computing.Stacks.{stack_of}
+use Rattle.edn.specs.Machinery.Inputs.{IsSpent}
 
 -- a whole text has these tokens and forms: if it begins with `[`, it is one vector, of which they are the elements; else
 -- the forms follow one another
@@ -45,10 +49,17 @@ pub data AreSoFar : Stage → List Token → List Form → Type 0 where
       → AreSoFar Forms (t ∷ ts) fs
   inside : {ts : List Token} {fs : List Form} → AreForms ts fs → AreSoFar Elements (opens Vector ∷ ts) fs
 
--- of this text these forms have been read, and the reader goes on behind them, with what its source has left
+-- of this text these forms have been read, and the reader goes on behind them, on its line, with what its source has left
 pub record HasRead (text : List ℕ) (fs : List Form) (r : Reader) (left : Option (List ℕ)) : Type 0 where
   pub ready : IsReady r left
   pub so_far : (ts : List Token) × (rest : List ℕ) × Lexes text ts rest × AreSoFar r.stage ts fs × (text_left r left ≡ Some rest)
+  pub line : IsAt text (text_left r left) (line_read r)
+
+-- the end of the text was met, and reading hasn't failed
+abbrev pub HasEnded : Reader → Type 0
+HasEnded r =
+    IsSpent r.input.beyond r.input.pending × (is_top (stack_of r.builder) ≡ true) × (r.stage ≢ Elements)
+    × ((fault : ReadFault) → r.stage ≡ Failed fault → ⊥)
 
 -- reading has failed
 abbrev pub HasFailed : Reader → ReadFault → Type 0

@@ -9,6 +9,8 @@ invariant-loop-self g l =
     (work_left (g.S.Source.left l.source) l.self.pending ≤ work_left (g.S.Source.left l.initial.source) l.initial.self.pending)
     × (g.S.Source.left l.source ≤ g.S.Source.left l.initial.source)
     × (l.self.beyond ≡ Unread)
+    × (g.S.Source.is_failed l.source ≡ g.S.Source.is_failed l.initial.source)
+    × (l.self.line ≡ l.initial.self.line)
     × Consumes (prepend_known l.initial.self.pending (g.S.Read.remaining l.initial.source))
     (prepend_known l.self.pending (g.S.Read.remaining l.source)) []
 

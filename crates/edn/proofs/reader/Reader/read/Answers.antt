@@ -9,15 +9,20 @@ both : {T E : Type 0} (r : Result T E) (P Q R : T → Type 0) → ((x : T) → P
 both (Ok x) P Q R f p q = f x p q
 both (Err e) P Q R f p q = tt
 
+three : {T E : Type 0} (r : Result T E) (P Q R S : T → Type 0) → ((x : T) → P x → Q x → R x → S x) → IfOk r P → IfOk r Q
+    → IfOk r R → IfOk r S
+three (Ok x) P Q R S f p q s = f x p q s
+three (Err e) P Q R S f p q s = tt
+
 pub returns-in_default-read-clause-extends : goal.returns-in_default-read-clause-extends
 returns-in_default-read-clause-extends g c = λ text fs h.
     let old = c.args.self.now in
     let new = c.read_form-read.new.self in
     let before = g.S.Read.remaining c.args.source.now in
     let after = g.S.Read.remaining c.read_form-read.new.source in
-    both c.read_form-read.result _ _ _
-    (λ some reads ready is. reads_on text fs old new before after (form_read new) h (reads is) ready)
-    (c.read_form-read.ensures.form h.ready) (c.read_form-read.ensures.ready h.ready)
+    three c.read_form-read.result _ _ _ _
+    (λ some reads ready line is. reads_on text fs old new before after (form_read new) h (reads is) ready (line is))
+    (c.read_form-read.ensures.form h.ready) (c.read_form-read.ensures.ready h.ready) (c.read_form-read.ensures.line text h.line)
 
 pub returns-in_default-read-clause-whole : goal.returns-in_default-read-clause-whole
 returns-in_default-read-clause-whole g c = λ text fs h.

@@ -1,10 +1,13 @@
-use Rattle.std.proofs.Common.{rules, ◌∷◌, ◌++◌, ◌∙◌, [], sym, ap, subst, arith}
+use Rattle.std.proofs.Common.{rules, refl, ◌∷◌, ◌++◌, ◌∙◌, [], sym, ap, subst, arith}
 use Rattle.std.specs.Io.KnownBytes.{prepend_known}
 use Rattle.std.proofs.lemmas.Result.{err_from_is_err_and}
+use Rattle.edn.specs.Meaning.Lines.{IsAt}
 use Rattle.edn.specs.Meaning.Reading.{IsLinked, ReadsTokens}
 use Rattle.edn.specs.Meaning.Readers.{form_read, text_left}
+use Rattle.edn.specs.Computing.Building.{is_top}
 use Rattle.edn.specs.Computing.Stacks.{made_if}
 use Rattle.edn.specs.Computing.Tokens.{token_of}
+use Rattle.edn.proofs.Blamed.{end_fault, how_unfinished, named_now, not_ok, no_token_again, taken_fault, token_fault}
 use Rattle.edn.proofs.FormsRead.{leads_here, leads_on, form_is_read, reads_none, reads_more, reads_form}
 use Rattle.edn.proofs.NoForms.{goes_here, goes_on, stopped, ended}
 use Rattle.edn.proofs.Nested.{too_deep}
@@ -22,6 +25,9 @@ token-init g c = (
     ([], reads_none _, leads_here c.args.self.now.stage _ ready.idle, goes_here c.args.self.now.stage _ _ ready.idle),
   ),
   c.requires,
+  refl,
+  λ ended. (ended, refl),
+  λ text at. at,
 )
 
 pub returns-then-branch-clause-form : goal.returns-then-branch-clause-form
@@ -78,6 +84,11 @@ token-preserved g c =
             ),
           ),
       takes_unfailed c.token.self.stage c.take.new.self.stage t _ _ _ c.in_ok-take.ensures.takes,
+      c.in_ok-token.ensures.kept (λ no. cc) ∙ c.token.invariant.3,
+      λ ended. absurd (no_token_again _ _ c.in-Some.is (c.in_ok-token.ensures.again (c.token.invariant.4 ended).0.0).0),
+      λ text at.
+          subst (λ i. IsAt text (prepend_known i.pending left) i.line) (sym c.in_ok-take.ensures.input)
+          (rw c.in-Some.is at (c.in_ok-token.ensures.line text (c.token.invariant.5 text at)) refl),
     )
 
 pub returns-in_err-token-clause-refused : goal.returns-in_err-token-clause-refused
@@ -143,7 +154,8 @@ returns-in_err-end-clause-other g c = λ ready.
     let (linked, (ts, reads, leads, goes)) = c.token.invariant.1 (record { linked = ready.linked; idle = c.clear.ensures ∙ ready.idle }) in
     let none = rw c.in_default.is at (c.in_ok-token.ensures.none linked) in
     let p = err_from_is_err_and c.from_residual-in_err-end.result c.from_residual-in_err-end.ensures.1 in
-    rw (p.1, p.2) (λ _. unfinished_over c.args.self.now.stage c.token.self.stage _ _ ts _ goes leads reads none c.in_err-end.ensures.unfinished)
+    rw (p.1, p.2) (λ _. unfinished_over c.args.self.now.stage c.token.self.stage _ _ ts _ goes leads reads none
+    (how_unfinished c.token.self.stage _ _ c.in_err-end.ensures.unfinished))
 
 pub returns-in_err-token-clause-fault : goal.returns-in_err-token-clause-fault
 returns-in_err-token-clause-fault g c =
@@ -160,3 +172,48 @@ pub returns-in_err-end-clause-fault : goal.returns-in_err-end-clause-fault
 returns-in_err-end-clause-fault g c =
     let p = err_from_is_err_and c.from_residual-in_err-end.result c.from_residual-in_err-end.ensures.1 in
     rw (p.1, p.2) (λ device. absurd (c.in_err-end.ensures.fault device))
+
+-- ---- lines
+
+pub returns-then-branch-clause-line : goal.returns-then-branch-clause-line
+returns-then-branch-clause-line g c = λ text at _.
+    let left = g.S.Read.remaining c.next_token.new.source in
+    subst (λ i. IsAt text (prepend_known i.pending left) i.line) (sym c.in_ok-take.ensures.input)
+    (rw c.in-Some.is at (c.in_ok-token.ensures.line text (c.token.invariant.5 text at)) refl)
+
+pub returns-in_err-token-clause-faulty : goal.returns-in_err-token-clause-faulty
+returns-in_err-token-clause-faulty g c = λ text fs h.
+    let (linked, (ts, reads, leads, goes)) = c.token.invariant.1 (record { linked = h.ready.linked; idle = c.clear.ensures ∙ h.ready.idle }) in
+    let p = err_from_is_err_and c.from_residual.result c.from_residual.ensures.1 in
+    rw (p.1, p.2) (token_fault text fs c.args.self.now _ h c.token.self.stage ts _ _ _ reads leads
+    (c.in_err-token.ensures.bad text linked (c.token.invariant.5 text h.line)) (c.in_err-token.ensures.refused linked))
+
+pub returns-in_err-take-clause-faulty : goal.returns-in_err-take-clause-faulty
+returns-in_err-take-clause-faulty g c = λ text fs h.
+    let (linked, (ts, reads, leads, goes)) = c.token.invariant.1 (record { linked = h.ready.linked; idle = c.clear.ensures ∙ h.ready.idle }) in
+    let token = rw c.in-Some.is at (c.in_ok-token.ensures.token linked) in
+    let at = rw c.in-Some.is at (c.in_ok-token.ensures.line text (c.token.invariant.5 text h.line)) refl in
+    let p = err_from_is_err_and c.from_residual-in_err-take.result c.from_residual-in_err-take.ensures.1 in
+    rw (p.1, p.2) (taken_fault text fs c.args.self.now _ h c.token.self.stage ts (token_of c.next_token.new.leaf c.in-Some.token) _ _ _ _ _
+    reads token goes leads c.in_err-take.ensures.stops (named_now c.token.self.stage _ _ c.token.invariant.2 c.in_err-take.ensures.named) at)
+
+pub returns-in_err-end-clause-faulty : goal.returns-in_err-end-clause-faulty
+returns-in_err-end-clause-faulty g c = λ text fs h.
+    let (linked, (ts, reads, leads, goes)) = c.token.invariant.1 (record { linked = h.ready.linked; idle = c.clear.ensures ∙ h.ready.idle }) in
+    let blank = rw c.in_default.is at (c.in_ok-token.ensures.blank linked) in
+    let at = rw c.in_default.is at (c.in_ok-token.ensures.last text linked (c.token.invariant.5 text h.line)) in
+    let p = err_from_is_err_and c.from_residual-in_err-end.result c.from_residual-in_err-end.ensures.1 in
+    rw (p.1, p.2) (end_fault text fs c.args.self.now _ h c.token.self.stage ts _ _ _ _ reads blank goes leads c.in_err-end.ensures.unfinished
+    c.in_err-end.ensures.named at)
+
+-- ---- again after the end
+
+pub returns-in_err-token-clause-again : goal.returns-in_err-token-clause-again
+returns-in_err-token-clause-again g c = λ ended.
+    let now = (c.token.invariant.4 (ended.0, ap is_top c.clear.ensures ∙ ended.1, ended.2, ended.3)).0 in
+    absurd (not_ok _ (c.in_err-token.ensures.again now.0).0)
+
+pub returns-clause-again : goal.returns-clause-again
+returns-clause-again g c = λ ended.
+    let (now, same) = c.token.invariant.4 (ended.0, ap is_top c.clear.ensures ∙ ended.1, ended.2, ended.3) in
+    (refl, (c.in_ok-token.ensures.again now.0).1 ∙ same)

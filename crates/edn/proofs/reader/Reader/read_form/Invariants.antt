@@ -1,8 +1,10 @@
 -- The tokens so far have led to what is open, and the text goes on behind them.
-use Rattle.std.proofs.Common.{◌≤◌, List}
+use Rattle.std.proofs.Common.{◌≡◌, ◌≤◌, List, ℕ}
 use Rattle.edn.specs.Meaning.Tokens.{Token}
 use Rattle.edn.specs.Meaning.Reading.{IsLinked, ReadsTokens}
-use Rattle.edn.specs.Meaning.Readers.{IsReady, left_to_do, text_left}
+use Rattle.edn.specs.Meaning.Lines.{IsAt}
+use Rattle.edn.specs.Meaning.Readers.{IsReady, left_to_do, line_read, text_left}
+use Rattle.edn.specs.Meaning.Texts.{HasEnded}
 use Rattle.edn.specs.Computing.Stacks.{stack_of}
 use Rattle.edn.proofs.FormsRead.{Leads}
 use Rattle.edn.proofs.NoForms.{Goes}
@@ -20,6 +22,10 @@ invariant-token g l =
     × Goes l.initial.self.stage l.self.stage (text_left l.initial.self (g.S.Read.remaining l.initial.source)) ts
     (stack_of l.self.builder)))
     × IsUnfailed l.self.stage
+    × (g.S.Source.is_failed l.source ≡ g.S.Source.is_failed l.initial.source)
+    × (HasEnded l.initial.self → HasEnded l.self × (l.source ≡ l.initial.source))
+    × ((text : List ℕ) → IsAt text (text_left l.initial.self (g.S.Read.remaining l.initial.source)) (line_read l.initial.self)
+    → IsAt text (text_left l.self (g.S.Read.remaining l.source)) (line_read l.self))
 
 abbrev pub decreases-token : goal.decreases-token
 decreases-token g l = left_to_do (g.S.Source.left l.source) l.self
