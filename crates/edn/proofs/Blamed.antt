@@ -26,6 +26,7 @@ use Rattle.edn.specs.Meaning.Tokens.{Token, opens, closes, discard, tag, leaf, i
 use Rattle.edn.specs.Computing.Building.{Frame, top, tagged, discarding, in_list, in_vector, in_set, in_map, Step, is_top, problem_left, close, step, run, resume}
 use Rattle.edn.specs.Computing.Stages.{IsBadIn, IsUnfinished, Refused, Says, Stops}
 use Rattle.edn.proofs.Closings.{may_go_on}
+use Rattle.edn.proofs.Depths.{IsShallow}
 use Rattle.edn.proofs.FormsRead.{IsBehind, BeginsOther, HasClosed, Leads, discarded_only, reads_more}
 use Rattle.edn.proofs.Held.{Holds, AreDiscarded, none_more, items_append, no_forms_in, one_item}
 use Rattle.edn.proofs.Nested.{deep_tokens}
@@ -480,8 +481,9 @@ depth_or problem.AfterVector = inl (λ e. cc)
 pub taken_fault : (text : List ℕ) (fs : List Form) (r : Reader) (left : Option (List ℕ)) → HasRead text fs r left
     → (stage : Stage) (ts : List Token) (t : Token) (stack : List Frame) (mid new : Option (List ℕ)) (line : ℕ) (fault : ReadFault)
     → ReadsTokens (text_left r left) mid ts → ReadsToken mid new t → Goes r.stage stage (text_left r left) ts stack
-    → Leads r.stage stage ts stack → Stops stage t stack fault → NamesLine line fault → IsAt text new line → IsFaultOf text fault
-taken_fault text fs r left h stage ts t stack mid new line (Syntax n p) reads token goes leads stops named (front, behind, whole, is, at) =
+    → Leads r.stage stage ts stack → IsShallow r.stage ts → Stops stage t stack fault → NamesLine line fault → IsAt text new line
+    → IsFaultOf text fault
+taken_fault text fs r left h stage ts t stack mid new line (Syntax n p) reads token goes leads shallow stops named (front, behind, whole, is, at) =
     let (ts0, rest0, l, so, now) = h.so_far in
     let (rest, m, same) = subst (λ x. ReadsTokens x new (ts ++ t ∷ [])) now (reads_more _ mid new ts t reads token) in
     let lexed =
@@ -498,11 +500,11 @@ taken_fault text fs r left h stage ts t stack mid new line (Syntax n p) reads to
           subst (λ q. HasFault (front ++ behind) (line_after front) q) (sym deep)
           (elim (deep_tokens r.stage stage ts t stack (Syntax n p) leads stops deep) [
             | inl failed ↦ absurd (not_failed_yet so _ failed)
-            | inr below ↦ too_deep ts0 ts t front behind so lexed below
+            | inr below ↦ too_deep ts0 ts t front behind so lexed below (shallow ts [] (sym (append-nil ts)))
           ])
     ])
-taken_fault text fs r left h stage ts t stack mid new line Device reads token goes leads stops named at = tt
-taken_fault text fs r left h stage ts t stack mid new line Memory reads token goes leads stops named at = tt
+taken_fault text fs r left h stage ts t stack mid new line Device reads token goes leads shallow stops named at = tt
+taken_fault text fs r left h stage ts t stack mid new line Memory reads token goes leads shallow stops named at = tt
 
 -- the end of the text
 pub end_fault : (text : List ℕ) (fs : List Form) (r : Reader) (left : Option (List ℕ)) → HasRead text fs r left

@@ -1,5 +1,5 @@
 -- The tokens of a form are read up to its last one.
-use Rattle.std.proofs.Common.{◌≡◌, ◌⊎◌, inl, inr, List, [], ◌∷◌, ◌++◌, ℕ, true, false, Option, None, Some, refl, sym, ap, ◌∙◌, subst}
+use Rattle.std.proofs.Common.{◌≡◌, ◌⊎◌, inl, inr, List, [], ◌∷◌, ◌++◌, ℕ, true, false, Option, None, Some, Ok, refl, sym, ap, ◌∙◌, subst}
 use Rattle.edn.specs.declared.reader.Stage.{Stage}
 use Rattle.edn.specs.declared.reader.Stage.TheVariants.{Start, Forms, Elements, Closed, Failed}
 use Rattle.edn.specs.Meaning.Forms.{Form}
@@ -9,7 +9,7 @@ use Rattle.edn.specs.Meaning.Grammar.{IsItem}
 use Rattle.edn.specs.Meaning.Lexing.{no_tokens}
 use Rattle.edn.specs.Meaning.Reading.{ReadsToken, ReadsTokens}
 use Rattle.edn.specs.Meaning.Readers.{AreFirst, AreNext, IsFormAt, ReadsForm, begun, stage_after}
-use Rattle.edn.specs.Computing.Building.{Frame, top, tagged, discarding, in_list, in_vector, in_set, in_map, is_top}
+use Rattle.edn.specs.Computing.Building.{Frame, top, tagged, discarding, in_list, in_vector, in_set, in_map, is_top, step}
 use Rattle.edn.specs.Computing.Stages.{Built, Takes}
 use Rattle.edn.proofs.Held.{Holds, Outcome, StepHolds, step_holds, AreDiscarded, none_more}
 use Rattle.edn.proofs.LexedTexts.{lexes_more}
@@ -48,7 +48,7 @@ leads_here Elements stack e = (inr refl, ([], refl, subst (λ s. Holds s []) (sy
 leads_here Closed stack e = (e, inl (refl, refl))
 leads_here (Failed fault) stack e = (refl, e, refl)
 
-pub held_step : (old new : List Frame) (t : Token) (o : Option Form) (ts : List Token) → Holds old ts → Built old t new o
+pub held_step : (old new : List Frame) (t : Token) (o : Option Form) (ts : List Token) → Holds old ts → step old t ≡ Ok (new, o)
     → Outcome (new, o) (ts ++ t ∷ [])
 held_step old new t o ts h e = subst (λ r. StepHolds r (ts ++ t ∷ [])) e (step_holds old t ts h)
 
@@ -99,10 +99,10 @@ leads_on first Start next ts t old new o none (is, empty, idle) (inl (vector, to
     )
 leads_on first Start next ts t old new o none (is, empty, idle) (inr (other, to, built)) =
     subst (λ n. Leads first n (ts ++ t ∷ []) new) (sym to)
-    (inl (is, subst (λ xs. BeginsOther (xs ++ t ∷ [])) (sym empty) other), held_step old new t None ts (holds_start old ts empty idle) (subst (Built old t new) none built))
+    (inl (is, subst (λ xs. BeginsOther (xs ++ t ∷ [])) (sym empty) other), held_step old new t None ts (holds_start old ts empty idle) ((subst (Built old t new) none built).0))
 leads_on first Forms next ts t old new o none (from, h) (to, built) =
     subst (λ n. Leads first n (ts ++ t ∷ []) new) (sym to)
-    (from_more first ts t from, held_step old new t None ts h (subst (Built old t new) none built))
+    (from_more first ts t from, held_step old new t None ts h ((subst (Built old t new) none built).0))
 leads_on first Elements next ts t old new o none (from, (us, behind, h)) (inl (to, square, is_idle, same, _)) =
     subst (λ n. Leads first n (ts ++ t ∷ []) new) (sym to) (
       same ∙ only_top old us h is_idle,
@@ -123,7 +123,7 @@ leads_on first Elements next ts t old new o none (from, (us, behind, h)) (inr (t
       (
         us ++ t ∷ [],
         behind_more first ts us t behind,
-        held_step old new t None us h (subst (Built old t new) none built),
+        held_step old new t None us h ((subst (Built old t new) none built).0),
       ),
     )
 leads_on first Closed next ts t old new o none h takes = absurd takes
@@ -174,17 +174,17 @@ pub form_is_read : (first stage next : Stage) (ts : List Token) (t : Token) (old
 form_is_read first Start next ts t old new o f some (is, empty, idle) (inl (vector, to, same, none)) =
     absurd (let no : None ≡ Some f = sym none ∙ some in cc)
 form_is_read first Start next ts t old new o f some (is, empty, idle) (inr (other, to, built)) =
-    let made = held_step old new t (Some f) ts (holds_start old ts empty idle) (subst (Built old t new) some built) in
+    let made = held_step old new t (Some f) ts (holds_start old ts empty idle) ((subst (Built old t new) some built).0) in
     let from = inl (is, subst (λ xs. BeginsOther (xs ++ t ∷ [])) (sym empty) other) in
     (form_at first _ (λ us. IsItem us f) from made.0, made.1, to ∙ sym (forms_after first (ts ++ t ∷ []) from))
 form_is_read first Forms next ts t old new o f some (from, h) (to, built) =
-    let made = held_step old new t (Some f) ts h (subst (Built old t new) some built) in
+    let made = held_step old new t (Some f) ts h ((subst (Built old t new) some built).0) in
     let more = from_more first ts t from in
     (form_at first _ (λ us. IsItem us f) more made.0, made.1, to ∙ sym (forms_after first (ts ++ t ∷ []) more))
 form_is_read first Elements next ts t old new o f some (from, (us, behind, h)) (inl (to, _, is_idle, same, none)) =
     absurd (let no : None ≡ Some f = sym none ∙ some in cc)
 form_is_read first Elements next ts t old new o f some (from, (us, behind, h)) (inr (to, built)) =
-    let made = held_step old new t (Some f) us h (subst (Built old t new) some built) in
+    let made = held_step old new t (Some f) us h ((subst (Built old t new) some built).0) in
     let more = behind_more first ts us t behind in (
       element_at first _ (us ++ t ∷ []) (λ xs. IsItem xs f) from more made.0,
       made.1,

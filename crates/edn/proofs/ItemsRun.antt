@@ -15,11 +15,11 @@ pub takes_list : Takes in_list
 unfolding put
 takes_list gs f outer = refl
 
-takes_vector : Takes in_vector
+pub takes_vector : Takes in_vector
 unfolding put
 takes_vector gs f outer = refl
 
-takes_set : Takes in_set
+pub takes_set : Takes in_set
 unfolding put
 takes_set gs f outer = refl
 

@@ -21,6 +21,7 @@ pub mod BadTokens
 pub mod NotOver
 pub mod TextsRead
 pub mod NoTexts
+pub mod Depths
 pub mod Closings
 pub mod Blamed
 pub mod Unfailed

@@ -67,7 +67,7 @@ first_append : (b : Bool) (t : Token) (ts us : List Token) → run_first b t (ts
 first_append true t ts us = run_append (top ∷ []) ts us
 first_append false t ts us = run_append (top ∷ []) (t ∷ ts) us
 
-runs_append : (first : Stage) (ts us : List Token) → IsBegun first ts → runs first (ts ++ us) ≡ resume (runs first ts) us
+pub runs_append : (first : Stage) (ts us : List Token) → IsBegun first ts → runs first (ts ++ us) ≡ resume (runs first ts) us
 runs_append Start [] us begun = absurd begun
 runs_append Start (t ∷ ts) us begun = first_append (is_square t) t ts us
 runs_append Forms ts us begun = run_append (top ∷ []) ts us
@@ -201,7 +201,7 @@ next_leads first ts t stack (begun, is) = runs_append first ts (t ∷ []) begun 
 
 stepped : (old : List Frame) (t : Token) (stack : List Frame) (o : Option Form) → o ≡ None → Built old t stack o
     → resume (step old t) [] ≡ Ok (stack, None)
-stepped old t stack o none built = ap (λ r. resume r []) (subst (Built old t stack) none built)
+stepped old t stack o none built = ap (λ r. resume r []) ((subst (Built old t stack) none built).0)
 
 closes_nothing : (stack : List Frame) (t : Token) → stack ≡ top ∷ [] → t ≡ closes Square → step stack t ≡ Err Unopened
 unfolding step

@@ -86,7 +86,7 @@ discards_run (an_item q r) e us = absurd (cc)
 pub discards_end : {ts : List Token} → AreItems ts [] → run (top ∷ []) ts ≡ Ok (top ∷ [], None)
 discards_end {ts} items = ap (run (top ∷ [])) (sym (append-nil ts)) ∙ discards_run items refl []
 
-close_run : {ds : List Token} → AreItems ds [] → run (top ∷ []) (ds ++ closes Square ∷ []) ≡ Err Unopened
+pub close_run : {ds : List Token} → AreItems ds [] → run (top ∷ []) (ds ++ closes Square ∷ []) ≡ Err Unopened
 unfolding step
 close_run items = discards_run items refl (closes Square ∷ [])
 
@@ -149,7 +149,7 @@ outside_runs first [] (inl (e, other)) = absurd other
 outside_runs first (t ∷ ts) (inl (e, other)) = ap (λ s. runs s (t ∷ ts)) e ∙ ap (λ b. run_first b t ts) other
 outside_runs first ts (inr e) = ap (λ s. runs s ts) e
 
-inside_runs : (first : Stage) (ts us : List Token) → (first ≡ Start) ⊎ (first ≡ Elements) → IsBehind first ts us
+pub inside_runs : (first : Stage) (ts us : List Token) → (first ≡ Start) ⊎ (first ≡ Elements) → IsBehind first ts us
     → runs first ts ≡ run (top ∷ []) us
 inside_runs Start ts us from (t, square, e) = ap (runs Start) e ∙ ap (λ b. run_first b t us) square
 inside_runs Forms ts us from behind = ap (run (top ∷ [])) behind

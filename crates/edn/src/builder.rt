@@ -6,6 +6,7 @@
 ghost use Rattle.std.specs.Prelude.{◌≡◌, ◌≢◌, ◌∷◌, ◌++◌, ◌≤◌, ◌<◌, ◌+◌, [], Some, None, Ok, length, reverse, take, vec_len, true, false, IfOk, IfErr, OnOk, OnErr, ◌⊎◌, sum_by, if◌then◌else◌};
 ghost use Rattle.edn.specs.Meaning.Forms.{atom_of};
 ghost use Rattle.edn.specs.Meaning.Tapes.{collection, first_of};
+ghost use Rattle.edn.specs.Meaning.Nesting.{IsOpening};
 ghost use Rattle.edn.specs.Meaning.Views.{form_of};
 ghost use Rattle.edn.specs.Computing.Building as Spec;
 ghost use Rattle.edn.specs.Computing.Building.{Refuses, open_frame, problem_left, row_frame};
@@ -94,6 +95,7 @@ impl Builder {
     pub(crate) fn take(&mut self, token: Token, leaf: &mut Leaf) -> Result<bool, Refusal>
         ensures ok { IfOk result (λ done. Spec.step (stack_of self.old) (token_of leaf.old token)
             ≡ Ok (stack_of self.new, made_if done self.new)) }
+        ensures shallow { OnOk result (IsOpening (token_of leaf.old token) → length (stack_of self.old) ≤ 64) }
         ensures refused { IfErr result (λ e. Refuses (stack_of self.old) e (Spec.step (stack_of self.old) (token_of leaf.old token))) }
     {
         match token {
@@ -124,6 +126,7 @@ impl Builder {
     fn begin(&mut self, inner: Open) -> Result<bool, Refusal>
         requires { count_in inner ≡ 0 }
         ensures ok { IfOk result (λ done. (done ≡ false) × (stack_of self.new ≡ open_frame inner ∷ stack_of self.old)) }
+        ensures shallow { OnOk result (length (stack_of self.old) ≤ 64) }
         ensures refused { IfErr result (λ e. (e ≡ Refusal.Memory)
             ⊎ ((e ≡ Refusal.Problem Problem.Depth) × (65 ≤ length (stack_of self.old)))) }
     {

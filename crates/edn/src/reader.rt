@@ -1,6 +1,6 @@
 //! Reading a text form by form.
 
-ghost use Rattle.std.specs.Prelude.{◌≡◌, ◌≢◌, ◌⊎◌, ◌<◌, ◌++◌, ◌∷◌, [], List, ℕ, Option, Some, Ok as OkSpec, Err as ErrSpec, true, false, IfOk, IfErr, OnOk};
+ghost use Rattle.std.specs.Prelude.{◌≡◌, ◌≢◌, ◌⊎◌, ◌<◌, ◌++◌, ◌∷◌, [], List, ℕ, Option, Some, Ok as OkSpec, Err as ErrSpec, true, false, IfOk, IfErr, IsErrAnd, OnOk};
 ghost use Rattle.std.specs.Io.KnownBytes.{prepend_known};
 ghost use Rattle.edn.specs.Meaning.Forms.{Form as Plain};
 ghost use Rattle.edn.specs.Meaning.Views.{form_of};
@@ -8,7 +8,7 @@ ghost use Rattle.edn.specs.Meaning.Faults.{IsOfDepth, IsOfText};
 ghost use Rattle.edn.specs.Meaning.Blame.{IsFaultOf};
 ghost use Rattle.edn.specs.Meaning.Lines.{IsAt, NamesLine};
 ghost use Rattle.edn.specs.Meaning.Texts.{HasEnded, HasFailed, HasRead, IsNoText, IsText};
-ghost use Rattle.edn.specs.Meaning.Readers.{BeginsForm, EndsHere, HasNoForm, IsOver, IsReady, IsTooDeep, ReadsForm, form_read, left_to_do, line_read, text_left};
+ghost use Rattle.edn.specs.Meaning.Readers.{BeginsForm, BeginsTooDeep, EndsHere, HasNoForm, IsOver, IsReady, IsTooDeep, ReadsForm, form_read, left_to_do, line_read, text_left};
 ghost use Rattle.edn.specs.Computing.Building.{is_top, top};
 ghost use Rattle.edn.specs.Computing.Stacks.{made_if, stack_of};
 ghost use Rattle.edn.specs.Computing.Stages.{Built, IsUnfinished, Refused, Stops, Takes};
@@ -80,7 +80,7 @@ impl Reader {
     /// `Memory` if memory ran out. After a fault it returns that fault again, and reads no more. What it reads is the form
     /// with which the text that is left begins: its tokens follow one another there, with white space and comments between
     /// them. If a form is there, it is read: false says that the text doesn't begin with one, and so does `Syntax`, unless
-    /// its problem is `Depth`: then more than 64 forms are nested there. False says also that only discarded forms, the
+    /// its problem is `Depth`: then more than 64 forms are nested there, which no read passes over. False says also that only discarded forms, the
     /// bracket that closes the vector, white space and comments were left of the text: the forms that were read are those
     /// of the whole text. After `Syntax`, unless its problem is `Depth`, the whole text is none of EDN, and the fault is the
     /// first that it has. Unless `Device` is returned, the source has failed only if it had before.
@@ -110,6 +110,8 @@ impl Reader {
         ensures faulty { (text : List ℕ) (fs : List Plain) → HasRead text fs self.old (S.remaining source.old)
             → IfErr result (IsFaultOf text) }
         ensures line { IfErr result (λ e. HasFailed self.old e ⊎ NamesLine (line_read self.new) e) }
+        ensures nested { IsReady self.old (S.remaining source.old)
+            → BeginsTooDeep self.old.stage (text_left self.old (S.remaining source.old)) → IsErrAnd result (λ e. ¬ IsOfText e) }
         ensures fault { IfErr result (λ e. e ≡ ReadFault.Device
             → HasFailed self.old e ⊎ (S.is_failed source.new ≡ true)) }
         ensures kept { result ≢ ErrSpec ReadFault.Device → S.is_failed source.new ≡ S.is_failed source.old }
@@ -175,6 +177,8 @@ impl Reader {
         ensures faulty { (text : List ℕ) (fs : List Plain) → HasRead text fs self.old (S.remaining source.old)
             → IfErr result (IsFaultOf text) }
         ensures named { IfErr result (NamesLine (line_read self.new)) }
+        ensures nested { IsReady self.old (S.remaining source.old)
+            → BeginsTooDeep self.old.stage (text_left self.old (S.remaining source.old)) → IsErrAnd result (λ e. ¬ IsOfText e) }
         ensures fault { IfErr result (λ e. e ≡ ReadFault.Device → S.is_failed source.new ≡ true) }
         ensures kept { result ≢ ErrSpec ReadFault.Device → S.is_failed source.new ≡ S.is_failed source.old }
         ensures ended { IfOk result (λ some. some ≡ false → HasEnded self.new) }

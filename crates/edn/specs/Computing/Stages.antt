@@ -1,5 +1,5 @@
 -- What a token does to a reader.
-use Rattle.std.specs.Prelude.{◌≡◌, ◌≢◌, ◌⊎◌, ◌++◌, ℕ, List, true, false, Option, None, Some, Ok}
+use Rattle.std.specs.Prelude.{◌≡◌, ◌≤◌, ◌⊎◌, ◌++◌, ℕ, List, length, true, false, Option, None, Some, Ok}
 use Rattle.edn.specs.declared.read_fault.ReadFault.{ReadFault}
 use Rattle.edn.specs.declared.read_fault.ReadFault.TheVariants.{Syntax, Device, Memory}
 use Rattle.edn.specs.declared.read_fault.Problem.{Problem}
@@ -12,11 +12,12 @@ use Rattle.edn.specs.Meaning.Blame.{BeginOther, IsWrongThere}
 use Rattle.edn.specs.Meaning.Forms.{Form}
 use Rattle.edn.specs.Meaning.Lexing.{IsGap}
 use Rattle.edn.specs.Meaning.Lines.{line_after}
+use Rattle.edn.specs.Meaning.Nesting.{IsOpening}
 use Rattle.edn.specs.Meaning.Tokens.{Token, closes, is_square}
 use Rattle.edn.specs.Computing.Building.{Frame, Refuses, is_top, problem_left, step}
 
 abbrev pub Built : List Frame → Token → List Frame → Option Form → Type 0
-Built old t new o = step old t ≡ Ok (new, o)
+Built old t new o = (step old t ≡ Ok (new, o)) × (IsOpening t → length old ≤ 64)
 
 -- the builder may refuse the token with this fault
 abbrev pub Refused : List Frame → Token → ReadFault → Type 0

@@ -100,6 +100,7 @@ pub data HasFault : List ℕ → ℕ → Problem → Type 0 where
       → HasFault (front ++ rest) (line_after front) p
   too_deep : {stage : Stage} {fs : List Form} (ts us : List Token) (t : Token) (front rest : List ℕ)
       → AreSoFar stage ts fs → Lexes (front ++ rest) (ts ++ (us ++ t ∷ [])) rest → AreNext stage (us ++ t ∷ []) AreTooDeep
+      → (AreNext stage us AreTooDeep → ⊥)
       → HasFault (front ++ rest) (line_after front) problem.Depth
   too_short : {p : Problem} {text : List ℕ} (ts : List Token) (rest : List ℕ) → MayGoOn ts → Lexes text ts rest → IsBlank rest
       → ((fs : List Form) → AreAll ts fs → ⊥) → IsWrongAtEnd p ts → HasFault text (line_after text) p

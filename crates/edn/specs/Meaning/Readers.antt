@@ -85,6 +85,11 @@ abbrev pub IsTooDeep : Stage → Option (List ℕ) → Type 0
 IsTooDeep stage None = Unit {0}
 IsTooDeep stage (Some text) = (ts : List Token) × (rest : List ℕ) × Lexes text ts rest × AreNext stage ts AreTooDeep
 
+-- the text is known, and begins with tokens of forms that are nested too deep
+abbrev pub BeginsTooDeep : Stage → Option (List ℕ) → Type 0
+BeginsTooDeep stage None = ⊥
+BeginsTooDeep stage (Some text) = IsTooDeep stage (Some text)
+
 -- the tokens are those of discarded forms, and the bracket that closes the vector
 abbrev pub CloseVector : List Token → Type 0
 CloseVector ts = (us : List Token) × AreItems us [] × (ts ≡ us ++ closes Square ∷ [])

@@ -6,6 +6,7 @@ use Rattle.edn.specs.Meaning.Lines.{IsAt}
 use Rattle.edn.specs.Meaning.Readers.{IsReady, left_to_do, line_read, text_left}
 use Rattle.edn.specs.Meaning.Texts.{HasEnded}
 use Rattle.edn.specs.Computing.Stacks.{stack_of}
+use Rattle.edn.proofs.Depths.{StaysShallow}
 use Rattle.edn.proofs.FormsRead.{Leads}
 use Rattle.edn.proofs.NoForms.{Goes}
 use Rattle.edn.proofs.Unfailed.{IsUnfailed}
@@ -20,7 +21,8 @@ invariant-token g l =
     (text_left l.self (g.S.Read.remaining l.source)) ts
     × Leads l.initial.self.stage l.self.stage ts (stack_of l.self.builder)
     × Goes l.initial.self.stage l.self.stage (text_left l.initial.self (g.S.Read.remaining l.initial.source)) ts
-    (stack_of l.self.builder)))
+    (stack_of l.self.builder)
+    × StaysShallow l.initial.self.stage ts (stack_of l.self.builder)))
     × IsUnfailed l.self.stage
     × (g.S.Source.is_failed l.source ≡ g.S.Source.is_failed l.initial.source)
     × (HasEnded l.initial.self → HasEnded l.self × (l.source ≡ l.initial.source))
