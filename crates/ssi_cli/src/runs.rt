@@ -1,21 +1,23 @@
 //! Runs over any readers and writers, and their exit status.
 
-ghost use Rattle.std.specs.Prelude.{◌≡◌, ◌↔◌, ◌⊎◌, true, List, ℕ, IfOk, IsOk, Ok, Err, IsErrOf};
-ghost use Rattle.std.specs.Io.KnownBytes.{Appends};
-ghost use Rattle.devices.specs.Mirror.{has_failed, watched_contents};
+ghost use Rattle.std.specs.Prelude.{◌≡◌, ◌≢◌, ◌↔◌, ◌⊎◌, true, false, List, IfOk, IfErr, OnOk, IsOk, Ok, Err, IsErrOf};
+ghost use Rattle.devices.specs.Mirror.{has_failed};
+ghost use Rattle.adya_audit.specs.declared.verdict.Verdict.{Verdict};
+ghost use Rattle.adya_audit.specs.Computing.Verdicts.{plain_verdict};
 ghost use Rattle.adya_audit.specs.Clauses.Inputs.{OnText, OnTexts};
-ghost use Rattle.adya_audit.specs.Clauses.TextVerdicts.{IsAcceptedStream, IsSerializableStream, AreAccepted};
+ghost use Rattle.adya_audit.specs.Clauses.TextVerdicts.{IsVerdictOn, IsVerdictOnStream, NamesHistoryFault, IsAcceptedStream, IsSerializableStream, AreAccepted};
 ghost use Rattle.adya_audit.specs.Meaning.Serializable.{AreSerializable};
-ghost use Rattle.adya_audit.specs.Clauses.Answers.{Answer, Certificate, IsAnswer, answer_text};
+ghost use Rattle.adya_audit.specs.Clauses.Answers.{Answer, IsAnswer};
 ghost use Rattle.ssi_store.specs.Meaning.Courses.{New};
 ghost use Rattle.ssi_line.specs.Meaning.Steps.{Step, AllMayFollow, course_after};
 ghost use Rattle.ssi_cli.specs.declared.script_fault.ScriptFault.{ScriptFault};
 ghost use Rattle.ssi_hub.specs.Clauses.Calls.{all_steps};
-ghost use Rattle.ssi_cli.specs.Clauses.Scripts.{Ran, Certified, course_of};
+ghost use Rattle.ssi_cli.specs.Clauses.Status.{Told, Answered, IsHistorySyntax, texts_outcome, commands_outcome};
+ghost use Rattle.ssi_cli.specs.Clauses.Scripts.{Ran, Shown, Certified, Written, LeavesTexts, course_of};
 ghost use Rattle.ssi_cli.specs.Clauses.Serving.{Together};
 
 use crate::ScriptFault;
-use crate::script::run_script;
+use crate::script::follow_script;
 use crate::socket::{Served, run_socket};
 use crate::status::Status;
 use crate::together::{AtClose, run_together};
@@ -37,6 +39,11 @@ pub fn judge_stream<R: Read, W: Write>(
         (λ stream. (status ≡ Status.Fine) ↔ IsAcceptedStream stream)) }
     ensures serializable { IfOk result (λ status. OnText R.remaining input.old
         (λ stream. status ≡ Status.Fine → IsSerializableStream stream)) }
+    ensures told { IfOk result (λ status. (verdict : Verdict) × Told W.contents out.old out.new verdict status
+        × OnText R.remaining input.old (λ stream. IsVerdictOnStream stream (plain_verdict verdict))) }
+    ensures ended { OnOk result (has_failed input.new ≡ false) }
+    ensures unwritten { IfErr result (λ fault. fault ≢ RunFault.Write → out.new ≡ out.old) }
+    ensures memory { IsErrOf result RunFault.Memory → has_failed input.new ≡ has_failed input.old }
     ensures read_fault { IsErrOf result RunFault.ReadHistory → has_failed input.new ≡ true }
     ensures write_fault { IsErrOf result RunFault.Write → has_failed out.new ≡ true }
     ensures no_other { IsErrOf result RunFault.ReadSerial → ⊥ }
@@ -56,6 +63,19 @@ pub fn judge_texts<H: Read, C: Read, W: Write>(
         (λ h c. (status ≡ Status.Fine) ↔ AreAccepted h c)) }
     ensures serializable { IfOk result (λ status. OnTexts H.remaining history.old C.remaining certificate.old
         (λ h c. status ≡ Status.Fine → AreSerializable h c)) }
+    // A syntax fault of the history is the verdict even if nothing is known of the certificate's bytes, which aren't read
+    // then.
+    ensures told { IfOk result (λ status. (verdict : Verdict) × Told W.contents out.old out.new verdict status
+        × OnTexts H.remaining history.old C.remaining certificate.old (λ h c. IsVerdictOn h c (plain_verdict verdict))
+        × OnText H.remaining history.old (λ h. NamesHistoryFault h (plain_verdict verdict))
+        × (IsHistorySyntax verdict ⊎ (has_failed certificate.new ≡ false))
+        × (IsHistorySyntax verdict → certificate.new ≡ certificate.old)) }
+    ensures history_ended { OnOk result (has_failed history.new ≡ false) }
+    ensures unwritten { IfErr result (λ fault. fault ≢ RunFault.Write → out.new ≡ out.old) }
+    ensures memory { IsErrOf result RunFault.Memory
+        → (has_failed history.new ≡ has_failed history.old) × (has_failed certificate.new ≡ has_failed certificate.old) }
+    ensures certificate_only { IsErrOf result RunFault.ReadSerial → has_failed history.new ≡ false }
+    ensures history_first { IsErrOf result RunFault.ReadHistory → certificate.new ≡ certificate.old }
     ensures history_fault { IsErrOf result RunFault.ReadHistory → has_failed history.new ≡ true }
     ensures certificate_fault { IsErrOf result RunFault.ReadSerial → has_failed certificate.new ≡ true }
     ensures write_fault { IsErrOf result RunFault.Write → has_failed out.new ≡ true }
@@ -70,10 +90,11 @@ pub fn order_text<H: Read, W: Write>(
     history: &mut Watched<H>,
     out: &mut Watched<W>,
 ) -> Result<Status, RunFault>
-    ensures answer { IfOk result (λ status. (a : Answer)
-        × ((status ≡ Status.Fine) ↔ ((ts : List ℕ) × (a ≡ Certificate ts)))
-        × OnText H.remaining history.old (λ text. IsAnswer text a)
-        × Appends (watched_contents W.contents out.old) (watched_contents W.contents out.new) (answer_text a)) }
+    ensures answer { IfOk result (λ status. (answer : Answer) × Answered W.contents out.old out.new answer status
+        × OnText H.remaining history.old (λ text. IsAnswer text answer)) }
+    ensures ended { OnOk result (has_failed history.new ≡ false) }
+    ensures unwritten { IfErr result (λ fault. fault ≢ RunFault.Write → out.new ≡ out.old) }
+    ensures memory { IsErrOf result RunFault.Memory → has_failed history.new ≡ has_failed history.old }
     ensures read_fault { IsErrOf result RunFault.ReadHistory → has_failed history.new ≡ true }
     ensures write_fault { IsErrOf result RunFault.Write → has_failed out.new ≡ true }
     ensures no_other { IsErrOf result RunFault.ReadSerial → ⊥ }
@@ -103,20 +124,37 @@ pub fn carry_out_commands<S: Source, W: Write, H: Write, C: Write>(
     certificate: &mut Watched<C>,
 ) -> Result<Status, CommandsFault>
     ensures run { (ran : Ran W.contents (S.remaining input.old) (S.remaining input.new) out.old out.new)
-        × IfOk result (λ status. (status ≡ Status.Fine) × ((ran.end ≡ End.Eof) ⊎ (ran.end ≡ End.Stop))
-        × Certified (course_of ran) H.contents history.old history.new C.contents certificate.old certificate.new) }
+        × Shown ran.end (S.is_failed input.old) (S.is_failed input.new) (has_failed out.new)
+        × (written : Written) × (result ≡ commands_outcome ran.end written)
+        × LeavesTexts written (course_of ran) H.contents history.old history.new C.contents certificate.old certificate.new }
     ensures input { IsErrOf result CommandsFault.Input → S.is_failed input.new ≡ true }
     ensures output { IsErrOf result CommandsFault.Output → has_failed out.new ≡ true }
     ensures history { IsErrOf result (CommandsFault.Texts ScriptFault.History) → has_failed history.new ≡ true }
     ensures certificate { IsErrOf result (CommandsFault.Texts ScriptFault.Certificate) → has_failed certificate.new ≡ true }
+    ensures memory { IsErrOf result (CommandsFault.Texts ScriptFault.Memory)
+        → (history.new ≡ history.old) × (certificate.new ≡ certificate.old) }
 {
-    match run_script(alloc, input, out, history, certificate) {
-        Ok(End::Eof) => Ok(Status::Fine),
-        Ok(End::Stop) => Ok(Status::Fine),
-        Ok(End::ReadFault) => Err(CommandsFault::Input),
-        Ok(End::WriteFault) => Err(CommandsFault::Output),
-        Err(_) if input.failed() => Err(CommandsFault::Input),
-        Err(_) if out.failed() => Err(CommandsFault::Output),
+    let (end, written) = follow_script(alloc, input, out, history, certificate);
+    status_of_commands(end, written)
+}
+
+/// Returns the status of a run over commands, by how they ended and whether both texts are written.
+fn status_of_commands(end: End, written: Result<(), ScriptFault>) -> Result<Status, CommandsFault>
+    ensures { result ≡ commands_outcome end written }
+{
+    match end {
+        End::ReadFault => Err(CommandsFault::Input),
+        End::WriteFault => Err(CommandsFault::Output),
+        End::Eof | End::Stop => status_of_texts(written),
+    }
+}
+
+/// Returns the status of a run over commands that no device ended, by whether both texts are written.
+fn status_of_texts(written: Result<(), ScriptFault>) -> Result<Status, CommandsFault>
+    ensures { result ≡ texts_outcome written }
+{
+    match written {
+        Ok(()) => Ok(Status::Fine),
         Err(fault) => Err(CommandsFault::Texts(fault)),
     }
 }

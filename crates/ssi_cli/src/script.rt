@@ -1,8 +1,8 @@
 //! A run over a script.
 
-ghost use Rattle.std.specs.Prelude.{◌≡◌, ◌≢◌, true, false, Ok, Err, IfOk};
+ghost use Rattle.std.specs.Prelude.{◌≡◌, ◌≢◌, true, false, Ok, Err, IfOk, MatchResult};
 ghost use Rattle.devices.specs.Mirror.{has_failed};
-ghost use Rattle.ssi_cli.specs.Clauses.Scripts.{Ran, Certified, course_of};
+ghost use Rattle.ssi_cli.specs.Clauses.Scripts.{Ran, Shown, Certified, HistoryWritten, LeavesTexts, course_of};
 
 use crate::ScriptFault;
 use crate::store::new_store;
@@ -24,10 +24,14 @@ pub fn run_script<S: Source, W: Write, H: Write, C: Write>(
     history: &mut Watched<H>,
     certificate: &mut Watched<C>,
 ) -> Result<End, ScriptFault>
+    // The lines are carried out and end as the devices show, whatever the result is. If the certificate alone couldn't be
+    // written, the history is written.
     ensures run { (ran : Ran W.contents (S.remaining input.old) (S.remaining input.new) output.old output.new)
-        × (ran.end ≢ End.ReadFault → S.is_failed input.new ≡ true → S.is_failed input.old ≡ true)
-        × IfOk result (λ end. (end ≡ ran.end)
-        × Certified (course_of ran) H.contents history.old history.new C.contents certificate.old certificate.new) }
+        × Shown ran.end (S.is_failed input.old) (S.is_failed input.new) (has_failed output.new)
+        × MatchResult result
+        (λ end. (end ≡ ran.end)
+        × Certified (course_of ran) H.contents history.old history.new C.contents certificate.old certificate.new)
+        (λ fault. fault ≡ ScriptFault.Certificate → HistoryWritten (course_of ran) H.contents history.old history.new) }
     ensures read_fault { result ≡ Ok End.ReadFault → S.is_failed input.new ≡ true }
     ensures write_fault { result ≡ Ok End.WriteFault → has_failed output.new ≡ true }
     ensures eof { result ≡ Ok End.Eof → S.is_failed input.new ≡ false }
@@ -39,8 +43,30 @@ pub fn run_script<S: Source, W: Write, H: Write, C: Write>(
     ensures memory { result ≡ Err ScriptFault.Memory
         → (history.new ≡ history.old) × (certificate.new ≡ certificate.old) }
 {
+    let (end, written) = follow_script(alloc, input, output, history, certificate);
+    match written {
+        Ok(()) => Ok(end),
+        Err(fault) => Err(fault),
+    }
+}
+
+/// Carries out the lines of the input on a new store, and writes both texts, as [`run_script`] does. Returns how the lines
+/// ended, and whether both texts are written.
+pub(crate) fn follow_script<S: Source, W: Write, H: Write, C: Write>(
+    alloc: Global,
+    input: &mut S,
+    output: &mut Watched<W>,
+    history: &mut Watched<H>,
+    certificate: &mut Watched<C>,
+) -> (End, Result<(), ScriptFault>)
+    ensures run { (ran : Ran W.contents (S.remaining input.old) (S.remaining input.new) output.old output.new)
+        × (ran.end ≡ result.0)
+        × LeavesTexts result.1 (course_of ran) H.contents history.old history.new C.contents certificate.old certificate.new }
+    ensures shown { Shown result.0 (S.is_failed input.old) (S.is_failed input.new) (has_failed output.new) }
+    ensures stream { S.same input.old input.new }
+{
     let mut store = new_store(alloc);
     let end = serve(alloc, input, output, &mut store);
-    write_texts(alloc, store, history, certificate)?;
-    Ok(end)
+    let written = write_texts(alloc, store, history, certificate);
+    (end, written)
 }

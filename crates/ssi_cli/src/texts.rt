@@ -10,7 +10,7 @@ ghost use Rattle.ssi_store.specs.Meaning.Faces.{Records};
 ghost use Rattle.ssi_store.specs.Clauses.Finished.{finished};
 ghost use Rattle.ssi_store.specs.Mirror.Finished.{recorded_in};
 ghost use Rattle.ssi_store.specs.Mirror.Stores.{IsAt};
-ghost use Rattle.ssi_cli.specs.Clauses.Scripts.{Certified};
+ghost use Rattle.ssi_cli.specs.Clauses.Scripts.{Certified, HistoryWritten, LeavesTexts};
 
 use crate::ScriptFault;
 use adya_text::{WriteFault, write_history, write_serial};
@@ -33,6 +33,8 @@ pub(crate) fn write_texts<C: Chains + Drop, M: Marks + Drop, H: Write, W: Write>
 ) -> Result<(), ScriptFault>
     ensures certified { IfOk result (λ _. (course : Course) → IsAt C.held M.marked store course
         → Certified course H.contents history.old history.new W.contents certificate.old certificate.new) }
+    ensures texts { (course : Course) → IsAt C.held M.marked store course
+        → LeavesTexts result course H.contents history.old history.new W.contents certificate.old certificate.new }
     ensures history_fault { result ≡ Err ScriptFault.History
         → (has_failed history.new ≡ true) × (certificate.new ≡ certificate.old) }
     ensures certificate_fault { result ≡ Err ScriptFault.Certificate → has_failed certificate.new ≡ true }
@@ -66,6 +68,8 @@ fn write_ended<H: Write, W: Write>(
     ensures certified { IfOk result (λ _. (course : Course) → recorded_in ended.now ≡ finished course
         → Records (recorded_in ended.now) course
         → Certified course H.contents history.old history.new W.contents certificate.old certificate.new) }
+    ensures history_written { result ≡ Err ScriptFault.Certificate → (course : Course) → recorded_in ended.now ≡ finished course
+        → Records (recorded_in ended.now) course → HistoryWritten course H.contents history.old history.new }
     ensures history_fault { result ≡ Err ScriptFault.History
         → (has_failed history.new ≡ true) × (certificate.new ≡ certificate.old) }
     ensures certificate_fault { result ≡ Err ScriptFault.Certificate → has_failed certificate.new ≡ true }
@@ -88,6 +92,8 @@ fn put_texts<H: Write, W: Write>(
         (history_text (history_of recorded.now))) }
     ensures certificate_written { IfOk result (λ _. Grew W.contents certificate.old certificate.new
         (serial_text (serial_txns serial.now))) }
+    ensures history_first { result ≡ Err ScriptFault.Certificate → Grew H.contents history.old history.new
+        (history_text (history_of recorded.now)) }
     ensures history_fault { result ≡ Err ScriptFault.History
         → (has_failed history.new ≡ true) × (certificate.new ≡ certificate.old) }
     ensures certificate_fault { result ≡ Err ScriptFault.Certificate → has_failed certificate.new ≡ true }

@@ -19,3 +19,14 @@ returns-clause-write_fault g c = no_fault
 
 pub returns-clause-no_other : goal.returns-clause-no_other
 returns-clause-no_other g c = no_fault
+
+pub returns-clause-told : goal.returns-clause-told
+returns-clause-told g c = (
+  c.in_ok-verdict.verdict,
+  record {
+    written = c.in_ok-verdict.ensures.written;
+    fine = c.of_verdict.ensures.fine;
+    refused = c.of_verdict.ensures.refused;
+  },
+  c.in_ok-verdict.ensures.verdict,
+)

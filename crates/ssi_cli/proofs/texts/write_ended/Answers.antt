@@ -18,6 +18,15 @@ returns-clause-certified g c =
       certificate_written = certificate_grew;
     }) c.put_texts.ensures.history_written c.put_texts.ensures.certificate_written
 
+pub returns-clause-history_written : goal.returns-clause-history_written
+returns-clause-history_written g c = λ same course is records. record {
+  history = _;
+  is = is;
+  records = records;
+  written = subst (λ h. Grew g.H.Write.contents c.args.history.now c.put_texts.new.history (history_text h))
+      c.history.ensures.same (c.put_texts.ensures.history_first same);
+}
+
 pub returns-clause-history_fault : goal.returns-clause-history_fault
 returns-clause-history_fault g c = c.put_texts.ensures.history_fault
 
