@@ -1,12 +1,13 @@
 -- Calls of a hub, one after the other.
-use Rattle.std.proofs.Common.{◌≡◌, ℕ, ◌<◌, length, Bool, true, false, cond, List, [], ◌∷◌, ◌++◌, Option, Result, Ok, Err, OnOk, OnErr, MatchResult, refl, sym, ap, subst, ◌∙◌, append_assoc, append-nil}
+use Rattle.std.proofs.Common.{◌≡◌, ℕ, Bool, true, false, cond, List, [], ◌∷◌, ◌++◌, Option, Result, Ok, Err, OnOk, OnErr, MatchResult, refl, sym, ap, subst, ◌∙◌, append_assoc, append-nil}
 use Rattle.ssi_store.specs.Meaning.Courses.{Course}
 use Rattle.ssi_line.specs.Meaning.Steps.{Step}
 use Rattle.ssi_line.specs.Clauses.Ends.{WentOn}
 use Rattle.ssi_hub.specs.declared.hub.Hub.{Hub}
 use Rattle.ssi_hub.specs.Clauses.Calls.{Call, Opened, Received, token_of, is_open, with_call, with_run, all_steps}
 use Rattle.ssi_hub.specs.Clauses.Buffers.{Buffers}
-use Rattle.ssi_hub.specs.Mirror.{is_stopped, Stands, IsSame, Changed}
+use Rattle.ssi_hub.specs.Clauses.Runs.{IsTaken}
+use Rattle.ssi_hub.specs.Mirror.{is_stopped, buffers_of, Stands, IsSame, Changed}
 use Rattle.ssi_cli.specs.Machinery.HubRuns.{WasCalled, HasRun}
 use Rattle.ssi_cli.proofs.ScriptRuns.{went_on_both}
 
@@ -86,12 +87,13 @@ run_both is_at old mid new store between after first then = λ calls s.
     )
 
 -- a run of lines of one connection
-pub ran : {T : Type 0} (is_at : T → Course → Type 0) (old new : Hub) (store after : T) (token : ℕ)
+pub ran : {T : Type 0} (is_at : T → Course → Type 0) (old new : Hub) (store after : T) (token most : ℕ)
     → (lost : Bool) → ((calls : List Call) → Stands old calls → (lines : List (List ℕ)) × (steps : List Step)
-    × (lost ≡ true → 0 < length lines) × Stands new (with_run lost token lines steps calls) × WentOn is_at store steps after
+    × IsTaken (is_stopped old) lost most (buffers_of old token) lines steps
+    × Stands new (with_run lost token lines steps calls) × WentOn is_at store steps after
     × (all_steps (with_run lost token lines steps calls) ≡ all_steps calls ++ steps)) → HasRun is_at old store new after
-ran is_at old new store after token lost run = λ calls s.
-    let (lines, steps, one, stands, went, grew) = run calls s in
+ran is_at old new store after token most lost run = λ calls s.
+    let (lines, steps, taken, stands, went, grew) = run calls s in
     (with_run lost token lines steps calls, steps, stands, grew, went)
 
 -- the calls of a hub that began with none

@@ -2,4 +2,7 @@
 pub mod Scripts
 pub mod Status
 pub mod Fault
+pub mod Peers
+pub mod Turns
+pub mod Leaving
 pub mod Serving

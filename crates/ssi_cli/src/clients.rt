@@ -6,18 +6,20 @@ ghost use Rattle.ssi_hub.specs.Mirror.{is_stopped, Stands};
 ghost use Rattle.ssi_cli.specs.Machinery.HubRuns.{WasCalled, HasRun};
 
 use crate::AtClose;
-use crate::peer::Peer;
+use crate::peer::{Peer, Ready};
+use crate::stream::Stream;
 use crate::turns::{send, turn};
 use crate::users::Users;
 use indexmap::IndexMap;
 use mio::event::Event;
 use mio::net::{UnixListener, UnixStream};
-use mio::{Events, Registry, Token};
+use mio::{Events, Interest, Registry, Token};
 use ssi_hub::Hub;
 use ssi_reads::Marks;
 use ssi_store::Store;
 use ssi_versions::Chains;
 use std::alloc::Global;
+use std::io;
 use std::io::ErrorKind;
 use std::time::Duration;
 
@@ -34,7 +36,7 @@ const ACCEPT_AGAIN: u64 = 100;
 #[derive(Drop)]
 pub(crate) struct Clients {
     hub: Hub,
-    peers: IndexMap<u64, Peer>,
+    peers: IndexMap<u64, Peer<UnixStream>>,
     // kept if sessions are aborted when a connection is closed
     users: Option<Users>,
     // whether connections may wait in the listener
@@ -114,17 +116,17 @@ impl Clients {
     }
 
     /// Adds a connection, or closes it if memory runs out.
-    fn add(&mut self, alloc: Global, stream: UnixStream, registry: &Registry)
+    fn add(&mut self, alloc: Global, mut stream: UnixStream, registry: &Registry)
         ensures { WasCalled self.old.hub self.new.hub }
     {
         let Ok(token) = self.hub.opened(alloc) else {
             return;
         };
-        let Ok(peer) = Peer::new(stream, registry, Token(token as usize)) else {
+        let Ok(()) = register(&mut stream, registry, token) else {
             self.hub.closed(token);
             return;
         };
-        if self.peers.insert(token, peer).is_err() {
+        if self.peers.insert(token, Peer::new(stream)).is_err() {
             self.hub.closed(token);
         }
     }
@@ -256,8 +258,17 @@ impl Clients {
         let Some(peer) = self.peers.get_index_mut(index) else {
             return;
         };
-        send(token, peer, &mut self.hub);
+        let _ = send(token, peer, &mut self.hub);
     }
+}
+
+/// Has the system report of the connection by its token.
+fn register(stream: &mut UnixStream, registry: &Registry, token: u64) -> io::Result<()> {
+    registry.register(
+        stream,
+        Token(token as usize),
+        Interest::READABLE | Interest::WRITABLE,
+    )
 }
 
 fn users_for(alloc: Global, at_close: AtClose) -> Option<Users> {
@@ -269,13 +280,24 @@ fn users_for(alloc: Global, at_close: AtClose) -> Option<Users> {
 
 /// Notes what the system has reported of a connection. Returns its index, if it is there and has a turn by that: one that had
 /// more to do already has its turn in the next round.
-fn note(event: &Event, peers: &mut IndexMap<u64, Peer>) -> Option<usize> {
+fn note<S: Stream>(event: &Event, peers: &mut IndexMap<u64, Peer<S>>) -> Option<usize> {
     let index = peers.get_index_of(&(event.token().0 as u64))?;
     let peer = peers.get_index_mut(index)?;
     let had_more = peer.is_due();
-    peer.note(event);
+    peer.note(ready(event));
     if had_more {
         return None;
     }
     Some(index)
+}
+
+/// Returns what the event says of its connection.
+fn ready(event: &Event) -> Ready {
+    if event.is_read_closed() || event.is_error() {
+        return Ready::HangsUp;
+    }
+    if event.is_readable() {
+        return Ready::Readable;
+    }
+    Ready::Writable
 }

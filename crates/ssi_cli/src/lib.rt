@@ -6,6 +6,7 @@
 #![tactic(auto)]
 
 mod clients;
+mod closing;
 mod fault;
 mod leaving;
 mod peer;
@@ -15,6 +16,7 @@ mod script_fault;
 mod socket;
 mod status;
 mod store;
+mod stream;
 mod texts;
 mod together;
 mod turns;

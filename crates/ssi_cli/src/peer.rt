@@ -1,25 +1,46 @@
-//! The socket of one of many connections.
+//! The stream of one of many connections.
 
-ghost use Rattle.std.specs.Prelude.{◌≤◌, length};
+ghost use Rattle.std.specs.Prelude.{◌≡◌, ◌≢◌, ◌≤◌, ◌<◌, ◌⊎◌, ℕ, true, false, length, take};
+ghost use Rattle.std.specs.Io.KnownBytes.{Consumes, Appends, Keeps, IsAtEnd};
+ghost use Rattle.ssi_cli.specs.Clauses.Peers.{HasWritten};
+ghost use Rattle.ssi_cli.specs.Mirror.{stream_of, input_of, may_read};
 
-use mio::event::Event;
-use mio::net::UnixStream;
-use mio::{Interest, Registry, Token};
-use std::io;
-use std::io::{ErrorKind, Read, Write};
+use crate::stream::Stream;
+use std::io::ErrorKind;
 
-/// A socket that is registered, and what the system has said of it.
+/// The stream of a connection, and what the system has said of it.
 #[derive(Drop)]
-pub(crate) struct Peer {
-    stream: UnixStream,
+pub(crate) struct Peer<S> {
+    stream: S,
+    input: Input,
     // whether a read may find something
     readable: bool,
     // whether the system has said that the client sends no more, so that a read that fills less than its room isn't the last
     hangs_up: bool,
-    // whether a read has found the end
-    ended: bool,
     // whether something has happened since the last turn
     due: bool,
+}
+
+/// Whether the client still sends.
+#[derive(Clone, Copy, Debug, PartialEq, Eq)]
+pub(crate) enum Input {
+    /// More may come.
+    Open,
+    /// A read has found the end.
+    Ended,
+    /// A read has failed.
+    Failed,
+}
+
+/// What the system has reported of a connection.
+#[derive(Clone, Copy, Debug, PartialEq, Eq)]
+pub(crate) enum Ready {
+    /// The client sends no more, or the connection is broken.
+    HangsUp,
+    /// A read may find something.
+    Readable,
+    /// There is room to write.
+    Writable,
 }
 
 /// What became of a write.
@@ -32,31 +53,41 @@ pub(crate) enum Sent {
     Never,
 }
 
-impl Peer {
-    /// Makes one of a connection that was accepted, and has the system report it by the token.
-    pub(crate) fn new(
-        mut stream: UnixStream,
-        registry: &Registry,
-        token: Token,
-    ) -> io::Result<Peer> {
-        registry.register(&mut stream, token, Interest::READABLE | Interest::WRITABLE)?;
-        Ok(Peer {
+impl<S: Stream> Peer<S> {
+    /// Makes one of a connection of which nothing was reported: nothing is read of it before [`note`](Peer::note) says that
+    /// something may have come.
+    pub(crate) fn new(stream: S) -> Peer<S>
+        ensures stream { stream_of result ≡ stream }
+        ensures input { input_of result ≡ Input.Open }
+    {
+        Peer {
             stream,
+            input: Input::Open,
             readable: false,
             hangs_up: false,
-            ended: false,
             due: false,
-        })
+        }
+    }
+
+    /// Returns the stream.
+    pub fn stream(&self) -> &S
+        ensures { result.now ≡ stream_of self.now }
+    {
+        &self.stream
     }
 
     /// Notes what the system has reported.
-    pub(crate) fn note(&mut self, event: &Event) {
+    pub(crate) fn note(&mut self, ready: Ready)
+        ensures stream { stream_of self.new ≡ stream_of self.old }
+        ensures input { input_of self.new ≡ input_of self.old }
+        ensures readable { ready ≢ Ready.Writable → input_of self.old ≡ Input.Open → may_read self.new ≡ true }
+    {
         self.due = true;
-        if event.is_read_closed() || event.is_error() {
+        if ready == Ready::HangsUp {
             self.hangs_up = true;
         }
-        if event.is_readable() || self.hangs_up {
-            self.readable = !self.ended;
+        if ready == Ready::Readable || self.hangs_up {
+            self.readable = self.input == Input::Open;
         }
     }
 
@@ -66,28 +97,42 @@ impl Peer {
     }
 
     /// Its turn is over, and it has another in the next round, or waits for an event.
-    pub(crate) fn set_due(&mut self, due: bool) {
+    pub(crate) fn set_due(&mut self, due: bool)
+        ensures stream { stream_of self.new ≡ stream_of self.old }
+        ensures input { input_of self.new ≡ input_of self.old }
+    {
         self.due = due;
     }
 
     /// Returns whether a read may find something.
-    pub(crate) fn is_readable(&self) -> bool {
+    pub(crate) fn is_readable(&self) -> bool
+        ensures { result ≡ may_read self.now }
+    {
         self.readable
     }
 
-    /// Returns whether the client sends no more, and all that it sent is read.
-    pub(crate) fn has_ended(&self) -> bool {
-        self.ended
+    /// Returns whether no more is read of it: all that the client sent is read, or a read has failed.
+    pub(crate) fn has_ended(&self) -> bool
+        ensures { result ≡ true → input_of self.now ≢ Input.Open }
+    {
+        self.input != Input::Open
     }
 
     /// Reads what has come, as far as there is room for it. Returns how many bytes it read: none also at the end, and at a
     /// failure, which ends it.
     pub(crate) fn read(&mut self, room: &mut [u8]) -> usize
-        ensures { result ≤ length room.new }
+        ensures bound { result ≤ length room.new }
+        ensures bytes { Consumes (S.remaining (stream_of self.old)) (S.remaining (stream_of self.new)) (take result room.new) }
+        ensures written { S.contents (stream_of self.new) ≡ S.contents (stream_of self.old) }
+        ensures ended { 0 < length room.new → input_of self.new ≡ Input.Ended
+            → (input_of self.old ≡ Input.Ended) ⊎ IsAtEnd (S.remaining (stream_of self.new)) }
+        ensures failed { S.is_steady (stream_of self.old) ≡ true → input_of self.new ≡ Input.Failed → input_of self.old ≡ Input.Failed }
+        ensures steady { S.is_steady (stream_of self.old) ≡ true → (S.is_steady (stream_of self.new) ≡ true)
+            × ((0 < result) ⊎ (input_of self.new ≡ Input.Ended)) }
     {
-        match self.stream.read(room) {
+        match self.stream.pull(room) {
             Ok(0) => {
-                self.end();
+                self.end(Input::Ended);
                 0
             }
             Ok(count) => {
@@ -100,20 +145,29 @@ impl Peer {
             }
             Err(e) if e.kind() == ErrorKind::Interrupted => 0,
             Err(_) => {
-                self.end();
+                self.end(Input::Failed);
                 0
             }
         }
     }
 
-    fn end(&mut self) {
-        self.ended = true;
+    fn end(&mut self, input: Input)
+        ensures stream { stream_of self.new ≡ stream_of self.old }
+        ensures input { input_of self.new ≡ input }
+    {
+        self.input = input;
         self.readable = false;
     }
 
     /// Writes a front of the bytes, which are some.
-    pub(crate) fn write(&mut self, bytes: &[u8]) -> Sent {
-        match self.stream.write(bytes) {
+    pub(crate) fn write(&mut self, bytes: &[u8]) -> Sent
+        ensures bytes { HasWritten S.contents result (stream_of self.old) (stream_of self.new) bytes.now }
+        ensures read { S.remaining (stream_of self.new) ≡ S.remaining (stream_of self.old) }
+        ensures input { input_of self.new ≡ input_of self.old }
+        ensures steady { S.is_steady (stream_of self.old) ≡ true → 0 < length bytes.now
+            → (S.is_steady (stream_of self.new) ≡ true) × ((count : ℕ) × (result ≡ Sent.Bytes count) × (0 < count)) }
+    {
+        match self.stream.push(bytes) {
             Ok(0) => Sent::Never,
             Ok(count) => Sent::Bytes(count),
             Err(e) if e.kind() == ErrorKind::WouldBlock => Sent::Later,

@@ -1,9 +1,19 @@
 //! Which connection has used each session last.
 
+ghost use Rattle.std.specs.Prelude.{◌≡◌, ◌≤◌, ℕ, List, length, true, None, Some, OnOk, OnErr, IfSome, if◌then◌else◌};
+ghost use Rattle.ssi_store.specs.Mirror.Commands.{command_of};
+ghost use Rattle.ssi_line.specs.Meaning.Steps.{Step, IsStep};
+ghost use Rattle.ssi_line.specs.Clauses.Answers.{kept};
+ghost use Rattle.ssi_cli.specs.Meaning.Users.{session_of, session_in, is_it};
+ghost use Rattle.ssi_cli.specs.Mirror.{last_in};
+
 use indexmap::{IndexMap, IndexSet};
 use ssi_line::{Line, read_line};
 use ssi_store::{Command, Session};
 use std::alloc::{AllocError, Global};
+
+/// The most bytes of a line, without its line feed.
+const MAX_LINE_LEN: usize = 4096;
 
 /// For each session the connection that sent the last command of it.
 #[derive(Drop)]
@@ -15,23 +25,39 @@ pub(crate) struct Users {
 
 impl Users {
     /// Makes a table without sessions.
-    pub(crate) fn new(alloc: Global) -> Users {
+    pub(crate) fn new(alloc: Global) -> Users
+        ensures { (s : List ℕ) → last_in result s ≡ None }
+    {
         Users {
             last: IndexMap::new(alloc),
             used: IndexMap::new(alloc),
         }
     }
 
-    /// Notes that the connection has sent this line. `AllocError` if memory runs out.
-    pub(crate) fn note(
-        &mut self,
-        alloc: Global,
-        token: u64,
-        line: &[u8],
-    ) -> Result<(), AllocError> {
+    /// Notes that the connection has sent this line: if it is a command of a session, the connection has used that one last.
+    /// `AllocError` if memory runs out; then each session has the user that it had.
+    pub(crate) fn note(&mut self, alloc: Global, token: u64, line: &[u8]) -> Result<(), AllocError>
+        ensures ok { OnOk result ((text : List ℕ) (step : Step) → kept line.now ≡ kept text → IsStep text step
+            → (s : List ℕ) → last_in self.new s ≡ (if is_it s (session_in step) then Some token else last_in self.old s)) }
+        ensures err { OnErr result ((s : List ℕ) → last_in self.new s ≡ last_in self.old s) }
+    {
         let Some(session) = session_in(line) else {
             return Ok(());
         };
+        self.note_session(alloc, token, session)
+    }
+
+    /// Notes that the connection has used the session.
+    fn note_session(
+        &mut self,
+        alloc: Global,
+        token: u64,
+        session: Session,
+    ) -> Result<(), AllocError>
+        ensures ok { OnOk result ((s : List ℕ)
+            → last_in self.new s ≡ (if is_it s (Some session) then Some token else last_in self.old s)) }
+        ensures err { OnErr result ((s : List ℕ) → last_in self.new s ≡ last_in self.old s) }
+    {
         if self.is_last(token, &session) {
             return Ok(());
         }
@@ -42,14 +68,18 @@ impl Users {
         }
     }
 
-    fn is_last(&self, token: u64, session: &Session) -> bool {
+    fn is_last(&self, token: u64, session: &Session) -> bool
+        ensures { result ≡ true → last_in self.now session.now ≡ Some token }
+    {
         match self.last.get(session) {
             Some(last) => *last == token,
             None => false,
         }
     }
 
-    fn add(&mut self, alloc: Global, token: u64, session: Session) -> Result<(), AllocError> {
+    fn add(&mut self, alloc: Global, token: u64, session: Session) -> Result<(), AllocError>
+        ensures { self.new.last ≡ self.old.last }
+    {
         if let Some(sessions) = self.used.get_mut(&token) {
             return put(sessions, session);
         }
@@ -58,7 +88,9 @@ impl Users {
         self.keep(token, sessions)
     }
 
-    fn keep(&mut self, token: u64, sessions: IndexSet<Session>) -> Result<(), AllocError> {
+    fn keep(&mut self, token: u64, sessions: IndexSet<Session>) -> Result<(), AllocError>
+        ensures { self.new.last ≡ self.old.last }
+    {
         match self.used.insert(token, sessions) {
             Ok(_) => Ok(()),
             Err(_) => Err(AllocError),
@@ -66,7 +98,10 @@ impl Users {
     }
 
     /// Returns a session that the connection has used last. `None` if there is none.
-    pub(crate) fn next_of(&mut self, token: u64) -> Option<Session> {
+    pub(crate) fn next_of(&mut self, token: u64) -> Option<Session>
+        ensures user { IfSome result (λ s. last_in self.old s ≡ Some token) }
+        ensures last { self.new.last ≡ self.old.last }
+    {
         for _ in 0..u64::MAX {
             let session = self.last_used(token)?;
             if self.is_last(token, &session) {
@@ -82,20 +117,26 @@ impl Users {
         Some(*session)
     }
 
-    fn pop(&mut self, token: u64) {
+    fn pop(&mut self, token: u64)
+        ensures { self.new.last ≡ self.old.last }
+    {
         if let Some(sessions) = self.used.get_mut(&token) {
             let _ = sessions.pop();
         }
     }
 
     /// Forgets a session that [`next_of`](Users::next_of) has returned.
-    pub(crate) fn forget(&mut self, token: u64, session: &Session) {
+    pub(crate) fn forget(&mut self, token: u64, session: &Session)
+        ensures { (s : List ℕ) → last_in self.new s ≡ (if is_it s (Some session.now) then None else last_in self.old s) }
+    {
         let _ = self.last.swap_remove(session);
         self.pop(token);
     }
 
     /// Forgets a connection.
-    pub(crate) fn remove(&mut self, token: u64) {
+    pub(crate) fn remove(&mut self, token: u64)
+        ensures { self.new.last ≡ self.old.last }
+    {
         let _ = self.used.swap_remove(&token);
     }
 }
@@ -108,15 +149,33 @@ fn put(sessions: &mut IndexSet<Session>, session: Session) -> Result<(), AllocEr
 }
 
 /// Returns the session that the line is a command of, if it is one.
-fn session_in(line: &[u8]) -> Option<Session> {
-    match read_line(line)? {
+#[tactic(auto, using(crate::proofs::UsedLines::long_named))]
+fn session_in(line: &[u8]) -> Option<Session>
+    ensures { (text : List ℕ) (step : Step) → kept line.now ≡ kept text → IsStep text step → session_in step ≡ result }
+{
+    if line.len() > MAX_LINE_LEN {
+        return None;
+    }
+    session_in_short(line)
+}
+
+fn session_in_short(line: &[u8]) -> Option<Session>
+    requires { length line.now ≤ 4096 }
+    ensures { (text : List ℕ) (step : Step) → kept line.now ≡ kept text → IsStep text step → session_in step ≡ result }
+{
+    let Some(asked) = read_line(line) else {
+        return None;
+    };
+    match asked {
         Line::Do(command) => session_of(command),
         Line::Stop => None,
         Line::Dump => None,
     }
 }
 
-fn session_of(command: Command) -> Option<Session> {
+fn session_of(command: Command) -> Option<Session>
+    ensures { result ≡ session_of (command_of command) }
+{
     match command {
         Command::Begin { session } => Some(session),
         Command::Get { session, .. } => Some(session),

@@ -1,21 +1,26 @@
 -- What a hub stands for after a run.
 use Rattle.std.proofs.Common.{◌≡◌, ◌≢◌, ℕ, ◌<◌, ◌≤◌, List, [], ◌∷◌, ◌++◌, Bool, true, false, cond, Option, Some, None, Result, Ok, Err, length}
-use Rattle.std.proofs.Common.{refl, sym, ap, subst, ◌∙◌, append_assoc, append-nil, inl, inr, ◌⊎◌}
-use Rattle.std.specs.Prelude.{◌==◌, All, IsSome, IsOk, is_err}
+use Rattle.std.proofs.Common.{refl, sym, ap, subst, ◌∙◌, append_assoc, append-nil, inl, inr, ◌⊎◌, arith, take}
+use Rattle.std.specs.Prelude.{◌==◌, All, IsSome, IsOk, is_err, ◌||◌}
 use Rattle.std.proofs.lemmas.Option.{same_Some, none-some}
 use Rattle.std.proofs.lemmas.Bool.{eq-eqb, ne_eqb, both_ways}
-use Rattle.std.proofs.lemmas.List.Elements.{All-nil, All-append}
+use Rattle.std.proofs.lemmas.List.Elements.{All-nil, All-append, All-head}
+use Rattle.std.proofs.lemmas.List.Folds.{list_any-append}
 use Rattle.adya_line.specs.Meaning.Lines.{IsPlain}
+use Rattle.adya_text.specs.Meaning.Texts.{with_ends}
 use Rattle.ssi_store.specs.Meaning.Courses.{Course}
-use Rattle.ssi_line.specs.Meaning.Steps.{Step, Stopped, AllGoOn, steps_text, is_stop, course_with, course_after, AllMayFollow, EndsWith}
+use Rattle.ssi_line.specs.Meaning.Steps.{Step, Stopped, AreSteps, AllGoOn, steps_text, is_stop, course_with, course_after, AllMayFollow, EndsWith}
 use Rattle.ssi_line.specs.Clauses.Ends.{WentOn}
-use Rattle.ssi_hub.specs.Clauses.Clipping.{clipped}
+use Rattle.ssi_line.specs.Clauses.Answers.{kept}
+use Rattle.ssi_hub.specs.Clauses.Clipping.{clipped, has_line}
 use Rattle.ssi_hub.specs.Clauses.Buffers.{Buffers}
-use Rattle.ssi_hub.specs.Clauses.Runs.{EndsSo, CarriedOut, left_by}
+use Rattle.ssi_hub.specs.Clauses.Runs.{EndsSo, CarriedOut, IsEnough, IsTaken, left_by}
 use Rattle.ssi_hub.specs.Clauses.Calls.{Call, Received, Ran, Wrote, Closed, token_of, is_open, all_steps, with_call, with_run}
 use Rattle.ssi_hub.specs.Clauses.Serving.{IsServed, StandsFor}
 use Rattle.ssi_hub.specs.Machinery.Changes.{Changes, AreSame, CarriesOut, RanAt, RanNothing}
 use Rattle.ssi_hub.proofs.Served.{served_ran}
+use Rattle.ssi_hub.proofs.Clips.{one_cut}
+use Rattle.ssi_hub.proofs.Carrying.{cut_bytes, kept_first}
 use Rattle.ssi_hub.proofs.Standing.{Served, shown, stands_same, stands_more, closed_stands, given_open}
 
 ends_both : (stops : Bool) (before steps : List Step) → AllGoOn before → EndsSo stops steps → EndsSo stops (before ++ steps)
@@ -99,10 +104,78 @@ none_added t calls = by_open (is_open t calls)
     by_open true = refl
     by_open false = sym (append-nil (all_steps calls))
 
+-- ---- which lines were carried out
+
+feeds : (line rest : List ℕ) → has_line (line ++ (10 ∷ rest)) ≡ true
+feeds line rest = list_any-append (λ b. b == 10) line (10 ∷ rest) ∙ either (has_line line)
+  where
+    either : (b : Bool) → b || true ≡ true
+    either true = refl
+    either false = refl
+
+not_stopped : (stops : Bool) → EndsSo stops [] → stops ≡ false
+not_stopped false ends = refl
+not_stopped true ends = absurd (not_last ends.before ends.is)
+  where
+    not_last : (before : List Step) → [] ≡ before ++ (Stopped ∷ []) → ⊥
+    not_last [] is = cc
+    not_last (s ∷ ss) is = cc
+
+not_lost : (lost : Bool) → (lost ≡ true → 0 < 0) → lost ≡ false
+not_lost false some = refl
+not_lost true some = absurd (omega (arith, some refl))
+
+no_steps : (steps : List Step) → AreSteps [] steps → steps ≡ []
+no_steps [] made = refl
+no_steps (s ∷ ss) made = absurd made
+
+-- a line was carried out if one could be, and it is the one that waited
+first_taken : {T : Type 0} (is_at : T → Course → Type 0) (old now : Buffers) (bytes left : List ℕ) (stops lost : Bool)
+    (most : ℕ) (lines : List (List ℕ)) (steps : List Step) (store after : T) (line rest : List ℕ)
+    → CarriedOut is_at old bytes store stops lost lines steps left now after → IsEnough stops lost most lines now
+    → old.waiting ≡ clipped bytes → old.waiting ≡ line ++ (10 ∷ rest) → IsPlain line → length old.unsent ≤ 65536 → 0 < most
+    → (text : List ℕ) × (others : List (List ℕ)) × (lines ≡ text ∷ others) × (kept line ≡ kept text)
+first_taken is_at old now bytes left stops lost most (text ∷ others) steps store after line rest so enough waits is plain short one =
+    let (whole, behind, without, cut, front, more) = cut_bytes bytes line rest (sym waits ∙ is) plain in
+    let same : text ≡ whole =
+    (one_cut text (with_ends others ++ left) whole behind (All-head IsPlain text others so.plain) without
+    (sym (append_assoc text (10 ∷ with_ends others) left) ∙ sym so.cut ∙ cut)).0 in
+    (text, others, refl, ap (λ (l : List ℕ). kept l) front ∙ kept_first whole ∙ ap (λ (l : List ℕ). kept l) (sym same))
+first_taken is_at old now bytes left stops lost most [] steps store after line rest so enough waits is plain short one =
+    let none : steps ≡ [] = no_steps steps so.made in
+    let goes : stops ≡ false = not_stopped stops (subst (λ (l : List Step). EndsSo stops l) none so.ends) in
+    let replied : lost ≡ false = not_lost lost enough.some in
+    let still : has_line now.waiting ≡ true =
+    ap (λ (l : List ℕ). has_line l) (so.waits ∙ ap (λ (l : List ℕ). clipped l) (sym so.cut) ∙ sym waits ∙ is) ∙ feeds line rest in
+    let unsent : now.unsent ≡ old.unsent =
+    so.replies replied ∙ ap (λ (l : List Step). old.unsent ++ steps_text l) none ∙ append-nil old.unsent in
+    absurd (paused enough.paused goes replied still (ap (λ (l : List ℕ). length l) unsent))
+  where
+    paused : (stops ≡ false → lost ≡ false → has_line now.waiting ≡ true → (0 ≡ most) ⊎ (65536 < length now.unsent))
+        → stops ≡ false → lost ≡ false → has_line now.waiting ≡ true → length now.unsent ≡ length old.unsent → ⊥
+    paused why goes replied still counted = by_reason (why goes replied still)
+      where
+        by_reason : (0 ≡ most) ⊎ (65536 < length now.unsent) → ⊥
+        by_reason (inl all) = absurd (omega (arith, all, one))
+        by_reason (inr many) = absurd (omega (arith, many, counted, short))
+
+none_taken : (stopped lost : Bool) (most : ℕ) (had : Option Buffers) → (stopped ≡ true) ⊎ (had ≡ None) → lost ≡ false
+    → IsTaken stopped lost most had [] []
+none_taken stopped lost most had why fine = record {
+  few = omega arith;
+  some = λ e. absurd (both_ways lost fine e);
+  made = tt;
+  first = λ b line rest goes has is plain short one. absurd (neither b why goes has);
+}
+  where
+    neither : (b : Buffers) → (stopped ≡ true) ⊎ (had ≡ None) → stopped ≡ false → had ≡ Some b → ⊥
+    neither b (inl is) goes has = absurd (both_ways stopped goes is)
+    neither b (inr none) goes has = absurd (none-some b (sym none ∙ has))
+
 pub ran_stands : {T : Type 0} (is_at : T → Course → Type 0) (b new : ℕ → Option Buffers) (next t : ℕ) (stops lost : Bool)
     (most : ℕ) (store after : T) (calls : List Call) → StandsFor b next false calls
     → RanAt is_at b t store stops lost most new after
-    → (lines : List (List ℕ)) × (steps : List Step) × (lost ≡ true → 0 < length lines)
+    → (lines : List (List ℕ)) × (steps : List Step) × IsTaken false lost most (b t) lines steps
     × StandsFor new next stops (with_run lost t lines steps calls)
     × WentOn is_at store steps after × (all_steps (with_run lost t lines steps calls) ≡ all_steps calls ++ steps)
 ran_stands is_at b new next t stops lost most store after calls s ran =
@@ -111,7 +184,16 @@ ran_stands is_at b new next t stops lost most store after calls s ran =
     let (lines, steps, left, so, enough) = ran.carried bytes (ap (λ (x : Buffers). x.waiting) is) in (
       lines,
       steps,
-      enough.some,
+      record {
+        few = enough.few;
+        some = enough.some;
+        made = so.made;
+        first = λ x line rest goes had waits plain short one.
+            let same = same_Some ran.before x (sym ran.has ∙ had) in
+            first_taken is_at ran.before ran.now bytes left stops lost most lines steps store after line rest so enough
+            (ap (λ (y : Buffers). y.waiting) is) (ap (λ (y : Buffers). y.waiting) same ∙ waits) plain
+            (subst (λ (y : Buffers). length y.unsent ≤ 65536) (sym same) short) one;
+      },
       by_loss lost bytes unsent left lines steps opened served is so ran.changes,
       so.went,
       run_adds lost t lines steps calls opened,
@@ -168,19 +250,19 @@ pub run_stands : {T : Type 0} (is_at : T → Course → Type 0) (b new : ℕ →
     → ((stopped ≡ true) ⊎ (b t ≡ None) → ((u : ℕ) → new u ≡ b u) × (ends ≡ stopped) × (after ≡ store))
     → ((stopped ≡ true) ⊎ (b t ≡ None) → lost ≡ false)
     → (stopped ≡ false → IsSome (b t) → RanAt is_at b t store ends lost most new after) → later ≡ next
-    → (lines : List (List ℕ)) × (steps : List Step) × (lost ≡ true → 0 < length lines)
+    → (lines : List (List ℕ)) × (steps : List Step) × IsTaken stopped lost most (b t) lines steps
     × StandsFor new later ends (with_run lost t lines steps calls) × WentOn is_at store steps after
     × (all_steps (with_run lost t lines steps calls) ≡ all_steps calls ++ steps)
 run_stands is_at b new next later t stopped ends lost most store after calls s idle fine ran next_is = by_stop stopped refl
   where
     nothing : (stopped ≡ true) ⊎ (b t ≡ None) → (lines : List (List ℕ)) × (steps : List Step)
-        × (lost ≡ true → 0 < length lines) × StandsFor new later ends (with_run lost t lines steps calls)
+        × IsTaken stopped lost most (b t) lines steps × StandsFor new later ends (with_run lost t lines steps calls)
         × WentOn is_at store steps after × (all_steps (with_run lost t lines steps calls) ≡ all_steps calls ++ steps)
     nothing why =
         let (same, stops, store_is) = idle why in (
           [],
           [],
-          λ e. absurd (both_ways lost (fine why) e),
+          none_taken stopped lost most (b t) why (fine why),
           stands_same b new next later stopped ends (with_run lost t [] [] calls) same next_is stops
               (subst (λ e. StandsFor b next stopped (with_run e t [] [] calls)) (sym (fine why))
               (nothing_ran b next t stopped calls s)),
@@ -189,21 +271,27 @@ run_stands is_at b new next later t stopped ends lost most store after calls s i
         )
 
     by_stop : (o : Bool) → stopped ≡ o → (lines : List (List ℕ)) × (steps : List Step)
-        × (lost ≡ true → 0 < length lines) × StandsFor new later ends (with_run lost t lines steps calls)
+        × IsTaken stopped lost most (b t) lines steps × StandsFor new later ends (with_run lost t lines steps calls)
         × WentOn is_at store steps after × (all_steps (with_run lost t lines steps calls) ≡ all_steps calls ++ steps)
     by_stop true is = nothing (inl is)
     by_stop false is = by_buffers (b t) refl
       where
         by_buffers : (o : Option Buffers) → b t ≡ o → (lines : List (List ℕ)) × (steps : List Step)
-            × (lost ≡ true → 0 < length lines) × StandsFor new later ends (with_run lost t lines steps calls)
+            × IsTaken stopped lost most (b t) lines steps × StandsFor new later ends (with_run lost t lines steps calls)
             × WentOn is_at store steps after × (all_steps (with_run lost t lines steps calls) ≡ all_steps calls ++ steps)
         by_buffers None none = nothing (inr none)
         by_buffers (Some x) some =
             let so = ran is (subst (λ (o : Option Buffers). IsSome o) (sym some) (one_is x)) in
             let (lines, steps, one, stands, went, more) =
             ran_stands is_at b new next t ends lost most store after calls
-            (subst (λ e. StandsFor b next e calls) is s) so in
-            (lines, steps, one, subst (λ n. StandsFor new n ends (with_run lost t lines steps calls)) (sym next_is) stands, went, more)
+            (subst (λ e. StandsFor b next e calls) is s) so in (
+              lines,
+              steps,
+              subst (λ e. IsTaken e lost most (b t) lines steps) (sym is) one,
+              subst (λ n. StandsFor new n ends (with_run lost t lines steps calls)) (sym next_is) stands,
+              went,
+              more,
+            )
 
 -- ---- the course of the store
 

@@ -9,7 +9,7 @@ ghost use Rattle.ssi_line.specs.Clauses.Ends.{WentOn};
 ghost use Rattle.adya_line.specs.Meaning.Lines.{IsPlain};
 ghost use Rattle.ssi_hub.specs.Clauses.Clipping.{clipped, has_line};
 ghost use Rattle.ssi_hub.specs.Clauses.Buffers.{Buffers, no_bytes, with_received, with_written, first_unsent};
-ghost use Rattle.ssi_hub.specs.Clauses.Runs.{CarriedOut, IsEnough, left_by};
+ghost use Rattle.ssi_hub.specs.Clauses.Runs.{CarriedOut, IsEnough, IsTaken, left_by};
 ghost use Rattle.ssi_hub.specs.Clauses.Calls.{Call, Opened, Received, Wrote, Closed, with_call, with_run, all_steps};
 ghost use Rattle.ssi_hub.specs.Machinery.Changes.{RanAt};
 ghost use Rattle.ssi_hub.specs.Mirror.{buffers_of, next_token, is_stopped, Changed, IsSame, Stands, Serves};
@@ -109,7 +109,8 @@ impl Hub {
         ensures others { (u : ℕ) → u ≢ token → buffers_of self.new u ≡ buffers_of self.old u }
         ensures next { next_token self.new ≡ next_token self.old }
         ensures stands { (calls : List Call) → Stands self.old calls
-            → (lines : List (List ℕ)) × (steps : List Step) × (IsErr result → 0 < length lines)
+            → (lines : List (List ℕ)) × (steps : List Step)
+            × IsTaken (is_stopped self.old) (is_err result) most (buffers_of self.old token) lines steps
             × Stands self.new (with_run (is_err result) token lines steps calls)
             × WentOn (IsAt C.held M.marked) store.old steps store.new
             × (all_steps (with_run (is_err result) token lines steps calls) ≡ all_steps calls ++ steps) }

@@ -6,6 +6,7 @@ use Rattle.adya_text.specs.Meaning.Texts.{with_ends}
 use Rattle.ssi_store.specs.Meaning.Courses.{Course}
 use Rattle.ssi_line.specs.Meaning.Steps.{Step, Stopped, AreSteps, AllGoOn, step_text, steps_text, EndsWith}
 use Rattle.ssi_line.specs.Clauses.Ends.{WentOn}
+use Rattle.ssi_line.specs.Clauses.Answers.{kept}
 use Rattle.ssi_hub.specs.Clauses.Clipping.{clipped, has_line}
 use Rattle.ssi_hub.specs.Clauses.Buffers.{Buffers}
 
@@ -41,6 +42,18 @@ pub record IsEnough (stops lost : Bool) (most : ℕ) (lines : List Bytes) (new :
   pub some : lost ≡ true → 0 < length lines
   pub paused : stops ≡ false → lost ≡ false → has_line new.waiting ≡ true
       → (length lines ≡ most) ⊎ (65536 < length new.unsent)
+
+-- these lines of a connection that had these buffers were carried out, and made these steps: at most so many; one at least if a
+-- reply is lost. If the run wasn't stopped, a whole line waited and at most 65536 bytes were unsent, then the first one is
+-- the line that waited
+pub record IsTaken (stopped lost : Bool) (most : ℕ) (had : Option Buffers) (lines : List Bytes) (steps : List Step)
+    : Type 0 where
+  pub few : length lines ≤ most
+  pub some : lost ≡ true → 0 < length lines
+  pub made : AreSteps lines steps
+  pub first : (b : Buffers) (line rest : Bytes) → stopped ≡ false → had ≡ Some b → b.waiting ≡ line ++ (10 ∷ rest)
+      → IsPlain line → length b.unsent ≤ 65536 → 0 < most
+      → (text : Bytes) × (others : List Bytes) × (lines ≡ text ∷ others) × (kept line ≡ kept text)
 
 -- what the hub then has of the connection: it is closed if its last reply is lost
 abbrev pub left_by : Bool → Buffers → Option Buffers

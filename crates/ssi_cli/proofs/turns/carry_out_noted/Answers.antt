@@ -17,4 +17,4 @@ loop-preserved g c =
     run_both (IsAt {g = g.C.Chains} {h = g.M.Marks} g.C.Chains.held g.M.Marks.marked) c.args.hub.now c.loop.hub
     c.run.new.self c.args.store.now c.loop.store c.run.new.store c.loop.invariant
     (ran (IsAt {g = g.C.Chains} {h = g.M.Marks} g.C.Chains.held g.M.Marks.marked) c.loop.hub c.run.new.self c.loop.store
-    c.run.new.store c.args.token (is_err c.run.result) c.run.ensures.stands)
+    c.run.new.store c.args.token 1 (is_err c.run.result) c.run.ensures.stands)

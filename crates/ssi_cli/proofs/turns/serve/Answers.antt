@@ -9,8 +9,8 @@ returns-else-has_ended g c =
     run_then_called (IsAt {g = g.C.Chains} {h = g.M.Marks} g.C.Chains.held g.M.Marks.marked) c.args.hub.now c.carry_out.new.hub
     c.send.new.hub c.args.store.now c.carry_out.new.store
     (called_then_run (IsAt {g = g.C.Chains} {h = g.M.Marks} g.C.Chains.held g.M.Marks.marked) c.args.hub.now c.receive.new.hub
-    c.carry_out.new.hub c.args.store.now c.carry_out.new.store c.receive.ensures c.carry_out.ensures)
-    c.send.ensures
+    c.carry_out.new.hub c.args.store.now c.carry_out.new.store c.receive.ensures.called c.carry_out.ensures)
+    c.send.ensures.called
 
 pub returns-then-not-wants_write : goal.returns-then-not-wants_write
 returns-then-not-wants_write g c =
@@ -20,5 +20,5 @@ returns-then-not-wants_write g c =
     run_then_called (IsAt {g = g.C.Chains} {h = g.M.Marks} g.C.Chains.held g.M.Marks.marked) c.args.hub.now c.carry_out.new.hub
     c.closed.new.self c.args.store.now c.carry_out.new.store
     (called_then_run (IsAt {g = g.C.Chains} {h = g.M.Marks} g.C.Chains.held g.M.Marks.marked) c.args.hub.now c.receive.new.hub
-    c.carry_out.new.hub c.args.store.now c.carry_out.new.store c.receive.ensures c.carry_out.ensures)
-    (called_both c.carry_out.new.hub c.send.new.hub c.closed.new.self c.send.ensures closed)
+    c.carry_out.new.hub c.args.store.now c.carry_out.new.store c.receive.ensures.called c.carry_out.ensures)
+    (called_both c.carry_out.new.hub c.send.new.hub c.closed.new.self c.send.ensures.called closed)

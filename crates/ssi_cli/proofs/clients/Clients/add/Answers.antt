@@ -3,8 +3,8 @@ use Rattle.ssi_hub.specs.Clauses.Calls.{Closed}
 use Rattle.ssi_cli.proofs.HubRuns.{called_opened, called_with, called_both}
 use Rattle.ssi_cli.proofs.clients.Clients.add.Goals as goal
 
-pub returns-in_default-new : goal.returns-in_default-new
-returns-in_default-new c =
+pub returns-in_default-register : goal.returns-in_default-register
+returns-in_default-register c =
     called_both c.args.self.now.hub c.opened.new.self c.closed.new.self
     (called_opened c.args.self.now.hub c.opened.new.self c.in-Ok.token c.opened.ensures.stopped c.in-Ok.ensures.stands)
     (called_with c.opened.new.self c.closed.new.self (Closed c.in-Ok.token) (λ calls. refl) c.closed.ensures.closed.stopped

@@ -20,4 +20,4 @@ returns-clause-serves g c = λ start calls s.
     let both =
     course_goes_on (IsAt {g = g.C.Chains} {h = g.M.Marks} g.C.Chains.held g.M.Marks.marked) start calls
     (with_run (is_err c.carry_out.result) c.args.token lines steps calls) steps c.args.store.now c.carry_out.new.store s.follow s.at went more in
-    (lines, steps, one, record { stands = stands; follow = both.0; at = both.1 })
+    (lines, steps, one.some, record { stands = stands; follow = both.0; at = both.1 })

@@ -1,0 +1,160 @@
+-- Which session a line is of.
+use Rattle.std.proofs.Common.{◌≡◌, ℕ, suc, ◌+◌, ◌≤◌, ◌<◌, List, [], ◌∷◌, ◌++◌, Bool, true, false, cond, Option, Some, None, refl, sym, ap, subst, ◌∙◌, length, arith}
+use Rattle.std.specs.Prelude.{nat_le, nat_lt, nat_eq, ◌&&◌, codes, decimal, ◌^◌}
+use Rattle.std.specs.Cmp.Lexicographic.{pointwise, bytes_decides}
+use Rattle.std.specs.List.{list_all}
+use Rattle.std.proofs.lemmas.Bool.{leb-true, le-leb, and_parts}
+use Rattle.std.proofs.lemmas.Option.{same_Some, none-some}
+use Rattle.std.proofs.lemmas.List.{length-append}
+use Rattle.std.proofs.lemmas.Fmt.{length-decimal-le}
+use Rattle.adya_keys.specs.Meaning.Keys.{is_text, is_key_byte, is_value_byte, IsMod}
+use Rattle.ssi_store.specs.Meaning.Sessions.{is_session_byte}
+use Rattle.ssi_store.specs.Meaning.Courses.{Command, Begin, Get, Put, Del, Scan, ScanFirst, Commit, Abort, Collect, Stat}
+use Rattle.ssi_line.specs.Meaning.Spelling.{Line, Do, Stop, Dump, IsCommand, IsLineOf, IsNoLine, command_text, line_text, spaced}
+use Rattle.ssi_line.specs.Clauses.Reading.{IsOnlyLineOf}
+use Rattle.ssi_line.specs.Clauses.Answers.{kept}
+use Rattle.ssi_line.specs.Meaning.Steps.{Step, Given, Dumped, NotDumped, Stopped, NotRead, TooLong, IsStep}
+use Rattle.ssi_cli.specs.Meaning.Users.{session_of, session_in}
+
+-- ---- no command is too long
+
+text_fits : (limit : ℕ) (may : ℕ → Bool) (bytes : List ℕ) → is_text limit may bytes ≡ true → length bytes ≤ limit
+text_fits limit may bytes good =
+    leb-true (length bytes) limit (and_parts (nat_lt 0 (length bytes)) (nat_le (length bytes) limit)
+    (and_parts (nat_lt 0 (length bytes) && nat_le (length bytes) limit) (list_all may bytes) good).0).1
+
+session_fits : (s : List ℕ) → is_text 16 is_session_byte s ≡ true → length s ≤ 64
+session_fits s good = omega (arith, text_fits 16 is_session_byte s good)
+
+key_fits : (k : List ℕ) → is_text 32 is_key_byte k ≡ true → length k ≤ 64
+key_fits k good = omega (arith, text_fits 32 is_key_byte k good)
+
+-- words of at most 64 bytes
+more : (n : ℕ) (a b : List ℕ) (ws : List (List ℕ)) → length a ≤ 64 → length (spaced (b ∷ ws)) ≤ n
+    → length (spaced (a ∷ b ∷ ws)) ≤ n + 65
+more n a b ws first rest = omega (arith, length-append a (32 ∷ spaced (b ∷ ws)), first, rest)
+
+few_digits : (n : ℕ) → IsMod n → length (decimal n) ≤ 5
+few_digits n is = let (some, below) = is in length-decimal-le 5 n (omega arith) (omega (arith, below)) (omega (arith, below))
+
+short_command : (c : Command) → IsCommand c → length (command_text c) ≤ 4096
+short_command (Begin s) good = omega (arith, more 64 (codes "begin") s [] (omega arith) (session_fits s good))
+short_command (Get s k) good =
+    omega (
+      arith,
+      more 129 (codes "get") s (k ∷ []) (omega arith)
+          (more 64 s k [] (session_fits s good.0) (key_fits k good.1)),
+    )
+short_command (Put s k v) good =
+    omega (
+      arith,
+      more 194 (codes "put") s (k ∷ v ∷ []) (omega arith)
+          (more 129 s k (v ∷ []) (session_fits s good.0)
+          (more 64 k v [] (key_fits k good.1) (text_fits 64 is_value_byte v good.2))),
+    )
+short_command (Del s k) good =
+    omega (
+      arith,
+      more 129 (codes "del") s (k ∷ []) (omega arith)
+          (more 64 s k [] (session_fits s good.0) (key_fits k good.1)),
+    )
+short_command (Scan s low high) good =
+    omega (
+      arith,
+      more 194 (codes "scan") s (low ∷ high ∷ []) (omega arith)
+          (more 129 s low (high ∷ []) (session_fits s good.0)
+          (more 64 low high [] (key_fits low good.1) (key_fits high good.2))),
+    )
+short_command (ScanFirst s low high n) good =
+    let (of, from, to, is) = good in
+    let digits = few_digits n is in
+    omega (
+      arith,
+      more 259 (codes "scan") s (low ∷ high ∷ decimal n ∷ []) (omega arith)
+          (more 194 s low (high ∷ decimal n ∷ []) (session_fits s of)
+          (more 129 low high (decimal n ∷ []) (key_fits low from)
+          (more 64 high (decimal n) [] (key_fits high to) (omega (arith, digits))))),
+    )
+short_command (Commit s) good = omega (arith, more 64 (codes "commit") s [] (omega arith) (session_fits s good))
+short_command (Abort s) good = omega (arith, more 64 (codes "abort") s [] (omega arith) (session_fits s good))
+short_command Collect good = omega arith
+short_command Stat good = omega arith
+
+-- ---- the session of a line, by any step that it makes
+
+abbrev pub session_of_line : Line → Option (List ℕ)
+session_of_line (Do c) = session_of c
+session_of_line Stop = None
+session_of_line Dump = None
+
+kept_by : (fits : Bool) (line text : List ℕ) → cond fits (Some line) None ≡ Some text → line ≡ text
+kept_by true line text e = same_Some line text e
+kept_by false line text e = absurd (none-some text e)
+
+-- what is kept of a short line is kept of no other line
+kept_same : (line text : List ℕ) → length line ≤ 4096 → kept line ≡ kept text → text ≡ line
+kept_same line text short same =
+    kept_by (nat_le (length text) 4096) text line
+    (sym same ∙ ap (λ b. cond b (Some line) None) (le-leb (length line) 4096 short))
+
+stop_line : (text : List ℕ) → text ≡ line_text Stop → IsLineOf Stop text
+stop_line text is = record { good = tt; same = is }
+
+dump_line : (text : List ℕ) → text ≡ line_text Dump → IsLineOf Dump text
+dump_line text is = record { good = tt; same = is }
+
+by_step : (text : List ℕ) (x : Line) (step : Step) → IsOnlyLineOf x text → length text ≤ 4096 → IsStep text step
+    → session_in step ≡ session_of_line x
+by_step text x (Given c a) only short is = ap session_of_line (only.only (Do c) is)
+by_step text x (Dumped h ts) only short is = ap session_of_line (only.only Dump (dump_line text is.0))
+by_step text x NotDumped only short is = ap session_of_line (only.only Dump (dump_line text is))
+by_step text x Stopped only short is = ap session_of_line (only.only Stop (stop_line text is))
+by_step text x NotRead only short is = absurd (is.1 x only.line)
+by_step text x TooLong only short is = absurd (omega (arith, short, is))
+
+pub line_named : (line : List ℕ) (x : Line) → IsOnlyLineOf x line → length line ≤ 4096
+    → (text : List ℕ) (step : Step) → kept line ≡ kept text → IsStep text step → session_in step ≡ session_of_line x
+line_named line x only short text step same is =
+    let text_is = kept_same line text short same in
+    by_step line x step only short (subst (λ (l : List ℕ). IsStep l step) text_is is)
+
+nothing_named : (text : List ℕ) (step : Step) → IsNoLine text → IsStep text step → session_in step ≡ None
+nothing_named text (Given c a) none is = absurd (none (Do c) is)
+nothing_named text (Dumped h ts) none is = refl
+nothing_named text NotDumped none is = refl
+nothing_named text Stopped none is = refl
+nothing_named text NotRead none is = refl
+nothing_named text TooLong none is = refl
+
+pub no_line_named : (line : List ℕ) → IsNoLine line → length line ≤ 4096
+    → (text : List ℕ) (step : Step) → kept line ≡ kept text → IsStep text step → session_in step ≡ None
+no_line_named line none short text step same is =
+    let text_is = kept_same line text short same in
+    nothing_named line step none (subst (λ (l : List ℕ). IsStep l step) text_is is)
+
+too_long : (line text : List ℕ) → 4096 < length line → kept line ≡ kept text → length text ≤ 4096 → ⊥
+too_long line text long same short =
+    let text_is = kept_same text line short (sym same) in
+    absurd (omega (arith, long, short, ap (λ (l : List ℕ). length l) text_is))
+
+pub long_named : (line : List ℕ) → 4096 < length line
+    → (text : List ℕ) (step : Step) → kept line ≡ kept text → IsStep text step → session_in step ≡ None
+long_named line long text (Given c a) same is =
+    absurd (too_long line text long same
+    (subst (λ (l : List ℕ). length l ≤ 4096) (sym is.same) (short_command c is.good)))
+long_named line long text (Dumped h ts) same is = refl
+long_named line long text NotDumped same is = refl
+long_named line long text Stopped same is = refl
+long_named line long text NotRead same is = refl
+long_named line long text TooLong same is = refl
+
+-- ---- who has used a session
+
+-- a session that has its user already
+pub has_user : (last : List ℕ → Option ℕ) (t : ℕ) (session s : List ℕ) → last session ≡ Some t
+    → last s ≡ cond (pointwise nat_eq session s) (Some t) (last s)
+has_user last t session s is = by_name (pointwise nat_eq session s) refl
+  where
+    by_name : (b : Bool) → pointwise nat_eq session s ≡ b → last s ≡ cond b (Some t) (last s)
+    by_name true same = ap last (sym ((bytes_decides session s).0 same)) ∙ is
+    by_name false other = refl
