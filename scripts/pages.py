@@ -6,11 +6,11 @@
 In each page every link must lead to a file, and to the heading that it names, or to code or definitions that have the name of
 the link. In docs, README.md and bench/README.md, every file of code or definitions must be there, every name like
 `Rules.IsWellFormed` must stand in a file of definitions of that name, and every name with an underscore must occur
-somewhere. What docs/proved.md names of a crate, the edits and definitions in docs/verdicts.md, and the definitions in
-docs/glossary.md must be of the crate, and of the folder, that the page says. docs/edits.md must list all edits, each with the
-file that it changes, and no others. The reading orders in docs/architecture.md and in the comment of the headline's page must
+somewhere. What docs/development/proved.md names of a crate, the edits and definitions in docs/verdicts.md, and the definitions in
+docs/glossary.md must be of the crate, and of the folder, that the page says. docs/development/edits.md must list all edits, each with the
+file that it changes, and no others. The reading orders in docs/development/architecture.md and in the comment of the headline's page must
 name the files that `scripts/definitions` finds, with its numbers of words, and no others. Each crate must have one line in
-docs/architecture.md. The figures of README.md and docs/limits.md must be those of the raw output that they name, and what
+docs/development/architecture.md. The figures of README.md and docs/limits.md must be those of the raw output that they name, and what
 README.md says of lines and edits right within two of a hundred; it has at most 1,200 words. The pages for users have no
 sentence of more than 40 words. The last line is `N passed, M failed`.
 """
@@ -142,12 +142,12 @@ def check_verdicts(tally, repository):
 
 
 def check_crates(tally, repository):
-    for crate, promised in re.findall(r"(?m)^\| `(\w+)` \| (.*) \|$", repository.pages["docs/proved.md"]):
+    for crate, promised in re.findall(r"(?m)^\| `(\w+)` \| (.*) \|$", repository.pages["docs/development/proved.md"]):
         own = [name for name in repository.files if name.startswith((f"crates/{crate}/src/", f"crates/{crate}/specs/"))]
         words = {stem(name) for name in own}.union(*map(repository.words_in, own))
         parts = {part for word in words for part in word.split("_")}
         for word in WORD.findall(" ".join(spans(promised))):
-            tally.check(word in words | parts, f"docs/proved.md: {crate} has no {word}")
+            tally.check(word in words | parts, f"docs/development/proved.md: {crate} has no {word}")
 
 
 def folders_in(cell):
@@ -169,16 +169,16 @@ def check_glossary(tally, repository):
 
 def check_edits(tally, repository):
     listed, crate = set(), ""
-    for line in repository.pages["docs/edits.md"].split("\n"):
+    for line in repository.pages["docs/development/edits.md"].split("\n"):
         head, row = re.fullmatch(r"## (\w+)", line), re.match(r"\| `(\w+)` \| `(\S+)` \|", line)
         crate = head[1] if head else crate
         if row:
             listed.add((crate, row[1]))
             path = repository.edits.get((crate, row[1]))
             changed = re.search(r"(?m)^file: (.*)$", text_of(path))[1] if path else ""
-            tally.check(changed == row[2], f"docs/edits.md: {crate} has no edit {row[1]} of {row[2]}")
+            tally.check(changed == row[2], f"docs/development/edits.md: {crate} has no edit {row[1]} of {row[2]}")
     for crate, edit in sorted(repository.edits.keys() - listed):
-        tally.check(False, f"docs/edits.md: the edit {edit} of {crate} is missing")
+        tally.check(False, f"docs/development/edits.md: the edit {edit} of {crate} is missing")
 
 
 def words_by_file():
@@ -210,21 +210,21 @@ def listed_files(comment):
 
 def check_reading(tally):
     wanted = words_by_file()
-    counted = counted_files(text_of("docs/architecture.md"))
+    counted = counted_files(text_of("docs/development/architecture.md"))
     comment = re.sub(r"(?m)^--", "", text_of(HEADLINE).partition("\nuse ")[0])
     listed = listed_files(re.sub(r"\n {5}(?=\S)", " ", comment))
     for path in sorted(wanted.keys() | counted.keys()):
         tally.check(wanted.get(path) == counted.get(path),
-                    f"docs/architecture.md: {counted.get(path, 0)} words for {path}, of which {wanted.get(path, 0)} are read")
+                    f"docs/development/architecture.md: {counted.get(path, 0)} words for {path}, of which {wanted.get(path, 0)} are read")
     for path in sorted(wanted.keys() | set(listed)):
         tally.check(listed.count(path) == int(path in wanted), f"{HEADLINE}: lists {path} {listed.count(path)} times")
 
 
 def check_architecture(tally):
     listed = re.findall(r"(?m)^(\w+)(?: staticlib)?:", text_of("crates.txt"))
-    described = re.findall(r"(?m)^\| `(\w+)` \| ", text_of("docs/architecture.md"))
+    described = re.findall(r"(?m)^\| `(\w+)` \| ", text_of("docs/development/architecture.md"))
     for crate in sorted(set(listed)):
-        tally.check(described.count(crate) == 1, f"docs/architecture.md: describes {crate} {described.count(crate)} times")
+        tally.check(described.count(crate) == 1, f"docs/development/architecture.md: describes {crate} {described.count(crate)} times")
 
 
 def check_figures(tally, repository):
