@@ -21,7 +21,7 @@ impl<'a> Data<'a> for &'a Value {
 
     fn elements(self, alloc: Global) -> Result<Option<Vec<&'a Value>>, AllocError> {
         match self {
-            Value::Array(values) => Ok(Some(values.iter().collect(alloc)?)),
+            Value::Array(values) => Ok(Some(each_of(alloc, values.as_slice())?)),
             _ => Ok(None),
         }
     }
@@ -62,6 +62,15 @@ impl<'a> Data<'a> for &'a Value {
             _ => Some(Name::Integer(self.as_i64()?)),
         }
     }
+}
+
+/// Returns the values, each by reference.
+fn each_of(alloc: Global, values: &[Value]) -> Result<Vec<&Value>, AllocError> {
+    let mut each = Vec::with_capacity(alloc, values.len())?;
+    for value in values {
+        each.push(value)?;
+    }
+    Ok(each)
 }
 
 fn step_of(values: &[Value]) -> Option<Step<&Value>> {
