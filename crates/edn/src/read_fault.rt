@@ -34,8 +34,8 @@ pub enum Problem {
 /// Why no form was read.
 #[derive(Clone, Copy, Debug, PartialEq, Eq, Error, Drop)]
 pub enum ReadFault {
-    /// The text is none of EDN. The line, counted from 1, is that of the token that can't stand there, or the last one if
-    /// the text ends within a form.
+    /// The text is none of EDN. The line, counted from 1, is the one on which a text begins that is no token, or on which the
+    /// token ends that can't stand there; it is the last one if the text ends within a form, outside its tokens.
     #[error("line {line}: {problem}")]
     Syntax { line: u64, problem: Problem },
     /// The source failed: a read failed, or the bound on read calls was met. Nothing is said of the text.

@@ -68,7 +68,8 @@ impl Reader {
         Ok(Reader::of(alloc, Input::after(alloc, front)?))
     }
 
-    /// Returns the line, counted from 1, on which the last form ended; after a `Syntax` fault, its line.
+    /// Returns the line, counted from 1, on which the last form ended; after a `Syntax` fault, its line. If a text has more
+    /// lines than 64 bits can count, it stays at the greatest number.
     pub fn line(&self) -> u64
         ensures { result ≡ line_read self.now }
     {

@@ -89,8 +89,8 @@ IsWrongAtEnd _ ts = ⊥
 
 -- ---- texts
 
--- the first fault of the text is on this line: where no token begins, on which the token ends that can't stand there or opens
--- the 65th form, or the last one, if the text ends within a form
+-- the first fault of the text is on this line, and this is wrong there: bytes begin on the line that are no token, or a token
+-- ends on it that can't stand there, or that nests one form too many; or it is the last line, and the text ends within a form
 pub data HasFault : List ℕ → ℕ → Problem → Type 0 where
   no_token : {p : Problem} (ts : List Token) (front gap bytes : List ℕ) → MayGoOn ts → Lexes (front ++ bytes) ts (gap ++ bytes)
       → IsGap gap → BeginOther bytes → ((t : Token) (rest : List ℕ) → Begins t bytes rest → ⊥) → IsWrongThere p bytes
