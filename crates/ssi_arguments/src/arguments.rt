@@ -11,6 +11,7 @@ use crate::command_line::command_line;
 use clap::error::ErrorKind;
 use clap::{ArgMatches, Error};
 use std::alloc::{AllocError, Global};
+use std::env::Args;
 use std::rt::Env;
 use std::{env, io};
 
@@ -91,10 +92,18 @@ pub fn given_arguments<R: Env + AllocGlobal>(rt: &R) -> Result<Vec<String>, NoTa
     ensures { IfErr result (λ none. (none ≡ NoTask.NotUtf8) ⊎ (none ≡ NoTask.Memory)) }
 {
     match env::args(rt) {
-        Ok(arguments) => Ok(arguments.collect(rt.alloc())?),
+        Ok(arguments) => Ok(listed(rt.alloc(), arguments)?),
         Err(e) if e.kind() == io::ErrorKind::OutOfMemory => Err(NoTask::Memory),
         Err(_) => Err(NoTask::NotUtf8),
     }
+}
+
+fn listed(alloc: Global, arguments: Args) -> Result<Vec<String>, AllocError> {
+    let mut listed = Vec::new(alloc);
+    for argument in arguments {
+        listed.push(argument)?;
+    }
+    Ok(listed)
 }
 
 /// Returns what the arguments ask for; the first string is the program's name. An argument that begins with a hyphen is
