@@ -201,12 +201,12 @@ fn serve_in_turn<'a, R: Runtime + Net + AllocGlobal>(
 ) -> Result<Status, Problem<'a>> {
     let mut history_file = buffered(rt, LateFile::new(rt, history))?;
     let mut certificate_file = buffered(rt, LateFile::new(rt, certificate))?;
-    let Ok(listener) = bound(rt, socket) else {
+    let Ok(mut listener) = bound(rt, socket) else {
         return Err(Problem::Fault(Fault::Socket(socket)));
     };
     let served = serve_commands(
         rt.alloc(),
-        &listener,
+        &mut listener,
         &mut history_file,
         &mut certificate_file,
     );

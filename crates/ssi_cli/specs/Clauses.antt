@@ -6,3 +6,4 @@ pub mod Peers
 pub mod Turns
 pub mod Leaving
 pub mod Serving
+pub mod Connections

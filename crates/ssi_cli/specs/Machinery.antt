@@ -1,1 +1,2 @@
 pub mod HubRuns
+pub mod InTurn

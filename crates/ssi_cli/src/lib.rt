@@ -9,6 +9,7 @@ mod clients;
 mod closing;
 mod fault;
 mod leaving;
+mod listener;
 mod peer;
 mod runs;
 mod script;
@@ -23,6 +24,7 @@ mod turns;
 mod users;
 
 pub use fault::Fault;
+pub use listener::Listener;
 pub use runs::{
     CommandsFault, ServingFault, carry_out_commands, judge_stream, judge_texts, order_text,
     serve_commands, serve_commands_together, status_of_serving,

@@ -9,14 +9,17 @@ ghost use Rattle.adya_audit.specs.Clauses.TextVerdicts.{IsVerdictOn, IsVerdictOn
 ghost use Rattle.adya_audit.specs.Meaning.Serializable.{AreSerializable};
 ghost use Rattle.adya_audit.specs.Clauses.Answers.{Answer, IsAnswer};
 ghost use Rattle.ssi_store.specs.Meaning.Courses.{New};
-ghost use Rattle.ssi_line.specs.Meaning.Steps.{Step, AllMayFollow, course_after};
+ghost use Rattle.ssi_line.specs.Meaning.Steps.{AllMayFollow, course_after};
 ghost use Rattle.ssi_cli.specs.declared.script_fault.ScriptFault.{ScriptFault};
+ghost use Rattle.ssi_cli.specs.declared.socket.Served.{Served};
 ghost use Rattle.ssi_hub.specs.Clauses.Calls.{all_steps};
-ghost use Rattle.ssi_cli.specs.Clauses.Status.{Told, Answered, IsHistorySyntax, texts_outcome, commands_outcome};
-ghost use Rattle.ssi_cli.specs.Clauses.Scripts.{Ran, Shown, Certified, Written, LeavesTexts, course_of};
-ghost use Rattle.ssi_cli.specs.Clauses.Serving.{Together};
+ghost use Rattle.ssi_cli.specs.Clauses.Status.{Told, Answered, IsHistorySyntax, texts_outcome, commands_outcome, serving_outcome};
+ghost use Rattle.ssi_cli.specs.Clauses.Scripts.{Ran, Shown, Written, LeavesTexts, course_of};
+ghost use Rattle.ssi_cli.specs.Clauses.Connections.{InTurn, steps_of};
+ghost use Rattle.ssi_cli.specs.Clauses.Serving.{Together, ends_by_stop};
 
 use crate::ScriptFault;
+use crate::listener::Listener;
 use crate::script::follow_script;
 use crate::socket::{Served, run_socket};
 use crate::status::Status;
@@ -27,7 +30,6 @@ use mio::Poll;
 use ssi_line::End;
 use std::alloc::Global;
 use std::io::{Read, Write};
-use std::os::unix::net::UnixListener;
 
 /// Audits the history and the certificate that follow one another in the input, and writes the verdict.
 pub fn judge_stream<R: Read, W: Write>(
@@ -170,17 +172,21 @@ pub enum ServingFault {
 
 /// Carries out the lines of the connections on a new store, and writes its history and a certificate. They are written
 /// also if the socket has failed. Returns the first fault.
-pub fn serve_commands<H: Write, C: Write>(
+pub fn serve_commands<L: Listener, H: Write, C: Write>(
     alloc: Global,
-    listener: &UnixListener,
+    listener: &mut L,
     history: &mut Watched<H>,
     certificate: &mut Watched<C>,
 ) -> Result<Status, ServingFault>
-    ensures run { IfOk result (λ status. (status ≡ Status.Fine) × ((steps : List Step) × AllMayFollow (New 1) steps
-        × Certified (course_after (New 1) steps) H.contents history.old history.new
-        C.contents certificate.old certificate.new)) }
+    ensures run { (served : Served) × (written : Written) × (result ≡ serving_outcome served written)
+        × (turns : InTurn L.Reader.remaining L.Reader.is_failed L.Writer.contents L.accepts L.closes L.fails
+        listener.old listener.new served) × AllMayFollow (New 1) (steps_of turns.connections)
+        × LeavesTexts written (course_after (New 1) (steps_of turns.connections)) H.contents history.old history.new
+        C.contents certificate.old certificate.new }
     ensures history { IsErrOf result (ServingFault.Texts ScriptFault.History) → has_failed history.new ≡ true }
     ensures certificate { IsErrOf result (ServingFault.Texts ScriptFault.Certificate) → has_failed certificate.new ≡ true }
+    ensures memory { IsErrOf result (ServingFault.Texts ScriptFault.Memory)
+        → (history.new ≡ history.old) × (certificate.new ≡ certificate.old) }
 {
     let (served, written) = run_socket(alloc, listener, history, certificate);
     status_of_serving(served, written)
@@ -196,12 +202,14 @@ pub fn serve_commands_together<H: Write, C: Write>(
     history: &mut Watched<H>,
     certificate: &mut Watched<C>,
 ) -> Result<Status, ServingFault>
-    ensures run { IfOk result (λ status. (status ≡ Status.Fine) × ((together : Together true)
-        × AllMayFollow (New 1) (all_steps together.calls)
-        × Certified (course_after (New 1) (all_steps together.calls)) H.contents history.old history.new
-        C.contents certificate.old certificate.new)) }
+    ensures run { (served : Served) × (written : Written) × (result ≡ serving_outcome served written)
+        × (together : Together (ends_by_stop served)) × AllMayFollow (New 1) (all_steps together.calls)
+        × LeavesTexts written (course_after (New 1) (all_steps together.calls)) H.contents history.old history.new
+        C.contents certificate.old certificate.new }
     ensures history { IsErrOf result (ServingFault.Texts ScriptFault.History) → has_failed history.new ≡ true }
     ensures certificate { IsErrOf result (ServingFault.Texts ScriptFault.Certificate) → has_failed certificate.new ≡ true }
+    ensures memory { IsErrOf result (ServingFault.Texts ScriptFault.Memory)
+        → (history.new ≡ history.old) × (certificate.new ≡ certificate.old) }
 {
     let (served, written) = run_together(alloc, poll, listener, at_close, history, certificate);
     status_of_serving(served, written)
@@ -213,6 +221,7 @@ pub fn status_of_serving(
     served: Served,
     written: Result<(), ScriptFault>,
 ) -> Result<Status, ServingFault>
+    ensures outcome { result ≡ serving_outcome served written }
     ensures fine { (result ≡ Ok Status.Fine) ↔ ((served ≡ Served.Stopped) × IsOk written) }
     ensures no_other { IfOk result (λ status. status ≡ Status.Fine) }
     ensures socket { IsErrOf result ServingFault.Socket ↔ (served ≡ Served.SocketFault) }

@@ -1,14 +1,16 @@
-//! A run over the connections of a socket.
+//! A run over the connections of a socket, one after the other.
 
-ghost use Rattle.std.specs.Prelude.{◌≡◌, List, true, Err, IfOk};
+ghost use Rattle.std.specs.Prelude.{◌≡◌, ◌≢◌, true, false, Err, None, IfSome};
 ghost use Rattle.devices.specs.Mirror.{has_failed};
 ghost use Rattle.ssi_store.specs.Meaning.Courses.{New};
 ghost use Rattle.ssi_store.specs.Mirror.Stores.{IsAt};
-ghost use Rattle.ssi_line.specs.Meaning.Steps.{Step, AllMayFollow, course_after};
+ghost use Rattle.ssi_line.specs.Meaning.Steps.{AllMayFollow, course_after};
 ghost use Rattle.ssi_line.specs.Clauses.Ends.{WentOn};
-ghost use Rattle.ssi_cli.specs.Clauses.Scripts.{Certified};
+ghost use Rattle.ssi_cli.specs.Clauses.Scripts.{LeavesTexts};
+ghost use Rattle.ssi_cli.specs.Clauses.Connections.{Connection, InTurn, steps_of};
 
 use crate::ScriptFault;
+use crate::listener::Listener;
 use crate::store::new_store;
 use crate::texts::write_texts;
 use devices::Watched;
@@ -18,7 +20,6 @@ use ssi_store::Store;
 use ssi_versions::Chains;
 use std::alloc::Global;
 use std::io::Write;
-use std::os::unix::net::{UnixListener, UnixStream};
 
 /// How a run over the connections of a socket ended.
 #[derive(Clone, Copy, Debug, PartialEq, Eq)]
@@ -34,15 +35,16 @@ pub enum Served {
 /// whether both texts are written.
 ///
 /// The history records the course of the store, and the auditor says yes to both texts.
-pub fn run_socket<H: Write, C: Write>(
+pub fn run_socket<L: Listener, H: Write, C: Write>(
     alloc: Global,
-    listener: &UnixListener,
+    listener: &mut L,
     history: &mut Watched<H>,
     certificate: &mut Watched<C>,
 ) -> (Served, Result<(), ScriptFault>)
-    ensures certified { IfOk result.1 (λ _. (steps : List Step) × AllMayFollow (New 1) steps
-        × Certified (course_after (New 1) steps) H.contents history.old history.new
-        C.contents certificate.old certificate.new) }
+    ensures run { (turns : InTurn L.Reader.remaining L.Reader.is_failed L.Writer.contents L.accepts L.closes L.fails
+        listener.old listener.new result.0) × AllMayFollow (New 1) (steps_of turns.connections)
+        × LeavesTexts result.1 (course_after (New 1) (steps_of turns.connections)) H.contents history.old history.new
+        C.contents certificate.old certificate.new }
     ensures history_fault { result.1 ≡ Err ScriptFault.History
         → (has_failed history.new ≡ true) × (certificate.new ≡ certificate.old) }
     ensures certificate_fault { result.1 ≡ Err ScriptFault.Certificate → has_failed certificate.new ≡ true }
@@ -56,35 +58,54 @@ pub fn run_socket<H: Write, C: Write>(
 }
 
 /// Accepts connections, one after the other, and carries out the lines of each on the store, as [`serve`] does. A
-/// connection that ends without `stop` is closed, and the next one is accepted. What its commands did stands: a session
-/// outlives the connection that began it.
-pub fn serve_socket<C: Chains + Drop, M: Marks + Drop>(
+/// connection that ends without an answered `stop` is closed, and the next one is accepted. What its commands did stands: a
+/// session outlives the connection that began it. `SocketFault` if accepting fails, or after 4294967295 connections.
+pub fn serve_socket<L: Listener, C: Chains + Drop, M: Marks + Drop>(
     alloc: Global,
-    listener: &UnixListener,
+    listener: &mut L,
     store: &mut Store<C, M>,
 ) -> Served
-    ensures { (steps : List Step) × WentOn (IsAt C.held M.marked) store.old steps store.new }
+    ensures { (turns : InTurn L.Reader.remaining L.Reader.is_failed L.Writer.contents L.accepts L.closes L.fails
+        listener.old listener.new result)
+        × WentOn (IsAt C.held M.marked) store.old (steps_of turns.connections) store.new }
 {
-    for _ in 0..u32::MAX {
-        let Ok((connection, _)) = listener.accept() else {
+    for _count in 0..u32::MAX {
+        let Some(end) = serve_next(alloc, listener, store) else {
             return Served::SocketFault;
         };
-        if let End::Stop = serve_connection(alloc, connection, store) {
+        if is_stop(end) {
             return Served::Stopped;
         }
     }
     Served::SocketFault
 }
 
-/// Serves one connection, and closes it.
-fn serve_connection<C: Chains + Drop, M: Marks + Drop>(
+/// Accepts a connection, serves it, and closes it. Returns how it ended; `None` if none could be accepted.
+fn serve_next<L: Listener, C: Chains + Drop, M: Marks + Drop>(
     alloc: Global,
-    connection: UnixStream,
+    listener: &mut L,
     store: &mut Store<C, M>,
-) -> End
-    ensures { (steps : List Step) × WentOn (IsAt C.held M.marked) store.old steps store.new }
+) -> Option<End>
+    ensures served { IfSome result (λ end. (connection : Connection L.Reader.remaining L.Reader.is_failed L.Writer.contents
+        L.accepts L.closes) × (connection.end ≡ end) × (connection.before ≡ listener.old) × (listener.new ≡ connection.after)
+        × WentOn (IsAt C.held M.marked) store.old connection.steps store.new) }
+    ensures failed { result ≡ None → L.fails listener.old listener.new × (store.new ≡ store.old) }
 {
-    let mut reader = Watched::new(&connection);
-    let mut writer = Watched::new(&connection);
-    serve(alloc, &mut reader, &mut writer, store)
+    let Ok((mut reader, mut writer)) = listener.accept() else {
+        return None;
+    };
+    let end = serve(alloc, &mut reader, &mut writer, store);
+    listener.close(reader, writer);
+    Some(end)
+}
+
+/// Returns whether a connection that ended so ends the run.
+fn is_stop(end: End) -> bool
+    ensures stops { result ≡ true → end ≡ End.Stop }
+    ensures goes_on { result ≡ false → end ≢ End.Stop }
+{
+    match end {
+        End::Stop => true,
+        End::Eof | End::ReadFault | End::WriteFault => false,
+    }
 }

@@ -1,6 +1,6 @@
 //! A run over all connections of a socket at once.
 
-ghost use Rattle.std.specs.Prelude.{◌≡◌, false, true, Err, IfOk};
+ghost use Rattle.std.specs.Prelude.{◌≡◌, false, true, Err};
 ghost use Rattle.devices.specs.Mirror.{has_failed};
 ghost use Rattle.ssi_store.specs.Meaning.Courses.{New};
 ghost use Rattle.ssi_store.specs.Mirror.Stores.{IsAt};
@@ -8,7 +8,7 @@ ghost use Rattle.ssi_line.specs.Meaning.Steps.{AllMayFollow, course_after};
 ghost use Rattle.ssi_line.specs.Clauses.Ends.{WentOn};
 ghost use Rattle.ssi_hub.specs.Clauses.Calls.{all_steps};
 ghost use Rattle.ssi_hub.specs.Mirror.{is_stopped};
-ghost use Rattle.ssi_cli.specs.Clauses.Scripts.{Certified};
+ghost use Rattle.ssi_cli.specs.Clauses.Scripts.{LeavesTexts};
 ghost use Rattle.ssi_cli.specs.Clauses.Serving.{Together, ends_by_stop};
 ghost use Rattle.ssi_cli.specs.Machinery.HubRuns.{HasRun};
 
@@ -54,10 +54,9 @@ pub fn run_together<H: Write, C: Write>(
     history: &mut Watched<H>,
     certificate: &mut Watched<C>,
 ) -> (Served, Result<(), ScriptFault>)
-    ensures certified { IfOk result.1 (λ _. (together : Together (ends_by_stop result.0))
-        × AllMayFollow (New 1) (all_steps together.calls)
-        × Certified (course_after (New 1) (all_steps together.calls)) H.contents history.old history.new
-        C.contents certificate.old certificate.new) }
+    ensures run { (together : Together (ends_by_stop result.0)) × AllMayFollow (New 1) (all_steps together.calls)
+        × LeavesTexts result.1 (course_after (New 1) (all_steps together.calls)) H.contents history.old history.new
+        C.contents certificate.old certificate.new }
     ensures history_fault { result.1 ≡ Err ScriptFault.History
         → (has_failed history.new ≡ true) × (certificate.new ≡ certificate.old) }
     ensures certificate_fault { result.1 ≡ Err ScriptFault.Certificate → has_failed certificate.new ≡ true }

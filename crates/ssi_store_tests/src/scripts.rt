@@ -179,8 +179,8 @@ pub(crate) fn peer_with(rt: &HostRuntime, lines: &[u8]) -> io::Result<(UnixListe
 
 /// Whether a store answers a peer that has written all its lines.
 pub(crate) fn are_peers_answered(rt: &HostRuntime) -> io::Result<bool> {
-    let (listener, mut peer) = peer_with(rt, b"begin A\ncommit A\nstop\n")?;
-    if serve_new_store(rt.alloc(), &listener) != Served::Stopped {
+    let (mut listener, mut peer) = peer_with(rt, b"begin A\ncommit A\nstop\n")?;
+    if serve_new_store(rt.alloc(), &mut listener) != Served::Stopped {
         return Ok(false);
     }
     let mut replies = Vec::new(rt.alloc());
@@ -188,24 +188,24 @@ pub(crate) fn are_peers_answered(rt: &HostRuntime) -> io::Result<bool> {
     Ok(replies.as_slice() == b"begun 1\ncommitted\nstopped\n".as_slice())
 }
 
-fn serve_new_store(alloc: Global, listener: &UnixListener) -> Served {
+fn serve_new_store(alloc: Global, listener: &mut UnixListener) -> Served {
     let mut store = new_store(alloc);
     serve_socket(alloc, listener, &mut store)
 }
 
 /// Whether what a peer has asked for is in the texts at the end.
 pub(crate) fn are_peers_recorded(rt: &HostRuntime) -> io::Result<bool> {
-    let (listener, _peer) = peer_with(rt, b"begin A\nput A x 5\ncommit A\nstop\n")?;
-    Ok(is_recorded(rt, &listener, Served::Stopped))
+    let (mut listener, _peer) = peer_with(rt, b"begin A\nput A x 5\ncommit A\nstop\n")?;
+    Ok(is_recorded(rt, &mut listener, Served::Stopped))
 }
 
 /// Whether it is in the texts too if the socket fails when the peer has left: accepting another connection would wait,
 /// and the socket is one that doesn't.
 pub(crate) fn are_peers_recorded_at_a_fault(rt: &HostRuntime) -> io::Result<bool> {
-    let (listener, mut peer) = peer_with(rt, b"begin A\nput A x 5\ncommit A\n")?;
+    let (mut listener, mut peer) = peer_with(rt, b"begin A\nput A x 5\ncommit A\n")?;
     peer.shutdown(Shutdown::Write)?;
     listener.set_nonblocking(true)?;
-    if !is_recorded(rt, &listener, Served::SocketFault) {
+    if !is_recorded(rt, &mut listener, Served::SocketFault) {
         return Ok(false);
     }
     let mut replies = Vec::new(rt.alloc());
@@ -214,7 +214,7 @@ pub(crate) fn are_peers_recorded_at_a_fault(rt: &HostRuntime) -> io::Result<bool
 }
 
 /// Whether a run over the socket ends so, and writes the texts of a transaction that has put 5 at `x`.
-fn is_recorded(rt: &HostRuntime, listener: &UnixListener, end: Served) -> bool {
+fn is_recorded(rt: &HostRuntime, listener: &mut UnixListener, end: Served) -> bool {
     let mut history = Watched::new(Vec::new(rt.alloc()));
     let mut certificate = Watched::new(Vec::new(rt.alloc()));
     let (served, written) = run_socket(rt.alloc(), listener, &mut history, &mut certificate);

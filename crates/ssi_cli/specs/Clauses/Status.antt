@@ -14,6 +14,10 @@ use Rattle.ssi_line.specs.declared.end.End.TheVariants.{Eof, Stop, ReadFault, Wr
 use Rattle.ssi_cli.specs.declared.script_fault.ScriptFault.{ScriptFault}
 use Rattle.ssi_cli.specs.declared.runs.CommandsFault.{CommandsFault}
 use Rattle.ssi_cli.specs.declared.runs.CommandsFault.TheVariants as commands
+use Rattle.ssi_cli.specs.declared.runs.ServingFault.{ServingFault}
+use Rattle.ssi_cli.specs.declared.runs.ServingFault.TheVariants as serving
+use Rattle.ssi_cli.specs.declared.socket.Served.{Served}
+use Rattle.ssi_cli.specs.declared.socket.Served.TheVariants.{Stopped, SocketFault}
 use Rattle.ssi_cli.specs.declared.status.Status.{Status}
 use Rattle.ssi_cli.specs.declared.status.Status.TheVariants.{Fine, Refused, WrongArguments, Failed}
 
@@ -53,3 +57,9 @@ commands_outcome ReadFault written = Err commands.Input
 commands_outcome WriteFault written = Err commands.Output
 commands_outcome Eof written = texts_outcome written
 commands_outcome Stop written = texts_outcome written
+
+-- the first fault of a run over a socket
+abbrev pub serving_outcome : {T : Type 0} → Served → Result T ScriptFault → Result Status ServingFault
+serving_outcome SocketFault written = Err serving.Socket
+serving_outcome Stopped (Ok _) = Ok Fine
+serving_outcome Stopped (Err fault) = Err (serving.Texts fault)
