@@ -248,7 +248,11 @@ fn is_simple(
 fn starts(alloc: Global, links: &[Link]) -> Result<Vec<u32>, AllocError>
     ensures { IfOk result (λ v. v.items ≡ map (λ link. link.from) links.now) }
 {
-    links.iter().map(|link| link.from).collect(alloc)
+    let mut starts = Vec::new(alloc);
+    'links: for link in links {
+        starts.push(link.from)?;
+    }
+    Ok(starts)
 }
 
 /// Returns whether one of the transactions aborted.
