@@ -9,6 +9,7 @@ use devices::{Source, Watched, put, put_number};
 use lists_verdicts::Status;
 use progress::{Counted, Progress, Reporter};
 use std::alloc::{AllocError, Global};
+use std::env::Args;
 use std::fs::Files;
 use std::io::{BufWriter, Write};
 use std::rt::{Env, Runtime};
@@ -46,7 +47,7 @@ pub fn run<R: Runtime + AllocGlobal>(rt: &R, progress: Progress) -> Status {
         let _ = eprintln!(rt; "lists: the arguments can't be read");
         return Status::Wrong;
     };
-    let Ok(arguments) = arguments.collect::<Vec<String>>(rt.alloc()) else {
+    let Ok(arguments) = listed(rt.alloc(), arguments) else {
         return failed(rt, Fault::Memory);
     };
     let Ok(command) = command_line(rt.alloc()) else {
@@ -59,6 +60,14 @@ pub fn run<R: Runtime + AllocGlobal>(rt: &R, progress: Progress) -> Status {
         },
         Err(text) => printed(rt, &text),
     }
+}
+
+fn listed(alloc: Global, arguments: Args) -> Result<Vec<String>, AllocError> {
+    let mut listed = Vec::new(alloc);
+    for argument in arguments {
+        listed.push(argument)?;
+    }
+    Ok(listed)
 }
 
 fn answered<'a, R: Runtime + AllocGlobal>(
