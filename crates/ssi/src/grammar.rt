@@ -28,6 +28,13 @@ pub enum Part {
     Tail,
 }
 
+/// What stands between two marks of a line.
+#[derive(Clone, Copy)]
+enum Word {
+    Key,
+    Value,
+}
+
 /// Returns the part of a history that the line belongs to.
 pub fn part_of(line: &[u8]) -> Result<Part, Misfit> {
     let mut scanner = Scanner { line, at: 0 };
@@ -225,28 +232,23 @@ impl Scanner<'_> {
     }
 
     fn key(&mut self) -> Result<(), Misfit> {
-        self.word(32, is_of_key, KEY)
+        self.word(32, Word::Key, KEY)
     }
 
     fn value(&mut self) -> Result<(), Misfit> {
-        self.word(64, is_of_value, VALUE)
+        self.word(64, Word::Value, VALUE)
     }
 
-    fn word(
-        &mut self,
-        most: usize,
-        fits: impl Fn(u8) -> bool,
-        wanted: &'static str,
-    ) -> Result<(), Misfit> {
+    fn word(&mut self, most: usize, word: Word, wanted: &'static str) -> Result<(), Misfit> {
         let start = self.at;
         for _ in 0..most {
             match self.next() {
-                Some(byte) if fits(byte) => self.pass(),
+                Some(byte) if fits(word, byte) => self.pass(),
                 _ => break,
             }
         }
         let goes_on = match self.next() {
-            Some(byte) => fits(byte),
+            Some(byte) => fits(word, byte),
             None => false,
         };
         if self.at == start || goes_on {
@@ -264,16 +266,10 @@ impl Scanner<'_> {
     }
 }
 
-fn is_of_key(byte: u8) -> bool {
-    match byte {
-        b'a'..=b'z' | b'0'..=b'9' | b'_' => true,
-        _ => false,
-    }
-}
-
-fn is_of_value(byte: u8) -> bool {
-    match byte {
-        b'A'..=b'Z' | b'a'..=b'z' | b'0'..=b'9' | b'_' | b'.' | b'+' | b'-' => true,
+fn fits(word: Word, byte: u8) -> bool {
+    match (word, byte) {
+        (_, b'a'..=b'z' | b'0'..=b'9' | b'_') => true,
+        (Word::Value, b'A'..=b'Z' | b'.' | b'+' | b'-') => true,
         _ => false,
     }
 }
