@@ -74,7 +74,7 @@ cat >terminal.py <<'END'
 import os, pty, subprocess, sys
 
 shown, screen = pty.openpty()
-subprocess.run(sys.argv[1:], stdin=subprocess.DEVNULL, stdout=subprocess.DEVNULL, stderr=screen, timeout=60)
+subprocess.run(sys.argv[1:], stdout=subprocess.DEVNULL, stderr=screen, timeout=60)
 os.close(screen)
 text = b""
 try:
@@ -100,6 +100,7 @@ for fault in 'serial 2:line 1, byte 1: the first line is `serial 1`' \
 done
 sed '1,/^end$/d' "$sample" >c
 check 'a terminal, a yes' '' "$(python3 terminal.py "$ssi" audit h c)"
+check 'a terminal, a pipe' '' "$(cat "$top/tools/cases/leading-zero/history" | python3 terminal.py "$ssi" order /dev/stdin)"
 check 'no terminal' $'out: no 1 syntax history 2\nstatus 1' "$(run audit "$top/tools/cases/leading-zero/history" c)"
 rm -f c h faulty
 

@@ -11,8 +11,8 @@ const READS: u32 = 4294967295;
 /// The most bytes of a line that are kept.
 const KEPT: usize = 8192;
 
-/// Says on standard error why the texts have a syntax fault, if this is the beginning of the verdict, and if the file can
-/// be read once more.
+/// Says on standard error why the texts have a syntax fault, if this is the beginning of the verdict, and if the text is in a
+/// regular file, which can be read once more.
 pub fn hint<R: Files + Eprint + AllocGlobal>(
     rt: &R,
     verdict: &[u8],
@@ -24,6 +24,14 @@ pub fn hint<R: Files + Eprint + AllocGlobal>(
         Some(_) => (certificate, false),
         None => return,
     };
+    // what was read of a pipe is gone
+    let is_file = match fs::metadata(rt, path) {
+        Ok(found) => found.is_file(),
+        Err(_) => false,
+    };
+    if !is_file {
+        return;
+    }
     let number = last_number(verdict);
     let Ok(lines) = lines_at(rt, path, number) else {
         return;
