@@ -450,7 +450,30 @@ server=$!
 check 'at once: an own file in a closed folder' stopped "$(echo stop | talk "$shared/socket")"
 finish
 check 'at once: the end with an own file in a closed folder' 'status 0' "$ending"
-check 'at once: that file is written in its place' "$none" "$(texts "$shared/closed/own" "$shared/c" 2>&1)"
+chmod 755 "$shared/closed"
+check 'at once: that file is written in its place' "$none" "$(texts "$shared/closed/own" "$shared/c")"
+
+# Sockets that this user may not make or use: in that folder, and two of another user, at one of which a server listens.
+# Whether one does can't be told.
+python3 -c 'import socket, sys; socket.socket(socket.AF_UNIX).bind(sys.argv[1])' "$shared/stale" # nobody listens
+start --concurrent "$shared/alive" h c
+check "at once: a peer of another user's server" 'begun 1' "$(echo begin A | talk "$shared/alive")"
+chmod 555 "$shared/closed" "$shared/stale" "$shared/alive"
+untouched=$(ls -A "$shared" "$shared/closed")
+unusable="a socket is there that can't be used"
+for reason in 'closed/socket:permission denied' "stale:$unusable" "alive:$unusable"; do
+    path=${reason%%:*}
+    check "at once: another user's '$path'" "err: ssi: socket fault: $path: ${reason#*:}"$'\nstatus 3' \
+        "$(as_other serve --concurrent "$path" history certificate)"
+    check "another user's '$path'" "err: ssi: socket fault: $path"$'\nstatus 3' \
+        "$(as_other serve "$path" history certificate)"
+done
+check "nothing is made or removed beside another user's sockets" "$untouched" "$(ls -A "$shared" "$shared/closed")"
+chmod 755 "$shared/alive"
+check "another user's server goes on" stopped "$(echo stop | talk "$shared/alive")"
+finish
+check "the end of another user's server" 'status 0' "$ending"
+check "texts of another user's server" "$aborted" "$(texts h c)"
 chmod 755 "$shared/closed"
 rm -rf "$shared"
 
