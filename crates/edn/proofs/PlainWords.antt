@@ -94,28 +94,12 @@ digit_no_minus b e = not_true (b == 45) (by_digits (λ x. not (x == 45)) b refl 
 digit_no_colon : (b : ℕ) → is_ascii_digit b ≡ true → (b == 58) ≡ false
 digit_no_colon b e = not_true (b == 58) (by_digits (λ x. not (x == 58)) b refl e)
 
-far_word : (b : ℕ) → 128 ≤ b → is_word_byte b ≡ true
-unfolding is_end is_space
-far_word b h = grind arith
-
-or_true : (a b : Bool) → (not a || b) ≡ true → a ≡ true → b ≡ true
-or_true true b e h = e
-or_true false b e h = absurd (cc)
-
 symbol_word : (b : ℕ) → is_symbol_byte b ≡ true → is_word_byte b ≡ true
-unfolding is_symbol_byte is_end is_space
-symbol_word b e =
-    elim (cases_order b 128) [
-      | inl same ↦ far_word b (omega arith)
-      | inr w ↦ elim w [
-        | inl less ↦ or_true (is_symbol_byte b) (is_word_byte b)
-            (within_all (λ x. not (is_symbol_byte x) || is_word_byte x) 128 0 b refl (omega arith) (omega arith)) e
-        | inr more ↦ far_word b (omega arith)
-      ]
-    ]
+unfolding is_symbol_byte
+symbol_word b e = (and_parts (is_word_byte b) (not (b == 47 || b == 64 || b == 96 || b == 126)) e).0
 
 no_slash_from : (b : ℕ) (v : Bool) → (b == 47) ≡ v → is_symbol_byte b ≡ true → not v ≡ true
-unfolding is_symbol_byte
+unfolding is_symbol_byte is_end is_space
 no_slash_from b false h e = refl
 no_slash_from b true h e =
     let at : is_symbol_byte 47 ≡ true = subst (λ x. is_symbol_byte x ≡ true) (eqb-true b 47 h) e in absurd (cc)
@@ -239,7 +223,7 @@ unfolding is_end is_space
 nil_word = refl
 
 nil_is : word_of (110 ∷ 105 ∷ 108 ∷ []) ≡ Some nil
-unfolding is_symbol_byte named
+unfolding is_symbol_byte is_end is_space named
 nil_is = refl
 
 pub plain_nil_read : (beyond : Beyond) (text after_n after_ni rest : List ℕ) → Some after_n ≡ after_byte 110 text

@@ -5,12 +5,12 @@ ghost use Rattle.std.specs.List.{prefix_len};
 ghost use Rattle.std.specs.Char.{is_ascii_digit};
 ghost use Rattle.edn.specs.Meaning.Bytes.{is_space, is_end, is_word_byte, is_symbol_byte};
 
-/// Returns whether the byte is white space, as a comma is.
+/// Returns whether the byte is white space, as a comma is. So are, to Clojure, the separators of ASCII.
 #[tactic(auto, unfolding(crate::specs::Meaning::Bytes::is_space))]
 pub(crate) fn is_space(byte: u8) -> bool
     ensures { result ≡ is_space byte }
 {
-    matches!(byte, b'\t'..=b'\r' | b' ' | b',')
+    matches!(byte, b'\t'..=b'\r' | 28..=b' ' | b',')
 }
 
 /// Returns whether the byte ends a number, a keyword or a symbol.
@@ -18,7 +18,7 @@ pub(crate) fn is_space(byte: u8) -> bool
 pub(crate) fn is_end(byte: u8) -> bool
     ensures { result ≡ is_end byte }
 {
-    is_space(byte) || matches!(byte, b'"' | b'(' | b')' | b';' | b'['..=b']' | b'{' | b'}')
+    is_space(byte) || matches!(byte, b'"' | b'(' | b')' | b';' | b'['..=b'^' | b'{' | b'}')
 }
 
 fn is_word_byte(byte: u8) -> bool
@@ -28,8 +28,8 @@ fn is_word_byte(byte: u8) -> bool
 }
 
 /// Returns whether the byte may stand in a symbol, beside the `/` between its parts. The standard has letters, digits and
-/// `.*+!-_?$%&=<>:#`; Clojure's own readers also take `'`, `|` and letters beyond ASCII, and so does this one.
-#[tactic(auto, unfolding(crate::specs::Meaning::Bytes::is_symbol_byte))]
+/// `.*+!-_?$%&=<>:#`; Clojure's reader takes all that end no word, other than `@`, `` ` `` and `~`, and so does this one.
+#[tactic(auto, unfolding(crate::specs::Meaning::Bytes::is_symbol_byte, crate::specs::Meaning::Bytes::is_end, crate::specs::Meaning::Bytes::is_space))]
 pub(crate) fn is_symbol_byte(byte: u8) -> bool
     ensures { result ≡ is_symbol_byte byte }
 {
@@ -37,21 +37,7 @@ pub(crate) fn is_symbol_byte(byte: u8) -> bool
     if byte.is_ascii_lowercase() {
         return true;
     }
-    matches!(
-        byte,
-        b'-'
-            | b'0'..=b':'
-            | b'A'..=b'Z'
-            | b'_'
-            | b'!'
-            | b'#'..=b'\''
-            | b'*'
-            | b'+'
-            | b'.'
-            | b'<'..=b'?'
-            | b'|'
-            | 128..=255
-    )
+    is_word_byte(byte) && !matches!(byte, b'/' | b'@' | b'`' | b'~')
 }
 
 /// Returns the number of bytes at the front that may belong to one number, keyword or symbol.
