@@ -1,7 +1,7 @@
 -- Words that are read in one pass.
 use Rattle.std.proofs.Common.{◌≡◌, ℕ, ℤ, zero, suc, ◌+◌, ◌≤◌, ◌<◌, ◌==◌, nat_lt, None, inl, inr, rules, Bool, true, false, cond, List, [], ◌∷◌, ◌++◌, length, take, drop, Some, refl, sym, ap, ◌∙◌, subst, take-append-drop, arith}
 use Rattle.std.specs.List.{prefix_len, list_all}
-use Rattle.std.specs.Char.{is_ascii_digit}
+use Rattle.std.specs.Char.{is_ascii_digit, is_digit}
 use Rattle.std.specs.Prelude.{not, ◌&&◌, ◌||◌}
 use Rattle.std.proofs.lemmas.Bool.{and_parts, eqb-true}
 use Rattle.std.proofs.lemmas.Bool.{cases_order}
@@ -12,7 +12,7 @@ use Rattle.edn.specs.Meaning.Bytes.{is_space, is_end, is_word_byte, is_symbol_by
 use Rattle.edn.specs.Meaning.Forms.{Form, nil, integer, keyword}
 use Rattle.edn.specs.Meaning.Lexing.{IsWord}
 use Rattle.edn.specs.Meaning.Names.{begins_keyword, is_no_slash, is_keyword_name, is_keyword_at, is_keyword}
-use Rattle.edn.specs.Meaning.Numbers.{is_sign, begins_number, after_sign, is_whole, after_digits, magnitude, positive, number_of, number_parts}
+use Rattle.edn.specs.Meaning.Numbers.{is_sign, begins_number, after_sign, are_digits, integer_form, radix_of, after_digits, magnitude, positive, number_of, number_parts}
 use Rattle.edn.specs.Meaning.Tokens.{leaf}
 use Rattle.edn.specs.Meaning.Words.{named, word_of}
 use Rattle.edn.specs.Computing.Plain.{begins_plain, after_byte, begins_with_end}
@@ -124,14 +124,25 @@ begins_with_digit : (b : ℕ) (ds : List ℕ) → is_ascii_digit b ≡ true → 
 begins_with_digit b [] e = e
 begins_with_digit b (c ∷ cs) e = rw e refl
 
-whole_digits : (b : ℕ) (ds : List ℕ) → (b == 48) ≡ false → is_whole (b ∷ ds) ≡ true
-whole_digits b [] e = refl
-whole_digits b (c ∷ cs) e = rw e refl
+some_bytes : (b : ℕ) (bs : List ℕ) → nat_lt 0 (length (b ∷ bs)) ≡ true
+some_bytes b bs = search rules
+
+digit_decimal : (b : ℕ) → is_ascii_digit b ≡ true → is_digit b 10 ≡ true
+digit_decimal b e = by_digits (λ x. is_digit x 10) b refl e
+
+are_decimal : (b : ℕ) (ds : List ℕ) → list_all is_ascii_digit (b ∷ ds) ≡ true → are_digits 10 (b ∷ ds) ≡ true
+are_decimal b ds all = rw (some_bytes b ds, all_pass is_ascii_digit (λ x. is_digit x 10) digit_decimal (b ∷ ds) all) refl
+
+no_octal : (b : ℕ) (ds : List ℕ) → (b == 48) ≡ false → radix_of (b ∷ ds) ≡ 10
+no_octal b [] e = refl
+no_octal b (c ∷ cs) e = rw e refl
 
 digits_number : (b : ℕ) (ds : List ℕ) (m : ℕ) (z : ℤ) → is_ascii_digit b ≡ true → (b == 48) ≡ false
-    → list_all is_ascii_digit (b ∷ ds) ≡ true → magnitude (b ∷ ds) ≡ Some m → positive m ≡ Some z
+    → list_all is_ascii_digit (b ∷ ds) ≡ true → magnitude 10 (b ∷ ds) ≡ Some m → positive m ≡ Some z
     → number_parts (b ∷ ds) (b ∷ ds) [] ≡ Some (integer z)
-digits_number b ds m z e first all is fits = rw (whole_digits b ds first, digit_no_minus b e, is, fits) refl
+digits_number b ds m z e first all is fits =
+    ap (λ radix. integer_form (b ∷ ds) radix (b ∷ ds)) (no_octal b ds first)
+    ∙ rw (are_decimal b ds all, digit_no_minus b e, is, fits) refl
 
 number_is : (b : ℕ) (ds : List ℕ) → is_ascii_digit b ≡ true → list_all is_ascii_digit (b ∷ ds) ≡ true
     → number_of (b ∷ ds) ≡ number_parts (b ∷ ds) (b ∷ ds) []
@@ -147,7 +158,7 @@ number_is b ds e all =
     ∙ ap (λ t. number_parts (b ∷ ds) (b ∷ ds) t) after
 
 digits_word : (b : ℕ) (ds : List ℕ) (m : ℕ) (z : ℤ) → is_ascii_digit b ≡ true → (b == 48) ≡ false
-    → list_all is_ascii_digit (b ∷ ds) ≡ true → magnitude (b ∷ ds) ≡ Some m → positive m ≡ Some z
+    → list_all is_ascii_digit (b ∷ ds) ≡ true → magnitude 10 (b ∷ ds) ≡ Some m → positive m ≡ Some z
     → word_of (b ∷ ds) ≡ Some (integer z)
 digits_word b ds m z e first all is fits =
     rw (digit_no_colon b e, begins_with_digit b ds e) (number_is b ds e all ∙ digits_number b ds m z e first all is fits)
@@ -157,7 +168,7 @@ digits_front : (b : ℕ) (bs : List ℕ) → is_ascii_digit b ≡ true
 digits_front b bs e = rw e (ap (λ n. take n (b ∷ bs)) (sym (one_more (prefix_len is_ascii_digit bs))))
 
 integer_read : (beyond : Beyond) (b : ℕ) (bs rest : List ℕ) (m : ℕ) (z : ℤ) → is_ascii_digit b ≡ true → (b == 48) ≡ false
-    → magnitude (take (prefix_len is_ascii_digit (b ∷ bs)) (b ∷ bs)) ≡ Some m → rest ≡ after_digits (b ∷ bs)
+    → magnitude 10 (take (prefix_len is_ascii_digit (b ∷ bs)) (b ∷ bs)) ≡ Some m → rest ≡ after_digits (b ∷ bs)
     → begins_with_end rest ≡ true → positive m ≡ Some z → word_token beyond (b ∷ bs) ≡ token (leaf (integer z)) rest
 integer_read beyond b bs rest m z e first is after end fits =
     let n = prefix_len is_ascii_digit (b ∷ bs) in
@@ -165,13 +176,10 @@ integer_read beyond b bs rest m z e first is after end fits =
     let all = front_all is_ascii_digit (b ∷ bs) in
     let same = digits_front b bs e in
     let word = subst (λ x. word_of x ≡ Some (integer z)) (sym same)
-    (digits_word b _ m z e first (subst (λ x. list_all is_ascii_digit x ≡ true) same all) (subst (λ x. magnitude x ≡ Some m) same is) fits) in
+    (digits_word b _ m z e first (subst (λ x. list_all is_ascii_digit x ≡ true) same all) (subst (λ x. magnitude 10 x ≡ Some m) same is) fits) in
     let read = front_word beyond name rest (integer z) (all_pass is_ascii_digit is_word_byte digit_word name all) end word in
     subst (λ x. word_token beyond x ≡ token (leaf (integer z)) rest)
     (subst (λ r. name ++ r ≡ b ∷ bs) (sym after) (take-append-drop n (b ∷ bs))) read
-
-some_bytes : (b : ℕ) (bs : List ℕ) → nat_lt 0 (length (b ∷ bs)) ≡ true
-some_bytes b bs = search rules
 
 keyword_is : (name : List ℕ) → list_all is_symbol_byte name ≡ true → begins_keyword name ≡ true → is_keyword name ≡ true
 keyword_is [] all e = absurd (cc)
@@ -255,7 +263,7 @@ digit_token beyond b bs e =
     ) refl
 
 pub plain_integer_read : (beyond : Beyond) (text rest : List ℕ) (m : ℕ) (z : ℤ) → begins_plain text ≡ true
-    → magnitude (take (prefix_len is_ascii_digit text) text) ≡ Some m → rest ≡ after_digits text
+    → magnitude 10 (take (prefix_len is_ascii_digit text) text) ≡ Some m → rest ≡ after_digits text
     → begins_with_end rest ≡ true → positive m ≡ Some z → token_at beyond text ≡ token (leaf (integer z)) rest
 plain_integer_read beyond [] rest m z e is after end fits = absurd (cc)
 plain_integer_read beyond (b ∷ bs) rest m z e is after end fits =

@@ -2,7 +2,7 @@
 
 ghost use Rattle.std.specs.Prelude.{◌≡◌, ◌≤◌, length};
 ghost use Rattle.std.specs.List.{prefix_len};
-ghost use Rattle.std.specs.Char.{is_ascii_digit};
+ghost use Rattle.std.specs.Char.{is_ascii_digit, is_ascii_hexdigit};
 ghost use Rattle.edn.specs.Meaning.Bytes.{is_space, is_end, is_word_byte, is_symbol_byte};
 
 /// Returns whether the byte is white space, as a comma is. So are, to Clojure, the separators of ASCII.
@@ -56,6 +56,17 @@ pub(crate) fn symbol_len(bytes: &[u8]) -> usize
     bytes
         .iter()
         .take_while(|byte| is_symbol_byte(**byte))
+        .count()
+}
+
+/// Returns the number of hexadecimal digits at the front.
+pub(crate) fn hexdigits_len(bytes: &[u8]) -> usize
+    ensures value { result ≡ prefix_len is_ascii_hexdigit bytes.now }
+    ensures within { result ≤ length bytes.now }
+{
+    bytes
+        .iter()
+        .take_while(|byte| byte.is_ascii_hexdigit())
         .count()
 }
 

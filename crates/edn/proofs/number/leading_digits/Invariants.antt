@@ -6,8 +6,8 @@ use Rattle.edn.proofs.number.leading_digits.Given as goal
 
 abbrev pub invariant-loop-rest : goal.invariant-loop-rest
 invariant-loop-rest l =
-    (magnitude_after l.value (take (prefix_len is_ascii_digit l.rest) l.rest)
-    ≡ magnitude_after 0 (take (prefix_len is_ascii_digit l.text) l.text))
+    (magnitude_after 10 l.value (take (prefix_len is_ascii_digit l.rest) l.rest)
+    ≡ magnitude_after 10 0 (take (prefix_len is_ascii_digit l.text) l.text))
     × (after_digits l.rest ≡ after_digits l.text)
     × (length l.rest ≤ length l.text)
 

@@ -3,4 +3,4 @@ use Rattle.edn.specs.Meaning.Numbers.{magnitude_after}
 use Rattle.edn.proofs.number.magnitude.Given as goal
 
 abbrev pub invariant-loop-digit : goal.invariant-loop-digit
-invariant-loop-digit l = magnitude_after l.value (drop l.digit-index l.digits) ≡ magnitude_after 0 l.digits
+invariant-loop-digit l = magnitude_after l.radix l.value (drop l.digit-index l.digits) ≡ magnitude_after l.radix 0 l.digits
