@@ -1,6 +1,6 @@
 -- What is wrong with bytes that begin no token.
-use Rattle.std.proofs.Common.{◌≡◌, ◌≢◌, ◌⊎◌, ℕ, ◌+◌, ◌==◌, Bool, true, false, cond, List, [], ◌∷◌, ◌++◌, take, Option, None, Some, refl, sym, ap, ◌∙◌, subst, append-nil, inl, inr}
-use Rattle.std.specs.Prelude.{not, ◌||◌}
+use Rattle.std.proofs.Common.{◌≡◌, ◌≢◌, ◌⊎◌, ℕ, zero, suc, ◌+◌, ◌==◌, Bool, true, false, cond, List, [], ◌∷◌, ◌++◌, length, take, drop, Option, None, Some, refl, sym, ap, ◌∙◌, subst, append_assoc, append-nil, take-append-drop, inl, inr}
+use Rattle.std.specs.Prelude.{encode_utf8}
 use Rattle.std.specs.List.{prefix_len}
 use Rattle.std.specs.Io.KnownBytes.{prepend_known}
 use Rattle.std.proofs.lemmas.Bool.{eqb-true, eqb-false, ne_eqb}
@@ -9,86 +9,83 @@ use Rattle.edn.specs.declared.read_fault.Problem.TheVariants as problem
 use Rattle.edn.specs.declared.read_fault.ReadFault.TheVariants.{Syntax}
 use Rattle.edn.specs.declared.token.Beyond.{Beyond}
 use Rattle.edn.specs.declared.token.Beyond.TheVariants.{Unread, Nothing}
-use Rattle.edn.specs.Meaning.Blame.{BeginOther, IsCut, IsOpenString, IsWrongThere}
+use Rattle.edn.specs.Meaning.Blame.{BeginOther, IsCut, IsOpenEscape, IsOpenString, IsWrongThere}
 use Rattle.edn.specs.Meaning.Bytes.{is_space, is_word_byte}
 use Rattle.edn.specs.Meaning.Characters.{is_character}
 use Rattle.edn.specs.Meaning.Forms.{Form}
 use Rattle.edn.specs.Meaning.Names.{is_tag}
 use Rattle.edn.specs.Meaning.Lines.{IsAt}
 use Rattle.edn.specs.Meaning.Reading.{IsLinked, PassesGap}
-use Rattle.edn.specs.Meaning.Strings.{unescaped, IsInside, nothing, plain, escaped}
+use Rattle.edn.specs.Meaning.Strings.{character_of, escape_len, nothing, plain, escaped}
 use Rattle.edn.specs.Meaning.Tokens.{Token}
 use Rattle.edn.specs.Machinery.Inputs.{IsSpent}
 use Rattle.edn.specs.Computing.Gaps.{after_gap_in}
 use Rattle.edn.specs.Computing.Stages.{IsBadIn}
-use Rattle.edn.specs.Computing.Strings.{Quoted, closed, open_, bad as no_string, with_bytes, with_escape, quoted_at}
+use Rattle.edn.specs.Computing.Strings.{Quoted, closed, open_, bad as no_string, with_bytes, with_character, after_escape, escaped_at, quoted_at}
 use Rattle.edn.specs.Computing.Tokens.{Lexed, token, end, more, bad, no_token, token_at, BeginsComment}
 use Rattle.edn.specs.Computing.Tokens.{after_string, string_token, character_token, dispatched, of_word}
 use Rattle.edn.proofs.Choices.{chosen, ne_from}
 use Rattle.edn.proofs.GapTexts.{IsPast, past_space}
 use Rattle.edn.proofs.Lexed.{IsBeyond}
 use Rattle.edn.proofs.NoTokens.{bad_stays}
+use Rattle.edn.proofs.StringTexts.{at_escape, inside_again, parts_len}
 
 -- ---- bytes that begin no token
 
-open_text : {inside bytes : List ℕ} → IsInside inside bytes → quoted_at false inside ≡ open_
-open_text nothing = refl
-open_text (plain {b = b} q s r) = rw (ne_eqb b 34 q, ne_eqb b 92 s, open_text r) refl
-open_text (escaped is r) = rw (is, open_text r) refl
+open_escape : (left : List ℕ) → IsOpenEscape left → quoted_at 0 left ≡ open_
+open_escape [] left = refl
+open_escape (b ∷ escape) (back, len) =
+    ap (λ x. quoted_at 0 (x ∷ escape)) back ∙ ap (λ x. quoted_at 0 (92 ∷ x)) (sym (append-nil escape))
+    ∙ at_escape escape [] (ap escape_len (append-nil escape) ∙ len)
 
-open_escape : {inside bytes : List ℕ} → IsInside inside bytes → quoted_at false (inside ++ 92 ∷ []) ≡ open_
-open_escape nothing = refl
-open_escape (plain {b = b} q s r) = rw (ne_eqb b 34 q, ne_eqb b 92 s, open_escape r) refl
-open_escape (escaped is r) = rw (is, open_escape r) refl
+stays_open : (text : List ℕ) → IsOpenString text → quoted_at 0 text ≡ open_
+stays_open text (inside, bytes, left, good, open_left, e) =
+    ap (quoted_at 0) e ∙ inside_again good ∙ ap (with_bytes bytes) (open_escape left open_left)
 
-stays_open : (text : List ℕ) → IsOpenString text → quoted_at false text ≡ open_
-stays_open text (inside, bytes, good, inl e) = ap (quoted_at false) e ∙ open_text good
-stays_open text (inside, bytes, good, inr e) = ap (quoted_at false) e ∙ open_escape good
+front_open : (front : List ℕ) (q : Quoted) → with_bytes front q ≡ open_ → q ≡ open_
+front_open front (closed bytes rest) e = absurd (let no : closed (front ++ bytes) rest ≡ open_ = e in cc)
+front_open front open_ e = refl
+front_open front no_string e = absurd (let no : no_string ≡ open_ = e in cc)
 
-front_open : (c : ℕ) (q : Quoted) → with_bytes (c ∷ []) q ≡ open_ → q ≡ open_
-front_open c (closed bytes rest) e = absurd (let no : closed (c ∷ bytes) rest ≡ open_ = e in cc)
-front_open c open_ e = refl
-front_open c no_string e = absurd (let no : no_string ≡ open_ = e in cc)
+character_open : (escape text : List ℕ) (q : Quoted) (o : Option ℕ) → escape_len (escape ++ text) ≡ length escape
+    → character_of escape ≡ o → (q ≡ open_ → IsOpenString text) → with_character o q ≡ open_ → IsOpenString (92 ∷ (escape ++ text))
+character_open escape text q None len is further e = absurd (let no : no_string ≡ open_ = e in cc)
+character_open escape text q (Some c) len is further e =
+    let (inside, bytes, left, good, open_left, whole) = further (front_open (encode_utf8 c) q e) in (
+      92 ∷ (escape ++ inside),
+      encode_utf8 c ++ bytes,
+      left,
+      escaped escape (ap (λ x. escape_len (escape ++ x)) (sym whole) ∙ len) is good,
+      open_left,
+      ap (λ x. 92 ∷ (escape ++ x)) whole ∙ ap (λ x. 92 ∷ x) (sym (append_assoc escape inside left)),
+    )
 
--- after a backslash there may be nothing
-IsOpenEscape : List ℕ → Type 0
-IsOpenEscape text = (text ≡ []) ⊎ ((e : ℕ) × (bs : List ℕ) × (c : ℕ) × (text ≡ e ∷ bs) × (unescaped e ≡ Some c) × IsOpenString bs)
-
-escape_open : (e : ℕ) (bs : List ℕ) (o : Option ℕ) → unescaped e ≡ o → (quoted_at false bs ≡ open_ → IsOpenString bs)
-    → with_escape o (quoted_at false bs) ≡ open_ → IsOpenEscape (e ∷ bs)
-unfolding IsOpenEscape
-escape_open e bs None is further opened = absurd (let none : no_string ≡ open_ = opened in cc)
-escape_open e bs (Some c) is further opened = inr (e, bs, c, refl, is, further (front_open c _ opened))
+escape_open : (escape text : List ℕ) (q : Quoted) → escape_len (escape ++ text) ≡ length escape
+    → (q ≡ open_ → IsOpenString text) → after_escape escape text q ≡ open_ → IsOpenString (92 ∷ (escape ++ text))
+escape_open escape [] q len further e =
+    ([], [], 92 ∷ (escape ++ []), nothing, (refl, len ∙ ap length (sym (append-nil escape))), refl)
+escape_open escape (b ∷ text) q len further e = character_open escape (b ∷ text) q (character_of escape) len refl further e
 
 open_again : (b : ℕ) (bs : List ℕ) → b ≢ 34 → b ≢ 92 → IsOpenString bs → IsOpenString (b ∷ bs)
-open_again b bs q s (inside, bytes, good, inl e) = (b ∷ inside, b ∷ bytes, plain q s good, inl (ap (λ x. b ∷ x) e))
-open_again b bs q s (inside, bytes, good, inr e) = (b ∷ inside, b ∷ bytes, plain q s good, inr (ap (λ x. b ∷ x) e))
+open_again b bs q s (inside, bytes, left, good, open_left, e) =
+    (b ∷ inside, b ∷ bytes, left, plain q s good, open_left, ap (λ x. b ∷ x) e)
 
-open_behind : (bs : List ℕ) → IsOpenEscape bs → IsOpenString (92 ∷ bs)
-unfolding IsOpenEscape
-open_behind bs (inl e) = ([], [], nothing, inr (ap (λ x. 92 ∷ x) e))
-open_behind bs (inr (e, cs, c, is, escape, (inside, bytes, good, inl same))) =
-    (92 ∷ e ∷ inside, c ∷ bytes, escaped escape good, inl (ap (λ x. 92 ∷ x) (is ∙ ap (λ x. e ∷ x) same)))
-open_behind bs (inr (e, cs, c, is, escape, (inside, bytes, good, inr same))) =
-    (92 ∷ e ∷ inside, c ∷ bytes, escaped escape good, inr (ap (λ x. 92 ∷ x) (is ∙ ap (λ x. e ∷ x) same)))
-
-mutual
-  unfolding IsOpenEscape
-
-  open_string : (text : List ℕ) → quoted_at false text ≡ open_ → IsOpenString text
-  open_string [] e = ([], [], nothing, inl refl)
-  open_string (b ∷ bs) e =
-      elim (chosen (b == 34) _ _ _ e) [
-        | inl w ↦ absurd (let no : closed [] bs ≡ open_ = w.1 in cc)
-        | inr w ↦ elim (chosen (b == 92) _ _ _ w.1) [
-          | inl v ↦ subst (λ x. IsOpenString (x ∷ bs)) (sym (eqb-true b 92 v.0)) (open_behind bs (open_after bs v.1))
-          | inr v ↦ open_again b bs (ne_from b 34 w.0) (ne_from b 92 v.0) (open_string bs (front_open b _ v.1))
-        ]
+open_string : (skip : ℕ) (text : List ℕ) → quoted_at skip text ≡ open_ → IsOpenString (drop skip text)
+unfolding escaped_at
+open_string zero [] e = ([], [], [], nothing, tt, refl)
+open_string (suc skip) [] e = ([], [], [], nothing, tt, refl)
+open_string (suc skip) (b ∷ text) e = open_string skip text e
+open_string zero (b ∷ text) e =
+    elim (chosen (b == 34) _ _ _ e) [
+      | inl w ↦ absurd (let no : closed [] text ≡ open_ = w.1 in cc)
+      | inr w ↦ elim (chosen (b == 92) _ _ _ w.1) [
+        | inl v ↦
+            let n = escape_len text in
+            subst IsOpenString (ap (λ x. 92 ∷ x) (take-append-drop n text) ∙ ap (λ x. x ∷ text) (sym (eqb-true b 92 v.0)))
+            (escape_open (take n text) (drop n text) (quoted_at n text) (parts_len text) (open_string n text) v.1)
+        | inr v ↦ open_again b text (ne_from b 34 w.0) (ne_from b 92 v.0) (open_string zero text (front_open (b ∷ []) _ v.1))
       ]
-
-  open_after : (text : List ℕ) → quoted_at true text ≡ open_ → IsOpenEscape text
-  open_after [] e = inl refl
-  open_after (e ∷ bs) is = escape_open e bs (unescaped e) refl (open_string bs) is
+    ]
 
 -- what is wrong with bytes whose token is refused so
 abbrev Tells : List ℕ → Lexed → Type 0
@@ -113,17 +110,17 @@ not_open e = cc
 some_bytes : (b : ℕ) (bs : List ℕ) → b ∷ bs ≡ [] → ⊥
 some_bytes b bs e = cc
 
-string_tells : (bs : List ℕ) (q : Quoted) → quoted_at false bs ≡ q → Tells (34 ∷ bs) (after_string Nothing q)
+string_tells : (bs : List ℕ) (q : Quoted) → quoted_at 0 bs ≡ q → Tells (34 ∷ bs) (after_string Nothing q)
 string_tells bs (closed bytes rest) e = tt
-string_tells bs open_ e = inl (refl, open_string bs e)
+string_tells bs open_ e = inl (refl, open_string 0 bs e)
 string_tells bs no_string e =
     not_cut 34 bs (λ _ is. not_open (sym e ∙ stays_open bs is)) (λ no _. eqb-false 34 92 refl no) (λ no _. eqb-false 34 35 refl no)
 
 character_tells : (bs : List ℕ) → Tells (92 ∷ bs) (character_token Nothing bs)
 character_tells [] = inr (inl refl, refl)
 character_tells (b ∷ bs) =
-    either (Tells (92 ∷ b ∷ bs)) (is_space b || not (is_character (take (prefix_len is_word_byte bs + 1) (b ∷ bs)))) (bad problem.Token) _
-    (λ _. not_cut 92 (b ∷ bs) (λ no _. eqb-false 92 34 refl no) (λ _ none. some_bytes b bs none) (λ no _. eqb-false 92 35 refl no)) (λ _. tt)
+    either (Tells (92 ∷ b ∷ bs)) (is_character (take (prefix_len is_word_byte bs + 1) (b ∷ bs))) _ (bad problem.Token) (λ _. tt)
+    (λ _. not_cut 92 (b ∷ bs) (λ no _. eqb-false 92 34 refl no) (λ _ none. some_bytes b bs none) (λ no _. eqb-false 92 35 refl no))
 
 dispatched_tells : (bs : List ℕ) → Tells (35 ∷ bs) (dispatched Nothing bs)
 dispatched_tells [] = inr (inr refl, refl)

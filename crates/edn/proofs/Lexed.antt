@@ -1,13 +1,12 @@
 -- The token that is read is the one with which the text begins.
 use Rattle.std.proofs.Common.{◌≡◌, ◌≢◌, ℕ, zero, suc, ◌+◌, ◌==◌, Bool, true, false, List, [], ◌∷◌, ◌++◌, take, drop, Option, Some, None}
 use Rattle.std.proofs.Common.{inl, inr, refl, sym, ap, ◌∙◌, subst, append_assoc, take-append-drop, arith}
-use Rattle.std.specs.Prelude.{not, ◌||◌}
 use Rattle.std.specs.List.{prefix_len}
 use Rattle.std.proofs.lemmas.Bool.{eqb-true}
 use Rattle.edn.specs.declared.token.Opening.TheVariants as opening
 use Rattle.edn.specs.declared.token.Beyond.{Beyond}
 use Rattle.edn.specs.declared.token.Beyond.TheVariants.{Unread, Nothing}
-use Rattle.edn.specs.Meaning.Bytes.{is_space, is_word_byte}
+use Rattle.edn.specs.Meaning.Bytes.{is_word_byte}
 use Rattle.edn.specs.Meaning.Characters.{is_character}
 use Rattle.edn.specs.Meaning.Forms.{Form, string, character}
 use Rattle.edn.specs.Meaning.Names.{is_tag}
@@ -18,7 +17,7 @@ use Rattle.edn.specs.Computing.Strings.{Quoted, closed, open_, bad as no_string,
 use Rattle.edn.specs.Computing.Tokens.{token, more, bad, no_token, unfinished, may_go_on, after_string}
 use Rattle.edn.specs.Computing.Tokens.{character_at, character_token, tag_token, dispatched, of_word, word_token, token_at}
 use Rattle.edn.proofs.Choices.{chosen, ne_from}
-use Rattle.edn.proofs.StringTexts.{string_read}
+use Rattle.edn.proofs.StringTexts.{inside_more, string_read}
 use Rattle.edn.proofs.Spans.{span_ends, span_word}
 
 -- nothing follows the text's end
@@ -53,13 +52,13 @@ ended Unread (x ∷ rest) after b h e = h
 ended Nothing [] after b h e = subst Ends (sym b) tt
 ended Nothing (x ∷ rest) after b h e = h
 
-string_so : (beyond : Beyond) (bs after : List ℕ) (q : Quoted) (t : Token) (rest : List ℕ) → quoted_at false bs ≡ q
+string_so : (beyond : Beyond) (bs after : List ℕ) (q : Quoted) (t : Token) (rest : List ℕ) → quoted_at 0 bs ≡ q
     → after_string beyond q ≡ token t rest → BeginsWith (34 ∷ bs) t rest after
 string_so beyond bs after (closed bytes r) t rest is e =
-    let (inside, good, whole) = string_read false bs bytes r is in
+    let (inside, good, whole) = string_read 0 bs bytes r is in
     same (leaf (string bytes)) t r rest e (34 ∷ (bs ++ after)) after
     (subst (λ x. Begins (leaf (string bytes)) (34 ∷ x) (r ++ after))
-    (sym (ap (λ x. x ++ after) whole ∙ append_assoc inside (34 ∷ r) after)) (quotes inside good))
+    (sym (ap (λ x. x ++ after) whole ∙ append_assoc inside (34 ∷ r) after)) (quotes inside (inside_more good after)))
 string_so beyond bs after open_ t rest is e = absurd (unfinished_so beyond t rest e)
 string_so beyond bs after no_string t rest is e = absurd (cc)
 
@@ -120,29 +119,22 @@ word_so beyond b bs after t rest h other e =
           (ended beyond (drop n text) after h (span_ends text) w.0) (no_hash n b bs other))
     ]
 
-or_false : (a b : Bool) → (a || not b) ≡ false → (a ≡ false) × (b ≡ true)
-or_false false true e = (refl, refl)
-or_false false false e = absurd (cc)
-or_false true b e = absurd (cc)
-
 character_so : (beyond : Beyond) (text after : List ℕ) (t : Token) (rest : List ℕ) → IsBeyond beyond after
     → character_token beyond text ≡ token t rest → BeginsWith (92 ∷ text) t rest after
 character_so beyond [] after t rest h e = absurd (unfinished_so beyond t rest e)
 character_so beyond (b ∷ bs) after t rest h e =
     let n = prefix_len is_word_byte bs in
     let one : n + 1 ≡ suc n = omega arith in
-    let read : character_at beyond b (b ∷ take n bs) (drop n bs) ≡ token t rest =
-    subst (λ m. character_at beyond b (take m (b ∷ bs)) (drop m (b ∷ bs)) ≡ token t rest) one e in
+    let read : character_at beyond (b ∷ take n bs) (drop n bs) ≡ token t rest =
+    subst (λ m. character_at beyond (take m (b ∷ bs)) (drop m (b ∷ bs)) ≡ token t rest) one e in
     elim (chosen (may_go_on (drop n bs) beyond) _ _ _ read) [
       | inl w ↦ absurd (let no : more ≡ token t rest = w.1 in cc)
-      | inr w ↦ elim (chosen (is_space b || not (is_character (b ∷ take n bs))) _ _ _ w.1) [
-        | inl v ↦ absurd (let no : bad _ ≡ token t rest = v.1 in cc)
-        | inr v ↦
-            let good = or_false (is_space b) (is_character (b ∷ take n bs)) v.0 in
-            same (leaf (character (b ∷ take n bs))) t (drop n bs) rest v.1 (92 ∷ b ∷ (bs ++ after)) after
+      | inr w ↦ elim (chosen (is_character (b ∷ take n bs)) _ _ _ w.1) [
+        | inl v ↦ same (leaf (character (b ∷ take n bs))) t (drop n bs) rest v.1 (92 ∷ b ∷ (bs ++ after)) after
             (subst (λ x. Begins (leaf (character (b ∷ take n bs))) (92 ∷ b ∷ x) (drop n bs ++ after))
             (sym (parted n bs after))
-            (characters good.0 (span_word bs) good.1 (ended beyond (drop n bs) after h (span_ends bs) w.0)))
+            (characters (span_word bs) v.0 (ended beyond (drop n bs) after h (span_ends bs) w.0)))
+        | inr v ↦ absurd (let no : bad _ ≡ token t rest = v.1 in cc)
       ]
     ]
 
@@ -160,7 +152,7 @@ token_so beyond (b ∷ bs) after t rest h e =
       | inl w ↦ absurd (none_so beyond t rest w.1)
       | inr w1 ↦
           elim (chosen (b == 34) _ _ _ w1.1) [
-            | inl w ↦ front b 34 bs t rest after w.0 (string_so beyond bs after (quoted_at false bs) t rest refl w.1)
+            | inl w ↦ front b 34 bs t rest after w.0 (string_so beyond bs after (quoted_at 0 bs) t rest refl w.1)
             | inr w2 ↦
                 elim (chosen (b == 92) _ _ _ w2.1) [
                   | inl w ↦ front b 92 bs t rest after w.0 (character_so beyond bs after t rest h w.1)

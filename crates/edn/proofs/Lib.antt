@@ -3,6 +3,7 @@ pub mod Fronts
 pub mod Gaps
 pub mod Held
 pub mod ItemsRun
+pub mod Escapes
 pub mod StringTexts
 pub mod LexedTexts
 pub mod Spans

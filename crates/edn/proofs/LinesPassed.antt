@@ -10,7 +10,7 @@ use Rattle.edn.specs.declared.token.Beyond.TheVariants.{Unread, Nothing}
 use Rattle.edn.specs.declared.token.Token.{Token as TokenValue}
 use Rattle.edn.specs.declared.token.Token.TheVariants as In
 use Rattle.edn.specs.Meaning.Bytes.{is_space, is_end, is_word_byte}
-use Rattle.edn.specs.Meaning.Forms.{string}
+use Rattle.edn.specs.Meaning.Forms.{character, string}
 use Rattle.edn.specs.Meaning.Lexing.{IsWord, IsLastLine, Begins, round_opens, square_opens, curly_opens, set_opens, round_closes, square_closes, curly_closes, discards, tags, quotes, characters, words}
 use Rattle.edn.specs.Meaning.Lines.{IsAt, feeds, line_after}
 use Rattle.edn.specs.Meaning.Tokens.{Token, leaf}
@@ -92,10 +92,6 @@ e10 : is_end 10 ≡ true
 unfolding is_end is_space
 e10 = refl
 
-s10 : is_space 10 ≡ true
-unfolding is_space
-s10 = refl
-
 one_less : (b : ℕ) (bs : List ℕ) → (b == 10) ≡ false → feeds (b ∷ bs) ≡ feeds bs
 one_less b bs e = rw e refl
 
@@ -105,11 +101,11 @@ word_feeds (b ∷ bs) w =
     let (first, others) = and_parts (is_word_byte b) (list_all is_word_byte bs) w in
     one_less b bs (not_end b 10 first e10) ∙ word_feeds bs others
 
-not_feed : (b : ℕ) → is_space b ≡ false → (b == 10) ≡ false
-not_feed b s = ne_eqb b 10 (λ e. let no : false ≡ true = sym s ∙ ap is_space e ∙ s10 in cc)
+-- only strings and characters have line feeds
+abbrev pub IsOther : Token → Type 0
+IsOther t = ((bytes : List ℕ) → t ≡ leaf (string bytes) → ⊥) × ((name : List ℕ) → t ≡ leaf (character name) → ⊥)
 
--- only strings have line feeds
-no_feeds : {t : Token} {text rest : List ℕ} → Begins t text rest → ((bytes : List ℕ) → t ≡ leaf (string bytes) → ⊥)
+no_feeds : {t : Token} {text rest : List ℕ} → Begins t text rest → IsOther t
     → (front : List ℕ) × (text ≡ front ++ rest) × (feeds front ≡ 0)
 no_feeds round_opens other = (40 ∷ [], refl, refl)
 no_feeds square_opens other = (91 ∷ [], refl, refl)
@@ -120,9 +116,8 @@ no_feeds square_closes other = (93 ∷ [], refl, refl)
 no_feeds curly_closes other = (125 ∷ [], refl, refl)
 no_feeds discards other = (35 ∷ 95 ∷ [], refl, refl)
 no_feeds (tags name w g e) other = (35 ∷ name, refl, word_feeds name w)
-no_feeds (quotes {bytes = bytes} inside h) other = absurd (other bytes refl)
-no_feeds (characters {b = b} {name = name} s w g e) other =
-    (92 ∷ b ∷ name, refl, one_less b name (not_feed b s) ∙ word_feeds name w)
+no_feeds (quotes {bytes = bytes} inside h) other = absurd (other.0 bytes refl)
+no_feeds (characters {b = b} {name = name} w g e) other = absurd (other.1 (b ∷ name) refl)
 no_feeds (words b name h w is e) other = (b ∷ name, refl, word_feeds (b ∷ name) w)
 
 nothing_beyond : (beyond : Beyond) → IsBeyond beyond []
@@ -130,14 +125,14 @@ nothing_beyond Unread = tt
 nothing_beyond Nothing = refl
 
 plain_token : (beyond : Beyond) (p : List ℕ) (t : Token) (rest : List ℕ) → token_at beyond p ≡ token t rest
-    → ((bytes : List ℕ) → t ≡ leaf (string bytes) → ⊥) → (front : List ℕ) × (p ≡ front ++ rest) × (feeds front ≡ 0)
+    → IsOther t → (front : List ℕ) × (p ≡ front ++ rest) × (feeds front ≡ 0)
 plain_token beyond p t rest e other =
     let begins = token_so beyond p [] t rest (nothing_beyond beyond) e in
     let (front, whole, none) = no_feeds begins other in
     (front, sym (append-nil p) ∙ whole ∙ ap (λ x. front ++ x) (append-nil rest), none)
 
 pub at_plain : (beyond : Beyond) (p : List ℕ) (t : Token) (rest : List ℕ) → token_at beyond p ≡ token t rest
-    → ((bytes : List ℕ) → t ≡ leaf (string bytes) → ⊥) → (text : List ℕ) (left : Option (List ℕ)) (m n : ℕ) → n ≡ m
+    → IsOther t → (text : List ℕ) (left : Option (List ℕ)) (m n : ℕ) → n ≡ m
     → IsAt text (prepend_known p left) m → IsAt text (prepend_known rest left) n
 at_plain beyond p t rest e other text left m n line at =
     let (front, whole, none) = plain_token beyond p t rest e other in at_same text p front rest left m n whole none line at
@@ -149,19 +144,19 @@ pub at_token : (value : TokenValue) (place : LeafValue) (beyond : Beyond) (p res
     → IsAt text (prepend_known p left) m → IsAt text (prepend_known (drop count p) left) n
 at_token In.Leaf place beyond p rest count e d text left m n leaf_line line at = at_count text p count left m n (leaf_line refl) at
 at_token (In.Open b) place beyond p rest count e d text left m n leaf_line line at =
-    subst (λ x. IsAt text (prepend_known x left) n) (sym d) (at_plain beyond p _ rest e (λ bytes no. cc) text left m n (line (λ no. cc)) at)
+    subst (λ x. IsAt text (prepend_known x left) n) (sym d) (at_plain beyond p _ rest e (λ bytes no. cc, λ name no. cc) text left m n (line (λ no. cc)) at)
 at_token (In.Close b) place beyond p rest count e d text left m n leaf_line line at =
-    subst (λ x. IsAt text (prepend_known x left) n) (sym d) (at_plain beyond p _ rest e (λ bytes no. cc) text left m n (line (λ no. cc)) at)
+    subst (λ x. IsAt text (prepend_known x left) n) (sym d) (at_plain beyond p _ rest e (λ bytes no. cc, λ name no. cc) text left m n (line (λ no. cc)) at)
 at_token In.Discard place beyond p rest count e d text left m n leaf_line line at =
-    subst (λ x. IsAt text (prepend_known x left) n) (sym d) (at_plain beyond p _ rest e (λ bytes no. cc) text left m n (line (λ no. cc)) at)
+    subst (λ x. IsAt text (prepend_known x left) n) (sym d) (at_plain beyond p _ rest e (λ bytes no. cc, λ name no. cc) text left m n (line (λ no. cc)) at)
 at_token In.Tag place beyond p rest count e d text left m n leaf_line line at =
-    subst (λ x. IsAt text (prepend_known x left) n) (sym d) (at_plain beyond p _ rest e (λ bytes no. cc) text left m n (line (λ no. cc)) at)
+    subst (λ x. IsAt text (prepend_known x left) n) (sym d) (at_plain beyond p _ rest e (λ bytes no. cc, λ name no. cc) text left m n (line (λ no. cc)) at)
 at_token In.Nil place beyond p rest count e d text left m n leaf_line line at =
-    subst (λ x. IsAt text (prepend_known x left) n) (sym d) (at_plain beyond p _ rest e (λ bytes no. cc) text left m n (line (λ no. cc)) at)
+    subst (λ x. IsAt text (prepend_known x left) n) (sym d) (at_plain beyond p _ rest e (λ bytes no. cc, λ name no. cc) text left m n (line (λ no. cc)) at)
 at_token (In.Integer z) place beyond p rest count e d text left m n leaf_line line at =
-    subst (λ x. IsAt text (prepend_known x left) n) (sym d) (at_plain beyond p _ rest e (λ bytes no. cc) text left m n (line (λ no. cc)) at)
+    subst (λ x. IsAt text (prepend_known x left) n) (sym d) (at_plain beyond p _ rest e (λ bytes no. cc, λ name no. cc) text left m n (line (λ no. cc)) at)
 at_token In.Keyword place beyond p rest count e d text left m n leaf_line line at =
-    subst (λ x. IsAt text (prepend_known x left) n) (sym d) (at_plain beyond p _ rest e (λ bytes no. cc) text left m n (line (λ no. cc)) at)
+    subst (λ x. IsAt text (prepend_known x left) n) (sym d) (at_plain beyond p _ rest e (λ bytes no. cc, λ name no. cc) text left m n (line (λ no. cc)) at)
 
 -- ---- the end of the text
 

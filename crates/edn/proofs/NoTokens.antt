@@ -1,12 +1,11 @@
 -- Where no token is read, the text begins with none.
 use Rattle.std.proofs.Common.{◌≡◌, ℕ, ◌==◌, false, cond, List, [], ◌∷◌, ◌++◌, take, drop, Option, None, Some, inl, inr, refl, sym, ap, ◌∙◌, subst, append-nil}
-use Rattle.std.specs.Prelude.{not, ◌||◌}
 use Rattle.std.specs.List.{prefix_len}
 use Rattle.std.specs.Io.KnownBytes.{prepend_known}
 use Rattle.edn.specs.declared.read_fault.Problem.{Problem}
 use Rattle.edn.specs.declared.token.Beyond.{Beyond}
 use Rattle.edn.specs.declared.token.Beyond.TheVariants.{Unread, Nothing}
-use Rattle.edn.specs.Meaning.Bytes.{is_space, is_word_byte}
+use Rattle.edn.specs.Meaning.Bytes.{is_word_byte}
 use Rattle.edn.specs.Meaning.Characters.{is_character}
 use Rattle.edn.specs.Meaning.Forms.{Form}
 use Rattle.edn.specs.Meaning.Names.{is_tag}
@@ -30,11 +29,11 @@ use Rattle.edn.proofs.OneReading.{gap_over, gap_again, token_again}
 no_bad : (s t : Token) (x y : List ℕ) (p : Problem) → token s x ≡ bad p → token t y ≡ bad p
 no_bad s t x y p e = absurd (cc)
 
-string_from : (bs others : List ℕ) (p : Problem) (q : Quoted) → quoted_at false bs ≡ q → after_string Unread q ≡ bad p
+string_from : (bs others : List ℕ) (p : Problem) (q : Quoted) → quoted_at 0 bs ≡ q → after_string Unread q ≡ bad p
     → string_token Nothing (bs ++ others) ≡ bad p
 string_from bs others p (closed bytes rest) is e = absurd (cc)
 string_from bs others p open_ is e = absurd (let no : more ≡ bad p = e in cc)
-string_from bs others p no_string is e = ap (after_string Nothing) (quoted_stays false bs others is) ∙ e
+string_from bs others p no_string is e = ap (after_string Nothing) (quoted_stays 0 bs others is) ∙ e
 
 -- a word that has ended, and what it is read as doesn't hang on what follows it
 abbrev Stays : (Beyond → List ℕ → List ℕ → Lexed) → Problem → Type 0
@@ -76,9 +75,9 @@ character_stays : (bs others : List ℕ) (p : Problem) → character_token Unrea
 character_stays [] others p e = absurd (let no : more ≡ bad p = e in cc)
 character_stays (b ∷ bs) others p e =
     character_word Nothing b (bs ++ others)
-    ∙ word_stays (λ beyond name rest. character_at beyond b (b ∷ name) rest) p
+    ∙ word_stays (λ beyond name rest. character_at beyond (b ∷ name) rest) p
     (λ name rest after. stays_if rest _ _ p
-    (alike (is_space b || not (is_character (b ∷ name))) _ _ _ _ _ (λ x. x) (no_bad _ _ _ _ p)))
+    (alike (is_character (b ∷ name)) _ _ _ _ _ (no_bad _ _ _ _ p) (λ x. x)))
     bs others (sym (character_word Unread b bs) ∙ e)
 
 dispatched_stays : (bs others : List ℕ) (p : Problem) → dispatched Unread bs ≡ bad p → dispatched Nothing (bs ++ others) ≡ bad p
@@ -92,7 +91,7 @@ unfolding token_at
 bad_stays [] others p e = absurd (let no : more ≡ bad p = e in cc)
 bad_stays (b ∷ bs) others p e =
     alike (b == 59) _ _ _ _ _ (λ no. absurd (let is : more ≡ bad p = no in cc))
-    (alike (b == 34) _ _ _ _ _ (string_from bs others p (quoted_at false bs) refl)
+    (alike (b == 34) _ _ _ _ _ (string_from bs others p (quoted_at 0 bs) refl)
     (alike (b == 92) _ _ _ _ _ (character_stays bs others p)
     (alike (b == 35) _ _ _ _ _ (dispatched_stays bs others p)
     (alike (b == 40) _ _ _ _ _ (no_bad _ _ _ _ p)

@@ -99,10 +99,10 @@ tag_again (a ∷ name) rest w g e =
     ne_eqb a 95 (λ i. let no : true ≡ false = sym begins ∙ ap (λ x. begins_tag (x ∷ name)) i in cc) in
     rw (not_set, not_discard) (word_parts (tag_at Nothing) (a ∷ name) rest w e ∙ rw g refl)
 
-character_again : (b : ℕ) (name rest : List ℕ) → is_space b ≡ false → IsWord name → is_character (b ∷ name) ≡ true
+character_again : (b : ℕ) (name rest : List ℕ) → IsWord name → is_character (b ∷ name) ≡ true
     → Ends rest → character_token Nothing (b ∷ (name ++ rest)) ≡ token (leaf (character (b ∷ name))) rest
-character_again b name rest s w g e =
-    character_word Nothing b (name ++ rest) ∙ word_parts (λ n r. character_at Nothing b (b ∷ n) r) name rest w e ∙ rw (s, g) refl
+character_again b name rest w g e =
+    character_word Nothing b (name ++ rest) ∙ word_parts (λ n r. character_at Nothing (b ∷ n) r) name rest w e ∙ rw g refl
 
 word_again : (b : ℕ) (name rest : List ℕ) (f : Form) → b ≢ 35 → IsWord (b ∷ name) → word_of (b ∷ name) ≡ Some f
     → Ends rest → token_at Nothing (b ∷ (name ++ rest)) ≡ token (leaf f) rest
@@ -133,8 +133,8 @@ token_again square_closes = refl
 token_again curly_closes = refl
 token_again discards = refl
 token_again {rest = rest} (tags name w g e) = tag_again name rest w g e
-token_again {rest = rest} (quotes inside h) = rw (string_again h rest) refl
-token_again {rest = rest} (characters {b = b} {name = name} s w g e) = character_again b name rest s w g e
+token_again {rest = rest} (quotes inside h) = rw (string_again rest h) refl
+token_again {rest = rest} (characters {b = b} {name = name} w g e) = character_again b name rest w g e
 token_again {rest = rest} (words {f = f} b name h w is e) = word_again b name rest f h w is e
 
 -- ---- a gap ends where the token begins
@@ -151,7 +151,7 @@ no_gap_here curly_closes = refl
 no_gap_here discards = refl
 no_gap_here (tags name w g e) = refl
 no_gap_here (quotes inside h) = refl
-no_gap_here (characters s w g e) = refl
+no_gap_here (characters w g e) = refl
 no_gap_here (words b name h w is e) =
     let first = (and_parts (is_word_byte b) (list_all is_word_byte name) w).0 in
     rw (not_space b first, not_hash b first) refl

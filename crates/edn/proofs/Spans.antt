@@ -61,7 +61,7 @@ word_parts read name rest w e = rw (span_len name rest w e, take_name name rest,
 
 -- so is what follows the first byte of a character
 pub character_word : (beyond : Beyond) (b : ℕ) (bs : List ℕ)
-    → character_token beyond (b ∷ bs) ≡ by_word (λ name rest. character_at beyond b (b ∷ name) rest) bs
+    → character_token beyond (b ∷ bs) ≡ by_word (λ name rest. character_at beyond (b ∷ name) rest) bs
 character_word beyond b bs =
     let one : prefix_len is_word_byte bs + 1 ≡ suc (prefix_len is_word_byte bs) = omega arith in
-    ap (λ n. character_at beyond b (take n (b ∷ bs)) (drop n (b ∷ bs))) one
+    ap (λ n. character_at beyond (take n (b ∷ bs)) (drop n (b ∷ bs))) one

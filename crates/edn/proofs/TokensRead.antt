@@ -24,7 +24,7 @@ begins_front discards = (35 ∷ 95 ∷ [], refl)
 begins_front (tags name w g e) = (35 ∷ name, refl)
 begins_front {rest = rest} (quotes inside h) =
     (34 ∷ (inside ++ 34 ∷ []), ap (λ x. 34 ∷ x) (sym (append_assoc inside (34 ∷ []) rest)))
-begins_front (characters {b = b} {name = name} s w g e) = (92 ∷ b ∷ name, refl)
+begins_front (characters {b = b} {name = name} w g e) = (92 ∷ b ∷ name, refl)
 begins_front (words b name h w is e) = (b ∷ name, refl)
 
 nothing_beyond : (beyond : Beyond) → IsBeyond beyond []

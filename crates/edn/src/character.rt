@@ -5,14 +5,18 @@ ghost use Rattle.std.specs.List.{list_all};
 ghost use Rattle.std.specs.Char.{is_ascii_hexdigit};
 ghost use Rattle.std.specs.Cmp.Lexicographic.{pointwise};
 ghost use Rattle.edn.specs.Meaning.Characters as Spec;
+ghost use Rattle.edn.specs.Meaning.Strings.{is_octal};
+
+use crate::string::{is_octal, octal_char};
 
 /// Returns whether a character is written so after its backslash: `newline`, `return`, `space`, `tab`, and `backspace` and
-/// `formfeed`, which Clojure writes; `u` and four hexadecimal digits; or the one character.
+/// `formfeed`, which Clojure writes; `u` and four hexadecimal digits; `o` and an octal number up to 377, as in Clojure; or the
+/// one character.
 #[tactic(auto, unfolding(crate::specs::Meaning::Characters::is_character))]
 pub(crate) fn is_character(name: &[u8]) -> bool
     ensures { result ≡ Spec.is_character name.now }
 {
-    is_named(name) || is_coded(name) || is_single(name)
+    is_named(name) || is_coded(name) || is_octal_coded(name) || is_single(name)
 }
 
 /// Returns whether the texts are the same.
@@ -46,6 +50,23 @@ fn all_hexdigits(digits: &[u8]) -> bool
     ensures { result ≡ list_all is_ascii_hexdigit digits.now }
 {
     digits.iter().all(|digit| digit.is_ascii_hexdigit())
+}
+
+fn is_octal_coded(name: &[u8]) -> bool
+    ensures { result ≡ Spec.is_octal_coded name.now }
+{
+    match name {
+        [mark, digits @ ..] => {
+            *mark == b'o' && !digits.is_empty() && all_octal(digits) && octal_char(digits).is_some()
+        }
+        [] => false,
+    }
+}
+
+fn all_octal(digits: &[u8]) -> bool
+    ensures { result ≡ list_all is_octal digits.now }
+{
+    digits.iter().all(|digit| is_octal(*digit))
 }
 
 fn is_single(name: &[u8]) -> bool

@@ -180,7 +180,7 @@ fn all_digits(radix: u64, digits: &[u8]) -> bool
     digits.iter().all(|digit| is_digit(radix, *digit))
 }
 
-fn is_digit(radix: u64, digit: u8) -> bool
+pub(crate) fn is_digit(radix: u64, digit: u8) -> bool
     ensures { result ≡ is_digit digit radix }
 {
     u64::from(value_of(digit)) < radix
@@ -188,8 +188,9 @@ fn is_digit(radix: u64, digit: u8) -> bool
 
 /// Returns the value of a digit: that of a letter, of either case, from 10 on; 36 if it is none.
 #[inline(always)]
-fn value_of(digit: u8) -> u8
-    ensures { result ≡ digit_value digit }
+pub(crate) fn value_of(digit: u8) -> u8
+    ensures value { result ≡ digit_value digit }
+    ensures within { result ≤ 36 }
 {
     match digit {
         b'0'..=b'9' => digit - b'0',

@@ -8,7 +8,7 @@ ghost use Rattle.edn.specs.declared.leaf.Leaf.{Leaf as LeafValue};
 ghost use Rattle.edn.specs.Computing.Tokens.{lexed_of, token_of, BeginsComment, IsRest, IsWithin};
 
 use crate::atom::Atom;
-use crate::bytes::{is_space, word_len};
+use crate::bytes::word_len;
 use crate::character::is_character;
 use crate::leaf::Leaf;
 use crate::names::is_tag;
@@ -183,14 +183,14 @@ fn character<'a>(
     ensures exact { IfOk result (λ l. lexed_of leaf.new l ≡ Spec.character_token beyond text.now) }
     ensures within { IfOk result (IsWithin beyond text.now) }
 {
-    let [first, others @ ..] = text else {
+    let [_, others @ ..] = text else {
         return Ok(unfinished(beyond));
     };
     let (name, rest) = text.split_at(word_len(others) + 1);
     if may_go_on(rest, beyond) {
         return Ok(Lexed::More);
     }
-    if is_space(*first) || !is_character(name) {
+    if !is_character(name) {
         return Ok(Lexed::Bad(Problem::Token));
     }
     put(&mut leaf.atom, Atom::Character(name.to_vec(alloc)?));

@@ -1,5 +1,5 @@
 -- Reading a token.
-use Rattle.std.specs.Prelude.{◌≡◌, ◌≢◌, ℕ, ◌+◌, ◌<◌, ◌==◌, Bool, false, not, ◌||◌, List, [], ◌∷◌, length, take, drop}
+use Rattle.std.specs.Prelude.{◌≡◌, ◌≢◌, ℕ, ◌+◌, ◌<◌, ◌==◌, Bool, false, List, [], ◌∷◌, length, take, drop}
 use Rattle.std.specs.Prelude.{Option, Some, None, if◌then◌else◌}
 use Rattle.std.specs.List.{prefix_len}
 use Rattle.edn.specs.declared.read_fault.Problem.{Problem}
@@ -13,7 +13,7 @@ use Rattle.edn.specs.declared.token.Token.{Token as TokenValue}
 use Rattle.edn.specs.declared.token.Token.TheVariants as In
 use Rattle.edn.specs.declared.token.Lexed.{Lexed as LexedValue}
 use Rattle.edn.specs.declared.token.Lexed.TheVariants as Read
-use Rattle.edn.specs.Meaning.Bytes.{is_space, is_word_byte}
+use Rattle.edn.specs.Meaning.Bytes.{is_word_byte}
 use Rattle.edn.specs.Meaning.Characters.{is_character}
 use Rattle.edn.specs.Meaning.Forms.{Form, nil, integer, string, character, keyword, atom_of}
 use Rattle.edn.specs.Meaning.Names.{is_tag}
@@ -86,18 +86,18 @@ after_string beyond no_string = bad problem.Token
 
 -- after the quote
 abbrev pub string_token : Beyond → List ℕ → Lexed
-string_token beyond text = after_string beyond (quoted_at false text)
+string_token beyond text = after_string beyond (quoted_at 0 text)
 
-abbrev pub character_at : Beyond → ℕ → List ℕ → List ℕ → Lexed
-character_at beyond first name rest =
+abbrev pub character_at : Beyond → List ℕ → List ℕ → Lexed
+character_at beyond name rest =
     if may_go_on rest beyond then more else
-    if is_space first || not (is_character name) then bad problem.Token else token (leaf (character name)) rest
+    if is_character name then token (leaf (character name)) rest else bad problem.Token
 
 -- after the backslash
 abbrev pub character_token : Beyond → List ℕ → Lexed
 character_token beyond [] = unfinished beyond
 character_token beyond (b ∷ bs) =
-    character_at beyond b (take (prefix_len is_word_byte bs + 1) (b ∷ bs)) (drop (prefix_len is_word_byte bs + 1) (b ∷ bs))
+    character_at beyond (take (prefix_len is_word_byte bs + 1) (b ∷ bs)) (drop (prefix_len is_word_byte bs + 1) (b ∷ bs))
 
 abbrev pub tag_at : Beyond → List ℕ → List ℕ → Lexed
 tag_at beyond name rest =

@@ -16,7 +16,7 @@ use Rattle.edn.specs.Meaning.Lexing.{IsGap, IsBlank, Begins, Lexes}
 use Rattle.edn.specs.Meaning.Lines.{line_after}
 use Rattle.edn.specs.Meaning.Nesting.{IsOpening, IsBefore, AreTooDeep}
 use Rattle.edn.specs.Meaning.Readers.{AreNext}
-use Rattle.edn.specs.Meaning.Strings.{IsInside}
+use Rattle.edn.specs.Meaning.Strings.{IsInside, escape_len}
 use Rattle.edn.specs.Meaning.Texts.{AreAll, AreSoFar}
 use Rattle.edn.specs.Meaning.Tokens.{Token, opens, closes, is_square}
 
@@ -31,9 +31,15 @@ abbrev pub BeginOther : List ℕ → Type 0
 BeginOther [] = ⊥
 BeginOther (b ∷ bs) = (is_space b ≡ false) × (b ≢ 59)
 
--- a string that the text ends in, after its quote; perhaps right after a backslash
+-- nothing, or an escape that the text ends in
+abbrev pub IsOpenEscape : List ℕ → Type 0
+IsOpenEscape [] = Unit {0}
+IsOpenEscape (b ∷ escape) = (b ≡ 92) × (escape_len escape ≡ length escape)
+
+-- a string that the text ends in, after its quote; perhaps within an escape
 abbrev pub IsOpenString : List ℕ → Type 0
-IsOpenString text = (inside bytes : List ℕ) × IsInside inside bytes × ((text ≡ inside) ⊎ (text ≡ inside ++ 92 ∷ []))
+IsOpenString text =
+    (inside bytes left : List ℕ) × IsInside left inside bytes × IsOpenEscape left × (text ≡ inside ++ left)
 
 -- a string that the text ends in, or a `\` or `#` that it ends with
 abbrev pub IsCut : List ℕ → Type 0

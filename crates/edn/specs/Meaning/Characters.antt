@@ -1,7 +1,8 @@
 -- How a character is written after its backslash.
-use Rattle.std.specs.Prelude.{ℕ, Bool, false, ◌&&◌, ◌||◌, ◌==◌, nat_eq, nat_le, nat_lt, List, [], ◌∷◌, length, codes, if◌then◌else◌}
+use Rattle.std.specs.Prelude.{ℕ, Bool, false, ◌&&◌, ◌||◌, ◌==◌, nat_eq, nat_le, nat_lt, List, [], ◌∷◌, length, codes, is_some, if◌then◌else◌}
 use Rattle.std.specs.List.{list_all}
 use Rattle.std.specs.Char.{is_ascii_hexdigit}
+use Rattle.edn.specs.Meaning.Strings.{is_octal, octal_char}
 use Rattle.std.specs.Cmp.Lexicographic.{pointwise}
 
 abbrev pub is_named : List ℕ → Bool
@@ -14,6 +15,11 @@ is_named name =
 abbrev pub is_coded : List ℕ → Bool
 is_coded [] = false
 is_coded (b ∷ digits) = b == 117 && length digits == 4 && list_all is_ascii_hexdigit digits
+
+-- `o` and an octal number up to 377
+abbrev pub is_octal_coded : List ℕ → Bool
+is_octal_coded [] = false
+is_octal_coded (b ∷ digits) = b == 111 && nat_lt 0 (length digits) && list_all is_octal digits && is_some (octal_char digits)
 
 -- how many bytes of UTF-8 follow the first one of a character
 abbrev pub bytes_after : ℕ → ℕ
@@ -28,4 +34,4 @@ is_single [] = false
 is_single (b ∷ bytes) = length bytes == bytes_after b && list_all is_inner bytes
 
 unfoldable pub is_character : List ℕ → Bool
-is_character name = is_named name || is_coded name || is_single name
+is_character name = is_named name || is_coded name || is_octal_coded name || is_single name

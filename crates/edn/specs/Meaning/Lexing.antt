@@ -46,9 +46,9 @@ pub data Begins : Token → List ℕ → List ℕ → Type 0 where
   curly_closes : {rest : List ℕ} → Begins (closes closing.Curly) (125 ∷ rest) rest
   discards : {rest : List ℕ} → Begins discard (35 ∷ 95 ∷ rest) rest
   tags : {rest : List ℕ} (name : List ℕ) → IsWord name → is_tag name ≡ true → Ends rest → Begins tag (35 ∷ (name ++ rest)) rest
-  quotes : {bytes rest : List ℕ} (inside : List ℕ) → IsInside inside bytes
+  quotes : {bytes rest : List ℕ} (inside : List ℕ) → IsInside (34 ∷ rest) inside bytes
       → Begins (leaf (string bytes)) (34 ∷ (inside ++ 34 ∷ rest)) rest
-  characters : {b : ℕ} {name rest : List ℕ} → is_space b ≡ false → IsWord name → is_character (b ∷ name) ≡ true
+  characters : {b : ℕ} {name rest : List ℕ} → IsWord name → is_character (b ∷ name) ≡ true
       → Ends rest → Begins (leaf (character (b ∷ name))) (92 ∷ b ∷ (name ++ rest)) rest
   words : {rest : List ℕ} {f : Form} (b : ℕ) (name : List ℕ) → b ≢ 35 → IsWord (b ∷ name) → word_of (b ∷ name) ≡ Some f
       → Ends rest → Begins (leaf f) (b ∷ (name ++ rest)) rest

@@ -155,7 +155,7 @@ returns-in-Some-clause-line g c = λ text at _.
     rw c.bytes.ensures at (c.in-Some.ensures.exact c.pass_gap.new.self.beyond) in
     let pending = (rw c.bytes-in-Some.ensures at c.pass.ensures.rest) ∙ token_rest _ p t rest is in
     subst (λ x. IsAt text (prepend_known x left) c.pass.new.self.line) (sym pending)
-    (at_plain _ p t rest is (λ bytes no. cc) text left _ _ c.pass.ensures.line
+    (at_plain _ p t rest is (λ bytes no. cc, λ name no. cc) text left _ _ c.pass.ensures.line
     (c.pass_gap.ensures.line text left (c.loop-value.invariant.4 text at)))
 
 pub returns-in-Token-clause-line : goal.returns-in-Token-clause-line
