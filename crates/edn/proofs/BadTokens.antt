@@ -14,6 +14,7 @@ use Rattle.edn.specs.Meaning.Bytes.{is_space, is_word_byte}
 use Rattle.edn.specs.Meaning.Characters.{is_character}
 use Rattle.edn.specs.Meaning.Forms.{Form}
 use Rattle.edn.specs.Meaning.Names.{is_tag}
+use Rattle.edn.specs.Meaning.Numbers.{is_symbolic}
 use Rattle.edn.specs.Meaning.Lines.{IsAt}
 use Rattle.edn.specs.Meaning.Reading.{IsLinked, PassesGap}
 use Rattle.edn.specs.Meaning.Strings.{character_of, escape_len, nothing, plain, escaped}
@@ -122,13 +123,19 @@ character_tells (b ∷ bs) =
     either (Tells (92 ∷ b ∷ bs)) (is_character (take (prefix_len is_word_byte bs + 1) (b ∷ bs))) _ (bad problem.Token) (λ _. tt)
     (λ _. not_cut 92 (b ∷ bs) (λ no _. eqb-false 92 34 refl no) (λ _ none. some_bytes b bs none) (λ no _. eqb-false 92 35 refl no))
 
+no_hash : (b : ℕ) (bs : List ℕ) → IsCut (35 ∷ b ∷ bs) → ⊥
+no_hash b bs =
+    not_cut 35 (b ∷ bs) (λ no _. eqb-false 35 34 refl no) (λ no _. eqb-false 35 92 refl no) (λ _ none. some_bytes b bs none)
+
 dispatched_tells : (bs : List ℕ) → Tells (35 ∷ bs) (dispatched Nothing bs)
 dispatched_tells [] = inr (inr refl, refl)
 dispatched_tells (b ∷ bs) =
     either (Tells (35 ∷ b ∷ bs)) (b == 123) _ _ (λ _. tt)
     (λ _. either (Tells (35 ∷ b ∷ bs)) (b == 95) _ _ (λ _. tt)
-    (λ _. either (Tells (35 ∷ b ∷ bs)) (is_tag (take (prefix_len is_word_byte (b ∷ bs)) (b ∷ bs))) _ (bad problem.Token) (λ _. tt)
-    (λ _. not_cut 35 (b ∷ bs) (λ no _. eqb-false 35 34 refl no) (λ no _. eqb-false 35 92 refl no) (λ _ none. some_bytes b bs none))))
+    (λ _. either (Tells (35 ∷ b ∷ bs)) (b == 94) _ _ (λ _. tt)
+    (λ _. either (Tells (35 ∷ b ∷ bs)) (b == 35) _ _
+    (λ _. either (Tells (35 ∷ b ∷ bs)) (is_symbolic (take (prefix_len is_word_byte bs) bs)) _ (bad problem.Token) (λ _. tt) (λ _. no_hash b bs))
+    (λ _. either (Tells (35 ∷ b ∷ bs)) (is_tag (take (prefix_len is_word_byte (b ∷ bs)) (b ∷ bs))) _ (bad problem.Token) (λ _. tt) (λ _. no_hash b bs)))))
 
 word_tells : (b : ℕ) (bs rest : List ℕ) (o : Option Form) → b ≢ 34 → b ≢ 92 → b ≢ 35 → Tells (b ∷ bs) (of_word o rest)
 word_tells b bs rest None q s h = not_cut b bs (λ no _. q no) (λ no _. s no) (λ no _. h no)
@@ -151,7 +158,8 @@ token_tells (b ∷ bs) =
     (λ _. either (Tells (b ∷ bs)) (b == 41) _ _ (λ _. tt)
     (λ _. either (Tells (b ∷ bs)) (b == 93) _ _ (λ _. tt)
     (λ _. either (Tells (b ∷ bs)) (b == 125) _ _ (λ _. tt)
-    (λ _. word_tells b bs _ _ (ne_from b 34 q) (ne_from b 92 s) (ne_from b 35 h)))))))))))
+    (λ _. either (Tells (b ∷ bs)) (b == 94) _ _ (λ _. tt)
+    (λ _. word_tells b bs _ _ (ne_from b 34 q) (ne_from b 92 s) (ne_from b 35 h))))))))))))
 
 wrong_there : (bytes : List ℕ) (p : Problem) → token_at Nothing bytes ≡ bad p → IsWrongThere p bytes
 wrong_there bytes p e = subst (Tells bytes) e (token_tells bytes)

@@ -22,14 +22,14 @@ use Rattle.edn.specs.Meaning.Nesting.{IsBefore}
 use Rattle.edn.specs.Meaning.Reading.{HasNoToken, IsBlankLeft, ReadsToken, ReadsTokens}
 use Rattle.edn.specs.Meaning.Readers.{IsFormAt, text_left}
 use Rattle.edn.specs.Meaning.Texts.{AreAll, AreSoFar, at_start, outside, inside, HasRead}
-use Rattle.edn.specs.Meaning.Tokens.{Token, opens, closes, discard, tag, leaf, is_square}
-use Rattle.edn.specs.Computing.Building.{Frame, top, tagged, discarding, in_list, in_vector, in_set, in_map, Step, is_top, problem_left, close, step, run, resume}
+use Rattle.edn.specs.Meaning.Tokens.{Token, opens, closes, discard, tag, meta, leaf, is_square}
+use Rattle.edn.specs.Computing.Building.{Frame, top, tagged, describing, discarding, in_list, in_vector, in_set, in_map, Step, is_top, problem_left, close, step, run, resume}
 use Rattle.edn.specs.Computing.Stages.{IsBadIn, IsUnfinished, Refused, Says, Stops}
 use Rattle.edn.proofs.Closings.{may_go_on}
 use Rattle.edn.proofs.Depths.{IsShallow}
 use Rattle.edn.proofs.FormsRead.{IsBehind, BeginsOther, HasClosed, Leads, discarded_only, reads_more}
-use Rattle.edn.proofs.Held.{Holds, AreDiscarded, none_more, items_append, no_forms_in, one_item}
-use Rattle.edn.proofs.Nested.{deep_tokens}
+use Rattle.edn.proofs.Held.{Holds, AreBefore, AreDiscarded, none_more, items_append, no_forms_in, one_item}
+use Rattle.edn.proofs.Nested.{before_open, deep_tokens}
 use Rattle.edn.proofs.NoForms.{Goes, IsBegun, before_refused, begun_more, first_leads, next_leads, past_form, refused_of, runs, start_leads}
 use Rattle.edn.proofs.NotOver.{last_split, refused_last, unfinished_last}
 use Rattle.edn.proofs.NoTexts.{GoesOn, inside_all, left_on, parted, unopened}
@@ -159,12 +159,9 @@ lift : (ts0 ts : List Token) (o : Token) (fs : List Form) → IsInnermost ts o f
 lift ts0 ts o fs (us, vs, begins, none, items, e) =
     (ts0 ++ us, vs, begins, none, items, ap (λ xs. ts0 ++ xs) e ∙ sym (append_assoc ts0 us (o ∷ vs)))
 
-no_before : (o : Opening) (fs : List Form) → IsBefore (opens o) → fs ≡ []
-no_before o fs never = absurd never
-
 map_open : (ps : List (Form × Form)) (us vs ts : List Token) → ArePairs vs ps → ts ≡ us ++ opens opening.Map ∷ vs
     → (fs : List Form) × IsInnermost ts (opens opening.Map) fs
-map_open ps us vs ts r e = let (fs, q, even) = even_items r in (fs, (us, vs, tt, no_before opening.Map fs, q, e))
+map_open ps us vs ts r e = let (fs, q, even) = even_items r in (fs, (us, vs, tt, tt, q, e))
 
 key_open : (ps : List (Form × Form)) (k : Form) (us vs ws ds ts : List Token) → ArePairs vs ps → AreItems ws (k ∷ []) → AreDiscarded ds
     → ts ≡ us ++ opens opening.Map ∷ (vs ++ (ws ++ ds))
@@ -172,14 +169,14 @@ key_open : (ps : List (Form × Form)) (k : Form) (us vs ws ds ts : List Token) �
 key_open ps k us vs ws ds ts r q d e =
     let (fs, p, even) = even_items r in (
       fs ++ k ∷ [],
-      (us, vs ++ (ws ++ ds), tt, no_before opening.Map (fs ++ k ∷ []), items_append p (items_append q (no_forms_in d)), e),
+      (us, vs ++ (ws ++ ds), tt, tt, items_append p (items_append q (no_forms_in d)), e),
       ap (λ n. n % 2) (one_more_length fs k) ∙ one_more (length fs) even,
     )
 
--- what is wrong with a bracket, if a tag, `#_` or a collection is open
+-- what is wrong with a bracket, if a tag, `^`, `#_` or a collection is open
 abbrev WrongInside : Problem → List Token → Closing → Type 0
 WrongInside problem.Unopened ts b = (o : Opening) × (fs : List Form) × IsInnermost ts (opens o) fs × (closing_of o ≢ b)
-WrongInside problem.NoForm ts b = (o : Token) × IsBefore o × IsInnermost ts o []
+WrongInside problem.NoForm ts b = (o : Token) × (fs : List Form) × IsBefore o × IsInnermost ts o fs
 WrongInside problem.NoValue ts b = (b ≡ closing.Curly) × ((fs : List Form) × IsInnermost ts (opens opening.Map) fs × (length fs % 2 ≡ 1))
 WrongInside _ ts b = ⊥
 
@@ -195,28 +192,36 @@ other_bracket : (o : Opening) (b : Closing) (ts : List Token) (fs : List Form) �
     → WrongInside problem.Unopened ts b
 other_bracket o b ts fs inner other = (o, fs, inner, other)
 
+tag_open : (ts us xs vs : List Token) → AreBefore xs → AreDiscarded vs → ts ≡ us ++ (xs ++ vs)
+    → (o : Token) × (fs : List Form) × IsBefore o × IsInnermost ts o fs
+tag_open ts us xs vs before d is =
+    let (t, fs, ws, stands, begins, room, items, e) = before_open before d in
+    (t, fs, stands, (us, ws, begins, room, items, is ∙ ap (λ ys. us ++ ys) e))
+
 close_wrong : (stack : List Frame) (ts : List Token) (b : Closing) (p : Problem) → Holds stack ts → close stack b ≡ Err p
     → Wrong p stack ts b
 close_wrong [] ts b p h e = absurd h
 close_wrong (top ∷ outer) ts b p h e = inl (refl, sym (let same : problem.Unopened ≡ p = cc in same))
-close_wrong (tagged ∷ outer) ts b p (us, vs, h, d, is) e =
-    wrong_so problem.NoForm p (tagged ∷ outer) ts b e (tag, tt, (us, vs, tt, λ _. refl, no_forms_in d, is))
+close_wrong (tagged ∷ outer) ts b p (us, xs, vs, h, before, d, is) e =
+    wrong_so problem.NoForm p (tagged ∷ outer) ts b e (tag_open ts us xs vs before d is)
+close_wrong (describing ∷ outer) ts b p (us, vs, h, d, is) e =
+    wrong_so problem.NoForm p (describing ∷ outer) ts b e (meta, [], tt, (us, vs, tt, omega arith, no_forms_in d, is))
 close_wrong (discarding ∷ outer) ts b p (us, vs, h, d, is) e =
-    wrong_so problem.NoForm p (discarding ∷ outer) ts b e (discard, tt, (us, vs, tt, λ _. refl, no_forms_in d, is))
+    wrong_so problem.NoForm p (discarding ∷ outer) ts b e (discard, [], tt, (us, vs, tt, refl, no_forms_in d, is))
 close_wrong (in_list fs ∷ outer) ts closing.Round p h e = absurd (cc)
 close_wrong (in_list fs ∷ outer) ts closing.Square p (us, vs, h, r, is) e =
-    wrong_so problem.Unopened p (in_list fs ∷ outer) ts closing.Square e (other_bracket opening.List closing.Square ts fs (us, vs, tt, no_before opening.List fs, r, is) (λ no. cc))
+    wrong_so problem.Unopened p (in_list fs ∷ outer) ts closing.Square e (other_bracket opening.List closing.Square ts fs (us, vs, tt, tt, r, is) (λ no. cc))
 close_wrong (in_list fs ∷ outer) ts closing.Curly p (us, vs, h, r, is) e =
-    wrong_so problem.Unopened p (in_list fs ∷ outer) ts closing.Curly e (other_bracket opening.List closing.Curly ts fs (us, vs, tt, no_before opening.List fs, r, is) (λ no. cc))
+    wrong_so problem.Unopened p (in_list fs ∷ outer) ts closing.Curly e (other_bracket opening.List closing.Curly ts fs (us, vs, tt, tt, r, is) (λ no. cc))
 close_wrong (in_vector fs ∷ outer) ts closing.Round p (us, vs, h, r, is) e =
-    wrong_so problem.Unopened p (in_vector fs ∷ outer) ts closing.Round e (other_bracket opening.Vector closing.Round ts fs (us, vs, tt, no_before opening.Vector fs, r, is) (λ no. cc))
+    wrong_so problem.Unopened p (in_vector fs ∷ outer) ts closing.Round e (other_bracket opening.Vector closing.Round ts fs (us, vs, tt, tt, r, is) (λ no. cc))
 close_wrong (in_vector fs ∷ outer) ts closing.Square p h e = absurd (cc)
 close_wrong (in_vector fs ∷ outer) ts closing.Curly p (us, vs, h, r, is) e =
-    wrong_so problem.Unopened p (in_vector fs ∷ outer) ts closing.Curly e (other_bracket opening.Vector closing.Curly ts fs (us, vs, tt, no_before opening.Vector fs, r, is) (λ no. cc))
+    wrong_so problem.Unopened p (in_vector fs ∷ outer) ts closing.Curly e (other_bracket opening.Vector closing.Curly ts fs (us, vs, tt, tt, r, is) (λ no. cc))
 close_wrong (in_set fs ∷ outer) ts closing.Round p (us, vs, h, r, is) e =
-    wrong_so problem.Unopened p (in_set fs ∷ outer) ts closing.Round e (other_bracket opening.Set closing.Round ts fs (us, vs, tt, no_before opening.Set fs, r, is) (λ no. cc))
+    wrong_so problem.Unopened p (in_set fs ∷ outer) ts closing.Round e (other_bracket opening.Set closing.Round ts fs (us, vs, tt, tt, r, is) (λ no. cc))
 close_wrong (in_set fs ∷ outer) ts closing.Square p (us, vs, h, r, is) e =
-    wrong_so problem.Unopened p (in_set fs ∷ outer) ts closing.Square e (other_bracket opening.Set closing.Square ts fs (us, vs, tt, no_before opening.Set fs, r, is) (λ no. cc))
+    wrong_so problem.Unopened p (in_set fs ∷ outer) ts closing.Square e (other_bracket opening.Set closing.Square ts fs (us, vs, tt, tt, r, is) (λ no. cc))
 close_wrong (in_set fs ∷ outer) ts closing.Curly p h e = absurd (cc)
 close_wrong (in_map ps None ∷ outer) ts closing.Round p (us, vs, h, r, is) e =
     let (fs, inner) = map_open ps us vs ts r is in
@@ -242,6 +247,7 @@ step_wrong stack ts (opens b) p h e = absurd (cc)
 step_wrong stack ts (closes b) p h e = (b, refl, close_wrong stack ts b p h e)
 step_wrong stack ts discard p h e = absurd (cc)
 step_wrong stack ts tag p h e = absurd (cc)
+step_wrong stack ts meta p h e = absurd (cc)
 step_wrong stack ts (leaf f) p h e = absurd (cc)
 
 -- ---- what is wrong with a token, in the text
@@ -249,7 +255,7 @@ step_wrong stack ts (leaf f) p h e = absurd (cc)
 lift_wrong : (ts0 ts : List Token) (t : Token) (b : Closing) (p : Problem) → t ≡ closes b → WrongInside p ts b
     → IsWrongBehind p (ts0 ++ ts) t
 lift_wrong ts0 ts t b problem.Unopened e (o, fs, inner, other) = (b, e, inr (o, fs, lift ts0 ts (opens o) fs inner, other))
-lift_wrong ts0 ts t b problem.NoForm e (o, before, inner) = (b, e, (o, before, lift ts0 ts o [] inner))
+lift_wrong ts0 ts t b problem.NoForm e (o, fs, before, inner) = (b, e, (o, fs, before, lift ts0 ts o fs inner))
 lift_wrong ts0 ts t b problem.NoValue e (curly, (fs, inner, odd)) =
     (e ∙ ap closes curly, (fs, lift ts0 ts (opens opening.Map) fs inner, odd))
 lift_wrong ts0 ts t b problem.Token e never = absurd never
@@ -274,11 +280,11 @@ vector_open : {first : Stage} {ts0 : List Token} {fs : List Form} → AreSoFar f
     → (first ≡ Start) ⊎ (first ≡ Elements) → IsBehind first ts us → AreDiscarded us
     → (gs : List Form) × IsInnermost (ts0 ++ ts) (opens opening.Vector) gs
 vector_open at_start ts us from (t, square, e) d =
-    ([], ([], us, tt, no_before opening.Vector [], no_forms_in d, e ∙ ap (λ x. x ∷ us) (square_is t square)))
+    ([], ([], us, tt, tt, no_forms_in d, e ∙ ap (λ x. x ∷ us) (square_is t square)))
 vector_open (outside other r) ts us (inl e) behind d = absurd (cc)
 vector_open (outside other r) ts us (inr e) behind d = absurd (cc)
 vector_open {fs = fs} (inside {ts = ts0} r) ts us from behind d =
-    (fs, ([], ts0 ++ us, tt, no_before opening.Vector fs, last_items r (no_forms_in d), ap (λ xs. opens opening.Vector ∷ (ts0 ++ xs)) behind))
+    (fs, ([], ts0 ++ us, tt, tt, last_items r (no_forms_in d), ap (λ xs. opens opening.Vector ∷ (ts0 ++ xs)) behind))
 
 -- behind the `[` of the vector, or behind nothing
 behind_part : (first : Stage) (ts us : List Token) → IsBehind first ts us → (vs : List Token) × (ts ≡ vs ++ us)
@@ -379,18 +385,19 @@ wrong_behind first (Failed before) ts0 ts t fs stack line p so leads said other 
 inner_end : (stack : List Frame) (ts : List Token) → Holds stack ts → is_top stack ≡ false → IsWrongAtEnd (problem_left stack) ts
 inner_end [] ts h busy = absurd h
 inner_end (top ∷ outer) ts h busy = absurd (let no : true ≡ false = busy in cc)
-inner_end (tagged ∷ outer) ts (us, vs, h, d, is) busy = (tag, tt, (us, vs, tt, λ _. refl, no_forms_in d, is))
-inner_end (discarding ∷ outer) ts (us, vs, h, d, is) busy = (discard, tt, (us, vs, tt, λ _. refl, no_forms_in d, is))
-inner_end (in_list fs ∷ outer) ts (us, vs, h, r, is) busy = (opening.List, fs, (us, vs, tt, no_before opening.List fs, r, is))
-inner_end (in_vector fs ∷ outer) ts (us, vs, h, r, is) busy = (opening.Vector, fs, (us, vs, tt, no_before opening.Vector fs, r, is))
-inner_end (in_set fs ∷ outer) ts (us, vs, h, r, is) busy = (opening.Set, fs, (us, vs, tt, no_before opening.Set fs, r, is))
+inner_end (tagged ∷ outer) ts (us, xs, vs, h, before, d, is) busy = tag_open ts us xs vs before d is
+inner_end (describing ∷ outer) ts (us, vs, h, d, is) busy = (meta, [], tt, (us, vs, tt, omega arith, no_forms_in d, is))
+inner_end (discarding ∷ outer) ts (us, vs, h, d, is) busy = (discard, [], tt, (us, vs, tt, refl, no_forms_in d, is))
+inner_end (in_list fs ∷ outer) ts (us, vs, h, r, is) busy = (opening.List, fs, (us, vs, tt, tt, r, is))
+inner_end (in_vector fs ∷ outer) ts (us, vs, h, r, is) busy = (opening.Vector, fs, (us, vs, tt, tt, r, is))
+inner_end (in_set fs ∷ outer) ts (us, vs, h, r, is) busy = (opening.Set, fs, (us, vs, tt, tt, r, is))
 inner_end (in_map ps None ∷ outer) ts (us, vs, h, r, is) busy = let (fs, inner) = map_open ps us vs ts r is in (opening.Map, fs, inner)
 inner_end (in_map ps (Some k) ∷ outer) ts (us, vs, ws, ds, h, r, q, d, is) busy =
     let (fs, inner, _) = key_open ps k us vs ws ds ts r (one_item q) d is in (opening.Map, fs, inner)
 
 lift_end : (ts0 ts : List Token) (p : Problem) → IsWrongAtEnd p ts → IsWrongAtEnd p (ts0 ++ ts)
 lift_end ts0 ts problem.Unclosed (o, fs, inner) = (o, fs, lift ts0 ts (opens o) fs inner)
-lift_end ts0 ts problem.NoForm (o, before, inner) = (o, before, lift ts0 ts o [] inner)
+lift_end ts0 ts problem.NoForm (o, fs, before, inner) = (o, fs, before, lift ts0 ts o fs inner)
 lift_end ts0 ts problem.Unopened never = absurd never
 lift_end ts0 ts problem.NoValue never = absurd never
 lift_end ts0 ts problem.Token never = absurd never

@@ -6,12 +6,12 @@ use Rattle.edn.specs.declared.token.Opening.TheVariants as opening
 use Rattle.edn.specs.declared.token.Closing.TheVariants as closing
 use Rattle.edn.specs.Meaning.Blame.{MayGoOn}
 use Rattle.edn.specs.Meaning.Forms.{Form, nil}
-use Rattle.edn.specs.Meaning.Grammar.{IsItem, a_leaf, a_tagged, a_list, a_vector, a_set, a_map, AreItems, ArePairs}
+use Rattle.edn.specs.Meaning.Grammar.{IsItem, a_leaf, a_described, a_list, a_vector, a_set, a_map, AreItems, ArePairs}
 use Rattle.edn.specs.Meaning.Texts.{AreAll, all_forms, one_vector, AreSoFar, at_start, outside, inside}
-use Rattle.edn.specs.Meaning.Tokens.{Token, opens, closes, discard, tag, leaf}
-use Rattle.edn.specs.Computing.Building.{Frame, top, tagged, discarding, in_list, in_vector, in_set, in_map, is_top}
+use Rattle.edn.specs.Meaning.Tokens.{Token, opens, closes, discard, meta, leaf}
+use Rattle.edn.specs.Computing.Building.{Frame, top, tagged, describing, discarding, in_list, in_vector, in_set, in_map, is_top}
 use Rattle.edn.proofs.FormsRead.{IsBehind, BeginsOther, Leads}
-use Rattle.edn.proofs.Held.{Holds, discard_in, items_append, last_pair, later_item, more_after, no_forms_in, one_discarded, one_item, pairs_append}
+use Rattle.edn.proofs.Held.{Holds, before_item, discard_in, items_append, last_pair, later_item, more_after, no_forms_in, one_discarded, one_item, pairs_append}
 use Rattle.edn.proofs.TextOver.{last_tokens}
 use Rattle.edn.proofs.TextsRead.{all_forms_read, forms_items, square_is}
 
@@ -24,15 +24,24 @@ moved_closed : (ts us ds vs ws : List Token) (t c : Token) → ts ≡ us ++ t �
 moved_closed ts us ds vs ws t c e =
     ap (λ xs. us ++ t ∷ xs) (append_assoc (ds ++ vs) (c ∷ []) ws) ∙ moved ts us ds vs (c ∷ ws) t e
 
+moved_before : (ts us xs ds vs ws : List Token) → ts ≡ us ++ (xs ++ ds)
+    → us ++ ((xs ++ (ds ++ vs)) ++ ws) ≡ ts ++ (vs ++ ws)
+moved_before ts us xs ds vs ws e =
+    ap (λ ys. us ++ (ys ++ ws)) (sym (append_assoc xs ds vs)) ∙ ap (λ ys. us ++ ys) (append_assoc (xs ++ ds) vs ws)
+    ∙ sym (append_assoc us (xs ++ ds) (vs ++ ws)) ∙ ap (λ ys. ys ++ (vs ++ ws)) (sym e)
+
 -- behind one more form
 close_up : (stack : List Frame) (ts vs : List Token) (f : Form) → Holds stack ts → IsItem vs f
     → (us : List Token) × (gs : List Form) × AreItems (ts ++ (vs ++ us)) gs
 close_up [] ts vs f h q = absurd h
 close_up (top ∷ outer) ts vs f (none, d) q =
     ([], f ∷ [], subst (λ xs. AreItems (ts ++ xs) (f ∷ [])) (sym (append-nil vs)) (items_append (no_forms_in d) (one_item q)))
-close_up (tagged ∷ outer) ts vs f (us, ds, h, d, e) q =
-    let (ws, gs, items) = close_up outer us (tag ∷ (ds ++ vs)) f h (a_tagged (later_item d q)) in
-    (ws, gs, subst (λ xs. AreItems xs gs) (moved ts us ds vs ws tag e) items)
+close_up (tagged ∷ outer) ts vs f (us, xs, ds, h, b, d, e) q =
+    let (ws, gs, items) = close_up outer us (xs ++ (ds ++ vs)) f h (before_item b (later_item d q)) in
+    (ws, gs, subst (λ ys. AreItems ys gs) (moved_before ts us xs ds vs ws e) items)
+close_up (describing ∷ outer) ts vs f (us, ds, h, d, e) q =
+    let (ws, gs, items) = close_up outer us (meta ∷ (ds ++ vs) ++ leaf nil ∷ []) nil h (a_described (later_item d q) a_leaf) in
+    (leaf nil ∷ ws, gs, subst (λ xs. AreItems xs gs) (moved_closed ts us ds vs ws meta (leaf nil) e) items)
 close_up (discarding ∷ outer) ts vs f (us, ds, h, d, e) q =
     let more = discard ∷ (ds ++ vs) in
     let (ws, gs, items) =

@@ -11,11 +11,11 @@ use Rattle.edn.specs.Meaning.Faults.{IsOfText}
 use Rattle.edn.specs.Meaning.Forms.{Form}
 use Rattle.edn.specs.Meaning.Grammar.{AreItems, no_items, no_item, an_item}
 use Rattle.edn.specs.Meaning.Lexing.{Lexes}
-use Rattle.edn.specs.Meaning.Nesting.{IsBefore, IsOpening, Nests, none_open, one_open, AreTooDeep}
+use Rattle.edn.specs.Meaning.Nesting.{IsOpenAfter, IsOpening, Nests, none_open, one_open, AreTooDeep}
 use Rattle.edn.specs.Meaning.Reading.{HasNoToken, ReadsTokens}
 use Rattle.edn.specs.Meaning.Readers.{AreFirst, AreNext, BeginsTooDeep, IsFormAt}
-use Rattle.edn.specs.Meaning.Tokens.{Token, opens, closes, discard, tag, leaf, is_square}
-use Rattle.edn.specs.Computing.Building.{Frame, top, tagged, discarding, in_list, in_vector, in_set, in_map, Step, close, close_with, collection, into_stack, leave_tags, or_top, problem_at, put, run, resume, step}
+use Rattle.edn.specs.Meaning.Tokens.{Token, opens, closes, discard, tag, meta, leaf, is_square}
+use Rattle.edn.specs.Computing.Building.{Frame, top, tagged, describing, discarding, in_list, in_vector, in_set, in_map, Step, close, close_with, collection, into_stack, leave_tags, or_top, problem_at, put, run, resume, step}
 use Rattle.edn.specs.Computing.Stages.{Stops, Takes}
 use Rattle.edn.proofs.FormsRead.{HasClosed, Leads}
 use Rattle.edn.proofs.Held.{no_forms_in}
@@ -31,6 +31,7 @@ leave_few : (s : List Frame) → length s ≤ 65 → length (leave_tags s) ≤ 6
 leave_few [] h = omega arith
 leave_few (tagged ∷ outer) h = leave_few outer (omega (arith, h))
 leave_few (top ∷ outer) h = h
+leave_few (describing ∷ outer) h = h
 leave_few (discarding ∷ outer) h = h
 leave_few (in_list fs ∷ outer) h = h
 leave_few (in_vector fs ∷ outer) h = h
@@ -45,6 +46,7 @@ into_few : (s : List Frame) (f : Form) → length s ≤ 65 → length ((into_sta
 into_few [] f h = h
 into_few (top ∷ outer) f h = h
 into_few (tagged ∷ outer) f h = h
+into_few (describing ∷ outer) f h = h
 into_few (discarding ∷ outer) f h = top_few outer (omega (arith, h))
 into_few (in_list fs ∷ outer) f h = h
 into_few (in_vector fs ∷ outer) f h = h
@@ -74,6 +76,7 @@ step_few s (opens b) h few = let less = few tt in omega (arith, less)
 step_few s (closes b) h few = close_few s b h
 step_few s discard h few = let less = few tt in omega (arith, less)
 step_few s tag h few = let less = few tt in omega (arith, less)
+step_few s meta h few = let less = few tt in omega (arith, less)
 step_few s (leaf f) h few = put_few s f h
 
 pub stack_few : (old new : List Frame) (t : Token) (o : Option Form) → length old ≤ 65 → (IsOpening t → length old ≤ 64)
@@ -89,6 +92,25 @@ discards_in no_items e frame outer = refl
 discards_in (no_item {ds = ds} {ts = ts} d r) e frame outer =
     item_runs d discarding (frame ∷ outer) ts ∙ discards_in r e frame outer
 discards_in (an_item q r) e frame outer = absurd (cc)
+
+no_more : (g f : Form) (fs : List Form) → g ∷ fs ≡ f ∷ [] → fs ≡ []
+no_more g f fs e = cc
+
+-- the metadata has come
+meta_in : {ts : List Token} {fs : List Form} → AreItems ts fs → (f : Form) → fs ≡ f ∷ [] → (outer : List Frame)
+    → run (describing ∷ outer) ts ≡ Ok (tagged ∷ outer, None)
+unfolding step put
+meta_in no_items f e outer = absurd (cc)
+meta_in (no_item {ds = ds} {ts = ts} d r) f e outer =
+    item_runs d discarding (describing ∷ outer) ts ∙ meta_in r f e outer
+meta_in (an_item {ts = ts} {f = g} {fs = fs} q r) f e outer =
+    item_runs q describing outer ts ∙ discards_in r (no_more g f fs e) tagged outer
+
+meta_reaches : (us : List Token) (fs : List Form) (stack : List Frame) → length fs ≤ 1 → AreItems us fs
+    → (inner : List Frame) × (run (describing ∷ stack) us ≡ Ok (inner, None)) × (length inner ≡ suc (length stack))
+meta_reaches us [] stack few items = (describing ∷ stack, discards_in items refl describing stack, refl)
+meta_reaches us (f ∷ []) stack few items = (tagged ∷ stack, meta_in items f refl stack, refl)
+meta_reaches us (f ∷ g ∷ fs) stack few items = absurd (omega (arith, few))
 
 map_items : {ts : List Token} {fs : List Form} → AreItems ts fs → (ps : List (Form × Form)) (k : Option Form) (outer : List Frame)
     → (qs : List (Form × Form)) × (j : Option Form) × (run (in_map ps k ∷ outer) ts ≡ Ok (in_map qs j ∷ outer, None))
@@ -110,7 +132,7 @@ row_reaches : (c : List Form → Frame) → ((gs : List Form) (f : Form) (outer 
 row_reaches c takes {ts} {fs} r outer =
     (c fs ∷ outer, ap (run (c [] ∷ outer)) (sym (append-nil ts)) ∙ items_run c takes r [] outer [], refl)
 
-opening_reaches : (t : Token) (us : List Token) (fs : List Form) (stack : List Frame) → IsOpening t → (IsBefore t → fs ≡ [])
+opening_reaches : (t : Token) (us : List Token) (fs : List Form) (stack : List Frame) → IsOpening t → IsOpenAfter t fs
     → AreItems us fs → Reaches (run stack (t ∷ us)) (suc (length stack))
 unfolding step
 opening_reaches (opens opening.List) us fs stack begins none items = row_reaches in_list takes_list items stack
@@ -119,8 +141,9 @@ opening_reaches (opens opening.Set) us fs stack begins none items = row_reaches 
 opening_reaches (opens opening.Map) us fs stack begins none items =
     let (qs, j, e) = map_items items [] None stack in (in_map qs j ∷ stack, e, refl)
 opening_reaches (closes b) us fs stack begins none items = absurd begins
-opening_reaches discard us fs stack begins none items = (discarding ∷ stack, discards_in items (none tt) discarding stack, refl)
-opening_reaches tag us fs stack begins none items = (tagged ∷ stack, discards_in items (none tt) tagged stack, refl)
+opening_reaches discard us fs stack begins none items = (discarding ∷ stack, discards_in items none discarding stack, refl)
+opening_reaches tag us fs stack begins none items = (tagged ∷ stack, discards_in items none tagged stack, refl)
+opening_reaches meta us fs stack begins few items = meta_reaches us fs stack few items
 opening_reaches (leaf f) us fs stack begins none items = absurd begins
 
 nests_reach : {n : ℕ} {ts : List Token} → Nests n ts → Reaches (run (top ∷ []) ts) (suc n)

@@ -9,7 +9,7 @@ use Rattle.edn.specs.Meaning.Grammar.{IsItem}
 use Rattle.edn.specs.Meaning.Lexing.{no_tokens}
 use Rattle.edn.specs.Meaning.Reading.{ReadsToken, ReadsTokens}
 use Rattle.edn.specs.Meaning.Readers.{AreFirst, AreNext, IsFormAt, ReadsForm, begun, stage_after}
-use Rattle.edn.specs.Computing.Building.{Frame, top, tagged, discarding, in_list, in_vector, in_set, in_map, is_top, step}
+use Rattle.edn.specs.Computing.Building.{Frame, top, tagged, describing, discarding, in_list, in_vector, in_set, in_map, is_top, step}
 use Rattle.edn.specs.Computing.Stages.{Built, Takes}
 use Rattle.edn.proofs.Held.{Holds, Outcome, StepHolds, step_holds, AreDiscarded, none_more}
 use Rattle.edn.proofs.LexedTexts.{lexes_more}
@@ -67,6 +67,7 @@ pub only_top : (stack : List Frame) (ts : List Token) → Holds stack ts → is_
 only_top [] ts h e = absurd h
 only_top (top ∷ outer) ts h e = ap (λ o. top ∷ o) h.0
 only_top (tagged ∷ outer) ts h e = absurd (let no : false ≡ true = e in cc)
+only_top (describing ∷ outer) ts h e = absurd (let no : false ≡ true = e in cc)
 only_top (discarding ∷ outer) ts h e = absurd (let no : false ≡ true = e in cc)
 only_top (in_list fs ∷ outer) ts h e = absurd (let no : false ≡ true = e in cc)
 only_top (in_vector fs ∷ outer) ts h e = absurd (let no : false ≡ true = e in cc)

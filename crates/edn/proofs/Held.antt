@@ -5,10 +5,10 @@ use Rattle.edn.specs.declared.token.Closing.{Closing}
 use Rattle.edn.specs.declared.token.Closing.TheVariants as closing
 use Rattle.edn.specs.declared.read_fault.Problem.{Problem}
 use Rattle.edn.specs.Meaning.Forms.{Form}
-use Rattle.edn.specs.Meaning.Tokens.{Token, opens, closes, discard, tag, leaf}
-use Rattle.edn.specs.Meaning.Grammar.{IsItem, a_leaf, a_tagged, a_later, a_list, a_vector, a_set, a_map}
+use Rattle.edn.specs.Meaning.Tokens.{Token, opens, closes, discard, tag, meta, leaf}
+use Rattle.edn.specs.Meaning.Grammar.{IsItem, a_leaf, a_tagged, a_described, a_later, a_list, a_vector, a_set, a_map}
 use Rattle.edn.specs.Meaning.Grammar.{AreItems, no_items, no_item, an_item, ArePairs, no_pairs, no_pair, a_pair}
-use Rattle.edn.specs.Computing.Building.{Frame, top, tagged, in_list, in_vector, in_set, in_map, discarding}
+use Rattle.edn.specs.Computing.Building.{Frame, top, tagged, describing, in_list, in_vector, in_set, in_map, discarding}
 use Rattle.edn.specs.Computing.Building.{Step, or_top, put, close, step}
 
 -- forms that are discarded
@@ -16,10 +16,17 @@ pub data AreDiscarded : List Token → Type 0 where
   none_more : AreDiscarded []
   one_more : {ds ts : List Token} {g : Form} → IsItem ds g → AreDiscarded ts → AreDiscarded (discard ∷ ds ++ ts)
 
+-- what stands before a form: a tag, or `^` with its metadata
+pub data AreBefore : List Token → Type 0 where
+  by_tag : AreBefore (tag ∷ [])
+  by_meta : {ds : List Token} {g : Form} → IsItem ds g → AreBefore (meta ∷ ds)
+
 abbrev pub Holds : List Frame → List Token → Type 0
 Holds [] ts = ⊥
 Holds (top ∷ outer) ts = (outer ≡ []) × AreDiscarded ts
-Holds (tagged ∷ outer) ts = (us vs : List Token) × Holds outer us × AreDiscarded vs × (ts ≡ us ++ tag ∷ vs)
+Holds (tagged ∷ outer) ts =
+    (us xs vs : List Token) × Holds outer us × AreBefore xs × AreDiscarded vs × (ts ≡ us ++ (xs ++ vs))
+Holds (describing ∷ outer) ts = (us vs : List Token) × Holds outer us × AreDiscarded vs × (ts ≡ us ++ meta ∷ vs)
 Holds (discarding ∷ outer) ts = (us vs : List Token) × Holds outer us × AreDiscarded vs × (ts ≡ us ++ discard ∷ vs)
 Holds (in_list fs ∷ outer) ts = (us vs : List Token) × Holds outer us × AreItems vs fs × (ts ≡ us ++ opens opening.List ∷ vs)
 Holds (in_vector fs ∷ outer) ts = (us vs : List Token) × Holds outer us × AreItems vs fs × (ts ≡ us ++ opens opening.Vector ∷ vs)
@@ -84,6 +91,14 @@ pub more_after : (ts us vs : List Token) (t : Token) → ts ≡ us ++ t ∷ vs �
     → ts ++ ds ≡ us ++ t ∷ (vs ++ ds)
 more_after ts us vs t e ds = ap (λ xs. xs ++ ds) e ∙ append_assoc us (t ∷ vs) ds
 
+pub more_before : (ts us xs vs : List Token) → ts ≡ us ++ (xs ++ vs) → (ds : List Token) → ts ++ ds ≡ us ++ (xs ++ (vs ++ ds))
+more_before ts us xs vs e ds =
+    ap (λ ys. ys ++ ds) e ∙ append_assoc us (xs ++ vs) ds ∙ ap (λ ys. us ++ ys) (append_assoc xs vs ds)
+
+pub before_item : {xs ts : List Token} {f : Form} → AreBefore xs → IsItem ts f → IsItem (xs ++ ts) f
+before_item by_tag q = a_tagged q
+before_item (by_meta d) q = a_described d q
+
 more_after_key : (ts us vs ws xs : List Token) (t : Token) → ts ≡ us ++ t ∷ (vs ++ (ws ++ xs)) → (ds : List Token)
     → ts ++ ds ≡ us ++ t ∷ (vs ++ (ws ++ (xs ++ ds)))
 more_after_key ts us vs ws xs t e ds =
@@ -93,7 +108,9 @@ more_after_key ts us vs ws xs t e ds =
 pub discard_in : (stack : List Frame) (ts ds : List Token) → Holds stack ts → AreDiscarded ds → Holds stack (ts ++ ds)
 discard_in [] ts ds h d = h
 discard_in (top ∷ outer) ts ds h d = (h.0, discarded_append h.1 d)
-discard_in (tagged ∷ outer) ts ds (us, vs, h, r, e) d = (us, vs ++ ds, h, discarded_append r d, more_after ts us vs tag e ds)
+discard_in (tagged ∷ outer) ts ds (us, xs, vs, h, b, r, e) d =
+    (us, xs, vs ++ ds, h, b, discarded_append r d, more_before ts us xs vs e ds)
+discard_in (describing ∷ outer) ts ds (us, vs, h, r, e) d = (us, vs ++ ds, h, discarded_append r d, more_after ts us vs meta e ds)
 discard_in (discarding ∷ outer) ts ds (us, vs, h, r, e) d = (us, vs ++ ds, h, discarded_append r d, more_after ts us vs discard e ds)
 discard_in (in_list fs ∷ outer) ts ds (us, vs, h, r, e) d = (us, vs ++ ds, h, items_discard r d, more_after ts us vs (opens opening.List) e ds)
 discard_in (in_vector fs ∷ outer) ts ds (us, vs, h, r, e) d = (us, vs ++ ds, h, items_discard r d, more_after ts us vs (opens opening.Vector) e ds)
@@ -122,9 +139,18 @@ pub put_holds : (stack : List Frame) (ts vs : List Token) (f : Form) → Holds s
 unfolding put
 put_holds [] ts vs f h q = absurd h
 put_holds (top ∷ outer) ts vs f h q = (later_item h.1 q, ap (λ o. top ∷ o) h.0)
-put_holds (tagged ∷ outer) ts vs f (us, ds, h, d, e) q =
-    subst (Outcome (put outer f)) (sym (more_after ts us ds tag e vs))
-    (put_holds outer us (tag ∷ (ds ++ vs)) f h (a_tagged (later_item d q)))
+put_holds (tagged ∷ outer) ts vs f (us, xs, ds, h, b, d, e) q =
+    subst (Outcome (put outer f)) (sym (more_before ts us xs ds e vs))
+    (put_holds outer us (xs ++ (ds ++ vs)) f h (before_item b (later_item d q)))
+put_holds (describing ∷ outer) ts vs f (us, ds, h, d, e) q = (
+  us,
+  meta ∷ (ds ++ vs),
+  [],
+  h,
+  by_meta (later_item d q),
+  none_more,
+  more_after ts us ds meta e vs ∙ ap (λ xs. us ++ meta ∷ xs) (sym (append-nil (ds ++ vs))),
+)
 put_holds (discarding ∷ outer) ts vs f (us, ds, h, d, e) q =
     subst (Holds (or_top outer)) (sym (more_after ts us ds discard e vs))
     (or_top_holds outer _ (discard_in outer us _ h (one_discarded (later_item d q))))
@@ -169,6 +195,7 @@ close_holds : (stack : List Frame) (b : Closing) (ts : List Token) → Holds sta
 close_holds [] b ts h = tt
 close_holds (top ∷ outer) b ts h = tt
 close_holds (tagged ∷ outer) b ts h = tt
+close_holds (describing ∷ outer) b ts h = tt
 close_holds (discarding ∷ outer) b ts h = tt
 close_holds (in_list fs ∷ outer) closing.Round ts (us, vs, h, r, e) =
     closed_holds outer ts us vs _ _ _ h (a_list r) e
@@ -197,5 +224,6 @@ step_holds stack (opens opening.Set) ts h = (ts, [], h, no_items, refl)
 step_holds stack (opens opening.Map) ts h = (ts, [], h, no_pairs, refl)
 step_holds stack (closes b) ts h = close_holds stack b ts h
 step_holds stack discard ts h = (ts, [], h, none_more, refl)
-step_holds stack tag ts h = (ts, [], h, none_more, refl)
+step_holds stack tag ts h = (ts, tag ∷ [], [], h, by_tag, none_more, refl)
+step_holds stack meta ts h = (ts, [], h, none_more, refl)
 step_holds stack (leaf f) ts h = put_holds stack ts (leaf f ∷ []) f h a_leaf

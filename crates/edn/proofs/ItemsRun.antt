@@ -3,9 +3,9 @@ use Rattle.std.proofs.Common.{◌≡◌, List, [], ◌∷◌, ◌++◌, Some, No
 use Rattle.edn.specs.declared.token.Closing.TheVariants as closing
 use Rattle.edn.specs.Meaning.Forms.{Form}
 use Rattle.edn.specs.Meaning.Tokens.{Token, closes}
-use Rattle.edn.specs.Meaning.Grammar.{IsItem, a_leaf, a_tagged, a_later, a_list, a_vector, a_set, a_map}
+use Rattle.edn.specs.Meaning.Grammar.{IsItem, a_leaf, a_tagged, a_described, a_later, a_list, a_vector, a_set, a_map}
 use Rattle.edn.specs.Meaning.Grammar.{AreItems, no_items, no_item, an_item, ArePairs, no_pairs, no_pair, a_pair}
-use Rattle.edn.specs.Computing.Building.{Frame, in_list, in_vector, in_set, in_map, tagged, discarding, put, step, run, resume}
+use Rattle.edn.specs.Computing.Building.{Frame, in_list, in_vector, in_set, in_map, tagged, describing, discarding, put, step, run, resume}
 
 -- a collection that takes forms one by one
 abbrev Takes : (List Form → Frame) → Type 0
@@ -34,6 +34,8 @@ mutual
   item_runs a_leaf frame outer us = refl
   item_runs (a_tagged r) frame outer us =
       item_runs r tagged (frame ∷ outer) us
+  item_runs (a_described {ds = ds} {ts = ts} d r) frame outer us =
+      closed_at _ ds ts us ∙ item_runs d describing (frame ∷ outer) (ts ++ us) ∙ item_runs r tagged (frame ∷ outer) us
   item_runs (a_later {ds = ds} {ts = ts} d r) frame outer us =
       closed_at _ ds ts us ∙ item_runs d discarding (frame ∷ outer) (ts ++ us) ∙ item_runs r frame outer us
   item_runs (a_list {ts = ts} r) frame outer us =

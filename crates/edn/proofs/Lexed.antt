@@ -8,14 +8,15 @@ use Rattle.edn.specs.declared.token.Beyond.{Beyond}
 use Rattle.edn.specs.declared.token.Beyond.TheVariants.{Unread, Nothing}
 use Rattle.edn.specs.Meaning.Bytes.{is_word_byte}
 use Rattle.edn.specs.Meaning.Characters.{is_character}
-use Rattle.edn.specs.Meaning.Forms.{Form, string, character}
+use Rattle.edn.specs.Meaning.Forms.{Form, number, string, character}
 use Rattle.edn.specs.Meaning.Names.{is_tag}
-use Rattle.edn.specs.Meaning.Tokens.{Token, opens, discard, tag, leaf}
+use Rattle.edn.specs.Meaning.Numbers.{is_symbolic}
+use Rattle.edn.specs.Meaning.Tokens.{Token, opens, discard, tag, meta, leaf}
 use Rattle.edn.specs.Meaning.Words.{word_of}
-use Rattle.edn.specs.Meaning.Lexing.{Ends, IsWord, Begins, round_opens, square_opens, curly_opens, set_opens, round_closes, square_closes, curly_closes, discards, tags, quotes, characters, words}
+use Rattle.edn.specs.Meaning.Lexing.{Ends, IsWord, Begins, round_opens, square_opens, curly_opens, set_opens, round_closes, square_closes, curly_closes, discards, metas, old_metas, symbolics, tags, quotes, characters, words}
 use Rattle.edn.specs.Computing.Strings.{Quoted, closed, open_, bad as no_string, quoted_at}
 use Rattle.edn.specs.Computing.Tokens.{token, more, bad, no_token, unfinished, may_go_on, after_string}
-use Rattle.edn.specs.Computing.Tokens.{character_at, character_token, tag_token, dispatched, of_word, word_token, token_at}
+use Rattle.edn.specs.Computing.Tokens.{character_at, character_token, tag_token, symbolic_token, dispatched, of_word, word_token, token_at}
 use Rattle.edn.proofs.Choices.{chosen, ne_from}
 use Rattle.edn.proofs.StringTexts.{inside_more, string_read}
 use Rattle.edn.proofs.Spans.{span_ends, span_word}
@@ -80,6 +81,21 @@ tag_so beyond text after t rest b e =
       ]
     ]
 
+symbolic_so : (beyond : Beyond) (text after : List ℕ) (t : Token) (rest : List ℕ) → IsBeyond beyond after
+    → symbolic_token beyond text ≡ token t rest → BeginsWith (35 ∷ 35 ∷ text) t rest after
+symbolic_so beyond text after t rest b e =
+    let n = prefix_len is_word_byte text in
+    let name = take n text in
+    elim (chosen (may_go_on (drop n text) beyond) _ _ _ e) [
+      | inl w ↦ absurd (let no : more ≡ token t rest = w.1 in cc)
+      | inr w ↦ elim (chosen (is_symbolic name) _ _ _ w.1) [
+        | inl v ↦ same (leaf (number (35 ∷ 35 ∷ name))) t (drop n text) rest v.1 (35 ∷ 35 ∷ (text ++ after)) after
+            (subst (λ x. Begins (leaf (number (35 ∷ 35 ∷ name))) (35 ∷ 35 ∷ x) (drop n text ++ after)) (sym (parted n text after))
+            (symbolics name (span_word text) v.0 (ended beyond (drop n text) after b (span_ends text) w.0)))
+        | inr v ↦ absurd (let no : bad _ ≡ token t rest = v.1 in cc)
+      ]
+    ]
+
 dispatched_so : (beyond : Beyond) (text after : List ℕ) (t : Token) (rest : List ℕ) → IsBeyond beyond after
     → dispatched beyond text ≡ token t rest → BeginsWith (35 ∷ text) t rest after
 dispatched_so beyond [] after t rest b e = absurd (unfinished_so beyond t rest e)
@@ -90,7 +106,14 @@ dispatched_so beyond (c ∷ bs) after t rest b e =
       | inr w ↦ elim (chosen (c == 95) _ _ _ w.1) [
         | inl v ↦ same discard t bs rest v.1 _ after
             (subst (λ x. Begins discard (35 ∷ x ∷ (bs ++ after)) (bs ++ after)) (sym (eqb-true c 95 v.0)) discards)
-        | inr v ↦ tag_so beyond (c ∷ bs) after t rest b v.1
+        | inr v ↦ elim (chosen (c == 94) _ _ _ v.1) [
+          | inl x ↦ same meta t bs rest x.1 _ after
+              (subst (λ y. Begins meta (35 ∷ y ∷ (bs ++ after)) (bs ++ after)) (sym (eqb-true c 94 x.0)) old_metas)
+          | inr x ↦ elim (chosen (c == 35) _ _ _ x.1) [
+            | inl z ↦ subst (λ y. BeginsWith (35 ∷ y ∷ bs) t rest after) (sym (eqb-true c 35 z.0)) (symbolic_so beyond bs after t rest b z.1)
+            | inr z ↦ tag_so beyond (c ∷ bs) after t rest b z.1
+          ]
+        ]
       ]
     ]
 
@@ -178,7 +201,10 @@ token_so beyond (b ∷ bs) after t rest h e =
                                                           elim (chosen (b == 125) _ _ _ w9.1) [
                                                             | inl w ↦ front b 125 bs t rest after w.0 (same _ t bs rest w.1 _ after curly_closes)
                                                             | inr w10 ↦
-                                                                word_so beyond b bs after t rest h (ne_from b 35 w4.0) w10.1
+                                                                elim (chosen (b == 94) _ _ _ w10.1) [
+                                                                  | inl w ↦ front b 94 bs t rest after w.0 (same _ t bs rest w.1 _ after metas)
+                                                                  | inr w11 ↦ word_so beyond b bs after t rest h (ne_from b 35 w4.0) w11.1
+                                                                ]
                                                           ]
                                                     ]
                                               ]

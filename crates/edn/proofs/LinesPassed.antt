@@ -11,7 +11,7 @@ use Rattle.edn.specs.declared.token.Token.{Token as TokenValue}
 use Rattle.edn.specs.declared.token.Token.TheVariants as In
 use Rattle.edn.specs.Meaning.Bytes.{is_space, is_end, is_word_byte}
 use Rattle.edn.specs.Meaning.Forms.{character, string}
-use Rattle.edn.specs.Meaning.Lexing.{IsWord, IsLastLine, Begins, round_opens, square_opens, curly_opens, set_opens, round_closes, square_closes, curly_closes, discards, tags, quotes, characters, words}
+use Rattle.edn.specs.Meaning.Lexing.{IsWord, IsLastLine, Begins, round_opens, square_opens, curly_opens, set_opens, round_closes, square_closes, curly_closes, discards, metas, old_metas, symbolics, tags, quotes, characters, words}
 use Rattle.edn.specs.Meaning.Lines.{IsAt, feeds, line_after}
 use Rattle.edn.specs.Meaning.Tokens.{Token, leaf}
 use Rattle.edn.specs.Computing.Tokens.{token, token_of, token_at, BeginsComment}
@@ -115,6 +115,9 @@ no_feeds round_closes other = (41 ∷ [], refl, refl)
 no_feeds square_closes other = (93 ∷ [], refl, refl)
 no_feeds curly_closes other = (125 ∷ [], refl, refl)
 no_feeds discards other = (35 ∷ 95 ∷ [], refl, refl)
+no_feeds metas other = (94 ∷ [], refl, refl)
+no_feeds old_metas other = (35 ∷ 94 ∷ [], refl, refl)
+no_feeds (symbolics name w g e) other = (35 ∷ 35 ∷ name, refl, word_feeds name w)
 no_feeds (tags name w g e) other = (35 ∷ name, refl, word_feeds name w)
 no_feeds (quotes {bytes = bytes} inside h) other = absurd (other.0 bytes refl)
 no_feeds (characters {b = b} {name = name} w g e) other = absurd (other.1 (b ∷ name) refl)
@@ -150,6 +153,8 @@ at_token (In.Close b) place beyond p rest count e d text left m n leaf_line line
 at_token In.Discard place beyond p rest count e d text left m n leaf_line line at =
     subst (λ x. IsAt text (prepend_known x left) n) (sym d) (at_plain beyond p _ rest e (λ bytes no. cc, λ name no. cc) text left m n (line (λ no. cc)) at)
 at_token In.Tag place beyond p rest count e d text left m n leaf_line line at =
+    subst (λ x. IsAt text (prepend_known x left) n) (sym d) (at_plain beyond p _ rest e (λ bytes no. cc, λ name no. cc) text left m n (line (λ no. cc)) at)
+at_token In.Meta place beyond p rest count e d text left m n leaf_line line at =
     subst (λ x. IsAt text (prepend_known x left) n) (sym d) (at_plain beyond p _ rest e (λ bytes no. cc, λ name no. cc) text left m n (line (λ no. cc)) at)
 at_token In.Nil place beyond p rest count e d text left m n leaf_line line at =
     subst (λ x. IsAt text (prepend_known x left) n) (sym d) (at_plain beyond p _ rest e (λ bytes no. cc, λ name no. cc) text left m n (line (λ no. cc)) at)

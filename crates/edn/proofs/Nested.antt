@@ -11,14 +11,14 @@ use Rattle.edn.specs.declared.token.Closing.{Closing}
 use Rattle.edn.specs.declared.token.Closing.TheVariants as closing
 use Rattle.edn.specs.Meaning.Faults.{IsOfDepth}
 use Rattle.edn.specs.Meaning.Forms.{Form}
-use Rattle.edn.specs.Meaning.Tokens.{Token, opens, closes, discard, tag, leaf}
+use Rattle.edn.specs.Meaning.Tokens.{Token, opens, closes, discard, tag, meta, leaf}
 use Rattle.edn.specs.Meaning.Grammar.{AreItems, no_items, no_item, an_item, ArePairs, no_pairs, no_pair, a_pair}
-use Rattle.edn.specs.Meaning.Nesting.{IsBefore, IsOpening, Nests, none_open, one_open, AreTooDeep}
+use Rattle.edn.specs.Meaning.Nesting.{IsBefore, IsOpenAfter, IsOpening, Nests, none_open, one_open, AreTooDeep}
 use Rattle.edn.specs.Meaning.Reading.{ReadsToken, ReadsTokens}
 use Rattle.edn.specs.Meaning.Readers.{AreNext, IsTooDeep}
-use Rattle.edn.specs.Computing.Building.{Frame, top, tagged, discarding, in_list, in_vector, in_set, in_map, Step, Deepens, close, step}
+use Rattle.edn.specs.Computing.Building.{Frame, top, tagged, describing, discarding, in_list, in_vector, in_set, in_map, Step, Deepens, close, step}
 use Rattle.edn.specs.Computing.Stages.{Refused, Says, Stops}
-use Rattle.edn.proofs.Held.{Holds, items_append, no_forms_in, one_item}
+use Rattle.edn.proofs.Held.{AreBefore, by_tag, by_meta, AreDiscarded, Holds, items_append, no_forms_in, one_item}
 use Rattle.edn.proofs.FormsRead.{Leads, held_step, holds_start, from_more, behind_more, BeginsOther, form_at, element_at, reads_more}
 
 pub items_of : {ts : List Token} {ps : List (Form × Form)} → ArePairs ts ps → (fs : List Form) × AreItems ts fs
@@ -30,25 +30,37 @@ items_of (a_pair {us = us} {vs = vs} {ts = ts} {k = k} {v = v} a b r) =
 
 -- within what is open around it
 within : (outer : List Frame) (us vs ts : List Token) (t : Token) (fs : List Form) → Holds outer us
-    → Nests (pred (length outer)) us → IsOpening t → (IsBefore t → fs ≡ []) → AreItems vs fs → ts ≡ us ++ t ∷ vs → Nests (length outer) ts
+    → Nests (pred (length outer)) us → IsOpening t → IsOpenAfter t fs → AreItems vs fs → ts ≡ us ++ t ∷ vs → Nests (length outer) ts
 within [] us vs ts t fs h around begins none items e = absurd h
 within (f ∷ outer) us vs ts t fs h around begins none items e =
     subst (Nests (suc (length outer))) (sym e) (one_open t around begins none items)
 
+-- a tag that is open, or a `^` whose metadata has come
+pub before_open : {xs vs : List Token} → AreBefore xs → AreDiscarded vs
+    → (t : Token) × (fs : List Form) × (ws : List Token) × IsBefore t × IsOpening t × IsOpenAfter t fs × AreItems ws fs
+    × (xs ++ vs ≡ t ∷ ws)
+before_open {vs = vs} by_tag d = (tag, [], vs, tt, tt, refl, no_forms_in d, refl)
+before_open {vs = vs} (by_meta {ds = ds} {g = g} q) d =
+    (meta, g ∷ [], ds ++ vs, tt, tt, omega arith, items_append (one_item q) (no_forms_in d), refl)
+
 nests : (stack : List Frame) (ts : List Token) → Holds stack ts → Nests (pred (length stack)) ts
 nests [] ts h = absurd h
 nests (top ∷ outer) ts h = subst (λ o. Nests (length o) ts) (sym h.0) (none_open (no_forms_in h.1))
-nests (tagged ∷ outer) ts (us, vs, h, d, e) = within outer us vs ts tag [] h (nests outer us h) tt (λ _. refl) (no_forms_in d) e
-nests (discarding ∷ outer) ts (us, vs, h, d, e) = within outer us vs ts discard [] h (nests outer us h) tt (λ _. refl) (no_forms_in d) e
-nests (in_list fs ∷ outer) ts (us, vs, h, r, e) = within outer us vs ts (opens opening.List) fs h (nests outer us h) tt (λ no. absurd no) r e
-nests (in_vector fs ∷ outer) ts (us, vs, h, r, e) = within outer us vs ts (opens opening.Vector) fs h (nests outer us h) tt (λ no. absurd no) r e
-nests (in_set fs ∷ outer) ts (us, vs, h, r, e) = within outer us vs ts (opens opening.Set) fs h (nests outer us h) tt (λ no. absurd no) r e
+nests (tagged ∷ outer) ts (us, xs, vs, h, b, d, e) =
+    let (t, fs, ws, before, begins, room, items, is) = before_open b d in
+    within outer us ws ts t fs h (nests outer us h) begins room items (e ∙ ap (λ ys. us ++ ys) is)
+nests (describing ∷ outer) ts (us, vs, h, d, e) =
+    within outer us vs ts meta [] h (nests outer us h) tt (omega arith) (no_forms_in d) e
+nests (discarding ∷ outer) ts (us, vs, h, d, e) = within outer us vs ts discard [] h (nests outer us h) tt refl (no_forms_in d) e
+nests (in_list fs ∷ outer) ts (us, vs, h, r, e) = within outer us vs ts (opens opening.List) fs h (nests outer us h) tt tt r e
+nests (in_vector fs ∷ outer) ts (us, vs, h, r, e) = within outer us vs ts (opens opening.Vector) fs h (nests outer us h) tt tt r e
+nests (in_set fs ∷ outer) ts (us, vs, h, r, e) = within outer us vs ts (opens opening.Set) fs h (nests outer us h) tt tt r e
 nests (in_map ps None ∷ outer) ts (us, vs, h, r, e) =
     let (fs, q) = items_of r in
-    within outer us vs ts (opens opening.Map) fs h (nests outer us h) tt (λ no. absurd no) q e
+    within outer us vs ts (opens opening.Map) fs h (nests outer us h) tt tt q e
 nests (in_map ps (Some k) ∷ outer) ts (us, vs, ws, ds, h, r, q, d, e) =
     let (fs, p) = items_of r in
-    within outer us (vs ++ (ws ++ ds)) ts (opens opening.Map) _ h (nests outer us h) tt (λ no. absurd no)
+    within outer us (vs ++ (ws ++ ds)) ts (opens opening.Map) _ h (nests outer us h) tt tt
     (items_append p (items_append (one_item q) (no_forms_in d))) e
 
 -- ---- a token that is refused for its depth
@@ -63,6 +75,7 @@ unfolding is_shallow
 close_shallow [] b = refl
 close_shallow (top ∷ outer) b = refl
 close_shallow (tagged ∷ outer) b = refl
+close_shallow (describing ∷ outer) b = refl
 close_shallow (discarding ∷ outer) b = refl
 close_shallow (in_list fs ∷ outer) closing.Round = refl
 close_shallow (in_list fs ∷ outer) closing.Square = refl
@@ -84,6 +97,7 @@ step_shallow stack (opens b) = refl
 step_shallow stack (closes b) = close_shallow stack b
 step_shallow stack discard = refl
 step_shallow stack tag = refl
+step_shallow stack meta = refl
 step_shallow stack (leaf f) = refl
 
 not_deep : (stack : List Frame) (t : Token) (p : Problem) → step stack t ≡ Err p → p ≡ Depth → ⊥

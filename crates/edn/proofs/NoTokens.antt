@@ -9,6 +9,7 @@ use Rattle.edn.specs.Meaning.Bytes.{is_word_byte}
 use Rattle.edn.specs.Meaning.Characters.{is_character}
 use Rattle.edn.specs.Meaning.Forms.{Form}
 use Rattle.edn.specs.Meaning.Names.{is_tag}
+use Rattle.edn.specs.Meaning.Numbers.{is_symbolic}
 use Rattle.edn.specs.Meaning.Tokens.{Token}
 use Rattle.edn.specs.Meaning.Words.{word_of}
 use Rattle.edn.specs.Meaning.Lexing.{IsGap, Begins, Lexes, no_tokens, next}
@@ -16,7 +17,7 @@ use Rattle.edn.specs.Meaning.Reading.{IsLinked, PassesGap, HasNoToken}
 use Rattle.edn.specs.Computing.Gaps.{after_gap_in}
 use Rattle.edn.specs.Computing.Strings.{Quoted, closed, open_, bad as no_string, quoted_at}
 use Rattle.edn.specs.Computing.Tokens.{Lexed, token, end, more, bad, may_go_on, after_string, string_token}
-use Rattle.edn.specs.Computing.Tokens.{character_at, character_token, tag_at, dispatched, of_word, word_at, token_at}
+use Rattle.edn.specs.Computing.Tokens.{character_at, character_token, tag_at, symbolic_at, dispatched, of_word, word_at, token_at}
 use Rattle.edn.proofs.Choices.{chosen, alike}
 use Rattle.edn.proofs.GapTexts.{IsPast, past_more}
 use Rattle.edn.proofs.StringTexts.{quoted_stays}
@@ -63,6 +64,10 @@ tag_stays : (p : Problem) → Stays tag_at p
 tag_stays p name rest others e =
     stays_if rest _ _ p (alike (is_tag name) _ _ _ _ _ (no_bad _ _ _ _ p) (λ x. x)) e
 
+symbolic_stays : (p : Problem) → Stays symbolic_at p
+symbolic_stays p name rest others e =
+    stays_if rest _ _ p (alike (is_symbolic name) _ _ _ _ _ (no_bad _ _ _ _ p) (λ x. x)) e
+
 of_word_stays : (o : Option Form) (rest others : List ℕ) (p : Problem) → of_word o rest ≡ bad p → of_word o (rest ++ others) ≡ bad p
 of_word_stays (Some f) rest others p e = absurd (cc)
 of_word_stays None rest others p e = e
@@ -84,7 +89,10 @@ dispatched_stays : (bs others : List ℕ) (p : Problem) → dispatched Unread bs
 dispatched_stays [] others p e = absurd (let no : more ≡ bad p = e in cc)
 dispatched_stays (b ∷ bs) others p e =
     alike (b == 123) _ _ _ _ _ (no_bad _ _ _ _ p)
-    (alike (b == 95) _ _ _ _ _ (no_bad _ _ _ _ p) (word_stays tag_at p (tag_stays p) (b ∷ bs) others)) e
+    (alike (b == 95) _ _ _ _ _ (no_bad _ _ _ _ p)
+    (alike (b == 94) _ _ _ _ _ (no_bad _ _ _ _ p)
+    (alike (b == 35) _ _ _ _ _ (word_stays symbolic_at p (symbolic_stays p) bs others)
+    (word_stays tag_at p (tag_stays p) (b ∷ bs) others)))) e
 
 pub bad_stays : (bytes others : List ℕ) (p : Problem) → token_at Unread bytes ≡ bad p → token_at Nothing (bytes ++ others) ≡ bad p
 unfolding token_at
@@ -100,7 +108,8 @@ bad_stays (b ∷ bs) others p e =
     (alike (b == 41) _ _ _ _ _ (no_bad _ _ _ _ p)
     (alike (b == 93) _ _ _ _ _ (no_bad _ _ _ _ p)
     (alike (b == 125) _ _ _ _ _ (no_bad _ _ _ _ p)
-    (word_stays word_at p (plain_stays p) (b ∷ bs) others)))))))))) e
+    (alike (b == 94) _ _ _ _ _ (no_bad _ _ _ _ p)
+    (word_stays word_at p (plain_stays p) (b ∷ bs) others))))))))))) e
 
 -- ---- the text
 

@@ -7,8 +7,9 @@ use Rattle.edn.specs.declared.token.Beyond.TheVariants.{Nothing}
 use Rattle.edn.specs.Meaning.Bytes.{is_space, is_end, is_word_byte}
 use Rattle.edn.specs.declared.read_fault.Problem.{Problem}
 use Rattle.edn.specs.Meaning.Characters.{is_character}
-use Rattle.edn.specs.Meaning.Forms.{Form, character}
+use Rattle.edn.specs.Meaning.Forms.{Form, number, character}
 use Rattle.edn.specs.Meaning.Names.{begins_tag, is_symbol, is_tag}
+use Rattle.edn.specs.Meaning.Numbers.{is_symbolic}
 use Rattle.edn.specs.Meaning.Words.{word_of}
 use Rattle.edn.specs.declared.reader.Stage.{Stage}
 use Rattle.edn.specs.declared.reader.Stage.TheVariants.{Start, Forms, Elements, Closed, Failed}
@@ -16,9 +17,9 @@ use Rattle.edn.specs.Meaning.Tokens.{Token, tag, leaf, is_square}
 use Rattle.edn.specs.Meaning.Readers.{AreFirst, IsFormAt, ReadsForm, BeginsForm}
 use Rattle.edn.specs.Meaning.Grammar.{IsItem}
 use Rattle.edn.specs.Meaning.Lexing.{IsGap, no_gap, space, comment, Ends, IsWord, Lexes, no_tokens, next}
-use Rattle.edn.specs.Meaning.Lexing.{Begins, round_opens, square_opens, curly_opens, set_opens, round_closes, square_closes, curly_closes, discards, tags, quotes, characters, words}
+use Rattle.edn.specs.Meaning.Lexing.{Begins, round_opens, square_opens, curly_opens, set_opens, round_closes, square_closes, curly_closes, discards, metas, old_metas, symbolics, tags, quotes, characters, words}
 use Rattle.edn.specs.Computing.Gaps.{after_gap_in}
-use Rattle.edn.specs.Computing.Tokens.{token, token_at, character_at, character_token, tag_at, dispatched, word_at}
+use Rattle.edn.specs.Computing.Tokens.{token, token_at, character_at, character_token, tag_at, symbolic_at, dispatched, word_at}
 use Rattle.edn.specs.Computing.Building.{Step, top, run, resume, put}
 use Rattle.edn.proofs.StringTexts.{string_again}
 use Rattle.edn.proofs.Spans.{end_is, word_parts, character_word}
@@ -88,6 +89,10 @@ e125 : is_end 125 ≡ true
 unfolding is_end is_space
 e125 = refl
 
+e94 : is_end 94 ≡ true
+unfolding is_end is_space
+e94 = refl
+
 tag_again : (name rest : List ℕ) → IsWord name → is_tag name ≡ true → Ends rest
     → dispatched Nothing (name ++ rest) ≡ token tag rest
 tag_again [] rest w g e = absurd (let no : false ≡ true = g in cc)
@@ -97,7 +102,15 @@ tag_again (a ∷ name) rest w g e =
     ne_eqb a 123 (λ i. let no : true ≡ false = sym begins ∙ ap (λ x. begins_tag (x ∷ name)) i in cc) in
     let not_discard : (a == 95) ≡ false =
     ne_eqb a 95 (λ i. let no : true ≡ false = sym begins ∙ ap (λ x. begins_tag (x ∷ name)) i in cc) in
-    rw (not_set, not_discard) (word_parts (tag_at Nothing) (a ∷ name) rest w e ∙ rw g refl)
+    let not_meta : (a == 94) ≡ false =
+    ne_eqb a 94 (λ i. let no : true ≡ false = sym begins ∙ ap (λ x. begins_tag (x ∷ name)) i in cc) in
+    let not_symbolic : (a == 35) ≡ false =
+    ne_eqb a 35 (λ i. let no : true ≡ false = sym begins ∙ ap (λ x. begins_tag (x ∷ name)) i in cc) in
+    rw (not_set, not_discard, not_meta, not_symbolic) (word_parts (tag_at Nothing) (a ∷ name) rest w e ∙ rw g refl)
+
+symbolic_again : (name rest : List ℕ) → IsWord name → is_symbolic name ≡ true → Ends rest
+    → dispatched Nothing (35 ∷ (name ++ rest)) ≡ token (leaf (number (35 ∷ 35 ∷ name))) rest
+symbolic_again name rest w g e = word_parts (symbolic_at Nothing) name rest w e ∙ rw g refl
 
 character_again : (b : ℕ) (name rest : List ℕ) → IsWord name → is_character (b ∷ name) ≡ true
     → Ends rest → character_token Nothing (b ∷ (name ++ rest)) ≡ token (leaf (character (b ∷ name))) rest
@@ -120,6 +133,7 @@ word_again b name rest f h w is e =
       not_end b 41 first e41,
       not_end b 93 first e93,
       not_end b 125 first e125,
+      not_end b 94 first e94,
     ) (word_parts (word_at Nothing) (b ∷ name) rest w e ∙ rw is refl)
 
 pub token_again : {t : Token} {text rest : List ℕ} → Begins t text rest → token_at Nothing text ≡ token t rest
@@ -132,6 +146,9 @@ token_again round_closes = refl
 token_again square_closes = refl
 token_again curly_closes = refl
 token_again discards = refl
+token_again metas = refl
+token_again old_metas = refl
+token_again {rest = rest} (symbolics name w g e) = symbolic_again name rest w g e
 token_again {rest = rest} (tags name w g e) = tag_again name rest w g e
 token_again {rest = rest} (quotes inside h) = rw (string_again rest h) refl
 token_again {rest = rest} (characters {b = b} {name = name} w g e) = character_again b name rest w g e
@@ -149,6 +166,9 @@ no_gap_here round_closes = refl
 no_gap_here square_closes = refl
 no_gap_here curly_closes = refl
 no_gap_here discards = refl
+no_gap_here metas = refl
+no_gap_here old_metas = refl
+no_gap_here (symbolics name w g e) = refl
 no_gap_here (tags name w g e) = refl
 no_gap_here (quotes inside h) = refl
 no_gap_here (characters w g e) = refl

@@ -260,6 +260,7 @@ digit_token beyond b bs e =
       digit_not 41 b refl e,
       digit_not 93 b refl e,
       digit_not 125 b refl e,
+      digit_not 94 b refl e,
     ) refl
 
 pub plain_integer_read : (beyond : Beyond) (text rest : List ℕ) (m : ℕ) (z : ℤ) → begins_plain text ≡ true

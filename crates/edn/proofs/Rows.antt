@@ -3,7 +3,7 @@ use Rattle.std.proofs.Common.{◌≡◌, ℕ, suc, ◌+◌, ◌%◌, ◌≤◌, 
 use Rattle.std.proofs.lemmas.List.{append-nil, append_assoc, reverse-append}
 use Rattle.std.proofs.Math.Nat.{add-mod_right}
 use Rattle.edn.specs.declared.builder.Open.{Open}
-use Rattle.edn.specs.declared.builder.Open.TheVariants.{Top, Tag, Discard, Row as Row_}
+use Rattle.edn.specs.declared.builder.Open.TheVariants.{Top, Tag, Meta, Discard, Row as Row_}
 use Rattle.edn.specs.declared.tape.Node.{Node}
 use Rattle.edn.specs.declared.tape.Node.TheVariants.{Atom, End}
 use Rattle.edn.specs.declared.tape.Row.{Row}
@@ -19,6 +19,7 @@ pub length_frames : (os : List Open) (fs : List Form) → length (frames os fs) 
 length_frames [] fs = refl
 length_frames (Top n ∷ os) fs = ap suc (length_frames os (drop n fs))
 length_frames (Tag ∷ os) fs = ap suc (length_frames os fs)
+length_frames (Meta ∷ os) fs = ap suc (length_frames os fs)
 length_frames (Discard ∷ os) fs = ap suc (length_frames os fs)
 length_frames (Row_ row n ∷ os) fs = ap suc (length_frames os (drop n fs))
 

@@ -12,7 +12,7 @@ use Rattle.edn.specs.Meaning.Lexing.{Lexes, no_tokens, next}
 use Rattle.edn.specs.Meaning.Lines.{IsAt, line_after}
 use Rattle.edn.specs.Meaning.Readers.{AreFirst, AreLast, AreLastBehind, IsFormAt, IsOver, IsReady, ReadsForm, begun, line_read, stage_after, text_left}
 use Rattle.edn.specs.Meaning.Texts.{AreAll, nothing, all_forms, one_vector, AreForms, no_forms, one_more, AreSoFar, at_start, outside, inside, HasRead, IsText}
-use Rattle.edn.specs.Meaning.Tokens.{Token, opens, closes, discard, tag, leaf, is_square}
+use Rattle.edn.specs.Meaning.Tokens.{Token, opens, closes, discard, tag, meta, leaf, is_square}
 use Rattle.edn.specs.Meaning.Reading.{IsLinked}
 use Rattle.edn.specs.Computing.Building.{top}
 use Rattle.edn.specs.Computing.Stacks.{stack_of}
@@ -33,6 +33,7 @@ square_is (opens opening.Map) e = absurd (let no : false ≡ true = e in cc)
 square_is (closes b) e = absurd (let no : false ≡ true = e in cc)
 square_is discard e = absurd (let no : false ≡ true = e in cc)
 square_is tag e = absurd (let no : false ≡ true = e in cc)
+square_is meta e = absurd (let no : false ≡ true = e in cc)
 square_is (leaf f) e = absurd (let no : false ≡ true = e in cc)
 
 -- ---- one form more

@@ -4,7 +4,7 @@ use Rattle.std.specs.Io.KnownBytes.{Consumes, prepend_known}
 use Rattle.edn.specs.declared.token.Beyond.{Beyond}
 use Rattle.edn.specs.declared.token.Beyond.TheVariants.{Unread, Nothing}
 use Rattle.edn.specs.Meaning.Tokens.{Token}
-use Rattle.edn.specs.Meaning.Lexing.{IsGap, no_gap, Begins, round_opens, square_opens, curly_opens, set_opens, round_closes, square_closes, curly_closes, discards, tags, quotes, characters, words}
+use Rattle.edn.specs.Meaning.Lexing.{IsGap, no_gap, Begins, round_opens, square_opens, curly_opens, set_opens, round_closes, square_closes, curly_closes, discards, metas, old_metas, symbolics, tags, quotes, characters, words}
 use Rattle.edn.specs.Meaning.Reading.{IsLinked, ReadsToken, PassesGap}
 use Rattle.edn.specs.Computing.Tokens.{token, token_at}
 use Rattle.edn.proofs.Lexed.{IsBeyond, token_so}
@@ -21,6 +21,9 @@ begins_front round_closes = (41 ∷ [], refl)
 begins_front square_closes = (93 ∷ [], refl)
 begins_front curly_closes = (125 ∷ [], refl)
 begins_front discards = (35 ∷ 95 ∷ [], refl)
+begins_front metas = (94 ∷ [], refl)
+begins_front old_metas = (35 ∷ 94 ∷ [], refl)
+begins_front (symbolics name w g e) = (35 ∷ 35 ∷ name, refl)
 begins_front (tags name w g e) = (35 ∷ name, refl)
 begins_front {rest = rest} (quotes inside h) =
     (34 ∷ (inside ++ 34 ∷ []), ap (λ x. 34 ∷ x) (sym (append_assoc inside (34 ∷ []) rest)))

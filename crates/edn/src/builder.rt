@@ -24,7 +24,7 @@ use crate::token::{Closing, Opening, Token};
 use std::alloc::{AllocError, AllocFailed, Global};
 use std::mem;
 
-/// How deep collections, tags and `#_` may be nested.
+/// How deep collections, tags, `^` and `#_` may be nested.
 pub const MAX_DEPTH: usize = 64;
 
 /// What is open around the next token.
@@ -32,8 +32,10 @@ pub const MAX_DEPTH: usize = 64;
 enum Open {
     /// Nothing. So many forms are complete.
     Top(usize),
-    /// A tag, whose form is to come.
+    /// A tag, or a `^` with its metadata, whose form is to come.
     Tag,
+    /// A `^`, whose metadata is to come.
+    Meta,
     /// A `#_`, whose form is to come.
     Discard,
     /// A collection that has so many forms.
@@ -101,6 +103,7 @@ impl Builder {
         match token {
             Token::Open(bracket) => self.begin(opened(bracket)),
             Token::Tag => self.begin(Open::Tag),
+            Token::Meta => self.begin(Open::Meta),
             Token::Discard => self.begin(Open::Discard),
             Token::Close(bracket) => self.close(bracket),
             Token::Nil => Ok(self.add(Atom::Nil)?),
@@ -116,7 +119,7 @@ impl Builder {
         ensures shallow { result ≢ Problem.Depth }
     {
         match self.inner {
-            Open::Tag | Open::Discard => Problem::NoForm,
+            Open::Tag | Open::Meta | Open::Discard => Problem::NoForm,
             _ => Problem::Unclosed,
         }
     }
@@ -150,6 +153,7 @@ impl Builder {
             (Open::Row(Row::Set, count), Closing::Curly) => Ok(self.end(Row::Set, count)?),
             (Open::Row(Row::Map, count), Closing::Curly) => self.end_map(count),
             (Open::Tag, _) => Err(Refusal::Problem(Problem::NoForm)),
+            (Open::Meta, _) => Err(Refusal::Problem(Problem::NoForm)),
             (Open::Discard, _) => Err(Refusal::Problem(Problem::NoForm)),
             _ => Err(Refusal::Problem(Problem::Unopened)),
         }
@@ -240,6 +244,11 @@ impl Builder {
             Open::Top(count) => {
                 self.inner = Open::Top(count + 1);
                 true
+            }
+            Open::Meta => {
+                self.forms.drop_last();
+                self.inner = Open::Tag;
+                false
             }
             Open::Tag => true,
         }

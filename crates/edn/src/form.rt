@@ -8,7 +8,7 @@ use crate::atom::Atom;
 use crate::kind::{Kind, kind_of_atom};
 use crate::tape::{Node, Row, before};
 
-/// A form of EDN. A tagged value is read as the value that follows the tag; nothing is kept of the tag.
+/// A form of EDN. A tagged value is read as the value that follows the tag; nothing is kept of the tag, nor of metadata.
 #[derive(Clone, Copy)]
 pub struct Form<'a> {
     nodes: &'a [Node],

@@ -8,6 +8,7 @@ ghost use Rattle.edn.specs.Meaning.Numbers as Spec;
 
 use crate::atom::Atom;
 use crate::bytes::{digits_len, hexdigits_len};
+use crate::character::is_text;
 use std::alloc::{AllocError, Global};
 
 /// The largest number of 63 bits.
@@ -198,6 +199,13 @@ pub(crate) fn value_of(digit: u8) -> u8
         b'a'..=b'z' => digit - b'a' + 10,
         _ => 36,
     }
+}
+
+/// Returns whether this stands after the `##` of an infinity, or of what is no number.
+pub(crate) fn is_symbolic(name: &[u8]) -> bool
+    ensures { result ≡ Spec.is_symbolic name.now }
+{
+    is_text(name, b"Inf") || is_text(name, b"-Inf") || is_text(name, b"NaN")
 }
 
 fn sign_of(text: &[u8]) -> Sign

@@ -20,10 +20,10 @@ pub enum Problem {
     /// The last key of a map has no value.
     #[error("a key without a value")]
     NoValue,
-    /// No form follows a tag or `#_`.
-    #[error("no form after a tag or `#_`")]
+    /// No form follows a tag, `^` with its metadata, or `#_`, or no metadata follows `^`.
+    #[error("no form after a tag, `^` or `#_`")]
     NoForm,
-    /// Forms, tags and `#_` are nested more than [`MAX_DEPTH`](crate::MAX_DEPTH) deep.
+    /// Forms, tags, `^` and `#_` are nested more than [`MAX_DEPTH`](crate::MAX_DEPTH) deep.
     #[error("forms nested too deep")]
     Depth,
     /// A form follows the vector that the text begins with.

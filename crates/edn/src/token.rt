@@ -1,6 +1,6 @@
 //! Tokens.
 
-ghost use Rattle.std.specs.Prelude.{◌≡◌, ◌≤◌, ◌<◌, ◌+◌, ℕ, List, length, take, drop, IfOk, IfErr};
+ghost use Rattle.std.specs.Prelude.{◌≡◌, ◌≤◌, ◌<◌, ◌+◌, ◌∷◌, ℕ, List, length, take, drop, IfOk, IfErr};
 ghost use Rattle.std.specs.List.{prefix_len};
 ghost use Rattle.edn.specs.Meaning.Bytes.{is_word_byte};
 ghost use Rattle.edn.specs.Computing.Tokens as Spec;
@@ -12,6 +12,7 @@ use crate::bytes::word_len;
 use crate::character::is_character;
 use crate::leaf::Leaf;
 use crate::names::is_tag;
+use crate::number::is_symbolic;
 use crate::plain::{plain_keyword, plain_nil};
 use crate::read_fault::Problem;
 use crate::string::{Quoted, string};
@@ -51,6 +52,8 @@ pub(crate) enum Token {
     Discard,
     /// `#` and a symbol
     Tag,
+    /// `^` or `#^`
+    Meta,
     /// `nil`
     Nil,
     /// An integer of 64 bits.
@@ -101,13 +104,14 @@ pub(crate) fn read_token<'a>(
         [] | [b';', ..] => Ok(no_token(beyond)),
         [b'"', text @ ..] => quoted(alloc, text, beyond, leaf),
         [b'\\', text @ ..] => character(alloc, text, beyond, leaf),
-        [b'#', text @ ..] => Ok(dispatched(text, beyond)),
+        [b'#', text @ ..] => dispatched(alloc, text, beyond, leaf),
         [b'(', rest @ ..] => Ok(Lexed::Token(Token::Open(Opening::List), rest)),
         [b'[', rest @ ..] => Ok(Lexed::Token(Token::Open(Opening::Vector), rest)),
         [b'{', rest @ ..] => Ok(Lexed::Token(Token::Open(Opening::Map), rest)),
         [b')', rest @ ..] => Ok(Lexed::Token(Token::Close(Closing::Round), rest)),
         [b']', rest @ ..] => Ok(Lexed::Token(Token::Close(Closing::Square), rest)),
         [b'}', rest @ ..] => Ok(Lexed::Token(Token::Close(Closing::Curly), rest)),
+        [b'^', rest @ ..] => Ok(Lexed::Token(Token::Meta, rest)),
         _ => word_token(alloc, bytes, beyond, leaf),
     }
 }
@@ -199,16 +203,55 @@ fn character<'a>(
 
 /// Reads what begins with `#`, after it.
 #[inline(never)]
-fn dispatched(text: &[u8], beyond: Beyond) -> Lexed<'_>
-    ensures exact { (f : LeafValue) → lexed_of f result ≡ Spec.dispatched beyond text.now }
-    ensures within { IsWithin beyond text.now result }
+fn dispatched<'a>(
+    alloc: Global,
+    text: &'a [u8],
+    beyond: Beyond,
+    leaf: &mut Leaf,
+) -> Result<Lexed<'a>, AllocError>
+    ensures exact { IfOk result (λ l. lexed_of leaf.new l ≡ Spec.dispatched beyond text.now) }
+    ensures within { IfOk result (IsWithin beyond text.now) }
 {
     match text {
-        [] => unfinished(beyond),
-        [b'{', rest @ ..] => Lexed::Token(Token::Open(Opening::Set), rest),
-        [b'_', rest @ ..] => Lexed::Token(Token::Discard, rest),
-        _ => tag(text, beyond),
+        [] => Ok(unfinished(beyond)),
+        [b'{', rest @ ..] => Ok(Lexed::Token(Token::Open(Opening::Set), rest)),
+        [b'_', rest @ ..] => Ok(Lexed::Token(Token::Discard, rest)),
+        [b'^', rest @ ..] => Ok(Lexed::Token(Token::Meta, rest)),
+        [b'#', text @ ..] => symbolic(alloc, text, beyond, leaf),
+        _ => Ok(tag(text, beyond)),
     }
+}
+
+/// Reads an infinity, or what is no number, after its `##`.
+fn symbolic<'a>(
+    alloc: Global,
+    text: &'a [u8],
+    beyond: Beyond,
+    leaf: &mut Leaf,
+) -> Result<Lexed<'a>, AllocError>
+    ensures exact { IfOk result (λ l. lexed_of leaf.new l ≡ Spec.symbolic_token beyond text.now) }
+    ensures within { IfOk result (IsWithin beyond text.now) }
+{
+    let (name, rest) = text.split_at(word_len(text));
+    if may_go_on(rest, beyond) {
+        return Ok(Lexed::More);
+    }
+    if !is_symbolic(name) {
+        return Ok(Lexed::Bad(Problem::Token));
+    }
+    put(&mut leaf.atom, Atom::Number(after_hashes(alloc, name)?));
+    Ok(Lexed::Token(Token::Leaf, rest))
+}
+
+/// Returns the name after `##`.
+fn after_hashes(alloc: Global, name: &[u8]) -> Result<Vec<u8>, AllocError>
+    ensures { IfOk result (λ v. v.items ≡ 35 ∷ 35 ∷ name.now) }
+{
+    let mut text = Vec::new(alloc);
+    text.push(b'#')?;
+    text.push(b'#')?;
+    text.extend_from_slice(name)?;
+    Ok(text)
 }
 
 /// Reads a tag after its `#`.

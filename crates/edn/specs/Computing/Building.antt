@@ -14,12 +14,14 @@ use Rattle.edn.specs.declared.token.Closing.{Closing}
 use Rattle.edn.specs.declared.token.Closing.TheVariants as closing
 use Rattle.edn.specs.Meaning.Forms.{Form, list, vector, set, entries, forms_of, pairs_of}
 use Rattle.edn.specs.Meaning.Tapes.{paired}
-use Rattle.edn.specs.Meaning.Tokens.{Token, opens, closes, discard, tag, leaf}
+use Rattle.edn.specs.Meaning.Tokens.{Token, opens, closes, discard, tag, meta, leaf}
 
--- what is open: nothing, a tag, a `#_`, or a collection with its forms so far; of a map, a key may lack its value
+-- what is open: nothing, a tag, a `^` whose metadata is to come, a `#_`, or a collection with its forms so far; of a map, a
+-- key may lack its value. A `^` whose metadata has come is as a tag
 pub data Frame : Type 0 where
   top : Frame
   tagged : Frame
+  describing : Frame
   discarding : Frame
   in_list : List Form → Frame
   in_vector : List Form → Frame
@@ -42,6 +44,7 @@ row_frame Of.Map fs = in_map (paired fs) (unpaired fs)
 abbrev pub open_frame : Open → Frame
 open_frame (In.Top n) = top
 open_frame In.Tag = tagged
+open_frame In.Meta = describing
 open_frame In.Discard = discarding
 open_frame (In.Row row n) = row_frame row []
 
@@ -50,6 +53,7 @@ abbrev pub frames : List Open → List Form → List Frame
 frames [] fs = []
 frames (In.Top n ∷ os) fs = top ∷ frames os (drop n fs)
 frames (In.Tag ∷ os) fs = tagged ∷ frames os fs
+frames (In.Meta ∷ os) fs = describing ∷ frames os fs
 frames (In.Discard ∷ os) fs = discarding ∷ frames os fs
 frames (In.Row row n ∷ os) fs = row_frame row (reverse (take n fs)) ∷ frames os (drop n fs)
 
@@ -61,6 +65,7 @@ abbrev pub is_top : List Frame → Bool
 is_top [] = true
 is_top (top ∷ outer) = true
 is_top (tagged ∷ outer) = false
+is_top (describing ∷ outer) = false
 is_top (discarding ∷ outer) = false
 is_top (in_list fs ∷ outer) = false
 is_top (in_vector fs ∷ outer) = false
@@ -70,6 +75,7 @@ is_top (in_map ps k ∷ outer) = false
 -- what is wrong with a text that ends there
 abbrev pub problem_left : List Frame → Problem
 problem_left (tagged ∷ outer) = problem.NoForm
+problem_left (describing ∷ outer) = problem.NoForm
 problem_left (discarding ∷ outer) = problem.NoForm
 problem_left _ = problem.Unclosed
 
@@ -83,6 +89,7 @@ abbrev pub leave_tags : List Frame → List Frame
 leave_tags [] = top ∷ []
 leave_tags (tagged ∷ outer) = leave_tags outer
 leave_tags (top ∷ outer) = top ∷ outer
+leave_tags (describing ∷ outer) = describing ∷ outer
 leave_tags (discarding ∷ outer) = discarding ∷ outer
 leave_tags (in_list fs ∷ outer) = in_list fs ∷ outer
 leave_tags (in_vector fs ∷ outer) = in_vector fs ∷ outer
@@ -97,6 +104,7 @@ Step = List Frame × Option Form
 abbrev pub into_map : Frame → Form → Frame
 into_map top f = top
 into_map tagged f = tagged
+into_map describing f = describing
 into_map discarding f = discarding
 into_map (in_list fs) f = in_list fs
 into_map (in_vector fs) f = in_vector fs
@@ -107,6 +115,7 @@ into_map (in_map ps (Some k)) f = in_map (ps ++ (k, f) ∷ []) None
 abbrev pub into_frame : Frame → List Frame → Form → Step
 into_frame top outer f = (top ∷ outer, Some f)
 into_frame tagged outer f = (tagged ∷ outer, Some f)
+into_frame describing outer f = (tagged ∷ outer, None)
 into_frame discarding outer f = (or_top outer, None)
 into_frame (in_list fs) outer f = (in_list (fs ++ f ∷ []) ∷ outer, None)
 into_frame (in_vector fs) outer f = (in_vector (fs ++ f ∷ []) ∷ outer, None)
@@ -131,6 +140,7 @@ opened opening.Map = in_map [] None
 abbrev pub problem_at : Frame → Closing → Option Problem
 problem_at top b = Some problem.Unopened
 problem_at tagged b = Some problem.NoForm
+problem_at describing b = Some problem.NoForm
 problem_at discarding b = Some problem.NoForm
 problem_at (in_list fs) closing.Round = None
 problem_at (in_list fs) closing.Square = Some problem.Unopened
@@ -149,6 +159,7 @@ problem_at (in_map ps k) closing.Curly = None
 abbrev pub collection : Frame → Option Form
 collection top = None
 collection tagged = None
+collection describing = None
 collection discarding = None
 collection (in_list fs) = Some (list (forms_of fs))
 collection (in_vector fs) = Some (vector (forms_of fs))
@@ -171,6 +182,7 @@ step stack (opens b) = Ok (opened b ∷ stack, None)
 step stack (closes b) = close stack b
 step stack discard = Ok (discarding ∷ stack, None)
 step stack tag = Ok (tagged ∷ stack, None)
+step stack meta = Ok (describing ∷ stack, None)
 step stack (leaf f) = Ok (put stack f)
 
 -- one more is open

@@ -15,10 +15,11 @@ use Rattle.edn.specs.declared.token.Lexed.{Lexed as LexedValue}
 use Rattle.edn.specs.declared.token.Lexed.TheVariants as Read
 use Rattle.edn.specs.Meaning.Bytes.{is_word_byte}
 use Rattle.edn.specs.Meaning.Characters.{is_character}
-use Rattle.edn.specs.Meaning.Forms.{Form, nil, integer, string, character, keyword, atom_of}
+use Rattle.edn.specs.Meaning.Forms.{Form, nil, integer, number, string, character, keyword, atom_of}
 use Rattle.edn.specs.Meaning.Names.{is_tag}
+use Rattle.edn.specs.Meaning.Numbers.{is_symbolic}
 use Rattle.edn.specs.Meaning.Shorts.{short_text}
-use Rattle.edn.specs.Meaning.Tokens.{Token, opens, closes, discard, tag, leaf}
+use Rattle.edn.specs.Meaning.Tokens.{Token, opens, closes, discard, tag, meta, leaf}
 use Rattle.edn.specs.Meaning.Words.{word_of}
 use Rattle.edn.specs.Computing.Strings.{Quoted, closed, open_, bad as no_string, quoted_at}
 
@@ -35,6 +36,7 @@ token_of f (In.Open b) = opens b
 token_of f (In.Close b) = closes b
 token_of f In.Discard = discard
 token_of f In.Tag = tag
+token_of f In.Meta = meta
 token_of f In.Nil = leaf nil
 token_of f (In.Integer z) = leaf (integer z)
 token_of f In.Keyword = leaf (keyword (short_text f.name))
@@ -107,11 +109,23 @@ tag_at beyond name rest =
 abbrev pub tag_token : Beyond → List ℕ → Lexed
 tag_token beyond text = tag_at beyond (take (prefix_len is_word_byte text) text) (drop (prefix_len is_word_byte text) text)
 
+abbrev pub symbolic_at : Beyond → List ℕ → List ℕ → Lexed
+symbolic_at beyond name rest =
+    if may_go_on rest beyond then more else
+    if is_symbolic name then token (leaf (number (35 ∷ 35 ∷ name))) rest else bad problem.Token
+
+-- after `##`
+abbrev pub symbolic_token : Beyond → List ℕ → Lexed
+symbolic_token beyond text =
+    symbolic_at beyond (take (prefix_len is_word_byte text) text) (drop (prefix_len is_word_byte text) text)
+
 abbrev pub dispatched : Beyond → List ℕ → Lexed
 dispatched beyond [] = unfinished beyond
 dispatched beyond (b ∷ bs) =
     if b == 123 then token (opens opening.Set) bs else
-    if b == 95 then token discard bs else tag_token beyond (b ∷ bs)
+    if b == 95 then token discard bs else
+    if b == 94 then token meta bs else
+    if b == 35 then symbolic_token beyond bs else tag_token beyond (b ∷ bs)
 
 abbrev pub of_word : Option Form → List ℕ → Lexed
 of_word (Some f) rest = token (leaf f) rest
@@ -135,4 +149,5 @@ token_at beyond (b ∷ bs) =
     if b == 123 then token (opens opening.Map) bs else
     if b == 41 then token (closes closing.Round) bs else
     if b == 93 then token (closes closing.Square) bs else
-    if b == 125 then token (closes closing.Curly) bs else word_token beyond (b ∷ bs)
+    if b == 125 then token (closes closing.Curly) bs else
+    if b == 94 then token meta bs else word_token beyond (b ∷ bs)

@@ -1,11 +1,12 @@
 -- What is open, and how many forms it has.
 use Rattle.std.specs.Prelude.{ℕ, Bool, true, false}
 use Rattle.edn.specs.declared.builder.Open.{Open}
-use Rattle.edn.specs.declared.builder.Open.TheVariants.{Top, Tag, Discard, Row}
+use Rattle.edn.specs.declared.builder.Open.TheVariants.{Top, Tag, Meta, Discard, Row}
 
 abbrev pub count_in : Open → ℕ
 count_in (Top n) = n
 count_in Tag = 0
+count_in Meta = 0
 count_in Discard = 0
 count_in (Row row n) = n
 

@@ -14,7 +14,7 @@ use Rattle.edn.specs.Meaning.Forms.{Form}
 use Rattle.edn.specs.Meaning.Grammar.{AreItems}
 use Rattle.edn.specs.Meaning.Lexing.{IsGap, IsBlank, Begins, Lexes}
 use Rattle.edn.specs.Meaning.Lines.{line_after}
-use Rattle.edn.specs.Meaning.Nesting.{IsOpening, IsBefore, AreTooDeep}
+use Rattle.edn.specs.Meaning.Nesting.{IsOpening, IsOpenAfter, IsBefore, AreTooDeep}
 use Rattle.edn.specs.Meaning.Readers.{AreNext}
 use Rattle.edn.specs.Meaning.Strings.{IsInside, escape_len}
 use Rattle.edn.specs.Meaning.Texts.{AreAll, AreSoFar}
@@ -55,10 +55,10 @@ IsWrongThere _ bytes = ⊥
 -- ---- tokens that can't stand there
 
 -- of these tokens, this one is the last that opens what isn't complete: a bracket that isn't closed, with these forms behind
--- it, or a tag or `#_` without its form
+-- it, or a tag, `^` or `#_` without its form
 abbrev pub IsInnermost : List Token → Token → List Form → Type 0
 IsInnermost ts t fs =
-    (us vs : List Token) × IsOpening t × (IsBefore t → fs ≡ []) × AreItems vs fs × (ts ≡ us ++ t ∷ vs)
+    (us vs : List Token) × IsOpening t × IsOpenAfter t fs × AreItems vs fs × (ts ≡ us ++ t ∷ vs)
 
 -- the bracket that closes what this one opens
 abbrev pub closing_of : Opening → Closing
@@ -80,7 +80,8 @@ abbrev pub IsWrongBehind : Problem → List Token → Token → Type 0
 IsWrongBehind problem.Unopened ts t =
     (b : Closing) × (t ≡ closes b) × (IsNoneOpen ts ⊎ ((o : Opening) × (fs : List Form) × IsInnermost ts (opens o) fs
     × (closing_of o ≢ b)))
-IsWrongBehind problem.NoForm ts t = (b : Closing) × (t ≡ closes b) × ((o : Token) × IsBefore o × IsInnermost ts o [])
+IsWrongBehind problem.NoForm ts t =
+    (b : Closing) × (t ≡ closes b) × ((o : Token) × (fs : List Form) × IsBefore o × IsInnermost ts o fs)
 IsWrongBehind problem.NoValue ts t =
     (t ≡ closes closing.Curly) × ((fs : List Form) × IsInnermost ts (opens opening.Map) fs × (length fs % 2 ≡ 1))
 IsWrongBehind problem.AfterVector ts t =
@@ -90,7 +91,7 @@ IsWrongBehind _ ts t = ⊥
 -- this is wrong with a text that ends behind these tokens
 abbrev pub IsWrongAtEnd : Problem → List Token → Type 0
 IsWrongAtEnd problem.Unclosed ts = (o : Opening) × (fs : List Form) × IsInnermost ts (opens o) fs
-IsWrongAtEnd problem.NoForm ts = (o : Token) × IsBefore o × IsInnermost ts o []
+IsWrongAtEnd problem.NoForm ts = (o : Token) × (fs : List Form) × IsBefore o × IsInnermost ts o fs
 IsWrongAtEnd _ ts = ⊥
 
 -- ---- texts

@@ -3,13 +3,15 @@ use Rattle.std.specs.Prelude.{List, [], ◌∷◌, ◌++◌}
 use Rattle.edn.specs.declared.token.Opening.TheVariants as opening
 use Rattle.edn.specs.declared.token.Closing.TheVariants as closing
 use Rattle.edn.specs.Meaning.Forms.{Form, list, vector, set, entries, forms_of, pairs_of}
-use Rattle.edn.specs.Meaning.Tokens.{Token, opens, closes, discard, tag, leaf}
+use Rattle.edn.specs.Meaning.Tokens.{Token, opens, closes, discard, tag, meta, leaf}
 
 mutual
-  -- a form: one token, or those of a collection between its brackets; a tag may stand before it, and `#_` with a form
+  -- a form: one token, or those of a collection between its brackets; a tag may stand before it, `^` with its metadata, which
+  -- is a form too, and `#_` with a form
   pub data IsItem : List Token → Form → Type 0 where
     a_leaf : {f : Form} → IsItem (leaf f ∷ []) f
     a_tagged : {ts : List Token} {f : Form} → IsItem ts f → IsItem (tag ∷ ts) f
+    a_described : {ds ts : List Token} {g f : Form} → IsItem ds g → IsItem ts f → IsItem (meta ∷ ds ++ ts) f
     a_later : {ds ts : List Token} {g f : Form} → IsItem ds g → IsItem ts f → IsItem (discard ∷ ds ++ ts) f
     a_list : {ts : List Token} {fs : List Form} → AreItems ts fs
         → IsItem (opens opening.List ∷ ts ++ closes closing.Round ∷ []) (list (forms_of fs))

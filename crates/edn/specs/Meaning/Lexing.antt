@@ -5,10 +5,11 @@ use Rattle.edn.specs.declared.token.Opening.TheVariants as opening
 use Rattle.edn.specs.declared.token.Closing.TheVariants as closing
 use Rattle.edn.specs.Meaning.Bytes.{is_space, is_end, is_word_byte}
 use Rattle.edn.specs.Meaning.Characters.{is_character}
-use Rattle.edn.specs.Meaning.Forms.{Form, string, character}
+use Rattle.edn.specs.Meaning.Forms.{Form, number, string, character}
 use Rattle.edn.specs.Meaning.Names.{is_tag}
+use Rattle.edn.specs.Meaning.Numbers.{is_symbolic}
 use Rattle.edn.specs.Meaning.Strings.{IsInside}
-use Rattle.edn.specs.Meaning.Tokens.{Token, opens, closes, discard, tag, leaf}
+use Rattle.edn.specs.Meaning.Tokens.{Token, opens, closes, discard, tag, meta, leaf}
 use Rattle.edn.specs.Meaning.Words.{word_of}
 
 -- white space, and comments up to their line feeds
@@ -45,6 +46,10 @@ pub data Begins : Token → List ℕ → List ℕ → Type 0 where
   square_closes : {rest : List ℕ} → Begins (closes closing.Square) (93 ∷ rest) rest
   curly_closes : {rest : List ℕ} → Begins (closes closing.Curly) (125 ∷ rest) rest
   discards : {rest : List ℕ} → Begins discard (35 ∷ 95 ∷ rest) rest
+  metas : {rest : List ℕ} → Begins meta (94 ∷ rest) rest
+  old_metas : {rest : List ℕ} → Begins meta (35 ∷ 94 ∷ rest) rest
+  symbolics : {rest : List ℕ} (name : List ℕ) → IsWord name → is_symbolic name ≡ true → Ends rest
+      → Begins (leaf (number (35 ∷ 35 ∷ name))) (35 ∷ 35 ∷ (name ++ rest)) rest
   tags : {rest : List ℕ} (name : List ℕ) → IsWord name → is_tag name ≡ true → Ends rest → Begins tag (35 ∷ (name ++ rest)) rest
   quotes : {bytes rest : List ℕ} (inside : List ℕ) → IsInside (34 ∷ rest) inside bytes
       → Begins (leaf (string bytes)) (34 ∷ (inside ++ 34 ∷ rest)) rest

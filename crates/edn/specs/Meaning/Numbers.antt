@@ -1,7 +1,8 @@
 -- The number that a text is.
-use Rattle.std.specs.Prelude.{ℕ, zero, suc, ◌+◌, ◌-◌, ◌*◌, ◌^◌, ℤ, pos, negsuc, Bool, true, false, not, ◌&&◌, ◌||◌, ◌==◌, nat_le, nat_lt}
-use Rattle.std.specs.Prelude.{List, [], ◌∷◌, length, take, drop, Option, Some, None, option_and_then, if◌then◌else◌}
+use Rattle.std.specs.Prelude.{ℕ, zero, suc, ◌+◌, ◌-◌, ◌*◌, ◌^◌, ℤ, pos, negsuc, Bool, true, false, not, ◌&&◌, ◌||◌, ◌==◌, nat_eq, nat_le, nat_lt}
+use Rattle.std.specs.Prelude.{List, [], ◌∷◌, length, take, drop, codes, Option, Some, None, option_and_then, if◌then◌else◌}
 use Rattle.std.specs.List.{prefix_len, list_all}
+use Rattle.std.specs.Cmp.Lexicographic.{pointwise}
 use Rattle.std.specs.Char.{digit_value, is_ascii_digit, is_ascii_hexdigit, is_digit}
 use Rattle.edn.specs.declared.number.Sign.{Sign}
 use Rattle.edn.specs.declared.number.Sign.TheVariants.{Plus, Minus}
@@ -153,6 +154,11 @@ other_form text (d ∷ ds) (b ∷ bs) =
 abbrev pub number_parts : List ℕ → List ℕ → List ℕ → Option Form
 number_parts text whole rest =
     if is_integer_end rest then integer_form text (radix_of whole) whole else other_form text whole rest
+
+-- the infinities, and what is no number, are written so after `##`
+abbrev pub is_symbolic : List ℕ → Bool
+is_symbolic name =
+    pointwise nat_eq name (codes "Inf") || pointwise nat_eq name (codes "-Inf") || pointwise nat_eq name (codes "NaN")
 
 -- the number that a text is, if it is one
 unfoldable pub number_of : List ℕ → Option Form

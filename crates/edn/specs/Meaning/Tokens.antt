@@ -5,12 +5,13 @@ use Rattle.edn.specs.declared.token.Opening.TheVariants.{Vector}
 use Rattle.edn.specs.declared.token.Closing.{Closing}
 use Rattle.edn.specs.Meaning.Forms.{Form}
 
--- a bracket, `#_`, a `#` and a symbol, or a form that is no collection
+-- a bracket, `#_`, a `#` and a symbol, `^` or `#^`, or a form that is no collection
 pub data Token : Type 0 where
   opens : Opening → Token
   closes : Closing → Token
   discard : Token
   tag : Token
+  meta : Token
   leaf : Form → Token
 
 -- `[`

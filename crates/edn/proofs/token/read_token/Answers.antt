@@ -18,7 +18,8 @@ returns-in-92-clause-exact c =
 pub returns-in-35-clause-exact : goal.returns-in-35-clause-exact
 unfolding token_at
 returns-in-35-clause-exact c =
-    c.dispatched.ensures.exact c.args.leaf.now ∙ ap (token_at c.args.beyond) (whole 35 c.args.bytes.now c.in-35.len_at_least (search rules))
+    subst (λ bytes. IfOk c.dispatched.result (λ l. lexed_of c.dispatched.new.leaf l ≡ token_at c.args.beyond bytes))
+    (whole 35 c.args.bytes.now c.in-35.len_at_least (search rules)) c.dispatched.ensures.exact
 
 pub returns-in-40-clause-exact : goal.returns-in-40-clause-exact
 unfolding token_at
@@ -43,3 +44,7 @@ returns-in-93-clause-exact c = ap (token_at c.args.beyond) (whole 93 c.args.byte
 pub returns-in-125-clause-exact : goal.returns-in-125-clause-exact
 unfolding token_at
 returns-in-125-clause-exact c = ap (token_at c.args.beyond) (whole 125 c.args.bytes.now c.in-125.len_at_least (search rules))
+
+pub returns-in-94-clause-exact : goal.returns-in-94-clause-exact
+unfolding token_at
+returns-in-94-clause-exact c = ap (token_at c.args.beyond) (whole 94 c.args.bytes.now c.in-94.len_at_least (search rules))
