@@ -13,7 +13,7 @@ use Rattle.edn.specs.Meaning.Blame.{BeginOther, IsCut, IsOpenEscape, IsOpenStrin
 use Rattle.edn.specs.Meaning.Bytes.{is_space, is_word_byte}
 use Rattle.edn.specs.Meaning.Characters.{is_character}
 use Rattle.edn.specs.Meaning.Forms.{Form}
-use Rattle.edn.specs.Meaning.Names.{is_tag}
+use Rattle.edn.specs.Meaning.Names.{is_name, is_tag}
 use Rattle.edn.specs.Meaning.Numbers.{is_symbolic}
 use Rattle.edn.specs.Meaning.Lines.{IsAt}
 use Rattle.edn.specs.Meaning.Reading.{IsLinked, PassesGap}
@@ -24,7 +24,7 @@ use Rattle.edn.specs.Computing.Gaps.{after_gap_in}
 use Rattle.edn.specs.Computing.Stages.{IsBadIn}
 use Rattle.edn.specs.Computing.Strings.{Quoted, closed, open_, bad as no_string, with_bytes, with_character, after_escape, escaped_at, quoted_at}
 use Rattle.edn.specs.Computing.Tokens.{Lexed, token, end, more, bad, no_token, token_at, BeginsComment}
-use Rattle.edn.specs.Computing.Tokens.{after_string, string_token, character_token, dispatched, of_word}
+use Rattle.edn.specs.Computing.Tokens.{after_string, string_token, character_token, map_at, dispatched, of_word}
 use Rattle.edn.proofs.Choices.{chosen, ne_from}
 use Rattle.edn.proofs.GapTexts.{IsPast, past_space}
 use Rattle.edn.proofs.Lexed.{IsBeyond}
@@ -127,6 +127,10 @@ no_hash : (b : ℕ) (bs : List ℕ) → IsCut (35 ∷ b ∷ bs) → ⊥
 no_hash b bs =
     not_cut 35 (b ∷ bs) (λ no _. eqb-false 35 34 refl no) (λ no _. eqb-false 35 92 refl no) (λ _ none. some_bytes b bs none)
 
+map_tells : (b : ℕ) (bs rest : List ℕ) → Tells (35 ∷ b ∷ bs) (map_at rest)
+map_tells b bs [] = no_hash b bs
+map_tells b bs (c ∷ cs) = either (Tells (35 ∷ b ∷ bs)) (c == 123) _ (bad problem.Token) (λ _. tt) (λ _. no_hash b bs)
+
 dispatched_tells : (bs : List ℕ) → Tells (35 ∷ bs) (dispatched Nothing bs)
 dispatched_tells [] = inr (inr refl, refl)
 dispatched_tells (b ∷ bs) =
@@ -135,7 +139,10 @@ dispatched_tells (b ∷ bs) =
     (λ _. either (Tells (35 ∷ b ∷ bs)) (b == 94) _ _ (λ _. tt)
     (λ _. either (Tells (35 ∷ b ∷ bs)) (b == 35) _ _
     (λ _. either (Tells (35 ∷ b ∷ bs)) (is_symbolic (take (prefix_len is_word_byte bs) bs)) _ (bad problem.Token) (λ _. tt) (λ _. no_hash b bs))
-    (λ _. either (Tells (35 ∷ b ∷ bs)) (is_tag (take (prefix_len is_word_byte (b ∷ bs)) (b ∷ bs))) _ (bad problem.Token) (λ _. tt) (λ _. no_hash b bs)))))
+    (λ _. either (Tells (35 ∷ b ∷ bs)) (b == 58) _ _
+    (λ _. either (Tells (35 ∷ b ∷ bs)) (is_name (take (prefix_len is_word_byte bs) bs)) _ (bad problem.Token)
+    (λ _. map_tells b bs (drop (prefix_len is_word_byte bs) bs)) (λ _. no_hash b bs))
+    (λ _. either (Tells (35 ∷ b ∷ bs)) (is_tag (take (prefix_len is_word_byte (b ∷ bs)) (b ∷ bs))) _ (bad problem.Token) (λ _. tt) (λ _. no_hash b bs))))))
 
 word_tells : (b : ℕ) (bs rest : List ℕ) (o : Option Form) → b ≢ 34 → b ≢ 92 → b ≢ 35 → Tells (b ∷ bs) (of_word o rest)
 word_tells b bs rest None q s h = not_cut b bs (λ no _. q no) (λ no _. s no) (λ no _. h no)

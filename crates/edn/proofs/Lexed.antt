@@ -9,14 +9,14 @@ use Rattle.edn.specs.declared.token.Beyond.TheVariants.{Unread, Nothing}
 use Rattle.edn.specs.Meaning.Bytes.{is_word_byte}
 use Rattle.edn.specs.Meaning.Characters.{is_character}
 use Rattle.edn.specs.Meaning.Forms.{Form, number, string, character}
-use Rattle.edn.specs.Meaning.Names.{is_tag}
+use Rattle.edn.specs.Meaning.Names.{is_name, is_tag}
 use Rattle.edn.specs.Meaning.Numbers.{is_symbolic}
 use Rattle.edn.specs.Meaning.Tokens.{Token, opens, discard, tag, meta, leaf}
 use Rattle.edn.specs.Meaning.Words.{word_of}
-use Rattle.edn.specs.Meaning.Lexing.{Ends, IsWord, Begins, round_opens, square_opens, curly_opens, set_opens, round_closes, square_closes, curly_closes, discards, metas, old_metas, symbolics, tags, quotes, characters, words}
+use Rattle.edn.specs.Meaning.Lexing.{Ends, IsWord, Begins, round_opens, square_opens, curly_opens, set_opens, round_closes, square_closes, curly_closes, discards, curly_opens_within, metas, old_metas, symbolics, tags, quotes, characters, words}
 use Rattle.edn.specs.Computing.Strings.{Quoted, closed, open_, bad as no_string, quoted_at}
 use Rattle.edn.specs.Computing.Tokens.{token, more, bad, no_token, unfinished, may_go_on, after_string}
-use Rattle.edn.specs.Computing.Tokens.{character_at, character_token, tag_token, symbolic_token, dispatched, of_word, word_token, token_at}
+use Rattle.edn.specs.Computing.Tokens.{character_at, character_token, tag_token, symbolic_token, map_at, namespace_token, dispatched, of_word, word_token, token_at}
 use Rattle.edn.proofs.Choices.{chosen, ne_from}
 use Rattle.edn.proofs.StringTexts.{inside_more, string_read}
 use Rattle.edn.proofs.Spans.{span_ends, span_word}
@@ -96,6 +96,30 @@ symbolic_so beyond text after t rest b e =
       ]
     ]
 
+map_so : (name r after : List ℕ) (t : Token) (rest : List ℕ) → IsWord name → is_name name ≡ true → map_at r ≡ token t rest
+    → Begins t (35 ∷ 58 ∷ (name ++ (r ++ after))) (rest ++ after)
+map_so name [] after t rest w g e = absurd (cc)
+map_so name (b ∷ bs) after t rest w g e =
+    elim (chosen (b == 123) _ _ _ e) [
+      | inl v ↦ same (opens opening.Map) t bs rest v.1 (35 ∷ 58 ∷ (name ++ b ∷ (bs ++ after))) after
+          (subst (λ x. Begins (opens opening.Map) (35 ∷ 58 ∷ (name ++ x ∷ (bs ++ after))) (bs ++ after)) (sym (eqb-true b 123 v.0))
+          (curly_opens_within name w g))
+      | inr v ↦ absurd (let no : bad _ ≡ token t rest = v.1 in cc)
+    ]
+
+namespace_so : (beyond : Beyond) (text after : List ℕ) (t : Token) (rest : List ℕ)
+    → namespace_token beyond text ≡ token t rest → BeginsWith (35 ∷ 58 ∷ text) t rest after
+namespace_so beyond text after t rest e =
+    let n = prefix_len is_word_byte text in
+    elim (chosen (may_go_on (drop n text) beyond) _ _ _ e) [
+      | inl w ↦ absurd (let no : more ≡ token t rest = w.1 in cc)
+      | inr w ↦ elim (chosen (is_name (take n text)) _ _ _ w.1) [
+        | inl v ↦ subst (λ x. Begins t (35 ∷ 58 ∷ x) (rest ++ after)) (sym (parted n text after))
+            (map_so (take n text) (drop n text) after t rest (span_word text) v.0 v.1)
+        | inr v ↦ absurd (let no : bad _ ≡ token t rest = v.1 in cc)
+      ]
+    ]
+
 dispatched_so : (beyond : Beyond) (text after : List ℕ) (t : Token) (rest : List ℕ) → IsBeyond beyond after
     → dispatched beyond text ≡ token t rest → BeginsWith (35 ∷ text) t rest after
 dispatched_so beyond [] after t rest b e = absurd (unfinished_so beyond t rest e)
@@ -111,7 +135,10 @@ dispatched_so beyond (c ∷ bs) after t rest b e =
               (subst (λ y. Begins meta (35 ∷ y ∷ (bs ++ after)) (bs ++ after)) (sym (eqb-true c 94 x.0)) old_metas)
           | inr x ↦ elim (chosen (c == 35) _ _ _ x.1) [
             | inl z ↦ subst (λ y. BeginsWith (35 ∷ y ∷ bs) t rest after) (sym (eqb-true c 35 z.0)) (symbolic_so beyond bs after t rest b z.1)
-            | inr z ↦ tag_so beyond (c ∷ bs) after t rest b z.1
+            | inr z ↦ elim (chosen (c == 58) _ _ _ z.1) [
+              | inl k ↦ subst (λ y. BeginsWith (35 ∷ y ∷ bs) t rest after) (sym (eqb-true c 58 k.0)) (namespace_so beyond bs after t rest k.1)
+              | inr k ↦ tag_so beyond (c ∷ bs) after t rest b k.1
+            ]
           ]
         ]
       ]

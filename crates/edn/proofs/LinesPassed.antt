@@ -11,7 +11,7 @@ use Rattle.edn.specs.declared.token.Token.{Token as TokenValue}
 use Rattle.edn.specs.declared.token.Token.TheVariants as In
 use Rattle.edn.specs.Meaning.Bytes.{is_space, is_end, is_word_byte}
 use Rattle.edn.specs.Meaning.Forms.{character, string}
-use Rattle.edn.specs.Meaning.Lexing.{IsWord, IsLastLine, Begins, round_opens, square_opens, curly_opens, set_opens, round_closes, square_closes, curly_closes, discards, metas, old_metas, symbolics, tags, quotes, characters, words}
+use Rattle.edn.specs.Meaning.Lexing.{IsWord, IsLastLine, Begins, round_opens, square_opens, curly_opens, set_opens, round_closes, square_closes, curly_closes, discards, curly_opens_within, metas, old_metas, symbolics, tags, quotes, characters, words}
 use Rattle.edn.specs.Meaning.Lines.{IsAt, feeds, line_after}
 use Rattle.edn.specs.Meaning.Tokens.{Token, leaf}
 use Rattle.edn.specs.Computing.Tokens.{token, token_of, token_at, BeginsComment}
@@ -115,6 +115,11 @@ no_feeds round_closes other = (41 ∷ [], refl, refl)
 no_feeds square_closes other = (93 ∷ [], refl, refl)
 no_feeds curly_closes other = (125 ∷ [], refl, refl)
 no_feeds discards other = (35 ∷ 95 ∷ [], refl, refl)
+no_feeds {rest = rest} (curly_opens_within name w g) other = (
+  35 ∷ 58 ∷ (name ++ 123 ∷ []),
+  ap (λ x. 35 ∷ 58 ∷ x) (sym (append_assoc name (123 ∷ []) rest)),
+  feeds_append name (123 ∷ []) ∙ plus_none (feeds name) ∙ word_feeds name w,
+)
 no_feeds metas other = (94 ∷ [], refl, refl)
 no_feeds old_metas other = (35 ∷ 94 ∷ [], refl, refl)
 no_feeds (symbolics name w g e) other = (35 ∷ 35 ∷ name, refl, word_feeds name w)

@@ -8,7 +8,7 @@ use Rattle.edn.specs.declared.token.Beyond.TheVariants.{Unread, Nothing}
 use Rattle.edn.specs.Meaning.Bytes.{is_word_byte}
 use Rattle.edn.specs.Meaning.Characters.{is_character}
 use Rattle.edn.specs.Meaning.Forms.{Form}
-use Rattle.edn.specs.Meaning.Names.{is_tag}
+use Rattle.edn.specs.Meaning.Names.{is_name, is_tag}
 use Rattle.edn.specs.Meaning.Numbers.{is_symbolic}
 use Rattle.edn.specs.Meaning.Tokens.{Token}
 use Rattle.edn.specs.Meaning.Words.{word_of}
@@ -17,7 +17,7 @@ use Rattle.edn.specs.Meaning.Reading.{IsLinked, PassesGap, HasNoToken}
 use Rattle.edn.specs.Computing.Gaps.{after_gap_in}
 use Rattle.edn.specs.Computing.Strings.{Quoted, closed, open_, bad as no_string, quoted_at}
 use Rattle.edn.specs.Computing.Tokens.{Lexed, token, end, more, bad, may_go_on, after_string, string_token}
-use Rattle.edn.specs.Computing.Tokens.{character_at, character_token, tag_at, symbolic_at, dispatched, of_word, word_at, token_at}
+use Rattle.edn.specs.Computing.Tokens.{character_at, character_token, tag_at, symbolic_at, namespace_at, dispatched, of_word, word_at, token_at}
 use Rattle.edn.proofs.Choices.{chosen, alike}
 use Rattle.edn.proofs.GapTexts.{IsPast, past_more}
 use Rattle.edn.proofs.StringTexts.{quoted_stays}
@@ -68,6 +68,12 @@ symbolic_stays : (p : Problem) → Stays symbolic_at p
 symbolic_stays p name rest others e =
     stays_if rest _ _ p (alike (is_symbolic name) _ _ _ _ _ (no_bad _ _ _ _ p) (λ x. x)) e
 
+namespace_stays : (p : Problem) → Stays namespace_at p
+namespace_stays p name [] others e = absurd (let no : more ≡ bad p = e in cc)
+namespace_stays p name (b ∷ bs) others e =
+    stays_if (b ∷ bs) _ _ p
+    (alike (is_name name) _ _ _ _ _ (alike (b == 123) _ _ _ _ _ (no_bad _ _ _ _ p) (λ x. x)) (λ x. x)) e
+
 of_word_stays : (o : Option Form) (rest others : List ℕ) (p : Problem) → of_word o rest ≡ bad p → of_word o (rest ++ others) ≡ bad p
 of_word_stays (Some f) rest others p e = absurd (cc)
 of_word_stays None rest others p e = e
@@ -92,7 +98,8 @@ dispatched_stays (b ∷ bs) others p e =
     (alike (b == 95) _ _ _ _ _ (no_bad _ _ _ _ p)
     (alike (b == 94) _ _ _ _ _ (no_bad _ _ _ _ p)
     (alike (b == 35) _ _ _ _ _ (word_stays symbolic_at p (symbolic_stays p) bs others)
-    (word_stays tag_at p (tag_stays p) (b ∷ bs) others)))) e
+    (alike (b == 58) _ _ _ _ _ (word_stays namespace_at p (namespace_stays p) bs others)
+    (word_stays tag_at p (tag_stays p) (b ∷ bs) others))))) e
 
 pub bad_stays : (bytes others : List ℕ) (p : Problem) → token_at Unread bytes ≡ bad p → token_at Nothing (bytes ++ others) ≡ bad p
 unfolding token_at

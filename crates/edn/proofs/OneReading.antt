@@ -4,22 +4,23 @@ use Rattle.std.specs.Prelude.{not}
 use Rattle.std.specs.List.{list_all}
 use Rattle.std.proofs.lemmas.Bool.{ne_eqb, and_parts}
 use Rattle.edn.specs.declared.token.Beyond.TheVariants.{Nothing}
+use Rattle.edn.specs.declared.token.Opening.TheVariants as opening
 use Rattle.edn.specs.Meaning.Bytes.{is_space, is_end, is_word_byte}
 use Rattle.edn.specs.declared.read_fault.Problem.{Problem}
 use Rattle.edn.specs.Meaning.Characters.{is_character}
 use Rattle.edn.specs.Meaning.Forms.{Form, number, character}
-use Rattle.edn.specs.Meaning.Names.{begins_tag, is_symbol, is_tag}
+use Rattle.edn.specs.Meaning.Names.{begins_tag, is_name, is_symbol, is_tag}
 use Rattle.edn.specs.Meaning.Numbers.{is_symbolic}
 use Rattle.edn.specs.Meaning.Words.{word_of}
 use Rattle.edn.specs.declared.reader.Stage.{Stage}
 use Rattle.edn.specs.declared.reader.Stage.TheVariants.{Start, Forms, Elements, Closed, Failed}
-use Rattle.edn.specs.Meaning.Tokens.{Token, tag, leaf, is_square}
+use Rattle.edn.specs.Meaning.Tokens.{Token, opens, tag, leaf, is_square}
 use Rattle.edn.specs.Meaning.Readers.{AreFirst, IsFormAt, ReadsForm, BeginsForm}
 use Rattle.edn.specs.Meaning.Grammar.{IsItem}
 use Rattle.edn.specs.Meaning.Lexing.{IsGap, no_gap, space, comment, Ends, IsWord, Lexes, no_tokens, next}
-use Rattle.edn.specs.Meaning.Lexing.{Begins, round_opens, square_opens, curly_opens, set_opens, round_closes, square_closes, curly_closes, discards, metas, old_metas, symbolics, tags, quotes, characters, words}
+use Rattle.edn.specs.Meaning.Lexing.{Begins, round_opens, square_opens, curly_opens, set_opens, round_closes, square_closes, curly_closes, discards, curly_opens_within, metas, old_metas, symbolics, tags, quotes, characters, words}
 use Rattle.edn.specs.Computing.Gaps.{after_gap_in}
-use Rattle.edn.specs.Computing.Tokens.{token, token_at, character_at, character_token, tag_at, symbolic_at, dispatched, word_at}
+use Rattle.edn.specs.Computing.Tokens.{token, token_at, character_at, character_token, tag_at, symbolic_at, namespace_at, dispatched, word_at}
 use Rattle.edn.specs.Computing.Building.{Step, top, run, resume, put}
 use Rattle.edn.proofs.StringTexts.{string_again}
 use Rattle.edn.proofs.Spans.{end_is, word_parts, character_word}
@@ -106,11 +107,17 @@ tag_again (a ∷ name) rest w g e =
     ne_eqb a 94 (λ i. let no : true ≡ false = sym begins ∙ ap (λ x. begins_tag (x ∷ name)) i in cc) in
     let not_symbolic : (a == 35) ≡ false =
     ne_eqb a 35 (λ i. let no : true ≡ false = sym begins ∙ ap (λ x. begins_tag (x ∷ name)) i in cc) in
-    rw (not_set, not_discard, not_meta, not_symbolic) (word_parts (tag_at Nothing) (a ∷ name) rest w e ∙ rw g refl)
+    let not_namespace : (a == 58) ≡ false =
+    ne_eqb a 58 (λ i. let no : true ≡ false = sym begins ∙ ap (λ x. begins_tag (x ∷ name)) i in cc) in
+    rw (not_set, not_discard, not_meta, not_symbolic, not_namespace) (word_parts (tag_at Nothing) (a ∷ name) rest w e ∙ rw g refl)
 
 symbolic_again : (name rest : List ℕ) → IsWord name → is_symbolic name ≡ true → Ends rest
     → dispatched Nothing (35 ∷ (name ++ rest)) ≡ token (leaf (number (35 ∷ 35 ∷ name))) rest
 symbolic_again name rest w g e = word_parts (symbolic_at Nothing) name rest w e ∙ rw g refl
+
+namespace_again : (name rest : List ℕ) → IsWord name → is_name name ≡ true
+    → dispatched Nothing (58 ∷ (name ++ 123 ∷ rest)) ≡ token (opens opening.Map) rest
+namespace_again name rest w g = word_parts (namespace_at Nothing) name (123 ∷ rest) w e123 ∙ rw g refl
 
 character_again : (b : ℕ) (name rest : List ℕ) → IsWord name → is_character (b ∷ name) ≡ true
     → Ends rest → character_token Nothing (b ∷ (name ++ rest)) ≡ token (leaf (character (b ∷ name))) rest
@@ -146,6 +153,7 @@ token_again round_closes = refl
 token_again square_closes = refl
 token_again curly_closes = refl
 token_again discards = refl
+token_again {rest = rest} (curly_opens_within name w g) = namespace_again name rest w g
 token_again metas = refl
 token_again old_metas = refl
 token_again {rest = rest} (symbolics name w g e) = symbolic_again name rest w g e
@@ -166,6 +174,7 @@ no_gap_here round_closes = refl
 no_gap_here square_closes = refl
 no_gap_here curly_closes = refl
 no_gap_here discards = refl
+no_gap_here (curly_opens_within name w g) = refl
 no_gap_here metas = refl
 no_gap_here old_metas = refl
 no_gap_here (symbolics name w g e) = refl

@@ -4,7 +4,7 @@ use Rattle.std.specs.Io.KnownBytes.{Consumes, prepend_known}
 use Rattle.edn.specs.declared.token.Beyond.{Beyond}
 use Rattle.edn.specs.declared.token.Beyond.TheVariants.{Unread, Nothing}
 use Rattle.edn.specs.Meaning.Tokens.{Token}
-use Rattle.edn.specs.Meaning.Lexing.{IsGap, no_gap, Begins, round_opens, square_opens, curly_opens, set_opens, round_closes, square_closes, curly_closes, discards, metas, old_metas, symbolics, tags, quotes, characters, words}
+use Rattle.edn.specs.Meaning.Lexing.{IsGap, no_gap, Begins, round_opens, square_opens, curly_opens, set_opens, round_closes, square_closes, curly_closes, discards, curly_opens_within, metas, old_metas, symbolics, tags, quotes, characters, words}
 use Rattle.edn.specs.Meaning.Reading.{IsLinked, ReadsToken, PassesGap}
 use Rattle.edn.specs.Computing.Tokens.{token, token_at}
 use Rattle.edn.proofs.Lexed.{IsBeyond, token_so}
@@ -21,6 +21,8 @@ begins_front round_closes = (41 ∷ [], refl)
 begins_front square_closes = (93 ∷ [], refl)
 begins_front curly_closes = (125 ∷ [], refl)
 begins_front discards = (35 ∷ 95 ∷ [], refl)
+begins_front {rest = rest} (curly_opens_within name w g) =
+    (35 ∷ 58 ∷ (name ++ 123 ∷ []), ap (λ x. 35 ∷ 58 ∷ x) (sym (append_assoc name (123 ∷ []) rest)))
 begins_front metas = (94 ∷ [], refl)
 begins_front old_metas = (35 ∷ 94 ∷ [], refl)
 begins_front (symbolics name w g e) = (35 ∷ 35 ∷ name, refl)

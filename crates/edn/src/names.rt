@@ -51,7 +51,8 @@ fn begins_tag(text: &[u8]) -> bool
     }
 }
 
-fn is_name(text: &[u8]) -> bool
+/// Returns whether this is a part of a symbol before or after its slash, or a namespace.
+pub(crate) fn is_name(text: &[u8]) -> bool
     ensures { result ≡ is_name text.now }
 {
     begins_symbol(text) && is_some_symbol_bytes(text)

@@ -11,7 +11,7 @@ use crate::atom::Atom;
 use crate::bytes::word_len;
 use crate::character::is_character;
 use crate::leaf::Leaf;
-use crate::names::is_tag;
+use crate::names::{is_name, is_tag};
 use crate::number::is_symbolic;
 use crate::plain::{plain_keyword, plain_nil};
 use crate::read_fault::Problem;
@@ -218,7 +218,27 @@ fn dispatched<'a>(
         [b'_', rest @ ..] => Ok(Lexed::Token(Token::Discard, rest)),
         [b'^', rest @ ..] => Ok(Lexed::Token(Token::Meta, rest)),
         [b'#', text @ ..] => symbolic(alloc, text, beyond, leaf),
+        [b':', text @ ..] => Ok(namespace(text, beyond)),
         _ => Ok(tag(text, beyond)),
+    }
+}
+
+/// Reads the namespace of a map after `#:`, and the bracket that opens the map right behind it. Nothing is kept of the
+/// namespace.
+fn namespace(text: &[u8], beyond: Beyond) -> Lexed<'_>
+    ensures exact { (f : LeafValue) → lexed_of f result ≡ Spec.namespace_token beyond text.now }
+    ensures within { IsWithin beyond text.now result }
+{
+    let (name, rest) = text.split_at(word_len(text));
+    if may_go_on(rest, beyond) {
+        return Lexed::More;
+    }
+    if !is_name(name) {
+        return Lexed::Bad(Problem::Token);
+    }
+    match rest {
+        [b'{', rest @ ..] => Lexed::Token(Token::Open(Opening::Map), rest),
+        _ => Lexed::Bad(Problem::Token),
     }
 }
 

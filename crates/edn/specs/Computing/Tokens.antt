@@ -16,7 +16,7 @@ use Rattle.edn.specs.declared.token.Lexed.TheVariants as Read
 use Rattle.edn.specs.Meaning.Bytes.{is_word_byte}
 use Rattle.edn.specs.Meaning.Characters.{is_character}
 use Rattle.edn.specs.Meaning.Forms.{Form, nil, integer, number, string, character, keyword, atom_of}
-use Rattle.edn.specs.Meaning.Names.{is_tag}
+use Rattle.edn.specs.Meaning.Names.{is_name, is_tag}
 use Rattle.edn.specs.Meaning.Numbers.{is_symbolic}
 use Rattle.edn.specs.Meaning.Shorts.{short_text}
 use Rattle.edn.specs.Meaning.Tokens.{Token, opens, closes, discard, tag, meta, leaf}
@@ -119,13 +119,28 @@ abbrev pub symbolic_token : Beyond → List ℕ → Lexed
 symbolic_token beyond text =
     symbolic_at beyond (take (prefix_len is_word_byte text) text) (drop (prefix_len is_word_byte text) text)
 
+-- the bracket of a map at the front
+abbrev pub map_at : List ℕ → Lexed
+map_at [] = bad problem.Token
+map_at (b ∷ bs) = if b == 123 then token (opens opening.Map) bs else bad problem.Token
+
+abbrev pub namespace_at : Beyond → List ℕ → List ℕ → Lexed
+namespace_at beyond name rest =
+    if may_go_on rest beyond then more else if is_name name then map_at rest else bad problem.Token
+
+-- after `#:`
+abbrev pub namespace_token : Beyond → List ℕ → Lexed
+namespace_token beyond text =
+    namespace_at beyond (take (prefix_len is_word_byte text) text) (drop (prefix_len is_word_byte text) text)
+
 abbrev pub dispatched : Beyond → List ℕ → Lexed
 dispatched beyond [] = unfinished beyond
 dispatched beyond (b ∷ bs) =
     if b == 123 then token (opens opening.Set) bs else
     if b == 95 then token discard bs else
     if b == 94 then token meta bs else
-    if b == 35 then symbolic_token beyond bs else tag_token beyond (b ∷ bs)
+    if b == 35 then symbolic_token beyond bs else
+    if b == 58 then namespace_token beyond bs else tag_token beyond (b ∷ bs)
 
 abbrev pub of_word : Option Form → List ℕ → Lexed
 of_word (Some f) rest = token (leaf f) rest

@@ -6,7 +6,7 @@ use Rattle.edn.specs.declared.token.Closing.TheVariants as closing
 use Rattle.edn.specs.Meaning.Bytes.{is_space, is_end, is_word_byte}
 use Rattle.edn.specs.Meaning.Characters.{is_character}
 use Rattle.edn.specs.Meaning.Forms.{Form, number, string, character}
-use Rattle.edn.specs.Meaning.Names.{is_tag}
+use Rattle.edn.specs.Meaning.Names.{is_name, is_tag}
 use Rattle.edn.specs.Meaning.Numbers.{is_symbolic}
 use Rattle.edn.specs.Meaning.Strings.{IsInside}
 use Rattle.edn.specs.Meaning.Tokens.{Token, opens, closes, discard, tag, meta, leaf}
@@ -46,6 +46,9 @@ pub data Begins : Token → List ℕ → List ℕ → Type 0 where
   square_closes : {rest : List ℕ} → Begins (closes closing.Square) (93 ∷ rest) rest
   curly_closes : {rest : List ℕ} → Begins (closes closing.Curly) (125 ∷ rest) rest
   discards : {rest : List ℕ} → Begins discard (35 ∷ 95 ∷ rest) rest
+  -- a map with a namespace; its keys are those that are written, without it
+  curly_opens_within : {rest : List ℕ} (name : List ℕ) → IsWord name → is_name name ≡ true
+      → Begins (opens opening.Map) (35 ∷ 58 ∷ (name ++ 123 ∷ rest)) rest
   metas : {rest : List ℕ} → Begins meta (94 ∷ rest) rest
   old_metas : {rest : List ℕ} → Begins meta (35 ∷ 94 ∷ rest) rest
   symbolics : {rest : List ℕ} (name : List ℕ) → IsWord name → is_symbolic name ≡ true → Ends rest
