@@ -1,3 +1,9 @@
 pub mod Pairings
 pub mod PairingSteps
 pub mod SameSteps
+pub mod KeptNames
+pub mod Readings
+pub mod EdnForms
+pub mod JsonForms
+pub mod Collecting
+pub mod TextFaults

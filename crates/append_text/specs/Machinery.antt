@@ -1,3 +1,6 @@
 -- What only the loops need.
 pub mod Buffers
 pub mod Pairings
+pub mod Readings
+pub mod Collectors
+pub mod EdnFaults

@@ -2,3 +2,8 @@
 pub mod Names
 pub mod Steps
 pub mod Pairing
+pub mod Data
+pub mod Operations
+pub mod Numbers
+pub mod Json
+pub mod Texts

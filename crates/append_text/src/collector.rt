@@ -1,5 +1,11 @@
 //! A history from its operations.
 
+ghost use Rattle.std.specs.Prelude.{◌++◌, ◌∷◌, [], List, IfErr, OnOk};
+ghost use Rattle.edn.specs.Meaning.Forms.{Form as Plain};
+ghost use Rattle.append_text.specs.declared.text_form.TextForm.{TextForm};
+ghost use Rattle.append_text.specs.Meaning.Texts.{IsHistory};
+ghost use Rattle.append_text.specs.Machinery.Collectors.{HasCollected, IsRefusedAfter};
+
 use crate::data::Data;
 use crate::history::History;
 use crate::name::Names;
@@ -21,7 +27,9 @@ pub(crate) struct Collector {
 
 impl Collector {
     /// A collector of no operations.
-    pub(crate) fn new(alloc: Global) -> Collector {
+    pub(crate) fn new(alloc: Global) -> Collector
+        ensures { (notation : TextForm) → HasCollected notation [] result }
+    {
         Collector {
             alloc,
             names: Names::new(alloc),
@@ -32,17 +40,28 @@ impl Collector {
     }
 
     /// Takes the next operation.
-    pub(crate) fn take<'a, D: Data<'a>>(&mut self, data: D) -> Result<(), Refusal> {
-        match operation(self.alloc, &mut self.names, self.taken, data)? {
-            Some(op) => self.pairing.take(op)?,
-            None => self.passed_over = self.passed_over.saturating_add(1),
-        }
+    pub(crate) fn take<'a, D: Data<'a>>(&mut self, datum: D) -> Result<(), Refusal>
+        ensures taken { OnOk result ((forms : List Plain) → HasCollected D.notation forms self.old
+            → HasCollected D.notation (forms ++ D.form datum ∷ []) self.new) }
+        ensures refused { IfErr result (λ e. (forms : List Plain) → HasCollected D.notation forms self.old
+            → IsRefusedAfter D.notation forms (D.form datum) e) }
+    {
+        let op = operation(self.alloc, &mut self.names, self.taken, datum)?;
         self.taken = self.taken.saturating_add(1);
-        Ok(())
+        match op {
+            Some(op) => self.pairing.take(op),
+            None => {
+                self.passed_over = self.passed_over.saturating_add(1);
+                Ok(())
+            }
+        }
     }
 
     /// Returns the history of the operations.
-    pub(crate) fn finish(self) -> History {
+    pub(crate) fn finish(self) -> History
+        ensures { (notation : TextForm) (forms : List Plain) → HasCollected notation forms self
+            → IsHistory notation forms result }
+    {
         self.pairing.finish(self.names, self.passed_over)
     }
 }

@@ -1,11 +1,27 @@
 //! Forms of EDN as data.
 
-use crate::data::{Data, Fields, Step};
+ghost use Rattle.std.specs.Prelude.{◌≡◌, ◌∷◌, [], ℕ, List, Some as SomeSpec, ◌%◌, map, option_map, length, IfOk, IfSome, IfNone};
+ghost use Rattle.std.specs.List.{AllZip};
+ghost use Rattle.edn.specs.Meaning.Forms.{Form as Plain, Pairs, pair, pairs_of};
+ghost use Rattle.edn.specs.Meaning.Tapes.{paired};
+ghost use Rattle.edn.specs.Meaning.Views.{form_of, forms_of};
+ghost use Rattle.append_text.specs.declared.name.Kept.{Kept};
+ghost use Rattle.append_text.specs.declared.text_form.TextForm.TheVariants.{Edn};
+ghost use Rattle.append_text.specs.Meaning.Data as Seen;
+ghost use Rattle.append_text.specs.Meaning.Numbers.{IsNumber};
+ghost use Rattle.append_text.specs.Meaning.Operations as Spec;
+ghost use Rattle.append_text.specs.Machinery.Readings.{HasFields, Says};
+
+use crate::data::{Data, Fields, Step, is_text};
 use crate::name::{Name, number_of_integer};
 use edn::{Form, Forms, Kind};
 use std::alloc::{AllocError, Global};
 
 impl<'a> Data<'a> for Form<'a> {
+    ghost notation = { Edn };
+
+    ghost form = { form_of };
+
     fn fields(self) -> Option<Fields<Form<'a>>> {
         match self.kind() {
             Kind::Map(entries) => Some(fields_in(entries)),
@@ -14,16 +30,16 @@ impl<'a> Data<'a> for Form<'a> {
     }
 
     fn elements(self, alloc: Global) -> Result<Option<Vec<Form<'a>>>, AllocError> {
-        match self.kind() {
-            Kind::Vector(forms) | Kind::List(forms) => Ok(Some(elements_in(alloc, forms)?)),
-            _ => Ok(None),
+        match forms_in(self) {
+            Some(forms) => Ok(Some(elements_in(alloc, forms)?)),
+            None => Ok(None),
         }
     }
 
     fn step(self) -> Option<Step<Form<'a>>> {
-        match self.kind() {
-            Kind::Vector(forms) | Kind::List(forms) => step_in(forms),
-            _ => None,
+        match forms_in(self) {
+            Some(forms) => step_in(forms),
+            None => None,
         }
     }
 
@@ -53,7 +69,10 @@ impl<'a> Data<'a> for Form<'a> {
     }
 
     fn number(self) -> Option<u64> {
-        number_of_integer(self.integer()?)
+        match self.kind() {
+            Kind::Integer(number) => number_of_integer(number),
+            _ => None,
+        }
     }
 
     fn name(self) -> Option<Name<'a>> {
@@ -66,8 +85,22 @@ impl<'a> Data<'a> for Form<'a> {
     }
 }
 
+/// Returns what stands in a vector or a list.
+fn forms_in(form: Form<'_>) -> Option<Forms<'_>>
+    ensures { option_map forms_of result ≡ Seen.elements (form_of form.entry) }
+{
+    match form.kind() {
+        Kind::Vector(forms) => Some(forms),
+        Kind::List(forms) => Some(forms),
+        _ => None,
+    }
+}
+
 /// Returns the fields of an operation. The entries come from the last one back, so the first one of a name stays.
-fn fields_in<'a>(entries: Forms<'a>) -> Fields<Form<'a>> {
+fn fields_in<'a>(entries: Forms<'a>) -> Fields<Form<'a>>
+    requires { length (forms_of entries) % 2 ≡ 0 }
+    ensures { HasFields Edn form_of result (pairs_of (paired (forms_of entries.entry))) }
+{
     let mut left = entries;
     let mut fields = Fields {
         kind: None,
@@ -76,46 +109,54 @@ fn fields_in<'a>(entries: Forms<'a>) -> Fields<Form<'a>> {
         process: None,
         index: None,
     };
-    for _ in 0..entries.len() {
-        let Some(value) = left.next_back() else {
-            return fields;
-        };
+    while let Some(value) = left.next_back() {
         let Some(key) = left.next_back() else {
             return fields;
         };
-        if let Kind::Keyword(name) = key.kind() {
-            set_field(&mut fields, name, value);
-        }
+        set_field(&mut fields, key, value);
     }
     fields
 }
 
-fn set_field<'a>(fields: &mut Fields<Form<'a>>, name: &[u8], value: Form<'a>) {
-    match name {
-        b"type" => fields.kind = Some(value),
-        b"f" => fields.f = Some(value),
-        b"value" => fields.value = Some(value),
-        b"process" => fields.process = Some(value),
-        b"index" => fields.index = Some(value),
-        _ => {}
+/// Gives the field that this key names, if there is one, this value.
+fn set_field<'a>(fields: &mut Fields<Form<'a>>, key: Form<'a>, value: Form<'a>)
+    ensures { (ps : Pairs) → HasFields Edn form_of fields.old ps
+        → HasFields Edn form_of fields.new (pair (form_of key.entry) (form_of value.entry) ps) }
+{
+    let Some(name) = key.word() else {
+        return;
+    };
+    if is_text(name, b"type") {
+        fields.kind = Some(value);
+    } else if is_text(name, b"f") {
+        fields.f = Some(value);
+    } else if is_text(name, b"value") {
+        fields.value = Some(value);
+    } else if is_text(name, b"process") {
+        fields.process = Some(value);
+    } else if is_text(name, b"index") {
+        fields.index = Some(value);
     }
 }
 
 /// Returns the forms in the order of the text.
-fn elements_in<'a>(alloc: Global, forms: Forms<'a>) -> Result<Vec<Form<'a>>, AllocError> {
+fn elements_in<'a>(alloc: Global, forms: Forms<'a>) -> Result<Vec<Form<'a>>, AllocError>
+    ensures { IfOk result (λ v. map form_of v.items ≡ forms_of forms.entry) }
+{
     let mut left = forms;
     let mut elements = Vec::with_capacity(alloc, forms.len())?;
-    for _ in 0..forms.len() {
-        if let Some(form) = left.next_back() {
-            elements.push(form)?;
-        }
+    while let Some(form) = left.next_back() {
+        elements.push(form)?;
     }
     elements.reverse();
     Ok(elements)
 }
 
 /// Returns the forms, if there are three.
-fn step_in(forms: Forms<'_>) -> Option<Step<Form<'_>>> {
+fn step_in(forms: Forms<'_>) -> Option<Step<Form<'_>>>
+    ensures some { IfSome result (λ s. forms_of forms.entry ≡ form_of s.f ∷ form_of s.key ∷ form_of s.value ∷ []) }
+    ensures none { IfNone result ((f key value : Plain) → forms_of forms.entry ≡ f ∷ key ∷ value ∷ [] → ⊥) }
+{
     if forms.len() != 3 {
         return None;
     }
@@ -127,17 +168,19 @@ fn step_in(forms: Forms<'_>) -> Option<Step<Form<'_>>> {
 }
 
 /// Returns the numbers of the forms in the order of the text, if all are integers from 0 up.
-fn numbers_in(alloc: Global, forms: Forms<'_>) -> Result<Option<Vec<u64>>, AllocError> {
+fn numbers_in(alloc: Global, forms: Forms<'_>) -> Result<Option<Vec<u64>>, AllocError>
+    ensures { IfOk result (λ o. IfSome o (λ v. (kept : List Kept)
+        → Says (Spec.each Spec.name (forms_of forms.entry)) (λ names. AllZip (IsNumber kept) names v.items))) }
+{
     let mut left = forms;
-    let mut numbers = Vec::from_elem(alloc, 0, forms.len())?;
-    for number in numbers.iter_mut().rev() {
-        let Some(form) = left.next_back() else {
+    let mut place = forms.len();
+    let mut numbers = Vec::from_elem(alloc, 0, place)?;
+    while let Some(form) = left.next_back() {
+        let Some(number) = form.number() else {
             return Ok(None);
         };
-        let Some(known) = form.number() else {
-            return Ok(None);
-        };
-        *number = known;
+        place -= 1;
+        numbers[place] = number;
     }
     Ok(Some(numbers))
 }

@@ -1,7 +1,8 @@
 //! Histories in EDN.
 
-ghost use Rattle.std.specs.Prelude.{List, ℕ, [], OnOk};
-ghost use Rattle.edn.specs.Meaning.Texts.{HasRead, IsEdn};
+ghost use Rattle.std.specs.Prelude.{List, ℕ, [], IfOk, IfErr};
+ghost use Rattle.edn.specs.Meaning.Texts.{HasRead};
+ghost use Rattle.append_text.specs.Meaning.Texts.{IsFaultOf, IsHistoryOf};
 
 use crate::collector::Collector;
 use crate::history::History;
@@ -16,7 +17,8 @@ pub(crate) fn edn_text<S: Source>(
     begun: Reader,
     source: &mut S,
 ) -> Result<History, ReadFault>
-    ensures whole { (text : List ℕ) → HasRead text [] begun (S.remaining source.old) → OnOk result (IsEdn text) }
+    ensures history { (text : List ℕ) → HasRead text [] begun (S.remaining source.old) → IfOk result (IsHistoryOf text) }
+    ensures fault { (text : List ℕ) → HasRead text [] begun (S.remaining source.old) → IfErr result (IsFaultOf text) }
 {
     let mut collector = Collector::new(alloc);
     let mut reader = begun;
@@ -29,6 +31,11 @@ pub(crate) fn edn_text<S: Source>(
 }
 
 impl From<edn::ReadFault> for ReadFault {
+    ghost use Rattle.append_text.specs.Machinery.EdnFaults.{of_edn};
+    ghost use Rattle.std.specs.Prelude.{◌≡◌};
+
+    ghost from_gives = { λ e r. r ≡ of_edn e };
+
     fn from(fault: edn::ReadFault) -> ReadFault {
         match fault {
             edn::ReadFault::Syntax { line, problem } => ReadFault::Text {

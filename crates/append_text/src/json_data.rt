@@ -1,11 +1,20 @@
 //! Values of JSON as data.
 
+ghost use Rattle.std.specs.Prelude.{◌≡◌, ◌≢◌, ◌∷◌, [], map, length, IfOk, IfSome, IfNone};
+ghost use Rattle.serde_json.specs.View.{view};
+ghost use Rattle.append_text.specs.declared.text_form.TextForm.TheVariants.{Json};
+ghost use Rattle.append_text.specs.Meaning.Json.{form_of};
+
 use crate::data::{Data, Fields, Step};
 use crate::name::{Name, number_of_integer};
 use serde_json::Value;
 use std::alloc::{AllocError, Global};
 
 impl<'a> Data<'a> for &'a Value {
+    ghost notation = { Json };
+
+    ghost form = { λ v. form_of (view v.now) };
+
     fn fields(self) -> Option<Fields<&'a Value>> {
         if !self.is_object() {
             return None;
@@ -20,16 +29,16 @@ impl<'a> Data<'a> for &'a Value {
     }
 
     fn elements(self, alloc: Global) -> Result<Option<Vec<&'a Value>>, AllocError> {
-        match self {
-            Value::Array(values) => Ok(Some(each_of(alloc, values.as_slice())?)),
-            _ => Ok(None),
+        match self.as_array() {
+            Some(values) => Ok(Some(each_of(alloc, values)?)),
+            None => Ok(None),
         }
     }
 
     fn step(self) -> Option<Step<&'a Value>> {
-        match self {
-            Value::Array(values) => step_of(values.as_slice()),
-            _ => None,
+        match self.as_array() {
+            Some(values) => step_of(values),
+            None => None,
         }
     }
 
@@ -42,9 +51,9 @@ impl<'a> Data<'a> for &'a Value {
     }
 
     fn word(self) -> Option<&'a [u8]> {
-        match self {
-            Value::String(text) => Some(text.as_bytes()),
-            _ => None,
+        match self.as_str() {
+            Some(text) => Some(text.as_bytes()),
+            None => None,
         }
     }
 
@@ -53,19 +62,27 @@ impl<'a> Data<'a> for &'a Value {
     }
 
     fn number(self) -> Option<u64> {
-        number_of_integer(self.as_i64()?)
+        match self.as_i64() {
+            Some(integer) => number_of_integer(integer),
+            None => None,
+        }
     }
 
     fn name(self) -> Option<Name<'a>> {
-        match self {
-            Value::String(text) => Some(Name::String(text.as_bytes())),
-            _ => Some(Name::Integer(self.as_i64()?)),
+        if let Some(text) = self.as_str() {
+            return Some(Name::String(text.as_bytes()));
+        }
+        match self.as_i64() {
+            Some(integer) => Some(Name::Integer(integer)),
+            None => None,
         }
     }
 }
 
 /// Returns the values, each by reference.
-fn each_of(alloc: Global, values: &[Value]) -> Result<Vec<&Value>, AllocError> {
+fn each_of(alloc: Global, values: &[Value]) -> Result<Vec<&Value>, AllocError>
+    ensures { IfOk result (λ v. map (λ r. r.now) v.items ≡ values.now) }
+{
     let mut each = Vec::with_capacity(alloc, values.len())?;
     for value in values {
         each.push(value)?;
@@ -73,7 +90,11 @@ fn each_of(alloc: Global, values: &[Value]) -> Result<Vec<&Value>, AllocError> {
     Ok(each)
 }
 
-fn step_of(values: &[Value]) -> Option<Step<&Value>> {
+/// Returns the values, if there are three.
+fn step_of(values: &[Value]) -> Option<Step<&Value>>
+    ensures some { IfSome result (λ s. values.now ≡ s.f.now ∷ s.key.now ∷ s.value.now ∷ []) }
+    ensures none { IfNone result (length values.now ≢ 3) }
+{
     match values {
         [f, key, value] => Some(Step { f, key, value }),
         _ => None,

@@ -1,7 +1,9 @@
 //! Names of keys and elements.
 
-ghost use Rattle.std.specs.Prelude.{◌≡◌, option_map};
-ghost use Rattle.append_text.specs.Meaning.Names.{kept_name, name_of, named};
+ghost use Rattle.std.specs.Prelude.{◌≡◌, ℕ, ◌+◌, ◌*◌, List, false, option_map, IfOk, IfSome, IfNone, OnOk};
+ghost use Rattle.append_text.specs.declared.name.Kept.{Kept as KeptValue};
+ghost use Rattle.append_text.specs.Meaning.Names.{integer as as_name, is_counted, kept_name, name_of, named};
+ghost use Rattle.append_text.specs.Meaning.Numbers.{IsNumber, IsOneToOne, Keeps};
 
 use indexmap::IndexSet;
 use std::alloc::{AllocError, Global};
@@ -34,6 +36,7 @@ enum Kept {
 pub struct Names {
     alloc: Global,
     kept: IndexSet<Kept>,
+    pub ghost one_to_one: { IsOneToOne kept.keys },
 }
 
 impl Names {
@@ -45,8 +48,11 @@ impl Names {
         }
     }
 
-    /// Returns the number of the name, which may be new.
-    pub(crate) fn number(&mut self, name: Name<'_>) -> Result<u64, AllocError> {
+    /// Returns the number of the name, which may be new. Out of memory too if there are more names than numbers.
+    pub(crate) fn number(&mut self, name: Name<'_>) -> Result<u64, AllocError>
+        ensures number { IfOk result (λ n. IsNumber self.new.kept.keys (name_of name.entry) n) }
+        ensures keeps { OnOk result (Keeps self.old.kept.keys self.new.kept.keys) }
+    {
         match name {
             Name::Integer(integer) => match number_of_integer(integer) {
                 Some(number) => Ok(number),
@@ -59,9 +65,13 @@ impl Names {
 
     /// Returns the number of a name that may be new.
     #[inline(never)]
-    fn keep(&mut self, name: Kept) -> Result<u64, AllocError> {
+    fn keep(&mut self, name: Kept) -> Result<u64, AllocError>
+        requires { is_counted (kept_name name) ≡ false }
+        ensures number { IfOk result (λ n. IsNumber self.new.kept.keys (kept_name name) n) }
+        ensures keeps { OnOk result (Keeps self.old.kept.keys self.new.kept.keys) }
+    {
         let (place, _) = self.kept.insert_full(name)?;
-        Ok((place as u64).saturating_mul(2).saturating_add(1))
+        number_at(place)
     }
 
     /// Returns the name with this number. `None` if it is odd and no name of the history has it.
@@ -78,8 +88,21 @@ impl Names {
     }
 }
 
+/// Returns the number of the name that is kept at the place.
+fn number_at(place: usize) -> Result<u64, AllocError>
+    ensures { IfOk result (λ n. n ≡ 2 * place + 1) }
+{
+    match (place as u64).checked_mul(2) {
+        Some(twice) => Ok(twice + 1),
+        None => Err(AllocError),
+    }
+}
+
 /// Returns the number of an integer from 0 up.
-pub(crate) fn number_of_integer(integer: i64) -> Option<u64> {
+pub(crate) fn number_of_integer(integer: i64) -> Option<u64>
+    ensures some { IfSome result (λ n. (kept : List KeptValue) → IsNumber kept (as_name integer) n) }
+    ensures none { IfNone result (is_counted (as_name integer) ≡ false) }
+{
     match u64::try_from(integer) {
         Ok(size) => Some(size * 2),
         Err(_) => None,

@@ -1,6 +1,13 @@
 //! The operations of a text.
 
-use crate::data::Data;
+ghost use Rattle.std.specs.Prelude.{◌≡◌, Result, Some as SomeSpec, map, option_map, if◌then◌else◌, false};
+ghost use Rattle.std.specs.Option.{option_and_then, option_map_or};
+ghost use Rattle.append_text.specs.Meaning.Data as Seen;
+ghost use Rattle.append_text.specs.Meaning.Numbers.{IsNumber};
+ghost use Rattle.append_text.specs.Meaning.Operations as Spec;
+ghost use Rattle.append_text.specs.Machinery.Readings.{AreNumbers, AreSteps, IsOpIfAny, IsStepValue, Reads};
+
+use crate::data::{Data, is_text};
 use crate::history::Label;
 use crate::name::Names;
 use crate::read_fault::{Problem, Refusal};
@@ -35,48 +42,107 @@ pub(crate) fn operation<'a, D: Data<'a>>(
     alloc: Global,
     names: &mut Names,
     number: u64,
-    data: D,
-) -> Result<Option<Op>, Refusal> {
-    let Some(fields) = data.fields() else {
+    datum: D,
+) -> Result<Option<Op>, Refusal>
+    ensures { Reads result names.old.kept.keys names.new.kept.keys (Spec.said D.notation number (D.form datum)) IsOpIfAny }
+{
+    let Some(fields) = datum.fields() else {
         return Err(Refusal::Problem(Problem::Map));
     };
-    if !is_word(fields.f, b"txn") {
-        return Ok(None);
-    }
-    let Some(process) = integer_in(fields.process) else {
+    let Some(process) = process_in(fields.f, fields.process) else {
         return Ok(None);
     };
-    let Some(kind) = kind_of(fields.kind) else {
+    let Some(kind) = kind_in(fields.kind) else {
         return Err(Refusal::Problem(Problem::Type));
     };
-    let index = integer_in(fields.index).and_then(|index| u64::try_from(index).ok());
     let label = Label {
-        index: index.unwrap_or(number),
+        index: index_in(number, fields.index),
         process,
     };
     let steps = steps_in(alloc, names, kind, fields.value)?;
     Ok(Some(Op { kind, label, steps }))
 }
 
-fn is_word<'a, D: Data<'a>>(field: Option<D>, word: &[u8]) -> bool {
+/// Returns whether the field is the word.
+fn is_word<'a, D: Data<'a>>(field: Option<D>, word: &[u8]) -> bool
+    ensures { result ≡ option_map_or (Seen.is_word D.notation word.now) (option_map D.form field) false }
+{
     match field {
-        Some(data) => data.word() == Some(word),
+        Some(data) => match data.word() {
+            Some(known) => is_text(known, word),
+            None => false,
+        },
         None => false,
     }
 }
 
-fn integer_in<'a, D: Data<'a>>(field: Option<D>) -> Option<i64> {
-    field?.integer()
+fn integer_in<'a, D: Data<'a>>(field: Option<D>) -> Option<i64>
+    ensures { result ≡ option_and_then Seen.integer_in (option_map D.form field) }
+{
+    match field {
+        Some(data) => data.integer(),
+        None => None,
+    }
 }
 
-fn kind_of<'a, D: Data<'a>>(field: Option<D>) -> Option<Kind> {
-    match field?.word()? {
-        b"invoke" => Some(Kind::Invoke),
-        b"ok" => Some(Kind::Ok),
-        b"fail" => Some(Kind::Fail),
-        b"info" => Some(Kind::Info),
-        _ => None,
+/// Returns the process of an operation with these fields `:f` and `:process`, if it is one of a transaction.
+fn process_in<'a, D: Data<'a>>(f: Option<D>, process: Option<D>) -> Option<i64>
+    ensures { result ≡ Spec.process_in D.notation (option_map D.form f) (option_map D.form process) }
+{
+    if is_word(f, b"txn") {
+        return integer_in(process);
     }
+    None
+}
+
+/// Returns the index of an operation of this number in its text.
+fn index_in<'a, D: Data<'a>>(number: u64, field: Option<D>) -> u64
+    ensures { result ≡ Spec.index_in number (option_map D.form field) }
+{
+    match integer_in(field) {
+        Some(integer) => index_of(number, integer),
+        None => number,
+    }
+}
+
+/// Returns the integer, if it is one from 0 up, else the number.
+fn index_of(number: u64, integer: i64) -> u64
+    ensures { result ≡ Spec.index_of number (SomeSpec integer) }
+{
+    match u64::try_from(integer) {
+        Ok(index) => index,
+        Err(_) => number,
+    }
+}
+
+fn kind_in<'a, D: Data<'a>>(field: Option<D>) -> Option<Kind>
+    ensures { result ≡ Spec.kind_in D.notation (option_map D.form field) }
+{
+    match field {
+        Some(data) => match data.word() {
+            Some(word) => kind_of(word),
+            None => None,
+        },
+        None => None,
+    }
+}
+
+fn kind_of(word: &[u8]) -> Option<Kind>
+    ensures { result ≡ Spec.kind_of word.now }
+{
+    if is_text(word, b"invoke") {
+        return Some(Kind::Invoke);
+    }
+    if is_text(word, b"ok") {
+        return Some(Kind::Ok);
+    }
+    if is_text(word, b"fail") {
+        return Some(Kind::Fail);
+    }
+    if is_text(word, b"info") {
+        return Some(Kind::Info);
+    }
+    None
 }
 
 /// Reads the steps of an operation. A `:fail` and an `:info` may have none.
@@ -85,10 +151,12 @@ fn steps_in<'a, D: Data<'a>>(
     names: &mut Names,
     kind: Kind,
     value: Option<D>,
-) -> Result<Vec<Operation>, Refusal> {
+) -> Result<Vec<Operation>, Refusal>
+    ensures { Reads result names.old.kept.keys names.new.kept.keys (Spec.steps D.notation kind (option_map D.form value)) AreSteps }
+{
     match value {
         Some(value) => steps_of(alloc, names, kind, value),
-        None => no_steps(alloc, kind),
+        None => no_steps(alloc, names, kind),
     }
 }
 
@@ -98,15 +166,22 @@ fn steps_of<'a, D: Data<'a>>(
     names: &mut Names,
     kind: Kind,
     value: D,
-) -> Result<Vec<Operation>, Refusal> {
+) -> Result<Vec<Operation>, Refusal>
+    ensures { Reads result names.old.kept.keys names.new.kept.keys (Spec.steps D.notation kind (SomeSpec (D.form value))) AreSteps }
+{
     if value.is_nil() {
-        return no_steps(alloc, kind);
+        return no_steps(alloc, names, kind);
     }
-    steps(alloc, names, value)
+    let Some(listed) = value.elements(alloc)? else {
+        return Err(Refusal::Problem(Problem::Step));
+    };
+    steps(alloc, names, &listed)
 }
 
 /// Returns no steps, if the operation may have none.
-fn no_steps(alloc: Global, kind: Kind) -> Result<Vec<Operation>, Refusal> {
+fn no_steps(alloc: Global, names: &mut Names, kind: Kind) -> Result<Vec<Operation>, Refusal>
+    ensures { Reads result names.old.kept.keys names.new.kept.keys (Spec.no_steps kind) AreSteps }
+{
     match kind {
         Kind::Fail | Kind::Info => Ok(Vec::new(alloc)),
         Kind::Invoke | Kind::Ok => Err(Refusal::Problem(Problem::Step)),
@@ -117,66 +192,114 @@ fn no_steps(alloc: Global, kind: Kind) -> Result<Vec<Operation>, Refusal> {
 fn steps<'a, D: Data<'a>>(
     alloc: Global,
     names: &mut Names,
-    data: D,
-) -> Result<Vec<Operation>, Refusal> {
-    let Some(listed) = data.elements(alloc)? else {
-        return Err(Refusal::Problem(Problem::Step));
-    };
+    listed: &[D],
+) -> Result<Vec<Operation>, Refusal>
+    ensures { Reads result names.old.kept.keys names.new.kept.keys (Spec.each (Spec.step D.notation) (map D.form listed.now)) AreSteps }
+{
     let mut steps = Vec::with_capacity(alloc, listed.len())?;
-    for data in &listed {
-        steps.push(step(alloc, names, *data)?)?;
+    for datum in listed {
+        steps.push(step(alloc, names, *datum)?)?;
     }
     Ok(steps)
 }
 
 /// Reads one step.
-fn step<'a, D: Data<'a>>(alloc: Global, names: &mut Names, data: D) -> Result<Operation, Refusal> {
-    let Some(step) = data.step() else {
+fn step<'a, D: Data<'a>>(alloc: Global, names: &mut Names, datum: D) -> Result<Operation, Refusal>
+    ensures { Reads result names.old.kept.keys names.new.kept.keys (Spec.step D.notation (D.form datum)) IsStepValue }
+{
+    let Some(step) = datum.step() else {
         return Err(Refusal::Problem(Problem::Step));
     };
-    match step.f.word() {
-        Some(b"append") => {
-            let key = number(names, step.key)?;
-            let element = number(names, step.value)?;
-            Ok(Operation::Append { key, element })
-        }
-        Some(b"r") => {
-            let key = number(names, step.key)?;
-            let elements = elements(alloc, names, step.value)?;
-            Ok(Operation::Read { key, elements })
-        }
-        _ => Err(Refusal::Problem(Problem::Step)),
+    let Some(word) = step.f.word() else {
+        return Err(Refusal::Problem(Problem::Step));
+    };
+    step_of(alloc, names, word, step.key, step.value)
+}
+
+/// Reads the step that begins with this word.
+fn step_of<'a, D: Data<'a>>(
+    alloc: Global,
+    names: &mut Names,
+    word: &[u8],
+    key: D,
+    value: D,
+) -> Result<Operation, Refusal>
+    ensures { Reads result names.old.kept.keys names.new.kept.keys
+        (Spec.step_of (SomeSpec word.now) (D.form key) (D.form value)) IsStepValue }
+{
+    if is_text(word, b"append") {
+        return append(names, key, value);
     }
+    if is_text(word, b"r") {
+        return read(alloc, names, key, value);
+    }
+    Err(Refusal::Problem(Problem::Step))
+}
+
+fn append<'a, D: Data<'a>>(names: &mut Names, key: D, value: D) -> Result<Operation, Refusal>
+    ensures { Reads result names.old.kept.keys names.new.kept.keys (Spec.append_of (D.form key) (D.form value)) IsStepValue }
+{
+    let key = number(names, key)?;
+    let element = number(names, value)?;
+    Ok(Operation::Append { key, element })
+}
+
+fn read<'a, D: Data<'a>>(
+    alloc: Global,
+    names: &mut Names,
+    key: D,
+    value: D,
+) -> Result<Operation, Refusal>
+    ensures { Reads result names.old.kept.keys names.new.kept.keys (Spec.read_of (D.form key) (D.form value)) IsStepValue }
+{
+    let key = number(names, key)?;
+    let elements = elements(alloc, names, value)?;
+    Ok(Operation::Read { key, elements })
 }
 
 /// Reads the elements of a list. `nil` is the empty one.
 fn elements<'a, D: Data<'a>>(
     alloc: Global,
     names: &mut Names,
-    data: D,
-) -> Result<Vec<u64>, Refusal> {
-    if data.is_nil() {
+    datum: D,
+) -> Result<Vec<u64>, Refusal>
+    ensures { Reads result names.old.kept.keys names.new.kept.keys (Spec.names (D.form datum)) AreNumbers }
+{
+    if datum.is_nil() {
         return Ok(Vec::new(alloc));
     }
-    if let Some(numbers) = data.numbers(alloc)? {
+    if let Some(numbers) = datum.numbers(alloc)? {
         return Ok(numbers);
     }
-    let Some(listed) = data.elements(alloc)? else {
+    let Some(listed) = datum.elements(alloc)? else {
         return Err(Refusal::Problem(Problem::Step));
     };
-    let mut elements = Vec::with_capacity(alloc, listed.len())?;
-    for data in &listed {
-        elements.push(number(names, *data)?)?;
+    numbers(alloc, names, &listed)
+}
+
+/// Returns the numbers of the elements that are listed.
+fn numbers<'a, D: Data<'a>>(
+    alloc: Global,
+    names: &mut Names,
+    listed: &[D],
+) -> Result<Vec<u64>, Refusal>
+    ensures { Reads result names.old.kept.keys names.new.kept.keys (Spec.each Spec.name (map D.form listed.now)) AreNumbers }
+{
+    let mut numbers = Vec::with_capacity(alloc, listed.len())?;
+    for datum in listed {
+        numbers.push(number(names, *datum)?)?;
     }
-    Ok(elements)
+    Ok(numbers)
 }
 
 /// Returns the number of the key or the element that this names.
-fn number<'a, D: Data<'a>>(names: &mut Names, data: D) -> Result<u64, Refusal> {
-    if let Some(number) = data.number() {
+fn number<'a, D: Data<'a>>(names: &mut Names, datum: D) -> Result<u64, Refusal>
+    ensures { Reads result names.old.kept.keys names.new.kept.keys (Spec.name (D.form datum)) IsNumber }
+{
+    if let Some(number) = datum.number() {
         return Ok(number);
     }
-    match data.name() {
+    match datum.name() {
         Some(name) => Ok(names.number(name)?),
         None => Err(Refusal::Problem(Problem::Name)),
     }

@@ -77,7 +77,10 @@ impl Pairing {
 
     /// Returns the history of the operations so far.
     pub(crate) fn finish(self, names: Names, passed_over: u64) -> History
-        ensures { (result.transactions ≡ self.transactions) × (result.labels ≡ self.labels) }
+        ensures transactions { result.transactions ≡ self.transactions }
+        ensures labels { result.labels ≡ self.labels }
+        ensures names { result.names ≡ names }
+        ensures passed_over { result.passed_over ≡ passed_over }
     {
         History {
             transactions: self.transactions,

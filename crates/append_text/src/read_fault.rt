@@ -86,8 +86,12 @@ pub(crate) enum Refusal {
 }
 
 impl Refusal {
+    ghost use Rattle.append_text.specs.Machinery.EdnFaults.{fault_at};
+
     /// Returns the fault at the place.
-    pub(crate) fn at(self, place: Place) -> ReadFault {
+    pub(crate) fn at(self, place: Place) -> ReadFault
+        ensures { result ≡ fault_at place self }
+    {
         match self {
             Refusal::Problem(problem) => ReadFault::Text { place, problem },
             Refusal::Memory => ReadFault::Memory,

@@ -1,7 +1,7 @@
 //! Reading histories.
 
-ghost use Rattle.std.specs.Prelude.{◌≡◌, List, ℕ, Some, OnOk};
-ghost use Rattle.edn.specs.Meaning.Texts.{IsEdn};
+ghost use Rattle.std.specs.Prelude.{◌≡◌, List, ℕ, Some, IfOk, IfErr};
+ghost use Rattle.append_text.specs.Meaning.Texts.{IsFaultOf, IsHistoryOf};
 
 use crate::buffer::Buffer;
 use crate::edn_text::edn_text;
@@ -28,7 +28,8 @@ pub fn read_history<S: Source>(alloc: Global, source: &mut S) -> Result<History,
 /// `Text` with the line if the text is that of no history, `Device` if the source failed, `Memory` if memory ran out.
 /// If a history is returned, the whole text is one of EDN.
 pub fn read_edn<S: Source>(alloc: Global, source: &mut S) -> Result<History, ReadFault>
-    ensures whole { (text : List ℕ) → S.remaining source.old ≡ Some text → OnOk result (IsEdn text) }
+    ensures history { (text : List ℕ) → S.remaining source.old ≡ Some text → IfOk result (IsHistoryOf text) }
+    ensures fault { (text : List ℕ) → S.remaining source.old ≡ Some text → IfErr result (IsFaultOf text) }
 {
     edn_text(alloc, Reader::new(alloc), source)
 }

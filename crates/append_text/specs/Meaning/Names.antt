@@ -1,5 +1,5 @@
 -- Names of keys and elements, and their numbers.
-use Rattle.std.specs.Prelude.{ℕ, ℤ, pos, ◌==◌, ◌/◌, ◌%◌, List, Option, Some, option_map, slice_get, if◌then◌else◌}
+use Rattle.std.specs.Prelude.{ℕ, ℤ, pos, Bool, true, false, ◌==◌, ◌/◌, ◌%◌, List, Option, Some, option_map, slice_get, if◌then◌else◌}
 use Rattle.append_text.specs.declared.name.Name.{Name as NameValue}
 use Rattle.append_text.specs.declared.name.Name.TheVariants as Seen
 use Rattle.append_text.specs.declared.name.Kept.{Kept}
@@ -19,6 +19,11 @@ abbrev pub kept_name : Kept → Name
 kept_name (Held.Integer z) = integer z
 kept_name (Held.String bytes) = string bytes.items
 kept_name (Held.Keyword bytes) = keyword bytes.items
+
+-- an integer from 0 up, whose number isn't kept but counted
+abbrev pub is_counted : Name → Bool
+is_counted (integer (pos k)) = true
+is_counted _ = false
 
 -- the name with this number: an even number is that of its half, an odd one counts the names that are kept
 abbrev pub named : List Kept → ℕ → Option Name

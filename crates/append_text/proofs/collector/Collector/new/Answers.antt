@@ -1,0 +1,14 @@
+use Rattle.std.proofs.Common.{[]}
+use Rattle.append_text.specs.Meaning.Texts.{no_forms, no_operations}
+use Rattle.append_text.proofs.Collecting.{counted_zero}
+use Rattle.append_text.proofs.collector.Collector.new.Goals as goal
+
+pub returns : goal.returns
+returns c = λ notation. record {
+  ops = [];
+  passed = 0;
+  numbered = record { said = []; operations = no_forms; numbered = tt; in_order = no_operations };
+  paired = c.new-2.ensures;
+  taken = counted_zero;
+  passed_over = counted_zero;
+}
