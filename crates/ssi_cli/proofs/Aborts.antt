@@ -1,9 +1,9 @@
 -- Aborts of sessions whose last user is gone.
 use Rattle.std.proofs.Common.{◌≡◌, ℕ, ◌<◌, Bool, true, false, cond, List, [], ◌∷◌, ◌++◌, Option, Some, None, refl, sym, ap, subst, ◌∙◌, append_assoc, inl, inr, Result, Ok, Err}
-use Rattle.std.specs.Prelude.{◌==◌, not, ◌&&◌, ◌||◌, nat_eq, is_err, MatchResult}
+use Rattle.std.specs.Prelude.{◌==◌, ◌≢◌, not, ◌&&◌, ◌||◌, nat_eq, is_err, MatchResult}
 use Rattle.std.specs.List.{AllByRecursion}
 use Rattle.std.specs.Cmp.Lexicographic.{pointwise}
-use Rattle.std.proofs.lemmas.Bool.{eq-eqb}
+use Rattle.std.proofs.lemmas.Bool.{eq-eqb, eqb-true, eqb-false}
 use Rattle.std.proofs.lemmas.Option.{none-some}
 use Rattle.ssi_store.specs.Meaning.Courses.{Course, Abort}
 use Rattle.ssi_line.specs.Meaning.Spelling.{command_text}
@@ -11,9 +11,9 @@ use Rattle.ssi_line.specs.Meaning.Steps.{Step}
 use Rattle.ssi_line.specs.Clauses.Ends.{WentOn}
 use Rattle.ssi_hub.specs.declared.hub.Hub.{Hub}
 use Rattle.ssi_hub.specs.Clauses.Calls.{Call, Opened, Received, Ran, Closed, token_of, is_open, with_call, with_run, all_steps}
-use Rattle.ssi_hub.specs.Mirror.{Stands, next_token}
+use Rattle.ssi_hub.specs.Mirror.{Stands, next_token, buffers_of}
 use Rattle.ssi_cli.specs.Machinery.HubRuns.{HasRun}
-use Rattle.ssi_cli.specs.Clauses.Leaving.{IsAbort, HasAborted, AreAborts, abort_calls}
+use Rattle.ssi_cli.specs.Clauses.Leaving.{IsAbort, HasAborted, abort_calls}
 use Rattle.ssi_cli.proofs.Exchanges.{steps_both}
 use Rattle.ssi_cli.proofs.ScriptRuns.{went_on_both}
 
@@ -151,3 +151,12 @@ still_last was now first t session kept forgot s is = by_name (pointwise nat_eq 
     by_name : (b : Bool) → cond b None (was s) ≡ Some t → first s ≡ Some t
     by_name true e = absurd (none-some t e)
     by_name false e = kept s e
+
+-- a connection that isn't open stays so while another one comes and goes
+pub still_none : (old new : Hub) (t : ℕ) → ((u : ℕ) → u ≢ t → buffers_of new u ≡ buffers_of old u) → buffers_of new t ≡ None
+    → (u : ℕ) → buffers_of old u ≡ None → buffers_of new u ≡ None
+still_none old new t others own u none = by_token (u == t) refl
+  where
+    by_token : (same : Bool) → (u == t) ≡ same → buffers_of new u ≡ None
+    by_token true is = ap (λ v. buffers_of new v) (eqb-true u t is) ∙ own
+    by_token false is = others u (eqb-false u t is) ∙ none

@@ -4,10 +4,9 @@ use Rattle.ssi_store.specs.Meaning.Courses.{Course}
 use Rattle.ssi_line.specs.Meaning.Steps.{Step}
 use Rattle.ssi_line.specs.Clauses.Ends.{WentOn}
 use Rattle.ssi_hub.specs.declared.hub.Hub.{Hub}
-use Rattle.ssi_hub.specs.Clauses.Calls.{Call, Opened, Received, token_of, is_open, with_call, with_run, all_steps}
+use Rattle.ssi_hub.specs.Clauses.Calls.{Call, Opened, Received, token_of, is_open, with_call, all_steps}
 use Rattle.ssi_hub.specs.Clauses.Buffers.{Buffers}
-use Rattle.ssi_hub.specs.Clauses.Runs.{IsTaken}
-use Rattle.ssi_hub.specs.Mirror.{is_stopped, buffers_of, Stands, IsSame, Changed}
+use Rattle.ssi_hub.specs.Mirror.{is_stopped, Stands, IsSame, Changed}
 use Rattle.ssi_cli.specs.Machinery.HubRuns.{WasCalled, HasRun}
 use Rattle.ssi_cli.proofs.ScriptRuns.{went_on_both}
 
@@ -85,16 +84,6 @@ run_both is_at old mid new store between after first then = λ calls s.
       grew_more ∙ ap (λ (l : List Step). l ++ later) grew ∙ append_assoc (all_steps calls) steps later,
       went_on_both is_at store between after steps later went went_more,
     )
-
--- a run of lines of one connection
-pub ran : {T : Type 0} (is_at : T → Course → Type 0) (old new : Hub) (store after : T) (token most : ℕ)
-    → (lost : Bool) → ((calls : List Call) → Stands old calls → (lines : List (List ℕ)) × (steps : List Step)
-    × IsTaken (is_stopped old) lost most (buffers_of old token) lines steps
-    × Stands new (with_run lost token lines steps calls) × WentOn is_at store steps after
-    × (all_steps (with_run lost token lines steps calls) ≡ all_steps calls ++ steps)) → HasRun is_at old store new after
-ran is_at old new store after token most lost run = λ calls s.
-    let (lines, steps, taken, stands, went, grew) = run calls s in
-    (with_run lost token lines steps calls, steps, stands, grew, went)
 
 -- the calls of a hub that began with none
 pub all_called : {T : Type 0} (is_at : T → Course → Type 0) (old new : Hub) (store after : T) → Stands old []

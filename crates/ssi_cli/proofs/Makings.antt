@@ -1,19 +1,19 @@
 -- Calls of a hub of one connection, and what they say of its stream.
-use Rattle.std.proofs.Common.{◌≡◌, ℕ, ◌<◌, ◌≤◌, Bool, true, false, cond, List, [], ◌∷◌, ◌++◌, length, take, Option, Some, None, refl, sym, ap, subst, ◌∙◌, append_assoc, append-nil, Result, Ok, Err, OnOk, IfErr, arith, ◌⊎◌, inl, inr}
-use Rattle.std.specs.Prelude.{◌==◌, IsOk, MatchOption, MatchResult}
+use Rattle.std.proofs.Common.{◌≡◌, ℕ, ◌-◌, ◌<◌, length-drop, Bool, true, false, cond, List, [], ◌∷◌, ◌++◌, length, take, Option, Some, None, refl, sym, ap, subst, ◌∙◌, append_assoc, append-nil, Result, Ok, Err, OnOk, IfErr, arith, ◌⊎◌, inl, inr}
+use Rattle.std.specs.Prelude.{◌==◌, not, ◌&&◌, nat_le, IsOk, MatchOption, MatchResult}
+use Rattle.std.specs.Option.{option_map}
 use Rattle.std.specs.Io.KnownBytes.{Consumes, Appends, Keeps}
 use Rattle.std.proofs.KnownBytes.{Consumes-nil, Appends-nil}
 use Rattle.std.proofs.lemmas.Bool.{eq-eqb, both_ways, false≢true}
 use Rattle.std.proofs.lemmas.Option.{same_Some, none-some}
 use Rattle.ssi_hub.specs.declared.hub.Hub.{Hub}
-use Rattle.ssi_hub.specs.Clauses.Buffers.{Buffers, first_unsent}
-use Rattle.ssi_hub.specs.Clauses.Clipping.{clipped}
-use Rattle.ssi_hub.specs.Clauses.Calls.{Call, Received, Wrote, Closed, token_of, is_open, with_call, sent_by, written_to, all_steps}
+use Rattle.ssi_hub.specs.Clauses.Buffers.{Buffers, first_unsent, with_written}
+use Rattle.ssi_hub.specs.Clauses.Clipping.{clipped, has_line}
+use Rattle.ssi_hub.specs.Clauses.Calls.{Call, Received, Wrote, Closed, token_of, is_open, with_call, sent_by, all_steps}
 use Rattle.ssi_hub.specs.Clauses.Serving.{StandsFor, IsServed}
 use Rattle.ssi_hub.specs.Mirror.{Stands, buffers_of, is_stopped}
-use Rattle.ssi_cli.specs.Clauses.Turns.{Makes, Exchanged, HasUnsent}
+use Rattle.ssi_cli.specs.Clauses.Turns.{Makes, Exchanged, HasUnsent, NoneUnsent, MayRun}
 use Rattle.ssi_cli.specs.declared.peer.Sent.TheVariants.{Bytes, Never}
-use Rattle.ssi_cli.specs.declared.peer.Sent.{Sent}
 use Rattle.ssi_cli.proofs.Exchanges.{steps_both, exchanged_both}
 
 -- ---- a connection that is open
@@ -46,6 +46,19 @@ pub is_there : (Q : Buffers → Type 0) (o : Option Buffers) (r : Bool) → Matc
     → (x : Buffers) × (o ≡ Some x)
 is_there Q None r m is = absurd (both_ways r m is)
 is_there Q (Some x) r m is = (x, refl)
+
+-- nothing is read while a line waits
+pub cant_read : (stopped : Bool) (o : Option Buffers) (r : Bool)
+    → MatchOption o (r ≡ false) (λ b. r ≡ (not stopped && (not (has_line b.waiting) && nat_le (length b.unsent) 65536)))
+    → r ≡ true → MayRun stopped o → ⊥
+cant_read stopped None r m is may = may
+cant_read stopped (Some b) r m is may =
+    let (goes, waits, short) = may in
+    false≢true
+    (sym (m
+    ∙ ap (λ o. not o && (not (has_line b.waiting) && nat_le (length b.unsent) 65536)) goes
+    ∙ ap (λ o. not o && nat_le (length b.unsent) 65536) waits)
+    ∙ is)
 
 -- ---- calls, one after the other
 
@@ -161,6 +174,34 @@ exchanged_kept remaining contents t old new same kept = record {
 
 -- ---- writing what is unsent
 
+pub as_many : (o : Option Buffers) (n : ℕ) (bytes : List ℕ) → MatchOption o (n ≡ 0) (λ b. n ≡ length b.unsent)
+    → MatchOption o (bytes ≡ []) (λ b. bytes ≡ b.unsent) → length bytes ≡ n
+as_many None n bytes none is = ap (λ (l : List ℕ). length l) is ∙ sym none
+as_many (Some b) n bytes counted is = ap (λ (l : List ℕ). length l) is ∙ sym counted
+
+pub counts : (o : Option Buffers) (n : ℕ) (bytes : List ℕ) → MatchOption o (bytes ≡ []) (λ b. bytes ≡ b.unsent)
+    → n ≡ length bytes → MatchOption o (n ≡ 0) (λ b. n ≡ length b.unsent)
+counts None n bytes is counted = counted ∙ ap (λ (l : List ℕ). length l) is
+counts (Some b) n bytes is counted = counted ∙ ap (λ (l : List ℕ). length l) is
+
+pub counts_less : (o now : Option Buffers) (n count : ℕ) → MatchOption o (n ≡ 0) (λ b. n ≡ length b.unsent)
+    → now ≡ option_map (with_written count) o → MatchOption now (n - count ≡ 0) (λ b. n - count ≡ length b.unsent)
+counts_less o now n count counted is =
+    subst (λ (x : Option Buffers). MatchOption x (n - count ≡ 0) (λ b. n - count ≡ length b.unsent)) (sym is) (by_open o counted)
+  where
+    by_open : (o : Option Buffers) → MatchOption o (n ≡ 0) (λ b. n ≡ length b.unsent)
+        → MatchOption (option_map (with_written count) o) (n - count ≡ 0) (λ b. n - count ≡ length b.unsent)
+    by_open None none = omega (arith, none)
+    by_open (Some b) counted = ap (λ m. m - count) counted ∙ sym (length-drop count b.unsent)
+
+pub none_left : (o : Option Buffers) (n : ℕ) → MatchOption o (n ≡ 0) (λ b. n ≡ length b.unsent) → n ≡ 0 → NoneUnsent o
+none_left None n counted none = tt
+none_left (Some b) n counted none = empty b.unsent (sym counted ∙ none)
+  where
+    empty : (xs : List ℕ) → length xs ≡ 0 → xs ≡ []
+    empty [] e = refl
+    empty (x ∷ xs) e = absurd (omega (arith, e))
+
 unsent_is : (o : Option Buffers) (bytes : List ℕ) → MatchOption o (bytes ≡ []) (λ b. bytes ≡ b.unsent) → 0 < length bytes
     → (x : Buffers) × (o ≡ Some x) × (bytes ≡ x.unsent)
 unsent_is None bytes m some = absurd (omega (arith, some, ap (λ (l : List ℕ). length l) m))
@@ -214,3 +255,8 @@ module _ {S : Type 0} (remaining contents : S → Option (List ℕ)) (t : ℕ) (
 
 pub never_bytes : (n : ℕ) → Never ≡ Bytes n → ⊥
 never_bytes n e = cc
+
+pub some_bytes : (n m : ℕ) → Bytes n ≡ Bytes m → 0 < m → 0 < n
+some_bytes n m e some =
+    let same : n ≡ m = cc in
+    omega (arith, same, some)

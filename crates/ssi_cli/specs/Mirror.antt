@@ -17,6 +17,10 @@ input_of p = p.input
 abbrev pub may_read : {S : Type 0} → Peer S → Bool
 may_read p = p.readable
 
+-- whether it has a turn now
+abbrev pub is_due : {S : Type 0} → Peer S → Bool
+is_due p = p.due
+
 -- the connection that the table has as the last user of the session
 abbrev pub last_in : Users → List ℕ → Option ℕ
 last_in users s = lookup (pointwise nat_eq s) users.last.entries

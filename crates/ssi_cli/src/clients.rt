@@ -216,7 +216,7 @@ impl Clients {
         if !peer.is_due() {
             return;
         }
-        turn(
+        let _ = turn(
             alloc,
             token,
             peer,

@@ -2,7 +2,9 @@
 
 /// Why a connection is closed.
 #[derive(Clone, Copy, Debug, PartialEq, Eq)]
-pub(crate) enum Closing {
+pub enum Closing {
+    /// No more is read of it, its whole lines are carried out, and all its replies are written. After `stop` lines may be left.
+    Ended,
     /// A write to it failed or took nothing, and replies are unsent.
     Broken,
     /// Memory can't hold what it sent, or what it is to get.

@@ -1,12 +1,12 @@
 //! What becomes of the sessions of a connection that is closed.
 
-ghost use Rattle.std.specs.Prelude.{◌≡◌, List, [], ◌∷◌, ◌++◌, Some, is_some, IfOk};
+ghost use Rattle.std.specs.Prelude.{◌≡◌, ℕ, List, [], ◌∷◌, ◌++◌, Some, None, is_some, IfOk};
 ghost use Rattle.ssi_store.specs.Meaning.Courses.{Abort};
 ghost use Rattle.ssi_store.specs.Mirror.Stores.{IsAt};
 ghost use Rattle.ssi_line.specs.Meaning.Spelling.{command_text};
 ghost use Rattle.ssi_line.specs.Clauses.Ends.{WentOn};
 ghost use Rattle.ssi_hub.specs.Clauses.Calls.{Call, all_steps};
-ghost use Rattle.ssi_hub.specs.Mirror.{Stands};
+ghost use Rattle.ssi_hub.specs.Mirror.{Stands, buffers_of};
 ghost use Rattle.ssi_cli.specs.Clauses.Leaving.{IsAbort, HasAborted, HasUsed, HasForgotten};
 ghost use Rattle.ssi_cli.specs.Mirror.{last_in};
 ghost use Rattle.ssi_cli.specs.Machinery.HubRuns.{HasRun};
@@ -33,6 +33,7 @@ pub(crate) fn abort_all<C: Chains + Drop, M: Marks + Drop>(
     ensures aborts { HasAborted (IsAt C.held M.marked) (HasUsed users.old token) hub.old store.old hub.new store.new }
     ensures forgets { HasForgotten users.old users.new }
     ensures table { is_some users.new ≡ is_some users.old }
+    ensures gone { (t : ℕ) → buffers_of hub.old t ≡ None → buffers_of hub.new t ≡ None }
 {
     match users {
         Some(users) => abort_each(alloc, token, users, hub, store),
@@ -51,6 +52,7 @@ fn abort_each<C: Chains + Drop, M: Marks + Drop>(
     ensures aborts { HasAborted (IsAt C.held M.marked) (λ s. last_in users.old s ≡ Some token)
         hub.old store.old hub.new store.new }
     ensures forgets { HasForgotten (Some users.old) (Some users.new) }
+    ensures gone { (t : ℕ) → buffers_of hub.old t ≡ None → buffers_of hub.new t ≡ None }
 {
     for _ in 0..u64::MAX {
         let Some(session) = users.next_of(token) else {
@@ -73,8 +75,9 @@ fn abort<C: Chains + Drop, M: Marks + Drop>(
     hub: &mut Hub,
     store: &mut Store<C, M>,
 ) -> bool
-    ensures { (calls : List Call) → Stands hub.old calls → (made : List Call) × Stands hub.new (made ++ calls)
+    ensures aborted { (calls : List Call) → Stands hub.old calls → (made : List Call) × Stands hub.new (made ++ calls)
         × WentOn (IsAt C.held M.marked) store.old (all_steps made) store.new × IsAbort session made calls }
+    ensures gone { (t : ℕ) → buffers_of hub.old t ≡ None → buffers_of hub.new t ≡ None }
 {
     let Ok(line) = abort_line(alloc, &session) else {
         return false;
@@ -102,8 +105,9 @@ fn abort_by<C: Chains + Drop, M: Marks + Drop>(
     store: &mut Store<C, M>,
 ) -> bool
     requires { line.now ≡ command_text (Abort session) ++ (10 ∷ []) }
-    ensures { (calls : List Call) → Stands hub.old calls → (made : List Call) × Stands hub.new (made ++ calls)
+    ensures aborted { (calls : List Call) → Stands hub.old calls → (made : List Call) × Stands hub.new (made ++ calls)
         × WentOn (IsAt C.held M.marked) store.old (all_steps made) store.new × IsAbort session made calls }
+    ensures gone { (t : ℕ) → buffers_of hub.old t ≡ None → buffers_of hub.new t ≡ None }
 {
     let Ok(token) = hub.opened(alloc) else {
         return false;

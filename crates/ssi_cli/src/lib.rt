@@ -23,8 +23,10 @@ mod together;
 mod turns;
 mod users;
 
+pub use closing::Closing;
 pub use fault::Fault;
 pub use listener::Listener;
+pub use peer::{Input, Peer, Ready};
 pub use runs::{
     CommandsFault, ServingFault, carry_out_commands, judge_stream, judge_texts, order_text,
     serve_commands, serve_commands_together, status_of_serving,
@@ -33,4 +35,7 @@ pub use script::run_script;
 pub use script_fault::ScriptFault;
 pub use socket::{Served, run_socket, serve_socket};
 pub use status::Status;
+pub use stream::Stream;
 pub use together::{AtClose, run_together, serve_together};
+pub use turns::turn;
+pub use users::Users;

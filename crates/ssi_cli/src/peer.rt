@@ -3,14 +3,14 @@
 ghost use Rattle.std.specs.Prelude.{◌≡◌, ◌≢◌, ◌≤◌, ◌<◌, ◌⊎◌, ℕ, true, false, length, take};
 ghost use Rattle.std.specs.Io.KnownBytes.{Consumes, Appends, Keeps, IsAtEnd};
 ghost use Rattle.ssi_cli.specs.Clauses.Peers.{HasWritten};
-ghost use Rattle.ssi_cli.specs.Mirror.{stream_of, input_of, may_read};
+ghost use Rattle.ssi_cli.specs.Mirror.{stream_of, input_of, may_read, is_due};
 
 use crate::stream::Stream;
 use std::io::ErrorKind;
 
 /// The stream of a connection, and what the system has said of it.
 #[derive(Drop)]
-pub(crate) struct Peer<S> {
+pub struct Peer<S> {
     stream: S,
     input: Input,
     // whether a read may find something
@@ -23,7 +23,7 @@ pub(crate) struct Peer<S> {
 
 /// Whether the client still sends.
 #[derive(Clone, Copy, Debug, PartialEq, Eq)]
-pub(crate) enum Input {
+pub enum Input {
     /// More may come.
     Open,
     /// A read has found the end.
@@ -34,7 +34,7 @@ pub(crate) enum Input {
 
 /// What the system has reported of a connection.
 #[derive(Clone, Copy, Debug, PartialEq, Eq)]
-pub(crate) enum Ready {
+pub enum Ready {
     /// The client sends no more, or the connection is broken.
     HangsUp,
     /// A read may find something.
@@ -56,9 +56,11 @@ pub(crate) enum Sent {
 impl<S: Stream> Peer<S> {
     /// Makes one of a connection of which nothing was reported: nothing is read of it before [`note`](Peer::note) says that
     /// something may have come.
-    pub(crate) fn new(stream: S) -> Peer<S>
+    pub fn new(stream: S) -> Peer<S>
         ensures stream { stream_of result ≡ stream }
         ensures input { input_of result ≡ Input.Open }
+        ensures unready { may_read result ≡ false }
+        ensures idle { is_due result ≡ false }
     {
         Peer {
             stream,
@@ -77,10 +79,11 @@ impl<S: Stream> Peer<S> {
     }
 
     /// Notes what the system has reported.
-    pub(crate) fn note(&mut self, ready: Ready)
+    pub fn note(&mut self, ready: Ready)
         ensures stream { stream_of self.new ≡ stream_of self.old }
         ensures input { input_of self.new ≡ input_of self.old }
         ensures readable { ready ≢ Ready.Writable → input_of self.old ≡ Input.Open → may_read self.new ≡ true }
+        ensures due { is_due self.new ≡ true }
     {
         self.due = true;
         if ready == Ready::HangsUp {
@@ -92,7 +95,9 @@ impl<S: Stream> Peer<S> {
     }
 
     /// Returns whether it has a turn now.
-    pub(crate) fn is_due(&self) -> bool {
+    pub fn is_due(&self) -> bool
+        ensures { result ≡ is_due self.now }
+    {
         self.due
     }
 
@@ -100,6 +105,8 @@ impl<S: Stream> Peer<S> {
     pub(crate) fn set_due(&mut self, due: bool)
         ensures stream { stream_of self.new ≡ stream_of self.old }
         ensures input { input_of self.new ≡ input_of self.old }
+        ensures readable { may_read self.new ≡ may_read self.old }
+        ensures due { is_due self.new ≡ due }
     {
         self.due = due;
     }
@@ -112,8 +119,9 @@ impl<S: Stream> Peer<S> {
     }
 
     /// Returns whether no more is read of it: all that the client sent is read, or a read has failed.
-    pub(crate) fn has_ended(&self) -> bool
-        ensures { result ≡ true → input_of self.now ≢ Input.Open }
+    pub fn has_ended(&self) -> bool
+        ensures ended { result ≡ true → input_of self.now ≢ Input.Open }
+        ensures open { result ≡ false → input_of self.now ≡ Input.Open }
     {
         self.input != Input::Open
     }

@@ -9,7 +9,7 @@ use std::io;
 use std::io::{Read, Write};
 
 /// A stream that is read and written, where neither touches the bytes of the other.
-pub(crate) trait Stream: Read + Write {
+pub trait Stream: Read + Write {
     // a read of it never fails, and a write takes at least a byte of those that it is given
     ghost is_steady: { Self → Bool } = { λ _. false };
 

@@ -17,7 +17,7 @@ const MAX_LINE_LEN: usize = 4096;
 
 /// For each session the connection that sent the last command of it.
 #[derive(Drop)]
-pub(crate) struct Users {
+pub struct Users {
     last: IndexMap<Session, u64>,
     // the sessions that each connection has used; another may have used them since
     used: IndexMap<u64, IndexSet<Session>>,
@@ -25,7 +25,7 @@ pub(crate) struct Users {
 
 impl Users {
     /// Makes a table without sessions.
-    pub(crate) fn new(alloc: Global) -> Users
+    pub fn new(alloc: Global) -> Users
         ensures { (s : List ℕ) → last_in result s ≡ None }
     {
         Users {

@@ -9,6 +9,7 @@ use Rattle.ssi_hub.specs.declared.hub.Hub.{Hub}
 use Rattle.ssi_hub.specs.Clauses.Calls.{Call, token_of, sent_by, all_steps}
 use Rattle.ssi_hub.specs.Mirror.{Stands}
 use Rattle.ssi_cli.specs.declared.users.Users.{Users}
+use Rattle.ssi_cli.specs.Meaning.Users.{last_after}
 use Rattle.ssi_cli.specs.Mirror.{last_at}
 
 -- the calls are those of a connection of their own: it has a new token, and sends the line `abort` of the session, or nothing
@@ -42,3 +43,7 @@ HasUsed users t s = last_at users s ≡ Some t
 -- each session has the user that it had, or none
 abbrev pub HasForgotten : Option Users → Option Users → Type 0
 HasForgotten old new = (s : Bytes) (t : ℕ) → last_at new s ≡ Some t → last_at old s ≡ Some t
+
+-- each session has the user that it had, or the one that has used it last by these calls; or none
+abbrev pub HasNoted : Option Users → Option Users → List Call → Type 0
+HasNoted old new calls = (s : Bytes) (t : ℕ) → last_at new s ≡ Some t → last_after s calls (last_at old s) ≡ Some t

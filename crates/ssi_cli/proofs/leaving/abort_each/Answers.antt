@@ -1,4 +1,4 @@
-use Rattle.std.proofs.Common.{◌≡◌, ◌∙◌, ℕ, List, Some, nat_eq, sym, ap}
+use Rattle.std.proofs.Common.{◌≡◌, ◌∙◌, Some, nat_eq, sym, ap}
 use Rattle.std.specs.Map.{lookup}
 use Rattle.std.specs.Cmp.Lexicographic.{pointwise}
 use Rattle.ssi_store.specs.Mirror.Stores.{IsAt}
@@ -12,6 +12,7 @@ loop-init g c = (
       (λ s. last_in c.args.users.now s ≡ Some c.args.token) c.args.hub.now
       c.args.store.now,
   λ s t e. e,
+  λ t none. none,
 )
 
 pub returns-clause-run : goal.returns-clause-run
@@ -37,7 +38,7 @@ returns-then-not-abort-clause-aborts g c =
     one_more (IsAt {g = g.C.Chains} {h = g.M.Marks} g.C.Chains.held g.M.Marks.marked)
     (λ s. last_in c.args.users.now s ≡ Some c.args.token) c.args.hub.now
     c.loop.hub c.abort.new.hub c.args.store.now c.loop.store c.abort.new.store c.in-Some.session
-    (c.loop.invariant.1 c.in-Some.session c.args.token c.in-Some.ensures.user) c.loop.invariant.0 c.abort.ensures
+    (c.loop.invariant.1 c.in-Some.session c.args.token c.in-Some.ensures.user) c.loop.invariant.0 c.abort.ensures.aborted
 
 pub returns-then-not-abort-clause-run : goal.returns-then-not-abort-clause-run
 returns-then-not-abort-clause-run g c =
@@ -50,11 +51,12 @@ loop-preserved g c = (
   one_more (IsAt {g = g.C.Chains} {h = g.M.Marks} g.C.Chains.held g.M.Marks.marked)
       (λ s. last_in c.args.users.now s ≡ Some c.args.token) c.args.hub.now
       c.loop.hub c.abort.new.hub c.args.store.now c.loop.store c.abort.new.store c.in-Some.session
-      (c.loop.invariant.1 c.in-Some.session c.args.token c.in-Some.ensures.user) c.loop.invariant.0 c.abort.ensures,
+      (c.loop.invariant.1 c.in-Some.session c.args.token c.in-Some.ensures.user) c.loop.invariant.0 c.abort.ensures.aborted,
   λ s t. still_last (last_in c.next_of.new.self) (last_in c.forget.new.self) (last_in c.args.users.now) t c.in-Some.session
       (λ s e. c.loop.invariant.1 s t
       (ap (λ m. lookup (pointwise nat_eq s) m.entries) (sym c.next_of.ensures.last) ∙ e))
       c.forget.ensures s,
+  λ t none. c.abort.ensures.gone t (c.loop.invariant.2 t none),
 )
 
 pub returns-clause-forgets : goal.returns-clause-forgets
@@ -68,3 +70,12 @@ returns-in_default-clause-forgets g c = λ s t e.
 pub returns-then-not-abort-clause-forgets : goal.returns-then-not-abort-clause-forgets
 returns-then-not-abort-clause-forgets g c = λ s t e.
     c.loop.invariant.1 s t (ap (λ m. lookup (pointwise nat_eq s) m.entries) (sym c.next_of.ensures.last) ∙ e)
+
+pub returns-clause-gone : goal.returns-clause-gone
+returns-clause-gone g c = c.loop.invariant.2
+
+pub returns-in_default-clause-gone : goal.returns-in_default-clause-gone
+returns-in_default-clause-gone g c = c.loop.invariant.2
+
+pub returns-then-not-abort-clause-gone : goal.returns-then-not-abort-clause-gone
+returns-then-not-abort-clause-gone g c = λ t none. c.abort.ensures.gone t (c.loop.invariant.2 t none)

@@ -1,9 +1,10 @@
 use Rattle.std.proofs.Common.{◌≡◌, ◌<◌, List, [], ◌∷◌, length, take, ℕ, refl, sym, subst, pos_of_ne-zero, length-take-le, inl, inr}
-use Rattle.ssi_hub.specs.Clauses.Calls.{Call, Received, Closed}
+use Rattle.ssi_hub.specs.Clauses.Calls.{Received, Closed}
+use Rattle.ssi_hub.specs.Mirror.{buffers_of, is_stopped}
 use Rattle.ssi_cli.specs.declared.closing.Closing.TheVariants.{Memory}
-use Rattle.ssi_cli.specs.Clauses.Turns.{Makes, Exchanged}
+use Rattle.ssi_cli.specs.Clauses.Turns.{Exchanged}
 use Rattle.ssi_cli.specs.Mirror.{stream_of}
-use Rattle.ssi_cli.proofs.Makings.{open_by, made_if_ok, made_if_err, exchanged_received, exchanged_dropped, ended_if_none}
+use Rattle.ssi_cli.proofs.Makings.{open_by, made_if_ok, made_if_err, exchanged_received, exchanged_dropped, ended_if_none, cant_read}
 use Rattle.ssi_cli.proofs.turns.receive.Goals as goal
 
 pub returns-clause-received : goal.returns-clause-received
@@ -53,3 +54,13 @@ returns-clause-reads g c = λ steady may more.
     subst (λ (n : ℕ). 0 < n) (sym (length-take-le c.read-count.result c.read-count.new.room c.read-count.ensures.bound))
     (pos_of_ne-zero c.if-count-eq0.false) in
     inr (bytes, some, c.read-count.ensures.bytes)
+
+pub returns-then-count-eq0-clause-idle : goal.returns-then-count-eq0-clause-idle
+returns-then-count-eq0-clause-idle g c = λ may.
+    absurd (cant_read (is_stopped c.args.hub.now) (buffers_of c.args.hub.now c.args.token) c.wants_read.result
+    c.wants_read.ensures c.if-not-wants_read.false may)
+
+pub returns-clause-idle : goal.returns-clause-idle
+returns-clause-idle g c = λ may.
+    absurd (cant_read (is_stopped c.args.hub.now) (buffers_of c.args.hub.now c.args.token) c.wants_read.result
+    c.wants_read.ensures c.if-not-wants_read.false may)

@@ -1,7 +1,5 @@
-use Rattle.std.proofs.Common.{◌≡◌, sym, ap, subst, ◌∙◌}
-use Rattle.ssi_store.specs.Mirror.Commands.{command_of}
-use Rattle.ssi_line.specs.Meaning.Spelling.{Line}
-use Rattle.ssi_line.specs.Clauses.Reading.{IsOnlyLineOf, line_of}
+use Rattle.std.proofs.Common.{sym, ap, ◌∙◌}
+use Rattle.ssi_line.specs.Clauses.Reading.{line_of}
 use Rattle.ssi_cli.proofs.UsedLines.{line_named, no_line_named, session_of_line}
 use Rattle.ssi_cli.proofs.users.session_in_short.Goals as goal
 

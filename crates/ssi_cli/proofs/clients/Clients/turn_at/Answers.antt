@@ -19,4 +19,4 @@ returns-then-not-is_due g c =
 pub returns : goal.returns
 returns g c =
     subst (λ hub. HasRun (IsAt {g = g.C.Chains} {h = g.M.Marks} g.C.Chains.held g.M.Marks.marked) c.args.self.now.hub
-    c.args.store.now hub c.turn.new.store) (sym c.end_turn.ensures) c.turn.ensures
+    c.args.store.now hub c.turn.new.store) (sym c.end_turn.ensures) c.turn.ensures.run
