@@ -133,12 +133,12 @@ impl Tried {
     }
 }
 
-fn number(text: &str) -> usize {
+pub(crate) fn number(text: &str) -> usize {
     text.parse::<usize>().unwrap_or(0)
 }
 
 /// Returns the bytes of the text, with a line feed for each `/`.
-fn sent(alloc: Global, text: &str) -> Result<Vec<u8>, AllocError> {
+pub(crate) fn sent(alloc: Global, text: &str) -> Result<Vec<u8>, AllocError> {
     let mut bytes = Vec::new(alloc);
     for b in text.as_bytes() {
         bytes.push(if *b == b'/' { b'\n' } else { *b })?;
@@ -147,7 +147,7 @@ fn sent(alloc: Global, text: &str) -> Result<Vec<u8>, AllocError> {
 }
 
 /// Returns what stands behind `next` and `show`: the bytes, with `/` for each line feed, or `nothing`.
-fn shown(alloc: Global, bytes: &[u8]) -> Result<String, AllocError> {
+pub(crate) fn shown(alloc: Global, bytes: &[u8]) -> Result<String, AllocError> {
     if bytes.is_empty() {
         return format!(in alloc; ": nothing");
     }

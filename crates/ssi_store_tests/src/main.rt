@@ -15,16 +15,19 @@
 //! - `endless_streams`: inputs that never end;
 //! - `many_sessions`: hundreds of transactions at once;
 //! - `random_lines`: lines made by chance;
-//! - `hub_calls`: calls of a hub, which are written again with their answers.
+//! - `turn_calls`: turns of connections in memory, which are written again with their answers;
+//! - `hub_calls`: calls of a hub, in the same way.
 //!
 //! With the name of a file: it holds courses, each ended by a line `end`. For each the program writes the replies, the
 //! history, the certificate, the verdict on both, and a line `end of list`. `scripts/compare_store.py` reads them.
 //!
-//! With the name of a file and `hub`: it holds calls of a hub. `scripts/hub_reference.py` reads what is written.
+//! With the name of a file and `hub` or `turns`: it holds calls of a hub, or turns. `scripts/hub_reference.py` and
+//! `scripts/turns_reference.py` read what is written.
 #![tactic(auto)]
 
 mod answers;
 mod at_once;
+mod clients;
 mod courses;
 mod endless_streams;
 mod failing_devices;
@@ -41,6 +44,7 @@ mod random_lines;
 mod runs;
 mod scripts;
 mod texts;
+mod turn_calls;
 mod worked;
 
 use std::{env, io};
@@ -48,10 +52,20 @@ use std::{env, io};
 fn main(rt: HostRuntime) -> io::Result<()> {
     let mut arguments = env::args(&rt)?;
     let _program = arguments.next();
-    match (arguments.next(), arguments.next()) {
-        (Some(path), Some(_hub)) => hub_calls::write_answers(&rt, path.as_str()),
-        (Some(path), None) => lists::write_outcomes(&rt, path.as_str()),
-        _ => write_named(&rt),
+    let Some(path) = arguments.next() else {
+        return write_named(&rt);
+    };
+    match arguments.next() {
+        Some(kind) => write_calls(&rt, path.as_str(), kind.as_str()),
+        None => lists::write_outcomes(&rt, path.as_str()),
+    }
+}
+
+/// Writes the calls of the file, each with its answer.
+fn write_calls(rt: &HostRuntime, path: &str, kind: &str) -> io::Result<()> {
+    match kind {
+        "turns" => turn_calls::write_answers(rt, path),
+        _ => hub_calls::write_answers(rt, path),
     }
 }
 
@@ -73,6 +87,7 @@ fn write_lines(rt: &HostRuntime, name: &str) -> io::Result<()> {
         "endless_streams" => write_endless_streams(rt),
         "many_sessions" => write_many_sessions(rt),
         "random_lines" => write_line(rt, name, random_lines::are_answered(rt)?),
+        "turn_calls" => turn_calls::write_answers(rt, name),
         "hub_calls" => hub_calls::write_answers(rt, name),
         _ => print!(rt; "{}", worked::line_of(rt, name)?),
     }
