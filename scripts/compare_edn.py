@@ -10,8 +10,8 @@ part of it. The reader runs without a proof, by `rt try`, in a copy of its crate
 
 Without --write it checks that the reader still makes the same of each text as the table has it. With --write it asks both
 and writes the table anew; that takes the command `clojure` (of the Debian package of that name; version 1.11.1 wrote the
-table). Both fail if the two read different forms of a text, or if Clojure reads one that the reader refuses, unless
-scripts/edn_forms/refused names it. The last line is `N passed, 0 failed`; the status is 1 if one failed.
+table). Both fail if Clojure reads a text and the reader doesn't read the same forms, unless scripts/edn_forms/differences
+has the text. The last line is `N passed, 0 failed`; the status is 1 if one failed.
 """
 import argparse
 import json
@@ -52,7 +52,7 @@ def by_reader(texts):
             shutil.copytree(os.path.join(TOP, "crates", crate), os.path.join(top, "crates", crate), ignore=skip)
         source = os.path.join(top, "crates", "edn_forms", "src")
         os.makedirs(source)
-        shutil.copy(os.path.join(FOLDER, "main.rs"), os.path.join(source, "main.rt"))
+        shutil.copy(os.path.join(FOLDER, "reader.rs"), os.path.join(source, "main.rt"))
         with open(os.path.join(top, "crates.txt"), "w", encoding="ascii") as file:
             file.write(CRATES)
         given = hexed(["0\n" + text for text in texts])
@@ -171,7 +171,7 @@ def main():
     parser.add_argument("--write", action="store_true")
     options = parser.parse_args()
     table = os.path.join(FOLDER, "table")
-    texts, allowed = texts_of("forms"), set(texts_of("refused"))
+    texts, known = texts_of("forms"), set(texts_of("differences"))
     ours = by_reader(texts)
     if options.write:
         theirs = by_clojure(texts)
@@ -181,7 +181,7 @@ def main():
         if options.write:
             same = shown(ours[i]) == shown(theirs[i])
             row = [json.dumps(text), shown(theirs[i]), "same" if same else shown(ours[i])]
-            if theirs[i] is not None and not same and (ours[i] is not None or text not in allowed):
+            if theirs[i] is not None and not same and text not in known:
                 failed.append(row)
         rows.append(row)
     if options.write:
@@ -195,7 +195,7 @@ def main():
         for row, (_, clojure, was) in zip(rows, kept):
             if row[1] != (clojure if was == "same" else was):
                 failed.append([row[0], clojure, row[1]])
-            elif clojure != "refused" and was != "same" and (was != "refused" or json.loads(row[0]) not in allowed):
+            elif clojure != "refused" and was != "same" and json.loads(row[0]) not in known:
                 failed.append([row[0], clojure, was])
     for row in failed:
         print("\t".join(row))
