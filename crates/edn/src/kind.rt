@@ -14,13 +14,13 @@ pub enum Kind<'a> {
     Nil,
     /// `true` and `false`
     Boolean(bool),
-    /// An integer of 64 bits, written with or without the suffix `N`.
+    /// An integer of 64 bits, in whichever radix it is written, with or without the suffix `N`.
     Integer(i64),
-    /// Every other number, as it is written: a float, or an integer beyond 64 bits.
+    /// Every other number, as it is written: a float, a ratio, `##Inf`, `##-Inf`, `##NaN`, or an integer beyond 64 bits.
     Number(&'a [u8]),
     /// The bytes of a string, its escapes resolved.
     String(&'a [u8]),
-    /// What stands behind the backslash of a character, as it is written: `c`, `newline` or `u03a9`.
+    /// What stands behind the backslash of a character, as it is written: `c`, `newline`, `u03a9` or `o101`.
     Character(&'a [u8]),
     /// The name of a keyword, without its colon.
     Keyword(&'a [u8]),
