@@ -3,7 +3,7 @@ use Rattle.std.proofs.Common.{◌≡◌, ◌≢◌, ◌⊎◌, ℕ, zero, suc, �
 use Rattle.std.specs.Prelude.{encode_utf8}
 use Rattle.std.specs.List.{prefix_len}
 use Rattle.std.specs.Io.KnownBytes.{prepend_known}
-use Rattle.std.proofs.lemmas.Bool.{eqb-true, eqb-false, ne_eqb}
+use Rattle.std.proofs.lemmas.Bool.{eqb-true, eqb-false}
 use Rattle.edn.specs.declared.read_fault.Problem.{Problem}
 use Rattle.edn.specs.declared.read_fault.Problem.TheVariants as problem
 use Rattle.edn.specs.declared.read_fault.ReadFault.TheVariants.{Syntax}

@@ -1,5 +1,5 @@
 -- How tokens are written, and what may stand between them.
-use Rattle.std.specs.Prelude.{◌≡◌, ◌≢◌, ℕ, true, false, List, [], ◌∷◌, ◌++◌, All, Some}
+use Rattle.std.specs.Prelude.{◌≡◌, ◌≢◌, ℕ, true, List, [], ◌∷◌, ◌++◌, All, Some}
 use Rattle.std.specs.List.{list_all}
 use Rattle.edn.specs.declared.token.Opening.TheVariants as opening
 use Rattle.edn.specs.declared.token.Closing.TheVariants as closing
