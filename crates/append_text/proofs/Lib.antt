@@ -7,3 +7,4 @@ pub mod EdnForms
 pub mod JsonForms
 pub mod Collecting
 pub mod TextFaults
+pub mod FirstBytes

@@ -4,3 +4,5 @@ pub mod Pairings
 pub mod Readings
 pub mod Collectors
 pub mod EdnFaults
+pub mod Telling
+pub mod BufferTexts

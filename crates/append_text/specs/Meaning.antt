@@ -7,3 +7,4 @@ pub mod Operations
 pub mod Numbers
 pub mod Json
 pub mod Texts
+pub mod Notations

@@ -23,8 +23,16 @@ pub(crate) struct Buffer {
 }
 
 impl Buffer {
+    ghost use Rattle.std.specs.Prelude.{◌⊎◌, ℕ, List, [], false, IfErr, OnOk};
+    ghost use Rattle.std.specs.Io.KnownBytes.{IsAtEnd};
+    ghost use Rattle.append_text.specs.Meaning.Notations.{notation_in};
+    ghost use Rattle.append_text.specs.Machinery.BufferTexts.{HasLeft, pending_in};
+
     /// A buffer for a source of which nothing was read.
-    pub(crate) fn new() -> Buffer {
+    pub(crate) fn new() -> Buffer
+        ensures pending { pending_in result ≡ [] }
+        ensures start { result.start ≡ 0 }
+    {
         Buffer {
             bytes: [0; ROOM],
             start: 0,
@@ -33,13 +41,21 @@ impl Buffer {
     }
 
     /// Returns the bytes.
-    pub(crate) fn pending(&self) -> &[u8] {
+    pub(crate) fn pending(&self) -> &[u8]
+        ensures { result.now ≡ pending_in self.now }
+    {
         &self.bytes[self.start..self.end]
     }
 
     /// Returns what the text is written in. Reads until that is decided; a text that ends before, or begins with 8192
     /// blanks, is one of EDN. `Device` if the source failed.
-    pub(crate) fn form<S: Source>(&mut self, source: &mut S) -> Result<TextForm, ReadFault> {
+    pub(crate) fn form<S: Source>(&mut self, source: &mut S) -> Result<TextForm, ReadFault>
+        ensures kept { (text : List ℕ) → HasLeft self.old (S.remaining source.old) text
+            → OnOk result (HasLeft self.new (S.remaining source.new) text) }
+        ensures form { (text : List ℕ) → self.old.start ≡ 0 → HasLeft self.old (S.remaining source.old) text
+            → IfOk result (λ f. f ≡ notation_in text) }
+        ensures fault { IfErr result (λ e. e ≡ ReadFault.Device) }
+    {
         loop {
             if let Some(form) = text_form(self.pending()) {
                 return Ok(form);
@@ -52,6 +68,12 @@ impl Buffer {
 
     /// Reads more bytes behind those that are pending. Returns whether any came.
     fn read_more<S: Source>(&mut self, source: &mut S) -> Result<bool, ReadFault>
+        ensures kept { (text : List ℕ) → HasLeft self.old (S.remaining source.old) text
+            → OnOk result (HasLeft self.new (S.remaining source.new) text) }
+        ensures end { IfOk result (λ some. some ≡ false
+            → (pending_in self.new ≡ pending_in self.old) × ((length (pending_in self.old) + self.old.start ≡ 8192) ⊎ IsAtEnd (S.remaining source.new))) }
+        ensures start { self.new.start ≡ self.old.start }
+        ensures fault { IfErr result (λ e. e ≡ ReadFault.Device) }
         ensures less { IfOk result (λ some. some ≡ true → S.left source.new < S.left source.old) }
         ensures work { IfOk result (λ _. work_left (S.left source.new) self.new.start self.new.end
             ≤ work_left (S.left source.old) self.old.start self.old.end) }

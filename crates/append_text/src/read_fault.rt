@@ -106,6 +106,10 @@ impl From<Problem> for Refusal {
 }
 
 impl From<AllocError> for ReadFault {
+    ghost use Rattle.append_text.specs.declared.read_fault.ReadFault.TheVariants as fault;
+
+    ghost from_gives = { λ _ r. r ≡ fault.Memory };
+
     fn from(_: AllocError) -> ReadFault {
         ReadFault::Memory
     }

@@ -1,6 +1,7 @@
 //! Reading histories.
 
 ghost use Rattle.std.specs.Prelude.{◌≡◌, List, ℕ, Some, IfOk, IfErr};
+ghost use Rattle.append_text.specs.Meaning.Notations.{notation_in};
 ghost use Rattle.append_text.specs.Meaning.Texts.{IsFaultOf, IsHistoryOf};
 
 use crate::buffer::Buffer;
@@ -15,8 +16,13 @@ use std::alloc::Global;
 
 /// Reads a history from all that the source has left, in JSON if its first map has a string as its first key, else in
 /// EDN. `Text` with the place if the text is that of no history, `Device` if the source failed, `Memory` if memory ran
-/// out.
-pub fn read_history<S: Source>(alloc: Global, source: &mut S) -> Result<History, ReadFault> {
+/// out. The first 8192 bytes tell EDN from JSON.
+pub fn read_history<S: Source>(alloc: Global, source: &mut S) -> Result<History, ReadFault>
+    ensures history { (text : List ℕ) → S.remaining source.old ≡ Some text → notation_in text ≡ TextForm.Edn
+        → IfOk result (IsHistoryOf text) }
+    ensures fault { (text : List ℕ) → S.remaining source.old ≡ Some text → notation_in text ≡ TextForm.Edn
+        → IfErr result (IsFaultOf text) }
+{
     let mut buffer = Buffer::new();
     match buffer.form(source)? {
         TextForm::Edn => edn_text(alloc, Reader::after(alloc, buffer.pending())?, source),

@@ -1,5 +1,9 @@
 //! The notation of a text, told by its first bytes.
 
+ghost use Rattle.std.specs.Prelude.{◌≡◌};
+ghost use Rattle.append_text.specs.Meaning.Notations as Spec;
+ghost use Rattle.append_text.specs.Machinery.Telling.{Decides, begins_key};
+
 /// What a text is written in.
 #[derive(Clone, Copy, Debug, PartialEq, Eq)]
 pub(crate) enum TextForm {
@@ -9,10 +13,22 @@ pub(crate) enum TextForm {
     Json,
 }
 
+/// Returns whether the byte is white space of EDN and of JSON.
+fn is_blank(byte: u8) -> bool
+    ensures { result ≡ Spec.is_blank byte }
+{
+    byte == b' ' || byte == b'\t' || byte == b'\n' || byte == b'\r'
+}
+
 /// Returns what follows the white space at the front.
-pub(crate) fn after_blanks(text: &[u8]) -> &[u8] {
+pub(crate) fn after_blanks(text: &[u8]) -> &[u8]
+    ensures { result.now ≡ Spec.after_blanks text.now }
+{
     let mut rest = text;
-    while let [b' ' | b'\t' | b'\n' | b'\r', others @ ..] = rest {
+    while let [first, others @ ..] = rest {
+        if !is_blank(*first) {
+            return rest;
+        }
         rest = others;
     }
     rest
@@ -25,29 +41,49 @@ pub(crate) fn begins_array(text: &[u8]) -> bool {
 
 /// Returns the form of a text that begins so: JSON if its first map, which may stand in an array, has a string as its
 /// first key, and EDN if not. `None` if the bytes that follow decide.
-pub(crate) fn text_form(text: &[u8]) -> Option<TextForm> {
-    match after_blanks(text) {
+pub(crate) fn text_form(text: &[u8]) -> Option<TextForm>
+    ensures { Decides Spec.is_json text.now result }
+{
+    let begun = after_blanks(text);
+    match begun {
         [] => None,
-        [b'{', rest @ ..] => form_of_map(rest),
-        [b'[', rest @ ..] => form_of_list(rest),
-        _ => Some(TextForm::Edn),
+        [first, rest @ ..] => {
+            if *first == b'[' {
+                return form_of_first(after_blanks(rest));
+            }
+            form_of_first(begun)
+        }
     }
 }
 
-/// Returns the form of a text that goes on so after a `[`.
-fn form_of_list(text: &[u8]) -> Option<TextForm> {
-    match after_blanks(text) {
+/// Returns the form of a text whose first element begins so.
+fn form_of_first(text: &[u8]) -> Option<TextForm>
+    ensures { Decides Spec.begins_object text.now result }
+{
+    match text {
         [] => None,
-        [b'{', rest @ ..] => form_of_map(rest),
-        _ => Some(TextForm::Edn),
+        [first, rest @ ..] => {
+            if *first == b'{' {
+                return form_of_map(rest);
+            }
+            Some(TextForm::Edn)
+        }
     }
 }
 
 /// Returns the form of a text that goes on so after a `{`.
-fn form_of_map(text: &[u8]) -> Option<TextForm> {
+fn form_of_map(text: &[u8]) -> Option<TextForm>
+    ensures { Decides begins_key text.now result }
+{
     match after_blanks(text) {
         [] => None,
-        [b'"', ..] => Some(TextForm::Json),
-        _ => Some(TextForm::Edn),
+        [first, ..] => Some(form_if(*first == b'"')),
     }
+}
+
+/// Returns the form of a text that is one of JSON or not.
+fn form_if(json: bool) -> TextForm
+    ensures { result ≡ Spec.notation_of json }
+{
+    if json { TextForm::Json } else { TextForm::Edn }
 }
