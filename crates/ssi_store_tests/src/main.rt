@@ -7,7 +7,9 @@
 //! after each of them, and with a dump after each of them; and for their lines as a script that comes in pieces of any
 //! size. The other names are these:
 //!
-//! - `limits`: a transaction of as many operations as one may have, and the last transaction number;
+//! - `longest_transaction` and `longest_script`: a transaction of as many operations as one may have, as commands and as
+//!   lines;
+//! - `last_transaction`: the last transaction number;
 //! - `scripts`: lines of any length, a second input to one store, a client that waits for each reply, a socket, and a socket
 //!   served at once;
 //! - `failing_devices`: readers and writers that fail at each of their calls;
@@ -80,7 +82,9 @@ fn write_named(rt: &HostRuntime) -> io::Result<()> {
 /// Writes what comes of what is named.
 fn write_lines(rt: &HostRuntime, name: &str) -> io::Result<()> {
     match name {
-        "limits" => write_limits(rt),
+        "longest_transaction" => write_line(rt, name, limits::longest_transaction(rt.alloc())),
+        "longest_script" => write_line(rt, name, limits::longest_script(rt.alloc())),
+        "last_transaction" => write_line(rt, name, limits::last_transaction(rt.alloc())),
         "scripts" => write_scripts(rt),
         "failing_devices" => failing_devices::write_lines(rt),
         "hostile_lines" => write_hostile_lines(rt),
@@ -91,17 +95,6 @@ fn write_lines(rt: &HostRuntime, name: &str) -> io::Result<()> {
         "hub_calls" => hub_calls::write_answers(rt, name),
         _ => print!(rt; "{}", worked::line_of(rt, name)?),
     }
-}
-
-fn write_limits(rt: &HostRuntime) -> io::Result<()> {
-    let alloc = rt.alloc();
-    write_line(
-        rt,
-        "longest transaction",
-        limits::longest_transaction(alloc),
-    )?;
-    write_line(rt, "longest script", limits::longest_script(alloc))?;
-    write_line(rt, "last transaction", limits::last_transaction(alloc))
 }
 
 fn write_scripts(rt: &HostRuntime) -> io::Result<()> {
