@@ -2,7 +2,7 @@
 # doesn't end in time, or ends with another line or status, counts as one that failed, and what it printed is shown. The
 # caller sets `bound`, the seconds that each may take.
 passed=0 failed=0 names=() work=$(mktemp -d)
-trap 'kill $(cat "$work"/*.pid 2>/dev/null) 2>/dev/null; rm -rf "$work"' EXIT
+trap 'kill $(jobs -p) $(cat "$work"/*.pid 2>/dev/null) 2>/dev/null; rm -rf "$work"' EXIT
 
 begin() { # a name, and a command; begins it
     local name=$1
