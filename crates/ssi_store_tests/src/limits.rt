@@ -2,7 +2,7 @@
 
 use crate::courses::over_all;
 use crate::runs::After;
-use crate::scripts::of_script;
+use crate::scripts::{Written, in_all_pieces, over_all_pairs};
 use crate::texts::are_accepted;
 use adya_values::Txn;
 use std::alloc::{AllocError, Global};
@@ -28,10 +28,25 @@ pub(crate) fn longest_transaction(alloc: Global) -> bool {
 /// Whether each of 65,535 operations that come as lines is answered, and no other one is carried out. Commands that are
 /// refused are none of them.
 pub(crate) fn longest_script(alloc: Global) -> bool {
-    let (Ok(script), Ok(replies)) = (longest(alloc), longest_replies(alloc)) else {
+    let Ok(script) = longest(alloc) else {
         return false;
     };
-    of_script(alloc, &script).is_some_and(|written| written.replies == replies)
+    has_longest_replies(alloc, in_all_pieces(alloc, &script))
+}
+
+/// The same over each pair of representations.
+pub(crate) fn longest_script_over_all_pairs(alloc: Global) -> bool {
+    let Ok(script) = longest(alloc) else {
+        return false;
+    };
+    has_longest_replies(alloc, over_all_pairs(alloc, &script))
+}
+
+fn has_longest_replies(alloc: Global, made: Option<Written>) -> bool {
+    let Ok(replies) = longest_replies(alloc) else {
+        return false;
+    };
+    made.is_some_and(|written| written.replies == replies)
 }
 
 fn longest(alloc: Global) -> Result<Vec<u8>, AllocError> {

@@ -7,8 +7,8 @@
 //! after each of them, and with a dump after each of them; and for their lines as a script that comes in pieces of any
 //! size. The other names are these:
 //!
-//! - `longest_transaction` and `longest_script`: a transaction of as many operations as one may have, as commands and as
-//!   lines;
+//! - `longest_transaction`, `longest_script` and `longest_script_over_all_pairs`: a transaction of as many operations as one
+//!   may have, as commands and as lines;
 //! - `last_transaction`: the last transaction number;
 //! - `scripts`: lines of any length, a second input to one store, a client that waits for each reply, a socket, and a socket
 //!   served at once;
@@ -84,6 +84,11 @@ fn write_lines(rt: &HostRuntime, name: &str) -> io::Result<()> {
     match name {
         "longest_transaction" => write_line(rt, name, limits::longest_transaction(rt.alloc())),
         "longest_script" => write_line(rt, name, limits::longest_script(rt.alloc())),
+        "longest_script_over_all_pairs" => write_line(
+            rt,
+            name,
+            limits::longest_script_over_all_pairs(rt.alloc()),
+        ),
         "last_transaction" => write_line(rt, name, limits::last_transaction(rt.alloc())),
         "scripts" => write_scripts(rt),
         "failing_devices" => failing_devices::write_lines(rt),

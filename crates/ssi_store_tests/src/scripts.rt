@@ -62,10 +62,20 @@ fn is_stopped(end: End) -> Option<bool> {
 /// Returns what the script makes; nothing if it isn't the same in pieces of 1, of 7 and of all bytes, and over each pair of
 /// representations, or if the auditor doesn't say yes to it.
 pub(crate) fn of_script(alloc: Global, script: &[u8]) -> Option<Written> {
+    let whole = in_all_pieces(alloc, script)?;
+    if whole == over_all_pairs(alloc, script)? {
+        Some(whole)
+    } else {
+        None
+    }
+}
+
+/// Returns what the script makes; nothing if it isn't the same in pieces of 1, of 7 and of all bytes, or if the auditor
+/// doesn't say yes to it.
+pub(crate) fn in_all_pieces(alloc: Global, script: &[u8]) -> Option<Written> {
     let whole = in_pieces(alloc, script, usize::MAX)?;
     let are_same = whole == in_pieces(alloc, script, 1)?
         && whole == in_pieces(alloc, script, 7)?
-        && whole == over_all_pairs(alloc, script)?
         && gets_yes(alloc, script);
     if are_same { Some(whole) } else { None }
 }
@@ -77,7 +87,9 @@ fn gets_yes(alloc: Global, script: &[u8]) -> bool {
     }
 }
 
-fn over_all_pairs(alloc: Global, script: &[u8]) -> Option<Written> {
+/// Returns what the script makes; nothing if it isn't the same over each pair of representations, or if the auditor doesn't
+/// say yes to it.
+pub(crate) fn over_all_pairs(alloc: Global, script: &[u8]) -> Option<Written> {
     let answers = answers_over_all(alloc, script)?;
     if !are_accepted(&answers.texts) {
         return None;
