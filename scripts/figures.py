@@ -44,6 +44,17 @@ def aborted(raw):
     return ["%.1f" % (int(unsafe) / 1000), "%.1f" % (int(conflict) / 1000)]
 
 
+def held(raw):
+    """The least and the most bytes that a transaction takes while the store runs, in round numbers."""
+    each = [float(rows(raw, script)[0][3]) for script in ("plain", "scans", "hot")]
+    return ["{:.0f}".format(round(it, -1)) for it in (min(each), max(each))]
+
+
+def colliding(raw):
+    """The seconds of an audit of keys that all collide, and of as many random ones."""
+    return ["%.2f" % float(rows(raw, keys)[0][1]) for keys in ("colliding", "random")]
+
+
 CONCURRENT = ("ssi", "serve", "--concurrent")
 # of each figure the page, the expression with the raw file and the numbers as its groups, and what computes them
 FIGURES = [
@@ -52,6 +63,8 @@ FIGURES = [
     ("README.md", r"the same, one client that sends 100 lines at a time[^|]*\((\S+)\)\) \| ([\d,]+)", commits(*CONCURRENT, "1", "100")),
     ("README.md", r"PostgreSQL 15[^|]*eight clients \(\[raw\]\((\S+)\)\) \| ([\d,]+)", postgres),
     ("docs/limits.md", r"10,000 transactions on 20,000 keys take ([\d.]+) bytes for each byte, and `order` ([\d.]+) \(\[raw\]\((\S+)\)\)", bytes_for_each("10000")),
+    ("docs/limits.md", r"takes ([\d,]+) to ([\d,]+) bytes while the store runs \(\[raw\]\((\S+)\)\)", held),
+    ("docs/limits.md", r"took ([\d.]+) seconds instead of ([\d.]+) \(\[raw\]\((\S+)\)\)", colliding),
     ("docs/limits.md", r"the peak is ([\d,]+) bytes for each \(\[raw\]\((\S+)\)\)", bytes_of_a_transaction),
     ("docs/limits.md", r"with 200 sessions and scans ([\d.]+) transactions of a hundred are refused this way, and ([\d.]+) because [^(]*\(\[raw\]\((\S+)\)\)", aborted),
 ]
