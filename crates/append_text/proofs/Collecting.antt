@@ -14,7 +14,7 @@ use Rattle.append_text.specs.declared.text_form.TextForm.{TextForm}
 use Rattle.append_text.specs.Meaning.Numbers.{IsOneToOne, IsOp, IsStep, Keeps}
 use Rattle.append_text.specs.Meaning.Operations.{Said, said}
 use Rattle.append_text.specs.Meaning.Pairing.{Op, MayFollow}
-use Rattle.append_text.specs.Meaning.Texts.{operation, passed_over, one_more, AreNumbered, IsHistory, counted, said_after}
+use Rattle.append_text.specs.Meaning.Texts.{operation, passed_over, one_more, AreAllowed, AreNumbered, IsHistory, counted, said_after}
 use Rattle.append_text.specs.Machinery.Collectors.{HasCollected, IsRefusedAfter}
 use Rattle.append_text.specs.Machinery.Pairings.{HasTaken, op_of}
 use Rattle.append_text.specs.Machinery.Readings.{IsOpIfAny, IsRead, IsRefusal}
@@ -46,6 +46,16 @@ counted_more n = omega arith
 
 pub counted_push : {X : Type 0} (xs : List X) (x : X) → min (counted (length xs) + 1) (2 ^ 64 - 1) ≡ counted (length (xs ++ x ∷ []))
 counted_push xs x = counted_more (length xs) ∙ ap counted (sym (length-append xs (x ∷ []) ∙ omega arith))
+
+-- what was collected is operations in order
+pub allowed : (n : TextForm) (fs : List Form) (c : Collector) → HasCollected n fs c → IsOneToOne c.names.kept.keys → AreAllowed n fs
+allowed n fs c has one_to_one = record {
+  kept = c.names.kept.keys;
+  one_to_one = one_to_one;
+  passed = has.passed;
+  ops = has.ops;
+  numbered = has.numbered;
+}
 
 -- ---- one form more
 
@@ -100,11 +110,7 @@ module _ (n : TextForm) (fs : List Form) (f : Form) (old : Collector) (taken : H
   -- a form that is no operation
   pub refused_form : (e : Refusal) → IsOneToOne old.names.kept.keys → IsRefusal e (said n old.taken f) → IsRefusedAfter n fs f e
   refused_form (refusal.Problem p) one_to_one is = record {
-    kept = old.names.kept.keys;
-    one_to_one = one_to_one;
-    passed = taken.passed;
-    ops = taken.ops;
-    numbered = taken.numbered;
+    before = allowed n fs old taken one_to_one;
     wrong = inl (said_here _ is);
   }
   refused_form refusal.Memory one_to_one is = tt
@@ -118,11 +124,13 @@ module _ (n : TextForm) (fs : List Form) (f : Form) (old : Collector) (taken : H
       by : (refusal.Problem p ≡ refusal.Memory) ⊎ (MayFollow taken.ops (op_of o) → ⊥) → IsRefusedAfter n fs f (refusal.Problem p)
       by (inl memory) = absurd cc
       by (inr not) = record {
-        kept = kept;
-        one_to_one = one_to_one;
-        passed = taken.passed;
-        ops = taken.ops;
-        numbered = numbered_keeps n old.names.kept.keys kept fs taken.passed taken.ops keeps taken.numbered;
+        before = record {
+          kept = kept;
+          one_to_one = one_to_one;
+          passed = taken.passed;
+          ops = taken.ops;
+          numbered = numbered_keeps n old.names.kept.keys kept fs taken.passed taken.ops keeps taken.numbered;
+        };
         wrong = inr (s, op_of o, said_here _ is, reads, not);
       }
   refused_operation refusal.Memory kept s o one_to_one keeps is reads refused = tt

@@ -8,3 +8,5 @@ pub mod Numbers
 pub mod Json
 pub mod Texts
 pub mod Notations
+pub mod Lines
+pub mod JsonTexts

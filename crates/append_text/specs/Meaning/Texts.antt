@@ -61,16 +61,20 @@ pub record IsHistory (n : TextForm) (fs : List Form) (h : History) : Type 0 wher
   pub passed_are : h.passed_over ≡ counted passed
   pub one_to_one : IsOneToOne h.names.kept.keys
 
--- these forms are operations in order, and this is wrong with the one that follows them: it is no operation, or one that can't
--- come there
-pub record IsWrongAfter (n : TextForm) (fs : List Form) (f : Form) (p : Problem) : Type 0 where
+-- the forms are operations in order
+pub record AreAllowed (n : TextForm) (fs : List Form) : Type 0 where
   pub kept : List Kept
   pub one_to_one : IsOneToOne kept
   pub passed : ℕ
   pub ops : List Op
   pub numbered : AreNumbered n kept fs passed ops
-  pub wrong : (said_after n fs f ≡ Err p) ⊎ ((s : Said) × (o : Op) × (said_after n fs f ≡ Ok (Some s)) × IsOp kept s o
-      × (MayFollow ops o → ⊥))
+
+-- these forms are operations in order, and this is wrong with the one that follows them: it is no operation, or one that can't
+-- come there
+pub record IsWrongAfter (n : TextForm) (fs : List Form) (f : Form) (p : Problem) : Type 0 where
+  pub before : AreAllowed n fs
+  pub wrong : (said_after n fs f ≡ Err p) ⊎ ((s : Said) × (o : Op) × (said_after n fs f ≡ Ok (Some s)) × IsOp before.kept s o
+      × (MayFollow before.ops o → ⊥))
 
 -- ---- in EDN
 
