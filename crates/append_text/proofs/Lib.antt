@@ -8,3 +8,4 @@ pub mod JsonForms
 pub mod Collecting
 pub mod TextFaults
 pub mod FirstBytes
+pub mod BufferLines

@@ -6,3 +6,4 @@ pub mod Collectors
 pub mod EdnFaults
 pub mod Telling
 pub mod BufferTexts
+pub mod JsonReading

@@ -23,10 +23,12 @@ pub(crate) struct Buffer {
 }
 
 impl Buffer {
-    ghost use Rattle.std.specs.Prelude.{◌⊎◌, ℕ, List, [], false, IfErr, OnOk};
+    ghost use Rattle.std.specs.Prelude.{◌⊎◌, ◌++◌, ℕ, List, [], false, Some, IfErr, OnOk};
     ghost use Rattle.std.specs.Io.KnownBytes.{IsAtEnd};
-    ghost use Rattle.append_text.specs.Meaning.Notations.{notation_in};
-    ghost use Rattle.append_text.specs.Machinery.BufferTexts.{HasLeft, pending_in};
+    ghost use Rattle.append_text.specs.Meaning.JsonTexts.{begins_array};
+    ghost use Rattle.append_text.specs.Meaning.Notations.{after_blanks, begins_with, notation_in};
+    ghost use Rattle.append_text.specs.Machinery.BufferTexts.{AddsFront, HasLeft, TakesLine, pending_in};
+    ghost use Rattle.append_text.specs.Machinery.JsonReading.{SaysNothing};
 
     /// A buffer for a source of which nothing was read.
     pub(crate) fn new() -> Buffer
@@ -54,6 +56,8 @@ impl Buffer {
             → OnOk result (HasLeft self.new (S.remaining source.new) text) }
         ensures form { (text : List ℕ) → self.old.start ≡ 0 → HasLeft self.old (S.remaining source.old) text
             → IfOk result (λ f. f ≡ notation_in text) }
+        ensures array { (text : List ℕ) → self.old.start ≡ 0 → HasLeft self.old (S.remaining source.old) text
+            → OnOk result (begins_with 91 (after_blanks (pending_in self.new)) ≡ begins_array text) }
         ensures fault { IfErr result (λ e. e ≡ ReadFault.Device) }
     {
         loop {
@@ -89,6 +93,10 @@ impl Buffer {
 
     /// Reads more bytes after all were taken. Returns whether any came; `Device` if the source failed.
     pub(crate) fn fill<S: Source>(&mut self, source: &mut S) -> Result<bool, ReadFault>
+        ensures kept { (text : List ℕ) → S.remaining source.old ≡ Some text
+            → OnOk result (HasLeft self.new (S.remaining source.new) text) }
+        ensures end { IfOk result (λ some. some ≡ false → (pending_in self.new ≡ []) × IsAtEnd (S.remaining source.new)) }
+        ensures fault { IfErr result (λ e. e ≡ ReadFault.Device) }
         ensures less { IfOk result (λ some. some ≡ true → S.left source.new < S.left source.old) }
         ensures work { IfOk result (λ _. work_left (S.left source.new) self.new.start self.new.end
             ≤ work_left (S.left source.old) self.old.start self.old.end) }
@@ -101,8 +109,10 @@ impl Buffer {
     /// Moves the bytes up to the next line feed to the end of `line`, and drops the line feed. Returns whether there was
     /// one; all bytes are taken if there was none.
     fn take_line(&mut self, line: &mut Vec<u8>) -> Result<bool, AllocError>
-        ensures { IfOk result (λ ended. (self.new.end - self.new.start) + length line.new.items + (if ended then 1 else 0)
+        ensures size { IfOk result (λ ended. (self.new.end - self.new.start) + length line.new.items + (if ended then 1 else 0)
             ≡ (self.old.end - self.old.start) + length line.old.items) }
+        ensures front { IfOk result (λ ended. AddsFront ended (pending_in self.old) (pending_in self.new) line.old.items line.new.items) }
+        ensures all { IfOk result (λ ended. ended ≡ false → pending_in self.new ≡ []) }
     {
         let pending = &self.bytes[self.start..self.end];
         match memchr(b'\n', pending) {
@@ -125,7 +135,10 @@ impl Buffer {
         source: &mut S,
         line: &mut Vec<u8>,
     ) -> Result<bool, ReadFault>
-        ensures { IfOk result (λ some. some ≡ true → work_left (S.left source.new) self.new.start self.new.end
+        ensures line { (text : List ℕ) → HasLeft self.old (S.remaining source.old) text → IfOk result (λ some.
+            (rest : List ℕ) × HasLeft self.new (S.remaining source.new) rest × TakesLine some text line.new.items rest) }
+        ensures fault { IfErr result SaysNothing }
+        ensures less { IfOk result (λ some. some ≡ true → work_left (S.left source.new) self.new.start self.new.end
             < work_left (S.left source.old) self.old.start self.old.end) }
     {
         line.clear();
@@ -144,7 +157,11 @@ impl Buffer {
         &mut self,
         source: &mut S,
         text: &mut Vec<u8>,
-    ) -> Result<(), ReadFault> {
+    ) -> Result<(), ReadFault>
+        ensures all { (rest : List ℕ) → HasLeft self.old (S.remaining source.old) rest
+            → OnOk result (text.new.items ≡ text.old.items ++ rest) }
+        ensures fault { IfErr result SaysNothing }
+    {
         loop {
             text.extend_from_slice(self.pending())?;
             if !self.fill(source)? {

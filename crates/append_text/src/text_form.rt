@@ -1,6 +1,6 @@
 //! The notation of a text, told by its first bytes.
 
-ghost use Rattle.std.specs.Prelude.{◌≡◌};
+ghost use Rattle.std.specs.Prelude.{◌≡◌, ◌≤◌, length, IfSome};
 ghost use Rattle.append_text.specs.Meaning.Notations as Spec;
 ghost use Rattle.append_text.specs.Machinery.Telling.{Decides, begins_key};
 
@@ -35,14 +35,17 @@ pub(crate) fn after_blanks(text: &[u8]) -> &[u8]
 }
 
 /// Returns whether the text begins with an array of JSON, if it is one of JSON.
-pub(crate) fn begins_array(text: &[u8]) -> bool {
+pub(crate) fn begins_array(text: &[u8]) -> bool
+    ensures { result ≡ Spec.begins_with 91 (Spec.after_blanks text.now) }
+{
     matches!(after_blanks(text), [b'[', ..])
 }
 
 /// Returns the form of a text that begins so: JSON if its first map, which may stand in an array, has a string as its
 /// first key, and EDN if not. `None` if the bytes that follow decide.
 pub(crate) fn text_form(text: &[u8]) -> Option<TextForm>
-    ensures { Decides Spec.is_json text.now result }
+    ensures decides { Decides Spec.is_json text.now result }
+    ensures begun { IfSome result (λ _. 1 ≤ length (Spec.after_blanks text.now)) }
 {
     let begun = after_blanks(text);
     match begun {
