@@ -31,7 +31,7 @@ integer_form (string bytes) z is = absurd cc
 integer_form (array ds) z is = absurd cc
 integer_form (object ms) z is = absurd cc
 
-listed_items : (vs : List Value) → listed (forms_of (items_view vs)) ≡ map (λ v. form_of (view v)) vs
+pub listed_items : (vs : List Value) → listed (forms_of (items_view vs)) ≡ map (λ v. form_of (view v)) vs
 listed_items [] = refl
 listed_items (v ∷ vs) = ap (λ r. form_of (view v) ∷ r) (listed_items vs)
 

@@ -9,3 +9,4 @@ pub mod Collecting
 pub mod TextFaults
 pub mod FirstBytes
 pub mod BufferLines
+pub mod JsonReadings

@@ -1,10 +1,23 @@
 //! Histories in JSON.
 
+ghost use Rattle.std.specs.Prelude.{◌≡◌, ◌⊎◌, ℕ, List, ◌++◌, map, true, false, IfOk, IfErr, OnOk};
+ghost use Rattle.edn.specs.Meaning.Forms.{Form as Plain};
+ghost use Rattle.serde_json.specs.Errors.{IsMemory};
+ghost use Rattle.serde_json.specs.View.{view};
+ghost use Rattle.append_text.specs.Meaning.Json.{form_of};
+ghost use Rattle.append_text.specs.Meaning.JsonTexts as Spec;
+ghost use Rattle.append_text.specs.Meaning.Lines.{lines};
+ghost use Rattle.append_text.specs.Meaning.Notations as Noted;
+ghost use Rattle.append_text.specs.Meaning.Texts.{IsHistory};
+ghost use Rattle.append_text.specs.Machinery.BufferTexts.{HasLeft, pending_in};
+ghost use Rattle.append_text.specs.Machinery.Collectors.{HasCollected};
+ghost use Rattle.append_text.specs.Machinery.JsonReading.{AreRefusedLines, IsRefusedArray, IsRefusedElement, IsRefusedLine};
+
 use crate::buffer::Buffer;
 use crate::collector::Collector;
 use crate::history::History;
 use crate::read_fault::{Place, Problem, ReadFault};
-use crate::text_form::{after_blanks, begins_array};
+use crate::text_form::{TextForm, after_blanks, begins_array};
 use devices::Source;
 use serde_json::Value;
 use std::alloc::Global;
@@ -15,34 +28,51 @@ pub(crate) fn json_text<S: Source>(
     alloc: Global,
     buffer: &mut Buffer,
     source: &mut S,
-) -> Result<History, ReadFault> {
+) -> Result<History, ReadFault>
+    ensures history { (text : List ℕ) → HasLeft buffer.old (S.remaining source.old) text
+        → Noted.begins_with 91 (Noted.after_blanks (pending_in buffer.old)) ≡ Spec.begins_array text
+        → IfOk result (Spec.IsJsonHistoryOf text) }
+    ensures fault { (text : List ℕ) → HasLeft buffer.old (S.remaining source.old) text
+        → Noted.begins_with 91 (Noted.after_blanks (pending_in buffer.old)) ≡ Spec.begins_array text
+        → IfErr result (Spec.IsJsonFaultOf text) }
+{
     if begins_array(buffer.pending()) {
         return json_array(alloc, buffer, source);
     }
     json_lines(alloc, buffer, source)
 }
 
+/// Reads a history of one array.
 fn json_array<S: Source>(
     alloc: Global,
     buffer: &mut Buffer,
     source: &mut S,
-) -> Result<History, ReadFault> {
+) -> Result<History, ReadFault>
+    ensures history { (text : List ℕ) → HasLeft buffer.old (S.remaining source.old) text
+        → IfOk result (λ h. (fs : List Plain) × Spec.IsArray text fs × IsHistory TextForm.Json fs h) }
+    ensures fault { (text : List ℕ) → HasLeft buffer.old (S.remaining source.old) text
+        → IfErr result (IsRefusedArray text) }
+{
     let mut text = Vec::new(alloc);
     buffer.read_to_end(source, &mut text)?;
     let value = match Value::from_slice(alloc, &text) {
         Ok(value) => value,
         Err(error) => return Err(from_json(&error, error.line() as u64)),
     };
-    let Value::Array(values) = &value else {
+    let Some(values) = value.as_array() else {
         return Err(ReadFault::Text {
             place: Place::Line(1),
             problem: Problem::Json,
         });
     };
-    history_of(alloc, values)
+    history_of(alloc, values.as_slice())
 }
 
-fn history_of(alloc: Global, values: &[Value]) -> Result<History, ReadFault> {
+/// Reads the history of the values.
+fn history_of(alloc: Global, values: &[Value]) -> Result<History, ReadFault>
+    ensures history { IfOk result (IsHistory TextForm.Json (map (λ v. form_of (view v)) values.now)) }
+    ensures fault { IfErr result (IsRefusedElement (map (λ v. form_of (view v)) values.now)) }
+{
     let mut collector = Collector::new(alloc);
     for (place, value) in values.iter().enumerate() {
         if let Err(refusal) = collector.take(value) {
@@ -52,11 +82,17 @@ fn history_of(alloc: Global, values: &[Value]) -> Result<History, ReadFault> {
     Ok(collector.finish())
 }
 
+/// Reads a history of one operation a line.
 fn json_lines<S: Source>(
     alloc: Global,
     buffer: &mut Buffer,
     source: &mut S,
-) -> Result<History, ReadFault> {
+) -> Result<History, ReadFault>
+    ensures history { (text : List ℕ) → HasLeft buffer.old (S.remaining source.old) text
+        → IfOk result (λ h. (fs : List Plain) × Spec.AreLines (lines text) fs × IsHistory TextForm.Json fs h) }
+    ensures fault { (text : List ℕ) → HasLeft buffer.old (S.remaining source.old) text
+        → IfErr result (AreRefusedLines text) }
+{
     let mut collector = Collector::new(alloc);
     let mut line = Vec::new(alloc);
     let mut number = 0u64;
@@ -73,7 +109,12 @@ fn take_line(
     collector: &mut Collector,
     line: &[u8],
     number: u64,
-) -> Result<(), ReadFault> {
+) -> Result<(), ReadFault>
+    ensures taken { OnOk result ((fs : List Plain) → HasCollected TextForm.Json fs collector.old
+        → (gs : List Plain) × Spec.IsLine line.now gs × HasCollected TextForm.Json (fs ++ gs) collector.new) }
+    ensures refused { IfErr result (λ e. (fs : List Plain) → HasCollected TextForm.Json fs collector.old
+        → IsRefusedLine number fs line.now e) }
+{
     if after_blanks(line).is_empty() {
         return Ok(());
     }
@@ -87,7 +128,11 @@ fn take_line(
     }
 }
 
-fn from_json(error: &serde_json::Error, line: u64) -> ReadFault {
+/// Returns the fault of a text that is none of JSON, on this line.
+fn from_json(error: &serde_json::Error, line: u64) -> ReadFault
+    ensures { (IsMemory error.now × (result ≡ ReadFault.Memory))
+        ⊎ (¬ IsMemory error.now × (result ≡ ReadFault.Text (Place.Line line) Problem.Json)) }
+{
     if error.is_memory() {
         return ReadFault::Memory;
     }

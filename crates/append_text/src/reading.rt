@@ -2,6 +2,7 @@
 
 ghost use Rattle.std.specs.Prelude.{◌≡◌, List, ℕ, Some, IfOk, IfErr};
 ghost use Rattle.append_text.specs.Meaning.Notations.{notation_in};
+ghost use Rattle.append_text.specs.Meaning.JsonTexts.{IsFaultIn, IsHistoryIn, IsJsonFaultOf, IsJsonHistoryOf};
 ghost use Rattle.append_text.specs.Meaning.Texts.{IsFaultOf, IsHistoryOf};
 
 use crate::buffer::Buffer;
@@ -18,10 +19,8 @@ use std::alloc::Global;
 /// EDN. `Text` with the place if the text is that of no history, `Device` if the source failed, `Memory` if memory ran
 /// out. The first 8192 bytes tell EDN from JSON.
 pub fn read_history<S: Source>(alloc: Global, source: &mut S) -> Result<History, ReadFault>
-    ensures history { (text : List ℕ) → S.remaining source.old ≡ Some text → notation_in text ≡ TextForm.Edn
-        → IfOk result (IsHistoryOf text) }
-    ensures fault { (text : List ℕ) → S.remaining source.old ≡ Some text → notation_in text ≡ TextForm.Edn
-        → IfErr result (IsFaultOf text) }
+    ensures history { (text : List ℕ) → S.remaining source.old ≡ Some text → IfOk result (IsHistoryIn (notation_in text) text) }
+    ensures fault { (text : List ℕ) → S.remaining source.old ≡ Some text → IfErr result (IsFaultIn (notation_in text) text) }
 {
     let mut buffer = Buffer::new();
     match buffer.form(source)? {
@@ -40,10 +39,14 @@ pub fn read_edn<S: Source>(alloc: Global, source: &mut S) -> Result<History, Rea
     edn_text(alloc, Reader::new(alloc), source)
 }
 
-/// Reads a history in JSON from all that the source has left: one operation a line, or one array of them. `Text` with
-/// the line, or with the place in the array, if the text is that of no history, `Device` if the source failed, `Memory`
-/// if memory ran out.
-pub fn read_json<S: Source>(alloc: Global, source: &mut S) -> Result<History, ReadFault> {
+/// Reads a history in JSON from all that the source has left: one operation a line, or one array of them if the text
+/// begins with `[`, behind less than 8192 bytes of white space. `Text` with the line, or with the place in the array, if
+/// the text is that of no history, `Device` if the source failed, `Memory` if memory ran out. If a history is returned,
+/// each line that isn't blank is a text of JSON, or the whole text is one.
+pub fn read_json<S: Source>(alloc: Global, source: &mut S) -> Result<History, ReadFault>
+    ensures history { (text : List ℕ) → S.remaining source.old ≡ Some text → IfOk result (IsJsonHistoryOf text) }
+    ensures fault { (text : List ℕ) → S.remaining source.old ≡ Some text → IfErr result (IsJsonFaultOf text) }
+{
     let mut buffer = Buffer::new();
     buffer.form(source)?;
     json_text(alloc, &mut buffer, source)
