@@ -145,7 +145,7 @@ fn kind_of(word: &[u8]) -> Option<Kind>
     None
 }
 
-/// Reads the steps of an operation. A `:fail` and an `:info` may have none.
+/// Reads the steps of an operation. A `:fail` and an `:info` may have none, or a `:value` that is no list.
 fn steps_in<'a, D: Data<'a>>(
     alloc: Global,
     names: &mut Names,
@@ -169,11 +169,8 @@ fn steps_of<'a, D: Data<'a>>(
 ) -> Result<Vec<Operation>, Refusal>
     ensures { Reads result names.old.kept.keys names.new.kept.keys (Spec.steps D.notation kind (SomeSpec (D.form value))) AreSteps }
 {
-    if value.is_nil() {
-        return no_steps(alloc, names, kind);
-    }
     let Some(listed) = value.elements(alloc)? else {
-        return Err(Refusal::Problem(Problem::Step));
+        return no_steps(alloc, names, kind);
     };
     steps(alloc, names, &listed)
 }

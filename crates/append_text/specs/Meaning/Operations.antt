@@ -70,9 +70,13 @@ no_steps kind.Info = Ok []
 no_steps kind.Invoke = Err problem.Step
 no_steps kind.Ok = Err problem.Step
 
+abbrev pub steps_in : TextForm → Kind → Option (List Form) → Result (List Step) Problem
+steps_in n k None = no_steps k
+steps_in n k (Some fs) = each (step n) fs
+
+-- it lacks them if it has no `:value`, or one that is no list, as `nil` or what is said of a timeout
 abbrev pub steps : TextForm → Kind → Option Form → Result (List Step) Problem
-steps n k None = no_steps k
-steps n k (Some f) = if is_nil f then no_steps k else and_then (each (step n)) (ok_or (elements f) problem.Step)
+steps n k f = steps_in n k (option_and_then elements f)
 
 -- ---- operations
 
