@@ -11,6 +11,7 @@ use Rattle.append_text.specs.declared.data.Fields.{Fields}
 use Rattle.append_text.specs.declared.name.Kept.{Kept}
 use Rattle.append_text.specs.declared.read_fault.Problem.TheVariants as problem
 use Rattle.append_text.specs.declared.text_form.TextForm.{TextForm}
+use Rattle.append_text.specs.declared.text_form.TextForm.TheVariants.{Edn}
 use Rattle.append_text.specs.Meaning.Data.{word, elements, entries_in, listed}
 use Rattle.append_text.specs.Meaning.Names.{integer as integer_name}
 use Rattle.append_text.specs.Meaning.Numbers.{IsNumber}
@@ -56,8 +57,8 @@ vector_names f fs is = ap names is ∙ ap (each name) (listed_forms fs)
 
 -- ---- fields
 
-module _ {D : Type 0} (n : TextForm) (form : D → Form) (x : Fields D) (ps : Pairs) (h : HasFields n form x ps) (key : Form) (v : D) where
-  pub skips : word n key ≡ None → HasFields n form x (pair key (form v) ps)
+module _ {D : Type 0} (form : D → Form) (x : Fields D) (ps : Pairs) (h : HasFields Edn form x ps) (key : Form) (v : D) where
+  pub skips : word Edn key ≡ None → HasFields Edn form x (pair key (form v) ps)
   skips none = record {
     kind = rw none h.kind;
     f = rw none h.f;
@@ -66,35 +67,35 @@ module _ {D : Type 0} (n : TextForm) (form : D → Form) (x : Fields D) (ps : Pa
     index = rw none h.index;
   }
 
-  module _ (bytes : List ℕ) (is : word n key ≡ Some bytes) where
-    pub sets_kind : true ≡ pointwise nat_eq bytes (codes "type") → HasFields n form (record x { kind = Some v }) (pair key (form v) ps)
+  module _ (bytes : List ℕ) (is : word Edn key ≡ Some bytes) where
+    pub sets_kind : true ≡ pointwise nat_eq bytes (codes "type") → HasFields Edn form (record x { kind = Some v }) (pair key (form v) ps)
     sets_kind same =
-        let w : word n key ≡ Some (codes "type") = is ∙ ap (λ b. Some b) (same_text bytes (codes "type") same) in
+        let w : word Edn key ≡ Some (codes "type") = is ∙ ap (λ b. Some b) (same_text bytes (codes "type") same) in
         record { kind = rw w refl; f = rw w h.f; value = rw w h.value; process = rw w h.process; index = rw w h.index }
 
-    pub sets_f : true ≡ pointwise nat_eq bytes (codes "f") → HasFields n form (record x { f = Some v }) (pair key (form v) ps)
+    pub sets_f : true ≡ pointwise nat_eq bytes (codes "f") → HasFields Edn form (record x { f = Some v }) (pair key (form v) ps)
     sets_f same =
-        let w : word n key ≡ Some (codes "f") = is ∙ ap (λ b. Some b) (same_text bytes (codes "f") same) in
+        let w : word Edn key ≡ Some (codes "f") = is ∙ ap (λ b. Some b) (same_text bytes (codes "f") same) in
         record { kind = rw w h.kind; f = rw w refl; value = rw w h.value; process = rw w h.process; index = rw w h.index }
 
-    pub sets_value : true ≡ pointwise nat_eq bytes (codes "value") → HasFields n form (record x { value = Some v }) (pair key (form v) ps)
+    pub sets_value : true ≡ pointwise nat_eq bytes (codes "value") → HasFields Edn form (record x { value = Some v }) (pair key (form v) ps)
     sets_value same =
-        let w : word n key ≡ Some (codes "value") = is ∙ ap (λ b. Some b) (same_text bytes (codes "value") same) in
+        let w : word Edn key ≡ Some (codes "value") = is ∙ ap (λ b. Some b) (same_text bytes (codes "value") same) in
         record { kind = rw w h.kind; f = rw w h.f; value = rw w refl; process = rw w h.process; index = rw w h.index }
 
-    pub sets_process : true ≡ pointwise nat_eq bytes (codes "process") → HasFields n form (record x { process = Some v }) (pair key (form v) ps)
+    pub sets_process : true ≡ pointwise nat_eq bytes (codes "process") → HasFields Edn form (record x { process = Some v }) (pair key (form v) ps)
     sets_process same =
-        let w : word n key ≡ Some (codes "process") = is ∙ ap (λ b. Some b) (same_text bytes (codes "process") same) in
+        let w : word Edn key ≡ Some (codes "process") = is ∙ ap (λ b. Some b) (same_text bytes (codes "process") same) in
         record { kind = rw w h.kind; f = rw w h.f; value = rw w h.value; process = rw w refl; index = rw w h.index }
 
-    pub sets_index : true ≡ pointwise nat_eq bytes (codes "index") → HasFields n form (record x { index = Some v }) (pair key (form v) ps)
+    pub sets_index : true ≡ pointwise nat_eq bytes (codes "index") → HasFields Edn form (record x { index = Some v }) (pair key (form v) ps)
     sets_index same =
-        let w : word n key ≡ Some (codes "index") = is ∙ ap (λ b. Some b) (same_text bytes (codes "index") same) in
+        let w : word Edn key ≡ Some (codes "index") = is ∙ ap (λ b. Some b) (same_text bytes (codes "index") same) in
         record { kind = rw w h.kind; f = rw w h.f; value = rw w h.value; process = rw w h.process; index = rw w refl }
 
     pub sets_none : pointwise nat_eq bytes (codes "type") ≡ false → pointwise nat_eq bytes (codes "f") ≡ false
         → pointwise nat_eq bytes (codes "value") ≡ false → pointwise nat_eq bytes (codes "process") ≡ false
-        → pointwise nat_eq bytes (codes "index") ≡ false → HasFields n form x (pair key (form v) ps)
+        → pointwise nat_eq bytes (codes "index") ≡ false → HasFields Edn form x (pair key (form v) ps)
     sets_none a b c d e = record {
       kind = rw (is, a) h.kind;
       f = rw (is, b) h.f;

@@ -1,7 +1,7 @@
 -- What the values of JSON say of operations.
 use Rattle.std.proofs.Common.{◌≡◌, ◌≢◌, ℕ, Bool, Bor, true, false, nat_eq, List, [], ◌∷◌, length, map, Option, Some, None, option_map, refl, sym, ap, ◌∙◌, Err}
 use Rattle.std.specs.Prelude.{ℤ, is_some, IfSome, IfNone, if◌then◌else◌}
-use Rattle.std.specs.Option.{option_and_then}
+use Rattle.std.specs.Option.{option_and_then, option_or}
 use Rattle.std.specs.Ordering.{nat_cmp, match_ordering, is_eq}
 use Rattle.std.specs.declared.cmp.Ordering.{Ordering}
 use Rattle.std.specs.declared.cmp.Ordering.TheVariants.{Less, Equal, Greater}
@@ -15,7 +15,7 @@ use Rattle.serde_json.specs.View.{items_view, view}
 use Rattle.serde_json.specs.declared.value.Value.{Value}
 use Rattle.append_text.specs.declared.read_fault.Problem.TheVariants as problem
 use Rattle.append_text.specs.declared.text_form.TextForm.TheVariants.{Json}
-use Rattle.append_text.specs.Meaning.Data.{elements, entries_in, field, listed, name_in}
+use Rattle.append_text.specs.Meaning.Data.{at_key, elements, entries_in, field, listed, name_in}
 use Rattle.append_text.specs.Meaning.Names.{integer as named_integer}
 use Rattle.append_text.specs.declared.data.Step.{Step as Triple}
 use Rattle.append_text.specs.Meaning.Operations.{step}
@@ -85,20 +85,20 @@ same_key Less b found other is = rw is refl
 same_key Equal b found other is = rw is refl
 same_key Greater b found other is = rw is refl
 
-pub member_field : (k : List ℕ) (ms : Members) → option_map form_of (get_member k ms) ≡ field Json k (pairs_of ms)
+pub member_field : (k : List ℕ) (ms : Members) → option_map form_of (get_member k ms) ≡ at_key Json k (pairs_of ms)
 member_field k no_members = refl
 member_field k (member l e ms) =
     ap (option_map form_of) (same_key (slice_cmp nat_cmp k l) (pointwise nat_eq l k) (Some e) (get_member k ms)
     ((nat_list_eq_equiv).symm l k ∙ texts_ties k l)) ∙ by (pointwise nat_eq l k) (member_field k ms)
   where
-    by : (b : Bool) → option_map form_of (get_member k ms) ≡ field Json k (pairs_of ms)
-        → option_map form_of (if b then Some e else get_member k ms) ≡ (if b then Some (form_of e) else field Json k (pairs_of ms))
+    by : (b : Bool) → option_map form_of (get_member k ms) ≡ at_key Json k (pairs_of ms)
+        → option_map form_of (if b then Some e else get_member k ms) ≡ (if b then Some (form_of e) else at_key Json k (pairs_of ms))
     by true rest = refl
     by false rest = rest
 
 -- the fields of an object
 pub object_fields : (d : Data) → is_some (as_object d) ≡ true → (ps : Pairs) × (entries_in (form_of d) ≡ Some ps)
-    × ((k : List ℕ) → option_map form_of (get k d) ≡ field Json k ps)
+    × ((k : List ℕ) → option_map form_of (get k d) ≡ at_key Json k ps)
 object_fields null some = absurd cc
 object_fields (boolean b) some = absurd cc
 object_fields (number n) some = absurd cc
@@ -118,10 +118,20 @@ no_object (string bytes) none = refl
 no_object (array ds) none = refl
 no_object (object ms) none = absurd cc
 
-pub got_field : (o : Option (Bor Value)) (k : List ℕ) (d : Data) (ps : Pairs) → option_map (λ v. view v.now) o ≡ get k d
-    → ((k : List ℕ) → option_map form_of (get k d) ≡ field Json k ps) → option_map (λ v. form_of (view v.now)) o ≡ field Json k ps
-got_field None k d ps got fields = ap (option_map form_of) got ∙ fields k
-got_field (Some v) k d ps got fields = ap (option_map form_of) got ∙ fields k
+either_form : (o other : Option Data) → option_map form_of (option_or o other) ≡ option_or (option_map form_of o) (option_map form_of other)
+either_form None other = refl
+either_form (Some d) other = refl
+
+pub got_field : (o : Option (Bor Value)) (k : List ℕ) (d : Data) (ps : Pairs)
+    → option_map (λ v. view v.now) o ≡ option_or (get k d) (get (58 ∷ k) d)
+    → ((k : List ℕ) → option_map form_of (get k d) ≡ at_key Json k ps) → option_map (λ v. form_of (view v.now)) o ≡ field Json k ps
+got_field o k d ps got fields = each o ∙ ap (option_map form_of) got ∙ either_form (get k d) (get (58 ∷ k) d)
+    ∙ ap (λ f. option_or f (option_map form_of (get (58 ∷ k) d))) (fields k)
+    ∙ ap (λ f. option_or (at_key Json k ps) f) (fields (58 ∷ k))
+  where
+    each : (o : Option (Bor Value)) → option_map (λ v. form_of (view v.now)) o ≡ option_map form_of (option_map (λ v. view v.now) o)
+    each None = refl
+    each (Some v) = refl
 
 -- ---- names
 

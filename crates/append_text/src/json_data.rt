@@ -1,8 +1,11 @@
 //! Values of JSON as data.
 
-ghost use Rattle.std.specs.Prelude.{◌≡◌, ◌≢◌, ◌∷◌, [], map, length, IfOk, IfSome, IfNone};
+ghost use Rattle.std.specs.Prelude.{◌≡◌, ◌≢◌, ◌∷◌, [], map, option_map, length, IfOk, IfSome, IfNone};
+ghost use Rattle.std.specs.Option.{option_or};
+ghost use Rattle.serde_json.specs.Find.{get};
 ghost use Rattle.serde_json.specs.View.{view};
 ghost use Rattle.append_text.specs.declared.text_form.TextForm.TheVariants.{Json};
+ghost use Rattle.append_text.specs.Meaning.Data as Seen;
 ghost use Rattle.append_text.specs.Meaning.Json.{form_of};
 
 use crate::data::{Data, Fields, Step};
@@ -20,11 +23,11 @@ impl<'a> Data<'a> for &'a Value {
             return None;
         }
         Some(Fields {
-            kind: self.get("type"),
-            f: self.get("f"),
-            value: self.get("value"),
-            process: self.get("process"),
-            index: self.get("index"),
+            kind: field_of(self, "type", ":type"),
+            f: field_of(self, "f", ":f"),
+            value: field_of(self, "value", ":value"),
+            process: field_of(self, "process", ":process"),
+            index: field_of(self, "index", ":index"),
         })
     }
 
@@ -52,7 +55,7 @@ impl<'a> Data<'a> for &'a Value {
 
     fn word(self) -> Option<&'a [u8]> {
         match self.as_str() {
-            Some(text) => Some(text.as_bytes()),
+            Some(text) => Some(without_colon(text.as_bytes())),
             None => None,
         }
     }
@@ -77,6 +80,28 @@ impl<'a> Data<'a> for &'a Value {
             None => None,
         }
     }
+}
+
+/// Returns the value of the member of this name, or else of the other.
+fn field_of<'a>(object: &'a Value, name: &str, other: &str) -> Option<&'a Value>
+    ensures { option_map (λ v. view v.now) result ≡ option_or (get name.now (view object.now)) (get other.now (view object.now)) }
+{
+    match object.get(name) {
+        Some(value) => Some(value),
+        None => object.get(other),
+    }
+}
+
+/// Returns what follows the colon at the front, if there is one.
+fn without_colon(word: &[u8]) -> &[u8]
+    ensures { result.now ≡ Seen.without_colon word.now }
+{
+    if let [first, rest @ ..] = word {
+        if *first == b':' {
+            return rest;
+        }
+    }
+    word
 }
 
 /// Returns the values, each by reference.

@@ -1,7 +1,7 @@
 -- What an operation is read from: a form of EDN. A value of JSON stands for one: an array for a vector, an object for a map,
 -- `null` for `nil`.
-use Rattle.std.specs.Prelude.{ℕ, ℤ, Bool, true, false, nat_eq, List, [], ◌∷◌, Option, Some, None, if◌then◌else◌}
-use Rattle.std.specs.Option.{option_map_or}
+use Rattle.std.specs.Prelude.{ℕ, ℤ, Bool, true, false, nat_eq, ◌==◌, List, [], ◌∷◌, Option, Some, None, option_map, if◌then◌else◌}
+use Rattle.std.specs.Option.{option_map_or, option_or}
 use Rattle.std.specs.Cmp.Lexicographic.{pointwise}
 use Rattle.edn.specs.Meaning.Forms.{Form, Forms, Pairs, nil, integer, string, keyword, list, vector, entries, no_forms, form, no_pairs, pair}
 use Rattle.append_text.specs.declared.text_form.TextForm.{TextForm}
@@ -16,11 +16,21 @@ abbrev pub integer_in : Form → Option ℤ
 integer_in (integer z) = Some z
 integer_in _ = None
 
--- a word: EDN writes it as a keyword, JSON as a string
+-- a key of an operation's map: EDN writes it as a keyword, JSON as a string
+abbrev pub key : TextForm → Form → Option (List ℕ)
+key text.Edn (keyword name) = Some name
+key text.Json (string bytes) = Some bytes
+key _ _ = None
+
+-- in JSON some write the colon of a keyword too
+abbrev pub without_colon : List ℕ → List ℕ
+without_colon [] = []
+without_colon (b ∷ bs) = if b == 58 then bs else b ∷ bs
+
+-- a word is written as a key is, in JSON perhaps with its colon
 abbrev pub word : TextForm → Form → Option (List ℕ)
-word text.Edn (keyword name) = Some name
-word text.Json (string bytes) = Some bytes
-word _ _ = None
+word text.Edn f = key text.Edn f
+word text.Json f = option_map without_colon (key text.Json f)
 
 -- the form is this word
 abbrev pub is_word : TextForm → List ℕ → Form → Bool
@@ -48,7 +58,13 @@ abbrev pub entries_in : Form → Option Pairs
 entries_in (entries ps) = Some ps
 entries_in _ = None
 
--- the value of the first key that is this word
+-- the value of the first key that is this one
+abbrev pub at_key : TextForm → List ℕ → Pairs → Option Form
+at_key n bytes no_pairs = None
+at_key n bytes (pair k value ps) =
+    if option_map_or (λ w. pointwise nat_eq w bytes) (key n k) false then Some value else at_key n bytes ps
+
+-- the value of a field, whose key may have a colon in JSON
 abbrev pub field : TextForm → List ℕ → Pairs → Option Form
-field n bytes no_pairs = None
-field n bytes (pair key value ps) = if is_word n bytes key then Some value else field n bytes ps
+field text.Edn bytes ps = at_key text.Edn bytes ps
+field text.Json bytes ps = option_or (at_key text.Json bytes ps) (at_key text.Json (58 ∷ bytes) ps)

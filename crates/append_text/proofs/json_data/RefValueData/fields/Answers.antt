@@ -11,10 +11,10 @@ returns-clause-some c =
       ps,
       is,
       record {
-        kind = got_field c.get.result (codes "type") d ps c.get.ensures fields;
-        f = got_field c.get-2.result (codes "f") d ps c.get-2.ensures fields;
-        value = got_field c.get-3.result (codes "value") d ps c.get-3.ensures fields;
-        process = got_field c.get-4.result (codes "process") d ps c.get-4.ensures fields;
-        index = got_field c.get-5.result (codes "index") d ps c.get-5.ensures fields;
+        kind = got_field c.field_of.result (codes "type") d ps c.field_of.ensures fields;
+        f = got_field c.field_of-2.result (codes "f") d ps c.field_of-2.ensures fields;
+        value = got_field c.field_of-3.result (codes "value") d ps c.field_of-3.ensures fields;
+        process = got_field c.field_of-4.result (codes "process") d ps c.field_of-4.ensures fields;
+        index = got_field c.field_of-5.result (codes "index") d ps c.field_of-5.ensures fields;
       },
     )
