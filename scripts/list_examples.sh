@@ -59,6 +59,15 @@ check 'a part of what is appended before a read and after it, twice in it' \
 check 'a JSON history that is said to be one' 'status 0' \
     "$(run --format json "$examples/recorded/mariadb-serializable.json" | tail -n 1)"
 
+# In JSON words and keys may have the colon of a keyword, and the number of a process may be a string.
+cat >colons.json <<'END'
+{":type": ":ok", ":f": ":txn", ":value": [[":r", "x", [1]], [":r", "y", []]], ":process": "1", ":index": 1}
+{":type": ":ok", ":f": ":txn", ":value": [[":append", "x", 1], [":append", "y", 1]], ":process": "0", ":index": 0}
+{":type": ":info", ":f": ":start", ":process": "nemesis"}
+END
+check 'JSON with colons, and with a process that is a string' 'out: not serializable: G-single'$'\nstatus 1' \
+    "$(ends colons.json)"
+
 # The two committed transactions of the stale read in the only order that explains it, by their indexes.
 run --order order "$examples/stale-read.edn" >answer
 check 'the order of stale-read' $'3\n1' "$(cat order)"

@@ -7,7 +7,7 @@ ghost use Rattle.edn.specs.Meaning.Forms.{Form as Plain};
 ghost use Rattle.append_text.specs.declared.name.Kept.{Kept};
 ghost use Rattle.append_text.specs.declared.read_fault.Problem.TheVariants as problem;
 ghost use Rattle.append_text.specs.declared.text_form.TextForm.{TextForm};
-ghost use Rattle.append_text.specs.Meaning.Data.{elements, entries_in, integer_in, is_nil, name_in, word};
+ghost use Rattle.append_text.specs.Meaning.Data.{elements, entries_in, integer_in, is_nil, name_in, process_number, word};
 ghost use Rattle.append_text.specs.Meaning.Names.{name_of};
 ghost use Rattle.append_text.specs.Meaning.Numbers.{IsNumber};
 ghost use Rattle.append_text.specs.Meaning.Operations as Spec;
@@ -63,6 +63,10 @@ pub(crate) trait Data<'a>: Copy {
     /// Returns the number, if this is an integer of 64 bits.
     fn integer(self) -> Option<i64>
         ensures { result ≡ integer_in (form self) };
+
+    /// Returns the number of a process: of an integer of 64 bits, or of a string of JSON that writes one.
+    fn process(self) -> Option<i64>
+        ensures { result ≡ process_number notation (form self) };
 
     /// Returns the text of a word: of a keyword, or of a string of JSON.
     fn word(self) -> Option<&'a [u8]>

@@ -57,6 +57,10 @@ impl<'a> Data<'a> for Form<'a> {
         }
     }
 
+    fn process(self) -> Option<i64> {
+        self.integer()
+    }
+
     fn word(self) -> Option<&'a [u8]> {
         match self.kind() {
             Kind::Keyword(name) => Some(name),

@@ -1,7 +1,7 @@
 //! Values of JSON as data.
 
 ghost use Rattle.std.specs.Prelude.{◌≡◌, ◌≢◌, ◌∷◌, [], map, option_map, length, IfOk, IfSome, IfNone};
-ghost use Rattle.std.specs.Option.{option_or};
+ghost use Rattle.std.specs.Option.{option_and_then, option_or};
 ghost use Rattle.serde_json.specs.Find.{get};
 ghost use Rattle.serde_json.specs.View.{view};
 ghost use Rattle.append_text.specs.declared.text_form.TextForm.TheVariants.{Json};
@@ -53,6 +53,13 @@ impl<'a> Data<'a> for &'a Value {
         self.as_i64()
     }
 
+    fn process(self) -> Option<i64> {
+        match self.as_str() {
+            Some(text) => process_in(text.as_bytes()),
+            None => self.as_i64(),
+        }
+    }
+
     fn word(self) -> Option<&'a [u8]> {
         match self.as_str() {
             Some(text) => Some(without_colon(text.as_bytes())),
@@ -102,6 +109,54 @@ fn without_colon(word: &[u8]) -> &[u8]
         }
     }
     word
+}
+
+/// Returns the number of the process that the digits write.
+fn process_in(digits: &[u8]) -> Option<i64>
+    ensures { result ≡ option_and_then Seen.integer_of (Seen.number_in digits.now) }
+{
+    match number_in(digits) {
+        Some(number) => integer_of(number),
+        None => None,
+    }
+}
+
+fn integer_of(number: u64) -> Option<i64>
+    ensures { result ≡ Seen.integer_of number }
+{
+    match i64::try_from(number) {
+        Ok(integer) => Some(integer),
+        Err(_) => None,
+    }
+}
+
+/// Returns the number that the decimal digits write, if it is below 10^18.
+fn number_in(digits: &[u8]) -> Option<u64>
+    ensures { result ≡ Seen.number_in digits.now }
+{
+    if digits.is_empty() {
+        return None;
+    }
+    let mut number = 0u64;
+    let mut rest = digits;
+    while let [first, others @ ..] = rest {
+        let Some(more) = with_digit(number, *first) else {
+            return None;
+        };
+        number = more;
+        rest = others;
+    }
+    Some(number)
+}
+
+/// Returns the number with one decimal digit more, if that is below 10^18.
+fn with_digit(number: u64, byte: u8) -> Option<u64>
+    ensures { result ≡ Seen.with_digit number byte }
+{
+    if number < 100_000_000_000_000_000 && b'0' <= byte && byte <= b'9' {
+        return Some(number * 10 + u64::from(byte - b'0'));
+    }
+    None
 }
 
 /// Returns the values, each by reference.

@@ -90,9 +90,19 @@ fn process_in<'a, D: Data<'a>>(f: Option<D>, process: Option<D>) -> Option<i64>
     ensures { result ≡ Spec.process_in D.notation (option_map D.form f) (option_map D.form process) }
 {
     if is_word(f, b"txn") {
-        return integer_in(process);
+        return process_number(process);
     }
     None
+}
+
+/// Returns the number of the process, if the field has one.
+fn process_number<'a, D: Data<'a>>(process: Option<D>) -> Option<i64>
+    ensures { result ≡ option_and_then (Seen.process_number D.notation) (option_map D.form process) }
+{
+    match process {
+        Some(data) => data.process(),
+        None => None,
+    }
 }
 
 /// Returns the index of an operation of this number in its text.

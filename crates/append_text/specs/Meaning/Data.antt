@@ -1,7 +1,7 @@
 -- What an operation is read from: a form of EDN. A value of JSON stands for one: an array for a vector, an object for a map,
 -- `null` for `nil`.
-use Rattle.std.specs.Prelude.{ℕ, ℤ, Bool, true, false, nat_eq, ◌==◌, List, [], ◌∷◌, Option, Some, None, option_map, if◌then◌else◌}
-use Rattle.std.specs.Option.{option_map_or, option_or}
+use Rattle.std.specs.Prelude.{ℕ, ℤ, pos, ◌+◌, ◌-◌, ◌*◌, ◌^◌, Bool, true, false, nat_eq, nat_le, nat_lt, ◌==◌, ◌&&◌, List, [], ◌∷◌, Option, Some, None, option_map, if◌then◌else◌}
+use Rattle.std.specs.Option.{option_and_then, option_map_or, option_or}
 use Rattle.std.specs.Cmp.Lexicographic.{pointwise}
 use Rattle.edn.specs.Meaning.Forms.{Form, Forms, Pairs, nil, integer, string, keyword, list, vector, entries, no_forms, form, no_pairs, pair}
 use Rattle.append_text.specs.declared.text_form.TextForm.{TextForm}
@@ -15,6 +15,28 @@ is_nil _ = false
 abbrev pub integer_in : Form → Option ℤ
 integer_in (integer z) = Some z
 integer_in _ = None
+
+-- the number n with one decimal digit more, if that is below 10^18
+abbrev pub with_digit : ℕ → ℕ → Option ℕ
+with_digit n b = if nat_lt n (10 ^ 17) && nat_le 48 b && nat_le b 57 then Some (n * 10 + (b - 48)) else None
+
+-- the number that decimal digits write behind those of n
+abbrev pub number_after : ℕ → List ℕ → Option ℕ
+number_after n [] = Some n
+number_after n (b ∷ bs) = option_and_then (λ m. number_after m bs) (with_digit n b)
+
+abbrev pub number_in : List ℕ → Option ℕ
+number_in [] = None
+number_in (b ∷ bs) = number_after 0 (b ∷ bs)
+
+-- the number as an integer of 64 bits
+abbrev pub integer_of : ℕ → Option ℤ
+integer_of n = if nat_lt n (2 ^ 63) then Some (pos n) else None
+
+-- the number of a process, which may be a string in JSON
+abbrev pub process_number : TextForm → Form → Option ℤ
+process_number text.Json (string bytes) = option_and_then integer_of (number_in bytes)
+process_number _ f = integer_in f
 
 -- a key of an operation's map: EDN writes it as a keyword, JSON as a string
 abbrev pub key : TextForm → Form → Option (List ℕ)

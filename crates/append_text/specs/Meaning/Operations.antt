@@ -10,7 +10,7 @@ use Rattle.append_text.specs.declared.read_fault.Problem.{Problem}
 use Rattle.append_text.specs.declared.read_fault.Problem.TheVariants as problem
 use Rattle.append_text.specs.declared.text_form.TextForm.{TextForm}
 use Rattle.append_text.specs.Meaning.Names.{Name}
-use Rattle.append_text.specs.Meaning.Data.{is_nil, integer_in, word, is_word, name_in, elements, entries_in, field}
+use Rattle.append_text.specs.Meaning.Data.{is_nil, integer_in, process_number, word, is_word, name_in, elements, entries_in, field}
 
 -- a step, with the names of its key and its elements
 pub data Step : Type 0 where
@@ -91,10 +91,10 @@ kind_of bytes =
 abbrev pub kind_in : TextForm → Option Form → Option Kind
 kind_in n f = option_and_then kind_of (option_and_then (word n) f)
 
--- `:process`, if it is an integer and `:f` is `:txn`: else the operation is no transaction's
+-- `:process`, if it is a number and `:f` is `:txn`: else the operation is no transaction's
 abbrev pub process_in : TextForm → Option Form → Option Form → Option ℤ
 process_in n f process =
-    if option_map_or (is_word n (codes "txn")) f false then option_and_then integer_in process else None
+    if option_map_or (is_word n (codes "txn")) f false then option_and_then (process_number n) process else None
 
 abbrev pub index_of : ℕ → Option ℤ → ℕ
 index_of place None = place
