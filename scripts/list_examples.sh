@@ -68,6 +68,12 @@ END
 check 'JSON with colons, and with a process that is a string' 'out: not serializable: G-single'$'\nstatus 1' \
     "$(ends colons.json)"
 
+# A byte order mark at the front is passed over.
+for history in "$examples/write-skew.edn" colons.json; do
+    printf '\xef\xbb\xbf' | cat - "$history" >marked
+    check "$history behind a byte order mark" "$("$ssi" "$history" 2>/dev/null)" "$("$ssi" marked 2>/dev/null)"
+done
+
 # The two committed transactions of the stale read in the only order that explains it, by their indexes.
 run --order order "$examples/stale-read.edn" >answer
 check 'the order of stale-read' $'3\n1' "$(cat order)"

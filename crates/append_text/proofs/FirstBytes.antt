@@ -1,16 +1,17 @@
 -- What the first bytes of a text decide.
 use Rattle.std.proofs.Common.{◌≡◌, ◌≢◌, ◌⊎◌, ◌==◌, ℕ, Bool, true, false, not, ◌+◌, ◌-◌, ◌<◌, ◌≤◌, List, [], ◌∷◌, ◌++◌, length, take, drop, Option, Some, None, refl, sym, ap, subst, ◌∙◌, inl, inr, append_assoc, arith}
-use Rattle.std.specs.Prelude.{slice_index, slice_range}
+use Rattle.std.specs.Prelude.{if◌then◌else◌, nat_eq, slice_index, slice_range}
+use Rattle.std.specs.Cmp.Lexicographic.{pointwise, same_text}
 use Rattle.std.specs.Io.KnownBytes.{Consumes, IsAtEnd, prepend_known}
 use Rattle.std.proofs.Math.Seq.{take-append-add, take-append_seam}
 use Rattle.std.proofs.lemmas.Bool.{cases_Bool, eqb-false, eqb-true}
-use Rattle.std.proofs.lemmas.List.{append-nil, drop-append-le, drop-take, length-drop, length-take, length-take-le, take-append-le, take_all}
+use Rattle.std.proofs.lemmas.List.{append-nil, drop_at, drop-append-le, drop-take, length-drop, length-take, length-take-le, take-append-le, take_all, take_at}
 use Rattle.std.proofs.lemmas.Option.{same_Some}
 use Rattle.edn.specs.declared.reader.Reader.{Reader}
 use Rattle.edn.specs.Meaning.Texts.{HasRead}
 use Rattle.append_text.specs.declared.text_form.TextForm.{TextForm}
 use Rattle.append_text.specs.Meaning.JsonTexts.{begins_array}
-use Rattle.append_text.specs.Meaning.Notations.{after_blanks, begins_object, begins_objects, begins_with, is_blank, is_json, notation_in, notation_of}
+use Rattle.append_text.specs.Meaning.Notations.{after_blanks, after_mark, begins_object, begins_objects, begins_with, is_blank, is_json, mark, notation_in, notation_of}
 use Rattle.append_text.specs.Machinery.Telling.{Decides, begins_key}
 
 blanks_more : (xs more : List ℕ) (b : ℕ) (bs : List ℕ) → after_blanks xs ≡ b ∷ bs → after_blanks (xs ++ more) ≡ b ∷ (bs ++ more)
@@ -138,19 +139,19 @@ read_kept xs buf post start end n old new text ordered within few consumes is =
     subst (λ p. prepend_known p new ≡ Some text) (sym (behind xs buf post start end n ordered within few))
     (text_kept (slice_range xs start end) (take n buf) old new text consumes is)
 
-pub read_none : (xs buf post : List ℕ) (start end n : ℕ) (new : Option (List ℕ)) → start ≤ end → length xs ≡ 8192
-    → n ≤ length buf → end ≤ 8192 → length buf ≡ 8192 - end → (n ≡ 0 → 0 < length buf → IsAtEnd new) → not (n == 0) ≡ false
+pub read_none : (xs buf post : List ℕ) (start end n most : ℕ) (new : Option (List ℕ)) → start ≤ end → most ≤ length xs
+    → n ≤ length buf → end ≤ most → length buf ≡ most - end → (n ≡ 0 → 0 < length buf → IsAtEnd new) → not (n == 0) ≡ false
     → (slice_range (take end xs ++ (buf ++ post)) start (end + n) ≡ slice_range xs start end)
-    × ((length (slice_range xs start end) + start ≡ 8192) ⊎ IsAtEnd new)
-read_none xs buf post start end n new ordered all few room long at_end none =
+    × ((length (slice_range xs start end) + start ≡ most) ⊎ IsAtEnd new)
+read_none xs buf post start end n most new ordered all few room long at_end none =
     let zero : n ≡ 0 = is_zero n none in
     let within : end ≤ length xs = omega (arith, all, room) in (
       behind xs buf post start end n ordered within few ∙ ap (λ k. slice_range xs start end ++ take k buf) zero
           ∙ append-nil (slice_range xs start end),
-      elim (cases_Bool (end == 8192)) [
-        | inl full ↦ inl (let here = eqb-true end 8192 full in let e = length-take (end - start) (drop start xs) in
+      elim (cases_Bool (end == most)) [
+        | inl full ↦ inl (let here = eqb-true end most full in let e = length-take (end - start) (drop start xs) in
             let d = length-drop start xs in omega (arith, e, d, here, all, ordered))
-        | inr other ↦ inr (at_end zero (let apart = eqb-false end 8192 other in omega (arith, apart, long, room)))
+        | inr other ↦ inr (at_end zero (let apart = eqb-false end most other in omega (arith, apart, long, room)))
       ],
     )
   where
@@ -202,3 +203,57 @@ told_array pending left text short is some =
 pub whole_array : (pending : List ℕ) (left : Option (List ℕ)) (text : List ℕ) → prepend_known pending left ≡ Some text
     → length pending ≤ 8192 → (8192 ≤ length pending) ⊎ IsAtEnd left → begins_with 91 (after_blanks pending) ≡ begins_array text
 whole_array pending left text is short all = ap (λ r. begins_with 91 (after_blanks r)) (sym (first_bytes pending left text is short all))
+
+-- ---- a byte order mark
+
+chosen : (b : Bool) (xs ys : List ℕ) → b ≡ true → (if b then xs else ys) ≡ xs
+chosen true xs ys is = refl
+chosen false xs ys is = absurd cc
+
+not_chosen : (b : Bool) (xs ys : List ℕ) → b ≡ false → (if b then xs else ys) ≡ ys
+not_chosen true xs ys is = absurd cc
+not_chosen false xs ys is = refl
+
+-- three bytes are pending, which are the mark
+pub mark_taken : (pending none : List ℕ) (left : Option (List ℕ)) (text : List ℕ) → prepend_known pending left ≡ Some text
+    → length pending ≡ 3 → pointwise nat_eq pending mark ≡ true → none ≡ [] → prepend_known none left ≡ Some (after_mark text)
+mark_taken pending none left text is three same empty =
+    let (rest, goes_on, all) = known_text pending left text is in
+    let first : take 3 text ≡ pending = ap (take 3) all ∙ take_at pending rest 3 three in
+    let behind : drop 3 text ≡ rest = ap (drop 3) all ∙ drop_at pending rest 3 three in
+    ap (prepend_known none) goes_on ∙ ap (λ p. Some (p ++ rest)) empty
+    ∙ ap (λ r. Some r) (sym (chosen (pointwise nat_eq (take 3 text) mark) (drop 3 text) text
+    (ap (λ p. pointwise nat_eq p mark) first ∙ same) ∙ behind))
+
+-- or aren't
+pub mark_missing : (pending : List ℕ) (left : Option (List ℕ)) (text : List ℕ) → prepend_known pending left ≡ Some text
+    → length pending ≡ 3 → pointwise nat_eq pending mark ≡ false → prepend_known pending left ≡ Some (after_mark text)
+mark_missing pending left text is three other =
+    let (rest, goes_on, all) = known_text pending left text is in
+    let first : take 3 text ≡ pending = ap (take 3) all ∙ take_at pending rest 3 three in
+    is ∙ ap (λ r. Some r) (sym (not_chosen (pointwise nat_eq (take 3 text) mark) (drop 3 text) text
+    (ap (λ p. pointwise nat_eq p mark) first ∙ other)))
+
+-- the text ends before
+pub mark_cut : (pending : List ℕ) (left : Option (List ℕ)) (text : List ℕ) → prepend_known pending left ≡ Some text
+    → length pending < 3 → IsAtEnd left → prepend_known pending left ≡ Some (after_mark text)
+mark_cut pending left text is short at_end =
+    let (rest, goes_on, all) = known_text pending left text is in
+    let none : rest ≡ [] = subst IsAtEnd goes_on at_end in
+    let whole : text ≡ pending = all ∙ ap (λ r. pending ++ r) none ∙ append-nil pending in
+    is ∙ ap (λ r. Some r) (sym (not_chosen (pointwise nat_eq (take 3 text) mark) (drop 3 text) text (apart text whole)))
+  where
+    apart : (text : List ℕ) → text ≡ pending → pointwise nat_eq (take 3 text) mark ≡ false
+    apart text whole = elim (cases_Bool (pointwise nat_eq (take 3 text) mark)) [
+      | inl same ↦ absurd (let e = ap length (same_text (take 3 text) mark (sym same)) in let t = length-take 3 text in
+          let w = ap length whole in omega (arith, e, t, w, short))
+      | inr other ↦ other
+    ]
+
+pub three_pending : (xs : List ℕ) (start end : ℕ) → length xs ≡ 8192 → start ≡ 0 → end ≡ 3
+    → length (slice_range xs start end) ≡ 3
+three_pending xs start end all zero three =
+    let e = length-take (end - start) (drop start xs) in let d = length-drop start xs in omega (arith, e, d, all, zero, three)
+
+pub few_pending : (xs : List ℕ) (start end : ℕ) → end < 3 → length (slice_range xs start end) < 3
+few_pending xs start end few = let e = length-take (end - start) (drop start xs) in omega (arith, e)

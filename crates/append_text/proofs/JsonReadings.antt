@@ -18,12 +18,13 @@ use Rattle.append_text.specs.declared.read_fault.ReadFault.{ReadFault}
 use Rattle.append_text.specs.declared.read_fault.ReadFault.TheVariants.{Text, Device, Memory}
 use Rattle.append_text.specs.declared.read_fault.Refusal.{Refusal}
 use Rattle.append_text.specs.declared.read_fault.Refusal.TheVariants as refusal
-use Rattle.append_text.specs.declared.text_form.TextForm.TheVariants.{Json}
+use Rattle.append_text.specs.declared.text_form.TextForm.{TextForm}
+use Rattle.append_text.specs.declared.text_form.TextForm.TheVariants.{Edn, Json}
 use Rattle.append_text.specs.Meaning.Json.{form_of}
-use Rattle.append_text.specs.Meaning.JsonTexts.{AreLines, IsArray, IsJson, IsJsonFaultOf, IsJsonHistoryOf, IsLine, IsNoJson, IsWrongInArray, IsWrongInLines, begins_array, blank, no_lines, one_more}
+use Rattle.append_text.specs.Meaning.JsonTexts.{IsFaultIn, AreLines, IsArray, IsJson, IsJsonFaultOf, IsJsonHistoryOf, IsLine, IsNoJson, IsWrongInArray, IsWrongInLines, begins_array, blank, no_lines, one_more}
 use Rattle.append_text.specs.Meaning.Lines.{lines}
 use Rattle.append_text.specs.Meaning.Notations.{after_blanks}
-use Rattle.append_text.specs.Meaning.Texts.{AreAllowed, IsHistory, counted}
+use Rattle.append_text.specs.Meaning.Texts.{IsFaultOf, AreAllowed, IsHistory, counted}
 use Rattle.append_text.specs.Machinery.BufferTexts.{TakesLine}
 use Rattle.append_text.specs.Machinery.Collectors.{HasCollected, IsRefusedAfter}
 use Rattle.append_text.specs.Machinery.EdnFaults.{fault_at}
@@ -236,3 +237,7 @@ module _ (text : List ℕ) where
       → IfErr r (IsRefusedArray text)
   elements_fault (Ok h) fs is wrong = tt
   elements_fault (Err e) fs is wrong = element_fault text fs e is wrong
+
+pub device_in : (n : TextForm) (text : List ℕ) (e : ReadFault) → e ≡ Device → IsFaultIn n text e
+device_in Edn text e is = subst (IsFaultOf text) (sym is) tt
+device_in Json text e is = subst (IsJsonFaultOf text) (sym is) tt

@@ -4,7 +4,7 @@ ghost use Rattle.std.specs.Prelude.{◌≡◌, ◌≤◌, ◌<◌, ◌+◌, ◌-
 ghost use Rattle.append_text.specs.Machinery.Buffers.{work_left};
 
 use crate::read_fault::ReadFault;
-use crate::text_form::{TextForm, text_form};
+use crate::text_form::{TextForm, is_mark, text_form};
 use devices::Source;
 use memchr::memchr;
 use std::alloc::AllocError;
@@ -23,10 +23,10 @@ pub(crate) struct Buffer {
 }
 
 impl Buffer {
-    ghost use Rattle.std.specs.Prelude.{◌⊎◌, ◌++◌, ℕ, List, [], false, Some, IfErr, OnOk};
+    ghost use Rattle.std.specs.Prelude.{◌⊎◌, ◌++◌, ℕ, List, [], Option, false, Some, IfErr, OnOk};
     ghost use Rattle.std.specs.Io.KnownBytes.{IsAtEnd};
     ghost use Rattle.append_text.specs.Meaning.JsonTexts.{begins_array};
-    ghost use Rattle.append_text.specs.Meaning.Notations.{after_blanks, begins_with, notation_in};
+    ghost use Rattle.append_text.specs.Meaning.Notations.{after_blanks, after_mark, begins_with, notation_in};
     ghost use Rattle.append_text.specs.Machinery.BufferTexts.{AddsFront, HasLeft, TakesLine, pending_in};
     ghost use Rattle.append_text.specs.Machinery.JsonReading.{SaysNothing};
 
@@ -34,6 +34,7 @@ impl Buffer {
     pub(crate) fn new() -> Buffer
         ensures pending { pending_in result ≡ [] }
         ensures start { result.start ≡ 0 }
+        ensures end { result.end ≡ 0 }
     {
         Buffer {
             bytes: [0; ROOM],
@@ -70,6 +71,33 @@ impl Buffer {
         }
     }
 
+    /// Passes over a byte order mark, if the text begins with one. `Device` if the source failed.
+    pub(crate) fn skip_mark<S: Source>(&mut self, source: &mut S) -> Result<(), ReadFault>
+        ensures kept { (text : List ℕ) → self.old.start ≡ 0 → self.old.end ≡ 0 → HasLeft self.old (S.remaining source.old) text
+            → OnOk result (HasLeft self.new (S.remaining source.new) (after_mark text)) }
+        ensures start { self.new.start ≡ self.old.start }
+        ensures fault { IfErr result (λ e. e ≡ ReadFault.Device) }
+    {
+        while self.end < 3 {
+            if !self.read_up_to(3, source)? {
+                return Ok(());
+            }
+        }
+        self.drop_mark();
+        Ok(())
+    }
+
+    /// Drops the three bytes that are pending, if they are a byte order mark.
+    fn drop_mark(&mut self)
+        ensures kept { (left : Option (List ℕ)) (text : List ℕ) → self.old.start ≡ 0 → self.old.end ≡ 3
+            → HasLeft self.old left text → HasLeft self.new left (after_mark text) }
+        ensures start { self.new.start ≡ self.old.start }
+    {
+        if is_mark(self.pending()) {
+            self.end = self.start;
+        }
+    }
+
     /// Reads more bytes behind those that are pending. Returns whether any came.
     fn read_more<S: Source>(&mut self, source: &mut S) -> Result<bool, ReadFault>
         ensures kept { (text : List ℕ) → HasLeft self.old (S.remaining source.old) text
@@ -82,7 +110,25 @@ impl Buffer {
         ensures work { IfOk result (λ _. work_left (S.left source.new) self.new.start self.new.end
             ≤ work_left (S.left source.old) self.old.start self.old.end) }
     {
-        match source.pull(&mut self.bytes[self.end..]) {
+        self.read_up_to(ROOM, source)
+    }
+
+    /// Reads more bytes behind those that are pending, up to this place. Returns whether any came.
+    fn read_up_to<S: Source>(&mut self, most: usize, source: &mut S) -> Result<bool, ReadFault>
+        requires room { self.old.end ≤ most }
+        requires fits { most ≤ 8192 }
+        ensures kept { (text : List ℕ) → HasLeft self.old (S.remaining source.old) text
+            → OnOk result (HasLeft self.new (S.remaining source.new) text) }
+        ensures end { IfOk result (λ some. some ≡ false
+            → (pending_in self.new ≡ pending_in self.old) × ((length (pending_in self.old) + self.old.start ≡ most) ⊎ IsAtEnd (S.remaining source.new))) }
+        ensures start { self.new.start ≡ self.old.start }
+        ensures short { OnOk result (self.new.end ≤ most) }
+        ensures fault { IfErr result (λ e. e ≡ ReadFault.Device) }
+        ensures less { IfOk result (λ some. some ≡ true → S.left source.new < S.left source.old) }
+        ensures work { IfOk result (λ _. work_left (S.left source.new) self.new.start self.new.end
+            ≤ work_left (S.left source.old) self.old.start self.old.end) }
+    {
+        match source.pull(&mut self.bytes[self.end..most]) {
             Ok(n) => {
                 self.end += n;
                 Ok(n != 0)

@@ -1,7 +1,7 @@
 //! Reading histories.
 
 ghost use Rattle.std.specs.Prelude.{◌≡◌, List, ℕ, Some, IfOk, IfErr};
-ghost use Rattle.append_text.specs.Meaning.Notations.{notation_in};
+ghost use Rattle.append_text.specs.Meaning.Notations.{after_mark, notation_in};
 ghost use Rattle.append_text.specs.Meaning.JsonTexts.{IsFaultIn, IsHistoryIn, IsJsonFaultOf, IsJsonHistoryOf};
 ghost use Rattle.append_text.specs.Meaning.Texts.{IsFaultOf, IsHistoryOf};
 
@@ -17,12 +17,14 @@ use std::alloc::Global;
 
 /// Reads a history from all that the source has left, in JSON if its first map has a string as its first key, else in
 /// EDN. `Text` with the place if the text is that of no history, `Device` if the source failed, `Memory` if memory ran
-/// out. The first 8192 bytes tell EDN from JSON.
+/// out. The first 8192 bytes tell EDN from JSON. A byte order mark at the front is passed over, here as in the other two
+/// calls.
 pub fn read_history<S: Source>(alloc: Global, source: &mut S) -> Result<History, ReadFault>
-    ensures history { (text : List ℕ) → S.remaining source.old ≡ Some text → IfOk result (IsHistoryIn (notation_in text) text) }
-    ensures fault { (text : List ℕ) → S.remaining source.old ≡ Some text → IfErr result (IsFaultIn (notation_in text) text) }
+    ensures history { (text : List ℕ) → S.remaining source.old ≡ Some text → IfOk result (IsHistoryIn (notation_in (after_mark text)) (after_mark text)) }
+    ensures fault { (text : List ℕ) → S.remaining source.old ≡ Some text → IfErr result (IsFaultIn (notation_in (after_mark text)) (after_mark text)) }
 {
     let mut buffer = Buffer::new();
+    buffer.skip_mark(source)?;
     match buffer.form(source)? {
         TextForm::Edn => edn_text(alloc, Reader::after(alloc, buffer.pending())?, source),
         TextForm::Json => json_text(alloc, &mut buffer, source),
@@ -33,10 +35,12 @@ pub fn read_history<S: Source>(alloc: Global, source: &mut S) -> Result<History,
 /// `Text` with the line if the text is that of no history, `Device` if the source failed, `Memory` if memory ran out.
 /// If a history is returned, the whole text is one of EDN.
 pub fn read_edn<S: Source>(alloc: Global, source: &mut S) -> Result<History, ReadFault>
-    ensures history { (text : List ℕ) → S.remaining source.old ≡ Some text → IfOk result (IsHistoryOf text) }
-    ensures fault { (text : List ℕ) → S.remaining source.old ≡ Some text → IfErr result (IsFaultOf text) }
+    ensures history { (text : List ℕ) → S.remaining source.old ≡ Some text → IfOk result (IsHistoryOf (after_mark text)) }
+    ensures fault { (text : List ℕ) → S.remaining source.old ≡ Some text → IfErr result (IsFaultOf (after_mark text)) }
 {
-    edn_text(alloc, Reader::new(alloc), source)
+    let mut buffer = Buffer::new();
+    buffer.skip_mark(source)?;
+    edn_text(alloc, Reader::after(alloc, buffer.pending())?, source)
 }
 
 /// Reads a history in JSON from all that the source has left: one operation a line, or one array of them if the text
@@ -44,10 +48,11 @@ pub fn read_edn<S: Source>(alloc: Global, source: &mut S) -> Result<History, Rea
 /// the text is that of no history, `Device` if the source failed, `Memory` if memory ran out. If a history is returned,
 /// each line that isn't blank is a text of JSON, or the whole text is one.
 pub fn read_json<S: Source>(alloc: Global, source: &mut S) -> Result<History, ReadFault>
-    ensures history { (text : List ℕ) → S.remaining source.old ≡ Some text → IfOk result (IsJsonHistoryOf text) }
-    ensures fault { (text : List ℕ) → S.remaining source.old ≡ Some text → IfErr result (IsJsonFaultOf text) }
+    ensures history { (text : List ℕ) → S.remaining source.old ≡ Some text → IfOk result (IsJsonHistoryOf (after_mark text)) }
+    ensures fault { (text : List ℕ) → S.remaining source.old ≡ Some text → IfErr result (IsJsonFaultOf (after_mark text)) }
 {
     let mut buffer = Buffer::new();
+    buffer.skip_mark(source)?;
     buffer.form(source)?;
     json_text(alloc, &mut buffer, source)
 }

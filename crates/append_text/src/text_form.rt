@@ -1,8 +1,11 @@
 //! The notation of a text, told by its first bytes.
 
-ghost use Rattle.std.specs.Prelude.{◌≡◌, ◌≤◌, length, IfSome};
+ghost use Rattle.std.specs.Prelude.{◌≡◌, ◌≤◌, length, nat_eq, IfSome};
+ghost use Rattle.std.specs.Cmp.Lexicographic.{pointwise};
 ghost use Rattle.append_text.specs.Meaning.Notations as Spec;
 ghost use Rattle.append_text.specs.Machinery.Telling.{Decides, begins_key};
+
+use crate::data::is_text;
 
 /// What a text is written in.
 #[derive(Clone, Copy, Debug, PartialEq, Eq)]
@@ -18,6 +21,13 @@ fn is_blank(byte: u8) -> bool
     ensures { result ≡ Spec.is_blank byte }
 {
     byte == b' ' || byte == b'\t' || byte == b'\n' || byte == b'\r'
+}
+
+/// Returns whether these bytes are a byte order mark.
+pub(crate) fn is_mark(bytes: &[u8]) -> bool
+    ensures { result ≡ pointwise nat_eq bytes.now Spec.mark }
+{
+    is_text(bytes, b"\xef\xbb\xbf")
 }
 
 /// Returns what follows the white space at the front.

@@ -1,11 +1,20 @@
 -- What a text is written in, told by its first bytes.
-use Rattle.std.specs.Prelude.{ℕ, Bool, true, false, ◌==◌, ◌&&◌, ◌||◌, List, [], ◌∷◌, take, if◌then◌else◌}
+use Rattle.std.specs.Prelude.{ℕ, Bool, true, false, nat_eq, ◌==◌, ◌&&◌, ◌||◌, List, [], ◌∷◌, drop, take, if◌then◌else◌}
+use Rattle.std.specs.Cmp.Lexicographic.{pointwise}
 use Rattle.append_text.specs.declared.text_form.TextForm.{TextForm}
 use Rattle.append_text.specs.declared.text_form.TextForm.TheVariants as notation
 
 -- white space of both: a space, a tab, a line feed, a carriage return
 abbrev pub is_blank : ℕ → Bool
 is_blank b = b == 32 || b == 9 || b == 10 || b == 13
+
+-- a byte order mark
+abbrev pub mark : List ℕ
+mark = 239 ∷ 187 ∷ 191 ∷ []
+
+-- the text behind the mark that it may begin with
+abbrev pub after_mark : List ℕ → List ℕ
+after_mark text = if pointwise nat_eq (take 3 text) mark then drop 3 text else text
 
 abbrev pub after_blanks : List ℕ → List ℕ
 after_blanks [] = []
