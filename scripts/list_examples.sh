@@ -68,8 +68,15 @@ END
 check 'JSON with colons, and with a process that is a string' 'out: not serializable: G-single'$'\nstatus 1' \
     "$(ends colons.json)"
 
+# All operations may be in an array, or in one that an object has as its history.
+sed 's/$/,/; $s/,$//' colons.json | (echo '[' && cat && echo ']') >array.json
+(printf '{"history":\n' && cat array.json && echo ', "name": "colons"}') >object.json
+for history in array.json object.json; do
+    check "JSON as in $history" "$("$ssi" colons.json 2>/dev/null)" "$("$ssi" "$history" 2>/dev/null)"
+done
+
 # A byte order mark at the front is passed over.
-for history in "$examples/write-skew.edn" colons.json; do
+for history in "$examples/write-skew.edn" colons.json object.json; do
     printf '\xef\xbb\xbf' | cat - "$history" >marked
     check "$history behind a byte order mark" "$("$ssi" "$history" 2>/dev/null)" "$("$ssi" marked 2>/dev/null)"
 done

@@ -10,7 +10,6 @@ use Rattle.std.proofs.lemmas.Option.{same_Some}
 use Rattle.edn.specs.declared.reader.Reader.{Reader}
 use Rattle.edn.specs.Meaning.Texts.{HasRead}
 use Rattle.append_text.specs.declared.text_form.TextForm.{TextForm}
-use Rattle.append_text.specs.Meaning.JsonTexts.{begins_array}
 use Rattle.append_text.specs.Meaning.Notations.{after_blanks, after_mark, begins_object, begins_objects, begins_with, is_blank, is_json, mark, notation_in, notation_of}
 use Rattle.append_text.specs.Machinery.Telling.{Decides, begins_key}
 
@@ -107,7 +106,7 @@ told_form pending left text f short is decides =
     ∙ take-append-add pending rest (8192 - length pending)))
 
 -- a buffer that is full, or that holds the whole text, holds its first bytes
-first_bytes : (pending : List ℕ) (left : Option (List ℕ)) (text : List ℕ) → prepend_known pending left ≡ Some text
+pub first_bytes : (pending : List ℕ) (left : Option (List ℕ)) (text : List ℕ) → prepend_known pending left ≡ Some text
     → length pending ≤ 8192 → (8192 ≤ length pending) ⊎ IsAtEnd left → take 8192 text ≡ pending
 first_bytes pending left text is short all = by (known_text pending left text is) all
   where
@@ -182,27 +181,6 @@ begun_text text pending r left is begins = by (known_text pending left text is)
     by : ((rest : List ℕ) × (left ≡ Some rest) × (text ≡ pending ++ rest)) → HasRead text [] r left
     by (rest, goes_on, all) =
         subst (λ t. HasRead t [] r left) (sym all) (subst (HasRead (pending ++ rest) [] r) (sym goes_on) (begins rest))
-
--- ---- arrays
-
-begun_first : (pending more : List ℕ) (begun : List ℕ) → after_blanks pending ≡ begun → 1 ≤ length begun
-    → begins_with 91 begun ≡ begins_with 91 (after_blanks (pending ++ more))
-begun_first pending more [] is some = absurd (omega arith)
-begun_first pending more (b ∷ bs) is some = ap (begins_with 91) (sym (blanks_more pending more b bs is))
-
-pub told_array : (pending : List ℕ) (left : Option (List ℕ)) (text : List ℕ) → length pending ≤ 8192
-    → prepend_known pending left ≡ Some text → 1 ≤ length (after_blanks pending)
-    → begins_with 91 (after_blanks pending) ≡ begins_array text
-told_array pending left text short is some =
-    let (rest, goes_on, all) = known_text pending left text is in
-    let room : length pending + (8192 - length pending) ≡ 8192 = omega arith in
-    begun_first pending (take (8192 - length pending) rest) (after_blanks pending) refl some
-    ∙ ap (λ r. begins_with 91 (after_blanks r)) (sym (ap (take 8192) all ∙ ap (λ k. take k (pending ++ rest)) (sym room)
-    ∙ take-append-add pending rest (8192 - length pending)))
-
-pub whole_array : (pending : List ℕ) (left : Option (List ℕ)) (text : List ℕ) → prepend_known pending left ≡ Some text
-    → length pending ≤ 8192 → (8192 ≤ length pending) ⊎ IsAtEnd left → begins_with 91 (after_blanks pending) ≡ begins_array text
-whole_array pending left text is short all = ap (λ r. begins_with 91 (after_blanks r)) (sym (first_bytes pending left text is short all))
 
 -- ---- a byte order mark
 

@@ -5,8 +5,7 @@ use Rattle.std.specs.Bool.{MatchBool}
 use Rattle.std.proofs.lemmas.List.{append-nil, drop_more, length-map, length-take-le, map-append, map_more, nil_from_length, take-append-drop}
 use Rattle.std.proofs.lemmas.Bool.{eqb-true}
 use Rattle.edn.specs.Meaning.Forms.{Form}
-use Rattle.serde_json.specs.Data.{Data, Items, null, boolean, number as number_data, string, array, object}
-use Rattle.serde_json.specs.Find.{as_array}
+use Rattle.serde_json.specs.Data.{Data}
 use Rattle.serde_json.specs.Read.{read}
 use Rattle.serde_json.specs.View.{items_view, view}
 use Rattle.serde_json.specs.declared.value.Value.{Value}
@@ -21,14 +20,14 @@ use Rattle.append_text.specs.declared.read_fault.Refusal.TheVariants as refusal
 use Rattle.append_text.specs.declared.text_form.TextForm.{TextForm}
 use Rattle.append_text.specs.declared.text_form.TextForm.TheVariants.{Edn, Json}
 use Rattle.append_text.specs.Meaning.Json.{form_of}
-use Rattle.append_text.specs.Meaning.JsonTexts.{IsFaultIn, AreLines, IsArray, IsJson, IsJsonFaultOf, IsJsonHistoryOf, IsLine, IsNoJson, IsWrongInArray, IsWrongInLines, begins_array, blank, no_lines, one_more}
+use Rattle.append_text.specs.Meaning.JsonTexts.{elements_in, IsFaultIn, AreLines, IsValue, IsJson, IsJsonFaultOf, IsJsonHistoryOf, IsLine, IsNoJson, IsWrongInValue, IsWrongInLines, is_value, blank, no_lines, one_more}
 use Rattle.append_text.specs.Meaning.Lines.{lines}
 use Rattle.append_text.specs.Meaning.Notations.{after_blanks}
 use Rattle.append_text.specs.Meaning.Texts.{IsFaultOf, AreAllowed, IsHistory, counted}
 use Rattle.append_text.specs.Machinery.BufferTexts.{TakesLine}
 use Rattle.append_text.specs.Machinery.Collectors.{HasCollected, IsRefusedAfter}
 use Rattle.append_text.specs.Machinery.EdnFaults.{fault_at}
-use Rattle.append_text.specs.Machinery.JsonReading.{AreRefusedLines, IsRefusedArray, IsRefusedElement, IsRefusedLine, SaysNothing}
+use Rattle.append_text.specs.Machinery.JsonReading.{AreRefusedLines, IsRefusedValue, IsRefusedElement, IsRefusedLine, SaysNothing}
 use Rattle.append_text.proofs.Collecting.{counted_more, counted_push, counted_zero}
 use Rattle.append_text.proofs.JsonForms.{listed_items}
 
@@ -43,33 +42,24 @@ same_some o x y one other = cc
 pub none_json : (text : List ℕ) → (IsUtf8 text → read text ≡ None) → IsNoJson text
 none_json text none d (utf8, is) = apart (read text) d (none utf8) is
 
-array_data : (d : Data) (ds : Items) → Some ds ≡ as_array d → d ≡ array ds
-array_data null ds is = absurd cc
-array_data (boolean b) ds is = absurd cc
-array_data (number_data n) ds is = absurd cc
-array_data (string bytes) ds is = absurd cc
-array_data (array es) ds is = let e : ds ≡ es = cc in ap array (sym e)
-array_data (object ms) ds is = absurd cc
+-- a value with elements
+pub value_text : (text : List ℕ) (d : Data) (vs : List Value) → IsUtf8 text → read text ≡ Some d → Some (items_view vs) ≡ elements_in d
+    → IsValue text (map (λ v. form_of (view v)) vs)
+value_text text d vs utf8 is elements = (d, items_view vs, (utf8, is), sym elements, sym (listed_items vs))
 
--- an array, and its elements
-pub array_text : (text : List ℕ) (d : Data) (vs : List Value) → IsUtf8 text → read text ≡ Some d → Some (items_view vs) ≡ as_array d
-    → IsArray text (map (λ v. form_of (view v)) vs)
-array_text text d vs utf8 is elements =
-    (items_view vs, (utf8, is ∙ ap (λ e. Some e) (array_data d (items_view vs) elements)), sym (listed_items vs))
+pub other_text : (text : List ℕ) (d : Data) → read text ≡ Some d → elements_in d ≡ None → (fs : List Form) → IsValue text fs → ⊥
+other_text text d is none fs (e, ds, (utf8, also), has, are) =
+    apart (elements_in d) ds none (ap elements_in (same_some (read text) d e is also) ∙ has)
 
-pub other_text : (text : List ℕ) (d : Data) → read text ≡ Some d → as_array d ≡ None → (fs : List Form) → IsArray text fs → ⊥
-other_text text d is none fs (ds, (utf8, also), are) =
-    apart (as_array d) ds none (ap as_array (same_some (read text) d (array ds) is also))
-
-pub no_array : (text : List ℕ) → IsNoJson text → (fs : List Form) → IsArray text fs → ⊥
-no_array text none fs (ds, is, are) = none (array ds) is
+pub no_value : (text : List ℕ) → IsNoJson text → (fs : List Form) → IsValue text fs → ⊥
+no_value text none fs (d, ds, is, has, are) = none d is
 
 -- ---- faults
 
-pub nothing_array : (text : List ℕ) (e : ReadFault) → SaysNothing e → IsRefusedArray text e
-nothing_array text (Text place p) says = absurd says
-nothing_array text Device says = tt
-nothing_array text Memory says = tt
+pub nothing_value : (text : List ℕ) (e : ReadFault) → SaysNothing e → IsRefusedValue text e
+nothing_value text (Text place p) says = absurd says
+nothing_value text Device says = tt
+nothing_value text Memory says = tt
 
 pub nothing_lines : (text : List ℕ) (e : ReadFault) → SaysNothing e → AreRefusedLines text e
 nothing_lines text (Text place p) says = absurd says
@@ -80,14 +70,14 @@ nothing_lines text Memory says = tt
 abbrev pub IsFaultOn : ℕ → Type 0 → ReadFault → Type 0
 IsFaultOn line IsMemory e = (IsMemory × (e ≡ Memory)) ⊎ (¬ IsMemory × (e ≡ Text (Line line) problem.Json))
 
-pub no_json_array : (text : List ℕ) (IsMemory : Type 0) (line : ℕ) (e : ReadFault) → IsFaultOn line IsMemory e
-    → (¬ IsMemory → IsUtf8 text → read text ≡ None) → IsRefusedArray text e
-no_json_array text IsMemory line e (inl (memory, is)) none = subst (IsRefusedArray text) (sym is) tt
-no_json_array text IsMemory line e (inr (other, is)) none =
-    subst (IsRefusedArray text) (sym is) (refl, no_array text (none_json text (none other)))
+pub no_json_value : (text : List ℕ) (IsMemory : Type 0) (line : ℕ) (e : ReadFault) → IsFaultOn line IsMemory e
+    → (¬ IsMemory → IsUtf8 text → read text ≡ None) → IsRefusedValue text e
+no_json_value text IsMemory line e (inl (memory, is)) none = subst (IsRefusedValue text) (sym is) tt
+no_json_value text IsMemory line e (inr (other, is)) none =
+    subst (IsRefusedValue text) (sym is) (refl, no_value text (none_json text (none other)))
 
 -- the fault of an element is that of the array
-pub element_fault : (text : List ℕ) (fs : List Form) (e : ReadFault) → IsArray text fs → IsRefusedElement fs e → IsRefusedArray text e
+pub element_fault : (text : List ℕ) (fs : List Form) (e : ReadFault) → IsValue text fs → IsRefusedElement fs e → IsRefusedValue text e
 element_fault text fs (Text (Line n) p) is wrong = absurd wrong
 element_fault text fs (Text (Element k) p) is wrong = (fs, is, wrong)
 element_fault text fs Device is wrong = absurd wrong
@@ -201,40 +191,40 @@ match_false true P Q is q = absurd cc
 match_false false P Q is q = q
 
 module _ (text : List ℕ) where
-  pub array_history : (r : Result History ReadFault) → begins_array text ≡ true
-      → IfOk r (λ h. (fs : List Form) × IsArray text fs × IsHistory Json fs h) → IfOk r (IsJsonHistoryOf text)
-  array_history (Ok h) is (fs, are, history) =
-      (fs, match_true (begins_array text) (IsArray text fs) (AreLines (lines text) fs) is are, history)
-  array_history (Err e) is history = tt
+  pub value_history : (r : Result History ReadFault) → is_value text ≡ true
+      → IfOk r (λ h. (fs : List Form) × IsValue text fs × IsHistory Json fs h) → IfOk r (IsJsonHistoryOf text)
+  value_history (Ok h) is (fs, are, history) =
+      (fs, match_true (is_value text) (IsValue text fs) (AreLines (lines text) fs) is are, history)
+  value_history (Err e) is history = tt
 
-  pub array_fault : (r : Result History ReadFault) → begins_array text ≡ true → IfErr r (IsRefusedArray text) → IfErr r (IsJsonFaultOf text)
-  array_fault (Ok h) is wrong = tt
-  array_fault (Err (Text place p)) is wrong =
-      match_true (begins_array text) (IsWrongInArray text place p) (IsWrongInLines text place p) is wrong
-  array_fault (Err Device) is wrong = tt
-  array_fault (Err Memory) is wrong = tt
+  pub value_fault : (r : Result History ReadFault) → is_value text ≡ true → IfErr r (IsRefusedValue text) → IfErr r (IsJsonFaultOf text)
+  value_fault (Ok h) is wrong = tt
+  value_fault (Err (Text place p)) is wrong =
+      match_true (is_value text) (IsWrongInValue text place p) (IsWrongInLines text place p) is wrong
+  value_fault (Err Device) is wrong = tt
+  value_fault (Err Memory) is wrong = tt
 
-  pub lines_history : (r : Result History ReadFault) → begins_array text ≡ false
+  pub lines_history : (r : Result History ReadFault) → is_value text ≡ false
       → IfOk r (λ h. (fs : List Form) × AreLines (lines text) fs × IsHistory Json fs h) → IfOk r (IsJsonHistoryOf text)
   lines_history (Ok h) is (fs, say, history) =
-      (fs, match_false (begins_array text) (IsArray text fs) (AreLines (lines text) fs) is say, history)
+      (fs, match_false (is_value text) (IsValue text fs) (AreLines (lines text) fs) is say, history)
   lines_history (Err e) is history = tt
 
-  pub lines_fault : (r : Result History ReadFault) → begins_array text ≡ false → IfErr r (AreRefusedLines text) → IfErr r (IsJsonFaultOf text)
+  pub lines_fault : (r : Result History ReadFault) → is_value text ≡ false → IfErr r (AreRefusedLines text) → IfErr r (IsJsonFaultOf text)
   lines_fault (Ok h) is wrong = tt
   lines_fault (Err (Text place p)) is wrong =
-      match_false (begins_array text) (IsWrongInArray text place p) (IsWrongInLines text place p) is wrong
+      match_false (is_value text) (IsWrongInValue text place p) (IsWrongInLines text place p) is wrong
   lines_fault (Err Device) is wrong = tt
   lines_fault (Err Memory) is wrong = tt
 
   -- the history of the elements is that of the array
-  pub elements_history : (r : Result History ReadFault) (fs : List Form) → IsArray text fs → IfOk r (IsHistory Json fs)
-      → IfOk r (λ h. (gs : List Form) × IsArray text gs × IsHistory Json gs h)
+  pub elements_history : (r : Result History ReadFault) (fs : List Form) → IsValue text fs → IfOk r (IsHistory Json fs)
+      → IfOk r (λ h. (gs : List Form) × IsValue text gs × IsHistory Json gs h)
   elements_history (Ok h) fs is history = (fs, is, history)
   elements_history (Err e) fs is history = tt
 
-  pub elements_fault : (r : Result History ReadFault) (fs : List Form) → IsArray text fs → IfErr r (IsRefusedElement fs)
-      → IfErr r (IsRefusedArray text)
+  pub elements_fault : (r : Result History ReadFault) (fs : List Form) → IsValue text fs → IfErr r (IsRefusedElement fs)
+      → IfErr r (IsRefusedValue text)
   elements_fault (Ok h) fs is wrong = tt
   elements_fault (Err e) fs is wrong = element_fault text fs e is wrong
 

@@ -23,10 +23,9 @@ pub(crate) struct Buffer {
 }
 
 impl Buffer {
-    ghost use Rattle.std.specs.Prelude.{◌⊎◌, ◌++◌, ℕ, List, [], Option, false, Some, IfErr, OnOk};
+    ghost use Rattle.std.specs.Prelude.{◌⊎◌, ◌++◌, ℕ, List, [], Option, false, Some, IfErr, OnOk, take};
     ghost use Rattle.std.specs.Io.KnownBytes.{IsAtEnd};
-    ghost use Rattle.append_text.specs.Meaning.JsonTexts.{begins_array};
-    ghost use Rattle.append_text.specs.Meaning.Notations.{after_blanks, after_mark, begins_with, notation_in};
+    ghost use Rattle.append_text.specs.Meaning.Notations.{after_mark, notation_in};
     ghost use Rattle.append_text.specs.Machinery.BufferTexts.{AddsFront, HasLeft, TakesLine, pending_in};
     ghost use Rattle.append_text.specs.Machinery.JsonReading.{SaysNothing};
 
@@ -57,8 +56,7 @@ impl Buffer {
             → OnOk result (HasLeft self.new (S.remaining source.new) text) }
         ensures form { (text : List ℕ) → self.old.start ≡ 0 → HasLeft self.old (S.remaining source.old) text
             → IfOk result (λ f. f ≡ notation_in text) }
-        ensures array { (text : List ℕ) → self.old.start ≡ 0 → HasLeft self.old (S.remaining source.old) text
-            → OnOk result (begins_with 91 (after_blanks (pending_in self.new)) ≡ begins_array text) }
+        ensures start { self.new.start ≡ self.old.start }
         ensures fault { IfErr result (λ e. e ≡ ReadFault.Device) }
     {
         loop {
@@ -67,6 +65,21 @@ impl Buffer {
             }
             if !self.read_more(source)? {
                 return Ok(TextForm::Edn);
+            }
+        }
+    }
+
+    /// Reads until the buffer is full, or the source has no more. `Device` if the source failed.
+    pub(crate) fn fill_up<S: Source>(&mut self, source: &mut S) -> Result<(), ReadFault>
+        ensures kept { (text : List ℕ) → HasLeft self.old (S.remaining source.old) text
+            → OnOk result (HasLeft self.new (S.remaining source.new) text) }
+        ensures first { (text : List ℕ) → self.old.start ≡ 0 → HasLeft self.old (S.remaining source.old) text
+            → OnOk result (pending_in self.new ≡ take 8192 text) }
+        ensures fault { IfErr result (λ e. e ≡ ReadFault.Device) }
+    {
+        loop {
+            if !self.read_more(source)? {
+                return Ok(());
             }
         }
     }

@@ -1,57 +1,55 @@
 //! Histories in JSON.
 
-ghost use Rattle.std.specs.Prelude.{◌≡◌, ◌⊎◌, ℕ, List, ◌++◌, map, true, false, IfOk, IfErr, OnOk};
+ghost use Rattle.std.specs.Prelude.{◌≡◌, ◌⊎◌, ℕ, List, ◌++◌, map, option_map, IfOk, IfErr, OnOk};
 ghost use Rattle.edn.specs.Meaning.Forms.{Form as Plain};
 ghost use Rattle.serde_json.specs.Errors.{IsMemory};
-ghost use Rattle.serde_json.specs.View.{view};
+ghost use Rattle.serde_json.specs.View.{items_view, view};
 ghost use Rattle.append_text.specs.Meaning.Json.{form_of};
 ghost use Rattle.append_text.specs.Meaning.JsonTexts as Spec;
 ghost use Rattle.append_text.specs.Meaning.Lines.{lines};
-ghost use Rattle.append_text.specs.Meaning.Notations as Noted;
 ghost use Rattle.append_text.specs.Meaning.Texts.{IsHistory};
-ghost use Rattle.append_text.specs.Machinery.BufferTexts.{HasLeft, pending_in};
+ghost use Rattle.append_text.specs.Machinery.BufferTexts.{HasLeft};
 ghost use Rattle.append_text.specs.Machinery.Collectors.{HasCollected};
-ghost use Rattle.append_text.specs.Machinery.JsonReading.{AreRefusedLines, IsRefusedArray, IsRefusedElement, IsRefusedLine};
+ghost use Rattle.append_text.specs.Machinery.JsonReading.{AreRefusedLines, IsRefusedValue, IsRefusedElement, IsRefusedLine};
 
 use crate::buffer::Buffer;
 use crate::collector::Collector;
 use crate::history::History;
 use crate::read_fault::{Place, Problem, ReadFault};
-use crate::text_form::{TextForm, after_blanks, begins_array};
+use crate::text_form::{TextForm, after_blanks, begins_value};
 use devices::Source;
 use serde_json::Value;
 use std::alloc::Global;
 
-/// Reads a history in JSON from what the buffer holds and then what the source has left: an array of operations if it
-/// begins with `[`, else one operation a line.
+/// Reads a history in JSON from what the buffer holds and then what the source has left: the elements of one value if it
+/// begins so, else one operation a line.
 pub(crate) fn json_text<S: Source>(
     alloc: Global,
     buffer: &mut Buffer,
     source: &mut S,
 ) -> Result<History, ReadFault>
-    ensures history { (text : List ℕ) → HasLeft buffer.old (S.remaining source.old) text
-        → Noted.begins_with 91 (Noted.after_blanks (pending_in buffer.old)) ≡ Spec.begins_array text
+    ensures history { (text : List ℕ) → buffer.old.start ≡ 0 → HasLeft buffer.old (S.remaining source.old) text
         → IfOk result (Spec.IsJsonHistoryOf text) }
-    ensures fault { (text : List ℕ) → HasLeft buffer.old (S.remaining source.old) text
-        → Noted.begins_with 91 (Noted.after_blanks (pending_in buffer.old)) ≡ Spec.begins_array text
+    ensures fault { (text : List ℕ) → buffer.old.start ≡ 0 → HasLeft buffer.old (S.remaining source.old) text
         → IfErr result (Spec.IsJsonFaultOf text) }
 {
-    if begins_array(buffer.pending()) {
-        return json_array(alloc, buffer, source);
+    buffer.fill_up(source)?;
+    if begins_value(buffer.pending()) {
+        return json_value(alloc, buffer, source);
     }
     json_lines(alloc, buffer, source)
 }
 
-/// Reads a history of one array.
-fn json_array<S: Source>(
+/// Reads a history of one value.
+fn json_value<S: Source>(
     alloc: Global,
     buffer: &mut Buffer,
     source: &mut S,
 ) -> Result<History, ReadFault>
     ensures history { (text : List ℕ) → HasLeft buffer.old (S.remaining source.old) text
-        → IfOk result (λ h. (fs : List Plain) × Spec.IsArray text fs × IsHistory TextForm.Json fs h) }
+        → IfOk result (λ h. (fs : List Plain) × Spec.IsValue text fs × IsHistory TextForm.Json fs h) }
     ensures fault { (text : List ℕ) → HasLeft buffer.old (S.remaining source.old) text
-        → IfErr result (IsRefusedArray text) }
+        → IfErr result (IsRefusedValue text) }
 {
     let mut text = Vec::new(alloc);
     buffer.read_to_end(source, &mut text)?;
@@ -59,13 +57,26 @@ fn json_array<S: Source>(
         Ok(value) => value,
         Err(error) => return Err(from_json(&error, error.line() as u64)),
     };
-    let Some(values) = value.as_array() else {
+    let Some(values) = elements_in(&value) else {
         return Err(ReadFault::Text {
             place: Place::Line(1),
             problem: Problem::Json,
         });
     };
     history_of(alloc, values.as_slice())
+}
+
+/// Returns the elements of an array, or of the one that an object has as its `history`.
+fn elements_in(value: &Value) -> Option<&Vec<Value>>
+    ensures { option_map (λ v. items_view v.now.items) result ≡ Spec.elements_in (view value.now) }
+{
+    match value.as_array() {
+        Some(values) => Some(values),
+        None => match value.get("history") {
+            Some(found) => found.as_array(),
+            None => None,
+        },
+    }
 }
 
 /// Reads the history of the values.

@@ -31,7 +31,7 @@ pub enum Problem {
     /// The text is none of EDN.
     #[error("{0}")]
     Edn(edn::Problem),
-    /// The line, or the whole text if it begins with `[`, is none of JSON.
+    /// The line, or the whole text if it is one value, is none of JSON; or that value has no array of operations.
     #[error("no text of JSON")]
     Json,
     /// This is no map.

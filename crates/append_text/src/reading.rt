@@ -43,16 +43,16 @@ pub fn read_edn<S: Source>(alloc: Global, source: &mut S) -> Result<History, Rea
     edn_text(alloc, Reader::after(alloc, buffer.pending())?, source)
 }
 
-/// Reads a history in JSON from all that the source has left: one operation a line, or one array of them if the text
-/// begins with `[`, behind less than 8192 bytes of white space. `Text` with the line, or with the place in the array, if
-/// the text is that of no history, `Device` if the source failed, `Memory` if memory ran out. If a history is returned,
-/// each line that isn't blank is a text of JSON, or the whole text is one.
+/// Reads a history in JSON from all that the source has left: one operation a line, or one value that has all of them.
+/// It is one value if the text begins with `[`, for an array of them, or with `{"history"`, for an object that has that
+/// array as its `history`; the first 8192 bytes decide. `Text` with the line, or with the place in the array, if the text
+/// is that of no history, `Device` if the source failed, `Memory` if memory ran out. If a history is returned, each line
+/// that isn't blank is a text of JSON, or the whole text is one.
 pub fn read_json<S: Source>(alloc: Global, source: &mut S) -> Result<History, ReadFault>
     ensures history { (text : List ℕ) → S.remaining source.old ≡ Some text → IfOk result (IsJsonHistoryOf (after_mark text)) }
     ensures fault { (text : List ℕ) → S.remaining source.old ≡ Some text → IfErr result (IsJsonFaultOf (after_mark text)) }
 {
     let mut buffer = Buffer::new();
     buffer.skip_mark(source)?;
-    buffer.form(source)?;
     json_text(alloc, &mut buffer, source)
 }

@@ -1,7 +1,8 @@
 //! The notation of a text, told by its first bytes.
 
-ghost use Rattle.std.specs.Prelude.{◌≡◌, ◌≤◌, length, nat_eq, IfSome};
+ghost use Rattle.std.specs.Prelude.{◌≡◌, codes, nat_eq, take};
 ghost use Rattle.std.specs.Cmp.Lexicographic.{pointwise};
+ghost use Rattle.append_text.specs.Meaning.JsonTexts as Json;
 ghost use Rattle.append_text.specs.Meaning.Notations as Spec;
 ghost use Rattle.append_text.specs.Machinery.Telling.{Decides, begins_key};
 
@@ -44,18 +45,35 @@ pub(crate) fn after_blanks(text: &[u8]) -> &[u8]
     rest
 }
 
-/// Returns whether the text begins with an array of JSON, if it is one of JSON.
-pub(crate) fn begins_array(text: &[u8]) -> bool
-    ensures { result ≡ Spec.begins_with 91 (Spec.after_blanks text.now) }
+/// Returns whether a text that begins so is one value that has all operations, if it is one of JSON: an array, or an
+/// object with the key `history` first.
+pub(crate) fn begins_value(text: &[u8]) -> bool
+    ensures { result ≡ Json.begins_value (Spec.after_blanks text.now) }
 {
-    matches!(after_blanks(text), [b'[', ..])
+    let begun = after_blanks(text);
+    match begun {
+        [] => false,
+        [first, rest @ ..] => {
+            if *first == b'[' {
+                return true;
+            }
+            *first == b'{' && begins_history(rest)
+        }
+    }
+}
+
+/// Returns whether the first key behind a `{` is `history`.
+fn begins_history(text: &[u8]) -> bool
+    ensures { result ≡ pointwise nat_eq (take 9 (Spec.after_blanks text.now)) (codes "\"history\"") }
+{
+    let key = after_blanks(text);
+    is_text(&key[..key.len().min(9)], b"\"history\"")
 }
 
 /// Returns the form of a text that begins so: JSON if its first map, which may stand in an array, has a string as its
 /// first key, and EDN if not. `None` if the bytes that follow decide.
 pub(crate) fn text_form(text: &[u8]) -> Option<TextForm>
-    ensures decides { Decides Spec.is_json text.now result }
-    ensures begun { IfSome result (λ _. 1 ≤ length (Spec.after_blanks text.now)) }
+    ensures { Decides Spec.is_json text.now result }
 {
     let begun = after_blanks(text);
     match begun {

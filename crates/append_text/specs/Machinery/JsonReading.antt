@@ -4,7 +4,7 @@ use Rattle.edn.specs.Meaning.Forms.{Form}
 use Rattle.append_text.specs.declared.read_fault.Place.TheVariants.{Line, Element}
 use Rattle.append_text.specs.declared.read_fault.ReadFault.{ReadFault}
 use Rattle.append_text.specs.declared.read_fault.ReadFault.TheVariants.{Text, Device, Memory}
-use Rattle.append_text.specs.Meaning.JsonTexts.{HasWrong, IsWrongInArray, IsWrongInLines, IsWrongLine}
+use Rattle.append_text.specs.Meaning.JsonTexts.{HasWrong, IsWrongInValue, IsWrongInLines, IsWrongLine}
 
 -- the device failed, or memory ran out
 abbrev pub SaysNothing : ReadFault → Type 0
@@ -26,11 +26,11 @@ IsRefusedElement fs (Text (Element k) p) = HasWrong fs k p
 IsRefusedElement fs Device = ⊥
 IsRefusedElement fs Memory = Unit {0}
 
--- the text is refused as one array
-abbrev pub IsRefusedArray : List ℕ → ReadFault → Type 0
-IsRefusedArray text (Text place p) = IsWrongInArray text place p
-IsRefusedArray text Device = Unit {0}
-IsRefusedArray text Memory = Unit {0}
+-- the text is refused as one value
+abbrev pub IsRefusedValue : List ℕ → ReadFault → Type 0
+IsRefusedValue text (Text place p) = IsWrongInValue text place p
+IsRefusedValue text Device = Unit {0}
+IsRefusedValue text Memory = Unit {0}
 
 -- the text is refused as one value a line
 abbrev pub AreRefusedLines : List ℕ → ReadFault → Type 0

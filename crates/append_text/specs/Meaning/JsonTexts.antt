@@ -1,7 +1,10 @@
 -- What a text in JSON says, and what is wrong with one that is that of no history.
-use Rattle.std.specs.Prelude.{◌≡◌, ◌≢◌, ◌⊎◌, ℕ, suc, Bool, List, [], ◌∷◌, ◌++◌, length, take, Some, IsUtf8}
+use Rattle.std.specs.Prelude.{◌==◌, ◌&&◌, ◌||◌, codes, false, nat_eq, Option, ◌≡◌, ◌≢◌, ◌⊎◌, ℕ, suc, Bool, List, [], ◌∷◌, ◌++◌, length, take, Some, IsUtf8}
 use Rattle.std.specs.Bool.{MatchBool}
-use Rattle.serde_json.specs.Data.{Data, Items, array}
+use Rattle.std.specs.Cmp.Lexicographic.{pointwise}
+use Rattle.std.specs.Option.{option_and_then, option_or}
+use Rattle.serde_json.specs.Data.{Data, Items}
+use Rattle.serde_json.specs.Find.{as_array, get}
 use Rattle.serde_json.specs.Read.{read}
 use Rattle.edn.specs.Meaning.Forms.{Form}
 use Rattle.append_text.specs.declared.history.History.{History}
@@ -26,15 +29,27 @@ IsJson text d = IsUtf8 text × (read text ≡ Some d)
 abbrev pub IsNoJson : List ℕ → Type 0
 IsNoJson text = (d : Data) → IsJson text d → ⊥
 
--- the text begins with `[`, if its first 8192 bytes aren't all blank
-abbrev pub begins_array : List ℕ → Bool
-begins_array text = begins_with 91 (after_blanks (take 8192 text))
+-- `{`, and then the key `"history"`
+abbrev pub begins_history : List ℕ → Bool
+begins_history [] = false
+begins_history (b ∷ bs) = (b == 123) && pointwise nat_eq (take 9 (after_blanks bs)) (codes "\"history\"")
 
--- ---- one array
+abbrev pub begins_value : List ℕ → Bool
+begins_value bytes = begins_with 91 bytes || begins_history bytes
 
--- the text is an array of JSON, and its elements stand for these forms
-abbrev pub IsArray : List ℕ → List Form → Type 0
-IsArray text fs = (ds : Items) × IsJson text (array ds) × (fs ≡ listed (forms_of ds))
+-- the text begins with `[`, or with `{` and the key `"history"`: its first 8192 bytes decide
+abbrev pub is_value : List ℕ → Bool
+is_value text = begins_value (after_blanks (take 8192 text))
+
+-- ---- one value
+
+-- the elements of an array, or of the one that an object has as its `history`
+abbrev pub elements_in : Data → Option Items
+elements_in d = option_or (as_array d) (option_and_then as_array (get (codes "history") d))
+
+-- the text is a value of JSON, whose elements stand for these forms
+abbrev pub IsValue : List ℕ → List Form → Type 0
+IsValue text fs = (d : Data) × (ds : Items) × IsJson text d × (elements_in d ≡ Some ds) × (fs ≡ listed (forms_of ds))
 
 -- the element at this place is the first that is no operation, or can't come there
 pub record HasWrong (fs : List Form) (place : ℕ) (p : Problem) : Type 0 where
@@ -45,10 +60,10 @@ pub record HasWrong (fs : List Form) (place : ℕ) (p : Problem) : Type 0 where
   pub place_is : place ≡ length before
   pub wrong : IsWrongAfter notation.Json before form p
 
--- this is wrong with the text: it is no array of JSON (on which line isn't said), or an element is at fault
-abbrev pub IsWrongInArray : List ℕ → Place → Problem → Type 0
-IsWrongInArray text (Line line) p = (p ≡ problem.Json) × ((fs : List Form) → IsArray text fs → ⊥)
-IsWrongInArray text (Element k) p = (fs : List Form) × IsArray text fs × HasWrong fs k p
+-- this is wrong with the text: it is no value of JSON that has elements (on which line isn't said), or an element is at fault
+abbrev pub IsWrongInValue : List ℕ → Place → Problem → Type 0
+IsWrongInValue text (Line line) p = (p ≡ problem.Json) × ((fs : List Form) → IsValue text fs → ⊥)
+IsWrongInValue text (Element k) p = (fs : List Form) × IsValue text fs × HasWrong fs k p
 
 -- ---- one value a line
 
@@ -86,9 +101,9 @@ IsWrongInLines text (Element k) p = ⊥
 
 -- ---- texts
 
--- the values of the text stand for these forms: the elements of one array if it begins with `[`, else one value a line
+-- what the text lists stands for these forms: the elements of one value, or else one value a line
 abbrev pub AreValues : List ℕ → List Form → Type 0
-AreValues text fs = MatchBool (begins_array text) (IsArray text fs) (AreLines (lines text) fs)
+AreValues text fs = MatchBool (is_value text) (IsValue text fs) (AreLines (lines text) fs)
 
 -- the history that a text in JSON says
 abbrev pub IsJsonHistoryOf : List ℕ → History → Type 0
@@ -96,7 +111,7 @@ IsJsonHistoryOf text h = (fs : List Form) × AreValues text fs × IsHistory nota
 
 -- this is the first that is wrong with a text in JSON
 abbrev pub IsJsonFaultOf : List ℕ → ReadFault → Type 0
-IsJsonFaultOf text (Text place p) = MatchBool (begins_array text) (IsWrongInArray text place p) (IsWrongInLines text place p)
+IsJsonFaultOf text (Text place p) = MatchBool (is_value text) (IsWrongInValue text place p) (IsWrongInLines text place p)
 IsJsonFaultOf text Device = Unit {0}
 IsJsonFaultOf text Memory = Unit {0}
 

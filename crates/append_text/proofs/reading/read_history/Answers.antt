@@ -43,8 +43,7 @@ returns-in-Json-clause-history g c = λ text is.
     let start = c.in_ok-skip_mark.ensures.start ∙ c.new-buffer.ensures.start in
     subst (λ n. IfOk c.json_text.result (IsHistoryIn n (after_mark text)))
     (sym c.in-Json.is ∙ c.in_ok-form.ensures.form begun start none)
-    (c.json_text.ensures.history begun (c.in_ok-form.ensures.kept begun none)
-    (c.in_ok-form.ensures.array begun start none))
+    (c.json_text.ensures.history begun (c.in_ok-form.ensures.start ∙ start) (c.in_ok-form.ensures.kept begun none))
 
 pub returns-in-Json-clause-fault : goal.returns-in-Json-clause-fault
 returns-in-Json-clause-fault g c = λ text is.
@@ -54,8 +53,7 @@ returns-in-Json-clause-fault g c = λ text is.
     let start = c.in_ok-skip_mark.ensures.start ∙ c.new-buffer.ensures.start in
     subst (λ n. IfErr c.json_text.result (IsFaultIn n (after_mark text)))
     (sym c.in-Json.is ∙ c.in_ok-form.ensures.form begun start none)
-    (c.json_text.ensures.fault begun (c.in_ok-form.ensures.kept begun none)
-    (c.in_ok-form.ensures.array begun start none))
+    (c.json_text.ensures.fault begun (c.in_ok-form.ensures.start ∙ start) (c.in_ok-form.ensures.kept begun none))
 
 pub returns-in_err-skip_mark-clause-fault : goal.returns-in_err-skip_mark-clause-fault
 returns-in_err-skip_mark-clause-fault g c = λ text is.

@@ -10,7 +10,7 @@ returns-clause-history g c = λ text is.
     (nothing_pending (pending_in c.new-buffer.result) (g.S.Read.remaining c.args.source.now) text c.new-buffer.ensures.pending is) in
     let begun = after_mark text in
     let start = c.in_ok-skip_mark.ensures.start ∙ c.new-buffer.ensures.start in
-    c.json_text.ensures.history begun (c.in_ok-form.ensures.kept begun none) (c.in_ok-form.ensures.array begun start none)
+    c.json_text.ensures.history begun start none
 
 pub returns-clause-fault : goal.returns-clause-fault
 returns-clause-fault g c = λ text is.
@@ -18,4 +18,4 @@ returns-clause-fault g c = λ text is.
     (nothing_pending (pending_in c.new-buffer.result) (g.S.Read.remaining c.args.source.now) text c.new-buffer.ensures.pending is) in
     let begun = after_mark text in
     let start = c.in_ok-skip_mark.ensures.start ∙ c.new-buffer.ensures.start in
-    c.json_text.ensures.fault begun (c.in_ok-form.ensures.kept begun none) (c.in_ok-form.ensures.array begun start none)
+    c.json_text.ensures.fault begun start none
