@@ -6,21 +6,24 @@
 Most histories come from a run of transactions on lists, in which something goes wrong now and then: a read that is
 stale or sees what isn't committed yet, a write that is lost, an outcome that nobody knows. Build the program first:
 (cd crates/lists && rt run < stdin). The answer has to be the reference's, and an order that the program writes has to
-explain the history. The last line is `N passed, 0 failed`. If an answer differs, the history is printed, and it ends
-with status 1.
+explain the history. The kind of a no has to be the worst one that the history has, and a cycle the shortest of its kind:
+the reference looks for both by its own definitions. If a read is wrong by itself, it gives the program no links between
+transactions; then only the kinds of the reads are compared. The last line is `N passed, 0 failed`. If an answer
+differs, the history is printed, and it ends with status 1.
 """
 import argparse
 import collections
+import json
 import os
 import random
 import subprocess
 import sys
-import tempfile
 
 import lists_reference
-from lists_reference import edn_of, explains, lists_the_right_ones
+from lists_reference import RANKS, edn_of, explains, lists_the_right_ones
 
 TOP = os.path.dirname(os.path.dirname(os.path.abspath(__file__)))
+CYCLES = ["G0", "G1c", "G-single", "G2-item"]
 
 
 class Maker(random.Random):
@@ -84,35 +87,60 @@ class Maker(random.Random):
         return elements
 
 
-def answer(program, text, folder):
-    """The first line that the program writes for the text, its status, and the order that it writes."""
-    order = os.path.join(folder, "order")
-    if os.path.exists(order):
-        os.remove(order)
-    ran = subprocess.run([program, "--order", order], input=text, capture_output=True, text=True, timeout=60)
-    lines = ran.stdout.splitlines()
-    places = None
-    if os.path.exists(order):
-        with open(order, encoding="ascii") as file:
-            places = [int(line) for line in file]
-    return (lines[0] if lines else ran.stderr), ran.returncode, places
+STATUSES = {"serializable": 0, "not serializable": 1, "nothing to check": 4, "appended twice": 5}
+BROKEN = set(RANKS[:8]) | {"unrepeatable"}  # of a read by itself, or of two reads of one key
 
 
-def differs(history, said, status, order):
+def answer(program, text):
+    """The object that the program writes for the text, and its status."""
+    ran = subprocess.run([program, "--json"], input=text, capture_output=True, text=True, timeout=60)
+    return json.loads(ran.stdout) if ran.stdout else {"answer": ran.stderr}, ran.returncode
+
+
+def kind_differs(history, said):
+    """What is wrong with the kinds of a no, if anything is."""
+    named = [fault["kind"] for fault in [said, *said["also"]]]
+    if named != sorted(named, key=RANKS.index):
+        return "the worst kind isn't first: %s" % named
+    wanted = lists_reference.kinds_of_reads(history)
+    cycle, length = lists_reference.worst_cycle(history)
+    if wanted & BROKEN:
+        # a read that is wrong gives no links; so cycles and lost updates may stay unseen
+        found = BROKEN.intersection(named)
+        if lists_reference.have_no_order(history):
+            found.discard("incompatible order")  # of reads that are wrong by themselves it may find one or none
+            wanted.discard("incompatible order")
+        return None if found == wanted & BROKEN else "wanted the kinds %s" % sorted(wanted & BROKEN)
+    wanted |= {cycle} - {None}
+    cycles = [name for name in named if name in CYCLES]
+    if cycles[:1] != [cycle] or set(named) - set(cycles) != wanted - {cycle}:
+        return "wanted the kinds %s" % sorted(wanted)
+    shown = next(fault for fault in [said, *said["also"]] if fault["kind"] == cycle)
+    if len(shown["cycle"]) != length or not shown["shortest"]:
+        return "wanted a cycle of %d" % length
+    return None
+
+
+def differs(history, said, status, are_kinds_wanted=True):
     """What is wrong with an answer, if anything is."""
     wanted = lists_reference.verdict(history)
-    first = said.partition(":")[0]
-    if first != wanted:
+    if said["answer"] != wanted:
         return "wanted %s" % wanted
-    if status != {"serializable": 0, "not serializable": 1}.get(wanted, 1):
+    if status != STATUSES[wanted]:
         return "status %d" % status
+    if wanted == "not serializable" and are_kinds_wanted:
+        return kind_differs(history, said)
     if wanted == "serializable":
-        places = [index // 2 for index in order or []]
+        places = [index // 2 for index in said["order"]]
         if not lists_the_right_ones(history, places):
             return "the order lists others: %s" % places
         if not explains(history, places):
             return "the order explains nothing: %s" % places
     return None
+
+
+def name_of(said):
+    return ": ".join(said[name] for name in ("answer", "kind") if name in said)
 
 
 def main():
@@ -123,18 +151,17 @@ def main():
     options = parser.parse_args()
     passed = failed = 0
     kinds = collections.Counter()
-    with tempfile.TemporaryDirectory() as folder:
-        for number in range(options.cases):
-            history = Maker(options.seed * 1000003 + number).history()
-            text = edn_of(history)
-            said, status, order = answer(options.program, text, folder)
-            wrong = differs(history, said, status, order)
-            kinds[said] += 1
-            if wrong:
-                failed += 1
-                print("case %d: %s, got %r\n%s" % (number, wrong, said, text))
-            else:
-                passed += 1
+    for number in range(options.cases):
+        history = Maker(options.seed * 1000003 + number).history()
+        text = edn_of(history)
+        said, status = answer(options.program, text)
+        wrong = differs(history, said, status)
+        kinds[name_of(said)] += 1
+        if wrong:
+            failed += 1
+            print("case %d: %s, got %r\n%s" % (number, wrong, said, text))
+        else:
+            passed += 1
     for kind, count in sorted(kinds.items()):
         print("%7d %s" % (count, kind))
     print("%d passed, %d failed" % (passed, failed))

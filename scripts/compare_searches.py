@@ -7,7 +7,8 @@ The plain search answers only if what the fast one found doesn't pass the last l
 show what it would answer. This copies the crates twice. In one copy what the fast search found is never taken. In the
 other one the plain search is never asked: a history that needs it ends there as if memory had run out. `rt try` builds
 and runs both copies, with no proof, on the random histories of scripts/compare_lists.py; a history takes about half a second.
-The answers have to be the reference's, and each order that is given has to explain the history. Nothing has to be built
+The answers have to be the reference's, and each order that is given has to explain the history; what the fast search
+finds has to be the worst kind too, and a shortest cycle. Nothing has to be built
 before. The last line is `N passed, 0 failed`. If an answer differs, the history is printed, and it ends with status 1.
 """
 import argparse
@@ -20,7 +21,7 @@ import subprocess
 import sys
 import tempfile
 
-from compare_lists import Maker, differs
+from compare_lists import STATUSES, Maker, differs, name_of
 from lists_reference import edn_of
 
 TOP = os.path.dirname(os.path.dirname(os.path.abspath(__file__)))
@@ -28,9 +29,12 @@ CHECKER = os.path.join("crates", "append_check", "src", "checker.rt")
 # what each copy changes, in the text of which file
 NO_FAST = [
     (CHECKER, "if explains(alloc, transactions, order.as_slice())? {", "if explains(alloc, transactions, order.as_slice())? && false {"),
-    (CHECKER, "if holds(alloc, transactions, &reason)? {", "if holds(alloc, transactions, &reason)? && false {"),
+    (CHECKER, "Some(findings) => return Ok(findings),", "Some(_) => {}"),
 ]
-NO_PLAIN = [(CHECKER, "    decide(alloc, transactions)\n}", "    Err(AllocError)\n}"), (CHECKER, "use crate::plain::decide;\n", "")]
+NO_PLAIN = [
+    (CHECKER, "    let verdict = decide(alloc, transactions)?;\n    Ok(alone(alloc, verdict))\n", "    Err(AllocError)\n"),
+    (CHECKER, "use crate::plain::decide;\n", ""),
+]
 
 
 def copied(folder, changes):
@@ -74,10 +78,9 @@ def compared(name, histories, changes):
         found = answers(folder, cases)
     failed = 0
     for (case, text), history in zip(cases.items(), histories):
-        answer = found.get(case, {"answer": ""})
-        said = ": ".join(answer[name] for name in ("answer", "kind") if name in answer)
-        wrong = differs(history, said, 0 if said == "serializable" else 1, answer.get("order"))
-        kinds[said] += 1
+        said = found.get(case, {"answer": ""})
+        wrong = differs(history, said, STATUSES.get(said["answer"]), name == "fast")
+        kinds[name_of(said)] += 1
         if wrong:
             failed += 1
             print("%s, %s: %s, got %r\n%s" % (name, case, wrong, said, text))

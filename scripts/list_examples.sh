@@ -18,9 +18,16 @@ told() { # prints the answer of an object of JSON, with its kind
 for history in "$examples"/*.edn "$examples"/recorded/*.edn "$examples"/recorded/*.json; do
     answer=$(sed -n '1s/^; //p' "$history")
     [ -n "$answer" ] || answer=$(head -n 1 "$history.stdout")
-    [ "$answer" = serializable ] && status=0 || status=1
+    case $answer in
+    serializable) status=0 ;;
+    "nothing to check") status=4 ;;
+    "appended twice") status=5 ;;
+    *) status=1 ;;
+    esac
     rm -f order
     check "$history" "out: $answer"$'\n'"status $status" "$(ends --order order "$history")"
+    also=$(sed -n '2s/^; also: //p' "$history")
+    [ -z "$also" ] || check "what else is in $history" "also: $also" "$(grep '^also: ' out)"
     check "what is said of $history" holds "$("$top/scripts/list_witness.py" "$history" out order 2>&1)"
     check "$history in JSON" "$answer" "$("$ssi" --json "$history" 2>/dev/null | told)"
     check "$history from standard input" "out: $answer"$'\n'"status $status" "$(ends <"$history")"
@@ -34,26 +41,39 @@ said() { # the steps of the transactions, each of which committed; prints the an
     for steps in "$@"; do
         echo "{:type :ok, :f :txn, :value [$steps], :process $place, :index $place}"
         place=$((place + 1))
-    done | "$ssi"
+    done | "$ssi" 2>/dev/null
 }
 check 'what is appended after the read' \
     $'not serializable: future\nT1 (index 0) read key 0 as [1], before it appended 1 itself' \
     "$(said '[:r 0 [1]] [:append 0 1]')"
 check 'what is appended before the read, twice in it' \
-    $'not serializable: twice\nT1 (index 0) read key 0 as [1 1], with 1 twice' \
+    $'not serializable: duplicate elements\nT1 (index 0) read key 0 as [1 1], with 1 twice' \
     "$(said '[:append 0 1] [:r 0 [1 1]]')"
 check 'what is appended after a read, once another read has shown it' \
     $'not serializable: future\nT1 (index 1) read key 0 as [1], before it appended 1 itself' \
     "$(said '[:r 0 [1]]' '[:r 0 [1]] [:append 0 1]')"
 check 'what is appended before a read, twice in it, once another read has shown it' \
-    $'not serializable: twice\nT1 (index 1) read key 0 as [1 1], with 1 twice' \
+    $'not serializable: duplicate elements\nT1 (index 1) read key 0 as [1 1], with 1 twice' \
     "$(said '[:r 0 [1]]' '[:append 0 1] [:r 0 [1 1]]')"
 check 'a part of what is appended after a read' \
     $'not serializable: future\nT1 (index 1) read key 0 as [1], before it appended 1 itself' \
     "$(said '[:r 0 [1 2]]' '[:r 0 [1]] [:append 0 1] [:append 0 2]')"
 check 'a part of what is appended before a read and after it, twice in it' \
-    $'not serializable: twice\nT1 (index 1) read key 0 as [1 1], with 1 twice' \
+    $'not serializable: duplicate elements\nT1 (index 1) read key 0 as [1 1], with 1 twice' \
     "$(said '[:r 0 [1 2]]' '[:append 0 1] [:r 0 [1 1]] [:append 0 2]')"
+
+# Each of 1,200 transactions saw the one before it, and the last one missed what the first one appended to x, but saw what it
+# appended to y. So there is a cycle through all of them, and one of two links.
+python3 - >long.edn <<'end'
+print("{:type :ok, :f :txn, :value [[:append :x 1] [:append :y 1] [:append 0 1]], :process 0, :index 0}")
+for i in range(1, 1199):
+    print("{:type :ok, :f :txn, :value [[:r %d [1]] [:append %d 1]], :process 0, :index %d}" % (i - 1, i, i))
+print("{:type :ok, :f :txn, :value [[:r 1198 [1]] [:r :x []] [:r :y [1]]], :process 0, :index 1199}")
+end
+check 'the shortest cycle behind a long one' $'not serializable: G-single
+T1 (index 1199) read key :x as [], and T2 (index 0) appended 1 to key :x: T1 before T2
+T2 (index 0) appended 1 to key :y, and T1 (index 1199) read key :y as [1]: T2 before T1' \
+    "$("$ssi" long.edn 2>/dev/null)"
 
 # The form of a text may be named.
 check 'a JSON history that is said to be one' 'status 0' \
@@ -86,11 +106,52 @@ run --order order "$examples/stale-read.edn" >answer
 check 'the order of stale-read' $'3\n1' "$(cat order)"
 
 # The whole of an answer in JSON.
-check 'the order of stale-read in JSON' '{"answer":"serializable","order":[3,1]}' \
-    "$("$ssi" --json "$examples/stale-read.edn")"
+check 'the order of stale-read in JSON' \
+    '{"answer":"serializable","order":[3,1],"rests_on":{"elements":0,"fail":0,"info":0,"ok":2,"passed_over":0,"reads":1}}' \
+    "$("$ssi" --json "$examples/stale-read.edn" 2>err)"
+check 'what the order of stale-read rests on' \
+    'lists: rests on 2 transactions ok, 0 info, 0 fail; 1 reads of 0 elements; 0 operations passed over' "$(cat err)"
+check 'an empty text' $'out: nothing to check\nout: no transaction committed: 0 have an unknown outcome, and 0 failed' \
+    "$(run </dev/null | head -n 2)"
+check 'why there is nothing to check' \
+    $'nothing to check\nno transaction committed: 1 have an unknown outcome, and 1 failed\n1 operations were passed over: their `:f` isn\'t `:txn`, or their `:process` is no integer' \
+    "$("$ssi" "$examples/nothing.edn" 2>/dev/null)"
+check 'no order if there is nothing to check' '' "$("$ssi" --order none "$examples/nothing.edn" >out 2>&1; ls none 2>/dev/null)"
+check 'no drawing without a cycle' '' "$("$ssi" --dot none "$examples/future.edn" >out 2>&1; ls none 2>/dev/null)"
+check 'a folder for the drawing' 'status 3' "$(run --dot folder "$examples/read-skew.edn" | tail -n 1)"
+check 'a line feed in a key' $'not serializable: unwritten\nT1 (index 0) read key "k\\nserializable" as [1], and nobody appended 1' \
+    "$("$ssi" "$examples/line-feed-in-a-key.edn" 2>/dev/null)"
+check 'the cycle of read-skew for Graphviz' \
+    $'digraph cycle {\n  "T1 (index 1)" -> "T2 (index 0)" [label="rw :x"];\n  "T2 (index 0)" -> "T1 (index 1)" [label="wr :y"];\n}' \
+    "$("$ssi" --dot dot "$examples/read-skew.edn" >/dev/null 2>&1; cat dot)"
 check 'the cycle of read-skew in JSON' '0 before 1: wr, 1 before 0: rw' \
     "$("$ssi" --json "$examples/read-skew.edn" | python3 -c 'import json, sys
 print(", ".join(sorted("%(from)d before %(to)d: %(kind)s" % link for link in json.load(sys.stdin)["cycle"])))')"
+
+# What is said of a text that is that of no history: where it is at fault, and what stands there.
+says() { # a text; prints what is said of it on standard error
+    printf '%b' "$1" >wrong
+    run wrong | sed -n 's/^err: lists: //p'
+}
+fine='{:type :ok, :f :txn, :value [[:r 1 []]], :process 0}'
+column() { # a line, and a word of it; prints the column of the word
+    awk -v line="$1" -v word="$2" 'BEGIN { print index(line, word) }'
+}
+bad='{:type :fail, :f :txn, :value [[:r 1 nil]], :process 0, :exception [0x11g 1]}'
+check 'a word that is none' "line 2, column $(column "$bad" 0x11g): \`0x11g\`: no form is written so; in :exception" "$(says "$fine\n$bad\n")"
+bad='{:type :ok, :f :txn, :value [[:r 1 []]}, :process 0}'
+check 'a bracket that closes nothing' "line 1, column $(column "$bad" '}'): \`}\`: a bracket that closes nothing; in :value" "$(says "$bad")"
+check 'no type' "line 1: an operation has a \`:type\`: \`:invoke\`, \`:ok\`, \`:fail\` or \`:info\`" "$(says '{:process 0, :f :txn}')"
+bad='{:process 0, :f :txn, :type :done}'
+check 'another type' "line 1, column $(column "$bad" :done): \`:done}\`: an operation has a \`:type\`: \`:invoke\`, \`:ok\`, \`:fail\` or \`:info\`" "$(says "$bad")"
+check 'a text that is cut off' 'line 2: the text ends within a form' "$(says "$fine\n{:type :ok")"
+check 'a history.txt' $'line 1, column 1: `0 :invoke :txn [[:append 1 1]]`: an operation is a map\nthis is a history.txt: the history is in history.edn beside it' \
+    "$(says '0\t:invoke\t:txn\t[[:append 1 1]]\n')"
+check 'a file that gzip made' 'the file is compressed by gzip: unpack it first' "$(says '\x1f\x8b\x08\x00\n' | tail -n 1)"
+check 'a test.jepsen' 'this is a test.jepsen: the history is in history.edn beside it' "$(says 'JEPSEN\x00\x01\n' | tail -n 1)"
+check 'a text from standard input' "line 1, column 1: \`7\`: an operation is a map" "$(echo 7 >wrong; run <wrong | sed -n 's/^err: lists: //p')"
+check 'a text from a pipe' 'line 1: an operation is a map' "$(echo 7 | run | sed -n 's/^err: lists: //p')"
+check 'the reason of a missing file' 'read fault: missing: there is no such file' "$(run missing | sed -n 's/^err: lists: //p')"
 
 # Arguments, files and devices.
 check 'an unknown option' 'status 2' "$(run --foo | tail -n 1)"

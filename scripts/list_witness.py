@@ -20,12 +20,14 @@ import sys
 from lists_reference import explains, lists_the_right_ones
 
 WHO = r"T(\d+) \(index (\d+)\)"
+NAME = r'("[^"]*"|\S+)'
 LIST = r"\[([^\]]*)\]"
 BLOCK = r"(\[[^\]]*\]|\S+)"
-READ = WHO + r" read key (\S+) as " + LIST
-APPENDED = WHO + " appended " + BLOCK + r" to key (\S+)"
+READ = WHO + r" read key " + NAME + " as " + LIST
+APPENDED = WHO + " appended " + BLOCK + " to key " + NAME
 LEFT = READ + r"(?: and appended " + LIST + " afterwards)?"
 DIFFERS = r"(?:; element (\d+) is (\S+) in the first and (\S+) in the second)?"  # of lists that aren't shown whole
+APART = LEFT + ", and " + LEFT + ": neither list begins with the other" + DIFFERS
 
 
 class Wrong(Exception):
@@ -44,9 +46,10 @@ def words(text):
 def edn_operation(line):
     """Kind, `:f`, process, index and steps of an operation in EDN."""
     fields = (":type", ":f", ":process", ":index")
-    kind, f, process, index = (re.search(field + r" :?([^\s,}]+)", line)[1] for field in fields)
+    found = [re.search(field + r" :?([^\s,}]+)", line) for field in fields]
+    kind, f, process, index = (word[1] if word else "" for word in found)
     steps = []
-    for name, key, value in re.findall(r"\[:(append|r) (\S+) (\[[^\]]*\]|[^\s\]]+)\]", line):
+    for name, key, value in re.findall(r'\[:(append|r) ("[^"]*"|\S+) (\[[^\]]*\]|[^\s\]]+)\]', line):
         steps.append((name, key, value if name == "append" else [] if value == "nil" else words(value)))
     return kind, f, process, int(index), steps
 
@@ -173,7 +176,7 @@ class Witness:
         require(len(set(starts)) == len(starts), "a transaction is in the cycle twice")
         kinds = [kind for kind, _, _ in links]
         names = {0: "G1c" if "wr" in kinds else "G0", 1: "G-single"}
-        require(name == names.get(kinds.count("rw"), "G2"), "the cycle has another name")
+        require(name == names.get(kinds.count("rw"), "G2-item"), "the cycle has another name")
 
     def internal(self, *read):
         found, steps = self.reads(*read)
@@ -201,7 +204,14 @@ class Witness:
         outcome, steps = self.who(writer, of)
         require(outcome == "fail" and element in own(steps, key), "T%s didn't append this and fail" % writer)
         require(any(element in value for value in self.lists(number, index, key, elements)), "it isn't there")
-        require(self.writers(key, element) == ["fail"], "somebody else did")
+        require(set(self.writers(key, element)) == {"fail"}, "somebody else did")
+
+    def dirty(self, number, index, key, elements, element, writer, of, later, committed, at):
+        self.aborted(number, index, key, elements, element, writer, of)
+        outcome, steps = self.who(committed, at)
+        require(outcome == "ok" and later in own(steps, key), "T%s didn't append this and commit" % committed)
+        require(any(element in value and later in value[value.index(element):]
+                    for value in self.lists(number, index, key, elements)), "it comes sooner")
 
     def future(self, number, index, key, elements, element):
         found, steps = self.reads(number, index, key, elements)
@@ -229,19 +239,40 @@ class Witness:
         require(lists[0] != lists[5], "they are the lists of one transaction")
         require(lists[2] == lists[7] and apart, "one begins with the other")
 
+    def lost_update(self, *lists):
+        self.incompatible(*lists)
+        require(lists[3] == lists[8] and lists[4] and lists[9], "they didn't find the same list and append to it")
+
+    def all(self, name, sentences):
+        """A no of this name, what else there is, and one of each other kind."""
+        begins = next((at for at, line in enumerate(sentences) if line.startswith("also: ")), len(sentences))
+        first = [line for line in sentences[:begins] if line != "the search for a shorter cycle was cut off"]
+        self.no(name, first)
+        others = {}
+        for line in sentences[begins + 1:]:
+            kind, _, sentence = line.partition(": ")
+            others.setdefault(kind, []).append(sentence)
+        for kind, some in others.items():
+            self.no(kind, some)
+        told = sentences[begins].removeprefix("also: ").split(", ") if begins < len(sentences) else []
+        kinds = [found[1] or found[2] for found in (re.fullmatch(r"\d+ (?:more )?(?:.* \((.*)\)|(.*?)s?)", part) for part in told)]
+        require(kinds in (list(others), [name, *others]), "the others aren't shown: %s" % kinds)
+
     def no(self, name, sentences):
         """A no of this name."""
-        if name in ("G0", "G1c", "G-single", "G2"):
+        if name in ("G0", "G1c", "G-single", "G2-item"):
             return self.cycle(name, sentences)
         forms = {
             "internal": (READ + ", which doesn't end with what it had appended itself", self.internal),
             "unrepeatable": (READ + ", and later as " + LIST + DIFFERS, self.unrepeatable),
-            "twice": (READ + r", with (\S+) twice", self.twice),
+            "duplicate elements": (READ + r", with (\S+) twice", self.twice),
             "unwritten": (READ + r", and nobody appended (\S+)", self.unwritten),
             "G1a": (READ + r", and (\S+) was appended by " + WHO + ", which failed", self.aborted),
             "future": (READ + r", before it appended (\S+) itself", self.future),
             "G1b": (READ + ", and " + WHO + " appended " + BLOCK, self.intermediate),
-            "incompatible": (LEFT + ", and " + LEFT + ": neither list begins with the other" + DIFFERS, self.incompatible),
+            "incompatible order": (APART, self.incompatible),
+            "lost update": (APART, self.lost_update),
+            "dirty update": (READ + r", and (\S+) was appended by " + WHO + r", which failed, and (\S+) after it by " + WHO, self.dirty),
         }
         require(name in forms and len(sentences) == 1, "not understood")
         form, judge_it = forms[name]
@@ -271,7 +302,8 @@ def appended_twice(transactions, sentences):
         require(found, "not understood")
         _, first, element, key, _, second = found.groups()
         indexes = [first, second]
-    appends = [index for index, (_, steps) in transactions.items() for value in own(steps, key) if value == element]
+    appends = [index for index, (outcome, steps) in transactions.items() for value in own(steps, key)
+               if value == element and outcome != "fail"]
     require(all(appends.count(int(index)) >= indexes.count(index) for index in indexes), "they didn't")
 
 
@@ -283,11 +315,13 @@ def judge(history, answer, order=None):
         require(order is not None and os.path.exists(order), "there is no order")
         with open(order, encoding="ascii") as file:
             yes(transactions, [int(line) for line in file])
+    elif first == "nothing to check":
+        require(not any(outcome == "ok" and steps for outcome, steps in transactions.values()), "there is something")
     elif first == "appended twice":
         appended_twice(transactions, sentences)
     else:
         require(first.startswith("not serializable: "), "not understood")
-        Witness(transactions).no(first.partition(": ")[2], sentences)
+        Witness(transactions).all(first.partition(": ")[2], sentences)
 
 
 def main():

@@ -46,12 +46,20 @@ def orders(history):
             yield from itertools.permutations(certain + list(some))
 
 
+def own(history, place, key, step=None):
+    """What a transaction appends to the key, or what it appends before this step; nothing if it failed."""
+    outcome, operations = history[place]
+    if outcome == "fail":
+        return []
+    return [value for name, to, value in operations[:step] if name == "append" and to == key]
+
+
 def appended_twice(history):
-    """Whether an element is appended twice to one key."""
+    """Whether an element is appended twice to one key, by transactions that may have committed."""
     seen = set()
-    for _, operations in history:
+    for outcome, operations in history:
         for name, key, value in operations:
-            if name == "append":
+            if name == "append" and outcome != "fail":
                 if (key, value) in seen:
                     return True
                 seen.add((key, value))
@@ -61,7 +69,138 @@ def appended_twice(history):
 def verdict(history):
     if appended_twice(history):
         return "appended twice"
+    if not any(outcome == "ok" and operations for outcome, operations in history):
+        return "nothing to check"
     return "serializable" if any(explains(history, order) for order in orders(history)) else "not serializable"
+
+
+# The kinds of faults, the worst one first.
+RANKS = ["internal", "duplicate elements", "unwritten", "future", "G1a", "dirty update", "G1b", "incompatible order",
+         "G0", "G1c", "unrepeatable", "lost update", "G-single", "G2-item"]
+
+
+def reads(history):
+    """Each read of a transaction that is ok: the transaction, the step, the key and the elements."""
+    for place, (outcome, operations) in enumerate(history):
+        for step, (name, key, value) in enumerate(operations):
+            if outcome == "ok" and name == "r":
+                yield place, step, key, value
+
+
+def has_part(elements, part):
+    return any(elements[at:at + len(part)] == part for at in range(len(elements) - len(part) + 1))
+
+
+def kinds_of_read(history, place, step, key, elements):
+    """The kinds of faults that a read has by itself."""
+    mine, found = own(history, place, key, step), set()
+    if elements[len(elements) - len(mine):] != mine:
+        found.add("internal")
+    if len(set(elements)) < len(elements):
+        found.add("duplicate elements")
+    owners = {x: [w for w in range(len(history)) if x in own(history, w, key)] for x in elements}
+    aborted = {x for outcome, operations in history if outcome == "fail"
+               for name, to, x in operations if name == "append" and to == key}
+    for at, x in enumerate(elements):
+        if not owners[x]:
+            found.add("G1a" if x in aborted else "unwritten")
+        elif owners[x] == [place]:
+            if x not in mine:
+                found.add("future")
+        else:
+            writer = owners[x][0]
+            if history[writer][0] == "ok" and any(not owners[y] and y in aborted for y in elements[:at]):
+                found.add("dirty update")
+            if "duplicate elements" not in found and not has_part(elements, own(history, writer, key)):
+                found.add("G1b")
+    return found
+
+
+def begins(one, other):
+    return other[:len(one)] == one
+
+
+def are_apart(some):
+    """Whether two of these reads, by two transactions, found lists of a key of which neither begins with the other."""
+    return any(one != other and key == to and not begins(elements, others) and not begins(others, elements)
+               for (one, _, key, elements), (other, _, to, others) in itertools.combinations(some, 2))
+
+
+def have_no_order(history):
+    """Whether two reads of a key are apart, one of which is wrong by itself."""
+    every = list(reads(history))
+    return are_apart(every) and any(kinds_of_read(history, *read) for read in every)
+
+
+def kinds_of_reads(history):
+    """The kinds of faults of reads, by themselves and two by two; cycles are none of them."""
+    found, fine, firsts = set(), [], {}
+    for place, step, key, elements in reads(history):
+        kinds = kinds_of_read(history, place, step, key, elements)
+        found |= kinds
+        if "internal" in kinds:
+            continue
+        base = elements[:len(elements) - len(own(history, place, key, step))]
+        if firsts.setdefault((place, key), base) != base:
+            found.add("unrepeatable")
+        elif not kinds:
+            fine.append((place, step, key, elements))
+    if are_apart(fine):
+        found.add("incompatible order")
+    updates = [(key, elements) for place, step, key, elements in fine
+               if not own(history, place, key, step) and own(history, place, key)
+               and all(name != "r" or to != key for name, to, _ in history[place][1][:step])]
+    if any(one == other for one, other in itertools.combinations(updates, 2)):
+        found.add("lost update")
+    return found
+
+
+def precedences(history):
+    """Which transaction has to come before which other one, by dependencies of which kinds."""
+    edges = {}
+    kept = [place for place, (outcome, _) in enumerate(history) if outcome != "fail"]
+
+    def add(one, other, kind):
+        if one != other:
+            edges.setdefault((one, other), set()).add(kind)
+
+    for reader, _, key, elements in reads(history):
+        appends = {place: own(history, place, key) for place in kept if own(history, place, key)}
+        for writer, some in appends.items():
+            if set(some) - set(elements):
+                add(reader, writer, "rw")
+            places = [at for at, x in enumerate(elements) if x in some]
+            if places:
+                add(writer, reader, "wr")
+                for later, others in appends.items():
+                    if set(others) - set(elements[:places[0] + 1]):
+                        add(writer, later, "ww")
+    return edges
+
+
+def shortest(edges, first, later):
+    """How many links a shortest cycle has, whose first link has one of some kinds and all others one of others."""
+    best = None
+    for start, entered in [edge for edge, kinds in edges.items() if kinds & first]:
+        depths, queue = {entered: 1}, [entered]
+        for node in queue:
+            for (one, other), kinds in edges.items():
+                if one == node and other not in depths and kinds & later:
+                    depths[other] = depths[node] + 1
+                    queue.append(other)
+        if start in depths and (best is None or depths[start] < best):
+            best = depths[start]
+    return best
+
+
+def worst_cycle(history):
+    """The worst kind of a cycle of precedences, and how many links the shortest one of this kind has."""
+    edges, flow, every = precedences(history), {"ww", "wr"}, {"ww", "wr", "rw"}
+    for name, first, later in [("G0", {"ww"}, {"ww"}), ("G1c", flow, flow), ("G-single", {"rw"}, flow), ("G2-item", every, every)]:
+        length = shortest(edges, first, later)
+        if length:
+            return name, length
+    return None, 0
 
 
 def operation_edn(operation):

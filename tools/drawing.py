@@ -47,7 +47,7 @@ def words(event):
         listed = [version[0] + (" deleted" if value is None else "=" + value) for version, value in event.seen]
         return ["scan %s..%s" % event.span, ", ".join(listed) or "nothing"]
     version, value = event.write or event.seen[0]
-    does = "%s %s" % ({"w": "write", "d": "delete", "r": "read"}[event.kind], version[0])
+    does = "%s %s" % ({"w": "write", "d": "delete", "r": "read"}.get(event.kind, event.kind), version[0])
     return [does] if value is None else [does, value]
 
 
@@ -114,7 +114,7 @@ class Box:
 
 
 def hover(at, event):
-    return "line %d: %s" % (at, reference.event_text(event))
+    return getattr(event, "text", None) or "line %d: %s" % (at, reference.event_text(event))
 
 
 class Page:

@@ -3,6 +3,7 @@
 
     tools/explain.py [--picture FILE] [--transactions N,N,..] [--shortest] [--program PROGRAM] HISTORY
     tools/explain.py --store COMMANDS REPLIES
+    tools/explain.py --lists [--picture FILE] [--program PROGRAM] HISTORY
 
 It runs `PROGRAM order HISTORY` (by default crates/ssi/out/ssi) and prints why there is no serial order: each edge of
 the cycle, or the fault, in a sentence with the lines of the history that make it, or at which byte of a line the text is
@@ -25,7 +26,11 @@ The second form is for a script of the store and its replies. It says why each t
 refused: for `unsafe` the pivot and its two conflicts, for `conflict` who installed the version. Lines are those of the
 commands.
 
-If the program isn't built, scripts/reference.py answers in its place. It is slow and isn't proved, and a line on
+The third form is for a list-append history with one operation a line, as `lists` reads it. It says what `lists --json` says
+(by default crates/lists/out/lists). With --picture it draws the cycle that decides, all of it: the steps of each
+transaction from left to right, and the links as arrows. There is no picture if no cycle decides.
+
+If the program `ssi` isn't built, scripts/reference.py answers in its place. It is slow and isn't proved, and a line on
 standard error says so. Exit status: 0 if there is an answer, whatever it is; 2 if an argument or a file is wrong; that
 of the program if it fails.
 """
@@ -37,6 +42,7 @@ import sys
 TOP = os.path.dirname(os.path.dirname(os.path.abspath(__file__)))
 sys.path.insert(0, os.path.join(TOP, "scripts"))
 import drawing  # noqa: E402  (beside this file)
+import list_picture  # noqa: E402
 import reference  # noqa: E402  (in scripts/)
 import store_run  # noqa: E402
 import syntax  # noqa: E402
@@ -277,7 +283,12 @@ def draw(options, file, found):
     page = drawing.Page(choice.drawn(file.events_of(choice.txns)), found, choice.left_out, whole)
     if page.left_out:
         print("(%s)" % page.left_out, file=sys.stderr)
-    lines = page.page(options.history) if is_page else page.svg()
+    write_picture(options, page)
+
+
+def write_picture(options, page):
+    """Writes the picture to the file that the name is of: the drawing alone, or a page."""
+    lines = page.svg() if options.picture.endswith(".svg") else page.page(options.history)
     try:
         with open(options.picture, "w", encoding="utf-8") as out:
             out.writelines(line + "\n" for line in lines)
@@ -294,15 +305,35 @@ def of_store(commands, replies):
         fail("these are no replies to these commands: %s" % error)
 
 
+def of_lists(options):
+    program = options.program or os.path.join(TOP, "crates", "lists", "out", "lists")
+    if not os.path.exists(program):
+        fail("%s isn't built" % program)
+    try:
+        answer = list_picture.answer_of(program, options.history)
+    except list_picture.Failed as failed:
+        sys.exit(failed.args[0])
+    print("\n".join([list_picture.said_of(answer), *list_picture.sentences(answer)]))
+    if not options.picture:
+        return
+    if "cycle" not in answer:
+        fail("no picture: no cycle decides")
+    events, told = list_picture.drawn(answer, options.history, Told)
+    which = "" if answer["shortest"] else "The search for a shorter cycle was cut off."
+    found = Explanation(list_picture.said_of(answer), told, events=events, which=which)
+    write_picture(options, drawing.Page(events, found, ""))
+
+
 def main():
-    usage = ("\n" + " " * 7).join(line.strip() for line in __doc__.split("\n")[2:4])
+    usage = ("\n" + " " * 7).join(line.strip() for line in __doc__.split("\n")[2:5])
     parser = argparse.ArgumentParser(usage=usage, description=__doc__,
                                      formatter_class=argparse.RawDescriptionHelpFormatter)
     parser.add_argument("--picture", metavar="FILE")
     parser.add_argument("--transactions", metavar="N,N,..", type=numbers)
     parser.add_argument("--shortest", action="store_true")
-    parser.add_argument("--program", default=os.path.join(TOP, "crates", "ssi", "out", "ssi"))
+    parser.add_argument("--program")
     parser.add_argument("--store", action="store_true")
+    parser.add_argument("--lists", action="store_true")
     parser.add_argument("files", metavar="HISTORY", nargs="+")
     options = parser.parse_args()
     if len(options.files) != (2 if options.store else 1) or options.store and options.picture:
@@ -310,6 +341,9 @@ def main():
     if options.store:
         return of_store(*options.files)
     options.history = options.files[0]
+    if options.lists:
+        return of_lists(options)
+    options.program = options.program or os.path.join(TOP, "crates", "ssi", "out", "ssi")
     try:
         file = HistoryFile(options.history)
     except OSError as error:

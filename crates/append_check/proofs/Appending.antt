@@ -6,7 +6,7 @@ use Rattle.std.proofs.lemmas.List.Concat.{flat_map-append}
 use Rattle.std.proofs.lemmas.List.Elements.{Contains-append_cases}
 use Rattle.lemmas.proofs.Members.{none_contained, Contains-cases}
 use Rattle.lemmas.proofs.Counts.{count, count-append, count_same, count_other}
-use Rattle.append_values.specs.Meaning.Histories.{Operation, Append, Transaction, History, nothing}
+use Rattle.append_values.specs.Meaning.Histories.{Operation, Append, Transaction, History, nothing, effects_of}
 use Rattle.append_values.specs.Meaning.Reads.{appended, own, AppendersDiffer, AppendsOnce}
 use Rattle.append_values.proofs.AppendedElements.{appended-append}
 use Rattle.append_check.specs.declared.item.Item.{Item}
@@ -117,20 +117,20 @@ again old k x t was =
 
 -- what one more transaction appends
 all_more : (h : History) (i k : ℕ) → i < length h
-    → all_appended k (take (i + 1) h) ≡ all_appended k (take i h) ++ appended k (get_or h i nothing).operations
+    → all_appended k (take (i + 1) h) ≡ all_appended k (take i h) ++ appended k (effects_of (get_or h i nothing))
 all_more h i k l =
     ap (all_appended k) (take_more h i nothing l) ∙
-    (flat_map-append (λ (t : Transaction). appended k t.operations) (take i h) (get_or h i nothing ∷ []) ∙
-    ap (λ ys. all_appended k (take i h) ++ ys) (append-nil (appended k (get_or h i nothing).operations)))
+    (flat_map-append (λ (t : Transaction). appended k (effects_of t)) (take i h) (get_or h i nothing ∷ []) ∙
+    ap (λ ys. all_appended k (take i h) ++ ys) (append-nil (appended k (effects_of (get_or h i nothing)))))
 
 pub tells_more : (old new : Item → Option ℕ) (h : History) (i : ℕ) → i < length h → Tells old h i
-    → Adds old new i (get_or h i nothing).operations → Tells new h (i + 1)
+    → Adds old new i (effects_of (get_or h i nothing)) → Tells new h (i + 1)
 tells_more old new h i l t a = record {
   counted = λ k x.
       let before = t.counted k x in
       let one = a.counted k x in
       let more = ap (λ ys. count ys x) (all_more h i k l) in
-      let parts = count-append (all_appended k (take i h)) (appended k (get_or h i nothing).operations) x in
+      let parts = count-append (all_appended k (take i h)) (appended k (effects_of (get_or h i nothing))) x in
       omega (arith, before, one, more, parts);
   has = λ k x u less c. elim (cases_lt u i) [
     | inl sooner ↦ a.kept k x u (t.has k x u sooner c)
@@ -146,7 +146,7 @@ appender_known h k t x c =
     elim (cases_lt t (length h)) [
       | inl l ↦ l
       | inr l ↦
-          absurd (none_contained x (subst (λ (z : Transaction). Contains (appended k z.operations) x) (get_or_past h t nothing l) c))
+          absurd (none_contained x (subst (λ (z : Transaction). Contains (appended k (effects_of z)) x) (get_or_past h t nothing l) c))
     ]
 
 pub differ_from : (table : Item → Option ℕ) (h : History) (n : ℕ) → length h ≤ n → Tells table h n → AppendersDiffer h
@@ -164,9 +164,9 @@ at_most_once (Some t) = omega arith
 count_one : (h : History) (k x t : ℕ) → count (own h k t) x ≤ count (all_appended k h) x
 count_one [] k x t = omega arith
 count_one (y ∷ h) k x zero =
-    let parts = count-append (appended k y.operations) (all_appended k h) x in omega (arith, parts)
+    let parts = count-append (appended k (effects_of y)) (all_appended k h) x in omega (arith, parts)
 count_one (y ∷ h) k x (suc t) =
-    let parts = count-append (appended k y.operations) (all_appended k h) x in
+    let parts = count-append (appended k (effects_of y)) (all_appended k h) x in
     let rest = count_one h k x t in
     omega (arith, parts, rest)
 
@@ -180,12 +180,12 @@ once_from table h n l t k x u =
 
 -- an element that was appended before is appended twice in all
 pub twice_in_all : (table : Item → Option ℕ) (h : History) (i k x : ℕ) → i < length h → Tells table h i
-    → 1 < times (table (item k x)) + count_in k x (get_or h i nothing).operations → 1 < count (all_appended k h) x
+    → 1 < times (table (item k x)) + count_in k x (effects_of (get_or h i nothing)) → 1 < count (all_appended k h) x
 twice_in_all table h i k x l t more =
     let before = t.counted k x in
     let next = ap (λ ys. count ys x) (all_more h i k l) in
-    let parts = count-append (all_appended k (take i h)) (appended k (get_or h i nothing).operations) x in
+    let parts = count-append (all_appended k (take i h)) (appended k (effects_of (get_or h i nothing))) x in
     let split = ap (λ us. count (all_appended k us) x) (take-append-drop (i + 1) h) in
-    let pieces = ap (λ ys. count ys x) (flat_map-append (λ (z : Transaction). appended k z.operations) (take (i + 1) h) (drop (i + 1) h)) in
+    let pieces = ap (λ ys. count ys x) (flat_map-append (λ (z : Transaction). appended k (effects_of z)) (take (i + 1) h) (drop (i + 1) h)) in
     let parts' = count-append (all_appended k (take (i + 1) h)) (all_appended k (drop (i + 1) h)) x in
     omega (arith, before, next, parts, split, pieces, parts', more)

@@ -3,7 +3,6 @@ use Rattle.std.proofs.Common.{◌≡◌, ℕ, suc, ◌+◌, ◌<◌, ◌==◌, B
 use Rattle.std.specs.List.{list_any, AllByRecursion}
 use Rattle.std.proofs.lemmas.Bool.{cases_eq, cases_lt, cases_Bool, eq-eqb, ne_eqb, cond-true, cond-false}
 use Rattle.std.proofs.lemmas.Bool.Decides.{Decides-eqb}
-use Rattle.std.proofs.lemmas.List.Elements.{Contains-append_left}
 use Rattle.std.proofs.lemmas.List.{map-append}
 use Rattle.lemmas.proofs.Members.{none_contained, Contains-cases, Contains-map, map-source}
 use Rattle.lemmas.proofs.Tests.{list_any-source, list_any_when}
@@ -22,10 +21,10 @@ use Rattle.append_laws.specs.Laws.Explanations.{ExplainsExactly}
 use Rattle.digraph.specs.declared.arc.Arc.{Arc}
 use Rattle.digraph.specs.Clauses.Graphs.{IsGraph, place, IsBefore, IsTopologicalOrder, IsPath}
 use Rattle.append_check.specs.Machinery.Precedences.{place_of, AreListed, arc, IsArc, AreArcs, AreMore, HasArc, AreNodes, IsCycleOf}
-use Rattle.append_check.specs.Machinery.Wholeness.{AreFine}
+use Rattle.append_laws.specs.Laws.Explanations.{AreWhole}
 use Rattle.append_check.proofs.Each.{push_keeps, push_puts, push-cases}
 use Rattle.append_check.proofs.Starts.{count_starts}
-use Rattle.append_check.proofs.Seeing.{committed_kept}
+use Rattle.append_check.proofs.Seeing.{own_kept, committed_kept}
 
 pub more_goes_on : (h : History) (u i : ℕ) (old mid new : List Arc) → AreMore h u i old mid → HasArc h u i mid new
     → AreMore h u (i + 1) old new
@@ -76,13 +75,11 @@ due_precedes h u v (By.WriteRead read) d = inl d.0
 due_precedes h u v (By.ReadWrite read) d = inr (inr d.0)
 due_precedes h u v (By.WriteWrite read) d = inr (inl d.0)
 
--- a transaction that has to come before another isn't aborted, if all reads are fine
-pub source_kept : (h : History) (u v : ℕ) → AreFine h → Precedes h u v → outcome h u ≡ Aborted → ⊥
-source_kept h u v fine (inl w) = (fine v w.key w.elements w.before w.read).kept w.element u w.seen w.is_of
-source_kept h u v fine (inr (inl w)) =
-    (fine w.reader w.key w.elements w.before w.read).kept w.element u
-    (subst (λ ys. Contains ys w.element) (sym w.begins.1) (Contains-append_left w.part w.begins.0 w.element w.seen)) w.is_of
-source_kept h u v fine (inr (inr w)) = committed_kept h u w.read.committed
+-- a transaction that has to come before another isn't aborted
+pub source_kept : (h : History) (u v : ℕ) → Precedes h u v → outcome h u ≡ Aborted → ⊥
+source_kept h u v (inl w) = own_kept h w.key u w.element w.is_of
+source_kept h u v (inr (inl w)) = own_kept h w.key u w.element w.is_of
+source_kept h u v (inr (inr w)) = committed_kept h u w.read.committed
 
 -- where a transaction stands in a list that has it, and in one that hasn't
 place_less : (ts : List ℕ) (t : ℕ) → 0 < count ts t → place ts t < length ts
@@ -119,7 +116,7 @@ occurs_nowhere Aborted never = refl
 occurs_nowhere Unknown never = omega arith
 occurs_nowhere Committed never = absurd (never (λ e. absurd (cc (e))))
 
-module _ (h : History) (n : ℕ) (known : (t : ℕ) → (outcome h t ≡ Aborted → ⊥) → t < n) (fine : AreFine h) (nodes : List ℕ)
+module _ (h : History) (n : ℕ) (known : (t : ℕ) → (outcome h t ≡ Aborted → ⊥) → t < n) (whole : AreWhole h) (nodes : List ℕ)
     (are_nodes : AreNodes h n nodes) (arcs : List Arc) (are_arcs : AreArcs h n arcs) where
   abbrev is_node : ℕ → Bool
   is_node t = list_any (λ u. u == t) nodes
@@ -134,7 +131,7 @@ module _ (h : History) (n : ℕ) (known : (t : ℕ) → (outcome h t ≡ Aborted
 
   pub is_graph : IsGraph nodes arcs
   is_graph a c =
-      let is = are_arcs.sound a c in (node a.from (source_kept h a.from a.to fine is.precedes), node a.to is.kept)
+      let is = are_arcs.sound a c in (node a.from (source_kept h a.from a.to is.precedes), node a.to is.kept)
 
   module _ (ts : List ℕ) (order : IsTopologicalOrder nodes arcs ts) where
     counted : (t : ℕ) (b : Bool) → is_node t ≡ b → count ts t ≡ cond b 1 0
@@ -151,7 +148,7 @@ module _ (h : History) (n : ℕ) (known : (t : ℕ) → (outcome h t ≡ Aborted
 
     forward : (u v : ℕ) → Precedes h u v → IsBefore ts u v
     forward u v p =
-        let kept = source_kept h u v fine p in
+        let kept = source_kept h u v p in
         elim (cases_Bool (is_node v)) [
           | inl on ↦ order.forward (arc u v) (are_arcs.complete u v (known u kept) (node_kept v on) p)
           | inr off ↦
@@ -164,7 +161,7 @@ module _ (h : History) (n : ℕ) (known : (t : ℕ) → (outcome h t ≡ Aborted
 
     pub order_explains : ExplainsExactly → AppendersDiffer h → AppendsOnce h → Explains ts h
     order_explains exactly differ once =
-        (exactly h ts differ once).1 (occurs, forward, λ t k xs before r. (fine t k xs before r).whole)
+        (exactly h ts differ once).1 (occurs, forward, whole)
 
 -- links that follow a path of arcs
 pub record Follows (h : History) (path : List Arc) (links : List Link) : Type 0 where

@@ -8,3 +8,4 @@ mod Each
 mod Unshown
 mod Scanning
 mod Graph
+mod Firsts

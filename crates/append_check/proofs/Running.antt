@@ -2,7 +2,7 @@
 use Rattle.std.proofs.Common.{◌≡◌, ℕ, ◌==◌, Bool, true, false, cond, List, [], ◌∷◌, ◌++◌, refl, sym, ◌∙◌, ap}
 use Rattle.append_values.specs.declared.transaction.Outcome.{Outcome}
 use Rattle.append_values.specs.declared.transaction.Outcome.TheVariants.{Committed, Aborted, Unknown}
-use Rattle.append_values.specs.Meaning.Histories.{Operation, Append, Read, LostRead, History, outcome, operations}
+use Rattle.append_values.specs.Meaning.Histories.{Operation, Append, Read, LostRead, History, outcome, operations, lasting, effects}
 use Rattle.append_values.specs.Meaning.Runs.{Lists, after, run, Sees, AllSee, Claims, AllClaims}
 
 abbrev pub AreSame : Lists → Lists → Type 0
@@ -39,7 +39,7 @@ pub all_claims_same : (h : History) (m n : Lists) (ts : List ℕ) → AreSame m 
 all_claims_same h m n [] same c = tt
 all_claims_same h m n (t ∷ ts) same c = (
   claims_same m n (outcome h t) (operations h t) same c.0,
-  all_claims_same h (run m (operations h t)) (run n (operations h t)) ts (run_same m n (operations h t) same) c.1,
+  all_claims_same h (run m (effects h t)) (run n (effects h t)) ts (run_same m n (effects h t) same) c.1,
 )
 
 -- one turn of a run over steps: what follows on the lists after the step follows on those before it
@@ -61,7 +61,7 @@ pub ends : (claims : Bool) (first now : Lists) (all : List Operation) → Goes c
     → (claims ≡ true → AllSee first all) × AreSame now (run first all)
 ends claims first now all g = (λ c. g.sees c tt, g.runs)
 
-pub claims_of : (m : Lists) (o : Outcome) (os : List Operation) (b : Bool) → (o ≡ Committed → b ≡ true) → (b ≡ true → AllSee m os) → Claims m o os
+pub claims_of : (m : Lists) (o : Outcome) (os : List Operation) (b : Bool) → (o ≡ Committed → b ≡ true) → (b ≡ true → AllSee m (lasting o os)) → Claims m o os
 claims_of m Committed os b is all = all (is refl)
 claims_of m Aborted os b is all = tt
 claims_of m Unknown os b is all = tt
@@ -71,7 +71,7 @@ pub record Replays (h : History) (first now : Lists) (all rest : List ℕ) : Typ
   pub claims : AllClaims h now rest → AllClaims h first all
 
 pub replay_goes_on : (h : History) (first now next : Lists) (all rest : List ℕ) (t : ℕ) → Replays h first now all (t ∷ rest)
-    → Claims now (outcome h t) (operations h t) → AreSame next (run now (operations h t)) → Replays h first next all rest
+    → Claims now (outcome h t) (operations h t) → AreSame next (run now (effects h t)) → Replays h first next all rest
 replay_goes_on h first now next all rest t r claims same = record {
-  claims = λ c. r.claims (claims, all_claims_same h next (run now (operations h t)) rest same c);
+  claims = λ c. r.claims (claims, all_claims_same h next (run now (effects h t)) rest same c);
 }

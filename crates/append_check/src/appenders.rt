@@ -8,11 +8,11 @@ ghost use Rattle.append_check.specs.Machinery.Appending.{item_eq, IsAdded, IsMad
 
 use crate::item::Item;
 use append_search::Writers;
-use append_values::{Operation, Transaction};
+use append_values::{Operation, Transaction, effects};
 use std::alloc::{AllocError, Global};
 use std::collections::HashMap;
 
-/// The transaction that appends each element to the list of each key: its place in the history.
+/// The transaction that appends each element to the list of each key: its place in the history. Aborted ones append nothing.
 #[derive(Drop)]
 pub(crate) struct Appenders {
     by_item: HashMap<Item, u32>,
@@ -35,8 +35,7 @@ impl Appenders {
             by_item: HashMap::with_capacity(alloc, appends_in(transactions))?,
         };
         'transactions: for (place, transaction) in transactions.iter().enumerate() {
-            let operations = transaction.operations.as_slice();
-            if let Some(item) = table.add(place as u32, operations)? {
+            if let Some(item) = table.add(place as u32, effects(transaction))? {
                 return Ok(Made::Twice(item));
             }
         }
@@ -78,11 +77,11 @@ impl Appenders {
     }
 }
 
-/// Returns how many elements all transactions append.
+/// Returns how many elements the transactions append that aren't aborted.
 fn appends_in(transactions: &[Transaction]) -> usize {
     let mut appends = 0usize;
     for transaction in transactions {
-        let operations = transaction.operations.iter();
+        let operations = effects(transaction).iter();
         appends = appends.saturating_add(
             operations.filter(|operation| is_append(operation)).count(),
         );

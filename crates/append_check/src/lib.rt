@@ -16,6 +16,8 @@ mod verdict;
 mod whole;
 mod writers;
 
-pub use append_values::{Kind, Link, Operation, Outcome, Read, Reason, Transaction};
-pub use checker::check;
-pub use verdict::Verdict;
+pub use append_values::{
+    Counted, Kind, Link, Operation, Outcome, Read, Reason, Transaction, effects,
+};
+pub use checker::{check, examine};
+pub use verdict::{Findings, Verdict};

@@ -1,10 +1,10 @@
 //! The lists of a serial run.
 
 ghost use Rattle.std.specs.Prelude.{◌≡◌, ℕ, true, map, IfOk, OnOk};
-ghost use Rattle.append_values.specs.Meaning.Histories.{operation_of, transaction_of, Append};
+ghost use Rattle.append_values.specs.Meaning.Histories.{operation_of, transaction_of, effects_of, Append};
 ghost use Rattle.append_values.specs.Meaning.Runs.{after, empty, run, Sees, AllSee, Claims};
 
-use append_values::{Operation, Outcome, Transaction};
+use append_values::{Operation, Outcome, Transaction, effects};
 use std::alloc::{AllocError, Global};
 use std::collections::HashMap;
 
@@ -85,14 +85,14 @@ impl Lists {
         Ok(true)
     }
 
-    /// Runs the transaction. Returns false if it committed and one of its reads returned something else than its list.
+    /// Runs the transaction, which has no effect if it aborted. Returns false if it committed and one of its reads returned something else than its list.
     pub fn run(&mut self, transaction: &Transaction) -> Result<bool, AllocError>
         ensures { let t = transaction_of transaction.now in
             IfOk result (λ b. b ≡ true → Claims (lists_of self.old) t.outcome t.operations
-            × ((k : ℕ) → lists_of self.new k ≡ run (lists_of self.old) t.operations k)) }
+            × ((k : ℕ) → lists_of self.new k ≡ run (lists_of self.old) (effects_of t) k)) }
     {
         let claims = is_committed(transaction.outcome);
-        let fine = self.steps(claims, transaction.operations.as_slice())?;
+        let fine = self.steps(claims, effects(transaction))?;
         Ok(fine)
     }
 }

@@ -7,7 +7,7 @@ ghost use Rattle.std.specs.Prelude.{◌<◌, ◌^◌, length, IfOk};
 ghost use Rattle.append_values.specs.Meaning.Reads.{AppendersDiffer, AppendsOnce};
 ghost use Rattle.append_values.specs.Meaning.Reasons.{IsRound, IsSimple, AreKept};
 ghost use Rattle.append_check.specs.Meaning.Verdicts.{history_of, IsRight, TellsRepeats};
-ghost use Rattle.append_check.specs.Machinery.Wholeness.{AreFine};
+ghost use Rattle.append_laws.specs.Laws.Explanations.{AreWhole};
 ghost use Rattle.append_check.specs.Machinery.Precedences.{AreListed, IsCycleOf};
 
 use crate::arcs::{arcs, kept_transactions};
@@ -42,7 +42,7 @@ fn sort(alloc: Global, transactions: &[Transaction], reads: &[Read]) -> Result<V
     requires differ { AppendersDiffer (history_of transactions.now) }
     requires once { AppendsOnce (history_of transactions.now) }
     requires listed { AreListed (history_of transactions.now) reads.now }
-    requires fine { AreFine (history_of transactions.now) }
+    requires whole { AreWhole (history_of transactions.now) }
     ensures right { IfOk result (IsRight (history_of transactions.now)) }
     ensures repeats { IfOk result (TellsRepeats (history_of transactions.now)) }
 {

@@ -2,7 +2,7 @@
 
 ghost use Rattle.std.specs.Prelude.{◌≡◌, ◌≢◌, ◌<◌, ◌≤◌, ◌==◌, ◌∷◌, ◌++◌, ℕ, List, [], true, false, Some, length, map, count_by, slice_get, Contains, IfOk, IfSome};
 ghost use Rattle.append_values.specs.declared.transaction.Outcome.TheVariants.{Aborted};
-ghost use Rattle.append_values.specs.declared.reason.Reason.TheVariants.{Internal, Unrepeatable, Twice, Unwritten, Future, Intermediate, Incompatible};
+ghost use Rattle.append_values.specs.declared.reason.Reason.TheVariants.{Internal, Unrepeatable, Twice, Unwritten, DirtyUpdate, Future, Intermediate, Incompatible};
 ghost use Rattle.append_values.specs.declared.reason.Kind.TheVariants.{WriteRead, ReadWrite, WriteWrite};
 ghost use Rattle.append_values.specs.Meaning.Histories.{operation_of, transaction_of, outcome};
 ghost use Rattle.append_values.specs.Meaning.Reads.{appended, own};
@@ -11,10 +11,12 @@ ghost use Rattle.append_check.specs.Meaning.Verdicts.{history_of};
 ghost use Rattle.append_check.specs.Machinery.Precedences.{IsNoWriteRead, IsNoReadWrite, IsNoWriteWrite};
 
 use crate::arcs::is_aborted;
-use crate::pieces::{begins_with, ends_with, first_of, has, has_block, lacks, meet, same, times};
+use crate::pieces::{
+    begins_with, ends_with, first_of, has, has_block, lacks, meet, same, stands_before, times,
+};
 use crate::replay::listed;
 use crate::seen::{Seen, look_at, own};
-use crate::writers::writer_of;
+use crate::writers::{aborted_writer, committed_writer, writer_of};
 use append_values::{Kind, Link, Operation, Outcome, Read, Reason, Transaction, appended};
 use std::alloc::{AllocError, Global};
 
@@ -31,6 +33,9 @@ pub(crate) fn holds(
         Reason::Unrepeatable(first, second) => unrepeatable(alloc, transactions, *first, *second),
         Reason::Twice(read, element) => Ok(twice(transactions, *read, *element)),
         Reason::Unwritten(read, element) => Ok(unwritten(transactions, *read, *element)),
+        Reason::DirtyUpdate(read, aborted, element) => {
+            Ok(dirty_update(transactions, *read, *aborted, *element))
+        }
         Reason::Future(read, element) => future(alloc, transactions, *read, *element),
         Reason::Intermediate(read, writer) => intermediate(alloc, transactions, *read, *writer),
         Reason::Incompatible(one, other) => incompatible(alloc, transactions, *one, *other),
@@ -105,9 +110,33 @@ fn unwritten(transactions: &[Transaction], read: Read, element: u64) -> bool
 /// Returns true if no transaction appends the element to the list of the key but aborted ones.
 fn nobody_appends(transactions: &[Transaction], key: u64, element: u64) -> bool
     ensures { let h = history_of transactions.now in
-        result ≡ true → (u : ℕ) → Contains (own h key u) element → outcome h u ≡ Aborted }
+        result ≡ true → (u : ℕ) → Contains (own h key u) element → ⊥ }
 {
-    writer_of(transactions, key, element).is_none()
+    match writer_of(transactions, key, element) {
+        Some(_) => false,
+        None => true,
+    }
+}
+
+fn dirty_update(transactions: &[Transaction], read: Read, aborted: u64, element: u64) -> bool
+    ensures { result ≡ true → Holds (history_of transactions.now) (DirtyUpdate read aborted element) }
+{
+    let Some(seen) = look_at(transactions, read) else {
+        return false;
+    };
+    if !stands_before(seen.elements, aborted, element) {
+        return false;
+    }
+    if !nobody_appends(transactions, seen.key, aborted) {
+        return false;
+    }
+    let Some(_) = aborted_writer(transactions, seen.key, aborted) else {
+        return false;
+    };
+    match committed_writer(transactions, seen.key, element) {
+        Some(_) => true,
+        None => false,
+    }
 }
 
 fn future(
@@ -140,7 +169,7 @@ fn intermediate(
     let Some(seen) = look_at(transactions, read) else {
         return Ok(false);
     };
-    if writer == read.transaction || is_aborted(transactions, writer) {
+    if writer == read.transaction {
         return Ok(false);
     }
     let block = own(alloc, transactions, seen.key, writer)?;

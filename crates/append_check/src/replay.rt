@@ -1,7 +1,7 @@
 //! Whether an order explains a history: its transactions are run in this order.
 
 ghost use Rattle.std.specs.Prelude.{◌≡◌, ◌==◌, if◌then◌else◌, ℕ, true, length, count_by, map, IfOk, IfSome};
-ghost use Rattle.append_values.specs.Meaning.Histories.{outcome, operations};
+ghost use Rattle.append_values.specs.Meaning.Histories.{outcome, operations, effects};
 ghost use Rattle.append_values.specs.Meaning.Runs.{empty, run, Claims, AllClaims, Occurs, Explains};
 ghost use Rattle.append_check.specs.Meaning.Verdicts.{history_of};
 ghost use Rattle.append_check.specs.Machinery.Running.{flag, lists_of};
@@ -50,7 +50,7 @@ fn replay_one(
 ) -> Result<bool, AllocError>
     ensures { let h = history_of transactions.now in
         IfOk result (λ b. b ≡ true → Claims (lists_of lists.old) (outcome h place) (operations h place)
-        × ((k : ℕ) → lists_of lists.new k ≡ run (lists_of lists.old) (operations h place) k)) }
+        × ((k : ℕ) → lists_of lists.new k ≡ run (lists_of lists.old) (effects h place) k)) }
 {
     let Some(transaction) = transactions.get(place as usize) else {
         return Ok(true);

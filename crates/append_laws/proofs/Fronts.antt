@@ -7,7 +7,7 @@ use Rattle.lemmas.proofs.Members.{flat_map-source}
 use Rattle.lemmas.proofs.Counts.{count}
 use Rattle.append_values.specs.declared.transaction.Outcome.{Outcome}
 use Rattle.append_values.specs.declared.transaction.Outcome.TheVariants.{Committed, Aborted, Unknown}
-use Rattle.append_values.specs.Meaning.Histories.{Operation, Read, History, outcome}
+use Rattle.append_values.specs.Meaning.Histories.{Operation, Read, History, lasting, outcome, operations}
 use Rattle.append_values.specs.Meaning.Runs.{empty, AllClaims, Occurs, Explains}
 use Rattle.append_values.specs.Meaning.Reads.{appended, own, HasRead, IsPrefixOf}
 use Rattle.append_values.proofs.AppendedElements.{appended-append}
@@ -34,7 +34,9 @@ aborted_never h ts t listed e = subst (λ o. Occurs o (count ts t)) e (listed t)
 -- what a transaction appended before a read, and after it
 pub own_splits : (h : History) (t k : ℕ) (xs : List ℕ) (before : List Operation) (r : HasRead h t k xs before)
     → own h k t ≡ appended k before ++ appended k r.rest
-own_splits h t k xs before r = ap (appended k) r.splits ∙ appended-append k before (Read k xs ∷ r.rest)
+own_splits h t k xs before r =
+    ap (λ o. appended k (lasting o (operations h t))) r.committed ∙
+    (ap (appended k) r.splits ∙ appended-append k before (Read k xs ∷ r.rest))
 
 pub own_contains : (h : History) (t k : ℕ) (xs : List ℕ) (before : List Operation) → HasRead h t k xs before
     → (x : ℕ) → Contains (appended k before) x → Contains (own h k t) x

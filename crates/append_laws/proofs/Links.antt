@@ -8,7 +8,7 @@ use Rattle.std.proofs.lemmas.List.Elements.{Contains-append_left, Contains-appen
 use Rattle.lemmas.proofs.Members.{none_contained, Contains-head, Contains-cases, flat_map-source, Contains-flat_map}
 use Rattle.lemmas.proofs.Counts.{count, count-append, count_contained, Contains-counted}
 use Rattle.append_values.specs.declared.transaction.Outcome.TheVariants.{Committed, Aborted}
-use Rattle.append_values.specs.Meaning.Histories.{Operation, Transaction, History, nothing, outcome}
+use Rattle.append_values.specs.Meaning.Histories.{Operation, Transaction, History, nothing, effects_of, outcome}
 use Rattle.append_values.specs.Meaning.Runs.{Explains}
 use Rattle.append_values.specs.Meaning.Reads.{appended, own, HasRead, AppendersDiffer, IsPrefixOf}
 use Rattle.append_values.specs.Meaning.Reasons.{Precedes}
@@ -272,7 +272,7 @@ appender_known : (h : History) (k u x : ℕ) → Contains (own h k u) x → u < 
 appender_known h k u x c =
     elim (cases_lt u (length h)) [
       | inl l ↦ l
-      | inr l ↦ absurd (none_contained x (subst (λ (z : Transaction). Contains (appended k z.operations) x) (past h u l) c))
+      | inr l ↦ absurd (none_contained x (subst (λ (z : Transaction). Contains (appended k (effects_of z)) x) (past h u l) c))
     ]
 
 committed_known : (h : History) (u : ℕ) → outcome h u ≡ Committed → u < length h

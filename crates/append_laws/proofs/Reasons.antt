@@ -1,5 +1,6 @@
 -- Each reason refutes every order.
-use Rattle.std.proofs.Common.{◌≡◌, ℕ, ◌≤◌, List, [], ◌∷◌, ◌++◌, sym, ◌∙◌, ap, subst, arith, inl, inr}
+use Rattle.std.proofs.Common.{◌≡◌, ℕ, ◌≤◌, List, [], ◌∷◌, ◌++◌, Contains, sym, ◌∙◌, ap, subst, arith, inl, inr}
+use Rattle.std.proofs.lemmas.List.Elements.{Contains-append_left}
 use Rattle.append_values.specs.Meaning.Histories.{Operation, Read as ReadOf, History}
 use Rattle.append_values.specs.Meaning.Reads.{appended, HasRead, left, AppendersDiffer, AppendsOnce, IsPrefixOf}
 use Rattle.append_laws.proofs.Necessity.{necessary}
@@ -9,7 +10,7 @@ use Rattle.append_values.specs.declared.reason.Link.{Link}
 use Rattle.append_values.specs.declared.reason.Kind.{Kind}
 use Rattle.append_values.specs.declared.reason.Kind.TheVariants as By
 use Rattle.append_values.specs.declared.reason.Reason.{Reason}
-use Rattle.append_values.specs.declared.reason.Reason.TheVariants.{Internal, Unrepeatable, Twice, Unwritten, Future, Intermediate, Incompatible, Cycle}
+use Rattle.append_values.specs.declared.reason.Reason.TheVariants.{Internal, Unrepeatable, Twice, Unwritten, DirtyUpdate, Future, Intermediate, Incompatible, Cycle}
 use Rattle.append_values.specs.Meaning.Reasons.{Precedes, IsDue, IsChain, IsRound, Holds, HasNoOrder}
 use Rattle.digraph.specs.Clauses.Graphs.{place, IsBefore}
 
@@ -64,9 +65,12 @@ reasons_refute h (Twice read x) differ single (r, twice) =
     refutations.twice_refutes h read.transaction r.key x r.elements r.before differ single r.has_read twice
 reasons_refute h (Unwritten read x) differ single (r, seen, only) =
     refutations.unwritten_refutes h read.transaction r.key x r.elements r.before r.has_read seen only
+reasons_refute h (DirtyUpdate read x y) differ single (r, front, back, splits, before, only, aborted, committed) =
+    let seen : Contains r.elements x = subst (λ ys. Contains ys x) (sym splits) (Contains-append_left front (y ∷ back) x before) in
+    refutations.unwritten_refutes h read.transaction r.key x r.elements r.before r.has_read seen only
 reasons_refute h (Future read x) differ single (r, seen, later) =
     refutations.future_refutes h read.transaction r.key x r.elements r.before differ single r.has_read seen later
-reasons_refute h (Intermediate read u) differ single (r, x, seen, theirs, apart, kept, never) =
+reasons_refute h (Intermediate read u) differ single (r, x, seen, theirs, apart, never) =
     refutations.intermediate_refutes h read.transaction u r.key x r.elements r.before differ r.has_read seen theirs apart never
 reasons_refute h (Incompatible one other) differ single (r, s, key, apart, m, n) =
     fork_at h one.transaction other.transaction r.key s.key r.elements s.elements r.before s.before r.has_read s.has_read key m n

@@ -6,31 +6,21 @@ use Rattle.std.proofs.lemmas.List.Concat.{flat_map-append}
 use Rattle.std.proofs.lemmas.List.Elements.{Contains-append_right, Contains-append_cases}
 use Rattle.lemmas.proofs.Members.{flat_map-source}
 use Rattle.lemmas.proofs.Counts.{count, count-append, count-cons, count_same, count_contained, Contains-counted}
-use Rattle.append_values.specs.declared.transaction.Outcome.{Outcome}
-use Rattle.append_values.specs.declared.transaction.Outcome.TheVariants.{Committed, Aborted}
-use Rattle.append_values.specs.Meaning.Histories.{Operation, Read, History, outcome}
+use Rattle.append_values.specs.Meaning.Histories.{Operation, Read, History}
 use Rattle.append_values.specs.Meaning.Reads.{appended, own, HasRead, AppendersDiffer, AppendsOnce, IsPrefixOf}
 use Rattle.append_values.specs.Meaning.Reasons.{HasNoOrder}
 use Rattle.append_values.proofs.AppendedElements.{appended-append}
 use Rattle.append_laws.proofs.Prefixes.{both_begin}
 use Rattle.append_laws.proofs.Places.{at_contained}
-use Rattle.append_laws.proofs.Fronts.{once, aborted_never, own_splits, placed, read_begins, source}
-
-committed_not_aborted : (o : Outcome) → o ≡ Committed → o ≡ Aborted → ⊥
-committed_not_aborted o e f = cc (e, f)
+use Rattle.append_laws.proofs.Fronts.{once, own_splits, placed, read_begins, source}
 
 pub unwritten_refutes : (h : History) (t k x : ℕ) (xs : List ℕ) (before : List Operation) → HasRead h t k xs before → Contains xs x
-    → ((u : ℕ) → Contains (own h k u) x → outcome h u ≡ Aborted) → HasNoOrder h
-unwritten_refutes h t k x xs before r seen only ts ex =
+    → ((u : ℕ) → Contains (own h k u) x → ⊥) → HasNoOrder h
+unwritten_refutes h t k x xs before r seen none ts ex =
     let p = placed h ts t k xs before ex r in
     elim (source h t k xs before p.front r p.shows x seen) [
-      | inl w ↦
-          let never = aborted_never h ts w.0 ex.listed (only w.0 w.2) in
-          let some = count_contained p.front w.0 w.1 in
-          let parts = count-append p.front (t ∷ p.back) w.0 in
-          let same = ap (λ us. count us w.0) p.splits in
-          omega (arith, never, some, parts, same)
-      | inr mine ↦ committed_not_aborted (outcome h t) r.committed (only t mine)
+      | inl w ↦ none w.0 w.2
+      | inr mine ↦ none t mine
     ]
 
 pub incompatible_refutes : (h : History) (t u k : ℕ) (xs ys : List ℕ) (before earlier : List Operation)

@@ -4,7 +4,7 @@ use Rattle.std.specs.List.{flat_map}
 use Rattle.std.proofs.lemmas.List.{append-nil}
 use Rattle.append_values.specs.declared.transaction.Outcome.{Outcome}
 use Rattle.append_values.specs.declared.transaction.Outcome.TheVariants.{Committed, Aborted, Unknown}
-use Rattle.append_values.specs.Meaning.Histories.{Operation, Append, Read, LostRead, History, outcome, operations}
+use Rattle.append_values.specs.Meaning.Histories.{Operation, Append, Read, LostRead, History, outcome, operations, effects}
 use Rattle.append_values.specs.Meaning.Runs.{Lists, empty, after, run, AllSee, Claims, AllClaims}
 use Rattle.append_values.specs.Meaning.Reads.{appended, own, HasRead}
 
@@ -28,19 +28,19 @@ seen_at k xs (o ∷ before) rest m a = seen_at k xs before rest (after m o) a.1
 -- the lists after whole transactions
 abbrev pub run_all : History → Lists → List ℕ → Lists
 run_all h m [] = m
-run_all h m (t ∷ ts) = run_all h (run m (operations h t)) ts
+run_all h m (t ∷ ts) = run_all h (run m (effects h t)) ts
 
 pub run_all_appends : (h : History) (k : ℕ) (ts : List ℕ) (m : Lists) → run_all h m ts k ≡ m k ++ flat_map (own h k) ts
 run_all_appends h k [] m = sym (append-nil (m k))
 run_all_appends h k (t ∷ ts) m =
-    run_all_appends h k ts (run m (operations h t)) ∙
-    (ap (λ xs. xs ++ flat_map (own h k) ts) (run_appends k (operations h t) m) ∙
+    run_all_appends h k ts (run m (effects h t)) ∙
+    (ap (λ xs. xs ++ flat_map (own h k) ts) (run_appends k (effects h t) m) ∙
     append_assoc (m k) (own h k t) (flat_map (own h k) ts))
 
 pub claims_at : (h : History) (t : ℕ) (front back : List ℕ) (m : Lists) → AllClaims h m (front ++ t ∷ back)
     → Claims (run_all h m front) (outcome h t) (operations h t)
 claims_at h t [] back m a = a.0
-claims_at h t (u ∷ front) back m a = claims_at h t front back (run m (operations h u)) a.1
+claims_at h t (u ∷ front) back m a = claims_at h t front back (run m (effects h u)) a.1
 
 -- a read returned what the transactions before it appended, and then its transaction's own appends so far
 pub read_at : (h : History) (front back : List ℕ) (t k : ℕ) (xs : List ℕ) (before : List Operation)
@@ -84,8 +84,8 @@ all_claims h [] m f = tt
 all_claims h (t ∷ ts) m f = (
   claims_from (outcome h t) (operations h t) m (λ c. all_see (operations h t) m (λ k xs before rest e.
       f [] ts t k xs before refl (record { committed = c; rest = rest; splits = e }))),
-  all_claims h ts (run m (operations h t)) (λ front back u k xs before e r.
-      ap (λ ys. ys ++ (flat_map (own h k) front ++ appended k before)) (run_appends k (operations h t) m) ∙
+  all_claims h ts (run m (effects h t)) (λ front back u k xs before e r.
+      ap (λ ys. ys ++ (flat_map (own h k) front ++ appended k before)) (run_appends k (effects h t) m) ∙
       (append_assoc (m k) (own h k t) (flat_map (own h k) front ++ appended k before) ∙
       (ap (λ ys. m k ++ ys) (sym (append_assoc (own h k t) (flat_map (own h k) front) (appended k before))) ∙
       f (t ∷ front) back u k xs before (ap (λ us. t ∷ us) e) r))),

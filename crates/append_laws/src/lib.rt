@@ -24,7 +24,7 @@ pub fn cycles_refute()
     cycle_excludes_order();
 }
 
-/// No order explains a history with an element that only aborted transactions appended, or none.
+/// No order explains a history with a read of an element that nobody appended, or only aborted transactions.
 pub fn unwritten_refutes()
     ensures { UnwrittenRefutes }
 {}

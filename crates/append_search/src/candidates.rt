@@ -1,18 +1,18 @@
-//! The search for an order, or for a reason against all.
+//! The search for an order, or for the reasons against all.
 //!
 //! No contract says that what is found is right.
 
-ghost use Rattle.std.specs.Prelude.{IfOk, OnOk};
-ghost use Rattle.digraph.specs.Clauses.Graphs.{IsGraph};
-
-use crate::lines::{Found, Lines};
-use crate::links::{Links, Sink};
-use crate::own::Owns;
-use crate::reading::Reading;
+use crate::cycles::Cycles;
+use crate::diagnosis::{Diagnosis, Seen};
+use crate::faults::{Faults, Rank};
+use crate::kinds::Kinds;
+use crate::lines::{Found, Lines, Next};
+use crate::links::Links;
+use crate::own::{First, Owns};
+use crate::reading::{Appends, Reading};
 use crate::sorting::Counts;
 use crate::writers::Writers;
-use append_values::{Kind, Link, Operation, Outcome, Read, Reason, Transaction};
-use digraph::{Arc, Outcome as Sorted, topological_order};
+use append_values::{Counted, Operation, Outcome, Read, Reason, Transaction};
 use std::alloc::{AllocError, Global};
 use std::collections::HashMap;
 
@@ -21,8 +21,17 @@ use std::collections::HashMap;
 pub enum Candidate {
     /// An order that should explain the history.
     Order(Vec<u32>),
-    /// A reason for which no order should.
-    Reason(Reason),
+    /// Reasons for which no order should.
+    Reasons(Reasons),
+}
+
+/// Reasons for which no order should explain the history.
+#[derive(Drop)]
+pub struct Reasons {
+    /// One of each kind that was found, the worst kind first, and how many of the kind were found.
+    pub found: Vec<Counted>,
+    /// Whether the search for shortest cycles came to its end.
+    pub is_searched: bool,
 }
 
 /// The reads of committed transactions so far.
@@ -32,10 +41,22 @@ struct Search {
     owns: Owns,
     lines: Lines,
     readings: Vec<Reading>,
+    diagnosis: Diagnosis,
+    faults: Faults,
+    /// Whether a read shows what its own transaction had appended before it.
+    some_are_shown: bool,
 }
 
-/// Looks for an order that explains the history, or a reason for which none does; `AllocError` if memory runs out. The
-/// time it takes is nearly linear in the size of the history. Nothing is promised of what it finds.
+/// The reads of a key that show so many writers of its line.
+#[derive(Clone, Copy, PartialEq, Eq, Hash)]
+struct Spot {
+    line: usize,
+    writers: usize,
+}
+
+/// Looks for an order that explains the history, or for the reasons why none does; `AllocError` if memory runs out. The
+/// time that it takes is nearly linear in the size of the history, but for the search for shortest cycles, which has a bound
+/// of its own. Nothing is promised of what it finds.
 pub fn find_candidate<W: Writers + Drop>(
     alloc: Global,
     transactions: &[Transaction],
@@ -46,22 +67,21 @@ pub fn find_candidate<W: Writers + Drop>(
         owns: Owns::new(alloc),
         lines: Lines::new(alloc, transactions.len())?,
         readings: Vec::with_capacity(alloc, reads_in(transactions))?,
+        diagnosis: Diagnosis::new(alloc),
+        faults: Faults::new(alloc),
+        some_are_shown: false,
     };
     let mut place = 0u32;
     'transactions: for transaction in transactions {
         if transaction.outcome == Outcome::Committed {
             let operations = transaction.operations.as_slice();
-            if let Some(reason) = search.go_through(transactions, &writers, place, operations)? {
-                return Ok(Candidate::Reason(reason));
-            }
+            search.go_through(transactions, &writers, place, operations)?;
         }
         place = place.saturating_add(1);
     }
     // they take much memory, and the rest doesn't need them
     drop(writers);
-    if let Some(reason) = search.add_tails(transactions)? {
-        return Ok(Candidate::Reason(reason));
-    }
+    search.add_tails(transactions)?;
     search.sort(transactions, place)
 }
 
@@ -73,7 +93,7 @@ impl Search {
         writers: &W,
         place: u32,
         operations: &[Operation],
-    ) -> Result<Option<Reason>, AllocError> {
+    ) -> Result<(), AllocError> {
         self.owns.begin(operations)?;
         for (step, operation) in operations.iter().enumerate() {
             match operation {
@@ -83,7 +103,7 @@ impl Search {
                         transaction: place,
                         step,
                     };
-                    let broken = self.read(
+                    self.read(
                         transactions,
                         writers,
                         operations,
@@ -91,14 +111,11 @@ impl Search {
                         read,
                         elements.as_slice(),
                     )?;
-                    if broken.is_some() {
-                        return Ok(broken);
-                    }
                 }
                 Operation::LostRead { .. } => {}
             }
         }
-        Ok(None)
+        Ok(())
     }
 
     fn read<W: Writers>(
@@ -109,54 +126,197 @@ impl Search {
         key: u64,
         read: Read,
         elements: &[u64],
-    ) -> Result<Option<Reason>, AllocError> {
+    ) -> Result<(), AllocError> {
         let before = operations.get(..read.step).unwrap_or(&[]);
         let Some(base) = self.owns.base(before, key, elements) else {
-            return Ok(Some(Reason::Internal(read)));
+            self.faults.note(Rank::Internal, Reason::Internal(read))?;
+            let seen = Seen {
+                key,
+                read,
+                elements,
+                base: elements,
+            };
+            self.diagnosis
+                .note(transactions, writers, seen, &mut self.faults)?;
+            return Ok(());
+        };
+        let seen = Seen {
+            key,
+            read,
+            elements,
+            base,
         };
         if let Some(first) = self.owns.first(key) {
-            let Some(first) = self.readings.get(first) else {
-                return Ok(None);
-            };
-            let length = self.lines.length(first.line(), first.writers());
-            return Ok(unrepeated(transactions, first.read(), length, read, base));
+            return self.read_again(transactions, writers, seen, first);
         }
-        self.owns.set_first(key, self.readings.len())?;
-        let appends = self.owns.appends(operations, key);
-        match self
-            .lines
-            .take(transactions, writers, key, read, base, appends)?
-        {
-            Found::Nothing(reason) => Ok(Some(reason)),
+        let reading = self.read_first(transactions, writers, operations, seen)?;
+        self.owns.set_first(First {
+            key,
+            step: read.step,
+            length: base.len(),
+            reading,
+        })
+    }
+
+    // The first read of a key by a transaction. Returns which reading it is, if it fits.
+    fn read_first<W: Writers>(
+        &mut self,
+        transactions: &[Transaction],
+        writers: &W,
+        operations: &[Operation],
+        seen: Seen<'_>,
+    ) -> Result<Option<usize>, AllocError> {
+        let appends = if seen.base.len() < seen.elements.len() {
+            Appends::Sooner
+        } else if self.owns.appends(operations, seen.key) {
+            Appends::Later
+        } else {
+            Appends::Nothing
+        };
+        let does_append = appends != Appends::Nothing;
+        match self.lines.take(
+            transactions,
+            writers,
+            seen.key,
+            seen.read,
+            seen.base,
+            does_append,
+        )? {
             Found::Blocks { line, writers } => {
+                self.some_are_shown |= appends == Appends::Sooner;
+                let place = self.readings.len();
                 self.readings
-                    .push(Reading::new(read, line, writers, appends))?;
+                    .push(Reading::new(seen.read, line, writers, appends))?;
+                Ok(Some(place))
+            }
+            Found::Odd { source } => {
+                let is_broken = self
+                    .diagnosis
+                    .note(transactions, writers, seen, &mut self.faults)?;
+                if !is_broken && source.transaction != seen.read.transaction {
+                    let reason = Reason::Incompatible(seen.read, source);
+                    self.faults.note(Rank::IncompatibleOrder, reason)?;
+                }
                 Ok(None)
             }
         }
     }
 
-    // The transactions that found the whole list of a key and appended to it come last in its line.
-    fn add_tails(&mut self, transactions: &[Transaction]) -> Result<Option<Reason>, AllocError> {
-        let readings = &self.readings;
-        for reading in readings {
-            if reading.appends() {
-                let broken = self.lines.append(
+    // A later read of a key by a transaction: it should find what the first one found.
+    fn read_again<W: Writers>(
+        &mut self,
+        transactions: &[Transaction],
+        writers: &W,
+        seen: Seen<'_>,
+        first: First,
+    ) -> Result<(), AllocError> {
+        let before = Read {
+            transaction: seen.read.transaction,
+            step: first.step,
+        };
+        let is_same = is_repeated(transactions, before, first.length, seen.base);
+        if !is_same {
+            let reason = Reason::Unrepeatable(before, seen.read);
+            self.faults.note(Rank::Unrepeatable, reason)?;
+        }
+        match first.reading {
+            Some(place) if is_same => {
+                if seen.base.len() < seen.elements.len() {
+                    self.some_are_shown = true;
+                    if let Some(reading) = self.readings.get_mut(place) {
+                        reading.go_on(seen.read);
+                    }
+                }
+            }
+            _ => {
+                self.diagnosis
+                    .note(transactions, writers, seen, &mut self.faults)?;
+            }
+        }
+        Ok(())
+    }
+
+    // The transactions that found the whole list of a key and appended to it come last in its line. Those come first whose
+    // reads show what they had appended.
+    fn add_tails(&mut self, transactions: &[Transaction]) -> Result<(), AllocError> {
+        let mut spots = HashMap::new(self.alloc);
+        if self.some_are_shown {
+            self.add_shown_tails(transactions, &mut spots)?;
+        }
+        for reading in &self.readings {
+            if reading.appends() == Appends::Later {
+                let next = self.lines.append(
                     transactions,
                     reading.line(),
                     reading.read(),
                     reading.writers(),
+                    false,
                 )?;
-                if broken.is_some() {
-                    return Ok(broken);
+                match next {
+                    Next::Itself => {}
+                    Next::Other | Next::Apart(_) => {
+                        spots.insert(spot_of(reading), None)?;
+                    }
                 }
             }
         }
-        Ok(None)
+        self.note_lost_updates(transactions, spots)
     }
 
-    // An order in which all links go forward, or a cycle of them.
-    fn sort(&self, transactions: &[Transaction], count: u32) -> Result<Candidate, AllocError> {
+    fn add_shown_tails(
+        &mut self,
+        transactions: &[Transaction],
+        spots: &mut HashMap<Spot, Option<Read>>,
+    ) -> Result<(), AllocError> {
+        for reading in &self.readings {
+            if is_shown(reading) {
+                let read = reading.read();
+                let next = self.lines.append(
+                    transactions,
+                    reading.line(),
+                    read,
+                    reading.writers(),
+                    true,
+                )?;
+                if let Next::Apart(other) = next {
+                    self.faults
+                        .note(Rank::IncompatibleOrder, Reason::Incompatible(read, other))?;
+                    if reading.appends() == Appends::Between {
+                        spots.insert(spot_of(reading), None)?;
+                    }
+                }
+            }
+        }
+        Ok(())
+    }
+
+    // Two transactions that found the same list, and both appended to it, at one of these spots.
+    fn note_lost_updates(
+        &mut self,
+        transactions: &[Transaction],
+        mut spots: HashMap<Spot, Option<Read>>,
+    ) -> Result<(), AllocError> {
+        if spots.is_empty() {
+            return Ok(());
+        }
+        for reading in &self.readings {
+            if let Some(read) = read_before_appends(transactions, reading) {
+                if let Some(first) = spots.get_mut(&spot_of(reading)) {
+                    match *first {
+                        Some(one) => {
+                            let reason = Reason::Incompatible(one, read);
+                            self.faults.note(Rank::LostUpdate, reason)?;
+                        }
+                        None => *first = Some(read),
+                    }
+                }
+            }
+        }
+        Ok(())
+    }
+
+    // An order in which all links go forward, or the reasons against it, with cycles of links.
+    fn sort(self, transactions: &[Transaction], count: u32) -> Result<Candidate, AllocError> {
         let (mut nodes, unseen) = self.taken_in(transactions)?;
         let links = Links {
             lines: &self.lines,
@@ -168,45 +328,25 @@ impl Search {
         }
         let readings = self.readings.as_slice();
         let most = (count as usize).saturating_add(self.lines.lines.len());
-        let mut counts = Counts::new(self.alloc, most)?;
+        let mut counts = Counts::new(self.alloc, most, Kinds::All)?;
         links.give(transactions, readings, &mut counts)?;
         let mut targets = counts.room(self.alloc)?;
         links.give(transactions, readings, &mut targets)?;
         let order = targets.forward(self.alloc, nodes.as_slice())?;
-        if order.len() == nodes.len() {
+        let is_sorted = order.len() == nodes.len();
+        if is_sorted && self.faults.is_empty() {
             return Ok(Candidate::Order(without_helpers(self.alloc, order.as_slice(), count)?));
         }
-        self.sort_again(transactions, &links, nodes)
-    }
-
-    // The same by a sort that names a cycle.
-    fn sort_again(
-        &self,
-        transactions: &[Transaction],
-        links: &Links,
-        nodes: Vec<u32>,
-    ) -> Result<Candidate, AllocError> {
-        let readings = self.readings.as_slice();
-        let mut arcs = Arcs {
-            arcs: Vec::new(self.alloc),
-        };
-        links.give(transactions, readings, &mut arcs)?;
-        let (nodes, arcs) = graph(self.alloc, nodes, arcs.arcs.as_slice())?;
-        match topological_order(self.alloc, nodes.as_slice(), arcs)? {
-            Sorted::Order(order) => {
-                Ok(Candidate::Order(without_helpers(
-                    self.alloc,
-                    order.as_slice(),
-                    links.transactions,
-                )?))
-            }
-            Sorted::Cycle(cycle) => {
-                let mut kinds = Kinds::of(self.alloc, cycle.as_slice())?;
-                links.give(transactions, readings, &mut kinds)?;
-                let round = contracted(self.alloc, cycle.as_slice(), &kinds, links.transactions)?;
-                Ok(Candidate::Reason(Reason::Cycle(round)))
-            }
+        let mut cycles = Cycles::new(self.alloc);
+        if !is_sorted {
+            cycles.find(transactions, readings, &links)?;
         }
+        let mut faults = self.faults;
+        cycles.note(&mut faults)?;
+        Ok(Candidate::Reasons(Reasons {
+            found: faults.worst_first(self.alloc)?,
+            is_searched: cycles.is_searched,
+        }))
     }
 
     // The committed transactions and the unknown ones of which somebody read an element; and those of them that may have
@@ -232,6 +372,52 @@ impl Search {
     }
 }
 
+// Whether the read shows what its own transaction had appended.
+fn is_shown(reading: &Reading) -> bool {
+    match reading.appends() {
+        Appends::Sooner | Appends::Between => true,
+        Appends::Nothing | Appends::Later => false,
+    }
+}
+
+// The first read of the list by the transaction of the reading, if this one appends to it afterwards alone.
+fn read_before_appends(transactions: &[Transaction], reading: &Reading) -> Option<Read> {
+    let read = reading.read();
+    match reading.appends() {
+        Appends::Nothing | Appends::Sooner => None,
+        Appends::Later => Some(read),
+        Appends::Between => {
+            let operations = transactions
+                .get(read.transaction as usize)?
+                .operations
+                .as_slice();
+            let key = key_of(operations.get(read.step)?)?;
+            let step = operations
+                .iter()
+                .position(|operation| key_of(operation) == Some(key))?;
+            Some(Read {
+                transaction: read.transaction,
+                step,
+            })
+        }
+    }
+}
+
+// The key that the step reads.
+fn key_of(operation: &Operation) -> Option<u64> {
+    match operation {
+        Operation::Read { key, .. } => Some(*key),
+        Operation::Append { .. } | Operation::LostRead { .. } => None,
+    }
+}
+
+fn spot_of(reading: &Reading) -> Spot {
+    Spot {
+        line: reading.line(),
+        writers: reading.writers(),
+    }
+}
+
 // How many reads committed transactions have.
 fn reads_in(transactions: &[Transaction]) -> usize {
     let mut reads = 0usize;
@@ -248,49 +434,17 @@ fn is_read(operation: &Operation) -> bool {
     matches!(operation, Operation::Read { .. })
 }
 
-// The nodes, with the ends of the links, and the links as arcs.
-fn graph(
-    alloc: Global,
-    mut nodes: Vec<u32>,
-    links: &[Arc],
-) -> Result<(Vec<u32>, Vec<Arc>), AllocError>
-    ensures { IfOk result (λ g. IsGraph g.0.items g.1.items) }
-{
-    let mut arcs = Vec::new(alloc);
-    'links: for link in links {
-        add_arc(&mut nodes, &mut arcs, *link)?;
-    }
-    Ok((nodes, arcs))
-}
-
-// Adds the arc, and its ends to the nodes.
-fn add_arc(nodes: &mut Vec<u32>, arcs: &mut Vec<Arc>, arc: Arc) -> Result<(), AllocError>
-    ensures { IsGraph nodes.old.items arcs.old.items → OnOk result (IsGraph nodes.new.items arcs.new.items) }
-{
-    nodes.push(arc.from)?;
-    nodes.push(arc.to)?;
-    arcs.push(arc)?;
-    Ok(())
-}
-
-// The reason if a later read of a transaction found another list than its first one, which had so many elements before its
-// transaction's own.
-fn unrepeated(
-    transactions: &[Transaction],
-    first: Read,
-    length: usize,
-    read: Read,
-    base: &[u64],
-) -> Option<Reason> {
-    let transaction = transactions.get(first.transaction as usize)?;
-    let operation = transaction.operations.get(first.step)?;
-    if let Operation::Read { elements, .. } = operation {
-        let same = base.len() == length && elements.starts_with(base);
-        if !same {
-            return Some(Reason::Unrepeatable(first, read));
+// Whether a later read found the list that this one had found, of so many elements before its transaction's own.
+fn is_repeated(transactions: &[Transaction], first: Read, length: usize, base: &[u64]) -> bool {
+    let Some(transaction) = transactions.get(first.transaction as usize) else {
+        return false;
+    };
+    match transaction.operations.get(first.step) {
+        Some(Operation::Read { elements, .. }) => {
+            base.len() == length && elements.starts_with(base)
         }
+        _ => false,
     }
-    None
 }
 
 fn without_helpers(alloc: Global, order: &[u32], count: u32) -> Result<Vec<u32>, AllocError> {
@@ -301,101 +455,4 @@ fn without_helpers(alloc: Global, order: &[u32], count: u32) -> Result<Vec<u32>,
         }
     }
     Ok(places)
-}
-
-// Links without their kinds.
-#[derive(Drop)]
-struct Arcs {
-    arcs: Vec<Arc>,
-}
-
-impl Sink for Arcs {
-    fn take(&mut self, link: Link) -> Result<(), AllocError> {
-        self.arcs.push(Arc {
-            from: link.from,
-            to: link.to,
-        })?;
-        Ok(())
-    }
-}
-
-// The ends of a link.
-#[derive(Clone, Copy, PartialEq, Eq, Hash)]
-struct Ends {
-    from: u32,
-    to: u32,
-}
-
-// The kinds of links that lead as the arcs of a cycle do.
-#[derive(Drop)]
-struct Kinds {
-    by_ends: HashMap<Ends, Option<Kind>>,
-}
-
-impl Kinds {
-    // The links are to come.
-    fn of(alloc: Global, cycle: &[Arc]) -> Result<Kinds, AllocError> {
-        let mut by_ends = HashMap::new(alloc);
-        for arc in cycle {
-            by_ends.insert(ends_of(arc), None)?;
-        }
-        Ok(Kinds { by_ends })
-    }
-
-    fn of_arc(&self, arc: &Arc) -> Option<Kind> {
-        *self.by_ends.get(&ends_of(arc))?
-    }
-}
-
-impl Sink for Kinds {
-    fn take(&mut self, link: Link) -> Result<(), AllocError> {
-        let between = Ends {
-            from: link.from,
-            to: link.to,
-        };
-        if let Some(kind) = self.by_ends.get_mut(&between) {
-            *kind = Some(link.kind);
-        }
-        Ok(())
-    }
-}
-
-fn ends_of(arc: &Arc) -> Ends {
-    Ends {
-        from: arc.from,
-        to: arc.to,
-    }
-}
-
-// The cycle without helpers: a way through one of them is a link of the kind that led to it.
-fn contracted(
-    alloc: Global,
-    cycle: &[Arc],
-    kinds: &Kinds,
-    count: u32,
-) -> Result<Vec<Link>, AllocError> {
-    let mut round = Vec::new(alloc);
-    let mut before = None;
-    for arc in cycle {
-        let (from, kind) = match before {
-            Some(link) => link,
-            None => {
-                let Some(kind) = kinds.of_arc(arc) else {
-                    return Ok(round);
-                };
-                (arc.from, kind)
-            }
-        };
-        if arc.to < count {
-            round.push(Link {
-                from,
-                to: arc.to,
-                kind,
-            })?;
-            before = None;
-        } else {
-            before = Some((from, kind));
-        }
-    }
-    Ok(round)
 }

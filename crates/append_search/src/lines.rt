@@ -3,7 +3,7 @@
 use crate::blocks::{Blocks, FEW};
 use crate::reading::small;
 use crate::writers::Writers;
-use append_values::{Operation, Outcome, Read, Reason, Transaction};
+use append_values::{Operation, Outcome, Read, Transaction};
 use std::alloc::{AllocError, Global};
 use std::collections::{HashMap, HashSet};
 
@@ -27,7 +27,15 @@ pub(crate) struct Line {
     /// The read that found the list.
     pub source: Read,
     /// The read by a transaction that found the whole list and appended to it: then it is the last writer.
-    pub tail: Option<Read>,
+    pub tail: Option<Tail>,
+}
+
+/// The read by the last writer of a line that nobody else has read.
+#[derive(Clone, Copy)]
+pub(crate) struct Tail {
+    pub read: Read,
+    /// Whether the read shows what the writer had appended before it.
+    pub is_shown: bool,
 }
 
 /// What a read adds to the lines.
@@ -35,8 +43,19 @@ pub(crate) struct Line {
 pub(crate) enum Found {
     /// It found the blocks of so many writers of the line with this number.
     Blocks { line: usize, writers: usize },
-    /// It found what no order explains.
-    Nothing(Reason),
+    /// It found something else. The line's longest list was found by this read before.
+    Odd { source: Read },
+}
+
+/// How an append goes on with a line.
+#[derive(Clone, Copy)]
+pub(crate) enum Next {
+    /// Its transaction is the next writer.
+    Itself,
+    /// Another transaction is.
+    Other,
+    /// Another transaction is, and the read shows that its own one isn't, as this read shows the other one.
+    Apart(Read),
 }
 
 /// A line for each key that was read.
@@ -73,28 +92,27 @@ impl Line {
         Ok(())
     }
 
-    /// Returns the writer of the element at this place of the list.
-    fn writer_at(&self, place: usize) -> Option<u32> {
-        let block = self.ends.partition_point(|end| *end as usize <= place);
-        self.writers.get(block).copied()
+    /// Returns whether the transaction is one of the first writers.
+    fn is_within(&self, writers: usize, transaction: u32) -> bool {
+        match self.writers.get(..writers) {
+            Some(first) => first.contains(&transaction),
+            None => false,
+        }
     }
 
-    /// Returns the first element of the writer at this place in the line.
-    fn first_element(&self, writer: usize) -> Option<u64> {
-        self.chain.get(self.length(writer)).copied()
+    /// Returns how many of the writers appended what somebody read.
+    pub fn seen(&self) -> usize {
+        match self.tail {
+            Some(tail) if tail.is_shown => self.writers.len(),
+            _ => self.ends.len(),
+        }
     }
 
-    /// Returns the place of the transaction among the first writers.
-    fn place_within(&self, writers: usize, transaction: u32) -> Option<usize> {
-        let first = self.writers.get(..writers)?;
-        first.iter().position(|writer| *writer == transaction)
-    }
-
-    /// Returns how many elements the blocks of the first writers have.
-    fn length(&self, writers: usize) -> usize {
-        match writers.checked_sub(1) {
-            Some(last) => self.ends.get(last).copied().unwrap_or(0) as usize,
-            None => 0,
+    /// Returns a read that shows an element of the writer at this place, if one does.
+    pub fn evidence(&self, place: usize) -> Read {
+        match self.tail {
+            Some(tail) if place >= self.ends.len() => tail.read,
+            _ => self.source,
         }
     }
 }
@@ -169,14 +187,6 @@ impl Lines {
         Ok(before & bit != 0)
     }
 
-    /// Returns how many elements the blocks of the first writers of the line with this number have.
-    pub fn length(&self, number: usize, writers: usize) -> usize {
-        match self.lines.get(number) {
-            Some(line) => line.length(writers),
-            None => 0,
-        }
-    }
-
     /// Returns the number of the line of the key, and makes a line if there is none.
     fn numbered(&mut self, key: u64, read: Read) -> Result<usize, AllocError> {
         if let Some(line) = self.number(key) {
@@ -206,22 +216,30 @@ impl Lines {
         appends: bool,
     ) -> Result<Found, AllocError> {
         let number = self.numbered(key, read)?;
+        let mut source = read;
         if let Some(line) = self.lines.get(number) {
+            source = line.source;
             let shared = base.len().min(line.chain.len());
             if base[..shared] != line.chain[..shared] {
-                return Ok(Found::Nothing(Reason::Incompatible(read, line.source)));
+                return Ok(Found::Odd { source });
             }
             if shared < base.len() {
-                let broken = self.extend(transactions, writers, number, read, base)?;
-                if let Some(reason) = broken {
-                    return Ok(Found::Nothing(reason));
+                let is_whole = self.extend(transactions, writers, number, read, base)?;
+                if !is_whole {
+                    return Ok(Found::Odd { source });
                 }
             }
         }
-        Ok(self.found(transactions, number, read, base.len(), appends))
+        match self.found(number, read, base.len(), appends) {
+            Some(writers) => Ok(Found::Blocks {
+                line: number,
+                writers,
+            }),
+            None => Ok(Found::Odd { source }),
+        }
     }
 
-    /// Goes on with the line by the blocks that the read found after it. Returns a reason if it found something else.
+    /// Goes on with the line by the blocks that the read found after it. Returns false if it found something else.
     fn extend<W: Writers>(
         &mut self,
         transactions: &[Transaction],
@@ -229,25 +247,24 @@ impl Lines {
         number: usize,
         read: Read,
         base: &[u64],
-    ) -> Result<Option<Reason>, AllocError> {
-        if let Some(line) = self.lines.get_mut(number) {
-            line.source = read;
-        }
+    ) -> Result<bool, AllocError> {
         // each turn adds an element at least
         'blocks: for _ in 0..base.len() {
-            let Some(next) = self.next_element(number, base) else {
-                return Ok(None);
+            let Some((key, element)) = self.next_element(number, base) else {
+                return Ok(true);
             };
-            let writer = match next_writer(transactions, writers, read, next) {
-                Ok(writer) => writer,
-                Err(reason) => return Ok(Some(reason)),
+            let Some(writer) = writers.writer(key, element) else {
+                return Ok(false);
             };
-            let broken = self.add_block(transactions, number, read, base, (writer, next.1))?;
-            if broken.is_some() {
-                return Ok(broken);
+            if writer == read.transaction {
+                return Ok(false);
+            }
+            let is_added = self.add_block(transactions, number, read, base, writer)?;
+            if !is_added {
+                return Ok(false);
             }
         }
-        Ok(None)
+        Ok(true)
     }
 
     /// Returns the key of the line and the first element that the list has after the line's.
@@ -257,87 +274,69 @@ impl Lines {
         Some((line.key, *element))
     }
 
-    /// Adds the writer and its block to the line. Returns a reason if the list doesn't go on with the whole block.
+    /// Adds the writer and its block to the line. Returns false if the list doesn't go on with the whole block, or if the
+    /// line has it.
     fn add_block(
         &mut self,
         transactions: &[Transaction],
         number: usize,
         read: Read,
         base: &[u64],
-        (writer, element): (u32, u64),
-    ) -> Result<Option<Reason>, AllocError> {
+        writer: u32,
+    ) -> Result<bool, AllocError> {
         let Some(line) = self.lines.get(number) else {
-            return Ok(None);
+            return Ok(false);
         };
         let (key, start) = (line.key, line.chain.len());
         let Some(transaction) = transactions.get(writer as usize) else {
-            return Ok(None);
+            return Ok(false);
         };
         let operations = transaction.operations.as_slice();
-        if self.stand(number, key, writer, operations)? {
-            return Ok(Some(Reason::Twice(read, element)));
-        }
         let Some(end) = self.blocks.end(base, start, key, writer, operations)? else {
-            return Ok(Some(not_whole(self.alloc, read, base, writer)?));
+            return Ok(false);
         };
+        if self.stand(number, key, writer, operations)? {
+            return Ok(false);
+        }
         if let Some(line) = self.lines.get_mut(number) {
+            line.source = read;
             line.add(writer, base.get(start..end).unwrap_or(&[]))?;
         }
-        Ok(None)
+        Ok(true)
     }
 
-    /// Returns which blocks a list is made of that begins the line's.
-    fn found(
-        &self,
-        transactions: &[Transaction],
-        number: usize,
-        read: Read,
-        length: usize,
-        appends: bool,
-    ) -> Found {
-        let Some(line) = self.lines.get(number) else {
-            return Found::Blocks {
-                line: number,
-                writers: 0,
-            };
-        };
-        let Some(writers) = line.blocks(length) else {
-            return Found::Nothing(cut(transactions, line, read, length));
-        };
-        if appends {
-            if let Some(place) = line.place_within(writers, read.transaction) {
-                let element = line.first_element(place).unwrap_or(0);
-                return Found::Nothing(too_early(transactions, line.key, read, element));
-            }
+    /// Returns of how many blocks a list is made that begins the line's. `None` if it ends within one, or has one of the
+    /// reader's own.
+    fn found(&self, number: usize, read: Read, length: usize, appends: bool) -> Option<usize> {
+        let line = self.lines.get(number)?;
+        let writers = line.blocks(length)?;
+        if appends && line.is_within(writers, read.transaction) {
+            return None;
         }
-        Found::Blocks {
-            line: number,
-            writers,
-        }
+        Some(writers)
     }
 
-    /// Takes in that the transaction of this read appended to the list, in which the read found so many blocks. Returns a
-    /// reason if another one comes next in the line.
+    /// Takes in that the transaction of this read appended to the list, in which the read found so many blocks; `is_shown`
+    /// says whether the read shows it. Returns which writer comes next in the line.
     pub fn append(
         &mut self,
         transactions: &[Transaction],
         number: usize,
         read: Read,
         writers: usize,
-    ) -> Result<Option<Reason>, AllocError> {
+        is_shown: bool,
+    ) -> Result<Next, AllocError> {
         let Some(line) = self.lines.get(number) else {
-            return Ok(None);
+            return Ok(Next::Itself);
         };
         if let Some(next) = line.writers.get(writers) {
             if *next == read.transaction {
-                return Ok(None);
+                return Ok(Next::Itself);
             }
-            let last = writers + 1 == line.writers.len();
-            let other = match line.tail {
-                Some(tail) if last => tail,
-                _ => line.source,
-            };
-            return Ok(Some(Reason::Incompatible(read, other)));
+            if is_shown {
+                return Ok(Next::Apart(line.evidence(writers)));
+            }
+            return Ok(Next::Other);
         }
         let key = line.key;
         if let Some(transaction) = transactions.get(read.transaction as usize) {
@@ -346,9 +345,9 @@ impl Lines {
         }
         if let Some(line) = self.lines.get_mut(number) {
             line.writers.push(read.transaction)?;
-            line.tail = Some(read);
+            line.tail = Some(Tail { read, is_shown });
         }
-        Ok(None)
+        Ok(Next::Itself)
     }
 }
 
@@ -356,75 +355,6 @@ fn writer_in(line: usize, transaction: u32) -> Writer {
     Writer {
         line: small(line),
         transaction,
-    }
-}
-
-/// Returns the transaction that comes next in a line, as it appends this element of this key. Returns a reason if none can.
-fn next_writer<W: Writers>(
-    transactions: &[Transaction],
-    writers: &W,
-    read: Read,
-    (key, element): (u64, u64),
-) -> Result<u32, Reason> {
-    let Some(writer) = writers.writer(key, element) else {
-        return Err(Reason::Unwritten(read, element));
-    };
-    if aborted(transactions, writer) {
-        return Err(Reason::Unwritten(read, element));
-    }
-    if writer == read.transaction {
-        return Err(too_early(transactions, key, read, element));
-    }
-    Ok(writer)
-}
-
-/// The reason for a list that has an element of the reader before what this one has appended so far: it is appended only
-/// afterwards, or else the list has it twice.
-fn too_early(transactions: &[Transaction], key: u64, read: Read, element: u64) -> Reason {
-    if appends_later(transactions, key, read, element) {
-        return Reason::Future(read, element);
-    }
-    Reason::Twice(read, element)
-}
-
-/// Returns whether the reader appends the element to the list of the key after the read.
-fn appends_later(transactions: &[Transaction], key: u64, read: Read, element: u64) -> bool {
-    let Some(transaction) = transactions.get(read.transaction as usize) else {
-        return false;
-    };
-    let Some(later) = transaction.operations.get(read.step..) else {
-        return false;
-    };
-    later
-        .iter()
-        .any(|operation| is_append_of(operation, key, element))
-}
-
-fn is_append_of(operation: &Operation, key: u64, element: u64) -> bool {
-    match operation {
-        Operation::Append {
-            key: to,
-            element: x,
-        } => *to == key && *x == element,
-        Operation::Read { .. } | Operation::LostRead { .. } => false,
-    }
-}
-
-/// The reason for a list that ends within a block.
-fn cut(transactions: &[Transaction], line: &Line, read: Read, length: usize) -> Reason {
-    let last = length.saturating_sub(1);
-    let writer = line.writer_at(last).unwrap_or(read.transaction);
-    if writer == read.transaction {
-        let element = line.chain.get(last).copied().unwrap_or(0);
-        return too_early(transactions, line.key, read, element);
-    }
-    Reason::Intermediate(read, writer)
-}
-
-fn aborted(transactions: &[Transaction], place: u32) -> bool {
-    match transactions.get(place as usize) {
-        Some(transaction) => transaction.outcome == Outcome::Aborted,
-        None => true,
     }
 }
 
@@ -451,24 +381,4 @@ fn first_appends(operations: &[Operation]) -> u16 {
         }
     }
     bits
-}
-
-/// The reason for a list that has an element of the writer where its block should stand.
-fn not_whole(alloc: Global, read: Read, base: &[u64], writer: u32) -> Result<Reason, AllocError> {
-    match repeated(alloc, base)? {
-        Some(again) => Ok(Reason::Twice(read, again)),
-        None => Ok(Reason::Intermediate(read, writer)),
-    }
-}
-
-/// Returns an element that stands twice in the list.
-fn repeated(alloc: Global, elements: &[u64]) -> Result<Option<u64>, AllocError> {
-    let mut sorted = Vec::from_slice(alloc, elements)?;
-    sorted.sort_unstable();
-    for i in 1..sorted.len() {
-        if sorted[i - 1] == sorted[i] {
-            return Ok(Some(sorted[i]));
-        }
-    }
-    Ok(None)
 }

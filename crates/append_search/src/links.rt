@@ -61,21 +61,18 @@ impl Links<'_> {
         let mut before = None;
         'writers: for writer in &line.writers {
             if let Some(from) = before {
-                let kind = match line.tail {
-                    Some(tail) if tail.transaction == *writer => Kind::WriteRead(tail),
-                    _ => Kind::WriteWrite(line.source),
-                };
                 sink.take(Link {
                     from,
                     to: *writer,
-                    kind,
+                    kind: Kind::WriteWrite(line.source),
                 })?;
             }
             before = Some(*writer);
         }
         if let Some(from) = before {
             let kind = match line.tail {
-                Some(tail) => Kind::ReadWrite(tail),
+                Some(tail) if tail.is_shown => Kind::WriteWrite(tail.read),
+                Some(tail) => Kind::ReadWrite(tail.read),
                 None => Kind::WriteWrite(line.source),
             };
             let to = self.helper(number);
@@ -116,7 +113,8 @@ impl Links<'_> {
         Ok(())
     }
 
-    // From the helper to a transaction that appends to the key and whose elements nobody read. The kind is of no account.
+    // From the helper to a transaction that appends to the key and whose elements nobody read. The way through the helper is
+    // of the kind of the link to it.
     fn give_unseen<K: Sink>(
         &self,
         place: u32,
@@ -135,7 +133,7 @@ impl Links<'_> {
                         sink.take(Link {
                             from,
                             to: place,
-                            kind: Kind::ReadWrite(read),
+                            kind: Kind::WriteWrite(read),
                         })?;
                     }
                 }

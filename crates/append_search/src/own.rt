@@ -15,15 +15,20 @@ struct Own {
     appends: bool,
     /// What it has appended so far.
     appended: Vec<u64>,
-    /// Which reading its first read of the list is.
-    reading: Option<usize>,
+    /// Its first read of the list.
+    first: Option<First>,
 }
 
-/// The first read of a key, and which reading it is.
+/// The first read of a key.
 #[derive(Clone, Copy)]
-struct First {
-    key: u64,
-    reading: usize,
+pub(crate) struct First {
+    pub key: u64,
+    /// Its place among the steps.
+    pub step: usize,
+    /// How many elements it returned before those that its own transaction had appended.
+    pub length: usize,
+    /// Which reading it is; none if it doesn't fit.
+    pub reading: Option<usize>,
 }
 
 /// What the transaction at hand does, by key. One of few steps is gone through for each key, a long one has a table.
@@ -76,7 +81,7 @@ impl Owns {
             self.by_key.entry(key)?.or_insert(Own {
                 appends: false,
                 appended: Vec::new(self.alloc),
-                reading: None,
+                first: None,
             }),
         )
     }
@@ -117,21 +122,20 @@ impl Owns {
         }
     }
 
-    /// Returns which reading the first read of the key is, if there was one.
-    pub fn first(&self, key: u64) -> Option<usize> {
+    /// Returns the first read of the key, if there was one.
+    pub fn first(&self, key: u64) -> Option<First> {
         if !self.is_long {
-            let first = self.firsts.iter().find(|first| first.key == key)?;
-            return Some(first.reading);
+            return self.firsts.iter().find(|first| first.key == key).copied();
         }
-        self.by_key.get(&key)?.reading
+        self.by_key.get(&key)?.first
     }
 
-    /// Notes which reading the first read of the key is.
-    pub fn set_first(&mut self, key: u64, reading: usize) -> Result<(), AllocError> {
+    /// Notes the first read of a key.
+    pub fn set_first(&mut self, first: First) -> Result<(), AllocError> {
         if self.is_long {
-            self.in_table(key)?.reading = Some(reading);
+            self.in_table(first.key)?.first = Some(first);
         } else {
-            self.firsts.push(First { key, reading })?;
+            self.firsts.push(first)?;
         }
         Ok(())
     }

@@ -20,3 +20,4 @@ pub use history::{History, Label};
 pub use name::{Name, Names};
 pub use read_fault::{Place, Problem, ReadFault};
 pub use reading::{read_edn, read_history, read_json};
+pub use text_form::TextForm;

@@ -10,7 +10,7 @@ use crate::data::is_text;
 
 /// What a text is written in.
 #[derive(Clone, Copy, Debug, PartialEq, Eq)]
-pub(crate) enum TextForm {
+pub enum TextForm {
     /// EDN.
     Edn,
     /// JSON.

@@ -8,6 +8,6 @@ mod reason;
 mod steps;
 mod transaction;
 
-pub use reason::{Kind, Link, Read, Reason};
-pub use steps::appended;
+pub use reason::{Counted, Kind, Link, Read, Reason};
+pub use steps::{appended, effects};
 pub use transaction::{Operation, Outcome, Transaction};

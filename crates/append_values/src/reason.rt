@@ -44,6 +44,9 @@ pub enum Reason {
     Twice(Read, u64),
     /// The read returned an element that nobody appended, or only aborted transactions: an aborted read (G1a).
     Unwritten(Read, u64),
+    /// The read returned the first element, which only aborted transactions appended, and later the second one, which a
+    /// committed transaction appended: the committed one built on the aborted one (a dirty update).
+    DirtyUpdate(Read, u64, u64),
     /// The read returned an element that its own transaction appended only afterwards.
     Future(Read, u64),
     /// The read returned an element of this transaction, which didn't abort, and not all that this one appended, side by
@@ -54,4 +57,13 @@ pub enum Reason {
     /// Each of these has to come before the next one, and the last before the first. Each is there once, and none of them
     /// aborted.
     Cycle(Vec<Link>),
+}
+
+/// A reason, and how many of its kind were found in the history.
+#[derive(Drop)]
+pub struct Counted {
+    /// One of them.
+    pub reason: Reason,
+    /// How many there are.
+    pub times: u64,
 }

@@ -2,12 +2,22 @@
 
 ghost use Rattle.std.specs.Prelude.{◌≡◌, map, IfOk};
 ghost use Rattle.std.specs.List.{filter_map};
-ghost use Rattle.append_values.specs.Meaning.Histories.{operation_of};
+ghost use Rattle.append_values.specs.Meaning.Histories.{operation_of, transaction_of, effects_of};
 ghost use Rattle.append_values.specs.Meaning.Reads.{appended};
 ghost use Rattle.append_values.specs.Machinery.Appended.{appended_by};
 
-use crate::transaction::Operation;
+use crate::transaction::{Operation, Outcome, Transaction};
 use std::alloc::{AllocError, Global};
+
+/// Returns the steps that have an effect: those of the transaction, or none if it aborted.
+pub fn effects(transaction: &Transaction) -> &[Operation]
+    ensures { map operation_of result.now ≡ effects_of (transaction_of transaction.entry.now) }
+{
+    match transaction.outcome {
+        Outcome::Committed | Outcome::Unknown => transaction.operations.as_slice(),
+        Outcome::Aborted => &[],
+    }
+}
 
 /// Returns what these steps append to the list of the key, in order; `AllocError` if memory runs out.
 pub fn appended(alloc: Global, key: u64, operations: &[Operation]) -> Result<Vec<u64>, AllocError>

@@ -23,6 +23,7 @@ pub(crate) fn command_line<'a>(alloc: Global) -> Result<Command<'a>, AllocError>
     let command = command.arg(file(alloc))?;
     let command = command.arg(format(alloc))?;
     let command = command.arg(order(alloc))?;
+    let command = command.arg(dot(alloc))?;
     command.arg(json(alloc))
 }
 
@@ -44,6 +45,14 @@ fn order<'a>(alloc: Global) -> Arg<'a> {
         .value_name("ORDER")
         .action(ArgAction::Set)
         .help("The file for the order that was found: the index of each transaction, one a line")
+}
+
+fn dot<'a>(alloc: Global) -> Arg<'a> {
+    Arg::new(alloc, "dot")
+        .long("dot")
+        .value_name("DOT")
+        .action(ArgAction::Set)
+        .help("The file for the cycle that was found, if one decides: a drawing for Graphviz")
 }
 
 fn json<'a>(alloc: Global) -> Arg<'a> {

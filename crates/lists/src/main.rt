@@ -1,11 +1,10 @@
 //! The program `lists`: reads a list-append history and says whether an order of the transactions explains it.
 #![tactic(auto)]
 
-mod answer;
 mod arguments;
-mod cast;
-mod explanation;
-mod page;
+mod hint;
+mod late_file;
+mod spot;
 mod tasks;
 
 use progress::Progress;

@@ -1,43 +1,29 @@
 //! What the program does.
 
-use crate::answer::{in_json, in_words};
 use crate::arguments::command_line;
-use append_check::{Verdict, check};
-use append_text::{History, ReadFault, read_edn, read_history, read_json};
+use crate::hint;
+use crate::late_file::LateFile;
+use append_text::TextForm;
 use clap::{ArgMatches, Error};
-use devices::{Source, Watched, put, put_number};
+use devices::{Source, Watched};
+use lists_cli::{Answered, Basis, Fault, Shape, judge};
 use lists_verdicts::Status;
 use progress::{Counted, Progress, Reporter};
 use std::alloc::{AllocError, Global};
 use std::env::Args;
 use std::fs::Files;
-use std::io::{BufWriter, Write};
+use std::io::ErrorKind;
 use std::rt::{Env, Runtime};
 use std::{env, fs, io};
 
-/// The most transactions of a history.
-const MOST: usize = 2147483647;
-
-/// Why the program has no answer.
-enum Fault<'a> {
-    /// Reading this file or stream failed.
-    Read(&'a str),
-    /// Writing to this file or stream failed.
-    Write(&'a str),
-    /// The text is that of no history.
-    Text(ReadFault),
-    /// The form is neither `edn` nor `json`.
-    Form,
-    /// The history has too many transactions.
-    Many,
-    /// Memory ran out.
-    Memory,
-}
-
-impl From<AllocError> for Fault<'_> {
-    fn from(_: AllocError) -> Self {
-        Fault::Memory
-    }
+/// What is done with an input.
+#[derive(Clone, Copy)]
+struct Task<'a> {
+    form: Option<TextForm>,
+    shape: Shape,
+    /// The file for the order, and the one for the drawing.
+    order: Option<&'a str>,
+    drawing: Option<&'a str>,
 }
 
 /// Does what the arguments ask for, and prints a fault on standard error. If the progress is shown, and the work takes
@@ -48,16 +34,13 @@ pub fn run<R: Runtime + AllocGlobal>(rt: &R, progress: Progress) -> Status {
         return Status::Wrong;
     };
     let Ok(arguments) = listed(rt.alloc(), arguments) else {
-        return failed(rt, Fault::Memory);
+        return out_of_memory(rt);
     };
     let Ok(command) = command_line(rt.alloc()) else {
-        return failed(rt, Fault::Memory);
+        return out_of_memory(rt);
     };
     match command.try_get_matches_from(&arguments) {
-        Ok(given) => match answered(rt, &given, progress) {
-            Ok(status) => status,
-            Err(fault) => failed(rt, fault),
-        },
+        Ok(given) => judged(rt, &given, progress),
         Err(text) => printed(rt, &text),
     }
 }
@@ -70,121 +53,75 @@ fn listed(alloc: Global, arguments: Args) -> Result<Vec<String>, AllocError> {
     Ok(listed)
 }
 
-fn answered<'a, R: Runtime + AllocGlobal>(
-    rt: &'a R,
-    given: &ArgMatches<'a>,
-    progress: Progress,
-) -> Result<Status, Fault<'a>> {
-    let mut reporter = Reporter::new(rt, "lists", progress);
-    let history = match given.get_str("FILE") {
-        Some(path) => {
-            let Ok(file) = fs::open(rt, path) else {
-                return Err(Fault::Read(path));
-            };
-            read(
-                rt.alloc(),
-                &mut Watched::new(Counted::new(&mut reporter, file)),
-                path,
-                given.get_str("format"),
-            )?
+/// Reads the file that is named, or standard input, and answers.
+fn judged<R: Runtime + AllocGlobal>(rt: &R, given: &ArgMatches<'_>, progress: Progress) -> Status {
+    let form = match given.get_str("format") {
+        None => None,
+        Some("edn") => Some(TextForm::Edn),
+        Some("json") => Some(TextForm::Json),
+        Some(_) => {
+            let _ = eprintln!(rt; "lists: the form is `edn` or `json`");
+            return Status::Wrong;
         }
+    };
+    let task = Task {
+        form,
+        shape: if given.get_flag("json") {
+            Shape::Json
+        } else {
+            Shape::Words
+        },
+        order: given.get_str("order"),
+        drawing: given.get_str("dot"),
+    };
+    let mut reporter = Reporter::new(rt, "lists", progress);
+    match given.get_str("FILE") {
+        Some(path) => match fs::open(rt, path) {
+            Ok(file) => {
+                let mut input = Watched::new(Counted::new(&mut reporter, file));
+                answered(rt, &mut input, Some(path), task)
+            }
+            Err(e) => unread(rt, path, e.kind()),
+        },
         None => {
             let mut input = Watched::new(Counted::new(&mut reporter, rt.reader()));
-            read(rt.alloc(), &mut input, "stdin", given.get_str("format"))?
+            answered(rt, &mut input, None, task)
         }
-    };
-    if history.transactions.len() > MOST {
-        return Err(Fault::Many);
-    }
-    if history.passed_over > 0 {
-        let _ = eprintln!(rt;
-            "lists: {} operations are no transactions, and were passed over",
-            history.passed_over
-        );
-    }
-    reporter.transactions(history.transactions.len());
-    let verdict = check(rt.alloc(), history.transactions.as_slice())?;
-    if let (Verdict::Serializable(order), Some(path)) = (&verdict, given.get_str("order")) {
-        write_order(rt, path, &history, order.as_slice())?;
-    }
-    let mut output = Watched::new(io::writer(rt));
-    tell(
-        rt.alloc(),
-        &history,
-        &verdict,
-        given.get_flag("json"),
-        &mut output,
-    )
-}
-
-fn read<'a, S: Source>(
-    alloc: Global,
-    source: &mut S,
-    path: &'a str,
-    form: Option<&str>,
-) -> Result<History, Fault<'a>> {
-    let found = match form {
-        None => read_history(alloc, source),
-        Some("edn") => read_edn(alloc, source),
-        Some("json") => read_json(alloc, source),
-        Some(_) => return Err(Fault::Form),
-    };
-    match found {
-        Ok(history) => Ok(history),
-        Err(ReadFault::Device) => Err(Fault::Read(path)),
-        Err(ReadFault::Memory) => Err(Fault::Memory),
-        Err(fault) => Err(Fault::Text(fault)),
     }
 }
 
-/// Writes the indexes of the transactions in this order, one a line.
-fn write_order<'a, R: Files + AllocGlobal>(
+fn answered<R: Runtime + AllocGlobal, S: Source>(
     rt: &R,
-    path: &'a str,
-    history: &History,
-    order: &[u32],
-) -> Result<(), Fault<'a>> {
-    let Ok(file) = fs::create(rt, path) else {
-        return Err(Fault::Write(path));
-    };
-    let Ok(buffered) = BufWriter::new(rt.alloc(), file) else {
-        return Err(Fault::Memory);
-    };
-    let mut out = Watched::new(buffered);
-    match put_order(history, order, &mut out) {
-        Ok(()) => Ok(()),
-        Err(_) => Err(Fault::Write(path)),
-    }
-}
-
-fn put_order<W: Write>(history: &History, order: &[u32], out: &mut Watched<W>) -> io::Result<()> {
-    for place in order {
-        if let Some(label) = history.labels.get(*place as usize) {
-            put_number(label.index, out)?;
-            put(b"\n", out)?;
+    input: &mut S,
+    path: Option<&str>,
+    task: Task<'_>,
+) -> Status {
+    let mut order = Watched::new(LateFile::new(rt, task.order));
+    let mut drawing = Watched::new(LateFile::new(rt, task.drawing));
+    let mut output = Watched::new(io::writer(rt));
+    match judge(
+        rt.alloc(),
+        input,
+        task.form,
+        task.shape,
+        &mut order,
+        &mut drawing,
+        &mut output,
+    ) {
+        Ok(Answered { answer, basis }) => {
+            say_basis(rt, &basis);
+            answer.status()
         }
+        Err(fault) => failed(rt, fault, path, task),
     }
-    out.flush()
 }
 
-/// Writes the answer.
-fn tell<W: Write>(
-    alloc: Global,
-    history: &History,
-    verdict: &Verdict,
-    is_json: bool,
-    out: &mut Watched<W>,
-) -> Result<Status, Fault<'static>> {
-    let text = if is_json {
-        in_json(alloc, history, verdict)?
-    } else {
-        in_words(alloc, history, verdict)?
-    };
-    let written = put(text.as_slice(), out);
-    if written.is_err() || out.flush().is_err() {
-        return Err(Fault::Write("stdout"));
-    }
-    Ok(Status::of_verdict(verdict))
+/// Says on standard error what the answer rests on.
+fn say_basis<R: Eprint>(rt: &R, basis: &Basis) {
+    let _ = eprintln!(rt;
+        "lists: rests on {} transactions ok, {} info, {} fail; {} reads of {} elements; {} operations passed over",
+        basis.ok, basis.info, basis.fail, basis.reads, basis.elements, basis.passed_over
+    );
 }
 
 // Help is an answer. Whatever else the parser prints is about wrong arguments.
@@ -195,21 +132,57 @@ fn printed<R: Print + Eprint>(rt: &R, text: &Error) -> Status {
     }
     match done {
         Ok(()) => Status::Fine,
-        Err(_) => failed(rt, Fault::Write("stdout")),
+        Err(_) => {
+            let _ = eprintln!(rt; "lists: write fault: stdout");
+            Status::Failed
+        }
     }
 }
 
-fn failed<R: Eprint>(rt: &R, fault: Fault<'_>) -> Status {
-    let (_, status) = match fault {
-        Fault::Read(path) => (eprintln!(rt; "lists: read fault: {path}"), Status::Failed),
-        Fault::Write(path) => (eprintln!(rt; "lists: write fault: {path}"), Status::Failed),
-        Fault::Text(fault) => (eprintln!(rt; "lists: {fault}"), Status::Wrong),
-        Fault::Form => (
-            eprintln!(rt; "lists: the form is `edn` or `json`"),
-            Status::Wrong,
-        ),
-        Fault::Many => (eprintln!(rt; "lists: too many transactions"), Status::Wrong),
-        Fault::Memory => (eprintln!(rt; "lists: memory"), Status::Failed),
+fn out_of_memory<R: Eprint>(rt: &R) -> Status {
+    let _ = eprintln!(rt; "lists: memory");
+    Status::Failed
+}
+
+fn failed<R: Files + Eprint + AllocGlobal>(
+    rt: &R,
+    fault: Fault,
+    input: Option<&str>,
+    task: Task<'_>,
+) -> Status {
+    match fault {
+        Fault::Text { place, problem } => {
+            hint::say(rt, input.unwrap_or("/dev/stdin"), place, problem);
+            Status::Wrong
+        }
+        Fault::Many => {
+            let _ = eprintln!(rt; "lists: too many transactions");
+            Status::Wrong
+        }
+        Fault::Read => {
+            let _ = eprintln!(rt; "lists: read fault: {}", input.unwrap_or("stdin"));
+            Status::Failed
+        }
+        Fault::Order => unwritten(rt, task.order.unwrap_or("order")),
+        Fault::Drawing => unwritten(rt, task.drawing.unwrap_or("drawing")),
+        Fault::Write => unwritten(rt, "stdout"),
+        Fault::Memory => out_of_memory(rt),
+    }
+}
+
+fn unread<R: Eprint>(rt: &R, path: &str, kind: ErrorKind) -> Status {
+    let reason = match kind {
+        ErrorKind::NotFound => "there is no such file",
+        ErrorKind::NotADirectory => "a part of the path is not a folder",
+        ErrorKind::PermissionDenied => "permission denied",
+        ErrorKind::InvalidFilename => "a name in the path is too long",
+        _ => "it can't be opened",
     };
-    status
+    let _ = eprintln!(rt; "lists: read fault: {path}: {reason}");
+    Status::Failed
+}
+
+fn unwritten<R: Eprint>(rt: &R, name: &str) -> Status {
+    let _ = eprintln!(rt; "lists: write fault: {name}");
+    Status::Failed
 }

@@ -14,24 +14,28 @@ pub enum Phenomenon {
     /// A second read of a transaction found something else than its first one.
     Unrepeatable,
     /// A read found an element twice.
-    Twice,
+    DuplicateElements,
     /// A read found an element that nobody appended.
     Unwritten,
     /// A read found an element of an aborted transaction: G1a.
     AbortedRead,
+    /// A read found an element of an aborted transaction before one of a committed one.
+    DirtyUpdate,
     /// A read found an element before its own transaction appended it.
     Future,
     /// A read found a part of what a transaction appended: G1b.
     IntermediateRead,
     /// Two transactions left lists of which neither begins with the other.
-    Incompatible,
+    IncompatibleOrder,
+    /// Two transactions read the same list, and both appended to it.
+    LostUpdate,
     /// A cycle of write dependencies: G0.
     WriteCycle,
     /// A cycle of write and read dependencies: G1c.
     InformationCycle,
     /// A cycle with one anti-dependency: G-single.
     SingleAntiDependency,
-    /// A cycle with more anti-dependencies than one: G2.
+    /// A cycle with more anti-dependencies than one: G2-item, since a read names one key and no predicate.
     AntiDependencies,
 }
 
@@ -44,33 +48,81 @@ impl Phenomenon {
         match reason {
             Reason::Internal(_) => Phenomenon::Internal,
             Reason::Unrepeatable(_, _) => Phenomenon::Unrepeatable,
-            Reason::Twice(_, _) => Phenomenon::Twice,
+            Reason::Twice(_, _) => Phenomenon::DuplicateElements,
             Reason::Unwritten(read, element) => of_unwritten(transactions, *read, *element),
+            Reason::DirtyUpdate(_, _, _) => Phenomenon::DirtyUpdate,
             Reason::Future(_, _) => Phenomenon::Future,
             Reason::Intermediate(_, _) => Phenomenon::IntermediateRead,
-            Reason::Incompatible(_, _) => Phenomenon::Incompatible,
+            Reason::Incompatible(one, other) => of_incompatible(transactions, *one, *other),
             Reason::Cycle(links) => of_cycle(links.as_slice()),
         }
     }
 
-    /// Returns the name: that of Adya if it has one there.
+    /// Returns the name: that of Adya or of Elle if it has one there.
     pub fn name(self) -> &'static str
         ensures { result.now ≡ Spec.name_of self }
     {
         match self {
             Phenomenon::Internal => "internal",
             Phenomenon::Unrepeatable => "unrepeatable",
-            Phenomenon::Twice => "twice",
+            Phenomenon::DuplicateElements => "duplicate elements",
             Phenomenon::Unwritten => "unwritten",
             Phenomenon::AbortedRead => "G1a",
+            Phenomenon::DirtyUpdate => "dirty update",
             Phenomenon::Future => "future",
             Phenomenon::IntermediateRead => "G1b",
-            Phenomenon::Incompatible => "incompatible",
+            Phenomenon::IncompatibleOrder => "incompatible order",
+            Phenomenon::LostUpdate => "lost update",
             Phenomenon::WriteCycle => "G0",
             Phenomenon::InformationCycle => "G1c",
             Phenomenon::SingleAntiDependency => "G-single",
-            Phenomenon::AntiDependencies => "G2",
+            Phenomenon::AntiDependencies => "G2-item",
         }
+    }
+
+    /// Returns what one instance is called. More of them get an `s` at the end.
+    pub fn noun(self) -> &'static str
+        ensures { result.now ≡ Spec.noun_of self }
+    {
+        match self {
+            Phenomenon::Internal => "internal read",
+            Phenomenon::Unrepeatable => "unrepeatable read",
+            Phenomenon::DuplicateElements => "duplicate read",
+            Phenomenon::Unwritten => "unwritten read",
+            Phenomenon::AbortedRead => "aborted read",
+            Phenomenon::DirtyUpdate => "dirty update",
+            Phenomenon::Future => "future read",
+            Phenomenon::IntermediateRead => "intermediate read",
+            Phenomenon::IncompatibleOrder => "incompatible order",
+            Phenomenon::LostUpdate => "lost update",
+            Phenomenon::WriteCycle => "write cycle",
+            Phenomenon::InformationCycle => "circular information flow",
+            Phenomenon::SingleAntiDependency => "single anti-dependency cycle",
+            Phenomenon::AntiDependencies => "anti-dependency cycle",
+        }
+    }
+}
+
+fn of_incompatible(transactions: &[Transaction], one: Read, other: Read) -> Phenomenon
+    ensures { result ≡ Spec.of_incompatible transactions.now one other }
+{
+    if elements_read(transactions, one) == elements_read(transactions, other) {
+        Phenomenon::LostUpdate
+    } else {
+        Phenomenon::IncompatibleOrder
+    }
+}
+
+/// Returns what the read returned: nothing, if there is none at this place.
+fn elements_read(transactions: &[Transaction], read: Read) -> &[u64]
+    ensures { result.now ≡ Spec.elements_read transactions.entry.now read }
+{
+    let Some(transaction) = transactions.get(read.transaction as usize) else {
+        return &[];
+    };
+    match transaction.operations.get(read.step) {
+        Some(Operation::Read { elements, .. }) => elements.as_slice(),
+        _ => &[],
     }
 }
 

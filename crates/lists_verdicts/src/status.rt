@@ -2,9 +2,8 @@
 
 ghost use Rattle.std.specs.Prelude.{◌≡◌};
 ghost use Rattle.std.specs.Process.{exit_status};
-ghost use Rattle.lists_verdicts.specs.Meaning.Status.{code_of, status_of};
+ghost use Rattle.lists_verdicts.specs.Meaning.Status.{code_of};
 
-use append_check::Verdict;
 use std::process::ExitCode;
 
 /// How the program ends, each with an exit status of its own.
@@ -12,24 +11,16 @@ use std::process::ExitCode;
 pub enum Status {
     /// 0: an order explains the history, or help was asked for.
     Fine,
-    /// 1: no order does, or an element is appended twice.
+    /// 1: no order explains the history.
     Refused,
     /// 2: the arguments are wrong, or the text is that of no history.
     Wrong,
     /// 3: reading or writing failed, or memory ran out.
     Failed,
-}
-
-impl Status {
-    /// The status of a verdict: `Fine` for an order, `Refused` for anything else.
-    pub fn of_verdict(verdict: &Verdict) -> Status
-        ensures { result ≡ status_of verdict.now }
-    {
-        match verdict {
-            Verdict::Serializable(_) => Status::Fine,
-            Verdict::NotSerializable(_) | Verdict::AppendedTwice { .. } => Status::Refused,
-        }
-    }
+    /// 4: no committed transaction has a step, so there is nothing to check.
+    Nothing,
+    /// 5: the workload appended an element twice to one key, so that nobody can tell who wrote what was read.
+    Workload,
 }
 
 impl From<Status> for ExitCode {
@@ -41,6 +32,8 @@ impl From<Status> for ExitCode {
             Status::Refused => ExitCode::from(1),
             Status::Wrong => ExitCode::from(2),
             Status::Failed => ExitCode::from(3),
+            Status::Nothing => ExitCode::from(4),
+            Status::Workload => ExitCode::from(5),
         }
     }
 }

@@ -1,6 +1,6 @@
 -- What the table of appenders says of the transactions that it was made of.
 use Rattle.std.specs.Prelude.{◌≡◌, ◌+◌, ◌<◌, ◌==◌, ℕ, Bool, ◌&&◌, List, Option, Some, None, Contains, take, flat_map, count_by}
-use Rattle.append_values.specs.Meaning.Histories.{Operation, Transaction, History}
+use Rattle.append_values.specs.Meaning.Histories.{Operation, Transaction, effects_of, History}
 use Rattle.append_values.specs.Meaning.Reads.{appended, own, AppendersDiffer, AppendsOnce}
 use Rattle.append_check.specs.declared.item.Item.{Item}
 use Rattle.append_check.specs.declared.appenders.Made.{Made}
@@ -23,7 +23,7 @@ count_in k x os = count_by (λ y. y == x) (appended k os)
 
 -- what all of these transactions append to the list of the key
 abbrev pub all_appended : ℕ → History → List ℕ
-all_appended k h = flat_map (λ (t : Transaction). appended k t.operations) h
+all_appended k h = flat_map (λ (t : Transaction). appended k (effects_of t)) h
 
 -- the function has each element that the first transactions append once, and the transaction that appends it
 pub record Tells (table : Item → Option ℕ) (h : History) (n : ℕ) : Type 0 where

@@ -1,6 +1,5 @@
 -- What explaining a list-append history implies, and what implies it.
 use Rattle.std.specs.Prelude.{◌≡◌, ◌≢◌, ◌<◌, ◌==◌, ◌↔◌, ℕ, List, ◌∷◌, ◌++◌, Contains, count_by, flat_map}
-use Rattle.append_values.specs.declared.transaction.Outcome.TheVariants.{Aborted}
 use Rattle.append_values.specs.Meaning.Histories.{Operation, Read, History, outcome}
 use Rattle.append_values.specs.Meaning.Runs.{Occurs, Explains}
 use Rattle.append_values.specs.Meaning.Reads.{appended, own, HasRead, left, AppendersDiffer, AppendsOnce, IsPrefixOf}
@@ -40,10 +39,10 @@ ExplainsExactly = (h : History) (ts : List ℕ) → AppendersDiffer h → Append
     × ((u v : ℕ) → Precedes h u v → IsBefore ts u v)
     × AreWhole h)
 
--- a read returned an element that no transaction appended but aborted ones
+-- a read returned an element that no transaction appended, or only aborted ones
 abbrev pub UnwrittenRefutes : Type 0
 UnwrittenRefutes = (h : History) (t k x : ℕ) (xs : List ℕ) (before : List Operation) → HasRead h t k xs before → Contains xs x
-    → ((u : ℕ) → Contains (own h k u) x → outcome h u ≡ Aborted) → HasNoOrder h
+    → ((u : ℕ) → Contains (own h k u) x → ⊥) → HasNoOrder h
 
 -- two reads of a key returned lists of which neither begins with the other
 abbrev pub IncompatibleRefutes : Type 0

@@ -1,7 +1,7 @@
 -- What single reads of a history say.
 use Rattle.std.specs.Prelude.{◌≡◌, ℕ, ◌==◌, ◌≤◌, if◌then◌else◌, List, [], ◌∷◌, ◌++◌, Contains, count_by}
 use Rattle.append_values.specs.declared.transaction.Outcome.TheVariants.{Committed}
-use Rattle.append_values.specs.Meaning.Histories.{Operation, Append, Read, LostRead, History, outcome, operations}
+use Rattle.append_values.specs.Meaning.Histories.{Operation, Append, Read, LostRead, History, outcome, operations, effects}
 
 -- the elements that these steps append to the list of the key, in order
 abbrev pub appended : ℕ → List Operation → List ℕ
@@ -10,9 +10,9 @@ appended k (Append j x ∷ os) = if j == k then x ∷ appended k os else appende
 appended k (Read j xs ∷ os) = appended k os
 appended k (LostRead j ∷ os) = appended k os
 
--- what the transaction appends to the list of the key
+-- what the transaction appends to the list of the key. What an aborted one appended has no effect, so it is none
 abbrev pub own : History → ℕ → ℕ → List ℕ
-own h k t = appended k (operations h t)
+own h k t = appended k (effects h t)
 
 -- the committed transaction read these elements of the key, after those steps of its own
 pub record HasRead (h : History) (t k : ℕ) (xs : List ℕ) (before : List Operation) : Type 0 where

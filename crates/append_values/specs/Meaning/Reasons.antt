@@ -1,13 +1,13 @@
 -- Why no order explains a history.
 use Rattle.std.specs.Prelude.{◌≡◌, ◌≢◌, ◌<◌, ◌≤◌, ◌==◌, ◌⊎◌, ℕ, List, [], ◌∷◌, ◌++◌, Contains, count_by, length}
-use Rattle.append_values.specs.declared.transaction.Outcome.TheVariants.{Aborted}
+use Rattle.append_values.specs.declared.transaction.Outcome.TheVariants.{Committed, Aborted}
 use Rattle.append_values.specs.declared.reason.Read.{Read}
 use Rattle.append_values.specs.declared.reason.Link.{Link}
 use Rattle.append_values.specs.declared.reason.Kind.{Kind}
 use Rattle.append_values.specs.declared.reason.Kind.TheVariants as By
 use Rattle.append_values.specs.declared.reason.Reason.{Reason}
-use Rattle.append_values.specs.declared.reason.Reason.TheVariants.{Internal, Unrepeatable, Twice, Unwritten, Future, Intermediate, Incompatible, Cycle}
-use Rattle.append_values.specs.Meaning.Histories.{Operation, Read as ReadOf, History, outcome}
+use Rattle.append_values.specs.declared.reason.Reason.TheVariants.{Internal, Unrepeatable, Twice, Unwritten, DirtyUpdate, Future, Intermediate, Incompatible, Cycle}
+use Rattle.append_values.specs.Meaning.Histories.{Operation, Read as ReadOf, History, outcome, operations}
 use Rattle.append_values.specs.Meaning.Runs.{Explains}
 use Rattle.append_values.specs.Meaning.Reads.{appended, own, HasRead, left, IsPrefixOf}
 
@@ -97,10 +97,14 @@ Holds h (Unrepeatable first second) = (r : IsRead h first) × (s : IsRead h seco
     × (second.transaction ≡ first.transaction) × (s.key ≡ r.key) × (s.before ≡ r.before ++ ReadOf r.key r.elements ∷ between)
     × (r.elements ++ appended r.key between ≡ s.elements → ⊥)
 Holds h (Twice read x) = (r : IsRead h read) × (1 < count_by (λ y. y == x) r.elements)
-Holds h (Unwritten read x) = (r : IsRead h read) × Contains r.elements x × ((u : ℕ) → Contains (own h r.key u) x → outcome h u ≡ Aborted)
+Holds h (Unwritten read x) = (r : IsRead h read) × Contains r.elements x × ((u : ℕ) → Contains (own h r.key u) x → ⊥)
+Holds h (DirtyUpdate read x y) = (r : IsRead h read) × (front : List ℕ) × (back : List ℕ) × (r.elements ≡ front ++ y ∷ back)
+    × Contains front x × ((u : ℕ) → Contains (own h r.key u) x → ⊥)
+    × ((u : ℕ) × (outcome h u ≡ Aborted) × Contains (appended r.key (operations h u)) x)
+    × ((u : ℕ) × (outcome h u ≡ Committed) × Contains (own h r.key u) y)
 Holds h (Future read x) = (r : IsRead h read) × Contains r.elements x × Contains (appended r.key r.has_read.rest) x
 Holds h (Intermediate read u) = (r : IsRead h read) × (x : ℕ) × Contains r.elements x × Contains (own h r.key u) x × (u ≢ read.transaction)
-    × (outcome h u ≡ Aborted → ⊥) × ((front back : List ℕ) → r.elements ≡ front ++ (own h r.key u ++ back) → ⊥)
+    × ((front back : List ℕ) → r.elements ≡ front ++ (own h r.key u ++ back) → ⊥)
 Holds h (Incompatible one other) = (r : IsRead h one) × (s : IsRead h other) × (r.key ≡ s.key) × (one.transaction ≢ other.transaction)
     × (IsPrefixOf (left h one.transaction r.key r.elements r.before r.has_read) (left h other.transaction s.key s.elements s.before s.has_read) → ⊥)
     × (IsPrefixOf (left h other.transaction s.key s.elements s.before s.has_read) (left h one.transaction r.key r.elements r.before r.has_read) → ⊥)

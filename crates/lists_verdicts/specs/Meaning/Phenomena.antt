@@ -1,6 +1,7 @@
 -- What a reason is an instance of (Adya 1999, sections 3.1 and 4.2).
-use Rattle.std.specs.Prelude.{ℕ, zero, suc, ◌==◌, ◌&&◌, Bool, true, false, List, Option, Some, None, count_by, slice_get, codes, if◌then◌else◌}
+use Rattle.std.specs.Prelude.{ℕ, zero, suc, nat_eq, ◌==◌, ◌&&◌, Bool, true, false, List, [], Option, Some, None, count_by, slice_get, codes, if◌then◌else◌}
 use Rattle.std.specs.List.{list_any}
+use Rattle.std.specs.Cmp.Lexicographic.{pointwise}
 use Rattle.append_values.specs.declared.transaction.Outcome.{Outcome}
 use Rattle.append_values.specs.declared.transaction.Outcome.TheVariants.{Committed, Aborted, Unknown}
 use Rattle.append_values.specs.declared.transaction.Operation.{Operation}
@@ -68,6 +69,19 @@ step_of (Some t) step = slice_get t.operations.items step
 abbrev pub key_read : List Transaction → Read → Option ℕ
 key_read ts read = key_of (step_of (slice_get ts read.transaction) read.step)
 
+abbrev pub elements_of : Option Operation → List ℕ
+elements_of None = []
+elements_of (Some (ReadOf k xs)) = xs.items
+elements_of (Some (Append k x)) = []
+elements_of (Some (LostRead k)) = []
+
+abbrev pub elements_read : List Transaction → Read → List ℕ
+elements_read ts read = elements_of (step_of (slice_get ts read.transaction) read.step)
+
+-- if both found the same list, one lost the other's update. Else the lists themselves have no common order
+abbrev pub of_incompatible : List Transaction → Read → Read → Phenomenon
+of_incompatible ts one other = if pointwise nat_eq (elements_read ts one) (elements_read ts other) then It.LostUpdate else It.IncompatibleOrder
+
 -- an element that an aborted transaction appended to the key that was read, or nobody
 abbrev pub of_append : List Transaction → Option ℕ → ℕ → Phenomenon
 of_append ts None element = It.Unwritten
@@ -79,26 +93,46 @@ of_unwritten ts read element = of_append ts (key_read ts read) element
 abbrev pub phenomenon_of : List Transaction → Reason → Phenomenon
 phenomenon_of ts (For.Internal read) = It.Internal
 phenomenon_of ts (For.Unrepeatable first second) = It.Unrepeatable
-phenomenon_of ts (For.Twice read element) = It.Twice
+phenomenon_of ts (For.Twice read element) = It.DuplicateElements
 phenomenon_of ts (For.Unwritten read element) = of_unwritten ts read element
+phenomenon_of ts (For.DirtyUpdate read aborted element) = It.DirtyUpdate
 phenomenon_of ts (For.Future read element) = It.Future
 phenomenon_of ts (For.Intermediate read writer) = It.IntermediateRead
-phenomenon_of ts (For.Incompatible one other) = It.Incompatible
+phenomenon_of ts (For.Incompatible one other) = of_incompatible ts one other
 phenomenon_of ts (For.Cycle links) = of_cycle links.items
 
 abbrev pub name_of : Phenomenon → List ℕ
 name_of It.Internal = codes "internal"
 name_of It.Unrepeatable = codes "unrepeatable"
-name_of It.Twice = codes "twice"
+name_of It.DuplicateElements = codes "duplicate elements"
 name_of It.Unwritten = codes "unwritten"
 name_of It.AbortedRead = codes "G1a"
+name_of It.DirtyUpdate = codes "dirty update"
 name_of It.Future = codes "future"
 name_of It.IntermediateRead = codes "G1b"
-name_of It.Incompatible = codes "incompatible"
+name_of It.IncompatibleOrder = codes "incompatible order"
+name_of It.LostUpdate = codes "lost update"
 name_of It.WriteCycle = codes "G0"
 name_of It.InformationCycle = codes "G1c"
 name_of It.SingleAntiDependency = codes "G-single"
-name_of It.AntiDependencies = codes "G2"
+name_of It.AntiDependencies = codes "G2-item"
+
+-- what one instance is called
+abbrev pub noun_of : Phenomenon → List ℕ
+noun_of It.Internal = codes "internal read"
+noun_of It.Unrepeatable = codes "unrepeatable read"
+noun_of It.DuplicateElements = codes "duplicate read"
+noun_of It.Unwritten = codes "unwritten read"
+noun_of It.AbortedRead = codes "aborted read"
+noun_of It.DirtyUpdate = codes "dirty update"
+noun_of It.Future = codes "future read"
+noun_of It.IntermediateRead = codes "intermediate read"
+noun_of It.IncompatibleOrder = codes "incompatible order"
+noun_of It.LostUpdate = codes "lost update"
+noun_of It.WriteCycle = codes "write cycle"
+noun_of It.InformationCycle = codes "circular information flow"
+noun_of It.SingleAntiDependency = codes "single anti-dependency cycle"
+noun_of It.AntiDependencies = codes "anti-dependency cycle"
 
 -- of a link, by its kind
 abbrev pub name_of_kind : Kind → List ℕ

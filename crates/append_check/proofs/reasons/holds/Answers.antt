@@ -10,6 +10,9 @@ returns-in-Twice c b = rw c.in-Twice.is (c.twice.ensures b)
 pub returns-in-Unwritten : goal.returns-in-Unwritten
 returns-in-Unwritten c b = rw c.in-Unwritten.is (c.unwritten.ensures b)
 
+pub returns-in-DirtyUpdate : goal.returns-in-DirtyUpdate
+returns-in-DirtyUpdate c b = rw c.in-DirtyUpdate.is (c.dirty_update.ensures b)
+
 pub returns-in-Future : goal.returns-in-Future
 returns-in-Future c = rw c.in-Future.is c.future.ensures
 

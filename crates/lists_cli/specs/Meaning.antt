@@ -1,0 +1,2 @@
+-- What an answer says.
+pub mod Answers
