@@ -46,3 +46,5 @@ pub mod RisingOpens
 pub mod Scans
 pub mod LimitedScans
 pub mod LastRows
+pub mod Refusals
+pub mod Stats
