@@ -1,0 +1,3 @@
+mod Ascii
+mod Entering
+mod Failing

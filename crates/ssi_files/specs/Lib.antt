@@ -1,0 +1,3 @@
+-- What the calls on files and on their folder were.
+pub mod Meaning
+pub mod Machinery

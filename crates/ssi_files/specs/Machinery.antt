@@ -1,0 +1,2 @@
+-- What a folder keeps of its calls.
+pub mod Folders

@@ -1,0 +1,14 @@
+-- A call as it is noted.
+use Rattle.std.specs.Prelude.{ℕ, ◌∷◌, List, slice_index, ◌==◌, if◌then◌else◌}
+use Rattle.sqlite_disk.specs.Events.{Event}
+
+-- Which call, an offset or a length, a count, whether it succeeded, and the bytes. A read that is tested has its key and its
+-- digest before the bytes.
+abbrev pub event_of : List ℕ → List ℕ → Event
+event_of numbers bytes = (
+  slice_index numbers 0,
+  slice_index numbers 1,
+  slice_index numbers 2,
+  slice_index numbers 3 == 1,
+  if slice_index numbers 0 == 6 then slice_index numbers 4 ∷ slice_index numbers 5 ∷ bytes else bytes,
+)

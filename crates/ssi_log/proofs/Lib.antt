@@ -1,0 +1,5 @@
+pub mod Filling
+pub mod Texts
+pub mod Standings
+pub mod Settled
+pub mod PiecesRead

@@ -1,0 +1,2 @@
+-- What the calls of a log may fail with.
+pub mod Faults
