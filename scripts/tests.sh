@@ -13,8 +13,10 @@ if [ -z "$program" ]; then
     given=()
     while read -r file; do
         given+=(--data "$file=data/$file")
-    done < <(cd data && find . -type f)
-    rt try --steps 1 --seconds 900 "${given[@]}" <stdin >"$work/written" 2>"$work/said" ||
+    done < <([ ! -d data ] || (cd data && find . -type f))
+    input=stdin
+    [ -e stdin ] || input=/dev/null
+    rt try --steps 1 --seconds 900 "${given[@]}" <"$input" >"$work/written" 2>"$work/said" ||
         { echo "status $?"; cat "$work/said"; } >"$work/failed"
 else
     runs=()
