@@ -4,9 +4,10 @@
     scripts/compare_edn.py [--write]
 
 scripts/edn_forms/table has what both make of each text: a row has the text as a JSON string, then what clojure.edn reads,
-and what the reader reads: `same`, or its own forms, or `refused`. The forms stand in a normal form: each number as its value, each character as its
-code point, the elements of a set and the entries of a map in an order of their own. A tag, and what it stands for, is no
-part of it. The reader runs without a proof, by `rt try`, in a copy of its crate; nothing has to be built before.
+and what the reader reads: `same`, or its own forms, or `refused`. The forms stand in a normal form: each number as its
+value, each character as its code point, the elements of a set and the entries of a map in an order of their own. A tag,
+and what it stands for, is no part of it. The reader gives a map with a namespace as it is written; its keys get the
+namespace here. The reader runs without a proof, by `rt try`, in a copy of its crate; nothing has to be built before.
 
 Without --write it checks that the reader still makes the same of each text as the table has it. With --write it asks both
 and writes the table anew; that takes the command `clojure` (of the Debian package of that name; version 1.11.1 wrote the
@@ -77,20 +78,39 @@ def plain(line, atom):
 
 def form_of(words, atom):
     word = words.pop()
-    if word not in ["(", "[", "#", "{"]:
+    if word not in ["(", "[", "#", "{", "#:"]:
         return atom(word)
-    forms = []
+    forms, heads = [], []
     while words[-1] != ")":
+        heads.append(words[-1])
         forms.append(form_of(words, atom))
     words.pop()
     if atom is reader_atom:
         forms.reverse()
     if word == "#":
         forms.sort()
+    if word == "#:":
+        word, forms = "{", within(heads[::-1], forms)
     if word == "{":
         forms = sorted(key + " " + value for key, value in zip(forms[::2], forms[1::2]))
     ends = {"(": ")", "[": "]", "#": "}", "{": "}"}
     return ("#{" if word == "#" else word) + " ".join(forms) + ends[word]
+
+
+def within(heads, forms):
+    """The keys and values of a map with a namespace, which is the first of its forms; with the first word of each form."""
+    namespace = heads[0][1:]
+    pairs = list(zip(heads[1:], forms[1:]))
+    return [key_within(namespace, *pair) if i % 2 == 0 else pair[1] for i, pair in enumerate(pairs)]
+
+
+def key_within(namespace, head, form):
+    if head[0] not in "ky":
+        return form
+    digits = head[1:]
+    if b"/" not in bytes.fromhex(digits)[1:]:
+        return of_text(head[0], namespace + b"/".hex() + digits)
+    return of_text(head[0], digits.removeprefix(b"_/".hex()))
 
 
 def number(value, mark=""):

@@ -62,6 +62,12 @@ check 'a part of what is appended before a read and after it, twice in it' \
     $'not serializable: duplicate elements\nT1 (index 1) read key 0 as [1 1], with 1 twice' \
     "$(said '[:r 0 [1 2]]' '[:append 0 1] [:r 0 [1 1]] [:append 0 2]')"
 
+# The first transaction shows by its own read that its element comes before that of the third, and the third one shows the
+# same of the first by its own.
+check 'a cycle of write dependencies that own reads alone show' 'not serializable: G0' \
+    "$(said '[:append 1 4] [:r 1 [4]] [:append 0 5]' '[:r 1 [4]] [:append 1 6] [:append 0 7]' \
+        '[:append 1 1] [:append 0 2] [:r 0 [2]] [:append 0 3]' | head -n 1)"
+
 # Each of 1,200 transactions saw the one before it, and the last one missed what the first one appended to x, but saw what it
 # appended to y. So there is a cycle through all of them, and one of two links.
 python3 - >long.edn <<'end'
@@ -95,6 +101,20 @@ for history in array.json object.json; do
     check "JSON as in $history" "$("$ssi" colons.json 2>/dev/null)" "$("$ssi" "$history" 2>/dev/null)"
 done
 
+# All operations of EDN may be in a list, as Clojure prints a sequence.
+for history in "$examples/write-skew.edn" "$examples/nothing.edn" "$examples/unknown-outcome.edn"; do
+    (echo '(' && cat "$history" && echo ')') >listed
+    check "$history in a list" "$("$ssi" "$history" 2>&1)" "$("$ssi" listed 2>&1)"
+done
+
+# In a map with a namespace, the keys have it that have none, and those with `_` have none.
+sed 's/^{/#:jepsen{/' "$examples/write-skew.edn" >within.edn
+check 'fields with the namespace of their map' \
+    $'nothing to check\nno transaction committed: 0 have an unknown outcome, and 0 failed\n2 operations were passed over because their `:f` isn\'t `:txn`' \
+    "$("$ssi" within.edn 2>/dev/null)"
+sed -i -E 's/:(type|f|value|process|index) /:_\/\1 /g' within.edn
+check 'fields without it' "$("$ssi" "$examples/write-skew.edn" 2>/dev/null)" "$("$ssi" within.edn 2>/dev/null)"
+
 # A byte order mark at the front is passed over.
 for history in "$examples/write-skew.edn" colons.json object.json; do
     printf '\xef\xbb\xbf' | cat - "$history" >marked
@@ -107,15 +127,18 @@ check 'the order of stale-read' $'3\n1' "$(cat order)"
 
 # The whole of an answer in JSON.
 check 'the order of stale-read in JSON' \
-    '{"answer":"serializable","order":[3,1],"rests_on":{"elements":0,"fail":0,"info":0,"ok":2,"passed_over":0,"reads":1}}' \
+    '{"answer":"serializable","order":[3,1],"rests_on":{"elements":0,"fail":0,"info":0,"ok":2,"passed_over":{"f":0,"process":0},"reads":1}}' \
     "$("$ssi" --json "$examples/stale-read.edn" 2>err)"
 check 'what the order of stale-read rests on' \
-    'lists: rests on 2 transactions ok, 0 info, 0 fail; 1 reads of 0 elements; 0 operations passed over' "$(cat err)"
+    'lists: rests on 2 transactions ok, 0 info, 0 fail; 1 reads of 0 elements; passed over 0 operations of another :f, 0 of another :process' "$(cat err)"
 check 'an empty text' $'out: nothing to check\nout: no transaction committed: 0 have an unknown outcome, and 0 failed' \
     "$(run </dev/null | head -n 2)"
 check 'why there is nothing to check' \
-    $'nothing to check\nno transaction committed: 1 have an unknown outcome, and 1 failed\n1 operations were passed over: their `:f` isn\'t `:txn`, or their `:process` is no integer' \
+    $'nothing to check\nno transaction committed: 1 have an unknown outcome, and 1 failed\n1 operations were passed over because their `:f` isn\'t `:txn`' \
     "$("$ssi" "$examples/nothing.edn" 2>/dev/null)"
+check 'operations of a process that is no integer' \
+    $'nothing to check\nno transaction committed: 0 have an unknown outcome, and 0 failed\n1 operations were passed over because their `:f` isn\'t `:txn`\n2 operations were passed over because their `:process` is no integer' \
+    "$(printf '{:f :start, :process :nemesis} {:type :ok, :f :txn, :value [], :process nil} {:type :ok, :f :txn}' | "$ssi" 2>/dev/null)"
 check 'no order if there is nothing to check' '' "$("$ssi" --order none "$examples/nothing.edn" >out 2>&1; ls none 2>/dev/null)"
 check 'no drawing without a cycle' '' "$("$ssi" --dot none "$examples/future.edn" >out 2>&1; ls none 2>/dev/null)"
 check 'a folder for the drawing' 'status 3' "$(run --dot folder "$examples/read-skew.edn" | tail -n 1)"
@@ -144,6 +167,9 @@ check 'a bracket that closes nothing' "line 1, column $(column "$bad" '}'): \`}\
 check 'no type' "line 1: an operation has a \`:type\`: \`:invoke\`, \`:ok\`, \`:fail\` or \`:info\`" "$(says '{:process 0, :f :txn}')"
 bad='{:process 0, :f :txn, :type :done}'
 check 'another type' "line 1, column $(column "$bad" :done): \`:done}\`: an operation has a \`:type\`: \`:invoke\`, \`:ok\`, \`:fail\` or \`:info\`" "$(says "$bad")"
+check 'an element of a list' 'element 1: an operation is a map' "$(says "($fine 7)\n")"
+check 'a list after an operation' 'element 0: an operation has a `:type`: `:invoke`, `:ok`, `:fail` or `:info`' \
+    "$(says "$fine\n({:process 0, :f :txn})\n")"
 check 'a text that is cut off' 'line 2: the text ends within a form' "$(says "$fine\n{:type :ok")"
 check 'a history.txt' $'line 1, column 1: `0 :invoke :txn [[:append 1 1]]`: an operation is a map\nthis is a history.txt: the history is in history.edn beside it' \
     "$(says '0\t:invoke\t:txn\t[[:append 1 1]]\n')"

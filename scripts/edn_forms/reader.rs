@@ -79,6 +79,7 @@ fn show(form: Form, depth: u32, out: &mut Vec<u8>) -> io::Result<()> {
         Kind::Vector(forms) => all("[", forms, depth, out)?,
         Kind::Set(forms) => all("#", forms, depth, out)?,
         Kind::Map(forms) => all("{", forms, depth, out)?,
+        Kind::NamespacedMap(forms) => all("#:", forms, depth, out)?,
     }
     Ok(())
 }

@@ -51,7 +51,7 @@ impl Links<'_> {
         self.transactions.saturating_add(small(line))
     }
 
-    // From each writer to the next one, and from the last one to the helper.
+    // From each writer to the next one, and from the last one and the last one that a read shows to the helper.
     fn give_line<K: Sink>(
         &self,
         line: &Line,
@@ -77,6 +77,28 @@ impl Links<'_> {
             };
             let to = self.helper(number);
             sink.take(Link { from, to, kind })?;
+        }
+        self.give_last_seen(line, number, sink)
+    }
+
+    // From the last writer that a read shows to the helper, if another one follows it.
+    fn give_last_seen<K: Sink>(
+        &self,
+        line: &Line,
+        number: usize,
+        sink: &mut K,
+    ) -> Result<(), AllocError> {
+        let seen = line.seen();
+        if seen < line.writers.len() {
+            if let Some(last) = seen.checked_sub(1) {
+                if let Some(from) = line.writers.get(last) {
+                    sink.take(Link {
+                        from: *from,
+                        to: self.helper(number),
+                        kind: Kind::WriteWrite(line.source),
+                    })?;
+                }
+            }
         }
         Ok(())
     }

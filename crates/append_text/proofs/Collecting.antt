@@ -1,10 +1,14 @@
 -- What a collector holds after one form more.
-use Rattle.std.proofs.Common.{◌≡◌, ◌⊎◌, ℕ, suc, ◌+◌, ◌-◌, ◌^◌, min, List, [], ◌∷◌, ◌++◌, length, map, Option, Some, None, refl, sym, ap, subst, ◌∙◌, inl, inr, arith, Result, Ok}
-use Rattle.std.proofs.lemmas.List.{length-append}
+use Rattle.std.proofs.Common.{◌≡◌, ◌⊎◌, ℕ, suc, ◌+◌, ◌-◌, ◌^◌, min, Bool, true, false, not, List, [], ◌∷◌, ◌++◌, length, map, Option, Some, None, refl, sym, ap, subst, ◌∙◌, inl, inr, arith, Result, Ok}
+use Rattle.std.specs.Prelude.{if◌then◌else◌}
+use Rattle.std.specs.List.{filter}
+use Rattle.std.proofs.lemmas.List.{append-nil, length-append}
+use Rattle.std.proofs.lemmas.List.Elements.{filter-append}
 use Rattle.edn.specs.Meaning.Forms.{Form}
 use Rattle.append_text.specs.declared.collector.Collector.{Collector}
 use Rattle.append_values.specs.Meaning.Histories.{transaction_of}
 use Rattle.append_text.specs.declared.history.History.{History}
+use Rattle.append_text.specs.declared.history.PassedOver.{PassedOver}
 use Rattle.append_text.specs.declared.name.Kept.{Kept}
 use Rattle.append_text.specs.declared.operation.Op.{Op as OpValue}
 use Rattle.append_text.specs.declared.read_fault.Problem.{Problem}
@@ -12,9 +16,9 @@ use Rattle.append_text.specs.declared.read_fault.Refusal.{Refusal}
 use Rattle.append_text.specs.declared.read_fault.Refusal.TheVariants as refusal
 use Rattle.append_text.specs.declared.text_form.TextForm.{TextForm}
 use Rattle.append_text.specs.Meaning.Numbers.{IsOneToOne, IsOp, IsStep, Keeps}
-use Rattle.append_text.specs.Meaning.Operations.{Said, said}
+use Rattle.append_text.specs.Meaning.Operations.{Said, said, is_of_txn}
 use Rattle.append_text.specs.Meaning.Pairing.{Op, MayFollow}
-use Rattle.append_text.specs.Meaning.Texts.{operation, passed_over, one_more, AreAllowed, AreNumbered, IsHistory, counted, said_after}
+use Rattle.append_text.specs.Meaning.Texts.{operation, passed_over, one_more, AreAllowed, AreNumbered, ArePassed, IsHistory, counted, said_after}
 use Rattle.append_text.specs.Machinery.Collectors.{HasCollected, IsRefusedAfter}
 use Rattle.append_text.specs.Machinery.Pairings.{HasTaken, op_of}
 use Rattle.append_text.specs.Machinery.Readings.{IsOpIfAny, IsRead, IsRefusal}
@@ -29,7 +33,7 @@ op_keeps k l keeps s o is = record {
   steps = zip_weaker (IsStep k) (IsStep l) (step_keeps k l keeps) s.steps o.steps is.steps;
 }
 
-pub numbered_keeps : (n : TextForm) (k l : List Kept) (fs : List Form) (passed : ℕ) (ops : List Op) → Keeps k l
+pub numbered_keeps : (n : TextForm) (k l : List Kept) (fs : List Form) (passed : List Form) (ops : List Op) → Keeps k l
     → AreNumbered n k fs passed ops → AreNumbered n l fs passed ops
 numbered_keeps n k l fs passed ops keeps are = record {
   said = are.said;
@@ -46,6 +50,38 @@ counted_more n = omega arith
 
 pub counted_push : {X : Type 0} (xs : List X) (x : X) → min (counted (length xs) + 1) (2 ^ 64 - 1) ≡ counted (length (xs ++ x ∷ []))
 counted_push xs x = counted_more (length xs) ∙ ap counted (sym (length-append xs (x ∷ []) ∙ omega arith))
+
+module _ (p : Form → Bool) (xs : List Form) (x : Form) where
+  filtered : filter p (xs ++ x ∷ []) ≡ filter p xs ++ (if p x then x ∷ [] else [])
+  filtered = filter-append p xs (x ∷ []) ∙ ap (λ r. filter p xs ++ r) (one (p x))
+    where
+      one : (b : Bool) → (if b then x ∷ filter p [] else filter p []) ≡ (if b then x ∷ [] else [])
+      one true = refl
+      one false = refl
+
+  -- one more is counted if the test is true of it
+  pub counted_test : (b : Bool) → p x ≡ b → (if b then min (counted (length (filter p xs)) + 1) (2 ^ 64 - 1) else counted (length (filter p xs)))
+      ≡ counted (length (filter p (xs ++ x ∷ [])))
+  counted_test true is = counted_push (filter p xs) x
+      ∙ ap (λ r. counted (length r)) (sym (filtered ∙ ap (λ b. filter p xs ++ (if b then x ∷ [] else [])) is))
+  counted_test false is = ap (λ r. counted (length r))
+      (sym (filtered ∙ ap (λ b. filter p xs ++ (if b then x ∷ [] else [])) is ∙ append-nil (filter p xs)))
+
+-- one more is passed over
+pub passed_more : (n : TextForm) (passed : List Form) (f : Form) (old new : PassedOver) → ArePassed n passed old
+    → new.other_function ≡ (if is_of_txn n f then old.other_function else min (old.other_function + 1) (2 ^ 64 - 1))
+    → new.other_process ≡ (if is_of_txn n f then min (old.other_process + 1) (2 ^ 64 - 1) else old.other_process)
+    → ArePassed n (passed ++ f ∷ []) new
+passed_more n passed f old new were function process = record {
+  other_function = function ∙ ap (λ k. if is_of_txn n f then k else min (k + 1) (2 ^ 64 - 1)) were.other_function
+      ∙ turned (is_of_txn n f) _ _ ∙ counted_test (λ g. not (is_of_txn n g)) passed f (not (is_of_txn n f)) refl;
+  other_process = process ∙ ap (λ k. if is_of_txn n f then min (k + 1) (2 ^ 64 - 1) else k) were.other_process
+      ∙ counted_test (is_of_txn n) passed f (is_of_txn n f) refl;
+}
+  where
+    turned : (b : Bool) (x y : ℕ) → (if b then x else y) ≡ (if not b then y else x)
+    turned true x y = refl
+    turned false x y = refl
 
 -- what was collected is operations in order
 pub allowed : (n : TextForm) (fs : List Form) (c : Collector) → HasCollected n fs c → IsOneToOne c.names.kept.keys → AreAllowed n fs
@@ -84,17 +120,18 @@ module _ (n : TextForm) (fs : List Form) (f : Form) (old : Collector) (taken : H
         };
         paired = took;
         taken = more ∙ ap (λ k. min (k + 1) (2 ^ 64 - 1)) taken.taken ∙ counted_push fs f;
-        passed_over = passed ∙ taken.passed_over;
+        passed_over = subst (ArePassed n taken.passed) (sym passed) taken.passed_over;
       }
 
   pub took_other : (new : Collector) → Keeps old.names.kept.keys new.names.kept.keys → said n old.taken f ≡ Ok None
-      → new.taken ≡ min (old.taken + 1) (2 ^ 64 - 1) → new.passed_over ≡ min (old.passed_over + 1) (2 ^ 64 - 1)
+      → new.taken ≡ min (old.taken + 1) (2 ^ 64 - 1)
+      → ((passed : List Form) → ArePassed n passed old.passed_over → ArePassed n (passed ++ f ∷ []) new.passed_over)
       → new.pairing ≡ old.pairing → HasCollected n (fs ++ f ∷ []) new
   took_other new keeps is more passed same =
       let were = taken.numbered in
       record {
         ops = taken.ops;
-        passed = suc taken.passed;
+        passed = taken.passed ++ f ∷ [];
         numbered = record {
           said = were.said;
           operations = passed_over f were.operations (said_here _ is);
@@ -104,7 +141,7 @@ module _ (n : TextForm) (fs : List Form) (f : Form) (old : Collector) (taken : H
         };
         paired = subst (λ p. HasTaken p taken.ops) (sym same) taken.paired;
         taken = more ∙ ap (λ k. min (k + 1) (2 ^ 64 - 1)) taken.taken ∙ counted_push fs f;
-        passed_over = passed ∙ ap (λ k. min (k + 1) (2 ^ 64 - 1)) taken.passed_over ∙ counted_more taken.passed;
+        passed_over = passed taken.passed taken.passed_over;
       }
 
   -- a form that is no operation
@@ -154,7 +191,8 @@ module _ (n : TextForm) (f : Form) (old : Collector) (l : List Kept) (o : OpValu
 
 pub took_none : (n : TextForm) (f : Form) (old : Collector) (l : List Kept) (new : Collector) → new.names.kept.keys ≡ l
     → IsRead old.names.kept.keys l (said n old.taken f) IsOpIfAny None
-    → new.taken ≡ min (old.taken + 1) (2 ^ 64 - 1) → new.passed_over ≡ min (old.passed_over + 1) (2 ^ 64 - 1)
+    → new.taken ≡ min (old.taken + 1) (2 ^ 64 - 1)
+    → ((passed : List Form) → ArePassed n passed old.passed_over → ArePassed n (passed ++ f ∷ []) new.passed_over)
     → new.pairing ≡ old.pairing → (fs : List Form) → HasCollected n fs old → HasCollected n (fs ++ f ∷ []) new
 took_none n f old l new same ((Some s, is, reads), keeps) more passed pairs fs has = absurd reads
 took_none n f old l new same ((None, is, reads), keeps) more passed pairs fs has =
@@ -174,6 +212,6 @@ history_of n fs c h has one_to_one names passed transactions labels = record {
   numbered = subst (λ k. AreNumbered n k fs has.passed has.ops) (sym (ap (λ m. m.kept.keys) names)) has.numbered;
   transactions_are = ap (λ v. map transaction_of v.items) transactions ∙ has.paired.transactions_are;
   labels_are = ap (λ v. v.items) labels ∙ has.paired.labels_are;
-  passed_are = passed ∙ has.passed_over;
+  passed_are = subst (ArePassed n has.passed) (sym passed) has.passed_over;
   one_to_one = subst IsOneToOne (sym (ap (λ m. m.kept.keys) names)) one_to_one;
 }

@@ -6,13 +6,17 @@ use Rattle.std.specs.Option.{ok_or}
 use Rattle.std.specs.Cmp.Lexicographic.{pointwise, same_text}
 use Rattle.std.proofs.lemmas.List.{map-append, drop-set, length-set, reverse-append}
 use Rattle.edn.specs.Meaning.Forms.{Form, Pairs, integer, list, vector, entries, pair, forms_of as plain, pairs_of}
-use Rattle.edn.specs.Meaning.Tapes.{paired}
+use Rattle.edn.specs.Meaning.Keys.{name_in}
+use Rattle.edn.specs.Meaning.Tapes.{paired, paired_within}
+use Rattle.append_text.specs.declared.edn_data.Keys.{Keys}
+use Rattle.append_text.specs.declared.edn_data.Keys.TheVariants.{Written, Within}
+use Rattle.append_text.specs.Machinery.EdnMaps.{IsNoWord, entries_of, extra, key_of}
 use Rattle.append_text.specs.declared.data.Fields.{Fields}
 use Rattle.append_text.specs.declared.name.Kept.{Kept}
 use Rattle.append_text.specs.declared.read_fault.Problem.TheVariants as problem
 use Rattle.append_text.specs.declared.text_form.TextForm.{TextForm}
 use Rattle.append_text.specs.declared.text_form.TextForm.TheVariants.{Edn}
-use Rattle.append_text.specs.Meaning.Data.{word, elements, entries_in, listed}
+use Rattle.append_text.specs.Meaning.Data.{word, elements, entries_in, listed, parts}
 use Rattle.append_text.specs.Meaning.Names.{integer as integer_name}
 use Rattle.append_text.specs.Meaning.Numbers.{IsNumber}
 use Rattle.append_text.specs.Meaning.Operations.{and_then, each, name, names, step, step_in}
@@ -30,6 +34,9 @@ vector_elements f fs is = sym (ap elements is ∙ ap (λ r. Some r) (listed_form
 
 pub list_elements : (f : Form) (fs : List Form) → f ≡ list (plain fs) → Some fs ≡ elements f
 list_elements f fs is = sym (ap elements is ∙ ap (λ r. Some r) (listed_forms fs))
+
+pub listed_parts : (f : Form) (fs xs : List Form) → f ≡ list (plain fs) → xs ≡ fs → parts f ≡ xs
+listed_parts f fs xs is same = ap parts is ∙ listed_forms fs ∙ sym same
 
 pub number_of : (o : Option ℕ) (y z : ℤ) (f : Form) → f ≡ integer z → y ≡ z
     → IfSome o (λ n. (kept : List Kept) → IsNumber kept (integer_name y) n)
@@ -58,13 +65,13 @@ vector_names f fs is = ap names is ∙ ap (each name) (listed_forms fs)
 -- ---- fields
 
 module _ {D : Type 0} (form : D → Form) (x : Fields D) (ps : Pairs) (h : HasFields Edn form x ps) (key : Form) (v : D) where
-  pub skips : word Edn key ≡ None → HasFields Edn form x (pair key (form v) ps)
+  pub skips : IsNoWord key → HasFields Edn form x (pair key (form v) ps)
   skips none = record {
-    kind = rw none h.kind;
-    f = rw none h.f;
-    value = rw none h.value;
-    process = rw none h.process;
-    index = rw none h.index;
+    kind = rw (none (codes "type") refl) h.kind;
+    f = rw (none (codes "f") refl) h.f;
+    value = rw (none (codes "value") refl) h.value;
+    process = rw (none (codes "process") refl) h.process;
+    index = rw (none (codes "index") refl) h.index;
   }
 
   module _ (bytes : List ℕ) (is : word Edn key ≡ Some bytes) where
@@ -104,9 +111,9 @@ module _ {D : Type 0} (form : D → Form) (x : Fields D) (ps : Pairs) (h : HasFi
       index = rw (is, e) h.index;
     }
 
-pub map_fields : {D : Type 0} (n : TextForm) (form : D → Form) (x : Fields D) (f : Form) (fs : List Form)
-    → f ≡ entries (pairs_of (paired fs)) → HasFields n form x (pairs_of (paired fs)) → AreFields n form x f
-map_fields n form x f fs is has = (pairs_of (paired fs), ap entries_in is, has)
+pub map_fields : {D : Type 0} (n : TextForm) (form : D → Form) (x : Fields D) (f : Form) (ps : Pairs)
+    → f ≡ entries ps → HasFields n form x ps → AreFields n form x f
+map_fields n form x f ps is has = (ps, ap entries_in is, has)
 
 -- ---- loops from the last form back
 
@@ -124,35 +131,58 @@ pub shorter : {X : Type 0} (older newer : List X) (x : X) → older ≡ newer ++
 shorter older newer x last =
     let e = ap length last ∙ length-append newer (x ∷ []) in omega (arith, e)
 
--- the entries so far, from the last one back
-pub record HasFieldsBack {D : Type 0} (n : TextForm) (form : D → Form) (fs left : List Form) (x : Fields D) : Type 0 where
+-- the entries of a map with this namespace
+abbrev keyed : Keys → List ℕ → List (Form × Form) → List (Form × Form)
+keyed keys namespace ps = map (λ p. (key_of keys namespace p.0, p.1)) ps
+
+written_same : (namespace : List ℕ) (ps : List (Form × Form)) → keyed Written namespace ps ≡ ps
+written_same namespace [] = refl
+written_same namespace (p ∷ ps) = ap (λ r. p ∷ r) (written_same namespace ps)
+
+-- the entries so far, from the last one back, whatever the namespace is
+pub record HasFieldsBack {D : Type 0} (keys : Keys) (n : TextForm) (form : D → Form) (fs left : List Form) (x : Fields D) : Type 0 where
   pub done : List Form
   pub are : fs ≡ left ++ done
   pub even : length done % 2 ≡ 0
-  pub has : HasFields n form x (pairs_of (paired done))
+  pub has : (namespace : List ℕ) → HasFields n form x (pairs_of (keyed keys namespace (paired done)))
 
 module _ {D : Type 0} (n : TextForm) (form : D → Form) (fs : List Form) where
-  pub fields_back : (older mid newer : List Form) (x y : Fields D) (key value : Form) → HasFieldsBack n form fs older x
-      → older ≡ mid ++ value ∷ [] → mid ≡ newer ++ key ∷ []
-      → ((ps : Pairs) → HasFields n form x ps → HasFields n form y (pair key value ps)) → HasFieldsBack n form fs newer y
-  fields_back older mid newer x y key value back last before sets = record {
+  first_so : (keys : Keys) (x : Fields D) (first : Form) (done : List Form) → length done % 2 ≡ 0
+      → ((namespace : List ℕ) → HasFields n form x (pairs_of (keyed keys namespace (paired done)))) → fs ≡ first ∷ done
+      → length fs % 2 ≡ extra keys → HasFields n form x (pairs_of (entries_of keys fs))
+  first_so Written x first done even has one parity =
+      let many : length fs ≡ length done + 1 = ap length one ∙ sym (add-one (length done)) in
+      absurd (omega (arith, even, parity, many))
+  first_so Within x first done even has one parity =
+      subst (λ r. HasFields n form x (pairs_of (paired_within r))) (sym one) (has (name_in first))
+
+  pub fields_back : (keys : Keys) (older mid newer : List Form) (x y : Fields D) (key value : Form)
+      → HasFieldsBack keys n form fs older x → older ≡ mid ++ value ∷ [] → mid ≡ newer ++ key ∷ []
+      → ((namespace : List ℕ) (ps : Pairs) → HasFields n form x ps → HasFields n form y (pair (key_of keys namespace key) value ps))
+      → HasFieldsBack keys n form fs newer y
+  fields_back keys older mid newer x y key value back last before sets = record {
     done = key ∷ value ∷ back.done;
     are = two_back fs older mid newer key value back.done back.are last before;
     even = let e = back.even in omega (arith, e);
-    has = sets (pairs_of (paired back.done)) back.has;
+    has = λ namespace. sets namespace (pairs_of (keyed keys namespace (paired back.done))) (back.has namespace);
   }
 
-  pub fields_all : (left : List Form) (x : Fields D) → HasFieldsBack n form fs left x → left ≡ []
-      → HasFields n form x (pairs_of (paired fs))
-  fields_all left x back none =
-      subst (λ r. HasFields n form x (pairs_of (paired r))) (sym (back.are ∙ ap (λ r. r ++ back.done) none)) back.has
+  -- no form is left
+  pub fields_all : (keys : Keys) (left : List Form) (x : Fields D) → HasFieldsBack keys n form fs left x
+      → length fs % 2 ≡ extra keys → left ≡ [] → HasFields n form x (pairs_of (entries_of keys fs))
+  fields_all Written left x back even none =
+      subst (λ r. HasFields n form x (pairs_of r)) (written_same [] (paired back.done)
+      ∙ ap paired (sym (back.are ∙ ap (λ r. r ++ back.done) none))) (back.has [])
+  fields_all Within left x back odd none =
+      let many : length fs ≡ length back.done = ap length (back.are ∙ ap (λ r. r ++ back.done) none) in
+      let e = back.even in absurd (omega (arith, e, odd, many))
 
-  pub not_odd : (older mid : List Form) (x : Fields D) (value : Form) → HasFieldsBack n form fs older x → length fs % 2 ≡ 0
-      → older ≡ mid ++ value ∷ [] → mid ≡ [] → ⊥
-  not_odd older mid x value back even last none =
-      let one : fs ≡ value ∷ back.done = back.are ∙ ap (λ r. r ++ back.done) (last ∙ ap (λ r. r ++ value ∷ []) none) in
-      let many : length fs ≡ length back.done + 1 = ap length one ∙ sym (add-one (length back.done)) in
-      let e = back.even in omega (arith, e, even, many)
+  -- one form is left, which is the namespace
+  pub fields_first : (keys : Keys) (older mid : List Form) (x : Fields D) (first : Form) → HasFieldsBack keys n form fs older x
+      → length fs % 2 ≡ extra keys → older ≡ mid ++ first ∷ [] → mid ≡ [] → HasFields n form x (pairs_of (entries_of keys fs))
+  fields_first keys older mid x first back parity last none =
+      let one : fs ≡ first ∷ back.done = back.are ∙ ap (λ r. r ++ back.done) (last ∙ ap (λ r. r ++ first ∷ []) none) in
+      first_so keys x first back.done back.even back.has one parity
 
 pub map-reverse : {X Y : Type 0} (f : X → Y) (xs : List X) → map f (reverse xs) ≡ reverse (map f xs)
 map-reverse f [] = refl

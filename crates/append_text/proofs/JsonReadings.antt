@@ -1,8 +1,8 @@
 -- What is read of a text in JSON.
-use Rattle.std.proofs.Common.{◌≡◌, ◌≢◌, ◌⊎◌, ◌==◌, ℕ, Bool, true, false, ◌+◌, ◌-◌, ◌^◌, ◌<◌, min, List, [], ◌∷◌, ◌++◌, length, take, drop, get_or, map, Option, Some, None, refl, sym, ap, subst, ◌∙◌, inl, inr, append_assoc, arith, Result, Ok, Err}
+use Rattle.std.proofs.Common.{◌≡◌, ◌≢◌, ◌⊎◌, ◌==◌, ℕ, Bool, true, false, ◌+◌, ◌-◌, ◌^◌, ◌<◌, min, List, [], ◌∷◌, ◌++◌, length, take, drop, get_or, map, Option, Some, None, refl, sym, ap, subst, ◌∙◌, inl, inr, append_assoc, Result, Ok, Err}
 use Rattle.std.specs.Prelude.{IfErr, IfOk, IsUtf8}
 use Rattle.std.specs.Bool.{MatchBool}
-use Rattle.std.proofs.lemmas.List.{append-nil, drop_more, length-map, length-take-le, map-append, map_more, nil_from_length, take-append-drop}
+use Rattle.std.proofs.lemmas.List.{append-nil, nil_from_length}
 use Rattle.std.proofs.lemmas.Bool.{eqb-true}
 use Rattle.edn.specs.Meaning.Forms.{Form}
 use Rattle.serde_json.specs.Data.{Data}
@@ -29,6 +29,7 @@ use Rattle.append_text.specs.Machinery.Collectors.{HasCollected, IsRefusedAfter}
 use Rattle.append_text.specs.Machinery.EdnFaults.{fault_at}
 use Rattle.append_text.specs.Machinery.JsonReading.{AreRefusedLines, IsRefusedValue, IsRefusedElement, IsRefusedLine, SaysNothing}
 use Rattle.append_text.proofs.Collecting.{counted_more, counted_push, counted_zero}
+use Rattle.append_text.proofs.Elements.{place_there, split_there}
 use Rattle.append_text.proofs.JsonForms.{listed_items}
 
 -- ---- texts of one value
@@ -88,20 +89,14 @@ element_fault text fs Memory is wrong = tt
 abbrev pub forms_in : List Value → List Form
 forms_in vs = map (λ v. form_of (view v)) vs
 
-pub first_forms : (vs : List Value) (k : ℕ) (v : Value) → k < length vs → v ≡ get_or vs k v
-    → forms_in (take k vs) ++ form_of (view v) ∷ [] ≡ forms_in (take (k + 1) vs)
-first_forms vs k v within is =
-    ap (λ w. forms_in (take k vs) ++ form_of (view w) ∷ []) is ∙ sym (map_more (λ w. form_of (view w)) vs k v within)
-
 pub refused_element : (vs : List Value) (k : ℕ) (v : Value) (r : Refusal) → k < length vs → v ≡ get_or vs k v
     → IsRefusedAfter Json (forms_in (take k vs)) (form_of (view v)) r → IsRefusedElement (forms_in vs) (fault_at (Element k) r)
 refused_element vs k v (refusal.Problem p) within is wrong = record {
   before = forms_in (take k vs);
   form = form_of (view v);
   after = forms_in (drop (k + 1) vs);
-  split = ap forms_in (sym (take-append-drop k vs) ∙ ap (λ r. take k vs ++ r) (drop_more vs k v within
-      ∙ ap (λ w. w ∷ drop (k + 1) vs) (sym is))) ∙ map-append (λ w. form_of (view w)) (take k vs) (v ∷ drop (k + 1) vs);
-  place_is = sym (length-map (take k vs) (λ w. form_of (view w)) ∙ length-take-le k vs (omega arith));
+  split = split_there (λ w. form_of (view w)) vs k v within is;
+  place_is = place_there (λ w. form_of (view w)) vs k v within is;
   wrong = wrong;
 }
 refused_element vs k v refusal.Memory within is wrong = tt

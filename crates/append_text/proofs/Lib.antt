@@ -4,8 +4,10 @@ pub mod SameSteps
 pub mod KeptNames
 pub mod Readings
 pub mod EdnForms
+pub mod EdnKeys
 pub mod JsonForms
 pub mod Collecting
+pub mod Elements
 pub mod TextFaults
 pub mod FirstBytes
 pub mod BufferLines

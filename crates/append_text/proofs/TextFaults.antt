@@ -1,20 +1,28 @@
 -- The faults of texts in EDN.
-use Rattle.std.proofs.Common.{ℕ, List, [], ◌∷◌, ◌++◌, Option, refl, sym, ap, ◌∙◌, inl, inr}
+use Rattle.std.proofs.Common.{◌≡◌, ◌⊎◌, Bool, true, ℕ, ◌+◌, ◌<◌, List, [], ◌∷◌, ◌++◌, length, take, drop, get_or, map, Option, refl, sym, ap, subst, ◌∙◌, inl, inr}
+use Rattle.std.specs.Prelude.{flat_map}
 use Rattle.std.proofs.lemmas.Option.{same_Some}
 use Rattle.edn.specs.declared.read_fault.ReadFault.{ReadFault as EdnFault}
 use Rattle.edn.specs.declared.read_fault.ReadFault.TheVariants as edn
 use Rattle.edn.specs.declared.reader.Reader.{Reader}
+use Rattle.edn.specs.declared.reader.Stage.{Stage}
+use Rattle.edn.specs.declared.reader.Stage.TheVariants.{Failed}
 use Rattle.edn.specs.Meaning.Blame.{IsFaultOf as IsEdnFaultOf}
-use Rattle.edn.specs.Meaning.Forms.{Form}
+use Rattle.edn.specs.Meaning.Forms.{Form, list, forms_of}
 use Rattle.edn.specs.Meaning.Readers.{line_read}
-use Rattle.edn.specs.Meaning.Texts.{HasRead}
-use Rattle.append_text.specs.declared.read_fault.Place.TheVariants.{Line}
+use Rattle.edn.specs.Meaning.Texts.{AreSoFar, HasFailed, HasRead, at_start, outside, inside}
+use Rattle.edn.specs.Meaning.Tokens.{Token}
+use Rattle.append_text.specs.declared.read_fault.Place.TheVariants.{Line, Element}
+use Rattle.append_text.specs.declared.read_fault.ReadFault.{ReadFault}
+use Rattle.append_text.specs.declared.read_fault.ReadFault.TheVariants.{Text, Device, Memory}
 use Rattle.append_text.specs.declared.read_fault.Refusal.{Refusal}
 use Rattle.append_text.specs.declared.read_fault.Refusal.TheVariants as refusal
 use Rattle.append_text.specs.declared.text_form.TextForm.TheVariants.{Edn}
+use Rattle.append_text.specs.Meaning.Data.{parts}
 use Rattle.append_text.specs.Meaning.Texts.{EndsOn, IsFaultOf}
 use Rattle.append_text.specs.Machinery.Collectors.{IsRefusedAfter}
-use Rattle.append_text.specs.Machinery.EdnFaults.{of_edn, fault_at}
+use Rattle.append_text.specs.Machinery.EdnFaults.{IsRefusedForm, IsRefusedListed, IsWrongElement, fault_at, of_edn}
+use Rattle.append_text.proofs.Elements.{place_there, split_there}
 
 pub edn_fault : (text : List ℕ) (e : EdnFault) → IsEdnFaultOf text e → IsFaultOf text (of_edn e)
 edn_fault text (edn.Syntax line p) is = inl (p, refl, is)
@@ -37,7 +45,75 @@ ends_on text fs r left h =
       line_is = line;
     }
 
-pub other_fault : (text : List ℕ) (fs : List Form) (f : Form) (line : ℕ) (e : Refusal) → EndsOn text (fs ++ f ∷ []) line
-    → IsRefusedAfter Edn fs f e → IsFaultOf text (fault_at (Line line) e)
-other_fault text fs f line (refusal.Problem p) ends wrong = inr (record { before = fs; form = f; ends = ends; wrong = wrong })
-other_fault text fs f line refusal.Memory ends wrong = tt
+-- a form that is refused after these is a fault of the text
+pub form_fault : (text : List ℕ) (fs : List Form) (f : Form) (line : ℕ) (e : ReadFault) → EndsOn text (fs ++ f ∷ []) line
+    → IsRefusedForm (flat_map parts fs) f line e → IsFaultOf text e
+form_fault text fs f line (Text (Line end) p) ends (same, one, wrong) = inr (record {
+  before = fs;
+  form = f;
+  ends = subst (EndsOn text (fs ++ f ∷ [])) (sym same) ends;
+  one = one;
+  wrong = wrong;
+})
+form_fault text fs f line (Text (Element k) p) ends (elements, is, there) = record {
+  before = fs;
+  front = there.front;
+  form = there.form;
+  back = there.back;
+  line = line;
+  ends = subst (λ g. EndsOn text (fs ++ g ∷ []) line) (is ∙ ap (λ gs. list (forms_of gs)) there.split) ends;
+  place_is = there.place_is;
+  wrong = there.wrong;
+}
+form_fault text fs f line Device ends refused = absurd refused
+form_fault text fs f line Memory ends refused = tt
+
+pub one_refused : (fs : List Form) (f : Form) (line : ℕ) (e : Refusal) → parts f ≡ f ∷ [] → IsRefusedAfter Edn fs f e
+    → IsRefusedForm fs f line (fault_at (Line line) e)
+one_refused fs f line (refusal.Problem p) one wrong = (refl, one, wrong)
+one_refused fs f line refusal.Memory one wrong = tt
+
+pub listed_refused : (fs listed elements : List Form) (f : Form) (line : ℕ) (e : ReadFault) → f ≡ list (forms_of listed) → elements ≡ listed
+    → IsRefusedListed fs elements e → IsRefusedForm fs f line e
+listed_refused fs listed elements f line (Text (Line end) p) is same refused = absurd refused
+listed_refused fs listed elements f line (Text (Element k) p) is same refused =
+    (listed, is, subst (λ gs. IsWrongElement fs gs k p) same refused)
+listed_refused fs listed elements f line Device is same refused = absurd refused
+listed_refused fs listed elements f line Memory is same refused = tt
+
+module _ {X : Type 0} (form : X → Form) (xs : List X) (k : ℕ) (x : X) (within : k < length xs) (is : x ≡ get_or xs k x) where
+  pub element_refused : (fs : List Form) (e : Refusal) → IsRefusedAfter Edn (fs ++ map form (take k xs)) (form x) e
+      → IsRefusedListed fs (map form xs) (fault_at (Element k) e)
+  element_refused fs (refusal.Problem p) wrong = record {
+    front = map form (take k xs);
+    form = form x;
+    back = map form (drop (k + 1) xs);
+    split = split_there form xs k x within is;
+    place_is = place_there form xs k x within is;
+    wrong = wrong;
+  }
+  element_refused fs refusal.Memory wrong = tt
+
+goes_on : {stage : Stage} {ts : List Token} {fs : List Form} (e : EdnFault) → AreSoFar stage ts fs → stage ≡ Failed e → ⊥
+goes_on e at_start is = cc
+goes_on e (outside other forms) is = cc
+goes_on e (inside forms) is = cc
+
+-- a reader that has read so far has not failed
+pub reads_on : (text : List ℕ) (fs : List Form) (r : Reader) (left : Option (List ℕ)) (e : EdnFault) → HasRead text fs r left
+    → HasFailed r e → ⊥
+reads_on text fs r left e h failed = let (ts, rest, lexes, forms, same) = h.so_far in goes_on e forms failed
+
+-- so the source has, if the device is blamed
+pub device_blamed : (failed : Bool) (r : Reader) (e : EdnFault) → (e ≡ edn.Device → HasFailed r e ⊎ (failed ≡ true)) → (HasFailed r e → ⊥)
+    → of_edn e ≡ Device → failed ≡ true
+device_blamed failed r (edn.Syntax line p) said not is = absurd cc
+device_blamed failed r edn.Device said not is = elim (said refl) [ inl f ↦ absurd (not f) | inr e ↦ e ]
+device_blamed failed r edn.Memory said not is = absurd cc
+
+-- no device is blamed for a form
+pub not_device : (fs : List Form) (f : Form) (line : ℕ) (e : ReadFault) → IsRefusedForm fs f line e → e ≡ Device → ⊥
+not_device fs f line (Text (Line end) p) refused is = cc
+not_device fs f line (Text (Element k) p) refused is = cc
+not_device fs f line Device refused is = refused
+not_device fs f line Memory refused is = cc

@@ -58,6 +58,7 @@ impl Buffer {
             → IfOk result (λ f. f ≡ notation_in text) }
         ensures start { self.new.start ≡ self.old.start }
         ensures fault { IfErr result (λ e. e ≡ ReadFault.Device) }
+        ensures device { IfErr result (λ _. S.is_failed source.new ≡ true) }
     {
         loop {
             if let Some(form) = text_form(self.pending()) {
@@ -76,6 +77,7 @@ impl Buffer {
         ensures first { (text : List ℕ) → self.old.start ≡ 0 → HasLeft self.old (S.remaining source.old) text
             → OnOk result (pending_in self.new ≡ take 8192 text) }
         ensures fault { IfErr result (λ e. e ≡ ReadFault.Device) }
+        ensures device { IfErr result (λ _. S.is_failed source.new ≡ true) }
     {
         loop {
             if !self.read_more(source)? {
@@ -90,6 +92,7 @@ impl Buffer {
             → OnOk result (HasLeft self.new (S.remaining source.new) (after_mark text)) }
         ensures start { self.new.start ≡ self.old.start }
         ensures fault { IfErr result (λ e. e ≡ ReadFault.Device) }
+        ensures device { IfErr result (λ _. S.is_failed source.new ≡ true) }
     {
         while self.end < 3 {
             if !self.read_up_to(3, source)? {
@@ -119,6 +122,7 @@ impl Buffer {
             → (pending_in self.new ≡ pending_in self.old) × ((length (pending_in self.old) + self.old.start ≡ 8192) ⊎ IsAtEnd (S.remaining source.new))) }
         ensures start { self.new.start ≡ self.old.start }
         ensures fault { IfErr result (λ e. e ≡ ReadFault.Device) }
+        ensures device { IfErr result (λ _. S.is_failed source.new ≡ true) }
         ensures less { IfOk result (λ some. some ≡ true → S.left source.new < S.left source.old) }
         ensures work { IfOk result (λ _. work_left (S.left source.new) self.new.start self.new.end
             ≤ work_left (S.left source.old) self.old.start self.old.end) }
@@ -137,6 +141,7 @@ impl Buffer {
         ensures start { self.new.start ≡ self.old.start }
         ensures short { OnOk result (self.new.end ≤ most) }
         ensures fault { IfErr result (λ e. e ≡ ReadFault.Device) }
+        ensures device { IfErr result (λ _. S.is_failed source.new ≡ true) }
         ensures less { IfOk result (λ some. some ≡ true → S.left source.new < S.left source.old) }
         ensures work { IfOk result (λ _. work_left (S.left source.new) self.new.start self.new.end
             ≤ work_left (S.left source.old) self.old.start self.old.end) }
@@ -156,6 +161,7 @@ impl Buffer {
             → OnOk result (HasLeft self.new (S.remaining source.new) text) }
         ensures end { IfOk result (λ some. some ≡ false → (pending_in self.new ≡ []) × IsAtEnd (S.remaining source.new)) }
         ensures fault { IfErr result (λ e. e ≡ ReadFault.Device) }
+        ensures device { IfErr result (λ _. S.is_failed source.new ≡ true) }
         ensures less { IfOk result (λ some. some ≡ true → S.left source.new < S.left source.old) }
         ensures work { IfOk result (λ _. work_left (S.left source.new) self.new.start self.new.end
             ≤ work_left (S.left source.old) self.old.start self.old.end) }
@@ -197,6 +203,7 @@ impl Buffer {
         ensures line { (text : List ℕ) → HasLeft self.old (S.remaining source.old) text → IfOk result (λ some.
             (rest : List ℕ) × HasLeft self.new (S.remaining source.new) rest × TakesLine some text line.new.items rest) }
         ensures fault { IfErr result SaysNothing }
+        ensures device { IfErr result (λ e. e ≡ ReadFault.Device → S.is_failed source.new ≡ true) }
         ensures less { IfOk result (λ some. some ≡ true → work_left (S.left source.new) self.new.start self.new.end
             < work_left (S.left source.old) self.old.start self.old.end) }
     {
@@ -220,6 +227,7 @@ impl Buffer {
         ensures all { (rest : List ℕ) → HasLeft self.old (S.remaining source.old) rest
             → OnOk result (text.new.items ≡ text.old.items ++ rest) }
         ensures fault { IfErr result SaysNothing }
+        ensures device { IfErr result (λ e. e ≡ ReadFault.Device → S.is_failed source.new ≡ true) }
     {
         loop {
             text.extend_from_slice(self.pending())?;

@@ -7,9 +7,9 @@ ghost use Rattle.append_text.specs.Meaning.Texts.{IsHistory};
 ghost use Rattle.append_text.specs.Machinery.Collectors.{HasCollected, IsRefusedAfter};
 
 use crate::data::Data;
-use crate::history::History;
+use crate::history::{History, PassedOver};
 use crate::name::Names;
-use crate::operation::operation;
+use crate::operation::{is_of_txn, operation};
 use crate::pairing::Pairing;
 use crate::read_fault::Refusal;
 use std::alloc::Global;
@@ -22,7 +22,7 @@ pub(crate) struct Collector {
     pairing: Pairing,
     /// How many operations were taken, and how many of them are no transaction's.
     taken: u64,
-    passed_over: u64,
+    passed_over: PassedOver,
 }
 
 impl Collector {
@@ -35,7 +35,7 @@ impl Collector {
             names: Names::new(alloc),
             pairing: Pairing::new(alloc),
             taken: 0,
-            passed_over: 0,
+            passed_over: PassedOver::new(),
         }
     }
 
@@ -51,7 +51,7 @@ impl Collector {
         match op {
             Some(op) => self.pairing.take(op),
             None => {
-                self.passed_over = self.passed_over.saturating_add(1);
+                self.passed_over.count(is_of_txn(datum));
                 Ok(())
             }
         }

@@ -1,21 +1,31 @@
 //! Forms of EDN as data.
 
-ghost use Rattle.std.specs.Prelude.{◌≡◌, ◌∷◌, [], ℕ, List, Some as SomeSpec, ◌%◌, map, option_map, length, IfOk, IfSome, IfNone};
+ghost use Rattle.std.specs.Prelude.{◌≡◌, ◌∷◌, [], ℕ, List, Some as SomeSpec, ◌%◌, false, nat_eq, codes, map, take, option_map, length, IfOk, IfSome, IfNone};
 ghost use Rattle.std.specs.List.{AllZip};
-ghost use Rattle.edn.specs.Meaning.Forms.{Form as Plain, Pairs, pair, pairs_of};
-ghost use Rattle.edn.specs.Meaning.Tapes.{paired};
+ghost use Rattle.std.specs.Cmp.Lexicographic.{pointwise};
+ghost use Rattle.edn.specs.Meaning.Forms.{Form as Plain, Pairs, list, pair, pairs_of, forms_of as plain};
 ghost use Rattle.edn.specs.Meaning.Views.{form_of, forms_of};
 ghost use Rattle.append_text.specs.declared.name.Kept.{Kept};
 ghost use Rattle.append_text.specs.declared.text_form.TextForm.TheVariants.{Edn};
 ghost use Rattle.append_text.specs.Meaning.Data as Seen;
 ghost use Rattle.append_text.specs.Meaning.Numbers.{IsNumber};
 ghost use Rattle.append_text.specs.Meaning.Operations as Spec;
+ghost use Rattle.append_text.specs.Machinery.EdnMaps.{IsNoWord, entries_of, extra, key_of};
 ghost use Rattle.append_text.specs.Machinery.Readings.{HasFields, Says};
 
 use crate::data::{Data, Fields, Step, is_text};
 use crate::name::{Name, number_of_integer};
 use edn::{Form, Forms, Kind};
 use std::alloc::{AllocError, Global};
+
+/// How the keys of a map stand in a text.
+#[derive(Clone, Copy)]
+enum Keys {
+    /// As they are.
+    Written,
+    /// Within a namespace, which comes before them.
+    Within,
+}
 
 impl<'a> Data<'a> for Form<'a> {
     ghost notation = { Edn };
@@ -24,7 +34,8 @@ impl<'a> Data<'a> for Form<'a> {
 
     fn fields(self) -> Option<Fields<Form<'a>>> {
         match self.kind() {
-            Kind::Map(entries) => Some(fields_in(entries)),
+            Kind::Map(forms) => Some(fields_in(forms, Keys::Written)),
+            Kind::NamespacedMap(forms) => Some(fields_in(forms, Keys::Within)),
             _ => None,
         }
     }
@@ -100,12 +111,24 @@ fn forms_in(form: Form<'_>) -> Option<Forms<'_>>
     }
 }
 
-/// Returns the fields of an operation. The entries come from the last one back, so the first one of a name stays.
-fn fields_in<'a>(entries: Forms<'a>) -> Fields<Form<'a>>
-    requires { length (forms_of entries) % 2 ≡ 0 }
-    ensures { HasFields Edn form_of result (pairs_of (paired (forms_of entries.entry))) }
+/// Returns what stands in a list; nothing if this is none.
+pub(crate) fn listed_in(form: Form<'_>) -> Option<Forms<'_>>
+    ensures some { IfSome result (λ fs. form_of form.entry ≡ list (plain (forms_of fs))) }
+    ensures none { IfNone result (Seen.parts (form_of form.entry) ≡ form_of form.entry ∷ []) }
 {
-    let mut left = entries;
+    match form.kind() {
+        Kind::List(forms) => Some(forms),
+        _ => None,
+    }
+}
+
+/// Returns the fields of an operation, which a map with these forms says. The entries come from the last one back, so the
+/// first one of a name stays.
+fn fields_in<'a>(forms: Forms<'a>, keys: Keys) -> Fields<Form<'a>>
+    requires { length (forms_of forms) % 2 ≡ extra keys }
+    ensures { HasFields Edn form_of result (pairs_of (entries_of keys (forms_of forms.entry))) }
+{
+    let mut left = forms;
     let mut fields = Fields {
         kind: None,
         f: None,
@@ -117,19 +140,43 @@ fn fields_in<'a>(entries: Forms<'a>) -> Fields<Form<'a>>
         let Some(key) = left.next_back() else {
             return fields;
         };
-        set_field(&mut fields, key, value);
+        if let Some(name) = word_of(key, keys) {
+            set_field(&mut fields, name, value);
+        }
     }
     fields
 }
 
-/// Gives the field that this key names, if there is one, this value.
-fn set_field<'a>(fields: &mut Fields<Form<'a>>, key: Form<'a>, value: Form<'a>)
-    ensures { (ps : Pairs) → HasFields Edn form_of fields.old ps
-        → HasFields Edn form_of fields.new (pair (form_of key.entry) (form_of value.entry) ps) }
+/// Returns the word that a key of a map is. The namespace of the map isn't asked for: a key that has it is no word without
+/// a slash.
+fn word_of<'a>(key: Form<'a>, keys: Keys) -> Option<&'a [u8]>
+    ensures some { IfSome result (λ w. (namespace : List ℕ)
+        → Seen.word Edn (key_of keys namespace (form_of key.entry)) ≡ SomeSpec w.now) }
+    ensures none { IfNone result ((namespace : List ℕ) → IsNoWord (key_of keys namespace (form_of key.entry))) }
 {
-    let Some(name) = key.word() else {
-        return;
-    };
+    let name = key.word()?;
+    match keys {
+        Keys::Written => Some(name),
+        Keys::Within => after_blank(name),
+    }
+}
+
+/// Returns what follows the namespace `_`, if the name has that one.
+fn after_blank(name: &[u8]) -> Option<&[u8]>
+    ensures some { IfSome result (λ rest. name.now ≡ 95 ∷ 47 ∷ rest.now) }
+    ensures none { IfNone result (pointwise nat_eq (take 2 name.now) (codes "_/") ≡ false) }
+{
+    match name {
+        [b'_', b'/', rest @ ..] => Some(rest),
+        _ => None,
+    }
+}
+
+/// Gives the field with this name, if there is one, this value.
+fn set_field<'a>(fields: &mut Fields<Form<'a>>, name: &[u8], value: Form<'a>)
+    ensures { (key : Plain) (ps : Pairs) → Seen.word Edn key ≡ SomeSpec name.now → HasFields Edn form_of fields.old ps
+        → HasFields Edn form_of fields.new (pair key (form_of value.entry) ps) }
+{
     if is_text(name, b"type") {
         fields.kind = Some(value);
     } else if is_text(name, b"f") {
@@ -144,7 +191,7 @@ fn set_field<'a>(fields: &mut Fields<Form<'a>>, key: Form<'a>, value: Form<'a>)
 }
 
 /// Returns the forms in the order of the text.
-fn elements_in<'a>(alloc: Global, forms: Forms<'a>) -> Result<Vec<Form<'a>>, AllocError>
+pub(crate) fn elements_in<'a>(alloc: Global, forms: Forms<'a>) -> Result<Vec<Form<'a>>, AllocError>
     ensures { IfOk result (λ v. map form_of v.items ≡ forms_of forms.entry) }
 {
     let mut left = forms;

@@ -1,6 +1,6 @@
 //! Histories in JSON.
 
-ghost use Rattle.std.specs.Prelude.{◌≡◌, ◌⊎◌, ℕ, List, ◌++◌, map, option_map, IfOk, IfErr, OnOk};
+ghost use Rattle.std.specs.Prelude.{◌≡◌, ◌≢◌, ◌⊎◌, true, ℕ, List, ◌++◌, map, option_map, IfOk, IfErr, OnOk};
 ghost use Rattle.edn.specs.Meaning.Forms.{Form as Plain};
 ghost use Rattle.serde_json.specs.Errors.{IsMemory};
 ghost use Rattle.serde_json.specs.View.{items_view, view};
@@ -32,6 +32,7 @@ pub(crate) fn json_text<S: Source>(
         → IfOk result (Spec.IsJsonHistoryOf text) }
     ensures fault { (text : List ℕ) → buffer.old.start ≡ 0 → HasLeft buffer.old (S.remaining source.old) text
         → IfErr result (Spec.IsJsonFaultOf text) }
+    ensures device { IfErr result (λ e. e ≡ ReadFault.Device → S.is_failed source.new ≡ true) }
 {
     buffer.fill_up(source)?;
     if begins_value(buffer.pending()) {
@@ -50,6 +51,7 @@ fn json_value<S: Source>(
         → IfOk result (λ h. (fs : List Plain) × Spec.IsValue text fs × IsHistory TextForm.Json fs h) }
     ensures fault { (text : List ℕ) → HasLeft buffer.old (S.remaining source.old) text
         → IfErr result (IsRefusedValue text) }
+    ensures device { IfErr result (λ e. e ≡ ReadFault.Device → S.is_failed source.new ≡ true) }
 {
     let mut text = Vec::new(alloc);
     buffer.read_to_end(source, &mut text)?;
@@ -83,6 +85,7 @@ fn elements_in(value: &Value) -> Option<&Vec<Value>>
 fn history_of(alloc: Global, values: &[Value]) -> Result<History, ReadFault>
     ensures history { IfOk result (IsHistory TextForm.Json (map (λ v. form_of (view v)) values.now)) }
     ensures fault { IfErr result (IsRefusedElement (map (λ v. form_of (view v)) values.now)) }
+    ensures no_device { IfErr result (λ e. e ≢ ReadFault.Device) }
 {
     let mut collector = Collector::new(alloc);
     for (place, value) in values.iter().enumerate() {
@@ -103,6 +106,7 @@ fn json_lines<S: Source>(
         → IfOk result (λ h. (fs : List Plain) × Spec.AreLines (lines text) fs × IsHistory TextForm.Json fs h) }
     ensures fault { (text : List ℕ) → HasLeft buffer.old (S.remaining source.old) text
         → IfErr result (AreRefusedLines text) }
+    ensures device { IfErr result (λ e. e ≡ ReadFault.Device → S.is_failed source.new ≡ true) }
 {
     let mut collector = Collector::new(alloc);
     let mut line = Vec::new(alloc);
@@ -125,6 +129,7 @@ fn take_line(
         → (gs : List Plain) × Spec.IsLine line.now gs × HasCollected TextForm.Json (fs ++ gs) collector.new) }
     ensures refused { IfErr result (λ e. (fs : List Plain) → HasCollected TextForm.Json fs collector.old
         → IsRefusedLine number fs line.now e) }
+    ensures no_device { IfErr result (λ e. e ≢ ReadFault.Device) }
 {
     if after_blanks(line).is_empty() {
         return Ok(());

@@ -16,7 +16,7 @@ mod read_fault;
 mod reading;
 mod text_form;
 
-pub use history::{History, Label};
+pub use history::{History, Label, PassedOver};
 pub use name::{Name, Names};
 pub use read_fault::{Place, Problem, ReadFault};
 pub use reading::{read_edn, read_history, read_json};

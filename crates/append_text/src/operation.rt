@@ -63,6 +63,16 @@ pub(crate) fn operation<'a, D: Data<'a>>(
     Ok(Some(Op { kind, label, steps }))
 }
 
+/// Returns whether this is a map whose `:f` is `:txn`.
+pub(crate) fn is_of_txn<'a, D: Data<'a>>(datum: D) -> bool
+    ensures { result ≡ Spec.is_of_txn D.notation (D.form datum) }
+{
+    match datum.fields() {
+        Some(fields) => is_word(fields.f, b"txn"),
+        None => false,
+    }
+}
+
 /// Returns whether the field is the word.
 fn is_word<'a, D: Data<'a>>(field: Option<D>, word: &[u8]) -> bool
     ensures { result ≡ option_map_or (Seen.is_word D.notation word.now) (option_map D.form field) false }

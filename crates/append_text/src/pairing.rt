@@ -10,7 +10,7 @@ ghost use Rattle.append_text.specs.Meaning.Steps as Spec;
 ghost use Rattle.append_text.specs.Meaning.Pairing.{Op as Plain, is_invoke, AreSame, MayEnd, MayFollow};
 ghost use Rattle.append_text.specs.Machinery.Pairings.{op_of, style_or_by, is_alone, HasTaken, Ends, MayNotEnd};
 
-use crate::history::{History, Label};
+use crate::history::{History, Label, PassedOver};
 use crate::name::Names;
 use crate::operation::{Kind, Op};
 use crate::read_fault::{Problem, Refusal};
@@ -76,7 +76,7 @@ impl Pairing {
     }
 
     /// Returns the history of the operations so far.
-    pub(crate) fn finish(self, names: Names, passed_over: u64) -> History
+    pub(crate) fn finish(self, names: Names, passed_over: PassedOver) -> History
         ensures transactions { result.transactions ≡ self.transactions }
         ensures labels { result.labels ≡ self.labels }
         ensures names { result.names ≡ names }

@@ -12,7 +12,7 @@ use thiserror::Error;
 pub enum Place {
     /// The line, counted from 1.
     Line(u64),
-    /// The element of a JSON array, counted from 0.
+    /// The element of a JSON array, or of a list of EDN, counted from 0.
     Element(u64),
 }
 

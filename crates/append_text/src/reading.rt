@@ -1,6 +1,6 @@
 //! Reading histories.
 
-ghost use Rattle.std.specs.Prelude.{◌≡◌, List, ℕ, Some, IfOk, IfErr};
+ghost use Rattle.std.specs.Prelude.{◌≡◌, true, List, ℕ, Some, IfOk, IfErr};
 ghost use Rattle.append_text.specs.Meaning.Notations.{after_mark, notation_in};
 ghost use Rattle.append_text.specs.Meaning.JsonTexts.{IsFaultIn, IsHistoryIn, IsJsonFaultOf, IsJsonHistoryOf};
 ghost use Rattle.append_text.specs.Meaning.Texts.{IsFaultOf, IsHistoryOf};
@@ -22,6 +22,8 @@ use std::alloc::Global;
 pub fn read_history<S: Source>(alloc: Global, source: &mut S) -> Result<History, ReadFault>
     ensures history { (text : List ℕ) → S.remaining source.old ≡ Some text → IfOk result (IsHistoryIn (notation_in (after_mark text)) (after_mark text)) }
     ensures fault { (text : List ℕ) → S.remaining source.old ≡ Some text → IfErr result (IsFaultIn (notation_in (after_mark text)) (after_mark text)) }
+    ensures device { (text : List ℕ) → S.remaining source.old ≡ Some text
+        → IfErr result (λ e. e ≡ ReadFault.Device → S.is_failed source.new ≡ true) }
 {
     let mut buffer = Buffer::new();
     buffer.skip_mark(source)?;
@@ -37,6 +39,8 @@ pub fn read_history<S: Source>(alloc: Global, source: &mut S) -> Result<History,
 pub fn read_edn<S: Source>(alloc: Global, source: &mut S) -> Result<History, ReadFault>
     ensures history { (text : List ℕ) → S.remaining source.old ≡ Some text → IfOk result (IsHistoryOf (after_mark text)) }
     ensures fault { (text : List ℕ) → S.remaining source.old ≡ Some text → IfErr result (IsFaultOf (after_mark text)) }
+    ensures device { (text : List ℕ) → S.remaining source.old ≡ Some text
+        → IfErr result (λ e. e ≡ ReadFault.Device → S.is_failed source.new ≡ true) }
 {
     let mut buffer = Buffer::new();
     buffer.skip_mark(source)?;
@@ -51,6 +55,8 @@ pub fn read_edn<S: Source>(alloc: Global, source: &mut S) -> Result<History, Rea
 pub fn read_json<S: Source>(alloc: Global, source: &mut S) -> Result<History, ReadFault>
     ensures history { (text : List ℕ) → S.remaining source.old ≡ Some text → IfOk result (IsJsonHistoryOf (after_mark text)) }
     ensures fault { (text : List ℕ) → S.remaining source.old ≡ Some text → IfErr result (IsJsonFaultOf (after_mark text)) }
+    ensures device { (text : List ℕ) → S.remaining source.old ≡ Some text
+        → IfErr result (λ e. e ≡ ReadFault.Device → S.is_failed source.new ≡ true) }
 {
     let mut buffer = Buffer::new();
     buffer.skip_mark(source)?;

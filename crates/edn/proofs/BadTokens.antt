@@ -1,5 +1,5 @@
 -- What is wrong with bytes that begin no token.
-use Rattle.std.proofs.Common.{◌≡◌, ◌≢◌, ◌⊎◌, ℕ, zero, suc, ◌+◌, ◌==◌, Bool, true, false, cond, List, [], ◌∷◌, ◌++◌, length, take, drop, Option, None, Some, refl, sym, ap, ◌∙◌, subst, append_assoc, append-nil, take-append-drop, inl, inr}
+use Rattle.std.proofs.Common.{◌≡◌, ◌≢◌, ℕ, zero, suc, ◌+◌, ◌==◌, Bool, true, false, cond, List, [], ◌∷◌, ◌++◌, length, take, drop, Option, None, Some, refl, sym, ap, ◌∙◌, subst, append_assoc, append-nil, take-append-drop, inl, inr}
 use Rattle.std.specs.Prelude.{encode_utf8}
 use Rattle.std.specs.List.{prefix_len}
 use Rattle.std.specs.Io.KnownBytes.{prepend_known}
@@ -127,9 +127,9 @@ no_hash : (b : ℕ) (bs : List ℕ) → IsCut (35 ∷ b ∷ bs) → ⊥
 no_hash b bs =
     not_cut 35 (b ∷ bs) (λ no _. eqb-false 35 34 refl no) (λ no _. eqb-false 35 92 refl no) (λ _ none. some_bytes b bs none)
 
-map_tells : (b : ℕ) (bs rest : List ℕ) → Tells (35 ∷ b ∷ bs) (map_at rest)
-map_tells b bs [] = no_hash b bs
-map_tells b bs (c ∷ cs) = either (Tells (35 ∷ b ∷ bs)) (c == 123) _ (bad problem.Token) (λ _. tt) (λ _. no_hash b bs)
+map_tells : (b : ℕ) (bs name rest : List ℕ) → Tells (35 ∷ b ∷ bs) (map_at name rest)
+map_tells b bs name [] = no_hash b bs
+map_tells b bs name (c ∷ cs) = either (Tells (35 ∷ b ∷ bs)) (c == 123) _ (bad problem.Token) (λ _. tt) (λ _. no_hash b bs)
 
 dispatched_tells : (bs : List ℕ) → Tells (35 ∷ bs) (dispatched Nothing bs)
 dispatched_tells [] = inr (inr refl, refl)
@@ -141,7 +141,7 @@ dispatched_tells (b ∷ bs) =
     (λ _. either (Tells (35 ∷ b ∷ bs)) (is_symbolic (take (prefix_len is_word_byte bs) bs)) _ (bad problem.Token) (λ _. tt) (λ _. no_hash b bs))
     (λ _. either (Tells (35 ∷ b ∷ bs)) (b == 58) _ _
     (λ _. either (Tells (35 ∷ b ∷ bs)) (is_name (take (prefix_len is_word_byte bs) bs)) _ (bad problem.Token)
-    (λ _. map_tells b bs (drop (prefix_len is_word_byte bs) bs)) (λ _. no_hash b bs))
+    (λ _. map_tells b bs _ (drop (prefix_len is_word_byte bs) bs)) (λ _. no_hash b bs))
     (λ _. either (Tells (35 ∷ b ∷ bs)) (is_tag (take (prefix_len is_word_byte (b ∷ bs)) (b ∷ bs))) _ (bad problem.Token) (λ _. tt) (λ _. no_hash b bs))))))
 
 word_tells : (b : ℕ) (bs rest : List ℕ) (o : Option Form) → b ≢ 34 → b ≢ 92 → b ≢ 35 → Tells (b ∷ bs) (of_word o rest)

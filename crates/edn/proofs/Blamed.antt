@@ -1,5 +1,5 @@
 -- The fault that a reader meets is the first one of the text, and names its line.
-use Rattle.std.proofs.Common.{◌≡◌, ◌≢◌, ◌⊎◌, inl, inr, ℕ, suc, ◌+◌, ◌%◌, Bool, true, false, List, [], ◌∷◌, ◌++◌, length, Option, None, Some, Result, Ok, Err, refl, sym, ap, ◌∙◌, subst, append_assoc, append-nil, arith}
+use Rattle.std.proofs.Common.{◌≡◌, ◌≢◌, ◌⊎◌, inl, inr, ℕ, suc, ◌%◌, true, false, List, [], ◌∷◌, ◌++◌, length, Option, None, Some, Result, Ok, Err, refl, sym, ap, ◌∙◌, subst, append_assoc, append-nil, arith}
 use Rattle.edn.specs.declared.read_fault.Problem.{Problem}
 use Rattle.edn.specs.declared.read_fault.Problem.TheVariants as problem
 use Rattle.edn.specs.declared.read_fault.ReadFault.{ReadFault}
@@ -7,8 +7,8 @@ use Rattle.edn.specs.declared.read_fault.ReadFault.TheVariants.{Syntax, Device, 
 use Rattle.edn.specs.declared.reader.Reader.{Reader}
 use Rattle.edn.specs.declared.reader.Stage.{Stage}
 use Rattle.edn.specs.declared.reader.Stage.TheVariants.{Start, Forms, Elements, Closed, Failed}
-use Rattle.edn.specs.declared.token.Opening.{Opening}
-use Rattle.edn.specs.declared.token.Opening.TheVariants as opening
+use Rattle.edn.specs.Meaning.Openings.{Opening}
+use Rattle.edn.specs.Meaning.Openings as opening
 use Rattle.edn.specs.declared.token.Closing.{Closing}
 use Rattle.edn.specs.declared.token.Closing.TheVariants as closing
 use Rattle.edn.specs.declared.token.Token.{Token as TokenValue}
@@ -16,21 +16,22 @@ use Rattle.edn.specs.Meaning.Blame.{MayGoOn, IsInnermost, IsNoneOpen, IsWrongBeh
 use Rattle.edn.specs.Meaning.Faults.{IsOfText}
 use Rattle.edn.specs.Meaning.Forms.{Form}
 use Rattle.edn.specs.Meaning.Grammar.{AreItems, no_items, no_item, an_item, ArePairs, no_pairs, no_pair, a_pair}
-use Rattle.edn.specs.Meaning.Lexing.{Lexes, no_tokens, next, Begins}
+use Rattle.edn.specs.Meaning.Lexing.{Lexes, no_tokens, next}
 use Rattle.edn.specs.Meaning.Lines.{IsAt, NamesLine, line_after}
+use Rattle.edn.specs.Meaning.Names.{Namespace}
 use Rattle.edn.specs.Meaning.Nesting.{IsBefore}
 use Rattle.edn.specs.Meaning.Reading.{HasNoToken, IsBlankLeft, ReadsToken, ReadsTokens}
 use Rattle.edn.specs.Meaning.Readers.{IsFormAt, text_left}
 use Rattle.edn.specs.Meaning.Texts.{AreAll, AreSoFar, at_start, outside, inside, HasRead}
-use Rattle.edn.specs.Meaning.Tokens.{Token, opens, closes, discard, tag, meta, leaf, is_square}
-use Rattle.edn.specs.Computing.Building.{Frame, top, tagged, describing, discarding, in_list, in_vector, in_set, in_map, Step, is_top, problem_left, close, step, run, resume}
-use Rattle.edn.specs.Computing.Stages.{IsBadIn, IsUnfinished, Refused, Says, Stops}
+use Rattle.edn.specs.Meaning.Tokens.{Token, opens, closes, discard, tag, meta, leaf}
+use Rattle.edn.specs.Computing.Building.{Frame, top, tagged, describing, discarding, in_list, in_vector, in_set, in_map, Step, is_top, problem_left, close, step, resume}
+use Rattle.edn.specs.Computing.Stages.{IsBadIn, IsUnfinished, Refused, Stops}
 use Rattle.edn.proofs.Closings.{may_go_on}
 use Rattle.edn.proofs.Depths.{IsShallow}
-use Rattle.edn.proofs.FormsRead.{IsBehind, BeginsOther, HasClosed, Leads, discarded_only, reads_more}
+use Rattle.edn.proofs.FormsRead.{IsBehind, BeginsOther, Leads, discarded_only, reads_more}
 use Rattle.edn.proofs.Held.{Holds, AreBefore, AreDiscarded, none_more, items_append, no_forms_in, one_item}
 use Rattle.edn.proofs.Nested.{before_open, deep_tokens}
-use Rattle.edn.proofs.NoForms.{Goes, IsBegun, before_refused, begun_more, first_leads, next_leads, past_form, refused_of, runs, start_leads}
+use Rattle.edn.proofs.NoForms.{Goes, before_refused, begun_more, first_leads, next_leads, past_form, refused_of, runs, start_leads}
 use Rattle.edn.proofs.NotOver.{last_split, refused_last, unfinished_last}
 use Rattle.edn.proofs.NoTexts.{GoesOn, inside_all, left_on, parted, unopened}
 use Rattle.edn.proofs.TextsRead.{last_items, lexes_append, square_is}
@@ -159,14 +160,14 @@ lift : (ts0 ts : List Token) (o : Token) (fs : List Form) → IsInnermost ts o f
 lift ts0 ts o fs (us, vs, begins, none, items, e) =
     (ts0 ++ us, vs, begins, none, items, ap (λ xs. ts0 ++ xs) e ∙ sym (append_assoc ts0 us (o ∷ vs)))
 
-map_open : (ps : List (Form × Form)) (us vs ts : List Token) → ArePairs vs ps → ts ≡ us ++ opens opening.Map ∷ vs
-    → (fs : List Form) × IsInnermost ts (opens opening.Map) fs
-map_open ps us vs ts r e = let (fs, q, even) = even_items r in (fs, (us, vs, tt, tt, q, e))
+map_open : (namespace : Namespace) (ps : List (Form × Form)) (us vs ts : List Token) → ArePairs vs ps → ts ≡ us ++ opens (opening.Map namespace) ∷ vs
+    → (fs : List Form) × IsInnermost ts (opens (opening.Map namespace)) fs
+map_open namespace ps us vs ts r e = let (fs, q, even) = even_items r in (fs, (us, vs, tt, tt, q, e))
 
-key_open : (ps : List (Form × Form)) (k : Form) (us vs ws ds ts : List Token) → ArePairs vs ps → AreItems ws (k ∷ []) → AreDiscarded ds
-    → ts ≡ us ++ opens opening.Map ∷ (vs ++ (ws ++ ds))
-    → (fs : List Form) × IsInnermost ts (opens opening.Map) fs × (length fs % 2 ≡ 1)
-key_open ps k us vs ws ds ts r q d e =
+key_open : (namespace : Namespace) (ps : List (Form × Form)) (k : Form) (us vs ws ds ts : List Token) → ArePairs vs ps → AreItems ws (k ∷ []) → AreDiscarded ds
+    → ts ≡ us ++ opens (opening.Map namespace) ∷ (vs ++ (ws ++ ds))
+    → (fs : List Form) × IsInnermost ts (opens (opening.Map namespace)) fs × (length fs % 2 ≡ 1)
+key_open namespace ps k us vs ws ds ts r q d e =
     let (fs, p, even) = even_items r in (
       fs ++ k ∷ [],
       (us, vs ++ (ws ++ ds), tt, tt, items_append p (items_append q (no_forms_in d)), e),
@@ -177,7 +178,8 @@ key_open ps k us vs ws ds ts r q d e =
 abbrev WrongInside : Problem → List Token → Closing → Type 0
 WrongInside problem.Unopened ts b = (o : Opening) × (fs : List Form) × IsInnermost ts (opens o) fs × (closing_of o ≢ b)
 WrongInside problem.NoForm ts b = (o : Token) × (fs : List Form) × IsBefore o × IsInnermost ts o fs
-WrongInside problem.NoValue ts b = (b ≡ closing.Curly) × ((fs : List Form) × IsInnermost ts (opens opening.Map) fs × (length fs % 2 ≡ 1))
+WrongInside problem.NoValue ts b = (b ≡ closing.Curly)
+    × ((namespace : Namespace) × (fs : List Form) × IsInnermost ts (opens (opening.Map namespace)) fs × (length fs % 2 ≡ 1))
 WrongInside _ ts b = ⊥
 
 abbrev Wrong : Problem → List Frame → List Token → Closing → Type 0
@@ -223,22 +225,22 @@ close_wrong (in_set fs ∷ outer) ts closing.Round p (us, vs, h, r, is) e =
 close_wrong (in_set fs ∷ outer) ts closing.Square p (us, vs, h, r, is) e =
     wrong_so problem.Unopened p (in_set fs ∷ outer) ts closing.Square e (other_bracket opening.Set closing.Square ts fs (us, vs, tt, tt, r, is) (λ no. cc))
 close_wrong (in_set fs ∷ outer) ts closing.Curly p h e = absurd (cc)
-close_wrong (in_map ps None ∷ outer) ts closing.Round p (us, vs, h, r, is) e =
-    let (fs, inner) = map_open ps us vs ts r is in
-    wrong_so problem.Unopened p (in_map ps None ∷ outer) ts closing.Round e (other_bracket opening.Map closing.Round ts fs inner (λ no. cc))
-close_wrong (in_map ps None ∷ outer) ts closing.Square p (us, vs, h, r, is) e =
-    let (fs, inner) = map_open ps us vs ts r is in
-    wrong_so problem.Unopened p (in_map ps None ∷ outer) ts closing.Square e (other_bracket opening.Map closing.Square ts fs inner (λ no. cc))
-close_wrong (in_map ps None ∷ outer) ts closing.Curly p h e = absurd (cc)
-close_wrong (in_map ps (Some k) ∷ outer) ts closing.Round p (us, vs, ws, ds, h, r, q, d, is) e =
-    let (fs, inner, _) = key_open ps k us vs ws ds ts r (one_item q) d is in
-    wrong_so problem.Unopened p (in_map ps (Some k) ∷ outer) ts closing.Round e (other_bracket opening.Map closing.Round ts fs inner (λ no. cc))
-close_wrong (in_map ps (Some k) ∷ outer) ts closing.Square p (us, vs, ws, ds, h, r, q, d, is) e =
-    let (fs, inner, _) = key_open ps k us vs ws ds ts r (one_item q) d is in
-    wrong_so problem.Unopened p (in_map ps (Some k) ∷ outer) ts closing.Square e (other_bracket opening.Map closing.Square ts fs inner (λ no. cc))
-close_wrong (in_map ps (Some k) ∷ outer) ts closing.Curly p (us, vs, ws, ds, h, r, q, d, is) e =
-    let (fs, inner, odd) = key_open ps k us vs ws ds ts r (one_item q) d is in
-    wrong_so problem.NoValue p (in_map ps (Some k) ∷ outer) ts closing.Curly e (refl, (fs, inner, odd))
+close_wrong (in_map namespace ps None ∷ outer) ts closing.Round p (us, vs, h, r, is) e =
+    let (fs, inner) = map_open namespace ps us vs ts r is in
+    wrong_so problem.Unopened p (in_map namespace ps None ∷ outer) ts closing.Round e (other_bracket (opening.Map namespace) closing.Round ts fs inner (λ no. cc))
+close_wrong (in_map namespace ps None ∷ outer) ts closing.Square p (us, vs, h, r, is) e =
+    let (fs, inner) = map_open namespace ps us vs ts r is in
+    wrong_so problem.Unopened p (in_map namespace ps None ∷ outer) ts closing.Square e (other_bracket (opening.Map namespace) closing.Square ts fs inner (λ no. cc))
+close_wrong (in_map namespace ps None ∷ outer) ts closing.Curly p h e = absurd (cc)
+close_wrong (in_map namespace ps (Some k) ∷ outer) ts closing.Round p (us, vs, ws, ds, h, r, q, d, is) e =
+    let (fs, inner, _) = key_open namespace ps k us vs ws ds ts r (one_item q) d is in
+    wrong_so problem.Unopened p (in_map namespace ps (Some k) ∷ outer) ts closing.Round e (other_bracket (opening.Map namespace) closing.Round ts fs inner (λ no. cc))
+close_wrong (in_map namespace ps (Some k) ∷ outer) ts closing.Square p (us, vs, ws, ds, h, r, q, d, is) e =
+    let (fs, inner, _) = key_open namespace ps k us vs ws ds ts r (one_item q) d is in
+    wrong_so problem.Unopened p (in_map namespace ps (Some k) ∷ outer) ts closing.Square e (other_bracket (opening.Map namespace) closing.Square ts fs inner (λ no. cc))
+close_wrong (in_map namespace ps (Some k) ∷ outer) ts closing.Curly p (us, vs, ws, ds, h, r, q, d, is) e =
+    let (fs, inner, odd) = key_open namespace ps k us vs ws ds ts r (one_item q) d is in
+    wrong_so problem.NoValue p (in_map namespace ps (Some k) ∷ outer) ts closing.Curly e (refl, (namespace, fs, inner, odd))
 
 step_wrong : (stack : List Frame) (ts : List Token) (t : Token) (p : Problem) → Holds stack ts → step stack t ≡ Err p
     → (b : Closing) × (t ≡ closes b) × Wrong p stack ts b
@@ -256,8 +258,8 @@ lift_wrong : (ts0 ts : List Token) (t : Token) (b : Closing) (p : Problem) → t
     → IsWrongBehind p (ts0 ++ ts) t
 lift_wrong ts0 ts t b problem.Unopened e (o, fs, inner, other) = (b, e, inr (o, fs, lift ts0 ts (opens o) fs inner, other))
 lift_wrong ts0 ts t b problem.NoForm e (o, fs, before, inner) = (b, e, (o, fs, before, lift ts0 ts o fs inner))
-lift_wrong ts0 ts t b problem.NoValue e (curly, (fs, inner, odd)) =
-    (e ∙ ap closes curly, (fs, lift ts0 ts (opens opening.Map) fs inner, odd))
+lift_wrong ts0 ts t b problem.NoValue e (curly, (namespace, fs, inner, odd)) =
+    (e ∙ ap closes curly, (namespace, fs, lift ts0 ts (opens (opening.Map namespace)) fs inner, odd))
 lift_wrong ts0 ts t b problem.Token e never = absurd never
 lift_wrong ts0 ts t b problem.Unclosed e never = absurd never
 lift_wrong ts0 ts t b problem.Depth e never = absurd never
@@ -391,9 +393,9 @@ inner_end (discarding ∷ outer) ts (us, vs, h, d, is) busy = (discard, [], tt, 
 inner_end (in_list fs ∷ outer) ts (us, vs, h, r, is) busy = (opening.List, fs, (us, vs, tt, tt, r, is))
 inner_end (in_vector fs ∷ outer) ts (us, vs, h, r, is) busy = (opening.Vector, fs, (us, vs, tt, tt, r, is))
 inner_end (in_set fs ∷ outer) ts (us, vs, h, r, is) busy = (opening.Set, fs, (us, vs, tt, tt, r, is))
-inner_end (in_map ps None ∷ outer) ts (us, vs, h, r, is) busy = let (fs, inner) = map_open ps us vs ts r is in (opening.Map, fs, inner)
-inner_end (in_map ps (Some k) ∷ outer) ts (us, vs, ws, ds, h, r, q, d, is) busy =
-    let (fs, inner, _) = key_open ps k us vs ws ds ts r (one_item q) d is in (opening.Map, fs, inner)
+inner_end (in_map namespace ps None ∷ outer) ts (us, vs, h, r, is) busy = let (fs, inner) = map_open namespace ps us vs ts r is in (opening.Map namespace, fs, inner)
+inner_end (in_map namespace ps (Some k) ∷ outer) ts (us, vs, ws, ds, h, r, q, d, is) busy =
+    let (fs, inner, _) = key_open namespace ps k us vs ws ds ts r (one_item q) d is in (opening.Map namespace, fs, inner)
 
 lift_end : (ts0 ts : List Token) (p : Problem) → IsWrongAtEnd p ts → IsWrongAtEnd p (ts0 ++ ts)
 lift_end ts0 ts problem.Unclosed (o, fs, inner) = (o, fs, lift ts0 ts (opens o) fs inner)

@@ -1,8 +1,8 @@
 -- Whatever is open, more tokens can close it: a text that was read so far may go on as one of EDN.
-use Rattle.std.proofs.Common.{◌≡◌, ◌⊎◌, inl, inr, List, [], ◌∷◌, ◌++◌, true, Some, None, refl, sym, ap, ◌∙◌, subst, append_assoc, append-nil}
+use Rattle.std.proofs.Common.{◌≡◌, ◌⊎◌, inl, inr, List, [], ◌∷◌, ◌++◌, Some, None, sym, ap, ◌∙◌, subst, append_assoc, append-nil}
 use Rattle.edn.specs.declared.reader.Stage.{Stage}
 use Rattle.edn.specs.declared.reader.Stage.TheVariants.{Start, Forms, Elements, Closed, Failed}
-use Rattle.edn.specs.declared.token.Opening.TheVariants as opening
+use Rattle.edn.specs.Meaning.Openings as opening
 use Rattle.edn.specs.declared.token.Closing.TheVariants as closing
 use Rattle.edn.specs.Meaning.Blame.{MayGoOn}
 use Rattle.edn.specs.Meaning.Forms.{Form, nil}
@@ -59,22 +59,22 @@ close_up (in_vector fs ∷ outer) ts vs f (us, ds, h, r, e) q =
 close_up (in_set fs ∷ outer) ts vs f (us, ds, h, r, e) q =
     let (ws, gs, items) = close_up outer us (opens opening.Set ∷ (ds ++ vs) ++ closes closing.Curly ∷ []) _ h (a_set (items_append r (one_item q))) in
     (closes closing.Curly ∷ ws, gs, subst (λ xs. AreItems xs gs) (moved_closed ts us ds vs ws (opens opening.Set) (closes closing.Curly) e) items)
-close_up (in_map ps None ∷ outer) ts vs f (us, ds, h, r, e) q =
+close_up (in_map namespace ps None ∷ outer) ts vs f (us, ds, h, r, e) q =
     let both = vs ++ leaf nil ∷ [] in
-    let (ws, gs, items) = close_up outer us (opens opening.Map ∷ (ds ++ both) ++ closes closing.Curly ∷ []) _ h (a_map (pairs_append r (last_pair q a_leaf))) in (
+    let (ws, gs, items) = close_up outer us (opens (opening.Map namespace) ∷ (ds ++ both) ++ closes closing.Curly ∷ []) _ h (a_map (pairs_append r (last_pair q a_leaf))) in (
       leaf nil ∷ closes closing.Curly ∷ ws,
       gs,
       subst (λ xs. AreItems xs gs)
-          (moved_closed ts us ds both ws (opens opening.Map) (closes closing.Curly) e
+          (moved_closed ts us ds both ws (opens (opening.Map namespace)) (closes closing.Curly) e
           ∙ ap (λ xs. ts ++ xs) (append_assoc vs (leaf nil ∷ []) (closes closing.Curly ∷ ws))) items,
     )
-close_up (in_map ps (Some k) ∷ outer) ts vs f (us, xs, ks, ds, h, r, a, d, e) q =
+close_up (in_map namespace ps (Some k) ∷ outer) ts vs f (us, xs, ks, ds, h, r, a, d, e) q =
     let all = xs ++ (ks ++ ds) in
     let pairs =
     subst (λ ys. ArePairs ys (ps ++ (k, f) ∷ [])) (ap (λ ys. xs ++ ys) (sym (append_assoc ks ds vs)) ∙ sym (append_assoc xs (ks ++ ds) vs))
     (pairs_append r (last_pair a (later_item d q))) in
-    let (ws, gs, items) = close_up outer us (opens opening.Map ∷ (all ++ vs) ++ closes closing.Curly ∷ []) _ h (a_map pairs) in
-    (closes closing.Curly ∷ ws, gs, subst (λ ys. AreItems ys gs) (moved_closed ts us all vs ws (opens opening.Map) (closes closing.Curly) e) items)
+    let (ws, gs, items) = close_up outer us (opens (opening.Map namespace) ∷ (all ++ vs) ++ closes closing.Curly ∷ []) _ h (a_map pairs) in
+    (closes closing.Curly ∷ ws, gs, subst (λ ys. AreItems ys gs) (moved_closed ts us all vs ws (opens (opening.Map namespace)) (closes closing.Curly) e) items)
 
 closing_tokens : (stack : List Frame) (ts : List Token) → Holds stack ts → (us : List Token) × (gs : List Form) × AreItems (ts ++ us) gs
 closing_tokens stack ts h = let (us, gs, items) = close_up stack ts (leaf nil ∷ []) nil h a_leaf in (leaf nil ∷ us, gs, items)

@@ -1,16 +1,16 @@
 -- How many forms are open, one within the other: as many as the stack has frames, and never more than 64.
-use Rattle.std.proofs.Common.{◌≡◌, ◌≢◌, ◌≤◌, ◌<◌, ◌⊎◌, inl, inr, ℕ, suc, Bool, true, false, List, [], ◌∷◌, ◌++◌, length, Option, None, Some, Result, Ok, Err, refl, sym, ap, ◌∙◌, subst, append_assoc, append-nil, arith}
+use Rattle.std.proofs.Common.{◌≡◌, ◌≤◌, ◌<◌, ◌⊎◌, inl, inr, ℕ, suc, Bool, true, false, List, [], ◌∷◌, ◌++◌, length, Option, None, Some, Result, Ok, Err, refl, sym, ap, ◌∙◌, subst, append-nil, arith}
 use Rattle.edn.specs.declared.read_fault.Problem.{Problem}
 use Rattle.edn.specs.declared.read_fault.Problem.TheVariants.{Unopened}
 use Rattle.edn.specs.declared.read_fault.ReadFault.{ReadFault}
 use Rattle.edn.specs.declared.reader.Stage.{Stage}
 use Rattle.edn.specs.declared.reader.Stage.TheVariants.{Start, Forms, Elements, Closed, Failed}
-use Rattle.edn.specs.declared.token.Opening.TheVariants as opening
+use Rattle.edn.specs.Meaning.Openings as opening
 use Rattle.edn.specs.declared.token.Closing.{Closing}
 use Rattle.edn.specs.Meaning.Faults.{IsOfText}
 use Rattle.edn.specs.Meaning.Forms.{Form}
 use Rattle.edn.specs.Meaning.Grammar.{AreItems, no_items, no_item, an_item}
-use Rattle.edn.specs.Meaning.Lexing.{Lexes}
+use Rattle.edn.specs.Meaning.Names.{Namespace}
 use Rattle.edn.specs.Meaning.Nesting.{IsOpenAfter, IsOpening, Nests, none_open, one_open, AreTooDeep}
 use Rattle.edn.specs.Meaning.Reading.{HasNoToken, ReadsTokens}
 use Rattle.edn.specs.Meaning.Readers.{AreFirst, AreNext, BeginsTooDeep, IsFormAt}
@@ -36,7 +36,7 @@ leave_few (discarding ∷ outer) h = h
 leave_few (in_list fs ∷ outer) h = h
 leave_few (in_vector fs ∷ outer) h = h
 leave_few (in_set fs ∷ outer) h = h
-leave_few (in_map ps k ∷ outer) h = h
+leave_few (in_map namespace ps k ∷ outer) h = h
 
 top_few : (s : List Frame) → length s ≤ 65 → length (or_top s) ≤ 65
 top_few [] h = omega arith
@@ -51,7 +51,7 @@ into_few (discarding ∷ outer) f h = top_few outer (omega (arith, h))
 into_few (in_list fs ∷ outer) f h = h
 into_few (in_vector fs ∷ outer) f h = h
 into_few (in_set fs ∷ outer) f h = h
-into_few (in_map ps k ∷ outer) f h = h
+into_few (in_map namespace ps k ∷ outer) f h = h
 
 put_few : (s : List Frame) (f : Form) → length s ≤ 65 → length ((put s f).0) ≤ 65
 unfolding put
@@ -112,16 +112,16 @@ meta_reaches us [] stack few items = (describing ∷ stack, discards_in items re
 meta_reaches us (f ∷ []) stack few items = (tagged ∷ stack, meta_in items f refl stack, refl)
 meta_reaches us (f ∷ g ∷ fs) stack few items = absurd (omega (arith, few))
 
-map_items : {ts : List Token} {fs : List Form} → AreItems ts fs → (ps : List (Form × Form)) (k : Option Form) (outer : List Frame)
-    → (qs : List (Form × Form)) × (j : Option Form) × (run (in_map ps k ∷ outer) ts ≡ Ok (in_map qs j ∷ outer, None))
+map_items : {ts : List Token} {fs : List Form} → AreItems ts fs → (namespace : Namespace) (ps : List (Form × Form)) (k : Option Form) (outer : List Frame)
+    → (qs : List (Form × Form)) × (j : Option Form) × (run (in_map namespace ps k ∷ outer) ts ≡ Ok (in_map namespace qs j ∷ outer, None))
 unfolding step put
-map_items no_items ps k outer = (ps, k, refl)
-map_items (no_item {ds = ds} {ts = ts} d r) ps k outer =
-    let (qs, j, e) = map_items r ps k outer in (qs, j, item_runs d discarding (in_map ps k ∷ outer) ts ∙ e)
-map_items (an_item {us = us} {ts = ts} {f = f} q r) ps None outer =
-    let (qs, j, e) = map_items r ps (Some f) outer in (qs, j, item_runs q (in_map ps None) outer ts ∙ e)
-map_items (an_item {us = us} {ts = ts} {f = f} q r) ps (Some k) outer =
-    let (qs, j, e) = map_items r (ps ++ (k, f) ∷ []) None outer in (qs, j, item_runs q (in_map ps (Some k)) outer ts ∙ e)
+map_items no_items namespace ps k outer = (ps, k, refl)
+map_items (no_item {ds = ds} {ts = ts} d r) namespace ps k outer =
+    let (qs, j, e) = map_items r namespace ps k outer in (qs, j, item_runs d discarding (in_map namespace ps k ∷ outer) ts ∙ e)
+map_items (an_item {us = us} {ts = ts} {f = f} q r) namespace ps None outer =
+    let (qs, j, e) = map_items r namespace ps (Some f) outer in (qs, j, item_runs q (in_map namespace ps None) outer ts ∙ e)
+map_items (an_item {us = us} {ts = ts} {f = f} q r) namespace ps (Some k) outer =
+    let (qs, j, e) = map_items r namespace (ps ++ (k, f) ∷ []) None outer in (qs, j, item_runs q (in_map namespace ps (Some k)) outer ts ∙ e)
 
 -- the tokens lead to a stack of so many frames
 abbrev Reaches : Result Step Problem → ℕ → Type 0
@@ -138,8 +138,8 @@ unfolding step
 opening_reaches (opens opening.List) us fs stack begins none items = row_reaches in_list takes_list items stack
 opening_reaches (opens opening.Vector) us fs stack begins none items = row_reaches in_vector takes_vector items stack
 opening_reaches (opens opening.Set) us fs stack begins none items = row_reaches in_set takes_set items stack
-opening_reaches (opens opening.Map) us fs stack begins none items =
-    let (qs, j, e) = map_items items [] None stack in (in_map qs j ∷ stack, e, refl)
+opening_reaches (opens (opening.Map namespace)) us fs stack begins none items =
+    let (qs, j, e) = map_items items namespace [] None stack in (in_map namespace qs j ∷ stack, e, refl)
 opening_reaches (closes b) us fs stack begins none items = absurd begins
 opening_reaches discard us fs stack begins none items = (discarding ∷ stack, discards_in items none discarding stack, refl)
 opening_reaches tag us fs stack begins none items = (tagged ∷ stack, discards_in items none tagged stack, refl)

@@ -72,7 +72,7 @@ only_top (discarding ∷ outer) ts h e = absurd (let no : false ≡ true = e in 
 only_top (in_list fs ∷ outer) ts h e = absurd (let no : false ≡ true = e in cc)
 only_top (in_vector fs ∷ outer) ts h e = absurd (let no : false ≡ true = e in cc)
 only_top (in_set fs ∷ outer) ts h e = absurd (let no : false ≡ true = e in cc)
-only_top (in_map ps k ∷ outer) ts h e = absurd (let no : false ≡ true = e in cc)
+only_top (in_map namespace ps k ∷ outer) ts h e = absurd (let no : false ≡ true = e in cc)
 
 pub discarded_only : (stack : List Frame) (ts : List Token) → Holds stack ts → is_top stack ≡ true → AreDiscarded ts
 discarded_only stack ts h e = (subst (λ s. Holds s ts) (only_top stack ts h e) h).1

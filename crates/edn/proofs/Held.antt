@@ -1,6 +1,6 @@
 -- What the stack holds is what the tokens so far have made.
 use Rattle.std.proofs.Common.{◌≡◌, List, [], ◌∷◌, ◌++◌, Some, None, Result, Ok, Err, refl, sym, ap, ◌∙◌, subst, append_assoc, append-nil}
-use Rattle.edn.specs.declared.token.Opening.TheVariants as opening
+use Rattle.edn.specs.Meaning.Openings as opening
 use Rattle.edn.specs.declared.token.Closing.{Closing}
 use Rattle.edn.specs.declared.token.Closing.TheVariants as closing
 use Rattle.edn.specs.declared.read_fault.Problem.{Problem}
@@ -31,10 +31,10 @@ Holds (discarding ∷ outer) ts = (us vs : List Token) × Holds outer us × AreD
 Holds (in_list fs ∷ outer) ts = (us vs : List Token) × Holds outer us × AreItems vs fs × (ts ≡ us ++ opens opening.List ∷ vs)
 Holds (in_vector fs ∷ outer) ts = (us vs : List Token) × Holds outer us × AreItems vs fs × (ts ≡ us ++ opens opening.Vector ∷ vs)
 Holds (in_set fs ∷ outer) ts = (us vs : List Token) × Holds outer us × AreItems vs fs × (ts ≡ us ++ opens opening.Set ∷ vs)
-Holds (in_map ps None ∷ outer) ts = (us vs : List Token) × Holds outer us × ArePairs vs ps × (ts ≡ us ++ opens opening.Map ∷ vs)
-Holds (in_map ps (Some k) ∷ outer) ts =
+Holds (in_map namespace ps None ∷ outer) ts = (us vs : List Token) × Holds outer us × ArePairs vs ps × (ts ≡ us ++ opens (opening.Map namespace) ∷ vs)
+Holds (in_map namespace ps (Some k) ∷ outer) ts =
     (us vs ws ds : List Token) × Holds outer us × ArePairs vs ps × IsItem ws k × AreDiscarded ds
-    × (ts ≡ us ++ opens opening.Map ∷ (vs ++ (ws ++ ds)))
+    × (ts ≡ us ++ opens (opening.Map namespace) ∷ (vs ++ (ws ++ ds)))
 
 -- ---- one after another
 
@@ -115,10 +115,10 @@ discard_in (discarding ∷ outer) ts ds (us, vs, h, r, e) d = (us, vs ++ ds, h, 
 discard_in (in_list fs ∷ outer) ts ds (us, vs, h, r, e) d = (us, vs ++ ds, h, items_discard r d, more_after ts us vs (opens opening.List) e ds)
 discard_in (in_vector fs ∷ outer) ts ds (us, vs, h, r, e) d = (us, vs ++ ds, h, items_discard r d, more_after ts us vs (opens opening.Vector) e ds)
 discard_in (in_set fs ∷ outer) ts ds (us, vs, h, r, e) d = (us, vs ++ ds, h, items_discard r d, more_after ts us vs (opens opening.Set) e ds)
-discard_in (in_map ps None ∷ outer) ts ds (us, vs, h, r, e) d =
-    (us, vs ++ ds, h, pairs_discard r d, more_after ts us vs (opens opening.Map) e ds)
-discard_in (in_map ps (Some k) ∷ outer) ts ds (us, vs, ws, xs, h, r, q, x, e) d =
-    (us, vs, ws, xs ++ ds, h, r, q, discarded_append x d, more_after_key ts us vs ws xs (opens opening.Map) e ds)
+discard_in (in_map namespace ps None ∷ outer) ts ds (us, vs, h, r, e) d =
+    (us, vs ++ ds, h, pairs_discard r d, more_after ts us vs (opens (opening.Map namespace)) e ds)
+discard_in (in_map namespace ps (Some k) ∷ outer) ts ds (us, vs, ws, xs, h, r, q, x, e) d =
+    (us, vs, ws, xs ++ ds, h, r, q, discarded_append x d, more_after_key ts us vs ws xs (opens (opening.Map namespace)) e ds)
 
 -- ---- a form, and a token
 
@@ -160,7 +160,7 @@ put_holds (in_vector fs ∷ outer) ts vs f (us, ws, h, r, e) q =
     (us, ws ++ vs, h, items_append r (one_item q), more_after ts us ws (opens opening.Vector) e vs)
 put_holds (in_set fs ∷ outer) ts vs f (us, ws, h, r, e) q =
     (us, ws ++ vs, h, items_append r (one_item q), more_after ts us ws (opens opening.Set) e vs)
-put_holds (in_map ps None ∷ outer) ts vs f (us, ws, h, r, e) q = (
+put_holds (in_map namespace ps None ∷ outer) ts vs f (us, ws, h, r, e) q = (
   us,
   ws,
   vs,
@@ -169,15 +169,15 @@ put_holds (in_map ps None ∷ outer) ts vs f (us, ws, h, r, e) q = (
   r,
   q,
   none_more,
-  more_after ts us ws (opens opening.Map) e vs
-      ∙ ap (λ xs. us ++ opens opening.Map ∷ (ws ++ xs)) (sym (append-nil vs)),
+  more_after ts us ws (opens (opening.Map namespace)) e vs
+      ∙ ap (λ xs. us ++ opens (opening.Map namespace) ∷ (ws ++ xs)) (sym (append-nil vs)),
 )
-put_holds (in_map ps (Some k) ∷ outer) ts vs f (us, xs, ws, ds, h, r, a, d, e) q = (
+put_holds (in_map namespace ps (Some k) ∷ outer) ts vs f (us, xs, ws, ds, h, r, a, d, e) q = (
   us,
   xs ++ (ws ++ (ds ++ vs)),
   h,
   pairs_append r (last_pair a (later_item d q)),
-  more_after_key ts us xs ws ds (opens opening.Map) e vs,
+  more_after_key ts us xs ws ds (opens (opening.Map namespace)) e vs,
 )
 
 abbrev pub StepHolds : Result Step Problem → List Token → Type 0
@@ -209,11 +209,11 @@ close_holds (in_set fs ∷ outer) closing.Round ts h = tt
 close_holds (in_set fs ∷ outer) closing.Square ts h = tt
 close_holds (in_set fs ∷ outer) closing.Curly ts (us, vs, h, r, e) =
     closed_holds outer ts us vs _ _ _ h (a_set r) e
-close_holds (in_map ps k ∷ outer) closing.Round ts h = tt
-close_holds (in_map ps k ∷ outer) closing.Square ts h = tt
-close_holds (in_map ps None ∷ outer) closing.Curly ts (us, vs, h, r, e) =
+close_holds (in_map namespace ps k ∷ outer) closing.Round ts h = tt
+close_holds (in_map namespace ps k ∷ outer) closing.Square ts h = tt
+close_holds (in_map namespace ps None ∷ outer) closing.Curly ts (us, vs, h, r, e) =
     closed_holds outer ts us vs _ _ _ h (a_map r) e
-close_holds (in_map ps (Some k) ∷ outer) closing.Curly ts h = tt
+close_holds (in_map namespace ps (Some k) ∷ outer) closing.Curly ts h = tt
 
 pub step_holds : (stack : List Frame) (t : Token) (ts : List Token) → Holds stack ts
     → StepHolds (step stack t) (ts ++ t ∷ [])
@@ -221,7 +221,7 @@ unfolding step
 step_holds stack (opens opening.List) ts h = (ts, [], h, no_items, refl)
 step_holds stack (opens opening.Vector) ts h = (ts, [], h, no_items, refl)
 step_holds stack (opens opening.Set) ts h = (ts, [], h, no_items, refl)
-step_holds stack (opens opening.Map) ts h = (ts, [], h, no_pairs, refl)
+step_holds stack (opens (opening.Map namespace)) ts h = (ts, [], h, no_pairs, refl)
 step_holds stack (closes b) ts h = close_holds stack b ts h
 step_holds stack discard ts h = (ts, [], h, none_more, refl)
 step_holds stack tag ts h = (ts, tag ∷ [], [], h, by_tag, none_more, refl)

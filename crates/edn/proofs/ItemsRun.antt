@@ -4,6 +4,7 @@ use Rattle.edn.specs.declared.token.Closing.TheVariants as closing
 use Rattle.edn.specs.Meaning.Forms.{Form}
 use Rattle.edn.specs.Meaning.Tokens.{Token, closes}
 use Rattle.edn.specs.Meaning.Grammar.{IsItem, a_leaf, a_tagged, a_described, a_later, a_list, a_vector, a_set, a_map}
+use Rattle.edn.specs.Meaning.Names.{Namespace}
 use Rattle.edn.specs.Meaning.Grammar.{AreItems, no_items, no_item, an_item, ArePairs, no_pairs, no_pair, a_pair}
 use Rattle.edn.specs.Computing.Building.{Frame, in_list, in_vector, in_set, in_map, tagged, describing, discarding, put, step, run, resume}
 
@@ -47,9 +48,9 @@ mutual
   item_runs (a_set {ts = ts} r) frame outer us =
       closed_at _ ts (closes closing.Curly ∷ []) us
       ∙ items_run in_set takes_set r [] (frame ∷ outer) (closes closing.Curly ∷ us)
-  item_runs (a_map {ts = ts} r) frame outer us =
+  item_runs (a_map {ts = ts} {namespace = namespace} r) frame outer us =
       closed_at _ ts (closes closing.Curly ∷ []) us
-      ∙ pairs_run r [] (frame ∷ outer) (closes closing.Curly ∷ us)
+      ∙ pairs_run r namespace [] (frame ∷ outer) (closes closing.Curly ∷ us)
 
   pub items_run : (c : List Form → Frame) → Takes c → {ts : List Token} {fs : List Form} → AreItems ts fs
       → (gs : List Form) (outer : List Frame) (us : List Token)
@@ -65,14 +66,15 @@ mutual
       ∙ ap (λ hs. run (c hs ∷ outer) us) (append_assoc gs (f ∷ []) fs)
 
   pairs_run : {ts : List Token} {ps : List (Form × Form)} → ArePairs ts ps
-      → (qs : List (Form × Form)) (outer : List Frame) (us : List Token)
-      → run (in_map qs None ∷ outer) (ts ++ us) ≡ run (in_map (qs ++ ps) None ∷ outer) us
-  pairs_run no_pairs qs outer us = ap (λ rs. run (in_map rs None ∷ outer) us) (sym (append-nil qs))
-  pairs_run (no_pair {ds = ds} {ts = ts} d r) qs outer us =
-      closed_at _ ds ts us ∙ item_runs d discarding (in_map qs None ∷ outer) (ts ++ us) ∙ pairs_run r qs outer us
-  pairs_run (a_pair {us = vs} {vs = ws} {ts = ts} {k = k} {v = v} {ps = ps} q1 q2 r) qs outer us =
-      ap (run (in_map qs None ∷ outer)) (append_assoc (vs ++ ws) ts us ∙ append_assoc vs ws (ts ++ us))
-      ∙ item_runs q1 (in_map qs None) outer (ws ++ (ts ++ us))
-      ∙ item_runs q2 (in_map qs (Some k)) outer (ts ++ us)
-      ∙ pairs_run r (qs ++ (k, v) ∷ []) outer us
-      ∙ ap (λ rs. run (in_map rs None ∷ outer) us) (append_assoc qs ((k, v) ∷ []) ps)
+      → (namespace : Namespace) (qs : List (Form × Form)) (outer : List Frame) (us : List Token)
+      → run (in_map namespace qs None ∷ outer) (ts ++ us) ≡ run (in_map namespace (qs ++ ps) None ∷ outer) us
+  pairs_run no_pairs namespace qs outer us = ap (λ rs. run (in_map namespace rs None ∷ outer) us) (sym (append-nil qs))
+  pairs_run (no_pair {ds = ds} {ts = ts} d r) namespace qs outer us =
+      closed_at _ ds ts us ∙ item_runs d discarding (in_map namespace qs None ∷ outer) (ts ++ us)
+      ∙ pairs_run r namespace qs outer us
+  pairs_run (a_pair {us = vs} {vs = ws} {ts = ts} {k = k} {v = v} {ps = ps} q1 q2 r) namespace qs outer us =
+      ap (run (in_map namespace qs None ∷ outer)) (append_assoc (vs ++ ws) ts us ∙ append_assoc vs ws (ts ++ us))
+      ∙ item_runs q1 (in_map namespace qs None) outer (ws ++ (ts ++ us))
+      ∙ item_runs q2 (in_map namespace qs (Some k)) outer (ts ++ us)
+      ∙ pairs_run r namespace (qs ++ (k, v) ∷ []) outer us
+      ∙ ap (λ rs. run (in_map namespace rs None ∷ outer) us) (append_assoc qs ((k, v) ∷ []) ps)

@@ -3,7 +3,7 @@ use Rattle.std.proofs.Common.{◌≡◌, ◌≢◌, ℕ, zero, suc, ◌+◌, ◌
 use Rattle.std.proofs.Common.{inl, inr, refl, sym, ap, ◌∙◌, subst, append_assoc, take-append-drop, arith}
 use Rattle.std.specs.List.{prefix_len}
 use Rattle.std.proofs.lemmas.Bool.{eqb-true}
-use Rattle.edn.specs.declared.token.Opening.TheVariants as opening
+use Rattle.edn.specs.Meaning.Openings as opening
 use Rattle.edn.specs.declared.token.Beyond.{Beyond}
 use Rattle.edn.specs.declared.token.Beyond.TheVariants.{Unread, Nothing}
 use Rattle.edn.specs.Meaning.Bytes.{is_word_byte}
@@ -96,13 +96,13 @@ symbolic_so beyond text after t rest b e =
       ]
     ]
 
-map_so : (name r after : List ℕ) (t : Token) (rest : List ℕ) → IsWord name → is_name name ≡ true → map_at r ≡ token t rest
+map_so : (name r after : List ℕ) (t : Token) (rest : List ℕ) → IsWord name → is_name name ≡ true → map_at name r ≡ token t rest
     → Begins t (35 ∷ 58 ∷ (name ++ (r ++ after))) (rest ++ after)
 map_so name [] after t rest w g e = absurd (cc)
 map_so name (b ∷ bs) after t rest w g e =
     elim (chosen (b == 123) _ _ _ e) [
-      | inl v ↦ same (opens opening.Map) t bs rest v.1 (35 ∷ 58 ∷ (name ++ b ∷ (bs ++ after))) after
-          (subst (λ x. Begins (opens opening.Map) (35 ∷ 58 ∷ (name ++ x ∷ (bs ++ after))) (bs ++ after)) (sym (eqb-true b 123 v.0))
+      | inl v ↦ same (opens (opening.Map (Some name))) t bs rest v.1 (35 ∷ 58 ∷ (name ++ b ∷ (bs ++ after))) after
+          (subst (λ x. Begins (opens (opening.Map (Some name))) (35 ∷ 58 ∷ (name ++ x ∷ (bs ++ after))) (bs ++ after)) (sym (eqb-true b 123 v.0))
           (curly_opens_within name w g))
       | inr v ↦ absurd (let no : bad _ ≡ token t rest = v.1 in cc)
     ]

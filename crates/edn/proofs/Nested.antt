@@ -6,7 +6,7 @@ use Rattle.edn.specs.declared.read_fault.ReadFault.{ReadFault}
 use Rattle.edn.specs.declared.read_fault.ReadFault.TheVariants.{Syntax, Device, Memory}
 use Rattle.edn.specs.declared.reader.Stage.{Stage}
 use Rattle.edn.specs.declared.reader.Stage.TheVariants.{Start, Forms, Elements, Closed, Failed}
-use Rattle.edn.specs.declared.token.Opening.TheVariants as opening
+use Rattle.edn.specs.Meaning.Openings as opening
 use Rattle.edn.specs.declared.token.Closing.{Closing}
 use Rattle.edn.specs.declared.token.Closing.TheVariants as closing
 use Rattle.edn.specs.Meaning.Faults.{IsOfDepth}
@@ -55,12 +55,12 @@ nests (discarding ∷ outer) ts (us, vs, h, d, e) = within outer us vs ts discar
 nests (in_list fs ∷ outer) ts (us, vs, h, r, e) = within outer us vs ts (opens opening.List) fs h (nests outer us h) tt tt r e
 nests (in_vector fs ∷ outer) ts (us, vs, h, r, e) = within outer us vs ts (opens opening.Vector) fs h (nests outer us h) tt tt r e
 nests (in_set fs ∷ outer) ts (us, vs, h, r, e) = within outer us vs ts (opens opening.Set) fs h (nests outer us h) tt tt r e
-nests (in_map ps None ∷ outer) ts (us, vs, h, r, e) =
+nests (in_map namespace ps None ∷ outer) ts (us, vs, h, r, e) =
     let (fs, q) = items_of r in
-    within outer us vs ts (opens opening.Map) fs h (nests outer us h) tt tt q e
-nests (in_map ps (Some k) ∷ outer) ts (us, vs, ws, ds, h, r, q, d, e) =
+    within outer us vs ts (opens (opening.Map namespace)) fs h (nests outer us h) tt tt q e
+nests (in_map namespace ps (Some k) ∷ outer) ts (us, vs, ws, ds, h, r, q, d, e) =
     let (fs, p) = items_of r in
-    within outer us (vs ++ (ws ++ ds)) ts (opens opening.Map) _ h (nests outer us h) tt tt
+    within outer us (vs ++ (ws ++ ds)) ts (opens (opening.Map namespace)) _ h (nests outer us h) tt tt
     (items_append p (items_append (one_item q) (no_forms_in d))) e
 
 -- ---- a token that is refused for its depth
@@ -86,10 +86,10 @@ close_shallow (in_vector fs ∷ outer) closing.Curly = refl
 close_shallow (in_set fs ∷ outer) closing.Round = refl
 close_shallow (in_set fs ∷ outer) closing.Square = refl
 close_shallow (in_set fs ∷ outer) closing.Curly = refl
-close_shallow (in_map ps k ∷ outer) closing.Round = refl
-close_shallow (in_map ps k ∷ outer) closing.Square = refl
-close_shallow (in_map ps None ∷ outer) closing.Curly = refl
-close_shallow (in_map ps (Some k) ∷ outer) closing.Curly = refl
+close_shallow (in_map namespace ps k ∷ outer) closing.Round = refl
+close_shallow (in_map namespace ps k ∷ outer) closing.Square = refl
+close_shallow (in_map namespace ps None ∷ outer) closing.Curly = refl
+close_shallow (in_map namespace ps (Some k) ∷ outer) closing.Curly = refl
 
 step_shallow : (stack : List Frame) (t : Token) → is_shallow (step stack t) ≡ true
 unfolding is_shallow step

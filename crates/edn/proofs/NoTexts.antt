@@ -4,7 +4,7 @@ use Rattle.edn.specs.declared.reader.Reader.{Reader}
 use Rattle.edn.specs.declared.reader.Stage.{Stage}
 use Rattle.edn.specs.declared.reader.Stage.TheVariants.{Start, Forms, Elements}
 use Rattle.edn.specs.declared.read_fault.Problem.TheVariants.{Unopened}
-use Rattle.edn.specs.declared.token.Opening.TheVariants as opening
+use Rattle.edn.specs.Meaning.Openings as opening
 use Rattle.edn.specs.declared.token.Closing.TheVariants.{Square}
 use Rattle.edn.specs.Meaning.Forms.{Form}
 use Rattle.edn.specs.Meaning.Grammar.{IsItem, a_later, AreItems, no_items, no_item, an_item}

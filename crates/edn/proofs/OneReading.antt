@@ -4,7 +4,7 @@ use Rattle.std.specs.Prelude.{not}
 use Rattle.std.specs.List.{list_all}
 use Rattle.std.proofs.lemmas.Bool.{ne_eqb, and_parts}
 use Rattle.edn.specs.declared.token.Beyond.TheVariants.{Nothing}
-use Rattle.edn.specs.declared.token.Opening.TheVariants as opening
+use Rattle.edn.specs.Meaning.Openings as opening
 use Rattle.edn.specs.Meaning.Bytes.{is_space, is_end, is_word_byte}
 use Rattle.edn.specs.declared.read_fault.Problem.{Problem}
 use Rattle.edn.specs.Meaning.Characters.{is_character}
@@ -116,7 +116,7 @@ symbolic_again : (name rest : List ℕ) → IsWord name → is_symbolic name ≡
 symbolic_again name rest w g e = word_parts (symbolic_at Nothing) name rest w e ∙ rw g refl
 
 namespace_again : (name rest : List ℕ) → IsWord name → is_name name ≡ true
-    → dispatched Nothing (58 ∷ (name ++ 123 ∷ rest)) ≡ token (opens opening.Map) rest
+    → dispatched Nothing (58 ∷ (name ++ 123 ∷ rest)) ≡ token (opens (opening.Map (Some name))) rest
 namespace_again name rest w g = word_parts (namespace_at Nothing) name (123 ∷ rest) w e123 ∙ rw g refl
 
 character_again : (b : ℕ) (name rest : List ℕ) → IsWord name → is_character (b ∷ name) ≡ true

@@ -4,7 +4,7 @@ use Rattle.edn.specs.declared.reader.Reader.{Reader}
 use Rattle.edn.specs.declared.reader.Stage.{Stage}
 use Rattle.edn.specs.declared.reader.Stage.TheVariants.{Start, Elements}
 use Rattle.edn.specs.declared.token.Beyond.TheVariants.{Unread}
-use Rattle.edn.specs.declared.token.Opening.TheVariants as opening
+use Rattle.edn.specs.Meaning.Openings as opening
 use Rattle.edn.specs.declared.token.Closing.TheVariants.{Square}
 use Rattle.edn.specs.Meaning.Forms.{Form}
 use Rattle.edn.specs.Meaning.Grammar.{IsItem, AreItems, no_items}
@@ -29,7 +29,7 @@ pub square_is : (t : Token) → is_square t ≡ true → t ≡ opens opening.Vec
 square_is (opens opening.Vector) e = refl
 square_is (opens opening.List) e = absurd (let no : false ≡ true = e in cc)
 square_is (opens opening.Set) e = absurd (let no : false ≡ true = e in cc)
-square_is (opens opening.Map) e = absurd (let no : false ≡ true = e in cc)
+square_is (opens (opening.Map namespace)) e = absurd (let no : false ≡ true = e in cc)
 square_is (closes b) e = absurd (let no : false ≡ true = e in cc)
 square_is discard e = absurd (let no : false ≡ true = e in cc)
 square_is tag e = absurd (let no : false ≡ true = e in cc)

@@ -4,11 +4,13 @@ pub mod Names
 pub mod Characters
 pub mod Shorts
 pub mod Forms
+pub mod Keys
 pub mod Tapes
 pub mod Views
 pub mod Numbers
 pub mod Strings
 pub mod Words
+pub mod Openings
 pub mod Tokens
 pub mod Grammar
 pub mod Nesting

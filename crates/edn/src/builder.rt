@@ -3,17 +3,18 @@
 //! A function clears the room of all owned values that it may hold when it begins. So what holds such values, or is reached
 //! by few tokens, is not inlined into what each token goes through.
 
-ghost use Rattle.std.specs.Prelude.{◌≡◌, ◌≢◌, ◌∷◌, ◌++◌, ◌≤◌, ◌<◌, ◌+◌, [], Some, None, Ok, length, reverse, take, vec_len, true, false, IfOk, IfErr, OnOk, OnErr, ◌⊎◌, sum_by, if◌then◌else◌};
+ghost use Rattle.std.specs.Prelude.{◌≡◌, ◌≢◌, ◌∷◌, ◌++◌, ◌≤◌, ◌<◌, ◌+◌, ◌^◌, [], Some, None, Ok, length, reverse, take, vec_len, true, false, IfOk, IfErr, OnOk, OnErr, ◌⊎◌, sum_by, if◌then◌else◌};
 ghost use Rattle.edn.specs.Meaning.Forms.{atom_of};
+ghost use Rattle.edn.specs.Meaning.Keys.{name_in};
 ghost use Rattle.edn.specs.Meaning.Tapes.{collection, first_of};
 ghost use Rattle.edn.specs.Meaning.Nesting.{IsOpening};
 ghost use Rattle.edn.specs.Meaning.Views.{form_of};
 ghost use Rattle.edn.specs.Computing.Building as Spec;
-ghost use Rattle.edn.specs.Computing.Building.{Refuses, open_frame, problem_left, row_frame};
-ghost use Rattle.edn.specs.Machinery.Frames.{count_in, is_tag, to_leave};
+ghost use Rattle.edn.specs.Computing.Building.{Refuses, frames, in_map, problem_left, row_frame, width};
+ghost use Rattle.edn.specs.Machinery.Frames.{count_in, is_map, is_tag, to_leave};
 ghost use Rattle.edn.specs.Machinery.TapeForms.{tape_forms};
 ghost use Rattle.edn.specs.Machinery.Tapes.{is_fit};
-ghost use Rattle.edn.specs.Computing.Tokens.{token_of};
+ghost use Rattle.edn.specs.Computing.Tokens.{opening_of, token_of};
 
 use crate::atom::Atom;
 use crate::form::Form;
@@ -38,7 +39,7 @@ enum Open {
     Meta,
     /// A `#_`, whose form is to come.
     Discard,
-    /// A collection that has so many forms.
+    /// A collection that has so many forms, not counting the namespace of a map.
     Row(Row, usize),
 }
 
@@ -101,7 +102,7 @@ impl Builder {
         ensures refused { IfErr result (λ e. Refuses (stack_of self.old) e (Spec.step (stack_of self.old) (token_of leaf.old token))) }
     {
         match token {
-            Token::Open(bracket) => self.begin(opened(bracket)),
+            Token::Open(bracket) => self.open(bracket, leaf),
             Token::Tag => self.begin(Open::Tag),
             Token::Meta => self.begin(Open::Meta),
             Token::Discard => self.begin(Open::Discard),
@@ -124,11 +125,43 @@ impl Builder {
         }
     }
 
+    /// Begins a collection. Returns false.
+    fn open(&mut self, bracket: Opening, leaf: &mut Leaf) -> Result<bool, Refusal>
+        ensures ok { IfOk result (λ done. (done ≡ false)
+            × (stack_of self.new ≡ Spec.opened (opening_of leaf.old bracket) ∷ stack_of self.old)) }
+        ensures shallow { OnOk result (length (stack_of self.old) ≤ 64) }
+        ensures refused { IfErr result (λ e. (e ≡ Refusal.Memory)
+            ⊎ ((e ≡ Refusal.Problem Problem.Depth) × (65 ≤ length (stack_of self.old)))) }
+    {
+        match bracket {
+            Opening::List => self.begin(Open::Row(Row::List, 0)),
+            Opening::Vector => self.begin(Open::Row(Row::Vector, 0)),
+            Opening::Set => self.begin(Open::Row(Row::Set, 0)),
+            Opening::Map => self.begin(Open::Row(Row::Map, 0)),
+            Opening::NamespacedMap => self.begin_within(&mut leaf.atom),
+        }
+    }
+
+    /// Begins a map with this namespace, which becomes its first form. Returns false.
+    #[inline(never)]
+    fn begin_within(&mut self, namespace: &mut Atom) -> Result<bool, Refusal>
+        ensures ok { IfOk result (λ done. (done ≡ false)
+            × (stack_of self.new ≡ in_map (Some (name_in (atom_of namespace.old))) [] None ∷ stack_of self.old)) }
+        ensures shallow { OnOk result (length (stack_of self.old) ≤ 64) }
+        ensures refused { IfErr result (λ e. (e ≡ Refusal.Memory)
+            ⊎ ((e ≡ Refusal.Problem Problem.Depth) × (65 ≤ length (stack_of self.old)))) }
+    {
+        self.forms.push(mem::replace(namespace, Atom::Nil))?;
+        self.begin(Open::Row(Row::NamespacedMap, 0))
+    }
+
     /// Begins a form. Returns false.
     #[inline(never)]
     fn begin(&mut self, inner: Open) -> Result<bool, Refusal>
-        requires { count_in inner ≡ 0 }
-        ensures ok { IfOk result (λ done. (done ≡ false) × (stack_of self.new ≡ open_frame inner ∷ stack_of self.old)) }
+        requires { count_in inner + (count_in self.old.inner + sum_by count_in self.old.outer.items)
+            ≤ length (tape_forms self.old.forms) }
+        ensures ok { IfOk result (λ done. (done ≡ false)
+            × (stack_of self.new ≡ frames (inner ∷ self.old.inner ∷ reverse self.old.outer.items) (tape_forms self.old.forms))) }
         ensures shallow { OnOk result (length (stack_of self.old) ≤ 64) }
         ensures refused { IfErr result (λ e. (e ≡ Refusal.Memory)
             ⊎ ((e ≡ Refusal.Problem Problem.Depth) × (65 ≤ length (stack_of self.old)))) }
@@ -151,7 +184,11 @@ impl Builder {
             (Open::Row(Row::List, count), Closing::Round) => Ok(self.end(Row::List, count)?),
             (Open::Row(Row::Vector, count), Closing::Square) => Ok(self.end(Row::Vector, count)?),
             (Open::Row(Row::Set, count), Closing::Curly) => Ok(self.end(Row::Set, count)?),
-            (Open::Row(Row::Map, count), Closing::Curly) => self.end_map(count),
+            (Open::Row(Row::Map, count), Closing::Curly) => self.end_map(Row::Map, count),
+            (Open::Row(Row::NamespacedMap, count), Closing::Curly) => self.end_map(
+                Row::NamespacedMap,
+                count,
+            ),
             (Open::Tag, _) => Err(Refusal::Problem(Problem::NoForm)),
             (Open::Meta, _) => Err(Refusal::Problem(Problem::NoForm)),
             (Open::Discard, _) => Err(Refusal::Problem(Problem::NoForm)),
@@ -160,8 +197,9 @@ impl Builder {
     }
 
     /// Ends the map that is open and has so many keys and values.
-    fn end_map(&mut self, count: usize) -> Result<bool, Refusal>
-        requires { self.old.inner ≡ Open.Row Row.Map count }
+    fn end_map(&mut self, row: Row, count: usize) -> Result<bool, Refusal>
+        requires open { self.old.inner ≡ Open.Row row count }
+        requires map { is_map row ≡ true }
         ensures ok { IfOk result (λ done. Spec.close (stack_of self.old) Closing.Curly
             ≡ Ok (stack_of self.new, made_if done self.new)) }
         ensures refused { IfErr result (λ e. Refuses (stack_of self.old) e (Spec.close (stack_of self.old) Closing.Curly)) }
@@ -169,17 +207,17 @@ impl Builder {
         if count % 2 == 1 {
             return Err(Refusal::Problem(Problem::NoValue));
         }
-        Ok(self.end(Row::Map, count)?)
+        Ok(self.end(row, count)?)
     }
 
-    /// Ends this collection, which is open and has so many forms.
+    /// Ends this collection, which is open and has so many forms, not counting the namespace of a map.
     fn end(&mut self, row: Row, count: usize) -> Result<bool, AllocError>
         requires open { self.old.inner ≡ Open.Row row count }
-        requires fit { is_fit row count ≡ true }
+        requires fit { is_fit row (width row count) ≡ true }
         ensures { IfOk result (λ done. Spec.put (Spec.or_top (Spec.outer_of (stack_of self.old)))
-            (collection row (reverse (take count (tape_forms self.old.forms)))) ≡ (stack_of self.new, made_if done self.new)) }
+            (collection row (reverse (take (width row count) (tape_forms self.old.forms)))) ≡ (stack_of self.new, made_if done self.new)) }
     {
-        self.forms.end(row, count)?;
+        self.forms.end(row, width(row, count))?;
         self.inner = self.outer.pop().unwrap_or(Open::Top(0));
         Ok(self.put())
     }
@@ -255,16 +293,14 @@ impl Builder {
     }
 }
 
-/// What is open after an opening bracket.
-fn opened(bracket: Opening) -> Open
-    ensures frame { open_frame result ≡ Spec.opened bracket }
-    ensures none { count_in result ≡ 0 }
+/// Returns how many forms a collection has if it has so many beside the namespace of a map.
+fn width(row: Row, count: usize) -> usize
+    requires { width row count < 2 ^ 64 }
+    ensures { result ≡ width row count }
 {
-    match bracket {
-        Opening::List => Open::Row(Row::List, 0),
-        Opening::Vector => Open::Row(Row::Vector, 0),
-        Opening::Set => Open::Row(Row::Set, 0),
-        Opening::Map => Open::Row(Row::Map, 0),
+    match row {
+        Row::NamespacedMap => count + 1,
+        _ => count,
     }
 }
 

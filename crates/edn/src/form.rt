@@ -71,6 +71,7 @@ impl<'a> Forms<'a> {
             Row::Vector => Kind::Vector(self),
             Row::Set => Kind::Set(self),
             Row::Map => Kind::Map(self),
+            Row::NamespacedMap => Kind::NamespacedMap(self),
         }
     }
 

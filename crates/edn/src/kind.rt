@@ -34,6 +34,10 @@ pub enum Kind<'a> {
     Set(Forms<'a>),
     /// The keys and values of a map in turn, in the order of the text, also a key that comes twice.
     Map(Forms<'a>),
+    /// `#:a{..}`: the namespace as a symbol, and then the keys and values of the map in turn, as they are written, in the
+    /// order of the text. In the map, a keyword or symbol without a namespace has this one (`:b` is the key `:a/b`), and one
+    /// whose namespace is `_` has none (`:_/b` is the key `:b`).
+    NamespacedMap(Forms<'a>),
 }
 
 /// Returns what a form is that is no collection.

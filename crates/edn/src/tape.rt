@@ -17,6 +17,8 @@ pub(crate) enum Row {
     Set,
     /// Keys and values in turn.
     Map,
+    /// A namespace, and then keys and values in turn.
+    NamespacedMap,
 }
 
 /// A form that is no collection, or the end of one.

@@ -30,6 +30,8 @@ pub(crate) enum Opening {
     Set,
     /// `{`
     Map,
+    /// `#:`, a namespace and `{`; whoever reads the token says where to put the namespace, as a symbol.
+    NamespacedMap,
 }
 
 /// A bracket that closes a collection.
@@ -218,27 +220,34 @@ fn dispatched<'a>(
         [b'_', rest @ ..] => Ok(Lexed::Token(Token::Discard, rest)),
         [b'^', rest @ ..] => Ok(Lexed::Token(Token::Meta, rest)),
         [b'#', text @ ..] => symbolic(alloc, text, beyond, leaf),
-        [b':', text @ ..] => Ok(namespace(text, beyond)),
+        [b':', text @ ..] => namespace(alloc, text, beyond, leaf),
         _ => Ok(tag(text, beyond)),
     }
 }
 
-/// Reads the namespace of a map after `#:`, and the bracket that opens the map right behind it. Nothing is kept of the
-/// namespace.
-fn namespace(text: &[u8], beyond: Beyond) -> Lexed<'_>
-    ensures exact { (f : LeafValue) → lexed_of f result ≡ Spec.namespace_token beyond text.now }
-    ensures within { IsWithin beyond text.now result }
+/// Reads the namespace of a map after `#:`, and the bracket that opens the map right behind it.
+fn namespace<'a>(
+    alloc: Global,
+    text: &'a [u8],
+    beyond: Beyond,
+    leaf: &mut Leaf,
+) -> Result<Lexed<'a>, AllocError>
+    ensures exact { IfOk result (λ l. lexed_of leaf.new l ≡ Spec.namespace_token beyond text.now) }
+    ensures within { IfOk result (IsWithin beyond text.now) }
 {
     let (name, rest) = text.split_at(word_len(text));
     if may_go_on(rest, beyond) {
-        return Lexed::More;
+        return Ok(Lexed::More);
     }
     if !is_name(name) {
-        return Lexed::Bad(Problem::Token);
+        return Ok(Lexed::Bad(Problem::Token));
     }
     match rest {
-        [b'{', rest @ ..] => Lexed::Token(Token::Open(Opening::Map), rest),
-        _ => Lexed::Bad(Problem::Token),
+        [b'{', rest @ ..] => {
+            put(&mut leaf.atom, Atom::Symbol(name.to_vec(alloc)?));
+            Ok(Lexed::Token(Token::Open(Opening::NamespacedMap), rest))
+        }
+        _ => Ok(Lexed::Bad(Problem::Token)),
     }
 }
 

@@ -1,2 +1,3 @@
 pub mod Yes
 pub mod Runs
+pub mod ListWords

@@ -17,7 +17,7 @@ use Rattle.ssi_cli.specs.Clauses.Scripts.{Ran, Certified, course_of}
 use Rattle.headline.specs.Headline.{GetsYes}
 
 -- a device that held nothing holds what was written to it
-written : {D : Type 0} (contents : D → Option (List ℕ)) (old new : Watched D) (text bytes : List ℕ) → contents old.device ≡ Some []
+pub written : {D : Type 0} (contents : D → Option (List ℕ)) (old new : Watched D) (text bytes : List ℕ) → contents old.device ≡ Some []
     → contents new.device ≡ Some bytes → Grew contents old new text → bytes ≡ text
 written contents old new text bytes blank held grew =
     subst (λ o. Appends (Some []) o text) held (subst (λ o. Appends o (contents new.device) text) blank grew.appends)

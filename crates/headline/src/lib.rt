@@ -1,5 +1,5 @@
-//! What all of this is for: a law about the verdict yes, and a run of the store whose texts are audited at once. Its
-//! contract says that the verdict is yes, whatever the command lines are.
+//! What all of this is for: a law about the verdict yes; a run of the store whose texts are audited at once, and whose
+//! contract says that the verdict is yes, whatever the command lines are; and what `lists` answers to a text.
 #![tactic(auto)]
 
 ghost use Rattle.std.specs.Prelude.{◌≡◌, ◌⊎◌, ℕ, List, true, IfOk};
@@ -7,11 +7,16 @@ ghost use Rattle.adya_audit.specs.Computing.Verdicts.{plain_verdict};
 ghost use Rattle.adya_audit.specs.Clauses.TextVerdicts.{IsVerdictOn};
 ghost use Rattle.headline.specs.Headline.{GetsYes, YesMeansSerializable};
 
+mod lists;
+#[cfg(test)]
+mod tests;
+
 use adya_audit::laws::{
     accepted_texts_are_serializable, accepted_texts_get_yes, yes_iff_texts_accepted,
 };
 use adya_audit::{Verdict, run_audit};
 use devices::Watched;
+pub use lists::{ListAnswer, ListFault, answered_list};
 use ssi_cli::run_script;
 use ssi_line::End;
 use std::alloc::{AllocError, Global};

@@ -119,8 +119,14 @@ fn answered<R: Runtime + AllocGlobal, S: Source>(
 /// Says on standard error what the answer rests on.
 fn say_basis<R: Eprint>(rt: &R, basis: &Basis) {
     let _ = eprintln!(rt;
-        "lists: rests on {} transactions ok, {} info, {} fail; {} reads of {} elements; {} operations passed over",
-        basis.ok, basis.info, basis.fail, basis.reads, basis.elements, basis.passed_over
+        "lists: rests on {} transactions ok, {} info, {} fail; {} reads of {} elements; passed over {} operations of another :f, {} of another :process",
+        basis.ok,
+        basis.info,
+        basis.fail,
+        basis.reads,
+        basis.elements,
+        basis.passed_over.other_function,
+        basis.passed_over.other_process
     );
 }
 

@@ -1,1 +1,3 @@
 pub mod Right
+pub mod Blamed
+pub mod Counted

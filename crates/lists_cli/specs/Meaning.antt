@@ -1,2 +1,3 @@
--- What an answer says.
+-- What an answer says, and what it rests on.
 pub mod Answers
+pub mod Rests

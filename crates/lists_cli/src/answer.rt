@@ -214,9 +214,12 @@ fn other(
 }
 
 fn rests_on(alloc: Global, basis: &Basis) -> Result<Value, AllocError> {
+    let passed_over = json!(in alloc; {
+        "f": basis.passed_over.other_function, "process": basis.passed_over.other_process
+    })?;
     json!(in alloc; {
         "ok": basis.ok, "info": basis.info, "fail": basis.fail,
-        "reads": basis.reads, "elements": basis.elements, "passed_over": basis.passed_over
+        "reads": basis.reads, "elements": basis.elements, "passed_over": passed_over
     })
 }
 

@@ -73,11 +73,13 @@ pub(crate) fn nothing_in_words(alloc: Global, history: &History) -> Result<Vec<u
     } else {
         page.words("no committed transaction has a step\n")?;
     }
-    if basis.passed_over > 0 {
-        page.number(basis.passed_over)?;
-        page.words(
-            " operations were passed over: their `:f` isn't `:txn`, or their `:process` is no integer\n",
-        )?;
+    if basis.passed_over.other_function > 0 {
+        page.number(basis.passed_over.other_function)?;
+        page.words(" operations were passed over because their `:f` isn't `:txn`\n")?;
+    }
+    if basis.passed_over.other_process > 0 {
+        page.number(basis.passed_over.other_process)?;
+        page.words(" operations were passed over because their `:process` is no integer\n")?;
     }
     Ok(page.bytes)
 }

@@ -58,8 +58,10 @@ pub fn judge<S: Source, O: Write, D: Write, W: Write>(
     out: &mut Watched<W>,
 ) -> Result<Answered, Fault>
     ensures answered { (text : List ℕ) → S.remaining source.old ≡ Some text → IfOk result (λ a. IsAnswer O.contents W.contents shape
-        (notation_for form (after_mark text)) (after_mark text) a.answer order.old order.new out.old out.new) }
+        (notation_for form (after_mark text)) (after_mark text) a.answer a.basis order.old order.new out.old out.new) }
     ensures refused { (text : List ℕ) → S.remaining source.old ≡ Some text → IfErr result (IsRefusal (notation_for form (after_mark text)) (after_mark text)) }
+    ensures read_fault { (text : List ℕ) → S.remaining source.old ≡ Some text → IsErrOf result Fault.Read
+        → S.is_failed source.new ≡ true }
     ensures order_fault { IsErrOf result Fault.Order → has_failed order.new ≡ true }
     ensures drawing_fault { IsErrOf result Fault.Drawing → has_failed drawing.new ≡ true }
     ensures write_fault { IsErrOf result Fault.Write → has_failed out.new ≡ true }
@@ -74,36 +76,25 @@ pub fn judge<S: Source, O: Write, D: Write, W: Write>(
     write_order(&history, &findings.verdict, order)?;
     write_drawing(alloc, &history, &findings.verdict, drawing)?;
     tell(alloc, &history, &findings, shape, out)?;
-    Ok(Answered {
-        answer,
-        basis: Basis::of(&history),
-    })
+    let basis = Basis::of(&history);
+    Ok(Answered { answer, basis })
 }
 
 /// Reads a history in this notation, or in the one that the text tells.
-fn read<S: Source>(alloc: Global, source: &mut S, form: Option<TextForm>) -> Result<History, Fault>
+fn read<S: Source>(
+    alloc: Global,
+    source: &mut S,
+    form: Option<TextForm>,
+) -> Result<History, ReadFault>
     ensures history { (text : List ℕ) → S.remaining source.old ≡ Some text → IfOk result (IsHistoryIn (notation_for form (after_mark text)) (after_mark text)) }
-    ensures refused { (text : List ℕ) → S.remaining source.old ≡ Some text → IfErr result (IsRefusal (notation_for form (after_mark text)) (after_mark text)) }
-    ensures no_other { IfErr result IsReading }
-{
-    let found = match form {
-        None => read_history(alloc, source),
-        Some(form) => read_in(alloc, source, form),
-    };
-    match found {
-        Ok(history) => Ok(history),
-        Err(fault) => Err(Fault::from(fault)),
-    }
-}
-
-/// Reads a history in this notation.
-fn read_in<S: Source>(alloc: Global, source: &mut S, form: TextForm) -> Result<History, ReadFault>
-    ensures history { (text : List ℕ) → S.remaining source.old ≡ Some text → IfOk result (IsHistoryIn form (after_mark text)) }
-    ensures fault { (text : List ℕ) → S.remaining source.old ≡ Some text → IfErr result (IsFaultIn form (after_mark text)) }
+    ensures fault { (text : List ℕ) → S.remaining source.old ≡ Some text → IfErr result (IsFaultIn (notation_for form (after_mark text)) (after_mark text)) }
+    ensures device { (text : List ℕ) → S.remaining source.old ≡ Some text
+        → IfErr result (λ e. e ≡ ReadFault.Device → S.is_failed source.new ≡ true) }
 {
     match form {
-        TextForm::Edn => read_edn(alloc, source),
-        TextForm::Json => read_json(alloc, source),
+        None => read_history(alloc, source),
+        Some(TextForm::Edn) => read_edn(alloc, source),
+        Some(TextForm::Json) => read_json(alloc, source),
     }
 }
 

@@ -75,6 +75,11 @@ elements (list fs) = Some (listed fs)
 elements (vector fs) = Some (listed fs)
 elements _ = None
 
+-- what a form stands for among those of a text in EDN: the elements of a list, as of a printed sequence, else itself
+abbrev pub parts : Form → List Form
+parts (list fs) = listed fs
+parts f = f ∷ []
+
 -- the entries of a map
 abbrev pub entries_in : Form → Option Pairs
 entries_in (entries ps) = Some ps

@@ -1,5 +1,5 @@
 -- Which operation of a transaction a form is, if it is one.
-use Rattle.std.specs.Prelude.{ℕ, ℤ, pos, negsuc, false, nat_eq, List, [], ◌∷◌, codes, Option, Some, None, if◌then◌else◌, Result, Ok, Err}
+use Rattle.std.specs.Prelude.{ℕ, ℤ, pos, negsuc, Bool, false, nat_eq, List, [], ◌∷◌, codes, Option, Some, None, if◌then◌else◌, Result, Ok, Err}
 use Rattle.std.specs.Option.{ok_or, option_map_or, option_and_then}
 use Rattle.std.specs.Cmp.Lexicographic.{pointwise}
 use Rattle.edn.specs.Meaning.Forms.{Form, Pairs}
@@ -118,6 +118,10 @@ operation n place ps process = and_then (λ k. and_then
 abbrev pub of_process : TextForm → ℕ → Pairs → Option ℤ → Result (Option Said) Problem
 of_process n place ps None = Ok None
 of_process n place ps (Some process) = operation n place ps process
+
+-- the form is a map whose `:f` is `:txn`
+abbrev pub is_of_txn : TextForm → Form → Bool
+is_of_txn n f = option_map_or (λ ps. option_map_or (is_word n (codes "txn")) (field n (codes "f") ps) false) (entries_in f) false
 
 -- what the form at this place of a text says; nothing, if it is an operation of no transaction
 abbrev pub said : TextForm → ℕ → Form → Result (Option Said) Problem

@@ -1,7 +1,7 @@
 -- What a text says, and what is wrong with one that is that of no history.
-use Rattle.std.specs.Prelude.{◌≡◌, ◌⊎◌, ℕ, suc, ◌-◌, ◌^◌, min, List, [], ◌∷◌, ◌++◌, length, map, Option, Some, None, Result, Ok, Err}
-use Rattle.std.specs.List.{AllZip}
-use Rattle.edn.specs.Meaning.Forms.{Form}
+use Rattle.std.specs.Prelude.{◌≡◌, ◌⊎◌, ℕ, ◌-◌, ◌^◌, min, not, List, [], ◌∷◌, ◌++◌, length, map, flat_map, Option, Some, None, Result, Ok, Err}
+use Rattle.std.specs.List.{AllZip, filter}
+use Rattle.edn.specs.Meaning.Forms.{Form, list, forms_of}
 use Rattle.edn.specs.Meaning.Blame.{HasFault}
 use Rattle.edn.specs.Meaning.Lexing.{Lexes}
 use Rattle.edn.specs.Meaning.Lines.{line_after}
@@ -11,6 +11,7 @@ use Rattle.edn.specs.declared.read_fault.Problem.{Problem as EdnProblem}
 use Rattle.edn.specs.declared.reader.Stage.{Stage}
 use Rattle.append_values.specs.Meaning.Histories.{transaction_of}
 use Rattle.append_text.specs.declared.history.History.{History}
+use Rattle.append_text.specs.declared.history.PassedOver.{PassedOver}
 use Rattle.append_text.specs.declared.name.Kept.{Kept}
 use Rattle.append_text.specs.declared.read_fault.Place.TheVariants.{Line, Element}
 use Rattle.append_text.specs.declared.read_fault.Problem.{Problem}
@@ -20,7 +21,8 @@ use Rattle.append_text.specs.declared.read_fault.ReadFault.TheVariants.{Text, De
 use Rattle.append_text.specs.declared.text_form.TextForm.{TextForm}
 use Rattle.append_text.specs.declared.text_form.TextForm.TheVariants as notation
 use Rattle.append_text.specs.Meaning.Numbers.{IsOneToOne, IsOp}
-use Rattle.append_text.specs.Meaning.Operations.{Said, said}
+use Rattle.append_text.specs.Meaning.Data.{parts}
+use Rattle.append_text.specs.Meaning.Operations.{Said, said, is_of_txn}
 use Rattle.append_text.specs.Meaning.Pairing.{Op, MayFollow, transactions}
 
 -- what 64 bits count: up to the greatest number
@@ -31,13 +33,18 @@ counted n = min n (2 ^ 64 - 1)
 abbrev pub said_after : TextForm → List Form → Form → Result (Option Said) Problem
 said_after n fs f = said n (counted (length fs)) f
 
--- each form is one of these operations, in the same order, or is passed over; so many are
-pub data AreOperations : TextForm → List Form → List Said → ℕ → Type 0 where
-  no_forms : {n : TextForm} → AreOperations n [] [] 0
-  operation : {n : TextForm} {fs : List Form} {os : List Said} {passed : ℕ} (f : Form) (o : Said) → AreOperations n fs os passed
+-- each form is one of these operations, in the same order, or one of those that are passed over
+pub data AreOperations : TextForm → List Form → List Said → List Form → Type 0 where
+  no_forms : {n : TextForm} → AreOperations n [] [] []
+  operation : {n : TextForm} {fs : List Form} {os : List Said} {passed : List Form} (f : Form) (o : Said) → AreOperations n fs os passed
       → said_after n fs f ≡ Ok (Some o) → AreOperations n (fs ++ f ∷ []) (os ++ o ∷ []) passed
-  passed_over : {n : TextForm} {fs : List Form} {os : List Said} {passed : ℕ} (f : Form) → AreOperations n fs os passed
-      → said_after n fs f ≡ Ok None → AreOperations n (fs ++ f ∷ []) os (suc passed)
+  passed_over : {n : TextForm} {fs : List Form} {os : List Said} {passed : List Form} (f : Form) → AreOperations n fs os passed
+      → said_after n fs f ≡ Ok None → AreOperations n (fs ++ f ∷ []) os (passed ++ f ∷ [])
+
+-- so many of the forms that are passed over have another `:f`, and so many another `:process`
+pub record ArePassed (n : TextForm) (passed : List Form) (p : PassedOver) : Type 0 where
+  pub other_function : p.other_function ≡ counted (length (filter (λ f. not (is_of_txn n f)) passed))
+  pub other_process : p.other_process ≡ counted (length (filter (is_of_txn n) passed))
 
 -- each operation may come after those before it
 pub data AreInOrder : List Op → Type 0 where
@@ -45,7 +52,7 @@ pub data AreInOrder : List Op → Type 0 where
   one_more : {ops : List Op} (o : Op) → AreInOrder ops → MayFollow ops o → AreInOrder (ops ++ o ∷ [])
 
 -- the forms are these operations, whose names have numbers by those that are kept
-pub record AreNumbered (n : TextForm) (kept : List Kept) (fs : List Form) (passed : ℕ) (ops : List Op) : Type 0 where
+pub record AreNumbered (n : TextForm) (kept : List Kept) (fs : List Form) (passed : List Form) (ops : List Op) : Type 0 where
   pub said : List Said
   pub operations : AreOperations n fs said passed
   pub numbered : AllZip (IsOp kept) said ops
@@ -54,18 +61,18 @@ pub record AreNumbered (n : TextForm) (kept : List Kept) (fs : List Form) (passe
 -- the history that the forms say
 pub record IsHistory (n : TextForm) (fs : List Form) (h : History) : Type 0 where
   pub ops : List Op
-  pub passed : ℕ
+  pub passed : List Form
   pub numbered : AreNumbered n h.names.kept.keys fs passed ops
   pub transactions_are : map transaction_of h.transactions.items ≡ map (λ f. f.transaction) (transactions ops)
   pub labels_are : h.labels.items ≡ map (λ f. f.label) (transactions ops)
-  pub passed_are : h.passed_over ≡ counted passed
+  pub passed_are : ArePassed n passed h.passed_over
   pub one_to_one : IsOneToOne h.names.kept.keys
 
 -- the forms are operations in order
 pub record AreAllowed (n : TextForm) (fs : List Form) : Type 0 where
   pub kept : List Kept
   pub one_to_one : IsOneToOne kept
-  pub passed : ℕ
+  pub passed : List Form
   pub ops : List Op
   pub numbered : AreNumbered n kept fs passed ops
 
@@ -89,12 +96,24 @@ pub record EndsOn (text : List ℕ) (fs : List Form) (line : ℕ) : Type 0 where
   pub forms : AreSoFar stage tokens fs
   pub line_is : line ≡ line_after front
 
--- the form that ends on the line is the first that is no operation, or can't come there
+-- the form that ends on the line is no list, and the first that is no operation, or can't come there
 pub record HasOther (text : List ℕ) (line : ℕ) (p : Problem) : Type 0 where
   pub before : List Form
   pub form : Form
   pub ends : EndsOn text (before ++ form ∷ []) line
-  pub wrong : IsWrongAfter notation.Edn before form p
+  pub one : parts form ≡ form ∷ []
+  pub wrong : IsWrongAfter notation.Edn (flat_map parts before) form p
+
+-- the element at this place of a list is the first form that is no operation, or can't come there
+pub record HasOtherListed (text : List ℕ) (place : ℕ) (p : Problem) : Type 0 where
+  pub before : List Form
+  pub front : List Form
+  pub form : Form
+  pub back : List Form
+  pub line : ℕ
+  pub ends : EndsOn text (before ++ list (forms_of (front ++ form ∷ back)) ∷ []) line
+  pub place_is : place ≡ length front
+  pub wrong : IsWrongAfter notation.Edn (flat_map parts before ++ front) form p
 
 -- this is the first that is wrong with a text in EDN
 abbrev pub IsFirstProblem : List ℕ → ℕ → Problem → Type 0
@@ -102,10 +121,10 @@ IsFirstProblem bytes line p = ((q : EdnProblem) × (p ≡ problem.Edn q) × HasF
 
 abbrev pub IsFaultOf : List ℕ → ReadFault → Type 0
 IsFaultOf bytes (Text (Line line) p) = IsFirstProblem bytes line p
-IsFaultOf bytes (Text (Element k) p) = ⊥
+IsFaultOf bytes (Text (Element k) p) = HasOtherListed bytes k p
 IsFaultOf bytes Device = Unit {0}
 IsFaultOf bytes Memory = Unit {0}
 
--- the history that a text in EDN says
+-- the history that a text in EDN says: that of its forms, or of the elements of one that is a list
 abbrev pub IsHistoryOf : List ℕ → History → Type 0
-IsHistoryOf bytes h = (fs : List Form) × IsText bytes fs × IsHistory notation.Edn fs h
+IsHistoryOf bytes h = (fs : List Form) × IsText bytes fs × IsHistory notation.Edn (flat_map parts fs) h

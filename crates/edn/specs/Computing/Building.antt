@@ -1,5 +1,5 @@
 -- Making forms of tokens. What is open around the next token is a stack, the innermost first.
-use Rattle.std.specs.Prelude.{◌≡◌, ◌≤◌, List, [], ◌∷◌, ◌++◌, length, take, drop, reverse, Bool, true, false, Option, Some, None, Result, Ok, Err, ◌⊎◌}
+use Rattle.std.specs.Prelude.{◌≡◌, ◌≤◌, ℕ, suc, List, [], ◌∷◌, ◌++◌, length, take, drop, reverse, Bool, true, false, Option, Some, None, Result, Ok, Err, ◌⊎◌}
 use Rattle.edn.specs.declared.builder.Open.{Open}
 use Rattle.edn.specs.declared.builder.Open.TheVariants as In
 use Rattle.edn.specs.declared.tape.Row.{Row}
@@ -8,11 +8,13 @@ use Rattle.edn.specs.declared.read_fault.Problem.{Problem}
 use Rattle.edn.specs.declared.read_fault.Problem.TheVariants as problem
 use Rattle.edn.specs.declared.read_fault.Refusal.{Refusal}
 use Rattle.edn.specs.declared.read_fault.Refusal.TheVariants as refusal
-use Rattle.edn.specs.declared.token.Opening.{Opening}
-use Rattle.edn.specs.declared.token.Opening.TheVariants as opening
 use Rattle.edn.specs.declared.token.Closing.{Closing}
 use Rattle.edn.specs.declared.token.Closing.TheVariants as closing
 use Rattle.edn.specs.Meaning.Forms.{Form, list, vector, set, entries, forms_of, pairs_of}
+use Rattle.edn.specs.Meaning.Keys.{entries_in, name_in}
+use Rattle.edn.specs.Meaning.Names.{Namespace}
+use Rattle.edn.specs.Meaning.Openings.{Opening}
+use Rattle.edn.specs.Meaning.Openings as opening
 use Rattle.edn.specs.Meaning.Tapes.{paired}
 use Rattle.edn.specs.Meaning.Tokens.{Token, opens, closes, discard, tag, meta, leaf}
 
@@ -26,7 +28,7 @@ pub data Frame : Type 0 where
   in_list : List Form → Frame
   in_vector : List Form → Frame
   in_set : List Form → Frame
-  in_map : List (Form × Form) → Option Form → Frame
+  in_map : Namespace → List (Form × Form) → Option Form → Frame
 
 -- a last key without a value
 abbrev pub unpaired : List Form → Option Form
@@ -34,19 +36,22 @@ unpaired [] = None
 unpaired (k ∷ []) = Some k
 unpaired (k ∷ v ∷ fs) = unpaired fs
 
+-- a map whose first form is its namespace
+abbrev pub within_frame : List Form → Frame
+within_frame [] = in_map (Some []) [] None
+within_frame (namespace ∷ fs) = in_map (Some (name_in namespace)) (paired fs) (unpaired fs)
+
 abbrev pub row_frame : Row → List Form → Frame
 row_frame Of.List fs = in_list fs
 row_frame Of.Vector fs = in_vector fs
 row_frame Of.Set fs = in_set fs
-row_frame Of.Map fs = in_map (paired fs) (unpaired fs)
+row_frame Of.Map fs = in_map None (paired fs) (unpaired fs)
+row_frame Of.NamespacedMap fs = within_frame fs
 
--- what has no form yet
-abbrev pub open_frame : Open → Frame
-open_frame (In.Top n) = top
-open_frame In.Tag = tagged
-open_frame In.Meta = describing
-open_frame In.Discard = discarding
-open_frame (In.Row row n) = row_frame row []
+-- so many forms has a row that has so many beside a namespace
+abbrev pub width : Row → ℕ → ℕ
+width Of.NamespacedMap n = suc n
+width _ n = n
 
 -- what is open, the innermost first, with its forms of these, the newest of which come first
 abbrev pub frames : List Open → List Form → List Frame
@@ -55,7 +60,7 @@ frames (In.Top n ∷ os) fs = top ∷ frames os (drop n fs)
 frames (In.Tag ∷ os) fs = tagged ∷ frames os fs
 frames (In.Meta ∷ os) fs = describing ∷ frames os fs
 frames (In.Discard ∷ os) fs = discarding ∷ frames os fs
-frames (In.Row row n ∷ os) fs = row_frame row (reverse (take n fs)) ∷ frames os (drop n fs)
+frames (In.Row row n ∷ os) fs = row_frame row (reverse (take (width row n) fs)) ∷ frames os (drop (width row n) fs)
 
 abbrev pub outer_of : List Frame → List Frame
 outer_of [] = []
@@ -70,7 +75,7 @@ is_top (discarding ∷ outer) = false
 is_top (in_list fs ∷ outer) = false
 is_top (in_vector fs ∷ outer) = false
 is_top (in_set fs ∷ outer) = false
-is_top (in_map ps k ∷ outer) = false
+is_top (in_map namespace ps k ∷ outer) = false
 
 -- what is wrong with a text that ends there
 abbrev pub problem_left : List Frame → Problem
@@ -94,7 +99,7 @@ leave_tags (discarding ∷ outer) = discarding ∷ outer
 leave_tags (in_list fs ∷ outer) = in_list fs ∷ outer
 leave_tags (in_vector fs ∷ outer) = in_vector fs ∷ outer
 leave_tags (in_set fs ∷ outer) = in_set fs ∷ outer
-leave_tags (in_map ps k ∷ outer) = in_map ps k ∷ outer
+leave_tags (in_map namespace ps k ∷ outer) = in_map namespace ps k ∷ outer
 
 -- what is open next, and the form that is part of no other
 abbrev pub Step : Type 0
@@ -109,8 +114,8 @@ into_map discarding f = discarding
 into_map (in_list fs) f = in_list fs
 into_map (in_vector fs) f = in_vector fs
 into_map (in_set fs) f = in_set fs
-into_map (in_map ps None) f = in_map ps (Some f)
-into_map (in_map ps (Some k)) f = in_map (ps ++ (k, f) ∷ []) None
+into_map (in_map namespace ps None) f = in_map namespace ps (Some f)
+into_map (in_map namespace ps (Some k)) f = in_map namespace (ps ++ (k, f) ∷ []) None
 
 abbrev pub into_frame : Frame → List Frame → Form → Step
 into_frame top outer f = (top ∷ outer, Some f)
@@ -120,7 +125,7 @@ into_frame discarding outer f = (or_top outer, None)
 into_frame (in_list fs) outer f = (in_list (fs ++ f ∷ []) ∷ outer, None)
 into_frame (in_vector fs) outer f = (in_vector (fs ++ f ∷ []) ∷ outer, None)
 into_frame (in_set fs) outer f = (in_set (fs ++ f ∷ []) ∷ outer, None)
-into_frame (in_map ps k) outer f = (into_map (in_map ps k) f ∷ outer, None)
+into_frame (in_map namespace ps k) outer f = (into_map (in_map namespace ps k) f ∷ outer, None)
 
 abbrev pub into_stack : List Frame → Form → Step
 into_stack [] f = ([], Some f)
@@ -134,7 +139,7 @@ abbrev pub opened : Opening → Frame
 opened opening.List = in_list []
 opened opening.Vector = in_vector []
 opened opening.Set = in_set []
-opened opening.Map = in_map [] None
+opened (opening.Map namespace) = in_map namespace [] None
 
 -- what is wrong with a closing bracket
 abbrev pub problem_at : Frame → Closing → Option Problem
@@ -151,9 +156,9 @@ problem_at (in_vector fs) closing.Curly = Some problem.Unopened
 problem_at (in_set fs) closing.Round = Some problem.Unopened
 problem_at (in_set fs) closing.Square = Some problem.Unopened
 problem_at (in_set fs) closing.Curly = None
-problem_at (in_map ps k) closing.Round = Some problem.Unopened
-problem_at (in_map ps k) closing.Square = Some problem.Unopened
-problem_at (in_map ps k) closing.Curly = None
+problem_at (in_map namespace ps k) closing.Round = Some problem.Unopened
+problem_at (in_map namespace ps k) closing.Square = Some problem.Unopened
+problem_at (in_map namespace ps k) closing.Curly = None
 
 -- the collection, unless a key lacks its value
 abbrev pub collection : Frame → Option Form
@@ -164,8 +169,8 @@ collection discarding = None
 collection (in_list fs) = Some (list (forms_of fs))
 collection (in_vector fs) = Some (vector (forms_of fs))
 collection (in_set fs) = Some (set (forms_of fs))
-collection (in_map ps None) = Some (entries (pairs_of ps))
-collection (in_map ps (Some k)) = None
+collection (in_map namespace ps None) = Some (entries (pairs_of (entries_in namespace ps)))
+collection (in_map namespace ps (Some k)) = None
 
 abbrev pub close_with : Option Problem → Option Form → List Frame → Result Step Problem
 close_with (Some p) f outer = Err p

@@ -4,7 +4,8 @@ use Rattle.std.specs.Prelude.{Option, Some, None, if◌then◌else◌}
 use Rattle.std.specs.List.{prefix_len}
 use Rattle.edn.specs.declared.read_fault.Problem.{Problem}
 use Rattle.edn.specs.declared.read_fault.Problem.TheVariants as problem
-use Rattle.edn.specs.declared.token.Opening.TheVariants as opening
+use Rattle.edn.specs.declared.token.Opening.{Opening as OpeningValue}
+use Rattle.edn.specs.declared.token.Opening.TheVariants as Bracket
 use Rattle.edn.specs.declared.token.Closing.TheVariants as closing
 use Rattle.edn.specs.declared.token.Beyond.{Beyond}
 use Rattle.edn.specs.declared.token.Beyond.TheVariants.{Unread, Nothing}
@@ -16,8 +17,11 @@ use Rattle.edn.specs.declared.token.Lexed.TheVariants as Read
 use Rattle.edn.specs.Meaning.Bytes.{is_word_byte}
 use Rattle.edn.specs.Meaning.Characters.{is_character}
 use Rattle.edn.specs.Meaning.Forms.{Form, nil, integer, number, string, character, keyword, atom_of}
+use Rattle.edn.specs.Meaning.Keys.{name_in}
 use Rattle.edn.specs.Meaning.Names.{is_name, is_tag}
 use Rattle.edn.specs.Meaning.Numbers.{is_symbolic}
+use Rattle.edn.specs.Meaning.Openings.{Opening}
+use Rattle.edn.specs.Meaning.Openings as opening
 use Rattle.edn.specs.Meaning.Shorts.{short_text}
 use Rattle.edn.specs.Meaning.Tokens.{Token, opens, closes, discard, tag, meta, leaf}
 use Rattle.edn.specs.Meaning.Words.{word_of}
@@ -30,9 +34,17 @@ pub data Lexed : Type 0 where
   more : Lexed
   bad : Problem → Lexed
 
+-- the bracket may have its namespace in the leaf
+abbrev pub opening_of : LeafValue → OpeningValue → Opening
+opening_of f Bracket.List = opening.List
+opening_of f Bracket.Vector = opening.Vector
+opening_of f Bracket.Set = opening.Set
+opening_of f Bracket.Map = opening.Map None
+opening_of f Bracket.NamespacedMap = opening.Map (Some (name_in (atom_of f.atom)))
+
 -- the token may have its form in the leaf
 abbrev pub token_of : LeafValue → TokenValue → Token
-token_of f (In.Open b) = opens b
+token_of f (In.Open b) = opens (opening_of f b)
 token_of f (In.Close b) = closes b
 token_of f In.Discard = discard
 token_of f In.Tag = tag
@@ -119,14 +131,14 @@ abbrev pub symbolic_token : Beyond → List ℕ → Lexed
 symbolic_token beyond text =
     symbolic_at beyond (take (prefix_len is_word_byte text) text) (drop (prefix_len is_word_byte text) text)
 
--- the bracket of a map at the front
-abbrev pub map_at : List ℕ → Lexed
-map_at [] = bad problem.Token
-map_at (b ∷ bs) = if b == 123 then token (opens opening.Map) bs else bad problem.Token
+-- the bracket of a map with this namespace at the front
+abbrev pub map_at : List ℕ → List ℕ → Lexed
+map_at name [] = bad problem.Token
+map_at name (b ∷ bs) = if b == 123 then token (opens (opening.Map (Some name))) bs else bad problem.Token
 
 abbrev pub namespace_at : Beyond → List ℕ → List ℕ → Lexed
 namespace_at beyond name rest =
-    if may_go_on rest beyond then more else if is_name name then map_at rest else bad problem.Token
+    if may_go_on rest beyond then more else if is_name name then map_at name rest else bad problem.Token
 
 -- after `#:`
 abbrev pub namespace_token : Beyond → List ℕ → Lexed
@@ -161,7 +173,7 @@ token_at beyond (b ∷ bs) =
     if b == 35 then dispatched beyond bs else
     if b == 40 then token (opens opening.List) bs else
     if b == 91 then token (opens opening.Vector) bs else
-    if b == 123 then token (opens opening.Map) bs else
+    if b == 123 then token (opens (opening.Map None)) bs else
     if b == 41 then token (closes closing.Round) bs else
     if b == 93 then token (closes closing.Square) bs else
     if b == 125 then token (closes closing.Curly) bs else

@@ -3,7 +3,7 @@ use Rattle.std.specs.Prelude.{ℕ, zero, suc, ◌+◌, ◌%◌, ◌==◌, Bool, 
 use Rattle.edn.specs.declared.tape.Node.{Node}
 use Rattle.edn.specs.declared.tape.Node.TheVariants.{Atom, End}
 use Rattle.edn.specs.declared.tape.Row.{Row}
-use Rattle.edn.specs.declared.tape.Row.TheVariants.{Map}
+use Rattle.edn.specs.declared.tape.Row.TheVariants.{Map, NamespacedMap}
 use Rattle.edn.specs.Meaning.Tapes.{forms_back}
 
 -- the nodes before the last forms, so many of them
@@ -19,9 +19,10 @@ are_atoms [] = true
 are_atoms (Atom a ∷ xs) = are_atoms xs
 are_atoms (End row n start ∷ xs) = false
 
--- so many forms may a collection have: a map has a value for each key
+-- so many forms may a collection have: a map has a value for each key, and perhaps a namespace
 abbrev pub is_fit : Row → ℕ → Bool
 is_fit Map n = n % 2 == 0
+is_fit NamespacedMap n = n % 2 == 1
 is_fit _ n = true
 
 -- the end of each collection has as many forms before it as it says, and names the place where they begin

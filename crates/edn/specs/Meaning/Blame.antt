@@ -5,8 +5,6 @@ use Rattle.edn.specs.declared.read_fault.Problem.TheVariants as problem
 use Rattle.edn.specs.declared.read_fault.ReadFault.{ReadFault}
 use Rattle.edn.specs.declared.read_fault.ReadFault.TheVariants.{Syntax, Device, Memory}
 use Rattle.edn.specs.declared.reader.Stage.{Stage}
-use Rattle.edn.specs.declared.token.Opening.{Opening}
-use Rattle.edn.specs.declared.token.Opening.TheVariants as opening
 use Rattle.edn.specs.declared.token.Closing.{Closing}
 use Rattle.edn.specs.declared.token.Closing.TheVariants as closing
 use Rattle.edn.specs.Meaning.Bytes.{is_space}
@@ -15,6 +13,9 @@ use Rattle.edn.specs.Meaning.Grammar.{AreItems}
 use Rattle.edn.specs.Meaning.Lexing.{IsGap, IsBlank, Begins, Lexes}
 use Rattle.edn.specs.Meaning.Lines.{line_after}
 use Rattle.edn.specs.Meaning.Nesting.{IsOpening, IsOpenAfter, IsBefore, AreTooDeep}
+use Rattle.edn.specs.Meaning.Names.{Namespace}
+use Rattle.edn.specs.Meaning.Openings.{Opening}
+use Rattle.edn.specs.Meaning.Openings as opening
 use Rattle.edn.specs.Meaning.Readers.{AreNext}
 use Rattle.edn.specs.Meaning.Strings.{IsInside, escape_len}
 use Rattle.edn.specs.Meaning.Texts.{AreAll, AreSoFar}
@@ -65,7 +66,7 @@ abbrev pub closing_of : Opening → Closing
 closing_of opening.List = closing.Round
 closing_of opening.Vector = closing.Square
 closing_of opening.Set = closing.Curly
-closing_of opening.Map = closing.Curly
+closing_of (opening.Map namespace) = closing.Curly
 
 abbrev pub begins_vector : List Token → Bool
 begins_vector [] = false
@@ -83,7 +84,8 @@ IsWrongBehind problem.Unopened ts t =
 IsWrongBehind problem.NoForm ts t =
     (b : Closing) × (t ≡ closes b) × ((o : Token) × (fs : List Form) × IsBefore o × IsInnermost ts o fs)
 IsWrongBehind problem.NoValue ts t =
-    (t ≡ closes closing.Curly) × ((fs : List Form) × IsInnermost ts (opens opening.Map) fs × (length fs % 2 ≡ 1))
+    (t ≡ closes closing.Curly)
+    × ((namespace : Namespace) × (fs : List Form) × IsInnermost ts (opens (opening.Map namespace)) fs × (length fs % 2 ≡ 1))
 IsWrongBehind problem.AfterVector ts t =
     (us : List Token) × (fs : List Form) × AreItems us fs × (ts ≡ opens opening.Vector ∷ us ++ closes closing.Square ∷ [])
 IsWrongBehind _ ts t = ⊥

@@ -1,8 +1,10 @@
 -- The forms that tokens make.
 use Rattle.std.specs.Prelude.{List, [], ◌∷◌, ◌++◌}
-use Rattle.edn.specs.declared.token.Opening.TheVariants as opening
 use Rattle.edn.specs.declared.token.Closing.TheVariants as closing
 use Rattle.edn.specs.Meaning.Forms.{Form, list, vector, set, entries, forms_of, pairs_of}
+use Rattle.edn.specs.Meaning.Keys.{entries_in}
+use Rattle.edn.specs.Meaning.Names.{Namespace}
+use Rattle.edn.specs.Meaning.Openings as opening
 use Rattle.edn.specs.Meaning.Tokens.{Token, opens, closes, discard, tag, meta, leaf}
 
 mutual
@@ -19,8 +21,8 @@ mutual
         → IsItem (opens opening.Vector ∷ ts ++ closes closing.Square ∷ []) (vector (forms_of fs))
     a_set : {ts : List Token} {fs : List Form} → AreItems ts fs
         → IsItem (opens opening.Set ∷ ts ++ closes closing.Curly ∷ []) (set (forms_of fs))
-    a_map : {ts : List Token} {ps : List (Form × Form)} → ArePairs ts ps
-        → IsItem (opens opening.Map ∷ ts ++ closes closing.Curly ∷ []) (entries (pairs_of ps))
+    a_map : {ts : List Token} {ps : List (Form × Form)} {namespace : Namespace} → ArePairs ts ps
+        → IsItem (opens (opening.Map namespace) ∷ ts ++ closes closing.Curly ∷ []) (entries (pairs_of (entries_in namespace ps)))
 
   -- forms one after another; `#_` with a form may stand anywhere
   pub data AreItems : List Token → List Form → Type 0 where

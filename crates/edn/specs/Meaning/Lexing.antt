@@ -1,13 +1,13 @@
 -- How tokens are written, and what may stand between them.
-use Rattle.std.specs.Prelude.{◌≡◌, ◌≢◌, ℕ, true, List, [], ◌∷◌, ◌++◌, All, Some}
+use Rattle.std.specs.Prelude.{◌≡◌, ◌≢◌, ℕ, true, List, [], ◌∷◌, ◌++◌, All, None, Some}
 use Rattle.std.specs.List.{list_all}
-use Rattle.edn.specs.declared.token.Opening.TheVariants as opening
 use Rattle.edn.specs.declared.token.Closing.TheVariants as closing
 use Rattle.edn.specs.Meaning.Bytes.{is_space, is_end, is_word_byte}
 use Rattle.edn.specs.Meaning.Characters.{is_character}
 use Rattle.edn.specs.Meaning.Forms.{Form, number, string, character}
 use Rattle.edn.specs.Meaning.Names.{is_name, is_tag}
 use Rattle.edn.specs.Meaning.Numbers.{is_symbolic}
+use Rattle.edn.specs.Meaning.Openings as opening
 use Rattle.edn.specs.Meaning.Strings.{IsInside}
 use Rattle.edn.specs.Meaning.Tokens.{Token, opens, closes, discard, tag, meta, leaf}
 use Rattle.edn.specs.Meaning.Words.{word_of}
@@ -40,15 +40,15 @@ IsWord name = list_all is_word_byte name ≡ true
 pub data Begins : Token → List ℕ → List ℕ → Type 0 where
   round_opens : {rest : List ℕ} → Begins (opens opening.List) (40 ∷ rest) rest
   square_opens : {rest : List ℕ} → Begins (opens opening.Vector) (91 ∷ rest) rest
-  curly_opens : {rest : List ℕ} → Begins (opens opening.Map) (123 ∷ rest) rest
+  curly_opens : {rest : List ℕ} → Begins (opens (opening.Map None)) (123 ∷ rest) rest
   set_opens : {rest : List ℕ} → Begins (opens opening.Set) (35 ∷ 123 ∷ rest) rest
   round_closes : {rest : List ℕ} → Begins (closes closing.Round) (41 ∷ rest) rest
   square_closes : {rest : List ℕ} → Begins (closes closing.Square) (93 ∷ rest) rest
   curly_closes : {rest : List ℕ} → Begins (closes closing.Curly) (125 ∷ rest) rest
   discards : {rest : List ℕ} → Begins discard (35 ∷ 95 ∷ rest) rest
-  -- a map with a namespace; its keys are those that are written, without it
+  -- a map with a namespace
   curly_opens_within : {rest : List ℕ} (name : List ℕ) → IsWord name → is_name name ≡ true
-      → Begins (opens opening.Map) (35 ∷ 58 ∷ (name ++ 123 ∷ rest)) rest
+      → Begins (opens (opening.Map (Some name))) (35 ∷ 58 ∷ (name ++ 123 ∷ rest)) rest
   metas : {rest : List ℕ} → Begins meta (94 ∷ rest) rest
   old_metas : {rest : List ℕ} → Begins meta (35 ∷ 94 ∷ rest) rest
   symbolics : {rest : List ℕ} (name : List ℕ) → IsWord name → is_symbolic name ≡ true → Ends rest

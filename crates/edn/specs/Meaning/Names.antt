@@ -1,7 +1,8 @@
 -- The names of symbols, keywords and tags. All that Clojure's reader takes is one, and some more.
-use Rattle.std.specs.Prelude.{ℕ, Bool, false, not, ◌&&◌, ◌||◌, ◌==◌, nat_le, nat_lt, List, [], ◌∷◌, length, take, drop}
+use Rattle.std.specs.Prelude.{ℕ, Bool, true, false, nat_eq, not, ◌&&◌, ◌||◌, ◌==◌, nat_le, nat_lt, List, [], ◌∷◌, ◌++◌, length, take, drop, codes, Option, if◌then◌else◌}
 use Rattle.std.specs.List.{prefix_len, list_all}
 use Rattle.std.specs.Char.{is_ascii_digit, is_ascii_alphabetic}
+use Rattle.std.specs.Cmp.Lexicographic.{pointwise}
 use Rattle.edn.specs.Meaning.Bytes.{is_symbol_byte}
 
 -- bytes of a symbol, at least one
@@ -71,3 +72,20 @@ is_keyword text = is_keyword_at (take (prefix_len is_no_slash text) text) (drop 
 -- a tag without its `#`
 abbrev pub is_tag : List ℕ → Bool
 is_tag text = begins_tag text && is_symbol text
+
+-- that of a map, if it has one
+abbrev pub Namespace : Type 0
+Namespace = Option (List ℕ)
+
+-- the name of a keyword or symbol that has no namespace: it has no slash, or is `/`, as only that begins with one
+abbrev pub is_bare : List ℕ → Bool
+is_bare [] = true
+is_bare (b ∷ bs) = list_all is_no_slash bs
+
+-- without the namespace `_`
+abbrev pub without_blank : List ℕ → List ℕ
+without_blank name = if pointwise nat_eq (take 2 name) (codes "_/") then drop 2 name else name
+
+-- the name, in a map with this namespace: `/` stands behind a namespace
+abbrev pub qualified : List ℕ → List ℕ → List ℕ
+qualified namespace name = if is_bare name then namespace ++ 47 ∷ name else without_blank name

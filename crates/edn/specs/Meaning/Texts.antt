@@ -4,13 +4,13 @@ use Rattle.edn.specs.declared.reader.Reader.{Reader}
 use Rattle.edn.specs.declared.reader.Stage.{Stage}
 use Rattle.edn.specs.declared.reader.Stage.TheVariants.{Start, Forms, Elements, Failed}
 use Rattle.edn.specs.declared.read_fault.ReadFault.{ReadFault}
-use Rattle.edn.specs.declared.token.Opening.TheVariants.{Vector}
 use Rattle.edn.specs.declared.token.Closing.TheVariants.{Square}
 use Rattle.edn.specs.Meaning.Forms.{Form}
 use Rattle.edn.specs.Meaning.Tokens.{Token, opens, closes, is_square}
 use Rattle.edn.specs.Meaning.Grammar.{IsItem, AreItems}
 use Rattle.edn.specs.Meaning.Lexing.{IsBlank, Lexes}
 use Rattle.edn.specs.Meaning.Lines.{IsAt}
+use Rattle.edn.specs.Meaning.Openings.{Vector}
 use Rattle.edn.specs.Meaning.Readers.{IsReady, line_read, text_left}
 use Rattle.edn.specs.Computing.Building.{is_top}
 use Rattle.edn.specs.Computing.Stacks.{stack_of}

@@ -1,9 +1,8 @@
 -- What a text is made of.
 use Rattle.std.specs.Prelude.{Bool, true, false}
-use Rattle.edn.specs.declared.token.Opening.{Opening}
-use Rattle.edn.specs.declared.token.Opening.TheVariants.{Vector}
 use Rattle.edn.specs.declared.token.Closing.{Closing}
 use Rattle.edn.specs.Meaning.Forms.{Form}
+use Rattle.edn.specs.Meaning.Openings.{Opening, Vector}
 
 -- a bracket, `#_`, a `#` and a symbol, `^` or `#^`, or a form that is no collection
 pub data Token : Type 0 where

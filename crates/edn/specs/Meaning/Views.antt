@@ -28,8 +28,10 @@ kind_of (Is.List fs) = collection Of.List (forms_of fs)
 kind_of (Is.Vector fs) = collection Of.Vector (forms_of fs)
 kind_of (Is.Set fs) = collection Of.Set (forms_of fs)
 kind_of (Is.Map fs) = collection Of.Map (forms_of fs)
+kind_of (Is.NamespacedMap fs) = collection Of.NamespacedMap (forms_of fs)
 
--- a map has an even number of forms: a value for each key
+-- a map has an even number of forms: a value for each key. If it has a namespace, that is one more
 abbrev pub IsPaired : Kind → Type 0
 IsPaired (Is.Map fs) = length (forms_of fs) % 2 ≡ 0
+IsPaired (Is.NamespacedMap fs) = length (forms_of fs) % 2 ≡ 1
 IsPaired _ = Unit {0}

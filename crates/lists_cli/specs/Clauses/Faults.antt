@@ -1,9 +1,10 @@
 -- Why there is no answer.
-use Rattle.std.specs.Prelude.{◌≡◌, ◌⊎◌, ℕ, ◌++◌, Bool, true, List, []}
+use Rattle.std.specs.Prelude.{◌≡◌, ◌⊎◌, ◌≤◌, ℕ, ◌++◌, Bool, true, List, [], length}
 use Rattle.append_check.specs.declared.verdict.Verdict.{Verdict}
 use Rattle.append_check.specs.declared.verdict.Verdict.TheVariants.{Serializable, NotSerializable, AppendedTwice}
 use Rattle.append_text.specs.declared.text_form.TextForm.{TextForm}
-use Rattle.append_text.specs.Meaning.JsonTexts.{IsFaultIn}
+use Rattle.append_text.specs.declared.history.History.{History}
+use Rattle.append_text.specs.Meaning.JsonTexts.{IsFaultIn, IsHistoryIn}
 use Rattle.append_text.specs.declared.read_fault.ReadFault.{ReadFault}
 use Rattle.append_text.specs.declared.read_fault.ReadFault.TheVariants.{Text as TextFault, Device, Memory}
 use Rattle.lists_verdicts.specs.declared.answer.Answer.{Answer}
@@ -11,10 +12,10 @@ use Rattle.lists_verdicts.specs.Meaning.Status.{words_of}
 use Rattle.lists_cli.specs.declared.fault.Fault.{Fault}
 use Rattle.lists_cli.specs.declared.fault.Fault.TheVariants as fault
 
--- what is blamed on the text in this notation is there
+-- what is blamed on the text in this notation is there: it is at fault, or says a history of too many transactions
 abbrev pub IsRefusal : TextForm → List ℕ → Fault → Type 0
 IsRefusal n text (fault.Text place problem) = IsFaultIn n text (TextFault place problem)
-IsRefusal n text fault.Many = Unit {0}
+IsRefusal n text fault.Many = (h : History) × IsHistoryIn n text h × (2147483648 ≤ length h.transactions.items)
 IsRefusal n text fault.Read = Unit {0}
 IsRefusal n text fault.Order = Unit {0}
 IsRefusal n text fault.Drawing = Unit {0}

@@ -17,8 +17,10 @@ use Rattle.append_text.specs.Meaning.JsonTexts.{IsHistoryIn}
 use Rattle.lists_verdicts.specs.declared.answer.Answer.{Answer}
 use Rattle.lists_verdicts.specs.declared.answer.Answer.TheVariants as It
 use Rattle.lists_verdicts.specs.Meaning.Status.{tells, words_of}
+use Rattle.lists_cli.specs.declared.basis.Basis.{Basis}
 use Rattle.lists_cli.specs.declared.run.Shape.{Shape}
 use Rattle.lists_cli.specs.declared.run.Shape.TheVariants.{Words}
+use Rattle.lists_cli.specs.Meaning.Rests.{RestsOn}
 
 -- the notation that was asked for, else the one that the text tells
 abbrev pub notation_for : Option TextForm → List ℕ → TextForm
@@ -66,12 +68,13 @@ pub record IsWritten {W : Type 0} (contents : W → Option (List ℕ)) (a : Answ
   pub rest : List ℕ
   pub written : Grew contents old new (words_of a ++ rest)
 
--- the text in this notation says a history, and the answer is right of it
+-- the text in this notation says a history, of which the answer is right, and on which it rests
 pub record IsAnswer {O W : Type 0} (of_order : O → Option (List ℕ)) (contents : W → Option (List ℕ)) (shape : Shape) (n : TextForm)
-    (text : List ℕ) (a : Answer) (old_order new_order : Watched O) (old new : Watched W) : Type 0 where
+    (text : List ℕ) (a : Answer) (b : Basis) (old_order new_order : Watched O) (old new : Watched W) : Type 0 where
   pub history : Said
   pub says : IsHistoryIn n text history
   pub order : List ℕ
   pub means : Means a order history
   pub has_order : HasOrder of_order a history.labels.items order old_order new_order
   pub written : shape ≡ Words → IsWritten contents a old new
+  pub rests_on : RestsOn history b

@@ -5,7 +5,7 @@ use Rattle.append_text.proofs.EdnForms.{HasFieldsBack}
 use Rattle.append_text.proofs.edn_data.fields_in.Given as goal
 
 abbrev pub invariant-loop-value : goal.invariant-loop-value
-invariant-loop-value l = HasFieldsBack Edn form_of (forms_of l.fn.entries) (forms_of l.left) l.fields
+invariant-loop-value l = HasFieldsBack l.keys Edn form_of (forms_of l.fn.forms) (forms_of l.left) l.fields
 
 abbrev pub decreases-loop-value : goal.decreases-loop-value
 decreases-loop-value l = length (forms_of l.left)

@@ -24,3 +24,13 @@ returns-clause-fault g c = λ text is.
     (c.in_ok-skip_mark.ensures.kept text c.new-buffer.ensures.start c.new-buffer.ensures.end
     (nothing_pending (pending_in c.new-buffer.result) (g.S.Read.remaining c.args.source.now) text c.new-buffer.ensures.pending is)))
     c.in_ok-after.ensures.begins)
+
+pub returns-clause-device : goal.returns-clause-device
+returns-clause-device g c = λ text is.
+    let left = g.S.Read.remaining c.skip_mark.new.source in
+    let begun = after_mark text in
+    c.edn_text.ensures.device begun (begun_text begun c.pending.result.now c.in_ok-after.field-0 left
+    (subst (λ p. prepend_known p left ≡ Some (after_mark text)) (sym c.pending.ensures)
+    (c.in_ok-skip_mark.ensures.kept text c.new-buffer.ensures.start c.new-buffer.ensures.end
+    (nothing_pending (pending_in c.new-buffer.result) (g.S.Read.remaining c.args.source.now) text c.new-buffer.ensures.pending is)))
+    c.in_ok-after.ensures.begins)

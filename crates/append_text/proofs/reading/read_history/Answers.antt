@@ -64,3 +64,13 @@ pub returns-in_err-form-clause-fault : goal.returns-in_err-form-clause-fault
 returns-in_err-form-clause-fault g c = λ text is.
     let p = err_from_is_err_and c.from_residual-in_err-form.result c.from_residual-in_err-form.ensures.1 in
     rw p.1 (device_in (notation_in (after_mark text)) (after_mark text) p.0 (p.2 ∙ c.in_err-form.ensures.fault))
+
+pub returns-in_ok-after-in-Edn-clause-device : goal.returns-in_ok-after-in-Edn-clause-device
+returns-in_ok-after-in-Edn-clause-device g c = λ text is.
+    let left = g.S.Read.remaining c.form.new.source in
+    let none = c.in_ok-skip_mark.ensures.kept text c.new-buffer.ensures.start c.new-buffer.ensures.end
+    (nothing_pending (pending_in c.new-buffer.result) (g.S.Read.remaining c.args.source.now) text c.new-buffer.ensures.pending is) in
+    let begun = after_mark text in
+    c.edn_text.ensures.device begun (begun_text begun c.pending.result.now c.in_ok-after-in-Edn.field-0 left
+    (subst (λ p. prepend_known p left ≡ Some (after_mark text)) (sym c.pending.ensures) (c.in_ok-form.ensures.kept begun none))
+    c.in_ok-after-in-Edn.ensures.begins)

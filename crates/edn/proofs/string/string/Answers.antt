@@ -1,4 +1,4 @@
-use Rattle.std.proofs.Common.{◌≤◌, ap, ◌∙◌, refl, rules}
+use Rattle.std.proofs.Common.{ap, ◌∙◌, refl, rules}
 use Rattle.edn.specs.Computing.Strings.{with_bytes, quoted_at}
 use Rattle.edn.proofs.Fronts.{behind}
 use Rattle.edn.proofs.StringTexts.{behind_within, plain_more}

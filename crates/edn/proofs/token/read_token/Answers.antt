@@ -1,4 +1,4 @@
-use Rattle.std.proofs.Common.{◌≡◌, IfOk, ap, ◌∙◌, subst, rules}
+use Rattle.std.proofs.Common.{◌≡◌, IfOk, ap, subst, rules}
 use Rattle.edn.specs.Computing.Tokens.{lexed_of, token_at}
 use Rattle.edn.proofs.Fronts.{whole}
 use Rattle.edn.proofs.token.read_token.Goals as goal

@@ -1,0 +1,16 @@
+use Rattle.std.proofs.Common.{◌+◌, ◌-◌, ◌^◌, min, take, sym, ap, ◌∙◌}
+use Rattle.lists_cli.specs.Meaning.Rests.{if_committed, of_committed, elements_of}
+use Rattle.lists_cli.proofs.Counted.{counted_zero, sum_more_sum}
+use Rattle.lists_cli.proofs.basis.elements.Goals as goal
+
+pub loop-transaction-init : goal.loop-transaction-init
+loop-transaction-init c = counted_zero
+
+pub loop-transaction-preserved : goal.loop-transaction-preserved
+loop-transaction-preserved c =
+    let ts = c.args.transactions.now in
+    let i = c.loop-transaction.transaction-index in
+    c.saturating_add-all.ensures ∙ ap (λ n. min (n + c.elements_by.result) (2 ^ 64 - 1)) c.loop-transaction.invariant
+    ∙ ap (λ n. min (of_committed elements_of (take i ts) + n) (2 ^ 64 - 1)) c.elements_by.ensures
+    ∙ sum_more_sum (if_committed elements_of) ts i c.transaction-item.result (if_committed elements_of c.transaction-item.result)
+    c.loop-transaction-test.true (sym (ap (if_committed elements_of) c.transaction-item.is))
