@@ -21,7 +21,7 @@ import subprocess
 import sys
 import tempfile
 
-from compare_lists import STATUSES, Maker, differs, name_of
+from compare_lists import STATUSES, differs, history_of, name_of
 from lists_reference import edn_of
 
 TOP = os.path.dirname(os.path.dirname(os.path.abspath(__file__)))
@@ -94,7 +94,7 @@ def main():
     parser.add_argument("--cases", type=int, default=40)
     parser.add_argument("--seed", type=int, default=1)
     options = parser.parse_args()
-    histories = [Maker(options.seed * 1000003 + number).history() for number in range(options.cases)]
+    histories = [history_of(options.seed, number) for number in range(options.cases)]
     counts = [compared("plain", histories, NO_FAST), compared("fast", histories, NO_PLAIN)]
     passed, failed = (sum(column) for column in zip(*counts))
     print("%d passed, %d failed" % (passed, failed))

@@ -3,6 +3,7 @@
 run of the store in examples/ and tools/runs/.
 
     scripts/explanations.py [PROGRAM]
+    scripts/explanations.py --lists [PROGRAM]
 
 PROGRAM is crates/ssi/out/ssi by default; if it isn't built, scripts/reference.py answers in its place. The first
 sentence must fit the example's expected answer. If a folder has a file `explanation`, which is written by hand, all
@@ -12,6 +13,12 @@ What is shown of an event must be its line. On random histories the dependencies
 scripts/reference.py, and its cycles shortest ones; on random runs of the store the pivots and their conflicts must be
 those of scripts/store_reference.py. Wrong arguments and files must end with status 2 and one line. The
 last line is `N passed, M failed`.
+
+The second form is for the list-append histories of examples/lists, and PROGRAM is crates/lists/out/lists by default.
+scripts/list_examples.sh runs it. The tool must say what the file with .stdout beside a history says, which is written by
+hand, but for the line that counts the other kinds. The picture of a cycle must have a row for each of its transactions, and
+for each sentence of the cycle an arrow that leads from the step that it names first to the other one, with the kind and the
+key of the link on it.
 """
 import glob
 import html.parser
@@ -30,6 +37,7 @@ sys.path.insert(0, os.path.join(TOP, "tools"))
 import compare  # noqa: E402  (beside this file)
 import compare_store  # noqa: E402
 import cycles  # noqa: E402  (in tools/)
+import list_picture  # noqa: E402
 import reference  # noqa: E402
 import store_reference  # noqa: E402
 import store_run  # noqa: E402
@@ -78,12 +86,28 @@ class Drawn:
                        for one in page.getElementsByTagName("path") if one.hasAttribute("marker-end")]
         self.labels = [[float(one.getAttribute(name)) for name in ("x", "y", "width", "height")]
                        for one in page.getElementsByTagName("rect") if one.getAttribute("height") == LABEL_HIGH]
+        self.kinds = [self.words(one) for one in texts if one.getAttribute("text-anchor") == "middle"]
+        self.boxes = [self.box(one) for one in page.getElementsByTagName("g")]
         scripts = [one for one in page.getElementsByTagName("script") if one.getAttribute("id") == "data"]
         self.data = json.loads(self.words(scripts[0])) if scripts else None
 
     @staticmethod
     def words(element):
         return "".join(child.data for child in element.childNodes)
+
+    def box(self, group):
+        """What is shown while the pointer is over a box, and the box: left, top, width and height."""
+        rect = group.getElementsByTagName("rect")[0]
+        title = self.words(group.getElementsByTagName("title")[0])
+        return title, [float(rect.getAttribute(name)) for name in ("x", "y", "width", "height")]
+
+    def step_at(self, x, y):
+        """The box at whose upper or lower edge an arrow begins or ends, by what is shown of it."""
+        return [title for title, (left, top, wide, high) in self.boxes if left < x < left + wide and y in (top, top + high)]
+
+    def links(self):
+        """What each arrow leads from, what stands on it, and what it leads to."""
+        return [(*self.step_at(*arrow[:2]), kind, *self.step_at(*arrow[-2:])) for arrow, kind in zip(self.arrows, self.kinds)]
 
     def close_heads(self):
         """The pairs of arrows whose heads are close to each other."""
@@ -104,6 +128,27 @@ def points_on(arrow):
         for t in (n / 50 for n in range(51)):
             parts = (1 - t) ** 3, 3 * t * (1 - t) ** 2, 3 * t * t * (1 - t), t ** 3
             yield tuple(sum(part * p[axis] for part, p in zip(parts, points[at:at + 4])) for axis in (0, 1))
+
+
+WHO, KEY, LIST = r"T(\d+) \(index (\d+)\)", r'("(?:[^"\\]|\\.)*"|\S+)', r"(\[[^\]]*\])"
+READ, APPENDED = WHO + " read key " + KEY + " as " + LIST, WHO + r" appended \[?([^\s\]]+)[^:]* to key " + KEY
+BEFORE = r": T\d+ before T\d+"
+
+
+def link_of(sentence):
+    """What the arrow of a sentence about a cycle leads from, what stands on it, and what it leads to, with the numbers of the
+    two transactions. None if the sentence is about no cycle, or about one of another kind than the first."""
+    step = "index %s: %s %s %s".__mod__
+    if found := re.fullmatch(READ + ", and " + APPENDED + BEFORE, sentence):
+        reader, at, key, elements, writer, of, element, _ = found.groups()
+        return (step((at, "read", key, elements)), "rw " + key, step((of, "append", key, element))), (reader, writer)
+    if found := re.fullmatch(APPENDED + ", and " + READ + BEFORE, sentence):
+        writer, of, element, key, reader, at, _, elements = found.groups()
+        return (step((of, "append", key, element)), "wr " + key, step((at, "read", key, elements))), (writer, reader)
+    if found := re.fullmatch(APPENDED + ", " + APPENDED + ", and " + READ + BEFORE, sentence):
+        writer, of, element, key, later, at, other = found.groups()[:7]
+        return (step((of, "append", key, element)), "ww " + key, step((at, "append", key, other))), (writer, later)
+    return None
 
 
 def read(path):
@@ -303,6 +348,87 @@ class Checks:
                 self.check("pivot of %s in %s" % (line, text), (min(course.pivots), True, True, True),
                            (pivot, is_first, *pairs))
 
+    def of_lists(self, history):
+        """What is said of a list-append history, and the picture of the cycle that decides, if one does."""
+        said = [line for line in read(history + ".stdout").splitlines() if not line.startswith("also: ")]
+        ran = self.explain("--lists", history)
+        self.check("sentences of " + history, (0, said), (ran.returncode, ran.stdout.splitlines()))
+        self.of_list_picture(history, said)
+
+    def of_list_picture(self, history, said):
+        cycle = [link for link in map(link_of, said) if link]
+        if not cycle:
+            ran = self.explain("--lists", "--picture", self.path("page"), history)
+            wanted = "explain.py: no picture: no cycle decides"
+            self.check("no picture of " + history, (2, wanted), (ran.returncode, ran.stderr.splitlines()[-1]))
+            return
+        for file in "page", "picture.svg":
+            ran = self.explain("--lists", "--picture", self.path(file), history)
+            drawn = Drawn(self.path(file))
+            self.check("status of %s for the %s" % (history, file), 0, ran.returncode)
+            self.check("links of %s in its %s" % (history, file), [link for link, _ in cycle], drawn.links())
+            self.check("rows of %s in its %s" % (history, file), {int(txn) for _, ends in cycle for txn in ends}, set(drawn.rows))
+            self.of_arrows(history, drawn, len(cycle))
+        self.check("balance of the page of " + history, True, Balance(read(self.path("page"))).is_balanced)
+
+    def of_list_steps(self):
+        """All steps of the transactions of a cycle are drawn; of one whose outcome is unknown, nobody knows what it read."""
+        self.page("examples/lists/read-skew.edn", "--lists")
+        wanted = ["index 0: append :x 1", "index 0: append :y 1", "index 0: ok",
+                  "index 1: read :x []", "index 1: read :y [1]", "index 1: ok"]
+        self.check("the steps of read-skew", wanted, Drawn(self.path("page")).hovers)
+        history = self.path("unknown.edn")
+        with open(history, "w", encoding="ascii") as file:
+            file.write("{:type :invoke, :f :txn, :value [[:r :z nil] [:append :x 1] [:append :y 1]], :process 0, :index 0}\n"
+                       "{:type :invoke, :f :txn, :value [[:r :x nil] [:r :y nil]], :process 1, :index 1}\n"
+                       "{:type :ok, :f :txn, :value [[:r :x [1]] [:r :y []]], :process 1, :index 2}\n")
+        wanted = ["index 0: read :z nil", "index 0: append :x 1", "index 0: append :y 1",
+                  "index 2: read :x [1]", "index 2: read :y []", "index 2: ok"]
+        drawn, _ = self.page(history, "--lists")
+        self.check("the steps of an unknown transaction", wanted, drawn.hovers)
+
+    def of_json_lists(self):
+        """In JSON the names of keys and of elements are strings, which the sentences have in quotes, and words may have colons."""
+        history = self.path("read-skew.json")
+        with open(history, "w", encoding="ascii") as file:
+            file.write('{":type": ":ok", ":f": ":txn", ":value": [[":append", "x\\"", "a"], [":append", "y", 1]], ":process": "0"}\n'
+                       '{"type": "info", "f": "start", "process": "nemesis"}\n'
+                       '{"type": "ok", "f": "txn", "value": [["r", "x\\"", []], ["r", "y", [1]]], "process": 1}\n')
+        said = ["not serializable: G-single",
+                'T1 (index 2) read key "x\\"" as [], and T2 (index 0) appended "a" to key "x\\"": T1 before T2',
+                'T2 (index 0) appended 1 to key "y", and T1 (index 2) read key "y" as [1]: T2 before T1']
+        ran = self.explain("--lists", history)
+        self.check("sentences of " + history, (0, said), (ran.returncode, ran.stdout.splitlines()))
+        self.of_list_picture(history, said)
+
+    def of_recorded_lists(self, history):
+        """A history that was recorded, of which the program's own sentences say what is to be drawn."""
+        ran = self.explain("--lists", history)
+        self.check("first sentence of " + history, read(history).splitlines()[0], "; " + ran.stdout.splitlines()[0])
+        self.of_list_picture(history, ran.stdout.splitlines())
+
+    def of_cut_off_search(self):
+        """If the search for cycles didn't come to its end, that is said, of whichever cycle it is."""
+        said = "The search for cycles was cut off: there may be a shorter one, or one of a worse kind."
+        for wanted, answer in [("", {"kind": "G1a", "also": [{"kind": "G-single", "shortest": True}]}),
+                               (said, {"kind": "G1a", "also": [{"kind": "G-single", "shortest": False}]}),
+                               (said, {"kind": "G2-item", "shortest": False, "also": []})]:
+            self.check("what is said of the search in %s" % answer, wanted, list_picture.which(answer))
+
+    def of_list_faults(self):
+        history = self.path("wrong.edn")
+        with open(history, "w", encoding="ascii") as file:
+            file.write("7\n")
+        for name, status, arguments in [
+                ("a missing file", 3, [self.path("missing")]),
+                ("a text of no history", 2, [history]),
+                ("a picture that can't be written", 2, ["--picture", self.path("no/page"), "examples/lists/read-skew.edn"]),
+                ("two files", 2, [history, history]),
+                ("a program that isn't built", 2, ["--program", self.path("missing"), "examples/lists/read-skew.edn"])]:
+            ran = self.explain("--lists", *arguments)
+            lines = [line for line in ran.stderr.splitlines() if "Traceback" in line]
+            self.check(name, (status, []), (ran.returncode, lines))
+
     def of_paths(self):
         """A path may have letters that mean something in HTML. Names of keys can't."""
         folder = self.path('a<b>&"c\'')
@@ -338,27 +464,44 @@ class Checks:
         self.check("transactions that are no numbers", 2, self.explain("--transactions", "x", skew).returncode)
 
 
-def main():
-    program = os.path.abspath(sys.argv[1]) if len(sys.argv) > 1 else os.path.join(TOP, "crates", "ssi", "out", "ssi")
-    os.chdir(TOP)
+def check_lists(checks):
+    for history in sorted(glob.glob("examples/lists/*.edn")):
+        checks.of_lists(history)
+    for history in sorted(glob.glob("examples/lists/recorded/*.edn")):
+        checks.of_recorded_lists(history)
+    checks.of_list_steps()
+    checks.of_json_lists()
+    checks.of_cut_off_search()
+    checks.of_list_faults()
+
+
+def check_histories(checks):
     found = sorted(glob.glob("examples/**/history", recursive=True)) + sorted(glob.glob("tools/cases/*/history"))
-    runs = sorted(glob.glob("examples/*/*/commands") + glob.glob("tools/runs/*/commands"))
+    for history in found:
+        checks.of_history(os.path.dirname(history))
+    checks.of_rings()
+    for commands in sorted(glob.glob("examples/*/*/commands") + glob.glob("tools/runs/*/commands")):
+        checks.of_run(os.path.dirname(commands))
+    checks.of_random_runs()
+    checks.of_dependencies()
+    checks.of_shortest()
+    checks.of_paths()
+    checks.of_choices()
+    checks.of_faults()
+    picture = checks.path("skew.svg")
+    checks.explain("--picture", picture, "examples/write-skew/history")
+    checks.check("the picture in README", read("docs/write-skew.svg"), read(picture))
+
+
+def main():
+    words = sys.argv[1:]
+    is_of_lists = words[:1] == ["--lists"]
+    given, name = (words[1:], "lists") if is_of_lists else (words, "ssi")
+    program = os.path.abspath(given[0]) if given else os.path.join(TOP, "crates", name, "out", name)
+    os.chdir(TOP)
     with tempfile.TemporaryDirectory() as folder:
         checks = Checks(program, folder)
-        for history in found:
-            checks.of_history(os.path.dirname(history))
-        checks.of_rings()
-        for commands in runs:
-            checks.of_run(os.path.dirname(commands))
-        checks.of_random_runs()
-        checks.of_dependencies()
-        checks.of_shortest()
-        checks.of_paths()
-        checks.of_choices()
-        checks.of_faults()
-        picture = checks.path("skew.svg")
-        checks.explain("--picture", picture, "examples/write-skew/history")
-        checks.check("the picture in README", read("docs/write-skew.svg"), read(picture))
+        (check_lists if is_of_lists else check_histories)(checks)
     print("%d passed, %d failed" % (checks.passed, checks.failed))
     return 1 if checks.failed else 0
 

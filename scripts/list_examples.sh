@@ -1,8 +1,9 @@
 #!/usr/bin/env bash
 # Runs the built program `lists` on every history of examples/lists, made by hand or recorded, and on arguments, files
-# and devices that are wrong. An EDN history has the answer that is wanted in its first line, after `; `; one in JSON
-# has it in a file of the same name with .stdout. The reason that the program gives, or the order that it writes, is then
-# looked up in the history by scripts/list_witness.py. Build the program first: (cd crates/lists && rt run < stdin).
+# and devices that are wrong. An EDN history has the answer that is wanted in its first line, after `; `. The whole answer has
+# to be the one in the file of the same name with .stdout, if there is one: one in JSON and a text without lines have theirs
+# there alone. The reason that the program gives, or the order that it writes, is then looked up in the history by
+# scripts/list_witness.py. Build the program first: (cd crates/lists && rt run < stdin).
 # Usage: list_examples.sh [PROGRAM], by default crates/lists/out/lists.
 source "$(dirname "$0")/checks.sh" "${1:-$(dirname "$0")/../crates/lists/out/lists}"
 examples=$top/examples/lists
@@ -28,6 +29,7 @@ for history in "$examples"/*.edn "$examples"/recorded/*.edn "$examples"/recorded
     check "$history" "out: $answer"$'\n'"status $status" "$(ends --order order "$history")"
     also=$(sed -n '2s/^; also: //p' "$history")
     [ -z "$also" ] || check "what else is in $history" "also: $also" "$(grep '^also: ' out)"
+    [ ! -e "$history.stdout" ] || check "all that is said of $history" "$(cat "$history.stdout")" "$("$ssi" "$history" 2>/dev/null)"
     check "what is said of $history" holds "$("$top/scripts/list_witness.py" "$history" out order 2>&1)"
     check "$history in JSON" "$answer" "$("$ssi" --json "$history" 2>/dev/null | told)"
     check "$history from standard input" "out: $answer"$'\n'"status $status" "$(ends <"$history")"
@@ -131,25 +133,18 @@ check 'the order of stale-read in JSON' \
     "$("$ssi" --json "$examples/stale-read.edn" 2>err)"
 check 'what the order of stale-read rests on' \
     'lists: rests on 2 transactions ok, 0 info, 0 fail; 1 reads of 0 elements; passed over 0 operations of another :f, 0 of another :process' "$(cat err)"
-check 'an empty text' $'out: nothing to check\nout: no transaction committed: 0 have an unknown outcome, and 0 failed' \
-    "$(run </dev/null | head -n 2)"
-check 'why there is nothing to check' \
-    $'nothing to check\nno transaction committed: 1 have an unknown outcome, and 1 failed\n1 operations were passed over because their `:f` isn\'t `:txn`' \
-    "$("$ssi" "$examples/nothing.edn" 2>/dev/null)"
-check 'operations of a process that is no integer' \
-    $'nothing to check\nno transaction committed: 0 have an unknown outcome, and 0 failed\n1 operations were passed over because their `:f` isn\'t `:txn`\n2 operations were passed over because their `:process` is no integer' \
-    "$(printf '{:f :start, :process :nemesis} {:type :ok, :f :txn, :value [], :process nil} {:type :ok, :f :txn}' | "$ssi" 2>/dev/null)"
 check 'no order if there is nothing to check' '' "$("$ssi" --order none "$examples/nothing.edn" >out 2>&1; ls none 2>/dev/null)"
 check 'no drawing without a cycle' '' "$("$ssi" --dot none "$examples/future.edn" >out 2>&1; ls none 2>/dev/null)"
 check 'a folder for the drawing' 'status 3' "$(run --dot folder "$examples/read-skew.edn" | tail -n 1)"
-check 'a line feed in a key' $'not serializable: unwritten\nT1 (index 0) read key "k\\nserializable" as [1], and nobody appended 1' \
-    "$("$ssi" "$examples/line-feed-in-a-key.edn" 2>/dev/null)"
 check 'the cycle of read-skew for Graphviz' \
     $'digraph cycle {\n  "T1 (index 1)" -> "T2 (index 0)" [label="rw :x"];\n  "T2 (index 0)" -> "T1 (index 1)" [label="wr :y"];\n}' \
     "$("$ssi" --dot dot "$examples/read-skew.edn" >/dev/null 2>&1; cat dot)"
 check 'the cycle of read-skew in JSON' '0 before 1: wr, 1 before 0: rw' \
     "$("$ssi" --json "$examples/read-skew.edn" | python3 -c 'import json, sys
 print(", ".join(sorted("%(from)d before %(to)d: %(kind)s" % link for link in json.load(sys.stdin)["cycle"])))')"
+
+# tools/explain.py says the same of each history, and draws the cycles.
+check 'what tools/explain.py says and draws' '0 failed' "$("$top/scripts/explanations.py" --lists "$ssi" | sed 's/^[1-9][0-9]* passed, //')"
 
 # What is said of a text that is that of no history: where it is at fault, and what stands there.
 says() { # a text; prints what is said of it on standard error

@@ -20,13 +20,14 @@ import sys
 from lists_reference import explains, lists_the_right_ones
 
 WHO = r"T(\d+) \(index (\d+)\)"
-NAME = r'("[^"]*"|\S+)'
+NAME = r'("(?:[^"\\]|\\.)*"|\S+)'
 LIST = r"\[([^\]]*)\]"
 BLOCK = r"(\[[^\]]*\]|\S+)"
 READ = WHO + r" read key " + NAME + " as " + LIST
 APPENDED = WHO + " appended " + BLOCK + " to key " + NAME
 LEFT = READ + r"(?: and appended " + LIST + " afterwards)?"
 DIFFERS = r"(?:; element (\d+) is (\S+) in the first and (\S+) in the second)?"  # of lists that aren't shown whole
+CUT_OFF = "the search for cycles was cut off: there may be a shorter one, or one of a worse kind"
 APART = LEFT + ", and " + LEFT + ": neither list begins with the other" + DIFFERS
 
 
@@ -44,23 +45,30 @@ def words(text):
 
 
 def edn_operation(line):
-    """Kind, `:f`, process, index and steps of an operation in EDN."""
+    """Kind, `:f`, process, index, if it has one, and steps of an operation in EDN."""
     fields = (":type", ":f", ":process", ":index")
     found = [re.search(field + r" :?([^\s,}]+)", line) for field in fields]
     kind, f, process, index = (word[1] if word else "" for word in found)
     steps = []
-    for name, key, value in re.findall(r'\[:(append|r) ("[^"]*"|\S+) (\[[^\]]*\]|[^\s\]]+)\]', line):
+    for name, key, value in re.findall(r"\[:(append|r) " + NAME + r" (\[[^\]]*\]|[^\s\]]+)\]", line):
         steps.append((name, key, value if name == "append" else [] if value == "nil" else words(value)))
-    return kind, f, process, int(index), steps
+    return kind, f, process, int(index) if index else None, steps
+
+
+def json_name(value):
+    """A key or an element of JSON, as the sentences have it."""
+    return json.dumps(value, ensure_ascii=False) if isinstance(value, str) else str(value)
 
 
 def json_operation(line):
     """The same of one in JSON."""
-    data = json.loads(line)
+    data = {name.removeprefix(":"): value for name, value in json.loads(line).items()}
+    kind, f = (str(data.get(name, "")).removeprefix(":") for name in ("type", "f"))
     steps = []
-    for name, key, value in data["value"]:
-        steps.append((name, str(key), str(value) if name == "append" else [str(element) for element in value or []]))
-    return data["type"], data["f"], str(data["process"]), data["index"], steps
+    for name, key, value in data["value"] if isinstance(data.get("value"), list) and f == "txn" else []:
+        shown_as = json_name(value) if name.endswith("append") else list(map(json_name, value or []))
+        steps.append((name.removeprefix(":"), json_name(key), shown_as))
+    return kind, f, str(data.get("process", "")), data.get("index"), steps
 
 
 def read_history(path):
@@ -68,10 +76,11 @@ def read_history(path):
     transactions, open_at = {}, {}
     with open(path, encoding="utf-8") as file:
         lines = [line for line in file if line.startswith("{")]
-    for line in lines:
+    for place, line in enumerate(lines):
         kind, f, process, index, steps = json_operation(line) if line.startswith('{"') else edn_operation(line)
         if f != "txn" or not process.isdigit():
             continue
+        index = place if index is None else index
         if kind == "invoke":
             open_at[process] = index
             transactions[index] = ("info", steps)
@@ -246,7 +255,7 @@ class Witness:
     def all(self, name, sentences):
         """A no of this name, what else there is, and one of each other kind."""
         begins = next((at for at, line in enumerate(sentences) if line.startswith("also: ")), len(sentences))
-        first = [line for line in sentences[:begins] if line != "the search for a shorter cycle was cut off"]
+        first = [line for line in sentences[:begins] if line != CUT_OFF]
         self.no(name, first)
         others = {}
         for line in sentences[begins + 1:]:

@@ -1,5 +1,6 @@
 #!/usr/bin/env python3
-"""A second implementation of what it means that an order explains a list-append history: it tries all of them.
+"""A second implementation of what it means that an order explains a list-append history: it tries all of them, if there are
+few transactions.
 
     scripts/lists_reference.py < history.edn
 
@@ -8,12 +9,18 @@ element) or ("r", key, elements), where elements is None if nobody knows what wa
 that is ok once, some of those with the outcome info once, and none that failed. It explains the history if these, run
 one after the other from empty lists, give each read of a transaction that is ok what it returned.
 
-As a program it reads a history of at most eight transactions, one EDN operation a line as `edn_of` writes them, and
-prints whether an order explains it.
+Of more than eight transactions it doesn't try the orders. Then the reads and the precedences decide, by the definitions
+below: a read that is wrong by itself or beside another one excludes every order, and so does a cycle of precedences. Of few
+transactions `scripts/compare_lists.py` compares this with the search.
+
+As a program it reads a history, one EDN operation a line as `edn_of` writes them, and prints whether an order explains it.
 """
 import itertools
 import re
 import sys
+
+
+MOST_TRIED = 8  # transactions of a history of which all orders are tried
 
 
 def explains(history, order):
@@ -71,6 +78,8 @@ def verdict(history):
         return "appended twice"
     if not any(outcome == "ok" and operations for outcome, operations in history):
         return "nothing to check"
+    if len(history) > MOST_TRIED:
+        return "not serializable" if has_reason(history) else "serializable"
     return "serializable" if any(explains(history, order) for order in orders(history)) else "not serializable"
 
 
@@ -201,6 +210,11 @@ def worst_cycle(history):
         if length:
             return name, length
     return None, 0
+
+
+def has_reason(history):
+    """Whether a read is wrong, or transactions have to come before one another in a cycle."""
+    return bool(kinds_of_reads(history)) or worst_cycle(history)[1] > 0
 
 
 def operation_edn(operation):

@@ -313,13 +313,13 @@ def of_lists(options):
         answer = list_picture.answer_of(program, options.history)
     except list_picture.Failed as failed:
         sys.exit(failed.args[0])
-    print("\n".join([list_picture.said_of(answer), *list_picture.sentences(answer)]))
+    which = list_picture.which(answer)
+    print("\n".join([list_picture.said_of(answer), *list_picture.sentences(answer)] + ([which] if which else [])))
     if not options.picture:
         return
     if "cycle" not in answer:
         fail("no picture: no cycle decides")
     events, told = list_picture.drawn(answer, options.history, Told)
-    which = "" if answer["shortest"] else "The search for a shorter cycle was cut off."
     found = Explanation(list_picture.said_of(answer), told, events=events, which=which)
     write_picture(options, drawing.Page(events, found, ""))
 

@@ -56,7 +56,8 @@ def events_of(transactions, numbers):
     events = {}
     for index, (outcome, steps) in transactions.items():
         for name, key, value in steps:
-            text = "[%s]" % " ".join(value) if name == "r" else value
+            found = "[%s]" % " ".join(value) if outcome == "ok" else "nil"  # nobody knows what the others read
+            text = found if name == "r" else value
             events[len(events)] = Step(numbers[index], "r" if name == "r" else "append", key, text, index)
         if outcome in ENDS:
             events[len(events)] = End(numbers[index], ENDS[outcome], index)
@@ -90,6 +91,12 @@ def sentences(answer):
     for other in answer.get("also", []):
         lines += ["%s: %s" % (other["kind"], line) for line in other["explanation"]]
     return lines
+
+
+def which(answer):
+    """What is said if the search for cycles was cut off."""
+    is_searched = all(fault.get("shortest", True) for fault in [answer, *answer.get("also", [])])
+    return "" if is_searched else "The search for cycles was cut off: there may be a shorter one, or one of a worse kind."
 
 
 def drawn(answer, path, told):

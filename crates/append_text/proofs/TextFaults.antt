@@ -1,5 +1,5 @@
 -- The faults of texts in EDN.
-use Rattle.std.proofs.Common.{◌≡◌, ◌⊎◌, Bool, true, ℕ, ◌+◌, ◌<◌, List, [], ◌∷◌, ◌++◌, length, take, drop, get_or, map, Option, refl, sym, ap, subst, ◌∙◌, inl, inr}
+use Rattle.std.proofs.Common.{◌≡◌, ◌⊎◌, Bool, true, ℕ, ◌+◌, ◌<◌, List, [], ◌∷◌, ◌++◌, length, take, drop, get_or, map, Option, Some, refl, sym, ap, subst, ◌∙◌, inl, inr}
 use Rattle.std.specs.Prelude.{flat_map}
 use Rattle.std.proofs.lemmas.Option.{same_Some}
 use Rattle.edn.specs.declared.read_fault.ReadFault.{ReadFault as EdnFault}
@@ -10,7 +10,7 @@ use Rattle.edn.specs.declared.reader.Stage.TheVariants.{Failed}
 use Rattle.edn.specs.Meaning.Blame.{IsFaultOf as IsEdnFaultOf}
 use Rattle.edn.specs.Meaning.Forms.{Form, list, forms_of}
 use Rattle.edn.specs.Meaning.Readers.{line_read}
-use Rattle.edn.specs.Meaning.Texts.{AreSoFar, HasFailed, HasRead, at_start, outside, inside}
+use Rattle.edn.specs.Meaning.Texts.{AreSoFar, HasFailed, HasNotFailed, HasRead, at_start, outside, inside}
 use Rattle.edn.specs.Meaning.Tokens.{Token}
 use Rattle.append_text.specs.declared.read_fault.Place.TheVariants.{Line, Element}
 use Rattle.append_text.specs.declared.read_fault.ReadFault.{ReadFault}
@@ -99,12 +99,11 @@ goes_on e at_start is = cc
 goes_on e (outside other forms) is = cc
 goes_on e (inside forms) is = cc
 
--- a reader that has read so far has not failed
-pub reads_on : (text : List ℕ) (fs : List Form) (r : Reader) (left : Option (List ℕ)) (e : EdnFault) → HasRead text fs r left
-    → HasFailed r e → ⊥
-reads_on text fs r left e h failed = let (ts, rest, lexes, forms, same) = h.so_far in goes_on e forms failed
+-- a reader that has read nothing of its text so far has not failed
+pub begun_unfailed : (front : List ℕ) (r : Reader) → ((text : List ℕ) → HasRead (front ++ text) [] r (Some text)) → HasNotFailed r
+begun_unfailed front r begins e failed = let (ts, rest, lexes, forms, same) = (begins []).so_far in goes_on e forms failed
 
--- so the source has, if the device is blamed
+-- the source has, if the device is blamed and the reader hadn't failed
 pub device_blamed : (failed : Bool) (r : Reader) (e : EdnFault) → (e ≡ edn.Device → HasFailed r e ⊎ (failed ≡ true)) → (HasFailed r e → ⊥)
     → of_edn e ≡ Device → failed ≡ true
 device_blamed failed r (edn.Syntax line p) said not is = absurd cc

@@ -2,7 +2,7 @@
 
 ghost use Rattle.std.specs.Prelude.{◌≡◌, ◌++◌, List, ℕ, [], map, true, IfOk, IfErr, OnOk};
 ghost use Rattle.edn.specs.Meaning.Forms.{Form as Plain};
-ghost use Rattle.edn.specs.Meaning.Texts.{HasRead};
+ghost use Rattle.edn.specs.Meaning.Texts.{HasNotFailed, HasRead};
 ghost use Rattle.edn.specs.Meaning.Views.{form_of};
 ghost use Rattle.append_text.specs.declared.text_form.TextForm.TheVariants.{Edn};
 ghost use Rattle.append_text.specs.Meaning.Data.{parts};
@@ -26,8 +26,7 @@ pub(crate) fn edn_text<S: Source>(
 ) -> Result<History, ReadFault>
     ensures history { (text : List ℕ) → HasRead text [] begun (S.remaining source.old) → IfOk result (IsHistoryOf text) }
     ensures fault { (text : List ℕ) → HasRead text [] begun (S.remaining source.old) → IfErr result (IsFaultOf text) }
-    ensures device { (text : List ℕ) → HasRead text [] begun (S.remaining source.old)
-        → IfErr result (λ e. e ≡ ReadFault.Device → S.is_failed source.new ≡ true) }
+    ensures device { HasNotFailed begun → IfErr result (λ e. e ≡ ReadFault.Device → S.is_failed source.new ≡ true) }
 {
     let mut collector = Collector::new(alloc);
     let mut reader = begun;

@@ -22,8 +22,7 @@ use std::alloc::Global;
 pub fn read_history<S: Source>(alloc: Global, source: &mut S) -> Result<History, ReadFault>
     ensures history { (text : List ℕ) → S.remaining source.old ≡ Some text → IfOk result (IsHistoryIn (notation_in (after_mark text)) (after_mark text)) }
     ensures fault { (text : List ℕ) → S.remaining source.old ≡ Some text → IfErr result (IsFaultIn (notation_in (after_mark text)) (after_mark text)) }
-    ensures device { (text : List ℕ) → S.remaining source.old ≡ Some text
-        → IfErr result (λ e. e ≡ ReadFault.Device → S.is_failed source.new ≡ true) }
+    ensures device { IfErr result (λ e. e ≡ ReadFault.Device → S.is_failed source.new ≡ true) }
 {
     let mut buffer = Buffer::new();
     buffer.skip_mark(source)?;
@@ -39,8 +38,7 @@ pub fn read_history<S: Source>(alloc: Global, source: &mut S) -> Result<History,
 pub fn read_edn<S: Source>(alloc: Global, source: &mut S) -> Result<History, ReadFault>
     ensures history { (text : List ℕ) → S.remaining source.old ≡ Some text → IfOk result (IsHistoryOf (after_mark text)) }
     ensures fault { (text : List ℕ) → S.remaining source.old ≡ Some text → IfErr result (IsFaultOf (after_mark text)) }
-    ensures device { (text : List ℕ) → S.remaining source.old ≡ Some text
-        → IfErr result (λ e. e ≡ ReadFault.Device → S.is_failed source.new ≡ true) }
+    ensures device { IfErr result (λ e. e ≡ ReadFault.Device → S.is_failed source.new ≡ true) }
 {
     let mut buffer = Buffer::new();
     buffer.skip_mark(source)?;
@@ -55,8 +53,7 @@ pub fn read_edn<S: Source>(alloc: Global, source: &mut S) -> Result<History, Rea
 pub fn read_json<S: Source>(alloc: Global, source: &mut S) -> Result<History, ReadFault>
     ensures history { (text : List ℕ) → S.remaining source.old ≡ Some text → IfOk result (IsJsonHistoryOf (after_mark text)) }
     ensures fault { (text : List ℕ) → S.remaining source.old ≡ Some text → IfErr result (IsJsonFaultOf (after_mark text)) }
-    ensures device { (text : List ℕ) → S.remaining source.old ≡ Some text
-        → IfErr result (λ e. e ≡ ReadFault.Device → S.is_failed source.new ≡ true) }
+    ensures device { IfErr result (λ e. e ≡ ReadFault.Device → S.is_failed source.new ≡ true) }
 {
     let mut buffer = Buffer::new();
     buffer.skip_mark(source)?;

@@ -7,7 +7,7 @@ ghost use Rattle.edn.specs.Meaning.Views.{form_of};
 ghost use Rattle.edn.specs.Meaning.Faults.{IsOfDepth, IsOfText};
 ghost use Rattle.edn.specs.Meaning.Blame.{IsFaultOf};
 ghost use Rattle.edn.specs.Meaning.Lines.{IsAt, NamesLine};
-ghost use Rattle.edn.specs.Meaning.Texts.{HasEnded, HasFailed, HasRead, IsNoText, IsText};
+ghost use Rattle.edn.specs.Meaning.Texts.{HasEnded, HasFailed, HasNotFailed, HasRead, IsNoText, IsText};
 ghost use Rattle.edn.specs.Meaning.Readers.{BeginsForm, BeginsTooDeep, EndsHere, HasNoForm, IsOver, IsReady, IsTooDeep, ReadsForm, form_read, left_to_do, line_read, text_left};
 ghost use Rattle.edn.specs.Computing.Building.{is_top, top};
 ghost use Rattle.edn.specs.Computing.Stacks.{made_if, stack_of};
@@ -78,7 +78,7 @@ impl Reader {
 
     /// Reads the next form from what the source has left; [`form`](Reader::form) returns it. Returns whether there is one:
     /// false after the last one, and from then on, `Syntax` with the line if the text is none of EDN there, `Device` if the source failed,
-    /// `Memory` if memory ran out. After a fault it returns that fault again, and reads no more. What it reads is the form
+    /// `Memory` if memory ran out. After a fault, and only then, it returns that fault again and reads no more. What it reads is the form
     /// with which the text that is left begins: its tokens follow one another there, with white space and comments between
     /// them. If a form is there, it is read: false says that the text doesn't begin with one, and so does `Syntax`, unless
     /// its problem is `Depth`: then more than 64 forms are nested there, which no read passes over. False says also that only discarded forms, the
@@ -115,6 +115,7 @@ impl Reader {
             → BeginsTooDeep self.old.stage (text_left self.old (S.remaining source.old)) → IsErrAnd result (λ e. ¬ IsOfText e) }
         ensures fault { IfErr result (λ e. e ≡ ReadFault.Device
             → HasFailed self.old e ⊎ (S.is_failed source.new ≡ true)) }
+        ensures unfailed { OnOk result (HasNotFailed self.new) }
         ensures kept { result ≢ ErrSpec ReadFault.Device → S.is_failed source.new ≡ S.is_failed source.old }
         ensures ended { IfOk result (λ some. some ≡ false → HasEnded self.new) }
         ensures again { HasEnded self.old → (result ≡ OkSpec false) × HasEnded self.new × (source.new ≡ source.old) }
@@ -181,6 +182,7 @@ impl Reader {
         ensures nested { IsReady self.old (S.remaining source.old)
             → BeginsTooDeep self.old.stage (text_left self.old (S.remaining source.old)) → IsErrAnd result (λ e. ¬ IsOfText e) }
         ensures fault { IfErr result (λ e. e ≡ ReadFault.Device → S.is_failed source.new ≡ true) }
+        ensures unfailed { OnOk result (HasNotFailed self.new) }
         ensures kept { result ≢ ErrSpec ReadFault.Device → S.is_failed source.new ≡ S.is_failed source.old }
         ensures ended { IfOk result (λ some. some ≡ false → HasEnded self.new) }
         ensures again { HasEnded self.old → (result ≡ OkSpec false) × (source.new ≡ source.old) }

@@ -1,9 +1,8 @@
 -- Which answer begins with which words.
-use Rattle.std.proofs.Common.{◌≡◌, ◌⊎◌, ◌==◌, ℕ, true, false, List, [], ◌++◌, Option, Some, None, refl, sym, ◌∙◌, ap, subst, inl, inr}
+use Rattle.std.proofs.Common.{◌≡◌, ◌⊎◌, ◌==◌, ℕ, true, false, List, [], ◌++◌, Option, Some, refl, sym, ◌∙◌, ap, subst, inl, inr}
 use Rattle.std.specs.Prelude.{codes, slice_index}
 use Rattle.std.proofs.lemmas.Bool.{eq-eqb}
 use Rattle.devices.specs.declared.watched.Watched.{Watched}
-use Rattle.append_text.specs.declared.history.History.{History as ListHistory}
 use Rattle.append_text.specs.declared.text_form.TextForm.{TextForm}
 use Rattle.lists_verdicts.specs.declared.answer.Answer.{Answer}
 use Rattle.lists_verdicts.specs.declared.answer.Answer.TheVariants as It

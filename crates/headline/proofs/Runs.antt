@@ -1,5 +1,5 @@
 -- What a run over command lines in memory leaves gets a yes.
-use Rattle.std.proofs.Common.{◌≡◌, ◌⊎◌, ℕ, List, [], ◌++◌, append_assoc, Option, Some, None, refl, sym, ◌∙◌, ap, subst, inl, inr}
+use Rattle.std.proofs.Common.{◌≡◌, ◌⊎◌, ℕ, List, [], ◌++◌, append_assoc, Option, Some, None, sym, ◌∙◌, ap, subst, inl, inr}
 use Rattle.std.proofs.lemmas.List.{append-nil}
 use Rattle.std.specs.Io.KnownBytes.{Appends, Consumes, IsAtEnd}
 use Rattle.devices.specs.declared.watched.Watched.{Watched}
@@ -12,7 +12,7 @@ use Rattle.adya_audit.specs.Laws.Texts.{AcceptedTextsGetYes}
 use Rattle.ssi_line.specs.Meaning.Steps.{Step, Stopped, steps_text, AllGoOn, EndsWith}
 use Rattle.ssi_line.specs.Clauses.Ends.{EndsAs}
 use Rattle.ssi_line.specs.declared.end.End.{End}
-use Rattle.ssi_line.specs.declared.end.End.TheVariants.{Eof, Stop, ReadFault, WriteFault}
+use Rattle.ssi_line.specs.declared.end.End.TheVariants.{Eof, Stop}
 use Rattle.ssi_cli.specs.Clauses.Scripts.{Ran, Certified, course_of}
 use Rattle.headline.specs.Headline.{GetsYes}
 

@@ -27,14 +27,15 @@
 --   ssi_store, specs/Meaning: Recording (the history of a course), Faces (what a history shows of the answers)
 --   ssi_line, specs/Meaning: Spelling, Replies, Steps (lines, what is made of them, and what ends a run)
 --
--- What a text in EDN or JSON says, and what `lists` answers:
+-- What a text in EDN or JSON says, or what is wrong with it, and what `lists` answers:
 --   edn, specs/Meaning: Bytes, Characters, Numbers, Names, Strings, Words, Openings, Tokens (which bytes are which token), Lexing,
---     Forms, Keys, Grammar, Texts (which forms a text has)
+--     Forms, Keys, Grammar, Texts (which forms a text has), Nesting, Lines, Readers (which tokens come next), Blame (what is
+--     wrong with a text that has none)
 --   append_values, specs/Meaning: Histories (transactions of appends and reads), Reads, Runs (when an order explains a history),
 --     Reasons
 --   append_text, specs/Meaning: Notations (EDN or JSON), Data, Names, Operations (which operation a form is), Steps, Pairing
---     (which transactions they are), Numbers, Texts (the history that a text in EDN says), Json (the form that a value stands
---     for), Lines, JsonTexts (the history that a text in JSON says)
+--     (which transactions they are), Numbers, Texts (the history that a text in EDN says, or what is wrong with it), Json (the
+--     form that a value stands for), Lines, JsonTexts (the same of a text in JSON)
 --   append_check, specs/Meaning: Verdicts
 --   lists_verdicts, specs/Meaning: Status (answers and their words)
 --   lists_cli, specs/Meaning: Answers (what an answer says, and the text of an order)

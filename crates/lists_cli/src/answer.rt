@@ -63,8 +63,10 @@ fn reasons_in_words(
 ) -> Result<(), AllocError> {
     let mut explanation = Explanation::new(alloc, history);
     page.text(explanation.of(reason)?.as_slice())?;
-    if !findings.is_searched && is_cycle(reason) {
-        page.words("the search for a shorter cycle was cut off\n")?;
+    if !findings.is_searched {
+        page.words(
+            "the search for cycles was cut off: there may be a shorter one, or one of a worse kind\n",
+        )?;
     }
     let mut begins = "also: ";
     if findings.times > 1 {
@@ -125,8 +127,9 @@ fn count(
 
 /// Returns the answer as an object of JSON on a line of its own: `answer` is the first line without the kind; an order
 /// stands in `order`; after a reason `kind` has its name, `times` how many of the kind were found, `explanation` the
-/// sentences and, if it is a cycle, `cycle` its links and `shortest` whether none is shorter. `also` has the same of the
-/// other kinds. `rests_on` has what was counted. A transaction is named by its index.
+/// sentences and, if it is a cycle, `cycle` its links and `shortest` whether the search for cycles came to its end: if not,
+/// there may be a shorter one, or one of a worse kind. `also` has the same of the other kinds. `rests_on` has what was
+/// counted. A transaction is named by its index.
 pub(crate) fn in_json(
     alloc: Global,
     history: &History,
@@ -225,10 +228,6 @@ fn rests_on(alloc: Global, basis: &Basis) -> Result<Value, AllocError> {
 
 fn name(history: &History, reason: &Reason) -> &'static str {
     Phenomenon::of(history.transactions.as_slice(), reason).name()
-}
-
-fn is_cycle(reason: &Reason) -> bool {
-    matches!(reason, Reason::Cycle(_))
 }
 
 fn indexes(alloc: Global, history: &History, order: &[u32]) -> Result<Vec<Value>, AllocError> {

@@ -60,8 +60,7 @@ pub fn judge<S: Source, O: Write, D: Write, W: Write>(
     ensures answered { (text : List ℕ) → S.remaining source.old ≡ Some text → IfOk result (λ a. IsAnswer O.contents W.contents shape
         (notation_for form (after_mark text)) (after_mark text) a.answer a.basis order.old order.new out.old out.new) }
     ensures refused { (text : List ℕ) → S.remaining source.old ≡ Some text → IfErr result (IsRefusal (notation_for form (after_mark text)) (after_mark text)) }
-    ensures read_fault { (text : List ℕ) → S.remaining source.old ≡ Some text → IsErrOf result Fault.Read
-        → S.is_failed source.new ≡ true }
+    ensures read_fault { IsErrOf result Fault.Read → S.is_failed source.new ≡ true }
     ensures order_fault { IsErrOf result Fault.Order → has_failed order.new ≡ true }
     ensures drawing_fault { IsErrOf result Fault.Drawing → has_failed drawing.new ≡ true }
     ensures write_fault { IsErrOf result Fault.Write → has_failed out.new ≡ true }
@@ -88,8 +87,7 @@ fn read<S: Source>(
 ) -> Result<History, ReadFault>
     ensures history { (text : List ℕ) → S.remaining source.old ≡ Some text → IfOk result (IsHistoryIn (notation_for form (after_mark text)) (after_mark text)) }
     ensures fault { (text : List ℕ) → S.remaining source.old ≡ Some text → IfErr result (IsFaultIn (notation_for form (after_mark text)) (after_mark text)) }
-    ensures device { (text : List ℕ) → S.remaining source.old ≡ Some text
-        → IfErr result (λ e. e ≡ ReadFault.Device → S.is_failed source.new ≡ true) }
+    ensures device { IfErr result (λ e. e ≡ ReadFault.Device → S.is_failed source.new ≡ true) }
 {
     match form {
         None => read_history(alloc, source),

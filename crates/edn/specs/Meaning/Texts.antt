@@ -64,3 +64,7 @@ HasEnded r =
 -- reading has failed
 abbrev pub HasFailed : Reader → ReadFault → Type 0
 HasFailed r fault = r.stage ≡ Failed fault
+
+-- reading goes on: it hasn't failed
+abbrev pub HasNotFailed : Reader → Type 0
+HasNotFailed r = (fault : ReadFault) → HasFailed r fault → ⊥

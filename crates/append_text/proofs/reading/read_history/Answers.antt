@@ -7,6 +7,7 @@ use Rattle.append_text.specs.Meaning.Notations.{after_mark, notation_in}
 use Rattle.append_text.specs.Machinery.BufferTexts.{pending_in}
 use Rattle.append_text.proofs.FirstBytes.{begun_text, nothing_pending}
 use Rattle.append_text.proofs.JsonReadings.{device_in}
+use Rattle.append_text.proofs.TextFaults.{begun_unfailed}
 use Rattle.append_text.proofs.reading.read_history.Goals as goal
 
 pub returns-in_ok-after-in-Edn-clause-history : goal.returns-in_ok-after-in-Edn-clause-history
@@ -66,11 +67,5 @@ returns-in_err-form-clause-fault g c = λ text is.
     rw p.1 (device_in (notation_in (after_mark text)) (after_mark text) p.0 (p.2 ∙ c.in_err-form.ensures.fault))
 
 pub returns-in_ok-after-in-Edn-clause-device : goal.returns-in_ok-after-in-Edn-clause-device
-returns-in_ok-after-in-Edn-clause-device g c = λ text is.
-    let left = g.S.Read.remaining c.form.new.source in
-    let none = c.in_ok-skip_mark.ensures.kept text c.new-buffer.ensures.start c.new-buffer.ensures.end
-    (nothing_pending (pending_in c.new-buffer.result) (g.S.Read.remaining c.args.source.now) text c.new-buffer.ensures.pending is) in
-    let begun = after_mark text in
-    c.edn_text.ensures.device begun (begun_text begun c.pending.result.now c.in_ok-after-in-Edn.field-0 left
-    (subst (λ p. prepend_known p left ≡ Some (after_mark text)) (sym c.pending.ensures) (c.in_ok-form.ensures.kept begun none))
-    c.in_ok-after-in-Edn.ensures.begins)
+returns-in_ok-after-in-Edn-clause-device g c =
+    c.edn_text.ensures.device (begun_unfailed c.pending.result.now c.in_ok-after-in-Edn.field-0 c.in_ok-after-in-Edn.ensures.begins)

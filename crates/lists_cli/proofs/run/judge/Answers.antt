@@ -6,7 +6,7 @@ use Rattle.append_check.specs.Meaning.Verdicts.{history_of, IsRight}
 use Rattle.lists_verdicts.specs.Meaning.Status.{answer_of}
 use Rattle.lists_cli.specs.Meaning.Answers.{HasOrder, IsWritten, Means, history_in}
 use Rattle.lists_cli.specs.Clauses.Faults.{order_in}
-use Rattle.lists_cli.specs.Clauses.Faults.{IsReading, IsRefusal, fault_of}
+use Rattle.lists_cli.specs.Clauses.Faults.{IsReading, IsRefusal}
 use Rattle.lists_cli.proofs.Blamed.{reading, refused, same_fault, source_blamed}
 use Rattle.lists_cli.proofs.Right.{means}
 use Rattle.lists_cli.proofs.run.judge.Goals as goal
@@ -42,10 +42,10 @@ returns-in_err-history-clause-refused g c text known =
     rw p.1 (subst (IsRefusal n (after_mark text)) (sym p.2) (refused n (after_mark text) e (c.in_err-history.ensures.fault text known)))
 
 pub returns-in_err-history-clause-read_fault : goal.returns-in_err-history-clause-read_fault
-returns-in_err-history-clause-read_fault g c text known =
+returns-in_err-history-clause-read_fault g c =
     let p = err_from_is_err_and c.from_residual.result c.from_residual.ensures.1 in
     rw p.1 (λ is. source_blamed (g.S.Source.is_failed c.read.new.source) c.in_err-history.field-0.0
-    (c.in_err-history.ensures.device text known) (sym p.2 ∙ same_fault _ _ _ is))
+    c.in_err-history.ensures.device (sym p.2 ∙ same_fault _ _ _ is))
 
 pub returns-in_err-history-clause-order_fault : goal.returns-in_err-history-clause-order_fault
 returns-in_err-history-clause-order_fault g c =

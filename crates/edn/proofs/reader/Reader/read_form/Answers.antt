@@ -175,6 +175,15 @@ returns-in_err-end-clause-fault g c =
     let p = err_from_is_err_and c.from_residual-in_err-end.result c.from_residual-in_err-end.ensures.1 in
     rw (p.1, p.2) (λ device. absurd (c.in_err-end.ensures.fault device))
 
+-- ---- it goes on
+
+pub returns-then-branch-clause-unfailed : goal.returns-then-branch-clause-unfailed
+returns-then-branch-clause-unfailed g c =
+    takes_unfailed c.token.self.stage c.take.new.self.stage (token_of c.next_token.new.leaf c.in-Some.token) _ _ _ c.in_ok-take.ensures.takes
+
+pub returns-clause-unfailed : goal.returns-clause-unfailed
+returns-clause-unfailed g c = c.token.invariant.2
+
 -- ---- lines
 
 pub returns-then-branch-clause-line : goal.returns-then-branch-clause-line
