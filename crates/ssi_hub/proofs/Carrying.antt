@@ -1,22 +1,26 @@
 -- Lines that are carried out, one more each time.
 use Rattle.std.proofs.Common.{◌≡◌, ◌≢◌, ℕ, suc, ◌+◌, ◌<◌, ◌≤◌, List, [], ◌∷◌, ◌++◌, Bool, true, false, cond, Some, None, take, drop, length}
 use Rattle.std.proofs.Common.{refl, sym, ap, subst, ◌∙◌, append_assoc, append-nil, arith, length-append, inl, inr}
-use Rattle.std.specs.Prelude.{nat_le, zero, ◌||◌}
+use Rattle.std.specs.Prelude.{◌==◌, nat_le, zero, ◌||◌, ◌&&◌}
 use Rattle.std.proofs.lemmas.List.{length-take}
-use Rattle.std.proofs.lemmas.Bool.{leb-true, leb-false, lt-leb, both_ways}
+use Rattle.std.proofs.lemmas.Bool.{leb-true, leb-false, le-leb, lt-leb}
 use Rattle.std.proofs.lemmas.List.Elements.{All-nil, All-push, All-head, All-tail}
+use Rattle.std.proofs.lemmas.List.Folds.{list_any-append}
 use Rattle.adya_line.specs.Meaning.Lines.{IsPlain}
 use Rattle.adya_text.specs.Meaning.Texts.{with_ends}
 use Rattle.ssi_store.specs.Meaning.Courses.{Course}
 use Rattle.ssi_line.specs.Meaning.Steps.{Step, IsStep, AllGoOn}
 use Rattle.ssi_line.specs.Meaning.Steps.{step_text, steps_text, is_stop}
-use Rattle.ssi_line.specs.Clauses.Ends.{WentOn}
+use Rattle.ssi_line.specs.Clauses.Ends.{WentOn, WentOnLogged}
 use Rattle.ssi_line.specs.Clauses.Answers.{kept}
 use Rattle.ssi_hub.specs.Clauses.Clipping.{clipped, has_line}
 use Rattle.ssi_hub.specs.Clauses.Buffers.{Buffers}
 use Rattle.ssi_hub.specs.Clauses.Runs.{EndsSo, AreBegun, CarriedOut, IsEnough}
-use Rattle.ssi_hub.specs.Machinery.Outcomes.{stops_by, lost_by, Replied, Stepped}
+use Rattle.ssi_hub.specs.Clauses.Outcomes.{stops_by, lost_by}
+use Rattle.ssi_hub.specs.Clauses.Stepping.{is_ready}
+use Rattle.ssi_hub.specs.Machinery.Outcomes.{Replied, Stepped}
 use Rattle.ssi_hub.specs.declared.outcome.Outcome.{Outcome}
+use Rattle.ssi_hub.specs.declared.outcome.CarriedLine.{CarriedLine}
 use Rattle.ssi_hub.proofs.Clips.{plain_clipped, plain_without, plain_take, first_feed, line_clipped, one_cut, past_line}
 use Rattle.ssi_line.proofs.StepLists.{ends_append, steps_append, text_append, went_on_more, stopped}
 
@@ -65,18 +69,53 @@ cut_bytes bytes front more is plain = by_line (has_line bytes) refl
         let whole : IsPlain (clipped bytes) = subst IsPlain (sym (plain_clipped 0 bytes without)) (plain_take 4097 bytes without) in
         absurd (no_feed front more (subst IsPlain is whole))
 
--- a line was carried out and passed
+-- ---- whether a line may be carried out
+
+pub feeds : (line rest : List ℕ) → has_line (line ++ (10 ∷ rest)) ≡ true
+feeds line rest = list_any-append (λ b. b == 10) line (10 ∷ rest) ∙ either (has_line line)
+  where
+    either : (b : Bool) → b || true ≡ true
+    either true = refl
+    either false = refl
+
+-- a line waits, and few bytes are unsent
+pub ready : (b : Buffers) (front rest : List ℕ) → b.waiting ≡ front ++ (10 ∷ rest) → length b.unsent ≤ 65536
+    → is_ready b ≡ true
+ready b front rest waits short =
+    ap (λ h. h && nat_le (length b.unsent) 65536) (ap (λ (l : List ℕ). has_line l) waits ∙ feeds front rest)
+    ∙ le-leb (length b.unsent) 65536 short
+
+pub none_ready : (b : Buffers) → has_line b.waiting ≡ false → is_ready b ≡ false
+none_ready b none = ap (λ h. h && nat_le (length b.unsent) 65536) none
+
+pub full : (b : Buffers) → 65536 < length b.unsent → is_ready b ≡ false
+full b many = ap (λ n. has_line b.waiting && n) (lt-leb (length b.unsent) 65536 many) ∙ either (has_line b.waiting)
+  where
+    either : (h : Bool) → (h && false) ≡ false
+    either true = refl
+    either false = refl
+
+not_ready : (b : Buffers) → is_ready b ≡ false → has_line b.waiting ≡ true → 65536 < length b.unsent
+not_ready b none has =
+    leb-false (length b.unsent) 65536 (sym (ap (λ h. h && nat_le (length b.unsent) 65536) has) ∙ none)
+
+-- ---- one line
+
+-- it was carried out and passed
 pub stepped : {T : Type 0} (is_at : T → Course → Type 0) (old now : Buffers) (bytes front more passed unsent : List ℕ)
-    (len : ℕ) (store after : T) (outcome : Outcome) → now ≡ old → old.waiting ≡ clipped bytes → IsPlain front
+    (len : ℕ) (store after : T) (carried : CarriedLine) → now ≡ old → old.waiting ≡ clipped bytes → IsPlain front
     → now.waiting ≡ front ++ (10 ∷ more) → len ≡ length front → passed ≡ drop 1 (drop len now.waiting)
-    → ((text : List ℕ) → kept front ≡ kept text → (step : Step) × IsStep text step
-    × Replied outcome step now.unsent unsent × WentOn is_at store (step ∷ []) after)
+    → length now.unsent ≤ 65536
+    → ((step : Step) × ((text : List ℕ) → kept front ≡ kept text → IsStep text step)
+    × Replied carried step now.unsent unsent × WentOn is_at store (step ∷ []) after × WentOnLogged is_at store step after)
     → (line : List ℕ) × (step : Step) × (left : List ℕ)
-    × Stepped is_at old bytes store outcome line step left (record { waiting = passed; unsent = unsent }) after
-stepped is_at old now bytes front more passed unsent len store after outcome same waits plain cut counted left_is replied =
-    let is : clipped bytes ≡ front ++ (10 ∷ more) = sym waits ∙ sym (ap (λ (b : Buffers). b.waiting) same) ∙ cut in
+    × Stepped is_at old bytes store carried line step left (record { waiting = passed; unsent = unsent }) after
+stepped is_at old now bytes front more passed unsent len store after carried same waits plain cut counted left_is short one =
+    let (step, made, reply, went, logged) = one in
+    let same_waiting : now.waiting ≡ old.waiting = ap (λ (b : Buffers). b.waiting) same in
+    let is : clipped bytes ≡ front ++ (10 ∷ more) = sym waits ∙ sym same_waiting ∙ cut in
     let (line, left, without, whole, first, behind) = cut_bytes bytes front more is plain in
-    let (step, made, reply, went) = replied line (ap (λ (l : List ℕ). kept l) first ∙ kept_first line) in (
+    let shown : kept front ≡ kept line = ap (λ (l : List ℕ). kept l) first ∙ kept_first line in (
       line,
       step,
       left,
@@ -84,9 +123,15 @@ stepped is_at old now bytes front more passed unsent len store after outcome sam
         plain = without;
         cut = whole;
         waits = left_is ∙ past_line now.waiting front more len cut counted ∙ behind;
-        made = made;
-        replied = subst (λ (b : Buffers). Replied outcome step b.unsent unsent) same reply;
+        made = made line shown;
+        first = λ other rest begins plain_too.
+            let here : other ≡ front =
+            (one_cut other rest front more plain_too plain (sym begins ∙ sym same_waiting ∙ cut)).0 in
+            (ap (λ (l : List ℕ). kept l) here ∙ shown, made other (ap (λ (l : List ℕ). kept l) (sym here)));
+        within = subst (λ (b : Buffers). length b.unsent ≤ 65536) same short;
+        replied = subst (λ (b : Buffers). Replied carried step b.unsent unsent) same reply;
         went = went;
+        logged = logged;
       },
     )
 
@@ -133,12 +178,12 @@ carried_none is_at old bytes store waits = record {
 }
 
 pub carried_more : {T : Type 0} (is_at : T → Course → Type 0) (old mid new : Buffers) (bytes left after : List ℕ)
-    (store between now : T) (outcome : Outcome) (lines : List (List ℕ)) (steps : List Step) (line : List ℕ) (step : Step)
-    → CarriedOut is_at old bytes store false false lines steps left mid between → length mid.unsent ≤ 65536
-    → Stepped is_at mid left between outcome line step after new now
-    → CarriedOut is_at old bytes store (stops_by outcome) (lost_by outcome) (lines ++ line ∷ []) (steps ++ step ∷ []) after
-    new now
-carried_more is_at old mid new bytes left after store between now outcome lines steps line step so within more =
+    (store between now : T) (carried : CarriedLine) (lines : List (List ℕ)) (steps : List Step) (line : List ℕ) (step : Step)
+    → CarriedOut is_at old bytes store false false lines steps left mid between
+    → Stepped is_at mid left between carried line step after new now
+    → CarriedOut is_at old bytes store (stops_by carried.outcome) (lost_by carried.outcome) (lines ++ line ∷ [])
+    (steps ++ step ∷ []) after new now
+carried_more is_at old mid new bytes left after store between now carried lines steps line step so more =
     let long : length mid.unsent ≡ length old.unsent + length (steps_text steps) =
     ap (λ (l : List ℕ). length l) (so.replies refl) ∙ length-append old.unsent (steps_text steps) in
     record {
@@ -148,9 +193,19 @@ carried_more is_at old mid new bytes left after store between now outcome lines 
       made = steps_append lines (line ∷ []) steps (step ∷ []) so.made (more.made, tt);
       replies = λ held. replies_more old.unsent mid.unsent new.unsent steps step (so.replies refl) (more.replied.reply held);
       went = went_on_more is_at store between now steps step so.went more.went;
-      ends = ends_more (stops_by outcome) steps step so.ends more.replied.stops;
-      begun = begun_more (length old.unsent) steps step so.begun (omega (arith, within, long));
+      ends = ends_more (stops_by carried.outcome) steps step so.ends more.replied.stops;
+      begun = begun_more (length old.unsent) steps step so.begun (omega (arith, more.within, long));
     }
+
+-- the only line of a run
+pub carried_one : {T : Type 0} (is_at : T → Course → Type 0) (old new : Buffers) (bytes after : List ℕ) (store now : T)
+    (carried : CarriedLine) (line : List ℕ) (step : Step) → old.waiting ≡ clipped bytes
+    → Stepped is_at old bytes store carried line step after new now
+    → CarriedOut is_at old bytes store (stops_by carried.outcome) (lost_by carried.outcome) (line ∷ []) (step ∷ []) after new
+    now
+carried_one is_at old new bytes after store now carried line step waits so =
+    carried_more is_at old old new bytes bytes after store store now carried [] [] line step
+    (carried_none is_at old bytes store waits) so
 
 -- ---- the ends of a run
 
@@ -184,10 +239,10 @@ enough_ended outcome most counter lines line new ends counted below = record {
     ended true b e p q = cc
     ended false b e p q = cc
 
--- no whole line waits
+-- no line may be carried out
 pub none_waits : {T : Type 0} (is_at : T → Course → Type 0) (old mid new : Buffers) (bytes left : List ℕ) (store between now : T)
     (lines : List (List ℕ)) (steps : List Step) (most counter : ℕ) → new ≡ mid → now ≡ between
-    → has_line mid.waiting ≡ false → length lines ≡ counter → counter < most
+    → is_ready mid ≡ false → length lines ≡ counter → counter < most
     → CarriedOut is_at old bytes store false false lines steps left mid between
     → CarriedOut is_at old bytes store false false lines steps left new now × IsEnough false false most lines new
 none_waits is_at old mid new bytes left store between now lines steps most counter same same_store none counted below so = (
@@ -196,14 +251,11 @@ none_waits is_at old mid new bytes left store between now lines steps most count
   record {
     few = omega (arith, counted, below);
     some = λ e. cc;
-    paused = λ _ _ has. absurd (both_ways (has_line new.waiting) (ap (λ (b : Buffers). has_line b.waiting) same ∙ none) has);
+    paused = λ _ _ has. inr
+        (subst (λ (b : Buffers). 65536 < length b.unsent) (sym same)
+        (not_ready mid none (sym (ap (λ (b : Buffers). has_line b.waiting) same) ∙ has)));
   },
 )
-
-pub enough_unsent : (most counter : ℕ) (lines : List (List ℕ)) (new : Buffers) → length lines ≡ counter → counter < most
-    → 65536 < length new.unsent → IsEnough false false most lines new
-enough_unsent most counter lines new counted below many =
-    record { few = omega (arith, counted, below); some = λ e. cc; paused = λ _ _ _. inr many }
 
 pub enough_lines : (most : ℕ) (lines : List (List ℕ)) (new : Buffers) → length lines ≡ most
     → IsEnough false false most lines new

@@ -3,4 +3,4 @@ pub mod Served
 pub mod Standing
 pub mod Carrying
 pub mod Ran
-pub mod StopLines
+pub mod OneStep

@@ -1,11 +1,10 @@
 -- What a hub stands for after a run.
 use Rattle.std.proofs.Common.{◌≡◌, ◌≢◌, ℕ, ◌<◌, ◌≤◌, List, [], ◌∷◌, ◌++◌, Bool, true, false, cond, Option, Some, None, Result, Ok, Err, length}
 use Rattle.std.proofs.Common.{refl, sym, ap, subst, ◌∙◌, append_assoc, append-nil, inl, inr, ◌⊎◌, arith, take}
-use Rattle.std.specs.Prelude.{◌==◌, All, IsSome, IsOk, is_err, ◌||◌}
+use Rattle.std.specs.Prelude.{◌==◌, All, IsSome, IsOk, is_err}
 use Rattle.std.proofs.lemmas.Option.{same_Some, none-some}
 use Rattle.std.proofs.lemmas.Bool.{eq-eqb, ne_eqb, both_ways}
 use Rattle.std.proofs.lemmas.List.Elements.{All-nil, All-append, All-head}
-use Rattle.std.proofs.lemmas.List.Folds.{list_any-append}
 use Rattle.adya_line.specs.Meaning.Lines.{IsPlain}
 use Rattle.adya_text.specs.Meaning.Texts.{with_ends}
 use Rattle.ssi_store.specs.Meaning.Courses.{Course}
@@ -20,7 +19,7 @@ use Rattle.ssi_hub.specs.Clauses.Serving.{IsServed, StandsFor}
 use Rattle.ssi_hub.specs.Machinery.Changes.{Changes, AreSame, CarriesOut, RanAt, RanNothing}
 use Rattle.ssi_hub.proofs.Served.{served_ran}
 use Rattle.ssi_hub.proofs.Clips.{one_cut}
-use Rattle.ssi_hub.proofs.Carrying.{cut_bytes, kept_first}
+use Rattle.ssi_hub.proofs.Carrying.{cut_bytes, kept_first, feeds}
 use Rattle.ssi_hub.proofs.Standing.{Served, shown, stands_same, stands_more, closed_stands, given_open}
 
 ends_both : (stops : Bool) (before steps : List Step) → AllGoOn before → EndsSo stops steps → EndsSo stops (before ++ steps)
@@ -31,7 +30,7 @@ ends_both true before steps all ends = record {
   is = ap (λ (l : List Step). before ++ l) ends.is ∙ sym (append_assoc before ends.before (Stopped ∷ []));
 }
 
-opened_by : (o : Bool) (left unsent : List ℕ) (old : Buffers) → Some old ≡ shown o left unsent
+pub opened_by : (o : Bool) (left unsent : List ℕ) (old : Buffers) → Some old ≡ shown o left unsent
     → (o ≡ true) × (old ≡ record { waiting = clipped left; unsent = unsent })
 opened_by true left unsent old is = (refl, same_Some old (record { waiting = clipped left; unsent = unsent }) is)
 opened_by false left unsent old is = absurd (none-some old (sym is))
@@ -90,7 +89,7 @@ quiet_wrote t bytes calls = by_open (is_open t calls)
     by_open true = refl
     by_open false = refl
 
-run_adds : (lost : Bool) (t : ℕ) (lines : List (List ℕ)) (steps : List Step) (calls : List Call) → is_open t calls ≡ true
+pub run_adds : (lost : Bool) (t : ℕ) (lines : List (List ℕ)) (steps : List Step) (calls : List Call) → is_open t calls ≡ true
     → all_steps (with_run lost t lines steps calls) ≡ all_steps calls ++ steps
 run_adds false t lines steps calls opened = ap (λ (l : List Call). all_steps l) (sym (ran_noted t lines steps calls opened))
 run_adds true t lines steps calls opened =
@@ -105,13 +104,6 @@ none_added t calls = by_open (is_open t calls)
     by_open false = sym (append-nil (all_steps calls))
 
 -- ---- which lines were carried out
-
-feeds : (line rest : List ℕ) → has_line (line ++ (10 ∷ rest)) ≡ true
-feeds line rest = list_any-append (λ b. b == 10) line (10 ∷ rest) ∙ either (has_line line)
-  where
-    either : (b : Bool) → b || true ≡ true
-    either true = refl
-    either false = refl
 
 not_stopped : (stops : Bool) → EndsSo stops [] → stops ≡ false
 not_stopped false ends = refl
@@ -172,6 +164,34 @@ none_taken stopped lost most had why fine = record {
     neither b (inl is) goes has = absurd (both_ways stopped goes is)
     neither b (inr none) goes has = absurd (none-some b (sym none ∙ has))
 
+-- the lines were carried out, and the connection is closed if the last reply is lost
+pub carried_stands : {T : Type 0} (is_at : T → Course → Type 0) (b new : ℕ → Option Buffers) (next t : ℕ) (stops lost : Bool)
+    (before now : Buffers) (bytes unsent left : List ℕ) (lines : List (List ℕ)) (steps : List Step) (store after : T)
+    (calls : List Call) → StandsFor b next false calls → is_open t calls ≡ true → IsServed t calls bytes unsent
+    → before ≡ record { waiting = clipped bytes; unsent = unsent }
+    → CarriedOut is_at before bytes store stops lost lines steps left now after → Changes b new t (left_by lost now)
+    → StandsFor new next stops (with_run lost t lines steps calls)
+carried_stands is_at b new next t stops lost before now bytes unsent left lines steps store after calls s opened served is =
+    by_loss lost
+  where
+    by_loss : (lost : Bool) → CarriedOut is_at before bytes store stops lost lines steps left now after
+        → Changes b new t (left_by lost now) → StandsFor new next stops (with_run lost t lines steps calls)
+    by_loss false so changes =
+        subst (λ (l : List Call). StandsFor new next stops l) (ran_noted t lines steps calls opened)
+        (ran_open is_at b new next t stops false before now bytes left unsent lines steps store after calls s opened served is
+        so
+        (changes.own ∙ ap (λ (w : List ℕ). Some (record { waiting = w; unsent = now.unsent })) so.waits
+        ∙ ap (λ (u : List ℕ). Some (record { waiting = clipped left; unsent = u }))
+        (so.replies refl ∙ ap (λ (x : Buffers). x.unsent ++ steps_text steps) is))
+        changes.others)
+    by_loss true so changes =
+        let mid : Option Buffers = Some (record { waiting = clipped left; unsent = unsent ++ steps_text steps }) in
+        closed_stands (with_one b t mid) new next next stops stops t (with_call (Ran t lines steps) calls)
+        (subst (λ (l : List Call). StandsFor (with_one b t mid) next stops l) (ran_noted t lines steps calls opened)
+        (ran_open is_at b (with_one b t mid) next t stops true before now bytes left unsent lines steps store after calls s
+        opened served is so (one_own b t mid) (one_other b t mid)))
+        changes.own (λ u apart. changes.others u apart ∙ sym (one_other b t mid u apart)) refl refl
+
 pub ran_stands : {T : Type 0} (is_at : T → Course → Type 0) (b new : ℕ → Option Buffers) (next t : ℕ) (stops lost : Bool)
     (most : ℕ) (store after : T) (calls : List Call) → StandsFor b next false calls
     → RanAt is_at b t store stops lost most new after
@@ -194,30 +214,11 @@ ran_stands is_at b new next t stops lost most store after calls s ran =
             (ap (λ (y : Buffers). y.waiting) is) (ap (λ (y : Buffers). y.waiting) same ∙ waits) plain
             (subst (λ (y : Buffers). length y.unsent ≤ 65536) (sym same) short) one;
       },
-      by_loss lost bytes unsent left lines steps opened served is so ran.changes,
+      carried_stands is_at b new next t stops lost ran.before ran.now bytes unsent left lines steps store after calls s
+          opened served is so ran.changes,
       so.went,
       run_adds lost t lines steps calls opened,
     )
-  where
-    by_loss : (lost : Bool) (bytes unsent left : List ℕ) (lines : List (List ℕ)) (steps : List Step) → is_open t calls ≡ true
-        → IsServed t calls bytes unsent → ran.before ≡ record { waiting = clipped bytes; unsent = unsent }
-        → CarriedOut is_at ran.before bytes store stops lost lines steps left ran.now after
-        → Changes b new t (left_by lost ran.now) → StandsFor new next stops (with_run lost t lines steps calls)
-    by_loss false bytes unsent left lines steps opened served is so changes =
-        subst (λ (l : List Call). StandsFor new next stops l) (ran_noted t lines steps calls opened)
-        (ran_open is_at b new next t stops false ran.before ran.now bytes left unsent lines steps store after calls s opened
-        served is so
-        (changes.own ∙ ap (λ (w : List ℕ). Some (record { waiting = w; unsent = ran.now.unsent })) so.waits
-        ∙ ap (λ (u : List ℕ). Some (record { waiting = clipped left; unsent = u }))
-        (so.replies refl ∙ ap (λ (x : Buffers). x.unsent ++ steps_text steps) is))
-        changes.others)
-    by_loss true bytes unsent left lines steps opened served is so changes =
-        let mid : Option Buffers = Some (record { waiting = clipped left; unsent = unsent ++ steps_text steps }) in
-        closed_stands (with_one b t mid) new next next stops stops t (with_call (Ran t lines steps) calls)
-        (subst (λ (l : List Call). StandsFor (with_one b t mid) next stops l) (ran_noted t lines steps calls opened)
-        (ran_open is_at b (with_one b t mid) next t stops true ran.before ran.now bytes left unsent lines steps store after
-        calls s opened served is so (one_own b t mid) (one_other b t mid)))
-        changes.own (λ u apart. changes.others u apart ∙ sym (one_other b t mid u apart)) refl refl
 
 -- no line was carried out
 pub nothing_ran : (b : ℕ → Option Buffers) (next t : ℕ) (stopped : Bool) (calls : List Call) → StandsFor b next stopped calls

@@ -2,5 +2,7 @@
 pub mod Clipping
 pub mod Buffers
 pub mod Runs
+pub mod Outcomes
+pub mod Stepping
 pub mod Calls
 pub mod Serving

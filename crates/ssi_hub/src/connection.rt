@@ -1,16 +1,18 @@
 //! One connection.
 
-ghost use Rattle.std.specs.Prelude.{◌≡◌, ℕ, List, ◌∷◌, ◌++◌, false, OnOk, OnErr, IfSome, IfNone, length, not, ◌&&◌, nat_le};
+ghost use Rattle.std.specs.Prelude.{◌≡◌, ℕ, List, ◌∷◌, ◌++◌, false, OnOk, OnErr, is_some, IfSome, IfNone, length, not, ◌&&◌, nat_le};
 ghost use Rattle.adya_line.specs.Meaning.Lines.{IsPlain};
 ghost use Rattle.ssi_store.specs.Mirror.Stores.{IsAt};
 ghost use Rattle.ssi_line.specs.Meaning.Steps.{Step};
 ghost use Rattle.ssi_hub.specs.Clauses.Clipping.{clipped, has_line};
 ghost use Rattle.ssi_hub.specs.Clauses.Buffers.{no_bytes, with_received, with_written};
 ghost use Rattle.ssi_hub.specs.Clauses.Runs.{CarriedOut, IsEnough};
-ghost use Rattle.ssi_hub.specs.Machinery.Outcomes.{Stepped, stops_by, lost_by};
+ghost use Rattle.ssi_hub.specs.Clauses.Outcomes.{stops_by, lost_by};
+ghost use Rattle.ssi_hub.specs.Clauses.Stepping.{is_ready};
+ghost use Rattle.ssi_hub.specs.Machinery.Outcomes.{StepsOut};
 
 use crate::replying::reply;
-use crate::{Inbox, Outcome, Queue};
+use crate::{CarriedLine, Inbox, Outcome, Queue};
 use ssi_reads::Marks;
 use ssi_store::Store;
 use ssi_versions::Chains;
@@ -106,37 +108,36 @@ impl Connection {
             × IsEnough (stops_by result) (lost_by result) most lines self.new }
     {
         'lines: for _ in 0..most {
-            if self.unsent.len() > MOST_UNSENT {
-                return Outcome::GoesOn;
-            }
-            let Some(outcome) = self.step(alloc, store) else {
+            let Some(carried) = self.step(alloc, store) else {
                 return Outcome::GoesOn;
             };
-            if outcome.is_last() {
-                return outcome;
+            if carried.outcome.is_last() {
+                return carried.outcome;
             }
         }
         Outcome::GoesOn
     }
 
-    /// Carries out the first line that waits, and adds its reply to what is to be written. `None` if no whole line waits.
-    fn step<C: Chains + Drop, M: Marks + Drop>(
+    /// Carries out the first line that waits, and adds its reply to what is to be written. `None` if no whole line waits or
+    /// more than 65,536 bytes are unsent; then nothing is done.
+    pub(crate) fn step<C: Chains + Drop, M: Marks + Drop>(
         &mut self,
         alloc: Global,
         store: &mut Store<C, M>,
-    ) -> Option<Outcome>
-        ensures some { IfSome result (λ outcome. (bytes : List ℕ) → self.old.waiting ≡ clipped bytes
-            → (line : List ℕ) × (step : Step) × (left : List ℕ)
-            × Stepped (IsAt C.held M.marked) self.old bytes store.old outcome line step left self.new store.new) }
-        ensures none { IfNone result (has_line self.old.waiting ≡ false) }
-        ensures as_before { IfNone result ((self.new ≡ self.old) × (store.new ≡ store.old)) }
+    ) -> Option<CarriedLine>
+        ensures when { is_some result ≡ is_ready self.old }
+        ensures some { IfSome result (λ carried. StepsOut (IsAt C.held M.marked) self.old store.old carried self.new store.new) }
+        ensures none { IfNone result ((self.new ≡ self.old) × (store.new ≡ store.old)) }
     {
+        if self.unsent.len() > MOST_UNSENT {
+            return None;
+        }
         let Some(line) = self.inbox.line() else {
             return None;
         };
         let len = line.len();
-        let outcome = reply(alloc, line, &mut self.unsent, store);
+        let carried = reply(alloc, line, &mut self.unsent, store);
         self.inbox.pass(len);
-        Some(outcome)
+        Some(carried)
     }
 }

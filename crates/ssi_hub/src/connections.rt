@@ -1,13 +1,15 @@
 //! The open connections, by their tokens.
 
-ghost use Rattle.std.specs.Prelude.{◌≡◌, ℕ, None, Some, OnOk, OnErr, IfSome, IfNone, MatchOption};
+ghost use Rattle.std.specs.Prelude.{◌≡◌, ℕ, true, None, Some, OnOk, OnErr, IfSome, IfNone, MatchOption, if◌then◌else◌};
 ghost use Rattle.std.specs.Option.{option_map, option_copied};
 ghost use Rattle.ssi_store.specs.Mirror.Stores.{IsAt};
 ghost use Rattle.ssi_hub.specs.Clauses.Buffers.{Buffers, no_bytes, with_received, with_written};
-ghost use Rattle.ssi_hub.specs.Machinery.Outcomes.{stops_by, lost_by};
-ghost use Rattle.ssi_hub.specs.Machinery.Changes.{buffers_in, Changes, AreSame, CarriesOut, RanAt, RanNothing};
+ghost use Rattle.ssi_hub.specs.Clauses.Outcomes.{stops_by, lost_by};
+ghost use Rattle.ssi_hub.specs.Clauses.Stepping.{is_ready};
+ghost use Rattle.ssi_hub.specs.Machinery.Outcomes.{StepsOut};
+ghost use Rattle.ssi_hub.specs.Machinery.Changes.{buffers_in, Changes, AreSame, CarriesOut, RanAt, RanNothing, SteppedAt, NotStepped};
 
-use crate::{Connection, Outcome};
+use crate::{CarriedLine, Connection, Outcome};
 use indexmap::IndexMap;
 use ssi_reads::Marks;
 use ssi_store::Store;
@@ -86,10 +88,7 @@ impl Connections {
         let Some(outcome) = self.carry_out(alloc, token, store, most) else {
             return None;
         };
-        if outcome.is_lost() {
-            self.remove(token);
-            return Some(outcome);
-        }
+        self.remove_lost(token, outcome);
         Some(outcome)
     }
 
@@ -109,6 +108,52 @@ impl Connections {
             return None;
         };
         Some(connection.run(alloc, store, most))
+    }
+
+    /// Carries out the first line that waits of the connection, as [`Connection::step`] does, and removes it if the reply is
+    /// lost. `None` if it isn't open, or no line of it may be carried out.
+    pub(crate) fn step<C: Chains + Drop, M: Marks + Drop>(
+        &mut self,
+        alloc: Global,
+        token: u64,
+        store: &mut Store<C, M>,
+    ) -> Option<CarriedLine>
+        ensures { MatchOption result (NotStepped (buffers_in self.old) token store.old (buffers_in self.new) store.new)
+            (λ carried. SteppedAt (IsAt C.held M.marked) (buffers_in self.old) token store.old carried (buffers_in self.new)
+            store.new) }
+    {
+        let Some(carried) = self.step_open(alloc, token, store) else {
+            return None;
+        };
+        self.remove_lost(token, carried.outcome);
+        Some(carried)
+    }
+
+    fn step_open<C: Chains + Drop, M: Marks + Drop>(
+        &mut self,
+        alloc: Global,
+        token: u64,
+        store: &mut Store<C, M>,
+    ) -> Option<CarriedLine>
+        ensures none { IfNone result (NotStepped (buffers_in self.old) token store.old (buffers_in self.new) store.new) }
+        ensures some { IfSome result (λ carried. (old : Buffers) × (now : Buffers) × (buffers_in self.old token ≡ Some old)
+            × (is_ready old ≡ true) × Changes (buffers_in self.old) (buffers_in self.new) token (Some now)
+            × StepsOut (IsAt C.held M.marked) old store.old carried now store.new) }
+    {
+        let Some(connection) = self.by_token.get_mut(&token) else {
+            return None;
+        };
+        connection.step(alloc, store)
+    }
+
+    /// Removes the connection if its reply is lost.
+    fn remove_lost(&mut self, token: u64, outcome: Outcome)
+        ensures { Changes (buffers_in self.old) (buffers_in self.new) token
+            (if lost_by outcome then None else buffers_in self.old token) }
+    {
+        if outcome.is_lost() {
+            self.remove(token);
+        }
     }
 
     /// Removes the connection, if it is open.

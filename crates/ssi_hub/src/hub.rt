@@ -10,11 +10,13 @@ ghost use Rattle.adya_line.specs.Meaning.Lines.{IsPlain};
 ghost use Rattle.ssi_hub.specs.Clauses.Clipping.{clipped, has_line};
 ghost use Rattle.ssi_hub.specs.Clauses.Buffers.{Buffers, no_bytes, with_received, with_written, first_unsent};
 ghost use Rattle.ssi_hub.specs.Clauses.Runs.{CarriedOut, IsEnough, IsTaken, left_by};
+ghost use Rattle.ssi_hub.specs.Clauses.Outcomes.{stops_by, lost_by};
+ghost use Rattle.ssi_hub.specs.Clauses.Stepping.{may_step, IsLineStep};
 ghost use Rattle.ssi_hub.specs.Clauses.Calls.{Call, Opened, Received, Wrote, Closed, with_call, with_run, all_steps};
-ghost use Rattle.ssi_hub.specs.Machinery.Changes.{RanAt};
+ghost use Rattle.ssi_hub.specs.Machinery.Changes.{RanAt, SteppedAt};
 ghost use Rattle.ssi_hub.specs.Mirror.{buffers_of, next_token, is_stopped, Changed, IsSame, Stands, Serves};
 
-use crate::Connections;
+use crate::{CarriedLine, Connections};
 use ssi_reads::Marks;
 use ssi_store::Store;
 use ssi_versions::Chains;
@@ -79,8 +81,8 @@ impl Hub {
         self.connections.received(token, bytes)
     }
 
-    /// Carries out up to `most` of the lines that wait of the connection, oldest first, each by [`answer`](ssi_line::answer) on
-    /// the store, and adds the replies to what is to be written to it. It stops before a further line while more than 65,536
+    /// Carries out up to `most` of the lines that wait of the connection, oldest first, each by [`carry_out`](ssi_line::carry_out)
+    /// on the store, and adds the replies to what is to be written to it. It stops before a further line while more than 65,536
     /// bytes are unsent, and at `stop`: after that no line of any connection is carried out.
     ///
     /// `AllocError` if memory can't hold a reply: that line has been carried out and is the last, and the connection is
@@ -151,9 +153,76 @@ impl Hub {
         Ok(())
     }
 
+    /// Carries out the first line that waits of the connection, as [`run`](Hub::run) does, and returns what came of it. `None`
+    /// if [`wants_run`](Hub::wants_run) says no; then nothing is done.
+    ///
+    /// If memory can't hold the reply, the line has been carried out, and the connection is closed.
+    pub fn step<C: Chains + Drop, M: Marks + Drop>(
+        &mut self,
+        alloc: Global,
+        token: u64,
+        store: &mut Store<C, M>,
+    ) -> Option<CarriedLine>
+        // A line is carried out if and only if one may be.
+        ensures when { is_some result ≡ may_step (is_stopped self.old) (buffers_of self.old token) }
+        ensures none { IfNone result (IsSame self.old self.new × (store.new ≡ store.old)) }
+
+        // It is the first one that waits, and no other. Its reply is added, or lost with the connection.
+        ensures carried { IfSome result (λ carried. (b : Buffers) (bytes : List ℕ) → buffers_of self.old token ≡ Some b
+            → b.waiting ≡ clipped bytes
+            → (line : List ℕ) × (step : Step) × (left : List ℕ) × (now : Buffers)
+            × IsLineStep (IsAt C.held M.marked) (buffers_of self.old token) store.old carried line step store.new
+            × CarriedOut (IsAt C.held M.marked) b bytes store.old (stops_by carried.outcome) (lost_by carried.outcome)
+            (line ∷ []) (step ∷ []) left now store.new
+            × (buffers_of self.new token ≡ left_by (lost_by carried.outcome) now)) }
+        ensures stopped { IfSome result (λ carried. is_stopped self.new ≡ stops_by carried.outcome) }
+
+        ensures others { (u : ℕ) → u ≢ token → buffers_of self.new u ≡ buffers_of self.old u }
+        ensures next { next_token self.new ≡ next_token self.old }
+        ensures stands { (calls : List Call) → Stands self.old calls → MatchOption result (Stands self.new calls)
+            (λ carried. (line : List ℕ) × (step : Step)
+            × IsLineStep (IsAt C.held M.marked) (buffers_of self.old token) store.old carried line step store.new
+            × Stands self.new (with_run (lost_by carried.outcome) token (line ∷ []) (step ∷ []) calls)
+            × (all_steps (with_run (lost_by carried.outcome) token (line ∷ []) (step ∷ []) calls)
+            ≡ all_steps calls ++ step ∷ [])) }
+
+        // The course of the store goes on by this step, and by no other.
+        ensures serves { (start : Course) (calls : List Call) → Serves (IsAt C.held M.marked) start self.old store.old calls
+            → MatchOption result (Serves (IsAt C.held M.marked) start self.new store.new calls)
+            (λ carried. (line : List ℕ) × (step : Step)
+            × IsLineStep (IsAt C.held M.marked) (buffers_of self.old token) store.old carried line step store.new
+            × Serves (IsAt C.held M.marked) start self.new store.new
+            (with_run (lost_by carried.outcome) token (line ∷ []) (step ∷ []) calls)) }
+    {
+        self.carry_out_one(alloc, token, store)
+    }
+
+    fn carry_out_one<C: Chains + Drop, M: Marks + Drop>(
+        &mut self,
+        alloc: Global,
+        token: u64,
+        store: &mut Store<C, M>,
+    ) -> Option<CarriedLine>
+        ensures when { IfNone result (may_step (is_stopped self.old) (buffers_of self.old token) ≡ false) }
+        ensures none { IfNone result (IsSame self.old self.new × (store.new ≡ store.old)) }
+        ensures some { IfSome result (λ carried. (is_stopped self.old ≡ false)
+            × (is_stopped self.new ≡ stops_by carried.outcome)
+            × SteppedAt (IsAt C.held M.marked) (buffers_of self.old) token store.old carried (buffers_of self.new) store.new) }
+        ensures next { next_token self.new ≡ next_token self.old }
+    {
+        if self.is_stopped() {
+            return None;
+        }
+        let Some(carried) = self.connections.step(alloc, token, store) else {
+            return None;
+        };
+        self.stopped = carried.outcome.stops();
+        Some(carried)
+    }
+
     /// Returns the first whole line that waits of the connection, without its line feed. It is the next one that
-    /// [`run`](Hub::run) carries out. Of a line of more than 4096 bytes these are the first 4097. `None` if no whole line
-    /// waits, or if the connection isn't open.
+    /// [`run`](Hub::run) and [`step`](Hub::step) carry out. Of a line of more than 4096 bytes these are the first 4097. `None`
+    /// if no whole line waits, or if the connection isn't open.
     pub fn next_line(&self, token: u64) -> Option<&[u8]>
         ensures some { IfSome result (λ line. IsPlain line.now × ((b : Buffers) × (rest : List ℕ)
             × (buffers_of self.now token ≡ Some b) × (b.waiting ≡ line.now ++ (10 ∷ rest)))) }

@@ -20,5 +20,5 @@ pub(crate) use connection::Connection;
 pub(crate) use connections::Connections;
 pub use hub::Hub;
 pub(crate) use inbox::Inbox;
-pub(crate) use outcome::Outcome;
+pub use outcome::{CarriedLine, Outcome};
 pub(crate) use queue::Queue;

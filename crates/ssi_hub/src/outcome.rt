@@ -1,11 +1,11 @@
 //! How a run went.
 
 ghost use Rattle.std.specs.Prelude.{◌≡◌, ◌||◌};
-ghost use Rattle.ssi_hub.specs.Machinery.Outcomes.{stops_by, lost_by};
+ghost use Rattle.ssi_hub.specs.Clauses.Outcomes.{stops_by, lost_by};
 
 /// What carrying out lines of a connection came to.
 #[derive(Clone, Copy, Debug, PartialEq, Eq)]
-pub(crate) enum Outcome {
+pub enum Outcome {
     /// The replies are stored, and no line was `stop`.
     GoesOn,
     /// The replies are stored, and the last line was `stop`.
@@ -17,6 +17,15 @@ pub(crate) enum Outcome {
     },
 }
 
+/// What came of one line of a connection.
+#[derive(Clone, Copy, Debug, PartialEq, Eq)]
+pub struct CarriedLine {
+    /// Whether the line counts, as [`Carried`](ssi_line::Carried) has it. This is so of a line whose reply is lost, too.
+    pub counted: bool,
+    /// Whether its reply is stored, and whether it was `stop`.
+    pub outcome: Outcome,
+}
+
 impl Outcome {
     /// Returns whether no further line of the connection is carried out.
     pub(crate) fn is_last(self) -> bool
@@ -26,7 +35,7 @@ impl Outcome {
     }
 
     /// Returns whether the last line was `stop`.
-    pub(crate) fn stops(self) -> bool
+    pub fn stops(self) -> bool
         ensures { result ≡ stops_by self }
     {
         match self {
@@ -37,7 +46,7 @@ impl Outcome {
     }
 
     /// Returns whether the reply to the last line is lost.
-    pub(crate) fn is_lost(self) -> bool
+    pub fn is_lost(self) -> bool
         ensures { result ≡ lost_by self }
     {
         matches!(self, Outcome::Lost { .. })

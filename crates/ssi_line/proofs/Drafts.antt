@@ -8,7 +8,7 @@ use Rattle.devices.specs.declared.watched.Watched.{Watched}
 use Rattle.devices.specs.Mirror.{has_failed, watched_contents}
 use Rattle.devices.specs.Clauses.Writing.{Grew, Wrote, Broke}
 use Rattle.ssi_line.specs.Machinery.Drafts.{Added}
-use Rattle.ssi_line.specs.Machinery.Answering.{Said}
+use Rattle.ssi_line.specs.Clauses.Answers.{Said}
 
 both : {A : Type 0} (b : Bool) → (b ≡ true → A) → (b ≡ false → A) → A
 both true one other = one refl

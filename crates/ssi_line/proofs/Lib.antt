@@ -7,3 +7,5 @@ pub mod StepLists
 pub mod Runs
 pub mod Dumps
 pub mod Drafts
+pub mod Counted
+pub mod CommandLines

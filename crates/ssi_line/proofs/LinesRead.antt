@@ -222,3 +222,7 @@ exact law text (Some r) gives = record {
   only = λ y is. same_Some y (line_of r) (sym (again law text y is) ∙ gives);
 }
 exact law text None gives = λ x is. none-some x (sym gives ∙ again law text x is)
+
+-- a line asks for one thing
+pub one_line : NumbersAreRead → (x y : Line) (text : List ℕ) → IsLineOf x text → IsLineOf y text → x ≡ y
+one_line law x y text is_x is_y = same_Some x y (sym (again law text x is_x) ∙ again law text y is_y)

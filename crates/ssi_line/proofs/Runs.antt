@@ -15,7 +15,7 @@ use Rattle.ssi_line.specs.Meaning.Steps.{step_text, steps_text, is_stop, AllGoOn
 use Rattle.ssi_line.specs.Clauses.Ends.{Took, EndsBroken}
 use Rattle.devices.specs.Clauses.Lines.{line_end}
 use Rattle.ssi_line.specs.Machinery.Lines.{has_ended}
-use Rattle.ssi_line.specs.Machinery.Answering.{Said}
+use Rattle.ssi_line.specs.Clauses.Answers.{Said}
 use Rattle.ssi_line.specs.Clauses.Answers.{Told}
 use Rattle.ssi_line.proofs.StepLists.{ends_append, text_append, steps_append}
 

@@ -22,9 +22,12 @@
 //! `? long`.
 #![tactic(auto)]
 
+mod carried;
+mod carrying;
 mod draft;
 mod dump;
 mod end;
+pub mod laws;
 mod line;
 mod lines;
 mod reading;
@@ -32,6 +35,8 @@ mod replies;
 mod serving;
 mod short_line;
 
+pub use carried::Carried;
+pub use carrying::carry_out;
 pub use end::End;
 pub use line::Line;
 pub use reading::read_line;

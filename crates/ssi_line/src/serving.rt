@@ -4,19 +4,18 @@ ghost use Rattle.std.specs.Prelude.{◌≡◌, List, [], ◌∷◌, ℕ, IsErr, 
 ghost use Rattle.std.specs.Option.{option_copied, option_and_then};
 ghost use Rattle.devices.specs.Mirror.{has_failed};
 ghost use Rattle.ssi_store.specs.Mirror.Stores.{IsAt};
-ghost use Rattle.ssi_line.specs.Meaning.Steps.{Step, step_text};
+ghost use Rattle.ssi_line.specs.Meaning.Steps.{Step};
 ghost use Rattle.ssi_line.specs.Clauses.Ends.{WentOn, Took, EndsAs};
 ghost use Rattle.ssi_line.specs.Clauses.Answers.{kept, Answered};
-ghost use Rattle.ssi_line.specs.Machinery.Answering.{IsDump, Said};
 
-use crate::dump::dump_text;
+use crate::End;
+use crate::carrying::carry_out;
 use crate::lines::next_line;
-use crate::short_line::{MAX_LINE_LEN, ShortLine};
-use crate::{End, Line, read_line, write_reply};
+use crate::short_line::ShortLine;
 use adya_text::WriteFault;
-use devices::{LineBuffer, Source, Watched, put};
+use devices::{LineBuffer, Source, Watched};
 use ssi_reads::Marks;
-use ssi_store::{Refusal, Store};
+use ssi_store::Store;
 use ssi_versions::Chains;
 use std::alloc::Global;
 use std::io::Write;
@@ -76,50 +75,6 @@ pub fn answer<W: Write, C: Chains + Drop, M: Marks + Drop>(
         × WentOn (IsAt C.held M.marked) store.old (step ∷ []) store.new }
     ensures fault { IsErr result → has_failed out.new ≡ true }
 {
-    let Some(text) = short(line) else {
-        return say(b"? long\n", out).and(Ok(false));
-    };
-    match read_line(text) {
-        None => say(b"? syntax\n", out).and(Ok(false)),
-        Some(Line::Stop) => say(b"stopped\n", out).and(Ok(true)),
-        Some(Line::Dump) => answer_dump(alloc, store, out).and(Ok(false)),
-        Some(Line::Do(command)) => {
-            let reply = store.apply(command);
-            write_reply(&reply, out).and(Ok(false))
-        }
-    }
-}
-
-/// Returns the line, if it isn't too long.
-fn short(line: Option<&[u8]>) -> Option<&[u8]>
-    ensures { option_copied result ≡ option_and_then kept (option_copied line.entry) }
-{
-    let line = line?;
-    if line.len() > MAX_LINE_LEN {
-        return None;
-    }
-    Some(line)
-}
-
-/// Answers with the texts of the history so far and of a certificate, both at once, or says that memory ran out.
-fn answer_dump<W: Write, C: Chains + Drop, M: Marks + Drop>(
-    alloc: Global,
-    store: &Store<C, M>,
-    out: &mut Watched<W>,
-) -> Result<(), WriteFault>
-    ensures told { (step : Step) × IsDump (IsAt C.held M.marked store.now) step
-        × Said W.contents out.old out.new (step_text step) result }
-    ensures fault { IsErr result → has_failed out.new ≡ true }
-{
-    match dump_text(alloc, store) {
-        Ok(text) => say(&text, out),
-        Err(_) => write_reply(&Err(Refusal::Memory), out),
-    }
-}
-
-fn say<W: Write>(line: &[u8], out: &mut Watched<W>) -> Result<(), WriteFault>
-    ensures said { Said W.contents out.old out.new line.now result }
-    ensures fault { IsErr result → has_failed out.new ≡ true }
-{
-    put(line, out).map_err(|_| WriteFault)
+    let carried = carry_out(alloc, line, out, store);
+    carried.written.and(Ok(carried.stops))
 }

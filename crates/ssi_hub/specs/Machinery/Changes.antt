@@ -1,5 +1,5 @@
 -- Tables of connections, read by token.
-use Rattle.std.specs.Prelude.{◌≡◌, ◌≢◌, ℕ, Bool, List, nat_eq, Option, Some, None}
+use Rattle.std.specs.Prelude.{◌≡◌, ◌≢◌, ℕ, Bool, true, false, List, nat_eq, Option, Some, None}
 use Rattle.std.specs.Map.{lookup}
 use Rattle.adya_keys.specs.Meaning.Keys.{Bytes}
 use Rattle.ssi_hub.specs.Clauses.Buffers.{Buffers}
@@ -7,7 +7,11 @@ use Rattle.ssi_store.specs.Meaning.Courses.{Course}
 use Rattle.ssi_line.specs.Meaning.Steps.{Step}
 use Rattle.ssi_hub.specs.Clauses.Clipping.{clipped}
 use Rattle.ssi_hub.specs.Clauses.Runs.{CarriedOut, IsEnough, left_by}
+use Rattle.ssi_hub.specs.Clauses.Outcomes.{lost_by}
+use Rattle.ssi_hub.specs.Clauses.Stepping.{is_ready, may_step}
+use Rattle.ssi_hub.specs.Machinery.Outcomes.{StepsOut}
 use Rattle.ssi_hub.specs.declared.connections.Connections.{Connections}
+use Rattle.ssi_hub.specs.declared.outcome.CarriedLine.{CarriedLine}
 
 -- what the table has of the connection with this token
 abbrev pub buffers_in : Connections → ℕ → Option Buffers
@@ -41,5 +45,22 @@ pub record RanAt {T : Type 0} (is_at : T → Course → Type 0) (old : ℕ → O
 pub record RanNothing {T : Type 0} (old : ℕ → Option Buffers) (t : ℕ) (store : T) (new : ℕ → Option Buffers) (after : T)
     : Type 0 where
   pub missing : old t ≡ None
+  pub same : AreSame old new
+  pub same_store : after ≡ store
+
+-- a line of the connection with this token was carried out
+pub record SteppedAt {T : Type 0} (is_at : T → Course → Type 0) (old : ℕ → Option Buffers) (t : ℕ) (store : T)
+    (carried : CarriedLine) (new : ℕ → Option Buffers) (after : T) : Type 0 where
+  pub before : Buffers
+  pub now : Buffers
+  pub has : old t ≡ Some before
+  pub ready : is_ready before ≡ true
+  pub changes : Changes old new t (left_by (lost_by carried.outcome) now)
+  pub steps : StepsOut is_at before store carried now after
+
+-- no line of it may be carried out, and nothing was done
+pub record NotStepped {T : Type 0} (old : ℕ → Option Buffers) (t : ℕ) (store : T) (new : ℕ → Option Buffers) (after : T)
+    : Type 0 where
+  pub idle : may_step false (old t) ≡ false
   pub same : AreSame old new
   pub same_store : after ≡ store

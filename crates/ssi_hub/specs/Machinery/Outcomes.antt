@@ -1,38 +1,38 @@
 -- What was made of one line.
-use Rattle.std.specs.Prelude.{◌≡◌, ℕ, Bool, true, false, List, [], ◌∷◌, ◌++◌}
+use Rattle.std.specs.Prelude.{◌≡◌, ◌≤◌, false, List, [], ◌∷◌, ◌++◌, length}
 use Rattle.adya_keys.specs.Meaning.Keys.{Bytes}
 use Rattle.adya_line.specs.Meaning.Lines.{IsPlain}
 use Rattle.ssi_store.specs.Meaning.Courses.{Course}
 use Rattle.ssi_line.specs.Meaning.Steps.{Step, IsStep, step_text, is_stop}
-use Rattle.ssi_line.specs.Clauses.Ends.{WentOn}
+use Rattle.ssi_line.specs.Clauses.Counting.{counts}
+use Rattle.ssi_line.specs.Clauses.Ends.{WentOn, WentOnLogged}
+use Rattle.ssi_line.specs.Clauses.Answers.{kept}
 use Rattle.ssi_hub.specs.Clauses.Clipping.{clipped}
 use Rattle.ssi_hub.specs.Clauses.Buffers.{Buffers}
-use Rattle.ssi_hub.specs.declared.outcome.Outcome.{Outcome}
-use Rattle.ssi_hub.specs.declared.outcome.Outcome.TheVariants.{GoesOn, Stops, Lost}
+use Rattle.ssi_hub.specs.Clauses.Outcomes.{stops_by, lost_by}
+use Rattle.ssi_hub.specs.declared.outcome.CarriedLine.{CarriedLine}
 
--- whether the last step stopped the run
-abbrev pub stops_by : Outcome → Bool
-stops_by GoesOn = false
-stops_by Stops = true
-stops_by (Lost stops) = stops
-
--- whether its reply is lost
-abbrev pub lost_by : Outcome → Bool
-lost_by GoesOn = false
-lost_by Stops = false
-lost_by (Lost stops) = true
-
--- the outcome of a line that made this step
-pub record Replied (outcome : Outcome) (step : Step) (old new : Bytes) : Type 0 where
-  pub stops : is_stop step ≡ stops_by outcome
-  pub reply : lost_by outcome ≡ false → new ≡ old ++ step_text step
+-- what came of a line that made this step
+pub record Replied (carried : CarriedLine) (step : Step) (old new : Bytes) : Type 0 where
+  pub stops : is_stop step ≡ stops_by carried.outcome
+  pub counted : counts step ≡ carried.counted
+  pub reply : lost_by carried.outcome ≡ false → new ≡ old ++ step_text step
 
 -- of the bytes, of which `old.waiting` is what was kept, the first line was carried out, and `left` is left
 pub record Stepped {T : Type 0} (is_at : T → Course → Type 0) (old : Buffers) (bytes : Bytes) (store : T)
-    (outcome : Outcome) (line : Bytes) (step : Step) (left : Bytes) (new : Buffers) (after : T) : Type 0 where
+    (carried : CarriedLine) (line : Bytes) (step : Step) (left : Bytes) (new : Buffers) (after : T) : Type 0 where
   pub plain : IsPlain line
   pub cut : bytes ≡ line ++ (10 ∷ left)
   pub waits : new.waiting ≡ clipped left
   pub made : IsStep line step
-  pub replied : Replied outcome step old.unsent new.unsent
+  pub first : (front rest : Bytes) → old.waiting ≡ front ++ (10 ∷ rest) → IsPlain front
+      → (kept front ≡ kept line) × IsStep front step
+  pub within : length old.unsent ≤ 65536
+  pub replied : Replied carried step old.unsent new.unsent
   pub went : WentOn is_at store (step ∷ []) after
+  pub logged : WentOnLogged is_at store step after
+
+-- of the bytes of which the connection keeps what waits, a line was carried out
+abbrev pub StepsOut : {T : Type 0} → (T → Course → Type 0) → Buffers → T → CarriedLine → Buffers → T → Type 0
+StepsOut is_at old store carried new after = (bytes : Bytes) → old.waiting ≡ clipped bytes
+    → (line : Bytes) × (step : Step) × (left : Bytes) × Stepped is_at old bytes store carried line step left new after

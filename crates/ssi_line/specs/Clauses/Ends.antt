@@ -8,7 +8,8 @@ use Rattle.adya_keys.specs.Meaning.Keys.{Bytes}
 use Rattle.adya_line.specs.Meaning.Lines.{IsPlain}
 use Rattle.adya_text.specs.Meaning.Texts.{with_ends}
 use Rattle.ssi_store.specs.Meaning.Courses.{Course}
-use Rattle.ssi_line.specs.Meaning.Steps.{Step, Stopped, AreSteps, AllMayFollow, AllGoOn, course_after, step_text, steps_text, EndsWith}
+use Rattle.ssi_line.specs.Meaning.Steps.{Step, Stopped, AreSteps, MayFollow, AllMayFollow, AllGoOn, course_after, step_text, steps_text, EndsWith}
+use Rattle.ssi_line.specs.Clauses.Counting.{logged_course}
 use Rattle.ssi_line.specs.declared.end.End.{End}
 use Rattle.ssi_line.specs.declared.end.End.TheVariants.{Eof, Stop, ReadFault, WriteFault}
 
@@ -17,6 +18,12 @@ use Rattle.ssi_line.specs.declared.end.End.TheVariants.{Eof, Stop, ReadFault, Wr
 abbrev pub WentOn : {T : Type 0} → (T → Course → Type 0) → T → List Step → T → Type 0
 WentOn is_at old steps new =
     (course : Course) → is_at old course → AllMayFollow course steps × is_at new (course_after course steps)
+
+-- whatever course the old store stood for, the step may follow it; the new store stands for that course with the step if it
+-- counts, and for that course itself if it doesn't
+abbrev pub WentOnLogged : {T : Type 0} → (T → Course → Type 0) → T → Step → T → Type 0
+WentOnLogged is_at old step new =
+    (course : Course) → is_at old course → MayFollow course step × is_at new (logged_course course step)
 
 -- the input began with these lines, each of which made a step, and then these bytes; the rest is left
 pub record Took (old : Option Bytes) (lines : List Bytes) (steps : List Step) (after : Bytes)

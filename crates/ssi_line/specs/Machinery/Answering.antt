@@ -1,17 +1,12 @@
--- What a call wrote, and how a dump is answered.
-use Rattle.std.specs.Prelude.{◌≡◌, ◌++◌, ℕ, List, false, Option, Result, MatchResult}
-use Rattle.devices.specs.declared.watched.Watched.{Watched}
-use Rattle.devices.specs.Clauses.Writing.{Grew, Broke}
+-- How a dump is answered.
+use Rattle.std.specs.Prelude.{◌≡◌, ◌++◌, ℕ, List, false}
 use Rattle.adya_values.specs.Meaning.Histories.{History}
 use Rattle.adya_values.specs.Clauses.Acceptance.{IsAccepted}
 use Rattle.adya_text.specs.Meaning.Texts.{history_text, serial_text}
 use Rattle.ssi_store.specs.Meaning.Courses.{Course}
 use Rattle.ssi_line.specs.Meaning.Spelling.{Dump, line_text}
 use Rattle.ssi_line.specs.Meaning.Steps.{Step, Dumped, IsStep, MayFollow, course_with, is_stop}
-
--- the call wrote exactly these bytes, or a front of them and then it failed
-abbrev pub Said : {D T E : Type 0} → (D → Option (List ℕ)) → Watched D → Watched D → List ℕ → Result T E → Type 0
-Said contents old new bytes result = MatchResult result (λ _. Grew contents old new bytes) (λ _. Broke contents old new bytes)
+use Rattle.ssi_line.specs.Clauses.Counting.{counts}
 
 -- the text is that of a history and of a certificate that it is accepted with; the history is that of each of these courses
 -- so far
@@ -26,5 +21,6 @@ pub record IsDumpText (is_at : Course → Type 0) (text : List ℕ) : Type 0 whe
 pub record IsDump (is_at : Course → Type 0) (step : Step) : Type 0 where
   pub made : IsStep (line_text Dump) step
   pub goes_on : is_stop step ≡ false
+  pub idle : counts step ≡ false
   pub follows : (course : Course) → is_at course → MayFollow course step
   pub leaves : (course : Course) → course_with course step ≡ course

@@ -1,7 +1,6 @@
-use Rattle.std.proofs.Common.{◌≡◌, ◌<◌, ◌≤◌, ◌∷◌, ◌++◌, ◌∙◌, [], List, ℕ, length, refl, subst, arith}
+use Rattle.std.proofs.Common.{◌≡◌, ◌∷◌, ◌++◌, [], length, refl, sym, arith}
 use Rattle.ssi_store.specs.Mirror.Stores.{IsAt}
-use Rattle.ssi_hub.specs.Clauses.Buffers.{Buffers}
-use Rattle.ssi_hub.proofs.Carrying.{carried_none, carried_more, goes_on, enough_ended, none_waits, enough_unsent, enough_lines, length_more}
+use Rattle.ssi_hub.proofs.Carrying.{carried_none, carried_more, goes_on, enough_ended, none_waits, enough_lines, length_more}
 use Rattle.ssi_hub.proofs.connection.Connection.run.Goals as goal
 
 pub lines-init : goal.lines-init
@@ -14,54 +13,43 @@ lines-init g c = λ bytes waits. (
   refl,
 )
 
-pub returns-then-len-gt-MOST_UNSENT : goal.returns-then-len-gt-MOST_UNSENT
-returns-then-len-gt-MOST_UNSENT g c = λ bytes waits.
-    let (lines, steps, left, so, counted) = c.lines.invariant bytes waits in
-    let inside : 65536 < length c.self.inside.unsent = omega (arith, c.if-len-gt-MOST_UNSENT.true, c.len.ensures) in
-    let many : 65536 < length c.lines.self.unsent = subst (λ (b : Buffers). 65536 < length b.unsent) c.self.view_is inside in
-    (lines, steps, left, so, enough_unsent c.args.most c.lines.counter lines c.lines.self counted c.lines-test.true many)
-
 pub returns-in_default : goal.returns-in_default
 returns-in_default g c = λ bytes waits.
     let (lines, steps, left, so, counted) = c.lines.invariant bytes waits in
-    let (same, same_store) = c.in_default.ensures.as_before in
+    let (same, same_store) = c.in_default.ensures.none in
     let both =
     none_waits (IsAt {g = g.C.Chains} {h = g.M.Marks} g.C.Chains.held g.M.Marks.marked) c.args.self.now c.lines.self
     c.step.new.self bytes left c.args.store.now c.lines.store c.step.new.store lines steps c.args.most c.lines.counter
-    same same_store c.in_default.ensures.none counted c.lines-test.true so in
+    same same_store (sym c.in_default.ensures.when) counted c.lines-test.true so in
     (lines, steps, left, both.0, both.1)
 
 pub returns-then-is_last : goal.returns-then-is_last
 returns-then-is_last g c = λ bytes waits.
     let (lines, steps, left, so, counted) = c.lines.invariant bytes waits in
-    let (line, step, after, more) = c.in-Some.ensures.some left so.waits in
-    let inside : length c.self.inside.unsent ≤ 65536 = omega (arith, c.if-len-gt-MOST_UNSENT.false, c.len.ensures) in
-    let within = subst (λ (b : Buffers). length b.unsent ≤ 65536) c.self.view_is inside in (
+    let (line, step, after, more) = c.in-Some.ensures.some left so.waits in (
       lines ++ line ∷ [],
       steps ++ step ∷ [],
       after,
       carried_more (IsAt {g = g.C.Chains} {h = g.M.Marks} g.C.Chains.held g.M.Marks.marked) c.args.self.now c.lines.self
-          c.step.new.self bytes left after c.args.store.now c.lines.store c.step.new.store c.in-Some.outcome lines steps
-          line step so within more,
-      enough_ended c.in-Some.outcome c.args.most c.lines.counter lines line c.step.new.self c.if-is_last.ensures counted c.lines-test.true,
+          c.step.new.self bytes left after c.args.store.now c.lines.store c.step.new.store c.in-Some.carried lines steps
+          line step so more,
+      enough_ended c.in-Some.carried.outcome c.args.most c.lines.counter lines line c.step.new.self c.if-is_last.ensures counted c.lines-test.true,
     )
 
 pub lines-preserved : goal.lines-preserved
 lines-preserved g c = λ bytes waits.
     let (lines, steps, left, so, counted) = c.lines.invariant bytes waits in
     let (line, step, after, more) = c.in-Some.ensures.some left so.waits in
-    let inside : length c.self.inside.unsent ≤ 65536 = omega (arith, c.if-len-gt-MOST_UNSENT.false, c.len.ensures) in
-    let within = subst (λ (b : Buffers). length b.unsent ≤ 65536) c.self.view_is inside in
     let all =
     carried_more (IsAt {g = g.C.Chains} {h = g.M.Marks} g.C.Chains.held g.M.Marks.marked) c.args.self.now c.lines.self
-    c.step.new.self bytes left after c.args.store.now c.lines.store c.step.new.store c.in-Some.outcome lines steps line
-    step so within more in
+    c.step.new.self bytes left after c.args.store.now c.lines.store c.step.new.store c.in-Some.carried lines steps line
+    step so more in
     let long = length_more lines line in (
       lines ++ line ∷ [],
       steps ++ step ∷ [],
       after,
       goes_on (IsAt {g = g.C.Chains} {h = g.M.Marks} g.C.Chains.held g.M.Marks.marked) c.args.self.now c.step.new.self
-          bytes after c.args.store.now c.step.new.store c.in-Some.outcome (lines ++ line ∷ []) (steps ++ step ∷ [])
+          bytes after c.args.store.now c.step.new.store c.in-Some.carried.outcome (lines ++ line ∷ []) (steps ++ step ∷ [])
           c.if-is_last.ensures all,
       omega (arith, long, counted),
     )

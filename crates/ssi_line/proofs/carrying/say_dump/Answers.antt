@@ -2,7 +2,7 @@ use Rattle.std.proofs.Common.{rules, refl, ◌++◌, ◌∙◌}
 use Rattle.adya_text.specs.Meaning.Texts.{history_text, serial_text}
 use Rattle.ssi_line.specs.Meaning.Steps.{Dumped}
 use Rattle.ssi_line.proofs.Dumps.{said_same}
-use Rattle.ssi_line.proofs.serving.answer_dump.Goals as goal
+use Rattle.ssi_line.proofs.carrying.say_dump.Goals as goal
 
 pub returns-in-Ok-clause-told : goal.returns-in-Ok-clause-told
 returns-in-Ok-clause-told g c =
@@ -11,6 +11,7 @@ returns-in-Ok-clause-told g c =
       record {
         made = (refl, text.accepted);
         goes_on = refl;
+        idle = refl;
         follows = text.follows;
         leaves = λ course. refl;
       },
