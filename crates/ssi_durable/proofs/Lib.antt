@@ -1,0 +1,12 @@
+pub mod WholeLines
+pub mod Fronts
+pub mod Betweens
+pub mod Courses
+pub mod Stops
+pub mod Stopped
+pub mod Resumes
+pub mod Recovering
+pub mod Journaling
+pub mod Stepping
+pub mod Serving
+pub mod Kept

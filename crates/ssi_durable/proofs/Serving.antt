@@ -1,0 +1,317 @@
+-- What the calls of its hub and of its journal make of a server.
+use Rattle.std.proofs.Common.{◌≡◌, ℕ, ◌≤◌, Bool, true, false, cond, Option, Some, None, nat_eq, List, [], ◌∷◌, ◌++◌, length, refl, sym, ◌∙◌, ap, subst, arith, length-append}
+use Rattle.std.specs.Prelude.{◌&&◌, not, nat_le, is_some, Result, Ok, Err, MatchResult, MatchOption, IfNone, IfSome}
+use Rattle.std.proofs.lemmas.Bool.{false≢true, and_parts, le-leb, leb-true}
+use Rattle.std.proofs.lemmas.Option.{same_Some, none-some}
+use Rattle.std.proofs.lemmas.List.{append-nil, append_assoc}
+use Rattle.sqlite_disk.specs.declared.Disk.{Ghosts}
+use Rattle.adya_keys.specs.Meaning.Keys.{Bytes}
+use Rattle.adya_line.specs.Meaning.Lines.{IsPlain}
+use Rattle.ssi_versions.specs.declared.chains.Chains.{Ghosts as HeldBy}
+use Rattle.ssi_reads.specs.declared.marks.Marks.{Ghosts as MarkedBy}
+use Rattle.ssi_store.specs.Meaning.Courses.{Course, New}
+use Rattle.ssi_store.specs.declared.store.Store.{Store}
+use Rattle.ssi_line.specs.Meaning.Steps.{Step, IsStep, MayFollow, steps_text}
+use Rattle.ssi_line.specs.Clauses.Counting.{counts, logged_course}
+use Rattle.ssi_line.specs.Clauses.Ends.{WentOnLogged}
+use Rattle.ssi_line.specs.Clauses.Answers.{kept}
+use Rattle.ssi_hub.specs.declared.hub.Hub.{Hub}
+use Rattle.ssi_hub.specs.Clauses.Buffers.{Buffers}
+use Rattle.ssi_hub.specs.Clauses.Calls.{Call, Opened, Received, Ran, Wrote, Closed, is_open, token_of, steps_of, written_to, all_steps, with_call, with_run}
+use Rattle.ssi_hub.specs.Clauses.Clipping.{has_line}
+use Rattle.ssi_hub.specs.Clauses.Serving.{IsServed}
+use Rattle.ssi_hub.specs.Clauses.Stepping.{may_step, is_ready}
+use Rattle.ssi_hub.specs.Mirror.{Stands}
+use Rattle.ssi_durable.specs.declared.journal.Journal.{Journal}
+use Rattle.ssi_durable.specs.declared.server.Server.{Server}
+use Rattle.ssi_durable.specs.Meaning.Logs.{counted, logged, told, released, HaveLed, IsLogged}
+use Rattle.ssi_durable.specs.Meaning.Replays.{Replays}
+use Rattle.ssi_durable.specs.Clauses.Serving.{HasGoneOn, IsTold}
+use Rattle.ssi_durable.specs.Clauses.Recovery.{IsReplayed}
+use Rattle.ssi_durable.specs.Mirror.Journals.{Keeps}
+use Rattle.ssi_durable.specs.Mirror.Servers.{Serves}
+use Rattle.ssi_durable.specs.Machinery.Noting.{noted}
+use Rattle.ssi_durable.proofs.Stepping.{AreLettered, one_logged}
+
+-- ---- what calls add
+
+-- these calls lead from where the others do; they have the lines of the others, and then these; nothing more was written
+pub record Adds (calls now : List Call) (lines : List Bytes) : Type 0 where
+  pub lines_are : logged now ≡ logged calls ++ lines
+  pub told_are : told now ≡ told calls
+  pub written_is : (t : ℕ) → written_to t now ≡ written_to t calls
+
+-- ---- calls that neither carry out a line nor write
+
+pub record IsQuiet (calls now : List Call) : Type 0 where
+  pub adds : Adds calls now []
+  pub led : (start end : Course) → HaveLed start calls end → HaveLed start now end
+
+pub same_is_quiet : (calls : List Call) → IsQuiet calls calls
+same_is_quiet calls = record {
+  adds = record { lines_are = sym (append-nil (logged calls)); told_are = refl; written_is = λ t. refl };
+  led = λ start end led. led;
+}
+
+received_if : (b : Bool) (t : ℕ) (bytes : Bytes) (calls : List Call) → IsQuiet calls (cond b (Received t bytes ∷ calls) calls)
+received_if true t bytes calls = record {
+  adds = record { lines_are = sym (append-nil (logged calls)); told_are = refl; written_is = λ u. refl };
+  led = λ start end led. led;
+}
+received_if false t bytes calls = same_is_quiet calls
+
+pub received_is_quiet : (t : ℕ) (bytes : Bytes) (calls : List Call) → IsQuiet calls (with_call (Received t bytes) calls)
+received_is_quiet t bytes calls = received_if (is_open t calls) t bytes calls
+
+closed_if : (b : Bool) (t : ℕ) (calls : List Call) → IsQuiet calls (cond b (Closed t ∷ calls) calls)
+closed_if true t calls = record {
+  adds = record { lines_are = sym (append-nil (logged calls)); told_are = refl; written_is = λ u. refl };
+  led = λ start end led. led;
+}
+closed_if false t calls = same_is_quiet calls
+
+pub closed_is_quiet : (t : ℕ) (calls : List Call) → IsQuiet calls (with_call (Closed t) calls)
+closed_is_quiet t calls = closed_if (is_open t calls) t calls
+
+-- ---- a line that was carried out
+
+open_run : (lost : Bool) (t : ℕ) (lines : List Bytes) (steps : List Step) (calls : List Call) → is_open t calls ≡ true
+    → with_run lost t lines steps calls ≡ cond lost (Closed t ∷ Ran t lines steps ∷ calls) (Ran t lines steps ∷ calls)
+open_run true t lines steps calls is_there =
+    ap (with_call (Closed t)) (ap (λ (b : Bool). cond b (Ran t lines steps ∷ calls) calls) is_there)
+    ∙ ap (λ (b : Bool). cond b (Closed t ∷ Ran t lines steps ∷ calls) (Ran t lines steps ∷ calls)) is_there
+open_run false t lines steps calls is_there = ap (λ (b : Bool). cond b (Ran t lines steps ∷ calls) calls) is_there
+
+closed_run : (lost : Bool) (t : ℕ) (lines : List Bytes) (steps : List Step) (calls : List Call) → is_open t calls ≡ false
+    → with_run lost t lines steps calls ≡ calls
+closed_run true t lines steps calls none =
+    ap (with_call (Closed t)) (ap (λ (b : Bool). cond b (Ran t lines steps ∷ calls) calls) none)
+    ∙ ap (λ (b : Bool). cond b (Closed t ∷ calls) calls) none
+closed_run false t lines steps calls none = ap (λ (b : Bool). cond b (Ran t lines steps ∷ calls) calls) none
+
+-- a connection of which a line was carried out is open
+open_by : (b lost : Bool) (t : ℕ) (line : Bytes) (step : Step) (calls : List Call) → is_open t calls ≡ b
+    → all_steps (with_run lost t (line ∷ []) (step ∷ []) calls) ≡ all_steps calls ++ (step ∷ []) → is_open t calls ≡ true
+open_by true lost t line step calls e more = e
+open_by false lost t line step calls e more =
+    let none : all_steps calls ≡ all_steps calls ++ (step ∷ []) =
+    sym (ap all_steps (closed_run lost t (line ∷ []) (step ∷ []) calls e)) ∙ more in
+    absurd (omega (arith, ap length none, length-append (all_steps calls) (step ∷ [])))
+
+-- the calls with a run of one line
+pub record HasRun (calls now : List Call) (line : Bytes) (step : Step) : Type 0 where
+  pub adds : Adds calls now (counted (line ∷ []) (step ∷ []))
+  pub led : (start mid end : Course) → HaveLed start calls mid → IsLogged mid line step end → HaveLed start now end
+
+ran : (lost : Bool) (t : ℕ) (line : Bytes) (step : Step) (calls : List Call)
+    → HasRun calls (cond lost (Closed t ∷ Ran t (line ∷ []) (step ∷ []) ∷ calls) (Ran t (line ∷ []) (step ∷ []) ∷ calls)) line step
+ran true t line step calls = record {
+  adds = record { lines_are = refl; told_are = refl; written_is = λ u. refl };
+  led = λ start mid end led is. (mid, led, (end, is, refl));
+}
+ran false t line step calls = record {
+  adds = record { lines_are = refl; told_are = refl; written_is = λ u. refl };
+  led = λ start mid end led is. (mid, led, (end, is, refl));
+}
+
+pub has_run : (lost : Bool) (t : ℕ) (line : Bytes) (step : Step) (calls : List Call)
+    → all_steps (with_run lost t (line ∷ []) (step ∷ []) calls) ≡ all_steps calls ++ (step ∷ [])
+    → HasRun calls (with_run lost t (line ∷ []) (step ∷ []) calls) line step
+has_run lost t line step calls more =
+    let is_there = open_by (is_open t calls) lost t line step calls refl more in
+    subst (λ (now : List Call). HasRun calls now line step)
+    (sym (open_run lost t (line ∷ []) (step ∷ []) calls is_there)) (ran lost t line step calls)
+
+-- ---- what was noted of the line
+
+pub ready_has : (stopped : Bool) (had : Option Buffers) → may_step stopped had ≡ true
+    → (b : Buffers) × (had ≡ Some b) × (has_line b.waiting ≡ true)
+ready_has stopped None e = absurd (false≢true e)
+ready_has stopped (Some b) e =
+    let ready = (and_parts (not stopped) (is_ready b) e).1 in
+    (b, refl, (and_parts (has_line b.waiting) (nat_le (length b.unsent) 65536) ready).0)
+
+kept_by : (fits : Bool) (line text : Bytes) → cond fits (Some line) None ≡ Some text → line ≡ text
+kept_by true line text e = same_Some line text e
+kept_by false line text e = absurd (none-some text e)
+
+-- of a line that is short, the front of which is kept as it is, all was noted
+pub noted_is : (front line : Bytes) → length line ≤ 4096 → kept front ≡ kept line → noted front ≡ line
+noted_is front line short same =
+    let is : front ≡ line =
+    kept_by (nat_le (length front) 4096) front line
+    (same ∙ ap (λ (b : Bool). cond b (Some line) None) (le-leb (length line) 4096 short)) in
+    ap noted is ∙ ap (λ (b : Bool). cond b line []) (le-leb (length line) 4096 short)
+
+told_on : (calls now : List Call) (lines : List Bytes) → Adds calls now lines → IsTold calls → IsTold now
+told_on calls now lines adds was = λ t.
+    let (unsent, e) = was t in (
+      unsent,
+      ap (λ (cs : List Call). steps_text (steps_of t cs)) adds.told_are ∙ e
+          ∙ ap (λ (w : Bytes). w ++ unsent) (sym (adds.written_is t)),
+    )
+
+-- ---- tests that were turned
+
+pub was_false : (b : Bool) → not b ≡ true → b ≡ false
+was_false true e = absurd (false≢true e)
+was_false false e = refl
+
+pub was_true : (b : Bool) → not b ≡ false → b ≡ true
+was_true true e = refl
+was_true false e = absurd (false≢true (sym e))
+
+-- ---- results
+
+pub match_by : {T E : Type 0} {P P' : T → Type 0} {Q Q' : E → Type 0} (r : Result T E) → ((x : T) → P x → P' x)
+    → ((e : E) → Q e → Q' e) → MatchResult r P Q → MatchResult r P' Q'
+match_by (Ok x) p q m = p x m
+match_by (Err e) p q m = q e m
+
+pub option_by : {T : Type 0} {P P' : Type 0} {Q Q' : T → Type 0} (o : Option T) → (P → P') → ((x : T) → Q x → Q' x) → IfNone o P
+    → IfSome o Q → MatchOption o P' Q'
+option_by None p q none some = p none
+option_by (Some x) p q none some = q x some
+
+module _ {D : Type 0} {disk : Ghosts D} where
+  -- the lines with one that doesn't count, or with one that does
+  pub not_counted : (j : Journal D disk) (sure all : List Bytes) (line : Bytes) (step : Step) → counts step ≡ false → Keeps j sure all
+      → Keeps j sure (all ++ counted (line ∷ []) (step ∷ []))
+  not_counted j sure all line step e keeps =
+      subst (λ (b : Bool). Keeps j sure (all ++ cond b (line ∷ []) [])) (sym e)
+      (subst (λ (ls : List Bytes). Keeps j sure ls) (sym (append-nil all)) keeps)
+
+  pub is_counted : (j : Journal D disk) (sure all : List Bytes) (line : Bytes) (step : Step) → counts step ≡ true
+      → Keeps j sure (all ++ (line ∷ [])) → Keeps j sure (all ++ counted (line ∷ []) (step ∷ []))
+  is_counted j sure all line step e keeps = subst (λ (b : Bool). Keeps j sure (all ++ cond b (line ∷ []) [])) (sym e) keeps
+
+-- ---- servers
+
+module _ {C M D : Type 0} {g : HeldBy C} {h : MarkedBy M} {disk : Ghosts D} where
+  -- calls that add these lines
+  serves_on : (is_at : Store C M g h → Course → Type 0) (n : ℕ) (lines : List Bytes) (old new : Server C M D g h disk)
+      (calls now : List Call) (more : List Bytes) → Adds calls now more → Serves is_at n lines old calls → Stands new.hub now
+      → HasGoneOn is_at n lines new.store now → Keeps new.journal (lines ++ released calls) (lines ++ (logged calls ++ more))
+      → Serves is_at n lines new now
+  serves_on is_at n lines old new calls now more adds was stands gone keeps = record {
+    stands = stands;
+    gone = gone;
+    told = told_on calls now more adds was.told;
+    keeps = subst (λ (cs : List Call). Keeps new.journal (lines ++ logged cs) (lines ++ logged now)) (sym adds.told_are)
+        (subst (λ (ls : List Bytes). Keeps new.journal (lines ++ released calls) (lines ++ ls)) (sym adds.lines_are) keeps);
+  }
+
+  -- a call that adds nothing
+  pub quiet : (is_at : Store C M g h → Course → Type 0) (n : ℕ) (lines : List Bytes) (old new : Server C M D g h disk)
+      (calls now : List Call) → IsQuiet calls now → Serves is_at n lines old calls → Stands new.hub now
+      → new.store ≡ old.store → Keeps new.journal (lines ++ released calls) (lines ++ logged calls) → Serves is_at n lines new now
+  quiet is_at n lines old new calls now is was stands store keeps =
+      let gone = was.gone in
+      serves_on is_at n lines old new calls now [] is.adds was stands (record {
+        has_header = gone.has_header;
+        start = gone.start;
+        replayed = gone.replayed;
+        end = gone.end;
+        led = is.led gone.start gone.end gone.led;
+        at = subst (λ (s : Store C M g h). is_at s gone.end) (sym store) gone.at;
+      })
+      (subst (λ (ls : List Bytes). Keeps new.journal (lines ++ released calls) (lines ++ ls)) (sym (append-nil (logged calls))) keeps)
+
+  -- something was written to a connection, of a server all of whose lines are sure
+  pub written : (is_at : Store C M g h → Course → Type 0) (n : ℕ) (lines : List Bytes) (old new : Server C M D g h disk)
+      (calls : List Call) (t : ℕ) (bytes : Bytes) → Serves is_at n lines old calls → Stands new.hub (with_call (Wrote t bytes) calls)
+      → new.store ≡ old.store → new.journal ≡ old.journal → Keeps old.journal (lines ++ logged calls) (lines ++ logged calls)
+      → Serves is_at n lines new (with_call (Wrote t bytes) calls)
+  written is_at n lines old new calls t bytes was stands store journal sure = by_open (is_open t calls) refl bytes stands
+    where
+      told_all : (u : ℕ) (x : ℕ) (xs : Bytes) → Stands new.hub (Wrote t (x ∷ xs) ∷ calls)
+          → (unsent : Bytes) × (steps_text (steps_of u calls) ≡ written_to u (Wrote t (x ∷ xs) ∷ calls) ++ unsent)
+      told_all u x xs stood =
+          let (left, unsent, served, is) = stood.served u in
+          (unsent, served.replies)
+
+      gone_now : (bs : Bytes) → HasGoneOn is_at n lines new.store (Wrote t bs ∷ calls)
+      gone_now bs = record {
+        has_header = was.gone.has_header;
+        start = was.gone.start;
+        replayed = was.gone.replayed;
+        end = was.gone.end;
+        led = was.gone.led;
+        at = subst (λ (s : Store C M g h). is_at s was.gone.end) (sym store) was.gone.at;
+      }
+
+      by_bytes : (bs : Bytes) → Stands new.hub (Wrote t bs ∷ calls) → Serves is_at n lines new (Wrote t bs ∷ calls)
+      by_bytes [] stood = record {
+        stands = stood;
+        gone = gone_now [];
+        told = λ u.
+            let (unsent, e) = was.told u in
+            (unsent, e ∙ ap (λ (w : Bytes). w ++ unsent) (empty u));
+        keeps = subst (λ (j : Journal D disk). Keeps j (lines ++ released calls) (lines ++ logged calls)) (sym journal) was.keeps;
+      }
+        where
+          empty_if : (b : Bool) (w : Bytes) → w ≡ cond b (w ++ []) w
+          empty_if true w = sym (append-nil w)
+          empty_if false w = refl
+
+          empty : (u : ℕ) → written_to u calls ≡ written_to u (Wrote t [] ∷ calls)
+          empty u = empty_if (nat_eq t u) (written_to u calls)
+      by_bytes (x ∷ xs) stood = record {
+        stands = stood;
+        gone = gone_now (x ∷ xs);
+        told = λ u. told_all u x xs stood;
+        keeps = subst (λ (j : Journal D disk). Keeps j (lines ++ logged calls) (lines ++ logged calls)) (sym journal) sure;
+      }
+
+      by_open : (b : Bool) → is_open t calls ≡ b → (bs : Bytes) → Stands new.hub (cond (is_open t calls) (Wrote t bs ∷ calls) calls)
+          → Serves is_at n lines new (cond (is_open t calls) (Wrote t bs ∷ calls) calls)
+      by_open true e bs stood =
+          subst (λ (x : Bool). Serves is_at n lines new (cond x (Wrote t bs ∷ calls) calls)) (sym e)
+          (by_bytes bs (subst (λ (x : Bool). Stands new.hub (cond x (Wrote t bs ∷ calls) calls)) e stood))
+      by_open false e bs stood =
+          subst (λ (x : Bool). Serves is_at n lines new (cond x (Wrote t bs ∷ calls) calls)) (sym e)
+          (quiet is_at n lines old new calls calls (same_is_quiet calls) was
+          (subst (λ (x : Bool). Stands new.hub (cond x (Wrote t bs ∷ calls) calls)) e stood) store
+          (subst (λ (j : Journal D disk). Keeps j (lines ++ released calls) (lines ++ logged calls)) (sym journal) was.keeps))
+
+  -- a server that has just started
+  pub starts : (is_at : Store C M g h → Course → Type 0) (n : ℕ) (lines : List Bytes) (server : Server C M D g h disk)
+      → IsReplayed is_at n lines server.store → Stands server.hub [] → Keeps server.journal lines lines
+      → Serves is_at n lines server []
+  starts is_at n lines server was stands keeps = record {
+    stands = stands;
+    gone = record {
+      has_header = was.has_header;
+      start = was.course;
+      replayed = was.replayed;
+      end = was.course;
+      led = refl;
+      at = was.at;
+    };
+    told = λ t. ([], refl);
+    keeps = subst (λ (ls : List Bytes). Keeps server.journal ls ls) (sym (append-nil lines)) keeps;
+  }
+
+  -- a line was carried out
+  pub line_served : (is_at : Store C M g h → Course → Type 0) (n : ℕ) (lines : List Bytes) (old new : Server C M D g h disk)
+      (calls : List Call) (lost : Bool) (t : ℕ) (line : Bytes) (step : Step) → AreLettered → Serves is_at n lines old calls
+      → IsStep line step → WentOnLogged is_at old.store step new.store
+      → Stands new.hub (with_run lost t (line ∷ []) (step ∷ []) calls)
+      → all_steps (with_run lost t (line ∷ []) (step ∷ []) calls) ≡ all_steps calls ++ (step ∷ [])
+      → Keeps new.journal (lines ++ released calls) ((lines ++ logged calls) ++ counted (line ∷ []) (step ∷ []))
+      → Serves is_at n lines new (with_run lost t (line ∷ []) (step ∷ []) calls)
+  line_served is_at n lines old new calls lost t line step law was is went stands more keeps =
+      let run = has_run lost t line step calls more in
+      let gone = was.gone in
+      let now = went gone.end gone.at in
+      serves_on is_at n lines old new calls (with_run lost t (line ∷ []) (step ∷ []) calls)
+      (counted (line ∷ []) (step ∷ [])) run.adds was stands (record {
+        has_header = gone.has_header;
+        start = gone.start;
+        replayed = gone.replayed;
+        end = logged_course gone.end step;
+        led = run.led gone.start gone.end (logged_course gone.end step) gone.led (one_logged law gone.end line step is now.0);
+        at = now.1;
+      })
+      (subst (λ (ls : List Bytes). Keeps new.journal (lines ++ released calls) ls)
+      (append_assoc lines (logged calls) (counted (line ∷ []) (step ∷ []))) keeps)

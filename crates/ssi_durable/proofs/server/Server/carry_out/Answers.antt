@@ -1,0 +1,51 @@
+use Rattle.std.proofs.Common.{List, [], ◌∷◌, ◌++◌, ◌≡◌, true, refl, sym, ◌∙◌, ap, subst}
+use Rattle.std.proofs.Common.{◌≤◌}
+use Rattle.std.specs.List.{All}
+use Rattle.adya_keys.specs.Meaning.Keys.{Bytes}
+use Rattle.ssi_hub.specs.Clauses.Outcomes.{lost_by}
+use Rattle.ssi_hub.specs.Mirror.{buffers_of, is_stopped}
+use Rattle.ssi_store.specs.Mirror.Stores.{IsAt}
+use Rattle.ssi_durable.specs.Meaning.Logs.{logged, released}
+use Rattle.ssi_durable.specs.Mirror.Journals.{Keeps}
+use Rattle.ssi_durable.proofs.Stepping.{command_of, plain_of, clean_of}
+use Rattle.ssi_durable.proofs.Serving.{ready_has, noted_is, was_false, was_true, line_served, not_counted, is_counted}
+use Rattle.ssi_durable.proofs.server.Server.carry_out.Goals as goal
+
+pub returns-then-not-carried-clause-some : goal.returns-then-not-carried-clause-some
+returns-then-not-carried-clause-some g c = λ n lines calls was.
+    let self = c.args.self.now in
+    let now = record self { hub = c.step.new.self; store = c.step.new.store; noted = c.note.new.to } in
+    let (line, step, is, stands, more) = c.in-Some.ensures.stands calls was.stands in (
+      line,
+      step,
+      is,
+      line_served (IsAt g.C.Chains.held g.M.Marks.marked) n lines self now calls (lost_by c.in-Some.carried.outcome) c.args.token line step
+          c.commands_are_words.ensures.lettered was is.made is.logged stands more
+          (not_counted self.journal (lines ++ released calls) (lines ++ logged calls) line step (is.counted ∙ was_false c.in-Some.carried.counted c.if-not-carried.true)
+          was.keeps),
+    )
+
+pub returns-clause-some : goal.returns-clause-some
+returns-clause-some g c = λ n lines calls was.
+    let self = c.args.self.now in
+    let now = record self { hub = c.step.new.self; store = c.step.new.store; noted = c.note.new.to; journal = c.add.new.self } in
+    let (line, step, is, stands, more) = c.in-Some.ensures.stands calls was.stands in
+    let counted = is.counted ∙ was_true c.in-Some.carried.counted c.if-not-carried.false in
+    let asked = command_of line step counted is.made in
+    let printed = c.commands_are_words.ensures.printed asked.0 line asked.1 in
+    let ready = ready_has (is_stopped self.hub) (buffers_of self.hub c.args.token) (sym c.in-Some.ensures.when) in
+    let (front, rest, plain, waits, kept) = c.note.ensures ready.0 ready.1 ready.2 in
+    let same = (is.first ready.0 front rest ready.1 waits plain).0 in
+    let bytes : c.bytes.result.now ≡ line =
+    c.bytes.ensures.line ∙ kept ∙ noted_is front line (c.commands_are_words.ensures.short asked.0 line asked.1) same in (
+      line,
+      step,
+      is,
+      line_served (IsAt g.C.Chains.held g.M.Marks.marked) n lines self now calls (lost_by c.in-Some.carried.outcome) c.args.token line step
+          c.commands_are_words.ensures.lettered was is.made is.logged stands more
+          (is_counted c.add.new.self (lines ++ released calls) (lines ++ logged calls) line step counted
+          (subst (λ (b : Bytes). Keeps c.add.new.self (lines ++ released calls) ((lines ++ logged calls) ++ (b ∷ []))) bytes
+          (c.add.ensures (lines ++ released calls) (lines ++ logged calls) was.keeps
+          (plain_of c.bytes.result.now (subst (λ (t : Bytes). All (λ b. 32 ≤ b) t) (sym bytes) printed))
+          (clean_of c.bytes.result.now (subst (λ (t : Bytes). All (λ b. 32 ≤ b) t) (sym bytes) printed))))),
+    )

@@ -1,0 +1,59 @@
+-- What clauses see of a server.
+use Rattle.std.specs.Prelude.{ℕ, Bool, List, ◌∷◌, [], ◌++◌}
+use Rattle.sqlite_disk.specs.declared.Disk.{Ghosts}
+use Rattle.adya_keys.specs.Meaning.Keys.{Bytes}
+use Rattle.ssi_versions.specs.declared.chains.Chains.{Ghosts as HeldBy}
+use Rattle.ssi_reads.specs.declared.marks.Marks.{Ghosts as MarkedBy}
+use Rattle.ssi_store.specs.Meaning.Courses.{Course}
+use Rattle.ssi_store.specs.declared.store.Store.{Store}
+use Rattle.ssi_line.specs.Meaning.Steps.{Step}
+use Rattle.ssi_hub.specs.declared.hub.Hub.{Hub}
+use Rattle.ssi_hub.specs.declared.outcome.CarriedLine.{CarriedLine}
+use Rattle.ssi_hub.specs.Clauses.Calls.{Call, with_run}
+use Rattle.ssi_hub.specs.Clauses.Outcomes.{lost_by}
+use Rattle.ssi_hub.specs.Clauses.Stepping.{IsLineStep}
+use Rattle.ssi_hub.specs.Mirror.{Stands, buffers_of}
+use Rattle.ssi_log.specs.declared.log.Log.{Log}
+use Rattle.ssi_durable.specs.declared.journal.Journal.{Journal}
+use Rattle.ssi_durable.specs.declared.server.Server.{Server}
+use Rattle.ssi_durable.specs.Meaning.Logs.{logged, released}
+use Rattle.ssi_durable.specs.Clauses.Serving.{HasGoneOn, IsTold}
+use Rattle.ssi_durable.specs.Mirror.Journals.{Keeps}
+
+module _ {C M D : Type 0} {g : HeldBy C} {h : MarkedBy M} {disk : Ghosts D} where
+  abbrev pub hub_of : Server C M D g h disk → Hub
+  hub_of s = s.hub
+
+  abbrev pub store_of : Server C M D g h disk → Store C M g h
+  store_of s = s.store
+
+  abbrev pub journal_of : Server C M D g h disk → Journal D disk
+  journal_of s = s.journal
+
+  abbrev pub log_of : Server C M D g h disk → Log D disk
+  log_of s = s.journal.log
+
+  -- all lines that count are on the disk
+  abbrev pub is_settled : Server C M D g h disk → Bool
+  is_settled s = s.journal.is_settled
+
+  -- a call of the log has failed
+  abbrev pub has_failed : Server C M D g h disk → Bool
+  has_failed s = s.journal.has_failed
+
+  -- The server of segment n has started with these lines, its hub stands for the calls, and its store has gone on by
+  -- them. Its journal has the lines of the start and those of the calls that count, and a crash leaves all on which what was
+  -- written to connections rests
+  pub record Serves (is_at : Store C M g h → Course → Type 0) (n : ℕ) (lines : List Bytes) (s : Server C M D g h disk)
+      (calls : List Call) : Type 0 where
+    pub stands : Stands s.hub calls
+    pub gone : HasGoneOn is_at n lines s.store calls
+    pub told : IsTold calls
+    pub keeps : Keeps s.journal (lines ++ released calls) (lines ++ logged calls)
+
+  -- one line of the connection was carried out: the first one that waited
+  abbrev pub HasStepped : (Store C M g h → Course → Type 0) → ℕ → List Bytes → ℕ → List Call
+      → (old new : Server C M D g h disk) → CarriedLine → Type 0
+  HasStepped is_at n lines t calls old new carried = (line : Bytes) × (step : Step)
+      × IsLineStep is_at (buffers_of old.hub t) old.store carried line step new.store
+      × Serves is_at n lines new (with_run (lost_by carried.outcome) t (line ∷ []) (step ∷ []) calls)

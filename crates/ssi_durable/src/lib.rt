@@ -1,0 +1,17 @@
+//! A store that outlives a crash: its log is the list of the lines that it has carried out. After a crash a new store carries
+//! them out again, in their order, and so answers the lines that follow as the old one would have.
+#![tactic(auto)]
+
+mod buffer;
+mod fault;
+mod journal;
+pub mod laws;
+mod lines;
+mod recovery;
+mod replaying;
+mod server;
+
+pub use fault::{RecoveryFault, ReplayFault};
+pub use lines::first_line;
+pub use recovery::{Recovered, recover};
+pub use server::Server;

@@ -1,0 +1,102 @@
+//! Carrying out the lines of a log again.
+
+ghost use Rattle.std.specs.Prelude.{◌≡◌, length, IfOk, IfErr, OnOk};
+ghost use Rattle.adya_text.specs.Meaning.Texts.{with_ends};
+ghost use Rattle.ssi_store.specs.Meaning.Courses.{Course, New};
+ghost use Rattle.ssi_store.specs.Mirror.Stores.{IsAt};
+ghost use Rattle.ssi_durable.specs.Meaning.Lines.{whole_lines};
+ghost use Rattle.ssi_durable.specs.Meaning.Replays.{Leads};
+ghost use Rattle.ssi_durable.specs.Clauses.Recovery.{IsReplayed, LineFails, ReplayFails};
+ghost use Rattle.ssi_durable.specs.Machinery.Faults.{at_line, fault_of};
+
+use crate::fault::{LineFault, ReplayFault};
+use crate::lines::{first_line, has_header, is_comment};
+use ssi_line::{Line, read_line};
+use ssi_reads::Marks;
+use ssi_store::{Refusal, Store};
+use ssi_versions::Chains;
+
+/// How many whole lines a text has, and how many bytes they have.
+#[derive(Clone, Copy)]
+pub(crate) struct Replayed {
+    pub lines: usize,
+    pub len: usize,
+}
+
+/// Carries out the whole lines of the text, which is that of a segment, on a new store. After a fault the store has carried
+/// out the lines before it.
+pub(crate) fn replay<C: Chains + Drop, M: Marks + Drop>(
+    store: &mut Store<C, M>,
+    number: u32,
+    text: &[u8],
+) -> Result<Replayed, ReplayFault>
+    ensures replayed { IsAt C.held M.marked store.old (New 1)
+        → OnOk result (IsReplayed (IsAt C.held M.marked) number (whole_lines text.now) store.new) }
+    ensures lines { IfOk result (λ r. r.lines ≡ length (whole_lines text.now)) }
+    ensures len { IfOk result (λ r. r.len ≡ length (with_ends (whole_lines text.now))) }
+    ensures fault { IsAt C.held M.marked store.old (New 1) → IfErr result (ReplayFails number (whole_lines text.now)) }
+{
+    if !has_header(text, number) {
+        return Err(ReplayFault::Header);
+    }
+    let mut lines = 0;
+    let mut rest = text;
+    while let Some((line, after)) = first_line(rest) {
+        let carried = carry_out(store, line);
+        if let Err(fault) = carried {
+            return Err(at_line(fault, lines + 1));
+        }
+        lines += 1;
+        rest = after;
+    }
+    Ok(Replayed {
+        lines,
+        len: text.len() - rest.len(),
+    })
+}
+
+/// Says of which line a fault is.
+fn at_line(fault: LineFault, line: usize) -> ReplayFault
+    ensures { result ≡ at_line fault line }
+{
+    match fault {
+        LineFault::Damaged => ReplayFault::Damaged { line },
+        LineFault::Memory => ReplayFault::Memory { line },
+    }
+}
+
+/// Carries out one line, unless it is a comment.
+fn carry_out<C: Chains + Drop, M: Marks + Drop>(
+    store: &mut Store<C, M>,
+    line: &[u8],
+) -> Result<(), LineFault>
+    ensures carried { (course : Course) → IsAt C.held M.marked store.old course
+        → OnOk result ((next : Course) × Leads course line.now next × IsAt C.held M.marked store.new next) }
+    ensures fault { (course : Course) → IsAt C.held M.marked store.old course → IfErr result (LineFails course line.now) }
+{
+    if is_comment(line) {
+        return Ok(());
+    }
+    let Some(asked) = read_line(line) else {
+        return Err(LineFault::Damaged);
+    };
+    let Line::Do(command) = asked else {
+        return Err(LineFault::Damaged);
+    };
+    match store.apply(command) {
+        Ok(_) => Ok(()),
+        Err(refusal) => Err(fault_of(refusal)),
+    }
+}
+
+/// A line whose command is refused is damage, unless memory ran out.
+fn fault_of(refusal: Refusal) -> LineFault
+    ensures { result ≡ fault_of refusal }
+{
+    match refusal {
+        Refusal::Memory => LineFault::Memory,
+        Refusal::Busy | Refusal::Idle | Refusal::Range | Refusal::Long | Refusal::Spent => {
+            LineFault::Damaged
+        }
+    }
+}

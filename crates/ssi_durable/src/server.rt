@@ -1,0 +1,276 @@
+//! A store that many connections use, with a log of the lines that it has carried out.
+
+ghost use Rattle.std.specs.Prelude.{◌≡◌, ℕ, List, [], ◌∷◌, ◌++◌, None, Some, true, false, IfOk, OnOk, OnErr, IfErr, IfSome, IfNone, MatchResult, MatchOption, if◌then◌else◌, is_some, not, ◌&&◌, nat_le, nat_lt, length};
+ghost use Rattle.std.specs.Option.{option_map};
+ghost use Rattle.adya_keys.specs.Meaning.Keys.{Bytes};
+ghost use Rattle.adya_line.specs.Meaning.Lines.{IsPlain};
+ghost use Rattle.ssi_store.specs.Mirror.Stores.{IsAt};
+ghost use Rattle.ssi_hub.specs.Clauses.Calls.{Call, Opened, Received, Wrote, Closed, with_call};
+ghost use Rattle.ssi_hub.specs.Clauses.Buffers.{Buffers, first_unsent, with_received, with_written};
+ghost use Rattle.ssi_hub.specs.Clauses.Clipping.{has_line};
+ghost use Rattle.ssi_hub.specs.Clauses.Stepping.{may_step};
+ghost use Rattle.ssi_hub.specs.Mirror.{buffers_of, next_token, is_stopped, Changed, IsSame};
+ghost use Rattle.ssi_durable.specs.Clauses.Journals.{HasAll, is_full};
+ghost use Rattle.ssi_durable.specs.Clauses.Recovery.{IsReplayed};
+ghost use Rattle.ssi_durable.specs.Mirror.Journals.{HasRoom};
+ghost use Rattle.ssi_durable.specs.Machinery.Noting.{noted};
+
+use crate::buffer::Noted;
+use crate::journal::{Journal, is_full};
+use sqlite_disk::Disk;
+use ssi_hub::{CarriedLine, Hub};
+use ssi_line::laws::commands_are_words;
+use ssi_log::{Log, LogFault};
+use ssi_reads::Marks;
+use ssi_store::Store;
+use ssi_versions::Chains;
+use std::alloc::{AllocError, Global};
+
+/// Connections that use one store at once, and the log of the lines that it has carried out. A reply is given out only once
+/// all lines before it that count are on the disk.
+#[derive(Drop)]
+pub struct Server<C: Chains + Drop, M: Marks + Drop, D: Disk> {
+    hub: Hub,
+    store: Store<C, M>,
+    journal: Journal<D>,
+    noted: Noted,
+}
+
+impl<C: Chains + Drop, M: Marks + Drop, D: Disk + Drop> Server<C, M, D> {
+    ghost use Rattle.ssi_durable.specs.Mirror.Servers.{Serves, HasStepped, hub_of, log_of, is_settled, has_failed};
+
+    /// A server of a store that stands for the lines of its log, and that has no connection yet. `AllocError` if memory runs out.
+    pub fn new(
+        alloc: Global,
+        store: Store<C, M>,
+        log: Log<D>,
+    ) -> Result<Server<C, M, D>, AllocError>
+        ensures serves { (n : ℕ) (lines : List Bytes) → IsReplayed (IsAt C.held M.marked) n lines store
+            → HasAll log lines → IfOk result (λ server. Serves (IsAt C.held M.marked) n lines server []) }
+        ensures log { IfOk result (λ server. log_of server ≡ log) }
+        ensures settled { IfOk result (λ server. is_settled server ≡ true) }
+    {
+        Ok(Server {
+            hub: Hub::new(alloc),
+            store,
+            journal: Journal::new(alloc, log)?,
+            noted: Noted::new(alloc)?,
+        })
+    }
+
+    /// Opens a connection, and returns its token, as the hub does.
+    pub fn opened(&mut self, alloc: Global) -> Result<u64, AllocError>
+        ensures serves { (n : ℕ) (lines : List Bytes) (calls : List Call) → Serves (IsAt C.held M.marked) n lines self.old calls
+            → MatchResult result (λ t. Serves (IsAt C.held M.marked) n lines self.new (Opened t ∷ calls))
+            (λ _. Serves (IsAt C.held M.marked) n lines self.new calls) }
+        ensures token { IfOk result (λ t. t ≡ next_token (hub_of self.old)) }
+        ensures stopped { is_stopped (hub_of self.new) ≡ is_stopped (hub_of self.old) }
+        ensures settled { is_settled self.new ≡ is_settled self.old }
+        ensures failed { has_failed self.new ≡ has_failed self.old }
+    {
+        self.hub.opened(alloc)
+    }
+
+    /// The connection has sent these bytes. `AllocError` if memory runs out; then nothing has changed.
+    pub fn received(&mut self, token: u64, bytes: &[u8]) -> Result<(), AllocError>
+        ensures serves { (n : ℕ) (lines : List Bytes) (calls : List Call) → Serves (IsAt C.held M.marked) n lines self.old calls
+            → MatchResult result
+            (λ _. Serves (IsAt C.held M.marked) n lines self.new (with_call (Received token bytes.now) calls))
+            (λ _. Serves (IsAt C.held M.marked) n lines self.new calls) }
+        ensures ok { OnOk result (Changed (hub_of self.old) (hub_of self.new) token
+            (option_map (with_received bytes.now) (buffers_of (hub_of self.old) token))) }
+        ensures err { OnErr result (IsSame (hub_of self.old) (hub_of self.new)) }
+        ensures settled { is_settled self.new ≡ is_settled self.old }
+        ensures failed { has_failed self.new ≡ has_failed self.old }
+    {
+        self.hub.received(token, bytes)
+    }
+
+    /// Carries out the first line that waits of the connection, and returns what came of it. `None` if no line of it may be
+    /// carried out; then nothing is done.
+    ///
+    /// Before that there is room for the line in the log: if there is none, the line waits. `Full` if the file can't grow, as on
+    /// a full disk: the call may be tried again. After any other fault the log has failed, and nothing more is carried out or given
+    /// out.
+    pub fn step(&mut self, alloc: Global, token: u64) -> Result<Option<CarriedLine>, LogFault>
+        ensures serves { (n : ℕ) (lines : List Bytes) (calls : List Call) → Serves (IsAt C.held M.marked) n lines self.old calls
+            → MatchResult result (λ stepped. MatchOption stepped (Serves (IsAt C.held M.marked) n lines self.new calls)
+            (λ carried. HasStepped (IsAt C.held M.marked) n lines token calls self.old self.new carried))
+            (λ _. Serves (IsAt C.held M.marked) n lines self.new calls) }
+        ensures when { IfOk result (λ stepped.
+            is_some stepped ≡ may_step (is_stopped (hub_of self.old)) (buffers_of (hub_of self.old) token)) }
+        ensures fault { IfErr result (λ fault. is_full fault ≡ false → has_failed self.new ≡ true) }
+    {
+        if !self.hub.wants_run(token) {
+            return Ok(None);
+        }
+        self.make_room(token)?;
+        Ok(self.carry_out(alloc, token))
+    }
+
+    /// Makes room for the first line that waits of the connection. If the file can't grow, `stop` needs none.
+    fn make_room(&mut self, token: u64) -> Result<(), LogFault>
+        ensures serves { (n : ℕ) (lines : List Bytes) (calls : List Call) → Serves (IsAt C.held M.marked) n lines self.old calls
+            → Serves (IsAt C.held M.marked) n lines self.new calls }
+        ensures hub { self.new.hub ≡ self.old.hub }
+        ensures store { self.new.store ≡ self.old.store }
+        ensures room { OnOk result (HasRoom self.new.journal) }
+        ensures going { OnOk result (has_failed self.new ≡ false) }
+        ensures fault { IfErr result (λ fault. is_full fault ≡ false → has_failed self.new ≡ true) }
+    {
+        let Err(fault) = self.journal.make_room() else {
+            return Ok(());
+        };
+        if is_full(&fault) && is_stop(&self.hub, token) {
+            return Ok(());
+        }
+        Err(fault)
+    }
+
+    /// Carries out a line for which there is room. `None` if no line of the connection may be carried out.
+    fn carry_out(&mut self, alloc: Global, token: u64) -> Option<CarriedLine>
+        requires room { HasRoom self.old.journal }
+        requires going { has_failed self.old ≡ false }
+        ensures none { IfNone result ((n : ℕ) (lines : List Bytes) (calls : List Call)
+            → Serves (IsAt C.held M.marked) n lines self.old calls → Serves (IsAt C.held M.marked) n lines self.new calls) }
+        ensures some { IfSome result (λ carried. (n : ℕ) (lines : List Bytes) (calls : List Call)
+            → Serves (IsAt C.held M.marked) n lines self.old calls
+            → HasStepped (IsAt C.held M.marked) n lines token calls self.old self.new carried) }
+        ensures when { is_some result ≡ may_step (is_stopped (hub_of self.old)) (buffers_of (hub_of self.old) token) }
+    {
+        note(&self.hub, token, &mut self.noted);
+        let Some(carried) = self.hub.step(alloc, token, &mut self.store) else {
+            return None;
+        };
+        commands_are_words();
+        if !carried.counted {
+            return Some(carried);
+        }
+        self.journal.add(self.noted.bytes());
+        Some(carried)
+    }
+
+    /// Waits until all lines that count are on the disk. After that the replies to all lines may be given out. If it fails, then
+    /// nothing more is carried out or given out.
+    pub fn settle(&mut self) -> Result<(), LogFault>
+        ensures serves { (n : ℕ) (lines : List Bytes) (calls : List Call) → Serves (IsAt C.held M.marked) n lines self.old calls
+            → Serves (IsAt C.held M.marked) n lines self.new calls }
+        ensures settled { OnOk result (is_settled self.new ≡ true) }
+        ensures failed { OnErr result (has_failed self.new ≡ true) }
+        ensures hub { hub_of self.new ≡ hub_of self.old }
+    {
+        self.journal.settle()
+    }
+
+    /// Returns the bytes that are to be written to the connection: the replies that are not written. None before all lines that
+    /// count are on the disk.
+    pub fn to_write(&self, token: u64) -> &[u8]
+        ensures unsettled { is_settled self.now ≡ false → result.now ≡ [] }
+        ensures settled { is_settled self.now ≡ true
+            → MatchOption (buffers_of (hub_of self.now) token) (result.now ≡ []) (λ b. result.now ≡ b.unsent) }
+    {
+        if !self.journal.is_settled() {
+            return &[];
+        }
+        self.hub.to_write(token)
+    }
+
+    /// The first `count` bytes of [`to_write`](Server::to_write) were written to the connection, or all if there are no more.
+    pub fn written(&mut self, token: u64, count: usize)
+        ensures serves { (n : ℕ) (lines : List Bytes) (calls : List Call) → Serves (IsAt C.held M.marked) n lines self.old calls
+            → Serves (IsAt C.held M.marked) n lines self.new (if is_settled self.old
+            then with_call (Wrote token (first_unsent count (buffers_of (hub_of self.old) token))) calls else calls) }
+        ensures written { is_settled self.old ≡ true → Changed (hub_of self.old) (hub_of self.new) token
+            (option_map (with_written count) (buffers_of (hub_of self.old) token)) }
+        ensures stopped { is_stopped (hub_of self.new) ≡ is_stopped (hub_of self.old) }
+        ensures settled { is_settled self.new ≡ is_settled self.old }
+        ensures failed { has_failed self.new ≡ has_failed self.old }
+    {
+        if self.journal.is_settled() {
+            self.journal.settled_lines_are_sure();
+            self.hub.written(token, count);
+        }
+    }
+
+    /// The connection is gone, as [`Hub::closed`] has it.
+    pub fn closed(&mut self, token: u64)
+        ensures serves { (n : ℕ) (lines : List Bytes) (calls : List Call) → Serves (IsAt C.held M.marked) n lines self.old calls
+            → Serves (IsAt C.held M.marked) n lines self.new (with_call (Closed token) calls) }
+        ensures closed { Changed (hub_of self.old) (hub_of self.new) token None }
+        ensures settled { is_settled self.new ≡ is_settled self.old }
+        ensures failed { has_failed self.new ≡ has_failed self.old }
+    {
+        self.hub.closed(token);
+    }
+
+    /// Returns the first whole line that waits of the connection, as [`Hub::next_line`] does.
+    pub fn next_line(&self, token: u64) -> Option<&[u8]>
+        ensures some { IfSome result (λ line. IsPlain line.now × ((b : Buffers) × (rest : List ℕ)
+            × (buffers_of (hub_of self.now) token ≡ Some b) × (b.waiting ≡ line.now ++ (10 ∷ rest)))) }
+        ensures none { IfNone result ((b : Buffers) → buffers_of (hub_of self.now) token ≡ Some b → has_line b.waiting ≡ false) }
+    {
+        self.hub.next_line(token)
+    }
+
+    /// Returns whether the connection is open.
+    pub fn is_open(&self, token: u64) -> bool
+        ensures { result ≡ is_some (buffers_of (hub_of self.now) token) }
+    {
+        self.hub.is_open(token)
+    }
+
+    /// Returns whether more bytes are to be read from the connection, as [`Hub::wants_read`] does.
+    pub fn wants_read(&self, token: u64) -> bool
+        ensures { MatchOption (buffers_of (hub_of self.now) token) (result ≡ false) (λ b. result ≡
+            (not (is_stopped (hub_of self.now)) && (not (has_line b.waiting) && nat_le (length b.unsent) 65536))) }
+    {
+        self.hub.wants_read(token)
+    }
+
+    /// Returns whether a line of the connection may be carried out.
+    pub fn wants_run(&self, token: u64) -> bool
+        ensures { MatchOption (buffers_of (hub_of self.now) token) (result ≡ false) (λ b. result ≡
+            (not (is_stopped (hub_of self.now)) && (has_line b.waiting && nat_le (length b.unsent) 65536))) }
+    {
+        self.hub.wants_run(token)
+    }
+
+    /// Returns whether replies of the connection are not written, whether they may be given out or not.
+    pub fn wants_write(&self, token: u64) -> bool
+        ensures { MatchOption (buffers_of (hub_of self.now) token) (result ≡ false) (λ b. result ≡ nat_lt 0 (length b.unsent)) }
+    {
+        self.hub.wants_write(token)
+    }
+
+    /// Returns whether `stop` was carried out.
+    pub fn is_stopped(&self) -> bool
+        ensures { result ≡ is_stopped (hub_of self.now) }
+    {
+        self.hub.is_stopped()
+    }
+
+    /// Returns whether all lines that count are on the disk, so that replies may be given out.
+    pub fn is_settled(&self) -> bool
+        ensures { result ≡ is_settled self.now }
+    {
+        self.journal.is_settled()
+    }
+}
+
+/// Notes the first line that waits of the connection.
+fn note(hub: &Hub, token: u64, to: &mut Noted)
+    ensures { (b : Buffers) → buffers_of hub.now token ≡ Some b → has_line b.waiting ≡ true
+        → (line rest : List ℕ) × IsPlain line × (b.waiting ≡ line ++ (10 ∷ rest)) × (to.new ≡ noted line) }
+{
+    if let Some(line) = hub.next_line(token) {
+        to.note(line);
+    }
+}
+
+/// Returns whether the first line that waits of the connection is `stop`.
+fn is_stop(hub: &Hub, token: u64) -> bool {
+    match hub.next_line(token) {
+        Some(line) => line == b"stop".as_slice(),
+        None => false,
+    }
+}
