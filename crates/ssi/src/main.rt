@@ -1,6 +1,7 @@
 //! The program `ssi`: audits histories by certificates, finds certificates or cycles, and runs the store.
 #![tactic(auto)]
 
+mod data;
 mod grammar;
 mod hint;
 mod late_file;
@@ -9,6 +10,7 @@ mod output_file;
 mod places;
 mod problem;
 mod replaced_file;
+mod sockets;
 mod tasks;
 
 use progress::Progress;

@@ -1,12 +1,12 @@
 //! Why a run ends without an answer.
 
+use crate::sockets::is_socket;
 use ssi_cli::{Fault, Status};
+use ssi_data::DataFault;
 use std::alloc::AllocError;
-use std::fs;
 use std::fs::Files;
 use std::io::ErrorKind;
 use std::net::Net;
-use std::os::unix::fs::FileTypeExt;
 use std::os::unix::net::UnixStream;
 
 /// Why a run ends without an answer.
@@ -18,6 +18,8 @@ pub enum Problem<'a> {
     Early(Fault<'a>, &'static str),
     /// Two arguments, by their names in the help, lead to one file.
     OneFile(&'static str, &'static str),
+    /// The folder of a store that keeps its data, and why it can't be used.
+    Data(&'a str, DataFault),
 }
 
 impl<'a> From<Fault<'a>> for Problem<'a> {
@@ -39,6 +41,10 @@ impl Problem<'_> {
             Problem::Fault(fault) => fault.report(rt),
             Problem::Early(fault, reason) => {
                 let _ = eprintln!(rt; "{fault}: {reason}");
+                Status::Failed
+            }
+            Problem::Data(path, fault) => {
+                let _ = eprintln!(rt; "ssi: data fault: {path}: {fault}");
                 Status::Failed
             }
             Problem::OneFile(one, other) => {
@@ -83,11 +89,7 @@ pub fn unbound<'a, R: Files + Net>(rt: &R, path: &'a str, kind: ErrorKind) -> Pr
 }
 
 fn what_is_there<R: Files + Net>(rt: &R, path: &str) -> &'static str {
-    let is_socket = match fs::symlink_metadata(rt, path) {
-        Ok(found) => found.file_type().is_socket(),
-        Err(_) => false,
-    };
-    if !is_socket {
+    if !is_socket(rt, path) {
         return "another file is there";
     }
     match UnixStream::connect(rt, path) {

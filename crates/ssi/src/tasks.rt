@@ -4,17 +4,18 @@ ghost use Rattle.std.specs.Prelude.{◌≡◌, ◌≢◌, ◌⊎◌};
 ghost use Rattle.clap.specs.Words.{kind_of};
 ghost use Rattle.clap.specs.declared.error.kind.ErrorKind.TheVariants.{DisplayHelp, DisplayVersion};
 
+use crate::data::DataService;
 use crate::hint::hint;
 use crate::late_file::LateFile;
 use crate::noted::Noted;
 use crate::output_file::OutputFile;
 use crate::places::lead_to_one_file;
 use crate::problem::{Problem, unbound, unwritable};
+use crate::sockets::{bound, polled};
 use clap::Error;
 use devices::Watched;
-use mio::Poll;
 use progress::{Counted, Progress, Reporter};
-use ssi_arguments::{Manner, NoTask, Task, given_arguments, task_of};
+use ssi_arguments::{LeftOpen, Manner, NoTask, Task, given_arguments, task_of};
 use ssi_cli::{
     AtClose, Fault, ServingFault, Status, carry_out_commands, judge_stream, judge_texts,
     order_text, serve_commands, serve_commands_together,
@@ -29,7 +30,7 @@ use std::{fs, io};
 
 /// Does what the arguments ask for, and prints a fault on standard error. If the progress is shown, and reading a history or
 /// a certificate takes more than two seconds, standard error also says how much has been read.
-pub fn run<R: Runtime + Net + AllocGlobal>(rt: &R, progress: Progress) -> Status {
+pub fn run(rt: &HostRuntime, progress: Progress) -> Status {
     let arguments = match given_arguments(rt) {
         Ok(arguments) => arguments,
         Err(none) => return without_task(rt, none),
@@ -45,10 +46,10 @@ pub fn run<R: Runtime + Net + AllocGlobal>(rt: &R, progress: Progress) -> Status
     }
 }
 
-fn carry_out<'a, R: Runtime + Net + AllocGlobal>(
-    rt: &'a R,
+fn carry_out<'a>(
+    rt: &'a HostRuntime,
     task: Task<'a>,
-    reporter: &mut Reporter<'a, R>,
+    reporter: &mut Reporter<'a, HostRuntime>,
 ) -> Result<Status, Problem<'a>> {
     match task {
         Task::Pipe => Ok(audit_input(rt, reporter)?),
@@ -67,6 +68,18 @@ fn carry_out<'a, R: Runtime + Net + AllocGlobal>(
             certificate,
             manner,
         } => serve_connections(rt, socket, history, certificate, manner),
+        Task::Keep {
+            socket,
+            folder,
+            left_open,
+        } => {
+            let service = DataService {
+                folder,
+                socket,
+                at_close: at_close(left_open),
+            };
+            service.run(rt)
+        }
     }
 }
 
@@ -173,6 +186,13 @@ fn serve_connections<'a, R: Runtime + Net + AllocGlobal>(
     }
 }
 
+fn at_close(left_open: LeftOpen) -> AtClose {
+    match left_open {
+        LeftOpen::Keep => AtClose::Keep,
+        LeftOpen::Abort => AtClose::Abort,
+    }
+}
+
 /// Refuses a history and a certificate of which the later would overwrite the other.
 fn check_texts<'a, R: Files + AllocGlobal>(
     rt: &R,
@@ -243,13 +263,9 @@ fn serve_polled<R: Net + AllocGlobal, H: Write, C: Write>(
     history: &mut Watched<H>,
     certificate: &mut Watched<C>,
 ) -> Result<Status, ServingFault> {
-    let Ok(()) = listener.set_nonblocking(true) else {
+    let Ok((mut poll, mut listener)) = polled(rt, listener) else {
         return Err(ServingFault::Socket);
     };
-    let Ok(mut poll) = Poll::new(rt) else {
-        return Err(ServingFault::Socket);
-    };
-    let mut listener = mio::net::UnixListener::from_std(listener);
     serve_commands_together(
         rt.alloc(),
         &mut poll,
@@ -279,14 +295,6 @@ fn ended<'a, R: Files>(
             certificate,
         ))),
     }
-}
-
-// The system would make a socket without a file of the empty path.
-fn bound<R: Files + Net>(rt: &R, path: &str) -> io::Result<UnixListener> {
-    if path.is_empty() {
-        return Err(io::Error::from(io::ErrorKind::InvalidInput));
-    }
-    UnixListener::bind(rt, path)
 }
 
 fn looked_at<'a, R: Files + AllocGlobal>(

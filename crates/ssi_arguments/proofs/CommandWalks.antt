@@ -1,4 +1,4 @@
--- The command line as the parser builds it, and how a walk over the arguments stops at a command's name.
+-- The command line as the parser builds it, with each form of `serve`, and how a walk over the arguments stops at a command's name.
 use Rattle.std.proofs.Common.{◌≡◌, ◌∙◌, ◌++◌, List, [], ◌∷◌, refl, sym, ap, codes, append_assoc, append-nil}
 use Rattle.std.proofs.Common.{slice_index_or}
 use Rattle.std.specs.Prelude.{Some}
@@ -7,10 +7,14 @@ use Rattle.clap.specs.Walk.{Names, Rule, Text, Walk, nothing_held, walk, walked}
 use Rattle.clap.specs.Simple.{App, Shape, built, names_of}
 use Rattle.clap.proofs.OnLiterals.{clap_on_literals}
 use Rattle.ssi_arguments.specs.Clauses.CommandLine.{ssi_app}
+use Rattle.ssi_arguments.specs.declared.storage.Storage.TheVariants.{Files, Folder}
 use Rattle.ssi_arguments.proofs.PlainArguments.{at}
 
 abbrev pub parser : App
-parser = built ssi_app
+parser = built (ssi_app Files)
+
+abbrev pub folder_parser : App
+folder_parser = built (ssi_app Folder)
 
 abbrev pub names : Names
 names = names_of parser
@@ -26,6 +30,9 @@ scripts = slice_index_or parser.subs 2 parser.top
 
 abbrev pub serves : Shape
 serves = slice_index_or parser.subs 3 parser.top
+
+abbrev pub keeps : Shape
+keeps = slice_index_or folder_parser.subs 3 folder_parser.top
 
 -- a command of this name with a history and a certificate, as `audit` and `script` are
 abbrev pub pairs : Text → Shape

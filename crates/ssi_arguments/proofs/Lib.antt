@@ -1,5 +1,11 @@
 pub mod CommandWalks
+pub mod FolderWalks
 pub mod PlainArguments
+pub mod NoOtherFolders
 pub mod NoOtherRequests
+pub mod OptionNames
+pub mod Requests
+pub mod StorageLemmas
 pub mod Subcommands
 pub mod TakesRequests
+pub mod UnknownOptions

@@ -5,16 +5,20 @@ use Rattle.std.specs.Str.{bytes_eq}
 use Rattle.std.proofs.lemmas.Bool.{and_parts}
 use Rattle.std.proofs.lemmas.Slice.Eq.{bytes_eq-Decides}
 use Rattle.clap.specs.Walk.{Held, Names, Text, Walk, finished, idle, nothing_held, settled, subcommand_met, walk, walked}
-use Rattle.clap.specs.Simple.{Shape, entered}
+use Rattle.clap.specs.Simple.{Shape, built, entered}
 use Rattle.clap.specs.Kinds.{Kinds, or_else}
 use Rattle.clap.specs.Faults.{built_fault, check_fault, defaults_fault, entered_fault, fault_of, is_simple_and_free, level_fault, settle_fault, turn_fault, walk_fault}
 use Rattle.clap.specs.declared.error.kind.ErrorKind.TheVariants.{DisplayHelp, DisplayVersion}
 use Rattle.clap.proofs.OnLiterals.{clap_on_literals}
 use Rattle.ssi_arguments.specs.Clauses.Arguments.{Request, pipe, audit, order, script, serve, are_plain, is_plain, arguments_of}
 use Rattle.ssi_arguments.specs.declared.arguments.Manner.TheVariants.{InTurn}
-use Rattle.ssi_arguments.specs.Clauses.CommandLine.{ssi_app}
+use Rattle.ssi_arguments.specs.declared.storage.Storage.{Storage}
+use Rattle.ssi_arguments.specs.declared.storage.Storage.TheVariants.{Files, Folder}
+use Rattle.ssi_arguments.specs.Clauses.CommandLine.{app_for, ssi_app}
+use Rattle.ssi_arguments.specs.Clauses.Storage.{storage_in}
 use Rattle.ssi_arguments.proofs.CommandWalks.{names, orders, pairs, parser, serves, top_walk, stops_at_audit, stops_at_order, stops_at_script, stops_at_serve}
 use Rattle.ssi_arguments.proofs.PlainArguments.{at, turn_fault-plain}
+use Rattle.ssi_arguments.proofs.StorageLemmas.{storage_in-plain}
 use Rattle.ssi_arguments.proofs.TakesRequests.{one_path, two_paths, three_paths, path_plain, paths_plain, walk_one, walk_two, walk_front, walk_three}
 
 -- ---- no fault of the whole is none of its parts
@@ -40,16 +44,16 @@ module _ (s : Shape) (ns : Names) (arguments : List Text) where
   checks has = check_fault s (finished s.rules end) has
 
   module _ (has : Bool) (below : Kinds) (e : level_fault s ns nothing_held arguments has below ≡ []) where
-    after_walk : (walks ≡ []) × (or_else below (or_else settles (or_else defaults (checks has))) ≡ [])
+    pub after_walk : (walks ≡ []) × (or_else below (or_else settles (or_else defaults (checks has))) ≡ [])
     after_walk = no_fault walks (or_else below (or_else settles (or_else defaults (checks has)))) e
 
-    after_below : (below ≡ []) × (or_else settles (or_else defaults (checks has)) ≡ [])
+    pub after_below : (below ≡ []) × (or_else settles (or_else defaults (checks has)) ≡ [])
     after_below = no_fault below (or_else settles (or_else defaults (checks has))) after_walk.1
 
-    no_check : checks has ≡ []
+    pub no_check : checks has ≡ []
     no_check = (no_fault defaults (checks has) (no_fault settles (or_else defaults (checks has)) after_below.1).1).1
 
-first_turn : (s : Shape) (ns : Names) (w : Walk) (argument : Text) (arguments : List Text)
+pub first_turn : (s : Shape) (ns : Names) (w : Walk) (argument : Text) (arguments : List Text)
     → walk_fault s ns w (argument ∷ arguments) ≡ []
     → (turn_fault s ns w argument ≡ []) × (walk_fault s ns (walked s.rules ns w argument) arguments ≡ [])
 unfolding walk_fault
@@ -58,7 +62,7 @@ first_turn s ns w argument arguments e =
 
 -- ---- the paths
 
-abbrev leaf_fault : Shape → List Text → Kinds
+abbrev pub leaf_fault : Shape → List Text → Kinds
 leaf_fault s arguments = level_fault s [] nothing_held arguments false []
 
 pair_alone : (name : Text) → leaf_fault (pairs name) [] ≡ [] → ⊥
@@ -241,27 +245,35 @@ asks : (arguments : List Text) → are_plain arguments ≡ true → whole_fault 
 asks [] p e = (pipe, refl)
 asks (argument ∷ arguments) p e = reads argument arguments _ _ _ _ _ refl refl refl refl refl p e
 
-pub simple_and_free : is_simple_and_free ssi_app ≡ true
+pub simple_and_free : (storage : Storage) → is_simple_and_free (ssi_app storage) ≡ true
 unfolding clap_on_literals
-simple_and_free = refl
+simple_and_free Files = refl
+simple_and_free Folder = refl
+
+-- the fault at these arguments, which the program's name isn't among
+abbrev pub fault_at : List Text → Kinds
+fault_at arguments = built_fault (built (ssi_app (storage_in arguments))) nothing_held arguments
 
 -- arguments at which the parser has no fault are those of a request
-pub asks_request : (arguments : List Text) → are_plain (drop 1 arguments) ≡ true → fault_of ssi_app arguments ≡ [] → Ask (drop 1 arguments)
-asks_request arguments p e = asks (drop 1 arguments) p e
+pub asks_request : (arguments : List Text) → are_plain (drop 1 arguments) ≡ true → fault_of (app_for arguments) arguments ≡ []
+    → Ask (drop 1 arguments)
+asks_request arguments p e = asks (drop 1 arguments) p
+    (sym (ap (λ storage. built_fault (built (ssi_app storage)) nothing_held (drop 1 arguments)) (storage_in-plain (drop 1 arguments) p)) ∙ e)
 
-help_fault : whole_fault (codes "--help" ∷ []) ≡ DisplayHelp ∷ []
+help_fault : fault_at (codes "--help" ∷ []) ≡ DisplayHelp ∷ []
 unfolding clap_on_literals
 help_fault = refl
 
 -- the fault at the option `--help` is help
-pub shows_help : (arguments : List Text) → drop 1 arguments ≡ codes "--help" ∷ [] → fault_of ssi_app arguments ≡ DisplayHelp ∷ []
-shows_help arguments e = ap whole_fault e ∙ help_fault
+pub shows_help : (arguments : List Text) → drop 1 arguments ≡ codes "--help" ∷ []
+    → fault_of (app_for arguments) arguments ≡ DisplayHelp ∷ []
+shows_help arguments e = ap fault_at e ∙ help_fault
 
-version_fault : whole_fault (codes "--version" ∷ []) ≡ DisplayVersion ∷ []
+version_fault : fault_at (codes "--version" ∷ []) ≡ DisplayVersion ∷ []
 unfolding clap_on_literals
 version_fault = refl
 
 -- the fault at the option `--version` is the version
 pub shows_version : (arguments : List Text) → drop 1 arguments ≡ codes "--version" ∷ []
-    → fault_of ssi_app arguments ≡ DisplayVersion ∷ []
-shows_version arguments e = ap whole_fault e ∙ version_fault
+    → fault_of (app_for arguments) arguments ≡ DisplayVersion ∷ []
+shows_version arguments e = ap fault_at e ∙ version_fault

@@ -1,23 +1,20 @@
--- That the parser accepts the arguments of each request, and finds the request in them.
-use Rattle.std.proofs.Common.{◌≡◌, ◌∙◌, ◌&&◌, Bool, true, false, List, [], ◌∷◌, ◌++◌, refl, ap, ap₂, codes, drop}
+-- That the parser accepts the arguments of each request that keeps nothing in a folder, and finds the request in them.
+use Rattle.std.proofs.Common.{◌≡◌, ◌∙◌, ◌&&◌, Bool, true, false, List, [], ◌∷◌, ◌++◌, refl, ap, ap₂, codes}
 use Rattle.std.specs.Prelude.{Some}
 use Rattle.std.specs.List.{fold, list_all}
 use Rattle.std.proofs.lemmas.Bool.{and_parts}
 use Rattle.clap.specs.Walk.{Held, Text, Walk, value, arg_by_index, finished, nothing_held, to_positional, walk, walked}
-use Rattle.clap.specs.Simple.{Shape, entered, is_simple, subcommand_of}
-use Rattle.clap.specs.Takes.{built_takes, default_passes, is_valid, level_passes, settle_passes, step_passes, takes, turn_passes, walk_passes}
+use Rattle.clap.specs.Simple.{Shape, entered}
+use Rattle.clap.specs.Takes.{built_takes, default_passes, is_valid, level_passes, settle_passes, step_passes, turn_passes, walk_passes}
 use Rattle.clap.proofs.OnLiterals.{clap_on_literals}
-use Rattle.ssi_arguments.specs.Clauses.Arguments.{Request, pipe, audit, order, script, serve, are_plain, is_plain, arguments_of, options_of, paths_of}
+use Rattle.ssi_arguments.specs.Clauses.Arguments.{Request, pipe, audit, order, script, serve, keep, are_plain, is_plain, arguments_of, options_of, paths_of, storage_for}
 use Rattle.ssi_arguments.specs.declared.arguments.Manner.{Manner}
 use Rattle.ssi_arguments.specs.declared.arguments.Manner.TheVariants.{InTurn, AtOnce, Aborting}
-use Rattle.ssi_arguments.specs.Clauses.CommandLine.{request_in, ssi_app}
+use Rattle.ssi_arguments.specs.declared.storage.Storage.TheVariants.{Files}
+use Rattle.ssi_arguments.specs.Clauses.CommandLine.{request_in}
 use Rattle.ssi_arguments.proofs.CommandWalks.{audits, names, orders, pairs, parser, scripts, serves, top_walk}
 use Rattle.ssi_arguments.proofs.CommandWalks.{stops_at_audit, stops_at_order, stops_at_script, stops_at_serve}
 use Rattle.ssi_arguments.proofs.PlainArguments.{at, turn_passes-plain, walked-plain}
-
-pub simple : is_simple ssi_app ≡ true
-unfolding clap_on_literals
-simple = refl
 
 -- ---- up to the name of the command
 
@@ -100,7 +97,7 @@ module _ (b : Held) where
         ∙ turn_passes-plain [] (two_paths serves s h).held 3 serves c r refl ∙ step
 
 -- what is checked after the walk
-abbrev ends_well : Shape → Walk → Bool
+abbrev pub ends_well : Shape → Walk → Bool
 ends_well s w = settle_passes s.rules s.args_override_self w.held
     && (list_all default_passes s.rules && is_valid s (finished s.rules w.held) false)
 
@@ -179,7 +176,7 @@ serve_ends_well AtOnce s h c = refl
 serve_ends_well Aborting s h c = refl
 
 found_serve : (m : Manner) (s h c : Text)
-    → request_in (Some (codes "serve", finished serves.rules (three_paths (flagged m) s h c).held)) ≡ serve m s h c
+    → request_in Files (Some (codes "serve", finished serves.rules (three_paths (flagged m) s h c).held)) ≡ serve m s h c
 unfolding clap_on_literals
 found_serve InTurn s h c = refl
 found_serve AtOnce s h c = refl
@@ -222,53 +219,41 @@ all_plain s h c p =
     let parts = and_parts (is_plain s) (are_plain (h ∷ c ∷ [])) p in
     let rest = paths_plain h c parts.1 in (parts.0, rest.0, rest.1)
 
-taken : (r : Request) → are_plain (paths_of r) ≡ true → built_takes parser nothing_held (arguments_of r) ≡ true
-taken pipe p = takes_none
-taken (audit h c) p =
+pub taken : (r : Request) → storage_for r ≡ Files → are_plain (paths_of r) ≡ true
+    → built_takes parser nothing_held (arguments_of r) ≡ true
+taken pipe k p = takes_none
+taken (audit h c) k p =
     let plain = paths_plain h c p in
     rw (stops_at_audit (h ∷ c ∷ []), passes_audit h c plain.0 plain.1, passes_to_audit h c) refl
-taken (order h) p = rw (stops_at_order (h ∷ []), passes_order h (path_plain h p), passes_to_order h) refl
-taken (script h c) p =
+taken (order h) k p = rw (stops_at_order (h ∷ []), passes_order h (path_plain h p), passes_to_order h) refl
+taken (script h c) k p =
     let plain = paths_plain h c p in
     rw (stops_at_script (h ∷ c ∷ []), passes_script h c plain.0 plain.1, passes_to_script h c) refl
-taken (serve m s h c) p =
+taken (serve m s h c) k p =
     let plain = all_plain s h c p in
     rw (stops_at_serve (options_of m ++ s ∷ h ∷ c ∷ []), passes_serve m s h c plain.0 plain.1 plain.2, passes_to_serve m s h c) refl
+taken (keep l s f) k p = absurd (cc k)
 
-found : (r : Request) → are_plain (paths_of r) ≡ true → request_in (entered parser (top_walk (arguments_of r)).stopped) ≡ r
-found pipe p = refl
-found (audit h c) p =
+pub found : (r : Request) → storage_for r ≡ Files → are_plain (paths_of r) ≡ true
+    → request_in Files (entered parser (top_walk (arguments_of r)).stopped) ≡ r
+found pipe k p = refl
+found (audit h c) k p =
     let plain = paths_plain h c p in
-    ap (λ stop. request_in (entered parser stop)) (stops_at_audit (h ∷ c ∷ []))
-    ∙ ap (λ w. request_in (Some (codes "audit", finished audits.rules w.held))) (walk_two nothing_held (codes "audit") h c plain.0 plain.1)
-found (order h) p =
-    ap (λ stop. request_in (entered parser stop)) (stops_at_order (h ∷ []))
-    ∙ ap (λ w. request_in (Some (codes "order", finished orders.rules w.held))) (walk_one nothing_held orders h (path_plain h p))
-found (script h c) p =
+    ap (λ stop. request_in Files (entered parser stop)) (stops_at_audit (h ∷ c ∷ []))
+    ∙ ap (λ w. request_in Files (Some (codes "audit", finished audits.rules w.held)))
+    (walk_two nothing_held (codes "audit") h c plain.0 plain.1)
+found (order h) k p =
+    ap (λ stop. request_in Files (entered parser stop)) (stops_at_order (h ∷ []))
+    ∙ ap (λ w. request_in Files (Some (codes "order", finished orders.rules w.held))) (walk_one nothing_held orders h (path_plain h p))
+found (script h c) k p =
     let plain = paths_plain h c p in
-    ap (λ stop. request_in (entered parser stop)) (stops_at_script (h ∷ c ∷ []))
-    ∙ ap (λ w. request_in (Some (codes "script", finished scripts.rules w.held))) (walk_two nothing_held (codes "script") h c plain.0 plain.1)
-found (serve m s h c) p =
+    ap (λ stop. request_in Files (entered parser stop)) (stops_at_script (h ∷ c ∷ []))
+    ∙ ap (λ w. request_in Files (Some (codes "script", finished scripts.rules w.held)))
+    (walk_two nothing_held (codes "script") h c plain.0 plain.1)
+found (serve m s h c) k p =
     let plain = all_plain s h c p in
-    ap (λ stop. request_in (entered parser stop)) (stops_at_serve (options_of m ++ s ∷ h ∷ c ∷ []))
-    ∙ ap (λ w. request_in (Some (codes "serve", finished serves.rules w.held)))
+    ap (λ stop. request_in Files (entered parser stop)) (stops_at_serve (options_of m ++ s ∷ h ∷ c ∷ []))
+    ∙ ap (λ w. request_in Files (Some (codes "serve", finished serves.rules w.held)))
     (walk_serve m s h c plain.0 plain.1 plain.2)
     ∙ found_serve m s h c
-
--- the arguments of a request are taken, and the request is found in them
-pub takes_request : (arguments : List Text) (r : Request) → are_plain (paths_of r) ≡ true → drop 1 arguments ≡ arguments_of r
-    → (takes ssi_app arguments ≡ true) × (request_in (subcommand_of ssi_app arguments) ≡ r)
-takes_request arguments r p e = (
-  ap₂ (λ a b. a && b) simple (ap (built_takes parser nothing_held) e ∙ taken r p),
-  ap (λ ws. request_in (entered parser (top_walk ws).stopped)) e ∙ found r p,
-)
-
--- if all its arguments are plain, its paths are
-pub plain_paths : (r : Request) → are_plain (arguments_of r) ≡ true → are_plain (paths_of r) ≡ true
-plain_paths pipe p = p
-plain_paths (audit h c) p = p
-plain_paths (order h) p = p
-plain_paths (script h c) p = p
-plain_paths (serve InTurn s h c) p = p
-plain_paths (serve AtOnce s h c) p = absurd (cc p)
-plain_paths (serve Aborting s h c) p = absurd (cc p)
+found (keep l s f) k p = absurd (cc k)

@@ -1,13 +1,17 @@
 //! The arguments of the program, and what they ask for.
 
-ghost use Rattle.std.specs.Prelude.{◌≡◌, ◌≢◌, ◌⊎◌, [], ◌∷◌, true, map, drop, codes, string_bytes, IfOk, IfErr, IsErrAnd, MatchResult};
+ghost use Rattle.std.specs.Prelude.{◌≡◌, ◌≢◌, ◌⊎◌, ℕ, List, [], ◌∷◌, ◌++◌, true, map, drop, codes, string_bytes, IfOk, IfErr, IsErr, IsErrAnd, MatchResult};
 ghost use Rattle.clap.specs.Words.{rows_of, found_of, kind_of, subcommand_rows_of, subcommand_of, fault_of};
 ghost use Rattle.clap.specs.declared.error.kind.ErrorKind.TheVariants.{OutOfMemory, DisplayHelp, DisplayVersion};
-ghost use Rattle.ssi_arguments.specs.Clauses.CommandLine.{ssi_app, path_in, is_given, manner_in, request_in, request_named};
-ghost use Rattle.ssi_arguments.specs.Clauses.Arguments.{Request, request_of, arguments_of, paths_of, are_plain, IsRefusal};
+ghost use Rattle.ssi_arguments.specs.Clauses.CommandLine.{app_for, path_in, is_given, manner_in, left_open_in, request_in, request_named, request_served};
+ghost use Rattle.ssi_arguments.specs.Clauses.Arguments.{Request, request_of, storage_for, arguments_of, folder_options_of, paths_of, are_plain, IsRefusal};
+ghost use Rattle.ssi_arguments.specs.Clauses.Storage.{has_option, storage_in};
+ghost use Rattle.ssi_arguments.specs.declared.arguments.LeftOpen.{LeftOpen};
+ghost use Rattle.ssi_arguments.specs.declared.storage.Storage.TheVariants.{Folder};
 ghost use Rattle.ssi_arguments.specs.declared.arguments.NoTask.TheVariants.{Text, Memory};
 
 use crate::command_line::command_line;
+use crate::storage::{Storage, storage_of};
 use clap::error::ErrorKind;
 use clap::{ArgMatches, Error};
 use std::alloc::{AllocError, Global};
@@ -42,6 +46,12 @@ pub enum Task<'a> {
         certificate: &'a str,
         manner: Manner,
     },
+    /// To carry out the commands of the connections to this socket, all at once, on the store in this folder.
+    Keep {
+        socket: &'a str,
+        folder: &'a str,
+        left_open: LeftOpen,
+    },
 }
 
 /// How the connections to a socket are served.
@@ -53,6 +63,15 @@ pub enum Manner {
     AtOnce,
     /// All at once; when one ends, the sessions whose last command it sent are aborted.
     Aborting,
+}
+
+/// What becomes of the sessions whose last command came from a connection that has ended.
+#[derive(Clone, Copy, Debug, PartialEq, Eq)]
+pub enum LeftOpen {
+    /// They stay open, and another connection may go on with them.
+    Keep,
+    /// They are aborted.
+    Abort,
 }
 
 /// Why the arguments ask for no task.
@@ -111,11 +130,11 @@ fn listed(alloc: Global, arguments: Args) -> Result<Vec<String>, AllocError> {
 /// something to print, `Memory` if memory runs out. It never returns `NotUtf8`.
 pub fn task_of<'a>(alloc: Global, arguments: &'a [String]) -> Result<Task<'a>, NoTask>
     // The parser has no fault at the arguments of a task, and the task is the one that its matches ask for.
-    ensures task { let given = map string_bytes arguments.entry.now in
-        IfOk result (λ task. (fault_of ssi_app given ≡ []) × (request_of task ≡ request_in (subcommand_of ssi_app given))) }
+    ensures task { let given = map string_bytes arguments.entry.now in let matched = subcommand_of (app_for given) given in
+        IfOk result (λ task. (fault_of (app_for given) given ≡ []) × (request_of task ≡ request_in (storage_in (drop 1 given)) matched)) }
     // The text is of the first fault that the parser has at the arguments; help is one, and so is the version.
     ensures refusal { let given = map string_bytes arguments.entry.now in
-        IfErr result (IsRefusal (fault_of ssi_app given)) }
+        IfErr result (IsRefusal (fault_of (app_for given) given)) }
     ensures help { let rest = drop 1 (map string_bytes arguments.entry.now) in
         rest ≡ codes "--help" ∷ [] → IsErrAnd result (IsRefusal (DisplayHelp ∷ [])) }
     ensures version { let rest = drop 1 (map string_bytes arguments.entry.now) in
@@ -127,23 +146,34 @@ pub fn task_of<'a>(alloc: Global, arguments: &'a [String]) -> Result<Task<'a>, N
         → MatchResult result (λ task. request_of task ≡ request) (λ none. none ≡ NoTask.Memory) }
     ensures no_other { let rest = drop 1 (map string_bytes arguments.entry.now) in
         are_plain rest ≡ true → IfOk result (λ task. rest ≡ arguments_of (request_of task)) }
+    // A task keeps a store in a folder if and only if its arguments are those of `serve`, with the option `--data`. Beside it
+    // they name only the socket, and don't have the option `--concurrent`.
+    ensures kept { let rest = drop 1 (map string_bytes arguments.entry.now) in
+        IfOk result (λ task. storage_for (request_of task) ≡ storage_in rest) }
+    ensures kept_alone { let rest = drop 1 (map string_bytes arguments.entry.now) in
+        (left_open : LeftOpen) (folder : List ℕ) (others : List (List ℕ)) → are_plain (folder ∷ others) ≡ true
+        → rest ≡ codes "serve" ∷ folder_options_of left_open folder ++ others
+        → IfOk result (λ task. rest ≡ arguments_of (request_of task)) }
+    ensures kept_at_once { let rest = drop 1 (map string_bytes arguments.entry.now) in
+        storage_in rest ≡ Folder → has_option (codes "--concurrent") rest ≡ true → IsErr result }
 {
-    let command = command_line(alloc)?;
+    let storage = storage_of(arguments);
+    let command = command_line(alloc, storage)?;
     let matches = command.try_get_matches_from(arguments)?;
-    Ok(task_in(&matches))
+    Ok(task_in(storage, &matches))
 }
 
-fn task_in<'a>(matches: &ArgMatches<'a>) -> Task<'a>
-    ensures { request_of result ≡ request_in (subcommand_rows_of matches.now) }
+fn task_in<'a>(storage: Storage, matches: &ArgMatches<'a>) -> Task<'a>
+    ensures { request_of result ≡ request_in storage (subcommand_rows_of matches.now) }
 {
     match matches.subcommand() {
         None => Task::Pipe,
-        Some((name, given)) => task_named(name, given),
+        Some((name, given)) => task_named(storage, name, given),
     }
 }
 
-fn task_named<'a>(name: &str, given: &ArgMatches<'a>) -> Task<'a>
-    ensures { request_of result ≡ request_named name.now (rows_of (found_of given.now)) }
+fn task_named<'a>(storage: Storage, name: &str, given: &ArgMatches<'a>) -> Task<'a>
+    ensures { request_of result ≡ request_named storage name.now (rows_of (found_of given.now)) }
 {
     match name {
         "audit" => Task::Audit {
@@ -158,11 +188,24 @@ fn task_named<'a>(name: &str, given: &ArgMatches<'a>) -> Task<'a>
             certificate: path(given, "CERTIFICATE"),
         },
         // `serve`, the only other one
-        _ => Task::Serve {
+        _ => task_served(storage, given),
+    }
+}
+
+fn task_served<'a>(storage: Storage, given: &ArgMatches<'a>) -> Task<'a>
+    ensures { request_of result ≡ request_served storage (rows_of (found_of given.now)) }
+{
+    match storage {
+        Storage::Files => Task::Serve {
             socket: path(given, "SOCKET"),
             history: path(given, "HISTORY"),
             certificate: path(given, "CERTIFICATE"),
             manner: how_served(given),
+        },
+        Storage::Folder => Task::Keep {
+            socket: path(given, "SOCKET"),
+            folder: path(given, "data"),
+            left_open: what_is_left(given),
         },
     }
 }
@@ -184,6 +227,15 @@ fn how_served(given: &ArgMatches<'_>) -> Manner
         return Manner::AtOnce;
     }
     Manner::InTurn
+}
+
+fn what_is_left(given: &ArgMatches<'_>) -> LeftOpen
+    ensures { result ≡ left_open_in (rows_of (found_of given.now)) }
+{
+    if is_given(given, "abort-on-close") {
+        return LeftOpen::Abort;
+    }
+    LeftOpen::Keep
 }
 
 fn is_given(given: &ArgMatches<'_>, option: &str) -> bool

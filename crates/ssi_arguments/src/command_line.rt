@@ -1,23 +1,24 @@
 //! The command line: its commands, their files and their help.
 
-ghost use Rattle.std.specs.Prelude.{◌≡◌, false, IfOk};
+ghost use Rattle.std.specs.Prelude.{◌≡◌, false, codes, IfOk};
 ghost use Rattle.clap.specs.Words.{App, app_of, new_app, rule_of, with_rule, with_subcommand};
 ghost use Rattle.clap.specs.declared.builder.command.Command.TheViews.{out-Command as fields_of};
-ghost use Rattle.ssi_arguments.specs.Clauses.CommandLine.{file_rule, flag_rule, with_version, with_texts, audit_app, order_app, script_app, serve_app, ssi_app};
+ghost use Rattle.ssi_arguments.specs.Clauses.CommandLine.{file_rule, flag_rule, value_rule, with_version, with_texts, audit_app, order_app, script_app, serve_app, files_app, folder_app, ssi_app};
 
 use crate::help;
+use crate::storage::Storage;
 use clap::{Arg, ArgAction, Command};
 use std::alloc::{AllocError, Global};
 
-/// The command line of the program.
-pub fn command_line<'a>(alloc: Global) -> Result<Command<'a>, AllocError>
-    ensures { IfOk result (λ c. app_of c ≡ ssi_app) }
+/// The command line of the program, with the form of `serve` that keeps what it does there.
+pub fn command_line<'a>(alloc: Global, storage: Storage) -> Result<Command<'a>, AllocError>
+    ensures { IfOk result (λ c. app_of c ≡ ssi_app storage) }
 {
     let ssi = versioned(bare(alloc, "ssi", help::ABOUT, help::MORE));
     let ssi = with_command(ssi, audit(alloc))?;
     let ssi = with_command(ssi, order(alloc))?;
     let ssi = with_command(ssi, script(alloc))?;
-    with_command(ssi, serve(alloc))
+    with_command(ssi, serve(alloc, storage))
 }
 
 /// Adds what was made, if there was memory to make it.
@@ -55,15 +56,37 @@ fn script<'a>(alloc: Global) -> Result<Command<'a>, AllocError>
     with_texts(alloc, script, help::NEW_HISTORY, help::NEW_CERTIFICATE)
 }
 
-fn serve<'a>(alloc: Global) -> Result<Command<'a>, AllocError>
-    ensures app { IfOk result (λ c. app_of c ≡ serve_app) }
+fn serve<'a>(alloc: Global, storage: Storage) -> Result<Command<'a>, AllocError>
+    ensures app { IfOk result (λ c. app_of c ≡ serve_app storage) }
+    ensures local { IfOk result (λ c. (fields_of c).has_globals ≡ false) }
+{
+    match storage {
+        Storage::Files => serve_with_files(alloc),
+        Storage::Folder => serve_with_folder(alloc),
+    }
+}
+
+// The option `--data` is here for the help: with it, `serve` has the other form.
+fn serve_with_files<'a>(alloc: Global) -> Result<Command<'a>, AllocError>
+    ensures app { IfOk result (λ c. app_of c ≡ files_app) }
     ensures local { IfOk result (λ c. (fields_of c).has_globals ≡ false) }
 {
     let serve = bare(alloc, "serve", help::SERVE, help::SERVE_MORE);
     let serve = with_file(alloc, serve, "SOCKET", help::SOCKET)?;
     let serve = with_texts(alloc, serve, help::NEW_HISTORY, help::NEW_CERTIFICATE)?;
     let serve = with_flag(alloc, serve, "concurrent", help::CONCURRENT)?;
-    with_flag(alloc, serve, "abort-on-close", help::ABORT_ON_CLOSE)
+    let serve = with_flag(alloc, serve, "abort-on-close", help::ABORT_ON_CLOSE)?;
+    with_data(alloc, serve, false)
+}
+
+fn serve_with_folder<'a>(alloc: Global) -> Result<Command<'a>, AllocError>
+    ensures app { IfOk result (λ c. app_of c ≡ folder_app) }
+    ensures local { IfOk result (λ c. (fields_of c).has_globals ≡ false) }
+{
+    let serve = bare(alloc, "serve", help::SERVE, help::KEEP_MORE);
+    let serve = with_file(alloc, serve, "SOCKET", help::SOCKET)?;
+    let serve = with_flag(alloc, serve, "abort-on-close", help::KEEP_ABORT_ON_CLOSE)?;
+    with_data(alloc, serve, true)
 }
 
 /// A command without files.
@@ -119,6 +142,19 @@ fn with_flag<'a>(
     command.arg(flag(alloc, name, help))
 }
 
+/// Adds the option `--data`.
+fn with_data<'a>(
+    alloc: Global,
+    command: Command<'a>,
+    is_required: bool,
+) -> Result<Command<'a>, AllocError>
+    ensures app { IfOk result (λ c. app_of c ≡ with_rule (app_of command.entry) (value_rule (codes "data") is_required)) }
+    ensures local { (fields_of command.entry).has_globals ≡ false → IfOk result (λ c. (fields_of c).has_globals ≡ false) }
+{
+    let data = value(alloc, "data", "DIR", help::DATA);
+    command.arg(data.required(is_required))
+}
+
 fn file<'a>(alloc: Global, name: &'a str, help: &'a str) -> Arg<'a>
     ensures rule { rule_of result ≡ file_rule name.entry.now }
     ensures local { result.global ≡ false }
@@ -134,5 +170,16 @@ fn flag<'a>(alloc: Global, name: &'a str, help: &'a str) -> Arg<'a>
     Arg::new(alloc, name)
         .long(name)
         .action(ArgAction::SetTrue)
+        .help(help)
+}
+
+/// An option that is the name after two hyphens, with a value.
+fn value<'a>(alloc: Global, name: &'a str, value_name: &'a str, help: &'a str) -> Arg<'a>
+    ensures rule { rule_of result ≡ value_rule name.entry.now false }
+    ensures local { result.global ≡ false }
+{
+    Arg::new(alloc, name)
+        .long(name)
+        .value_name(value_name)
         .help(help)
 }

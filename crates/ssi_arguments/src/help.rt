@@ -50,6 +50,14 @@ pub const SERVE: &str = "Carries out the commands of connections to a socket";
 pub const SERVE_MORE: &str = "\
 Makes a Unix socket, and carries out the commands of its connections on one new
 store, as `script` does. After `stop`, writes both files and removes the socket.
+With --data the only argument is SOCKET, and all connections are served at once.
+
+docs/formats.md describes all commands, arguments and exit statuses.";
+
+/// What `serve --data` reads and writes.
+pub const KEEP_MORE: &str = "\
+Makes a Unix socket, and carries out the commands of all its connections at once
+on the store in the folder. After `stop`, removes the socket.
 
 docs/formats.md describes all commands, arguments and exit statuses.";
 
@@ -73,3 +81,9 @@ pub const CONCURRENT: &str = "Serve all connections at once";
 
 /// The option that aborts what a connection leaves open.
 pub const ABORT_ON_CLOSE: &str = "The same, and abort the sessions of clients that leave";
+
+/// The same option, where all connections are served at once anyway.
+pub const KEEP_ABORT_ON_CLOSE: &str = "Abort the sessions of clients that leave";
+
+/// The option that names a folder.
+pub const DATA: &str = "The folder of the data; in place of both files";

@@ -4,5 +4,6 @@
 mod arguments;
 mod command_line;
 mod help;
+mod storage;
 
-pub use arguments::{Manner, NoTask, Task, given_arguments, task_of};
+pub use arguments::{LeftOpen, Manner, NoTask, Task, given_arguments, task_of};

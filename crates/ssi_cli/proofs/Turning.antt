@@ -72,7 +72,7 @@ quiet_last s (Ran u lines steps ∷ made) was quiet =
 quiet_last s (Wrote u bytes ∷ made) was quiet = quiet_last s made was quiet
 quiet_last s (Closed u ∷ made) was quiet = quiet_last s made was quiet
 
-quiet_noted : (users : Option Users) (made : List Call) → all_steps made ≡ [] → HasNoted users users made
+pub quiet_noted : (users : Option Users) (made : List Call) → all_steps made ≡ [] → HasNoted users users made
 quiet_noted users made quiet = λ s t is. quiet_last s made (last_at users s) quiet ∙ is
 
 pub noted_both : (old mid new : Option Users) (calls later : List Call) → HasNoted old mid calls → HasNoted mid new later

@@ -18,67 +18,8 @@ use Rattle.ssi_cli.specs.Meaning.Users.{session_of, session_in}
 
 -- ---- no command is too long
 
-text_fits : (limit : ℕ) (may : ℕ → Bool) (bytes : List ℕ) → is_text limit may bytes ≡ true → length bytes ≤ limit
-text_fits limit may bytes good =
-    leb-true (length bytes) limit (and_parts (nat_lt 0 (length bytes)) (nat_le (length bytes) limit)
-    (and_parts (nat_lt 0 (length bytes) && nat_le (length bytes) limit) (list_all may bytes) good).0).1
-
-session_fits : (s : List ℕ) → is_text 16 is_session_byte s ≡ true → length s ≤ 64
-session_fits s good = omega (arith, text_fits 16 is_session_byte s good)
-
-key_fits : (k : List ℕ) → is_text 32 is_key_byte k ≡ true → length k ≤ 64
-key_fits k good = omega (arith, text_fits 32 is_key_byte k good)
-
--- words of at most 64 bytes
-more : (n : ℕ) (a b : List ℕ) (ws : List (List ℕ)) → length a ≤ 64 → length (spaced (b ∷ ws)) ≤ n
-    → length (spaced (a ∷ b ∷ ws)) ≤ n + 65
-more n a b ws first rest = omega (arith, length-append a (32 ∷ spaced (b ∷ ws)), first, rest)
-
-few_digits : (n : ℕ) → IsMod n → length (decimal n) ≤ 5
-few_digits n is = let (some, below) = is in length-decimal-le 5 n (omega arith) (omega (arith, below)) (omega (arith, below))
-
-short_command : (c : Command) → IsCommand c → length (command_text c) ≤ 4096
-short_command (Begin s) good = omega (arith, more 64 (codes "begin") s [] (omega arith) (session_fits s good))
-short_command (Get s k) good =
-    omega (
-      arith,
-      more 129 (codes "get") s (k ∷ []) (omega arith)
-          (more 64 s k [] (session_fits s good.0) (key_fits k good.1)),
-    )
-short_command (Put s k v) good =
-    omega (
-      arith,
-      more 194 (codes "put") s (k ∷ v ∷ []) (omega arith)
-          (more 129 s k (v ∷ []) (session_fits s good.0)
-          (more 64 k v [] (key_fits k good.1) (text_fits 64 is_value_byte v good.2))),
-    )
-short_command (Del s k) good =
-    omega (
-      arith,
-      more 129 (codes "del") s (k ∷ []) (omega arith)
-          (more 64 s k [] (session_fits s good.0) (key_fits k good.1)),
-    )
-short_command (Scan s low high) good =
-    omega (
-      arith,
-      more 194 (codes "scan") s (low ∷ high ∷ []) (omega arith)
-          (more 129 s low (high ∷ []) (session_fits s good.0)
-          (more 64 low high [] (key_fits low good.1) (key_fits high good.2))),
-    )
-short_command (ScanFirst s low high n) good =
-    let (of, from, to, is) = good in
-    let digits = few_digits n is in
-    omega (
-      arith,
-      more 259 (codes "scan") s (low ∷ high ∷ decimal n ∷ []) (omega arith)
-          (more 194 s low (high ∷ decimal n ∷ []) (session_fits s of)
-          (more 129 low high (decimal n ∷ []) (key_fits low from)
-          (more 64 high (decimal n) [] (key_fits high to) (omega (arith, digits))))),
-    )
-short_command (Commit s) good = omega (arith, more 64 (codes "commit") s [] (omega arith) (session_fits s good))
-short_command (Abort s) good = omega (arith, more 64 (codes "abort") s [] (omega arith) (session_fits s good))
-short_command Collect good = omega arith
-short_command Stat good = omega arith
+abbrev pub AreShort : Type 0
+AreShort = (c : Command) (text : List ℕ) → IsLineOf (Do c) text → length text ≤ 4096
 
 -- ---- the session of a line, by any step that it makes
 
@@ -137,16 +78,14 @@ too_long line text long same short =
     let text_is = kept_same text line short (sym same) in
     absurd (omega (arith, long, short, ap (λ (l : List ℕ). length l) text_is))
 
-pub long_named : (line : List ℕ) → 4096 < length line
+pub long_named : AreShort → (line : List ℕ) → 4096 < length line
     → (text : List ℕ) (step : Step) → kept line ≡ kept text → IsStep text step → session_in step ≡ None
-long_named line long text (Given c a) same is =
-    absurd (too_long line text long same
-    (subst (λ (l : List ℕ). length l ≤ 4096) (sym is.same) (short_command c is.good)))
-long_named line long text (Dumped h ts) same is = refl
-long_named line long text NotDumped same is = refl
-long_named line long text Stopped same is = refl
-long_named line long text NotRead same is = refl
-long_named line long text TooLong same is = refl
+long_named short line long text (Given c a) same is = absurd (too_long line text long same (short c text is))
+long_named short line long text (Dumped h ts) same is = refl
+long_named short line long text NotDumped same is = refl
+long_named short line long text Stopped same is = refl
+long_named short line long text NotRead same is = refl
+long_named short line long text TooLong same is = refl
 
 -- ---- who has used a session
 

@@ -1,2 +1,3 @@
 pub mod HubRuns
 pub mod InTurn
+pub mod UsersRoom

@@ -4,6 +4,7 @@ use Rattle.std.specs.Map.{lookup}
 use Rattle.std.specs.Cmp.Lexicographic.{pointwise}
 use Rattle.ssi_cli.specs.declared.peer.Peer.{Peer}
 use Rattle.ssi_cli.specs.declared.peer.Input.{Input}
+use Rattle.ssi_cli.specs.declared.peers.Peers.{Peers}
 use Rattle.ssi_cli.specs.declared.users.Users.{Users}
 
 abbrev pub stream_of : {S : Type 0} → Peer S → S
@@ -20,6 +21,10 @@ may_read p = p.readable
 -- whether it has a turn now
 abbrev pub is_due : {S : Type 0} → Peer S → Bool
 is_due p = p.due
+
+-- whether a connection has more to do at once, as far as the turns of this round have ended
+abbrev pub is_busy : Peers → Bool
+is_busy p = p.is_busy
 
 -- the connection that the table has as the last user of the session
 abbrev pub last_in : Users → List ℕ → Option ℕ

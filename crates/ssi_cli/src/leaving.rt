@@ -86,7 +86,7 @@ fn abort<C: Chains + Drop, M: Marks + Drop>(
 }
 
 /// Returns the line `abort` of the session, with its line feed. `AllocError` if memory runs out.
-fn abort_line(alloc: Global, session: &Session) -> Result<Vec<u8>, AllocError>
+pub fn abort_line(alloc: Global, session: &Session) -> Result<Vec<u8>, AllocError>
     ensures { IfOk result (λ line. line.items ≡ command_text (Abort session.now) ++ (10 ∷ [])) }
 {
     let mut line = Vec::new(alloc);

@@ -8,9 +8,11 @@
 mod clients;
 mod closing;
 mod fault;
+pub mod laws;
 mod leaving;
 mod listener;
 mod peer;
+mod peers;
 mod runs;
 mod script;
 mod script_fault;
@@ -25,8 +27,10 @@ mod users;
 
 pub use closing::Closing;
 pub use fault::Fault;
+pub use leaving::abort_line;
 pub use listener::Listener;
-pub use peer::{Input, Peer, Ready};
+pub use peer::{Input, Peer, Ready, Sent};
+pub use peers::{MOST_CLIENTS, Peers, ROOM, listen};
 pub use runs::{
     CommandsFault, ServingFault, carry_out_commands, judge_stream, judge_texts, order_text,
     serve_commands, serve_commands_together, status_of_serving,
@@ -35,7 +39,8 @@ pub use script::run_script;
 pub use script_fault::ScriptFault;
 pub use socket::{Served, run_socket, serve_socket};
 pub use status::Status;
+pub use store::new_store;
 pub use stream::Stream;
 pub use together::{AtClose, run_together, serve_together};
 pub use turns::turn;
-pub use users::Users;
+pub use users::{Users, users_for};

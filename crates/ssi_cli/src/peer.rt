@@ -44,7 +44,7 @@ pub enum Ready {
 }
 
 /// What became of a write.
-pub(crate) enum Sent {
+pub enum Sent {
     /// So many bytes were written.
     Bytes(usize),
     /// There is no room now; an event comes when there is.
@@ -102,7 +102,7 @@ impl<S: Stream> Peer<S> {
     }
 
     /// Its turn is over, and it has another in the next round, or waits for an event.
-    pub(crate) fn set_due(&mut self, due: bool)
+    pub fn set_due(&mut self, due: bool)
         ensures stream { stream_of self.new ≡ stream_of self.old }
         ensures input { input_of self.new ≡ input_of self.old }
         ensures readable { may_read self.new ≡ may_read self.old }
@@ -112,7 +112,7 @@ impl<S: Stream> Peer<S> {
     }
 
     /// Returns whether a read may find something.
-    pub(crate) fn is_readable(&self) -> bool
+    pub fn is_readable(&self) -> bool
         ensures { result ≡ may_read self.now }
     {
         self.readable
@@ -128,7 +128,7 @@ impl<S: Stream> Peer<S> {
 
     /// Reads what has come, as far as there is room for it. Returns how many bytes it read: none also at the end, and at a
     /// failure, which ends it.
-    pub(crate) fn read(&mut self, room: &mut [u8]) -> usize
+    pub fn read(&mut self, room: &mut [u8]) -> usize
         ensures bound { result ≤ length room.new }
         ensures bytes { Consumes (S.remaining (stream_of self.old)) (S.remaining (stream_of self.new)) (take result room.new) }
         ensures written { S.contents (stream_of self.new) ≡ S.contents (stream_of self.old) }
@@ -168,7 +168,7 @@ impl<S: Stream> Peer<S> {
     }
 
     /// Writes a front of the bytes, which are some.
-    pub(crate) fn write(&mut self, bytes: &[u8]) -> Sent
+    pub fn write(&mut self, bytes: &[u8]) -> Sent
         ensures bytes { HasWritten S.contents result (stream_of self.old) (stream_of self.new) bytes.now }
         ensures read { S.remaining (stream_of self.new) ≡ S.remaining (stream_of self.old) }
         ensures input { input_of self.new ≡ input_of self.old }

@@ -9,7 +9,7 @@ use ssi_versions::{Chains, KeyChains};
 use std::alloc::Global;
 
 /// Makes an empty store over the fast representations. Its first transaction has number 1.
-pub(crate) fn new_store(alloc: Global) -> Store<KeyChains, IndexMarks>
+pub fn new_store(alloc: Global) -> Store<KeyChains, IndexMarks>
     ensures { IsAt ⟦<KeyChains as Chains>⟧.held ⟦<IndexMarks as Marks>⟧.marked result (New 1) }
 {
     Store::new(alloc, KeyChains::new(alloc), IndexMarks::new(alloc))

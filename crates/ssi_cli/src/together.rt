@@ -13,24 +13,19 @@ ghost use Rattle.ssi_cli.specs.Clauses.Serving.{Together, ends_by_stop};
 ghost use Rattle.ssi_cli.specs.Machinery.HubRuns.{HasRun};
 
 use crate::ScriptFault;
-use crate::clients::{Clients, LISTENER};
+use crate::clients::Clients;
+use crate::peers::{ROOM, listen};
 use crate::socket::Served;
 use crate::store::new_store;
 use crate::texts::write_texts;
 use devices::Watched;
 use mio::net::UnixListener;
-use mio::{Events, Interest, Poll};
+use mio::{Events, Poll};
 use ssi_reads::Marks;
 use ssi_store::Store;
 use ssi_versions::Chains;
 use std::alloc::Global;
 use std::io::Write;
-
-/// The most bytes of one read.
-const ROOM: usize = 16384;
-
-/// The most events of one wait.
-const MOST_EVENTS: usize = 256;
 
 /// What becomes of the transactions that a connection leaves open.
 #[derive(Clone, Copy, Debug, PartialEq, Eq)]
@@ -114,16 +109,6 @@ fn serve_listener<C: Chains + Drop, M: Marks + Drop>(
         return Served::SocketFault;
     };
     serve_clients(alloc, poll, listener, &mut events, clients, store)
-}
-
-/// Waits for connections from now on. Returns room for the events of a wait; `None` if there is no memory for them, or if the
-/// listener can't be waited for.
-fn listen(alloc: Global, poll: &Poll, listener: &mut UnixListener) -> Option<Events> {
-    let events = Events::with_capacity(alloc, MOST_EVENTS).ok()?;
-    poll.registry()
-        .register(listener, LISTENER, Interest::READABLE)
-        .ok()?;
-    Some(events)
 }
 
 /// Carries out the lines of all connections, as [`serve_together`] does, until one is `stop` or waiting fails.

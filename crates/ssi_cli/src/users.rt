@@ -1,13 +1,17 @@
 //! Which connection has used each session last.
 
-ghost use Rattle.std.specs.Prelude.{◌≡◌, ◌≤◌, ℕ, List, length, true, None, Some, OnOk, OnErr, IfSome, if◌then◌else◌};
+ghost use Rattle.std.specs.Prelude.{◌≡◌, ◌≤◌, ℕ, List, length, true, None, Some, OnOk, OnErr, IfOk, IsSome, IfSome, is_some, if◌then◌else◌};
 ghost use Rattle.ssi_store.specs.Mirror.Commands.{command_of};
 ghost use Rattle.ssi_line.specs.Meaning.Steps.{Step, IsStep};
 ghost use Rattle.ssi_line.specs.Clauses.Answers.{kept};
+ghost use Rattle.ssi_cli.specs.Clauses.Serving.{aborts};
 ghost use Rattle.ssi_cli.specs.Meaning.Users.{session_of, session_in, is_it};
-ghost use Rattle.ssi_cli.specs.Mirror.{last_in};
+ghost use Rattle.ssi_cli.specs.Machinery.UsersRoom.{HasRoom};
+ghost use Rattle.ssi_cli.specs.Mirror.{last_at, last_in};
 
+use crate::AtClose;
 use indexmap::{IndexMap, IndexSet};
+use ssi_line::laws::commands_are_words;
 use ssi_line::{Line, read_line};
 use ssi_store::{Command, Session};
 use std::alloc::{AllocError, Global};
@@ -36,35 +40,55 @@ impl Users {
 
     /// Notes that the connection has sent this line: if it is a command of a session, the connection has used that one last.
     /// `AllocError` if memory runs out; then each session has the user that it had.
-    pub(crate) fn note(&mut self, alloc: Global, token: u64, line: &[u8]) -> Result<(), AllocError>
+    pub fn note(&mut self, alloc: Global, token: u64, line: &[u8]) -> Result<(), AllocError>
         ensures ok { OnOk result ((text : List ℕ) (step : Step) → kept line.now ≡ kept text → IsStep text step
             → (s : List ℕ) → last_in self.new s ≡ (if is_it s (session_in step) then Some token else last_in self.old s)) }
         ensures err { OnErr result ((s : List ℕ) → last_in self.new s ≡ last_in self.old s) }
     {
-        let Some(session) = session_in(line) else {
-            return Ok(());
-        };
-        self.note_session(alloc, token, session)
+        let session = self.prepare(alloc, token, line)?;
+        self.note_used(token, session);
+        Ok(())
     }
 
-    /// Notes that the connection has used the session.
-    fn note_session(
+    /// Makes room to note that the connection has sent this line. Returns the session that it is a command of, if it is one:
+    /// [`note_used`](Users::note_used) is to be told of it once the line is carried out. `AllocError` if memory runs out. Each
+    /// session has the user that it had.
+    pub fn prepare(
         &mut self,
         alloc: Global,
         token: u64,
-        session: Session,
-    ) -> Result<(), AllocError>
-        ensures ok { OnOk result ((s : List ℕ)
-            → last_in self.new s ≡ (if is_it s (Some session) then Some token else last_in self.old s)) }
-        ensures err { OnErr result ((s : List ℕ) → last_in self.new s ≡ last_in self.old s) }
+        line: &[u8],
+    ) -> Result<Option<Session>, AllocError>
+        ensures session { IfOk result (λ session. (text : List ℕ) (step : Step) → kept line.now ≡ kept text → IsStep text step
+            → session_in step ≡ session) }
+        ensures room { IfOk result (λ session. IsSome session → HasRoom self.new) }
+        ensures users { (s : List ℕ) → last_in self.new s ≡ last_in self.old s }
     {
-        if self.is_last(token, &session) {
-            return Ok(());
+        let Some(session) = session_in(line) else {
+            return Ok(None);
+        };
+        self.make_room(alloc, token, session)?;
+        Ok(Some(session))
+    }
+
+    /// Makes room to note that the connection has used the session.
+    fn make_room(&mut self, alloc: Global, token: u64, session: Session) -> Result<(), AllocError>
+        ensures room { OnOk result (HasRoom self.new) }
+        ensures users { (s : List ℕ) → last_in self.new s ≡ last_in self.old s }
+    {
+        if !self.is_last(token, &session) {
+            self.add(alloc, token, session)?;
         }
-        self.add(alloc, token, session)?;
-        match self.last.insert(session, token) {
-            Ok(_) => Ok(()),
-            Err(_) => Err(AllocError),
+        self.last.reserve(1)
+    }
+
+    /// Notes that the connection has used this session last, if it is one. [`prepare`](Users::prepare) has made room for it.
+    pub fn note_used(&mut self, token: u64, session: Option<Session>)
+        requires { IsSome session → HasRoom self.old }
+        ensures { (s : List ℕ) → last_in self.new s ≡ (if is_it s session then Some token else last_in self.old s) }
+    {
+        if let Some(session) = session {
+            let _noted = self.last.insert(session, token);
         }
     }
 
@@ -98,7 +122,7 @@ impl Users {
     }
 
     /// Returns a session that the connection has used last. `None` if there is none.
-    pub(crate) fn next_of(&mut self, token: u64) -> Option<Session>
+    pub fn next_of(&mut self, token: u64) -> Option<Session>
         ensures user { IfSome result (λ s. last_in self.old s ≡ Some token) }
         ensures last { self.new.last ≡ self.old.last }
     {
@@ -126,7 +150,7 @@ impl Users {
     }
 
     /// Forgets a session that [`next_of`](Users::next_of) has returned.
-    pub(crate) fn forget(&mut self, token: u64, session: &Session)
+    pub fn forget(&mut self, token: u64, session: &Session)
         ensures { (s : List ℕ) → last_in self.new s ≡ (if is_it s (Some session.now) then None else last_in self.old s) }
     {
         let _ = self.last.swap_remove(session);
@@ -134,10 +158,21 @@ impl Users {
     }
 
     /// Forgets a connection.
-    pub(crate) fn remove(&mut self, token: u64)
+    pub fn remove(&mut self, token: u64)
         ensures { self.new.last ≡ self.old.last }
     {
         let _ = self.used.swap_remove(&token);
+    }
+}
+
+/// Returns a table without sessions exactly if sessions are to be aborted when a connection is closed.
+pub fn users_for(alloc: Global, at_close: AtClose) -> Option<Users>
+    ensures table { is_some result ≡ aborts at_close }
+    ensures none { (s : List ℕ) → last_at result s ≡ None }
+{
+    match at_close {
+        AtClose::Keep => None,
+        AtClose::Abort => Some(Users::new(alloc)),
     }
 }
 
@@ -153,6 +188,7 @@ fn put(sessions: &mut IndexSet<Session>, session: Session) -> Result<(), AllocEr
 fn session_in(line: &[u8]) -> Option<Session>
     ensures { (text : List ℕ) (step : Step) → kept line.now ≡ kept text → IsStep text step → session_in step ≡ result }
 {
+    commands_are_words();
     if line.len() > MAX_LINE_LEN {
         return None;
     }

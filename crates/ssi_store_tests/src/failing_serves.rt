@@ -110,7 +110,7 @@ fn goes_on(alloc: Global, mut store: FastStore, worked: &Worked, lines: usize) -
 }
 
 /// Whether the texts of the store's end are those of the course.
-fn has_texts(alloc: Global, store: FastStore, worked: &Worked) -> Option<bool> {
+pub(crate) fn has_texts(alloc: Global, store: FastStore, worked: &Worked) -> Option<bool> {
     let texts = ended(alloc, store)?;
     Some(texts.history == worked.history && texts.certificate == worked.certificate)
 }

@@ -3,15 +3,16 @@
 //! Without arguments: each line of standard input names what is tried.
 //!
 //! The name of a folder is that of a worked course. For it the program says whether the replies, the history and the
-//! certificate are those of the folder and the auditor says `yes`: for the commands as they stand, with a collection
-//! after each of them, and with a dump after each of them; and for their lines as a script that comes in pieces of any
-//! size. The other names are these:
+//! certificate are those of the folder, the snapshots are those that follow from the replies, and the auditor says `yes`: for
+//! the commands as they stand, with a collection after each of them, and with a dump after each of them; and, but for the
+//! snapshots, for their lines as a script that comes in pieces of any size. The other names are these:
 //!
 //! - `longest_transaction`, `longest_script` and `longest_script_over_all_pairs`: a transaction of as many operations as one
 //!   may have, as commands and as lines;
 //! - `last_transaction`: the last transaction number;
 //! - `scripts`: lines of any length, a second input to one store, a client that waits for each reply, a socket, and a socket
 //!   served at once;
+//! - `connections`: connections in memory, one after the other;
 //! - `failing_devices`: readers and writers that fail at each of their calls;
 //! - `hostile_lines`: lines that are no commands, and lines that are too long;
 //! - `endless_streams`: inputs that never end;
@@ -30,6 +31,7 @@
 mod answers;
 mod at_once;
 mod clients;
+mod connections;
 mod courses;
 mod endless_streams;
 mod failing_devices;
@@ -38,6 +40,7 @@ mod failing_serves;
 mod faults;
 mod hostile_lines;
 mod hub_calls;
+mod in_memory;
 mod in_turn;
 mod limits;
 mod lists;
@@ -91,6 +94,7 @@ fn write_lines(rt: &HostRuntime, name: &str) -> io::Result<()> {
         ),
         "last_transaction" => write_line(rt, name, limits::last_transaction(rt.alloc())),
         "scripts" => write_scripts(rt),
+        "connections" => connections::write_lines(rt),
         "failing_devices" => failing_devices::write_lines(rt),
         "hostile_lines" => write_hostile_lines(rt),
         "endless_streams" => write_endless_streams(rt),

@@ -1,22 +1,23 @@
-//! The texts of a history and its certificate.
+//! What remains of a store: the texts of its history and a certificate, and how its transactions began.
 
 ghost use Rattle.std.specs.Prelude.{◌<◌};
 
 use adya_audit::run_audit;
 use adya_testing::Pieces;
 use adya_text::{write_history, write_serial};
-use adya_values::{History, Serial};
+use adya_values::{History, Serial, Txn};
 use devices::Watched;
 use ssi_certify::certify;
 use ssi_store::Finished;
 use std::alloc::{AllocError, Global};
 
-/// The texts of a history and of a certificate, and what the auditor says of them.
+/// The texts of a history and of a certificate, what the auditor says of them, and each transaction with its snapshot.
 #[derive(PartialEq, Drop)]
 pub(crate) struct Texts {
     pub(crate) history: Vec<u8>,
     pub(crate) certificate: Vec<u8>,
     pub(crate) verdict: Vec<u8>,
+    pub(crate) starts: Vec<(Txn, u64)>,
 }
 
 impl Texts {
@@ -38,10 +39,12 @@ pub(crate) fn texts_of(alloc: Global, finished: &Finished) -> Option<Texts> {
     let certificate = certificate_text(alloc, &certify(alloc, finished).ok()?)?;
     let history = history_text(alloc, finished.history())?;
     let verdict = verdict_on(alloc, &history, &certificate);
+    let starts = Vec::from_slice(alloc, finished.starts()).ok()?;
     Some(Texts {
         history,
         certificate,
         verdict,
+        starts,
     })
 }
 

@@ -73,7 +73,26 @@ fn of_course(alloc: Global, lines: &[&str], after: After, worked: &Worked) -> &'
     if outcome.replies != worked.replies {
         return "other replies";
     }
+    if Some(&outcome.texts.starts) != starts_by(alloc, text(&worked.replies)).as_ref() {
+        return "other snapshots";
+    }
     said_of_texts(&outcome, worked)
+}
+
+/// Returns each transaction with its snapshot, by the replies of a course: how many were committed when it began.
+fn starts_by(alloc: Global, replies: &str) -> Option<Vec<(Txn, u64)>> {
+    let mut starts = Vec::new(alloc);
+    let mut commits = 0u64;
+    for reply in replies.lines() {
+        if reply == "committed" {
+            commits = commits.saturating_add(1);
+        }
+        if let Some(number) = reply.strip_prefix("begun ") {
+            let txn = Txn::new(number.parse().ok()?).ok()?;
+            starts.push((txn, commits)).ok()?;
+        }
+    }
+    Some(starts)
 }
 
 /// Returns `as worked` if the commands as a script make what they must make, and otherwise what differs.

@@ -5,17 +5,23 @@ use Rattle.ssi_arguments.specs.declared.arguments.NoTask.{NoTask}
 use Rattle.ssi_arguments.specs.declared.arguments.NoTask.TheVariants as no_task
 use Rattle.ssi_arguments.specs.declared.arguments.Manner.{Manner}
 use Rattle.ssi_arguments.specs.declared.arguments.Manner.TheVariants.{InTurn, AtOnce, Aborting}
+use Rattle.ssi_arguments.specs.declared.arguments.LeftOpen.{LeftOpen}
+use Rattle.ssi_arguments.specs.declared.arguments.LeftOpen.TheVariants.{Keep, Abort}
+use Rattle.ssi_arguments.specs.declared.storage.Storage.{Storage}
+use Rattle.ssi_arguments.specs.declared.storage.Storage.TheVariants.{Files, Folder}
 use Rattle.ssi_arguments.specs.declared.arguments.Task.{Task}
 use Rattle.ssi_arguments.specs.declared.arguments.Task.TheVariants as task
 
 -- to audit the two texts on standard input, to audit a history and a certificate, to order a history, to carry out the
--- commands on standard input, or to carry out those of a socket's connections in some manner; the last two write a history and a certificate
+-- commands on standard input, or to carry out those of a socket's connections, in some manner on a new store or all at once
+-- on the store in a folder; a script and a new store write a history and a certificate
 pub data Request : Type 0 where
   pipe : Request
   audit : List ℕ → List ℕ → Request
   order : List ℕ → Request
   script : (history certificate : List ℕ) → Request
   serve : Manner → (socket history certificate : List ℕ) → Request
+  keep : LeftOpen → (socket folder : List ℕ) → Request
 
 abbrev pub request_of : Task → Request
 request_of task.Pipe = pipe
@@ -23,12 +29,23 @@ request_of (task.Audit history certificate) = audit history.now certificate.now
 request_of (task.Order history) = order history.now
 request_of (task.Script history certificate) = script history.now certificate.now
 request_of (task.Serve socket history certificate manner) = serve manner socket.now history.now certificate.now
+request_of (task.Keep socket folder left_open) = keep left_open socket.now folder.now
+
+-- where what it asks for keeps what it does
+abbrev pub storage_for : Request → Storage
+storage_for (keep left_open socket folder) = Folder
+storage_for _ = Files
 
 -- the options that ask for this
 abbrev pub options_of : Manner → List (List ℕ)
 options_of InTurn = []
 options_of AtOnce = codes "--concurrent" ∷ []
 options_of Aborting = codes "--concurrent" ∷ codes "--abort-on-close" ∷ []
+
+-- the options that ask for this folder, and for this at the end of a connection
+abbrev pub folder_options_of : LeftOpen → List ℕ → List (List ℕ)
+folder_options_of Keep folder = codes "--data" ∷ folder ∷ []
+folder_options_of Abort folder = codes "--data" ∷ folder ∷ codes "--abort-on-close" ∷ []
 
 -- the arguments that ask for this, after the program's name
 abbrev pub arguments_of : Request → List (List ℕ)
@@ -38,6 +55,7 @@ arguments_of (order history) = codes "order" ∷ history ∷ []
 arguments_of (script history certificate) = codes "script" ∷ history ∷ certificate ∷ []
 arguments_of (serve manner socket history certificate) =
     codes "serve" ∷ options_of manner ++ socket ∷ history ∷ certificate ∷ []
+arguments_of (keep left_open socket folder) = codes "serve" ∷ folder_options_of left_open folder ++ socket ∷ []
 
 -- the paths among them
 abbrev pub paths_of : Request → List (List ℕ)
@@ -46,6 +64,7 @@ paths_of (audit history certificate) = history ∷ certificate ∷ []
 paths_of (order history) = history ∷ []
 paths_of (script history certificate) = history ∷ certificate ∷ []
 paths_of (serve manner socket history certificate) = socket ∷ history ∷ certificate ∷ []
+paths_of (keep left_open socket folder) = folder ∷ socket ∷ []
 
 -- the argument doesn't begin with a hyphen (45)
 abbrev pub is_plain : List ℕ → Bool

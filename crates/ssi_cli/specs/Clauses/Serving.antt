@@ -5,6 +5,13 @@ use Rattle.ssi_hub.specs.Clauses.Calls.{Call}
 use Rattle.ssi_hub.specs.Mirror.{is_stopped, Stands}
 use Rattle.ssi_cli.specs.declared.socket.Served.{Served}
 use Rattle.ssi_cli.specs.declared.socket.Served.TheVariants.{Stopped, SocketFault}
+use Rattle.ssi_cli.specs.declared.together.AtClose.{AtClose}
+use Rattle.ssi_cli.specs.declared.together.AtClose.TheVariants.{Keep, Abort}
+
+-- whether the sessions are aborted whose last user is gone
+abbrev pub aborts : AtClose → Bool
+aborts Keep = false
+aborts Abort = true
 
 -- it was `stop` that ended them
 abbrev pub ends_by_stop : Served → Bool

@@ -3,16 +3,9 @@ use Rattle.ssi_hub.specs.Clauses.Calls.{Closed}
 use Rattle.ssi_cli.proofs.HubRuns.{called_opened, called_with, called_both}
 use Rattle.ssi_cli.proofs.clients.Clients.add.Goals as goal
 
-pub returns-in_default-register : goal.returns-in_default-register
-returns-in_default-register c =
+pub returns-then-not-add-clause-called : goal.returns-then-not-add-clause-called
+returns-then-not-add-clause-called c =
     called_both c.args.self.now.hub c.opened.new.self c.closed.new.self
     (called_opened c.args.self.now.hub c.opened.new.self c.in-Ok.token c.opened.ensures.stopped c.in-Ok.ensures.stands)
     (called_with c.opened.new.self c.closed.new.self (Closed c.in-Ok.token) (λ calls. refl) c.closed.ensures.closed.stopped
     c.closed.ensures.stands)
-
-pub returns-then-is_err : goal.returns-then-is_err
-returns-then-is_err c =
-    called_both c.args.self.now.hub c.opened.new.self c.closed-then-is_err.new.self
-    (called_opened c.args.self.now.hub c.opened.new.self c.in-Ok.token c.opened.ensures.stopped c.in-Ok.ensures.stands)
-    (called_with c.opened.new.self c.closed-then-is_err.new.self (Closed c.in-Ok.token) (λ calls. refl)
-    c.closed-then-is_err.ensures.closed.stopped c.closed-then-is_err.ensures.stands)

@@ -1,3 +1,5 @@
+use Rattle.std.proofs.Common.{◌≡◌}
+use Rattle.std.specs.Prelude.{is_some}
 use Rattle.ssi_store.specs.Mirror.Stores.{IsAt}
 use Rattle.ssi_cli.specs.Machinery.HubRuns.{HasRun}
 use Rattle.ssi_cli.proofs.clients.Clients.take_all.Given as goal
@@ -5,3 +7,4 @@ use Rattle.ssi_cli.proofs.clients.Clients.take_all.Given as goal
 abbrev pub invariant-loop-event : goal.invariant-loop-event
 invariant-loop-event g l =
     HasRun (IsAt g.C.Chains.held g.M.Marks.marked) l.initial.self.hub l.initial.store l.self.hub l.store
+    × (is_some l.self.users ≡ is_some l.initial.self.users)

@@ -1,0 +1,145 @@
+//! The service of a store that keeps its data in a folder.
+
+use crate::problem::{Problem, unbound};
+use crate::sockets::{bound_anew, polled};
+use mio::Poll;
+use mio::net::UnixListener;
+use sqlite_disk::Unknown;
+use ssi_cli::{AtClose, Fault, Status, listen, new_store};
+use ssi_data::{Clients, DataFault, Halt, Segment, Started, abort_left, open_last, serve, start};
+use ssi_durable::{Recovered, Server};
+use ssi_files::{FileDisk, Folder};
+use ssi_reads::IndexMarks;
+use ssi_versions::KeyChains;
+use std::{fs, io};
+
+/// What a file held that was found, nobody knows.
+type FoundDisk = FileDisk<Unknown>;
+
+type FileServer = Server<KeyChains, IndexMarks, FoundDisk>;
+
+type FileClients = Clients<KeyChains, IndexMarks, FoundDisk>;
+
+/// Where a store keeps its data, and how its connections are served.
+#[derive(Clone, Copy)]
+pub struct DataService<'a> {
+    pub folder: &'a str,
+    pub socket: &'a str,
+    pub at_close: AtClose,
+}
+
+/// A server of what the folder has, and what was found there.
+#[derive(Drop)]
+struct Opened {
+    // the folder is locked until it is dropped
+    folder: Folder,
+    server: FileServer,
+    segments: usize,
+    recovered: Recovered,
+}
+
+impl<'a> DataService<'a> {
+    /// Serves the store until a client sends `stop`. A socket that was left at the path is removed if its server is gone.
+    pub fn run(self, rt: &HostRuntime) -> Result<Status, Problem<'a>> {
+        let Opened {
+            folder: _locked,
+            server,
+            segments,
+            recovered,
+        } = match self.opened(rt) {
+            Ok(opened) => opened,
+            Err(fault) => return Err(self.problem(fault)),
+        };
+        let listener = match bound_anew(rt, self.socket) {
+            Ok(listener) => listener,
+            Err(e) => return Err(unbound(rt, self.socket, e.kind())),
+        };
+        self.say_listening(rt, segments, recovered);
+        let served = self.serve_bound(rt, server, listener);
+        // A file that can't be removed is no fault.
+        let _ = fs::remove_file(rt, self.socket);
+        served
+    }
+
+    /// Locks the folder, and starts a server of what it has.
+    fn opened(self, rt: &HostRuntime) -> Result<Opened, DataFault> {
+        let mut folder = Folder::open(rt, self.folder)?;
+        let Segment {
+            disk,
+            number,
+            count,
+        } = open_last(rt, &mut folder, Unknown)?;
+        let alloc = rt.alloc();
+        let store = new_store(alloc);
+        let Started {
+            mut server,
+            recovered,
+            left,
+        } = start(alloc, store, disk, number.get(), self.at_close)?;
+        abort_left(alloc, &left, &mut server)?;
+        Ok(Opened {
+            folder,
+            server,
+            segments: count,
+            recovered,
+        })
+    }
+
+    fn serve_bound(
+        self,
+        rt: &HostRuntime,
+        server: FileServer,
+        listener: std::os::unix::net::UnixListener,
+    ) -> Result<Status, Problem<'a>> {
+        let Ok((mut poll, mut listener)) = polled(rt, listener) else {
+            return Err(self.socket_fault());
+        };
+        let mut clients = Clients::new(rt.alloc(), server, self.at_close);
+        self.serve_clients(rt, &mut poll, &mut listener, &mut clients)
+    }
+
+    fn serve_clients(
+        self,
+        rt: &HostRuntime,
+        poll: &mut Poll,
+        listener: &mut UnixListener,
+        clients: &mut FileClients,
+    ) -> Result<Status, Problem<'a>> {
+        let Some(mut events) = listen(rt.alloc(), poll, listener) else {
+            return Err(self.socket_fault());
+        };
+        for _ in 0..u64::MAX {
+            match serve(rt.alloc(), poll, listener, &mut events, clients) {
+                Halt::Stopped => return Ok(Status::Fine),
+                Halt::Full(why) => self.say_full(rt, why),
+                Halt::Failed(fault) => return Err(self.problem(DataFault::from(fault))),
+                Halt::SocketFault => return Err(self.socket_fault()),
+            }
+        }
+        Err(self.socket_fault())
+    }
+
+    fn say_listening(self, rt: &HostRuntime, segments: usize, recovered: Recovered) {
+        let (folder, socket) = (self.folder, self.socket);
+        let Recovered { lines, torn } = recovered;
+        let _ = eprintln!(rt;
+            "ssi: listening at {socket} ({folder}: segments {segments}, lines {lines}, torn bytes {torn})"
+        );
+    }
+
+    fn say_full(self, rt: &HostRuntime, why: io::Error) {
+        let folder = self.folder;
+        let _ = eprintln!(rt; "ssi: {folder}: the log can't grow, so all lines wait: {why}");
+    }
+
+    fn problem(self, fault: DataFault) -> Problem<'a> {
+        match fault {
+            DataFault::Memory => Problem::Fault(Fault::Memory),
+            fault => Problem::Data(self.folder, fault),
+        }
+    }
+
+    fn socket_fault(self) -> Problem<'a> {
+        Problem::Fault(Fault::Socket(self.socket))
+    }
+}

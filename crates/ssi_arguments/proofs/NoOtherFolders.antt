@@ -1,0 +1,179 @@
+-- What the parser refuses beside a folder, and that a store is kept in a folder only if the option asks for it.
+use Rattle.std.proofs.Common.{◌≡◌, ◌∙◌, ℕ, ◌==◌, Bool, true, false, List, [], ◌∷◌, ◌++◌, refl, sym, ap, codes, cond, drop, slice_index_or}
+use Rattle.std.specs.Prelude.{◌&&◌, Option, Some, None, if◌then◌else◌, is_some}
+use Rattle.std.specs.Option.{option_map_or}
+use Rattle.std.specs.Str.{bytes_eq}
+use Rattle.std.proofs.lemmas.Bool.{and_parts}
+use Rattle.std.proofs.lemmas.Slice.Eq.{bytes_eq-Decides}
+use Rattle.clap.specs.Walk.{Row, Rule, Text, arg_by_index, arg_by_long, finished, idle, nothing_held, stop_after, walked}
+use Rattle.clap.specs.Simple.{App, built, entered, help_rule, names_of, subcommand_of}
+use Rattle.clap.specs.Faults.{built_fault, check_fault, entered_fault, fault_of, turn_fault, walk_fault}
+use Rattle.clap.proofs.OnLiterals.{clap_on_literals}
+use Rattle.ssi_arguments.specs.Clauses.Arguments.{Request, are_plain, is_plain, folder_options_of, storage_for}
+use Rattle.ssi_arguments.specs.Clauses.CommandLine.{app_for, request_in, ssi_app}
+use Rattle.ssi_arguments.specs.Clauses.Storage.{has_option, storage_in}
+use Rattle.ssi_arguments.specs.declared.arguments.LeftOpen.{LeftOpen}
+use Rattle.ssi_arguments.specs.declared.arguments.LeftOpen.TheVariants.{Keep, Abort}
+use Rattle.ssi_arguments.specs.declared.storage.Storage.{Storage}
+use Rattle.ssi_arguments.specs.declared.storage.Storage.TheVariants.{Files, Folder}
+use Rattle.ssi_arguments.proofs.CommandWalks.{folder_parser, keeps, names, stops_at_serve, top_walk}
+use Rattle.ssi_arguments.proofs.FolderWalks.{aborts, awaiting, awaits, folder_held, takes_folder, walks_on}
+use Rattle.ssi_arguments.proofs.NoOtherRequests.{after_below, after_walk, fault_at, first_turn, leaf_fault, no_check}
+use Rattle.ssi_arguments.proofs.PlainArguments.{at, turn_fault-plain}
+use Rattle.ssi_arguments.proofs.TakesRequests.{one_path, walk_one}
+use Rattle.ssi_arguments.proofs.UnknownOptions.{unknown_option}
+
+-- ---- a store is kept in a folder exactly if the option asks for it
+
+files_keep_none : (a o s : Bool) (x y z w : Request) → storage_for x ≡ Files → storage_for y ≡ Files → storage_for z ≡ Files → storage_for w ≡ Files
+    → storage_for (if a then x else if o then y else if s then z else w) ≡ Files
+files_keep_none true o s x y z w ex ey ez ew = ex
+files_keep_none false true s x y z w ex ey ez ew = ey
+files_keep_none false false true x y z w ex ey ez ew = ez
+files_keep_none false false false x y z w ex ey ez ew = ew
+
+request_in-files : (met : Option (Text × List Row)) → storage_for (request_in Files met) ≡ Files
+request_in-files None = refl
+request_in-files (Some (name, rows)) =
+    files_keep_none (bytes_eq name (codes "audit")) (bytes_eq name (codes "order")) (bytes_eq name (codes "script")) _ _ _ _ refl refl refl refl
+
+abbrev met : App → List Text → Option (Text × List Row)
+met app arguments = entered app (stop_after app.top.rules (names_of app) arguments)
+
+abbrev kept_as : Storage → List Text → Storage
+kept_as storage arguments = storage_for (request_in storage (met (built (ssi_app storage)) arguments))
+
+-- the storage of `command` with these arguments, by both tests of it
+abbrev storage_by : Bool → Bool → Storage
+storage_by serves has_data = if serves && has_data then Folder else Files
+
+kept_by : (serves has_data : Bool) (command : Text) (arguments : List Text) → bytes_eq command (codes "serve") ≡ serves
+    → kept_as (storage_by serves has_data) (command ∷ arguments) ≡ storage_by serves has_data
+kept_by false has_data command arguments e =
+    request_in-files (met (built (ssi_app Files)) (command ∷ arguments))
+kept_by true false command arguments e =
+    request_in-files (met (built (ssi_app Files)) (command ∷ arguments))
+kept_by true true command arguments e =
+    let named = (bytes_eq-Decides command (codes "serve")).0 e in
+    ap (λ name. kept_as Folder (name ∷ arguments)) named
+    ∙ ap (λ stop. storage_for (request_in Folder (entered folder_parser stop))) (stops_at_serve arguments)
+
+keeps_so : (arguments : List Text) → kept_as (storage_in arguments) arguments ≡ storage_in arguments
+keeps_so [] = refl
+keeps_so (command ∷ arguments) =
+    kept_by (bytes_eq command (codes "serve")) (has_option (codes "--data") arguments) command arguments refl
+
+pub keeps_by_option : (arguments : List Text)
+    → storage_for (request_in (storage_in (drop 1 arguments)) (subcommand_of (app_for arguments) arguments)) ≡ storage_in (drop 1 arguments)
+keeps_by_option arguments = keeps_so (drop 1 arguments)
+
+-- ---- no other path beside the folder and the socket
+
+-- the options have no fault, so what follows them has none
+after_data_fault : (f : Text) (arguments : List Text) → is_plain f ≡ true
+    → walk_fault keeps [] (at nothing_held 1) (codes "--data" ∷ f ∷ arguments) ≡ []
+    → walk_fault keeps [] (at (folder_held Keep f) 1) arguments ≡ []
+after_data_fault f arguments p e =
+    let t₁ = first_turn keeps [] (at nothing_held 1) (codes "--data") (f ∷ arguments) e in
+    let t₂ = first_turn keeps [] awaiting f arguments (sym (ap (λ w. walk_fault keeps [] w (f ∷ arguments)) awaits) ∙ t₁.1) in
+    sym (ap (λ w. walk_fault keeps [] w arguments) (takes_folder f p)) ∙ t₂.1
+
+after_options_fault : (l : LeftOpen) (f : Text) (arguments : List Text) → is_plain f ≡ true
+    → walk_fault keeps [] (at nothing_held 1) (folder_options_of l f ++ arguments) ≡ []
+    → walk_fault keeps [] (at (folder_held l f) 1) arguments ≡ []
+after_options_fault Keep f arguments p e = after_data_fault f arguments p e
+after_options_fault Abort f arguments p e =
+    let t = first_turn keeps [] (at (folder_held Keep f) 1) (codes "--abort-on-close") arguments
+    (after_data_fault f (codes "--abort-on-close" ∷ arguments) p e) in
+    sym (ap (λ w. walk_fault keeps [] w arguments) (aborts f)) ∙ t.1
+
+no_socket_fault : (l : LeftOpen) (f : Text) → check_fault keeps (finished keeps.rules (folder_held l f)) false ≡ [] → ⊥
+unfolding clap_on_literals
+no_socket_fault Keep f e = absurd (cc e)
+no_socket_fault Abort f e = absurd (cc e)
+
+keep_alone : (l : LeftOpen) (f : Text) → is_plain f ≡ true → leaf_fault keeps (folder_options_of l f ++ []) ≡ [] → ⊥
+keep_alone l f p e =
+    let missing = ap (λ w. check_fault keeps (finished keeps.rules w.held) false) (walks_on l f [] p) in
+    no_socket_fault l f (sym missing ∙ no_check keeps [] (folder_options_of l f ++ []) false [] e)
+
+keep_more : (l : LeftOpen) (f s argument : Text) (arguments : List Text) → is_plain f ≡ true → is_plain s ≡ true → is_plain argument ≡ true
+    → leaf_fault keeps (folder_options_of l f ++ s ∷ argument ∷ arguments) ≡ [] → ⊥
+keep_more l f s argument arguments p q r e =
+    let b = folder_held l f in
+    let rest = after_options_fault l f (s ∷ argument ∷ arguments) p
+    (after_walk keeps [] (folder_options_of l f ++ s ∷ argument ∷ arguments) false [] e).0 in
+    let t₁ = first_turn keeps [] (at b 1) s (argument ∷ arguments) rest in
+    let t₂ = first_turn keeps [] (walked keeps.rules [] (at b 1) s) argument arguments t₁.1 in
+    let stray : turn_fault keeps [] (one_path b keeps s) argument ≡ [] =
+    sym (ap (λ w. turn_fault keeps [] w argument) (walk_one b keeps s q)) ∙ t₂.0 in
+    let none = sym (turn_fault-plain [] (one_path b keeps s).held 2 keeps argument r refl) ∙ stray in
+    absurd (cc none)
+
+one_socket : (l : LeftOpen) (f : Text) (others : List Text) → are_plain (f ∷ others) ≡ true
+    → leaf_fault keeps (folder_options_of l f ++ others) ≡ [] → (s : Text) × (others ≡ s ∷ [])
+one_socket l f [] p e = absurd (keep_alone l f (and_parts (is_plain f) true p).0 e)
+one_socket l f (s ∷ []) p e = (s, refl)
+one_socket l f (s ∷ argument ∷ arguments) p e =
+    let p₁ = and_parts (is_plain f) (are_plain (s ∷ argument ∷ arguments)) p in
+    let p₂ = and_parts (is_plain s) (are_plain (argument ∷ arguments)) p₁.1 in
+    let p₃ = and_parts (is_plain argument) (are_plain arguments) p₂.1 in
+    absurd (keep_more l f s argument arguments p₁.0 p₂.0 p₃.0 e)
+
+-- the fault of `serve` with a folder, in that of the whole
+leaf_fault-none : (arguments : List Text) → built_fault folder_parser nothing_held (codes "serve" ∷ arguments) ≡ [] → leaf_fault keeps arguments ≡ []
+leaf_fault-none arguments e =
+    let stop = (top_walk (codes "serve" ∷ arguments)).stopped in
+    sym (ap (entered_fault folder_parser) (stops_at_serve arguments))
+    ∙ (after_below folder_parser.top names (codes "serve" ∷ arguments) (is_some (entered folder_parser stop)) (entered_fault folder_parser stop) e).0
+
+storage_in-options : (l : LeftOpen) (f : Text) (others : List Text) → storage_in (codes "serve" ∷ folder_options_of l f ++ others) ≡ Folder
+storage_in-options Keep f others = refl
+storage_in-options Abort f others = refl
+
+-- after the options of a folder a single plain argument is accepted
+pub asks_to_keep : (arguments : List Text) (l : LeftOpen) (f : Text) (others : List Text) → are_plain (f ∷ others) ≡ true
+    → drop 1 arguments ≡ codes "serve" ∷ folder_options_of l f ++ others → fault_of (app_for arguments) arguments ≡ []
+    → (s : Text) × (others ≡ s ∷ [])
+asks_to_keep arguments l f others p e none =
+    let whole : fault_at (codes "serve" ∷ folder_options_of l f ++ others) ≡ [] = sym (ap fault_at e) ∙ none in
+    let folder : built_fault folder_parser nothing_held (codes "serve" ∷ folder_options_of l f ++ others) ≡ [] =
+    sym (ap (λ storage. built_fault (built (ssi_app storage)) nothing_held (codes "serve" ∷ folder_options_of l f ++ others))
+    (storage_in-options l f others)) ∙ whole in
+    one_socket l f others p (leaf_fault-none (folder_options_of l f ++ others) folder)
+
+-- ---- no `--concurrent` beside the folder
+
+no_concurrent : arg_by_long keeps.rules (codes "concurrent") ≡ None
+unfolding clap_on_literals
+no_concurrent = refl
+
+one_or_none : (b : Bool) (a : Rule) → a.trailing_var_arg ≡ false
+    → option_map_or (λ r. r.trailing_var_arg) (cond b (Some a) None) false ≡ false
+one_or_none true a e = e
+one_or_none false a e = refl
+
+none_trailing : (i : ℕ) → option_map_or (λ r. r.trailing_var_arg) (arg_by_index keeps.rules i) false ≡ false
+none_trailing i = one_or_none (1 == i) (slice_index_or keeps.rules 0 help_rule) refl
+
+by_serve : (serves has_data : Bool) → storage_by serves has_data ≡ Folder → serves ≡ true
+by_serve true has_data e = refl
+by_serve false has_data e = absurd (cc e)
+
+-- the arguments of a store that is kept in a folder are those of `serve`
+serves : (arguments : List Text) → storage_in arguments ≡ Folder → (rest : List Text) × (arguments ≡ codes "serve" ∷ rest)
+serves [] e = absurd (cc e)
+serves (command ∷ rest) e =
+    let named = by_serve (bytes_eq command (codes "serve")) (has_option (codes "--data") rest) e in
+    (rest, ap (λ name. name ∷ rest) ((bytes_eq-Decides command (codes "serve")).0 named))
+
+-- beside a folder the option `--concurrent` is a fault
+pub keeps_at_once : (arguments : List Text) → fault_of (app_for arguments) arguments ≡ [] → storage_in (drop 1 arguments) ≡ Folder
+    → has_option (codes "--concurrent") (drop 1 arguments) ≡ true → ⊥
+keeps_at_once arguments none folder has =
+    let command = serves (drop 1 arguments) folder in
+    let fault : built_fault folder_parser nothing_held (drop 1 arguments) ≡ [] =
+    sym (ap (λ storage. built_fault (built (ssi_app storage)) nothing_held (drop 1 arguments)) folder) ∙ none in
+    let leaf = leaf_fault-none command.0 (sym (ap (built_fault folder_parser nothing_held) command.1) ∙ fault) in
+    unknown_option keeps 99 (codes "oncurrent") no_concurrent none_trailing command.0 nothing_held idle 1
+    (sym (ap (has_option (codes "--concurrent")) command.1) ∙ has) (after_walk keeps [] command.0 false [] leaf).0

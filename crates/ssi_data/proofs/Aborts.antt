@@ -1,0 +1,244 @@
+-- Aborts of sessions whose last user is gone.
+use Rattle.std.proofs.Common.{◌≡◌, ℕ, ◌<◌, Bool, true, false, cond, List, [], ◌∷◌, ◌++◌, Option, Some, None, refl, sym, ap, subst, ◌∙◌, append_assoc, inl, inr, Result, Ok, Err, IfOk, arith}
+use Rattle.std.specs.Prelude.{◌==◌, not, ◌&&◌, ◌||◌, nat_eq, is_err, is_some, IsTrue, reverse, MatchResult, MatchOption}
+use Rattle.std.specs.List.{AllByRecursion, Contains}
+use Rattle.std.specs.Cmp.Lexicographic.{pointwise}
+use Rattle.std.proofs.lemmas.Bool.{eq-eqb, false≢true}
+use Rattle.std.proofs.lemmas.List.{reverse-append}
+use Rattle.std.proofs.lemmas.Option.{none-some}
+use Rattle.sqlite_disk.specs.declared.Disk.{Ghosts}
+use Rattle.ssi_versions.specs.declared.chains.Chains.{Ghosts as HeldBy}
+use Rattle.ssi_reads.specs.declared.marks.Marks.{Ghosts as MarkedBy}
+use Rattle.ssi_store.specs.Meaning.Courses.{Course, Abort}
+use Rattle.ssi_store.specs.declared.store.Store.{Store}
+use Rattle.ssi_line.specs.Meaning.Spelling.{command_text}
+use Rattle.ssi_line.specs.Meaning.Steps.{Step}
+use Rattle.ssi_hub.specs.declared.outcome.CarriedLine.{CarriedLine}
+use Rattle.ssi_hub.specs.Clauses.Calls.{Call, Opened, Received, Ran, Closed, token_of, is_open, with_call, with_run}
+use Rattle.ssi_hub.specs.Clauses.Outcomes.{lost_by}
+use Rattle.ssi_hub.specs.Mirror.{next_token}
+use Rattle.ssi_durable.specs.declared.server.Server.{Server}
+use Rattle.ssi_durable.specs.Mirror.Servers.{Serves, HasStepped, hub_of}
+use Rattle.ssi_cli.specs.Clauses.Leaving.{IsAbort, abort_calls}
+use Rattle.ssi_data.specs.Clauses.Calls.{Makes}
+use Rattle.ssi_data.specs.Clauses.Leaving.{HasAborted, HasAbortedAll, HasTried}
+
+own : (t : ℕ) → (t == t) ≡ true
+own t = eq-eqb t t refl
+
+open_now : (t : ℕ) (calls : List Call) → is_open t (Opened t ∷ calls) ≡ true
+open_now t calls = ap (λ b. b || is_open t calls) (own t)
+
+-- a line of an open connection was carried out, and it was closed
+run_closed : (lost : Bool) (t : ℕ) (lines : List (List ℕ)) (steps : List Step) (calls : List Call)
+    → is_open t calls ≡ true
+    → with_call (Closed t) (with_run lost t lines steps calls) ≡ Closed t ∷ Ran t lines steps ∷ calls
+run_closed lost t lines steps calls opened = by_loss lost
+  where
+    ran : with_call (Ran t lines steps) calls ≡ Ran t lines steps ∷ calls
+    ran = ap (λ o. cond o (Ran t lines steps ∷ calls) calls) opened
+
+    once : with_call (Closed t) (with_call (Ran t lines steps) calls) ≡ Closed t ∷ Ran t lines steps ∷ calls
+    once =
+        ap (with_call (Closed t)) ran
+        ∙ ap (λ o. cond o (Closed t ∷ Ran t lines steps ∷ calls) (Ran t lines steps ∷ calls)) opened
+
+    gone : is_open t (Closed t ∷ Ran t lines steps ∷ calls) ≡ false
+    gone = ap (λ b. not b && is_open t calls) (own t)
+
+    by_loss : (o : Bool) → with_call (Closed t) (with_run o t lines steps calls) ≡ Closed t ∷ Ran t lines steps ∷ calls
+    by_loss false = once
+    by_loss true =
+        ap (with_call (Closed t)) once
+        ∙ ap (λ o. cond o (Closed t ∷ Closed t ∷ Ran t lines steps ∷ calls) (Closed t ∷ Ran t lines steps ∷ calls)) gone
+
+last_first : (sessions : List (List ℕ)) (session : List ℕ) → reverse (sessions ++ (session ∷ [])) ≡ session ∷ reverse sessions
+last_first sessions session = reverse-append sessions (session ∷ [])
+
+module _ {C M D : Type 0} {g : HeldBy C} {h : MarkedBy M} {disk : Ghosts D} (is_at : Store C M g h → Course → Type 0) where
+  -- the result says that nothing was carried out
+  pub not_done : {E : Type 0} (old new : Server C M D g h disk) (session : List ℕ) (r : Result Bool E)
+      → IfOk r (λ done. IsTrue done → ⊥) → Makes is_at old new (λ calls made. IsAbort session made calls)
+      → Makes is_at old new (λ calls made. HasTried session r calls made)
+  not_done old new session (Ok done) none makes = λ n lines calls s.
+      let (made, serves, is) = makes n lines calls s in
+      (made, serves, record { abort = is; done = λ h. absurd (none h) })
+  not_done old new session (Err e) none makes = λ n lines calls s.
+      let (made, serves, is) = makes n lines calls s in (made, serves, record { abort = is; done = tt })
+
+  -- a session of which nothing is carried out
+  pub none_opened : (old new : Server C M D g h disk) (session : List ℕ)
+      → ((n : ℕ) (lines : List (List ℕ)) (calls : List Call) → Serves is_at n lines old calls → Serves is_at n lines new calls)
+      → Makes is_at old new (λ calls made. IsAbort session made calls)
+  none_opened old new session same = λ n lines calls s. (
+    [],
+    same n lines calls s,
+    record { token = next_token (hub_of old); new = s.stands.given; own = tt; sent = inl refl },
+  )
+
+  -- it was opened, and closed before anything was carried out
+  pub only_opened : (old opened new : Server C M D g h disk) (session : List ℕ) (t : ℕ) → t ≡ next_token (hub_of old)
+      → ((n : ℕ) (lines : List (List ℕ)) (calls : List Call) → Serves is_at n lines old calls
+      → Serves is_at n lines opened (Opened t ∷ calls))
+      → ((n : ℕ) (lines : List (List ℕ)) (calls : List Call) → Serves is_at n lines opened calls
+      → Serves is_at n lines new (with_call (Closed t) calls))
+      → Makes is_at old new (λ calls made. IsAbort session made calls)
+  only_opened old opened new session t is opens closes = λ n lines calls s. (
+    Closed t ∷ Opened t ∷ [],
+    subst (λ (l : List Call). Serves is_at n lines new l)
+        (ap (λ o. cond o (Closed t ∷ Opened t ∷ calls) (Opened t ∷ calls)) (open_now t calls))
+        (closes n lines (Opened t ∷ calls) (opens n lines calls s)),
+    record {
+      token = t;
+      new = subst (λ m. AllByRecursion (λ c. token_of c < m) calls) (sym is) s.stands.given;
+      own = (refl, (refl, tt));
+      sent = inl refl;
+    },
+  )
+
+  module _ (old opened sent stepped new : Server C M D g h disk) (session line : List ℕ) (t : ℕ)
+      (line_is : line ≡ command_text (Abort session) ++ (10 ∷ [])) (is : t ≡ next_token (hub_of old))
+      (opens : (n : ℕ) (lines : List (List ℕ)) (calls : List Call) → Serves is_at n lines old calls
+      → Serves is_at n lines opened (Opened t ∷ calls))
+      (sends : (n : ℕ) (lines : List (List ℕ)) (calls : List Call) → Serves is_at n lines opened calls
+      → Serves is_at n lines sent (with_call (Received t line) calls))
+      (closes : (n : ℕ) (lines : List (List ℕ)) (calls : List Call) → Serves is_at n lines stepped calls
+      → Serves is_at n lines new (with_call (Closed t) calls)) where
+    received : (n : ℕ) (lines : List (List ℕ)) (calls : List Call) → Serves is_at n lines old calls
+        → Serves is_at n lines sent (Received t line ∷ Opened t ∷ calls)
+    received n lines calls s =
+        subst (λ (l : List Call). Serves is_at n lines sent l)
+        (ap (λ o. cond o (Received t line ∷ Opened t ∷ calls) (Opened t ∷ calls)) (open_now t calls))
+        (sends n lines (Opened t ∷ calls) (opens n lines calls s))
+
+    new_here : (n : ℕ) (lines : List (List ℕ)) (calls : List Call) → Serves is_at n lines old calls
+        → AllByRecursion (λ c. token_of c < t) calls
+    new_here n lines calls s = subst (λ m. AllByRecursion (λ c. token_of c < m) calls) (sym is) s.stands.given
+
+    -- nothing was carried out
+    pub sent_only : ((n : ℕ) (lines : List (List ℕ)) (calls : List Call) → Serves is_at n lines sent calls
+        → Serves is_at n lines stepped calls)
+        → Makes is_at old new (λ calls made. IsAbort session made calls)
+    sent_only same = λ n lines calls s. (
+      Closed t ∷ Received t line ∷ Opened t ∷ [],
+      subst (λ (l : List Call). Serves is_at n lines new l)
+          (ap (λ o. cond o (Closed t ∷ Received t line ∷ Opened t ∷ calls) (Received t line ∷ Opened t ∷ calls)) (open_now t calls))
+          (closes n lines (Received t line ∷ Opened t ∷ calls)
+          (same n lines (Received t line ∷ Opened t ∷ calls) (received n lines calls s))),
+      record {
+        token = t;
+        new = new_here n lines calls s;
+        own = (refl, (refl, (refl, tt)));
+        sent = inr (ap (λ (o : Bool). cond o line []) (own t) ∙ line_is);
+      },
+    )
+
+    -- its line was carried out
+    pub carried_out : (carried : CarriedLine)
+        → ((n : ℕ) (lines : List (List ℕ)) (calls : List Call) → Serves is_at n lines sent calls
+        → HasStepped is_at n lines t calls sent stepped carried)
+        → {E : Type 0} {done : Bool} → Makes is_at old new (λ calls made. HasTried {E = E} session (Ok done) calls made)
+    carried_out carried steps = λ n lines calls s.
+        let before = Received t line ∷ Opened t ∷ calls in
+        let (text, step, made, serves) = steps n lines before (received n lines calls s) in (
+          Closed t ∷ Ran t (text ∷ []) (step ∷ []) ∷ Received t line ∷ Opened t ∷ [],
+          subst (λ (l : List Call). Serves is_at n lines new l)
+              (run_closed (lost_by carried.outcome) t (text ∷ []) (step ∷ []) before (open_now t calls))
+              (closes n lines (with_run (lost_by carried.outcome) t (text ∷ []) (step ∷ []) before) serves),
+          record {
+            abort = record {
+              token = t;
+              new = new_here n lines calls s;
+              own = (refl, (refl, (refl, (refl, tt))));
+              sent = inr (ap (λ (o : Bool). cond o line []) (own t) ∙ line_is);
+            };
+            done = λ h. omega arith;
+          },
+        )
+
+    -- its line was carried out, if it might be
+    pub carried_maybe : (E : Type 0) (o : Option CarriedLine) (done : Bool) → done ≡ is_some o
+        → ((n : ℕ) (lines : List (List ℕ)) (calls : List Call) → Serves is_at n lines sent calls
+        → MatchOption o (Serves is_at n lines stepped calls) (λ carried. HasStepped is_at n lines t calls sent stepped carried))
+        → Makes is_at old new (λ calls made. HasTried {E = E} session (Ok done) calls made)
+    carried_maybe E None done is serves =
+        not_done old new session (Ok done) (λ h. absurd (false≢true (sym is ∙ h))) (sent_only serves)
+    carried_maybe E (Some carried) done is serves = carried_out carried serves
+
+  -- ---- one abort after the other
+
+  pub none_aborted : (May : List ℕ → Type 0) (server : Server C M D g h disk) → HasAborted is_at May server server
+  none_aborted May server = λ n lines calls s. ([], s, tt)
+
+  pub one_more : {E : Type 0} (May : List ℕ → Type 0) (old mid new : Server C M D g h disk) (session : List ℕ)
+      (r : Result Bool E) → May session → HasAborted is_at May old mid
+      → Makes is_at mid new (λ calls made. HasTried session r calls made) → HasAborted is_at May old new
+  one_more May old mid new session r may first then = λ n lines calls s.
+      let (rest, serves, are) = first n lines calls s in
+      let (made, now, is) = then n lines (abort_calls rest ++ calls) serves in (
+        (session, made) ∷ rest,
+        subst (λ (l : List Call). Serves is_at n lines new l) (sym (append_assoc made (abort_calls rest) calls)) now,
+        (may, is.abort, are),
+      )
+
+  -- the same by another name of the sessions
+  pub aborted_keys : (sessions keys : List (List ℕ)) (old new : Server C M D g h disk) → sessions ≡ keys
+      → HasAborted is_at (Contains sessions) old new → HasAborted is_at (Contains keys) old new
+  aborted_keys sessions keys old new same has =
+      subst (λ (l : List (List ℕ)). HasAborted is_at (Contains l) old new) same has
+
+  -- and nothing was done since that calls show
+  pub aborted_still : (May : List ℕ → Type 0) (old mid new : Server C M D g h disk) → HasAborted is_at May old mid
+      → ((n : ℕ) (lines : List (List ℕ)) (calls : List Call) → Serves is_at n lines mid calls → Serves is_at n lines new calls)
+      → HasAborted is_at May old new
+  aborted_still May old mid new has same = λ n lines calls s.
+      let (list, serves, are) = has n lines calls s in (list, same n lines (abort_calls list ++ calls) serves, are)
+
+  pub all_still : (sessions keys : List (List ℕ)) (old mid new : Server C M D g h disk) → sessions ≡ keys
+      → HasAbortedAll is_at sessions old mid
+      → ((n : ℕ) (lines : List (List ℕ)) (calls : List Call) → Serves is_at n lines mid calls → Serves is_at n lines new calls)
+      → HasAbortedAll is_at keys old new
+  all_still sessions keys old mid new named has same = λ n lines calls s.
+      let (list, serves, are, by_name, done) = has n lines calls s in (
+        list,
+        same n lines (abort_calls list ++ calls) serves,
+        are,
+        by_name ∙ ap (λ (l : List (List ℕ)). reverse l) named,
+        done,
+      )
+
+  pub none_of_all : (server : Server C M D g h disk) → HasAbortedAll is_at [] server server
+  none_of_all server = λ n lines calls s. ([], s, tt, refl, tt)
+
+  pub one_more_of_all : {E : Type 0} (sessions : List (List ℕ)) (session : List ℕ) (old mid new : Server C M D g h disk)
+      → HasAbortedAll is_at sessions old mid
+      → Makes is_at mid new (λ calls made. HasTried {E = E} session (Ok true) calls made)
+      → HasAbortedAll is_at (sessions ++ (session ∷ [])) old new
+  one_more_of_all sessions session old mid new first then = λ n lines calls s.
+      let (rest, serves, are, named, done) = first n lines calls s in
+      let (made, now, is) = then n lines (abort_calls rest ++ calls) serves in (
+        (session, made) ∷ rest,
+        subst (λ (l : List Call). Serves is_at n lines new l) (sym (append_assoc made (abort_calls rest) calls)) now,
+        (tt, is.abort, are),
+        ap (λ (l : List (List ℕ)). session ∷ l) named ∙ sym (last_first sessions session),
+        (is.done refl, done),
+      )
+
+-- a session that is forgotten has no user, and the others have theirs
+pub still_last : (was now first : List ℕ → Option ℕ) (t : ℕ) (session : List ℕ)
+    → ((s : List ℕ) → was s ≡ Some t → first s ≡ Some t)
+    → ((s : List ℕ) → now s ≡ cond (pointwise nat_eq session s) None (was s))
+    → (s : List ℕ) → now s ≡ Some t → first s ≡ Some t
+still_last was now first t session kept forgot s is = by_name (pointwise nat_eq session s) (sym (forgot s) ∙ is)
+  where
+    by_name : (b : Bool) → cond b None (was s) ≡ Some t → first s ≡ Some t
+    by_name true e = absurd (none-some t e)
+    by_name false e = kept s e
+
+pub when_ok : {T E P : Type 0} (Q : Type 0) (r : Result T E) → is_err r ≡ false → MatchResult r (λ _. P) (λ _. Q) → P
+when_ok Q (Ok x) is m = m
+when_ok Q (Err e) is m = absurd (cc is)
+
+pub when_err : {T E Q : Type 0} (P : Type 0) (r : Result T E) → is_err r ≡ true → MatchResult r (λ _. P) (λ _. Q) → Q
+when_err P (Ok x) is m = absurd (cc is)
+when_err P (Err e) is m = m

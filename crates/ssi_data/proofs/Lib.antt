@@ -1,0 +1,5 @@
+pub mod Makings
+pub mod Turning
+pub mod Aborts
+pub mod Rounds
+pub mod LeftOpen

@@ -1,0 +1,292 @@
+-- Calls of a server of one connection, and what they say of its stream.
+use Rattle.std.proofs.Common.{◌≡◌, ℕ, ◌-◌, ◌<◌, length-drop, Bool, true, false, cond, List, [], ◌∷◌, ◌++◌, length, take, Option, Some, None, refl, sym, ap, subst, ◌∙◌, append-nil, Result, Ok, Err, OnOk, IfErr, arith, ◌⊎◌, inl, inr}
+use Rattle.std.specs.Prelude.{◌==◌, not, ◌&&◌, nat_le, MatchOption, MatchResult}
+use Rattle.std.specs.Option.{option_map}
+use Rattle.std.specs.Io.KnownBytes.{Consumes, Appends, Keeps}
+use Rattle.std.proofs.KnownBytes.{Consumes-nil, Appends-nil, Appends-trans}
+use Rattle.std.proofs.lemmas.Bool.{eq-eqb, both_ways, false≢true}
+use Rattle.std.proofs.lemmas.Option.{same_Some, none-some}
+use Rattle.sqlite_disk.specs.declared.Disk.{Ghosts}
+use Rattle.ssi_versions.specs.declared.chains.Chains.{Ghosts as HeldBy}
+use Rattle.ssi_reads.specs.declared.marks.Marks.{Ghosts as MarkedBy}
+use Rattle.ssi_store.specs.Meaning.Courses.{Course}
+use Rattle.ssi_store.specs.declared.store.Store.{Store}
+use Rattle.ssi_hub.specs.Clauses.Buffers.{Buffers, first_unsent, with_written}
+use Rattle.ssi_hub.specs.Clauses.Clipping.{clipped, has_line}
+use Rattle.ssi_hub.specs.Clauses.Calls.{Call, Received, Wrote, Closed, token_of, is_open, with_call, sent_by, written_to, all_steps}
+use Rattle.ssi_hub.specs.Clauses.Serving.{StandsFor, IsServed}
+use Rattle.ssi_hub.specs.Mirror.{buffers_of, is_stopped}
+use Rattle.ssi_durable.specs.declared.server.Server.{Server}
+use Rattle.ssi_durable.specs.Mirror.Servers.{Serves, hub_of, is_settled}
+use Rattle.ssi_cli.specs.declared.peer.Sent.TheVariants.{Bytes}
+use Rattle.ssi_cli.specs.Clauses.Turns.{Exchanged, HasUnsent}
+use Rattle.ssi_data.specs.Clauses.Calls.{MakesQuietly}
+use Rattle.ssi_data.specs.Mirror.{to_send, unsent_of}
+
+own : (t : ℕ) → (t == t) ≡ true
+own t = eq-eqb t t refl
+
+-- ---- a connection that is open
+
+pub served_at : (b : ℕ → Option Buffers) (next : ℕ) (stopped : Bool) (calls : List Call) (t : ℕ) (x : Buffers)
+    → StandsFor b next stopped calls → b t ≡ Some x
+    → (left : List ℕ) × IsServed t calls left x.unsent × (x.waiting ≡ clipped left) × (is_open t calls ≡ true)
+served_at b next stopped calls t x s has =
+    let (left, unsent, served, is) = s.served t in
+    by_open left unsent served (is_open t calls) refl (sym has ∙ is)
+  where
+    by_open : (left unsent : List ℕ) → IsServed t calls left unsent → (o : Bool) → is_open t calls ≡ o
+        → Some x ≡ cond o (Some (record { waiting = clipped left; unsent = unsent })) None
+        → (left : List ℕ) × IsServed t calls left x.unsent × (x.waiting ≡ clipped left) × (is_open t calls ≡ true)
+    by_open left unsent served true opened same =
+        let now = same_Some x (record { waiting = clipped left; unsent = unsent }) same in (
+          left,
+          subst (λ u. IsServed t calls left u) (sym (ap (λ (y : Buffers). y.unsent) now)) served,
+          ap (λ (y : Buffers). y.waiting) now,
+          opened,
+        )
+    by_open left unsent served false opened same = absurd (none-some x (sym same))
+
+pub is_there : (Q : Buffers → Type 0) (o : Option Buffers) (r : Bool) → MatchOption o (r ≡ false) Q → r ≡ true
+    → (x : Buffers) × (o ≡ Some x)
+is_there Q None r m is = absurd (both_ways r m is)
+is_there Q (Some x) r m is = (x, refl)
+
+pub ended_if_none : {E : Type 0} (n : ℕ) → n ≡ 0 → (0 < n) ⊎ E → E
+ended_if_none n e (inl some) = absurd (omega (arith, some, e))
+ended_if_none n e (inr x) = x
+
+-- ---- what is exchanged by one call
+
+pub none_exchanged : {S : Type 0} (remaining contents : S → Option (List ℕ)) (t : ℕ) (stream : S)
+    → Exchanged remaining contents t stream stream [] []
+none_exchanged remaining contents t stream =
+    record { uses = tt; read = Consumes-nil (remaining stream); written = Appends-nil (contents stream) }
+
+pub exchanged_dropped : {S : Type 0} (remaining contents : S → Option (List ℕ)) (t : ℕ) (old new : S) (bytes : List ℕ)
+    → Consumes (remaining old) (remaining new) bytes → contents new ≡ contents old
+    → Exchanged remaining contents t old new [] bytes
+exchanged_dropped remaining contents t old new bytes read same = record {
+  uses = tt;
+  read = read;
+  written = subst (λ o. Appends (contents old) o []) (sym same) (Appends-nil (contents old));
+}
+
+-- a read of no bytes
+pub nothing_exchanged : {S : Type 0} (remaining contents : S → Option (List ℕ)) (t : ℕ) (old new : S) (count : ℕ)
+    (room : List ℕ) → count ≡ 0 → Consumes (remaining old) (remaining new) (take count room) → contents new ≡ contents old
+    → Exchanged remaining contents t old new [] []
+nothing_exchanged remaining contents t old new count room none read same =
+    exchanged_dropped remaining contents t old new []
+    (subst (λ (m : ℕ). Consumes (remaining old) (remaining new) (take m room)) none read) same
+
+pub exchanged_received : {S : Type 0} (remaining contents : S → Option (List ℕ)) (t : ℕ) (old new : S) (bytes : List ℕ)
+    → Consumes (remaining old) (remaining new) bytes → contents new ≡ contents old
+    → Exchanged remaining contents t old new (Received t bytes ∷ []) []
+exchanged_received remaining contents t old new bytes read same = record {
+  uses = (refl, tt);
+  read = subst (Consumes (remaining old) (remaining new)) (sym all) read;
+  written = subst (λ o. Appends (contents old) o []) (sym same) (Appends-nil (contents old));
+}
+  where
+    all : sent_by t (Received t bytes ∷ []) ++ [] ≡ bytes
+    all = append-nil (sent_by t (Received t bytes ∷ [])) ∙ ap (λ o. cond o bytes []) (own t)
+
+keeps_appends : (a b : Option (List ℕ)) → Keeps a b → Appends a b []
+keeps_appends None b kept = tt
+keeps_appends (Some x) None kept = absurd kept
+keeps_appends (Some x) (Some y) kept = kept ∙ sym (append-nil x)
+
+-- one more write, after what was exchanged
+pub exchanged_more : {S : Type 0} (remaining contents : S → Option (List ℕ)) (t : ℕ) (start old new : S) (bytes : List ℕ)
+    (made : List Call) → Exchanged remaining contents t start old made [] → remaining new ≡ remaining old
+    → Appends (contents old) (contents new) bytes → Exchanged remaining contents t start new (Wrote t bytes ∷ made) []
+exchanged_more remaining contents t start old new bytes made one same wrote = record {
+  uses = (refl, one.uses);
+  read = subst (λ o. Consumes (remaining start) o (sent_by t made ++ [])) (sym same) one.read;
+  written = subst (Appends (contents start) (contents new))
+      (sym (ap (λ o. cond o (written_to t made ++ bytes) (written_to t made)) (own t)))
+      (Appends-trans (contents start) (contents old) (contents new) (written_to t made) bytes one.written wrote);
+}
+
+-- what was exchanged stays if nothing is
+pub exchanged_kept : {S : Type 0} (remaining contents : S → Option (List ℕ)) (t : ℕ) (start old new : S) (made : List Call)
+    → Exchanged remaining contents t start old made [] → remaining new ≡ remaining old
+    → Keeps (contents old) (contents new) → Exchanged remaining contents t start new made []
+exchanged_kept remaining contents t start old new made one same kept = record {
+  uses = one.uses;
+  read = subst (λ o. Consumes (remaining start) o (sent_by t made ++ [])) (sym same) one.read;
+  written = subst (Appends (contents start) (contents new)) (append-nil (written_to t made))
+      (Appends-trans (contents start) (contents old) (contents new) (written_to t made) [] one.written
+      (keeps_appends (contents old) (contents new) kept));
+}
+
+-- ---- calls, one after the other
+
+module _ {C M D : Type 0} {g : HeldBy C} {h : MarkedBy M} {disk : Ghosts D} (is_at : Store C M g h → Course → Type 0) where
+  pub open_at : (server : Server C M D g h disk) (t : ℕ) (x : Buffers) → buffers_of (hub_of server) t ≡ Some x
+      → (n : ℕ) (lines : List (List ℕ)) (calls : List Call) → Serves is_at n lines server calls → is_open t calls ≡ true
+  open_at server t x has n lines calls s =
+      let hub = hub_of server in
+      let (left, served, waits, opened) = served_at (buffers_of hub) hub.next (is_stopped hub) calls t x s.stands has in opened
+
+  pub open_by : (Q : Buffers → Type 0) (server : Server C M D g h disk) (t : ℕ) (r : Bool)
+      → MatchOption (buffers_of (hub_of server) t) (r ≡ false) Q → r ≡ true
+      → (n : ℕ) (lines : List (List ℕ)) (calls : List Call) → Serves is_at n lines server calls → is_open t calls ≡ true
+  open_by Q server t r m is n lines calls s =
+      let (x, has) = is_there Q (buffers_of (hub_of server) t) r m is in open_at server t x has n lines calls s
+
+  pub makes_none : (server : Server C M D g h disk) (P : List Call → List Call → Type 0) → ((calls : List Call) → P calls [])
+      → MakesQuietly is_at server server P
+  makes_none server P is = λ n lines calls s. ([], s, refl, is calls)
+
+  pub makes_one : (old new : Server C M D g h disk) (c : Call) (P : List Call → List Call → Type 0)
+      → ((n : ℕ) (lines : List (List ℕ)) (calls : List Call) → Serves is_at n lines old calls
+      → is_open (token_of c) calls ≡ true) → all_steps (c ∷ []) ≡ []
+      → ((n : ℕ) (lines : List (List ℕ)) (calls : List Call) → Serves is_at n lines old calls
+      → Serves is_at n lines new (with_call c calls))
+      → ((calls : List Call) → P calls (c ∷ [])) → MakesQuietly is_at old new P
+  makes_one old new c P opened quiet serves is = λ n lines calls s. (
+    c ∷ [],
+    subst (Serves is_at n lines new) (ap (λ o. cond o (c ∷ calls) calls) (opened n lines calls s)) (serves n lines calls s),
+    quiet,
+    is calls,
+  )
+
+  -- of two calls the first was made, or the second after an error
+  pub made_if_ok : {T E : Type 0} (r : Result T E) (old new : Server C M D g h disk) (c d : Call)
+      (P : List Call → List Call → Type 0)
+      → ((n : ℕ) (lines : List (List ℕ)) (calls : List Call) → Serves is_at n lines old calls
+      → MatchResult r (λ _. Serves is_at n lines new (with_call c calls)) (λ _. Serves is_at n lines new (with_call d calls)))
+      → ((n : ℕ) (lines : List (List ℕ)) (calls : List Call) → Serves is_at n lines old calls
+      → is_open (token_of c) calls ≡ true) → all_steps (c ∷ []) ≡ []
+      → ((calls : List Call) → P calls (c ∷ [])) → OnOk r (MakesQuietly is_at old new P)
+  made_if_ok (Ok x) old new c d P serves opened quiet is = makes_one old new c P opened quiet serves is
+  made_if_ok (Err e) old new c d P serves opened quiet is = tt
+
+  pub made_if_err : {T E : Type 0} (r : Result T E) (why : E) (old new : Server C M D g h disk) (c d : Call)
+      (P : List Call → List Call → Type 0)
+      → ((n : ℕ) (lines : List (List ℕ)) (calls : List Call) → Serves is_at n lines old calls
+      → MatchResult r (λ _. Serves is_at n lines new (with_call c calls)) (λ _. Serves is_at n lines new (with_call d calls)))
+      → ((n : ℕ) (lines : List (List ℕ)) (calls : List Call) → Serves is_at n lines old calls
+      → is_open (token_of d) calls ≡ true) → all_steps (d ∷ []) ≡ []
+      → IfErr r (λ e. e ≡ why) → ((calls : List Call) → P calls (d ∷ []))
+      → IfErr r (λ e. (e ≡ why) × MakesQuietly is_at old new P)
+  made_if_err (Ok x) why old new c d P serves opened quiet said is = tt
+  made_if_err (Err e) why old new c d P serves opened quiet said is =
+      (said, makes_one old new d P opened quiet serves is)
+
+  -- ---- writing what is unsent
+
+  pub is_sent : (server : Server C M D g h disk) (t : ℕ) (bytes : List ℕ) → (is_settled server ≡ false → bytes ≡ [])
+      → (is_settled server ≡ true → MatchOption (buffers_of (hub_of server) t) (bytes ≡ []) (λ b. bytes ≡ b.unsent))
+      → bytes ≡ to_send server t
+  is_sent server t bytes none all = by_settled (is_settled server) none all
+    where
+      by_open : (o : Option Buffers) → MatchOption o (bytes ≡ []) (λ b. bytes ≡ b.unsent) → bytes ≡ unsent_of o
+      by_open None is = is
+      by_open (Some x) is = is
+
+      by_settled : (b : Bool) → (b ≡ false → bytes ≡ [])
+          → (b ≡ true → MatchOption (buffers_of (hub_of server) t) (bytes ≡ []) (λ x. bytes ≡ x.unsent))
+          → bytes ≡ cond b (unsent_of (buffers_of (hub_of server) t)) []
+      by_settled true none all = by_open (buffers_of (hub_of server) t) (all refl)
+      by_settled false none all = none refl
+
+  -- if something may be sent, then it is what is unsent, and all lines that count are on the disk
+  has_unsent : (server : Server C M D g h disk) (t : ℕ) → 0 < length (to_send server t)
+      → (is_settled server ≡ true) × ((x : Buffers) × (buffers_of (hub_of server) t ≡ Some x) × (to_send server t ≡ x.unsent))
+  has_unsent server t some = by_settled (is_settled server) refl some
+    where
+      by_open : (o : Option Buffers) → 0 < length (unsent_of o) → (x : Buffers) × (o ≡ Some x) × (unsent_of o ≡ x.unsent)
+      by_open None some = absurd (omega (arith, some))
+      by_open (Some x) some = (x, refl, refl)
+
+      by_settled : (b : Bool) → is_settled server ≡ b → 0 < length (cond b (unsent_of (buffers_of (hub_of server) t)) [])
+          → (is_settled server ≡ true) × ((x : Buffers) × (buffers_of (hub_of server) t ≡ Some x)
+          × (cond b (unsent_of (buffers_of (hub_of server) t)) [] ≡ x.unsent))
+      by_settled true is some = (is, by_open (buffers_of (hub_of server) t) some)
+      by_settled false is some = absurd (omega (arith, some))
+
+  pub sends_less : (server now : Server C M D g h disk) (t count : ℕ) → is_settled now ≡ is_settled server
+      → (is_settled server ≡ true → buffers_of (hub_of now) t ≡ option_map (with_written count) (buffers_of (hub_of server) t))
+      → length (to_send now t) ≡ length (to_send server t) - count
+  sends_less server now t count same less = by_settled (is_settled server) same less
+    where
+      by_open : (o : Option Buffers) → length (unsent_of (option_map (with_written count) o)) ≡ length (unsent_of o) - count
+      by_open None = omega arith
+      by_open (Some x) = length-drop count x.unsent
+
+      by_settled : (b : Bool) → is_settled now ≡ b
+          → (b ≡ true → buffers_of (hub_of now) t ≡ option_map (with_written count) (buffers_of (hub_of server) t))
+          → length (cond (is_settled now) (unsent_of (buffers_of (hub_of now) t)) [])
+          ≡ length (cond b (unsent_of (buffers_of (hub_of server) t)) []) - count
+      by_settled true is less =
+          ap (λ b. length (cond b (unsent_of (buffers_of (hub_of now) t)) [])) is
+          ∙ ap (λ (o : Option Buffers). length (unsent_of o)) (less refl) ∙ by_open (buffers_of (hub_of server) t)
+      by_settled false is less =
+          ap (λ b. length (cond b (unsent_of (buffers_of (hub_of now) t)) [])) is ∙ omega arith
+
+  module _ {S : Type 0} (remaining contents : S → Option (List ℕ)) (t : ℕ) (start old new : S)
+      (first server now : Server C M D g h disk) (bytes : List ℕ) (out : bytes ≡ to_send server t) (some : 0 < length bytes)
+      (makes : MakesQuietly is_at first server (λ _ made. Exchanged remaining contents t start old made [])) where
+    has : (is_settled server ≡ true) × ((x : Buffers) × (buffers_of (hub_of server) t ≡ Some x) × (to_send server t ≡ x.unsent))
+    has = has_unsent server t (subst (λ (l : List ℕ). 0 < length l) out some)
+
+    pub sends : (count : ℕ) → remaining new ≡ remaining old → Appends (contents old) (contents new) (take count bytes)
+        → ((n : ℕ) (lines : List (List ℕ)) (calls : List Call) → Serves is_at n lines server calls
+        → Serves is_at n lines now (cond (is_settled server)
+        (with_call (Wrote t (first_unsent count (buffers_of (hub_of server) t))) calls) calls))
+        → MakesQuietly is_at first now (λ _ made. Exchanged remaining contents t start new made [])
+    sends count same wrote serves = λ n lines calls s.
+        let (settled, (x, there, is)) = has in
+        let (made, mid, quiet, one) = makes n lines calls s in
+        let front : take count bytes ≡ first_unsent count (buffers_of (hub_of server) t) =
+        ap (take count) (out ∙ is) ∙ sym (ap (first_unsent count) there) in
+        let wrote_now = first_unsent count (buffers_of (hub_of server) t) in
+        let opened = open_at server t x there n lines (made ++ calls) mid in (
+          Wrote t wrote_now ∷ made,
+          subst (Serves is_at n lines now) (ap (λ o. cond o (Wrote t wrote_now ∷ (made ++ calls)) (made ++ calls)) opened)
+              (subst (λ o. Serves is_at n lines now (cond o (with_call (Wrote t wrote_now) (made ++ calls)) (made ++ calls)))
+              settled (serves n lines (made ++ calls) mid)),
+          quiet,
+          exchanged_more remaining contents t start old new wrote_now made one same
+              (subst (Appends (contents old) (contents new)) front wrote),
+        )
+
+    pub breaks : remaining new ≡ remaining old → Keeps (contents old) (contents new)
+        → ((n : ℕ) (lines : List (List ℕ)) (calls : List Call) → Serves is_at n lines server calls
+        → Serves is_at n lines now (with_call (Closed t) calls))
+        → MakesQuietly is_at first now (λ calls made. (earlier : List Call) × (made ≡ Closed t ∷ earlier)
+        × HasUnsent t (earlier ++ calls) × Exchanged remaining contents t start new earlier [])
+    breaks same kept serves = λ n lines calls s.
+        let (settled, (x, there, is)) = has in
+        let (made, mid, quiet, one) = makes n lines calls s in
+        let hub = hub_of server in
+        let (left, served, waits, opened) =
+        served_at (buffers_of hub) hub.next (is_stopped hub) (made ++ calls) t x mid.stands there in (
+          Closed t ∷ made,
+          subst (Serves is_at n lines now) (ap (λ o. cond o (Closed t ∷ (made ++ calls)) (made ++ calls)) opened)
+              (serves n lines (made ++ calls) mid),
+          quiet,
+          (
+            made,
+            refl,
+            (left, x.unsent, served, subst (λ (l : List ℕ). 0 < length l) (out ∙ is) some),
+            exchanged_kept remaining contents t start old new made one same kept,
+          ),
+        )
+
+  pub stays : {S : Type 0} (remaining contents : S → Option (List ℕ)) (t : ℕ) (start old new : S)
+      (first server : Server C M D g h disk)
+      → MakesQuietly is_at first server (λ _ made. Exchanged remaining contents t start old made [])
+      → remaining new ≡ remaining old → Keeps (contents old) (contents new)
+      → MakesQuietly is_at first server (λ _ made. Exchanged remaining contents t start new made [])
+  stays remaining contents t start old new first server makes same kept = λ n lines calls s.
+      let (made, mid, quiet, one) = makes n lines calls s in
+      (made, mid, quiet, exchanged_kept remaining contents t start old new made one same kept)
+
+pub some_bytes : (n m : ℕ) → Bytes n ≡ Bytes m → 0 < m → 0 < n
+some_bytes n m e some =
+    let same : n ≡ m = cc in
+    omega (arith, same, some)

@@ -1,0 +1,239 @@
+-- How a server and the table of users go on, one part after the other.
+use Rattle.std.proofs.Common.{◌≡◌, ℕ, Bool, true, false, cond, List, [], ◌∷◌, ◌++◌, Option, Some, None, refl, sym, ap, subst, ◌∙◌, append_assoc, Result, Ok, Err, OnOk, OnErr, IfErr}
+use Rattle.std.specs.Prelude.{◌==◌, not, ◌&&◌, ◌||◌, is_some, MatchResult}
+use Rattle.std.specs.List.{AllByRecursion}
+use Rattle.std.proofs.lemmas.Bool.{eq-eqb, both_ways, false≢true}
+use Rattle.std.proofs.lemmas.Option.{none-some}
+use Rattle.sqlite_disk.specs.declared.Disk.{Ghosts}
+use Rattle.ssi_versions.specs.declared.chains.Chains.{Ghosts as HeldBy}
+use Rattle.ssi_reads.specs.declared.marks.Marks.{Ghosts as MarkedBy}
+use Rattle.ssi_store.specs.Meaning.Courses.{Course}
+use Rattle.ssi_store.specs.declared.store.Store.{Store}
+use Rattle.ssi_hub.specs.declared.hub.Hub.{Hub}
+use Rattle.ssi_hub.specs.Clauses.Buffers.{Buffers}
+use Rattle.ssi_hub.specs.Clauses.Clipping.{clipped}
+use Rattle.ssi_hub.specs.Clauses.Calls.{Call, Opened, Closed, is_open, with_call, all_steps}
+use Rattle.ssi_hub.specs.Mirror.{Stands, buffers_of}
+use Rattle.ssi_durable.specs.declared.server.Server.{Server}
+use Rattle.ssi_durable.specs.Clauses.Journals.{is_full}
+use Rattle.ssi_durable.specs.Mirror.Servers.{Serves, hub_of, has_failed}
+use Rattle.ssi_log.specs.declared.fault.LogFault.{LogFault}
+use Rattle.ssi_cli.specs.declared.users.Users.{Users}
+use Rattle.ssi_cli.specs.Meaning.Users.{Deed, Called, Aborted, calls_in}
+use Rattle.ssi_cli.specs.Clauses.Leaving.{AreAborts, HasForgotten, HasNoted, HasUsed, abort_calls}
+use Rattle.ssi_cli.specs.Clauses.Turns.{AreDone, AreDue, IsCalled, aborted, called}
+use Rattle.ssi_cli.specs.Mirror.{last_at}
+use Rattle.ssi_data.specs.Clauses.Calls.{Makes, MakesQuietly}
+use Rattle.ssi_data.specs.Clauses.Turns.{HasCarriedOut}
+use Rattle.ssi_data.specs.Clauses.Leaving.{HasAborted}
+use Rattle.ssi_data.specs.Clauses.Rounds.{HasDone, GoesOn}
+
+-- ---- deeds, and the calls of them
+
+called_before : (made : List Call) (deeds : List Deed) → called made [] ++ deeds ≡ called made deeds
+called_before [] deeds = refl
+called_before (c ∷ made) deeds = ap (λ (l : List Deed). Called c ∷ l) (called_before made deeds)
+
+pub calls_called : (made : List Call) (deeds : List Deed) → calls_in (called made deeds) ≡ made ++ calls_in deeds
+calls_called [] deeds = refl
+calls_called (c ∷ made) deeds = ap (λ (l : List Call). c ∷ l) (calls_called made deeds)
+
+aborted_before : (aborts : List (List ℕ × List Call)) (deeds : List Deed) → aborted aborts [] ++ deeds ≡ aborted aborts deeds
+aborted_before [] deeds = refl
+aborted_before (a ∷ rest) deeds = ap (λ (l : List Deed). Aborted a.0 a.1 ∷ l) (aborted_before rest deeds)
+
+calls_aborted : (aborts : List (List ℕ × List Call)) (deeds : List Deed)
+    → calls_in (aborted aborts deeds) ≡ abort_calls aborts ++ calls_in deeds
+calls_aborted [] deeds = refl
+calls_aborted (a ∷ rest) deeds =
+    ap (λ (l : List Call). a.1 ++ l) (calls_aborted rest deeds) ∙ sym (append_assoc a.1 (abort_calls rest) (calls_in deeds))
+
+-- ---- the laws that are cited
+
+-- calls that the table has noted are deeds
+abbrev pub CallsAreDeeds : Type 0
+CallsAreDeeds = (was now : Option Users) (old new : Hub) (made : List Call) (deeds : List Deed) → AreDone was old deeds
+    → is_some now ≡ is_some was → HasNoted was now made → Stands new (made ++ calls_in deeds) → AreDone now new (called made deeds)
+
+abbrev pub QuietAreNoted : Type 0
+QuietAreNoted = (users : Option Users) (made : List Call) → all_steps made ≡ [] → HasNoted users users made
+
+abbrev pub AbortsAreDeeds : Type 0
+AbortsAreDeeds = (was now : Option Users) (old new : Hub) (t : ℕ) (aborts : List (List ℕ × List Call)) (deeds : List Deed)
+    → AreDone was old deeds → is_some now ≡ is_some was → HasForgotten was now
+    → AreAborts (HasUsed was t) aborts (calls_in deeds) → is_open t (calls_in deeds) ≡ false
+    → Stands new (abort_calls aborts ++ calls_in deeds) → AreDone now new (aborted aborts deeds)
+
+-- ---- a connection that isn't open
+
+pub closed_at : (hub : Hub) (t : ℕ) → is_some (buffers_of hub t) ≡ false → (calls : List Call) → Stands hub calls
+    → is_open t calls ≡ false
+closed_at hub t gone calls s =
+    let (left, unsent, served, has) = s.served t in by_open left unsent (is_open t calls) has
+  where
+    by_open : (left unsent : List ℕ) (o : Bool)
+        → buffers_of hub t ≡ cond o (Some (record { waiting = clipped left; unsent = unsent })) None → o ≡ false
+    by_open left unsent false has = refl
+    by_open left unsent true has = absurd (false≢true (sym gone ∙ ap (λ (b : Option Buffers). is_some b) has))
+
+-- ---- the first deeds
+
+due_called : (made : List Call) → AreDue (called made [])
+due_called [] = tt
+due_called (c ∷ made) = due_called made
+
+all_called : (made : List Call) → AllByRecursion IsCalled (called made [])
+all_called [] = tt
+all_called (c ∷ made) = (tt, all_called made)
+
+calls_first : (calls : List Call) → calls_in (called calls []) ≡ calls
+calls_first [] = refl
+calls_first (c ∷ calls) = ap (λ (l : List Call). c ∷ l) (calls_first calls)
+
+module _ {C M D : Type 0} {g : HeldBy C} {h : MarkedBy M} {disk : Ghosts D} (is_at : Store C M g h → Course → Type 0) where
+  pub first_done : (n : ℕ) (lines : List (List ℕ)) (users : Option Users) (server : Server C M D g h disk) (calls : List Call)
+      → ((s : List ℕ) → last_at users s ≡ None) → Serves is_at n lines server calls
+      → HasDone is_at n lines users server (called calls [])
+  first_done n lines users server calls nobody s = record {
+    serves = subst (λ (l : List Call). Serves is_at n lines server l) (sym (calls_first calls)) s;
+    done = record {
+      stands = subst (λ (l : List Call). Stands (hub_of server) l) (sym (calls_first calls)) s.stands;
+      due = due_called calls;
+      none = λ e. all_called calls;
+      known = λ s t e. absurd (none-some t (sym (nobody s) ∙ e));
+    };
+  }
+
+  -- ---- one part after the other
+
+  pub stays : (users : Option Users) (server : Server C M D g h disk) → GoesOn is_at users server users server
+  stays users server = record { serves = λ n lines calls s. ([], s); deeds = λ n lines deeds d. ([], d) }
+
+  pub both : (a b c : Option Users) (old mid new : Server C M D g h disk) → GoesOn is_at a old b mid → GoesOn is_at b mid c new
+      → GoesOn is_at a old c new
+  both a b c old mid new first then = record {
+    serves = λ n lines calls s.
+        let (made, on) = first.serves n lines calls s in
+        let (later, goes) = then.serves n lines (made ++ calls) on in
+        (later ++ made, subst (λ (l : List Call). Serves is_at n lines new l) (sym (append_assoc later made calls)) goes);
+    deeds = λ n lines deeds d.
+        let (more, on) = first.deeds n lines deeds d in
+        let (later, goes) = then.deeds n lines (more ++ deeds) on in
+        (later ++ more, subst (λ (l : List Deed). HasDone is_at n lines c new l) (sym (append_assoc later more deeds)) goes);
+  }
+
+  -- what was changed since isn't seen
+  pub unseen : (was is now : Option Users) (old mid new : Server C M D g h disk) → now ≡ is → new ≡ mid
+      → GoesOn is_at was old is mid → GoesOn is_at was old now new
+  unseen was is now old mid new same kept first =
+      subst (λ (u : Option Users). GoesOn is_at was old u new) (sym same)
+      (subst (λ (s : Server C M D g h disk). GoesOn is_at was old is s) (sym kept) first)
+
+  -- calls were made, and the table has noted them
+  by_calls : CallsAreDeeds → (was now : Option Users) (old new : Server C M D g h disk) → is_some now ≡ is_some was
+      → ((n : ℕ) (lines : List (List ℕ)) (calls : List Call) → Serves is_at n lines old calls
+      → (made : List Call) × Serves is_at n lines new (made ++ calls) × HasNoted was now made)
+      → GoesOn is_at was old now new
+  by_calls law was now old new table makes = record {
+    serves = λ n lines calls s. let (made, on, noted) = makes n lines calls s in (made, on);
+    deeds = λ n lines deeds d.
+        let (made, on, noted) = makes n lines (calls_in deeds) d.serves in (
+          called made [],
+          subst (λ (l : List Deed). HasDone is_at n lines now new l) (sym (called_before made deeds))
+              (record {
+                serves = subst (λ (l : List Call). Serves is_at n lines new l) (sym (calls_called made deeds)) on;
+                done = law was now (hub_of old) (hub_of new) made deeds d.done table noted on.stands;
+              }),
+        );
+  }
+
+  -- nothing was done that calls show
+  pub same_calls : CallsAreDeeds → QuietAreNoted → (users : Option Users) (old new : Server C M D g h disk)
+      → ((n : ℕ) (lines : List (List ℕ)) (calls : List Call) → Serves is_at n lines old calls → Serves is_at n lines new calls)
+      → GoesOn is_at users old users new
+  same_calls law quiet users old new same =
+      by_calls law users users old new refl (λ n lines calls s. ([], same n lines calls s, quiet users [] refl))
+
+  pub quietly : CallsAreDeeds → QuietAreNoted → (users : Option Users) (old new : Server C M D g h disk)
+      (P : List Call → List Call → Type 0) → MakesQuietly is_at old new P → GoesOn is_at users old users new
+  quietly law quiet users old new P makes =
+      by_calls law users users old new refl
+      (λ n lines calls s.
+      let (made, on, still, is) = makes n lines calls s in (made, on, quiet users made still))
+
+  -- the same, whatever is returned
+  pub quietly_either : {A E : Type 0} → CallsAreDeeds → QuietAreNoted → (r : Result A E) (users : Option Users)
+      (old new : Server C M D g h disk) (P Q : List Call → List Call → Type 0) (Why : E → Type 0)
+      → OnOk r (MakesQuietly is_at old new P) → IfErr r (λ e. Why e × MakesQuietly is_at old new Q)
+      → GoesOn is_at users old users new
+  quietly_either law quiet (Ok x) users old new P Q Why ok err = quietly law quiet users old new P ok
+  quietly_either law quiet (Err e) users old new P Q Why ok err = quietly law quiet users old new Q err.1
+
+  pub carries : CallsAreDeeds → (t : ℕ) (was now : Option Users) (old new : Server C M D g h disk)
+      (R : List Call → List Call → Type 0) → is_some now ≡ is_some was
+      → Makes is_at old new (λ calls made. HasCarriedOut t was now calls made × R calls made) → GoesOn is_at was old now new
+  carries law t was now old new R table makes =
+      by_calls law was now old new table
+      (λ n lines calls s.
+      let (made, on, (carried, more)) = makes n lines calls s in (made, on, carried.noted))
+
+  pub aborts : AbortsAreDeeds → (t : ℕ) (was now : Option Users) (old new : Server C M D g h disk) → is_some now ≡ is_some was
+      → HasForgotten was now → is_some (buffers_of (hub_of old) t) ≡ false → HasAborted is_at (HasUsed was t) old new
+      → GoesOn is_at was old now new
+  aborts law t was now old new table forgot gone has = record {
+    serves = λ n lines calls s. let (list, on, are) = has n lines calls s in (abort_calls list, on);
+    deeds = λ n lines deeds d.
+        let (list, on, are) = has n lines (calls_in deeds) d.serves in (
+          aborted list [],
+          subst (λ (l : List Deed). HasDone is_at n lines now new l) (sym (aborted_before list deeds))
+              (record {
+                serves = subst (λ (l : List Call). Serves is_at n lines new l) (sym (calls_aborted list deeds)) on;
+                done = law was now (hub_of old) (hub_of new) t list deeds d.done table forgot are
+                    (closed_at (hub_of old) t gone (calls_in deeds) d.serves.stands) on.stands;
+              }),
+        );
+  }
+
+  -- a connection was opened, or memory ran out
+  pub opens : CallsAreDeeds → QuietAreNoted → (t : ℕ) (users : Option Users) (old new : Server C M D g h disk)
+      → ((n : ℕ) (lines : List (List ℕ)) (calls : List Call) → Serves is_at n lines old calls
+      → Serves is_at n lines new (Opened t ∷ calls))
+      → GoesOn is_at users old users new
+  opens law quiet t users old new opened =
+      by_calls law users users old new refl
+      (λ n lines calls s. (Opened t ∷ [], opened n lines calls s, quiet users (Opened t ∷ []) refl))
+
+  -- it was closed at once
+  pub opens_and_closes : CallsAreDeeds → QuietAreNoted → (t : ℕ) (users : Option Users) (old mid new : Server C M D g h disk)
+      → ((n : ℕ) (lines : List (List ℕ)) (calls : List Call) → Serves is_at n lines old calls
+      → Serves is_at n lines mid (Opened t ∷ calls))
+      → ((n : ℕ) (lines : List (List ℕ)) (calls : List Call) → Serves is_at n lines mid calls
+      → Serves is_at n lines new (with_call (Closed t) calls))
+      → GoesOn is_at users old users new
+  opens_and_closes law quiet t users old mid new opened closed =
+      by_calls law users users old new refl
+      (λ n lines calls s. (
+        Closed t ∷ Opened t ∷ [],
+        subst (λ (l : List Call). Serves is_at n lines new l)
+            (ap (λ o. cond o (Closed t ∷ Opened t ∷ calls) (Opened t ∷ calls)) (open_now calls))
+            (closed n lines (Opened t ∷ calls) (opened n lines calls s)),
+        quiet users (Closed t ∷ Opened t ∷ []) refl,
+      ))
+    where
+      open_now : (calls : List Call) → is_open t (Opened t ∷ calls) ≡ true
+      open_now calls = ap (λ b. b || is_open t calls) (eq-eqb t t refl)
+
+-- ---- what a fault says
+
+-- a fault that isn't that of a full file is one of the log
+pub fails : {A B : Type 0} (P Q : Type 0) (done : Result A LogFault) (r : Result B LogFault) → (P → Q)
+    → IfErr r (λ fault. (done ≡ Err fault) × (is_full fault ≡ false)) → IfErr done (λ fault. is_full fault ≡ false → P)
+    → OnErr r Q
+fails P Q done (Ok x) more passed failed = tt
+fails {A} P Q done (Err e) more passed failed =
+    more ((subst (λ (d : Result A LogFault). IfErr d (λ fault. is_full fault ≡ false → P)) passed.0 failed) passed.1)
+
+pub failed_still : {C M D : Type 0} {g : HeldBy C} {h : MarkedBy M} {disk : Ghosts D} {old new : Server C M D g h disk}
+    → new ≡ old → has_failed old ≡ true → has_failed new ≡ true
+failed_still {C} {M} {D} {g} {h} {disk} same failed =
+    ap (λ (s : Server C M D g h disk). has_failed s) same ∙ failed

@@ -1,0 +1,20 @@
+use Rattle.ssi_store.specs.Mirror.Stores.{IsAt}
+use Rattle.ssi_data.proofs.Rounds.{stays, both}
+use Rattle.ssi_data.proofs.clients.Clients.accept.Goals as goal
+
+pub loop-init : goal.loop-init
+loop-init g c =
+    stays (IsAt {g = g.C.Chains} {h = g.M.Marks} g.C.Chains.held g.M.Marks.marked) c.args.self.now.users c.args.self.now.server
+
+pub loop-preserved : goal.loop-preserved
+loop-preserved g c =
+    both (IsAt {g = g.C.Chains} {h = g.M.Marks} g.C.Chains.held g.M.Marks.marked) c.args.self.now.users c.loop.self.users c.add.new.self.users
+    c.args.self.now.server c.loop.self.server c.add.new.self.server c.loop.invariant c.add.ensures
+
+pub returns : goal.returns
+returns g c =
+    c.loop.invariant
+
+pub returns-in_default : goal.returns-in_default
+returns-in_default g c =
+    c.loop.invariant

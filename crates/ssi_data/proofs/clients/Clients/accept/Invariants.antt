@@ -1,0 +1,7 @@
+-- The server and the table have gone on.
+use Rattle.ssi_store.specs.Mirror.Stores.{IsAt}
+use Rattle.ssi_data.specs.Mirror.{GoOn, server_of}
+use Rattle.ssi_data.proofs.clients.Clients.accept.Given as goal
+
+abbrev pub invariant-loop : goal.invariant-loop
+invariant-loop g l = GoOn (IsAt {g = g.C.Chains} {h = g.M.Marks} g.C.Chains.held g.M.Marks.marked) l.initial.self l.self

@@ -1,0 +1,26 @@
+use Rattle.std.proofs.Common.{◌≡◌, true}
+use Rattle.ssi_durable.specs.Mirror.Servers.{has_failed}
+use Rattle.ssi_store.specs.Mirror.Stores.{IsAt}
+use Rattle.ssi_data.proofs.Rounds.{both, carries, failed_still, fails, quietly_either, unseen}
+use Rattle.ssi_data.proofs.clients.Clients.take_at.Goals as goal
+
+pub returns-clause-on : goal.returns-clause-on
+returns-clause-on g c =
+    unseen (IsAt {g = g.C.Chains} {h = g.M.Marks} g.C.Chains.held g.M.Marks.marked) c.args.self.now.users
+    c.carry_out-carried.new.users c.unless_full.new.self.users c.args.self.now.server c.carry_out-carried.new.server
+    c.unless_full.new.self.server c.unless_full.ensures.users c.unless_full.ensures.server
+    (both (IsAt {g = g.C.Chains} {h = g.M.Marks} g.C.Chains.held g.M.Marks.marked) c.args.self.now.users c.args.self.now.users
+    c.carry_out-carried.new.users c.args.self.now.server c.receive.new.server c.carry_out-carried.new.server
+    (quietly_either (IsAt {g = g.C.Chains} {h = g.M.Marks} g.C.Chains.held g.M.Marks.marked) {A = Unit {0}}
+    c.calls_are_deeds.ensures.done c.calls_are_deeds.ensures.quiet c.receive.result c.args.self.now.users
+    c.args.self.now.server c.receive.new.server _ _ _ c.receive.ensures.received c.receive.ensures.dropped)
+    (carries (IsAt {g = g.C.Chains} {h = g.M.Marks} g.C.Chains.held g.M.Marks.marked) c.calls_are_deeds.ensures.done c.in-Some.token
+    c.args.self.now.users c.carry_out-carried.new.users c.receive.new.server c.carry_out-carried.new.server _
+    c.carry_out-carried.ensures.table c.carry_out-carried.ensures.carried))
+
+pub returns-clause-failed : goal.returns-clause-failed
+returns-clause-failed g c =
+    fails {A = Unit {0}} {B = Unit {0}} (has_failed c.carry_out-carried.new.server ≡ true)
+    (has_failed c.unless_full.new.self.server ≡ true) c.carry_out-carried.result c.unless_full.result
+    (λ failed. failed_still c.unless_full.ensures.server failed) c.unless_full.ensures.fault
+    c.carry_out-carried.ensures.fault

@@ -1,0 +1,36 @@
+-- What clauses see of a server, and of the sockets of its connections.
+use Rattle.std.specs.Prelude.{ℕ, if◌then◌else◌, [], Option, Some, None}
+use Rattle.sqlite_disk.specs.declared.Disk.{Ghosts}
+use Rattle.adya_keys.specs.Meaning.Keys.{Bytes}
+use Rattle.ssi_versions.specs.declared.chains.Chains.{Ghosts as HeldBy}
+use Rattle.ssi_reads.specs.declared.marks.Marks.{Ghosts as MarkedBy}
+use Rattle.ssi_store.specs.Meaning.Courses.{Course}
+use Rattle.ssi_store.specs.declared.store.Store.{Store}
+use Rattle.ssi_hub.specs.Clauses.Buffers.{Buffers}
+use Rattle.ssi_hub.specs.Mirror.{buffers_of}
+use Rattle.ssi_durable.specs.declared.server.Server.{Server}
+use Rattle.ssi_durable.specs.Mirror.Servers.{hub_of, is_settled}
+use Rattle.ssi_cli.specs.declared.users.Users.{Users}
+use Rattle.ssi_data.specs.declared.clients.Clients.{Clients}
+use Rattle.ssi_data.specs.Clauses.Rounds.{GoesOn}
+
+-- the replies that are to be written to a connection
+abbrev pub unsent_of : Option Buffers → Bytes
+unsent_of None = []
+unsent_of (Some b) = b.unsent
+
+module _ {C M D : Type 0} {g : HeldBy C} {h : MarkedBy M} {disk : Ghosts D} where
+  -- those that may be: none before all lines that count are on the disk
+  abbrev pub to_send : Server C M D g h disk → ℕ → Bytes
+  to_send s t = if is_settled s then unsent_of (buffers_of (hub_of s) t) else []
+
+  abbrev pub server_of : Clients C M D g h disk → Server C M D g h disk
+  server_of clients = clients.server
+
+  -- who has used each session last, as far as that is kept
+  abbrev pub users_of : Clients C M D g h disk → Option Users
+  users_of clients = clients.users
+
+  -- its server and its table have gone on
+  abbrev pub GoOn : (Store C M g h → Course → Type 0) → (old new : Clients C M D g h disk) → Type 0
+  GoOn is_at old new = GoesOn is_at (users_of old) (server_of old) (users_of new) (server_of new)

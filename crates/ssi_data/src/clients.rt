@@ -1,0 +1,320 @@
+//! The connections that use a server, and their sockets.
+
+ghost use Rattle.std.specs.Prelude.{◌≡◌, ℕ, List, [], true, false, is_some, OnOk, OnErr, IfErr};
+ghost use Rattle.adya_keys.specs.Meaning.Keys.{Bytes};
+ghost use Rattle.ssi_store.specs.Mirror.Stores.{IsAt};
+ghost use Rattle.ssi_hub.specs.Clauses.Calls.{Call};
+ghost use Rattle.ssi_hub.specs.Mirror.{buffers_of, is_stopped};
+ghost use Rattle.ssi_durable.specs.Clauses.Journals.{is_full};
+ghost use Rattle.ssi_durable.specs.Mirror.Servers.{Serves, hub_of, is_settled, has_failed};
+ghost use Rattle.ssi_cli.specs.Clauses.Serving.{aborts};
+ghost use Rattle.ssi_cli.specs.Clauses.Turns.{called};
+ghost use Rattle.ssi_data.specs.Clauses.Rounds.{HasDone};
+
+use crate::leaving::abort_all;
+use crate::turns::{carry_out, receive, reply, send};
+use mio::event::Event;
+use mio::net::{UnixListener, UnixStream};
+use mio::{Events, Registry};
+use sqlite_disk::Disk;
+use ssi_cli::laws::{aborts_are_deeds, calls_are_deeds};
+use ssi_cli::{AtClose, MOST_CLIENTS, Peers, Users, users_for};
+use ssi_durable::Server;
+use ssi_log::LogFault;
+use ssi_reads::Marks;
+use ssi_versions::Chains;
+use std::alloc::Global;
+use std::io;
+use std::time::Duration;
+
+/// After this many seconds it is tried again to have the file of the log grow.
+const ROOM_AGAIN: u64 = 1;
+
+/// A server, with the sockets of its connections.
+#[derive(Drop)]
+pub struct Clients<C: Chains + Drop, M: Marks + Drop, D: Disk + Drop> {
+    server: Server<C, M, D>,
+    peers: Peers,
+    // kept if sessions are aborted when a connection is closed
+    users: Option<Users>,
+    // why the file of the log couldn't grow in the last round
+    full: Option<io::Error>,
+    // whether that was said
+    is_told: bool,
+}
+
+impl<C: Chains + Drop, M: Marks + Drop, D: Disk + Drop> Clients<C, M, D> {
+    ghost use Rattle.ssi_data.specs.Mirror.{GoOn, server_of, users_of};
+
+    /// Those of a server that has no connection yet.
+    pub fn new(alloc: Global, server: Server<C, M, D>, at_close: AtClose) -> Clients<C, M, D>
+        ensures server { server_of result ≡ server }
+        ensures table { is_some (users_of result) ≡ aborts at_close }
+        // What the server has served are its first deeds.
+        ensures done { (n : ℕ) (lines : List Bytes) (calls : List Call) → Serves (IsAt C.held M.marked) n lines server calls
+            → HasDone (IsAt C.held M.marked) n lines (users_of result) (server_of result) (called calls []) }
+    {
+        Clients {
+            server,
+            peers: Peers::new(alloc),
+            users: users_for(alloc, at_close),
+            full: None,
+            is_told: false,
+        }
+    }
+
+    /// Returns whether `stop` was carried out.
+    pub(crate) fn is_stopped(&self) -> bool
+        ensures { result ≡ is_stopped (hub_of (server_of self.now)) }
+    {
+        self.server.is_stopped()
+    }
+
+    /// Returns how long to wait for events; without a limit if nothing else is to be done.
+    pub(crate) fn longest_wait(&self) -> Option<Duration> {
+        if !self.server.is_settled() {
+            return Some(Duration::ZERO);
+        }
+        if self.full.is_some() {
+            return Some(Duration::from_secs(ROOM_AGAIN));
+        }
+        self.peers.longest_wait()
+    }
+
+    /// Returns why the file of the log can't grow, if that wasn't said before.
+    pub(crate) fn news(&mut self) -> Option<io::Error>
+        ensures server { server_of self.new ≡ server_of self.old }
+        ensures users { users_of self.new ≡ users_of self.old }
+    {
+        let full = self.full;
+        if self.is_told && full.is_some() {
+            return None;
+        }
+        self.is_told = full.is_some();
+        full
+    }
+
+    /// Gives each connection a turn that has more to do, or of which the system has reported something. All lines that they
+    /// sent are carried out, then these are put on the disk, and then the replies are written.
+    pub(crate) fn round(
+        &mut self,
+        alloc: Global,
+        events: &Events,
+        room: &mut [u8],
+    ) -> Result<(), LogFault>
+        ensures on { GoOn (IsAt C.held M.marked) self.old self.new }
+        ensures settled { OnOk result (is_settled (server_of self.new) ≡ true) }
+        ensures failed { OnErr result (has_failed (server_of self.new) ≡ true) }
+    {
+        self.full = None;
+        self.go_on(alloc, room)?;
+        self.take_all(alloc, events, room)?;
+        calls_are_deeds();
+        self.server.settle()?;
+        self.reply_all();
+        Ok(())
+    }
+
+    fn go_on(&mut self, alloc: Global, room: &mut [u8]) -> Result<(), LogFault>
+        ensures on { GoOn (IsAt C.held M.marked) self.old self.new }
+        ensures failed { OnErr result (has_failed (server_of self.new) ≡ true) }
+    {
+        if !self.peers.is_busy() {
+            return Ok(());
+        }
+        for index in 0..self.peers.len() {
+            self.take_at(alloc, index, room)?;
+        }
+        Ok(())
+    }
+
+    fn take_all(&mut self, alloc: Global, events: &Events, room: &mut [u8]) -> Result<(), LogFault>
+        ensures on { GoOn (IsAt C.held M.marked) self.old self.new }
+        ensures failed { OnErr result (has_failed (server_of self.new) ≡ true) }
+    {
+        for event in events.iter() {
+            self.take(alloc, event, room)?;
+        }
+        Ok(())
+    }
+
+    fn take(&mut self, alloc: Global, event: &Event, room: &mut [u8]) -> Result<(), LogFault>
+        ensures on { GoOn (IsAt C.held M.marked) self.old self.new }
+        ensures failed { OnErr result (has_failed (server_of self.new) ≡ true) }
+    {
+        match self.peers.note(event) {
+            Some(index) => self.take_at(alloc, index, room),
+            None => Ok(()),
+        }
+    }
+
+    /// Reads from the connection, and carries out lines.
+    fn take_at(&mut self, alloc: Global, index: usize, room: &mut [u8]) -> Result<(), LogFault>
+        ensures on { GoOn (IsAt C.held M.marked) self.old self.new }
+        ensures failed { OnErr result (has_failed (server_of self.new) ≡ true) }
+    {
+        let Some(token) = self.peers.token_at(index) else {
+            return Ok(());
+        };
+        let Some(peer) = self.peers.peer_at(index) else {
+            return Ok(());
+        };
+        if !peer.is_due() {
+            return Ok(());
+        }
+        let _ = receive(token, peer, &mut self.server, room);
+        calls_are_deeds();
+        let carried = carry_out(alloc, token, &mut self.users, &mut self.server);
+        self.unless_full(carried)
+    }
+
+    /// Notes that the file of the log can't grow; any other fault is returned.
+    fn unless_full(&mut self, done: Result<(), LogFault>) -> Result<(), LogFault>
+        ensures server { server_of self.new ≡ server_of self.old }
+        ensures users { users_of self.new ≡ users_of self.old }
+        ensures fault { IfErr result (λ fault. (done ≡ Err fault) × (is_full fault ≡ false)) }
+    {
+        match done {
+            Err(LogFault::Full(why)) => {
+                self.full = Some(why);
+                Ok(())
+            }
+            done => done,
+        }
+    }
+
+    /// Writes the replies to the connections that have a turn.
+    fn reply_all(&mut self)
+        ensures on { GoOn (IsAt C.held M.marked) self.old self.new }
+        ensures settled { is_settled (server_of self.new) ≡ is_settled (server_of self.old) }
+    {
+        for index in 0..self.peers.len() {
+            self.reply_at(index);
+        }
+    }
+
+    fn reply_at(&mut self, index: usize)
+        ensures on { GoOn (IsAt C.held M.marked) self.old self.new }
+        ensures settled { is_settled (server_of self.new) ≡ is_settled (server_of self.old) }
+    {
+        let Some(token) = self.peers.token_at(index) else {
+            return;
+        };
+        let Some(peer) = self.peers.peer_at(index) else {
+            return;
+        };
+        if !peer.is_due() {
+            return;
+        }
+        let _ = reply(token, peer, &mut self.server);
+        calls_are_deeds();
+        if !self.server.is_open(token) {
+            // its turn ends once it is removed
+            peer.set_due(true);
+        }
+    }
+
+    /// Ends the turns, and removes the connections that are closed, once their sessions are aborted.
+    pub(crate) fn end_all(&mut self, alloc: Global) -> Result<(), LogFault>
+        ensures on { GoOn (IsAt C.held M.marked) self.old self.new }
+        ensures failed { OnErr result (has_failed (server_of self.new) ≡ true) }
+    {
+        self.peers.begin_round();
+        // One that is removed gives its place to the last one, whose turn has ended.
+        for index in (0..self.peers.len()).rev() {
+            self.end_at(alloc, index)?;
+        }
+        Ok(())
+    }
+
+    fn end_at(&mut self, alloc: Global, index: usize) -> Result<(), LogFault>
+        ensures on { GoOn (IsAt C.held M.marked) self.old self.new }
+        ensures failed { OnErr result (has_failed (server_of self.new) ≡ true) }
+    {
+        let Some(token) = self.peers.token_at(index) else {
+            return Ok(());
+        };
+        let Some(peer) = self.peers.peer_at(index) else {
+            return Ok(());
+        };
+        if !peer.is_due() {
+            return Ok(());
+        }
+        if self.server.is_open(token) {
+            self.peers.end_turn(index, true, true);
+            return Ok(());
+        }
+        self.remove(alloc, token, index)
+    }
+
+    /// Removes a connection that is closed, once its sessions are aborted.
+    fn remove(&mut self, alloc: Global, token: u64, index: usize) -> Result<(), LogFault>
+        requires { is_some (buffers_of (hub_of (server_of self.old)) token) ≡ false }
+        ensures on { GoOn (IsAt C.held M.marked) self.old self.new }
+        ensures failed { OnErr result (has_failed (server_of self.new) ≡ true) }
+    {
+        aborts_are_deeds();
+        match abort_all(alloc, token, &mut self.users, &mut self.server) {
+            Ok(done) => {
+                self.peers.end_turn(index, !done, false);
+                Ok(())
+            }
+            Err(fault) => {
+                self.peers.end_turn(index, true, false);
+                self.unless_full(Err(fault))
+            }
+        }
+    }
+
+    /// Writes to the connections what they take at once.
+    pub(crate) fn write_all(&mut self)
+        ensures on { GoOn (IsAt C.held M.marked) self.old self.new }
+        ensures stopped { is_stopped (hub_of (server_of self.new)) ≡ is_stopped (hub_of (server_of self.old)) }
+        ensures settled { is_settled (server_of self.new) ≡ is_settled (server_of self.old) }
+    {
+        for index in 0..self.peers.len() {
+            self.write_at(index);
+        }
+    }
+
+    fn write_at(&mut self, index: usize)
+        ensures on { GoOn (IsAt C.held M.marked) self.old self.new }
+        ensures stopped { is_stopped (hub_of (server_of self.new)) ≡ is_stopped (hub_of (server_of self.old)) }
+        ensures settled { is_settled (server_of self.new) ≡ is_settled (server_of self.old) }
+    {
+        let Some(token) = self.peers.token_at(index) else {
+            return;
+        };
+        let Some(peer) = self.peers.peer_at(index) else {
+            return;
+        };
+        let _ = send(token, peer, &mut self.server);
+        calls_are_deeds();
+    }
+
+    /// Accepts the connections that wait, as far as there is room.
+    pub(crate) fn accept(&mut self, alloc: Global, listener: &UnixListener, registry: &Registry)
+        ensures { GoOn (IsAt C.held M.marked) self.old self.new }
+    {
+        self.peers.begin_accepting();
+        for _ in 0..MOST_CLIENTS {
+            let Some(stream) = self.peers.accept(listener) else {
+                return;
+            };
+            self.add(alloc, stream, registry);
+        }
+    }
+
+    /// Adds a connection, or closes it if memory runs out.
+    fn add(&mut self, alloc: Global, stream: UnixStream, registry: &Registry)
+        ensures { GoOn (IsAt C.held M.marked) self.old self.new }
+    {
+        calls_are_deeds();
+        let Ok(token) = self.server.opened(alloc) else {
+            return;
+        };
+        if !self.peers.add(token, stream, registry) {
+            self.server.closed(token);
+        }
+    }
+}

@@ -1,0 +1,21 @@
+//! The service of a store that keeps its data: connections of a socket that use one server at once, whose replies are given
+//! out once all lines before them are on the disk; and the start of such a server from the folder of its segments.
+#![tactic(auto)]
+
+mod clients;
+mod fault;
+mod halt;
+mod leaving;
+mod segment;
+mod service;
+mod sessions;
+mod started;
+mod turns;
+
+pub use clients::Clients;
+pub use fault::DataFault;
+pub use halt::Halt;
+pub use segment::{Segment, open_last};
+pub use service::serve;
+pub use started::{Started, abort_left, start};
+pub use turns::{carry_out, receive, reply, send};

@@ -1,0 +1,54 @@
+//! The service of all connections of a socket.
+
+ghost use Rattle.ssi_store.specs.Mirror.Stores.{IsAt};
+ghost use Rattle.ssi_data.specs.Clauses.Halts.{HasHalted};
+ghost use Rattle.ssi_data.specs.Mirror.{GoOn, server_of};
+
+use crate::clients::Clients;
+use crate::halt::Halt;
+use mio::net::UnixListener;
+use mio::{Events, Poll};
+use sqlite_disk::Disk;
+use ssi_cli::ROOM;
+use ssi_reads::Marks;
+use ssi_versions::Chains;
+use std::alloc::Global;
+
+/// Accepts connections and carries out the lines of all of them, one line at a time, in the order in which connections are
+/// ready. In a round each connection that is ready carries out up to 256 lines; then all lines that count are put on the disk
+/// by one sync; and only then the replies are written. So what a client reads rests on lines that are on the disk.
+///
+/// Goes on until `stop` is carried out, the log or the socket fails, or the file of the log can't grow. After `Full` call it
+/// again: meanwhile nothing is lost, and no line is carried out but `stop`. After the others it may not go on.
+pub fn serve<C: Chains + Drop, M: Marks + Drop, D: Disk + Drop>(
+    alloc: Global,
+    poll: &mut Poll,
+    listener: &UnixListener,
+    events: &mut Events,
+    clients: &mut Clients<C, M, D>,
+) -> Halt
+    ensures on { GoOn (IsAt C.held M.marked) clients.old clients.new }
+    ensures halted { HasHalted result (server_of clients.new) }
+{
+    let mut room = [0u8; ROOM];
+    for _ in 0..u64::MAX {
+        let Ok(()) = poll.poll(events, clients.longest_wait()) else {
+            return Halt::SocketFault;
+        };
+        if let Err(fault) = clients.round(alloc, events, &mut room) {
+            return Halt::Failed(fault);
+        }
+        if clients.is_stopped() {
+            clients.write_all();
+            return Halt::Stopped;
+        }
+        if let Err(fault) = clients.end_all(alloc) {
+            return Halt::Failed(fault);
+        }
+        clients.accept(alloc, listener, poll.registry());
+        if let Some(why) = clients.news() {
+            return Halt::Full(why);
+        }
+    }
+    Halt::SocketFault
+}
