@@ -11,12 +11,12 @@ use Rattle.ssi_conflict.specs.Computing.Steps.{smallest_ordered_pivot}
 use Rattle.ssi_conflict.specs.Meaning.Calls.{Call, Begins as Enters}
 use Rattle.ssi_conflict.specs.Clauses.Allowed.{IsAllowed}
 use Rattle.ssi_snapshot.specs.Mirror.{snapshot_of, written}
-use Rattle.ssi_store.specs.Meaning.Acts.{Begins, acts, act_by, has_begun}
+use Rattle.ssi_store.specs.Meaning.Acts.{Begins, acts, act_by, has_begun, begun as has_started}
 use Rattle.ssi_store.specs.Meaning.Courses.{Command as Do, Answer, Begun, Refused, Busy, Spent, Memory, Course, Then, txn_in, next_txn}
 use Rattle.ssi_store.specs.Meaning.Replies.{reply, reply_for}
 use Rattle.ssi_store.specs.Meaning.Recording.{events}
 use Rattle.ssi_store.specs.Meaning.Seeing.{commit_count}
-use Rattle.ssi_store.specs.Mirror.Standing.{Parts, IsLog, StandsFor}
+use Rattle.ssi_store.specs.Mirror.Standing.{Parts, IsLog, StandsFor, with_snapshots}
 use Rattle.ssi_store.specs.Meaning.Tracked.{tracked}
 use Rattle.ssi_store.specs.Machinery.Opens.{Sessions, open_at, number_of, IsOpen, IsReplaced}
 use Rattle.ssi_store.specs.declared.open.Open.{Open}
@@ -58,32 +58,34 @@ module _ {p : Parts} {next : ℕ} {es : Sessions} {c : Course} (st : StandsFor p
     may_begin = subst (λ n. IsAllowed (Enters next n) (tracked (acts c))) (sym st.log.commits)
         (tracked_allowed (Begins next ∷ acts c) (fresh, (settled st).sound)).0
 
-    pub begin_memory : (told' : List Call → Type 0) (recorded' : List Event) (opened' snapshots' : List (ℕ × ℕ)) (fs : Sessions)
-        (t : ℕ) → t ≡ next → fs ≡ es → recorded' ≡ p.recorded → opened' ≡ p.opened → snapshots' ≡ p.snapshots
+    pub begin_memory : (told' : List Call → Type 0) (recorded' : List Event → Type 0) (opened' : List (ℕ × ℕ))
+        (started' : List (ℕ × ℕ) → Type 0) (fs : Sessions)
+        (t : ℕ) → t ≡ next → fs ≡ es → ((es : List Event) → p.recorded es → recorded' es) → opened' ≡ p.opened → ((ts : List (ℕ × ℕ)) → p.started ts → started' ts)
         → ((calls : List Call) → p.told calls → IsAllowed (Enters t p.commits) calls → told' calls)
-        → StandsFor (record p { told = told'; recorded = recorded'; opened = opened'; snapshots = snapshots' }) next fs
+        → StandsFor (record p { told = told'; recorded = recorded'; opened = opened'; started = started' }) next fs
         (Then c (Do.Begin s) (Refused Memory))
-    begin_memory told' recorded' opened' snapshots' fs t is same now_events now_opened now_snapshots tells =
-        refused st (record p { told = told'; recorded = recorded'; opened = opened'; snapshots = snapshots' }) fs (Do.Begin s) Memory
+    begin_memory told' recorded' opened' started' fs t is same now_events now_opened now_snapshots tells =
+        refused st (record p { told = told'; recorded = recorded'; opened = opened'; started = started' }) fs (Do.Begin s) Memory
         (record {
           commits = st.log.commits;
           chains = st.log.chains;
           tracker = tells (tracked (acts c)) st.log.tracker
               (subst (λ n. IsAllowed (Enters n p.commits) (tracked (acts c))) (sym is) may_begin);
-          events = now_events ∙ st.log.events;
+          events = now_events (events (acts c)) st.log.events;
           opened = now_opened ∙ st.log.opened;
-          snapshots = now_snapshots ∙ st.log.snapshots;
+          snapshots = now_snapshots (with_snapshots (has_started (acts c)) (acts c)) st.log.snapshots;
         }) (unchanged es fs same) refl (answer_memory st (Do.Begin s) (Begun next) reply_is refl)
 
-    begun_next : (told' : List Call → Type 0) (recorded' : List Event) (opened' snapshots' : List (ℕ × ℕ)) (fs : Sessions)
-        (o : Open) → IsReplaced s o es fs → recorded' ≡ p.recorded → opened' ≡ insert_entry nat_eq p.opened next p.commits
-        → snapshots' ≡ p.snapshots ++ (next, p.commits) ∷ []
+    begun_next : (told' : List Call → Type 0) (recorded' : List Event → Type 0) (opened' : List (ℕ × ℕ))
+        (started' : List (ℕ × ℕ) → Type 0) (fs : Sessions)
+        (o : Open) → IsReplaced s o es fs → ((es : List Event) → p.recorded es → recorded' es) → opened' ≡ insert_entry nat_eq p.opened next p.commits
+        → ((ts : List (ℕ × ℕ)) → p.started ts → started' (ts ++ (next, p.commits) ∷ []))
         → ((calls : List Call) → p.told calls → IsAllowed (Enters next p.commits) calls → told' (Enters next p.commits ∷ calls))
         → number_of o ≡ next → snapshot_of o.view ≡ p.commits → o.operations ≡ 0 → written o.view ≡ []
-        → StandsFor (record p { told = told'; recorded = recorded'; opened = opened'; snapshots = snapshots' }) (next + 1) fs
+        → StandsFor (record p { told = told'; recorded = recorded'; opened = opened'; started = started' }) (next + 1) fs
         (Then c (Do.Begin s) (Begun next))
-    begun_next told' recorded' opened' snapshots' fs o gives now_events now_opened now_snapshots tells txn stamp count none =
-        let q : Parts = record p { told = told'; recorded = recorded'; opened = opened'; snapshots = snapshots' } in
+    begun_next told' recorded' opened' started' fs o gives now_events now_opened now_snapshots tells txn stamp count none =
+        let q : Parts = record p { told = told'; recorded = recorded'; opened = opened'; started = started' } in
         let at : open_at s es ≡ None = none_unless_some _ there in
         let acts_are : acts (Then c (Do.Begin s) (Begun next)) ≡ Begins next ∷ acts c =
         ap (λ (y : Option ℕ). act_by y (Do.Begin s) (Begun next) ++ acts c) (idle st s at) in
@@ -96,13 +98,13 @@ module _ {p : Parts} {next : ℕ} {es : Sessions} {c : Course} (st : StandsFor p
             chains = st.log.chains;
             tracker = subst (λ n. told' (Enters next n ∷ tracked (acts c))) st.log.commits
                 (tells (tracked (acts c)) st.log.tracker may_begin);
-            events = now_events ∙ st.log.events ∙ sym (append-nil (events (acts c)));
+            events = subst recorded' (sym (append-nil (events (acts c)))) (now_events (events (acts c)) st.log.events);
             opened = now_opened ∙ ap (λ n. insert_entry nat_eq p.opened next n) st.log.commits
                 ∙ ap (λ l. insert_entry nat_eq l next (commit_count (acts c))) st.log.opened
                 ∙ opened_then next (acts c) (settled st).sound new;
-            snapshots = now_snapshots ∙ ap (λ n. p.snapshots ++ (next, n) ∷ []) st.log.commits
-                ∙ ap (λ l. l ++ (next, commit_count (acts c)) ∷ []) st.log.snapshots
-                ∙ snapshots_then next (acts c) (settled st).sound new;
+            snapshots = subst started' (ap (λ n. with_snapshots (has_started (acts c)) (acts c) ++ (next, n) ∷ []) st.log.commits
+                ∙ snapshots_then next (acts c) (settled st).sound new)
+                (now_snapshots (with_snapshots (has_started (acts c)) (acts c)) st.log.snapshots);
           });
           next_is = add-one next;
           txns = λ r. ap (option_map number_of) (gives r) ∙ elim (cases_Bool (key_eq s r)) [
@@ -124,18 +126,19 @@ module _ {p : Parts} {next : ℕ} {es : Sessions} {c : Course} (st : StandsFor p
               ]));
         }
 
-    pub begun : (told' : List Call → Type 0) (recorded' : List Event) (opened' snapshots' : List (ℕ × ℕ)) (fs : Sessions)
-        (o : Open) (t : ℕ) → t ≡ next → IsReplaced s o es fs → recorded' ≡ p.recorded
-        → opened' ≡ insert_entry nat_eq p.opened t p.commits → snapshots' ≡ p.snapshots ++ (t, p.commits) ∷ []
+    pub begun : (told' : List Call → Type 0) (recorded' : List Event → Type 0) (opened' : List (ℕ × ℕ))
+        (started' : List (ℕ × ℕ) → Type 0) (fs : Sessions)
+        (o : Open) (t : ℕ) → t ≡ next → IsReplaced s o es fs → ((es : List Event) → p.recorded es → recorded' es)
+        → opened' ≡ insert_entry nat_eq p.opened t p.commits → ((ts : List (ℕ × ℕ)) → p.started ts → started' (ts ++ (t, p.commits) ∷ []))
         → ((calls : List Call) → p.told calls → IsAllowed (Enters t p.commits) calls → told' (Enters t p.commits ∷ calls))
         → number_of o ≡ t → snapshot_of o.view ≡ p.commits → o.operations ≡ 0 → written o.view ≡ []
-        → StandsFor (record p { told = told'; recorded = recorded'; opened = opened'; snapshots = snapshots' }) (next + 1) fs
+        → StandsFor (record p { told = told'; recorded = recorded'; opened = opened'; started = started' }) (next + 1) fs
         (Then c (Do.Begin s) (Begun t))
-    begun told' recorded' opened' snapshots' fs o t is gives now_events now_opened now_snapshots tells txn stamp count none =
-        subst (λ a. StandsFor (record p { told = told'; recorded = recorded'; opened = opened'; snapshots = snapshots' }) (next + 1) fs
+    begun told' recorded' opened' started' fs o t is gives now_events now_opened now_snapshots tells txn stamp count none =
+        subst (λ a. StandsFor (record p { told = told'; recorded = recorded'; opened = opened'; started = started' }) (next + 1) fs
         (Then c (Do.Begin s) (Begun a))) (sym is)
-        (begun_next told' recorded' opened' snapshots' fs o gives now_events
+        (begun_next told' recorded' opened' started' fs o gives now_events
         (subst (λ n. opened' ≡ insert_entry nat_eq p.opened n p.commits) is now_opened)
-        (subst (λ n. snapshots' ≡ p.snapshots ++ (n, p.commits) ∷ []) is now_snapshots)
+        (subst (λ n. (ts : List (ℕ × ℕ)) → p.started ts → started' (ts ++ (n, p.commits) ∷ [])) is now_snapshots)
         (subst (λ n. (calls : List Call) → p.told calls → IsAllowed (Enters n p.commits) calls
         → told' (Enters n p.commits ∷ calls)) is tells) (txn ∙ is) stamp count none)

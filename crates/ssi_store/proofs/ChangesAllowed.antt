@@ -61,7 +61,7 @@ changed_installable (Commits u ∷ log) = (
 )
 
 -- a snapshot at or above all stamps so far was left out by no collection
-late_protected : (s : ℕ) (log : List Act) → commit_count log ≤ s → IsProtected s (changed log)
+pub late_protected : (s : ℕ) (log : List Act) → commit_count log ≤ s → IsProtected s (changed log)
 late_protected s [] l = tt
 late_protected s (Begins u ∷ log) l = late_protected s log l
 late_protected s (Writes u k c ∷ log) l = late_protected s log l

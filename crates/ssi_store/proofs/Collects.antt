@@ -76,7 +76,7 @@ module _ {p : Parts} {next : ℕ} {es : Sessions} {c : Course} (st : StandsFor p
           commits = st.log.commits;
           chains = chains;
           tracker = st.log.tracker;
-          events = st.log.events ∙ sym (append-nil (events log));
+          events = subst p.recorded (sym (append-nil (events log))) st.log.events;
           opened = st.log.opened;
           snapshots = st.log.snapshots;
         };

@@ -14,12 +14,12 @@ use Rattle.ssi_conflict.specs.Clauses.Allowed.{IsAllowed, AreAllowed}
 use Rattle.ssi_conflict.specs.Clauses.Pairs.{IsOrderedPivot, IsSmallest}
 use Rattle.ssi_snapshot.specs.Clauses.Listings.{keys}
 use Rattle.ssi_snapshot.specs.Mirror.{snapshot_of, written}
-use Rattle.ssi_store.specs.Meaning.Acts.{Act, Commits, acts}
+use Rattle.ssi_store.specs.Meaning.Acts.{Act, Commits, acts, begun}
 use Rattle.ssi_store.specs.Meaning.Courses.{Command as Do, Committed, Conflict, Unsafe, Refused, Idle, Memory, Course, Then}
 use Rattle.ssi_store.specs.Meaning.Replies.{conflict, may_run_out_of_memory, reply, reply_for, unless_conflict, unless_pivot}
 use Rattle.ssi_store.specs.Meaning.Recording.{events}
 use Rattle.ssi_store.specs.Meaning.Seeing.{changed, commit_count, own_keys, snapshot}
-use Rattle.ssi_store.specs.Mirror.Standing.{Parts, StandsFor}
+use Rattle.ssi_store.specs.Mirror.Standing.{Parts, with_snapshots, StandsFor}
 use Rattle.ssi_store.specs.Meaning.Tracked.{tracked}
 use Rattle.ssi_store.specs.Machinery.Below.{Below}
 use Rattle.ssi_store.specs.Machinery.Ends.{IsEnd}
@@ -142,12 +142,12 @@ module _ {p : Parts} {next : ℕ} {es : Sessions} {c : Course} (st : StandsFor p
           answers = inl (sym (named (Some n) least));
         }
 
-        pub committed : (holds' : List Held) (told' : List Call → Type 0) (recorded' : List Event)
-            (opened' snapshots' : List (ℕ × ℕ)) (fs : Sessions) (ws : List Entry)
+        pub committed : (holds' : List Held) (told' : List Call → Type 0) (recorded' : List Event → Type 0)
+            (opened' : List (ℕ × ℕ)) (started' : List (ℕ × ℕ) → Type 0) (fs : Sessions) (ws : List Entry)
             → IsSmallest IsOrderedPivot (Ends u (p.commits + 1) ks ∷ tracked (acts c)) None → ws ≡ written o.view
             → ((k : List ℕ) → chain_of k holds' ≡ chain_of k p.holds ++ listing (stamped (p.commits + 1) (listed k ws)))
-            → told' (Ends u (p.commits + 1) ks ∷ tracked (acts c)) → recorded' ≡ p.recorded ++ Done u ∷ []
-            → opened' ≡ shift_remove_entry (nat_eq u) p.opened → snapshots' ≡ p.snapshots
+            → told' (Ends u (p.commits + 1) ks ∷ tracked (acts c)) → ((es : List Event) → p.recorded es → recorded' (es ++ Done u ∷ []))
+            → opened' ≡ shift_remove_entry (nat_eq u) p.opened → ((ts : List (ℕ × ℕ)) → p.started ts → started' ts)
             → ((q : List ℕ) → open_at q fs ≡ cond (key_eq s q) None (open_at q es))
             → StandsFor (record {
               holds = holds';
@@ -155,16 +155,16 @@ module _ {p : Parts} {next : ℕ} {es : Sessions} {c : Course} (st : StandsFor p
               recorded = recorded';
               commits = p.commits + 1;
               opened = opened';
-              snapshots = snapshots';
+              started = started';
             }) next fs (Then c (Do.Commit s) Committed)
-        committed holds' told' recorded' opened' snapshots' fs ws least are added tells now_events now_opened now_snapshots gives =
+        committed holds' told' recorded' opened' started' fs ws least are added tells now_events now_opened now_snapshots gives =
             ended st (record {
               holds = holds';
               told = told';
               recorded = recorded';
               commits = p.commits + 1;
               opened = opened';
-              snapshots = snapshots';
+              started = started';
             }) fs s t (Commits t) (Do.Commit s) Committed (opened st s o at) gives refl refl refl (λ r. refl)
             (λ y. refl) refl
             (record {
@@ -175,9 +175,8 @@ module _ {p : Parts} {next : ℕ} {es : Sessions} {c : Course} (st : StandsFor p
                   ∙ ap (λ w. held k (changed log) ++ listing (stamped (suc (commit_count log)) w))
                   (ap (listed k) are ∙ (open_of st s o at).own k ∙ sym (last_writes_of t k log));
               tracker = subst (λ x. told' (x ∷ tracked log)) told tells;
-              events = now_events ∙ ap (λ l. l ++ Done u ∷ []) st.log.events
-                  ∙ ap (λ x. events log ++ Done x ∷ []) is_u;
+              events = subst recorded' (ap (λ x. events log ++ Done x ∷ []) is_u) (now_events (events log) st.log.events);
               opened = now_opened ∙ ap (λ x. shift_remove_entry (nat_eq x) p.opened) is_u
                   ∙ ap (shift_remove_entry (nat_eq t)) st.log.opened ∙ after_commit t log (settled st).sound;
-              snapshots = now_snapshots ∙ st.log.snapshots;
+              snapshots = now_snapshots (with_snapshots (begun log) log) st.log.snapshots;
             }) refl (inl (sym (named None least)))

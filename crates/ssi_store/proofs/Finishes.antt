@@ -53,28 +53,28 @@ module _ {p : Parts} {next : ℕ} {es : Sessions} {c : Course} (st : StandsFor p
   open_are ts are = are ∙ ap (map (λ (e : ℕ × ℕ). e.0)) st.log.opened
       ∙ first_halves (λ t. snapshot t (acts c)) (open_txns (acts c))
 
-  pub finishes : (ts : List ℕ) (h : History) → ts ≡ map (λ (e : ℕ × ℕ). e.0) p.opened
-      → h ≡ history_of_events One [] (p.recorded ++ map Ended ts) → h ≡ finished c
-  finishes ts h are is = is
-      ∙ ap (λ l. history_of_events One [] (l ++ map Ended ts)) st.log.events
+  pub finishes : (past : List Event) (ts : List ℕ) (h : History) → past ≡ events (acts c)
+      → ts ≡ map (λ (e : ℕ × ℕ). e.0) p.opened → h ≡ history_of_events One [] (past ++ map Ended ts) → h ≡ finished c
+  finishes past ts h told are is = is
+      ∙ ap (λ l. history_of_events One [] (l ++ map Ended ts)) told
       ∙ ap (λ l. history_of_events One [] (events (acts c) ++ map Ended l)) (open_are ts are)
       ∙ ap (history_of_events One [])
       (sym (close_events (begun (acts c)) (acts c) (begun_rise (acts c) (settled st).sound)))
 
-  pub dumps : (ts : List ℕ) (h : History) → ts ≡ map (λ (e : ℕ × ℕ). e.0) p.opened
-      → h ≡ history_of_events Two ts p.recorded → h ≡ dumped c
-  dumps ts h are is = is
-      ∙ ap (history_of_events Two ts) st.log.events
+  pub dumps : (past : List Event) (ts : List ℕ) (h : History) → past ≡ events (acts c)
+      → ts ≡ map (λ (e : ℕ × ℕ). e.0) p.opened → h ≡ history_of_events Two ts past → h ≡ dumped c
+  dumps past ts h told are is = is
+      ∙ ap (history_of_events Two ts) told
       ∙ ap (λ l. history_of_events Two l (events (acts c))) (open_are ts are)
 
   -- the store that is handed back stands for the same course
-  pub handed_back : (recorded' : List Event) → recorded' ≡ p.recorded
+  pub handed_back : (recorded' : List Event → Type 0) → ((es : List Event) → p.recorded es → recorded' es)
       → StandsFor (record p { recorded = recorded' }) next es c
   handed_back recorded' same = same_course st (record p { recorded = recorded' }) (record {
     commits = st.log.commits;
     chains = st.log.chains;
     tracker = st.log.tracker;
-    events = same ∙ st.log.events;
+    events = same (events (acts c)) st.log.events;
     opened = st.log.opened;
     snapshots = st.log.snapshots;
   })

@@ -48,3 +48,4 @@ pub mod LimitedScans
 pub mod LastRows
 pub mod Refusals
 pub mod Stats
+pub mod NewestVersions

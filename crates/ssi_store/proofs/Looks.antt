@@ -9,11 +9,11 @@ use Rattle.ssi_conflict.specs.Clauses.Pairs.{IsOrderedPivot, IsSmallest}
 use Rattle.ssi_conflict.specs.declared.answer.Answer.{Answer as Judged}
 use Rattle.ssi_conflict.specs.declared.answer.Answer.TheVariants.{Safe as Clear, Unsafe as Pivot}
 use Rattle.ssi_snapshot.specs.Mirror.{txn_of}
-use Rattle.ssi_store.specs.Meaning.Acts.{Act, Begins, Writes, Gets, Scans, Commits, Aborts, Collects, acts, act_by}
+use Rattle.ssi_store.specs.Meaning.Acts.{Act, Begins, Writes, Gets, Scans, Commits, Aborts, Collects, acts, act_by, begun}
 use Rattle.ssi_store.specs.Meaning.Courses.{Command, Answer, Refused, Memory, Unsafe, Course, Then}
 use Rattle.ssi_store.specs.Meaning.Recording.{events}
 use Rattle.ssi_store.specs.Meaning.Replies.{unless_pivot}
-use Rattle.ssi_store.specs.Mirror.Standing.{Parts, IsLog, StandsFor}
+use Rattle.ssi_store.specs.Mirror.Standing.{Parts, IsLog, StandsFor, with_snapshots}
 use Rattle.ssi_store.specs.Meaning.Tracked.{tracked}
 use Rattle.ssi_store.specs.Machinery.Below.{Below}
 use Rattle.ssi_store.specs.Machinery.Ends.{IsEnd}
@@ -52,43 +52,45 @@ look_open (Aborts u) log o v l is same = absurd l
 look_open Collects log o v l is same = absurd l
 
 -- what each part was told, after a get or a scan
-look_log : (p : Parts) (log : List Act) (t : ℕ) (a : Act) (told' : List Call → Type 0) (recorded' : List Event) → IsLookOf t a
-    → IsLog p log → told' (tracked (a ∷ log)) → recorded' ≡ events (a ∷ log)
-    → IsLog (record p { told = told'; recorded = recorded' }) (a ∷ log)
-look_log p log t (Gets u k) told' recorded' l is tells now = record {
+look_log : (p : Parts) (log : List Act) (t : ℕ) (a : Act) (told' : List Call → Type 0) (recorded' : List Event → Type 0)
+    (started' : List (ℕ × ℕ) → Type 0) → IsLookOf t a → IsLog p log → told' (tracked (a ∷ log))
+    → recorded' (events (a ∷ log)) → ((ts : List (ℕ × ℕ)) → p.started ts → started' ts)
+    → IsLog (record p { told = told'; recorded = recorded'; started = started' }) (a ∷ log)
+look_log p log t (Gets u k) told' recorded' started' l is tells now keeps = record {
   commits = is.commits;
   chains = is.chains;
   tracker = tells;
   events = now;
   opened = is.opened;
-  snapshots = is.snapshots;
+  snapshots = keeps (with_snapshots (begun log) log) is.snapshots;
 }
-look_log p log t (Scans u low high) told' recorded' l is tells now = record {
+look_log p log t (Scans u low high) told' recorded' started' l is tells now keeps = record {
   commits = is.commits;
   chains = is.chains;
   tracker = tells;
   events = now;
   opened = is.opened;
-  snapshots = is.snapshots;
+  snapshots = keeps (with_snapshots (begun log) log) is.snapshots;
 }
-look_log p log t (Begins u) told' recorded' l is tells now = absurd l
-look_log p log t (Writes u k c) told' recorded' l is tells now = absurd l
-look_log p log t (Commits u) told' recorded' l is tells now = absurd l
-look_log p log t (Aborts u) told' recorded' l is tells now = absurd l
-look_log p log t Collects told' recorded' l is tells now = absurd l
+look_log p log t (Begins u) told' recorded' started' l is tells now keeps = absurd l
+look_log p log t (Writes u k c) told' recorded' started' l is tells now keeps = absurd l
+look_log p log t (Commits u) told' recorded' started' l is tells now keeps = absurd l
+look_log p log t (Aborts u) told' recorded' started' l is tells now keeps = absurd l
+look_log p log t Collects told' recorded' started' l is tells now keeps = absurd l
 
 module _ {p : Parts} {next : ℕ} {es : Sessions} {c : Course} (st : StandsFor p next es c) (s : List ℕ) (t : ℕ) (calls : List Call)
     (e : Event) (a : Answer) (m : Command) (is : IsLook s t calls e a c m) where
-  pub look_memory : (told' : List Call → Type 0) (recorded' : List Event) → told' (tracked (acts c)) → recorded' ≡ p.recorded
-      → StandsFor (record p { told = told'; recorded = recorded' }) next es (Then c m (Refused Memory))
-  look_memory told' recorded' tells now =
-      refused_same (same_course st (record p { told = told'; recorded = recorded' }) (record {
+  pub look_memory : (told' : List Call → Type 0) (recorded' : List Event → Type 0) (started' : List (ℕ × ℕ) → Type 0)
+      → told' (tracked (acts c)) → ((es : List Event) → p.recorded es → recorded' es) → ((ts : List (ℕ × ℕ)) → p.started ts → started' ts)
+      → StandsFor (record p { told = told'; recorded = recorded'; started = started' }) next es (Then c m (Refused Memory))
+  look_memory told' recorded' started' tells now keeps =
+      refused_same (same_course st (record p { told = told'; recorded = recorded'; started = started' }) (record {
         commits = st.log.commits;
         chains = st.log.chains;
         tracker = tells;
-        events = now ∙ st.log.events;
+        events = now (events (acts c)) st.log.events;
         opened = st.log.opened;
-        snapshots = st.log.snapshots;
+        snapshots = keeps (with_snapshots (begun (acts c)) (acts c)) st.log.snapshots;
       })) m Memory is.proper
       (answer_memory st m _ is.replies (is.memory (smallest_ordered_pivot (tracked (is.act ∷ acts c)))))
 
@@ -97,20 +99,21 @@ module _ {p : Parts} {next : ℕ} {es : Sessions} {c : Course} (st : StandsFor p
   open_here None at n = absurd (none-some t n)
   open_here (Some v) at n = (v, at, same_Some (number_of v) t n)
 
-  done : (told' : List Call → Type 0) (recorded' : List Event) (fs : Sessions)
+  done : (told' : List Call → Type 0) (recorded' : List Event → Type 0) (started' : List (ℕ × ℕ) → Type 0)
+      (fs : Sessions)
       → smallest_ordered_pivot (tracked (is.act ∷ acts c)) ≡ None → AreCounted s es fs → told' (calls ++ tracked (acts c))
-      → recorded' ≡ p.recorded ++ e ∷ []
-      → StandsFor (record p { told = told'; recorded = recorded' }) next fs (Then c m a)
-  done told' recorded' fs none counts tells now =
+      → ((es : List Event) → p.recorded es → recorded' (es ++ e ∷ [])) → ((ts : List (ℕ × ℕ)) → p.started ts → started' ts)
+      → StandsFor (record p { told = told'; recorded = recorded'; started = started' }) next fs (Then c m a)
+  done told' recorded' started' fs none counts tells now keeps =
       let o = open_here (open_at s es) refl (st.txns s ∙ is.here) in
       let u = counts o.0 o.1 in
       let n : number_of o.0 ≡ t = o.2 in
       let looks = subst (λ x. IsLookOf x is.act) (sym n) is.looks in
-      worked st (record p { told = told'; recorded = recorded' }) fs s o.0 u.0 is.act m a o.1 u.2 (ap txn_of u.1.view)
+      worked st (record p { told = told'; recorded = recorded'; started = started' }) fs s o.0 u.0 is.act m a o.1 u.2 (ap txn_of u.1.view)
       (look_open is.act (acts c) o.0 u.0 looks (open_of st s o.0 o.1) u.1) (look_by (number_of o.0) is.act looks)
       (ap (λ x. act_by (Some x) m a) n ∙ is.does) is.txn is.keeps is.next
-      (look_log p (acts c) t is.act told' recorded' is.looks st.log (subst told' (sym is.told) tells)
-      (now ∙ ap (λ l. l ++ e ∷ []) st.log.events ∙ ap (λ l. events (acts c) ++ l) (sym is.records)))
+      (look_log p (acts c) t is.act told' recorded' started' is.looks st.log (subst told' (sym is.told) tells)
+      (subst recorded' (ap (λ l. events (acts c) ++ l) (sym is.records)) (now (events (acts c)) st.log.events)) keeps)
       is.proper (inl (sym (is.replies ∙ ap (λ y. unless_pivot y a) none)))
 
 -- a look at other transactions' writes
@@ -137,21 +140,22 @@ module _ {p : Parts} {next : ℕ} {es : Sessions} {c : Course} (st : StandsFor p
     answers = inl (sym (is.replies ∙ ap (λ y. unless_pivot y a) (named b (Some n) least)));
   }
 
-  pub looked : Below → (told' : List Call → Type 0) (recorded' : List Event) (fs : Sessions) → AreCounted s es fs
+  pub looked : Below → (told' : List Call → Type 0) (recorded' : List Event → Type 0) (started' : List (ℕ × ℕ) → Type 0)
+      (fs : Sessions) → AreCounted s es fs
       → IsSmallest IsOrderedPivot (Reads t low high ∷ tracked (acts c)) None → told' (Reads t low high ∷ tracked (acts c))
-      → recorded' ≡ p.recorded ++ e ∷ []
-      → StandsFor (record p { told = told'; recorded = recorded' }) next fs (Then c m a)
-  looked b told' recorded' fs counts least tells now =
-      done st s t (Reads t low high ∷ []) e a m is told' recorded' fs (named b None least) counts tells now
+      → ((es : List Event) → p.recorded es → recorded' (es ++ e ∷ [])) → ((ts : List (ℕ × ℕ)) → p.started ts → started' ts)
+      → StandsFor (record p { told = told'; recorded = recorded'; started = started' }) next fs (Then c m a)
+  looked b told' recorded' started' fs counts least tells now keeps =
+      done st s t (Reads t low high ∷ []) e a m is told' recorded' started' fs (named b None least) counts tells now keeps
 
 -- a look at the own writes, by which no pivot can stand
 pub looked_own : {p : Parts} {next : ℕ} {es : Sessions} {c : Course} (st : StandsFor p next es c) (s : List ℕ) (t : ℕ) (e : Event)
-    (a : Answer) (m : Command) → IsLook s t [] e a c m → Below → (told' : List Call → Type 0) (recorded' : List Event)
-    (fs : Sessions) → AreCounted s es fs → told' (tracked (acts c)) → recorded' ≡ p.recorded ++ e ∷ []
-    → StandsFor (record p { told = told'; recorded = recorded' }) next fs (Then c m a)
-looked_own {c = c} st s t e a m is b told' recorded' fs counts tells now =
+    (a : Answer) (m : Command) → IsLook s t [] e a c m → Below → (told' : List Call → Type 0) (recorded' : List Event → Type 0)
+    (started' : List (ℕ × ℕ) → Type 0) (fs : Sessions) → AreCounted s es fs → told' (tracked (acts c)) → ((es : List Event) → p.recorded es → recorded' (es ++ e ∷ [])) → ((ts : List (ℕ × ℕ)) → p.started ts → started' ts)
+    → StandsFor (record p { told = told'; recorded = recorded'; started = started' }) next fs (Then c m a)
+looked_own {c = c} st s t e a m is b told' recorded' started' fs counts tells now keeps =
     let rule = commit_order_rule b.begins b.aborts b.named in
     let none : smallest_ordered_pivot (tracked (acts c)) ≡ None =
     (b.named (tracked (acts c)) (tracked_allowed (acts c) (settled st).sound) None).1
     (no_pivot IsOrderedPivot smallest_ordered_pivot rule (acts c) (settled st).sound (settled st).safe) in
-    done st s t [] e a m is told' recorded' fs (ap smallest_ordered_pivot is.told ∙ none) counts tells now
+    done st s t [] e a m is told' recorded' started' fs (ap smallest_ordered_pivot is.told ∙ none) counts tells now keeps

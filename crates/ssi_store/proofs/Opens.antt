@@ -101,7 +101,7 @@ pub next_mod_is : (j : List ℕ) (log : List Act) (o : Open) → IsOpen log o
 next_mod_is j log o is = ap (λ w. suc (mod_of w)) (is.own j) ∙ ap suc (mod_is (number_of o) j log)
 
 -- nothing is known of a transaction that has not begun
-record Blank (t : ℕ) (log : List Act) : Type 0 where
+pub record Blank (t : ℕ) (log : List Act) : Type 0 where
   pub count : operations t log ≡ 0
   pub own : (k : List ℕ) → own_write t k log ≡ None
   pub keys : own_keys t log ≡ []
@@ -110,7 +110,7 @@ not_it : (u t : ℕ) (log : List Act) → is_open u log ≡ true → has_begun t
 not_it u t log opened fresh = false_from_ne_true (u == t)
     (λ e. both_ways _ fresh (subst (λ x. has_begun x log ≡ true) (eqb-true u t e) (open_from u log opened).begun))
 
-blank : (t : ℕ) (log : List Act) → Sound log → has_begun t log ≡ false → Blank t log
+pub blank : (t : ℕ) (log : List Act) → Sound log → has_begun t log ≡ false → Blank t log
 blank t [] s f = record { count = refl; own = λ k. refl; keys = refl }
 blank t (Begins u ∷ log) s f =
     let b = blank t log s.1 (or_parts (u == t) (has_begun t log) f).1 in

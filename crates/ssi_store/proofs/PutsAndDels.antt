@@ -1,18 +1,18 @@
 -- Put and del.
-use Rattle.std.proofs.Common.{List, None, Option, Some, ap, cond, true, inl, nat_le, refl, suc, sym, ◌≡◌, ◌∷◌, ◌++◌, ◌<◌, ◌≤◌, ◌∙◌, ℕ, []}
+use Rattle.std.proofs.Common.{List, None, Option, Some, ap, cond, true, inl, nat_le, refl, subst, suc, sym, ◌≡◌, ◌∷◌, ◌++◌, ◌<◌, ◌≤◌, ◌∙◌, ℕ, []}
 use Rattle.std.proofs.lemmas.Bool.{cond-false, cond-true, le-leb, lt-leb}
 use Rattle.adya_values.specs.Meaning.Histories.{Content, Live, Dead, Event}
 use Rattle.ssi_conflict.specs.Computing.Steps.{smallest_ordered_pivot}
 use Rattle.ssi_snapshot.specs.Mirror.{snapshot_of}
 use Rattle.ssi_snapshot.specs.Mirror as View
 use Rattle.ssi_snapshot.specs.Clauses.Writes.{next_mod, next_write, put_write}
-use Rattle.ssi_store.specs.Meaning.Acts.{Writes, acts, act_by}
+use Rattle.ssi_store.specs.Meaning.Acts.{Writes, acts, act_by, begun}
 use Rattle.ssi_store.specs.Mirror.Commands.{written}
 use Rattle.ssi_store.specs.Meaning.Courses.{Answer, Done, Refused, Idle, Long, Memory, Course, Then, txn_in, txn_for, next_txn}
 use Rattle.ssi_store.specs.Clauses.Following.{is_proper}
 use Rattle.ssi_store.specs.Meaning.Replies.{reply, reply_for, unless_long, may_run_out_of_memory}
 use Rattle.ssi_store.specs.Meaning.Recording.{events, write_event}
-use Rattle.ssi_store.specs.Mirror.Standing.{Parts, StandsFor}
+use Rattle.ssi_store.specs.Mirror.Standing.{Parts, StandsFor, with_snapshots}
 use Rattle.ssi_store.specs.Machinery.Below.{Below}
 use Rattle.ssi_store.specs.Machinery.Opens.{Sessions, open_at, number_of, IsSameOpen, IsReplaced}
 use Rattle.ssi_store.specs.declared.open.Open.{Open}
@@ -79,40 +79,43 @@ module _ {p : Parts} {next : ℕ} {es : Sessions} {c : Course} (st : StandsFor p
       is_done = reply_is ∙ cond-false {A = Answer} (nat_le 65535 o.operations) (Refused Long) Done
           (lt-leb 65535 o.operations short)
 
-      pub write_memory : (recorded' : List Event) (fs : Sessions) (v : Open) → IsReplaced s v es fs → IsSameOpen o v
-          → recorded' ≡ p.recorded
-          → StandsFor (record p { recorded = recorded' }) next fs (Then c (written s k x) (Refused Memory))
-      write_memory recorded' fs v gives same now =
+      pub write_memory : (recorded' : List Event → Type 0) (started' : List (ℕ × ℕ) → Type 0)
+          (fs : Sessions) (v : Open) → IsReplaced s v es fs → IsSameOpen o v
+          → ((es : List Event) → p.recorded es → recorded' es) → ((ts : List (ℕ × ℕ)) → p.started ts → started' ts)
+          → StandsFor (record p { recorded = recorded'; started = started' }) next fs (Then c (written s k x) (Refused Memory))
+      write_memory recorded' started' fs v gives same now keeps =
           let f = facts s k x c in
-          refused st (record p { recorded = recorded' }) fs (written s k x) Memory
+          refused st (record p { recorded = recorded'; started = started' }) fs (written s k x) Memory
           (record {
             commits = st.log.commits;
             chains = st.log.chains;
             tracker = st.log.tracker;
-            events = now ∙ st.log.events;
+            events = now (events (acts c)) st.log.events;
             opened = st.log.opened;
-            snapshots = st.log.snapshots;
+            snapshots = keeps (with_snapshots (begun (acts c)) (acts c)) st.log.snapshots;
           }) (replaced s o v es fs at same gives) f.proper
           (answer_memory st (written s k x) Done is_done f.memory)
 
-      pub write_done : Below → (recorded' : List Event) (fs : Sessions) (t m : ℕ) (v : Open) → IsReplaced s v es fs
-          → t ≡ number_of v → m ≡ next_mod k (View.written o.view) → recorded' ≡ p.recorded ++ write_event t k m x ∷ []
+      pub write_done : Below → (recorded' : List Event → Type 0) (started' : List (ℕ × ℕ) → Type 0)
+          (fs : Sessions) (t m : ℕ) (v : Open) → IsReplaced s v es fs
+          → t ≡ number_of v → m ≡ next_mod k (View.written o.view) → ((es : List Event) → p.recorded es → recorded' (es ++ write_event t k m x ∷ []))
+          → ((ts : List (ℕ × ℕ)) → p.started ts → started' ts)
           → (number_of v ≡ number_of o) × (snapshot_of v.view ≡ snapshot_of o.view) → v.operations ≡ suc o.operations
           → View.written v.view ≡ put_write (next_write (number_of o) k x (View.written o.view)) (View.written o.view)
-          → StandsFor (record p { recorded = recorded' }) next fs (Then c (written s k x) Done)
-      write_done b recorded' fs t m v gives is_t is_m now same count puts =
+          → StandsFor (record p { recorded = recorded'; started = started' }) next fs (Then c (written s k x) Done)
+      write_done b recorded' started' fs t m v gives is_t is_m now keeps same count puts =
           let f = facts s k x c in
           let is = open_of st s o at in
-          worked st (record p { recorded = recorded' }) fs s o v (Writes (number_of o) k x) (written s k x) Done at gives
+          worked st (record p { recorded = recorded'; started = started' }) fs s o v (Writes (number_of o) k x) (written s k x) Done at gives
           same.0 (open_written b k x (acts c) o v is same.0 same.1 count puts) refl (f.does (number_of o)) f.of (λ y. refl)
           f.next
           (record {
             commits = st.log.commits;
             chains = st.log.chains;
             tracker = st.log.tracker;
-            events = now ∙ ap (λ l. l ++ write_event t k m x ∷ []) st.log.events
-                ∙ ap (λ u. events (acts c) ++ write_event u k m x ∷ []) (is_t ∙ same.0)
-                ∙ ap (λ n. events (acts c) ++ write_event (number_of o) k n x ∷ []) (is_m ∙ next_mod_is k (acts c) o is);
+            events = subst recorded' (ap (λ u. events (acts c) ++ write_event u k m x ∷ []) (is_t ∙ same.0)
+                ∙ ap (λ n. events (acts c) ++ write_event (number_of o) k n x ∷ []) (is_m ∙ next_mod_is k (acts c) o is))
+                (now (events (acts c)) st.log.events);
             opened = st.log.opened;
-            snapshots = st.log.snapshots;
+            snapshots = keeps (with_snapshots (begun (acts c)) (acts c)) st.log.snapshots;
           }) f.proper (inl (sym is_done))

@@ -1,5 +1,5 @@
 -- What holds of every course, or of every course whose answers are the replies, by either rule.
-use Rattle.std.specs.Prelude.{◌≡◌, ℕ, ◌≤◌, Bool, true, false, List, [], ◌∷◌, take, Option, Some, None, ◌↔◌, ◌<◌, if◌then◌else◌, length, map}
+use Rattle.std.specs.Prelude.{◌≡◌, ℕ, ◌≤◌, Bool, true, false, List, [], ◌∷◌, take, Option, Some, None, ◌↔◌, ◌<◌, if◌then◌else◌, filter, length, map}
 use Rattle.ssi_conflict.specs.Meaning.Kept.{open_count}
 use Rattle.adya_values.specs.Meaning.Events.{listed}
 use Rattle.adya_keys.specs.Meaning.Keys.{Key, Bytes, key_le, keys_rise, lies_in}
@@ -14,8 +14,9 @@ use Rattle.ssi_versions.specs.Clauses.ByStamp.{newest_within}
 use Rattle.ssi_versions.specs.Clauses.Conditions.{AreInstallable, IsProtected}
 use Rattle.ssi_store.specs.Meaning.Courses.{Command, Get, Scan, ScanFirst, Commit, Collect, Stat, Course, Unsafe, txn_for, txn_in, next_txn}
 use Rattle.ssi_snapshot.specs.Meaning.Reached.{reached}
-use Rattle.ssi_store.specs.Meaning.Acts.{Act, Gets, Scans, Commits, Collects, acts, is_open, has_begun, begun, open_txns}
+use Rattle.ssi_store.specs.Meaning.Acts.{Act, Begins, Gets, Scans, Commits, Collects, acts, is_open, has_begun, begun, open_txns}
 use Rattle.ssi_store.specs.Meaning.Seeing.{snapshot, changed, sees, scanned}
+use Rattle.ssi_store.specs.Meaning.Contents.{contents_after}
 use Rattle.ssi_store.specs.Meaning.Tracked.{tracked}
 use Rattle.ssi_store.specs.Meaning.Replies.{rows, reply_in, reply, is_overtaken, conflict}
 use Rattle.ssi_store.specs.Clauses.Following.{Follows}
@@ -162,3 +163,13 @@ ScansListSeen = (t : ℕ) (low high : Key) (log : List Act) → ListsSeen t low 
 -- the tracker counts the open transactions of a log
 abbrev pub OpenAreCounted : Type 0
 OpenAreCounted = (log : List Act) → open_count (tracked log) ≡ length (open_txns log)
+
+-- by whatever rule, the finals of a course's histories are what the store holds, whether or not the course is over
+abbrev pub FinalsAreContents : Type 0
+FinalsAreContents = (pivot : List Call → Option ℕ) (c : Course) → Follows pivot c
+    → ((finished c).finals ≡ contents_after c) × ((dumped c).finals ≡ contents_after c)
+
+-- a transaction that begins now sees of a range the rows that the store holds of it
+abbrev pub NewTxnsSeeContents : Type 0
+NewTxnsSeeContents = (pivot : List Call → Option ℕ) (c : Course) → Follows pivot c → (t : ℕ) → has_begun t (acts c) ≡ false
+    → (low high : Key) → rows t low high (Begins t ∷ acts c) ≡ filter (λ f. lies_in low high f.key) (contents_after c)

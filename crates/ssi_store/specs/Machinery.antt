@@ -6,6 +6,7 @@
 -- RosterRoom: the room of a roster.
 -- Overtaken: the keys by which a commit is refused.
 -- Looks: what a get and both kinds of scans share.
+-- HeldRows: held versions as entries.
 pub mod Below
 pub mod Opens
 pub mod Ends
@@ -13,3 +14,4 @@ pub mod Rosters
 pub mod RosterRoom
 pub mod Overtaken
 pub mod Looks
+pub mod HeldRows

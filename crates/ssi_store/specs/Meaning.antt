@@ -2,6 +2,7 @@
 pub mod Courses
 pub mod Acts
 pub mod Seeing
+pub mod Contents
 pub mod Tracked
 pub mod Replies
 pub mod Recording

@@ -10,6 +10,7 @@ ghost use Rattle.ssi_store.specs.Meaning.Replies.{got};
 
 use crate::below::laws_below;
 use crate::engine::Engine;
+use crate::past::Past;
 use crate::sessions::open_of;
 use crate::{Refusal, Reply, Session};
 use adya_values::{Content, Event, Key};
@@ -18,7 +19,7 @@ use ssi_snapshot::View;
 use ssi_versions::Chains;
 use std::alloc::{AllocError, Global};
 
-impl<C: Chains + Drop, M: Marks + Drop> Engine<C, M> {
+impl<C: Chains + Drop, M: Marks + Drop, P: Past + Drop> Engine<C, M, P> {
     ghost use Rattle.ssi_store.specs.Meaning.Courses.{Command as Do};
     ghost use Rattle.ssi_store.specs.Mirror.Commands.{answer_of};
     ghost use Rattle.ssi_store.specs.Mirror.Standing.{GoesOn};
@@ -26,7 +27,7 @@ impl<C: Chains + Drop, M: Marks + Drop> Engine<C, M> {
     /// Reads the key. A key that the transaction has written is read from its own writes, and meets no other
     /// transaction.
     pub(crate) fn get(&mut self, session: Session, key: Key) -> Result<Reply, Refusal>
-        ensures stands { GoesOn C.held M.marked self.old self.new (Do.Get session key) (answer_of result) }
+        ensures stands { GoesOn C.held M.marked P.recorded P.started self.old self.new (Do.Get session key) (answer_of result) }
     {
         laws_below();
         let open = open_of(&self.sessions, session)?;

@@ -1,7 +1,7 @@
 //! Laws of courses, each proved as the contract of a function whose body does nothing but call the laws of the store's
 //! parts.
 
-ghost use Rattle.ssi_store.specs.Laws.{FinishedAreCovered, OrderedFinishedAreCovered, DumpedAreCovered, OrderedDumpedAreCovered, FinishedRecord, DumpedRecord, CallsAreAllowed, OpenSnapshotsAreHeld, OrderedRefusesNoMore, CollectionsChangeNoReply, UnsafeNamesSmallest, OrderedUnsafeNamesSmallest, SessionsAreInOrder, NoPivotStands, NoOrderedPivotStands, ConflictIsLeast, ScansListSeen, OpenAreCounted};
+ghost use Rattle.ssi_store.specs.Laws.{FinishedAreCovered, OrderedFinishedAreCovered, DumpedAreCovered, OrderedDumpedAreCovered, FinishedRecord, DumpedRecord, CallsAreAllowed, OpenSnapshotsAreHeld, OrderedRefusesNoMore, CollectionsChangeNoReply, UnsafeNamesSmallest, OrderedUnsafeNamesSmallest, SessionsAreInOrder, NoPivotStands, NoOrderedPivotStands, ConflictIsLeast, ScansListSeen, OpenAreCounted, FinalsAreContents, NewTxnsSeeContents};
 ghost use Rattle.ssi_store.specs.Meaning.Courses.{Answer, Command, Course, Refusal, Refused, Stat, Then};
 ghost use Rattle.ssi_store.specs.Mirror.Stores.{IsAt};
 
@@ -111,6 +111,20 @@ pub fn scans_list_seen()
 /// The tracker counts as many open transactions as the course has. So stat counts the transactions of the sessions.
 pub fn open_are_counted()
     ensures { OpenAreCounted }
+{}
+
+/// The finals of a course's history are what the store holds after it, whether the history is that of a course that is over
+/// or the one so far. So a store that begins with the finals of another one goes on with its contents.
+pub fn finals_are_contents()
+    ensures { FinalsAreContents }
+{
+    commits_are_listed();
+}
+
+/// A transaction that begins now sees of each range the rows that the store holds of it, and no others. So the contents are
+/// what the next transaction sees.
+pub fn new_txns_see_contents()
+    ensures { NewTxnsSeeContents }
 {}
 
 /// A store that stands for a course in which the last command was refused stands for the course without that command, too.

@@ -1,4 +1,4 @@
-//! Which transactions have begun, and which of them are open.
+//! Which transactions are open.
 
 ghost use Rattle.std.specs.Prelude.{◌≡◌, ℕ, true, [], ◌∷◌, ◌++◌, nat_eq, map, length, OnOk, IfOk};
 ghost use Rattle.indexmap.specs.IndexMap.{insert_entry, shift_remove_entry};
@@ -9,24 +9,21 @@ use adya_values::Txn;
 use indexmap::IndexMap;
 use std::alloc::{AllocError, Global};
 
-/// The transactions with their snapshots, in the order in which they began.
+/// The open transactions with their snapshots, in the order in which they began.
 #[derive(Drop)]
 pub(crate) struct Roster {
-    snapshots: Vec<(Txn, u64)>,
     open_txns: IndexMap<Txn, u64>,
     ghost rising: { numbers_rise (txns_in open_txns.entries) ≡ true },
 }
 
 impl Roster {
-    ghost use Rattle.ssi_store.specs.Mirror.Rosters.{open_in, snapshots_of};
+    ghost use Rattle.ssi_store.specs.Mirror.Rosters.{open_in};
     ghost use Rattle.ssi_store.specs.Machinery.RosterRoom.{HasRoom};
 
     pub fn new(alloc: Global) -> Roster
         ensures opened { open_in result ≡ [] }
-        ensures snapshots { snapshots_of result ≡ [] }
     {
         Roster {
-            snapshots: Vec::new(alloc),
             open_txns: IndexMap::new(alloc),
         }
     }
@@ -34,10 +31,8 @@ impl Roster {
     /// Makes room for one more transaction. The transactions stay.
     pub fn room(&mut self) -> Result<(), AllocError>
         ensures opened { open_in self.new ≡ open_in self.old }
-        ensures snapshots { snapshots_of self.new ≡ snapshots_of self.old }
         ensures room { OnOk result (HasRoom self.new) }
     {
-        self.snapshots.reserve(1)?;
         self.open_txns.reserve(1)
     }
 
@@ -46,16 +41,13 @@ impl Roster {
         requires room { HasRoom self.old }
         requires above { AreBelow txn (open_in self.old) }
         ensures opened { open_in self.new ≡ insert_entry nat_eq (open_in self.old) txn snapshot }
-        ensures snapshots { snapshots_of self.new ≡ snapshots_of self.old ++ (txn, snapshot) ∷ [] }
     {
-        self.snapshots.push_reserved((txn, snapshot));
         let _added = self.open_txns.insert(txn, snapshot);
     }
 
     /// The transaction is no longer open.
     pub fn end(&mut self, txn: Txn)
         ensures opened { open_in self.new ≡ shift_remove_entry (nat_eq txn) (open_in self.old) }
-        ensures snapshots { snapshots_of self.new ≡ snapshots_of self.old }
     {
         self.open_txns.shift_remove(&txn);
     }
@@ -80,19 +72,5 @@ impl Roster {
         ensures { result.now ≡ map (λ (e : ℕ × ℕ). e.1) (open_in self.now) }
     {
         self.open_txns.values().as_slice()
-    }
-
-    /// Returns all transactions with their snapshots.
-    pub fn into_snapshots(self) -> Vec<(Txn, u64)>
-        ensures { result.items ≡ snapshots_of self }
-    {
-        self.snapshots
-    }
-
-    /// Returns a copy of the list of all transactions with their snapshots.
-    pub fn copy_snapshots(&self, alloc: Global) -> Result<Vec<(Txn, u64)>, AllocError>
-        ensures { IfOk result (λ v. v.items ≡ snapshots_of self.now) }
-    {
-        Vec::from_slice(alloc, self.snapshots.as_slice())
     }
 }

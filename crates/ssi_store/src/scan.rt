@@ -1,29 +1,29 @@
 //! Scan and limited scan.
 
-ghost use Rattle.std.specs.Prelude.{◌≡◌, ◌++◌, ◌∷◌, [], map, IfOk, OnOk};
-ghost use Rattle.adya_values.specs.Mirror.Events.{entry_of, final_of};
-ghost use Rattle.adya_values.specs.Meaning.Serial.{visible_pairs};
+ghost use Rattle.std.specs.Prelude.{◌≡◌, map};
+ghost use Rattle.adya_values.specs.Mirror.Events.{final_of};
 ghost use Rattle.std.specs.Int.NonZero.{non_zero_u16_get};
 ghost use Rattle.ssi_snapshot.specs.Meaning.Reached.{reached};
 
 use crate::below::laws_below;
 use crate::engine::Engine;
+use crate::past::Past;
+use crate::rows::rows_of;
 use crate::sessions::open_of;
 use crate::{Refusal, Reply, Session};
-use adya_values::{Content, Entry, Event, FinalPair, Key};
+use adya_values::{Event, FinalPair, Key};
 use ssi_reads::Marks;
 use ssi_versions::Chains;
-use std::alloc::{AllocError, Global};
 use std::num::NonZeroU16;
 
-impl<C: Chains + Drop, M: Marks + Drop> Engine<C, M> {
+impl<C: Chains + Drop, M: Marks + Drop, P: Past + Drop> Engine<C, M, P> {
     ghost use Rattle.ssi_store.specs.Meaning.Courses.{Command as Do};
     ghost use Rattle.ssi_store.specs.Mirror.Commands.{answer_of};
     ghost use Rattle.ssi_store.specs.Mirror.Standing.{GoesOn};
 
     /// Reads the keys from `low` to `high`, both included.
     pub(crate) fn scan(&mut self, session: Session, low: Key, high: Key) -> Result<Reply, Refusal>
-        ensures stands { GoesOn C.held M.marked self.old self.new (Do.Scan session low high) (answer_of result) }
+        ensures stands { GoesOn C.held M.marked P.recorded P.started self.old self.new (Do.Scan session low high) (answer_of result) }
     {
         laws_below();
         let open = open_of(&self.sessions, session)?;
@@ -52,7 +52,7 @@ impl<C: Chains + Drop, M: Marks + Drop> Engine<C, M> {
         high: Key,
         limit: NonZeroU16,
     ) -> Result<Reply, Refusal>
-        ensures stands { GoesOn C.held M.marked self.old self.new (Do.ScanFirst session low high (non_zero_u16_get limit)) (answer_of result) }
+        ensures stands { GoesOn C.held M.marked P.recorded P.started self.old self.new (Do.ScanFirst session low high (non_zero_u16_get limit)) (answer_of result) }
     {
         laws_below();
         let n = limit.get();
@@ -73,33 +73,6 @@ impl<C: Chains + Drop, M: Marks + Drop> Engine<C, M> {
         };
         self.show(session, txn, low, last, event, Reply::Rows { rows })
     }
-}
-
-/// Adds the key and value of an entry that is visible.
-fn push_row(rows: &mut Vec<FinalPair>, entry: &Entry) -> Result<(), AllocError>
-    ensures { OnOk result (map final_of rows.new.items ≡ map final_of rows.old.items ++ visible_pairs (entry_of entry.now ∷ [])) }
-{
-    match entry.content {
-        Content::Live(value) => {
-            rows.push(FinalPair {
-                key: entry.version.key,
-                value,
-            })?;
-            Ok(())
-        }
-        Content::Dead => Ok(()),
-    }
-}
-
-/// Returns the keys and values of the entries that are visible.
-fn rows_of(alloc: Global, entries: &[Entry]) -> Result<Vec<FinalPair>, AllocError>
-    ensures { IfOk result (λ v. map final_of v.items ≡ visible_pairs (map entry_of entries.now)) }
-{
-    let mut rows = Vec::new(alloc);
-    'entries: for entry in entries {
-        push_row(&mut rows, entry)?;
-    }
-    Ok(rows)
 }
 
 /// Returns how far a limited scan looked that found these rows.

@@ -1,6 +1,6 @@
 //! The open transactions of the sessions.
 
-ghost use Rattle.std.specs.Prelude.{◌≡◌, ◌<◌, ◌≤◌, ◌+◌, List, ℕ, Some, None, cond, is_some, if◌then◌else◌, IfSome, IfOk, IfErr};
+ghost use Rattle.std.specs.Prelude.{◌≡◌, ◌<◌, ◌≤◌, ◌+◌, List, [], ℕ, Some, None, true, cond, is_some, if◌then◌else◌, IfSome, IfNone, IfOk, IfErr};
 ghost use Rattle.indexmap.specs.IndexMap.{index_map_len, spare};
 ghost use Rattle.adya_keys.specs.Meaning.Keys.{key_eq};
 ghost use Rattle.ssi_store.specs.Machinery.Opens.{open_at, AreCounted, IsReplaced};
@@ -52,4 +52,15 @@ pub(crate) fn remove(sessions: &mut IndexMap<Session, Open>, session: Session) -
     ensures len { index_map_len sessions.new + (if result then 1 else 0) ≡ index_map_len sessions.old }
 {
     sessions.swap_remove(&session).is_some()
+}
+
+/// Returns a session that has a transaction. `None` if there is none.
+pub(crate) fn first_of(sessions: &IndexMap<Session, Open>) -> Option<Session>
+    ensures some { IfSome result (λ s. is_some (open_at s sessions.now.entries) ≡ true) }
+    ensures none { IfNone result (sessions.now.entries ≡ []) }
+{
+    match sessions.get_index(0) {
+        Some((session, _)) => Some(*session),
+        None => None,
+    }
 }

@@ -7,6 +7,7 @@ ghost use Rattle.ssi_store.specs.Mirror.Commands.{reply_of};
 
 use crate::below::laws_below;
 use crate::engine::Engine;
+use crate::past::Past;
 use crate::sessions::count_at;
 use crate::{Refusal, Reply, Session};
 use adya_values::{Event, Key, Txn};
@@ -14,7 +15,7 @@ use ssi_conflict::Answer;
 use ssi_reads::Marks;
 use ssi_versions::Chains;
 
-impl<C: Chains + Drop, M: Marks + Drop> Engine<C, M> {
+impl<C: Chains + Drop, M: Marks + Drop, P: Past + Drop> Engine<C, M, P> {
     ghost use Rattle.ssi_store.specs.Meaning.Courses.{Course, Then, Command as Do};
     ghost use Rattle.ssi_store.specs.Mirror.Commands.{answer_of};
     ghost use Rattle.ssi_store.specs.Mirror.Standing.{IsAt};
@@ -33,18 +34,18 @@ impl<C: Chains + Drop, M: Marks + Drop> Engine<C, M> {
         reply: Reply,
     ) -> Result<Reply, Refusal>
         requires { IfSome (open_at session self.old.sessions.entries) (λ o. o.operations < 65535) }
-        ensures stands { (c : Course) (m : Do) → IsAt C.held M.marked self.old c
+        ensures stands { (c : Course) (m : Do) → IsAt C.held M.marked P.recorded P.started self.old c
             → IsLook session txn (Reads txn low high ∷ []) (event_of event) (reply_of reply) c m
-            → IsAt C.held M.marked self.new (Then c m (answer_of result)) }
+            → IsAt C.held M.marked P.recorded P.started self.new (Then c m (answer_of result)) }
     {
         laws_below();
-        self.recorder.room(event.entry_count())?;
+        self.past.room(event.entry_count())?;
         let answer = self.tracker.on_read(txn, low, high)?;
         if let Answer::Unsafe { pivot } = answer {
             self.drop_txn(session, txn);
             return Ok(Reply::Unsafe { pivot });
         }
-        self.recorder.event(event);
+        self.past.event(event);
         count_at(&mut self.sessions, session);
         Ok(reply)
     }
@@ -58,13 +59,13 @@ impl<C: Chains + Drop, M: Marks + Drop> Engine<C, M> {
         reply: Reply,
     ) -> Result<Reply, Refusal>
         requires { IfSome (open_at session self.old.sessions.entries) (λ o. o.operations < 65535) }
-        ensures stands { (c : Course) (m : Do) (t : ℕ) → IsAt C.held M.marked self.old c
+        ensures stands { (c : Course) (m : Do) (t : ℕ) → IsAt C.held M.marked P.recorded P.started self.old c
             → IsLook session t [] (event_of event) (reply_of reply) c m
-            → IsAt C.held M.marked self.new (Then c m (answer_of result)) }
+            → IsAt C.held M.marked P.recorded P.started self.new (Then c m (answer_of result)) }
     {
         laws_below();
-        self.recorder.room(event.entry_count())?;
-        self.recorder.event(event);
+        self.past.room(event.entry_count())?;
+        self.past.event(event);
         count_at(&mut self.sessions, session);
         Ok(reply)
     }

@@ -1,14 +1,20 @@
 //! The store.
 
-ghost use Rattle.std.specs.Prelude.{◌≡◌, [], IfOk, IfErr};
+ghost use Rattle.std.specs.Prelude.{◌≡◌, [], map, true, None, is_some, IfOk, IfErr, IfSome, IfNone};
+ghost use Rattle.adya_keys.specs.Meaning.Keys.{Bytes};
+ghost use Rattle.adya_values.specs.Mirror.Events.{final_of};
 ghost use Rattle.ssi_reads.specs.Clauses.Marks.{IsEmpty};
 ghost use Rattle.ssi_conflict.specs.Clauses.Pairs.{IsOrderedPivot};
 ghost use Rattle.ssi_conflict.specs.Computing.Steps.{smallest_ordered_pivot};
+ghost use Rattle.ssi_store.specs.Mirror.Pasts.{HasEvents, HasStarts};
 ghost use Rattle.ssi_store.specs.Mirror.Standing.{HasCourse};
 
 use crate::engine::Engine;
-use crate::{Command, Finished, Refusal, Reply};
-use adya_values::Txn;
+use crate::histories::{dump, finish};
+use crate::sessions::first_of;
+use crate::whole_past::WholePast;
+use crate::{Command, Finished, Refusal, Reply, Session};
+use adya_values::{FinalPair, Txn};
 use ssi_reads::Marks;
 use ssi_versions::Chains;
 use std::alloc::{AllocError, Global};
@@ -22,13 +28,14 @@ use std::alloc::{AllocError, Global};
 /// A store always stands for some course, so each history that it gives has a certificate.
 #[derive(Drop)]
 pub struct Store<C: Chains + Drop, M: Marks + Drop> {
-    engine: Engine<C, M>,
-    ghost stands: { HasCourse C.held M.marked engine },
+    engine: Engine<C, M, WholePast>,
+    ghost stands: { HasCourse C.held M.marked HasEvents HasStarts engine },
 }
 
 impl<C: Chains + Drop, M: Marks + Drop> Store<C, M> {
-    ghost use Rattle.ssi_store.specs.Meaning.Courses.{Course, New};
+    ghost use Rattle.ssi_store.specs.Meaning.Courses.{Course, New, txn_in};
     ghost use Rattle.ssi_store.specs.Meaning.Replies.{IsAnswer};
+    ghost use Rattle.ssi_store.specs.Meaning.Contents.{contents_after};
     ghost use Rattle.ssi_store.specs.Mirror.Commands.{command_of, answer_of};
     ghost use Rattle.ssi_store.specs.Meaning.Recording.{dumped};
     ghost use Rattle.ssi_store.specs.Clauses.Finished.{finished};
@@ -52,7 +59,7 @@ impl<C: Chains + Drop, M: Marks + Drop> Store<C, M> {
         requires marks { IsEmpty (M.marked marks) }
         ensures { IsAt C.held M.marked result (New next) }
     {
-        let engine = Engine::with_next(alloc, chains, marks, next);
+        let engine = Engine::with_next(alloc, chains, marks, WholePast::new(alloc), next);
         Store { engine }
     }
 
@@ -67,6 +74,24 @@ impl<C: Chains + Drop, M: Marks + Drop> Store<C, M> {
         self.engine.apply(command)
     }
 
+    /// Returns a session that has a transaction. `None` if no session has one.
+    pub fn open_session(&self) -> Option<Session>
+        ensures some { IfSome result (λ s. (c : Course) → IsAt C.held M.marked self.now c → is_some (txn_in s c) ≡ true) }
+        ensures none { IfNone result ((c : Course) → IsAt C.held M.marked self.now c → (s : Bytes) → txn_in s c ≡ None) }
+    {
+        first_of(&self.engine.sessions)
+    }
+
+    /// Returns by rising key what a transaction would see that begins now: the newest committed value of each key that has
+    /// one. What open transactions have written is not among it. The store stays as it is.
+    ///
+    /// Returns `AllocError` if memory runs out.
+    pub fn contents(&self) -> Result<Vec<FinalPair>, AllocError>
+        ensures { IfOk result (λ v. (c : Course) → IsAt C.held M.marked self.now c → map final_of v.items ≡ contents_after c) }
+    {
+        self.engine.contents()
+    }
+
     /// Ends the store. Its history has an abort of each open transaction at its end, by rising number.
     ///
     /// The history records the course of the store. It is a checked snapshot history by these snapshots, without a dangerous
@@ -78,7 +103,7 @@ impl<C: Chains + Drop, M: Marks + Drop> Store<C, M> {
         ensures covered { IfOk result (λ f. (c : Course) → IsAt C.held M.marked self c → IsCovered IsOrderedPivot c (recorded_in f)) }
         ensures err { IfErr result (λ e. (c : Course) → IsAt C.held M.marked self c → IsAt C.held M.marked e.0 c) }
     {
-        match self.engine.finish() {
+        match finish(self.engine) {
             Ok(finished) => Ok(finished),
             Err((engine, e)) => Err((Store { engine }, e)),
         }
@@ -94,6 +119,6 @@ impl<C: Chains + Drop, M: Marks + Drop> Store<C, M> {
         ensures records { IfOk result (λ f. (c : Course) → IsAt C.held M.marked self.now c → RecordsSoFar (recorded_in f) c) }
         ensures covered { IfOk result (λ f. (c : Course) → IsAt C.held M.marked self.now c → IsCovered IsOrderedPivot c (recorded_in f)) }
     {
-        self.engine.dump()
+        dump(&self.engine)
     }
 }

@@ -6,12 +6,13 @@ ghost use Rattle.ssi_store.specs.Meaning.Recording.{write_event as recorded_writ
 
 use crate::below::laws_below;
 use crate::engine::Engine;
+use crate::past::Past;
 use crate::{Refusal, Reply, Session};
 use adya_values::{Content, Event, Key, Mod, Txn};
 use ssi_reads::Marks;
 use ssi_versions::Chains;
 
-impl<C: Chains + Drop, M: Marks + Drop> Engine<C, M> {
+impl<C: Chains + Drop, M: Marks + Drop, P: Past + Drop> Engine<C, M, P> {
     ghost use Rattle.ssi_store.specs.Mirror.Commands.{answer_of, written};
     ghost use Rattle.ssi_store.specs.Mirror.Standing.{GoesOn};
 
@@ -22,17 +23,17 @@ impl<C: Chains + Drop, M: Marks + Drop> Engine<C, M> {
         key: Key,
         content: Content,
     ) -> Result<Reply, Refusal>
-        ensures stands { GoesOn C.held M.marked self.old self.new (written session key (content_of content)) (answer_of result) }
+        ensures stands { GoesOn C.held M.marked P.recorded P.started self.old self.new (written session key (content_of content)) (answer_of result) }
     {
         laws_below();
         let Some(open) = self.sessions.get_mut(&session) else {
             return Err(Refusal::Idle);
         };
         open.may_go_on()?;
-        self.recorder.room(0)?;
+        self.past.room(0)?;
         let m = open.write(key, content)?;
         let txn = open.view.txn();
-        self.recorder.event(write_event(txn, key, m, content));
+        self.past.event(write_event(txn, key, m, content));
         Ok(Reply::Done)
     }
 }

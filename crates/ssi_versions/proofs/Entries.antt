@@ -1,7 +1,7 @@
 -- What one step does to the entries of a map of chains.
 use Rattle.std.proofs.Common.{◌≡◌, ℕ, suc, ◌≤◌, ◌+◌, Bool, true, false, cond, ◌&&◌, ◌||◌, if◌then◌else◌, List, [], ◌∷◌, ◌++◌, map, length, None, Some, refl, ◌∙◌, ap, sym, subst, append_assoc, append-nil, arith, IsSomeAnd}
 use Rattle.std.specs.List.{list_all, list_any, IsDistinct}
-use Rattle.std.specs.Map.{lookup, set_value, keys_of}
+use Rattle.std.specs.Map.{lookup, set_value, keys_of, values_of}
 use Rattle.std.specs.Ordering.{nat_cmp, match_ordering, is_eq, eq_by_cmp}
 use Rattle.std.specs.declared.cmp.Ordering.TheVariants.{Less, Equal, Greater}
 use Rattle.std.specs.BTreeMap.{is_at, insert_entry}
@@ -29,7 +29,7 @@ use Rattle.ssi_versions.specs.Machinery.Plain.{as_held}
 use Rattle.ssi_versions.proofs.ByKey.{installed}
 use Rattle.ssi_versions.specs.declared.place.Place.{Place}
 use Rattle.ssi_versions.specs.Mirror.{held_of, write_of, is_of, chain_of, key_total}
-use Rattle.ssi_versions.specs.Machinery.Keyed.{Chain, placed, held_in, kept_at, held_under, held_at, versions, AreByStamp, is_owned, is_filled, filled_count, HasRoomAt}
+use Rattle.ssi_versions.specs.Machinery.Keyed.{Chain, placed, held_in, kept_at, held_under, held_at, versions, AreByStamp, StandByStamp, is_owned, is_filled, filled_count, HasRoomAt}
 use Rattle.ssi_versions.proofs.Lists.{all-push}
 use Rattle.ssi_versions.proofs.Ranges.{tied}
 
@@ -334,3 +334,7 @@ range_by_stamp low high (e ∷ es) by =
       | true ↦ (by.0, range_by_stamp low high es by.1)
       | false ↦ range_by_stamp low high es by.1
     ]
+
+pub values_by_stamp : (es : List Chain) → AreByStamp es → StandByStamp (values_of es)
+values_by_stamp [] by = by
+values_by_stamp (e ∷ es) by = (by.0, values_by_stamp es by.1)

@@ -1,4 +1,4 @@
--- What a range shows, key by key.
+-- What a range or a whole map shows, key by key.
 use Rattle.std.proofs.Common.{◌≡◌, ℕ, ◌<◌, ◌+◌, Bool, true, false, cond, ◌&&◌, if◌then◌else◌, List, [], ◌∷◌, map, length, take, get_or, Option, Some, None, refl, ◌∙◌, ap, sym, nat_le, option_map, Less, Equal, Greater}
 use Rattle.std.specs.List.{list_all}
 use Rattle.std.specs.Map.{lookup, keys_of, values_of}
@@ -7,7 +7,7 @@ use Rattle.std.specs.Ordering.{nat_cmp, match_ordering, is_eq, is_lt}
 use Rattle.std.specs.List.Sorted.{IsStrictlySortedBy}
 use Rattle.std.specs.Cmp.Lexicographic.{slice_cmp, texts_ties, same_text, nat_list_eq_equiv}
 use Rattle.std.proofs.lemmas.Bool.{and_parts, and_from}
-use Rattle.adya_keys.specs.Meaning.Keys.{key_eq, key_lt, keys_rise, lies_in}
+use Rattle.adya_keys.specs.Meaning.Keys.{key_eq, key_lt, keys_rise}
 use Rattle.ssi_versions.specs.Meaning.Changes.{Held, otherwise}
 use Rattle.ssi_versions.specs.Clauses.ByStamp.{newest_within}
 use Rattle.ssi_versions.specs.declared.held.Held.{Held as HeldValue}
@@ -18,56 +18,57 @@ use Rattle.ssi_versions.proofs.ByKey.{alone, newest_within-append, chain-more}
 pub tied : (k q : List ℕ) → is_at (slice_cmp nat_cmp k) q ≡ key_eq k q
 tied k q = sym (texts_ties k q)
 
-abbrev pub seen_at : List ℕ → List ℕ → ℕ → List ℕ → List HeldValue → Option Held
-seen_at low high s key xs = if lies_in low high key then newest_within s (chain_of key (map held_of xs)) else None
+-- what a snapshot at the stamp sees of the key, if the key passes the test
+abbrev pub seen_at : (List ℕ → Bool) → ℕ → List ℕ → List HeldValue → Option Held
+seen_at passes s key xs = if passes key then newest_within s (chain_of key (map held_of xs)) else None
 
-seen_more : (low high : List ℕ) (s : ℕ) (key : List ℕ) (xs : List HeldValue) (i : ℕ) (x : HeldValue) → i < length xs → x ≡ get_or xs i x
-    → seen_at low high s key (take (i + 1) xs) ≡ cond (key_eq x.version.key key && (lies_in low high x.version.key && nat_le x.stamp s)) (Some (held_of x)) (seen_at low high s key (take i xs))
-seen_more low high s key xs i x h is =
+seen_more : (passes : List ℕ → Bool) (s : ℕ) (key : List ℕ) (xs : List HeldValue) (i : ℕ) (x : HeldValue) → i < length xs → x ≡ get_or xs i x
+    → seen_at passes s key (take (i + 1) xs) ≡ cond (key_eq x.version.key key && (passes x.version.key && nat_le x.stamp s)) (Some (held_of x)) (seen_at passes s key (take i xs))
+seen_more passes s key xs i x h is =
     let chain = chain_of key (map held_of (take i xs)) in
     let before = newest_within s chain in
-    ap (λ o. if lies_in low high key then o else None) (ap (newest_within s) (chain-more key xs i x h is) ∙ newest_within-append s chain (chain_of key (held_of x ∷ [])))
+    ap (λ o. if passes key then o else None) (ap (newest_within s) (chain-more key xs i x h is) ∙ newest_within-append s chain (chain_of key (held_of x ∷ [])))
     ∙ elim (key_eq x.version.key key) as (λ b. key_eq x.version.key key ≡ b
-    → (if lies_in low high key then otherwise (newest_within s (cond b (held_of x ∷ []) [])) before else None)
-    ≡ cond (b && (lies_in low high x.version.key && nat_le x.stamp s)) (Some (held_of x)) (if lies_in low high key then before else None)) [
+    → (if passes key then otherwise (newest_within s (cond b (held_of x ∷ []) [])) before else None)
+    ≡ cond (b && (passes x.version.key && nat_le x.stamp s)) (Some (held_of x)) (if passes key then before else None)) [
       | true ↦ λ t.
-          elim (lies_in low high key) as (λ m. (if m then otherwise (alone s (held_of x)) before else None) ≡ cond (m && nat_le x.stamp s) (Some (held_of x)) (if m then before else None)) [
+          elim (passes key) as (λ m. (if m then otherwise (alone s (held_of x)) before else None) ≡ cond (m && nat_le x.stamp s) (Some (held_of x)) (if m then before else None)) [
             | true ↦ elim (nat_le x.stamp s) as (λ b. otherwise (cond b (Some (held_of x)) None) before ≡ cond b (Some (held_of x)) before) [
               | true ↦ refl
               | false ↦ refl
             ]
             | false ↦ refl
-          ] ∙ ap (λ k. cond (lies_in low high k && nat_le x.stamp s) (Some (held_of x)) (if lies_in low high key then before else None)) (sym (same_text x.version.key key (sym t)))
+          ] ∙ ap (λ k. cond (passes k && nat_le x.stamp s) (Some (held_of x)) (if passes key then before else None)) (sym (same_text x.version.key key (sym t)))
       | false ↦ λ t. refl
     ] refl
 
-pub seen_then : (low high : List ℕ) (s : ℕ) (key : List ℕ) (xs : List HeldValue) (i : ℕ) (x : HeldValue) (es fs : List (List ℕ × HeldValue)) → i < length xs → x ≡ get_or xs i x
-    → (lies_in low high x.version.key && nat_le x.stamp s) ≡ true
+pub seen_then : (passes : List ℕ → Bool) (s : ℕ) (key : List ℕ) (xs : List HeldValue) (i : ℕ) (x : HeldValue) (es fs : List (List ℕ × HeldValue)) → i < length xs → x ≡ get_or xs i x
+    → (passes x.version.key && nat_le x.stamp s) ≡ true
     → lookup (is_at (slice_cmp nat_cmp key)) fs ≡ cond (is_at (slice_cmp nat_cmp x.version.key) key) (Some x) (lookup (is_at (slice_cmp nat_cmp key)) es)
-    → option_map held_of (lookup (is_at (slice_cmp nat_cmp key)) es) ≡ seen_at low high s key (take i xs)
-    → option_map held_of (lookup (is_at (slice_cmp nat_cmp key)) fs) ≡ seen_at low high s key (take (i + 1) xs)
-seen_then low high s key xs i x es fs h is fits gives was =
+    → option_map held_of (lookup (is_at (slice_cmp nat_cmp key)) es) ≡ seen_at passes s key (take i xs)
+    → option_map held_of (lookup (is_at (slice_cmp nat_cmp key)) fs) ≡ seen_at passes s key (take (i + 1) xs)
+seen_then passes s key xs i x es fs h is fits gives was =
     let old = lookup (is_at (slice_cmp nat_cmp key)) es in
     ap (option_map held_of) (gives ∙ ap (λ b. cond b (Some x) old) (tied x.version.key key))
-    ∙ elim (key_eq x.version.key key) as (λ b. option_map held_of (cond b (Some x) old) ≡ cond (b && true) (Some (held_of x)) (seen_at low high s key (take i xs))) [
+    ∙ elim (key_eq x.version.key key) as (λ b. option_map held_of (cond b (Some x) old) ≡ cond (b && true) (Some (held_of x)) (seen_at passes s key (take i xs))) [
       | true ↦ refl
       | false ↦ was
     ]
-    ∙ ap (λ b. cond (key_eq x.version.key key && b) (Some (held_of x)) (seen_at low high s key (take i xs))) (sym fits)
-    ∙ sym (seen_more low high s key xs i x h is)
+    ∙ ap (λ b. cond (key_eq x.version.key key && b) (Some (held_of x)) (seen_at passes s key (take i xs))) (sym fits)
+    ∙ sym (seen_more passes s key xs i x h is)
 
-pub seen_else : (low high : List ℕ) (s : ℕ) (key : List ℕ) (xs : List HeldValue) (i : ℕ) (x : HeldValue) (es : List (List ℕ × HeldValue)) → i < length xs → x ≡ get_or xs i x
-    → (lies_in low high x.version.key && nat_le x.stamp s) ≡ false
-    → option_map held_of (lookup (is_at (slice_cmp nat_cmp key)) es) ≡ seen_at low high s key (take i xs)
-    → option_map held_of (lookup (is_at (slice_cmp nat_cmp key)) es) ≡ seen_at low high s key (take (i + 1) xs)
-seen_else low high s key xs i x es h is fits was =
+pub seen_else : (passes : List ℕ → Bool) (s : ℕ) (key : List ℕ) (xs : List HeldValue) (i : ℕ) (x : HeldValue) (es : List (List ℕ × HeldValue)) → i < length xs → x ≡ get_or xs i x
+    → (passes x.version.key && nat_le x.stamp s) ≡ false
+    → option_map held_of (lookup (is_at (slice_cmp nat_cmp key)) es) ≡ seen_at passes s key (take i xs)
+    → option_map held_of (lookup (is_at (slice_cmp nat_cmp key)) es) ≡ seen_at passes s key (take (i + 1) xs)
+seen_else passes s key xs i x es h is fits was =
     was
-    ∙ elim (key_eq x.version.key key) as (λ b. seen_at low high s key (take i xs) ≡ cond (b && false) (Some (held_of x)) (seen_at low high s key (take i xs))) [
+    ∙ elim (key_eq x.version.key key) as (λ b. seen_at passes s key (take i xs) ≡ cond (b && false) (Some (held_of x)) (seen_at passes s key (take i xs))) [
       | true ↦ refl
       | false ↦ refl
     ]
-    ∙ ap (λ b. cond (key_eq x.version.key key && b) (Some (held_of x)) (seen_at low high s key (take i xs))) (sym fits)
-    ∙ sym (seen_more low high s key xs i x h is)
+    ∙ ap (λ b. cond (key_eq x.version.key key && b) (Some (held_of x)) (seen_at passes s key (take i xs))) (sym fits)
+    ∙ sym (seen_more passes s key xs i x h is)
 
 -- each version is stored under its own key
 abbrev pub are_owned : List (List ℕ × HeldValue) → Bool

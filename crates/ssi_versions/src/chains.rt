@@ -46,6 +46,14 @@ pub trait Chains {
         ensures found { IfOk result (λ v. (key : List ℕ) → found_in key (map held_of v.items)
             ≡ if lies_in low high key then newest_within stamp (chain_of key (held self.now)) else None) };
 
+    /// Returns by rising key what a snapshot at this stamp sees of each key. A key of which it sees no version is left out.
+    ///
+    /// Returns an error if memory runs out.
+    fn all_at(&self, stamp: u64) -> Result<Vec<Held>, AllocError>
+        ensures rising { IfOk result (λ v. keys_rise (map key_in (map held_of v.items)) ≡ true) }
+        ensures found { IfOk result (λ v. (key : List ℕ) → found_in key (map held_of v.items)
+            ≡ newest_within stamp (chain_of key (held self.now))) };
+
     /// Returns the newest held version of the key, or none if no version of it is held. Takes no memory.
     fn last(&self, key: Key) -> Option<Held>
         ensures { option_map held_of result ≡ newest (chain_of key (held self.now)) };

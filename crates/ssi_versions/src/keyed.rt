@@ -2,7 +2,7 @@
 
 ghost use Rattle.std.specs.Prelude.{◌≡◌, [], ◌∷◌, ◌++◌, ◌≤◌, ◌<◌, ◌+◌, ◌^◌, List, ℕ, true, false, if◌then◌else◌, ◌==◌, length, take, drop, map, option_map, OnOk, OnErr, IfOk};
 ghost use Rattle.std.specs.List.{All};
-ghost use Rattle.std.specs.BTreeMap.{IsOrdered};
+ghost use Rattle.std.specs.BTreeMap.{IsOrdered, values};
 ghost use Rattle.std.specs.BTreeMap.Range.{entries_between};
 ghost use Rattle.std.specs.declared.ops.Bound.TheVariants.{Included};
 ghost use Rattle.std.specs.Ordering.{nat_cmp};
@@ -13,7 +13,7 @@ ghost use Rattle.ssi_versions.specs.Clauses.Conditions.{AreApart};
 ghost use Rattle.ssi_versions.specs.Mirror.{held_of, write_of, chain_of};
 ghost use Rattle.ssi_versions.specs.Machinery.Plain.{as_held};
 ghost use Rattle.ssi_versions.specs.Computing.Kept.{is_kept_before, next_stamp};
-ghost use Rattle.ssi_versions.specs.Machinery.Keyed.{versions, placed, AreByStamp, kept_places, held_at, held_in, is_owned, filled_count, seen_between, kept_vec, HasRoomAt};
+ghost use Rattle.ssi_versions.specs.Machinery.Keyed.{versions, placed, AreByStamp, kept_places, held_at, held_in, is_owned, filled_count, seen_between, seen_in, StandByStamp, kept_vec, HasRoomAt};
 
 use crate::between::{Snapshots, looked_through};
 use crate::place::Place;
@@ -26,7 +26,7 @@ use std::collections::BTreeMap;
 /// An ordered map from each key to the chain of its held versions, the newest last.
 ///
 /// For n the number of keys and held versions, `at` and `last` take O(log n), `range_at` takes that and what it passes,
-/// and `held` and `keys` take constant time. `collect` passes each held version once. It searches the snapshots for it
+/// `all_at` takes O(n log n), and `held` and `keys` take constant time. `collect` passes each held version once. It searches the snapshots for it
 /// in O(log s), for s the number of snapshots, if these stand in rising order, else in O(s).
 #[derive(Drop)]
 pub struct KeyChains {
@@ -78,6 +78,12 @@ impl Chains for KeyChains {
     fn range_at(&self, low: Key, high: Key, stamp: u64) -> Result<Vec<Held>, AllocError> {
         let _ordered = self.chains.len();
         let found = seen_between(self.alloc, &self.chains, low, high, stamp)?;
+        Ok(found)
+    }
+
+    fn all_at(&self, stamp: u64) -> Result<Vec<Held>, AllocError> {
+        let _ordered = self.chains.len();
+        let found = seen_in_all(self.alloc, &self.chains, stamp)?;
         Ok(found)
     }
 
@@ -333,6 +339,24 @@ fn seen_between(
 {
     let mut found = Vec::new(alloc);
     'chains: for (_, chain) in chains.range(low..=high) {
+        if let Some(held) = newest_at(chain.as_slice(), stamp) {
+            found.push(held)?;
+        }
+    }
+    Ok(found)
+}
+
+/// Of each key the newest version at or below the stamp.
+fn seen_in_all(
+    alloc: Global,
+    chains: &BTreeMap<Key, SmallVec<Place, 4>>,
+    stamp: u64,
+) -> Result<Vec<Held>, AllocError>
+    requires { StandByStamp (values chains.now) }
+    ensures { IfOk result (λ v. map held_of v.items ≡ seen_in stamp (values chains.now)) }
+{
+    let mut found = Vec::new(alloc);
+    'chains: for chain in chains.values() {
         if let Some(held) = newest_at(chain.as_slice(), stamp) {
             found.push(held)?;
         }

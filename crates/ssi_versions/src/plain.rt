@@ -59,6 +59,12 @@ impl Chains for PlainChains {
         Ok(found)
     }
 
+    fn all_at(&self, stamp: u64) -> Result<Vec<Held>, AllocError> {
+        let seen = seen_in_all(self.alloc, &self.items, stamp)?;
+        let found = listed(self.alloc, &seen)?;
+        Ok(found)
+    }
+
     fn last(&self, key: Key) -> Option<Held> {
         newest(&self.items, key)
     }
@@ -149,6 +155,21 @@ fn seen_in(
     let mut seen = BTreeMap::new(alloc);
     'items: for held in items {
         if is_seen(held, low, high, stamp) {
+            seen.insert(held.version.key, *held)?;
+        }
+    }
+    Ok(seen)
+}
+
+/// Of each key the newest version at or below the stamp.
+fn seen_in_all(alloc: Global, items: &[Held], stamp: u64) -> Result<BTreeMap<Key, Held>, AllocError>
+    ensures seen { IfOk result (λ m. (key : List ℕ) → option_map held_of (lookup (is_at (slice_cmp nat_cmp key)) m.entries)
+        ≡ newest_within stamp (chain_of key (map held_of items.now))) }
+    ensures owned { IfOk result (λ m. list_all (λ e. is_of e.0 (held_of e.1)) m.entries ≡ true) }
+{
+    let mut seen = BTreeMap::new(alloc);
+    'items: for held in items {
+        if held.stamp <= stamp {
             seen.insert(held.version.key, *held)?;
         }
     }

@@ -5,7 +5,3 @@ use Rattle.ssi_store.specs.declared.roster.Roster.{Roster}
 -- the open ones with their snapshots, in the order in which they began
 abbrev pub open_in : Roster → List (ℕ × ℕ)
 open_in r = r.open_txns.entries
-
--- all with their snapshots
-abbrev pub snapshots_of : Roster → List (ℕ × ℕ)
-snapshots_of r = r.snapshots.items

@@ -5,13 +5,14 @@ use Rattle.ssi_versions.specs.Meaning.Changes.{Held}
 use Rattle.ssi_versions.specs.declared.chains.Chains.{Ghosts as HeldBy}
 use Rattle.ssi_reads.specs.declared.marks.Marks.{Ghosts as MarkedBy}
 use Rattle.ssi_store.specs.Meaning.Courses.{Command, Answer, Course, Then}
+use Rattle.ssi_store.specs.Mirror.Pasts.{HasEvents, HasStarts}
 use Rattle.ssi_store.specs.Mirror.Standing.{IsAt as IsEngineAt}
 use Rattle.ssi_store.specs.declared.store.Store.{Store}
 
 -- its engine stands for the course
 abbrev pub IsAt : {C M : Type 0} {g : HeldBy C} {h : MarkedBy M} → (C → List Held) → (M → ℕ → Key → Bool)
     → Store C M g h → Course → Type 0
-IsAt holds marked s c = IsEngineAt holds marked s.engine c
+IsAt holds marked s c = IsEngineAt holds marked HasEvents HasStarts s.engine c
 
 -- whatever course the old store stood for, the new one stands for it with this answer to this command
 abbrev pub GoesOn : {C M : Type 0} {g : HeldBy C} {h : MarkedBy M} → (C → List Held) → (M → ℕ → Key → Bool)

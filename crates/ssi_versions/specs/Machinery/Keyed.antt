@@ -63,6 +63,14 @@ filled_count (e ∷ es) = if is_filled (held_in e.1) then suc (filled_count es) 
 abbrev pub seen_between : List ℕ → List ℕ → ℕ → List Chain → List Held
 seen_between low high s es = filter_map (λ e. newest_within s (held_in e.1)) (entries_between (slice_cmp nat_cmp) (Included low) (Included high) es)
 
+-- what a snapshot at the stamp sees of these chains
+abbrev pub seen_in : ℕ → List (SmallVec Place) → List Held
+seen_in s vs = filter_map (λ v. newest_within s (held_in v)) vs
+
+-- these chains stand by stamp
+abbrev pub StandByStamp : List (SmallVec Place) → Type 0
+StandByStamp vs = AllByRecursion (λ v. IsByStamp (held_in v)) vs
+
 -- each chain stands by stamp
 abbrev pub AreByStamp : List Chain → Type 0
 AreByStamp es = AllByRecursion (λ e. IsByStamp (held_in e.1)) es

@@ -1,4 +1,4 @@
-use Rattle.std.proofs.Common.{rules, arith, ap, refl, subst, sym, length, ◌+◌, ◌<◌, ◌∙◌, cond, Some}
+use Rattle.std.proofs.Common.{rules, arith, ap, refl, subst, sym, length, true, ◌≡◌, ◌+◌, ◌<◌, ◌∙◌, cond, Some}
 use Rattle.std.proofs.lemmas.Result.{err_from_is_err_and}
 use Rattle.adya_keys.specs.Meaning.Keys.{key_eq}
 use Rattle.ssi_store.specs.Machinery.Opens.{open_at}
@@ -11,8 +11,8 @@ returns-in_err-on_begin g c = record {
   stands = λ course st.
       let p = err_from_is_err_and c.from_residual-in_err-on_begin.result c.from_residual-in_err-on_begin.ensures.1 in
       rw (p.1, p.2) (begin_memory st c.args.session (Prim.search rules) (let l = c.in-Ok.ensures.limits.0 refl in omega (arith, l)) _ _ _ _ _
-      c.in-Ok.txn c.in-Ok.ensures.same c.reserve.ensures.entries c.open.ensures.events c.room.ensures.opened
-      c.room.ensures.snapshots (λ calls old may. c.in_err-on_begin.ensures.refused calls old may));
+      c.in-Ok.txn c.in-Ok.ensures.same c.reserve.ensures.entries c.open.ensures.recorded c.room.ensures.opened
+      c.open.ensures.started (λ calls old may. c.in_err-on_begin.ensures.refused calls old may));
 }
 
 pub returns : goal.returns
@@ -22,7 +22,8 @@ returns g c = record {
       c.new-2.result c.in-Ok.txn c.in-Ok.ensures.same
       (λ q. c.add.ensures.added q
       ∙ ap (λ es. cond (key_eq c.args.session q) (Some c.new-2.result) (open_at q es)) c.reserve.ensures.entries)
-      c.open.ensures.events (Prim.search rules) (Prim.search rules) c.in_ok-on_begin.ensures.begun c.new-2.ensures.txn
+      (λ es told. c.begin-2.ensures.recorded es (c.open.ensures.recorded es told)) (Prim.search rules)
+      (λ ts told. c.begin-2.ensures.started ts (c.open.ensures.started ts told)) c.in_ok-on_begin.ensures.begun c.new-2.ensures.txn
       c.new-2.ensures.snapshot c.new-2.ensures.count c.new-2.ensures.written;
 }
 
@@ -35,6 +36,12 @@ invariant_of-self-2-clause-early g c =
     below_begun c.args.self.now.next c.in-Ok.txn c.args.self.now.commits _ _ _ c.args.self.now.early c.in-Ok.ensures.same
     c.room.ensures.opened c.begin.ensures.opened
 
+pub invariant_of-self-2-clause-places : goal.invariant_of-self-2-clause-places
+invariant_of-self-2-clause-places g c =
+    c.begin-2.ensures.places _ (g.met.P.Past.fewer _ _ _ (let l = c.add.ensures.len in omega (arith, l))
+    (c.in_ok-open.ensures.place _
+    (subst (λ es. g.P.Past.has_places c.args.self.now.past (length es) ≡ true) (sym c.reserve.ensures.entries) c.args.self.now.places)))
+
 pub returns-then-contains_key : goal.returns-then-contains_key
 returns-then-contains_key g c = record { stands = λ course st. begin_busy st c.args.session (Prim.search rules) }
 
@@ -43,7 +50,7 @@ returns-in_err-reserve g c = record {
   stands = λ course st.
       let p = err_from_is_err_and c.from_residual.result c.from_residual.ensures.1 in
       rw (p.1, p.2) (begin_memory st c.args.session (Prim.search rules) (let l = c.in-Ok.ensures.limits.0 refl in omega (arith, l)) _ _ _ _ _
-      c.in-Ok.txn c.in-Ok.ensures.same c.reserve.ensures.entries refl refl refl
+      c.in-Ok.txn c.in-Ok.ensures.same c.reserve.ensures.entries (λ es told. told) refl (λ ts told. told)
       (λ calls old may. old));
 }
 
@@ -52,7 +59,7 @@ returns-in_err-room g c = record {
   stands = λ course st.
       let p = err_from_is_err_and c.from_residual-in_err-room.result c.from_residual-in_err-room.ensures.1 in
       rw (p.1, p.2) (begin_memory st c.args.session (Prim.search rules) (let l = c.in-Ok.ensures.limits.0 refl in omega (arith, l)) _ _ _ _ _
-      c.in-Ok.txn c.in-Ok.ensures.same c.reserve.ensures.entries refl c.room.ensures.opened c.room.ensures.snapshots
+      c.in-Ok.txn c.in-Ok.ensures.same c.reserve.ensures.entries (λ es told. told) c.room.ensures.opened (λ ts told. told)
       (λ calls old may. old));
 }
 
@@ -61,7 +68,7 @@ returns-in_err-open g c = record {
   stands = λ course st.
       let p = err_from_is_err_and c.from_residual-in_err-open.result c.from_residual-in_err-open.ensures.1 in
       rw (p.1, p.2) (begin_memory st c.args.session (Prim.search rules) (let l = c.in-Ok.ensures.limits.0 refl in omega (arith, l)) _ _ _ _ _
-      c.in-Ok.txn c.in-Ok.ensures.same c.reserve.ensures.entries c.open.ensures.events c.room.ensures.opened c.room.ensures.snapshots
+      c.in-Ok.txn c.in-Ok.ensures.same c.reserve.ensures.entries c.open.ensures.recorded c.room.ensures.opened c.open.ensures.started
       (λ calls old may. old));
 }
 
@@ -74,7 +81,7 @@ invariant_of-self-in-Break-branch-2 g c = record {
   few = c.args.self.now.few;
   above = c.args.self.now.above;
   early = below_same c.args.self.now.next _ _ c.args.self.now.early c.room.ensures.opened;
-  places = Prim.search rules;
+  places = subst (λ es. g.P.Past.has_places c.args.self.now.past (length es) ≡ true) (sym c.reserve.ensures.entries) c.args.self.now.places;
 }
 
 pub invariant_of-self-in-Break-branch-3 : goal.invariant_of-self-in-Break-branch-3
@@ -83,7 +90,7 @@ invariant_of-self-in-Break-branch-3 g c = record {
   few = c.args.self.now.few;
   above = c.args.self.now.above;
   early = below_same c.args.self.now.next _ _ c.args.self.now.early c.room.ensures.opened;
-  places = Prim.search rules;
+  places = c.open.ensures.places _ (subst (λ es. g.P.Past.has_places c.args.self.now.past (length es) ≡ true) (sym c.reserve.ensures.entries) c.args.self.now.places);
 }
 
 pub invariant_of-self-in-Break-branch-4 : goal.invariant_of-self-in-Break-branch-4
@@ -92,5 +99,5 @@ invariant_of-self-in-Break-branch-4 g c = record {
   few = c.args.self.now.few;
   above = c.args.self.now.above;
   early = below_same c.args.self.now.next _ _ c.args.self.now.early c.room.ensures.opened;
-  places = Prim.search rules;
+  places = c.open.ensures.places _ (subst (λ es. g.P.Past.has_places c.args.self.now.past (length es) ≡ true) (sym c.reserve.ensures.entries) c.args.self.now.places);
 }

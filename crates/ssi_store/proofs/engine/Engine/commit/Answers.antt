@@ -87,7 +87,7 @@ returns g c = record {
       c.writes-writes.ensures.all c.in_ok-install.ensures.added
       (c.on_commit.ensures (tracked (acts course)) (c.judge.ensures.stands (tracked (acts course)) st.log.tracker) may
       (c.in_ok-answer.ensures.ready safe))
-      c.end-2.ensures.events c.end.ensures.opened c.end.ensures.snapshots c.remove-there.ensures.gone;
+      c.end-2.ensures.recorded c.end.ensures.opened c.end-2.ensures.started c.remove-there.ensures.gone;
 }
 
 pub invariant_of-self-2-clause-early : goal.invariant_of-self-2-clause-early

@@ -5,7 +5,7 @@ use Rattle.ssi_store.proofs.engine.Engine.drop_txn.Goals as goal
 pub returns : goal.returns
 returns g c = record {
   stands = λ course m a st end. dropped st c.args.session _ _ _ _ _ c.args.txn m a end
-      c.remove.ensures.gone c.end-2.ensures.events c.end.ensures.opened c.end.ensures.snapshots c.on_abort.ensures;
+      c.remove.ensures.gone c.end-2.ensures.recorded c.end.ensures.opened c.end-2.ensures.started c.on_abort.ensures;
 }
 
 pub invariant_of-self-2-clause-early : goal.invariant_of-self-2-clause-early

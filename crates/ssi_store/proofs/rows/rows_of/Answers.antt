@@ -5,7 +5,7 @@ use Rattle.std.proofs.lemmas.List.Elements.{filter_map-append}
 use Rattle.adya_values.specs.Meaning.Events.{visible}
 use Rattle.adya_values.specs.Mirror.Events.{entry_of}
 use Rattle.adya_values.specs.Meaning.Serial.{visible_pair_of, visible_pairs}
-use Rattle.ssi_store.proofs.scan.rows_of.Goals as goal
+use Rattle.ssi_store.proofs.rows.rows_of.Goals as goal
 
 pub entries-preserved : goal.entries-preserved
 entries-preserved c =
