@@ -3,8 +3,8 @@
 ghost use Rattle.std.specs.Prelude.{◌≡◌, true, IfOk, OnOk};
 
 use crate::course::Course;
-use crate::mixing::Mixing;
 use crate::turn::restart;
+use disk_testing::Mixing;
 use memchr::memrchr;
 use sqlite_disk::{Crash, Disk, Fuse};
 use ssi_log::{Log, LogFault};

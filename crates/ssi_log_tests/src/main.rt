@@ -2,10 +2,8 @@
 //! runs on a disk in memory that stop at each call, or of which each write and each sync fails.
 #![tactic(auto)]
 
-mod coins;
 mod course;
 mod crashes;
-mod mixing;
 mod turn;
 mod worked;
 

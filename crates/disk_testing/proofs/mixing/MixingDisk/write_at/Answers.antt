@@ -1,5 +1,5 @@
-use Rattle.ssi_log_tests.proofs.Left.{written_mixed, written_torn}
-use Rattle.ssi_log_tests.proofs.mixing.MixingDisk.write_at.Goals as goal
+use Rattle.disk_testing.proofs.Left.{written_mixed, written_torn}
+use Rattle.disk_testing.proofs.mixing.MixingDisk.write_at.Goals as goal
 
 pub returns-then-is_err-clause-mixed : goal.returns-then-is_err-clause-mixed
 returns-then-is_err-clause-mixed c = λ _ _.

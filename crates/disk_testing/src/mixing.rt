@@ -3,9 +3,10 @@
 ghost use Rattle.std.specs.Prelude.{◌≡◌, ◌⊎◌, ◌≤◌, ◌<◌, length, slice_index, MatchOption, true, false, refl, IfOk, OnOk, OnErr, is_ok};
 ghost use Rattle.sqlite_disk.specs.Disk.{CountsFault, Cut, Holds, Mixed};
 ghost use Rattle.sqlite_disk.specs.Refusal.{finds_no_room};
-ghost use Rattle.ssi_log_tests.specs.Leaving.{MayLeave, seen_stays};
+ghost use Rattle.disk_testing.specs.Leaving.{MayLeave, seen_stays};
 
 use crate::coins::Coins;
+use crate::written::Written;
 use sqlite_disk::{Crash, Disk, Tally};
 use std::alloc::{AllocError, Global};
 use std::io;
@@ -16,11 +17,16 @@ pub struct Mixing {
     /// What a read returns, and what it returned at the last sync.
     bytes: Vec<u8>,
     synced: Vec<u8>,
+    written: Written,
     is_usable: bool,
     faults: u64,
     coins: Coins,
     /// How many writes and syncs come before one that fails, if one is to.
     before_fault: Option<u64>,
+    /// The file can't grow.
+    is_full: bool,
+    /// How many calls there were.
+    calls: u64,
     ghost grown: { length synced.items ≤ length bytes.items },
 }
 
@@ -32,11 +38,22 @@ impl Mixing {
         Mixing {
             bytes: Vec::new(alloc),
             synced: Vec::new(alloc),
+            written: Written::NOTHING,
             is_usable: true,
             faults: 0,
             coins: Coins::new(seed),
             before_fault: None,
+            is_full: false,
+            calls: 0,
         }
+    }
+
+    /// A file that has these bytes, all of them on the disk. Each crash leaves what coins of this seed choose.
+    pub fn with_bytes(alloc: Global, seed: u64, bytes: &[u8]) -> Result<Mixing, AllocError> {
+        let mut disk = Mixing::new(alloc, seed);
+        disk.bytes.extend_from_slice(bytes)?;
+        disk.synced.extend_from_slice(bytes)?;
+        Ok(disk)
     }
 
     /// After so many writes and syncs one fails: of a write half of the bytes are written then.
@@ -44,6 +61,16 @@ impl Mixing {
         ensures { self.new.is_usable ≡ self.old.is_usable }
     {
         self.before_fault = Some(calls);
+    }
+
+    /// From now on each write that makes the file longer fails, after half of its bytes.
+    pub fn fill(&mut self) {
+        self.is_full = true;
+    }
+
+    /// Returns how many calls of the file there were.
+    pub fn calls(&self) -> u64 {
+        self.calls
     }
 
     /// What a read returns.
@@ -104,10 +131,12 @@ impl Disk for Mixing {
     }
 
     fn len(&mut self) -> io::Result<usize> {
+        self.calls = self.calls.saturating_add(1);
         Ok(self.bytes.len())
     }
 
     fn read_at(&mut self, at: usize, buf: &mut [u8]) -> io::Result<()> {
+        self.calls = self.calls.saturating_add(1);
         if at > self.bytes.len() || buf.len() > self.bytes.len() - at {
             return Err(io::ErrorKind::UnexpectedEof.into());
         }
@@ -127,7 +156,10 @@ impl Disk for Mixing {
     }
 
     fn write_at(&mut self, at: usize, bytes: &[u8]) -> io::Result<()> {
-        let fails = is_to_fail(&mut self.before_fault);
+        self.calls = self.calls.saturating_add(1);
+        self.written.add(at, bytes.len());
+        let fails = is_to_fail(&mut self.before_fault)
+            || self.is_full && bytes.len() > self.bytes.len().saturating_sub(at);
         let n = if fails { bytes.len() / 2 } else { bytes.len() };
         if overwrite(&mut self.bytes, at, bytes, n).is_err() || fails {
             return refuse(&mut self.faults);
@@ -141,31 +173,27 @@ impl Disk for Mixing {
     }
 
     fn sync(&mut self) -> io::Result<()> {
+        self.calls = self.calls.saturating_add(1);
         if is_to_fail(&mut self.before_fault) || replace(&mut self.synced, &self.bytes).is_err() {
             self.is_usable = false;
             return refuse(&mut self.faults);
         }
+        self.written = Written::NOTHING;
         Ok(())
     }
 }
 
-/// No call fails after a crash, unless it is asked for once more. If memory runs out, nothing is lost.
+/// No call fails after a crash, unless that is asked for once more. If memory runs out, another crash may leave what this one
+/// may have left.
 impl Crash for Mixing {
     fn crash(&mut self) {
         self.is_usable = true;
         self.before_fault = None;
-        let Ok(left) = choose(
-            *self.bytes.allocator(),
-            &self.synced,
-            &self.bytes,
-            &mut self.coins,
-        ) else {
-            return;
-        };
-        let Ok(()) = replace(&mut self.synced, &left) else {
-            return;
-        };
-        self.bytes = left;
+        self.is_full = false;
+        choose(&mut self.bytes, &self.synced, self.written, &mut self.coins);
+        if replace(&mut self.synced, &self.bytes).is_ok() {
+            self.written = Written::NOTHING;
+        }
     }
 }
 
@@ -183,6 +211,10 @@ fn replace(file: &mut Vec<u8>, bytes: &[u8]) -> Result<(), AllocError>
     ensures ok { OnOk result (file.new.items ≡ bytes.now) }
     ensures err { OnErr result (file.new.items ≡ file.old.items) }
 {
+    if file.len() == bytes.len() {
+        file[..].copy_from_slice(bytes);
+        return Ok(());
+    }
     let mut copy = Vec::new(*file.allocator());
     copy.extend_from_slice(bytes)?;
     *file = copy;
@@ -210,24 +242,19 @@ fn overwrite(file: &mut Vec<u8>, at: usize, bytes: &[u8], n: usize) -> Result<()
     Ok(())
 }
 
-/// What a crash leaves of a file.
-fn choose(
-    alloc: Global,
-    synced: &[u8],
-    seen: &[u8],
-    coins: &mut Coins,
-) -> Result<Vec<u8>, AllocError>
-    requires { length synced.now ≤ length seen.now }
-    ensures { IfOk result (λ v. MayLeave synced.now seen.now v.items) }
+/// Makes of a file what a crash leaves of it.
+fn choose(bytes: &mut Vec<u8>, synced: &[u8], written: Written, coins: &mut Coins)
+    requires { length synced.now ≤ length bytes.old.items }
+    ensures { MayLeave synced.now bytes.old.items bytes.new.items }
 {
-    let mut left = Vec::new(alloc);
-    for (i, new) in seen.iter().enumerate() {
-        let Some(byte) = choose_byte(synced, i, *new, coins) else {
-            return Ok(left);
+    let (from, to) = written.within(bytes.len());
+    for i in from..to {
+        let Some(byte) = choose_byte(synced, i, bytes[i], coins) else {
+            bytes.truncate(i);
+            return;
         };
-        left.push(byte)?;
+        bytes[i] = byte;
     }
-    Ok(left)
 }
 
 /// What a crash leaves of a byte, or `None` if the file ends before it.

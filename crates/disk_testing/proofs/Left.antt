@@ -1,16 +1,8 @@
--- What a crash may leave of a file that is kept in memory.
+-- What a crash may leave after a write, of a file that is kept in memory.
 use Rattle.std.proofs.Common.{◌≡◌, ◌⊎◌, inl, inr, ℕ, zero, suc, ◌+◌, ◌-◌, ◌<◌, ◌≤◌, min, List, [], ◌∷◌, length, slice_index, refl, sym, ◌∙◌, ap, arith}
-use Rattle.std.proofs.lemmas.List.{ext_get_or}
 use Rattle.std.proofs.lemmas.Bool.{cases_lt}
-use Rattle.sqlite_disk.specs.Disk.{Cut, Follows, Mixed, Only, Torn}
-use Rattle.ssi_log_tests.specs.Leaving.{MayLeave}
-
--- after a sync, or after a crash, nothing else is left
-pub only_left : (file : List ℕ) → Only file (MayLeave file file)
-only_left file = λ c m. ext_get_or 0 c file (omega (arith, m.no_shorter, m.no_longer))
-    (λ i low. elim (m.each i (omega (arith, low, m.no_longer))) [ inl old ↦ old | inr new ↦ new ])
-
--- ---- a write
+use Rattle.sqlite_disk.specs.Disk.{Follows, Mixed, Torn}
+use Rattle.disk_testing.specs.Leaving.{MayLeave}
 
 -- a list of bytes, each of which is as it should be at its place
 made : (n : ℕ) (P : ℕ → ℕ → Type 0) → ((i : ℕ) → i < n → (b : ℕ) × P i b)
@@ -106,33 +98,3 @@ module _ (at : ℕ) (bytes synced old new : List ℕ) (grown : length synced ≤
 
   pub written_torn : Follows (Torn at (length bytes)) (MayLeave synced old) (MayLeave synced new)
   written_torn = λ c left. let (d, may, m) = left_before at bytes synced old new c grown mixed left in (d, may, m.torn)
-
--- ---- a write of the first n bytes
-
-pub not_mixed : (at : ℕ) (bytes file : List ℕ) → Mixed at bytes file file
-not_mixed at bytes file = record {
-  torn = record { no_shorter = omega arith; no_longer = omega arith; below = λ _ _ _. refl; above = λ _ _ _. refl };
-  each = λ i low within. inl refl;
-}
-
-pub grown_mixed : (at n : ℕ) (bytes old new : List ℕ) → n ≤ length bytes → length old < at + n → Cut (at + n) old new → Mixed at bytes old new
-grown_mixed at n bytes old new few longer cut = record {
-  torn = record {
-    no_shorter = omega (arith, cut.no_shorter, longer);
-    no_longer = omega (arith, cut.no_longer, few);
-    below = λ i within low. cut.below i within (omega (arith, within, longer));
-    above = λ i within high. cut.below i within (omega (arith, within, longer));
-  };
-  each = λ i low within. inl (cut.below (at + i) within (omega (arith, within, longer)));
-}
-
--- ---- a crash
-
-pub left_again : (synced seen left c : List ℕ) → MayLeave synced seen left → MayLeave left left c → MayLeave synced seen c
-left_again synced seen left c may again = record {
-  no_shorter = omega (arith, may.no_shorter, again.no_shorter);
-  no_longer = omega (arith, may.no_longer, again.no_longer);
-  each = λ i low.
-      let same : slice_index c i ≡ slice_index left i = elim (again.each i (omega (arith, low, may.no_shorter))) [ inl old ↦ old | inr new ↦ new ] in
-      elim (may.each i low) [ inl old ↦ inl (same ∙ old) | inr new ↦ inr (same ∙ new) ];
-}
