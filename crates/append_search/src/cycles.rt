@@ -11,7 +11,8 @@ use crate::walk::{Rule, Walk};
 use append_values::{Link, Reason, Transaction};
 use std::alloc::{AllocError, Global};
 
-/// How many links the search for cycles of a kind meets at most. Then the shortest one that was found by then is given.
+/// How many links the search meets at most for cycles of one kind in one component. Then the shortest one that was found by
+/// then is given.
 const MOST_STEPS: u64 = 20000000;
 
 const WRITES: Rule = Rule {
@@ -143,6 +144,8 @@ impl Cycles {
         Ok(())
     }
 
+    // Looks in this component for a cycle of the first kind, and if there is none, for one of the next. Notes it if a search
+    // met its last link.
     fn search_component(
         &mut self,
         walk: &mut Walk,
